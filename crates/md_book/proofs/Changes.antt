@@ -1,0 +1,97 @@
+-- What operations change in a state, and what stays.
+use Rattle.std.proofs.Common.{◌≡◌, ◌≢◌, ℕ, ◌<◌, true, false, cond, List, [], ◌∷◌, ◌++◌, length, slice_index_or, refl, sym, ap, subst, ◌∙◌, Option, Some, None, arith}
+use Rattle.std.specs.Prelude.{is_none}
+use Rattle.std.specs.Ordering.{nat_cmp, eq_by_cmp}
+use Rattle.std.specs.Cmp.{nat_cmp_total}
+use Rattle.std.specs.FinMap as fin
+use Rattle.std.proofs.lemmas.Bool.Decides.{nat_tests}
+use Rattle.std.proofs.lemmas.List.{length-set, get_or-set_same, get_or-set_other}
+use Rattle.md_history.specs.declared.acts.Op.TheVariants.{Insert, Remove, Enqueue}
+use Rattle.md_history.specs.State.{State, Table, map_at, queue_at, with_map, after}
+
+-- one map has this at one key; all else is as it was
+pub record Sets (s t : State) (m k : ℕ) (now : Option ℕ) : Type 0 where
+  pub maps : length t.maps ≡ length s.maps
+  pub queues : t.queues ≡ s.queues
+  pub here : fin.get (map_at t m) k ≡ now
+  pub other_keys : (q : ℕ) → q ≢ k → fin.get (map_at t m) q ≡ fin.get (map_at s m) q
+  pub other_maps : (j : ℕ) → j ≢ m → map_at t j ≡ map_at s j
+
+-- one queue has these values; all else is as it was
+pub record Lines (s t : State) (q : ℕ) (now : List ℕ) : Type 0 where
+  pub maps : t.maps ≡ s.maps
+  pub queues : length t.queues ≡ length s.queues
+  pub here : queue_at t q ≡ now
+  pub others : (j : ℕ) → j ≢ q → queue_at t j ≡ queue_at s j
+
+same_key : (k : ℕ) → eq_by_cmp nat_cmp k k ≡ true
+same_key k = grind (arith, nat_tests)
+
+other_key : (q k : ℕ) → q ≢ k → eq_by_cmp nat_cmp q k ≡ false
+other_key q k h = grind (arith, nat_tests)
+
+module _ (t : Table) (k : ℕ) where
+  get-insert_same : (v : ℕ) → fin.get (fin.insert t k v) k ≡ Some v
+  get-insert_same v = fin.get-insert nat_cmp_total t k v k ∙ ap (λ b. cond b (Some v) (fin.get t k)) (same_key k)
+
+  get-insert_other : (v q : ℕ) → q ≢ k → fin.get (fin.insert t k v) q ≡ fin.get t q
+  get-insert_other v q h = fin.get-insert nat_cmp_total t k v q ∙ ap (λ b. cond b (Some v) (fin.get t q)) (other_key q k h)
+
+  get-remove_same : fin.get (fin.remove t k) k ≡ None
+  get-remove_same = fin.get-remove nat_cmp_total t k k ∙ ap (λ b. cond b None (fin.get t k)) (same_key k)
+
+  get-remove_other : (q : ℕ) → q ≢ k → fin.get (fin.remove t k) q ≡ fin.get t q
+  get-remove_other q h = fin.get-remove nat_cmp_total t k q ∙ ap (λ b. cond b None (fin.get t q)) (other_key q k h)
+
+-- a map is replaced by one that differs at one key
+with_map-sets : (s : State) (m k : ℕ) (t : Table) (now : Option ℕ) → m < length s.maps → fin.get t k ≡ now → ((q : ℕ) → q ≢ k → fin.get t q ≡ fin.get (map_at s m) q) → Sets s (with_map s m t) m k now
+with_map-sets s m k t now below here others =
+    let same : map_at (with_map s m t) m ≡ t = get_or-set_same s.maps m t fin.empty below in
+    record {
+      maps = length-set s.maps m t;
+      queues = refl;
+      here = ap (λ x. fin.get x k) same ∙ here;
+      other_keys = λ q h. ap (λ x. fin.get x q) same ∙ others q h;
+      other_maps = λ j h. get_or-set_other s.maps m j t fin.empty h;
+    }
+
+-- a key that is absent is inserted
+pub insert-sets : (s : State) (m k v : ℕ) → m < length s.maps → fin.get (map_at s m) k ≡ None → Sets s (after s (Insert m k v)) m k (Some v)
+insert-sets s m k v below absent =
+    let t = fin.insert (map_at s m) k v in
+    let chosen : with_map s m t ≡ after s (Insert m k v) = ap (λ o. cond (is_none o) (with_map s m t) s) (sym absent) in
+    subst (λ x. Sets s x m k (Some v)) chosen (with_map-sets s m k t (Some v) below (get-insert_same (map_at s m) k v) (get-insert_other (map_at s m) k v))
+
+-- a key is removed
+pub remove-sets : (s : State) (m k : ℕ) → m < length s.maps → Sets s (after s (Remove m k)) m k None
+remove-sets s m k below = with_map-sets s m k (fin.remove (map_at s m) k) None below (get-remove_same (map_at s m) k) (get-remove_other (map_at s m) k)
+
+-- a value is enqueued
+pub enqueue-lines : (s : State) (q v : ℕ) → q < length s.queues → Lines s (after s (Enqueue q v)) q (queue_at s q ++ v ∷ [])
+enqueue-lines s q v below = record {
+  maps = refl;
+  queues = length-set s.queues q _;
+  here = get_or-set_same s.queues q _ [] below;
+  others = λ j h. get_or-set_other s.queues q j _ [] h;
+}
+
+-- nothing but what already stands
+pub sets-same : (s : State) (m k : ℕ) (now : Option ℕ) → fin.get (map_at s m) k ≡ now → Sets s s m k now
+sets-same s m k now here = record { maps = refl; queues = refl; here = here; other_keys = λ _ _. refl; other_maps = λ _ _. refl }
+
+-- one change after another at the same key
+pub sets-again : {s t u : State} {m k : ℕ} {now then : Option ℕ} → Sets s t m k now → Sets t u m k then → Sets s u m k then
+sets-again f g = record {
+  maps = g.maps ∙ f.maps;
+  queues = g.queues ∙ f.queues;
+  here = g.here;
+  other_keys = λ q h. g.other_keys q h ∙ f.other_keys q h;
+  other_maps = λ j h. g.other_maps j h ∙ f.other_maps j h;
+}
+
+-- what no change of the other kind touches
+pub map_at-lines : {s t : State} {q : ℕ} {now : List ℕ} → Lines s t q now → (j : ℕ) → map_at t j ≡ map_at s j
+map_at-lines lines j = ap (λ (ms : List Table). slice_index_or ms j fin.empty) lines.maps
+
+pub queue_at-sets : {s t : State} {m k : ℕ} {now : Option ℕ} → Sets s t m k now → (j : ℕ) → queue_at t j ≡ queue_at s j
+queue_at-sets sets j = ap (λ (qs : List (List ℕ)). slice_index_or qs j []) sets.queues

@@ -1,0 +1,7 @@
+mod Plays
+mod Changes
+mod Raises
+mod Orders
+mod Placing
+pub mod EmptyBook
+pub mod TheBook

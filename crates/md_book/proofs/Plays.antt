@@ -1,0 +1,49 @@
+-- What a whole script does to a state where each reply is right.
+use Rattle.std.proofs.Common.{◌≡◌, List, [], ◌∷◌, refl, ap, ◌∙◌}
+use Rattle.md_history.specs.declared.acts.Act.{Act}
+use Rattle.md_history.specs.State.{State, answer, after, run, IsRight}
+use Rattle.md_history.specs.Script.{Script, done, call, bind, left, Follows, Did}
+
+-- the state that it leaves
+abbrev pub played : {R : Type 0} → Script R → State → State
+played (done r) s = s
+played (call op next) s = played (next (answer s op)) (after s op)
+
+-- its reply
+abbrev pub outcome : {R : Type 0} → Script R → State → R
+outcome (done r) s = r
+outcome (call op next) s = outcome (next (answer s op)) (after s op)
+
+-- right acts of a whole script leave that state, with that reply
+pub record IsPlayed {R : Type 0} (p : Script R) (s : State) (acts : List Act) (r : R) : Type 0 where
+  pub state : run s acts ≡ played p s
+  pub reply : r ≡ outcome p s
+
+-- scripts that are equal play alike from states that are equal
+played-same : {R : Type 0} {p q : Script R} {s t : State} → p ≡ q → s ≡ t → played p s ≡ played q t
+played-same {q = q} {s} e f = ap (λ x. played x s) e ∙ ap (played q) f
+
+outcome-same : {R : Type 0} {p q : Script R} {s t : State} → p ≡ q → s ≡ t → outcome p s ≡ outcome q t
+outcome-same {q = q} {s} e f = ap (λ x. outcome x s) e ∙ ap (outcome q) f
+
+pub follows-played : {R : Type 0} (p : Script R) (s : State) (acts : List Act) (r : R) → Follows p acts → left p acts ≡ done r → IsRight s acts → IsPlayed p s acts r
+follows-played (done x) s [] r f e right = record { state = refl; reply = cc }
+follows-played (done x) s (a ∷ acts) r f e right = absurd f
+follows-played (call op next) s [] r f e right = cc
+follows-played (call op next) s (a ∷ acts) r f e right =
+    let more = follows-played (next a.reply) (after s a.op) acts r f.1 e right.1 in
+    let same = ap next (right.0 ∙ ap (answer s) f.0) in
+    let moved = ap (after s) f.0 in
+    record { state = more.state ∙ played-same same moved; reply = more.reply ∙ outcome-same same moved }
+
+pub did-played : {R : Type 0} (p : Script R) (s : State) (acts : List Act) (r : R) → Did p acts r → IsRight s acts → IsPlayed p s acts r
+did-played p s acts r did right = follows-played p s acts r did.follows did.ends right
+
+-- one script after another
+pub played-bind : {A B : Type 0} (p : Script A) (next : A → Script B) (s : State) → played (bind p next) s ≡ played (next (outcome p s)) (played p s)
+played-bind (done r) next s = refl
+played-bind (call op more) next s = played-bind (more (answer s op)) next (after s op)
+
+pub outcome-bind : {A B : Type 0} (p : Script A) (next : A → Script B) (s : State) → outcome (bind p next) s ≡ outcome (next (outcome p s)) (played p s)
+outcome-bind (done r) next s = refl
+outcome-bind (call op more) next s = outcome-bind (more (answer s op)) next (after s op)

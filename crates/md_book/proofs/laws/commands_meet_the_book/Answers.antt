@@ -1,0 +1,5 @@
+use Rattle.md_book.proofs.TheBook.{commands-meet-the-book}
+use Rattle.md_book.proofs.laws.commands_meet_the_book.Goals as goal
+
+pub returns : goal.returns
+returns c = commands-meet-the-book

@@ -1,0 +1,26 @@
+-- That a command's acts are one step of the book.
+use Rattle.std.specs.Prelude.{◌≡◌, ◌≢◌, ◌+◌, ◌^◌, ◌<◌, List, length, All}
+use Rattle.md_history.specs.declared.acts.Act.{Act}
+use Rattle.md_history.specs.State.{State, run, IsRight}
+use Rattle.md_history.specs.Script.{Did}
+use Rattle.md_book.specs.declared.commands.Command.{Command}
+use Rattle.md_book.specs.declared.commands.Command.TheVariants.{Place, Depth}
+use Rattle.md_book.specs.declared.commands.BookReply.{BookReply}
+use Rattle.md_book.specs.Book.{Book, book_step}
+use Rattle.md_book.specs.Stands.{StandsFor}
+use Rattle.md_book.specs.Commands.{script_of, IsCommand}
+
+-- a book can take a command: a place needs a name of its own and room for one more order
+abbrev pub MayTake : Book → Command → Type 0
+MayTake b (Place name account side price quantity) = All (λ o. o.name ≢ name) b.orders × (length b.orders + 1 < 2 ^ 32)
+MayTake b (Depth side price) = Unit {0}
+
+-- the reply is the book's, and the state after the acts stands for the book after the command
+pub record Meets (s : State) (b : Book) (c : Command) (acts : List Act) (r : BookReply) : Type 0 where
+  pub reply : r ≡ (book_step b c).reply
+  pub stands : StandsFor (run s acts) (book_step b c).book
+
+-- commands meet the book
+abbrev pub CommandsMeetTheBook : Type 0
+CommandsMeetTheBook = (s : State) (b : Book) (c : Command) (acts : List Act) (r : BookReply)
+    → StandsFor s b → IsCommand c → MayTake b c → Did (script_of c) acts r → IsRight s acts → Meets s b c acts r

@@ -1,0 +1,25 @@
+// Asking for a depth.
+ghost use Rattle.std.specs.Prelude.{◌≡◌, ◌≤◌, None, IfOk, IfErr};
+ghost use Rattle.md_history.specs.Script.{Follows, Adds};
+ghost use Rattle.md_history.specs.Calls.{BrokeOff};
+ghost use Rattle.md_book.specs.Stands.{maps_of_a_book};
+ghost use Rattle.md_book.specs.Book.{IsPrice};
+ghost use Rattle.md_book.specs.Commands.{look_depth};
+
+use crate::commands::{BookReply, Side};
+use crate::maps::DEPTHS;
+use md_history::{Stop, TxCalls};
+
+/// Looks a level's depth up.
+pub(crate) fn look_depth<T: TxCalls>(t: &mut T, side: Side, price: u32) -> Result<BookReply, Stop>
+    requires going { T.stop t.old ≡ None }
+    requires price { IsPrice price }
+    requires maps { maps_of_a_book ≤ T.maps (T.kept t.old) }
+    ensures ok { IfOk result (λ r. (T.stop t.new ≡ None) × Adds (look_depth side price) r (T.acts t.old) (T.acts t.new)) }
+    ensures err { IfErr result (λ e. BrokeOff (Follows (look_depth side price)) e (T.acts t.old) (T.acts t.new) (T.stop t.new)) }
+    ensures kept { T.kept t.new ≡ T.kept t.old }
+{
+    let level = side.level(price);
+    let depth = t.get(DEPTHS, level as u64)?;
+    Ok(BookReply::Depth(depth.unwrap_or(0)))
+}

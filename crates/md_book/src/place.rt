@@ -1,0 +1,38 @@
+// Placing an order.
+ghost use Rattle.std.specs.Prelude.{◌≡◌, ◌≤◌, None, IfOk, IfErr};
+ghost use Rattle.md_history.specs.Script.{Follows, Adds};
+ghost use Rattle.md_history.specs.Calls.{BrokeOff};
+ghost use Rattle.md_book.specs.Stands.{maps_of_a_book, levels};
+ghost use Rattle.md_book.specs.Book.{IsPrice};
+ghost use Rattle.md_book.specs.Commands.{place};
+
+use crate::commands::{BookReply, Side};
+use crate::maps::{DEPTHS, OPEN_ORDERS};
+use crate::packing::packed;
+use crate::parts::raise;
+use md_history::{Stop, TxCalls};
+
+/// Adds an order to the open ones, its name to its level's queue, and its quantity to the level's depth.
+pub(crate) fn place<T: TxCalls>(
+    t: &mut T,
+    name: u64,
+    account: u32,
+    side: Side,
+    price: u32,
+    quantity: u32,
+) -> Result<BookReply, Stop>
+    requires going { T.stop t.old ≡ None }
+    requires price { IsPrice price }
+    requires maps { maps_of_a_book ≤ T.maps (T.kept t.old) }
+    requires queues { levels ≤ T.queues (T.kept t.old) }
+    ensures ok { IfOk result (λ r. (T.stop t.new ≡ None) × Adds (place name account side price quantity) r (T.acts t.old) (T.acts t.new)) }
+    ensures err { IfErr result (λ e. BrokeOff (Follows (place name account side price quantity)) e (T.acts t.old) (T.acts t.new) (T.stop t.new)) }
+    ensures kept { T.kept t.new ≡ T.kept t.old }
+{
+    let level = side.level(price);
+    let order = packed(account, side, price, quantity);
+    t.insert(OPEN_ORDERS, name, order)?;
+    t.enqueue(level, name)?;
+    raise(t, DEPTHS, level as u64, quantity as u64)?;
+    Ok(BookReply::Placed)
+}

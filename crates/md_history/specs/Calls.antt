@@ -1,0 +1,54 @@
+-- What the calls of a transaction do, answered or refused.
+use Rattle.std.specs.Prelude.{◌≡◌, ◌<◌, ◌^◌, List, [], ◌∷◌, ◌++◌, Option, Some, None, unwrap_or}
+use Rattle.md_history.specs.declared.acts.Op.{Op}
+use Rattle.md_history.specs.declared.acts.Op.TheVariants.{Get, Insert, Remove, Enqueue, Dequeue, Front}
+use Rattle.md_history.specs.declared.acts.Reply.{Reply}
+use Rattle.md_history.specs.declared.acts.Reply.TheVariants.{Value, Flag, Nothing}
+use Rattle.md_history.specs.declared.acts.Act.{Act}
+use Rattle.md_history.specs.declared.stops.Stop.{Stop}
+use Rattle.md_history.specs.Act.{act_of}
+
+-- why a transaction stopped, and the operation that was refused first
+pub record Refusal : Type 0 where
+  pub stop : Stop
+  pub op : Op
+
+-- the refusal that stands after a call was refused: the first one stays
+abbrev pub first_refusal : Option Refusal → Op → Stop → Refusal
+first_refusal stood op why = unwrap_or stood (record { stop = why; op = op })
+
+-- a call was answered: no stop stood or stands, and its act was added
+pub record Answered (op : Op) (reply : Reply) (acts acts' : List Act) (stop stop' : Option Refusal) : Type 0 where
+  pub going : stop ≡ None
+  pub goes_on : stop' ≡ None
+  pub added : acts' ≡ acts ++ act_of op reply ∷ []
+
+-- a call was refused: no act was added, and the answer is the stop of the first refusal, which stands from then on
+pub record Refused (op : Op) (why : Stop) (acts acts' : List Act) (stop stop' : Option Refusal) : Type 0 where
+  pub same : acts' ≡ acts
+  pub stands : stop' ≡ Some (first_refusal stop op why)
+  pub again : (first_refusal stop op why).stop ≡ why
+
+-- the replies that an operation can have
+abbrev pub MayReply : Op → Reply → Type 0
+MayReply (Insert m k v) (Flag b) = Unit {0}
+MayReply (Enqueue q v) Nothing = Unit {0}
+MayReply (Get m k) (Value None) = Unit {0}
+MayReply (Get m k) (Value (Some v)) = v < 2 ^ 64
+MayReply (Remove m k) (Value None) = Unit {0}
+MayReply (Remove m k) (Value (Some v)) = v < 2 ^ 64
+MayReply (Dequeue q) (Value None) = Unit {0}
+MayReply (Dequeue q) (Value (Some v)) = v < 2 ^ 64
+MayReply (Front q) (Value None) = Unit {0}
+MayReply (Front q) (Value (Some v)) = v < 2 ^ 64
+MayReply _ _ = ⊥
+
+-- a part of a body broke off: the transaction has the stop, and whatever the refused operation would have
+-- answered, the acts that were added and this one are such as the part makes
+pub record BrokeOff (makes : List Act → Type 0) (why : Stop) (acts acts' : List Act) (stop' : Option Refusal) : Type 0 where
+  pub refusal : Refusal
+  pub stopped : stop' ≡ Some refusal
+  pub same : refusal.stop ≡ why
+  pub added : List Act
+  pub adds : acts' ≡ acts ++ added
+  pub made : (r : Reply) → MayReply refusal.op r → makes (added ++ act_of refusal.op r ∷ [])

@@ -1,0 +1,11 @@
+pub mod Act
+pub mod State
+pub mod History
+pub mod Front
+pub mod Calls
+pub mod Script
+pub mod ScriptLaws
+pub mod Attempt
+pub mod Contents
+pub mod Plain
+pub mod HistoryLaws

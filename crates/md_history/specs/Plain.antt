@@ -1,0 +1,69 @@
+-- The store for one thread: what contracts see of its passes and its transactions.
+use Rattle.std.specs.Prelude.{◌≡◌, ◌==◌, ◌+◌, ℕ, Bool, true, false, List, [], ◌∷◌, length, map, Option, Some, None, if◌then◌else◌}
+use Rattle.md_history.specs.declared.acts.Op.{Op}
+use Rattle.md_history.specs.declared.acts.Act.{Act}
+use Rattle.md_history.specs.declared.entries.Entry.{Entry}
+use Rattle.md_history.specs.declared.entries.Fate.{Fate}
+use Rattle.md_history.specs.declared.entries.Fate.TheVariants.{Committed}
+use Rattle.md_history.specs.declared.stops.Stop.TheVariants.{NoMemory}
+use Rattle.md_history.specs.State.{State, run, IsRight}
+use Rattle.md_history.specs.History.{acts_of}
+use Rattle.md_history.specs.Front.{Front, LegalFrom}
+use Rattle.md_history.specs.Calls.{Refusal}
+
+-- a pass: where its store began, its entries, and whether memory was wanting
+pub record Plain : Type 0 where
+  pub start : State
+  pub entries : List Entry
+  pub broken : Bool
+
+-- every entry is committed
+abbrev pub all_committed : List Entry → List Fate
+all_committed es = map {0, 0} (λ _. Committed) es
+
+-- the one lane is 0, and each of its entries is the pass's own
+abbrev pub front_from : List Entry → Front
+front_from es = record {
+  lanes = 0 ∷ [];
+  seen = es;
+  known = all_committed es;
+  mine = λ lane. if lane == 0 then es else [];
+  pending = [];
+}
+
+abbrev pub front_of : Plain → Front
+front_of p = front_from p.entries
+
+-- the pass is of a store that began with this state
+pub record IsPassOf (start : State) (p : Plain) : Type 0 where
+  pub starts : p.start ≡ start
+  pub legal : LegalFrom start (front_of p)
+
+-- entries of lane 0, sound, with the numbers from n on
+abbrev pub AreNumbered : ℕ → List Entry → Type 0
+AreNumbered n [] = Unit {0}
+AreNumbered n (e ∷ es) = (e.lane ≡ 0) × (e.number ≡ n) × (e.sound ≡ true) × AreNumbered (n + 1) es
+
+-- what a pass contains is what its entries make of the start, until memory was wanting
+pub record IsKept (start now : State) (es : List Entry) (broken : Bool) : Type 0 where
+  pub numbered : AreNumbered 0 es
+  pub right : IsRight start (acts_of es)
+  pub state : broken ≡ false → now ≡ run start (acts_of es)
+
+-- a transaction under way: the state that it began with, its acts, and the operation that was refused for want
+-- of memory, if one was
+pub record Running : Type 0 where
+  pub start : State
+  pub acts : List Act
+  pub refused : Option Op
+
+abbrev pub refusal_of : Option Op → Option Refusal
+refusal_of None = None
+refusal_of (Some op) = Some (record { stop = NoMemory; op = op })
+
+-- what a transaction contains is what its acts make of the state that it began with
+pub record IsRunning (start now : State) (acts : List Act) (refused : Option Op) : Type 0 where
+  pub right : IsRight start acts
+  pub state : refused ≡ None → now ≡ run start acts
+  pub maps : length now.maps ≡ length start.maps
+  pub queues : length now.queues ≡ length start.queues

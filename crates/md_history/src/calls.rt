@@ -1,0 +1,71 @@
+// The calls that a transaction offers.
+ghost use Rattle.std.specs.Prelude.{◌≡◌, ◌<◌, ℕ, List, Option, IfOk, IfErr};
+ghost use Rattle.md_history.specs.declared.acts.Act.{Act};
+ghost use Rattle.md_history.specs.declared.acts.Op.TheVariants.{Get, Insert, Remove, Enqueue, Dequeue, Front};
+ghost use Rattle.md_history.specs.declared.acts.Reply.TheVariants.{Value, Flag, Nothing};
+ghost use Rattle.md_history.specs.Calls.{Refusal, Answered, Refused};
+
+use crate::stops::Stop;
+
+/// A transaction under way.
+///
+/// On `Ok` a call adds one act, its own operation with its reply. On `Err` it adds none, and the
+/// transaction has a stop; from then on each call answers that stop again and does nothing.
+pub trait TxCalls {
+    /// The acts so far.
+    ghost acts: { Self → List Act };
+
+    /// The stop that was answered, if one was, with the operation that was refused first.
+    ghost stop: { Self → Option Refusal };
+
+    /// What no call changes, the numbers of maps and queues among it.
+    ghost Kept: { Type 0 };
+
+    ghost kept: { Self → Kept };
+
+    ghost maps: { Kept → ℕ };
+
+    ghost queues: { Kept → ℕ };
+
+    /// The value of a key, if it has one.
+    fn get(&mut self, map: u32, key: u64) -> Result<Option<u64>, Stop>
+        requires { map < maps (kept self.old) }
+        ensures ok { IfOk result (λ v. Answered (Get map key) (Value v) (acts self.old) (acts self.new) (stop self.old) (stop self.new)) }
+        ensures err { IfErr result (λ e. Refused (Get map key) e (acts self.old) (acts self.new) (stop self.old) (stop self.new)) }
+        ensures kept { kept self.new ≡ kept self.old };
+
+    /// Adds a key that is absent, and answers whether it was. It never replaces a value.
+    fn insert(&mut self, map: u32, key: u64, value: u64) -> Result<bool, Stop>
+        requires { map < maps (kept self.old) }
+        ensures ok { IfOk result (λ b. Answered (Insert map key value) (Flag b) (acts self.old) (acts self.new) (stop self.old) (stop self.new)) }
+        ensures err { IfErr result (λ e. Refused (Insert map key value) e (acts self.old) (acts self.new) (stop self.old) (stop self.new)) }
+        ensures kept { kept self.new ≡ kept self.old };
+
+    /// Takes a key out, and answers the value that it had, if it had one.
+    fn remove(&mut self, map: u32, key: u64) -> Result<Option<u64>, Stop>
+        requires { map < maps (kept self.old) }
+        ensures ok { IfOk result (λ v. Answered (Remove map key) (Value v) (acts self.old) (acts self.new) (stop self.old) (stop self.new)) }
+        ensures err { IfErr result (λ e. Refused (Remove map key) e (acts self.old) (acts self.new) (stop self.old) (stop self.new)) }
+        ensures kept { kept self.new ≡ kept self.old };
+
+    /// Appends a value to a queue.
+    fn enqueue(&mut self, queue: u32, value: u64) -> Result<(), Stop>
+        requires { queue < queues (kept self.old) }
+        ensures ok { IfOk result (λ _. Answered (Enqueue queue value) Nothing (acts self.old) (acts self.new) (stop self.old) (stop self.new)) }
+        ensures err { IfErr result (λ e. Refused (Enqueue queue value) e (acts self.old) (acts self.new) (stop self.old) (stop self.new)) }
+        ensures kept { kept self.new ≡ kept self.old };
+
+    /// Takes the first value out of a queue, if there is one.
+    fn dequeue(&mut self, queue: u32) -> Result<Option<u64>, Stop>
+        requires { queue < queues (kept self.old) }
+        ensures ok { IfOk result (λ v. Answered (Dequeue queue) (Value v) (acts self.old) (acts self.new) (stop self.old) (stop self.new)) }
+        ensures err { IfErr result (λ e. Refused (Dequeue queue) e (acts self.old) (acts self.new) (stop self.old) (stop self.new)) }
+        ensures kept { kept self.new ≡ kept self.old };
+
+    /// The first value of a queue, if there is one.
+    fn front(&mut self, queue: u32) -> Result<Option<u64>, Stop>
+        requires { queue < queues (kept self.old) }
+        ensures ok { IfOk result (λ v. Answered (Front queue) (Value v) (acts self.old) (acts self.new) (stop self.old) (stop self.new)) }
+        ensures err { IfErr result (λ e. Refused (Front queue) e (acts self.old) (acts self.new) (stop self.old) (stop self.new)) }
+        ensures kept { kept self.new ≡ kept self.old };
+}

@@ -1,0 +1,145 @@
+// What the maps and the queues contain, in one place.
+ghost use Rattle.std.specs.Prelude.{◌≡◌, ◌<◌, [], ◌∷◌, ◌++◌, length, drop, slice_get, is_none, IfOk, OnOk, OnErr};
+ghost use Rattle.std.specs.FinMap as fin;
+ghost use Rattle.std.specs.Ordering.{nat_cmp};
+ghost use Rattle.md_history.specs.State.{State, empty_state, map_at, queue_at, with_map, with_queue, after};
+ghost use Rattle.md_history.specs.Contents.{table_of};
+ghost use Rattle.md_history.specs.declared.acts.Op.TheVariants.{Insert};
+
+use std::alloc::{AllocError, Global};
+use std::collections::{BTreeMap, VecDeque};
+use std::marker::Model;
+
+/// Ordered maps and queues. Contracts see finite maps and lists.
+#[derive(Drop)]
+pub struct Contents {
+    maps: Vec<BTreeMap<u64, u64>>,
+    queues: Vec<VecDeque<u64>>,
+}
+
+impl Model for Contents {
+    ghost use Rattle.md_history.specs.State.{State, state_code};
+    ghost use Rattle.md_history.specs.Contents.{state_of};
+
+    ghost Value = { State };
+
+    ghost coded = { state_code };
+
+    ghost view = { λ c. state_of c.maps.items c.queues.items };
+}
+
+impl Contents {
+    /// So many maps and queues, with nothing in them.
+    pub fn empty(alloc: Global, maps: u32, queues: u32) -> Result<Contents, AllocError>
+        ensures { IfOk result (λ c. c ≡ empty_state maps queues) }
+    {
+        let mut all = Vec::new(alloc);
+        for made in 0..maps {
+            all.push(BTreeMap::new(alloc))?;
+        }
+        let mut lines = Vec::new(alloc);
+        for made in 0..queues {
+            lines.push(VecDeque::new(alloc))?;
+        }
+        Ok(Contents {
+            maps: all,
+            queues: lines,
+        })
+    }
+
+    /// Sets a key, and answers its old value. A refusal changes nothing.
+    pub fn put(&mut self, map: u32, key: u64, value: u64) -> Result<Option<u64>, AllocError>
+        requires { map < length self.old.maps }
+        ensures before { IfOk result (λ before. before ≡ fin.get (map_at self.old map) key) }
+        ensures ok { OnOk result (self.new ≡ with_map self.old map (fin.insert (map_at self.old map) key value)) }
+        ensures err { OnErr result (self.new ≡ self.old) }
+    {
+        Ok(self.maps[map as usize].insert(key, value)?)
+    }
+
+    /// Appends to a queue. A refusal changes nothing.
+    pub fn push(&mut self, queue: u32, value: u64) -> Result<(), AllocError>
+        requires { queue < length self.old.queues }
+        ensures ok { OnOk result (self.new ≡ with_queue self.old queue (queue_at self.old queue ++ value ∷ [])) }
+        ensures err { OnErr result (self.new ≡ self.old) }
+    {
+        self.queues[queue as usize].push_back(value)?;
+        Ok(())
+    }
+
+    /// The map of a number.
+    pub fn map(&self, map: u32) -> &BTreeMap<u64, u64>
+        requires { map < length self.now.maps }
+        ensures { table_of result.now ≡ map_at self.now map }
+    {
+        &self.maps[map as usize]
+    }
+
+    /// The queue of a number.
+    pub fn queue(&self, queue: u32) -> &VecDeque<u64>
+        requires { queue < length self.now.queues }
+        ensures { result.now.items ≡ queue_at self.now queue }
+    {
+        &self.queues[queue as usize]
+    }
+
+    /// Removes a key, and answers its old value.
+    pub(crate) fn remove(&mut self, map: u32, key: u64) -> Option<u64>
+        requires { map < length self.old.maps }
+        ensures before { result ≡ fin.get (map_at self.old map) key }
+        ensures after { self.new ≡ with_map self.old map (fin.remove (map_at self.old map) key) }
+    {
+        self.maps[map as usize].remove(&key)
+    }
+
+    /// Takes the first value of a queue.
+    pub(crate) fn pop(&mut self, queue: u32) -> Option<u64>
+        requires { queue < length self.old.queues }
+        ensures first { result ≡ slice_get (queue_at self.old queue) 0 }
+        ensures after { self.new ≡ with_queue self.old queue (drop 1 (queue_at self.old queue)) }
+    {
+        self.queues[queue as usize].pop_front()
+    }
+
+    /// The value of a key of a map, if it has one.
+    pub fn get(&self, map: u32, key: u64) -> Option<u64>
+        requires { map < length self.now.maps }
+        ensures { result ≡ fin.get (map_at self.now map) key }
+    {
+        self.maps[map as usize].get(&key).copied()
+    }
+
+    /// The first value of a queue.
+    pub(crate) fn first(&self, queue: u32) -> Option<u64>
+        requires { queue < length self.now.queues }
+        ensures { result ≡ slice_get (queue_at self.now queue) 0 }
+    {
+        self.queues[queue as usize].front().copied()
+    }
+
+    /// Adds a key that is absent, and answers whether it was.
+    pub(crate) fn add(&mut self, map: u32, key: u64, value: u64) -> Result<bool, AllocError>
+        requires { map < length self.old.maps }
+        ensures absent { IfOk result (λ b. b ≡ is_none (fin.get (map_at self.old map) key)) }
+        ensures ok { OnOk result (self.new ≡ after self.old (Insert map key value)) }
+        ensures err { OnErr result (self.new ≡ self.old) }
+    {
+        if self.get(map, key).is_some() {
+            return Ok(false);
+        }
+        self.put(map, key, value)?;
+        Ok(true)
+    }
+
+    /// No maps and no queues, on the same allocator.
+    pub(crate) fn none(&self) -> Contents {
+        Contents {
+            maps: Vec::new(*self.maps.allocator()),
+            queues: Vec::new(*self.maps.allocator()),
+        }
+    }
+
+    pub(crate) fn alloc(&self) -> Global {
+        *self.maps.allocator()
+    }
+}

@@ -1,0 +1,23 @@
+//! Operations on maps and queues, histories of transactions, and a store for one thread.
+#![tactic(auto)]
+
+mod acts;
+mod bodies;
+mod calls;
+mod contents;
+mod entries;
+mod fronts;
+mod plain;
+mod plain_tx;
+mod stops;
+#[cfg(test)]
+mod tests;
+
+pub use acts::{Act, Acts, Op, Reply};
+pub use bodies::Body;
+pub use calls::TxCalls;
+pub use contents::Contents;
+pub use entries::{Entry, Fate};
+pub use fronts::Front;
+pub use plain::{PlainPass, PlainStore};
+pub use stops::{Attempt, Limit, Shown, Stop};

@@ -1,0 +1,109 @@
+// What no clause says: that calls succeed, and that bodies run over the store through their bounds.
+use super::*;
+use std::test::Fail;
+
+#[test]
+fn contents_take_values(rt: HostRuntime) -> Result<(), Fail> {
+    let mut contents = Contents::empty(rt.alloc(), 1, 1)?;
+    assert_eq!(rt; contents.put(0, 5, 6)?, None);
+    assert_eq!(rt; contents.put(0, 5, 7)?, Some(6));
+    contents.push(0, 1)?;
+    assert_eq!(rt; contents.get(0, 5), Some(7));
+    assert_eq!(rt; contents.get(0, 4), None);
+    assert_eq!(rt; contents.map(0).len(), 1);
+    assert_eq!(rt; contents.queue(0).len(), 1);
+    assert_eq!(rt; contents.queue(0).front().copied(), Some(1));
+    Ok(())
+}
+
+// A body that makes each call once, on one map and one queue, and answers what it dequeued.
+#[derive(Clone, Copy, Drop)]
+struct EachCall {
+    key: u64,
+    value: u64,
+}
+
+impl Body for EachCall {
+    ghost use Rattle.std.specs.Prelude.{◌<◌, None};
+    ghost use Rattle.md_history.specs.declared.acts.Op.TheVariants.{Get, Insert, Remove, Enqueue, Dequeue, Front};
+    ghost use Rattle.md_history.specs.declared.acts.Reply.TheVariants.{Value, Flag, Nothing};
+    ghost use Rattle.md_history.specs.Script.{Did, Follows, call, done};
+
+    type Reply = Option<u64>;
+
+    ghost did = { λ b acts r. Did (call (Insert 0 b.key b.value) (λ _. call (Get 0 b.key) (λ _. call (Remove 0 9) (λ _. call (Enqueue 0 b.value) (λ _. call (Front 0) (λ _. call (Dequeue 0) (λ r. done (elim r [ Value v ↦ v | Flag b ↦ None | Nothing ↦ None ])))))))) acts r };
+
+    ghost makes = { λ b acts. Follows (call (Insert 0 b.key b.value) (λ _. call (Get 0 b.key) (λ _. call (Remove 0 9) (λ _. call (Enqueue 0 b.value) (λ _. call (Front 0) (λ _. call (Dequeue 0) (λ r. done (elim r [ Value v ↦ v | Flag b ↦ None | Nothing ↦ None ])))))))) acts };
+
+    ghost fits = { λ b maps queues. (0 < maps) × (0 < queues) };
+
+    fn go<T: TxCalls>(&self, t: &mut T) -> Result<Option<u64>, Stop> {
+        t.insert(0, self.key, self.value)?;
+        t.get(0, self.key)?;
+        t.remove(0, 9)?;
+        t.enqueue(0, self.value)?;
+        t.front(0)?;
+        t.dequeue(0)
+    }
+
+    ghost did_makes = { λ b acts r did. did.follows };
+}
+
+// The acts of that body, with what was answered.
+fn acts_of(body: EachCall, absent: bool, found: u64, removed: Option<u64>, first: u64) -> [Act; 6] {
+    let EachCall { key, value } = body;
+    [
+        (Op::Insert { map: 0, key, value }, Reply::Flag(absent)),
+        (Op::Get { map: 0, key }, Reply::Value(Some(found))),
+        (Op::Remove { map: 0, key: 9 }, Reply::Value(removed)),
+        (Op::Enqueue { queue: 0, value }, Reply::Nothing),
+        (Op::Front { queue: 0 }, Reply::Value(Some(first))),
+        (Op::Dequeue { queue: 0 }, Reply::Value(Some(first))),
+    ]
+    .map(|(op, reply)| Act { op, reply })
+}
+
+#[test]
+fn a_body_runs_twice(rt: HostRuntime) -> Result<(), Fail> {
+    let mut start = Contents::empty(rt.alloc(), 1, 1)?;
+    start.put(0, 9, 4)?;
+    start.push(0, 1)?;
+    let (store, mut pass) = PlainStore::open(start);
+    let bodies = [EachCall { key: 5, value: 6 }, EachCall { key: 5, value: 7 }];
+    let first = store.attempt(&mut pass, 30, &bodies[0]);
+    assert_eq!(rt; first, Attempt::Committed(Some(1)));
+    let second = store.attempt(&mut pass, 20, &bodies[1]);
+    assert_eq!(rt; second, Attempt::Committed(Some(6)));
+
+    let want = [
+        (0, 30, acts_of(bodies[0], true, 6, Some(4), 1)),
+        (1, 20, acts_of(bodies[1], false, 6, None, 6)),
+    ];
+    assert_eq!(rt; pass.entries().len(), want.len());
+    for (entry, (number, tag, acts)) in pass.entries().iter().zip(want) {
+        assert_eq!(rt;
+            (entry.lane, entry.number, entry.tag, entry.sound),
+            (0, number, tag, true)
+        );
+        assert_eq!(rt; entry.acts.as_slice(), acts.as_slice());
+    }
+
+    let (contents, _front) = store.contents(pass)?;
+    let map = contents.map(0);
+    assert_eq!(rt; (map.len(), map.get(&5).copied()), (1, Some(6)));
+    let queue = contents.queue(0);
+    assert_eq!(rt; (queue.len(), queue.front().copied()), (1, Some(7)));
+    Ok(())
+}
+
+#[test]
+fn acts_are_pushed(rt: HostRuntime) -> Result<(), Fail> {
+    let mut acts = Acts::new(rt.alloc());
+    acts.push(Op::Get { map: 2, key: 3 }, Reply::Value(None))?;
+    let want = Act {
+        op: Op::Get { map: 2, key: 3 },
+        reply: Reply::Value(None),
+    };
+    assert_eq!(rt; acts.as_slice(), [want].as_slice());
+    Ok(())
+}

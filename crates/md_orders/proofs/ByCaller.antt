@@ -1,0 +1,143 @@
+-- Lists by caller and what stands in them at a line, both counted from 1.
+use Rattle.std.proofs.Common.{◌≡◌, ◌≢◌, ◌<◌, ◌≤◌, ◌+◌, ◌-◌, ◌^◌, ◌∙◌, ◌++◌, ℕ, zero, suc, List, [], ◌∷◌, Option, Some, None, Vec, Global, length, get_or, set, refl, sym, ap, subst, arith, inl, inr, get_or-set_other, get_or-set_same, length-append}
+use Rattle.std.specs.Prelude.{slice_get, IfSome, option_and_then}
+use Rattle.std.specs.Prelude.{◌==◌, nat_lt}
+use Rattle.std.proofs.lemmas.Option.{slice_get-get_or, slice_get_past}
+use Rattle.std.proofs.lemmas.Bool.{cases_Bool, eqb-true, eq-eqb, false≢true}
+use borrow.Author.Tests.{ltb-true, ltb-false}
+use Rattle.std.proofs.lemmas.List.{map-set, get_or-map, get_or_past, set-get_or, length-map, length-set}
+use Rattle.std.proofs.lemmas.List.Sums.{sum_by-set, get_or-le-sum_by}
+use Rattle.md_book.specs.declared.commands.Command.{Command}
+use Rattle.md_book.specs.Commands.{IsCommand, name_of}
+use Rattle.md_orders.specs.Lists.{lists_in}
+use Rattle.md_orders.specs.Scripts.{list_of, with_list, with_line, at_line, count_of, IsNamed, AreNamed, AreKept}
+
+-- by the index of a caller
+pub list_of-at : {A : Type 0} (lists : List (List A)) (caller i : ℕ) → 1 ≤ caller → i ≡ caller - 1 → list_of lists caller ≡ get_or lists i []
+list_of-at lists zero i low at = absurd (omega arith)
+list_of-at lists (suc c) i low at = let same : c ≡ i = omega arith in ap (λ n. get_or lists n []) same
+
+pub list_of-past : {A : Type 0} (lists : List (List A)) (caller : ℕ) → length lists < caller → list_of lists caller ≡ []
+list_of-past lists zero past = absurd (omega arith)
+list_of-past lists (suc c) past = get_or_past lists c [] (omega arith)
+
+pub with_list-at : {A : Type 0} (lists : List (List A)) (caller i : ℕ) (list : List A) → 1 ≤ caller → i ≡ caller - 1 → with_list lists caller list ≡ set lists i list
+with_list-at lists zero i list low at = absurd (omega arith)
+with_list-at lists (suc c) i list low at = let same : c ≡ i = omega arith in ap (λ n. set lists n list) same
+
+-- one list was changed
+pub list_of-with_list-same : {A : Type 0} (lists : List (List A)) (caller : ℕ) (list : List A) → 1 ≤ caller → caller ≤ length lists → list_of (with_list lists caller list) caller ≡ list
+list_of-with_list-same lists zero list low high = absurd (omega arith)
+list_of-with_list-same lists (suc c) list low high = get_or-set_same lists c list [] (omega arith)
+
+pub list_of-with_list-other : {A : Type 0} (lists : List (List A)) (caller c : ℕ) (list : List A) → c ≢ caller → list_of (with_list lists caller list) c ≡ list_of lists c
+list_of-with_list-other lists caller zero list other = refl
+list_of-with_list-other lists zero (suc c) list other = refl
+list_of-with_list-other lists (suc d) (suc c) list other = get_or-set_other lists d c list [] (λ e. other (ap suc e))
+
+pub length-with_list : {A : Type 0} (lists : List (List A)) (caller : ℕ) (list : List A) → length (with_list lists caller list) ≡ length lists
+length-with_list lists zero list = refl
+length-with_list lists (suc c) list = length-set lists c list
+
+-- what a vector of vectors has for a caller
+pub list_of-lists_in : {A : Type 0} (vs : List (Vec A Global)) (caller i : ℕ) (v : Vec A Global) → 1 ≤ caller → caller ≤ length vs → i ≡ caller - 1 → v ≡ get_or vs i v → list_of (lists_in vs) caller ≡ v.items
+list_of-lists_in vs caller i v low high at is =
+    list_of-at (lists_in vs) caller i low at ∙ get_or-map (λ list. list.items) vs i v [] (omega arith) ∙ ap (λ list. list.items) (sym is)
+
+pub lists_in-set : {A : Type 0} (vs : List (Vec A Global)) (caller i : ℕ) (v : Vec A Global) → 1 ≤ caller → i ≡ caller - 1 → lists_in (set vs i v) ≡ with_list (lists_in vs) caller v.items
+lists_in-set vs caller i v low at = map-set (λ list. list.items) vs i v ∙ sym (with_list-at (lists_in vs) caller i v.items low at)
+
+pub lists_in-same : {A : Type 0} (vs : List (Vec A Global)) (i : ℕ) (v w : Vec A Global) → v ≡ get_or vs i v → w.items ≡ v.items → lists_in (set vs i w) ≡ lists_in vs
+lists_in-same vs i v w is same = map-set (λ list. list.items) vs i w ∙ ap (set (lists_in vs) i) (same ∙ ap (λ list. list.items) is) ∙ sym (map-set (λ list. list.items) vs i (get_or vs i v)) ∙ ap lists_in (set-get_or vs i v)
+
+-- by the index of a line
+pub at_line-at : {A : Type 0} (lists : List (List A)) (caller line i : ℕ) → 1 ≤ line → i ≡ line - 1 → at_line lists caller line ≡ slice_get (list_of lists caller) i
+at_line-at lists caller zero i low at = absurd (omega arith)
+at_line-at lists caller (suc l) i low at = let same : l ≡ i = omega arith in ap (slice_get (list_of lists caller)) same
+
+pub at_line-none : {A : Type 0} (lists : List (List A)) (caller line : ℕ) → list_of lists caller ≡ [] → at_line lists caller line ≡ None
+at_line-none lists caller zero none = refl
+at_line-none lists caller (suc l) none = ap (λ xs. slice_get xs l) none
+
+-- what holds of each line and of a new one holds of each line then
+push_line : {A : Type 0} (Q : ℕ → A → Type 0) (xs : List A) (x : A) (l : ℕ) → ((k : ℕ) → IfSome (slice_get xs k) (Q (suc k))) → Q (length xs + 1) x → IfSome (slice_get (xs ++ x ∷ []) l) (Q (suc l))
+push_line Q [] x zero all last = last
+push_line Q [] x (suc l) all last = tt
+push_line Q (y ∷ xs) x zero all last = all zero
+push_line Q (y ∷ xs) x (suc l) all last = push_line (λ n. Q (suc n)) xs x l (λ k. all (suc k)) (let e : suc (length xs) + 1 ≡ suc (length xs + 1) = omega arith in subst (λ n. Q n x) e last)
+
+-- scripts stay named where a command with the name of its line is added
+named-add : (lists : List (List Command)) (caller : ℕ) (x : Command) → AreNamed lists → 1 ≤ caller → caller ≤ length lists
+    → IsCommand x × IsNamed (name_of caller (length (list_of lists caller) + 1)) x → AreNamed (with_list lists caller (list_of lists caller ++ x ∷ []))
+named-add lists caller x named low high lawful c zero = tt
+named-add lists caller x named low high lawful c (suc l) = elim (cases_Bool (c == caller)) [
+  | inl same ↦
+      let P : ℕ → List Command → Type 0 = λ k xs. IfSome (slice_get xs l) (λ d. IsCommand d × IsNamed (name_of k (suc l)) d) in
+      let e : caller ≡ c = sym (eqb-true c caller same) in
+      let new = list_of-with_list-same lists caller (list_of lists caller ++ x ∷ []) low high in
+      subst (λ k. P k (list_of (with_list lists caller (list_of lists caller ++ x ∷ [])) k)) e
+      (subst (P caller) (sym new) (push_line (λ n d. IsCommand d × IsNamed (name_of caller n) d) (list_of lists caller) x l (λ k. named caller (suc k)) lawful))
+  | inr other ↦
+      let apart : c ≢ caller = λ e. false≢true (sym other ∙ eq-eqb c caller e) in
+      subst (λ xs. IfSome (slice_get xs l) (λ d. IsCommand d × IsNamed (name_of c (suc l)) d)) (sym (list_of-with_list-other lists caller c (list_of lists caller ++ x ∷ []) apart)) (named c (suc l))
+]
+
+-- one command more
+pub count_of-add : (lists : List (List Command)) (caller : ℕ) (x : Command) → 1 ≤ caller → caller ≤ length lists → count_of (with_list lists caller (list_of lists caller ++ x ∷ [])) ≡ count_of lists + 1
+count_of-add lists zero x low high = absurd (omega arith)
+count_of-add lists (suc c) x low high =
+    let new = get_or lists c [] ++ x ∷ [] in
+    let sum = sum_by-set length lists c new [] (omega arith) in
+    let more : length new ≡ length (get_or lists c []) + 1 = length-append (get_or lists c []) (x ∷ []) in
+    omega arith
+
+pub length-list_of-le : (lists : List (List Command)) (caller : ℕ) → length (list_of lists caller) ≤ count_of lists
+length-list_of-le lists zero = omega arith
+length-list_of-le lists (suc c) = elim (cases_Bool (nat_lt c (length lists))) [
+  | inl inside ↦ get_or-le-sum_by length lists c [] (ltb-true c (length lists) inside)
+  | inr past ↦ let none = get_or_past lists c [] (ltb-false c (length lists) past) in rw none (omega arith)
+]
+
+pub kept-add : (total : ℕ) (lists : List (List Command)) (caller : ℕ) (x : Command) → AreKept total lists → 1 ≤ caller → caller ≤ length lists → count_of lists + 1 < 2 ^ 32
+    → IsCommand x × IsNamed (name_of caller (length (list_of lists caller) + 1)) x → AreKept (total + 1) (with_list lists caller (list_of lists caller ++ x ∷ []))
+kept-add total lists caller x kept low high room lawful =
+    let more = count_of-add lists caller x low high in
+    let counted = kept.counted in
+    record {
+      named = named-add lists caller x kept.named low high lawful;
+      counted = ap (λ n. n + 1) counted ∙ sym more;
+      few = omega arith;
+      callers = rw (length-with_list lists caller (list_of lists caller ++ x ∷ [])) kept.callers;
+    }
+
+-- the command that stands at a line
+pub lawful-at : (lists : List (List Command)) (caller line : ℕ) (xs : List Command) (d : Command) → AreNamed lists → xs ≡ list_of lists caller → line ≢ 0 → line ≤ length xs
+    → IsCommand (get_or xs (line - 1) d) × IsNamed (name_of caller line) (get_or xs (line - 1) d)
+lawful-at lists caller zero xs d named is low high = absurd (low refl)
+lawful-at lists caller (suc l) xs d named is low high =
+    let at : suc l - 1 ≡ l = omega arith in
+    let found : slice_get (list_of lists caller) l ≡ Some (get_or xs l d) = ap (λ ys. slice_get ys l) (sym is) ∙ slice_get-get_or xs l d (omega arith) in
+    rw at (subst (λ (o : Option Command). IfSome o (λ x. IsCommand x × IsNamed (name_of caller (suc l)) x)) found (named caller (suc l)))
+
+pub with_line-at : {A : Type 0} (list : List A) (line i : ℕ) (x : A) → 1 ≤ line → i ≡ line - 1 → with_line list line x ≡ set list i x
+with_line-at list zero i x low at = absurd (omega arith)
+with_line-at list (suc l) i x low at = let same : l ≡ i = omega arith in ap (λ n. set list n x) same
+
+-- an optional value at a line
+pub at_line-inside : {A : Type 0} (lists : List (List (Option A))) (caller line i : ℕ) (xs : List (Option A)) (r : Option A) → xs ≡ list_of lists caller → line ≢ 0 → i ≡ line - 1 → i < length xs → r ≡ get_or xs i r
+    → option_and_then (λ o. o) (at_line lists caller line) ≡ r
+at_line-inside lists caller line i xs r is low at inside found =
+    ap (option_and_then (λ o. o)) (at_line-at lists caller line i (omega arith) at ∙ ap (λ ys. slice_get ys i) (sym is) ∙ slice_get-get_or xs i r inside ∙ ap Some (sym found))
+
+pub at_line-past : {A : Type 0} (lists : List (List (Option A))) (caller line i : ℕ) (xs : List (Option A)) → xs ≡ list_of lists caller → line ≢ 0 → i ≡ line - 1 → length xs ≤ i
+    → option_and_then (λ o. o) (at_line lists caller line) ≡ None
+at_line-past lists caller line i xs is low at past =
+    ap (option_and_then (λ o. o)) (at_line-at lists caller line i (omega arith) at ∙ ap (λ ys. slice_get ys i) (sym is) ∙ slice_get_past xs i past)
+
+-- the same, of the lists that a value shows
+pub items-list_of : {A : Type 0} (vs : List (Vec A Global)) (lists : List (List A)) (caller i : ℕ) (v : Vec A Global) → lists_in vs ≡ lists → 1 ≤ caller → caller ≤ length vs → i ≡ caller - 1 → v ≡ get_or vs i v
+    → v.items ≡ list_of lists caller
+items-list_of vs lists caller i v shown low high at is = sym (list_of-lists_in vs caller i v low high at is) ∙ ap (λ ls. list_of ls caller) shown
+
+pub length-lists_in : {A : Type 0} (vs : List (Vec A Global)) (lists : List (List A)) → lists_in vs ≡ lists → length vs ≡ length lists
+length-lists_in vs lists shown = sym (length-map vs (λ list. list.items)) ∙ ap length shown

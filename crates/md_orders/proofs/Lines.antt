@@ -1,0 +1,34 @@
+-- Lines: records at their caller's next line.
+use Rattle.std.proofs.Common.{◌≡◌, ◌<◌, ◌≤◌, ◌+◌, ◌^◌, ◌∙◌, ℕ, List, Bool, true, false, Option, Some, None, is_some, length, refl, ap, arith}
+use Rattle.std.specs.Prelude.{◌&&◌}
+use Rattle.md_book.specs.declared.commands.Command.{Command}
+use Rattle.md_orders.specs.Grammar.{Row, caller_of, command_of, keeps}
+use Rattle.md_orders.specs.Scripts.{list_of, count_of}
+use Rattle.md_orders.specs.Line.{IsLine, next_name}
+use Rattle.md_orders.proofs.ByCaller.{length-list_of-le}
+use Rattle.md_orders.proofs.Keeps.{command_of-some, command_of-lawful, caller_of-inv, is_name}
+
+pub line-is : (callers : ℕ) (row : Row) (scripts : List (List Command)) (caller : ℕ) (command : Command) → callers ≤ 8 → count_of scripts + 1 < 2 ^ 32
+    → caller_of callers row ≡ Some caller → command_of (next_name scripts caller) row ≡ Some command → IsLine callers row scripts caller command
+line-is callers row scripts caller command high room caller_is command_is =
+    let from = caller_of-inv callers row caller caller_is in
+    let few = length-list_of-le scripts caller in
+    let some : is_some (command_of 0 row) ≡ true = command_of-some 0 (next_name scripts caller) row ∙ ap is_some command_is in
+    let lawful = command_of-lawful (next_name scripts caller) row command (is_name caller (length (list_of scripts caller) + 1) (omega arith) (omega arith) (omega arith) (omega arith)) command_is in
+    record {
+      caller_is = caller_is;
+      caller_low = from.0;
+      caller_high = from.1;
+      command_is = command_is;
+      good = ap (λ (o : Option ℕ). is_some o && is_some (command_of 0 row)) caller_is ∙ some;
+      in_range = lawful.0;
+      named = lawful.1;
+    }
+
+and-false : (a b : Bool) → b ≡ false → (a && b) ≡ false
+and-false true b h = h
+and-false false b h = refl
+
+-- a record that writes no command breaks the grammar
+pub line-breaks : (callers name : ℕ) (row : Row) → command_of name row ≡ None → keeps callers row ≡ false
+line-breaks callers name row none = and-false _ _ (command_of-some 0 name row ∙ ap is_some none)

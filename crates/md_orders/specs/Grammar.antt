@@ -1,0 +1,87 @@
+-- What a record writes: a caller and a command.
+use Rattle.std.specs.Prelude.{ℕ, ◌+◌, ◌-◌, ◌*◌, nat_le, ◌==◌, ◌&&◌, Bool, if◌then◌else◌, List, [], ◌∷◌, length, Option, Some, None, is_some, option_and_then}
+use Rattle.std.specs.Option.{option_map}
+use Rattle.std.specs.Char.{is_ascii_digit}
+use Rattle.csv.specs.Records.{field_at}
+use Rattle.md_book.specs.declared.commands.Side.{Side}
+use Rattle.md_book.specs.declared.commands.Side.TheVariants.{Buy, Sell}
+use Rattle.md_book.specs.declared.commands.Command.{Command}
+use Rattle.md_book.specs.declared.commands.Command.TheVariants.{Place, Depth}
+
+-- the fields of a record
+abbrev pub Row : Type 0
+Row = List (List ℕ)
+
+-- the number that ASCII digits write after a number that stands before them
+unfoldable pub digits_after : ℕ → List ℕ → Option ℕ
+digits_after n [] = Some n
+digits_after n (c ∷ rest) = if is_ascii_digit c then digits_after (n * 10 + (c - 48)) rest else None
+
+-- the number that a field writes: one to ten ASCII digits; zeros in front count for nothing
+abbrev pub number : List ℕ → Option ℕ
+number field = if nat_le 1 (length field) && nat_le (length field) 10 then digits_after 0 field else None
+
+-- a number within a range
+abbrev pub within : ℕ → ℕ → ℕ → Option ℕ
+within low high n = if nat_le low n && nat_le n high then Some n else None
+
+-- the number in a record's field, within a range
+abbrev pub number_at : Row → ℕ → ℕ → ℕ → Option ℕ
+number_at row place low high = option_and_then (within low high) (option_and_then number (field_at row place))
+
+-- a field of one byte
+abbrev pub one_byte : List ℕ → Option ℕ
+one_byte [] = None
+one_byte (c ∷ []) = Some c
+one_byte (c ∷ d ∷ rest) = None
+
+abbrev pub byte_at : Row → ℕ → Option ℕ
+byte_at row place = option_and_then one_byte (field_at row place)
+
+-- B writes buy and S writes sell
+abbrev pub side_of : ℕ → Option Side
+side_of c = if c == 66 then Some Buy else if c == 83 then Some Sell else None
+
+abbrev pub side_at : Row → ℕ → Option Side
+side_at row place = option_and_then side_of (byte_at row place)
+
+abbrev pub account_at : Row → ℕ → Option ℕ
+account_at row place = number_at row place 1 9999
+
+abbrev pub price_at : Row → ℕ → Option ℕ
+price_at row place = number_at row place 1 1000
+
+abbrev pub quantity_at : Row → ℕ → Option ℕ
+quantity_at row place = number_at row place 1 1000000
+
+-- caller, P, account, side, price, quantity; the order gets the name
+abbrev pub place_of : ℕ → Row → Option Command
+place_of name row = option_and_then (λ account. option_and_then (λ side. option_and_then (λ price. option_map (λ quantity.
+    Place name account side price quantity) (quantity_at row 5)) (price_at row 4)) (side_at row 3)) (account_at row 2)
+
+-- caller, D, side, price
+abbrev pub depth_of : Row → Option Command
+depth_of row = option_and_then (λ side. option_map (λ price. Depth side price) (price_at row 3)) (side_at row 2)
+
+-- the command that a record writes, by its kind (P or D) and its number of fields; a placed order gets the name
+abbrev pub command_of_kind : ℕ → Row → ℕ → Option Command
+command_of_kind name row kind =
+    if (kind == 80) && (length row == 6) then place_of name row
+    else if (kind == 68) && (length row == 4) then depth_of row
+    else None
+
+unfoldable pub command_of : ℕ → Row → Option Command
+command_of name row = option_and_then (command_of_kind name row) (byte_at row 1)
+
+-- the caller of a record, from 1 to the number of callers
+unfoldable pub caller_of : ℕ → Row → Option ℕ
+caller_of callers row = number_at row 0 1 callers
+
+-- a record keeps the grammar where it writes a caller and a command, whatever name an order of it gets
+abbrev pub keeps : ℕ → Row → Bool
+keeps callers row = is_some (caller_of callers row) && is_some (command_of 0 row)
+
+-- the number, counted from n, of the first record that breaks the grammar
+abbrev pub first_bad : ℕ → ℕ → List Row → Option ℕ
+first_bad callers n [] = None
+first_bad callers n (row ∷ rows) = if keeps callers row then first_bad callers (n + 1) rows else Some n

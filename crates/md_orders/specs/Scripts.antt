@@ -1,0 +1,71 @@
+-- Scripts: the commands of each caller, in order.
+use Rattle.std.specs.Prelude.{◌≡◌, ℕ, zero, suc, ◌/◌, ◌^◌, ◌<◌, ◌==◌, Bool, false, Option, None, List, [], length, map, filter, slice_get, slice_index_or, slice_set, sum_by, IfSome}
+use Rattle.std.specs.List.{filter_map, enumerate_from}
+use Rattle.std.specs.Option.{option_map_or}
+use Rattle.md_book.specs.declared.commands.Command.{Command}
+use Rattle.md_book.specs.declared.commands.Command.TheVariants.{Place, Depth}
+use Rattle.md_book.specs.Commands.{IsCommand, name_of}
+use Rattle.md_orders.specs.Grammar.{Row, caller_of, command_of, first_bad}
+
+-- the list of a caller, counted from 1; other callers have none
+abbrev pub list_of : {A : Type 0} → List (List A) → ℕ → List A
+list_of lists zero = []
+list_of lists (suc c) = slice_index_or lists c []
+
+-- the lists with another one for a caller
+abbrev pub with_list : {A : Type 0} → List (List A) → ℕ → List A → List (List A)
+with_list lists zero list = lists
+with_list lists (suc c) list = slice_set lists c list
+
+-- a list with another element at a line
+abbrev pub with_line : {A : Type 0} → List A → ℕ → A → List A
+with_line list zero x = list
+with_line list (suc l) x = slice_set list l x
+
+-- what a caller's list has at a line, both counted from 1
+abbrev pub at_line : {A : Type 0} → List (List A) → ℕ → ℕ → Option A
+at_line lists caller zero = None
+at_line lists caller (suc line) = slice_get (list_of lists caller) line
+
+-- whether a record is of this caller
+abbrev pub is_by : ℕ → ℕ → Row → Bool
+is_by callers caller row = option_map_or (λ c. c == caller) (caller_of callers row) false
+
+-- a caller's records, in order, and its script: their commands, where an order gets the name of its line
+abbrev pub script_in : ℕ → List Row → ℕ → List Command
+script_in callers rows caller =
+    filter_map (λ numbered. command_of (name_of caller numbered.0) numbered.1) (enumerate_from 1 (filter (is_by callers caller) rows))
+
+-- the scripts that records write, each of which keeps the grammar
+pub record AreScripts (callers : ℕ) (rows : List Row) (scripts : List (List Command)) : Type 0 where
+  pub good : first_bad callers 1 rows ≡ None
+  pub number : length scripts ≡ callers
+  pub each : (caller : ℕ) → list_of scripts caller ≡ script_in callers rows caller
+
+-- how many commands there are
+abbrev pub count_of : List (List Command) → ℕ
+count_of scripts = sum_by length scripts
+
+-- an order that a command places has this name
+abbrev pub IsNamed : ℕ → Command → Type 0
+IsNamed name (Place n account side price quantity) = n ≡ name
+IsNamed name (Depth side price) = Unit {0}
+
+-- each command is in range, and each order has the name of its caller and line
+abbrev pub AreNamed : List (List Command) → Type 0
+AreNamed scripts = (caller line : ℕ) → IfSome (at_line scripts caller line) (λ c. IsCommand c × IsNamed (name_of caller line) c)
+
+-- what scripts keep: each command is in range and named, and their number, which is below 2^32
+pub record AreKept (total : ℕ) (scripts : List (List Command)) : Type 0 where
+  pub named : AreNamed scripts
+  pub counted : total ≡ count_of scripts
+  pub few : count_of scripts < 2 ^ 32
+  pub callers : length scripts < 2 ^ 32
+
+-- the tags of a caller's lines: 1 to the last
+abbrev pub lines_of : List (List Command) → ℕ → List ℕ
+lines_of scripts caller = map (λ numbered. name_of caller numbered.0) (enumerate_from 1 (list_of scripts caller))
+
+-- of each caller the tags are its lines, each once, in order, and there are no others
+abbrev pub IsInterleaving : List (List Command) → List ℕ → Type 0
+IsInterleaving scripts tags = (caller : ℕ) → filter (λ tag. tag / 2 ^ 32 == caller) tags ≡ lines_of scripts caller

@@ -1,0 +1,56 @@
+// The fields of a record.
+ghost use Rattle.std.specs.Prelude.{◌≡◌, ◌<◌, ◌^◌};
+ghost use Rattle.csv.specs.Records.{fields_of};
+ghost use Rattle.md_orders.specs.Grammar.{number, number_at, byte_at, side_at};
+
+use csv::ByteRecord;
+use md_book::Side;
+
+// One to ten digits stay below 2^64.
+fn number(field: &[u8]) -> Option<u64>
+    ensures { result ≡ number field.now }
+{
+    if field.is_empty() || field.len() > 10 {
+        return None;
+    }
+    let mut value: u64 = 0;
+    for digit in field {
+        if !digit.is_ascii_digit() {
+            return None;
+        }
+        value = value * 10 + u64::from(*digit - b'0');
+    }
+    Some(value)
+}
+
+/// The number in a field, within a range.
+pub(crate) fn number_at(row: &ByteRecord, place: usize, low: u32, high: u32) -> Option<u32>
+    ensures { result ≡ number_at (fields_of row.now) place low high }
+{
+    let value = number(row.get(place)?)?;
+    if value < u64::from(low) || value > u64::from(high) {
+        return None;
+    }
+    Some(value as u32)
+}
+
+/// The byte of a field that has one.
+pub(crate) fn byte_at(row: &ByteRecord, place: usize) -> Option<u8>
+    ensures { result ≡ byte_at (fields_of row.now) place }
+{
+    match row.get(place)? {
+        [byte] => Some(*byte),
+        _ => None,
+    }
+}
+
+/// The side that a field writes.
+pub(crate) fn side_at(row: &ByteRecord, place: usize) -> Option<Side>
+    ensures { result ≡ side_at (fields_of row.now) place }
+{
+    match byte_at(row, place)? {
+        b'B' => Some(Side::Buy),
+        b'S' => Some(Side::Sell),
+        _ => None,
+    }
+}

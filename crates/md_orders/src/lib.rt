@@ -1,0 +1,16 @@
+//! Order files: their records, the scripts that they write, and the report.
+#![tactic(auto)]
+
+mod fields;
+mod grammar;
+mod read;
+mod replies;
+mod scripts;
+#[cfg(test)]
+mod tests;
+mod text;
+
+pub use read::{OrderFault, read_orders};
+pub use replies::Replies;
+pub use scripts::Scripts;
+pub use text::report;

@@ -1,0 +1,236 @@
+// The text of a report, to its last byte.
+ghost use Rattle.std.specs.Prelude.{◌≡◌, ◌++◌, ◌≤◌, ◌<◌, length, take, flat_map, decimal, OnOk, IfOk};
+ghost use Rattle.md_book.specs.Book.{Book};
+ghost use Rattle.md_book.specs.Stands.{StandsFor, maps_of_a_book};
+ghost use Rattle.md_orders.specs.Scripts.{list_of};
+ghost use Rattle.md_orders.specs.Report.{name_text, part_text, filled_text, reply_text, line_text, answer_text, script_text, replies_text, level_text, account_text, texts_to, done_text, report_text, value_at, levels_text_of, accounts_text_of};
+
+use crate::{Replies, Scripts};
+use itoa::Buffer;
+use md_book::{BOUGHT, BookReply, DEPTHS, Part, SOLD, Side};
+use md_history::Contents;
+use std::alloc::{AllocError, Global};
+
+const MAX_PRICE: u32 = 1_000;
+
+const MAX_ACCOUNT: u32 = 9_999;
+
+fn number(out: &mut Vec<u8>, n: u64) -> Result<(), AllocError>
+    ensures { OnOk result (out.new.items ≡ out.old.items ++ decimal n) }
+{
+    let mut buffer = Buffer::new();
+    out.extend_from_slice(buffer.format(n).as_bytes())
+}
+
+// CALLER:LINE of an order's name.
+fn name(out: &mut Vec<u8>, name: u64) -> Result<(), AllocError>
+    ensures { OnOk result (out.new.items ≡ out.old.items ++ name_text name) }
+{
+    number(out, name / 0x1_0000_0000)?;
+    out.extend_from_slice(b":")?;
+    number(out, name % 0x1_0000_0000)
+}
+
+fn part(out: &mut Vec<u8>, part: &Part) -> Result<(), AllocError>
+    ensures { OnOk result (out.new.items ≡ out.old.items ++ part_text part.now) }
+{
+    out.extend_from_slice(b" ")?;
+    name(out, part.name)?;
+    out.extend_from_slice(b"=")?;
+    number(out, u64::from(part.taken))
+}
+
+fn parts(out: &mut Vec<u8>, parts: &[Part]) -> Result<(), AllocError>
+    ensures { OnOk result (out.new.items ≡ out.old.items ++ flat_map part_text parts.now) }
+{
+    for each in parts {
+        part(out, each)?;
+    }
+    Ok(())
+}
+
+// Of the parts the first `count` are told.
+fn filled(
+    out: &mut Vec<u8>,
+    taken: u32,
+    rest: u32,
+    count: u8,
+    took: &[Part],
+) -> Result<(), AllocError>
+    ensures { OnOk result (out.new.items ≡ out.old.items ++ filled_text taken rest (take count took.now)) }
+{
+    if taken == 0 {
+        out.extend_from_slice(b"filled 0 rest ")?;
+        return number(out, u64::from(rest));
+    }
+    out.extend_from_slice(b"filled ")?;
+    number(out, u64::from(taken))?;
+    out.extend_from_slice(b" rest ")?;
+    number(out, u64::from(rest))?;
+    out.extend_from_slice(b" from")?;
+    let told = took.len().min(count as usize);
+    parts(out, &took[..told])
+}
+
+fn reply(out: &mut Vec<u8>, reply: &BookReply) -> Result<(), AllocError>
+    ensures { OnOk result (out.new.items ≡ out.old.items ++ reply_text reply.now) }
+{
+    match reply {
+        BookReply::Placed => out.extend_from_slice(b"placed"),
+        BookReply::Cancelled(left) => {
+            out.extend_from_slice(b"cancelled ")?;
+            number(out, u64::from(*left))
+        }
+        BookReply::Gone => out.extend_from_slice(b"gone"),
+        BookReply::Filled {
+            taken,
+            rest,
+            count,
+            parts,
+        } => filled(out, *taken, *rest, *count, parts),
+        BookReply::Depth(depth) => {
+            out.extend_from_slice(b"depth ")?;
+            number(out, *depth)
+        }
+        BookReply::Account { bought, sold } => {
+            out.extend_from_slice(b"bought ")?;
+            number(out, *bought)?;
+            out.extend_from_slice(b" sold ")?;
+            number(out, *sold)
+        }
+    }
+}
+
+// CALLER:LINE REPLY, where there is a reply.
+fn answer(
+    out: &mut Vec<u8>,
+    caller: u32,
+    line: u32,
+    answer: Option<BookReply>,
+) -> Result<(), AllocError>
+    ensures { OnOk result (out.new.items ≡ out.old.items ++ answer_text caller line answer) }
+{
+    let Some(answer) = answer else {
+        return Ok(());
+    };
+    number(out, u64::from(caller))?;
+    out.extend_from_slice(b":")?;
+    number(out, u64::from(line))?;
+    out.extend_from_slice(b" ")?;
+    reply(out, &answer)?;
+    out.extend_from_slice(b"\n")
+}
+
+fn script(out: &mut Vec<u8>, replies: &Replies, caller: u32, lines: u32) -> Result<(), AllocError>
+    ensures { OnOk result (out.new.items ≡ out.old.items ++ script_text replies.now caller lines) }
+{
+    for before in 0..lines {
+        let line = before + 1;
+        answer(out, caller, line, replies.get(caller, line))?;
+    }
+    Ok(())
+}
+
+fn scripts(out: &mut Vec<u8>, scripts: &Scripts, replies: &Replies) -> Result<(), AllocError>
+    ensures { OnOk result (out.new.items ≡ out.old.items ++ replies_text scripts.now replies.now) }
+{
+    for before in 0..scripts.callers() {
+        let caller = before + 1;
+        script(out, replies, caller, scripts.len(caller))?;
+    }
+    Ok(())
+}
+
+fn sum_at(contents: &Contents, map: u32, key: u64) -> u64
+    requires { map < length contents.now.maps }
+    ensures { result ≡ value_at contents.now map key }
+{
+    contents.get(map, key).unwrap_or(0)
+}
+
+// SIDE PRICE DEPTH, where there is a depth.
+fn level(out: &mut Vec<u8>, side: Side, price: u32, depth: u64) -> Result<(), AllocError>
+    ensures { OnOk result (out.new.items ≡ out.old.items ++ level_text side price depth) }
+{
+    if depth == 0 {
+        return Ok(());
+    }
+    match side {
+        Side::Buy => out.extend_from_slice(b"B")?,
+        Side::Sell => out.extend_from_slice(b"S")?,
+    }
+    out.extend_from_slice(b" ")?;
+    number(out, u64::from(price))?;
+    out.extend_from_slice(b" ")?;
+    number(out, depth)?;
+    out.extend_from_slice(b"\n")
+}
+
+fn levels(out: &mut Vec<u8>, contents: &Contents, side: Side) -> Result<(), AllocError>
+    requires { maps_of_a_book ≤ length contents.now.maps }
+    ensures { OnOk result (out.new.items ≡ out.old.items ++ levels_text_of side contents.now) }
+{
+    for before in 0..MAX_PRICE {
+        let price = before + 1;
+        let depth = sum_at(contents, DEPTHS, u64::from(side.level(price)));
+        level(out, side, price, depth)?;
+    }
+    Ok(())
+}
+
+// account A bought X sold Y, where it bought or sold.
+fn account(out: &mut Vec<u8>, account: u32, bought: u64, sold: u64) -> Result<(), AllocError>
+    ensures { OnOk result (out.new.items ≡ out.old.items ++ account_text account bought sold) }
+{
+    if bought == 0 && sold == 0 {
+        return Ok(());
+    }
+    out.extend_from_slice(b"account ")?;
+    number(out, u64::from(account))?;
+    out.extend_from_slice(b" bought ")?;
+    number(out, bought)?;
+    out.extend_from_slice(b" sold ")?;
+    number(out, sold)?;
+    out.extend_from_slice(b"\n")
+}
+
+fn accounts(out: &mut Vec<u8>, contents: &Contents) -> Result<(), AllocError>
+    requires { maps_of_a_book ≤ length contents.now.maps }
+    ensures { OnOk result (out.new.items ≡ out.old.items ++ accounts_text_of contents.now) }
+{
+    for before in 0..MAX_ACCOUNT {
+        let number = before + 1;
+        let bought = sum_at(contents, BOUGHT, u64::from(number));
+        let sold = sum_at(contents, SOLD, u64::from(number));
+        account(out, number, bought, sold)?;
+    }
+    Ok(())
+}
+
+fn done(out: &mut Vec<u8>, count: u32) -> Result<(), AllocError>
+    ensures { OnOk result (out.new.items ≡ out.old.items ++ done_text count) }
+{
+    out.extend_from_slice(b"done ")?;
+    number(out, u64::from(count))?;
+    out.extend_from_slice(b"\n")
+}
+
+/// The text of a report: each line's reply, the book that the contents stand for, and the number of lines. A
+/// line without a reply has no text. The contents have the maps of a book.
+pub fn report(
+    alloc: Global,
+    of: &Scripts,
+    replies: &Replies,
+    contents: &Contents,
+) -> Result<Vec<u8>, AllocError>
+    requires { maps_of_a_book ≤ length contents.now.maps }
+    ensures { IfOk result (λ text. (book : Book) → StandsFor contents.now book → text.items ≡ report_text of.now replies.now book) }
+{
+    let mut out = Vec::new(alloc);
+    scripts(&mut out, of, replies)?;
+    levels(&mut out, contents, Side::Buy)?;
+    levels(&mut out, contents, Side::Sell)?;
+    accounts(&mut out, contents)?;
+    done(&mut out, of.total())?;
+    Ok(out)
+}

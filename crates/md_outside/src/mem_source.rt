@@ -1,0 +1,95 @@
+// A source in memory.
+ghost use Rattle.std.specs.Prelude.{◌≡◌, ◌<◌, ◌≤◌, ◌↔◌, Some, IfOk, IsErr, OnErr, min, drop, length};
+ghost use Rattle.std.specs.Io.{ReadsAtMost};
+ghost use Rattle.std.specs.Io.KnownBytes.{ReadConsumes};
+ghost use Rattle.std.specs.List.{Contains};
+ghost use Rattle.md_outside.specs.Causes.{HasCause, next_count};
+ghost use Rattle.md_outside.specs.MemSource.{SourceState, MemGives};
+ghost use Rattle.md_outside.specs.Steps.{bytes_moved};
+
+use crate::listed::is_listed;
+use crate::{Failed, Source};
+use std::marker::Model;
+
+/// A source in memory, which gives its bytes in pieces and fails at the calls that it is told.
+#[derive(Drop)]
+pub struct MemSource {
+    bytes: Vec<u8>,
+    at: usize,
+    piece: usize,
+    failing: Vec<u32>,
+    calls: u64,
+    faults: u64,
+}
+
+impl Model for MemSource {
+    ghost Value = { SourceState };
+
+    ghost view = { λ s. record {
+      left = drop s.at s.bytes.items;
+      piece = s.piece;
+      failing = s.failing.items;
+      calls = s.calls;
+      faults = s.faults;
+    } };
+
+    ghost invariant = { λ s. (s.at ≤ length s.bytes.items) × (1 ≤ s.piece) };
+}
+
+impl MemSource {
+    /// A source of these bytes, at most `piece` at a call, where `piece` is at least 1. The calls
+    /// whose numbers, from 1, are in `failing` fail.
+    pub fn new(bytes: Vec<u8>, piece: usize, failing: Vec<u32>) -> MemSource
+        requires { 1 ≤ piece }
+        ensures { result ≡ record {
+          left = bytes.items;
+          piece = piece;
+          failing = failing.items;
+          calls = 0;
+          faults = 0;
+        } }
+    {
+        MemSource {
+            bytes,
+            at: 0,
+            piece,
+            failing,
+            calls: 0,
+            faults: 0,
+        }
+    }
+}
+
+impl Source for MemSource {
+    ghost left = { λ s. Some s.left };
+
+    ghost gives = { MemGives };
+
+    ghost faults = { λ s. s.faults };
+
+    fn read(&mut self, buf: &mut [u8]) -> Result<usize, Failed>
+        requires { 0 < length buf.old }
+        ensures bound { ReadsAtMost result buf.new }
+        ensures bytes { ReadConsumes (Some self.old.left) (Some self.new.left) result buf.new }
+        ensures step { MemGives self.old (bytes_moved result buf.new) self.new }
+        ensures cause { HasCause self.old.faults self.new.faults result }
+
+        // With `step`, these say all of the answer and of the buffer.
+        ensures fails { IsErr result ↔ Contains self.old.failing (next_count self.old.calls) }
+        ensures count { IfOk result (λ n.
+            n ≡ min (min (length self.old.left) self.old.piece) (length buf.old)) }
+        ensures tail { IfOk result (λ n. drop n buf.new ≡ drop n buf.old) }
+        ensures unread { OnErr result (buf.new ≡ buf.old) }
+    {
+        self.calls = self.calls.saturating_add(1);
+        if is_listed(&self.failing, self.calls) {
+            self.faults = self.faults.saturating_add(1);
+            return Err(Failed);
+        }
+        let (_, rest) = self.bytes.split_at(self.at);
+        let count = rest.len().min(self.piece).min(buf.len());
+        buf[..count].copy_from_slice(&rest[..count]);
+        self.at += count;
+        Ok(count)
+    }
+}

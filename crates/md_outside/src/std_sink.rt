@@ -1,0 +1,59 @@
+// A sink over any writer of std.
+ghost use Rattle.std.specs.Prelude.{◌≡◌, ◌≤◌, IfNone, IfSome, length, take};
+ghost use Rattle.std.specs.Io.KnownBytes.{Appends};
+ghost use Rattle.md_outside.specs.Grows.{Grows};
+
+use crate::{Failed, Sink};
+use std::io::Write;
+
+/// A writer of std, with a count of its faults. It tells no bytes, since a part may have been
+/// written where the flush after it failed.
+#[derive(Drop)]
+pub struct StdSink<W> {
+    inner: W,
+    faults: u64,
+}
+
+impl<W: Write> StdSink<W> {
+    ghost use Rattle.md_outside.specs.StdSink.{sink_writer, sink_faults};
+
+    /// A sink that writes to `inner`, and has not failed yet.
+    pub fn new(inner: W) -> StdSink<W>
+        ensures writer { sink_writer result ≡ inner }
+        ensures faults { sink_faults result ≡ 0 }
+    {
+        StdSink { inner, faults: 0 }
+    }
+}
+
+/// One write to the inner writer for each call, and then one flush. Every error of either,
+/// `Interrupted` too, and a write of no byte is `Failed`.
+impl<W: Write> Sink for StdSink<W> {
+    ghost use Rattle.md_outside.specs.StdSink.{sink_faults, StdTakes};
+
+    ghost takes = { StdTakes W.contents };
+
+    ghost faults = { sink_faults };
+
+    fn write(&mut self, part: &[u8]) -> Result<usize, Failed> {
+        match write_through(&mut self.inner, part) {
+            Some(count) => Ok(count),
+            None => {
+                self.faults = self.faults.saturating_add(1);
+                Err(Failed)
+            }
+        }
+    }
+}
+
+// One write and one flush. None where either failed, or no byte was written.
+fn write_through<W: Write>(writer: &mut W, part: &[u8]) -> Option<usize>
+    ensures bound { IfSome result (λ n. (1 ≤ n) × (n ≤ length part.now)) }
+    ensures written { IfSome result (λ n.
+        Appends (W.contents writer.old) (W.contents writer.new) (take n part.now)) }
+    ensures none_lost { IfNone result (Grows (W.contents writer.old) (W.contents writer.new)) }
+{
+    let count = writer.write(part).ok()?;
+    writer.flush().ok()?;
+    (count > 0).then_some(count)
+}

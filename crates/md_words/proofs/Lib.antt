@@ -1,0 +1,4 @@
+pub mod Owners
+pub mod Places
+pub mod Words
+pub mod Counted

@@ -1,0 +1,10 @@
+pub mod Content
+pub mod Link
+pub mod Status
+pub mod Limits
+pub mod Place
+pub mod Layout
+pub mod PlaceAt
+pub mod Lanes
+pub mod WordLaws
+pub mod LayoutLaws

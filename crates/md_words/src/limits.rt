@@ -1,0 +1,31 @@
+//! The limits of a shape, and what follows from them.
+
+/// The most lanes of a shape.
+pub const LANES: u32 = 8;
+
+/// The most reads, and the most writes, of a transaction: each descriptor has room for so many.
+pub const SET: u8 = 48;
+
+/// The most nodes of a lane.
+pub const MAX_NODES: u32 = 1_048_576;
+
+/// The most base nodes.
+pub const MAX_BASE: u32 = 4_194_304;
+
+/// The most tries of a lane.
+pub const MAX_TRIES: u32 = 65_536;
+
+/// The most maps.
+pub const MAX_MAPS: u32 = 16;
+
+/// The most buckets of a map.
+pub const MAX_BUCKETS: u32 = 1_048_576;
+
+/// The most queues.
+pub const MAX_QUEUES: u32 = 4_096;
+
+/// The most words of a field.
+pub const MAX_WORDS: u64 = 134_217_728;
+
+/// The words of a descriptor: its status, two for each read and three for each slot.
+pub const DESC_WORDS: u32 = 1 + 2 * SET as u32 + 3 * SET as u32;

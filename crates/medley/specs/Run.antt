@@ -1,0 +1,126 @@
+-- What a run takes from its source, and what it leaves in its sink, by the status that it answers.
+use Rattle.std.specs.Prelude.{◌≡◌, ◌≤◌, ◌+◌, ◌⊎◌, ℕ, List, [], ◌++◌, length, codes, decimal, Option, Some}
+use Rattle.std.specs.Io.KnownBytes.{Appends, Consumes, IsAtEnd}
+use Rattle.md_history.specs.Front.{Front}
+use Rattle.md_outside.specs.Causes.{Rose}
+use Rattle.md_outside.specs.Steps.{Step, Reads, ReadsToEnd, ReadsThenFails, Writes, WritesThenFails}
+use Rattle.md_orders.specs.Records.{order_records}
+use Rattle.md_orders.specs.Grammar.{first_bad}
+use Rattle.medley.specs.declared.status.Status.{Status}
+use Rattle.medley.specs.declared.status.Status.TheVariants.{Done, Usage, BadLine, ReadFault, WriteFault, NoMemory, TooLong}
+use Rattle.medley.specs.Replay.{IsReplay}
+
+-- the most bytes that an input may have
+abbrev pub max_bytes : ℕ
+max_bytes = 67108864
+
+-- the line that a status writes
+abbrev pub status_text : Status → List ℕ
+status_text Usage = codes "usage: medley [--callers N] [--nodes K] [--tries K] [--make NUMBER --lines N]\n"
+status_text (BadLine n) = codes "fault line " ++ decimal n ++ codes "\n"
+status_text ReadFault = codes "fault read\n"
+status_text NoMemory = codes "fault memory\n"
+status_text TooLong = codes "fault too long\n"
+status_text Done = []
+status_text WriteFault = []
+
+-- the number that the program exits with
+abbrev pub status_number : Status → ℕ
+status_number Done = 0
+status_number Usage = 2
+status_number (BadLine n) = 3
+status_number ReadFault = 4
+status_number WriteFault = 5
+status_number NoMemory = 6
+status_number TooLong = 7
+
+-- A source is seen by what its reads may give, by the bytes that it has left where it tells them, and by its faults.
+module _ {I : Type 0} (gives : Step I) (left : I → Option (List ℕ)) (faults : I → ℕ) (old new : I) where
+  -- the input was read to its end, and these are its bytes; no read was made after the one that gave none
+  pub record IsRead (bytes : List ℕ) : Type 0 where
+    pub reads : ReadsToEnd gives old bytes new
+    pub told : Consumes (left old) (left new) bytes
+    pub ended : IsAtEnd (left new)
+    pub short : length bytes ≤ max_bytes
+    pub kept : faults new ≡ faults old
+
+  -- reads gave these bytes, and neither the end nor a fault
+  pub record IsReadInPart (bytes : List ℕ) : Type 0 where
+    pub reads : Reads gives old bytes new
+    pub told : Consumes (left old) (left new) bytes
+    pub short : length bytes ≤ max_bytes + 1
+    pub kept : faults new ≡ faults old
+
+  -- the reads gave one byte more than an input may have
+  pub record IsOverlong : Type 0 where
+    pub bytes : List ℕ
+    pub reads : Reads gives old bytes new
+    pub told : Consumes (left old) (left new) bytes
+    pub long : length bytes ≡ max_bytes + 1
+    pub kept : faults new ≡ faults old
+
+  -- the last read failed
+  pub record HasReadFault : Type 0 where
+    pub bytes : List ℕ
+    pub reads : ReadsThenFails gives old bytes new
+    pub told : Consumes (left old) (left new) bytes
+    pub short : length bytes ≤ max_bytes
+    pub rose : Rose (faults old) (faults new)
+
+-- A sink is seen by what its writes may take, by the bytes that it holds where it tells them, and by its faults.
+module _ {O : Type 0} (takes : Step O) (holds : O → Option (List ℕ)) (faults : O → ℕ) (old new : O) where
+  -- the text was written whole
+  pub record IsWritten (text : List ℕ) : Type 0 where
+    pub writes : Writes takes old text new
+    pub told : Appends (holds old) (holds new) text
+    pub kept : faults new ≡ faults old
+
+  -- a write failed, and before it a first part of the text was written
+  pub record HasWriteFault (text : List ℕ) : Type 0 where
+    pub written : List ℕ
+    pub rest : List ℕ
+    pub whole : text ≡ written ++ rest
+    pub writes : WritesThenFails takes old written new
+    pub told : Appends (holds old) (holds new) written
+    pub rose : Rose (faults old) (faults new)
+
+  -- a line was written, as far as the sink took it
+  abbrev pub Tells : List ℕ → Type 0
+  Tells line = IsWritten line ⊎ HasWriteFault line
+
+-- A run's input, and the fronts that it played.
+module _ {I : Type 0} (gives : Step I) (left : I → Option (List ℕ)) (faults : I → ℕ) (old new : I) where
+  -- the input was replayed by one caller, in one round, and this is the report
+  pub record IsReplayed (fronts : List Front) (text : List ℕ) : Type 0 where
+    pub bytes : List ℕ
+    pub read : IsRead gives left faults old new bytes
+    pub replay : IsReplay 1 bytes fronts text
+    pub one_round : length fronts ≡ 1
+
+  -- why a run stopped before its report
+  abbrev pub StopsWith : Status → Type 0
+  StopsWith Usage = new ≡ old
+  StopsWith (BadLine n) = (bytes : List ℕ) × IsRead gives left faults old new bytes × (first_bad 1 1 (order_records bytes) ≡ Some n)
+  StopsWith ReadFault = HasReadFault gives left faults old new
+  StopsWith TooLong = IsOverlong gives left faults old new
+  StopsWith NoMemory = (bytes : List ℕ) × (IsReadInPart gives left faults old new bytes ⊎ IsRead gives left faults old new bytes)
+  StopsWith Done = ⊥
+  StopsWith WriteFault = ⊥
+
+-- A run, by its source and its sink before and after, and by its fronts.
+module _ {I : Type 0} (gives : Step I) (left : I → Option (List ℕ)) (read_faults : I → ℕ) (input input' : I)
+    {O : Type 0} (takes : Step O) (holds : O → Option (List ℕ)) (write_faults : O → ℕ) (output output' : O)
+    (fronts : List Front) where
+  -- it stopped before its report, without a round, and told why
+  abbrev pub Stopped : Status → Type 0
+  Stopped status = StopsWith gives left read_faults input input' status × (fronts ≡ []) × Tells takes holds write_faults output output' (status_text status)
+
+  -- what a run answers
+  abbrev pub Answers : Status → Type 0
+  Answers Done = (text : List ℕ) × IsReplayed gives left read_faults input input' fronts text × IsWritten takes holds write_faults output output' text
+  Answers WriteFault = (text : List ℕ) × IsReplayed gives left read_faults input input' fronts text × HasWriteFault takes holds write_faults output output' text
+  Answers Usage = Stopped Usage
+  Answers (BadLine n) = Stopped (BadLine n)
+  Answers ReadFault = Stopped ReadFault
+  Answers NoMemory = Stopped NoMemory
+  Answers TooLong = Stopped TooLong

@@ -1,0 +1,59 @@
+// Writing a whole text.
+ghost use Rattle.std.specs.Prelude.{◌≡◌, IfErr, OnErr, OnOk};
+ghost use Rattle.medley.specs.Run.{IsWritten, HasWriteFault, Tells, status_text};
+
+use crate::status::Status;
+use arrayvec::ArrayString;
+use itoa::Buffer;
+use md_outside::{Failed, Sink};
+
+/// Writes a text, and stops at the first write that fails.
+pub fn write_all<O: Sink>(output: &mut O, text: &[u8]) -> Result<(), Failed>
+    ensures whole { OnOk result (IsWritten O.takes O.holds O.faults output.old output.new text.now) }
+    ensures fault { OnErr result (HasWriteFault O.takes O.holds O.faults output.old output.new text.now) }
+{
+    let mut at = 0;
+    'writes: while at < text.len() {
+        at += output.write(&text[at..])?;
+    }
+    Ok(())
+}
+
+// Writes a line. A fault doesn't matter any more.
+fn tell_line<O: Sink>(output: &mut O, line: &[u8])
+    ensures { Tells O.takes O.holds O.faults output.old output.new line.now }
+{
+    let _ = write_all(output, line);
+}
+
+// The line of a bad record. It takes no memory.
+fn bad_line(number: u32) -> ArrayString<32>
+    ensures { result.bytes ≡ status_text (Status.BadLine number) }
+{
+    let mut line = ArrayString::new();
+    let mut buffer = Buffer::new();
+    line.push_str("fault line ");
+    line.push_str(buffer.format(number));
+    line.push_str("\n");
+    line
+}
+
+/// Writes the line of a status, as far as the sink takes it. It takes no memory.
+pub fn tell<O: Sink>(output: &mut O, status: Status)
+    ensures { Tells O.takes O.holds O.faults output.old output.new (status_text status) }
+{
+    match status {
+        Status::Usage => tell_line(
+            output,
+            b"usage: medley [--callers N] [--nodes K] [--tries K] [--make NUMBER --lines N]\n",
+        ),
+        Status::BadLine(number) => {
+            let line = bad_line(number);
+            tell_line(output, line.as_str().as_bytes());
+        }
+        Status::ReadFault => tell_line(output, b"fault read\n"),
+        Status::NoMemory => tell_line(output, b"fault memory\n"),
+        Status::TooLong => tell_line(output, b"fault too long\n"),
+        Status::Done | Status::WriteFault => tell_line(output, b""),
+    }
+}
