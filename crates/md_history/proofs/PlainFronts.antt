@@ -1,9 +1,9 @@
 -- The fronts of the store for one thread.
 use Rattle.std.proofs.Common.{◌≡◌, ◌≢◌, ℕ, Bool, true, false, cond, List, [], ◌∷◌, ◌++◌, ◌+◌, length, drop, map, refl, sym, ap, subst, ◌∙◌, Option, Some, None, arith, suc, zero, inl, inr, append_assoc}
-use Rattle.std.specs.Prelude.{◌==◌, ◌||◌, filter}
-use Rattle.std.specs.List.{zip}
+use Rattle.std.specs.Prelude.{◌==◌, ◌||◌, filter, All, Contains}
+use Rattle.std.specs.List.{zip, AllByRecursion}
 use Rattle.std.proofs.lemmas.List.{append-nil, length-map}
-use Rattle.std.proofs.lemmas.List.Elements.{All-map}
+use Rattle.std.proofs.lemmas.List.Elements.{All-map, All-contains_itself, All-from_recursion}
 use Rattle.std.proofs.lemmas.Bool.{cases_Bool, eqb-true}
 use Rattle.std.proofs.Math.Seq.{drop-append_seam}
 use Rattle.md_history.specs.declared.acts.Op.{Op}
@@ -13,13 +13,12 @@ use Rattle.md_history.specs.declared.entries.Fate.{Fate}
 use Rattle.md_history.specs.declared.entries.Fate.TheVariants.{Committed, Undecided}
 use Rattle.md_history.specs.State.{State, run, IsRight}
 use Rattle.md_history.specs.History.{IsResolution, AllCommittedSound, AllDecided, kept_acts, committed, acts_of}
-use Rattle.md_history.specs.Front.{Front, IsPrefix, AllStay, Begins, LegalFrom, of_lane, is_of, committed_in, replay_of}
+use Rattle.md_history.specs.Front.{IsPrefix, AllStay, Begins, LegalFrom, of_lane, is_of, replay_of}
+use Rattle.md_history.specs.FrontLaws.{prefix-self}
 use Rattle.md_history.specs.Attempt.{Commits, Stops, NoneOrAborted, Settles, AreAllOwn}
+use Rattle.md_history.specs.Engine.{IsFrontFrom, AreNumberedByLane, SettlesFrom}
 use Rattle.md_history.specs.Plain.{all_committed, front_from, AreNumbered, IsKept, IsRunning, refusal_of}
-use Rattle.md_history.proofs.Runs.{run-append, right-append, length-maps-run, length-queues-run}
-
-prefix-self : {A : Type 0} (xs : List A) → IsPrefix xs xs
-prefix-self xs = record { rest = []; is = sym (append-nil xs) }
+use Rattle.md_history.proofs.Runs.{run-append, right-append}
 
 committed-stays : (es fs : List Entry) → AllStay (all_committed es) (all_committed (es ++ fs))
 committed-stays [] fs = tt
@@ -85,8 +84,8 @@ stops tag ps qs e = record {
 }
 
 -- a pass with one entry more has committed it
-commits : {R : Type 0} (did : List Act → R → Type 0) (tag : ℕ) (r : R) (ps qs : List Entry) (e : Entry) → qs ≡ ps ++ e ∷ [] → AreNumbered 0 qs → AreNumbered 0 ps → e.lane ≡ 0 → e.number ≡ length ps → e.tag ≡ tag → did e.acts r → Commits did tag r (front_from ps) (front_from qs)
-commits did tag r ps qs e more numbered before lane number tagged did_it = record {
+commits : {R : Type 0} (did : List Act → R → Type 0) (tag : ℕ) (r : R) (ps qs : List Entry) (e : Entry) → qs ≡ ps ++ e ∷ [] → AreNumbered 0 qs → AreNumbered 0 ps → e.lane ≡ 0 → e.tag ≡ tag → did e.acts r → Commits did tag r (front_from ps) (front_from qs)
+commits did tag r ps qs e more numbered before lane tagged did_it = record {
   begins = begins-more ps qs (e ∷ []) more;
   fated = length-map qs (λ _. Committed);
   lanes = refl;
@@ -95,16 +94,15 @@ commits did tag r ps qs e more numbered before lane number tagged did_it = recor
   own = ap (λ es. filter (λ (p : Entry × Fate). is_of (0 ∷ []) p.0) (drop (length ps) (zip es (all_committed es)))) more ∙ ap (filter (λ (p : Entry × Fate). is_of (0 ∷ []) p.0)) (drop-zip ps (e ∷ [])) ∙ own-one e lane;
   before = ps;
   last = more;
-  number = number ∙ ap length (sym (of_lane-all 0 ps before)) ∙ ap (λ n. length (of_lane n ps)) (sym lane);
   tagged = tagged;
   did_it = did_it;
   mine = λ l. ap (λ n. cond (l == 0) qs []) lane ∙ elim (l == 0) as (λ t. cond t qs [] ≡ cond t (cond t ps [] ++ e ∷ []) (cond t ps [])) [ true ↦ more | false ↦ refl ] ∙ ap (λ n. cond (l == n) (cond (l == 0) ps [] ++ e ∷ []) (cond (l == 0) ps [])) (sym lane);
 }
 
 -- the same of a pass whose entries are written in another way
-pub commits-same : {R : Type 0} (did : List Act → R → Type 0) (tag : ℕ) (r : R) (ps ps' qs : List Entry) (e : Entry) → ps' ≡ ps → qs ≡ ps' ++ e ∷ [] → AreNumbered 0 qs → AreNumbered 0 ps' → e.lane ≡ 0 → e.number ≡ length ps' → e.tag ≡ tag → did e.acts r → Commits did tag r (front_from ps) (front_from qs)
-commits-same did tag r ps ps' qs e same more numbered before lane number tagged did_it =
-    subst (λ xs. Commits did tag r (front_from xs) (front_from qs)) same (commits did tag r ps' qs e more numbered before lane number tagged did_it)
+pub commits-same : {R : Type 0} (did : List Act → R → Type 0) (tag : ℕ) (r : R) (ps ps' qs : List Entry) (e : Entry) → ps' ≡ ps → qs ≡ ps' ++ e ∷ [] → AreNumbered 0 qs → AreNumbered 0 ps' → e.lane ≡ 0 → e.tag ≡ tag → did e.acts r → Commits did tag r (front_from ps) (front_from qs)
+commits-same did tag r ps ps' qs e same more numbered before lane tagged did_it =
+    subst (λ xs. Commits did tag r (front_from xs) (front_from qs)) same (commits did tag r ps' qs e more numbered before lane tagged did_it)
 
 pub acts_of-append : (es fs : List Entry) → acts_of (es ++ fs) ≡ acts_of es ++ acts_of fs
 acts_of-append [] fs = refl
@@ -121,7 +119,7 @@ kept-all (e ∷ es) [] h = absurd h
 kept-all (e ∷ es) (true ∷ bs) h = ap (λ xs. e.acts ++ xs) (kept-all es bs h.1)
 kept-all (e ∷ es) (false ∷ bs) h = let f : false ≡ true = h.0 in cc
 
-pub legal : (start : State) (es : List Entry) → AreNumbered 0 es → IsRight start (acts_of es) → LegalFrom start (front_from es)
+legal : (start : State) (es : List Entry) → AreNumbered 0 es → IsRight start (acts_of es) → LegalFrom start (front_from es)
 legal start es numbered right = record {
   fated = length-map es (λ _. Committed);
   sound = sound-all 0 es numbered;
@@ -150,13 +148,7 @@ replay_of-all start es = ap (λ xs. run start (acts_of xs)) (committed-all es)
 pub replayed : (start now : State) (es : List Entry) (b : Bool) → IsKept start now es b → b ≡ false → now ≡ replay_of start (front_from es)
 replayed start now es b k whole = k.state whole ∙ sym (replay_of-all start es)
 
-pub length-maps-replay_of : (start : State) (f : Front) → length (replay_of start f).maps ≡ length start.maps
-length-maps-replay_of start f = length-maps-run start (acts_of (committed_in f))
-
-pub length-queues-replay_of : (start : State) (f : Front) → length (replay_of start f).queues ≡ length start.queues
-length-queues-replay_of start f = length-queues-run start (acts_of (committed_in f))
-
-pub settles : (es : List Entry) → Settles (front_from es) (front_from es)
+settles : (es : List Entry) → Settles (front_from es) (front_from es)
 settles es = record {
   fated = length-map es (λ _. Committed);
   lanes = refl;
@@ -178,5 +170,42 @@ own-lane es lane numbered = elim (cases_Bool (lane == 0)) [
   | inr other ↦ of_lane-none lane 0 es other numbered ∙ ap (λ b. cond b es []) (sym other)
 ]
 
-pub own : (es : List Entry) → AreNumbered 0 es → AreAllOwn (front_from es)
+own : (es : List Entry) → AreNumbered 0 es → AreAllOwn (front_from es)
 own es numbered lane = ap (of_lane lane) (committed-all es) ∙ own-lane es lane numbered
+
+is_lane_zero : (lane : ℕ) → lane ≡ 0 → Contains (0 ∷ []) lane
+is_lane_zero lane at = (0, omega arith, sym at)
+
+within-all : (n : ℕ) (es : List Entry) → AreNumbered n es → AllByRecursion (λ (e : Entry). Contains (0 ∷ []) e.lane) es
+within-all n [] h = tt
+within-all n (e ∷ es) h = (is_lane_zero e.lane h.0, within-all (n + 1) es h.3)
+
+numbered-at : (n : ℕ) (before after : List Entry) (e : Entry) → AreNumbered n (before ++ e ∷ after) → (e.lane ≡ 0) × (e.number ≡ n + length before) × AreNumbered n before
+numbered-at n [] after e h = (h.0, h.1 ∙ omega arith, tt)
+numbered-at n (x ∷ before) after e h = let more = numbered-at (n + 1) before after e h.3 in (more.0, more.1 ∙ omega arith, (h.0, h.1, h.2, more.2))
+
+numbered_by_lane : (es : List Entry) → AreNumbered 0 es → AreNumberedByLane es
+numbered_by_lane es h before after e at =
+    let here = numbered-at 0 before after e (subst (AreNumbered 0) at h) in
+    here.1 ∙ omega arith ∙ ap length (sym (of_lane-all 0 before here.2)) ∙ ap (λ n. length (of_lane n before)) (sym here.0)
+
+-- the front of a pass is one of its store
+pub front_is : (start : State) (es : List Entry) → AreNumbered 0 es → IsRight start (acts_of es) → IsFrontFrom start (0 ∷ []) (front_from es)
+front_is start es numbered right = record {
+  legal = legal start es numbered right;
+  some = omega arith;
+  rising = tt;
+  within = All-contains_itself (0 ∷ []);
+  entries = All-from_recursion (λ (e : Entry). Contains (0 ∷ []) e.lane) es (within-all 0 es numbered);
+  numbered = numbered_by_lane es numbered;
+  outside = λ lane none. elim (cases_Bool (lane == 0)) [
+    | inl zero_lane ↦ absurd (none (is_lane_zero lane (eqb-true lane 0 zero_lane)))
+    | inr other ↦ ap (λ b. cond b es []) other
+  ];
+  answered = λ lane. subst (λ (xs : List Entry). All (Contains xs) ((front_from es).mine lane)) (sym (own es numbered lane)) (All-contains_itself ((front_from es).mine lane));
+  own = λ none lane in_lanes. own es numbered lane;
+}
+
+-- a pass that is closed has seen all, and all that is committed is its own
+pub settled : (start : State) (es : List Entry) → AreNumbered 0 es → LegalFrom start (front_from es) → SettlesFrom start (front_from es) (front_from es)
+settled start es numbered is_legal = record { settles = settles es; legal = is_legal; own = λ none. own es numbered }

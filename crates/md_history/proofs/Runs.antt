@@ -7,7 +7,9 @@ use Rattle.md_history.specs.declared.acts.Op.{Op}
 use Rattle.md_history.specs.declared.acts.Op.TheVariants.{Get, Insert, Remove, Enqueue, Dequeue, Front}
 use Rattle.md_history.specs.declared.acts.Reply.{Reply}
 use Rattle.md_history.specs.declared.acts.Act.{Act}
-use Rattle.md_history.specs.State.{State, run, IsRight, after, answer, map_at}
+use Rattle.md_history.specs.State.{State, HaveSameNumbers, run, IsRight, after, answer, map_at}
+use Rattle.md_history.specs.History.{acts_of}
+use Rattle.md_history.specs.Front.{Front as View, committed_in, replay_of}
 use Rattle.md_history.specs.Act.{act_of}
 use Rattle.md_history.specs.Plain.{IsRunning}
 
@@ -62,3 +64,7 @@ length-maps-run s (a ∷ acts) = length-maps-run (after s a.op) acts ∙ length-
 pub length-queues-run : (s : State) (acts : List Act) → length (run s acts).queues ≡ length s.queues
 length-queues-run s [] = refl
 length-queues-run s (a ∷ acts) = length-queues-run (after s a.op) acts ∙ length-queues s a.op
+
+-- a replay has as many maps and queues as it starts from
+pub replay-numbers : (start : State) (f : View) → HaveSameNumbers (replay_of start f) start
+replay-numbers start f = record { maps = length-maps-run start (acts_of (committed_in f)); queues = length-queues-run start (acts_of (committed_in f)) }

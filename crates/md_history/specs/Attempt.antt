@@ -30,7 +30,6 @@ pub record Commits {R : Type 0} (did : List Act → R → Type 0) (tag : ℕ) (r
   pub own : own_after (length old.seen) new ≡ (entry, Committed) ∷ []
   pub before : List Entry
   pub last : new.seen ≡ before ++ entry ∷ []
-  pub number : entry.number ≡ length (of_lane entry.lane before)
   pub tagged : entry.tag ≡ tag
   pub did_it : did entry.acts r
   pub mine : (lane : ℕ) → new.mine lane ≡ (if lane == entry.lane then old.mine lane ++ entry ∷ [] else old.mine lane)

@@ -39,6 +39,17 @@ AllStay [] now = Unit {0}
 AllStay (f ∷ fs) [] = ⊥
 AllStay (f ∷ fs) (g ∷ gs) = Stays f g × AllStay fs gs
 
+-- what two know of a fate, and of each of their fates, where one may know more of them
+abbrev pub known_of_two : Fate → Fate → Fate
+known_of_two Undecided other = other
+known_of_two Committed other = Committed
+known_of_two Aborted other = Aborted
+
+abbrev pub known_of_both : List Fate → List Fate → List Fate
+known_of_both [] others = others
+known_of_both (f ∷ fs) [] = f ∷ fs
+known_of_both (f ∷ fs) (g ∷ gs) = known_of_two f g ∷ known_of_both fs gs
+
 -- g has seen and knows all that f has, and of these lanes its own entries begin with those of f
 pub record BeginsOn (lanes : List ℕ) (f g : Front) : Type 0 where
   pub seen : IsPrefix f.seen g.seen
@@ -61,9 +72,13 @@ committed_in f = committed f.seen f.known
 abbrev pub replay_of : State → Front → State
 replay_of start f = replay start f.seen f.known
 
+-- whether a lane is one of these
+abbrev pub is_lane_of : List ℕ → ℕ → Bool
+is_lane_of lanes lane = list_any (λ l. l == lane) lanes
+
 -- whether an entry is of one of the lanes
 abbrev pub is_of : List ℕ → Entry → Bool
-is_of lanes e = list_any (λ lane. lane == e.lane) lanes
+is_of lanes e = is_lane_of lanes e.lane
 
 -- what the pass's own lanes added to the history after its first n entries
 abbrev pub own_after : ℕ → Front → List (Entry × Fate)

@@ -3,9 +3,14 @@ pub mod State
 pub mod History
 pub mod Front
 pub mod Calls
+pub mod Counts
+pub mod CountLaws
 pub mod Script
 pub mod ScriptLaws
 pub mod Attempt
+pub mod Engine
 pub mod Contents
 pub mod Plain
 pub mod HistoryLaws
+pub mod FrontLaws
+pub mod LaneLaws

@@ -1,5 +1,7 @@
 -- The store for one thread: what contracts see of its passes and its transactions.
-use Rattle.std.specs.Prelude.{◌≡◌, ◌==◌, ◌+◌, ℕ, Bool, true, false, List, [], ◌∷◌, length, map, Option, Some, None, if◌then◌else◌}
+use Rattle.std.specs.Prelude.{◌≡◌, ◌==◌, ◌+◌, ◌-◌, ◌^◌, ℕ, Bool, true, false, List, [], ◌∷◌, length, map, Option, Some, None, if◌then◌else◌, cond, refl}
+use Rattle.std.proofs.Common.{ap}
+use Rattle.std.proofs.Math.Path.{fun_ext}
 use Rattle.md_history.specs.declared.acts.Op.{Op}
 use Rattle.md_history.specs.declared.acts.Act.{Act}
 use Rattle.md_history.specs.declared.entries.Entry.{Entry}
@@ -8,7 +10,8 @@ use Rattle.md_history.specs.declared.entries.Fate.TheVariants.{Committed}
 use Rattle.md_history.specs.declared.stops.Stop.TheVariants.{NoMemory}
 use Rattle.md_history.specs.State.{State, run, IsRight}
 use Rattle.md_history.specs.History.{acts_of}
-use Rattle.md_history.specs.Front.{Front, LegalFrom}
+use Rattle.md_history.specs.Front.{Front}
+use Rattle.md_history.specs.Engine.{IsFrontFrom, Limits, empty_front}
 use Rattle.md_history.specs.Calls.{Refusal}
 
 -- a pass: where its store began, its entries, and whether memory was wanting
@@ -31,13 +34,24 @@ front_from es = record {
   pending = [];
 }
 
+-- without entries it is the empty front
+pub front_from-none : front_from [] ≡ empty_front (0 ∷ [])
+front_from-none =
+    let none : List Entry = [] in
+    ap (λ (mine : ℕ → List Entry). let f : Front = record { lanes = 0 ∷ []; seen = []; known = []; mine = mine; pending = [] } in f)
+    (fun_ext (λ lane. elim (lane == 0) as (λ b. cond b none none ≡ none) [ true ↦ refl | false ↦ refl ]))
+
 abbrev pub front_of : Plain → Front
 front_of p = front_from p.entries
 
 -- the pass is of a store that began with this state
 pub record IsPassOf (start : State) (p : Plain) : Type 0 where
   pub starts : p.start ≡ start
-  pub legal : LegalFrom start (front_of p)
+  pub front : IsFrontFrom start (0 ∷ []) (front_of p)
+
+-- the store for one thread has no limits; these are the largest numbers that a caller asks for
+abbrev pub plain_limits : Limits
+plain_limits = record { nodes = 2 ^ 32 - 1; tries = 2 ^ 32 - 1; room = 2 ^ 64 - 1 }
 
 -- entries of lane 0, sound, with the numbers from n on
 abbrev pub AreNumbered : ℕ → List Entry → Type 0

@@ -1,5 +1,5 @@
 -- What maps and queues contain, and what operations answer and leave.
-use Rattle.std.specs.Prelude.{◌≡◌, ℕ, List, [], ◌∷◌, ◌++◌, drop, replicate, slice_get, slice_index_or, slice_set, if◌then◌else◌, is_none, refl}
+use Rattle.std.specs.Prelude.{◌≡◌, ℕ, List, [], ◌∷◌, ◌++◌, length, drop, replicate, slice_get, slice_index_or, slice_set, if◌then◌else◌, is_none, refl}
 use Rattle.std.specs.Ordering.{nat_cmp}
 use Rattle.std.specs.FinMap as fin
 use Rattle.std.specs.Coded.{Coded, code_by, coded×, coded_ℕ, coded_list}
@@ -45,6 +45,11 @@ with_map s m t = record { maps = slice_set s.maps m t; queues = s.queues }
 -- the state with another queue at a number
 abbrev pub with_queue : State → ℕ → List ℕ → State
 with_queue s q xs = record { maps = s.maps; queues = slice_set s.queues q xs }
+
+-- there are as many maps and queues in one as in the other
+pub record HaveSameNumbers (s t : State) : Type 0 where
+  pub maps : length s.maps ≡ length t.maps
+  pub queues : length s.queues ≡ length t.queues
 
 -- what an operation answers
 abbrev pub answer : State → Op → Reply

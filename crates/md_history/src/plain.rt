@@ -1,17 +1,12 @@
 // A store for one thread.
-ghost use Rattle.std.specs.Prelude.{◌≡◌, ◌↔◌, [], None, length, true, false, IsOk, IfOk};
-ghost use Rattle.md_history.specs.Front.{LegalFrom, committed_in, of_lane, replay_of};
-ghost use Rattle.md_history.specs.Attempt.{Commits, Stops, Settles, IfCommitted, IfStopped, AreAllOwn};
+ghost use Rattle.std.specs.Prelude.{◌≡◌, [], None, true, false};
+ghost use Rattle.md_history.specs.Front.{replay_of};
 ghost use Rattle.md_history.specs.Plain.{front_of, IsPassOf};
 
 use crate::acts::Acts;
-use crate::bodies::Body;
 use crate::contents::Contents;
 use crate::entries::Entry;
-use crate::fronts::Front;
 use crate::plain_tx::PlainTx;
-use crate::stops::{Attempt, Stop};
-use std::alloc::{AllocError, Global};
 use std::marker::Model;
 use std::mem;
 use std::snapshot::Snapshot;
@@ -19,10 +14,10 @@ use std::snapshot::Snapshot;
 /// The pass of a store for one thread. It holds the one lane, the contents and the history.
 #[derive(Drop)]
 pub struct PlainPass {
-    start: Snapshot<Contents>,
-    contents: Contents,
-    entries: Vec<Entry>,
-    broken: bool,
+    pub(crate) start: Snapshot<Contents>,
+    pub(crate) contents: Contents,
+    pub(crate) entries: Vec<Entry>,
+    pub(crate) broken: bool,
 }
 
 impl Model for PlainPass {
@@ -69,7 +64,7 @@ impl Model for PlainStore {
 }
 
 // An attempt under way: the contents are moved out of the pass, which is broken until they are back.
-fn begin(pass: &mut PlainPass) -> PlainTx
+pub(crate) fn begin(pass: &mut PlainPass) -> PlainTx
     requires { pass.old.broken ≡ false }
     ensures tx { result ≡ record { start = replay_of pass.old.start (front_of pass.old); acts = []; refused = None } }
     ensures pass { pass.new ≡ record pass.old { broken = true } }
@@ -87,7 +82,7 @@ fn begin(pass: &mut PlainPass) -> PlainTx
 }
 
 impl PlainStore {
-    /// Opens a store on contents. It takes no memory.
+    /// Opens a store on contents. It takes no memory. The pass is fresh.
     pub fn open(start: Contents) -> (PlainStore, PlainPass)
         ensures store { result.0 ≡ start }
         ensures pass { result.1 ≡ record { start = start; entries = []; broken = false } }
@@ -104,75 +99,5 @@ impl PlainStore {
             broken: false,
         };
         (store, pass)
-    }
-
-    /// Runs a body once, as a transaction with a tag.
-    pub fn attempt<B: Body>(&self, pass: &mut PlainPass, tag: u64, body: &B) -> Attempt<B::Reply>
-        requires of { IsPassOf self.now pass.old }
-        requires fits { B.fits body.now (length self.now.maps) (length self.now.queues) }
-        ensures committed { IfCommitted result (λ r. Commits (B.did body.now) tag r (front_of pass.old) (front_of pass.new)) }
-        ensures stopped { IfStopped result (λ _. Stops tag (front_of pass.old) (front_of pass.new)) }
-        ensures of { IsPassOf self.now pass.new }
-
-        // Want of memory is the one stop, and stays.
-        ensures no_memory { IfStopped result (λ s. s ≡ Stop.NoMemory) }
-        ensures breaks { IfStopped result (λ _. pass.new.broken ≡ true) }
-        ensures whole { IfCommitted result (λ _. (pass.old.broken ≡ false) × (pass.new.broken ≡ false)) }
-    {
-        if pass.broken {
-            return Attempt::Stopped(Stop::NoMemory);
-        }
-        let mut tx = begin(pass);
-        let outcome = body.go(&mut tx);
-        let PlainTx {
-            start: _,
-            contents,
-            acts,
-            refused: _,
-        } = tx;
-        pass.contents = contents;
-        match outcome {
-            Ok(reply) => {
-                let number = pass.entries.len() as u64;
-                let entry = Entry {
-                    lane: 0,
-                    number,
-                    tag,
-                    acts,
-                    sound: true,
-                };
-                match pass.entries.push(entry) {
-                    Ok(()) => {
-                        pass.broken = false;
-                        Attempt::Committed(reply)
-                    }
-                    Err(_) => Attempt::Stopped(Stop::NoMemory),
-                }
-            }
-            Err(stop) => Attempt::Stopped(stop),
-        }
-    }
-
-    /// Ends the store, and answers its contents and the front of its pass. `AllocError` comes exactly
-    /// where memory was wanting in an attempt.
-    pub fn contents(self, pass: PlainPass) -> Result<(Contents, Front<PlainPass>), AllocError>
-        requires { IsPassOf self pass }
-        ensures ok { IsOk result ↔ (pass.broken ≡ false) }
-        ensures front { IfOk result (λ r. Settles (front_of pass) (front_of r.1)) }
-        ensures legal { IfOk result (λ r. LegalFrom self (front_of r.1)) }
-        ensures contents { IfOk result (λ r. r.0 ≡ replay_of self (front_of r.1)) }
-        ensures own { IfOk result (λ r. AreAllOwn (front_of r.1)) }
-    {
-        if pass.broken {
-            return Err(AllocError);
-        }
-        let front = Front::of(&pass);
-        let PlainPass {
-            start: _,
-            contents,
-            entries: _,
-            broken: _,
-        } = pass;
-        Ok((contents, front))
     }
 }

@@ -1,0 +1,88 @@
+-- How many words acts read and write, and how many nodes they take: a store's limits are told by these numbers.
+use Rattle.std.specs.Prelude.{ℕ, ◌+◌, ◌*◌, ◌≤◌, ◌==◌, ◌&&◌, nat_eq, Bool, true, false, if◌then◌else◌, List, [], ◌∷◌, Option, Some, None}
+use Rattle.std.specs.List.{filter_map, list_any, count_by}
+use Rattle.md_history.specs.declared.acts.Op.{Op}
+use Rattle.md_history.specs.declared.acts.Op.TheVariants.{Get, Insert, Remove, Enqueue, Dequeue, Front}
+use Rattle.md_history.specs.declared.acts.Reply.{Reply}
+use Rattle.md_history.specs.declared.acts.Reply.TheVariants.{Value, Flag}
+use Rattle.md_history.specs.declared.acts.Act.{Act}
+use Rattle.md_history.specs.State.{State, IsRight}
+
+-- an operation on a map that changed nothing
+abbrev pub looked : Op → Reply → Bool
+looked (Get m k) r = true
+looked (Insert m k v) (Flag false) = true
+looked (Remove m k) (Value None) = true
+looked op r = false
+
+-- the map and the key that an operation changed
+abbrev pub changed_key : Op → Reply → Option (ℕ × ℕ)
+changed_key (Insert m k v) (Flag true) = Some (m, k)
+changed_key (Remove m k) (Value (Some v)) = Some (m, k)
+changed_key op r = None
+
+-- the queue whose first value an operation asked for
+abbrev pub asked_queue : Op → Reply → Option ℕ
+asked_queue (Dequeue q) r = Some q
+asked_queue (Front q) r = Some q
+asked_queue op r = None
+
+-- the queue that an operation changed
+abbrev pub changed_queue : Op → Reply → Option ℕ
+changed_queue (Enqueue q v) r = Some q
+changed_queue (Dequeue q) (Value (Some v)) = Some q
+changed_queue op r = None
+
+-- a value was dequeued
+abbrev pub dequeued : Op → Reply → Bool
+dequeued (Dequeue q) (Value (Some v)) = true
+dequeued op r = false
+
+-- a pair or a value was added
+abbrev pub added : Op → Reply → Bool
+added (Insert m k v) (Flag true) = true
+added (Enqueue q v) r = true
+added op r = false
+
+-- how many different elements there are that aren't among others
+abbrev pub different_beside : {A : Type 0} → (A → A → Bool) → List A → List A → ℕ
+different_beside eq [] others = 0
+different_beside eq (x ∷ xs) others = if list_any (eq x) others then different_beside eq xs others else 1 + different_beside eq xs (x ∷ others)
+
+-- how many different elements there are
+abbrev pub different : {A : Type 0} → (A → A → Bool) → List A → ℕ
+different eq xs = different_beside eq xs []
+
+abbrev pub same_key : ℕ × ℕ → ℕ × ℕ → Bool
+same_key a b = (a.0 == b.0) && (a.1 == b.1)
+
+-- the words that acts read at most: one for each operation on a map that changed nothing; for each queue that was asked
+-- for its first value two, and one more for each value that it gave away
+abbrev pub reads : List Act → ℕ
+reads acts =
+    count_by (λ a. looked a.op a.reply) acts
+    + 2 * different nat_eq (filter_map (λ a. asked_queue a.op a.reply) acts)
+    + count_by (λ a. dequeued a.op a.reply) acts
+
+-- the nodes that acts take: one for each pair or value that was added
+abbrev pub nodes : List Act → ℕ
+nodes acts = count_by (λ a. added a.op a.reply) acts
+
+-- the words that acts write at most: two for each key of a map that changed, three for each queue that changed, one for
+-- each operation on a map that changed nothing, which may meet what another left to be tidied, and one for each node
+abbrev pub writes : List Act → ℕ
+writes acts =
+    2 * different same_key (filter_map (λ a. changed_key a.op a.reply) acts)
+    + 3 * different nat_eq (filter_map (λ a. changed_queue a.op a.reply) acts)
+    + count_by (λ a. looked a.op a.reply) acts
+    + nodes acts
+
+-- few enough for any store whose pass is alone
+pub record AreFew (acts : List Act) : Type 0 where
+  pub reads : reads acts ≤ 16
+  pub writes : writes acts ≤ 44
+  pub nodes : nodes acts ≤ 12
+
+-- every list of acts that a body can make, right from a state, has few
+abbrev pub IsSmall : (List Act → Type 0) → State → Type 0
+IsSmall makes s = (acts : List Act) → makes acts → IsRight s acts → AreFew acts

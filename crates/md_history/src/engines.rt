@@ -1,0 +1,118 @@
+// What every store offers.
+ghost use Rattle.std.specs.Prelude.{◌≡◌, ◌≤◌, ◌↔◌, ℕ, List, [], length, IsNone, IfSome, IfNone, IfOk};
+ghost use Rattle.md_history.specs.declared.stops.Stop.{Stop};
+ghost use Rattle.md_history.specs.State.{State, HaveSameNumbers};
+ghost use Rattle.md_history.specs.Counts.{IsSmall};
+ghost use Rattle.md_history.specs.Front.{Front as View, LegalFrom, replay_of};
+ghost use Rattle.md_history.specs.Attempt.{Commits, Stops, IfCommitted, IfStopped};
+ghost use Rattle.md_history.specs.Engine.{Limits, IsFrontFrom, empty_front, AreApart, Splits, Joins, SettlesFrom, HasRoom, IsNoConflict};
+
+use crate::bodies::Body;
+use crate::contents::Contents;
+use crate::fronts::Front;
+use crate::stops::{Attempt, Stop};
+use std::alloc::AllocError;
+
+/// A store that runs bodies as transactions. A caller uses it by a pass, which holds some of its lanes.
+///
+/// The state of an engine is the replay of its committed entries from the state in which it starts.
+pub trait Engine: Sized + Sync + Drop {
+    /// A caller's leave to use the engine.
+    type Pass: Send + Drop;
+
+    /// What it contained when it was opened or renewed.
+    ghost start: { Self → State };
+
+    /// All its lanes, rising.
+    ghost lanes: { Self → List ℕ };
+
+    /// What each lane has, and what a renewal has room for.
+    ghost limits: { Self → Limits };
+
+    /// What a pass holds and has seen.
+    ghost front: { Self.Pass → View };
+
+    /// The pass is of this engine.
+    ghost of: { Self → Self.Pass → Type 0 };
+
+    /// The pass holds all lanes, and nothing joined the history since the engine was opened or renewed.
+    ghost fresh: { Self → Self.Pass → Type 0 };
+
+    /// Which stops its attempts may answer.
+    ghost may_stop: { Self → Stop → Type 0 };
+
+    /// Gives the last half of the lanes, rounded down, to a new pass, which has seen what the old one has.
+    /// `None` exactly where the pass holds one lane.
+    fn split(&self, pass: &mut Self::Pass) -> Option<Self::Pass>
+        requires { of self.now pass.old }
+        ensures none { IsNone result ↔ (length (front pass.old).lanes ≡ 1) }
+        ensures same { IfNone result (front pass.new ≡ front pass.old) }
+        ensures split { IfSome result (λ other. Splits (front pass.old) (front pass.new) (front other)) }
+        ensures of { of self.now pass.new }
+        ensures of_other { IfSome result (λ other. of self.now other) };
+
+    /// Runs a body once, as a transaction with a tag.
+    ///
+    /// It takes effect whole, as the last entry of the history, or not at all. A pass that holds all lanes,
+    /// with nothing pending, meets no conflict. Where it is fresh, each lane has 16 nodes and a try, and the
+    /// body makes acts of at most 16 reads, 44 writes and 12 nodes, it meets no limit either.
+    fn attempt<B: Body>(&self, pass: &mut Self::Pass, tag: u64, body: &B) -> Attempt<B::Reply>
+        requires of { of self.now pass.old }
+        requires fits { B.fits body.now (length (start self.now).maps) (length (start self.now).queues) }
+        ensures committed { IfCommitted result (λ r. Commits (B.did body.now) tag r (front pass.old) (front pass.new)) }
+        ensures stopped { IfStopped result (λ _. Stops tag (front pass.old) (front pass.new)) }
+        ensures legal { LegalFrom (start self.now) (front pass.new) }
+        ensures of { of self.now pass.new }
+        ensures may_stop { IfStopped result (may_stop self.now) }
+        ensures alone { (front pass.old).lanes ≡ lanes self.now → (front pass.old).pending ≡ [] → IfStopped result IsNoConflict }
+        ensures small { fresh self.now pass.old → 16 ≤ (limits self.now).nodes → 1 ≤ (limits self.now).tries → IsSmall (B.makes body.now) (start self.now) → IfStopped result (λ s. s ≡ Stop.NoMemory) };
+
+    /// Takes the lanes of another pass, and what it has seen. Two passes of an engine share no lane.
+    fn join(&self, pass: &mut Self::Pass, other: Self::Pass)
+        requires of { of self.now pass.old }
+        requires of_other { of self.now other }
+        ensures joined { AreApart (front pass.old).lanes (front other).lanes → Joins (front pass.old) (front other) (front pass.new) }
+        ensures of { of self.now pass.new };
+
+    /// Ends the engine, and opens a new one on its contents, with all nodes and tries again. `AllocError`
+    /// ends the engine.
+    fn renew(self, pass: Self::Pass) -> Result<(Self, Self::Pass, Front<Self::Pass>), AllocError>
+        requires of { of self pass }
+        requires all { (front pass).lanes ≡ lanes self }
+        requires room { HasRoom (start self) (limits self).room (front pass) }
+        ensures settled { IfOk result (λ r. SettlesFrom (start self) (front pass) (front r.2)) }
+        ensures start { IfOk result (λ r. start r.0 ≡ replay_of (start self) (front r.2)) }
+        ensures lanes { IfOk result (λ r. lanes r.0 ≡ lanes self) }
+        ensures limits { IfOk result (λ r. limits r.0 ≡ limits self) }
+        ensures of { IfOk result (λ r. of r.0 r.1) }
+        ensures fresh { IfOk result (λ r. fresh r.0 r.1) }
+        ensures numbers { IfOk result (λ r. HaveSameNumbers (start r.0) (start self)) };
+
+    /// Ends the engine, and answers its contents and the front of its last pass. `AllocError` ends the
+    /// engine too.
+    fn contents(self, pass: Self::Pass) -> Result<(Contents, Front<Self::Pass>), AllocError>
+        requires of { of self pass }
+        requires all { (front pass).lanes ≡ lanes self }
+        ensures settled { IfOk result (λ r. SettlesFrom (start self) (front pass) (front r.1)) }
+        ensures contents { IfOk result (λ r. r.0 ≡ replay_of (start self) (front r.1)) }
+        ensures numbers { IfOk result (λ r. HaveSameNumbers r.0 (start self)) };
+
+    /// The front of a pass of an engine is legal from its start, and its lanes are the engine's.
+    ghost of_is: { (e : Self) (p : Self.Pass) → of e p → IsFrontFrom (start e) (lanes e) (front p) };
+
+    /// A fresh pass holds all lanes, and has seen nothing.
+    ghost fresh_is: { (e : Self) (p : Self.Pass) → of e p → fresh e p → front p ≡ empty_front (lanes e) };
+}
+
+/// What the engine's law says of one of its passes, for a proof to use. There is nothing to run.
+pub fn pass_is_legal<E: Engine>(engine: &E, pass: &E::Pass)
+    requires { E.of engine.now pass.now }
+    ensures { IsFrontFrom (E.start engine.now) (E.lanes engine.now) (E.front pass.now) }
+{}
+
+/// A fresh pass has seen nothing, and holds all lanes. There is nothing to run.
+pub fn fresh_is_empty<E: Engine>(engine: &E, pass: &E::Pass)
+    requires of { E.of engine.now pass.now }
+    requires fresh { E.fresh engine.now pass.now }
+    ensures { E.front pass.now ≡ empty_front (E.lanes engine.now) }
+{}

@@ -1,0 +1,135 @@
+// The store for one thread as an engine.
+ghost use Rattle.std.specs.Prelude.{◌≡◌, ◌↔◌, [], length, true, false, IsOk, IfOk};
+ghost use Rattle.md_history.specs.State.{HaveSameNumbers};
+ghost use Rattle.md_history.specs.Front.{LegalFrom, replay_of};
+ghost use Rattle.md_history.specs.Attempt.{Commits, Stops, IfCommitted, IfStopped};
+ghost use Rattle.md_history.specs.Engine.{SettlesFrom};
+ghost use Rattle.md_history.specs.Plain.{front_of, IsPassOf, plain_limits};
+
+use crate::bodies::Body;
+use crate::contents::Contents;
+use crate::engines::Engine;
+use crate::entries::Entry;
+use crate::fronts::Front;
+use crate::plain::{PlainPass, PlainStore, begin};
+use crate::plain_tx::PlainTx;
+use crate::stops::{Attempt, Stop};
+use std::alloc::AllocError;
+
+/// Want of memory is the one stop of an attempt, and it stays: from then on each attempt answers it, and
+/// `renew` and `contents` answer `AllocError`. They do so in no other case.
+impl Engine for PlainStore {
+    ghost use Rattle.std.specs.Prelude.{[], ◌∷◌};
+    ghost use Rattle.std.proofs.Common.{ap, ◌∙◌};
+    ghost use Rattle.md_history.specs.Plain.{front_from, front_from-none};
+    ghost use Rattle.md_history.specs.declared.stops.Stop.TheVariants.{NoMemory};
+
+    type Pass = PlainPass;
+
+    ghost start = { λ s. s };
+
+    ghost lanes = { λ s. 0 ∷ [] };
+
+    ghost limits = { λ s. plain_limits };
+
+    ghost front = { λ p. front_of p };
+
+    ghost of = { λ s p. IsPassOf s p };
+
+    ghost fresh = { λ s p. p.entries ≡ [] };
+
+    ghost may_stop = { λ s stop. stop ≡ NoMemory };
+
+    fn split(&self, pass: &mut PlainPass) -> Option<PlainPass> {
+        let _ = pass;
+        None
+    }
+
+    fn attempt<B: Body>(&self, pass: &mut PlainPass, tag: u64, body: &B) -> Attempt<B::Reply>
+        requires of { IsPassOf self.now pass.old }
+        requires fits { B.fits body.now (length self.now.maps) (length self.now.queues) }
+        ensures committed { IfCommitted result (λ r. Commits (B.did body.now) tag r (front_of pass.old) (front_of pass.new)) }
+        ensures stopped { IfStopped result (λ _. Stops tag (front_of pass.old) (front_of pass.new)) }
+        ensures legal { LegalFrom self.now (front_of pass.new) }
+        ensures of { IsPassOf self.now pass.new }
+        ensures no_memory { IfStopped result (λ s. s ≡ Stop.NoMemory) }
+        ensures breaks { IfStopped result (λ _. pass.new.broken ≡ true) }
+        ensures whole { IfCommitted result (λ _. (pass.old.broken ≡ false) × (pass.new.broken ≡ false)) }
+    {
+        if pass.broken {
+            return Attempt::Stopped(Stop::NoMemory);
+        }
+        let mut tx = begin(pass);
+        let outcome = body.go(&mut tx);
+        let PlainTx {
+            start: _,
+            contents,
+            acts,
+            refused: _,
+        } = tx;
+        pass.contents = contents;
+        match outcome {
+            Ok(reply) => {
+                let number = pass.entries.len() as u64;
+                let entry = Entry {
+                    lane: 0,
+                    number,
+                    tag,
+                    acts,
+                    sound: true,
+                };
+                match pass.entries.push(entry) {
+                    Ok(()) => {
+                        pass.broken = false;
+                        Attempt::Committed(reply)
+                    }
+                    Err(_) => Attempt::Stopped(Stop::NoMemory),
+                }
+            }
+            Err(stop) => Attempt::Stopped(stop),
+        }
+    }
+
+    fn join(&self, pass: &mut PlainPass, other: PlainPass) {
+        let _ = pass;
+        drop(other);
+    }
+
+    fn renew(self, pass: PlainPass) -> Result<(PlainStore, PlainPass, Front<PlainPass>), AllocError>
+        requires of { IsPassOf self pass }
+        ensures ok { IsOk result ↔ (pass.broken ≡ false) }
+        ensures settled { IfOk result (λ r. SettlesFrom self (front_of pass) (front_of r.2)) }
+        ensures start { IfOk result (λ r. r.0 ≡ replay_of self (front_of r.2)) }
+        ensures of { IfOk result (λ r. IsPassOf r.0 r.1) }
+        ensures fresh { IfOk result (λ r. r.1.entries ≡ []) }
+        ensures numbers { IfOk result (λ r. HaveSameNumbers r.0 self) }
+    {
+        let (contents, front) = self.contents(pass)?;
+        let (store, pass) = PlainStore::open(contents);
+        Ok((store, pass, front))
+    }
+
+    fn contents(self, pass: PlainPass) -> Result<(Contents, Front<PlainPass>), AllocError>
+        requires of { IsPassOf self pass }
+        ensures ok { IsOk result ↔ (pass.broken ≡ false) }
+        ensures settled { IfOk result (λ r. SettlesFrom self (front_of pass) (front_of r.1)) }
+        ensures contents { IfOk result (λ r. r.0 ≡ replay_of self (front_of r.1)) }
+        ensures numbers { IfOk result (λ r. HaveSameNumbers r.0 self) }
+    {
+        if pass.broken {
+            return Err(AllocError);
+        }
+        let front = Front::of(&pass);
+        let PlainPass {
+            start: _,
+            contents,
+            entries: _,
+            broken: _,
+        } = pass;
+        Ok((contents, front))
+    }
+
+    ghost of_is = { λ s p of. of.front };
+
+    ghost fresh_is = { λ s p of fresh. ap front_from fresh ∙ front_from-none };
+}
