@@ -1,0 +1,125 @@
+-- A field that may be opened meets the invariant, and so does every machine that events lead to.
+use Rattle.std.proofs.Common.{◌≡◌, ℕ, ◌≤◌, List, [], ◌∷◌, ◌++◌, Some, get_or, refl, sym, ap, ◌∙◌, subst, inl, ⊎_elim, le_refl, arith}
+use Rattle.std.proofs.lemmas.Bool.{true≢false}
+use Rattle.md_words.specs.declared.shape.Shape.{Shape}
+use Rattle.md_words.specs.declared.status.Status.TheVariants.{InPrep}
+use Rattle.md_words.specs.Status.{reads_of, serial_of, status_word}
+use Rattle.md_words.specs.Place.{desc_status, read_word, slot_word}
+use Rattle.md_words.specs.Layout.{address, first_desc}
+use Rattle.md_words.proofs.Words.{reads_of-status_word, serial_of-status_word, status_word-begins}
+use Rattle.md_machine.specs.declared.opening.Opening.{Opening}
+use Rattle.md_machine.specs.declared.step.Step.{Step}
+use Rattle.md_machine.specs.declared.pass.PassView.{PassView}
+use Rattle.md_machine.specs.Meaning.{Meaning}
+use Rattle.md_machine.specs.Machine.{Machine}
+use Rattle.md_machine.specs.Trail.{segments}
+use Rattle.md_machine.specs.Formats.{StatusFits, AreFormats}
+use Rattle.md_machine.specs.Fates.{FrontFits}
+use Rattle.md_machine.specs.Events.{Event, Runs, CanOpen, opened, first_pass}
+use Rattle.md_machine.specs.Theorem.{AlwaysKept, AlwaysGoesOn}
+use Rattle.md_machine.proofs.Lists.{at_one}
+use Rattle.md_machine.proofs.Numbers.{in_none, in_cons, here}
+use Rattle.md_machine.proofs.Chronology.{InOrder}
+use Rattle.md_machine.proofs.Bracketing.{IsBracket}
+use Rattle.std.specs.List.{Contains}
+use Rattle.md_machine.proofs.Lanes.{At, lanes_first}
+use Rattle.std.proofs.lemmas.List.Elements.{Contains-append_right}
+use Rattle.md_machine.specs.declared.attempt.Hand.{Hand}
+use Rattle.md_machine.proofs.Steps.{HasStep}
+use Rattle.md_machine.proofs.Hands.{none_some}
+use Rattle.md_machine.proofs.Invariant.{Invariant, kept_by, plays_keep, runs_keep}
+
+-- the status word 0
+zero_begins : 0 ≡ status_word InPrep 0 0
+zero_begins = sym (status_word-begins 0)
+
+zero_reads : reads_of 0 ≡ 0
+zero_reads = ap reads_of zero_begins ∙ reads_of-status_word InPrep 0 0 (omega arith)
+
+zero_fits : (shape : Shape) → StatusFits shape 0
+zero_fits shape =
+    let none = zero_reads in
+    let first = ap serial_of zero_begins ∙ serial_of-status_word InPrep 0 0 (omega arith) in record {
+      few = omega (arith, none);
+      unready = λ _. none;
+      try = omega (arith, first);
+    }
+
+-- the words of descriptors come last
+status_late : (shape : Shape) (desc : ℕ) → first_desc shape ≤ address shape (desc_status desc)
+unfolding address
+status_late shape desc = omega arith
+
+read_late : (shape : Shape) (desc i : ℕ) → first_desc shape ≤ address shape (read_word desc i)
+unfolding address
+read_late shape desc i = omega arith
+
+slot_late : (shape : Shape) (desc j : ℕ) → first_desc shape ≤ address shape (slot_word desc j)
+unfolding address
+slot_late shape desc j = omega arith
+
+-- its one segment is empty
+first_segment : (shape : Shape) (p : PassView) (segment : List Step) → first_pass shape ≡ p → Contains (segments p) segment → [] ≡ segment
+first_segment shape p segment e c = ⊎_elim (λ x. x) (λ i. absurd (in_none segment i)) (in_cons [] [] segment (subst (λ (v : PassView). Contains (segments v) segment) (sym e) c))
+
+-- so it has no steps
+no_steps : (shape : Shape) (t : Step) → HasStep (first_pass shape ∷ []) t → ⊥
+no_steps shape t (j, p, at, (segment, c, i)) = in_none t (subst (λ l. Contains l t) (sym (first_segment shape p segment (at_one (first_pass shape) p j at).1 c)) i)
+
+-- and has nothing in hand
+nothing_held : (shape : Shape) (pass : ℕ) (p : PassView) (h : Hand) → At (first_pass shape ∷ []) pass p → p.hand ≡ Some h → ⊥
+nothing_held shape pass p h at held = none_some p.hand h (ap (λ (v : PassView). v.hand) (sym (at_one (first_pass shape) p pass at).1)) held
+
+module _ (M : Meaning) where
+  formats_first : (o : Opening) → CanOpen M o → AreFormats o.shape o.words
+  formats_first o can = record {
+    field = can.field;
+    base = can.base;
+    room = λ word counted odd. absurd (true≢false (sym (can.even word counted) ∙ odd));
+    status = λ desc exists. subst (StatusFits o.shape) (sym (can.descs _ (status_late o.shape desc))) (zero_fits o.shape);
+    reads = λ desc i exists. inl (can.descs _ (read_late o.shape desc i));
+    slots = λ desc j exists. inl (can.descs _ (slot_late o.shape desc j));
+  }
+
+  opens : (o : Opening) → CanOpen M o → Invariant (opened o)
+  opens o can = record {
+    formats = formats_first o can;
+    lanes = lanes_first o.shape;
+    hands = record { fits = λ pass p h at held. absurd (nothing_held o.shape pass p h at held) };
+    entries = tt;
+    counted = record { counted = λ desc exists. inl (ap reads_of (can.descs _ (status_late o.shape desc)) ∙ zero_reads) };
+    past = tt;
+    fronts = λ pass p at. subst (FrontFits o.shape [] []) (at_one (first_pass o.shape) p pass at).1 (record { seen = record { rest = []; is = refl }; fated = refl; known = tt; own = λ e c l. c });
+    known = λ e c. absurd (in_none e c);
+    placed = λ pass p at x c. absurd (in_none x (subst (λ (v : PassView). Contains v.placed x) (sym (at_one (first_pass o.shape) p pass at).1) c));
+    installs = record { fits = λ i c. absurd (in_none i c); held = λ i c. absurd (in_none i c) };
+    order = λ pass p at segment c. subst (InOrder o.shape) (first_segment o.shape p segment (at_one (first_pass o.shape) p pass at).1 c) tt;
+    odd = λ word counted odd. absurd (true≢false (sym (can.even word counted) ∙ odd));
+    noted = λ t has. absurd (no_steps o.shape t has);
+    bracket = λ pass p at segment c. subst (IsBracket o.shape o.words) (first_segment o.shape p segment (at_one (first_pass o.shape) p pass at).1 c) tt;
+    undecided = λ i c. absurd (in_none i c);
+    flagged = λ pass p at segment c s i. absurd (no_steps o.shape s (pass, p, at, (segment, c, i)));
+    written = λ e c. absurd (in_none e c);
+    alone = record { alone = λ pass p h at held. absurd (nothing_held o.shape pass p h at held); begins = λ pass p h at held. absurd (nothing_held o.shape pass p h at held) };
+    steps_begun = λ t has. absurd (no_steps o.shape t has);
+    steps_past = λ t has. absurd (no_steps o.shape t has);
+    stored = λ pass p at a now word held entry l. absurd (no_steps o.shape l.store.step (pass, p, at, (l.store.earlier ++ l.store.step ∷ l.store.later, l.store.segment, Contains-append_right l.store.earlier (l.store.step ∷ l.store.later) l.store.step (here l.store.step l.store.later))));
+    won = λ pass p at segment c s i. absurd (no_steps o.shape s (pass, p, at, (segment, c, i)));
+    stamp = λ word count. get_or o.words word 0;
+    stamps = record {
+      now = λ word counted. record { bound = le_refl _; is = refl };
+      before = λ t has counted. absurd (no_steps o.shape t has);
+      after = λ t has counted. absurd (no_steps o.shape t has);
+      installs = λ i c. absurd (in_none i c);
+      reads = λ e r c of. absurd (in_none e c);
+    };
+  }
+
+  pub reached : (o : Opening) (events : List Event) (m : Machine) → CanOpen M o → Runs M (opened o) events m → Invariant m
+  reached o events m can runs = runs_keep M events (opened o) m (opens o can) runs
+
+  pub always_kept : AlwaysKept M
+  always_kept o events m can runs = kept_by m (reached o events m can runs)
+
+  pub always_goes_on : AlwaysGoesOn M
+  always_goes_on o events m n e can runs plays = (plays_keep M m n e (reached o events m can runs) plays).1

@@ -1,0 +1,79 @@
+-- What the conditions of events refuse.
+use Rattle.std.proofs.Common.{◌≡◌, ℕ, List, [], ◌∷◌, ◌++◌, sym, ap, ◌∙◌, subst, ⊎_elim, Some}
+use Rattle.std.specs.List.{Contains, All}
+use Rattle.std.proofs.lemmas.List.Elements.{All-contains, Contains-append_right}
+use Rattle.md_words.specs.declared.status.Status.TheVariants.{Committed}
+use Rattle.md_words.specs.Content.{value_of, spot_of}
+use Rattle.md_words.specs.Place.{Place, node_key, node_value, node_next}
+use Rattle.md_words.specs.Layout.{address}
+use Rattle.md_words.specs.PlaceAt.{place_at}
+use Rattle.md_machine.specs.declared.attempt.AttemptId.{AttemptId}
+use Rattle.md_machine.specs.declared.step.Step.{Step}
+use Rattle.md_machine.specs.declared.pass.PassView.{PassView}
+use Rattle.md_machine.specs.Meaning.{Meaning}
+use Rattle.md_machine.specs.Machine.{shape_of, content, attempt_of, present}
+use Rattle.md_machine.specs.Trail.{segments, StoresFor, LastStored, Loads}
+use Rattle.md_machine.specs.Own.{HasDesc}
+use Rattle.md_machine.specs.Stepping.{attempt_in_hand}
+use Rattle.md_machine.specs.Storing.{MayStoreAt}
+use Rattle.md_machine.specs.Uninstalling.{slot_by_fate, value_by_fate}
+use Rattle.md_machine.specs.Refused.{PublishedNodeRefused, OtherSlotRefused, EarlierValueRefused}
+use Rattle.md_machine.proofs.Numbers.{in_none, in_cons, here}
+use Rattle.md_machine.proofs.Reached.{reached}
+
+module _ (M : Meaning) where
+  pub published_node : PublishedNodeRefused M
+  published_node m n pass word value node is (p, h, acts, may, later) =
+      let at : (q : Place) → place_at (shape_of m) word ≡ q → MayStoreAt m p h.attempt (content m word) value q = λ q e. subst (MayStoreAt m p h.attempt (content m word) value) e may.place in
+      ⊎_elim (λ e. (at (node_key node) e).1) (λ o. ⊎_elim (λ e. (at (node_value node) e).1) (λ e. (at (node_next node) e).0.1) o) is
+
+  pub other_slot : OtherSlotRefused M
+  other_slot o events m n pass word from to can runs (p, h, acts, may, later) =
+      let k = reached M o events m can runs in
+      let fits = k.hands.fits pass p h acts.at may.held in
+      let same = sym may.own in (
+        p,
+        acts.at,
+        subst (HasDesc (shape_of m) p) same fits.own,
+        ap attempt_in_hand may.held ∙ ap Some (ap (attempt_of h.attempt.desc) fits.present ∙ ap (present m) same),
+      )
+
+head_of : (s t : Step) (l k : List Step) → s ∷ l ≡ t ∷ k → s ≡ t
+head_of s t l k e = cc
+
+tail_of : (s t : Step) (l k : List Step) → s ∷ l ≡ t ∷ k → l ≡ k
+tail_of s t l k e = cc
+
+-- a list without such a store doesn't end in one
+no_store_in : (a : AttemptId) (word : ℕ) (l e k : List Step) (s : Step) → l ≡ e ++ s ∷ k → StoresFor a word s → All (λ x. ¬ StoresFor a word x) l → ⊥
+no_store_in a word l e k s same p n = All-contains (λ x. ¬ StoresFor a word x) l s n (subst (λ xs. Contains xs s) (sym same) (Contains-append_right e (s ∷ k) s (here s k))) p
+
+-- two ways to split a list at its last store are one
+last_is_one : (a : AttemptId) (word : ℕ) (e f : List Step) (s t : Step) (l k : List Step) → e ++ s ∷ l ≡ f ++ t ∷ k → StoresFor a word s → StoresFor a word t
+    → All (λ x. ¬ StoresFor a word x) l → All (λ x. ¬ StoresFor a word x) k → s.after ≡ t.after
+last_is_one a word [] [] s t l k same p q n m = ap (λ (x : Step). x.after) (head_of s t l k same)
+last_is_one a word [] (y ∷ f) s t l k same p q n m = absurd (no_store_in a word l f k t (tail_of s y l (f ++ t ∷ k) same) q n)
+last_is_one a word (x ∷ e) [] s t l k same p q n m = absurd (no_store_in a word k e l s (sym (tail_of x t (e ++ s ∷ l) k same)) p m)
+last_is_one a word (x ∷ e) (y ∷ f) s t l k same p q n m = last_is_one a word e f s t l k (tail_of x y (e ++ s ∷ l) (f ++ t ∷ k) same) p q n m
+
+-- the one segment of a trail that no join has broken
+one_segment : (p : PassView) (segment : List Step) → p.past ≡ [] → Contains (segments p) segment → p.trail ≡ segment
+one_segment p segment none c = ⊎_elim (λ e. e) (λ i. absurd (in_none segment i)) (in_cons p.trail [] segment (subst (λ past. Contains (past ++ p.trail ∷ []) segment) none c))
+
+last_stored_is_one : (p : PassView) (a : AttemptId) (word x y : ℕ) → p.past ≡ [] → LastStored p a word x → LastStored p a word y → x ≡ y
+last_stored_is_one p a word x y none s t =
+    let same = sym (one_segment p _ none s.store.segment) ∙ one_segment p _ none t.store.segment in
+    sym s.left ∙ last_is_one a word s.store.earlier t.store.earlier s.store.step t.store.step s.store.later t.store.later same s.store.such t.store.such s.last t.last ∙ t.left
+
+pub earlier_value : EarlierValueRefused
+earlier_value shape p word from serial value last none stored unread k committed =
+    let spot = spot_of (value_of from) in
+    let a = attempt_of spot.desc serial in
+    let is : value_by_fate Committed k.held ≡ value = subst (λ s. value_by_fate s k.held ≡ value) committed k.is in
+    ⊎_elim
+    (λ s. sym is ∙ last_stored_is_one p a _ k.held last none (subst (λ st. LastStored p a (address shape (slot_by_fate st spot)) k.held) committed s) stored)
+    (λ l. let load = l.load in
+    let c = subst (λ xs. Contains xs load.step) (sym (one_segment p _ none load.segment)) (Contains-append_right load.earlier (load.step ∷ load.later) load.step (here load.step load.later)) in
+    absurd (All-contains (λ (s : Step). (held : ℕ) → ¬ Loads (address shape (slot_by_fate Committed spot)) held s) p.trail load.step unread c k.held
+    (subst (λ st. Loads (address shape (slot_by_fate st spot)) k.held load.step) committed load.such)))
+    k.known

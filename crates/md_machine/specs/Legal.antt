@@ -1,0 +1,45 @@
+-- What the machine means in the words of histories: the front of a pass, and when its history is legal.
+use Rattle.std.specs.Prelude.{◌≡◌, Bool, List, [], map}
+use Rattle.md_words.specs.declared.shape.Shape.{Shape}
+use Rattle.md_words.specs.Lanes.{lane_of_desc}
+use Rattle.md_history.specs.State.{State, run}
+use Rattle.md_history.specs.History.{IsLegal, kept_acts}
+use Rattle.md_history.specs.Front.{Front, Begun, of_lane}
+use Rattle.md_machine.specs.declared.attempt.AttemptId.{AttemptId}
+use Rattle.md_machine.specs.declared.opening.Opening.{Opening}
+use Rattle.md_machine.specs.declared.pass.PassView.{PassView}
+use Rattle.md_machine.specs.Meaning.{Meaning}
+use Rattle.md_machine.specs.Machine.{Machine}
+use Rattle.md_machine.specs.Resolution.{Resolves, entries_of, logical_heap}
+use Rattle.md_machine.specs.Events.{opened}
+
+-- an attempt with its lane
+abbrev pub begun_of : Shape → AttemptId → Begun
+begun_of shape a = record { lane = lane_of_desc shape a.desc; descriptor = a.desc; serial = a.serial }
+
+-- the front of a pass
+abbrev pub front_of : Shape → PassView → Front
+front_of shape p = record {
+  lanes = p.lanes;
+  seen = entries_of p.seen;
+  known = p.known;
+  mine = λ lane. of_lane lane p.mine;
+  pending = map (begun_of shape) p.pending;
+}
+
+module _ (M : Meaning) where
+  -- the state in which a field was opened
+  abbrev pub opening_state : Opening → State
+  opening_state o = M.state (logical_heap (opened o) []).words
+
+  -- the history is legal, whatever becomes of the undecided
+  abbrev pub HistoryIsLegal : Machine → Type 0
+  HistoryIsLegal m = IsLegal (opening_state m.opening) (entries_of m.history) m.fates
+
+  -- a resolution's logical heap is valid, and its state is the replay of the entries that it keeps
+  pub record IsReplay (m : Machine) (choice : List Bool) : Type 0 where
+    pub valid : M.valid (logical_heap m choice)
+    pub state : M.state (logical_heap m choice).words ≡ run (opening_state m.opening) (kept_acts (entries_of m.history) choice)
+
+  abbrev pub EveryHeapIsReplay : Machine → Type 0
+  EveryHeapIsReplay m = (choice : List Bool) → Resolves m choice → IsReplay m choice

@@ -1,0 +1,55 @@
+-- What a theory says of heaps, and the laws that it keeps.
+use Rattle.std.specs.Prelude.{◌≡◌, None, All}
+use Rattle.md_words.specs.declared.shape.Shape.{Shape}
+use Rattle.md_history.specs.State.{State, answer, after}
+use Rattle.md_machine.specs.declared.certificate.Certificate.{Certificate}
+use Rattle.md_machine.specs.declared.certificate.TidyChange.{TidyChange}
+use Rattle.md_machine.specs.declared.certificate.Fact.{Fact}
+use Rattle.md_machine.specs.LogicalHeap.{LogicalWords, LogicalHeap, Holds, AgreeWherePlaced, changed, changed_all, after_nodes}
+
+-- which heaps are valid, the state of their words, and which certificates and tidy changes a shape has
+pub record Meaning : Type 1 where
+  pub valid : LogicalHeap → Type 0
+  pub state : LogicalWords → State
+  pub certifies : Shape → Certificate → Type 0
+  pub tidies : Shape → TidyChange → Type 0
+
+-- a tidy change stands in a heap: the old value is there, and its facts hold
+pub record TidyStands (h : LogicalHeap) (t : TidyChange) : Type 0 where
+  pub old : h.words.value t.change.word ≡ t.change.old
+  pub facts : All (Holds h) t.facts
+
+abbrev pub after_tidy : LogicalHeap → TidyChange → LogicalHeap
+after_tidy h t = record { words = changed h.words t.change; placed = h.placed }
+
+-- a certificate, past its tidy changes, stands in a heap: what it recorded and the old values are there, its facts
+-- hold, and its new nodes aren't placed
+pub record Stands (h : LogicalHeap) (c : Certificate) : Type 0 where
+  pub recorded : All (λ r. h.words.value r.word ≡ r.value) c.recorded
+  pub old : All (λ change. h.words.value change.word ≡ change.old) c.changes
+  pub facts : All (Holds h) c.facts
+  pub fresh : All (λ n. h.placed n.node ≡ None) c.nodes
+
+-- the heap that it leaves
+abbrev pub after_certificate : LogicalHeap → Certificate → LogicalHeap
+after_certificate h c = after_nodes (record { words = changed_all h.words c.changes; placed = h.placed }) c.nodes
+
+-- each fact that held still holds
+abbrev pub KeepsFacts : LogicalHeap → LogicalHeap → Type 0
+KeepsFacts h k = (f : Fact) → Holds h f → Holds k f
+
+-- a valid heap, with this state, that keeps the facts of another
+pub record Follows (M : Meaning) (h : LogicalHeap) (s : State) (k : LogicalHeap) : Type 0 where
+  pub valid : M.valid k
+  pub state : M.state k.words ≡ s
+  pub facts : KeepsFacts h k
+
+pub record Lawful (M : Meaning) : Type 0 where
+  -- a certificate that stands has the operation's reply, and leaves a valid heap with its state
+  pub certificate : (h : LogicalHeap) (c : Certificate) → M.valid h → M.certifies h.words.shape c → Stands h c
+      → (c.reply ≡ answer (M.state h.words) c.op) × Follows M h (after (M.state h.words) c.op) (after_certificate h c)
+  -- a tidy change that stands leaves a valid heap with the same state
+  pub tidy : (h : LogicalHeap) (t : TidyChange) → M.valid h → M.tidies h.words.shape t → TidyStands h t
+      → Follows M h (M.state h.words) (after_tidy h t)
+  -- the words of nodes that aren't placed don't matter
+  pub frame : (h k : LogicalHeap) → M.valid h → AgreeWherePlaced h k → M.valid k × (M.state k.words ≡ M.state h.words)

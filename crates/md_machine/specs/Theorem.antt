@@ -1,0 +1,40 @@
+-- The theorem over all schedules.
+use Rattle.std.specs.Prelude.{List}
+use Rattle.md_machine.specs.declared.opening.Opening.{Opening}
+use Rattle.md_machine.specs.Meaning.{Meaning}
+use Rattle.md_machine.specs.Machine.{Machine, shape_of}
+use Rattle.md_machine.specs.Formats.{AreFormats, LanesApart}
+use Rattle.md_machine.specs.Stamps.{StampsHold, GoesOn}
+use Rattle.md_machine.specs.Fates.{FatesByStatuses, FrontsFit}
+use Rattle.md_machine.specs.Placed.{PlacedStay, FlaggedAreNoted}
+use Rattle.md_machine.specs.Standing.{OddStand, UndecidedStand, SlotsStand}
+use Rattle.md_machine.specs.Shown.{WonAreInstalls}
+use Rattle.md_machine.specs.InHand.{HandsLast, StoresAgree}
+use Rattle.md_machine.specs.Entered.{EntriesKeepSlots}
+use Rattle.md_machine.specs.Events.{Event, Plays, Runs, CanOpen, opened}
+
+-- what holds of every machine that events lead to
+pub record IsKept (m : Machine) : Type 0 where
+  pub formats : AreFormats (shape_of m) m.words
+  pub lanes : LanesApart (shape_of m) m.passes
+  pub stamps : StampsHold m
+  pub standing : OddStand (shape_of m) m.words m.installs
+  pub undecided : UndecidedStand (shape_of m) m.words m.installs
+  pub slots : SlotsStand (shape_of m) m.words m.installs
+  pub fates : FatesByStatuses m
+  pub fronts : FrontsFit (shape_of m) m.history m.fates m.passes
+  pub placed : PlacedStay m
+  pub flagged : FlaggedAreNoted m
+  pub won : WonAreInstalls m
+  pub written : EntriesKeepSlots m
+  pub last : HandsLast m
+  pub stored : StoresAgree m
+
+module _ (M : Meaning) where
+  -- after every list of events from an opening
+  abbrev pub AlwaysKept : Type 0
+  AlwaysKept = (o : Opening) (events : List Event) (m : Machine) → CanOpen M o → Runs M (opened o) events m → IsKept m
+
+  -- and over every further event
+  abbrev pub AlwaysGoesOn : Type 0
+  AlwaysGoesOn = (o : Opening) (events : List Event) (m n : Machine) (e : Event) → CanOpen M o → Runs M (opened o) events m → Plays M m e n → GoesOn m n

@@ -1,0 +1,44 @@
+-- The change of each event as a function, for walks through given schedules. It asks for no condition.
+use Rattle.std.specs.Prelude.{ℕ, List, [], ◌∷◌, slice_index_or, unwrap_or}
+use Rattle.md_machine.specs.declared.attempt.Hand.{Hand}
+use Rattle.md_machine.specs.declared.pass.PassView.{PassView}
+use Rattle.md_machine.specs.Machine.{Machine, attempt_of}
+use Rattle.md_machine.specs.Storing.{after_store}
+use Rattle.md_machine.specs.Installing.{after_install}
+use Rattle.md_machine.specs.Exchanging.{after_exchange}
+use Rattle.md_machine.specs.Readying.{after_ready}
+use Rattle.md_machine.specs.Deciding.{after_commit, after_abort}
+use Rattle.md_machine.specs.Uninstalling.{after_uninstall}
+use Rattle.md_machine.specs.Starting.{after_start}
+use Rattle.md_machine.specs.Marking.{new_hand, after_begin, after_operate, after_act, after_end, after_leave}
+use Rattle.md_machine.specs.Splitting.{spent, after_split, after_join}
+use Rattle.md_machine.specs.Events.{Event, load, store, install, exchange, ready, commit, abort, uninstall, start, split, join, mark_begin, mark_start, mark_act, mark_end, mark_leave, after_load}
+
+-- the pass at a place, and what it has in hand
+abbrev pub view_at : Machine → ℕ → PassView
+view_at m pass = slice_index_or m.passes pass spent
+
+abbrev pub hand_at : Machine → ℕ → Hand
+hand_at m pass = unwrap_or (view_at m pass).hand (new_hand (attempt_of 0 0) 0)
+
+abbrev pub after_event : Machine → Event → Machine
+after_event m (load pass word) = after_load m pass (view_at m pass) word
+after_event m (store pass word value) = after_store m pass (view_at m pass) (hand_at m pass) word value
+after_event m (install pass word from to) = after_install m pass (view_at m pass) (hand_at m pass) word from to
+after_event m (exchange pass word from to) = after_exchange m pass (view_at m pass) word from to
+after_event m (ready pass reads) = after_ready m pass (view_at m pass) (hand_at m pass) reads
+after_event m (commit pass desc from) = after_commit m pass (view_at m pass) desc from
+after_event m (abort pass desc from) = after_abort m pass (view_at m pass) desc from
+after_event m (uninstall pass word from value) = after_uninstall m pass (view_at m pass) word from value
+after_event m (start pass desc from) = after_start m pass (view_at m pass) desc from
+after_event m (split pass) = after_split m pass (view_at m pass)
+after_event m (join pass other) = after_join m pass other (view_at m pass) (view_at m other)
+after_event m (mark_begin pass desc tag) = after_begin m pass (view_at m pass) desc tag
+after_event m (mark_start pass) = after_operate m pass (view_at m pass) (hand_at m pass)
+after_event m (mark_act pass certificate) = after_act m pass (view_at m pass) (hand_at m pass) certificate
+after_event m (mark_end pass) = after_end m pass (view_at m pass) (hand_at m pass)
+after_event m (mark_leave pass) = after_leave m pass (view_at m pass)
+
+abbrev pub after_all : Machine → List Event → Machine
+after_all m [] = m
+after_all m (e ∷ es) = after_all (after_event m e) es

@@ -1,0 +1,18 @@
+// Theories, and the theorem over all schedules.
+ghost use Rattle.md_machine.specs.Theorem.{AlwaysKept, AlwaysGoesOn};
+
+/// What a heap means. A theory has a meaning, and the laws of it.
+pub trait Theory {
+    ghost use Rattle.md_machine.specs.Meaning.{Meaning, Lawful};
+
+    ghost meaning: { Meaning };
+
+    ghost lawful: { Lawful meaning };
+}
+
+/// The theorem over all schedules. It does nothing: its contract is the theorem, for every list of
+/// events and every machine to which they lead.
+pub fn all_schedules<T: Theory>()
+    ensures kept { AlwaysKept T.meaning }
+    ensures goes_on { AlwaysGoesOn T.meaning }
+{}
