@@ -1,13 +1,14 @@
 -- What operations change in a state, and what stays.
-use Rattle.std.proofs.Common.{◌≡◌, ◌≢◌, ℕ, ◌<◌, true, false, cond, List, [], ◌∷◌, ◌++◌, length, slice_index_or, refl, sym, ap, subst, ◌∙◌, Option, Some, None, arith}
+use Rattle.std.proofs.Common.{◌≡◌, ◌≢◌, ℕ, ◌<◌, true, false, cond, List, [], ◌∷◌, ◌++◌, length, slice_index_or, refl, sym, ap, subst, ◌∙◌, inl, inr, Option, Some, None, drop, arith}
 use Rattle.std.specs.Prelude.{is_none}
 use Rattle.std.specs.Ordering.{nat_cmp, eq_by_cmp}
 use Rattle.std.specs.Cmp.{nat_cmp_total}
 use Rattle.std.specs.FinMap as fin
+use Rattle.std.proofs.lemmas.Bool.{cases_eq}
 use Rattle.std.proofs.lemmas.Bool.Decides.{nat_tests}
 use Rattle.std.proofs.lemmas.List.{length-set, get_or-set_same, get_or-set_other}
-use Rattle.md_history.specs.declared.acts.Op.TheVariants.{Insert, Remove, Enqueue}
-use Rattle.md_history.specs.State.{State, Table, map_at, queue_at, with_map, after}
+use Rattle.md_history.specs.declared.acts.Op.TheVariants.{Insert, Remove, Enqueue, Dequeue}
+use Rattle.md_history.specs.State.{State, Table, map_at, queue_at, with_map, with_queue, after}
 
 -- one map has this at one key; all else is as it was
 pub record Sets (s t : State) (m k : ℕ) (now : Option ℕ) : Type 0 where
@@ -23,6 +24,10 @@ pub record Lines (s t : State) (q : ℕ) (now : List ℕ) : Type 0 where
   pub queues : length t.queues ≡ length s.queues
   pub here : queue_at t q ≡ now
   pub others : (j : ℕ) → j ≢ q → queue_at t j ≡ queue_at s j
+
+-- what holds at one number and at all others
+pub at_each : (P : ℕ → Type 0) (k : ℕ) → P k → ((q : ℕ) → q ≢ k → P q) → (q : ℕ) → P q
+at_each P k here others q = elim (cases_eq q k) [ inl e ↦ subst P (sym e) here | inr h ↦ others q h ]
 
 same_key : (k : ℕ) → eq_by_cmp nat_cmp k k ≡ true
 same_key k = grind (arith, nat_tests)
@@ -66,14 +71,22 @@ insert-sets s m k v below absent =
 pub remove-sets : (s : State) (m k : ℕ) → m < length s.maps → Sets s (after s (Remove m k)) m k None
 remove-sets s m k below = with_map-sets s m k (fin.remove (map_at s m) k) None below (get-remove_same (map_at s m) k) (get-remove_other (map_at s m) k)
 
+-- a queue is replaced
+with_queue-lines : (s : State) (q : ℕ) (now : List ℕ) → q < length s.queues → Lines s (with_queue s q now) q now
+with_queue-lines s q now below = record {
+  maps = refl;
+  queues = length-set s.queues q now;
+  here = get_or-set_same s.queues q now [] below;
+  others = λ j h. get_or-set_other s.queues q j now [] h;
+}
+
 -- a value is enqueued
 pub enqueue-lines : (s : State) (q v : ℕ) → q < length s.queues → Lines s (after s (Enqueue q v)) q (queue_at s q ++ v ∷ [])
-enqueue-lines s q v below = record {
-  maps = refl;
-  queues = length-set s.queues q _;
-  here = get_or-set_same s.queues q _ [] below;
-  others = λ j h. get_or-set_other s.queues q j _ [] h;
-}
+enqueue-lines s q v below = with_queue-lines s q (queue_at s q ++ v ∷ []) below
+
+-- the first value is dequeued
+pub dequeue-lines : (s : State) (q : ℕ) → q < length s.queues → Lines s (after s (Dequeue q)) q (drop 1 (queue_at s q))
+dequeue-lines s q below = with_queue-lines s q (drop 1 (queue_at s q)) below
 
 -- nothing but what already stands
 pub sets-same : (s : State) (m k : ℕ) (now : Option ℕ) → fin.get (map_at s m) k ≡ now → Sets s s m k now

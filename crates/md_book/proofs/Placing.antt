@@ -1,32 +1,49 @@
 -- Placing an order is one step of the book.
-use Rattle.std.proofs.Common.{◌≡◌, ◌≢◌, ℕ, ◌+◌, ◌<◌, List, [], ◌∷◌, ◌++◌, map, length, drop, refl, sym, ap, subst, ◌∙◌, inl, inr, Some, arith}
+use Rattle.std.proofs.Common.{◌≡◌, ◌≢◌, ℕ, ◌+◌, ◌-◌, ◌^◌, ◌<◌, min, true, false, cond, [], ◌∷◌, ◌++◌, map, length, drop, refl, sym, ap, subst, ◌∙◌, Some, arith}
+use Rattle.std.specs.Prelude.{is_none}
 use Rattle.std.specs.FinMap as fin
-use Rattle.std.proofs.lemmas.Bool.{cases_eq}
-use Rattle.md_history.specs.declared.acts.Act.{Act}
+use Rattle.std.proofs.lemmas.List.{length-set}
 use Rattle.md_history.specs.declared.acts.Op.TheVariants.{Insert, Enqueue}
-use Rattle.md_history.specs.State.{State, map_at, queue_at, after, IsRight}
-use Rattle.md_history.specs.Script.{done, Did}
+use Rattle.md_history.specs.declared.acts.Reply.TheVariants.{Flag, Nothing}
+use Rattle.md_history.specs.Act.{act_of}
+use Rattle.md_history.specs.State.{State, map_at, queue_at, with_map, after}
+use Rattle.md_history.specs.Counts.{AreFew}
+use Rattle.md_history.specs.Script.{done}
 use Rattle.md_book.specs.declared.commands.Side.{Side}
 use Rattle.md_book.specs.declared.commands.Side.TheVariants.{Buy, Sell}
 use Rattle.md_book.specs.declared.commands.Command.TheVariants.{Place}
-use Rattle.md_book.specs.declared.commands.BookReply.{BookReply}
 use Rattle.md_book.specs.declared.commands.BookReply.TheVariants.{Placed}
 use Rattle.md_book.specs.Book.{IsPrice, Order, Book, level_of, orders_at, depth}
 use Rattle.md_book.specs.Stands.{packed, levels, open_order, unless_0, StandsFor}
-use Rattle.md_book.specs.Commands.{place, raise, IsPlace}
-use Rattle.md_book.specs.Meets.{MayTake, Meets}
-use Rattle.md_book.proofs.Plays.{played, did-played, played-bind, outcome-bind}
-use Rattle.md_book.proofs.Changes.{Sets, Lines, insert-sets, enqueue-lines, map_at-lines, queue_at-sets}
+use Rattle.md_book.specs.Scripts.{value_or_0, place, raise}
+use Rattle.md_book.specs.Commands.{IsPlace}
+use Rattle.md_book.specs.Meets.{MayTake}
+use Rattle.md_book.proofs.Plays.{played, made, played-bind, outcome-bind, ends-bind}
+use Rattle.md_book.proofs.Changes.{at_each, Sets, Lines, insert-sets, enqueue-lines, map_at-lines, queue_at-sets}
 use Rattle.md_book.proofs.Raises.{raise-sets}
+use Rattle.md_book.proofs.Costs.{costs-append, costs-none, costs-insert, costs-enqueue, few-cost}
+use Rattle.md_book.proofs.Replacing.{replace-costs}
+use Rattle.md_book.proofs.Stepping.{MakesStep}
 use Rattle.md_book.proofs.Orders.{with_order, depth-room, depth-here, depth-other, open_order-new, open_order-here, open_order-other, names-here, names-other, sound-with_order}
-
--- what holds at one number and at all others
-at_each : (P : ℕ → Type 0) (k : ℕ) → P k → ((q : ℕ) → q ≢ k → P q) → (q : ℕ) → P q
-at_each P k here others q = elim (cases_eq q k) [ inl e ↦ subst P (sym e) here | inr h ↦ others q h ]
 
 pub level_of-below : (side : Side) (price : ℕ) → IsPrice price → level_of side price < levels
 level_of-below Buy price is = omega arith
 level_of-below Sell price is = omega arith
+
+maps-insert : (s : State) (m k v : ℕ) → length (after s (Insert m k v)).maps ≡ length s.maps
+maps-insert s m k v = elim (is_none (fin.get (map_at s m) k)) as (λ b. length (cond b (with_map s m (fin.insert (map_at s m) k v)) s).maps ≡ length s.maps) [ true ↦ length-set s.maps m _ | false ↦ refl ]
+
+-- placing is few acts, whatever the name
+pub place-few : (s : State) (b : Book) (o : Order) → StandsFor s b → AreFew (made (place o.name o.account o.side o.price o.left) s)
+place-few s b o stands =
+    let level = level_of o.side o.price in
+    let order = packed o.account o.side o.price o.left in
+    let t = after (after s (Insert 0 o.name order)) (Enqueue level o.name) in
+    let new = is_none (fin.get (map_at s 0) o.name) in
+    ends-bind (raise 1 level o.left) (λ _. done Placed) t (λ _ _ acts. AreFew (act_of (Insert 0 o.name order) (Flag new) ∷ act_of (Enqueue level o.name) Nothing ∷ acts))
+    (few-cost (costs-append (costs-insert level 0 o.name order new) (costs-append (costs-enqueue level o.name)
+    (costs-append (replace-costs level 1 level t (omega (arith, maps-insert s 0 o.name order, stands.maps)) (λ r. min (value_or_0 r + o.left) (2 ^ 64 - 1))) (costs-none level))))
+    (omega arith) (omega arith) (omega arith))
 
 module _ (s : State) (b : Book) (o : Order) (stands : StandsFor s b) (is : IsPlace o.name o.account o.price o.left) (may : MayTake b (Place o.name o.account o.side o.price o.left)) where
   abbrev level : ℕ
@@ -91,10 +108,9 @@ module _ (s : State) (b : Book) (o : Order) (stands : StandsFor s b) (is : IsPla
     names = names_stand;
   }
 
-  pub place-meets : (acts : List Act) (r : BookReply) → Did (place o.name o.account o.side o.price o.left) acts r → IsRight s acts → Meets s b (Place o.name o.account o.side o.price o.left) acts r
-  place-meets acts r did right =
-      let is_played = did-played (place o.name o.account o.side o.price o.left) s acts r did right in
-      record {
-        reply = is_played.reply ∙ outcome-bind (raise 1 level o.left) (λ _. done Placed) after_enqueue;
-        stands = subst (λ t. StandsFor t (with_order b o)) (sym (is_played.state ∙ played-bind (raise 1 level o.left) (λ _. done Placed) after_enqueue)) placed-stands;
-      }
+  pub place-steps : MakesStep s b (Place o.name o.account o.side o.price o.left)
+  place-steps = record {
+    replied = outcome-bind (raise 1 level o.left) (λ _. done Placed) after_enqueue;
+    stands = subst (λ t. StandsFor t (with_order b o)) (sym (played-bind (raise 1 level o.left) (λ _. done Placed) after_enqueue)) placed-stands;
+    few = place-few s b o stands;
+  }

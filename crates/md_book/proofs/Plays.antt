@@ -1,8 +1,12 @@
 -- What a whole script does to a state where each reply is right.
-use Rattle.std.proofs.Common.{◌≡◌, List, [], ◌∷◌, refl, ap, ◌∙◌}
+use Rattle.std.proofs.Common.{◌≡◌, List, [], ◌∷◌, ◌++◌, refl, sym, ap, subst, ◌∙◌}
+use Rattle.std.proofs.lemmas.List.{append-nil}
 use Rattle.md_history.specs.declared.acts.Act.{Act}
+use Rattle.md_history.specs.Act.{act_of}
 use Rattle.md_history.specs.State.{State, answer, after, run, IsRight}
 use Rattle.md_history.specs.Script.{Script, done, call, bind, left, Follows, Did}
+use Rattle.md_history.specs.Counts.{AreFew}
+use Rattle.md_history.specs.CountLaws.{few-prefix}
 
 -- the state that it leaves
 abbrev pub played : {R : Type 0} → Script R → State → State
@@ -13,6 +17,11 @@ played (call op next) s = played (next (answer s op)) (after s op)
 abbrev pub outcome : {R : Type 0} → Script R → State → R
 outcome (done r) s = r
 outcome (call op next) s = outcome (next (answer s op)) (after s op)
+
+-- the acts that it makes
+abbrev pub made : {R : Type 0} → Script R → State → List Act
+made (done r) s = []
+made (call op next) s = act_of op (answer s op) ∷ made (next (answer s op)) (after s op)
 
 -- right acts of a whole script leave that state, with that reply
 pub record IsPlayed {R : Type 0} (p : Script R) (s : State) (acts : List Act) (r : R) : Type 0 where
@@ -47,3 +56,31 @@ played-bind (call op more) next s = played-bind (more (answer s op)) next (after
 pub outcome-bind : {A B : Type 0} (p : Script A) (next : A → Script B) (s : State) → outcome (bind p next) s ≡ outcome (next (outcome p s)) (played p s)
 outcome-bind (done r) next s = refl
 outcome-bind (call op more) next s = outcome-bind (more (answer s op)) next (after s op)
+
+-- whatever is to be shown of one script after another, by what the first one leaves
+pub ends-bind : {A B : Type 0} (p : Script A) (next : A → Script B) (s : State) (Q : State → B → List Act → Type 0)
+    → Q (played (next (outcome p s)) (played p s)) (outcome (next (outcome p s)) (played p s)) (made p s ++ made (next (outcome p s)) (played p s))
+    → Q (played (bind p next) s) (outcome (bind p next) s) (made (bind p next) s)
+ends-bind (done r) next s Q h = h
+ends-bind (call op more) next s Q h = ends-bind (more (answer s op)) next (after s op) (λ t r acts. Q t r (act_of op (answer s op) ∷ acts)) h
+
+-- right acts that follow a script are the first ones of those that it makes, and the rest of it makes the others
+pub follows-made : {R : Type 0} (p : Script R) (s : State) (acts : List Act) → Follows p acts → IsRight s acts → made p s ≡ acts ++ made (left p acts) (run s acts)
+follows-made p s [] f right = refl
+follows-made (done x) s (a ∷ acts) f right = absurd f
+follows-made (call op next) s (a ∷ acts) f right =
+    let replied : a.reply ≡ answer s op = right.0 ∙ ap (answer s) f.0 in
+    let same : act_of op (answer s op) ≡ a = sym (ap (λ o. act_of o a.reply) f.0 ∙ ap (act_of op) replied) in
+    ap (λ x. x ∷ made (next (answer s op)) (after s op)) same
+    ∙ ap (λ xs. a ∷ xs) (sym (made-same (ap next replied) (ap (after s) f.0)) ∙ follows-made (next a.reply) (after s a.op) acts f.1 right.1)
+  where
+    made-same : {R : Type 0} {p q : Script R} {s t : State} → p ≡ q → s ≡ t → made p s ≡ made q t
+    made-same {q = q} {s} e f = ap (λ x. made x s) e ∙ ap (made q) f
+
+-- they are few where those are
+pub few-made : {R : Type 0} (p : Script R) (s : State) (acts : List Act) → AreFew (made p s) → Follows p acts → IsRight s acts → AreFew acts
+few-made p s acts few f right = few-prefix acts (made (left p acts) (run s acts)) (subst AreFew (follows-made p s acts f right) few)
+
+-- right acts of a whole script are those that it makes
+pub did-made : {R : Type 0} (p : Script R) (s : State) (acts : List Act) (r : R) → Did p acts r → IsRight s acts → made p s ≡ acts
+did-made p s acts r did right = follows-made p s acts did.follows right ∙ ap (λ q. acts ++ made q (run s acts)) did.ends ∙ append-nil acts

@@ -7,7 +7,7 @@ use Rattle.md_history.specs.declared.acts.Reply.TheVariants.{Value}
 use Rattle.md_history.specs.State.{State, map_at, after}
 use Rattle.md_history.specs.Script.{done, call}
 use Rattle.md_book.specs.Stands.{unless_0}
-use Rattle.md_book.specs.Commands.{value_or_0, put, raise}
+use Rattle.md_book.specs.Scripts.{value_or_0, put, raise, lower}
 use Rattle.md_book.proofs.Plays.{played}
 use Rattle.md_book.proofs.Changes.{Sets, sets-same, sets-again, insert-sets, remove-sets}
 
@@ -34,3 +34,11 @@ raise-sets s m k d by below stood room =
     ap (λ o. min (value_or_0 (Value o) + by) (2 ^ 64 - 1)) stood ∙ ap (λ n. min (n + by) (2 ^ 64 - 1)) (value_or_0-unless_0 d) ∙ omega arith in
     let still : m < length (after s (Remove m k)).maps = omega (arith, gone.maps) in
     subst (λ n. Sets s (played (raise m k by) s) m k (unless_0 n)) sum (sets-again gone (put-sets (after s (Remove m k)) m k _ still gone.here))
+
+-- a sum that stands for d falls
+pub lower-sets : (s : State) (m k d by : ℕ) → m < length s.maps → fin.get (map_at s m) k ≡ unless_0 d → Sets s (played (lower m k by) s) m k (unless_0 (d - by))
+lower-sets s m k d by below stood =
+    let gone = remove-sets s m k below in
+    let less : value_or_0 (Value (fin.get (map_at s m) k)) - by ≡ d - by = ap (λ o. value_or_0 (Value o) - by) stood ∙ ap (λ n. n - by) (value_or_0-unless_0 d) in
+    let still : m < length (after s (Remove m k)).maps = omega (arith, gone.maps) in
+    subst (λ n. Sets s (played (lower m k by) s) m k (unless_0 n)) less (sets-again gone (put-sets (after s (Remove m k)) m k _ still gone.here))

@@ -1,31 +1,16 @@
 -- Commands meet the book.
-use Rattle.std.proofs.Common.{List, sym, ap, subst, ◌∙◌}
-use Rattle.md_history.specs.declared.acts.Act.{Act}
-use Rattle.md_history.specs.declared.acts.Reply.TheVariants.{Value}
-use Rattle.md_history.specs.State.{State, IsRight}
-use Rattle.md_history.specs.Script.{Did}
-use Rattle.md_book.specs.declared.commands.Side.{Side}
-use Rattle.md_book.specs.declared.commands.Command.TheVariants.{Place, Depth}
-use Rattle.md_book.specs.declared.commands.BookReply.{BookReply}
-use Rattle.md_book.specs.declared.commands.BookReply.TheVariants as reply
-use Rattle.md_book.specs.Book.{Book, level_of, depth}
-use Rattle.md_book.specs.Stands.{StandsFor}
-use Rattle.md_book.specs.Commands.{look_depth, value_or_0}
-use Rattle.md_book.specs.Meets.{Meets, CommandsMeetTheBook}
-use Rattle.md_book.proofs.Plays.{did-played}
-use Rattle.md_book.proofs.Raises.{value_or_0-unless_0}
-use Rattle.md_book.proofs.Placing.{place-meets}
-
-look_depth-meets : (s : State) (b : Book) (side : Side) (price : _) (acts : List Act) (r : BookReply) → StandsFor s b → Did (look_depth side price) acts r → IsRight s acts → Meets s b (Depth side price) acts r
-look_depth-meets s b side price acts r stands did right =
-    let is_played = did-played (look_depth side price) s acts r did right in
-    let level = level_of side price in
-    record {
-      reply = is_played.reply ∙ ap (λ o. reply.Depth (value_or_0 (Value o))) (stands.depths level) ∙ ap reply.Depth (value_or_0-unless_0 (depth b level));
-      stands = subst (λ t. StandsFor t b) (sym is_played.state) stands;
-    }
+use Rattle.md_book.specs.declared.commands.Command.TheVariants.{Place, Cancel, Fill, Depth, Account}
+use Rattle.md_book.specs.Meets.{CommandsMeetTheBook}
+use Rattle.md_book.proofs.Stepping.{steps-meet}
+use Rattle.md_book.proofs.Looking.{depth-steps, account-steps}
+use Rattle.md_book.proofs.Cancelling.{cancel-steps}
+use Rattle.md_book.proofs.Placing.{place-steps}
+use Rattle.md_book.proofs.Filling.{fill-steps}
 
 pub commands-meet-the-book : CommandsMeetTheBook
 commands-meet-the-book s b (Place name account side price quantity) acts r stands is may did right =
-    place-meets s b (record { name = name; account = account; side = side; price = price; left = quantity }) stands is may acts r did right
-commands-meet-the-book s b (Depth side price) acts r stands is may did right = look_depth-meets s b side price acts r stands did right
+    steps-meet s b (Place name account side price quantity) acts r (place-steps s b (record { name = name; account = account; side = side; price = price; left = quantity }) stands is may) did right
+commands-meet-the-book s b (Cancel name) acts r stands is may did right = steps-meet s b (Cancel name) acts r (cancel-steps s b name stands) did right
+commands-meet-the-book s b (Fill account side price quantity) acts r stands is may did right = steps-meet s b (Fill account side price quantity) acts r (fill-steps s b stands account side price quantity is) did right
+commands-meet-the-book s b (Depth side price) acts r stands is may did right = steps-meet s b (Depth side price) acts r (depth-steps s b stands side price) did right
+commands-meet-the-book s b (Account account) acts r stands is may did right = steps-meet s b (Account account) acts r (account-steps s b stands account) did right

@@ -1,9 +1,10 @@
 -- The order book, and what each command does to it and answers.
-use Rattle.std.specs.Prelude.{◌≤◌, ℕ, ◌+◌, ◌-◌, ◌==◌, if◌then◌else◌, List, [], ◌∷◌, ◌++◌, filter, sum_by}
+use Rattle.std.specs.Prelude.{◌≤◌, ℕ, zero, suc, ◌+◌, ◌-◌, ◌==◌, ◌&&◌, nat_lt, if◌then◌else◌, min, List, [], ◌∷◌, ◌++◌, Option, Some, None, filter, find, map, length, replicate, sum_by, slice_get}
 use Rattle.md_book.specs.declared.commands.Side.{Side}
 use Rattle.md_book.specs.declared.commands.Side.TheVariants.{Buy, Sell}
 use Rattle.md_book.specs.declared.commands.Command.{Command}
-use Rattle.md_book.specs.declared.commands.Command.TheVariants.{Place, Depth}
+use Rattle.md_book.specs.declared.commands.Command.TheVariants.{Place, Cancel, Fill, Depth, Account}
+use Rattle.md_book.specs.declared.commands.Part.{Part}
 use Rattle.md_book.specs.declared.commands.BookReply.{BookReply}
 use Rattle.md_book.specs.declared.commands.BookReply.TheVariants as reply
 
@@ -66,17 +67,89 @@ bought b account = sum_by (λ t. if buyer t == account then t.taken else 0) b.tr
 abbrev pub sold : Book → ℕ → ℕ
 sold b account = sum_by (λ t. if seller t == account then t.taken else 0) b.trades
 
+-- the order of a name, where something is left of it
+abbrev pub find_open : Book → ℕ → Option Order
+find_open b name = find (λ o. (o.name == name) && nat_lt 0 o.left) b.orders
+
+-- the order of a name has so much less left
+abbrev pub lessen : ℕ → ℕ → Order → Order
+lessen name by o = if o.name == name then record o { left = o.left - by } else o
+
+abbrev pub lessened : List Order → ℕ → ℕ → List Order
+lessened orders name by = map (lessen name by) orders
+
+-- the order at a level's first place that was not passed
+abbrev pub front_order : Book → ℕ → Option Order
+front_order b level = slice_get (orders_at b level) (b.passed level)
+
+-- that place is passed
+abbrev pub pass : Book → ℕ → Book
+pass b level = record b { passed = λ l. if l == level then b.passed l + 1 else b.passed l }
+
+-- an account takes so much from an order: that has so much less left, and there is a trade more
+abbrev pub trade : Book → Order → ℕ → ℕ → Book
+trade b o taker taken = record b {
+  orders = lessened b.orders o.name taken;
+  trades = b.trades ++ record { side = o.side; resting = o.account; taker = taker; taken = taken } ∷ [];
+}
+
 -- the book after a command, and its reply
 pub record Step : Type 0 where
   pub book : Book
   pub reply : BookReply
 
+-- an order joins the book, with all its quantity left
+abbrev pub place_step : Book → Order → Step
+place_step b o = record { book = record b { orders = b.orders ++ o ∷ [] }; reply = reply.Placed }
+
+-- of an open order nothing is left
+abbrev pub cancel_step : Book → Option Order → Step
+cancel_step b None = record { book = b; reply = reply.Gone }
+cancel_step b (Some o) = record { book = record b { orders = lessened b.orders o.name o.left }; reply = reply.Cancelled o.left }
+
+-- what looks at places come to: the book after them, what remains to be taken, and what was taken from which order
+pub record Looked : Type 0 where
+  pub book : Book
+  pub rest : ℕ
+  pub parts : List Part
+
+abbrev pub ended : Book → ℕ → Looked
+ended b rest = record { book = b; rest = rest; parts = [] }
+
+abbrev pub first_part : Order → ℕ → Looked → Looked
+first_part o taken more = record more { parts = record { name = o.name; taken = taken } ∷ more.parts }
+
+-- the book after a trade at the front place: it is passed where the order is emptied
+abbrev pub traded : Book → ℕ → Order → ℕ → ℕ → Book
+traded b level o taker taken = if o.left == taken then pass (trade b o taker taken) level else trade b o taker taken
+
+-- a look at the front place: nobody is there, or a dead place is passed, or the smaller of what the order has left
+-- and what remains is taken
+abbrev pub look_at : Option Order → ℕ → ℕ → Book → ℕ → (Book → ℕ → Looked) → Looked
+look_at None level taker b rest more = ended b rest
+look_at (Some o) level taker b rest more =
+    if o.left == 0
+    then more (pass b level) rest
+    else first_part o (min o.left rest) (more (traded b level o taker (min o.left rest)) (rest - min o.left rest))
+
+-- looks at up to so many places of a level, as long as something remains
+unfoldable pub look : ℕ → ℕ → ℕ → Book → ℕ → Looked
+look level taker zero b rest = ended b rest
+look level taker (suc places) b rest = if rest == 0 then ended b rest else look_at (front_order b level) level taker b rest (look level taker places)
+
+-- four parts, those past the ones that there are being zero
+abbrev pub padded : List Part → List Part
+padded parts = parts ++ replicate (4 - length parts) (record { name = 0; taken = 0 })
+
+abbrev pub fill_step : Looked → Step
+fill_step l = record { book = l.book; reply = reply.Filled (sum_by (λ p. p.taken) l.parts) l.rest (length l.parts) (padded l.parts) }
+
 abbrev pub book_step : Book → Command → Step
-book_step b (Place name account side price quantity) = record {
-  book = record b { orders = b.orders ++ record { name = name; account = account; side = side; price = price; left = quantity } ∷ [] };
-  reply = reply.Placed;
-}
+book_step b (Place name account side price quantity) = place_step b (record { name = name; account = account; side = side; price = price; left = quantity })
+book_step b (Cancel name) = cancel_step b (find_open b name)
+book_step b (Fill account side price quantity) = fill_step (look (level_of side price) account 4 b quantity)
 book_step b (Depth side price) = record { book = b; reply = reply.Depth (depth b (level_of side price)) }
+book_step b (Account account) = record { book = b; reply = reply.Account (bought b account) (sold b account) }
 
 -- the book after commands, in order
 abbrev pub book_after : Book → List Command → Book

@@ -1,12 +1,12 @@
 -- When maps and queues stand for a book.
-use Rattle.std.specs.Prelude.{◌≡◌, ℕ, ◌+◌, ◌*◌, ◌^◌, ◌<◌, ◌≤◌, ◌==◌, ◌&&◌, nat_eq, nat_lt, if◌then◌else◌, length, map, take, drop, find, sum_by, All, Option, Some, None}
+use Rattle.std.specs.Prelude.{◌≡◌, ℕ, ◌+◌, ◌-◌, ◌*◌, ◌/◌, ◌%◌, ◌^◌, ◌<◌, ◌≤◌, ◌==◌, nat_eq, if◌then◌else◌, length, map, take, drop, sum_by, All, Option, Some, None}
 use Rattle.std.specs.List.{IsDistinct}
 use Rattle.std.specs.Option.{option_map}
 use Rattle.std.specs.FinMap as fin
 use Rattle.md_history.specs.State.{State, map_at, queue_at}
 use Rattle.md_book.specs.declared.commands.Side.{Side}
 use Rattle.md_book.specs.declared.commands.Side.TheVariants.{Buy, Sell}
-use Rattle.md_book.specs.Book.{Order, Book, IsAccount, IsPrice, orders_at, depth, bought, sold}
+use Rattle.md_book.specs.Book.{Order, Book, IsAccount, IsPrice, orders_at, find_open, depth, bought, sold}
 
 -- the numbers of maps and queues that a book needs: a map each for open orders, for depths, for what each account
 -- bought and for what it sold, and a queue for each level
@@ -24,9 +24,19 @@ side_bit Sell = 1
 abbrev pub packed : ℕ → Side → ℕ → ℕ → ℕ
 packed account side price left = ((account * 2 + side_bit side) * 1024 + price) * 1048576 + left
 
+-- what a packed number holds: the account, the level, and what is left
+abbrev pub account_in : ℕ → ℕ
+account_in order = order / 2 ^ 31
+
+abbrev pub level_in : ℕ → ℕ
+level_in order = order / 2 ^ 30 % 2 * 1000 + (order / 2 ^ 20 % 1024 - 1)
+
+abbrev pub left_in : ℕ → ℕ
+left_in order = order % 2 ^ 20
+
 -- what the map of open orders has at a name: the order of that name, packed, where something is left of it
 abbrev pub open_order : Book → ℕ → Option ℕ
-open_order b name = option_map (λ o. packed o.account o.side o.price o.left) (find (λ o. (o.name == name) && nat_lt 0 o.left) b.orders)
+open_order b name = option_map (λ o. packed o.account o.side o.price o.left) (find_open b name)
 
 -- a sum that is absent where it is 0
 abbrev pub unless_0 : ℕ → Option ℕ

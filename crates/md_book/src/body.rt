@@ -2,8 +2,11 @@
 ghost use Rattle.md_history.specs.Script.{Did, Follows};
 ghost use Rattle.md_book.specs.Commands.{script_of, FitsBook};
 
+use crate::accounts::look_account;
+use crate::cancel::cancel;
 use crate::commands::{BookReply, Command};
 use crate::depths::look_depth;
+use crate::fill::fill;
 use crate::place::place;
 use md_history::{Body, Stop, TxCalls};
 
@@ -25,7 +28,15 @@ impl Body for Command {
                 price,
                 quantity,
             } => place(t, name, account, side, price, quantity),
+            Command::Cancel { name } => cancel(t, name),
+            Command::Fill {
+                account,
+                side,
+                price,
+                quantity,
+            } => fill(t, account, side, price, quantity),
             Command::Depth { side, price } => look_depth(t, side, price),
+            Command::Account { account } => look_account(t, account),
         }
     }
 

@@ -8,8 +8,8 @@ pub enum Side {
 }
 
 /// A command. An account is from 1 to 9,999, a price from 1 to 1,000 (in ticks), a quantity from 1 to
-/// 1,000,000, and an order's name is `caller * 2^32 + line`, with a caller from 1 to 8 and the line from 1
-/// at which that caller placed it.
+/// 1,000,000, and an order's name is `caller * 2^32 + line`, with a caller from 1 to 8 and the line from 1 to
+/// 1,000,000 at which that caller placed it.
 #[derive(Clone, Copy, Debug, PartialEq, Eq)]
 pub enum Command {
     /// Places an order.
@@ -20,10 +20,25 @@ pub enum Command {
         price: u32,
         quantity: u32,
     },
+    /// Cancels an order: what is left of it is gone.
+    Cancel {
+        name: u64,
+    },
+    /// Takes from the orders that rest at a side and a price, the oldest first, from four at most.
+    Fill {
+        account: u32,
+        side: Side,
+        price: u32,
+        quantity: u32,
+    },
     /// Asks for what is left at a side and a price.
     Depth {
         side: Side,
         price: u32,
+    },
+    /// Asks for what an account bought and sold.
+    Account {
+        account: u32,
     },
 }
 

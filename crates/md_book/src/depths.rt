@@ -4,7 +4,7 @@ ghost use Rattle.md_history.specs.Script.{Follows, Adds};
 ghost use Rattle.md_history.specs.Calls.{BrokeOff};
 ghost use Rattle.md_book.specs.Stands.{maps_of_a_book};
 ghost use Rattle.md_book.specs.Book.{IsPrice};
-ghost use Rattle.md_book.specs.Commands.{look_depth};
+ghost use Rattle.md_book.specs.Scripts.{look_depth};
 
 use crate::commands::{BookReply, Side};
 use crate::maps::DEPTHS;

@@ -1,9 +1,13 @@
 //! The order book: its commands as transactions over maps and queues, and what they mean.
 #![tactic(auto)]
 
+mod accounts;
 mod body;
+mod cancel;
 mod commands;
 mod depths;
+mod fill;
+mod fronts;
 mod laws;
 mod levels;
 mod maps;
@@ -15,6 +19,10 @@ mod place;
 mod tests;
 
 pub use commands::{BookReply, Command, Part, Side};
-pub use laws::{commands_meet_the_book, empty_book_stands};
+pub use laws::{
+    accounts_add_up, commands_are_small, commands_meet_the_book, days_add_up, each_account_adds_up,
+    each_order_adds_up, empty_book_stands, fills_add_up, fills_are_few, levels_add_up,
+    orders_add_up,
+};
 pub use maps::{BOUGHT, DEPTHS, LEVELS, MAPS, OPEN_ORDERS, SOLD};
 pub use names::order_name;

@@ -1,6 +1,6 @@
 // An order in one number, as the map of open orders holds it.
 ghost use Rattle.std.specs.Prelude.{◌≡◌};
-ghost use Rattle.md_book.specs.Stands.{packed};
+ghost use Rattle.md_book.specs.Stands.{packed, account_in, level_in, left_in};
 
 use crate::commands::Side;
 
@@ -13,4 +13,27 @@ pub(crate) fn packed(account: u32, side: Side, price: u32, left: u32) -> u64
         Side::Sell => 1,
     };
     ((account as u64 * 2 + side) * 1024 + price as u64) * 1_048_576 + left as u64
+}
+
+/// The account of a packed order.
+pub(crate) fn account_in(order: u64) -> u64
+    ensures { result ≡ account_in order }
+{
+    order / 0x8000_0000
+}
+
+/// The level of a packed order.
+pub(crate) fn level_in(order: u64) -> u64
+    ensures { result ≡ level_in order }
+{
+    let side = order / 0x4000_0000 % 2;
+    let price = order / 0x10_0000 % 1024;
+    side * 1000 + price.saturating_sub(1)
+}
+
+/// What a packed order has left.
+pub(crate) fn left_in(order: u64) -> u32
+    ensures { result ≡ left_in order }
+{
+    (order % 0x10_0000) as u32
 }

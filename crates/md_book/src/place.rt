@@ -4,7 +4,7 @@ ghost use Rattle.md_history.specs.Script.{Follows, Adds};
 ghost use Rattle.md_history.specs.Calls.{BrokeOff};
 ghost use Rattle.md_book.specs.Stands.{maps_of_a_book, levels};
 ghost use Rattle.md_book.specs.Book.{IsPrice};
-ghost use Rattle.md_book.specs.Commands.{place};
+ghost use Rattle.md_book.specs.Scripts.{place};
 
 use crate::commands::{BookReply, Side};
 use crate::maps::{DEPTHS, OPEN_ORDERS};

@@ -2,7 +2,7 @@ use Rattle.std.proofs.lemmas.Result.{err_from_is_err_and}
 use Rattle.md_history.specs.Script.{done}
 use Rattle.md_history.specs.ScriptLaws.{at-begin, at-more, at-part, at-broke_part, at-done}
 use Rattle.md_book.specs.declared.commands.BookReply.TheVariants.{Placed}
-use Rattle.md_book.specs.Commands.{place}
+use Rattle.md_book.specs.Scripts.{place}
 use Rattle.md_book.proofs.place.place.Goals as goal
 
 pub returns-in_err-raise-clause-err : goal.returns-in_err-raise-clause-err

@@ -1,0 +1,22 @@
+use Rattle.std.proofs.lemmas.Result.{err_from_is_err_and}
+use Rattle.md_history.specs.Script.{done}
+use Rattle.md_history.specs.ScriptLaws.{at-begin, at-more, at-part, at-broke_part, at-done}
+use Rattle.md_book.specs.declared.commands.BookReply.TheVariants.{Cancelled}
+use Rattle.md_book.specs.Stands.{left_in}
+use Rattle.md_book.specs.Scripts.{cancel}
+use Rattle.md_book.proofs.ByValue.{at-some}
+use Rattle.md_book.proofs.cancel.cancel.Goals as goal
+
+pub returns-in_err-lower-clause-err : goal.returns-in_err-lower-clause-err
+returns-in_err-lower-clause-err g c =
+    let p = err_from_is_err_and c.from_residual-in_err-lower.result c.from_residual-in_err-lower.ensures.1 in
+    let at0 = at-begin (cancel c.args.name) (g.T.TxCalls.acts c.args.t.now) in
+    let at1 = at-some _ _ _ _ (at-more at0 c.in_ok-order.ensures.ok) c.in-Some.is in
+    rw (p.1, p.2) (at-broke_part (λ _. done (Cancelled (left_in c.in-Some.order))) at1 (rw (c.level_in.ensures, c.left_in-left.ensures) at c.in_err-lower.ensures.err))
+
+pub returns-clause-ok : goal.returns-clause-ok
+returns-clause-ok g c =
+    let at0 = at-begin (cancel c.args.name) (g.T.TxCalls.acts c.args.t.now) in
+    let at1 = at-some _ _ _ _ (at-more at0 c.in_ok-order.ensures.ok) c.in-Some.is in
+    let lowered = rw (c.level_in.ensures, c.left_in-left.ensures) at c.in_ok-lower.ensures.ok in
+    rw c.left_in-left.ensures (lowered.0, at-done (at-part (λ _. done (Cancelled (left_in c.in-Some.order))) at1 lowered.1))

@@ -1,0 +1,5 @@
+use Rattle.md_book.proofs.OrdersAddUp.{orders-add-up}
+use Rattle.md_book.proofs.laws.orders_add_up.Goals as goal
+
+pub returns : goal.returns
+returns c = orders-add-up

@@ -1,0 +1,55 @@
+-- What commands do to the maps and queues, as scripts: all but filling.
+use Rattle.std.specs.Prelude.{ℕ, ◌+◌, ◌-◌, ◌^◌, ◌==◌, if◌then◌else◌, min, Some, None}
+use Rattle.md_history.specs.declared.acts.Op.TheVariants.{Get, Insert, Remove, Enqueue}
+use Rattle.md_history.specs.declared.acts.Reply.{Reply}
+use Rattle.md_history.specs.declared.acts.Reply.TheVariants.{Value, Flag, Nothing}
+use Rattle.md_history.specs.Script.{Script, done, call, bind}
+use Rattle.md_book.specs.declared.commands.Side.{Side}
+use Rattle.md_book.specs.declared.commands.BookReply.{BookReply}
+use Rattle.md_book.specs.declared.commands.BookReply.TheVariants as reply
+use Rattle.md_book.specs.Book.{level_of}
+use Rattle.md_book.specs.Stands.{packed, left_in, level_in}
+
+-- the value of a reply, or 0 where there is none
+abbrev pub value_or_0 : Reply → ℕ
+value_or_0 (Value (Some v)) = v
+value_or_0 (Value None) = 0
+value_or_0 (Flag b) = 0
+value_or_0 Nothing = 0
+
+-- one way where a reply has no value, another where it has one
+abbrev pub by_value : {R : Type 0} → Reply → Script R → (ℕ → Script R) → Script R
+by_value (Value (Some v)) none some = some v
+by_value (Value None) none some = none
+by_value (Flag b) none some = none
+by_value Nothing none some = none
+
+-- a key gets a value, where that isn't 0
+abbrev pub put : ℕ → ℕ → ℕ → Script (Unit {0})
+put m k v = if v == 0 then done tt else call (Insert m k v) (λ _. done tt)
+
+-- a key's value is replaced by one that is larger, up to 2^64 - 1
+abbrev pub raise : ℕ → ℕ → ℕ → Script (Unit {0})
+raise m k by = call (Remove m k) (λ r. put m k (min (value_or_0 r + by) (2 ^ 64 - 1)))
+
+-- a key's value is replaced by one that is smaller, down to 0
+abbrev pub lower : ℕ → ℕ → ℕ → Script (Unit {0})
+lower m k by = call (Remove m k) (λ r. put m k (value_or_0 r - by))
+
+-- an order is added to the open ones, its name to its level's queue, and its quantity to the level's depth
+abbrev pub place : ℕ → ℕ → Side → ℕ → ℕ → Script BookReply
+place name account side price quantity =
+    call (Insert 0 name (packed account side price quantity)) (λ _. call (Enqueue (level_of side price) name) (λ _.
+    bind (raise 1 (level_of side price) quantity) (λ _. done reply.Placed)))
+
+-- an order is removed from the open ones, and what was left of it from its level's depth
+abbrev pub cancel : ℕ → Script BookReply
+cancel name = call (Remove 0 name) (λ r. by_value r (done reply.Gone) (λ order. bind (lower 1 (level_in order) (left_in order)) (λ _. done (reply.Cancelled (left_in order)))))
+
+-- a level's depth is looked up
+abbrev pub look_depth : Side → ℕ → Script BookReply
+look_depth side price = call (Get 1 (level_of side price)) (λ r. done (reply.Depth (value_or_0 r)))
+
+-- an account's sums are looked up
+abbrev pub look_account : ℕ → Script BookReply
+look_account account = call (Get 2 account) (λ r. call (Get 3 account) (λ s. done (reply.Account (value_or_0 r) (value_or_0 s))))

@@ -1,0 +1,128 @@
+-- What a run of commands comes to, told by the commands and their replies.
+use Rattle.std.specs.Prelude.{◌≡◌, ℕ, ◌+◌, ◌==◌, ◌&&◌, nat_eq, Bool, true, false, if◌then◌else◌, List, [], ◌∷◌, sum_by, All, Contains}
+use Rattle.std.specs.List.{IsDistinct, zip, list_any, range_with_len}
+use Rattle.md_book.specs.declared.commands.Side.{Side}
+use Rattle.md_book.specs.declared.commands.Side.TheVariants.{Buy, Sell}
+use Rattle.md_book.specs.declared.commands.Command.{Command}
+use Rattle.md_book.specs.declared.commands.Command.TheVariants.{Place, Cancel, Fill, Depth, Account}
+use Rattle.md_book.specs.declared.commands.BookReply.{BookReply}
+use Rattle.md_book.specs.declared.commands.BookReply.TheVariants.{Cancelled, Filled}
+use Rattle.md_book.specs.Book.{Book, empty_book, level_of, depth, bought, sold, book_after, replies_to}
+use Rattle.md_book.specs.Commands.{IsCommand}
+use Rattle.md_book.specs.Stands.{levels}
+
+-- the names of the orders that commands place
+abbrev pub names_placed : List Command → List ℕ
+names_placed [] = []
+names_placed (Place name account side price quantity ∷ cs) = name ∷ names_placed cs
+names_placed (Cancel name ∷ cs) = names_placed cs
+names_placed (Fill account side price quantity ∷ cs) = names_placed cs
+names_placed (Depth side price ∷ cs) = names_placed cs
+names_placed (Account account ∷ cs) = names_placed cs
+
+-- a day of trading: commands in range, and each order has a name of its own
+pub record IsDay (cs : List Command) : Type 0 where
+  pub lawful : All IsCommand cs
+  pub distinct : IsDistinct nat_eq (names_placed cs)
+
+-- each command with its reply, from the empty book on
+abbrev pub answered : List Command → List (Command × BookReply)
+answered cs = zip cs (replies_to empty_book cs)
+
+-- the book at the end
+abbrev pub closing : List Command → Book
+closing cs = book_after empty_book cs
+
+-- the quantity that a command places, where its order is one of these
+abbrev pub placed : (ℕ → Bool) → Command × BookReply → ℕ
+placed of (Place name account side price quantity, r) = if of name then quantity else 0
+placed of (c, r) = 0
+
+-- what is cancelled of these orders
+abbrev pub cancelled : (ℕ → Bool) → Command × BookReply → ℕ
+cancelled of (Cancel name, Cancelled left) = if of name then left else 0
+cancelled of (c, r) = 0
+
+-- what is taken from these orders, part by part
+abbrev pub taken_from : (ℕ → Bool) → Command × BookReply → ℕ
+taken_from of (c, Filled taken rest count parts) = sum_by (λ p. if of p.name then p.taken else 0) parts
+taken_from of (c, r) = 0
+
+-- what these orders have left in a book
+abbrev pub left_of : (ℕ → Bool) → Book → ℕ
+left_of of b = sum_by (λ o. if of o.name then o.left else 0) b.orders
+
+-- of whichever orders, what was placed is what was cancelled, was taken and is left
+abbrev pub OrdersAddUp : Type 0
+OrdersAddUp = (cs : List Command) (of : ℕ → Bool) → IsDay cs
+    → sum_by (placed of) (answered cs) ≡ sum_by (cancelled of) (answered cs) + sum_by (taken_from of) (answered cs) + left_of of (closing cs)
+
+-- of each order, what was taken from it in all, was cancelled of it and is left adds up to what was placed: it never
+-- gives more than its quantity
+abbrev pub EachOrderAddsUp : Type 0
+EachOrderAddsUp = (cs : List Command) (name account : ℕ) (side : Side) (price quantity : ℕ) → IsDay cs → Contains cs (Place name account side price quantity)
+    → quantity ≡ sum_by (cancelled (λ n. n == name)) (answered cs) + sum_by (taken_from (λ n. n == name)) (answered cs) + left_of (λ n. n == name) (closing cs)
+
+-- whether a command places an order of the name, with a side, price and account that pass a test
+abbrev pub places : (Side → ℕ → ℕ → Bool) → ℕ → Command → Bool
+places test name (Place own account side price quantity) = (own == name) && test side price account
+places test name c = false
+
+-- whether one of the commands places an order of the name at the level
+abbrev pub is_placed_at : List Command → ℕ → ℕ → Bool
+is_placed_at cs level name = list_any (places (λ side price account. level_of side price == level) name) cs
+
+-- whether one of the commands places an order of the name for the account
+abbrev pub is_placed_for : List Command → ℕ → ℕ → Bool
+is_placed_for cs account name = list_any (places (λ side price own. own == account) name) cs
+
+-- what a command fills at a level
+abbrev pub filled_at : ℕ → Command × BookReply → ℕ
+filled_at level (Fill account side price quantity, Filled taken rest count parts) = if level_of side price == level then taken else 0
+filled_at level (c, r) = 0
+
+-- at each level, what was placed is what was cancelled, was filled and is open
+abbrev pub LevelsAddUp : Type 0
+LevelsAddUp = (cs : List Command) (level : ℕ) → IsDay cs
+    → sum_by (placed (is_placed_at cs level)) (answered cs) ≡ sum_by (cancelled (is_placed_at cs level)) (answered cs) + sum_by (filled_at level) (answered cs) + depth (closing cs) level
+
+-- what a command fills
+abbrev pub filled : Command × BookReply → ℕ
+filled (c, Filled taken rest count parts) = taken
+filled (c, r) = 0
+
+-- in all, what was placed is what was cancelled, was filled and is open at the levels
+abbrev pub DayAddsUp : Type 0
+DayAddsUp = (cs : List Command) → IsDay cs
+    → sum_by (placed (λ _. true)) (answered cs) ≡ sum_by (cancelled (λ _. true)) (answered cs) + sum_by filled (answered cs) + sum_by (depth (closing cs)) (range_with_len 0 levels)
+
+-- what all accounts bought is what was filled, and so is what they sold
+abbrev pub AccountsAddUp : Type 0
+AccountsAddUp = (cs : List Command) → IsDay cs
+    → (sum_by (bought (closing cs)) (range_with_len 1 9999) ≡ sum_by filled (answered cs)) × (sum_by (sold (closing cs)) (range_with_len 1 9999) ≡ sum_by filled (answered cs))
+
+abbrev pub is_side : Side → Side → Bool
+is_side Buy Buy = true
+is_side Buy Sell = false
+is_side Sell Buy = false
+is_side Sell Sell = true
+
+-- what an account deals in at a fill: at the one side what is taken from its orders, at the other what it takes itself
+abbrev pub dealt : Side → (ℕ → Bool) → ℕ → Command × BookReply → ℕ
+dealt side of account (Fill taker at price quantity, Filled taken rest count parts) =
+    if is_side side at then sum_by (λ p. if of p.name then p.taken else 0) parts else (if taker == account then taken else 0)
+dealt side of account (c, r) = 0
+
+-- each account bought what was taken from its buy orders and what it took from sell orders, and sold what was taken
+-- from its sell orders and what it took from buy orders
+abbrev pub EachAccountAddsUp : Type 0
+EachAccountAddsUp = (cs : List Command) (account : ℕ) → IsDay cs
+    → (bought (closing cs) account ≡ sum_by (dealt Buy (is_placed_for cs account) account) (answered cs)) × (sold (closing cs) account ≡ sum_by (dealt Sell (is_placed_for cs account) account) (answered cs))
+
+-- a fill's parts and what remains add up to what was asked for
+abbrev pub AddsUp : Command × BookReply → Type 0
+AddsUp (Fill account side price quantity, Filled taken rest count parts) = (sum_by (λ p. p.taken) parts ≡ taken) × (taken + rest ≡ quantity)
+AddsUp (c, r) = Unit {0}
+
+abbrev pub FillsAddUp : Type 0
+FillsAddUp = (cs : List Command) → All AddsUp (answered cs)

@@ -1,0 +1,118 @@
+// A look at the front place of a level.
+ghost use Rattle.std.specs.Prelude.{◌≡◌, ◌<◌, ◌≤◌, None, IfOk, IfErr};
+ghost use Rattle.md_history.specs.Script.{Follows, Adds};
+ghost use Rattle.md_history.specs.Calls.{BrokeOff};
+ghost use Rattle.md_book.specs.Stands.{maps_of_a_book, left_in};
+ghost use Rattle.md_book.specs.Filling.{put_back, take_from, look_front, resting_sums, taker_sums, TakesAtMost};
+
+use crate::commands::{Part, Side};
+use crate::maps::{BOUGHT, OPEN_ORDERS, SOLD};
+use crate::packing::{account_in, left_in};
+use crate::parts::raise;
+use md_history::{Stop, TxCalls};
+
+/// What a look at a level's front place met.
+#[derive(Clone, Copy, Debug)]
+pub(crate) enum Look {
+    /// No place is left.
+    Nobody,
+    /// A place whose order was cancelled; it was passed.
+    Dead,
+    /// An order, from which this was taken.
+    Live(Part),
+}
+
+impl Side {
+    /// The map where this side's resting accounts have their sums.
+    fn resting_sums(self) -> u32
+        ensures { result ≡ resting_sums self }
+    {
+        match self {
+            Side::Buy => BOUGHT,
+            Side::Sell => SOLD,
+        }
+    }
+
+    /// The map where those who take from this side have theirs.
+    pub(crate) fn taker_sums(self) -> u32
+        ensures { result ≡ taker_sums self }
+    {
+        match self {
+            Side::Buy => SOLD,
+            Side::Sell => BOUGHT,
+        }
+    }
+}
+
+/// Dequeues the order at the front where all that it has left is taken; else puts it back with less.
+fn put_back<T: TxCalls>(
+    t: &mut T,
+    level: u32,
+    name: u64,
+    order: u64,
+    taken: u32,
+) -> Result<(), Stop>
+    requires part { taken ≤ left_in order }
+    requires going { T.stop t.old ≡ None }
+    requires maps { maps_of_a_book ≤ T.maps (T.kept t.old) }
+    requires level { level < T.queues (T.kept t.old) }
+    ensures ok { IfOk result (λ r. (T.stop t.new ≡ None) × Adds (put_back level name order taken) r (T.acts t.old) (T.acts t.new)) }
+    ensures err { IfErr result (λ e. BrokeOff (Follows (put_back level name order taken)) e (T.acts t.old) (T.acts t.new) (T.stop t.new)) }
+    ensures kept { T.kept t.new ≡ T.kept t.old }
+{
+    if left_in(order) == taken {
+        t.dequeue(level)?;
+    } else {
+        t.insert(OPEN_ORDERS, name, order - taken as u64)?;
+    }
+    Ok(())
+}
+
+/// Takes so much from the order at the front. Its account has then bought or sold it.
+fn take_from<T: TxCalls>(
+    t: &mut T,
+    side: Side,
+    level: u32,
+    name: u64,
+    order: u64,
+    taken: u32,
+) -> Result<Look, Stop>
+    requires part { taken ≤ left_in order }
+    requires going { T.stop t.old ≡ None }
+    requires maps { maps_of_a_book ≤ T.maps (T.kept t.old) }
+    requires level { level < T.queues (T.kept t.old) }
+    ensures ok { IfOk result (λ r. (T.stop t.new ≡ None) × Adds (take_from side level name order taken) r (T.acts t.old) (T.acts t.new)) }
+    ensures err { IfErr result (λ e. BrokeOff (Follows (take_from side level name order taken)) e (T.acts t.old) (T.acts t.new) (T.stop t.new)) }
+    ensures kept { T.kept t.new ≡ T.kept t.old }
+    ensures taken { IfOk result (TakesAtMost taken) }
+{
+    t.remove(OPEN_ORDERS, name)?;
+    put_back(t, level, name, order, taken)?;
+    raise(t, side.resting_sums(), account_in(order), taken as u64)?;
+    Ok(Look::Live(Part { name, taken }))
+}
+
+/// Looks at the front place: nobody, or a dead place, which is passed, or an order from which is taken.
+pub(crate) fn look_front<T: TxCalls>(
+    t: &mut T,
+    side: Side,
+    level: u32,
+    rest: u32,
+) -> Result<Look, Stop>
+    requires going { T.stop t.old ≡ None }
+    requires maps { maps_of_a_book ≤ T.maps (T.kept t.old) }
+    requires level { level < T.queues (T.kept t.old) }
+    ensures ok { IfOk result (λ r. (T.stop t.new ≡ None) × Adds (look_front side level rest) r (T.acts t.old) (T.acts t.new)) }
+    ensures err { IfErr result (λ e. BrokeOff (Follows (look_front side level rest)) e (T.acts t.old) (T.acts t.new) (T.stop t.new)) }
+    ensures kept { T.kept t.new ≡ T.kept t.old }
+    ensures taken { IfOk result (TakesAtMost rest) }
+{
+    let Some(name) = t.front(level)? else {
+        return Ok(Look::Nobody);
+    };
+    let Some(order) = t.get(OPEN_ORDERS, name)? else {
+        t.dequeue(level)?;
+        return Ok(Look::Dead);
+    };
+    take_from(t, side, level, name, order, left_in(order).min(rest))
+}
