@@ -1,5 +1,5 @@
 -- Lists by caller and what stands in them at a line, both counted from 1.
-use Rattle.std.proofs.Common.{◌≡◌, ◌≢◌, ◌<◌, ◌≤◌, ◌+◌, ◌-◌, ◌^◌, ◌∙◌, ◌++◌, ℕ, zero, suc, List, [], ◌∷◌, Option, Some, None, Vec, Global, length, get_or, set, refl, sym, ap, subst, arith, inl, inr, get_or-set_other, get_or-set_same, length-append}
+use Rattle.std.proofs.Common.{◌≡◌, ◌≢◌, ◌<◌, ◌≤◌, ◌+◌, ◌-◌, ◌∙◌, ◌++◌, ℕ, zero, suc, List, [], ◌∷◌, Option, Some, None, Vec, Global, length, get_or, set, refl, sym, ap, subst, arith, inl, inr, get_or-set_other, get_or-set_same, length-append}
 use Rattle.std.specs.Prelude.{slice_get, IfSome, option_and_then}
 use Rattle.std.specs.Prelude.{◌==◌, nat_lt}
 use Rattle.std.proofs.lemmas.Option.{slice_get-get_or, slice_get_past}
@@ -10,6 +10,7 @@ use Rattle.std.proofs.lemmas.List.Sums.{sum_by-set, get_or-le-sum_by}
 use Rattle.md_book.specs.declared.commands.Command.{Command}
 use Rattle.md_book.specs.Commands.{IsCommand, name_of}
 use Rattle.md_orders.specs.Lists.{lists_in}
+use Rattle.md_orders.specs.Records.{max_records}
 use Rattle.md_orders.specs.Scripts.{list_of, with_list, with_line, at_line, count_of, IsNamed, AreNamed, AreKept}
 
 -- by the index of a caller
@@ -17,10 +18,12 @@ pub list_of-at : {A : Type 0} (lists : List (List A)) (caller i : ℕ) → 1 ≤
 list_of-at lists zero i low at = absurd (omega arith)
 list_of-at lists (suc c) i low at = let same : c ≡ i = omega arith in ap (λ n. get_or lists n []) same
 
+-- a caller past the last has none
 pub list_of-past : {A : Type 0} (lists : List (List A)) (caller : ℕ) → length lists < caller → list_of lists caller ≡ []
 list_of-past lists zero past = absurd (omega arith)
 list_of-past lists (suc c) past = get_or_past lists c [] (omega arith)
 
+-- the change of a caller's list, by its index
 pub with_list-at : {A : Type 0} (lists : List (List A)) (caller i : ℕ) (list : List A) → 1 ≤ caller → i ≡ caller - 1 → with_list lists caller list ≡ set lists i list
 with_list-at lists zero i list low at = absurd (omega arith)
 with_list-at lists (suc c) i list low at = let same : c ≡ i = omega arith in ap (λ n. set lists n list) same
@@ -30,11 +33,13 @@ pub list_of-with_list-same : {A : Type 0} (lists : List (List A)) (caller : ℕ)
 list_of-with_list-same lists zero list low high = absurd (omega arith)
 list_of-with_list-same lists (suc c) list low high = get_or-set_same lists c list [] (omega arith)
 
+-- the other callers' lists stay
 pub list_of-with_list-other : {A : Type 0} (lists : List (List A)) (caller c : ℕ) (list : List A) → c ≢ caller → list_of (with_list lists caller list) c ≡ list_of lists c
 list_of-with_list-other lists caller zero list other = refl
 list_of-with_list-other lists zero (suc c) list other = refl
 list_of-with_list-other lists (suc d) (suc c) list other = get_or-set_other lists d c list [] (λ e. other (ap suc e))
 
+-- and so does the number of lists
 pub length-with_list : {A : Type 0} (lists : List (List A)) (caller : ℕ) (list : List A) → length (with_list lists caller list) ≡ length lists
 length-with_list lists zero list = refl
 length-with_list lists (suc c) list = length-set lists c list
@@ -44,9 +49,11 @@ pub list_of-lists_in : {A : Type 0} (vs : List (Vec A Global)) (caller i : ℕ) 
 list_of-lists_in vs caller i v low high at is =
     list_of-at (lists_in vs) caller i low at ∙ get_or-map (λ list. list.items) vs i v [] (omega arith) ∙ ap (λ list. list.items) (sym is)
 
+-- a vector that is set is a list that is set
 pub lists_in-set : {A : Type 0} (vs : List (Vec A Global)) (caller i : ℕ) (v : Vec A Global) → 1 ≤ caller → i ≡ caller - 1 → lists_in (set vs i v) ≡ with_list (lists_in vs) caller v.items
 lists_in-set vs caller i v low at = map-set (λ list. list.items) vs i v ∙ sym (with_list-at (lists_in vs) caller i v.items low at)
 
+-- a vector that is set to one with the same items leaves the lists as they were
 pub lists_in-same : {A : Type 0} (vs : List (Vec A Global)) (i : ℕ) (v w : Vec A Global) → v ≡ get_or vs i v → w.items ≡ v.items → lists_in (set vs i w) ≡ lists_in vs
 lists_in-same vs i v w is same = map-set (λ list. list.items) vs i w ∙ ap (set (lists_in vs) i) (same ∙ ap (λ list. list.items) is) ∙ sym (map-set (λ list. list.items) vs i (get_or vs i v)) ∙ ap lists_in (set-get_or vs i v)
 
@@ -55,6 +62,7 @@ pub at_line-at : {A : Type 0} (lists : List (List A)) (caller line i : ℕ) → 
 at_line-at lists caller zero i low at = absurd (omega arith)
 at_line-at lists caller (suc l) i low at = let same : l ≡ i = omega arith in ap (slice_get (list_of lists caller)) same
 
+-- a caller without lines has nothing at any
 pub at_line-none : {A : Type 0} (lists : List (List A)) (caller line : ℕ) → list_of lists caller ≡ [] → at_line lists caller line ≡ None
 at_line-none lists caller zero none = refl
 at_line-none lists caller (suc l) none = ap (λ xs. slice_get xs l) none
@@ -91,6 +99,7 @@ count_of-add lists (suc c) x low high =
     let more : length new ≡ length (get_or lists c []) + 1 = length-append (get_or lists c []) (x ∷ []) in
     omega arith
 
+-- no caller has more lines than all have
 pub length-list_of-le : (lists : List (List Command)) (caller : ℕ) → length (list_of lists caller) ≤ count_of lists
 length-list_of-le lists zero = omega arith
 length-list_of-le lists (suc c) = elim (cases_Bool (nat_lt c (length lists))) [
@@ -98,7 +107,8 @@ length-list_of-le lists (suc c) = elim (cases_Bool (nat_lt c (length lists))) [
   | inr past ↦ let none = get_or_past lists c [] (ltb-false c (length lists) past) in rw none (omega arith)
 ]
 
-pub kept-add : (total : ℕ) (lists : List (List Command)) (caller : ℕ) (x : Command) → AreKept total lists → 1 ≤ caller → caller ≤ length lists → count_of lists + 1 < 2 ^ 32
+-- scripts keep what they keep where such a command is added and there is room for it
+pub kept-add : (total : ℕ) (lists : List (List Command)) (caller : ℕ) (x : Command) → AreKept total lists → 1 ≤ caller → caller ≤ length lists → count_of lists < max_records
     → IsCommand x × IsNamed (name_of caller (length (list_of lists caller) + 1)) x → AreKept (total + 1) (with_list lists caller (list_of lists caller ++ x ∷ []))
 kept-add total lists caller x kept low high room lawful =
     let more = count_of-add lists caller x low high in
@@ -119,6 +129,7 @@ lawful-at lists caller (suc l) xs d named is low high =
     let found : slice_get (list_of lists caller) l ≡ Some (get_or xs l d) = ap (λ ys. slice_get ys l) (sym is) ∙ slice_get-get_or xs l d (omega arith) in
     rw at (subst (λ (o : Option Command). IfSome o (λ x. IsCommand x × IsNamed (name_of caller (suc l)) x)) found (named caller (suc l)))
 
+-- the change of a line, by its index
 pub with_line-at : {A : Type 0} (list : List A) (line i : ℕ) (x : A) → 1 ≤ line → i ≡ line - 1 → with_line list line x ≡ set list i x
 with_line-at list zero i x low at = absurd (omega arith)
 with_line-at list (suc l) i x low at = let same : l ≡ i = omega arith in ap (λ n. set list n x) same
@@ -129,6 +140,7 @@ pub at_line-inside : {A : Type 0} (lists : List (List (Option A))) (caller line 
 at_line-inside lists caller line i xs r is low at inside found =
     ap (option_and_then (λ o. o)) (at_line-at lists caller line i (omega arith) at ∙ ap (λ ys. slice_get ys i) (sym is) ∙ slice_get-get_or xs i r inside ∙ ap Some (sym found))
 
+-- past the last line there is none
 pub at_line-past : {A : Type 0} (lists : List (List (Option A))) (caller line i : ℕ) (xs : List (Option A)) → xs ≡ list_of lists caller → line ≢ 0 → i ≡ line - 1 → length xs ≤ i
     → option_and_then (λ o. o) (at_line lists caller line) ≡ None
 at_line-past lists caller line i xs is low at past =
@@ -139,5 +151,6 @@ pub items-list_of : {A : Type 0} (vs : List (Vec A Global)) (lists : List (List 
     → v.items ≡ list_of lists caller
 items-list_of vs lists caller i v shown low high at is = sym (list_of-lists_in vs caller i v low high at is) ∙ ap (λ ls. list_of ls caller) shown
 
+-- as many vectors as lists
 pub length-lists_in : {A : Type 0} (vs : List (Vec A Global)) (lists : List (List A)) → lists_in vs ≡ lists → length vs ≡ length lists
 length-lists_in vs lists shown = sym (length-map vs (λ list. list.items)) ∙ ap length shown

@@ -16,6 +16,7 @@ digits_step n i xs inside = rw (drop-cons xs i 0 inside, add-one i) refl
 pub number_none : (field : List ℕ) → digits_after 0 field ≡ None → None ≡ number field
 number_none field none = elim (cases_Bool (nat_le 1 (length field) && nat_le (length field) 10)) [ inl short ↦ rw short (sym none) | inr long ↦ rw long refl ]
 
+-- past the last digit the number is whole
 pub digits_end : (n i : ℕ) (xs : List ℕ) → length xs ≤ i → digits_after n (drop i xs) ≡ Some n
 unfolding digits_after
 digits_end n i xs past = rw (drop_all i xs past) refl

@@ -1,14 +1,16 @@
 -- Lines: records at their caller's next line.
-use Rattle.std.proofs.Common.{◌≡◌, ◌<◌, ◌≤◌, ◌+◌, ◌^◌, ◌∙◌, ℕ, List, Bool, true, false, Option, Some, None, is_some, length, refl, ap, arith}
+use Rattle.std.proofs.Common.{◌≡◌, ◌<◌, ◌≤◌, ◌+◌, ◌∙◌, ℕ, List, Bool, true, false, Option, Some, None, is_some, length, refl, ap, arith}
 use Rattle.std.specs.Prelude.{◌&&◌}
 use Rattle.md_book.specs.declared.commands.Command.{Command}
 use Rattle.md_orders.specs.Grammar.{Row, caller_of, command_of, keeps}
+use Rattle.md_orders.specs.Records.{max_records}
 use Rattle.md_orders.specs.Scripts.{list_of, count_of}
 use Rattle.md_orders.specs.Line.{IsLine, next_name}
 use Rattle.md_orders.proofs.ByCaller.{length-list_of-le}
 use Rattle.md_orders.proofs.Keeps.{command_of-some, command_of-lawful, caller_of-inv, is_name}
 
-pub line-is : (callers : ℕ) (row : Row) (scripts : List (List Command)) (caller : ℕ) (command : Command) → callers ≤ 8 → count_of scripts + 1 < 2 ^ 32
+-- a record that writes a caller and a command is a line
+pub line-is : (callers : ℕ) (row : Row) (scripts : List (List Command)) (caller : ℕ) (command : Command) → callers ≤ 8 → count_of scripts < max_records
     → caller_of callers row ≡ Some caller → command_of (next_name scripts caller) row ≡ Some command → IsLine callers row scripts caller command
 line-is callers row scripts caller command high room caller_is command_is =
     let from = caller_of-inv callers row caller caller_is in
@@ -25,6 +27,7 @@ line-is callers row scripts caller command high room caller_is command_is =
       named = lawful.1;
     }
 
+-- one that is false makes both false
 and-false : (a b : Bool) → b ≡ false → (a && b) ≡ false
 and-false true b h = h
 and-false false b h = refl

@@ -29,6 +29,7 @@ abbrev pub IsNoted : ℕ → List Row → List (List Command) → Option ℕ →
 IsNoted callers rows scripts None = AreScriptsSoFar callers rows scripts
 IsNoted callers rows scripts (Some n) = first_bad callers 1 rows ≡ Some n
 
+-- one element more has the next number
 enumerate-append : {A : Type 0} (n m : ℕ) (xs : List A) (x : A) → m ≡ n + length xs → enumerate_from n (xs ++ x ∷ []) ≡ enumerate_from n xs ++ (m, x) ∷ []
 enumerate-append n m [] x at = let same : n ≡ m = omega arith in ap (λ k. (k, x) ∷ []) same
 enumerate-append n m (y ∷ xs) x at = ap (λ ys. (n, y) ∷ ys) (enumerate-append (n + 1) m xs x (omega arith))
@@ -44,11 +45,13 @@ script-more callers rows row caller n x mine at is =
     ∙ filter_map-append f (enumerate_from 1 (filter (is_by callers caller) rows)) ((n, row) ∷ [])
     ∙ ap (λ o. script_in callers rows caller ++ cons_option o []) is
 
+-- a record of another caller leaves a script as it was
 script-same : (callers : ℕ) (rows : List Row) (row : Row) (caller : ℕ) → is_by callers caller row ≡ false → script_in callers (rows ++ row ∷ []) caller ≡ script_in callers rows caller
 script-same callers rows row caller other =
     ap (λ rs. filter_map (λ (p : ℕ × Row). command_of (name_of caller p.0) p.1) (enumerate_from 1 rs))
     (filter-append (is_by callers caller) rows (row ∷ []) ∙ ap (λ b. filter (is_by callers caller) rows ++ cond b (row ∷ []) []) other ∙ append-nil _)
 
+-- a record is of its caller
 by-is : (callers caller k : ℕ) (row : Row) → caller_of callers row ≡ Some k → is_by callers caller row ≡ (k == caller)
 by-is callers caller k row is = ap (λ o. option_map_or (λ c. c == caller) o false) is
 
@@ -91,6 +94,7 @@ noted-line callers rows row scripts caller x so_far line =
       few = rw (length-append rows (row ∷ [])) (omega arith);
     }
 
+-- of lists that are all empty every caller has an empty one
 list_of-replicate : (n caller : ℕ) → list_of (replicate n (let none : List Command = [] in none)) caller ≡ []
 list_of-replicate n zero = refl
 list_of-replicate n (suc c) = elim (cases_Bool (nat_lt c n)) [
@@ -113,18 +117,21 @@ pub so_far : (callers : ℕ) (rows : List Row) (scripts : List (List Command)) (
 so_far callers rows scripts None none noted = noted
 so_far callers rows scripts (Some n) none noted = cc none
 
+-- after a line what was noted is the scripts with it
 pub note_line : (callers : ℕ) (rows : List Row) (row : Row) (scripts : List (List Command)) (bad : Option ℕ) (caller : ℕ) (x : Command)
     → is_some bad ≡ false → IsNoted callers rows scripts bad → IsLine callers row scripts caller x
     → IsNoted callers (rows ++ row ∷ []) (with_list scripts caller (list_of scripts caller ++ x ∷ [])) bad
 note_line callers rows row scripts None caller x none noted line = noted-line callers rows row scripts caller x noted line
 note_line callers rows row scripts (Some n) caller x none noted line = cc none
 
+-- after the first bad record what was noted is its number
 pub note_bad : (callers : ℕ) (rows : List Row) (row : Row) (scripts : List (List Command)) (bad : Option ℕ) (n : ℕ)
     → is_some bad ≡ false → IsNoted callers rows scripts bad → keeps callers row ≡ false → length rows + 1 ≡ n
     → IsNoted callers (rows ++ row ∷ []) scripts (Some n)
 note_bad callers rows row scripts None n none noted breaks at = first_bad-bad callers 1 n rows row noted.are.good breaks (omega arith)
 note_bad callers rows row scripts (Some m) n none noted breaks at = cc none
 
+-- after that what was noted stays
 pub note_more : (callers : ℕ) (rows : List Row) (row : Row) (scripts : List (List Command)) (bad : Option ℕ)
     → is_some bad ≡ true → IsNoted callers rows scripts bad → IsNoted callers (rows ++ row ∷ []) scripts bad
 note_more callers rows row scripts None some noted = cc some
@@ -134,6 +141,7 @@ note_more callers rows row scripts (Some n) some noted = first_bad-still callers
 pub noted-number : (callers : ℕ) (rows : List Row) (scripts : List (List Command)) (bad : Option ℕ) → is_some bad ≡ false → IsNoted callers rows scripts bad → length scripts ≡ callers
 noted-number callers rows scripts bad none noted = (so_far callers rows scripts bad none noted).are.number
 
+-- what was noted, at equal values
 pub noted-same : (callers : ℕ) (rows : List Row) (scripts scripts' : List (List Command)) (bad bad' : Option ℕ) → scripts' ≡ scripts → bad' ≡ bad → IsNoted callers rows scripts bad → IsNoted callers rows scripts' bad'
 noted-same callers rows scripts scripts' bad bad' same_scripts same_bad noted = rw (same_scripts, same_bad) noted
 

@@ -3,7 +3,7 @@ use Rattle.std.proofs.Common.{Bor, ◌++◌, ◌≡◌, ◌<◌, ◌≤◌, ◌+
 use Rattle.std.specs.Prelude.{◌==◌, ◌&&◌, if◌then◌else◌}
 use Rattle.std.proofs.lemmas.Bool.{cases_Bool, false≢true}
 use Rattle.csv.specs.Machine.{Read, next_record, step, is_end, ends_at_end, fields_after, field_after, in_field, start_field, start_record, after_end, ends_with, is_byte}
-use Rattle.csv.specs.Reading.{Reached, records_from, default_config, strip_bom, is_bom, Ready, ReadRecord, ExplainsRead, source_of, reader_config, reader_state, reader_trim, took_first, is_flexible, stops_reader}
+use Rattle.csv.specs.Reading.{Reached, records_from, default_config, strip_bom, Ready, ReadRecord, ExplainsRead, source_of, reader_config, reader_state, reader_trim, took_first, is_flexible, stops_reader}
 use Rattle.csv.specs.declared.error.ErrorKind.{ErrorKind}
 use Rattle.csv.specs.declared.error.ErrorKind.TheVariants as kind
 use Rattle.csv.specs.declared.reader.Reader.{Reader}
@@ -23,13 +23,16 @@ use Rattle.md_orders.specs.Grammar.{Row}
 record Rests (p : State × Action) : Type 0 where
   closed : is_end p.1 ≡ true → ends_at_end p.0 ≡ false
 
+-- a choice of two such steps is one
 choose : (b : Bool) (p q : State × Action) → Rests p → Rests q → Rests (if b then p else q)
 choose true p q l r = l
 choose false p q l r = r
 
+-- a step that ends no record is one
 goes : (s : State) (a : Action) → is_end a ≡ false → Rests (s, a)
 goes s a e = record { closed = λ h. absurd (false≢true (sym e ∙ h)) }
 
+-- and so is each step of the machine
 rests_after : (t : Terminator) (c : ℕ) → Rests (after_end t c, act.EndRecord)
 rests_after term.CRLF c = elim (cases_Bool (c == 13)) [ inl cr ↦ record { closed = λ _. rw cr refl } | inr other ↦ record { closed = λ _. rw other refl } ]
 rests_after (term.Any t) c = record { closed = λ _. refl }
@@ -53,6 +56,7 @@ rests_step cfg st.AfterQuote c = choose (cfg.quoting && cfg.double_quote && (c =
 rests_step cfg st.InComment c = choose (c == 10) _ _ (goes _ _ refl) (goes _ _ refl)
 rests_step cfg st.AfterCr c = choose (c == 10) _ _ (goes _ _ refl) (rests_start_record cfg c)
 
+-- equal where they are given
 same_read : (p q : Read) → Some p ≡ Some q → p ≡ q
 same_read p q h = cc h
 
@@ -102,14 +106,6 @@ reached_short cfg s s2 xs ys (r ∷ rs) e h =
     let more = reached_short cfg h.0.1 s2 h.0.2 ys rs (rests cfg s [] [] xs h.0 h.1) h.3 in
     omega arith
 
--- a text has no fewer bytes than records
-length-strip_bom-le : (bytes : List ℕ) → length (strip_bom bytes) ≤ length bytes
-unfolding strip_bom
-length-strip_bom-le [] = omega arith
-length-strip_bom-le (a ∷ []) = omega arith
-length-strip_bom-le (a ∷ b ∷ []) = omega arith
-length-strip_bom-le (a ∷ b ∷ c ∷ rest) = elim (cases_Bool (is_bom a b c)) [ inl mark ↦ rw mark (omega arith) | inr other ↦ rw other (omega arith) ]
-
 -- records that were read one by one, up to the end, are those of the text
 reached_all : (cfg : Config) (n : ℕ) (s s2 : State) (xs ys : List ℕ) (rows : List Row)
     → Reached cfg s xs rows s2 ys → next_record cfg s2 [] [] ys ≡ None → length rows < n → records_from cfg n s xs ≡ rows
@@ -133,12 +129,6 @@ unfolding order_records
 all_read bytes ys rows s2 h none = reached_all default_config (length (strip_bom bytes) + 1) st.StartRecord s2 (strip_bom bytes) ys rows h none
     (let short = reached_short default_config st.StartRecord s2 (strip_bom bytes) ys rows refl h in omega arith)
 
-pub some_read : (bytes ys : List ℕ) (rows : List Row) (s2 : State)
-    → Reached default_config st.StartRecord (strip_bom bytes) rows s2 ys → length rows ≤ length (order_records bytes)
-unfolding order_records
-some_read bytes ys rows s2 h = reached_some default_config (length (strip_bom bytes) + 1) st.StartRecord s2 (strip_bom bytes) ys rows h
-    (let short = reached_short default_config st.StartRecord s2 (strip_bom bytes) ys rows refl h in omega arith)
-
 -- these records were read, and the reader goes on after them
 pub record IsReadSoFar (bytes : List ℕ) (reader : Reader (Bor (List ℕ))) (rows : List Row) : Type 0 where
   pub trim : reader_trim reader ≡ trim.None
@@ -149,6 +139,7 @@ pub record IsReadSoFar (bytes : List ℕ) (reader : Reader (Bor (List ℕ))) (ro
   pub source : source_of (λ (s : Bor (List ℕ)). Some s.now) reader ≡ Some left
   pub reached : Reached default_config st.StartRecord (strip_bom bytes) rows (reader_state reader) left
 
+-- a read that gave a record: it was read too
 pub read_more : (bytes : List ℕ) (rows : List Row) (old new : Reader (Bor (List ℕ))) (fields : Row)
     → IsReadSoFar bytes old rows → ReadRecord (λ (s : Bor (List ℕ)). Some s.now) old new true fields → took_first new ≡ true → is_flexible new ≡ is_flexible old
     → IsReadSoFar bytes new (rows ++ (fields ∷ []))
@@ -156,6 +147,7 @@ read_more bytes rows old new fields so_far read first flexible =
     let more = rows-more (λ (s : Bor (List ℕ)). Some s.now) old new fields default_config st.StartRecord (strip_bom bytes) so_far.left rows so_far.config so_far.source so_far.reached read in
     record { trim = read.3 ∙ so_far.trim; flexible = flexible ∙ so_far.flexible; ready = inl first; config = read.2 ∙ so_far.config; left = more.0; source = more.1; reached = more.2 }
 
+-- a read that gave none: the records that were read are all
 pub read_end : (bytes : List ℕ) (rows : List Row) (old new : Reader (Bor (List ℕ))) (fields : Row)
     → IsReadSoFar bytes old rows → ReadRecord (λ (s : Bor (List ℕ)). Some s.now) old new false fields → order_records bytes ≡ rows
 read_end bytes rows old new fields so_far read =
@@ -171,9 +163,9 @@ only_stops old new (kind.Utf8 pos err) flexible why = absurd (false≢true why.0
 only_stops old new (kind.Serialize text) flexible why = absurd why
 only_stops old new (kind.Deserialize pos err) flexible why = absurd why
 
--- no more records were read than the text has bytes
-pub rows_few : (bytes : List ℕ) (reader : Reader (Bor (List ℕ))) (rows : List Row) → IsReadSoFar bytes reader rows → length rows ≤ length bytes
+-- no more records were read than the file has
+pub rows_few : (bytes : List ℕ) (reader : Reader (Bor (List ℕ))) (rows : List Row) → IsReadSoFar bytes reader rows → length rows ≤ length (order_records bytes)
+unfolding order_records
 rows_few bytes reader rows so_far =
-    let short = reached_short default_config st.StartRecord (reader_state reader) (strip_bom bytes) so_far.left rows refl so_far.reached in
-    let stripped = length-strip_bom-le bytes in
-    omega arith
+    reached_some default_config (length (strip_bom bytes) + 1) st.StartRecord (reader_state reader) (strip_bom bytes) so_far.left rows so_far.reached
+    (let short = reached_short default_config st.StartRecord (reader_state reader) (strip_bom bytes) so_far.left rows refl so_far.reached in omega arith)

@@ -9,6 +9,7 @@ use Rattle.md_book.specs.Book.{Book, level_of, depth, bought, sold}
 use Rattle.md_book.specs.Stands.{StandsFor, unless_0}
 use Rattle.md_orders.specs.Report.{texts_to, level_text, account_text, value_at, levels_text, levels_text_of, accounts_text, accounts_text_of}
 
+-- no text yet
 pub texts_none : (out : List ℕ) (text : ℕ → List ℕ) → out ≡ out ++ texts_to 0 text
 unfolding texts_to
 texts_none out text = sym (append-nil out)
@@ -19,6 +20,7 @@ unfolding texts_to
 texts_more initial before after n text so_far more =
     more ∙ ap (λ out. out ++ text (n + 1)) so_far ∙ append_assoc initial (texts_to n text) (text (n + 1)) ∙ ap (λ k. initial ++ (texts_to n text ++ text k)) (add-one n) ∙ ap (λ k. initial ++ texts_to k text) (sym (add-one n))
 
+-- texts that are the same one by one are the same
 pub texts_to-same : (n : ℕ) (f g : ℕ → List ℕ) → ((k : ℕ) → f k ≡ g k) → texts_to n f ≡ texts_to n g
 unfolding texts_to
 texts_to-same zero f g same = refl
@@ -31,9 +33,11 @@ sum-is n = elim (cases_Bool (n == 0)) [
   | inr some ↦ ap (λ b. unwrap_or (cond b None (Some n)) 0) some
 ]
 
+-- the depths in the maps are those of the book
 pub levels-stand : (s : State) (b : Book) (side : Side) → StandsFor s b → levels_text_of side s ≡ levels_text side b
 levels-stand s b side stands = texts_to-same 1000 _ _ (λ price. ap (level_text side price) (ap (λ o. unwrap_or o 0) (stands.depths (level_of side price)) ∙ sum-is (depth b (level_of side price))))
 
+-- the sums in the maps are those of the book
 pub accounts-stand : (s : State) (b : Book) → StandsFor s b → accounts_text_of s ≡ accounts_text b
 accounts-stand s b stands = texts_to-same 9999 _ _ (λ account.
     ap (λ n. account_text account n (value_at s 3 account)) (ap (λ o. unwrap_or o 0) (stands.bought account) ∙ sum-is (bought b account))

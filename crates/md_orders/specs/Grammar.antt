@@ -6,7 +6,9 @@ use Rattle.csv.specs.Records.{field_at}
 use Rattle.md_book.specs.declared.commands.Side.{Side}
 use Rattle.md_book.specs.declared.commands.Side.TheVariants.{Buy, Sell}
 use Rattle.md_book.specs.declared.commands.Command.{Command}
-use Rattle.md_book.specs.declared.commands.Command.TheVariants.{Place, Depth}
+use Rattle.md_book.specs.declared.commands.Command.TheVariants.{Place, Cancel, Fill, Depth, Account}
+use Rattle.md_book.specs.Commands.{name_of}
+use Rattle.md_orders.specs.declared.grammar.Terms.{Terms}
 
 -- the fields of a record
 abbrev pub Row : Type 0
@@ -35,6 +37,7 @@ one_byte [] = None
 one_byte (c ∷ []) = Some c
 one_byte (c ∷ d ∷ rest) = None
 
+-- the byte of a field that has one
 abbrev pub byte_at : Row → ℕ → Option ℕ
 byte_at row place = option_and_then one_byte (field_at row place)
 
@@ -42,9 +45,11 @@ byte_at row place = option_and_then one_byte (field_at row place)
 abbrev pub side_of : ℕ → Option Side
 side_of c = if c == 66 then Some Buy else if c == 83 then Some Sell else None
 
+-- the side that a field writes
 abbrev pub side_at : Row → ℕ → Option Side
 side_at row place = option_and_then side_of (byte_at row place)
 
+-- an account is from 1 to 9,999, a price from 1 to 1,000, a quantity from 1 to 1,000,000
 abbrev pub account_at : Row → ℕ → Option ℕ
 account_at row place = number_at row place 1 9999
 
@@ -54,22 +59,42 @@ price_at row place = number_at row place 1 1000
 abbrev pub quantity_at : Row → ℕ → Option ℕ
 quantity_at row place = number_at row place 1 1000000
 
+-- account, side, price and quantity, after the caller and the kind
+abbrev pub terms_of : Row → Option Terms
+terms_of row = option_and_then (λ account. option_and_then (λ side. option_and_then (λ price. option_map (λ quantity.
+    record { account = account; side = side; price = price; quantity = quantity }) (quantity_at row 5)) (price_at row 4)) (side_at row 3)) (account_at row 2)
+
 -- caller, P, account, side, price, quantity; the order gets the name
 abbrev pub place_of : ℕ → Row → Option Command
-place_of name row = option_and_then (λ account. option_and_then (λ side. option_and_then (λ price. option_map (λ quantity.
-    Place name account side price quantity) (quantity_at row 5)) (price_at row 4)) (side_at row 3)) (account_at row 2)
+place_of name row = option_map (λ t. Place name t.account t.side t.price t.quantity) (terms_of row)
+
+-- caller, C, caller of the order, line of the order
+abbrev pub cancel_of : Row → Option Command
+cancel_of row = option_and_then (λ caller. option_map (λ line. Cancel (name_of caller line)) (number_at row 3 1 1000000)) (number_at row 2 1 8)
+
+-- caller, F, account, side, price, quantity
+abbrev pub fill_of : Row → Option Command
+fill_of row = option_map (λ t. Fill t.account t.side t.price t.quantity) (terms_of row)
 
 -- caller, D, side, price
 abbrev pub depth_of : Row → Option Command
 depth_of row = option_and_then (λ side. option_map (λ price. Depth side price) (price_at row 3)) (side_at row 2)
 
--- the command that a record writes, by its kind (P or D) and its number of fields; a placed order gets the name
+-- caller, A, account
+abbrev pub account_of : Row → Option Command
+account_of row = option_map (λ account. Account account) (account_at row 2)
+
+-- the command that a record writes, by its kind (P, C, F, D or A) and its number of fields; a placed order gets the name
 abbrev pub command_of_kind : ℕ → Row → ℕ → Option Command
 command_of_kind name row kind =
     if (kind == 80) && (length row == 6) then place_of name row
+    else if (kind == 67) && (length row == 4) then cancel_of row
+    else if (kind == 70) && (length row == 6) then fill_of row
     else if (kind == 68) && (length row == 4) then depth_of row
+    else if (kind == 65) && (length row == 3) then account_of row
     else None
 
+-- the command that a record writes
 unfoldable pub command_of : ℕ → Row → Option Command
 command_of name row = option_and_then (command_of_kind name row) (byte_at row 1)
 

@@ -9,6 +9,7 @@ use Rattle.md_orders.specs.Scripts.{list_of, IsNamed}
 abbrev pub next_name : List (List Command) → ℕ → ℕ
 next_name scripts caller = name_of caller (length (list_of scripts caller) + 1)
 
+-- a record keeps the grammar, and writes this caller and this command, whose order is named by the caller's next line
 pub record IsLine (callers : ℕ) (row : Row) (scripts : List (List Command)) (caller : ℕ) (command : Command) : Type 0 where
   pub caller_is : caller_of callers row ≡ Some caller
   pub caller_low : 1 ≤ caller

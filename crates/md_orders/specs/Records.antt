@@ -1,7 +1,15 @@
 -- The records of an order file, as csv reads them: commas, double quotes, no header row, records of any length,
 -- no trimming, no comments. A byte order mark at the start is dropped.
-use Rattle.std.specs.Prelude.{ℕ, List}
+use Rattle.std.specs.Prelude.{ℕ, List, ◌≤◌, length}
 use Rattle.csv.specs.Reading.{default_config, records, strip_bom}
+
+-- the most records that an order file may have
+abbrev pub max_records : ℕ
+max_records = 1000000
+
+-- no more records than that
+abbrev pub AreFewRecords : List (List (List ℕ)) → Type 0
+AreFewRecords rows = length rows ≤ max_records
 
 -- every record of the bytes, each the list of its fields
 unfoldable pub order_records : List ℕ → List (List (List ℕ))

@@ -16,14 +16,17 @@ use Rattle.md_orders.specs.Replies.{reply_at}
 abbrev pub name_text : ℕ → List ℕ
 name_text name = decimal (name / 2 ^ 32) ++ codes ":" ++ decimal (name % 2 ^ 32)
 
+-- CALLER:LINE=TAKEN, after a space
 abbrev pub part_text : Part → List ℕ
 part_text p = codes " " ++ name_text p.name ++ codes "=" ++ decimal p.taken
 
+-- what a fill took, what remains of it, and from which orders
 abbrev pub filled_text : ℕ → ℕ → List Part → List ℕ
 filled_text taken rest parts =
     if taken == 0 then codes "filled 0 rest " ++ decimal rest
     else codes "filled " ++ decimal taken ++ codes " rest " ++ decimal rest ++ codes " from" ++ flat_map part_text parts
 
+-- the text of each reply
 abbrev pub reply_text : BookReply → List ℕ
 reply_text Placed = codes "placed"
 reply_text (Cancelled left) = codes "cancelled " ++ decimal left
@@ -50,9 +53,11 @@ texts_to (suc n) text = texts_to n text ++ text (suc n)
 abbrev pub script_text : List (List (Option BookReply)) → ℕ → ℕ → List ℕ
 script_text replies caller lines = texts_to lines (λ line. answer_text caller line (reply_at replies caller line))
 
+-- each caller's, in order
 abbrev pub replies_text : List (List Command) → List (List (Option BookReply)) → List ℕ
 replies_text scripts replies = texts_to (length scripts) (λ caller. script_text replies caller (length (list_of scripts caller)))
 
+-- B or S
 abbrev pub side_text : Side → List ℕ
 side_text Buy = codes "B"
 side_text Sell = codes "S"
@@ -75,9 +80,11 @@ account_text account bought sold =
 abbrev pub accounts_text : Book → List ℕ
 accounts_text b = texts_to 9999 (λ account. account_text account (bought b account) (sold b account))
 
+-- done N
 abbrev pub done_text : ℕ → List ℕ
 done_text count = codes "done " ++ decimal count ++ codes "\n"
 
+-- replies, buy levels, sell levels, accounts, and the number of commands
 abbrev pub report_text : List (List Command) → List (List (Option BookReply)) → Book → List ℕ
 report_text scripts replies b = replies_text scripts replies ++ levels_text Buy b ++ levels_text Sell b ++ accounts_text b ++ done_text (count_of scripts)
 

@@ -1,10 +1,11 @@
 -- Scripts: the commands of each caller, in order.
-use Rattle.std.specs.Prelude.{◌≡◌, ℕ, zero, suc, ◌/◌, ◌^◌, ◌<◌, ◌==◌, Bool, false, Option, None, List, [], length, map, filter, slice_get, slice_index_or, slice_set, sum_by, IfSome}
+use Rattle.std.specs.Prelude.{◌≡◌, ℕ, zero, suc, ◌/◌, ◌^◌, ◌<◌, ◌≤◌, ◌==◌, Bool, false, Option, None, List, [], length, map, filter, slice_get, slice_index_or, slice_set, sum_by, IfSome}
 use Rattle.std.specs.List.{filter_map, enumerate_from}
 use Rattle.std.specs.Option.{option_map_or}
 use Rattle.md_book.specs.declared.commands.Command.{Command}
-use Rattle.md_book.specs.declared.commands.Command.TheVariants.{Place, Depth}
+use Rattle.md_book.specs.declared.commands.Command.TheVariants.{Place, Cancel, Fill, Depth, Account}
 use Rattle.md_book.specs.Commands.{IsCommand, name_of}
+use Rattle.md_orders.specs.Records.{max_records}
 use Rattle.md_orders.specs.Grammar.{Row, caller_of, command_of, first_bad}
 
 -- the list of a caller, counted from 1; other callers have none
@@ -49,17 +50,20 @@ count_of scripts = sum_by length scripts
 -- an order that a command places has this name
 abbrev pub IsNamed : ℕ → Command → Type 0
 IsNamed name (Place n account side price quantity) = n ≡ name
+IsNamed name (Cancel order) = Unit {0}
+IsNamed name (Fill account side price quantity) = Unit {0}
 IsNamed name (Depth side price) = Unit {0}
+IsNamed name (Account account) = Unit {0}
 
 -- each command is in range, and each order has the name of its caller and line
 abbrev pub AreNamed : List (List Command) → Type 0
 AreNamed scripts = (caller line : ℕ) → IfSome (at_line scripts caller line) (λ c. IsCommand c × IsNamed (name_of caller line) c)
 
--- what scripts keep: each command is in range and named, and their number, which is below 2^32
+-- what scripts keep: each command is in range and named, and their number, which is that of records at most
 pub record AreKept (total : ℕ) (scripts : List (List Command)) : Type 0 where
   pub named : AreNamed scripts
   pub counted : total ≡ count_of scripts
-  pub few : count_of scripts < 2 ^ 32
+  pub few : count_of scripts ≤ max_records
   pub callers : length scripts < 2 ^ 32
 
 -- the tags of a caller's lines: 1 to the last

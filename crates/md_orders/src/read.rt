@@ -1,8 +1,8 @@
 // Reading an order file.
-ghost use Rattle.std.specs.Prelude.{◌≡◌, ◌+◌, ◌≤◌, ◌<◌, ◌^◌, ℕ, true, false, Some, None, length, IfOk, IfSome, IfNone, IsErrOf};
+ghost use Rattle.std.specs.Prelude.{◌≡◌, ◌≤◌, ◌<◌, ℕ, true, false, Some, None, length, IfOk, IfSome, IfNone, IsErrOf};
 ghost use Rattle.csv.specs.Reading.{error_kind, stops_reader};
 ghost use Rattle.csv.specs.Records.{fields_of};
-ghost use Rattle.md_orders.specs.Records.{order_records};
+ghost use Rattle.md_orders.specs.Records.{order_records, max_records, AreFewRecords};
 ghost use Rattle.md_orders.specs.Grammar.{keeps, first_bad};
 ghost use Rattle.md_orders.specs.Scripts.{AreScripts, count_of};
 ghost use Rattle.md_orders.specs.Line.{IsLine};
@@ -16,14 +16,16 @@ use std::alloc::Global;
 /// Why an order file was refused.
 #[derive(Clone, Copy, Debug, PartialEq, Eq)]
 pub enum OrderFault {
+    /// There are more than 1,000,000 records.
+    TooMany,
     /// The record of this number, from 1, is the first that breaks the grammar.
     BadLine(u32),
     /// Memory was wanting.
     NoMemory,
 }
 
-// Each record takes a byte at least.
-const MAX_RECORDS: u32 = 67_108_864;
+// How many records an order file has at most.
+const MAX_RECORDS: u32 = 1_000_000;
 
 // A read of a slice by a flexible reader fails for want of memory alone.
 fn want(error: &Error) -> OrderFault
@@ -39,7 +41,7 @@ fn want(error: &Error) -> OrderFault
 // The caller and the command of a record, which stands at the caller's next line.
 fn line_of(scripts: &Scripts, callers: u32, row: &ByteRecord) -> Option<(u32, Command)>
     requires callers { callers ≤ 8 }
-    requires room { count_of scripts.now + 1 < 2 ^ 32 }
+    requires room { count_of scripts.now < max_records }
     ensures none { IfNone result (keeps callers (fields_of row.now) ≡ false) }
     ensures some { IfSome result (λ line. IsLine callers (fields_of row.now) scripts.now line.0 line.1) }
 {
@@ -49,13 +51,14 @@ fn line_of(scripts: &Scripts, callers: u32, row: &ByteRecord) -> Option<(u32, Co
     Some((caller, command))
 }
 
-/// Reads the scripts of an order file. `BadLine(n)` comes exactly where the n-th record is the first that
-/// isn't a command of a caller from 1 to `callers` with its numbers in range. `NoMemory` is the other refusal.
+/// Reads the scripts of an order file. `TooMany` comes exactly where there are more than 1,000,000 records,
+/// and `BadLine(n)` exactly where there aren't, and the n-th is the first that isn't a command of a caller from
+/// 1 to `callers` with its numbers in range. `NoMemory` is the other refusal.
 pub fn read_orders(alloc: Global, bytes: &[u8], callers: u32) -> Result<Scripts, OrderFault>
-    requires callers { (1 ≤ callers) × (callers ≤ 8) }
-    requires short { length bytes.now ≤ 67108864 }
-    ensures scripts { IfOk result (λ scripts. AreScripts callers (order_records bytes.now) scripts) }
-    ensures bad_line { (n : ℕ) → IsErrOf result (OrderFault.BadLine n) → first_bad callers 1 (order_records bytes.now) ≡ Some n }
+    requires { (1 ≤ callers) × (callers ≤ 8) }
+    ensures scripts { IfOk result (λ scripts. AreFewRecords (order_records bytes.now) × AreScripts callers (order_records bytes.now) scripts) }
+    ensures too_many { IsErrOf result OrderFault.TooMany → ¬ AreFewRecords (order_records bytes.now) }
+    ensures bad_line { (n : ℕ) → IsErrOf result (OrderFault.BadLine n) → AreFewRecords (order_records bytes.now) × (first_bad callers 1 (order_records bytes.now) ≡ Some n) }
 {
     let mut reader = ReaderBuilder::new()
         .has_headers(false)
@@ -76,6 +79,9 @@ pub fn read_orders(alloc: Global, bytes: &[u8], callers: u32) -> Result<Scripts,
                 };
             }
             Err(error) => return Err(want(&error)),
+        }
+        if number > MAX_RECORDS {
+            return Err(OrderFault::TooMany);
         }
         if bad.is_none() {
             match line_of(&scripts, callers, &row) {

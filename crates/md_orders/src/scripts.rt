@@ -1,7 +1,8 @@
 // Scripts: the commands of each caller, in order.
-ghost use Rattle.std.specs.Prelude.{◌≡◌, ◌+◌, ◌<◌, ◌≤◌, ◌^◌, ◌++◌, ◌∷◌, [], length, replicate, IfOk, IfSome, OnOk, OnErr};
+ghost use Rattle.std.specs.Prelude.{◌≡◌, ◌+◌, ◌<◌, ◌≤◌, ◌++◌, ◌∷◌, [], length, replicate, IfOk, IfSome, OnOk, OnErr};
 ghost use Rattle.md_book.specs.Commands.{IsCommand, name_of};
 ghost use Rattle.md_orders.specs.Lists.{lists_in};
+ghost use Rattle.md_orders.specs.Records.{max_records};
 ghost use Rattle.md_orders.specs.Scripts.{list_of, with_list, at_line, count_of, IsNamed, AreNamed};
 
 use md_book::Command;
@@ -64,7 +65,7 @@ impl Scripts {
     pub(crate) fn add(&mut self, caller: u32, command: Command) -> Result<(), AllocError>
         requires from_1 { 1 ≤ caller }
         requires there { caller ≤ length self.old }
-        requires room { count_of self.old + 1 < 2 ^ 32 }
+        requires room { count_of self.old < max_records }
         requires lawful { IsCommand command × IsNamed (name_of caller (length (list_of self.old caller) + 1)) command }
         ensures ok { OnOk result (self.new ≡ with_list self.old caller (list_of self.old caller ++ command ∷ [])) }
         ensures err { OnErr result (self.new ≡ self.old) }
@@ -77,7 +78,7 @@ impl Scripts {
     // A caller's script; of a caller that the scripts don't have, an empty one.
     fn script(&self, caller: u32) -> &[Command]
         ensures script { result.now ≡ list_of self.now caller }
-        ensures few { length result.now < 2 ^ 32 }
+        ensures few { length result.now ≤ max_records }
         ensures lawful { AreNamed self.now }
     {
         if caller == 0 || caller as usize > self.scripts.len() {
@@ -93,16 +94,18 @@ impl Scripts {
         self.scripts.len() as u32
     }
 
-    /// The number of lines of a caller, 0 for a caller that the scripts don't have.
+    /// The number of lines of a caller, 0 for a caller that the scripts don't have, and at most 1,000,000.
     pub fn len(&self, caller: u32) -> u32
-        ensures { result ≡ length (list_of self.now caller) }
+        ensures count { result ≡ length (list_of self.now caller) }
+        ensures few { result ≤ max_records }
     {
         self.script(caller).len() as u32
     }
 
-    /// The number of lines of all callers.
+    /// The number of lines of all callers, at most 1,000,000.
     pub fn total(&self) -> u32
-        ensures { result ≡ count_of self.now }
+        ensures count { result ≡ count_of self.now }
+        ensures few { result ≤ max_records }
     {
         self.total
     }

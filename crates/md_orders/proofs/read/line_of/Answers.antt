@@ -11,6 +11,6 @@ returns-in_err-command-clause-none c =
 
 pub returns-clause-some : goal.returns-clause-some
 returns-clause-some c =
-    let named = c.order_name-name.ensures ∙ ap (λ n. name_of c.in_ok-caller.caller (n + 1)) c.len.ensures in
+    let named = c.order_name-name.ensures ∙ ap (λ n. name_of c.in_ok-caller.caller (n + 1)) c.len.ensures.count in
     line-is _ _ _ _ _ c.requires.callers c.requires.room (sym c.caller_of.ensures ∙ c.in_ok-caller.was)
     (ap (λ n. command_of n (fields_of c.args.row.now)) (sym named) ∙ sym c.command_of.ensures ∙ c.in_ok-command.was)

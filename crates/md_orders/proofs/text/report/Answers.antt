@@ -12,4 +12,4 @@ returns c = λ b stands.
     (c.in_ok-levels.ensures ∙ ap (λ t. c.scripts.new.out.items ++ t) (levels-stand contents b Buy stands))
     (c.in_ok-levels-2.ensures ∙ ap (λ t. c.levels.new.out.items ++ t) (levels-stand contents b Sell stands))
     (c.in_ok-accounts.ensures ∙ ap (λ t. c.levels-2.new.out.items ++ t) (accounts-stand contents b stands))
-    (c.in_ok-done.ensures ∙ ap (λ n. c.accounts.new.out.items ++ done_text n) c.total.ensures)
+    (c.in_ok-done.ensures ∙ ap (λ n. c.accounts.new.out.items ++ done_text n) c.total.ensures.count)
