@@ -1,8 +1,10 @@
 #!/usr/bin/env python3
-"""Times the program on 1,000,000 lines of Place and Depth, half each, over all accounts, sides and prices.
+"""Times the program on 1,000,000 lines, over all accounts, sides and prices.
 
-The first run is of the whole file. The second has one bad record more at its end, so that it reads and parses
-and then stops: it shows what that takes alone. Each prints seconds and peak memory; the best of three runs counts.
+There are two mixes of commands: half Place and half Depth; and half Place, a fifth Fill, and a tenth each of Cancel,
+Depth and Account. Each file is run as it is, and with a bad record in place of its last, so that the program reads
+and parses and then stops: the difference is what playing and reporting take. Each line tells seconds, seconds of a processor
+and peak memory, of the best of three runs. The load of the machine is told first.
 """
 
 import os
@@ -16,13 +18,23 @@ PROGRAM = os.path.join(os.path.dirname(__file__), "..", "crates", "medley", "out
 LINES = 1_000_000
 
 
-def orders(random):
-    for _ in range(LINES):
-        side, price = random.choice("BS"), random.randint(1, 1000)
-        if random.random() < 0.5:
-            yield f"1,P,{random.randint(1, 9999)},{side},{price},{random.randint(1, 1_000_000)}\n"
-        else:
-            yield f"1,D,{side},{price}\n"
+def order(random, kind, line):
+    side, price = random.choice("BS"), random.randint(1, 1000)
+    account, quantity = random.randint(1, 9999), random.randint(1, 1_000_000)
+    if kind == "C":
+        return f"1,C,1,{random.randint(1, line)}\n"
+    if kind == "D":
+        return f"1,D,{side},{price}\n"
+    if kind == "A":
+        return f"1,A,{account}\n"
+    return f"1,{kind},{account},{side},{price},{quantity}\n"
+
+
+def write(path, kinds, last):
+    chosen = random.Random(1)
+    with open(path, "w") as file:
+        file.writelines(order(chosen, chosen.choice(kinds), line) for line in range(1, LINES + 1 - bool(last)))
+        file.write(last)
 
 
 def run(program, path, wanted):
@@ -34,20 +46,19 @@ def run(program, path, wanted):
     child.returncode = os.waitstatus_to_exitcode(status)
     if child.returncode != wanted:
         sys.exit(f"the program ended with status {child.returncode}")
-    return seconds, usage.ru_maxrss / 1024
+    return seconds, usage.ru_utime + usage.ru_stime, usage.ru_maxrss / 1024
 
 
 def main():
     program = sys.argv[1] if len(sys.argv) > 1 else PROGRAM
+    print(f"load {os.getloadavg()[0]:.1f} on {os.cpu_count()} processors, {LINES:,} lines")
     with tempfile.TemporaryDirectory() as folder:
-        whole, bad = os.path.join(folder, "whole.csv"), os.path.join(folder, "bad.csv")
-        for path, last in ((whole, ""), (bad, "bad\n")):
-            with open(path, "w") as file:
-                file.writelines(orders(random.Random(1)))
-                file.write(last)
-        for name, path, status in (("read, run and reported", whole, 0), ("read and parsed alone", bad, 3)):
-            seconds, peak = min(run(program, path, status) for _ in range(3))
-            print(f"{LINES:,} lines {name}: {seconds:.2f} s, {peak:.0f} MiB at most")
+        path = os.path.join(folder, "orders.csv")
+        for mix, kinds in (("Place and Depth", "PD"), ("all five kinds", "PPPPPFFCDA")):
+            for work, last, status in (("read, run and reported", "", 0), ("read and parsed alone", "bad\n", 3)):
+                write(path, kinds, last)
+                seconds, busy, peak = min(run(program, path, status) for _ in range(3))
+                print(f"{mix}, {work}: {seconds:.2f} s, {busy:.2f} s of a processor, {peak:.0f} MiB at most")
 
 
 main()

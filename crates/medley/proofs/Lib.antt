@@ -1,4 +1,2 @@
 pub mod Pieces
-pub mod Tags
-pub mod Set
-pub mod SoFar
+pub mod Complete

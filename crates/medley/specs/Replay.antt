@@ -1,63 +1,17 @@
--- That replies and book are those of one thread which runs the committed commands in the order in which they became ready.
-use Rattle.std.specs.Prelude.{◌≡◌, ℕ, ◌/◌, ◌%◌, ◌^◌, Option, Some, List, [], ◌∷◌, map, flat_map}
-use Rattle.std.specs.List.{filter_map}
-use Rattle.md_history.specs.declared.entries.Entry.{Entry}
-use Rattle.md_history.specs.State.{State, empty_state}
-use Rattle.md_history.specs.History.{AllDecided}
-use Rattle.md_history.specs.Front.{Front, LegalFrom, committed_in, replay_of}
-use Rattle.md_history.specs.Script.{Did}
+-- That a text is the report of a replay.
+use Rattle.std.specs.Prelude.{◌≡◌, ℕ, Option, List}
+use Rattle.md_history.specs.Front.{Front}
 use Rattle.md_book.specs.declared.commands.Command.{Command}
 use Rattle.md_book.specs.declared.commands.BookReply.{BookReply}
-use Rattle.md_book.specs.Book.{Book, empty_book, book_after, replies_to}
-use Rattle.md_book.specs.Stands.{maps_of_a_book, levels}
-use Rattle.md_book.specs.Commands.{script_of}
-use Rattle.md_orders.specs.Records.{order_records}
-use Rattle.md_orders.specs.Scripts.{AreScripts, IsInterleaving, at_line}
-use Rattle.md_orders.specs.Replies.{reply_at}
+use Rattle.md_book.specs.Book.{Book}
+use Rattle.md_orders.specs.Records.{order_records, AreFewRecords}
+use Rattle.md_orders.specs.Scripts.{AreScripts}
 use Rattle.md_orders.specs.Report.{report_text}
+use Rattle.md_rounds.specs.Replay.{IsPlayed}
 
--- the committed entries of fronts, one front after another
-abbrev pub committed_of : List Front → List Entry
-committed_of fronts = flat_map committed_in fronts
-
--- each front is decided, and legal from the state that those before it leave
-abbrev pub AreDecidedAndLegal : State → List Front → Type 0
-AreDecidedAndLegal start [] = Unit {0}
-AreDecidedAndLegal start (f ∷ fs) = LegalFrom start f × AllDecided f.known × AreDecidedAndLegal (replay_of start f) fs
-
-abbrev pub tags_of : List Entry → List ℕ
-tags_of es = map (λ (e : Entry). e.tag) es
-
--- the commands that tags name
-abbrev pub commands_of : List (List Command) → List ℕ → List Command
-commands_of scripts tags = filter_map (λ tag. at_line scripts (tag / 2 ^ 32) (tag % 2 ^ 32)) tags
-
--- one by one, what an entry did is its command's, with the reply
-abbrev pub DidEach : List Entry → List Command → List BookReply → Type 0
-DidEach [] [] [] = Unit {0}
-DidEach (e ∷ es) (c ∷ cs) (r ∷ rs) = Did (script_of c) e.acts r × DidEach es cs rs
-DidEach _ _ _ = ⊥
-
--- one by one, the line that a tag names has the reply
-abbrev pub RepliedEach : List (List (Option BookReply)) → List ℕ → List BookReply → Type 0
-RepliedEach replies [] [] = Unit {0}
-RepliedEach replies (tag ∷ tags) (r ∷ rs) = (reply_at replies (tag / 2 ^ 32) (tag % 2 ^ 32) ≡ Some r) × RepliedEach replies tags rs
-RepliedEach replies _ _ = ⊥
-
--- The committed entries of the fronts, in their order: they are the lines of the scripts, each once, each caller's in
--- order; each did its command with the reply that the book gives, where the commands are folded over the empty book in
--- that order; these are the replies and that is the book; and the fronts are legal from the state without orders.
-pub record IsPlayed (scripts : List (List Command)) (fronts : List Front) (replies : List (List (Option BookReply))) (book : Book) : Type 0 where
-  pub legal : AreDecidedAndLegal (empty_state maps_of_a_book levels) fronts
-  pub each_once : IsInterleaving scripts (tags_of (committed_of fronts))
-  pub commands : List Command
-  pub named : commands ≡ commands_of scripts (tags_of (committed_of fronts))
-  pub did : DidEach (committed_of fronts) commands (replies_to empty_book commands)
-  pub replied : RepliedEach replies (tags_of (committed_of fronts)) (replies_to empty_book commands)
-  pub left : book ≡ book_after empty_book commands
-
--- the bytes are read as scripts, which were played, and the text is the report of the replies and of the book
+-- the bytes are few records, read as scripts, which were played, and the text is the report of the replies and of the book
 pub record IsReplay (callers : ℕ) (bytes : List ℕ) (fronts : List Front) (text : List ℕ) : Type 0 where
+  pub few : AreFewRecords (order_records bytes)
   pub scripts : List (List Command)
   pub written : AreScripts callers (order_records bytes) scripts
   pub replies : List (List (Option BookReply))

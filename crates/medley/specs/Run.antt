@@ -1,13 +1,13 @@
 -- What a run takes from its source, and what it leaves in its sink, by the status that it answers.
-use Rattle.std.specs.Prelude.{◌≡◌, ◌≤◌, ◌+◌, ◌⊎◌, ℕ, List, [], ◌++◌, length, codes, decimal, Option, Some}
+use Rattle.std.specs.Prelude.{◌≡◌, ◌≤◌, ◌+◌, ◌⊎◌, ℕ, List, [], ◌++◌, length, codes, decimal, Option, Some, None}
 use Rattle.std.specs.Io.KnownBytes.{Appends, Consumes, IsAtEnd}
 use Rattle.md_history.specs.Front.{Front}
 use Rattle.md_outside.specs.Causes.{Rose}
 use Rattle.md_outside.specs.Steps.{Step, Reads, ReadsToEnd, ReadsThenFails, Writes, WritesThenFails}
-use Rattle.md_orders.specs.Records.{order_records}
+use Rattle.md_orders.specs.Records.{order_records, AreFewRecords}
 use Rattle.md_orders.specs.Grammar.{first_bad}
 use Rattle.medley.specs.declared.status.Status.{Status}
-use Rattle.medley.specs.declared.status.Status.TheVariants.{Done, Usage, BadLine, ReadFault, WriteFault, NoMemory, TooLong}
+use Rattle.medley.specs.declared.status.Status.TheVariants.{Done, Usage, BadLine, ReadFault, WriteFault, NoMemory, TooLong, TooMany}
 use Rattle.medley.specs.Replay.{IsReplay}
 
 -- the most bytes that an input may have
@@ -21,6 +21,7 @@ status_text (BadLine n) = codes "fault line " ++ decimal n ++ codes "\n"
 status_text ReadFault = codes "fault read\n"
 status_text NoMemory = codes "fault memory\n"
 status_text TooLong = codes "fault too long\n"
+status_text TooMany = codes "fault too many records\n"
 status_text Done = []
 status_text WriteFault = []
 
@@ -33,6 +34,7 @@ status_number ReadFault = 4
 status_number WriteFault = 5
 status_number NoMemory = 6
 status_number TooLong = 7
+status_number TooMany = 8
 
 -- A source is seen by what its reads may give, by the bytes that it has left where it tells them, and by its faults.
 module _ {I : Type 0} (gives : Step I) (left : I → Option (List ℕ)) (faults : I → ℕ) (old new : I) where
@@ -67,6 +69,12 @@ module _ {I : Type 0} (gives : Step I) (left : I → Option (List ℕ)) (faults 
     pub short : length bytes ≤ max_bytes
     pub rose : Rose (faults old) (faults new)
 
+-- the bytes are within the limits, and none of their records is bad
+pub record IsGood (bytes : List ℕ) : Type 0 where
+  pub short : length bytes ≤ max_bytes
+  pub few : AreFewRecords (order_records bytes)
+  pub lawful : first_bad 1 1 (order_records bytes) ≡ None
+
 -- A sink is seen by what its writes may take, by the bytes that it holds where it tells them, and by its faults.
 module _ {O : Type 0} (takes : Step O) (holds : O → Option (List ℕ)) (faults : O → ℕ) (old new : O) where
   -- the text was written whole
@@ -97,12 +105,20 @@ module _ {I : Type 0} (gives : Step I) (left : I → Option (List ℕ)) (faults 
     pub replay : IsReplay 1 bytes fronts text
     pub one_round : length fronts ≡ 1
 
+  -- the input is longer than an input may be, or has too many records, or a bad one
+  abbrev pub IsBadInput : Type 0
+  IsBadInput =
+      IsOverlong gives left faults old new
+      ⊎ ((bytes : List ℕ) × IsRead gives left faults old new bytes × (¬ AreFewRecords (order_records bytes)))
+      ⊎ ((bytes : List ℕ) × (n : ℕ) × IsRead gives left faults old new bytes × (first_bad 1 1 (order_records bytes) ≡ Some n))
+
   -- why a run stopped before its report
   abbrev pub StopsWith : Status → Type 0
   StopsWith Usage = new ≡ old
-  StopsWith (BadLine n) = (bytes : List ℕ) × IsRead gives left faults old new bytes × (first_bad 1 1 (order_records bytes) ≡ Some n)
+  StopsWith (BadLine n) = (bytes : List ℕ) × IsRead gives left faults old new bytes × AreFewRecords (order_records bytes) × (first_bad 1 1 (order_records bytes) ≡ Some n)
   StopsWith ReadFault = HasReadFault gives left faults old new
   StopsWith TooLong = IsOverlong gives left faults old new
+  StopsWith TooMany = (bytes : List ℕ) × IsRead gives left faults old new bytes × (¬ AreFewRecords (order_records bytes))
   StopsWith NoMemory = (bytes : List ℕ) × (IsReadInPart gives left faults old new bytes ⊎ IsRead gives left faults old new bytes)
   StopsWith Done = ⊥
   StopsWith WriteFault = ⊥
@@ -124,3 +140,4 @@ module _ {I : Type 0} (gives : Step I) (left : I → Option (List ℕ)) (read_fa
   Answers ReadFault = Stopped ReadFault
   Answers NoMemory = Stopped NoMemory
   Answers TooLong = Stopped TooLong
+  Answers TooMany = Stopped TooMany

@@ -9,16 +9,22 @@ mod status;
 #[cfg(test)]
 mod tests;
 
-use md_outside::{StdSink, StdSource};
+ghost use Rattle.std.specs.Prelude.{◌≡◌, length, IfOk};
+ghost use Rattle.medley.specs.Run.{Tells, status_text};
+
+use md_outside::{Sink, StdSink, StdSource};
 use output::tell;
 use run::run;
 use status::Status;
 use std::alloc::{AllocError, Global};
 use std::env;
+use std::io::ErrorKind;
 use std::process::ExitCode;
 
 // Strings as slices.
-fn slices<'a>(alloc: Global, strings: &'a [String]) -> Result<Vec<&'a str>, AllocError> {
+fn slices<'a>(alloc: Global, strings: &'a [String]) -> Result<Vec<&'a str>, AllocError>
+    ensures { IfOk result (λ slices. length slices.items ≡ length strings.now) }
+{
     let mut slices = Vec::new(alloc);
     for string in strings {
         slices.push(string.as_str())?;
@@ -26,21 +32,30 @@ fn slices<'a>(alloc: Global, strings: &'a [String]) -> Result<Vec<&'a str>, Allo
     Ok(slices)
 }
 
+// Tells that memory was wanting for the words.
+fn no_memory<O: Sink>(sink: &mut O) -> Status
+    ensures status { result ≡ Status.NoMemory }
+    ensures told { Tells O.takes O.holds O.faults sink.old sink.new (status_text Status.NoMemory) }
+{
+    tell(sink, Status::NoMemory);
+    Status::NoMemory
+}
+
 // Makes the streams and the words, and runs. A word that isn't text is one that isn't accepted.
 fn status_of(rt: &HostRuntime) -> Status {
     let alloc = rt.alloc();
     let mut source = StdSource::new(rt.stdin());
     let mut sink = StdSink::new(rt.stdout());
-    let Ok(args) = env::args(rt) else {
-        return run(alloc, &["?"], &mut source, &mut sink).status;
+    let args = match env::args(rt) {
+        Ok(args) => args,
+        Err(error) if error.kind() == ErrorKind::OutOfMemory => return no_memory(&mut sink),
+        Err(_) => return run(alloc, &["?"], &mut source, &mut sink).status,
     };
     let Ok(words) = args.skip(1).collect::<Vec<String>>(alloc) else {
-        tell(&mut sink, Status::NoMemory);
-        return Status::NoMemory;
+        return no_memory(&mut sink);
     };
     let Ok(slices) = slices(alloc, &words) else {
-        tell(&mut sink, Status::NoMemory);
-        return Status::NoMemory;
+        return no_memory(&mut sink);
     };
     run(alloc, &slices, &mut source, &mut sink).status
 }

@@ -54,6 +54,7 @@ pub fn tell<O: Sink>(output: &mut O, status: Status)
         Status::ReadFault => tell_line(output, b"fault read\n"),
         Status::NoMemory => tell_line(output, b"fault memory\n"),
         Status::TooLong => tell_line(output, b"fault too long\n"),
+        Status::TooMany => tell_line(output, b"fault too many records\n"),
         Status::Done | Status::WriteFault => tell_line(output, b""),
     }
 }

@@ -20,6 +20,8 @@ pub enum Status {
     NoMemory,
     /// The input has more than 67,108,864 bytes. 7.
     TooLong,
+    /// The input has more than 1,000,000 records. 8.
+    TooMany,
 }
 
 impl Status {
@@ -37,6 +39,7 @@ impl Status {
             Status::WriteFault => 5,
             Status::NoMemory => 6,
             Status::TooLong => 7,
+            Status::TooMany => 8,
         }
     }
 }

@@ -18,3 +18,6 @@ returns-in-NoMemory g c = rw c.in-NoMemory.is c.tell_line-in-NoMemory.ensures
 
 pub returns-in-TooLong : goal.returns-in-TooLong
 returns-in-TooLong g c = rw c.in-TooLong.is c.tell_line-in-TooLong.ensures
+
+pub returns-in-TooMany : goal.returns-in-TooMany
+returns-in-TooMany g c = rw c.in-TooMany.is c.tell_line-in-TooMany.ensures

@@ -11,7 +11,7 @@ use Rattle.md_book.specs.declared.commands.Command.TheVariants.{Depth}
 use Rattle.md_book.specs.declared.commands.Side.TheVariants.{Buy}
 use Rattle.md_book.specs.Commands.{name_of}
 use Rattle.md_orders.specs.Scripts.{list_of, at_line, lines_of, IsInterleaving}
-use Rattle.medley.specs.Replay.{commands_of}
+use Rattle.md_rounds.specs.Replay.{commands_of}
 
 -- the tags of the caller's first lines
 unfoldable pub tags_to : ℕ → List ℕ
@@ -88,3 +88,7 @@ interleaving scripts n one whole small caller = filter-tags_to n caller small �
   | inr other ↦
       ap (λ b. cond b (tags_to n) []) other ∙ sym (ap (λ xs. map (λ (p : ℕ × Command). name_of caller p.0) (enumerate_from 1 xs)) (list_of-one scripts caller one (λ e. false≢true (sym other ∙ eq-eqb 1 caller (sym e)))))
 ]
+
+-- the tags of the one caller's lines
+pub lines-are : (scripts : List (List Command)) → lines_of scripts 1 ≡ tags_to (length (list_of scripts 1))
+lines-are scripts = ap (λ ts. ts ++ lines_of scripts 1) (sym tags_to-none) ∙ lines-tags 0 (list_of scripts 1) ∙ ap tags_to (omega arith)
