@@ -1,5 +1,5 @@
 -- The event exchange: a change of a word that leaves the state as it is in every resolution.
-use Rattle.std.specs.Prelude.{◌≡◌, ◌+◌, ℕ, true, All, IfSome}
+use Rattle.std.specs.Prelude.{◌≡◌, ◌+◌, ℕ, true, [], All, IfSome}
 use Rattle.md_words.specs.declared.shape.Shape.{Shape}
 use Rattle.md_words.specs.Content.{value_of, count_of, is_even, counted_word}
 use Rattle.md_words.specs.Place.{node_next}
@@ -29,10 +29,11 @@ abbrev pub FoundFact : Shape → PassView → Fact → Type 0
 FoundFact shape p f = IfSome f.next (λ value. FoundNext shape p f.node value)
 
 module _ (M : Meaning) where
-  -- the change of a word from a content to another value is a tidy change of the theory, which the pass found reason
-  -- for. Where the exchange wins, its facts hold in every resolution
+  -- the change of a word from a content to another value is a tidy change of the theory that places no node, and the
+  -- pass found reason for it. Where the exchange wins, its facts hold in every resolution
   pub record IsTidy (m : Machine) (p : PassView) (word from to : ℕ) : Type 0 where
     pub tidy : TidyChange
+    pub bare : tidy.nodes ≡ []
     pub change : tidy.change ≡ record { word = word; old = value_of from; new = to }
     pub tidies : M.tidies (shape_of m) tidy
     pub found : All (FoundFact (shape_of m) p) tidy.facts

@@ -72,12 +72,14 @@ after_nodes h (n ∷ ns) = after_nodes (after_node h n) ns
 abbrev pub IsPlaced : LogicalHeap → ℕ → Type 0
 IsPlaced h node = (s : Structure) × (h.placed node ≡ Some s)
 
+-- the word is the next word of no node but a placed one
+abbrev pub IsNoUnplacedNext : LogicalHeap → (word : ℕ) → Type 0
+IsNoUnplacedNext h word = (node : ℕ) → IsNode h.words.shape node → word ≡ address h.words.shape (node_next node) → IsPlaced h node
+
 -- two heaps have the same placed nodes, and differ at most in words of nodes that aren't placed
 pub record AgreeWherePlaced (h k : LogicalHeap) : Type 0 where
   pub shape : k.words.shape ≡ h.words.shape
   pub placed : (node : ℕ) → k.placed node ≡ h.placed node
-  pub value : (word : ℕ) → IsCounted h.words.shape word
-      → ((node : ℕ) → IsNode h.words.shape node → word ≡ address h.words.shape (node_next node) → IsPlaced h node)
-      → k.words.value word ≡ h.words.value word
+  pub value : (word : ℕ) → IsCounted h.words.shape word → IsNoUnplacedNext h word → k.words.value word ≡ h.words.value word
   pub key_of : (node : ℕ) → IsPlaced h node → k.words.key_of node ≡ h.words.key_of node
   pub value_of_node : (node : ℕ) → IsPlaced h node → k.words.value_of_node node ≡ h.words.value_of_node node

@@ -1,26 +1,32 @@
 -- What a theory says of heaps, and the laws that it keeps.
-use Rattle.std.specs.Prelude.{◌≡◌, None, All}
+use Rattle.std.specs.Prelude.{◌≡◌, ◌⊎◌, ℕ, None, All}
 use Rattle.md_words.specs.declared.shape.Shape.{Shape}
+use Rattle.md_words.specs.Link.{linked_node}
+use Rattle.md_words.specs.PlaceAt.{IsCounted}
 use Rattle.md_history.specs.State.{State, answer, after}
 use Rattle.md_machine.specs.declared.certificate.Certificate.{Certificate}
 use Rattle.md_machine.specs.declared.certificate.TidyChange.{TidyChange}
 use Rattle.md_machine.specs.declared.certificate.Fact.{Fact}
-use Rattle.md_machine.specs.LogicalHeap.{LogicalWords, LogicalHeap, Holds, AgreeWherePlaced, changed, changed_all, after_nodes}
+use Rattle.md_machine.specs.LogicalHeap.{LogicalWords, LogicalHeap, Holds, AgreeWherePlaced, IsNoUnplacedNext, IsPlaced, changed, changed_all, after_nodes}
 
--- which heaps are valid, the state of their words, and which certificates and tidy changes a shape has
+-- which heaps are valid, the state of their words, which certificates and tidy changes a shape has, and which of its
+-- counted words are links: words whose value names a node
 pub record Meaning : Type 1 where
   pub valid : LogicalHeap → Type 0
   pub state : LogicalWords → State
   pub certifies : Shape → Certificate → Type 0
   pub tidies : Shape → TidyChange → Type 0
+  pub links : Shape → (word : ℕ) → Type 0
 
--- a tidy change stands in a heap: the old value is there, and its facts hold
+-- a tidy change stands in a heap: the old value is there, its facts hold, and its new nodes aren't placed
 pub record TidyStands (h : LogicalHeap) (t : TidyChange) : Type 0 where
   pub old : h.words.value t.change.word ≡ t.change.old
   pub facts : All (Holds h) t.facts
+  pub fresh : All (λ n. h.placed n.node ≡ None) t.nodes
 
+-- the heap that it leaves
 abbrev pub after_tidy : LogicalHeap → TidyChange → LogicalHeap
-after_tidy h t = record { words = changed h.words t.change; placed = h.placed }
+after_tidy h t = after_nodes (record { words = changed h.words t.change; placed = h.placed }) t.nodes
 
 -- a certificate, past its tidy changes, stands in a heap: what it recorded and the old values are there, its facts
 -- hold, and its new nodes aren't placed
@@ -44,6 +50,10 @@ pub record Follows (M : Meaning) (h : LogicalHeap) (s : State) (k : LogicalHeap)
   pub state : M.state k.words ≡ s
   pub facts : KeepsFacts h k
 
+-- a value names no node, or a placed one
+abbrev pub NamesPlaced : LogicalHeap → (value : ℕ) → Type 0
+NamesPlaced h value = (linked_node value ≡ 0) ⊎ IsPlaced h (linked_node value)
+
 pub record Lawful (M : Meaning) : Type 0 where
   -- a certificate that stands has the operation's reply, and leaves a valid heap with its state
   pub certificate : (h : LogicalHeap) (c : Certificate) → M.valid h → M.certifies h.words.shape c → Stands h c
@@ -53,3 +63,5 @@ pub record Lawful (M : Meaning) : Type 0 where
       → Follows M h (M.state h.words) (after_tidy h t)
   -- the words of nodes that aren't placed don't matter
   pub frame : (h k : LogicalHeap) → M.valid h → AgreeWherePlaced h k → M.valid k × (M.state k.words ≡ M.state h.words)
+  -- a link that isn't the next word of an unplaced node names no node, or a placed one
+  pub link : (h : LogicalHeap) (word : ℕ) → M.valid h → IsCounted h.words.shape word → M.links h.words.shape word → IsNoUnplacedNext h word → NamesPlaced h (h.words.value word)

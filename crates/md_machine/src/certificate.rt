@@ -39,10 +39,11 @@ pub struct Fact {
     pub next: Option<u32>,
 }
 
-/// A change that leaves the state as it is, and the facts that it rests on.
+/// A change that leaves the state as it is, the nodes that it places, and the facts that it rests on.
 #[derive(Drop)]
 pub struct TidyChange {
     pub change: Change,
+    pub nodes: LinkedList<NewNode>,
     pub facts: LinkedList<Fact>,
 }
 
