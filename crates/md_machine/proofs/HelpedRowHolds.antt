@@ -58,13 +58,13 @@ abbrev h8 : Machine
 h8 = after_event h7 (store 0 72 2)
 
 abbrev h9 : Machine
-h9 = after_event h8 (store 0 263 2)
+h9 = after_event h8 (store 0 423 2)
 
 abbrev h10 : Machine
-h10 = after_event h9 (store 0 264 0)
+h10 = after_event h9 (store 0 424 0)
 
 abbrev h11 : Machine
-h11 = after_event h10 (store 0 265 4)
+h11 = after_event h10 (store 0 425 4)
 
 abbrev h12 : Machine
 h12 = after_event h11 (install 0 2 0 (record { desc = 0; slot = 0 }))
@@ -76,10 +76,10 @@ abbrev h14 : Machine
 h14 = after_event h13 (ready 0 0)
 
 abbrev h15 : Machine
-h15 = after_event h14 (load 1 1130)
+h15 = after_event h14 (load 1 807)
 
 abbrev h16 : Machine
-h16 = after_event h15 (mark_begin 1 4 2)
+h16 = after_event h15 (mark_begin 1 1 2)
 
 abbrev h17 : Machine
 h17 = after_event h16 (mark_start 1)
@@ -97,7 +97,7 @@ abbrev h21 : Machine
 h21 = after_event h20 (commit 1 0 1)
 
 abbrev h22 : Machine
-h22 = after_event h21 (load 1 265)
+h22 = after_event h21 (load 1 425)
 
 abbrev h23 : Machine
 h23 = after_event h22 (uninstall 1 2 1 4)
@@ -109,10 +109,10 @@ abbrev h25 : Machine
 h25 = after_event h24 (load 1 70)
 
 abbrev h26 : Machine
-h26 = after_event h25 (store 1 1131 72)
+h26 = after_event h25 (store 1 808 72)
 
 abbrev h27 : Machine
-h27 = after_event h26 (store 1 1132 2)
+h27 = after_event h26 (store 1 809 2)
 
 abbrev h28 : Machine
 h28 = after_event h27 (load 1 71)
@@ -127,7 +127,7 @@ abbrev h31 : Machine
 h31 = after_event h30 (load 1 72)
 
 abbrev h32 : Machine
-h32 = after_event h31 (commit 1 4 5)
+h32 = after_event h31 (commit 1 1 5)
 
 abbrev h33 : Machine
 h33 = after_event h32 (mark_end 1)
@@ -140,9 +140,9 @@ unfolding value_of count_of is_even counted_word spot_value spot_of status_word 
 hchain13 [] r = (tt, record { recorded = only_none (λ (r : WordValue). (first_view (reads_now h13 0 0) (writes_now h13 (attempt_of 0 0))).value r.word ≡ Some r.value); old = only_one (λ (x : Change). (first_view (reads_now h13 0 0) (writes_now h13 (attempt_of 0 0))).value x.word ≡ Some x.old) (inserts_change 2) refl; facts = only_none (Holds (overlaid (logical_heap h13 []) (writes_now h13 (attempt_of 0 0)) (first_view (reads_now h13 0 0) (writes_now h13 (attempt_of 0 0))))); fresh = only_one (λ (n : NewNode). (first_view (reads_now h13 0 0) (writes_now h13 (attempt_of 0 0))).placed n.node ≡ None) (inserts_node_of 2) refl; words = only_one (HoldsWords (overlaid (logical_heap h13 []) (writes_now h13 (attempt_of 0 0)) (own_changes (first_view (reads_now h13 0 0) (writes_now h13 (attempt_of 0 0))) inserts.changes))) (inserts_node_of 2) (record { key = refl; value = refl; next = refl }) }, only_one (λ (w : Write). (own_after (first_view (reads_now h13 0 0) (writes_now h13 (attempt_of 0 0))) inserts).value w.word ≡ Some w.new) (write_now h13 (record { attempt = attempt_of 0 0; slot = 0; word = 2; old = 0 })) refl)
 hchain13 (k ∷ ks) r = absurd r
 
-hchain29 : InEveryResolution h29 (λ heap. OwnChain heap (writes_now h29 (attempt_of 4 0)) (first_view (reads_now h29 4 1) (writes_now h29 (attempt_of 4 0))) (finds ∷ []))
+hchain29 : InEveryResolution h29 (λ heap. OwnChain heap (writes_now h29 (attempt_of 1 0)) (first_view (reads_now h29 1 1) (writes_now h29 (attempt_of 1 0))) (finds ∷ []))
 unfolding value_of count_of is_even counted_word spot_value spot_of status_word status_of reads_of serial_of words_of node_count desc_count address place_at OwnsNode OwnsDesc lane_of_node lane_of_desc
-hchain29 (true ∷ []) r = (tt, record { recorded = only_one (λ (r : WordValue). (first_view (reads_now h29 4 1) (writes_now h29 (attempt_of 4 0))).value r.word ≡ Some r.value) (record { word = 72; value = 0 }) refl; old = only_none (λ (x : Change). (first_view (reads_now h29 4 1) (writes_now h29 (attempt_of 4 0))).value x.word ≡ Some x.old); facts = only_one (Holds (overlaid (logical_heap h29 (true ∷ [])) (writes_now h29 (attempt_of 4 0)) (first_view (reads_now h29 4 1) (writes_now h29 (attempt_of 4 0))))) (record { node = 2; structure = Bucket 0 1; key = Some 1; value = Some 10; next = None }) (record { placed = refl; key = refl; value = refl; next = tt }); fresh = only_none (λ (n : NewNode). (first_view (reads_now h29 4 1) (writes_now h29 (attempt_of 4 0))).placed n.node ≡ None); words = only_none (HoldsWords (overlaid (logical_heap h29 (true ∷ [])) (writes_now h29 (attempt_of 4 0)) (own_changes (first_view (reads_now h29 4 1) (writes_now h29 (attempt_of 4 0))) finds.changes))) }, only_none (λ (w : Write). (own_after (first_view (reads_now h29 4 1) (writes_now h29 (attempt_of 4 0))) finds).value w.word ≡ Some w.new))
+hchain29 (true ∷ []) r = (tt, record { recorded = only_one (λ (r : WordValue). (first_view (reads_now h29 1 1) (writes_now h29 (attempt_of 1 0))).value r.word ≡ Some r.value) (record { word = 72; value = 0 }) refl; old = only_none (λ (x : Change). (first_view (reads_now h29 1 1) (writes_now h29 (attempt_of 1 0))).value x.word ≡ Some x.old); facts = only_one (Holds (overlaid (logical_heap h29 (true ∷ [])) (writes_now h29 (attempt_of 1 0)) (first_view (reads_now h29 1 1) (writes_now h29 (attempt_of 1 0))))) (record { node = 2; structure = Bucket 0 1; key = Some 1; value = Some 10; next = None }) (record { placed = refl; key = refl; value = refl; next = tt }); fresh = only_none (λ (n : NewNode). (first_view (reads_now h29 1 1) (writes_now h29 (attempt_of 1 0))).placed n.node ≡ None); words = only_none (HoldsWords (overlaid (logical_heap h29 (true ∷ [])) (writes_now h29 (attempt_of 1 0)) (own_changes (first_view (reads_now h29 1 1) (writes_now h29 (attempt_of 1 0))) finds.changes))) }, only_none (λ (w : Write). (own_after (first_view (reads_now h29 1 1) (writes_now h29 (attempt_of 1 0))) finds).value w.word ≡ Some w.new))
 hchain29 (false ∷ []) r = absurd (false≢true r.0)
 hchain29 (k ∷ j ∷ ks) r = absurd r.1
 hchain29 [] r = absurd r
@@ -158,7 +158,7 @@ module _ (M : Meaning) (ins : M.certifies small_shape inserts) (fin : M.certifie
 
   does_2 : Does M h2 (mark_begin 0 0 1) h3
   unfolding value_of count_of is_even counted_word spot_value spot_of status_word status_of reads_of serial_of words_of node_count desc_count address place_at OwnsNode OwnsDesc lane_of_node lane_of_desc
-  does_2 = (view_at h2 0, record { at = refl; live = lit≤ tt }, record { idle = refl; own = (0, (0, lit≤ tt, refl), (lit≤ tt, lit≤ tt, lit≤ tt)); first = refl }, refl)
+  does_2 = (view_at h2 0, record { at = refl; live = lit≤ tt }, record { idle = refl; own = (0, (0, lit≤ tt, refl), (lit≤ tt, refl)); first = refl }, refl)
 
   does_3 : Does M h3 (mark_start 0) h4
   unfolding value_of count_of is_even counted_word spot_value spot_of status_word status_of reads_of serial_of words_of node_count desc_count address place_at OwnsNode OwnsDesc lane_of_node lane_of_desc
@@ -180,15 +180,15 @@ module _ (M : Meaning) (ins : M.certifies small_shape inserts) (fin : M.certifie
   unfolding value_of count_of is_even counted_word spot_value spot_of status_word status_of reads_of serial_of words_of node_count desc_count address place_at OwnsNode OwnsDesc lane_of_node lane_of_desc
   does_7 = (view_at h7 0, hand_at h7 0, record { at = refl; live = lit≤ tt }, record { held = refl; unready = refl; exists = lit≤ tt; place = (((0, (0, lit≤ tt, refl), (lit≤ tt, lit≤ tt, lit≤ tt)), refl), record { even = refl; more = refl }) }, refl)
 
-  does_8 : Does M h8 (store 0 263 2) h9
+  does_8 : Does M h8 (store 0 423 2) h9
   unfolding value_of count_of is_even counted_word spot_value spot_of status_word status_of reads_of serial_of words_of node_count desc_count address place_at OwnsNode OwnsDesc lane_of_node lane_of_desc
   does_8 = (view_at h8 0, hand_at h8 0, record { at = refl; live = lit≤ tt }, record { held = refl; unready = refl; exists = lit≤ tt; place = (refl, (lit≤ tt, refl), refl) }, refl)
 
-  does_9 : Does M h9 (store 0 264 0) h10
+  does_9 : Does M h9 (store 0 424 0) h10
   unfolding value_of count_of is_even counted_word spot_value spot_of status_word status_of reads_of serial_of words_of node_count desc_count address place_at OwnsNode OwnsDesc lane_of_node lane_of_desc
   does_9 = (view_at h9 0, hand_at h9 0, record { at = refl; live = lit≤ tt }, record { held = refl; unready = refl; exists = lit≤ tt; place = (refl, refl) }, refl)
 
-  does_10 : Does M h10 (store 0 265 4) h11
+  does_10 : Does M h10 (store 0 425 4) h11
   unfolding value_of count_of is_even counted_word spot_value spot_of status_word status_of reads_of serial_of words_of node_count desc_count address place_at OwnsNode OwnsDesc lane_of_node lane_of_desc
   does_10 = (view_at h10 0, hand_at h10 0, record { at = refl; live = lit≤ tt }, record { held = refl; unready = refl; exists = lit≤ tt; place = refl }, refl)
 
@@ -208,7 +208,7 @@ module _ (M : Meaning) (ins : M.certifies small_shape inserts) (fin : M.certifie
     record { at = refl; live = lit≤ tt },
     record {
       held = refl;
-      own = (0, (0, lit≤ tt, refl), (lit≤ tt, lit≤ tt, lit≤ tt));
+      own = (0, (0, lit≤ tt, refl), (lit≤ tt, refl));
       few = lit≤ tt;
       stored = λ i h. absurd (omega (arith, h));
       recorded = only_none (MayRecord h13 (view_at h13 0));
@@ -227,13 +227,13 @@ module _ (M : Meaning) (ins : M.certifies small_shape inserts) (fin : M.certifie
     refl,
   )
 
-  does_14 : Does M h14 (load 1 1130) h15
+  does_14 : Does M h14 (load 1 807) h15
   unfolding value_of count_of is_even counted_word spot_value spot_of status_word status_of reads_of serial_of words_of node_count desc_count address place_at OwnsNode OwnsDesc lane_of_node lane_of_desc
   does_14 = (view_at h14 1, record { at = refl; live = lit≤ tt }, lit≤ tt, refl)
 
-  does_15 : Does M h15 (mark_begin 1 4 2) h16
+  does_15 : Does M h15 (mark_begin 1 1 2) h16
   unfolding value_of count_of is_even counted_word spot_value spot_of status_word status_of reads_of serial_of words_of node_count desc_count address place_at OwnsNode OwnsDesc lane_of_node lane_of_desc
-  does_15 = (view_at h15 1, record { at = refl; live = lit≤ tt }, record { idle = refl; own = (1, (0, lit≤ tt, refl), (lit≤ tt, lit≤ tt, lit≤ tt)); first = refl }, refl)
+  does_15 = (view_at h15 1, record { at = refl; live = lit≤ tt }, record { idle = refl; own = (1, (0, lit≤ tt, refl), (lit≤ tt, refl)); first = refl }, refl)
 
   does_16 : Does M h16 (mark_start 1) h17
   unfolding value_of count_of is_even counted_word spot_value spot_of status_word status_of reads_of serial_of words_of node_count desc_count address place_at OwnsNode OwnsDesc lane_of_node lane_of_desc
@@ -255,7 +255,7 @@ module _ (M : Meaning) (ins : M.certifies small_shape inserts) (fin : M.certifie
   unfolding value_of count_of is_even counted_word spot_value spot_of status_word status_of reads_of serial_of words_of node_count desc_count address place_at OwnsNode OwnsDesc lane_of_node lane_of_desc
   does_20 = (view_at h20 1, record { at = refl; live = lit≤ tt }, record { exists = lit≤ tt; in_progress = refl; since = record { earlier = take 5 (trail h20 1); step = (nth (trail h20 1) 5); later = drop 6 (trail h20 1); segment = (0, lit≤ tt, refl); such = inl (record { there = refl; before = refl; found = refl }) }; stood = λ i h. absurd (omega (arith, h)) }, refl)
 
-  does_21 : Does M h21 (load 1 265) h22
+  does_21 : Does M h21 (load 1 425) h22
   unfolding value_of count_of is_even counted_word spot_value spot_of status_word status_of reads_of serial_of words_of node_count desc_count address place_at OwnsNode OwnsDesc lane_of_node lane_of_desc
   does_21 = (view_at h21 1, record { at = refl; live = lit≤ tt }, lit≤ tt, refl)
 
@@ -282,11 +282,11 @@ module _ (M : Meaning) (ins : M.certifies small_shape inserts) (fin : M.certifie
   unfolding value_of count_of is_even counted_word spot_value spot_of status_word status_of reads_of serial_of words_of node_count desc_count address place_at OwnsNode OwnsDesc lane_of_node lane_of_desc
   does_24 = (view_at h24 1, record { at = refl; live = lit≤ tt }, lit≤ tt, refl)
 
-  does_25 : Does M h25 (store 1 1131 72) h26
+  does_25 : Does M h25 (store 1 808 72) h26
   unfolding value_of count_of is_even counted_word spot_value spot_of status_word status_of reads_of serial_of words_of node_count desc_count address place_at OwnsNode OwnsDesc lane_of_node lane_of_desc
   does_25 = (view_at h25 1, hand_at h25 1, record { at = refl; live = lit≤ tt }, record { held = refl; unready = refl; exists = lit≤ tt; place = (refl, (lit≤ tt, refl)) }, refl)
 
-  does_26 : Does M h26 (store 1 1132 2) h27
+  does_26 : Does M h26 (store 1 809 2) h27
   unfolding value_of count_of is_even counted_word spot_value spot_of status_word status_of reads_of serial_of words_of node_count desc_count address place_at OwnsNode OwnsDesc lane_of_node lane_of_desc
   does_26 = (view_at h26 1, hand_at h26 1, record { at = refl; live = lit≤ tt }, record { held = refl; unready = refl; exists = lit≤ tt; place = refl }, refl)
 
@@ -296,7 +296,7 @@ module _ (M : Meaning) (ins : M.certifies small_shape inserts) (fin : M.certifie
 
   does_28 : Does M h28 (mark_act 1 finds) h29
   unfolding value_of count_of is_even counted_word spot_value spot_of status_word status_of reads_of serial_of words_of node_count desc_count address place_at OwnsNode OwnsDesc lane_of_node lane_of_desc
-  does_28 = (view_at h28 1, hand_at h28 1, record { at = refl; live = lit≤ tt }, record { held = refl; operates = refl; changes = refl; nodes = refl; count = 1; few = lit≤ tt; stored = one_below (IsStoredRead h28 (view_at h28 1) (attempt_of 4 0)) (record { word = record { store = record { earlier = take 12 (trail h28 1); step = (nth (trail h28 1) 12); later = drop 13 (trail h28 1); segment = (0, lit≤ tt, refl); such = record { kind = refl; attempt = refl; there = refl } }; left = refl; last = no_store_for _ 1131 (drop 13 (trail h28 1)) refl }; content = record { store = record { earlier = take 13 (trail h28 1); step = (nth (trail h28 1) 13); later = drop 14 (trail h28 1); segment = (0, lit≤ tt, refl); such = record { kind = refl; attempt = refl; there = refl } }; left = refl; last = no_store_for _ 1132 (drop 14 (trail h28 1)) refl } }); certified = record { acts = refl; certifies = only_one (M.certifies small_shape) finds fin; tidies = only_one (λ (c : Certificate). All (M.tidies small_shape) c.tidy) finds (only_none (M.tidies small_shape)); read = only_one (λ (r : Read). first_content (reads_now h28 4 1) (writes_now h28 (attempt_of 4 0)) r.word ≡ Some r.content) (read_now h28 4 0) refl; replaced = only_none (λ (w : Write). first_content (reads_now h28 4 1) (writes_now h28 (attempt_of 4 0)) w.word ≡ Some w.old); exactly = λ word. refl; nodes = only_one (λ (c : Certificate). All (λ (n : NewNode). IsOwnNode h28 (view_at h28 1) n.node) c.nodes) finds (only_none (λ (n : NewNode). IsOwnNode h28 (view_at h28 1) n.node)); chain = hchain29 } }, refl)
+  does_28 = (view_at h28 1, hand_at h28 1, record { at = refl; live = lit≤ tt }, record { held = refl; operates = refl; changes = refl; nodes = refl; count = 1; few = lit≤ tt; stored = one_below (IsStoredRead h28 (view_at h28 1) (attempt_of 1 0)) (record { word = record { store = record { earlier = take 12 (trail h28 1); step = (nth (trail h28 1) 12); later = drop 13 (trail h28 1); segment = (0, lit≤ tt, refl); such = record { kind = refl; attempt = refl; there = refl } }; left = refl; last = no_store_for _ 808 (drop 13 (trail h28 1)) refl }; content = record { store = record { earlier = take 13 (trail h28 1); step = (nth (trail h28 1) 13); later = drop 14 (trail h28 1); segment = (0, lit≤ tt, refl); such = record { kind = refl; attempt = refl; there = refl } }; left = refl; last = no_store_for _ 809 (drop 14 (trail h28 1)) refl } }); certified = record { acts = refl; certifies = only_one (M.certifies small_shape) finds fin; tidies = only_one (λ (c : Certificate). All (M.tidies small_shape) c.tidy) finds (only_none (M.tidies small_shape)); read = only_one (λ (r : Read). first_content (reads_now h28 1 1) (writes_now h28 (attempt_of 1 0)) r.word ≡ Some r.content) (read_now h28 1 0) refl; replaced = only_none (λ (w : Write). first_content (reads_now h28 1 1) (writes_now h28 (attempt_of 1 0)) w.word ≡ Some w.old); exactly = λ word. refl; nodes = only_one (λ (c : Certificate). All (λ (n : NewNode). IsOwnNode h28 (view_at h28 1) n.node) c.nodes) finds (only_none (λ (n : NewNode). IsOwnNode h28 (view_at h28 1) n.node)); chain = hchain29 } }, refl)
 
   does_29 : Does M h29 (ready 1 1) h30
   unfolding value_of count_of is_even counted_word spot_value spot_of status_word status_of reads_of serial_of words_of node_count desc_count address place_at OwnsNode OwnsDesc lane_of_node lane_of_desc
@@ -306,17 +306,17 @@ module _ (M : Meaning) (ins : M.certifies small_shape inserts) (fin : M.certifie
     record { at = refl; live = lit≤ tt },
     record {
       held = refl;
-      own = (1, (0, lit≤ tt, refl), (lit≤ tt, lit≤ tt, lit≤ tt));
+      own = (1, (0, lit≤ tt, refl), (lit≤ tt, refl));
       few = lit≤ tt;
-      stored = one_below (IsStoredRead h29 (view_at h29 1) (attempt_of 4 0)) (record { word = record { store = record { earlier = take 12 (trail h29 1); step = (nth (trail h29 1) 12); later = drop 13 (trail h29 1); segment = (0, lit≤ tt, refl); such = record { kind = refl; attempt = refl; there = refl } }; left = refl; last = no_store_for _ 1131 (drop 13 (trail h29 1)) refl }; content = record { store = record { earlier = take 13 (trail h29 1); step = (nth (trail h29 1) 13); later = drop 14 (trail h29 1); segment = (0, lit≤ tt, refl); such = record { kind = refl; attempt = refl; there = refl } }; left = refl; last = no_store_for _ 1132 (drop 14 (trail h29 1)) refl } });
-      recorded = only_one (MayRecord h29 (view_at h29 1)) (read_now h29 4 0) (record { counted = (lit≤ tt, refl); even = refl; met = (trail h29 1, (0, lit≤ tt, refl), ((nth (trail h29 1) 10), (10, lit≤ tt, refl), inl (record { there = refl; before = refl; found = refl }))) });
-      installed = only_none (λ (w : Write). SomeStepOf (view_at h29 1) (InstallsFor (attempt_of 4 0) w));
+      stored = one_below (IsStoredRead h29 (view_at h29 1) (attempt_of 1 0)) (record { word = record { store = record { earlier = take 12 (trail h29 1); step = (nth (trail h29 1) 12); later = drop 13 (trail h29 1); segment = (0, lit≤ tt, refl); such = record { kind = refl; attempt = refl; there = refl } }; left = refl; last = no_store_for _ 808 (drop 13 (trail h29 1)) refl }; content = record { store = record { earlier = take 13 (trail h29 1); step = (nth (trail h29 1) 13); later = drop 14 (trail h29 1); segment = (0, lit≤ tt, refl); such = record { kind = refl; attempt = refl; there = refl } }; left = refl; last = no_store_for _ 809 (drop 14 (trail h29 1)) refl } });
+      recorded = only_one (MayRecord h29 (view_at h29 1)) (read_now h29 1 0) (record { counted = (lit≤ tt, refl); even = refl; met = (trail h29 1, (0, lit≤ tt, refl), ((nth (trail h29 1) 10), (10, lit≤ tt, refl), inl (record { there = refl; before = refl; found = refl }))) });
+      installed = only_none (λ (w : Write). SomeStepOf (view_at h29 1) (InstallsFor (attempt_of 1 0) w));
       certified = λ won. record {
         acts = refl;
         certifies = only_one (M.certifies small_shape) finds fin;
         tidies = only_one (λ (c : Certificate). All (M.tidies small_shape) c.tidy) finds (only_none (M.tidies small_shape));
-        read = only_one (λ (r : Read). first_content (reads_now h29 4 1) (writes_now h29 (attempt_of 4 0)) r.word ≡ Some r.content) (read_now h29 4 0) refl;
-        replaced = only_none (λ (w : Write). first_content (reads_now h29 4 1) (writes_now h29 (attempt_of 4 0)) w.word ≡ Some w.old);
+        read = only_one (λ (r : Read). first_content (reads_now h29 1 1) (writes_now h29 (attempt_of 1 0)) r.word ≡ Some r.content) (read_now h29 1 0) refl;
+        replaced = only_none (λ (w : Write). first_content (reads_now h29 1 1) (writes_now h29 (attempt_of 1 0)) w.word ≡ Some w.old);
         exactly = λ word. refl;
         nodes = only_one (λ (c : Certificate). All (λ (n : NewNode). IsOwnNode h29 (view_at h29 1) n.node) c.nodes) finds (only_none (λ (n : NewNode). IsOwnNode h29 (view_at h29 1) n.node));
         chain = hchain29;
@@ -329,9 +329,9 @@ module _ (M : Meaning) (ins : M.certifies small_shape inserts) (fin : M.certifie
   unfolding value_of count_of is_even counted_word spot_value spot_of status_word status_of reads_of serial_of words_of node_count desc_count address place_at OwnsNode OwnsDesc lane_of_node lane_of_desc
   does_30 = (view_at h30 1, record { at = refl; live = lit≤ tt }, lit≤ tt, refl)
 
-  does_31 : Does M h31 (commit 1 4 5) h32
+  does_31 : Does M h31 (commit 1 1 5) h32
   unfolding value_of count_of is_even counted_word spot_value spot_of status_word status_of reads_of serial_of words_of node_count desc_count address place_at OwnsNode OwnsDesc lane_of_node lane_of_desc
-  does_31 = (view_at h31 1, record { at = refl; live = lit≤ tt }, record { exists = lit≤ tt; in_progress = refl; since = record { earlier = take 16 (trail h31 1); step = (nth (trail h31 1) 16); later = drop 17 (trail h31 1); segment = (0, lit≤ tt, refl); such = inr (record { there = refl; after = refl }) }; stood = one_below (FoundRead true small_shape (view_at h31 1) (drop 17 (trail h31 1)) (attempt_of 4 0)) (record { word = 72; recorded = 2; found = 2; knows_word = inr (record { store = record { earlier = take 12 (trail h31 1); step = (nth (trail h31 1) 12); later = drop 13 (trail h31 1); segment = (0, lit≤ tt, refl); such = record { kind = refl; attempt = refl; there = refl } }; left = refl; last = no_store_for _ 1131 (drop 13 (trail h31 1)) refl }); knows_content = inr (record { store = record { earlier = take 13 (trail h31 1); step = (nth (trail h31 1) 13); later = drop 14 (trail h31 1); segment = (0, lit≤ tt, refl); such = record { kind = refl; attempt = refl; there = refl } }; left = refl; last = no_store_for _ 1132 (drop 14 (trail h31 1)) refl }); loads = ((nth (trail h31 1) 17), (0, lit≤ tt, refl), (record { kind = refl; finds = record { there = refl; before = refl; found = refl } })) }, refl) }, refl)
+  does_31 = (view_at h31 1, record { at = refl; live = lit≤ tt }, record { exists = lit≤ tt; in_progress = refl; since = record { earlier = take 16 (trail h31 1); step = (nth (trail h31 1) 16); later = drop 17 (trail h31 1); segment = (0, lit≤ tt, refl); such = inr (record { there = refl; after = refl }) }; stood = one_below (FoundRead true small_shape (view_at h31 1) (drop 17 (trail h31 1)) (attempt_of 1 0)) (record { word = 72; recorded = 2; found = 2; knows_word = inr (record { store = record { earlier = take 12 (trail h31 1); step = (nth (trail h31 1) 12); later = drop 13 (trail h31 1); segment = (0, lit≤ tt, refl); such = record { kind = refl; attempt = refl; there = refl } }; left = refl; last = no_store_for _ 808 (drop 13 (trail h31 1)) refl }); knows_content = inr (record { store = record { earlier = take 13 (trail h31 1); step = (nth (trail h31 1) 13); later = drop 14 (trail h31 1); segment = (0, lit≤ tt, refl); such = record { kind = refl; attempt = refl; there = refl } }; left = refl; last = no_store_for _ 809 (drop 14 (trail h31 1)) refl }); loads = ((nth (trail h31 1) 17), (0, lit≤ tt, refl), (record { kind = refl; finds = record { there = refl; before = refl; found = refl } })) }, refl) }, refl)
 
   does_32 : Does M h32 (mark_end 1) h33
   unfolding value_of count_of is_even counted_word spot_value spot_of status_word status_of reads_of serial_of words_of node_count desc_count address place_at OwnsNode OwnsDesc lane_of_node lane_of_desc

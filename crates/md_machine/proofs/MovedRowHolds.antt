@@ -56,10 +56,10 @@ abbrev r8 : Machine
 r8 = after_event r7 (mark_act 0 misses)
 
 abbrev r9 : Machine
-r9 = after_event r8 (load 1 1130)
+r9 = after_event r8 (load 1 807)
 
 abbrev r10 : Machine
-r10 = after_event r9 (mark_begin 1 4 2)
+r10 = after_event r9 (mark_begin 1 1 2)
 
 abbrev r11 : Machine
 r11 = after_event r10 (mark_start 1)
@@ -77,16 +77,16 @@ abbrev r15 : Machine
 r15 = after_event r14 (store 1 120 2)
 
 abbrev r16 : Machine
-r16 = after_event r15 (store 1 1227 2)
+r16 = after_event r15 (store 1 1064 2)
 
 abbrev r17 : Machine
-r17 = after_event r16 (store 1 1228 0)
+r17 = after_event r16 (store 1 1065 0)
 
 abbrev r18 : Machine
-r18 = after_event r17 (store 1 1229 36)
+r18 = after_event r17 (store 1 1066 36)
 
 abbrev r19 : Machine
-r19 = after_event r18 (install 1 2 0 (record { desc = 4; slot = 0 }))
+r19 = after_event r18 (install 1 2 0 (record { desc = 1; slot = 0 }))
 
 abbrev r20 : Machine
 r20 = after_event r19 (mark_act 1 inserts_18)
@@ -95,10 +95,10 @@ abbrev r21 : Machine
 r21 = after_event r20 (ready 1 0)
 
 abbrev r22 : Machine
-r22 = after_event r21 (commit 1 4 1)
+r22 = after_event r21 (commit 1 1 1)
 
 abbrev r23 : Machine
-r23 = after_event r22 (uninstall 1 2 4398046511105 36)
+r23 = after_event r22 (uninstall 1 2 1099511627777 36)
 
 abbrev r24 : Machine
 r24 = after_event r23 (mark_end 1)
@@ -118,9 +118,9 @@ r28 = after_event r27 (mark_end 0)
 abbrev trail : Machine → ℕ → List Step
 trail = trail_at
 
-rchain20 : InEveryResolution r20 (λ heap. OwnChain heap (writes_now r20 (attempt_of 4 0)) (first_view (reads_now r20 4 0) (writes_now r20 (attempt_of 4 0))) (inserts_18 ∷ []))
+rchain20 : InEveryResolution r20 (λ heap. OwnChain heap (writes_now r20 (attempt_of 1 0)) (first_view (reads_now r20 1 0) (writes_now r20 (attempt_of 1 0))) (inserts_18 ∷ []))
 unfolding value_of count_of is_even counted_word spot_value spot_of status_word status_of reads_of serial_of words_of node_count desc_count address place_at OwnsNode OwnsDesc lane_of_node lane_of_desc
-rchain20 [] r = (tt, record { recorded = only_none (λ (r : WordValue). (first_view (reads_now r20 4 0) (writes_now r20 (attempt_of 4 0))).value r.word ≡ Some r.value); old = only_one (λ (x : Change). (first_view (reads_now r20 4 0) (writes_now r20 (attempt_of 4 0))).value x.word ≡ Some x.old) (inserts_change 18) refl; facts = only_none (Holds (overlaid (logical_heap r20 []) (writes_now r20 (attempt_of 4 0)) (first_view (reads_now r20 4 0) (writes_now r20 (attempt_of 4 0))))); fresh = only_one (λ (n : NewNode). (first_view (reads_now r20 4 0) (writes_now r20 (attempt_of 4 0))).placed n.node ≡ None) (inserts_node_of 18) refl; words = only_one (HoldsWords (overlaid (logical_heap r20 []) (writes_now r20 (attempt_of 4 0)) (own_changes (first_view (reads_now r20 4 0) (writes_now r20 (attempt_of 4 0))) inserts_18.changes))) (inserts_node_of 18) (record { key = refl; value = refl; next = refl }) }, only_one (λ (w : Write). (own_after (first_view (reads_now r20 4 0) (writes_now r20 (attempt_of 4 0))) inserts_18).value w.word ≡ Some w.new) (write_now r20 (record { attempt = attempt_of 4 0; slot = 0; word = 2; old = 0 })) refl)
+rchain20 [] r = (tt, record { recorded = only_none (λ (r : WordValue). (first_view (reads_now r20 1 0) (writes_now r20 (attempt_of 1 0))).value r.word ≡ Some r.value); old = only_one (λ (x : Change). (first_view (reads_now r20 1 0) (writes_now r20 (attempt_of 1 0))).value x.word ≡ Some x.old) (inserts_change 18) refl; facts = only_none (Holds (overlaid (logical_heap r20 []) (writes_now r20 (attempt_of 1 0)) (first_view (reads_now r20 1 0) (writes_now r20 (attempt_of 1 0))))); fresh = only_one (λ (n : NewNode). (first_view (reads_now r20 1 0) (writes_now r20 (attempt_of 1 0))).placed n.node ≡ None) (inserts_node_of 18) refl; words = only_one (HoldsWords (overlaid (logical_heap r20 []) (writes_now r20 (attempt_of 1 0)) (own_changes (first_view (reads_now r20 1 0) (writes_now r20 (attempt_of 1 0))) inserts_18.changes))) (inserts_node_of 18) (record { key = refl; value = refl; next = refl }) }, only_one (λ (w : Write). (own_after (first_view (reads_now r20 1 0) (writes_now r20 (attempt_of 1 0))) inserts_18).value w.word ≡ Some w.new) (write_now r20 (record { attempt = attempt_of 1 0; slot = 0; word = 2; old = 0 })) refl)
 rchain20 (k ∷ ks) r = absurd r
 
 rchain7 : InEveryResolution r7 (λ heap. OwnChain heap (writes_now r7 (attempt_of 0 0)) (first_view (reads_now r7 0 1) (writes_now r7 (attempt_of 0 0))) (misses ∷ []))
@@ -146,7 +146,7 @@ module _ (M : Meaning) (mis : M.certifies small_shape misses) (ins : M.certifies
 
   does_2 : Does M r2 (mark_begin 0 0 1) r3
   unfolding value_of count_of is_even counted_word spot_value spot_of status_word status_of reads_of serial_of words_of node_count desc_count address place_at OwnsNode OwnsDesc lane_of_node lane_of_desc
-  does_2 = (view_at r2 0, record { at = refl; live = lit≤ tt }, record { idle = refl; own = (0, (0, lit≤ tt, refl), (lit≤ tt, lit≤ tt, lit≤ tt)); first = refl }, refl)
+  does_2 = (view_at r2 0, record { at = refl; live = lit≤ tt }, record { idle = refl; own = (0, (0, lit≤ tt, refl), (lit≤ tt, refl)); first = refl }, refl)
 
   does_3 : Does M r3 (mark_start 0) r4
   unfolding value_of count_of is_even counted_word spot_value spot_of status_word status_of reads_of serial_of words_of node_count desc_count address place_at OwnsNode OwnsDesc lane_of_node lane_of_desc
@@ -168,13 +168,13 @@ module _ (M : Meaning) (mis : M.certifies small_shape misses) (ins : M.certifies
   unfolding value_of count_of is_even counted_word spot_value spot_of status_word status_of reads_of serial_of words_of node_count desc_count address place_at OwnsNode OwnsDesc lane_of_node lane_of_desc
   does_7 = (view_at r7 0, hand_at r7 0, record { at = refl; live = lit≤ tt }, record { held = refl; operates = refl; changes = refl; nodes = refl; count = 1; few = lit≤ tt; stored = one_below (IsStoredRead r7 (view_at r7 0) (attempt_of 0 0)) (record { word = record { store = record { earlier = take 5 (trail r7 0); step = (nth (trail r7 0) 5); later = drop 6 (trail r7 0); segment = (0, lit≤ tt, refl); such = record { kind = refl; attempt = refl; there = refl } }; left = refl; last = no_store_for _ 167 (drop 6 (trail r7 0)) refl }; content = record { store = record { earlier = take 6 (trail r7 0); step = (nth (trail r7 0) 6); later = drop 7 (trail r7 0); segment = (0, lit≤ tt, refl); such = record { kind = refl; attempt = refl; there = refl } }; left = refl; last = no_store_for _ 168 (drop 7 (trail r7 0)) refl } }); certified = record { acts = refl; certifies = only_one (M.certifies small_shape) misses mis; tidies = only_one (λ (c : Certificate). All (M.tidies small_shape) c.tidy) misses (only_none (M.tidies small_shape)); read = only_one (λ (r : Read). first_content (reads_now r7 0 1) (writes_now r7 (attempt_of 0 0)) r.word ≡ Some r.content) (read_now r7 0 0) refl; replaced = only_none (λ (w : Write). first_content (reads_now r7 0 1) (writes_now r7 (attempt_of 0 0)) w.word ≡ Some w.old); exactly = λ word. refl; nodes = only_one (λ (c : Certificate). All (λ (n : NewNode). IsOwnNode r7 (view_at r7 0) n.node) c.nodes) misses (only_none (λ (n : NewNode). IsOwnNode r7 (view_at r7 0) n.node)); chain = rchain7 } }, refl)
 
-  does_8 : Does M r8 (load 1 1130) r9
+  does_8 : Does M r8 (load 1 807) r9
   unfolding value_of count_of is_even counted_word spot_value spot_of status_word status_of reads_of serial_of words_of node_count desc_count address place_at OwnsNode OwnsDesc lane_of_node lane_of_desc
   does_8 = (view_at r8 1, record { at = refl; live = lit≤ tt }, lit≤ tt, refl)
 
-  does_9 : Does M r9 (mark_begin 1 4 2) r10
+  does_9 : Does M r9 (mark_begin 1 1 2) r10
   unfolding value_of count_of is_even counted_word spot_value spot_of status_word status_of reads_of serial_of words_of node_count desc_count address place_at OwnsNode OwnsDesc lane_of_node lane_of_desc
-  does_9 = (view_at r9 1, record { at = refl; live = lit≤ tt }, record { idle = refl; own = (1, (0, lit≤ tt, refl), (lit≤ tt, lit≤ tt, lit≤ tt)); first = refl }, refl)
+  does_9 = (view_at r9 1, record { at = refl; live = lit≤ tt }, record { idle = refl; own = (1, (0, lit≤ tt, refl), (lit≤ tt, refl)); first = refl }, refl)
 
   does_10 : Does M r10 (mark_start 1) r11
   unfolding value_of count_of is_even counted_word spot_value spot_of status_word status_of reads_of serial_of words_of node_count desc_count address place_at OwnsNode OwnsDesc lane_of_node lane_of_desc
@@ -196,25 +196,25 @@ module _ (M : Meaning) (mis : M.certifies small_shape misses) (ins : M.certifies
   unfolding value_of count_of is_even counted_word spot_value spot_of status_word status_of reads_of serial_of words_of node_count desc_count address place_at OwnsNode OwnsDesc lane_of_node lane_of_desc
   does_14 = (view_at r14 1, hand_at r14 1, record { at = refl; live = lit≤ tt }, record { held = refl; unready = refl; exists = lit≤ tt; place = (((1, (0, lit≤ tt, refl), (lit≤ tt, lit≤ tt, lit≤ tt)), refl), record { even = refl; more = refl }) }, refl)
 
-  does_15 : Does M r15 (store 1 1227 2) r16
+  does_15 : Does M r15 (store 1 1064 2) r16
   unfolding value_of count_of is_even counted_word spot_value spot_of status_word status_of reads_of serial_of words_of node_count desc_count address place_at OwnsNode OwnsDesc lane_of_node lane_of_desc
   does_15 = (view_at r15 1, hand_at r15 1, record { at = refl; live = lit≤ tt }, record { held = refl; unready = refl; exists = lit≤ tt; place = (refl, (lit≤ tt, refl), refl) }, refl)
 
-  does_16 : Does M r16 (store 1 1228 0) r17
+  does_16 : Does M r16 (store 1 1065 0) r17
   unfolding value_of count_of is_even counted_word spot_value spot_of status_word status_of reads_of serial_of words_of node_count desc_count address place_at OwnsNode OwnsDesc lane_of_node lane_of_desc
   does_16 = (view_at r16 1, hand_at r16 1, record { at = refl; live = lit≤ tt }, record { held = refl; unready = refl; exists = lit≤ tt; place = (refl, refl) }, refl)
 
-  does_17 : Does M r17 (store 1 1229 36) r18
+  does_17 : Does M r17 (store 1 1066 36) r18
   unfolding value_of count_of is_even counted_word spot_value spot_of status_word status_of reads_of serial_of words_of node_count desc_count address place_at OwnsNode OwnsDesc lane_of_node lane_of_desc
   does_17 = (view_at r17 1, hand_at r17 1, record { at = refl; live = lit≤ tt }, record { held = refl; unready = refl; exists = lit≤ tt; place = refl }, refl)
 
-  does_18 : Does M r18 (install 1 2 0 (record { desc = 4; slot = 0 })) r19
+  does_18 : Does M r18 (install 1 2 0 (record { desc = 1; slot = 0 })) r19
   unfolding value_of count_of is_even counted_word spot_value spot_of status_word status_of reads_of serial_of words_of node_count desc_count address place_at OwnsNode OwnsDesc lane_of_node lane_of_desc
   does_18 = (view_at r18 1, hand_at r18 1, record { at = refl; live = lit≤ tt }, record { held = refl; unready = refl; own = refl; slot = lit≤ tt; counted = (lit≤ tt, refl); place = tt; from_even = record { even = refl; room = lit≤ tt }; names = refl; old = refl }, refl)
 
   does_19 : Does M r19 (mark_act 1 inserts_18) r20
   unfolding value_of count_of is_even counted_word spot_value spot_of status_word status_of reads_of serial_of words_of node_count desc_count address place_at OwnsNode OwnsDesc lane_of_node lane_of_desc
-  does_19 = (view_at r19 1, hand_at r19 1, record { at = refl; live = lit≤ tt }, record { held = refl; operates = refl; changes = refl; nodes = refl; count = 0; few = lit≤ tt; stored = λ i h. absurd (omega (arith, h)); certified = record { acts = refl; certifies = only_one (M.certifies small_shape) inserts_18 ins; tidies = only_one (λ (c : Certificate). All (M.tidies small_shape) c.tidy) inserts_18 (only_none (M.tidies small_shape)); read = only_none (λ (r : Read). first_content (reads_now r19 4 0) (writes_now r19 (attempt_of 4 0)) r.word ≡ Some r.content); replaced = only_one (λ (w : Write). first_content (reads_now r19 4 0) (writes_now r19 (attempt_of 4 0)) w.word ≡ Some w.old) (write_now r19 (record { attempt = attempt_of 4 0; slot = 0; word = 2; old = 0 })) refl; exactly = λ word. refl; nodes = only_one (λ (c : Certificate). All (λ (n : NewNode). IsOwnNode r19 (view_at r19 1) n.node) c.nodes) inserts_18 (only_one (λ (n : NewNode). IsOwnNode r19 (view_at r19 1) n.node) (inserts_node_of 18) ((1, (0, lit≤ tt, refl), (lit≤ tt, lit≤ tt, lit≤ tt)), refl)); chain = rchain20 } }, refl)
+  does_19 = (view_at r19 1, hand_at r19 1, record { at = refl; live = lit≤ tt }, record { held = refl; operates = refl; changes = refl; nodes = refl; count = 0; few = lit≤ tt; stored = λ i h. absurd (omega (arith, h)); certified = record { acts = refl; certifies = only_one (M.certifies small_shape) inserts_18 ins; tidies = only_one (λ (c : Certificate). All (M.tidies small_shape) c.tidy) inserts_18 (only_none (M.tidies small_shape)); read = only_none (λ (r : Read). first_content (reads_now r19 1 0) (writes_now r19 (attempt_of 1 0)) r.word ≡ Some r.content); replaced = only_one (λ (w : Write). first_content (reads_now r19 1 0) (writes_now r19 (attempt_of 1 0)) w.word ≡ Some w.old) (write_now r19 (record { attempt = attempt_of 1 0; slot = 0; word = 2; old = 0 })) refl; exactly = λ word. refl; nodes = only_one (λ (c : Certificate). All (λ (n : NewNode). IsOwnNode r19 (view_at r19 1) n.node) c.nodes) inserts_18 (only_one (λ (n : NewNode). IsOwnNode r19 (view_at r19 1) n.node) (inserts_node_of 18) ((1, (0, lit≤ tt, refl), (lit≤ tt, lit≤ tt, lit≤ tt)), refl)); chain = rchain20 } }, refl)
 
   does_20 : Does M r20 (ready 1 0) r21
   unfolding value_of count_of is_even counted_word spot_value spot_of status_word status_of reads_of serial_of words_of node_count desc_count address place_at OwnsNode OwnsDesc lane_of_node lane_of_desc
@@ -224,17 +224,17 @@ module _ (M : Meaning) (mis : M.certifies small_shape misses) (ins : M.certifies
     record { at = refl; live = lit≤ tt },
     record {
       held = refl;
-      own = (1, (0, lit≤ tt, refl), (lit≤ tt, lit≤ tt, lit≤ tt));
+      own = (1, (0, lit≤ tt, refl), (lit≤ tt, refl));
       few = lit≤ tt;
       stored = λ i h. absurd (omega (arith, h));
       recorded = only_none (MayRecord r20 (view_at r20 1));
-      installed = only_one (λ (w : Write). SomeStepOf (view_at r20 1) (InstallsFor (attempt_of 4 0) w)) (write_now r20 (record { attempt = attempt_of 4 0; slot = 0; word = 2; old = 0 })) (trail r20 1, (0, lit≤ tt, refl), ((nth (trail r20 1) 11), (11, lit≤ tt, refl), record { kind = refl; attempt = refl; won = λ e. omega (arith, e); left = (record { there = refl; after = refl }) }));
+      installed = only_one (λ (w : Write). SomeStepOf (view_at r20 1) (InstallsFor (attempt_of 1 0) w)) (write_now r20 (record { attempt = attempt_of 1 0; slot = 0; word = 2; old = 0 })) (trail r20 1, (0, lit≤ tt, refl), ((nth (trail r20 1) 11), (11, lit≤ tt, refl), record { kind = refl; attempt = refl; won = λ e. omega (arith, e); left = (record { there = refl; after = refl }) }));
       certified = λ won. record {
         acts = refl;
         certifies = only_one (M.certifies small_shape) inserts_18 ins;
         tidies = only_one (λ (c : Certificate). All (M.tidies small_shape) c.tidy) inserts_18 (only_none (M.tidies small_shape));
-        read = only_none (λ (r : Read). first_content (reads_now r20 4 0) (writes_now r20 (attempt_of 4 0)) r.word ≡ Some r.content);
-        replaced = only_one (λ (w : Write). first_content (reads_now r20 4 0) (writes_now r20 (attempt_of 4 0)) w.word ≡ Some w.old) (write_now r20 (record { attempt = attempt_of 4 0; slot = 0; word = 2; old = 0 })) refl;
+        read = only_none (λ (r : Read). first_content (reads_now r20 1 0) (writes_now r20 (attempt_of 1 0)) r.word ≡ Some r.content);
+        replaced = only_one (λ (w : Write). first_content (reads_now r20 1 0) (writes_now r20 (attempt_of 1 0)) w.word ≡ Some w.old) (write_now r20 (record { attempt = attempt_of 1 0; slot = 0; word = 2; old = 0 })) refl;
         exactly = λ word. refl;
         nodes = only_one (λ (c : Certificate). All (λ (n : NewNode). IsOwnNode r20 (view_at r20 1) n.node) c.nodes) inserts_18 (only_one (λ (n : NewNode). IsOwnNode r20 (view_at r20 1) n.node) (inserts_node_of 18) ((1, (0, lit≤ tt, refl), (lit≤ tt, lit≤ tt, lit≤ tt)), refl));
         chain = rchain20;
@@ -243,11 +243,11 @@ module _ (M : Meaning) (mis : M.certifies small_shape misses) (ins : M.certifies
     refl,
   )
 
-  does_21 : Does M r21 (commit 1 4 1) r22
+  does_21 : Does M r21 (commit 1 1 1) r22
   unfolding value_of count_of is_even counted_word spot_value spot_of status_word status_of reads_of serial_of words_of node_count desc_count address place_at OwnsNode OwnsDesc lane_of_node lane_of_desc
   does_21 = (view_at r21 1, record { at = refl; live = lit≤ tt }, record { exists = lit≤ tt; in_progress = refl; since = record { earlier = take 13 (trail r21 1); step = (nth (trail r21 1) 13); later = drop 14 (trail r21 1); segment = (0, lit≤ tt, refl); such = inr (record { there = refl; after = refl }) }; stood = λ i h. absurd (omega (arith, h)) }, refl)
 
-  does_22 : Does M r22 (uninstall 1 2 4398046511105 36) r23
+  does_22 : Does M r22 (uninstall 1 2 1099511627777 36) r23
   unfolding value_of count_of is_even counted_word spot_value spot_of status_word status_of reads_of serial_of words_of node_count desc_count address place_at OwnsNode OwnsDesc lane_of_node lane_of_desc
   does_22 = (
     view_at r22 1,
@@ -256,8 +256,8 @@ module _ (M : Meaning) (mis : M.certifies small_shape misses) (ins : M.certifies
       counted = (lit≤ tt, refl);
       odd = refl;
       serial = 0;
-      knows_serial = inl ((1, (0, lit≤ tt, refl), (lit≤ tt, lit≤ tt, lit≤ tt)), refl);
-      knows_value = record { status = 2; present = refl; decided = inl refl; met = (trail r22 1, (0, lit≤ tt, refl), ((nth (trail r22 1) 14), (14, lit≤ tt, refl), inr (record { there = refl; after = refl }))); held = 36; known = inl (record { store = record { earlier = take 10 (trail r22 1); step = (nth (trail r22 1) 10); later = drop 11 (trail r22 1); segment = (0, lit≤ tt, refl); such = record { kind = refl; attempt = refl; there = refl } }; left = refl; last = no_store_for _ 1229 (drop 11 (trail r22 1)) refl }); is = refl };
+      knows_serial = inl ((1, (0, lit≤ tt, refl), (lit≤ tt, refl)), refl);
+      knows_value = record { status = 2; present = refl; decided = inl refl; met = (trail r22 1, (0, lit≤ tt, refl), ((nth (trail r22 1) 14), (14, lit≤ tt, refl), inr (record { there = refl; after = refl }))); held = 36; known = inl (record { store = record { earlier = take 10 (trail r22 1); step = (nth (trail r22 1) 10); later = drop 11 (trail r22 1); segment = (0, lit≤ tt, refl); such = record { kind = refl; attempt = refl; there = refl } }; left = refl; last = no_store_for _ 1066 (drop 11 (trail r22 1)) refl }); is = refl };
     },
     refl,
   )
@@ -274,7 +274,7 @@ module _ (M : Meaning) (mis : M.certifies small_shape misses) (ins : M.certifies
     record { at = refl; live = lit≤ tt },
     record {
       held = refl;
-      own = (0, (0, lit≤ tt, refl), (lit≤ tt, lit≤ tt, lit≤ tt));
+      own = (0, (0, lit≤ tt, refl), (lit≤ tt, refl));
       few = lit≤ tt;
       stored = one_below (IsStoredRead r24 (view_at r24 0) (attempt_of 0 0)) (record { word = record { store = record { earlier = take 5 (trail r24 0); step = (nth (trail r24 0) 5); later = drop 6 (trail r24 0); segment = (0, lit≤ tt, refl); such = record { kind = refl; attempt = refl; there = refl } }; left = refl; last = no_store_for _ 167 (drop 6 (trail r24 0)) refl }; content = record { store = record { earlier = take 6 (trail r24 0); step = (nth (trail r24 0) 6); later = drop 7 (trail r24 0); segment = (0, lit≤ tt, refl); such = record { kind = refl; attempt = refl; there = refl } }; left = refl; last = no_store_for _ 168 (drop 7 (trail r24 0)) refl } });
       recorded = only_one (MayRecord r24 (view_at r24 0)) (read_now r24 0 0) (record { counted = (lit≤ tt, refl); even = refl; met = (trail r24 0, (0, lit≤ tt, refl), ((nth (trail r24 0) 4), (4, lit≤ tt, refl), inl (record { there = refl; before = refl; found = refl }))) });
@@ -299,7 +299,7 @@ module _ (M : Meaning) (mis : M.certifies small_shape misses) (ins : M.certifies
 
   does_26 : Does M r26 (abort 0 0 5) r27
   unfolding value_of count_of is_even counted_word spot_value spot_of status_word status_of reads_of serial_of words_of node_count desc_count address place_at OwnsNode OwnsDesc lane_of_node lane_of_desc
-  does_26 = (view_at r26 0, record { at = refl; live = lit≤ tt }, record { exists = lit≤ tt; reached = inl (0, (0, lit≤ tt, refl), (lit≤ tt, lit≤ tt, lit≤ tt)); undecided = inr (record { in_progress = refl; since = record { earlier = take 8 (trail r26 0); step = (nth (trail r26 0) 8); later = drop 9 (trail r26 0); segment = (0, lit≤ tt, refl); such = inr (record { there = refl; after = refl }) }; read = 0; counts = lit≤ tt; moved = (record { word = 2; recorded = 0; found = 154618822658; knows_word = inr (record { store = record { earlier = take 5 (trail r26 0); step = (nth (trail r26 0) 5); later = drop 6 (trail r26 0); segment = (0, lit≤ tt, refl); such = record { kind = refl; attempt = refl; there = refl } }; left = refl; last = no_store_for _ 167 (drop 6 (trail r26 0)) refl }); knows_content = inr (record { store = record { earlier = take 6 (trail r26 0); step = (nth (trail r26 0) 6); later = drop 7 (trail r26 0); segment = (0, lit≤ tt, refl); such = record { kind = refl; attempt = refl; there = refl } }; left = refl; last = no_store_for _ 168 (drop 7 (trail r26 0)) refl }); loads = ((nth (trail r26 0) 9), (0, lit≤ tt, refl), (record { kind = refl; finds = record { there = refl; before = refl; found = refl } })) }, refl) }) }, refl)
+  does_26 = (view_at r26 0, record { at = refl; live = lit≤ tt }, record { exists = lit≤ tt; reached = inl (0, (0, lit≤ tt, refl), (lit≤ tt, refl)); undecided = inr (record { in_progress = refl; since = record { earlier = take 8 (trail r26 0); step = (nth (trail r26 0) 8); later = drop 9 (trail r26 0); segment = (0, lit≤ tt, refl); such = inr (record { there = refl; after = refl }) }; read = 0; counts = lit≤ tt; moved = (record { word = 2; recorded = 0; found = 154618822658; knows_word = inr (record { store = record { earlier = take 5 (trail r26 0); step = (nth (trail r26 0) 5); later = drop 6 (trail r26 0); segment = (0, lit≤ tt, refl); such = record { kind = refl; attempt = refl; there = refl } }; left = refl; last = no_store_for _ 167 (drop 6 (trail r26 0)) refl }); knows_content = inr (record { store = record { earlier = take 6 (trail r26 0); step = (nth (trail r26 0) 6); later = drop 7 (trail r26 0); segment = (0, lit≤ tt, refl); such = record { kind = refl; attempt = refl; there = refl } }; left = refl; last = no_store_for _ 168 (drop 7 (trail r26 0)) refl }); loads = ((nth (trail r26 0) 9), (0, lit≤ tt, refl), (record { kind = refl; finds = record { there = refl; before = refl; found = refl } })) }, refl) }) }, refl)
 
   does_27 : Does M r27 (mark_end 0) r28
   unfolding value_of count_of is_even counted_word spot_value spot_of status_word status_of reads_of serial_of words_of node_count desc_count address place_at OwnsNode OwnsDesc lane_of_node lane_of_desc

@@ -24,13 +24,13 @@ abbrev m2 : Machine
 m2 = after_event m1 (mark_begin 0 0 0)
 
 abbrev m3 : Machine
-m3 = after_event m2 (store 0 263 2)
+m3 = after_event m2 (store 0 423 2)
 
 abbrev m4 : Machine
-m4 = after_event m3 (store 0 264 0)
+m4 = after_event m3 (store 0 424 0)
 
 abbrev m5 : Machine
-m5 = after_event m4 (store 0 265 4)
+m5 = after_event m4 (store 0 425 4)
 
 abbrev m6 : Machine
 m6 = after_event m5 (install 0 2 0 slot_0)
@@ -48,7 +48,7 @@ abbrev m10 : Machine
 m10 = after_event m9 (abort 1 0 0)
 
 abbrev m11 : Machine
-m11 = after_event m10 (load 1 264)
+m11 = after_event m10 (load 1 424)
 
 abbrev m12 : Machine
 m12 = after_event m11 (uninstall 1 2 1 0)
@@ -67,17 +67,17 @@ module _ (M : Meaning) where
 
   does_1 : Does M m1 (mark_begin 0 0 0) m2
   unfolding value_of count_of is_even counted_word spot_value spot_of status_word status_of reads_of serial_of words_of node_count desc_count address place_at OwnsNode OwnsDesc lane_of_node lane_of_desc
-  does_1 = (view_at m1 0, record { at = refl; live = lit≤ tt }, record { idle = refl; own = (0, (0, lit≤ tt, refl), (lit≤ tt, lit≤ tt, lit≤ tt)); first = refl }, refl)
+  does_1 = (view_at m1 0, record { at = refl; live = lit≤ tt }, record { idle = refl; own = (0, (0, lit≤ tt, refl), (lit≤ tt, refl)); first = refl }, refl)
 
-  does_2 : Does M m2 (store 0 263 2) m3
+  does_2 : Does M m2 (store 0 423 2) m3
   unfolding value_of count_of is_even counted_word spot_value spot_of status_word status_of reads_of serial_of words_of node_count desc_count address place_at OwnsNode OwnsDesc lane_of_node lane_of_desc
   does_2 = (view_at m2 0, hand_at m2 0, record { at = refl; live = lit≤ tt }, record { held = refl; unready = refl; exists = lit≤ tt; place = (refl, (lit≤ tt, refl), refl) }, refl)
 
-  does_3 : Does M m3 (store 0 264 0) m4
+  does_3 : Does M m3 (store 0 424 0) m4
   unfolding value_of count_of is_even counted_word spot_value spot_of status_word status_of reads_of serial_of words_of node_count desc_count address place_at OwnsNode OwnsDesc lane_of_node lane_of_desc
   does_3 = (view_at m3 0, hand_at m3 0, record { at = refl; live = lit≤ tt }, record { held = refl; unready = refl; exists = lit≤ tt; place = (refl, refl) }, refl)
 
-  does_4 : Does M m4 (store 0 265 4) m5
+  does_4 : Does M m4 (store 0 425 4) m5
   unfolding value_of count_of is_even counted_word spot_value spot_of status_word status_of reads_of serial_of words_of node_count desc_count address place_at OwnsNode OwnsDesc lane_of_node lane_of_desc
   does_4 = (view_at m4 0, hand_at m4 0, record { at = refl; live = lit≤ tt }, record { held = refl; unready = refl; exists = lit≤ tt; place = refl }, refl)
 
@@ -110,7 +110,7 @@ module _ (M : Meaning) where
     refl,
   )
 
-  does_10 : Does M m10 (load 1 264) m11
+  does_10 : Does M m10 (load 1 424) m11
   unfolding value_of count_of is_even counted_word spot_value spot_of status_word status_of reads_of serial_of words_of node_count desc_count address place_at OwnsNode OwnsDesc lane_of_node lane_of_desc
   does_10 = (view_at m10 1, record { at = refl; live = lit≤ tt }, lit≤ tt, refl)
 

@@ -57,13 +57,13 @@ abbrev s8 : Machine
 s8 = after_event s7 (store 0 72 2)
 
 abbrev s9 : Machine
-s9 = after_event s8 (store 0 263 2)
+s9 = after_event s8 (store 0 423 2)
 
 abbrev s10 : Machine
-s10 = after_event s9 (store 0 264 0)
+s10 = after_event s9 (store 0 424 0)
 
 abbrev s11 : Machine
-s11 = after_event s10 (store 0 265 4)
+s11 = after_event s10 (store 0 425 4)
 
 abbrev s12 : Machine
 s12 = after_event s11 (install 0 2 0 (record { desc = 0; slot = 0 }))
@@ -72,10 +72,10 @@ abbrev s13 : Machine
 s13 = after_event s12 (mark_act 0 inserts)
 
 abbrev s14 : Machine
-s14 = after_event s13 (load 1 1130)
+s14 = after_event s13 (load 1 807)
 
 abbrev s15 : Machine
-s15 = after_event s14 (mark_begin 1 4 2)
+s15 = after_event s14 (mark_begin 1 1 2)
 
 abbrev s16 : Machine
 s16 = after_event s15 (mark_start 1)
@@ -93,16 +93,16 @@ abbrev s20 : Machine
 s20 = after_event s19 (abort 1 0 0)
 
 abbrev s21 : Machine
-s21 = after_event s20 (load 1 264)
+s21 = after_event s20 (load 1 424)
 
 abbrev s22 : Machine
 s22 = after_event s21 (uninstall 1 2 1 0)
 
 abbrev s23 : Machine
-s23 = after_event s22 (store 1 1131 2)
+s23 = after_event s22 (store 1 808 2)
 
 abbrev s24 : Machine
-s24 = after_event s23 (store 1 1132 2)
+s24 = after_event s23 (store 1 809 2)
 
 abbrev s25 : Machine
 s25 = after_event s24 (mark_act 1 misses)
@@ -114,7 +114,7 @@ abbrev s27 : Machine
 s27 = after_event s26 (load 1 2)
 
 abbrev s28 : Machine
-s28 = after_event s27 (commit 1 4 5)
+s28 = after_event s27 (commit 1 1 5)
 
 abbrev s29 : Machine
 s29 = after_event s28 (mark_end 1)
@@ -125,9 +125,9 @@ s30 = after_event s29 (ready 0 0)
 abbrev trail : Machine → ℕ → List Step
 trail = trail_at
 
-schain25 : InEveryResolution s25 (λ heap. OwnChain heap (writes_now s25 (attempt_of 4 0)) (first_view (reads_now s25 4 1) (writes_now s25 (attempt_of 4 0))) (misses ∷ []))
+schain25 : InEveryResolution s25 (λ heap. OwnChain heap (writes_now s25 (attempt_of 1 0)) (first_view (reads_now s25 1 1) (writes_now s25 (attempt_of 1 0))) (misses ∷ []))
 unfolding value_of count_of is_even counted_word spot_value spot_of status_word status_of reads_of serial_of words_of node_count desc_count address place_at OwnsNode OwnsDesc lane_of_node lane_of_desc
-schain25 [] r = (tt, record { recorded = only_one (λ (r : WordValue). (first_view (reads_now s25 4 1) (writes_now s25 (attempt_of 4 0))).value r.word ≡ Some r.value) (record { word = 2; value = 0 }) refl; old = only_none (λ (x : Change). (first_view (reads_now s25 4 1) (writes_now s25 (attempt_of 4 0))).value x.word ≡ Some x.old); facts = only_none (Holds (overlaid (logical_heap s25 []) (writes_now s25 (attempt_of 4 0)) (first_view (reads_now s25 4 1) (writes_now s25 (attempt_of 4 0))))); fresh = only_none (λ (n : NewNode). (first_view (reads_now s25 4 1) (writes_now s25 (attempt_of 4 0))).placed n.node ≡ None); words = only_none (HoldsWords (overlaid (logical_heap s25 []) (writes_now s25 (attempt_of 4 0)) (own_changes (first_view (reads_now s25 4 1) (writes_now s25 (attempt_of 4 0))) misses.changes))) }, only_none (λ (w : Write). (own_after (first_view (reads_now s25 4 1) (writes_now s25 (attempt_of 4 0))) misses).value w.word ≡ Some w.new))
+schain25 [] r = (tt, record { recorded = only_one (λ (r : WordValue). (first_view (reads_now s25 1 1) (writes_now s25 (attempt_of 1 0))).value r.word ≡ Some r.value) (record { word = 2; value = 0 }) refl; old = only_none (λ (x : Change). (first_view (reads_now s25 1 1) (writes_now s25 (attempt_of 1 0))).value x.word ≡ Some x.old); facts = only_none (Holds (overlaid (logical_heap s25 []) (writes_now s25 (attempt_of 1 0)) (first_view (reads_now s25 1 1) (writes_now s25 (attempt_of 1 0))))); fresh = only_none (λ (n : NewNode). (first_view (reads_now s25 1 1) (writes_now s25 (attempt_of 1 0))).placed n.node ≡ None); words = only_none (HoldsWords (overlaid (logical_heap s25 []) (writes_now s25 (attempt_of 1 0)) (own_changes (first_view (reads_now s25 1 1) (writes_now s25 (attempt_of 1 0))) misses.changes))) }, only_none (λ (w : Write). (own_after (first_view (reads_now s25 1 1) (writes_now s25 (attempt_of 1 0))) misses).value w.word ≡ Some w.new))
 schain25 (k ∷ ks) r = absurd r
 
 schain12 : InEveryResolution s12 (λ heap. OwnChain heap (writes_now s12 (attempt_of 0 0)) (first_view (reads_now s12 0 0) (writes_now s12 (attempt_of 0 0))) (inserts ∷ []))
@@ -146,7 +146,7 @@ module _ (M : Meaning) (ins : M.certifies small_shape inserts) (mis : M.certifie
 
   does_2 : Does M s2 (mark_begin 0 0 1) s3
   unfolding value_of count_of is_even counted_word spot_value spot_of status_word status_of reads_of serial_of words_of node_count desc_count address place_at OwnsNode OwnsDesc lane_of_node lane_of_desc
-  does_2 = (view_at s2 0, record { at = refl; live = lit≤ tt }, record { idle = refl; own = (0, (0, lit≤ tt, refl), (lit≤ tt, lit≤ tt, lit≤ tt)); first = refl }, refl)
+  does_2 = (view_at s2 0, record { at = refl; live = lit≤ tt }, record { idle = refl; own = (0, (0, lit≤ tt, refl), (lit≤ tt, refl)); first = refl }, refl)
 
   does_3 : Does M s3 (mark_start 0) s4
   unfolding value_of count_of is_even counted_word spot_value spot_of status_word status_of reads_of serial_of words_of node_count desc_count address place_at OwnsNode OwnsDesc lane_of_node lane_of_desc
@@ -168,15 +168,15 @@ module _ (M : Meaning) (ins : M.certifies small_shape inserts) (mis : M.certifie
   unfolding value_of count_of is_even counted_word spot_value spot_of status_word status_of reads_of serial_of words_of node_count desc_count address place_at OwnsNode OwnsDesc lane_of_node lane_of_desc
   does_7 = (view_at s7 0, hand_at s7 0, record { at = refl; live = lit≤ tt }, record { held = refl; unready = refl; exists = lit≤ tt; place = (((0, (0, lit≤ tt, refl), (lit≤ tt, lit≤ tt, lit≤ tt)), refl), record { even = refl; more = refl }) }, refl)
 
-  does_8 : Does M s8 (store 0 263 2) s9
+  does_8 : Does M s8 (store 0 423 2) s9
   unfolding value_of count_of is_even counted_word spot_value spot_of status_word status_of reads_of serial_of words_of node_count desc_count address place_at OwnsNode OwnsDesc lane_of_node lane_of_desc
   does_8 = (view_at s8 0, hand_at s8 0, record { at = refl; live = lit≤ tt }, record { held = refl; unready = refl; exists = lit≤ tt; place = (refl, (lit≤ tt, refl), refl) }, refl)
 
-  does_9 : Does M s9 (store 0 264 0) s10
+  does_9 : Does M s9 (store 0 424 0) s10
   unfolding value_of count_of is_even counted_word spot_value spot_of status_word status_of reads_of serial_of words_of node_count desc_count address place_at OwnsNode OwnsDesc lane_of_node lane_of_desc
   does_9 = (view_at s9 0, hand_at s9 0, record { at = refl; live = lit≤ tt }, record { held = refl; unready = refl; exists = lit≤ tt; place = (refl, refl) }, refl)
 
-  does_10 : Does M s10 (store 0 265 4) s11
+  does_10 : Does M s10 (store 0 425 4) s11
   unfolding value_of count_of is_even counted_word spot_value spot_of status_word status_of reads_of serial_of words_of node_count desc_count address place_at OwnsNode OwnsDesc lane_of_node lane_of_desc
   does_10 = (view_at s10 0, hand_at s10 0, record { at = refl; live = lit≤ tt }, record { held = refl; unready = refl; exists = lit≤ tt; place = refl }, refl)
 
@@ -188,13 +188,13 @@ module _ (M : Meaning) (ins : M.certifies small_shape inserts) (mis : M.certifie
   unfolding value_of count_of is_even counted_word spot_value spot_of status_word status_of reads_of serial_of words_of node_count desc_count address place_at OwnsNode OwnsDesc lane_of_node lane_of_desc
   does_12 = (view_at s12 0, hand_at s12 0, record { at = refl; live = lit≤ tt }, record { held = refl; operates = refl; changes = refl; nodes = refl; count = 0; few = lit≤ tt; stored = λ i h. absurd (omega (arith, h)); certified = record { acts = refl; certifies = only_one (M.certifies small_shape) inserts ins; tidies = only_one (λ (c : Certificate). All (M.tidies small_shape) c.tidy) inserts (only_none (M.tidies small_shape)); read = only_none (λ (r : Read). first_content (reads_now s12 0 0) (writes_now s12 (attempt_of 0 0)) r.word ≡ Some r.content); replaced = only_one (λ (w : Write). first_content (reads_now s12 0 0) (writes_now s12 (attempt_of 0 0)) w.word ≡ Some w.old) (write_now s12 (record { attempt = attempt_of 0 0; slot = 0; word = 2; old = 0 })) refl; exactly = λ word. refl; nodes = only_one (λ (c : Certificate). All (λ (n : NewNode). IsOwnNode s12 (view_at s12 0) n.node) c.nodes) inserts (only_one (λ (n : NewNode). IsOwnNode s12 (view_at s12 0) n.node) (inserts_node_of 2) ((0, (0, lit≤ tt, refl), (lit≤ tt, lit≤ tt, lit≤ tt)), refl)); chain = schain12 } }, refl)
 
-  does_13 : Does M s13 (load 1 1130) s14
+  does_13 : Does M s13 (load 1 807) s14
   unfolding value_of count_of is_even counted_word spot_value spot_of status_word status_of reads_of serial_of words_of node_count desc_count address place_at OwnsNode OwnsDesc lane_of_node lane_of_desc
   does_13 = (view_at s13 1, record { at = refl; live = lit≤ tt }, lit≤ tt, refl)
 
-  does_14 : Does M s14 (mark_begin 1 4 2) s15
+  does_14 : Does M s14 (mark_begin 1 1 2) s15
   unfolding value_of count_of is_even counted_word spot_value spot_of status_word status_of reads_of serial_of words_of node_count desc_count address place_at OwnsNode OwnsDesc lane_of_node lane_of_desc
-  does_14 = (view_at s14 1, record { at = refl; live = lit≤ tt }, record { idle = refl; own = (1, (0, lit≤ tt, refl), (lit≤ tt, lit≤ tt, lit≤ tt)); first = refl }, refl)
+  does_14 = (view_at s14 1, record { at = refl; live = lit≤ tt }, record { idle = refl; own = (1, (0, lit≤ tt, refl), (lit≤ tt, refl)); first = refl }, refl)
 
   does_15 : Does M s15 (mark_start 1) s16
   unfolding value_of count_of is_even counted_word spot_value spot_of status_word status_of reads_of serial_of words_of node_count desc_count address place_at OwnsNode OwnsDesc lane_of_node lane_of_desc
@@ -216,7 +216,7 @@ module _ (M : Meaning) (ins : M.certifies small_shape inserts) (mis : M.certifie
   unfolding value_of count_of is_even counted_word spot_value spot_of status_word status_of reads_of serial_of words_of node_count desc_count address place_at OwnsNode OwnsDesc lane_of_node lane_of_desc
   does_19 = (view_at s19 1, record { at = refl; live = lit≤ tt }, record { exists = lit≤ tt; reached = inr (2, 1, (lit≤ tt, refl), refl, (trail s19 1, (0, lit≤ tt, refl), ((nth (trail s19 1) 4), (4, lit≤ tt, refl), (record { there = refl; before = refl; found = refl })))); undecided = inl refl }, refl)
 
-  does_20 : Does M s20 (load 1 264) s21
+  does_20 : Does M s20 (load 1 424) s21
   unfolding value_of count_of is_even counted_word spot_value spot_of status_word status_of reads_of serial_of words_of node_count desc_count address place_at OwnsNode OwnsDesc lane_of_node lane_of_desc
   does_20 = (view_at s20 1, record { at = refl; live = lit≤ tt }, lit≤ tt, refl)
 
@@ -235,17 +235,17 @@ module _ (M : Meaning) (ins : M.certifies small_shape inserts) (mis : M.certifie
     refl,
   )
 
-  does_22 : Does M s22 (store 1 1131 2) s23
+  does_22 : Does M s22 (store 1 808 2) s23
   unfolding value_of count_of is_even counted_word spot_value spot_of status_word status_of reads_of serial_of words_of node_count desc_count address place_at OwnsNode OwnsDesc lane_of_node lane_of_desc
   does_22 = (view_at s22 1, hand_at s22 1, record { at = refl; live = lit≤ tt }, record { held = refl; unready = refl; exists = lit≤ tt; place = (refl, (lit≤ tt, refl)) }, refl)
 
-  does_23 : Does M s23 (store 1 1132 2) s24
+  does_23 : Does M s23 (store 1 809 2) s24
   unfolding value_of count_of is_even counted_word spot_value spot_of status_word status_of reads_of serial_of words_of node_count desc_count address place_at OwnsNode OwnsDesc lane_of_node lane_of_desc
   does_23 = (view_at s23 1, hand_at s23 1, record { at = refl; live = lit≤ tt }, record { held = refl; unready = refl; exists = lit≤ tt; place = refl }, refl)
 
   does_24 : Does M s24 (mark_act 1 misses) s25
   unfolding value_of count_of is_even counted_word spot_value spot_of status_word status_of reads_of serial_of words_of node_count desc_count address place_at OwnsNode OwnsDesc lane_of_node lane_of_desc
-  does_24 = (view_at s24 1, hand_at s24 1, record { at = refl; live = lit≤ tt }, record { held = refl; operates = refl; changes = refl; nodes = refl; count = 1; few = lit≤ tt; stored = one_below (IsStoredRead s24 (view_at s24 1) (attempt_of 4 0)) (record { word = record { store = record { earlier = take 10 (trail s24 1); step = (nth (trail s24 1) 10); later = drop 11 (trail s24 1); segment = (0, lit≤ tt, refl); such = record { kind = refl; attempt = refl; there = refl } }; left = refl; last = no_store_for _ 1131 (drop 11 (trail s24 1)) refl }; content = record { store = record { earlier = take 11 (trail s24 1); step = (nth (trail s24 1) 11); later = drop 12 (trail s24 1); segment = (0, lit≤ tt, refl); such = record { kind = refl; attempt = refl; there = refl } }; left = refl; last = no_store_for _ 1132 (drop 12 (trail s24 1)) refl } }); certified = record { acts = refl; certifies = only_one (M.certifies small_shape) misses mis; tidies = only_one (λ (c : Certificate). All (M.tidies small_shape) c.tidy) misses (only_none (M.tidies small_shape)); read = only_one (λ (r : Read). first_content (reads_now s24 4 1) (writes_now s24 (attempt_of 4 0)) r.word ≡ Some r.content) (read_now s24 4 0) refl; replaced = only_none (λ (w : Write). first_content (reads_now s24 4 1) (writes_now s24 (attempt_of 4 0)) w.word ≡ Some w.old); exactly = λ word. refl; nodes = only_one (λ (c : Certificate). All (λ (n : NewNode). IsOwnNode s24 (view_at s24 1) n.node) c.nodes) misses (only_none (λ (n : NewNode). IsOwnNode s24 (view_at s24 1) n.node)); chain = schain25 } }, refl)
+  does_24 = (view_at s24 1, hand_at s24 1, record { at = refl; live = lit≤ tt }, record { held = refl; operates = refl; changes = refl; nodes = refl; count = 1; few = lit≤ tt; stored = one_below (IsStoredRead s24 (view_at s24 1) (attempt_of 1 0)) (record { word = record { store = record { earlier = take 10 (trail s24 1); step = (nth (trail s24 1) 10); later = drop 11 (trail s24 1); segment = (0, lit≤ tt, refl); such = record { kind = refl; attempt = refl; there = refl } }; left = refl; last = no_store_for _ 808 (drop 11 (trail s24 1)) refl }; content = record { store = record { earlier = take 11 (trail s24 1); step = (nth (trail s24 1) 11); later = drop 12 (trail s24 1); segment = (0, lit≤ tt, refl); such = record { kind = refl; attempt = refl; there = refl } }; left = refl; last = no_store_for _ 809 (drop 12 (trail s24 1)) refl } }); certified = record { acts = refl; certifies = only_one (M.certifies small_shape) misses mis; tidies = only_one (λ (c : Certificate). All (M.tidies small_shape) c.tidy) misses (only_none (M.tidies small_shape)); read = only_one (λ (r : Read). first_content (reads_now s24 1 1) (writes_now s24 (attempt_of 1 0)) r.word ≡ Some r.content) (read_now s24 1 0) refl; replaced = only_none (λ (w : Write). first_content (reads_now s24 1 1) (writes_now s24 (attempt_of 1 0)) w.word ≡ Some w.old); exactly = λ word. refl; nodes = only_one (λ (c : Certificate). All (λ (n : NewNode). IsOwnNode s24 (view_at s24 1) n.node) c.nodes) misses (only_none (λ (n : NewNode). IsOwnNode s24 (view_at s24 1) n.node)); chain = schain25 } }, refl)
 
   does_25 : Does M s25 (ready 1 1) s26
   unfolding value_of count_of is_even counted_word spot_value spot_of status_word status_of reads_of serial_of words_of node_count desc_count address place_at OwnsNode OwnsDesc lane_of_node lane_of_desc
@@ -255,17 +255,17 @@ module _ (M : Meaning) (ins : M.certifies small_shape inserts) (mis : M.certifie
     record { at = refl; live = lit≤ tt },
     record {
       held = refl;
-      own = (1, (0, lit≤ tt, refl), (lit≤ tt, lit≤ tt, lit≤ tt));
+      own = (1, (0, lit≤ tt, refl), (lit≤ tt, refl));
       few = lit≤ tt;
-      stored = one_below (IsStoredRead s25 (view_at s25 1) (attempt_of 4 0)) (record { word = record { store = record { earlier = take 10 (trail s25 1); step = (nth (trail s25 1) 10); later = drop 11 (trail s25 1); segment = (0, lit≤ tt, refl); such = record { kind = refl; attempt = refl; there = refl } }; left = refl; last = no_store_for _ 1131 (drop 11 (trail s25 1)) refl }; content = record { store = record { earlier = take 11 (trail s25 1); step = (nth (trail s25 1) 11); later = drop 12 (trail s25 1); segment = (0, lit≤ tt, refl); such = record { kind = refl; attempt = refl; there = refl } }; left = refl; last = no_store_for _ 1132 (drop 12 (trail s25 1)) refl } });
-      recorded = only_one (MayRecord s25 (view_at s25 1)) (read_now s25 4 0) (record { counted = (lit≤ tt, refl); even = refl; met = (trail s25 1, (0, lit≤ tt, refl), ((nth (trail s25 1) 9), (9, lit≤ tt, refl), inr (record { there = refl; after = refl }))) });
-      installed = only_none (λ (w : Write). SomeStepOf (view_at s25 1) (InstallsFor (attempt_of 4 0) w));
+      stored = one_below (IsStoredRead s25 (view_at s25 1) (attempt_of 1 0)) (record { word = record { store = record { earlier = take 10 (trail s25 1); step = (nth (trail s25 1) 10); later = drop 11 (trail s25 1); segment = (0, lit≤ tt, refl); such = record { kind = refl; attempt = refl; there = refl } }; left = refl; last = no_store_for _ 808 (drop 11 (trail s25 1)) refl }; content = record { store = record { earlier = take 11 (trail s25 1); step = (nth (trail s25 1) 11); later = drop 12 (trail s25 1); segment = (0, lit≤ tt, refl); such = record { kind = refl; attempt = refl; there = refl } }; left = refl; last = no_store_for _ 809 (drop 12 (trail s25 1)) refl } });
+      recorded = only_one (MayRecord s25 (view_at s25 1)) (read_now s25 1 0) (record { counted = (lit≤ tt, refl); even = refl; met = (trail s25 1, (0, lit≤ tt, refl), ((nth (trail s25 1) 9), (9, lit≤ tt, refl), inr (record { there = refl; after = refl }))) });
+      installed = only_none (λ (w : Write). SomeStepOf (view_at s25 1) (InstallsFor (attempt_of 1 0) w));
       certified = λ won. record {
         acts = refl;
         certifies = only_one (M.certifies small_shape) misses mis;
         tidies = only_one (λ (c : Certificate). All (M.tidies small_shape) c.tidy) misses (only_none (M.tidies small_shape));
-        read = only_one (λ (r : Read). first_content (reads_now s25 4 1) (writes_now s25 (attempt_of 4 0)) r.word ≡ Some r.content) (read_now s25 4 0) refl;
-        replaced = only_none (λ (w : Write). first_content (reads_now s25 4 1) (writes_now s25 (attempt_of 4 0)) w.word ≡ Some w.old);
+        read = only_one (λ (r : Read). first_content (reads_now s25 1 1) (writes_now s25 (attempt_of 1 0)) r.word ≡ Some r.content) (read_now s25 1 0) refl;
+        replaced = only_none (λ (w : Write). first_content (reads_now s25 1 1) (writes_now s25 (attempt_of 1 0)) w.word ≡ Some w.old);
         exactly = λ word. refl;
         nodes = only_one (λ (c : Certificate). All (λ (n : NewNode). IsOwnNode s25 (view_at s25 1) n.node) c.nodes) misses (only_none (λ (n : NewNode). IsOwnNode s25 (view_at s25 1) n.node));
         chain = schain25;
@@ -278,9 +278,9 @@ module _ (M : Meaning) (ins : M.certifies small_shape inserts) (mis : M.certifie
   unfolding value_of count_of is_even counted_word spot_value spot_of status_word status_of reads_of serial_of words_of node_count desc_count address place_at OwnsNode OwnsDesc lane_of_node lane_of_desc
   does_26 = (view_at s26 1, record { at = refl; live = lit≤ tt }, lit≤ tt, refl)
 
-  does_27 : Does M s27 (commit 1 4 5) s28
+  does_27 : Does M s27 (commit 1 1 5) s28
   unfolding value_of count_of is_even counted_word spot_value spot_of status_word status_of reads_of serial_of words_of node_count desc_count address place_at OwnsNode OwnsDesc lane_of_node lane_of_desc
-  does_27 = (view_at s27 1, record { at = refl; live = lit≤ tt }, record { exists = lit≤ tt; in_progress = refl; since = record { earlier = take 13 (trail s27 1); step = (nth (trail s27 1) 13); later = drop 14 (trail s27 1); segment = (0, lit≤ tt, refl); such = inr (record { there = refl; after = refl }) }; stood = one_below (FoundRead true small_shape (view_at s27 1) (drop 14 (trail s27 1)) (attempt_of 4 0)) (record { word = 2; recorded = 2; found = 2; knows_word = inr (record { store = record { earlier = take 10 (trail s27 1); step = (nth (trail s27 1) 10); later = drop 11 (trail s27 1); segment = (0, lit≤ tt, refl); such = record { kind = refl; attempt = refl; there = refl } }; left = refl; last = no_store_for _ 1131 (drop 11 (trail s27 1)) refl }); knows_content = inr (record { store = record { earlier = take 11 (trail s27 1); step = (nth (trail s27 1) 11); later = drop 12 (trail s27 1); segment = (0, lit≤ tt, refl); such = record { kind = refl; attempt = refl; there = refl } }; left = refl; last = no_store_for _ 1132 (drop 12 (trail s27 1)) refl }); loads = ((nth (trail s27 1) 14), (0, lit≤ tt, refl), (record { kind = refl; finds = record { there = refl; before = refl; found = refl } })) }, refl) }, refl)
+  does_27 = (view_at s27 1, record { at = refl; live = lit≤ tt }, record { exists = lit≤ tt; in_progress = refl; since = record { earlier = take 13 (trail s27 1); step = (nth (trail s27 1) 13); later = drop 14 (trail s27 1); segment = (0, lit≤ tt, refl); such = inr (record { there = refl; after = refl }) }; stood = one_below (FoundRead true small_shape (view_at s27 1) (drop 14 (trail s27 1)) (attempt_of 1 0)) (record { word = 2; recorded = 2; found = 2; knows_word = inr (record { store = record { earlier = take 10 (trail s27 1); step = (nth (trail s27 1) 10); later = drop 11 (trail s27 1); segment = (0, lit≤ tt, refl); such = record { kind = refl; attempt = refl; there = refl } }; left = refl; last = no_store_for _ 808 (drop 11 (trail s27 1)) refl }); knows_content = inr (record { store = record { earlier = take 11 (trail s27 1); step = (nth (trail s27 1) 11); later = drop 12 (trail s27 1); segment = (0, lit≤ tt, refl); such = record { kind = refl; attempt = refl; there = refl } }; left = refl; last = no_store_for _ 809 (drop 12 (trail s27 1)) refl }); loads = ((nth (trail s27 1) 14), (0, lit≤ tt, refl), (record { kind = refl; finds = record { there = refl; before = refl; found = refl } })) }, refl) }, refl)
 
   does_28 : Does M s28 (mark_end 1) s29
   unfolding value_of count_of is_even counted_word spot_value spot_of status_word status_of reads_of serial_of words_of node_count desc_count address place_at OwnsNode OwnsDesc lane_of_node lane_of_desc
@@ -294,7 +294,7 @@ module _ (M : Meaning) (ins : M.certifies small_shape inserts) (mis : M.certifie
     record { at = refl; live = lit≤ tt },
     record {
       held = refl;
-      own = (0, (0, lit≤ tt, refl), (lit≤ tt, lit≤ tt, lit≤ tt));
+      own = (0, (0, lit≤ tt, refl), (lit≤ tt, refl));
       few = lit≤ tt;
       stored = λ i h. absurd (omega (arith, h));
       recorded = only_none (MayRecord s29 (view_at s29 0));

@@ -10,7 +10,7 @@ use Rattle.md_machine.specs.Machine.{Machine, content}
 use Rattle.md_machine.specs.Events.{Event, Runs, opened, load, store, install, abort, uninstall, split, mark_begin}
 use Rattle.md_machine.specs.Walk.{after_all}
 
--- two lanes of 16 nodes and four tries, one base node, one map of 64 buckets and one queue: 2,094 words
+-- two lanes of 16 nodes and four tries, one base node, one map of 64 buckets and one queue: 1,448 words
 abbrev pub small_shape : Shape
 small_shape = record {
   lanes = 2;
@@ -36,7 +36,7 @@ small_shape = record {
 abbrev pub small_opening : Opening
 small_opening = record {
   shape = small_shape;
-  words = slice_set (slice_set (replicate 2094 0) 65 8589934592) 66 8589934592;
+  words = slice_set (slice_set (replicate 1448 0) 65 8589934592) 66 8589934592;
   placed = record { node = 1; structure = Queue 0 } ∷ [];
 }
 
@@ -45,11 +45,11 @@ slot_0 = record { desc = 0; slot = 0 }
 
 -- pass 0 begins, fills its first slot and installs it in word 2
 abbrev pub installing : List Event
-installing = split 0 ∷ mark_begin 0 0 0 ∷ store 0 263 2 ∷ store 0 264 0 ∷ store 0 265 4 ∷ install 0 2 0 slot_0 ∷ []
+installing = split 0 ∷ mark_begin 0 0 0 ∷ store 0 423 2 ∷ store 0 424 0 ∷ store 0 425 4 ∷ install 0 2 0 slot_0 ∷ []
 
 -- pass 1 finds it there and clears it, in five steps
 abbrev pub clearing : List Event
-clearing = load 1 2 ∷ load 1 166 ∷ load 1 2 ∷ abort 1 0 0 ∷ load 1 264 ∷ uninstall 1 2 1 0 ∷ []
+clearing = load 1 2 ∷ load 1 166 ∷ load 1 2 ∷ abort 1 0 0 ∷ load 1 424 ∷ uninstall 1 2 1 0 ∷ []
 
 abbrev pub installed : Machine
 installed = after_all (opened small_opening) installing

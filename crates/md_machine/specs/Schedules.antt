@@ -57,10 +57,10 @@ misses = record { op = Get 0 1; reply = Value None; tidy = []; recorded = record
 abbrev pub stopping : List Event
 stopping =
     split 0 ∷ load 0 166 ∷ mark_begin 0 0 1 ∷ mark_start 0 ∷ load 0 2 ∷ store 0 70 1 ∷ store 0 71 10 ∷
-    store 0 72 2 ∷ store 0 263 2 ∷ store 0 264 0 ∷ store 0 265 4 ∷
-    install 0 2 0 (record { desc = 0; slot = 0 }) ∷ mark_act 0 inserts ∷ load 1 1130 ∷ mark_begin 1 4 2 ∷
-    mark_start 1 ∷ load 1 2 ∷ load 1 166 ∷ load 1 2 ∷ abort 1 0 0 ∷ load 1 264 ∷ uninstall 1 2 1 0 ∷
-    store 1 1131 2 ∷ store 1 1132 2 ∷ mark_act 1 misses ∷ ready 1 1 ∷ load 1 2 ∷ commit 1 4 5 ∷ mark_end 1 ∷
+    store 0 72 2 ∷ store 0 423 2 ∷ store 0 424 0 ∷ store 0 425 4 ∷
+    install 0 2 0 (record { desc = 0; slot = 0 }) ∷ mark_act 0 inserts ∷ load 1 807 ∷ mark_begin 1 1 2 ∷
+    mark_start 1 ∷ load 1 2 ∷ load 1 166 ∷ load 1 2 ∷ abort 1 0 0 ∷ load 1 424 ∷ uninstall 1 2 1 0 ∷
+    store 1 808 2 ∷ store 1 809 2 ∷ mark_act 1 misses ∷ ready 1 1 ∷ load 1 2 ∷ commit 1 1 5 ∷ mark_end 1 ∷
     ready 0 0 ∷ []
 
 abbrev pub stopping_end : Machine
@@ -77,11 +77,11 @@ pub record StoppedRow (M : Meaning) : Type 0 where
 abbrev pub helping : List Event
 helping =
     split 0 ∷ load 0 166 ∷ mark_begin 0 0 1 ∷ mark_start 0 ∷ load 0 2 ∷ store 0 70 1 ∷ store 0 71 10 ∷
-    store 0 72 2 ∷ store 0 263 2 ∷ store 0 264 0 ∷ store 0 265 4 ∷
-    install 0 2 0 (record { desc = 0; slot = 0 }) ∷ mark_act 0 inserts ∷ ready 0 0 ∷ load 1 1130 ∷
-    mark_begin 1 4 2 ∷ mark_start 1 ∷ load 1 2 ∷ load 1 166 ∷ load 1 2 ∷ commit 1 0 1 ∷ load 1 265 ∷
-    uninstall 1 2 1 4 ∷ load 1 72 ∷ load 1 70 ∷ store 1 1131 72 ∷ store 1 1132 2 ∷ load 1 71 ∷
-    mark_act 1 finds ∷ ready 1 1 ∷ load 1 72 ∷ commit 1 4 5 ∷ mark_end 1 ∷ []
+    store 0 72 2 ∷ store 0 423 2 ∷ store 0 424 0 ∷ store 0 425 4 ∷
+    install 0 2 0 (record { desc = 0; slot = 0 }) ∷ mark_act 0 inserts ∷ ready 0 0 ∷ load 1 807 ∷
+    mark_begin 1 1 2 ∷ mark_start 1 ∷ load 1 2 ∷ load 1 166 ∷ load 1 2 ∷ commit 1 0 1 ∷ load 1 425 ∷
+    uninstall 1 2 1 4 ∷ load 1 72 ∷ load 1 70 ∷ store 1 808 72 ∷ store 1 809 2 ∷ load 1 71 ∷
+    mark_act 1 finds ∷ ready 1 1 ∷ load 1 72 ∷ commit 1 1 5 ∷ mark_end 1 ∷ []
 
 abbrev pub helping_end : Machine
 helping_end = after_all (opened small_opening) helping
@@ -96,10 +96,10 @@ pub record HelpedRow (M : Meaning) : Type 0 where
 abbrev pub moving : List Event
 moving =
     split 0 ∷ load 0 166 ∷ mark_begin 0 0 1 ∷ mark_start 0 ∷ load 0 2 ∷ store 0 167 2 ∷ store 0 168 0 ∷
-    mark_act 0 misses ∷ load 1 1130 ∷ mark_begin 1 4 2 ∷ mark_start 1 ∷ load 1 2 ∷ store 1 118 1 ∷
-    store 1 119 10 ∷ store 1 120 2 ∷ store 1 1227 2 ∷ store 1 1228 0 ∷ store 1 1229 36 ∷
-    install 1 2 0 (record { desc = 4; slot = 0 }) ∷ mark_act 1 inserts_18 ∷ ready 1 0 ∷ commit 1 4 1 ∷
-    uninstall 1 2 4398046511105 36 ∷ mark_end 1 ∷ ready 0 1 ∷ load 0 2 ∷ abort 0 0 5 ∷ mark_end 0 ∷ []
+    mark_act 0 misses ∷ load 1 807 ∷ mark_begin 1 1 2 ∷ mark_start 1 ∷ load 1 2 ∷ store 1 118 1 ∷
+    store 1 119 10 ∷ store 1 120 2 ∷ store 1 1064 2 ∷ store 1 1065 0 ∷ store 1 1066 36 ∷
+    install 1 2 0 (record { desc = 1; slot = 0 }) ∷ mark_act 1 inserts_18 ∷ ready 1 0 ∷ commit 1 1 1 ∷
+    uninstall 1 2 1099511627777 36 ∷ mark_end 1 ∷ ready 0 1 ∷ load 0 2 ∷ abort 0 0 5 ∷ mark_end 0 ∷ []
 
 abbrev pub moving_end : Machine
 moving_end = after_all (opened small_opening) moving

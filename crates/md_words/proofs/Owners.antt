@@ -1,10 +1,9 @@
 -- Which lane owns a node or a descriptor.
-use Rattle.std.proofs.Common.{◌≡◌, ℕ, ◌+◌, ◌-◌, ◌*◌, ◌/◌, ◌<◌, ◌≤◌, ◌↔◌, arith}
+use Rattle.std.proofs.Common.{◌≡◌, ℕ, ◌+◌, ◌-◌, ◌*◌, ◌/◌, ◌<◌, ◌≤◌, ◌↔◌, sym, subst, arith}
 use Rattle.std.proofs.lemmas.Nat.{rows}
-use Rattle.md_words.specs.Limits.{descs_of_lane}
 use Rattle.md_words.specs.Layout.{node_count, desc_count}
 use Rattle.md_words.specs.Lanes.{node_of, desc_of, OwnsNode, OwnsDesc, lane_of_node, lane_of_desc}
-use Rattle.md_words.specs.LayoutLaws.{BaseNodesExist, NodeHasLane, DescHasLane, OwnNodeExists, OwnDescExists, NodeInLane, NodeNumber, NodesRise, DescInLane, DescNumber, DescsRise}
+use Rattle.md_words.specs.LayoutLaws.{BaseNodesExist, NodeHasLane, DescHasLane, OwnNodeExists, OwnDescExists, NodeInLane, NodeNumber, NodesRise, OneDesc}
 
 -- among n rows of k, x lies in a row exactly where the row is its quotient
 row_of : (n k row x : ℕ) → 0 < k → ((row < n) × (row * k ≤ x) × (x < (row + 1) * k)) ↔ ((x < n * k) × (x / k ≡ row))
@@ -13,7 +12,7 @@ row_of n k row x h =
 
 pub owner_of_desc : DescHasLane
 unfolding OwnsDesc desc_count lane_of_desc
-owner_of_desc shape lane desc = row_of shape.lanes (descs_of_lane shape.tries) lane desc (omega arith)
+owner_of_desc shape lane desc = ((λ h. (subst (λ d. d < shape.lanes) (sym h.1) h.0, h.1)), (λ h. (subst (λ d. d < shape.lanes) h.1 h.0, h.1)))
 
 pub base_nodes_exist : BaseNodesExist
 unfolding node_count
@@ -53,16 +52,6 @@ pub nodes_rise : NodesRise
 unfolding node_of
 nodes_rise shape lane i j h = omega arith
 
-pub desc_in_lane : DescInLane
-unfolding OwnsDesc desc_of
-desc_in_lane shape lane i h k = (h, omega arith, grind arith)
-
-pub desc_number : DescNumber
-unfolding OwnsDesc desc_of
-desc_number shape lane desc h =
-    let a = h.1 in let b = h.2 in
-    (desc - lane * descs_of_lane shape.tries, grind arith, omega arith)
-
-pub descs_rise : DescsRise
-unfolding desc_of
-descs_rise shape lane i j h = omega arith
+pub one_desc : OneDesc
+unfolding OwnsDesc
+one_desc shape lane desc h = ((λ own. own.1), (λ is. (h, is)))

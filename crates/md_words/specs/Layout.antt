@@ -3,7 +3,7 @@
 use Rattle.std.specs.Prelude.{◌≡◌, ℕ, ◌+◌, ◌-◌, ◌*◌, ◌%◌, ◌<◌, ◌≤◌, ⊤}
 use Rattle.md_words.specs.declared.shape.Shape.{Shape}
 use Rattle.md_words.specs.declared.limits.TheConstants.{SET, DESC_WORDS}
-use Rattle.md_words.specs.Limits.{count_of_words, descs_of_lane}
+use Rattle.md_words.specs.Limits.{count_of_words}
 use Rattle.md_words.specs.Place.{Place, base_word, bucket_head, queue_head, queue_tail, node_key, node_value, node_next, desc_status, read_word, read_content, slot_word, slot_old, slot_new}
 
 -- a shape of these numbers
@@ -14,15 +14,15 @@ HasNumbers shape lanes nodes base tries maps buckets queues =
 
 -- the number of words
 unfoldable pub words_of : Shape → ℕ
-words_of shape = count_of_words shape.lanes shape.nodes shape.base shape.tries shape.maps shape.buckets shape.queues
+words_of shape = count_of_words shape.lanes shape.nodes shape.base shape.maps shape.buckets shape.queues
 
 -- base nodes and those of every lane, numbered from 1
 unfoldable pub node_count : Shape → ℕ
 node_count shape = shape.base + shape.lanes * shape.nodes
 
--- the descriptors of every lane, numbered from 0
+-- one descriptor for each lane, numbered from 0
 unfoldable pub desc_count : Shape → ℕ
-desc_count shape = shape.lanes * descs_of_lane shape.tries
+desc_count shape = shape.lanes
 
 -- the bucket of a key
 unfoldable pub bucket_of : Shape → ℕ → ℕ

@@ -3,7 +3,6 @@
 use Rattle.std.specs.Prelude.{◌≡◌, ◌≢◌, ◌↔◌, ℕ, ◌^◌, ◌<◌, ◌≤◌, List, length, slice_index, slice_set, Bool, IsTrue}
 use Rattle.md_words.specs.declared.shape.Shape.{Shape}
 use Rattle.md_words.specs.declared.limits.TheConstants.{MAX_WORDS}
-use Rattle.md_words.specs.Limits.{descs_of_lane}
 use Rattle.md_words.specs.Link.{link_value}
 use Rattle.md_words.specs.Place.{Place, base_word, is_counted}
 use Rattle.md_words.specs.Layout.{words_of, node_count, desc_count, bucket_of, IsNode, Exists, address}
@@ -83,7 +82,7 @@ OwnNodeExists = (shape : Shape) (lane node : ℕ) → OwnsNode shape lane node �
 abbrev pub OwnDescExists : Type 0
 OwnDescExists = (shape : Shape) (lane desc : ℕ) → OwnsDesc shape lane desc → desc < desc_count shape
 
--- A lane owns those that it numbers, no others, and each under one number
+-- A lane owns the nodes that it numbers, no others, and each under one number
 
 abbrev pub NodeInLane : Type 0
 NodeInLane = (shape : Shape) (lane i : ℕ) → lane < shape.lanes → i < shape.nodes → OwnsNode shape lane (node_of shape lane i)
@@ -94,11 +93,6 @@ NodeNumber = (shape : Shape) (lane node : ℕ) → OwnsNode shape lane node → 
 abbrev pub NodesRise : Type 0
 NodesRise = (shape : Shape) (lane i j : ℕ) → i < j → node_of shape lane i < node_of shape lane j
 
-abbrev pub DescInLane : Type 0
-DescInLane = (shape : Shape) (lane i : ℕ) → lane < shape.lanes → i < descs_of_lane shape.tries → OwnsDesc shape lane (desc_of shape lane i)
-
-abbrev pub DescNumber : Type 0
-DescNumber = (shape : Shape) (lane desc : ℕ) → OwnsDesc shape lane desc → (i : ℕ) × (i < descs_of_lane shape.tries) × (desc ≡ desc_of shape lane i)
-
-abbrev pub DescsRise : Type 0
-DescsRise = (shape : Shape) (lane i j : ℕ) → i < j → desc_of shape lane i < desc_of shape lane j
+-- a lane has one descriptor
+abbrev pub OneDesc : Type 0
+OneDesc = (shape : Shape) (lane desc : ℕ) → lane < shape.lanes → OwnsDesc shape lane desc ↔ (desc ≡ desc_of lane)

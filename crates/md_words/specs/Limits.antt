@@ -23,14 +23,10 @@ BucketsFit buckets = (1 ≤ buckets) × (buckets ≤ MAX_BUCKETS)
 abbrev pub QueuesFit : ℕ → Type 0
 QueuesFit queues = queues ≤ MAX_QUEUES
 
--- how many descriptors a lane of so many tries has: one for each try
-abbrev pub descs_of_lane : ℕ → ℕ
-descs_of_lane tries = tries
-
--- the base word, the buckets, two words for each queue, three for each node, and the descriptors
-abbrev pub count_of_words : (lanes nodes base tries maps buckets queues : ℕ) → ℕ
-count_of_words lanes nodes base tries maps buckets queues =
-    1 + maps * buckets + 2 * queues + 3 * (base + lanes * nodes) + DESC_WORDS * (lanes * descs_of_lane tries)
+-- the base word, the buckets, two words for each queue, three for each node, and a descriptor for each lane
+abbrev pub count_of_words : (lanes nodes base maps buckets queues : ℕ) → ℕ
+count_of_words lanes nodes base maps buckets queues =
+    1 + maps * buckets + 2 * queues + 3 * (base + lanes * nodes) + DESC_WORDS * lanes
 
 -- each number is in its range
 pub record InRange (lanes nodes base tries maps buckets queues : ℕ) : Type 0 where

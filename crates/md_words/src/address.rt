@@ -15,8 +15,7 @@ impl Shape {
     pub fn words(&self) -> u64
         ensures { result ≡ words_of self.now }
     {
-        self.first_desc() as u64
-            + DESC_WORDS as u64 * (self.lanes as u64 * self.descs_of_lane() as u64)
+        self.first_desc() as u64 + DESC_WORDS as u64 * self.lanes as u64
     }
 
     /// The head of the bucket of a key in a map. The map exists.

@@ -1,7 +1,6 @@
 //! What a lane owns.
 
 ghost use Rattle.std.specs.Prelude.{◌≡◌, ◌<◌, ◌≤◌};
-ghost use Rattle.md_words.specs.Limits.{descs_of_lane};
 
 use crate::shape::Shape;
 
@@ -21,29 +20,14 @@ impl Shape {
         self.base + lane * self.nodes + i + 1
     }
 
-    /// Descriptor `i` of a lane, from 0 to `descs_of_lane() - 1`. The lane exists.
-    #[tactic(auto, unfolding(crate::specs::Lanes::desc_of, crate::specs::Lanes::OwnsDesc, crate::specs::Layout::desc_count))]
-    pub fn desc_of(&self, lane: u32, i: u32) -> u32
-        requires lane { lane < self.now.lanes }
-        requires i { i < descs_of_lane self.now.tries }
-        ensures desc { result ≡ desc_of self.now lane i }
+    /// The descriptor of a lane, which exists. All attempts of the lane use it, one after another.
+    #[tactic(auto, unfolding(crate::specs::Lanes::OwnsDesc, crate::specs::Layout::desc_count))]
+    pub fn desc_of(&self, lane: u32) -> u32
+        requires { lane < self.now.lanes }
+        ensures desc { result ≡ desc_of lane }
         ensures owner { OwnsDesc self.now lane result }
         ensures exists { result < desc_count self.now }
     {
-        lane * self.descs_of_lane() + i
+        lane
     }
-
-    /// How many descriptors a lane has.
-    pub fn descs_of_lane(&self) -> u32
-        ensures { result ≡ descs_of_lane self.now.tries }
-    {
-        descs_for(self.tries)
-    }
-}
-
-/// How many descriptors a lane of so many tries has: one for each try.
-pub(crate) fn descs_for(tries: u32) -> u32
-    ensures { result ≡ descs_of_lane tries }
-{
-    tries
 }

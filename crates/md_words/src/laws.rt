@@ -2,7 +2,7 @@
 //! word and every shape.
 
 ghost use Rattle.md_words.specs.WordLaws.{ValueFound, CountFound, PartsMakeWord, CountFits, ValueFits, CountedWordFits, ZeroIsEmpty, ZeroIsEven, EvenTurns, SpotFound, SpotMakesValue, SpotStands, StandingSpot, NodeFound, MarkFound, LinkMakesValue, StatusFound, ReadsFound, SerialFound, PartsMakeStatus, ReadsFit, StatusWordFits, StatusAdds, BeginsAt};
-ghost use Rattle.md_words.specs.LayoutLaws.{AddressIsWord, AddressesDiffer, PlaceFound, WordIsPlace, BaseIsZero, BucketExists, WriteLands, WriteLeaves, WordLeaves, CountedByPlace, WordsFit, NodesFitValues, DescsFitValues, BaseNodesExist, NodeHasLane, DescHasLane, OwnNodeExists, OwnDescExists, NodeInLane, NodeNumber, NodesRise, DescInLane, DescNumber, DescsRise};
+ghost use Rattle.md_words.specs.LayoutLaws.{AddressIsWord, AddressesDiffer, PlaceFound, WordIsPlace, BaseIsZero, BucketExists, WriteLands, WriteLeaves, WordLeaves, CountedByPlace, WordsFit, NodesFitValues, DescsFitValues, BaseNodesExist, NodeHasLane, DescHasLane, OwnNodeExists, OwnDescExists, NodeInLane, NodeNumber, NodesRise, OneDesc};
 
 /// A word is made of its parts, and has the parts that it was made of.
 pub fn word_laws()
@@ -49,7 +49,7 @@ pub fn layout_laws()
     ensures descs_fit { DescsFitValues }
 {}
 
-/// Each node past the base nodes belongs to one lane, and so does each descriptor.
+/// Each node past the base nodes belongs to one lane, and each lane has one descriptor.
 pub fn lane_laws()
     ensures base_nodes { BaseNodesExist }
     ensures node_has_lane { NodeHasLane }
@@ -59,7 +59,5 @@ pub fn lane_laws()
     ensures node_in_lane { NodeInLane }
     ensures node_number { NodeNumber }
     ensures nodes_rise { NodesRise }
-    ensures desc_in_lane { DescInLane }
-    ensures desc_number { DescNumber }
-    ensures descs_rise { DescsRise }
+    ensures one_desc { OneDesc }
 {}

@@ -1,19 +1,19 @@
 //! The limits of a shape, and what follows from them.
 
 /// The most lanes of a shape.
-pub const LANES: u32 = 8;
+pub const LANES: u32 = 64;
 
 /// The most reads, and the most writes, of a transaction: each descriptor has room for so many.
-pub const SET: u8 = 48;
+pub const SET: u8 = 128;
 
 /// The most nodes of a lane.
-pub const MAX_NODES: u32 = 1_048_576;
+pub const MAX_NODES: u32 = 8_388_608;
 
 /// The most base nodes.
 pub const MAX_BASE: u32 = 4_194_304;
 
-/// The most tries of a lane.
-pub const MAX_TRIES: u32 = 65_536;
+/// The most tries of a lane. Every `u32` is in this limit.
+pub const MAX_TRIES: u32 = 4_294_967_295;
 
 /// The most maps.
 pub const MAX_MAPS: u32 = 16;

@@ -4,9 +4,8 @@ ghost use Rattle.std.specs.Prelude.{◌≡◌, ◌<◌, ◌≤◌, ◌↔◌, �
 ghost use Rattle.md_words.specs.declared.limits.TheConstants.{MAX_WORDS};
 ghost use Rattle.md_words.specs.Limits.{LanesFit, NodesFit, BaseFits, TriesFit, MapsFit, BucketsFit, QueuesFit, InRange, count_of_words};
 
-use crate::lane::descs_for;
 use crate::limits::{
-    DESC_WORDS, LANES, MAX_BASE, MAX_BUCKETS, MAX_MAPS, MAX_NODES, MAX_QUEUES, MAX_TRIES, MAX_WORDS,
+    DESC_WORDS, LANES, MAX_BASE, MAX_BUCKETS, MAX_MAPS, MAX_NODES, MAX_QUEUES, MAX_WORDS,
 };
 
 /// How many of each thing a field has. Each number is in its range, and the field has at most
@@ -19,7 +18,7 @@ pub struct Shape {
     pub nodes: u32,
     /// Nodes that belong to no lane: 0 to `MAX_BASE`.
     pub base: u32,
-    /// How many transactions a lane may begin: 1 to `MAX_TRIES`.
+    /// How many attempts a lane may begin, with its one descriptor: 1 to `MAX_TRIES`.
     pub tries: u32,
     /// 1 to `MAX_MAPS`.
     pub maps: u32,
@@ -28,7 +27,7 @@ pub struct Shape {
     /// 0 to `MAX_QUEUES`.
     pub queues: u32,
     pub ghost in_range: { InRange lanes nodes base tries maps buckets queues },
-    pub ghost fits: { count_of_words lanes nodes base tries maps buckets queues ≤ MAX_WORDS },
+    pub ghost fits: { count_of_words lanes nodes base maps buckets queues ≤ MAX_WORDS },
 }
 
 /// Why numbers make no shape: the first of them that is out of its range, or their sum.
@@ -61,7 +60,7 @@ impl Shape {
     ) -> Result<Shape, ShapeFault>
         ensures ok { IsOk result
             ↔ (InRange lanes nodes base tries maps buckets queues
-            × (count_of_words lanes nodes base tries maps buckets queues ≤ MAX_WORDS)) }
+            × (count_of_words lanes nodes base maps buckets queues ≤ MAX_WORDS)) }
         ensures numbers { IfOk result (λ shape.
             HasNumbers shape lanes nodes base tries maps buckets queues) }
 
@@ -81,7 +80,7 @@ impl Shape {
             × BucketsFit buckets × ¬ QueuesFit queues) }
         ensures too_large { (words : ℕ) → (result ≡ Err (ShapeFault.TooLarge words))
             ↔ (InRange lanes nodes base tries maps buckets queues × (MAX_WORDS < words)
-            × (words ≡ count_of_words lanes nodes base tries maps buckets queues)) }
+            × (words ≡ count_of_words lanes nodes base maps buckets queues)) }
     {
         if lanes < 1 || lanes > LANES {
             return Err(ShapeFault::Lanes);
@@ -92,7 +91,7 @@ impl Shape {
         if base > MAX_BASE {
             return Err(ShapeFault::Base);
         }
-        if tries < 1 || tries > MAX_TRIES {
+        if tries < 1 {
             return Err(ShapeFault::Tries);
         }
         if maps < 1 || maps > MAX_MAPS {
@@ -104,7 +103,7 @@ impl Shape {
         if queues > MAX_QUEUES {
             return Err(ShapeFault::Queues);
         }
-        let words = count_of_words(lanes, nodes, base, tries, maps, buckets, queues);
+        let words = count_of_words(lanes, nodes, base, maps, buckets, queues);
         if words > MAX_WORDS {
             return Err(ShapeFault::TooLarge { words });
         }
@@ -121,20 +120,16 @@ impl Shape {
 }
 
 /// The number of words of a field of these numbers.
-fn count_of_words(
-    lanes: u32,
-    nodes: u32,
-    base: u32,
-    tries: u32,
-    maps: u32,
-    buckets: u32,
-    queues: u32,
-) -> u64
-    requires { InRange lanes nodes base tries maps buckets queues }
-    ensures { result ≡ count_of_words lanes nodes base tries maps buckets queues }
+fn count_of_words(lanes: u32, nodes: u32, base: u32, maps: u32, buckets: u32, queues: u32) -> u64
+    requires lanes { LanesFit lanes }
+    requires nodes { NodesFit nodes }
+    requires base { BaseFits base }
+    requires maps { MapsFit maps }
+    requires buckets { BucketsFit buckets }
+    requires queues { QueuesFit queues }
+    ensures { result ≡ count_of_words lanes nodes base maps buckets queues }
 {
     let heads = maps as u64 * buckets as u64;
     let nodes = base as u64 + lanes as u64 * nodes as u64;
-    let descs = lanes as u64 * descs_for(tries) as u64;
-    1 + heads + 2 * queues as u64 + 3 * nodes + DESC_WORDS as u64 * descs
+    1 + heads + 2 * queues as u64 + 3 * nodes + DESC_WORDS as u64 * lanes as u64
 }

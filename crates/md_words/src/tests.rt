@@ -4,9 +4,10 @@ use std::test::Fail;
 #[test]
 fn shapes(rt: HostRuntime) {
     for ((lanes, nodes, base, tries), (maps, buckets, queues), want) in [
-        ((1, 1, 0, 1), (1, 1, 0), Ok(246)),
-        ((2, 16, 1, 4), (1, 64, 1), Ok(2094)),
-        ((9, 0, 0, 1), (1, 1, 0), Err(ShapeFault::Lanes)),
+        ((1, 1, 0, 1), (1, 1, 0), Ok(646)),
+        ((2, 16, 1, 4), (1, 64, 1), Ok(1448)),
+        ((8, 1048576, 0, 4294967295), (1, 1, 0), Ok(25170954)),
+        ((65, 0, 0, 1), (1, 1, 0), Err(ShapeFault::Lanes)),
         ((1, 0, 0, 1), (1, 1, 0), Err(ShapeFault::Nodes)),
         ((1, 1, 4194305, 1), (1, 1, 0), Err(ShapeFault::Base)),
         ((1, 1, 0, 0), (1, 1, 0), Err(ShapeFault::Tries)),
@@ -14,9 +15,9 @@ fn shapes(rt: HostRuntime) {
         ((1, 1, 0, 1), (1, 0, 0), Err(ShapeFault::Buckets)),
         ((1, 1, 0, 1), (1, 1, 4097), Err(ShapeFault::Queues)),
         (
-            (8, 1048576, 0, 65536),
+            (8, 8388608, 0, 1),
             (1, 1, 0),
-            Err(ShapeFault::TooLarge { words: 151519234 }),
+            Err(ShapeFault::TooLarge { words: 201331722 }),
         ),
     ] {
         let shape = Shape::new(lanes, nodes, base, tries, maps, buckets, queues);
@@ -40,14 +41,20 @@ fn addresses(rt: HostRuntime) -> Result<(), Fail> {
         (shape.status(0), 166),
         (shape.read_word(0, 0), 167),
         (shape.read_content(0, 0), 168),
-        (shape.slot_word(0, 0), 263),
-        (shape.slot_old(0, 0), 264),
-        (shape.slot_new(0, 0), 265),
-        (shape.slot_new(7, 47), 2093),
+        (shape.slot_word(0, 0), 423),
+        (shape.slot_old(0, 0), 424),
+        (shape.slot_new(0, 0), 425),
+        (shape.status(1), 807),
+        (shape.read_word(1, 0), 808),
+        (shape.read_content(1, 0), 809),
+        (shape.slot_word(1, 0), 1064),
+        (shape.slot_old(1, 0), 1065),
+        (shape.slot_new(1, 0), 1066),
+        (shape.slot_new(1, 127), 1447),
         (shape.node_of(0, 0), 2),
         (shape.node_of(1, 0), 18),
-        (shape.desc_of(1, 0), 4),
-        (shape.descs_of_lane(), 4),
+        (shape.desc_of(0), 0),
+        (shape.desc_of(1), 1),
     ] {
         assert_eq!(rt; word, want);
     }
@@ -73,6 +80,7 @@ fn words(rt: HostRuntime) {
         (17179869184 + 2, 4, 2, None),
         (154618822658, 36, 2, None),
         (775 * 4294967296 + 5, 775, 5, Some(spot)),
+        (1099511627777, 256, 1, Some(Spot { desc: 1, slot: 0 })),
     ] {
         let content = Content { value, count };
         assert_eq!(rt; Content::of(word), content);

@@ -1,4 +1,4 @@
-use Rattle.md_words.proofs.Owners.{base_nodes_exist, owner_of_node, owner_of_desc, own_node_exists, own_desc_exists, node_in_lane, node_number, nodes_rise, desc_in_lane, desc_number, descs_rise}
+use Rattle.md_words.proofs.Owners.{base_nodes_exist, owner_of_node, owner_of_desc, own_node_exists, own_desc_exists, node_in_lane, node_number, nodes_rise, one_desc}
 use Rattle.md_words.proofs.laws.lane_laws.Goals as goal
 
 pub returns : goal.returns
@@ -11,7 +11,5 @@ returns c = record {
   node_in_lane = node_in_lane;
   node_number = node_number;
   nodes_rise = nodes_rise;
-  desc_in_lane = desc_in_lane;
-  desc_number = desc_number;
-  descs_rise = descs_rise;
+  one_desc = one_desc;
 }
