@@ -12,5 +12,5 @@ mod text;
 
 pub use read::{OrderFault, read_orders};
 pub use replies::Replies;
-pub use scripts::Scripts;
+pub use scripts::{Scripts, commands_are_named};
 pub use text::report;

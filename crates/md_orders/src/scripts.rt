@@ -123,3 +123,11 @@ impl Scripts {
         Some(script[line as usize - 1])
     }
 }
+
+/// What scripts keep of their commands, for a proof to use: each is in range, and an order that it places has
+/// the name of its line. Nothing is worked out.
+pub fn commands_are_named(scripts: &Scripts)
+    ensures { AreNamed scripts.now }
+{
+    let _ = scripts.script(0);
+}
