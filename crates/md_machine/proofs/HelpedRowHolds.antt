@@ -1,5 +1,6 @@
 -- An insert stalls when it is ready, and a get commits it and finds its key.
 use Rattle.std.proofs.Common.{◌≡◌, ℕ, List, [], ◌∷◌, take, drop, refl, lit≤, inl, inr, true, false, None, Some, arith}
+use Rattle.std.specs.Prelude.{is_some, ◌≢◌}
 use Rattle.std.specs.List.{All}
 use Rattle.std.proofs.lemmas.Bool.{false≢true}
 use Rattle.md_words.specs.Content.{value_of, count_of, is_even, counted_word, spot_value, spot_of}
@@ -22,13 +23,13 @@ use Rattle.md_machine.specs.Resolution.{InEveryResolution, logical_heap}
 use Rattle.md_machine.specs.Trail.{SomeStepOf}
 use Rattle.md_machine.specs.Own.{IsOwnNode}
 use Rattle.md_machine.specs.Deciding.{FoundRead}
-use Rattle.md_machine.specs.Certified.{OwnChain, HoldsWords, first_content, first_view, overlaid, own_changes, own_after}
+use Rattle.md_machine.specs.Certified.{CertifiedIn, HasWords, first_content, as_found, after_wholes}
 use Rattle.md_machine.specs.Readying.{MayRecord, IsStoredRead, InstallsFor, read_now, reads_now, write_now, writes_now}
 use Rattle.md_machine.specs.Events.{Does, Runs, opened, load, store, install, ready, commit, uninstall, split, mark_begin, mark_start, mark_act, mark_end}
 use Rattle.md_machine.specs.Walk.{view_at, hand_at, after_event}
 use Rattle.md_machine.specs.Rows.{small_shape, small_opening}
 use Rattle.md_machine.specs.Schedules.{inserts_change, inserts_node_of, inserts, finds, helping, helping_end, HelpedRow}
-use Rattle.md_machine.proofs.Walking.{trail_at, nth, only_one, only_none, one_below, no_store_for}
+use Rattle.md_machine.proofs.Walking.{trail_at, nth, only_one, only_none, one_differs, none_differ, one_below, no_store_for}
 
 abbrev h0 : Machine
 h0 = opened small_opening
@@ -135,14 +136,40 @@ h33 = after_event h32 (mark_end 1)
 abbrev trail : Machine → ℕ → List Step
 trail = trail_at
 
-hchain13 : InEveryResolution h13 (λ heap. OwnChain heap (writes_now h13 (attempt_of 0 0)) (first_view (reads_now h13 0 0) (writes_now h13 (attempt_of 0 0))) (inserts ∷ []))
+hchain13 : InEveryResolution h13 (CertifiedIn (reads_now h13 0 0) (writes_now h13 (attempt_of 0 0)) (inserts ∷ []))
 unfolding value_of count_of is_even counted_word spot_value spot_of status_word status_of reads_of serial_of words_of node_count desc_count address place_at OwnsNode OwnsDesc lane_of_node lane_of_desc
-hchain13 [] r = (tt, record { recorded = only_none (λ (r : WordValue). (first_view (reads_now h13 0 0) (writes_now h13 (attempt_of 0 0))).value r.word ≡ Some r.value); old = only_one (λ (x : Change). (first_view (reads_now h13 0 0) (writes_now h13 (attempt_of 0 0))).value x.word ≡ Some x.old) (inserts_change 2) refl; facts = only_none (Holds (overlaid (logical_heap h13 []) (writes_now h13 (attempt_of 0 0)) (first_view (reads_now h13 0 0) (writes_now h13 (attempt_of 0 0))))); fresh = only_one (λ (n : NewNode). (first_view (reads_now h13 0 0) (writes_now h13 (attempt_of 0 0))).placed n.node ≡ None) (inserts_node_of 2) refl; words = only_one (HoldsWords (overlaid (logical_heap h13 []) (writes_now h13 (attempt_of 0 0)) (own_changes (first_view (reads_now h13 0 0) (writes_now h13 (attempt_of 0 0))) inserts.changes))) (inserts_node_of 2) (record { key = refl; value = refl; next = refl }) }, only_one (λ (w : Write). (own_after (first_view (reads_now h13 0 0) (writes_now h13 (attempt_of 0 0))) inserts).value w.word ≡ Some w.new) (write_now h13 (record { attempt = attempt_of 0 0; slot = 0; word = 2; old = 0 })) refl)
+hchain13 [] r = record {
+  stand = (
+    tt,
+    record {
+      recorded = only_none (λ (r : WordValue). (as_found (reads_now h13 0 0) (writes_now h13 (attempt_of 0 0)) (logical_heap h13 [])).words.value r.word ≡ r.value);
+      old = only_one (λ (x : Change). (as_found (reads_now h13 0 0) (writes_now h13 (attempt_of 0 0)) (logical_heap h13 [])).words.value x.word ≡ x.old) (inserts_change 2) refl;
+      facts = only_none (Holds (logical_heap h13 []));
+      fresh = only_one (λ (n : NewNode). (logical_heap h13 []).placed n.node ≡ None) (inserts_node_of 2) refl;
+    },
+    tt,
+  );
+  words = only_one (HasWords (logical_heap h13 []).words) (inserts_node_of 2) (record { key = refl; value = refl; next = refl });
+  last = only_one (λ (w : Write). (after_wholes (as_found (reads_now h13 0 0) (writes_now h13 (attempt_of 0 0)) (logical_heap h13 [])) (inserts ∷ [])).words.value w.word ≡ w.new) (write_now h13 (record { attempt = attempt_of 0 0; slot = 0; word = 2; old = 0 })) refl;
+}
 hchain13 (k ∷ ks) r = absurd r
 
-hchain29 : InEveryResolution h29 (λ heap. OwnChain heap (writes_now h29 (attempt_of 1 0)) (first_view (reads_now h29 1 1) (writes_now h29 (attempt_of 1 0))) (finds ∷ []))
+hchain29 : InEveryResolution h29 (CertifiedIn (reads_now h29 1 1) (writes_now h29 (attempt_of 1 0)) (finds ∷ []))
 unfolding value_of count_of is_even counted_word spot_value spot_of status_word status_of reads_of serial_of words_of node_count desc_count address place_at OwnsNode OwnsDesc lane_of_node lane_of_desc
-hchain29 (true ∷ []) r = (tt, record { recorded = only_one (λ (r : WordValue). (first_view (reads_now h29 1 1) (writes_now h29 (attempt_of 1 0))).value r.word ≡ Some r.value) (record { word = 72; value = 0 }) refl; old = only_none (λ (x : Change). (first_view (reads_now h29 1 1) (writes_now h29 (attempt_of 1 0))).value x.word ≡ Some x.old); facts = only_one (Holds (overlaid (logical_heap h29 (true ∷ [])) (writes_now h29 (attempt_of 1 0)) (first_view (reads_now h29 1 1) (writes_now h29 (attempt_of 1 0))))) (record { node = 2; structure = Bucket 0 1; key = Some 1; value = Some 10; next = None }) (record { placed = refl; key = refl; value = refl; next = tt }); fresh = only_none (λ (n : NewNode). (first_view (reads_now h29 1 1) (writes_now h29 (attempt_of 1 0))).placed n.node ≡ None); words = only_none (HoldsWords (overlaid (logical_heap h29 (true ∷ [])) (writes_now h29 (attempt_of 1 0)) (own_changes (first_view (reads_now h29 1 1) (writes_now h29 (attempt_of 1 0))) finds.changes))) }, only_none (λ (w : Write). (own_after (first_view (reads_now h29 1 1) (writes_now h29 (attempt_of 1 0))) finds).value w.word ≡ Some w.new))
+hchain29 (true ∷ []) r = record {
+  stand = (
+    tt,
+    record {
+      recorded = only_one (λ (r : WordValue). (as_found (reads_now h29 1 1) (writes_now h29 (attempt_of 1 0)) (logical_heap h29 (true ∷ []))).words.value r.word ≡ r.value) (record { word = 72; value = 0 }) refl;
+      old = only_none (λ (x : Change). (as_found (reads_now h29 1 1) (writes_now h29 (attempt_of 1 0)) (logical_heap h29 (true ∷ []))).words.value x.word ≡ x.old);
+      facts = only_one (Holds (logical_heap h29 (true ∷ []))) (record { node = 2; structure = Bucket 0 1; key = Some 1; value = Some 10; next = None }) (record { placed = refl; key = refl; value = refl; next = tt });
+      fresh = only_none (λ (n : NewNode). (logical_heap h29 (true ∷ [])).placed n.node ≡ None);
+    },
+    tt,
+  );
+  words = only_none (HasWords (logical_heap h29 (true ∷ [])).words);
+  last = only_none (λ (w : Write). (after_wholes (as_found (reads_now h29 1 1) (writes_now h29 (attempt_of 1 0)) (logical_heap h29 (true ∷ []))) (finds ∷ [])).words.value w.word ≡ w.new);
+}
 hchain29 (false ∷ []) r = absurd (false≢true r.0)
 hchain29 (k ∷ j ∷ ks) r = absurd r.1
 hchain29 [] r = absurd r
@@ -198,7 +225,7 @@ module _ (M : Meaning) (ins : M.certifies small_shape inserts) (fin : M.certifie
 
   does_12 : Does M h12 (mark_act 0 inserts) h13
   unfolding value_of count_of is_even counted_word spot_value spot_of status_word status_of reads_of serial_of words_of node_count desc_count address place_at OwnsNode OwnsDesc lane_of_node lane_of_desc
-  does_12 = (view_at h12 0, hand_at h12 0, record { at = refl; live = lit≤ tt }, record { held = refl; operates = refl; changes = refl; nodes = refl; count = 0; few = lit≤ tt; stored = λ i h. absurd (omega (arith, h)); certified = record { acts = refl; certifies = only_one (M.certifies small_shape) inserts ins; tidies = only_one (λ (c : Certificate). All (M.tidies small_shape) c.tidy) inserts (only_none (M.tidies small_shape)); read = only_none (λ (r : Read). first_content (reads_now h12 0 0) (writes_now h12 (attempt_of 0 0)) r.word ≡ Some r.content); replaced = only_one (λ (w : Write). first_content (reads_now h12 0 0) (writes_now h12 (attempt_of 0 0)) w.word ≡ Some w.old) (write_now h12 (record { attempt = attempt_of 0 0; slot = 0; word = 2; old = 0 })) refl; exactly = λ word. refl; nodes = only_one (λ (c : Certificate). All (λ (n : NewNode). IsOwnNode h12 (view_at h12 0) n.node) c.nodes) inserts (only_one (λ (n : NewNode). IsOwnNode h12 (view_at h12 0) n.node) (inserts_node_of 2) ((0, (0, lit≤ tt, refl), (lit≤ tt, lit≤ tt, lit≤ tt)), refl)); chain = hchain13 } }, refl)
+  does_12 = (view_at h12 0, hand_at h12 0, record { at = refl; live = lit≤ tt }, record { held = refl; operates = refl; changes = refl; nodes = refl; count = 0; few = lit≤ tt; stored = λ i h. absurd (omega (arith, h)); certified = record { acts = refl; certifies = only_one (M.certifies small_shape) inserts ins; tidies = only_one (λ (c : Certificate). All (M.tidies small_shape) c.tidy) inserts (only_none (M.tidies small_shape)); read = only_none (λ (r : Read). first_content (reads_now h12 0 0) (writes_now h12 (attempt_of 0 0)) r.word ≡ Some r.content); replaced = only_one (λ (w : Write). first_content (reads_now h12 0 0) (writes_now h12 (attempt_of 0 0)) w.word ≡ Some w.old) (write_now h12 (record { attempt = attempt_of 0 0; slot = 0; word = 2; old = 0 })) refl; exactly = λ word. refl; recorded = only_one (λ (c : Certificate). All (λ (r : WordValue). is_some (first_content (reads_now h12 0 0) (writes_now h12 (attempt_of 0 0)) r.word) ≡ true) c.recorded) inserts (only_none (λ (r : WordValue). is_some (first_content (reads_now h12 0 0) (writes_now h12 (attempt_of 0 0)) r.word) ≡ true)); nodes = only_one (λ (n : NewNode). IsOwnNode h12 (view_at h12 0) n.node) (inserts_node_of 2) ((0, (0, lit≤ tt, refl), (lit≤ tt, lit≤ tt, lit≤ tt)), refl); differ = one_differs (λ (n k : NewNode). n.node ≢ k.node) (inserts_node_of 2); chain = hchain13 } }, refl)
 
   does_13 : Does M h13 (ready 0 0) h14
   unfolding value_of count_of is_even counted_word spot_value spot_of status_word status_of reads_of serial_of words_of node_count desc_count address place_at OwnsNode OwnsDesc lane_of_node lane_of_desc
@@ -220,7 +247,9 @@ module _ (M : Meaning) (ins : M.certifies small_shape inserts) (fin : M.certifie
         read = only_none (λ (r : Read). first_content (reads_now h13 0 0) (writes_now h13 (attempt_of 0 0)) r.word ≡ Some r.content);
         replaced = only_one (λ (w : Write). first_content (reads_now h13 0 0) (writes_now h13 (attempt_of 0 0)) w.word ≡ Some w.old) (write_now h13 (record { attempt = attempt_of 0 0; slot = 0; word = 2; old = 0 })) refl;
         exactly = λ word. refl;
-        nodes = only_one (λ (c : Certificate). All (λ (n : NewNode). IsOwnNode h13 (view_at h13 0) n.node) c.nodes) inserts (only_one (λ (n : NewNode). IsOwnNode h13 (view_at h13 0) n.node) (inserts_node_of 2) ((0, (0, lit≤ tt, refl), (lit≤ tt, lit≤ tt, lit≤ tt)), refl));
+        recorded = only_one (λ (c : Certificate). All (λ (r : WordValue). is_some (first_content (reads_now h13 0 0) (writes_now h13 (attempt_of 0 0)) r.word) ≡ true) c.recorded) inserts (only_none (λ (r : WordValue). is_some (first_content (reads_now h13 0 0) (writes_now h13 (attempt_of 0 0)) r.word) ≡ true));
+        nodes = only_one (λ (n : NewNode). IsOwnNode h13 (view_at h13 0) n.node) (inserts_node_of 2) ((0, (0, lit≤ tt, refl), (lit≤ tt, lit≤ tt, lit≤ tt)), refl);
+        differ = one_differs (λ (n k : NewNode). n.node ≢ k.node) (inserts_node_of 2);
         chain = hchain13;
       };
     },
@@ -296,7 +325,7 @@ module _ (M : Meaning) (ins : M.certifies small_shape inserts) (fin : M.certifie
 
   does_28 : Does M h28 (mark_act 1 finds) h29
   unfolding value_of count_of is_even counted_word spot_value spot_of status_word status_of reads_of serial_of words_of node_count desc_count address place_at OwnsNode OwnsDesc lane_of_node lane_of_desc
-  does_28 = (view_at h28 1, hand_at h28 1, record { at = refl; live = lit≤ tt }, record { held = refl; operates = refl; changes = refl; nodes = refl; count = 1; few = lit≤ tt; stored = one_below (IsStoredRead h28 (view_at h28 1) (attempt_of 1 0)) (record { word = record { store = record { earlier = take 12 (trail h28 1); step = (nth (trail h28 1) 12); later = drop 13 (trail h28 1); segment = (0, lit≤ tt, refl); such = record { kind = refl; attempt = refl; there = refl } }; left = refl; last = no_store_for _ 808 (drop 13 (trail h28 1)) refl }; content = record { store = record { earlier = take 13 (trail h28 1); step = (nth (trail h28 1) 13); later = drop 14 (trail h28 1); segment = (0, lit≤ tt, refl); such = record { kind = refl; attempt = refl; there = refl } }; left = refl; last = no_store_for _ 809 (drop 14 (trail h28 1)) refl } }); certified = record { acts = refl; certifies = only_one (M.certifies small_shape) finds fin; tidies = only_one (λ (c : Certificate). All (M.tidies small_shape) c.tidy) finds (only_none (M.tidies small_shape)); read = only_one (λ (r : Read). first_content (reads_now h28 1 1) (writes_now h28 (attempt_of 1 0)) r.word ≡ Some r.content) (read_now h28 1 0) refl; replaced = only_none (λ (w : Write). first_content (reads_now h28 1 1) (writes_now h28 (attempt_of 1 0)) w.word ≡ Some w.old); exactly = λ word. refl; nodes = only_one (λ (c : Certificate). All (λ (n : NewNode). IsOwnNode h28 (view_at h28 1) n.node) c.nodes) finds (only_none (λ (n : NewNode). IsOwnNode h28 (view_at h28 1) n.node)); chain = hchain29 } }, refl)
+  does_28 = (view_at h28 1, hand_at h28 1, record { at = refl; live = lit≤ tt }, record { held = refl; operates = refl; changes = refl; nodes = refl; count = 1; few = lit≤ tt; stored = one_below (IsStoredRead h28 (view_at h28 1) (attempt_of 1 0)) (record { word = record { store = record { earlier = take 12 (trail h28 1); step = (nth (trail h28 1) 12); later = drop 13 (trail h28 1); segment = (0, lit≤ tt, refl); such = record { kind = refl; attempt = refl; there = refl } }; left = refl; last = no_store_for _ 808 (drop 13 (trail h28 1)) refl }; content = record { store = record { earlier = take 13 (trail h28 1); step = (nth (trail h28 1) 13); later = drop 14 (trail h28 1); segment = (0, lit≤ tt, refl); such = record { kind = refl; attempt = refl; there = refl } }; left = refl; last = no_store_for _ 809 (drop 14 (trail h28 1)) refl } }); certified = record { acts = refl; certifies = only_one (M.certifies small_shape) finds fin; tidies = only_one (λ (c : Certificate). All (M.tidies small_shape) c.tidy) finds (only_none (M.tidies small_shape)); read = only_one (λ (r : Read). first_content (reads_now h28 1 1) (writes_now h28 (attempt_of 1 0)) r.word ≡ Some r.content) (read_now h28 1 0) refl; replaced = only_none (λ (w : Write). first_content (reads_now h28 1 1) (writes_now h28 (attempt_of 1 0)) w.word ≡ Some w.old); exactly = λ word. refl; recorded = only_one (λ (c : Certificate). All (λ (r : WordValue). is_some (first_content (reads_now h28 1 1) (writes_now h28 (attempt_of 1 0)) r.word) ≡ true) c.recorded) finds (only_one (λ (r : WordValue). is_some (first_content (reads_now h28 1 1) (writes_now h28 (attempt_of 1 0)) r.word) ≡ true) (record { word = 72; value = 0 }) refl); nodes = only_none (λ (n : NewNode). IsOwnNode h28 (view_at h28 1) n.node); differ = none_differ (λ (n k : NewNode). n.node ≢ k.node); chain = hchain29 } }, refl)
 
   does_29 : Does M h29 (ready 1 1) h30
   unfolding value_of count_of is_even counted_word spot_value spot_of status_word status_of reads_of serial_of words_of node_count desc_count address place_at OwnsNode OwnsDesc lane_of_node lane_of_desc
@@ -318,7 +347,9 @@ module _ (M : Meaning) (ins : M.certifies small_shape inserts) (fin : M.certifie
         read = only_one (λ (r : Read). first_content (reads_now h29 1 1) (writes_now h29 (attempt_of 1 0)) r.word ≡ Some r.content) (read_now h29 1 0) refl;
         replaced = only_none (λ (w : Write). first_content (reads_now h29 1 1) (writes_now h29 (attempt_of 1 0)) w.word ≡ Some w.old);
         exactly = λ word. refl;
-        nodes = only_one (λ (c : Certificate). All (λ (n : NewNode). IsOwnNode h29 (view_at h29 1) n.node) c.nodes) finds (only_none (λ (n : NewNode). IsOwnNode h29 (view_at h29 1) n.node));
+        recorded = only_one (λ (c : Certificate). All (λ (r : WordValue). is_some (first_content (reads_now h29 1 1) (writes_now h29 (attempt_of 1 0)) r.word) ≡ true) c.recorded) finds (only_one (λ (r : WordValue). is_some (first_content (reads_now h29 1 1) (writes_now h29 (attempt_of 1 0)) r.word) ≡ true) (record { word = 72; value = 0 }) refl);
+        nodes = only_none (λ (n : NewNode). IsOwnNode h29 (view_at h29 1) n.node);
+        differ = none_differ (λ (n k : NewNode). n.node ≢ k.node);
         chain = hchain29;
       };
     },

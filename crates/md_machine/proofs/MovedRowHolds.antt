@@ -1,5 +1,6 @@
 -- A get of an absent key is overtaken by an insert, becomes ready unsound, and is aborted.
 use Rattle.std.proofs.Common.{◌≡◌, ℕ, List, [], ◌∷◌, take, drop, refl, lit≤, inl, inr, true, false, None, Some, arith}
+use Rattle.std.specs.Prelude.{is_some, ◌≢◌}
 use Rattle.std.specs.List.{All}
 use Rattle.std.proofs.lemmas.Bool.{false≢true}
 use Rattle.md_words.specs.Content.{value_of, count_of, is_even, counted_word, spot_value, spot_of}
@@ -20,13 +21,13 @@ use Rattle.md_machine.specs.Machine.{Machine, attempt_of}
 use Rattle.md_machine.specs.Resolution.{InEveryResolution, logical_heap}
 use Rattle.md_machine.specs.Trail.{SomeStepOf}
 use Rattle.md_machine.specs.Own.{IsOwnNode}
-use Rattle.md_machine.specs.Certified.{OwnChain, HoldsWords, first_content, first_view, overlaid, own_changes, own_after}
+use Rattle.md_machine.specs.Certified.{CertifiedIn, HasWords, first_content, as_found, after_wholes}
 use Rattle.md_machine.specs.Readying.{MayRecord, IsStoredRead, InstallsFor, read_now, reads_now, write_now, writes_now}
 use Rattle.md_machine.specs.Events.{Does, Runs, opened, load, store, install, ready, commit, abort, uninstall, split, mark_begin, mark_start, mark_act, mark_end}
 use Rattle.md_machine.specs.Walk.{view_at, hand_at, after_event}
 use Rattle.md_machine.specs.Rows.{small_shape, small_opening}
 use Rattle.md_machine.specs.Schedules.{inserts_change, inserts_node_of, inserts_18, misses, moving, moving_end, MovedRow}
-use Rattle.md_machine.proofs.Walking.{trail_at, nth, only_one, only_none, one_below, no_store_for}
+use Rattle.md_machine.proofs.Walking.{trail_at, nth, only_one, only_none, one_differs, none_differ, one_below, no_store_for}
 
 abbrev r0 : Machine
 r0 = opened small_opening
@@ -118,19 +119,58 @@ r28 = after_event r27 (mark_end 0)
 abbrev trail : Machine → ℕ → List Step
 trail = trail_at
 
-rchain20 : InEveryResolution r20 (λ heap. OwnChain heap (writes_now r20 (attempt_of 1 0)) (first_view (reads_now r20 1 0) (writes_now r20 (attempt_of 1 0))) (inserts_18 ∷ []))
+rchain20 : InEveryResolution r20 (CertifiedIn (reads_now r20 1 0) (writes_now r20 (attempt_of 1 0)) (inserts_18 ∷ []))
 unfolding value_of count_of is_even counted_word spot_value spot_of status_word status_of reads_of serial_of words_of node_count desc_count address place_at OwnsNode OwnsDesc lane_of_node lane_of_desc
-rchain20 [] r = (tt, record { recorded = only_none (λ (r : WordValue). (first_view (reads_now r20 1 0) (writes_now r20 (attempt_of 1 0))).value r.word ≡ Some r.value); old = only_one (λ (x : Change). (first_view (reads_now r20 1 0) (writes_now r20 (attempt_of 1 0))).value x.word ≡ Some x.old) (inserts_change 18) refl; facts = only_none (Holds (overlaid (logical_heap r20 []) (writes_now r20 (attempt_of 1 0)) (first_view (reads_now r20 1 0) (writes_now r20 (attempt_of 1 0))))); fresh = only_one (λ (n : NewNode). (first_view (reads_now r20 1 0) (writes_now r20 (attempt_of 1 0))).placed n.node ≡ None) (inserts_node_of 18) refl; words = only_one (HoldsWords (overlaid (logical_heap r20 []) (writes_now r20 (attempt_of 1 0)) (own_changes (first_view (reads_now r20 1 0) (writes_now r20 (attempt_of 1 0))) inserts_18.changes))) (inserts_node_of 18) (record { key = refl; value = refl; next = refl }) }, only_one (λ (w : Write). (own_after (first_view (reads_now r20 1 0) (writes_now r20 (attempt_of 1 0))) inserts_18).value w.word ≡ Some w.new) (write_now r20 (record { attempt = attempt_of 1 0; slot = 0; word = 2; old = 0 })) refl)
+rchain20 [] r = record {
+  stand = (
+    tt,
+    record {
+      recorded = only_none (λ (r : WordValue). (as_found (reads_now r20 1 0) (writes_now r20 (attempt_of 1 0)) (logical_heap r20 [])).words.value r.word ≡ r.value);
+      old = only_one (λ (x : Change). (as_found (reads_now r20 1 0) (writes_now r20 (attempt_of 1 0)) (logical_heap r20 [])).words.value x.word ≡ x.old) (inserts_change 18) refl;
+      facts = only_none (Holds (logical_heap r20 []));
+      fresh = only_one (λ (n : NewNode). (logical_heap r20 []).placed n.node ≡ None) (inserts_node_of 18) refl;
+    },
+    tt,
+  );
+  words = only_one (HasWords (logical_heap r20 []).words) (inserts_node_of 18) (record { key = refl; value = refl; next = refl });
+  last = only_one (λ (w : Write). (after_wholes (as_found (reads_now r20 1 0) (writes_now r20 (attempt_of 1 0)) (logical_heap r20 [])) (inserts_18 ∷ [])).words.value w.word ≡ w.new) (write_now r20 (record { attempt = attempt_of 1 0; slot = 0; word = 2; old = 0 })) refl;
+}
 rchain20 (k ∷ ks) r = absurd r
 
-rchain7 : InEveryResolution r7 (λ heap. OwnChain heap (writes_now r7 (attempt_of 0 0)) (first_view (reads_now r7 0 1) (writes_now r7 (attempt_of 0 0))) (misses ∷ []))
+rchain7 : InEveryResolution r7 (CertifiedIn (reads_now r7 0 1) (writes_now r7 (attempt_of 0 0)) (misses ∷ []))
 unfolding value_of count_of is_even counted_word spot_value spot_of status_word status_of reads_of serial_of words_of node_count desc_count address place_at OwnsNode OwnsDesc lane_of_node lane_of_desc
-rchain7 [] r = (tt, record { recorded = only_one (λ (r : WordValue). (first_view (reads_now r7 0 1) (writes_now r7 (attempt_of 0 0))).value r.word ≡ Some r.value) (record { word = 2; value = 0 }) refl; old = only_none (λ (x : Change). (first_view (reads_now r7 0 1) (writes_now r7 (attempt_of 0 0))).value x.word ≡ Some x.old); facts = only_none (Holds (overlaid (logical_heap r7 []) (writes_now r7 (attempt_of 0 0)) (first_view (reads_now r7 0 1) (writes_now r7 (attempt_of 0 0))))); fresh = only_none (λ (n : NewNode). (first_view (reads_now r7 0 1) (writes_now r7 (attempt_of 0 0))).placed n.node ≡ None); words = only_none (HoldsWords (overlaid (logical_heap r7 []) (writes_now r7 (attempt_of 0 0)) (own_changes (first_view (reads_now r7 0 1) (writes_now r7 (attempt_of 0 0))) misses.changes))) }, only_none (λ (w : Write). (own_after (first_view (reads_now r7 0 1) (writes_now r7 (attempt_of 0 0))) misses).value w.word ≡ Some w.new))
+rchain7 [] r = record {
+  stand = (
+    tt,
+    record {
+      recorded = only_one (λ (r : WordValue). (as_found (reads_now r7 0 1) (writes_now r7 (attempt_of 0 0)) (logical_heap r7 [])).words.value r.word ≡ r.value) (record { word = 2; value = 0 }) refl;
+      old = only_none (λ (x : Change). (as_found (reads_now r7 0 1) (writes_now r7 (attempt_of 0 0)) (logical_heap r7 [])).words.value x.word ≡ x.old);
+      facts = only_none (Holds (logical_heap r7 []));
+      fresh = only_none (λ (n : NewNode). (logical_heap r7 []).placed n.node ≡ None);
+    },
+    tt,
+  );
+  words = only_none (HasWords (logical_heap r7 []).words);
+  last = only_none (λ (w : Write). (after_wholes (as_found (reads_now r7 0 1) (writes_now r7 (attempt_of 0 0)) (logical_heap r7 [])) (misses ∷ [])).words.value w.word ≡ w.new);
+}
 rchain7 (k ∷ ks) r = absurd r
 
-rchain24 : InEveryResolution r24 (λ heap. OwnChain heap (writes_now r24 (attempt_of 0 0)) (first_view (reads_now r24 0 1) (writes_now r24 (attempt_of 0 0))) (misses ∷ []))
+rchain24 : InEveryResolution r24 (CertifiedIn (reads_now r24 0 1) (writes_now r24 (attempt_of 0 0)) (misses ∷ []))
 unfolding value_of count_of is_even counted_word spot_value spot_of status_word status_of reads_of serial_of words_of node_count desc_count address place_at OwnsNode OwnsDesc lane_of_node lane_of_desc
-rchain24 (true ∷ []) r = (tt, record { recorded = only_one (λ (r : WordValue). (first_view (reads_now r24 0 1) (writes_now r24 (attempt_of 0 0))).value r.word ≡ Some r.value) (record { word = 2; value = 0 }) refl; old = only_none (λ (x : Change). (first_view (reads_now r24 0 1) (writes_now r24 (attempt_of 0 0))).value x.word ≡ Some x.old); facts = only_none (Holds (overlaid (logical_heap r24 (true ∷ [])) (writes_now r24 (attempt_of 0 0)) (first_view (reads_now r24 0 1) (writes_now r24 (attempt_of 0 0))))); fresh = only_none (λ (n : NewNode). (first_view (reads_now r24 0 1) (writes_now r24 (attempt_of 0 0))).placed n.node ≡ None); words = only_none (HoldsWords (overlaid (logical_heap r24 (true ∷ [])) (writes_now r24 (attempt_of 0 0)) (own_changes (first_view (reads_now r24 0 1) (writes_now r24 (attempt_of 0 0))) misses.changes))) }, only_none (λ (w : Write). (own_after (first_view (reads_now r24 0 1) (writes_now r24 (attempt_of 0 0))) misses).value w.word ≡ Some w.new))
+rchain24 (true ∷ []) r = record {
+  stand = (
+    tt,
+    record {
+      recorded = only_one (λ (r : WordValue). (as_found (reads_now r24 0 1) (writes_now r24 (attempt_of 0 0)) (logical_heap r24 (true ∷ []))).words.value r.word ≡ r.value) (record { word = 2; value = 0 }) refl;
+      old = only_none (λ (x : Change). (as_found (reads_now r24 0 1) (writes_now r24 (attempt_of 0 0)) (logical_heap r24 (true ∷ []))).words.value x.word ≡ x.old);
+      facts = only_none (Holds (logical_heap r24 (true ∷ [])));
+      fresh = only_none (λ (n : NewNode). (logical_heap r24 (true ∷ [])).placed n.node ≡ None);
+    },
+    tt,
+  );
+  words = only_none (HasWords (logical_heap r24 (true ∷ [])).words);
+  last = only_none (λ (w : Write). (after_wholes (as_found (reads_now r24 0 1) (writes_now r24 (attempt_of 0 0)) (logical_heap r24 (true ∷ []))) (misses ∷ [])).words.value w.word ≡ w.new);
+}
 rchain24 (false ∷ []) r = absurd (false≢true r.0)
 rchain24 (k ∷ j ∷ ks) r = absurd r.1
 rchain24 [] r = absurd r
@@ -166,7 +206,7 @@ module _ (M : Meaning) (mis : M.certifies small_shape misses) (ins : M.certifies
 
   does_7 : Does M r7 (mark_act 0 misses) r8
   unfolding value_of count_of is_even counted_word spot_value spot_of status_word status_of reads_of serial_of words_of node_count desc_count address place_at OwnsNode OwnsDesc lane_of_node lane_of_desc
-  does_7 = (view_at r7 0, hand_at r7 0, record { at = refl; live = lit≤ tt }, record { held = refl; operates = refl; changes = refl; nodes = refl; count = 1; few = lit≤ tt; stored = one_below (IsStoredRead r7 (view_at r7 0) (attempt_of 0 0)) (record { word = record { store = record { earlier = take 5 (trail r7 0); step = (nth (trail r7 0) 5); later = drop 6 (trail r7 0); segment = (0, lit≤ tt, refl); such = record { kind = refl; attempt = refl; there = refl } }; left = refl; last = no_store_for _ 167 (drop 6 (trail r7 0)) refl }; content = record { store = record { earlier = take 6 (trail r7 0); step = (nth (trail r7 0) 6); later = drop 7 (trail r7 0); segment = (0, lit≤ tt, refl); such = record { kind = refl; attempt = refl; there = refl } }; left = refl; last = no_store_for _ 168 (drop 7 (trail r7 0)) refl } }); certified = record { acts = refl; certifies = only_one (M.certifies small_shape) misses mis; tidies = only_one (λ (c : Certificate). All (M.tidies small_shape) c.tidy) misses (only_none (M.tidies small_shape)); read = only_one (λ (r : Read). first_content (reads_now r7 0 1) (writes_now r7 (attempt_of 0 0)) r.word ≡ Some r.content) (read_now r7 0 0) refl; replaced = only_none (λ (w : Write). first_content (reads_now r7 0 1) (writes_now r7 (attempt_of 0 0)) w.word ≡ Some w.old); exactly = λ word. refl; nodes = only_one (λ (c : Certificate). All (λ (n : NewNode). IsOwnNode r7 (view_at r7 0) n.node) c.nodes) misses (only_none (λ (n : NewNode). IsOwnNode r7 (view_at r7 0) n.node)); chain = rchain7 } }, refl)
+  does_7 = (view_at r7 0, hand_at r7 0, record { at = refl; live = lit≤ tt }, record { held = refl; operates = refl; changes = refl; nodes = refl; count = 1; few = lit≤ tt; stored = one_below (IsStoredRead r7 (view_at r7 0) (attempt_of 0 0)) (record { word = record { store = record { earlier = take 5 (trail r7 0); step = (nth (trail r7 0) 5); later = drop 6 (trail r7 0); segment = (0, lit≤ tt, refl); such = record { kind = refl; attempt = refl; there = refl } }; left = refl; last = no_store_for _ 167 (drop 6 (trail r7 0)) refl }; content = record { store = record { earlier = take 6 (trail r7 0); step = (nth (trail r7 0) 6); later = drop 7 (trail r7 0); segment = (0, lit≤ tt, refl); such = record { kind = refl; attempt = refl; there = refl } }; left = refl; last = no_store_for _ 168 (drop 7 (trail r7 0)) refl } }); certified = record { acts = refl; certifies = only_one (M.certifies small_shape) misses mis; tidies = only_one (λ (c : Certificate). All (M.tidies small_shape) c.tidy) misses (only_none (M.tidies small_shape)); read = only_one (λ (r : Read). first_content (reads_now r7 0 1) (writes_now r7 (attempt_of 0 0)) r.word ≡ Some r.content) (read_now r7 0 0) refl; replaced = only_none (λ (w : Write). first_content (reads_now r7 0 1) (writes_now r7 (attempt_of 0 0)) w.word ≡ Some w.old); exactly = λ word. refl; recorded = only_one (λ (c : Certificate). All (λ (r : WordValue). is_some (first_content (reads_now r7 0 1) (writes_now r7 (attempt_of 0 0)) r.word) ≡ true) c.recorded) misses (only_one (λ (r : WordValue). is_some (first_content (reads_now r7 0 1) (writes_now r7 (attempt_of 0 0)) r.word) ≡ true) (record { word = 2; value = 0 }) refl); nodes = only_none (λ (n : NewNode). IsOwnNode r7 (view_at r7 0) n.node); differ = none_differ (λ (n k : NewNode). n.node ≢ k.node); chain = rchain7 } }, refl)
 
   does_8 : Does M r8 (load 1 807) r9
   unfolding value_of count_of is_even counted_word spot_value spot_of status_word status_of reads_of serial_of words_of node_count desc_count address place_at OwnsNode OwnsDesc lane_of_node lane_of_desc
@@ -214,7 +254,7 @@ module _ (M : Meaning) (mis : M.certifies small_shape misses) (ins : M.certifies
 
   does_19 : Does M r19 (mark_act 1 inserts_18) r20
   unfolding value_of count_of is_even counted_word spot_value spot_of status_word status_of reads_of serial_of words_of node_count desc_count address place_at OwnsNode OwnsDesc lane_of_node lane_of_desc
-  does_19 = (view_at r19 1, hand_at r19 1, record { at = refl; live = lit≤ tt }, record { held = refl; operates = refl; changes = refl; nodes = refl; count = 0; few = lit≤ tt; stored = λ i h. absurd (omega (arith, h)); certified = record { acts = refl; certifies = only_one (M.certifies small_shape) inserts_18 ins; tidies = only_one (λ (c : Certificate). All (M.tidies small_shape) c.tidy) inserts_18 (only_none (M.tidies small_shape)); read = only_none (λ (r : Read). first_content (reads_now r19 1 0) (writes_now r19 (attempt_of 1 0)) r.word ≡ Some r.content); replaced = only_one (λ (w : Write). first_content (reads_now r19 1 0) (writes_now r19 (attempt_of 1 0)) w.word ≡ Some w.old) (write_now r19 (record { attempt = attempt_of 1 0; slot = 0; word = 2; old = 0 })) refl; exactly = λ word. refl; nodes = only_one (λ (c : Certificate). All (λ (n : NewNode). IsOwnNode r19 (view_at r19 1) n.node) c.nodes) inserts_18 (only_one (λ (n : NewNode). IsOwnNode r19 (view_at r19 1) n.node) (inserts_node_of 18) ((1, (0, lit≤ tt, refl), (lit≤ tt, lit≤ tt, lit≤ tt)), refl)); chain = rchain20 } }, refl)
+  does_19 = (view_at r19 1, hand_at r19 1, record { at = refl; live = lit≤ tt }, record { held = refl; operates = refl; changes = refl; nodes = refl; count = 0; few = lit≤ tt; stored = λ i h. absurd (omega (arith, h)); certified = record { acts = refl; certifies = only_one (M.certifies small_shape) inserts_18 ins; tidies = only_one (λ (c : Certificate). All (M.tidies small_shape) c.tidy) inserts_18 (only_none (M.tidies small_shape)); read = only_none (λ (r : Read). first_content (reads_now r19 1 0) (writes_now r19 (attempt_of 1 0)) r.word ≡ Some r.content); replaced = only_one (λ (w : Write). first_content (reads_now r19 1 0) (writes_now r19 (attempt_of 1 0)) w.word ≡ Some w.old) (write_now r19 (record { attempt = attempt_of 1 0; slot = 0; word = 2; old = 0 })) refl; exactly = λ word. refl; recorded = only_one (λ (c : Certificate). All (λ (r : WordValue). is_some (first_content (reads_now r19 1 0) (writes_now r19 (attempt_of 1 0)) r.word) ≡ true) c.recorded) inserts_18 (only_none (λ (r : WordValue). is_some (first_content (reads_now r19 1 0) (writes_now r19 (attempt_of 1 0)) r.word) ≡ true)); nodes = only_one (λ (n : NewNode). IsOwnNode r19 (view_at r19 1) n.node) (inserts_node_of 18) ((1, (0, lit≤ tt, refl), (lit≤ tt, lit≤ tt, lit≤ tt)), refl); differ = one_differs (λ (n k : NewNode). n.node ≢ k.node) (inserts_node_of 18); chain = rchain20 } }, refl)
 
   does_20 : Does M r20 (ready 1 0) r21
   unfolding value_of count_of is_even counted_word spot_value spot_of status_word status_of reads_of serial_of words_of node_count desc_count address place_at OwnsNode OwnsDesc lane_of_node lane_of_desc
@@ -236,7 +276,9 @@ module _ (M : Meaning) (mis : M.certifies small_shape misses) (ins : M.certifies
         read = only_none (λ (r : Read). first_content (reads_now r20 1 0) (writes_now r20 (attempt_of 1 0)) r.word ≡ Some r.content);
         replaced = only_one (λ (w : Write). first_content (reads_now r20 1 0) (writes_now r20 (attempt_of 1 0)) w.word ≡ Some w.old) (write_now r20 (record { attempt = attempt_of 1 0; slot = 0; word = 2; old = 0 })) refl;
         exactly = λ word. refl;
-        nodes = only_one (λ (c : Certificate). All (λ (n : NewNode). IsOwnNode r20 (view_at r20 1) n.node) c.nodes) inserts_18 (only_one (λ (n : NewNode). IsOwnNode r20 (view_at r20 1) n.node) (inserts_node_of 18) ((1, (0, lit≤ tt, refl), (lit≤ tt, lit≤ tt, lit≤ tt)), refl));
+        recorded = only_one (λ (c : Certificate). All (λ (r : WordValue). is_some (first_content (reads_now r20 1 0) (writes_now r20 (attempt_of 1 0)) r.word) ≡ true) c.recorded) inserts_18 (only_none (λ (r : WordValue). is_some (first_content (reads_now r20 1 0) (writes_now r20 (attempt_of 1 0)) r.word) ≡ true));
+        nodes = only_one (λ (n : NewNode). IsOwnNode r20 (view_at r20 1) n.node) (inserts_node_of 18) ((1, (0, lit≤ tt, refl), (lit≤ tt, lit≤ tt, lit≤ tt)), refl);
+        differ = one_differs (λ (n k : NewNode). n.node ≢ k.node) (inserts_node_of 18);
         chain = rchain20;
       };
     },
@@ -286,7 +328,9 @@ module _ (M : Meaning) (mis : M.certifies small_shape misses) (ins : M.certifies
         read = only_one (λ (r : Read). first_content (reads_now r24 0 1) (writes_now r24 (attempt_of 0 0)) r.word ≡ Some r.content) (read_now r24 0 0) refl;
         replaced = only_none (λ (w : Write). first_content (reads_now r24 0 1) (writes_now r24 (attempt_of 0 0)) w.word ≡ Some w.old);
         exactly = λ word. refl;
-        nodes = only_one (λ (c : Certificate). All (λ (n : NewNode). IsOwnNode r24 (view_at r24 0) n.node) c.nodes) misses (only_none (λ (n : NewNode). IsOwnNode r24 (view_at r24 0) n.node));
+        recorded = only_one (λ (c : Certificate). All (λ (r : WordValue). is_some (first_content (reads_now r24 0 1) (writes_now r24 (attempt_of 0 0)) r.word) ≡ true) c.recorded) misses (only_one (λ (r : WordValue). is_some (first_content (reads_now r24 0 1) (writes_now r24 (attempt_of 0 0)) r.word) ≡ true) (record { word = 2; value = 0 }) refl);
+        nodes = only_none (λ (n : NewNode). IsOwnNode r24 (view_at r24 0) n.node);
+        differ = none_differ (λ (n k : NewNode). n.node ≢ k.node);
         chain = rchain24;
       };
     },

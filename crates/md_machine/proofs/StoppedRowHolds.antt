@@ -1,5 +1,6 @@
 -- An insert is aborted by a get before it is ready, and its own ready step loses.
 use Rattle.std.proofs.Common.{◌≡◌, ℕ, List, [], ◌∷◌, take, drop, refl, lit≤, inl, inr, true, None, Some, arith}
+use Rattle.std.specs.Prelude.{is_some, ◌≢◌}
 use Rattle.std.specs.List.{All}
 use Rattle.std.proofs.lemmas.Bool.{false≢true}
 use Rattle.md_words.specs.Content.{value_of, count_of, is_even, counted_word, spot_value, spot_of}
@@ -21,13 +22,13 @@ use Rattle.md_machine.specs.Resolution.{InEveryResolution, logical_heap}
 use Rattle.md_machine.specs.Trail.{SomeStepOf}
 use Rattle.md_machine.specs.Own.{IsOwnNode}
 use Rattle.md_machine.specs.Deciding.{FoundRead}
-use Rattle.md_machine.specs.Certified.{OwnChain, HoldsWords, first_content, first_view, overlaid, own_changes, own_after}
+use Rattle.md_machine.specs.Certified.{CertifiedIn, HasWords, first_content, as_found, after_wholes}
 use Rattle.md_machine.specs.Readying.{MayRecord, IsStoredRead, InstallsFor, read_now, reads_now, write_now, writes_now}
 use Rattle.md_machine.specs.Events.{Does, Runs, opened, load, store, install, ready, commit, abort, uninstall, split, mark_begin, mark_start, mark_act, mark_end}
 use Rattle.md_machine.specs.Walk.{view_at, hand_at, after_event}
 use Rattle.md_machine.specs.Rows.{small_shape, small_opening}
 use Rattle.md_machine.specs.Schedules.{inserts_change, inserts_node_of, inserts, misses, stopping, stopping_end, StoppedRow}
-use Rattle.md_machine.proofs.Walking.{trail_at, nth, only_one, only_none, one_below, no_store_for}
+use Rattle.md_machine.proofs.Walking.{trail_at, nth, only_one, only_none, one_differs, none_differ, one_below, no_store_for}
 
 abbrev s0 : Machine
 s0 = opened small_opening
@@ -125,14 +126,40 @@ s30 = after_event s29 (ready 0 0)
 abbrev trail : Machine → ℕ → List Step
 trail = trail_at
 
-schain25 : InEveryResolution s25 (λ heap. OwnChain heap (writes_now s25 (attempt_of 1 0)) (first_view (reads_now s25 1 1) (writes_now s25 (attempt_of 1 0))) (misses ∷ []))
+schain25 : InEveryResolution s25 (CertifiedIn (reads_now s25 1 1) (writes_now s25 (attempt_of 1 0)) (misses ∷ []))
 unfolding value_of count_of is_even counted_word spot_value spot_of status_word status_of reads_of serial_of words_of node_count desc_count address place_at OwnsNode OwnsDesc lane_of_node lane_of_desc
-schain25 [] r = (tt, record { recorded = only_one (λ (r : WordValue). (first_view (reads_now s25 1 1) (writes_now s25 (attempt_of 1 0))).value r.word ≡ Some r.value) (record { word = 2; value = 0 }) refl; old = only_none (λ (x : Change). (first_view (reads_now s25 1 1) (writes_now s25 (attempt_of 1 0))).value x.word ≡ Some x.old); facts = only_none (Holds (overlaid (logical_heap s25 []) (writes_now s25 (attempt_of 1 0)) (first_view (reads_now s25 1 1) (writes_now s25 (attempt_of 1 0))))); fresh = only_none (λ (n : NewNode). (first_view (reads_now s25 1 1) (writes_now s25 (attempt_of 1 0))).placed n.node ≡ None); words = only_none (HoldsWords (overlaid (logical_heap s25 []) (writes_now s25 (attempt_of 1 0)) (own_changes (first_view (reads_now s25 1 1) (writes_now s25 (attempt_of 1 0))) misses.changes))) }, only_none (λ (w : Write). (own_after (first_view (reads_now s25 1 1) (writes_now s25 (attempt_of 1 0))) misses).value w.word ≡ Some w.new))
+schain25 [] r = record {
+  stand = (
+    tt,
+    record {
+      recorded = only_one (λ (r : WordValue). (as_found (reads_now s25 1 1) (writes_now s25 (attempt_of 1 0)) (logical_heap s25 [])).words.value r.word ≡ r.value) (record { word = 2; value = 0 }) refl;
+      old = only_none (λ (x : Change). (as_found (reads_now s25 1 1) (writes_now s25 (attempt_of 1 0)) (logical_heap s25 [])).words.value x.word ≡ x.old);
+      facts = only_none (Holds (logical_heap s25 []));
+      fresh = only_none (λ (n : NewNode). (logical_heap s25 []).placed n.node ≡ None);
+    },
+    tt,
+  );
+  words = only_none (HasWords (logical_heap s25 []).words);
+  last = only_none (λ (w : Write). (after_wholes (as_found (reads_now s25 1 1) (writes_now s25 (attempt_of 1 0)) (logical_heap s25 [])) (misses ∷ [])).words.value w.word ≡ w.new);
+}
 schain25 (k ∷ ks) r = absurd r
 
-schain12 : InEveryResolution s12 (λ heap. OwnChain heap (writes_now s12 (attempt_of 0 0)) (first_view (reads_now s12 0 0) (writes_now s12 (attempt_of 0 0))) (inserts ∷ []))
+schain12 : InEveryResolution s12 (CertifiedIn (reads_now s12 0 0) (writes_now s12 (attempt_of 0 0)) (inserts ∷ []))
 unfolding value_of count_of is_even counted_word spot_value spot_of status_word status_of reads_of serial_of words_of node_count desc_count address place_at OwnsNode OwnsDesc lane_of_node lane_of_desc
-schain12 [] r = (tt, record { recorded = only_none (λ (r : WordValue). (first_view (reads_now s12 0 0) (writes_now s12 (attempt_of 0 0))).value r.word ≡ Some r.value); old = only_one (λ (x : Change). (first_view (reads_now s12 0 0) (writes_now s12 (attempt_of 0 0))).value x.word ≡ Some x.old) (inserts_change 2) refl; facts = only_none (Holds (overlaid (logical_heap s12 []) (writes_now s12 (attempt_of 0 0)) (first_view (reads_now s12 0 0) (writes_now s12 (attempt_of 0 0))))); fresh = only_one (λ (n : NewNode). (first_view (reads_now s12 0 0) (writes_now s12 (attempt_of 0 0))).placed n.node ≡ None) (inserts_node_of 2) refl; words = only_one (HoldsWords (overlaid (logical_heap s12 []) (writes_now s12 (attempt_of 0 0)) (own_changes (first_view (reads_now s12 0 0) (writes_now s12 (attempt_of 0 0))) inserts.changes))) (inserts_node_of 2) (record { key = refl; value = refl; next = refl }) }, only_one (λ (w : Write). (own_after (first_view (reads_now s12 0 0) (writes_now s12 (attempt_of 0 0))) inserts).value w.word ≡ Some w.new) (write_now s12 (record { attempt = attempt_of 0 0; slot = 0; word = 2; old = 0 })) refl)
+schain12 [] r = record {
+  stand = (
+    tt,
+    record {
+      recorded = only_none (λ (r : WordValue). (as_found (reads_now s12 0 0) (writes_now s12 (attempt_of 0 0)) (logical_heap s12 [])).words.value r.word ≡ r.value);
+      old = only_one (λ (x : Change). (as_found (reads_now s12 0 0) (writes_now s12 (attempt_of 0 0)) (logical_heap s12 [])).words.value x.word ≡ x.old) (inserts_change 2) refl;
+      facts = only_none (Holds (logical_heap s12 []));
+      fresh = only_one (λ (n : NewNode). (logical_heap s12 []).placed n.node ≡ None) (inserts_node_of 2) refl;
+    },
+    tt,
+  );
+  words = only_one (HasWords (logical_heap s12 []).words) (inserts_node_of 2) (record { key = refl; value = refl; next = refl });
+  last = only_one (λ (w : Write). (after_wholes (as_found (reads_now s12 0 0) (writes_now s12 (attempt_of 0 0)) (logical_heap s12 [])) (inserts ∷ [])).words.value w.word ≡ w.new) (write_now s12 (record { attempt = attempt_of 0 0; slot = 0; word = 2; old = 0 })) refl;
+}
 schain12 (k ∷ ks) r = absurd r
 
 module _ (M : Meaning) (ins : M.certifies small_shape inserts) (mis : M.certifies small_shape misses) where
@@ -186,7 +213,7 @@ module _ (M : Meaning) (ins : M.certifies small_shape inserts) (mis : M.certifie
 
   does_12 : Does M s12 (mark_act 0 inserts) s13
   unfolding value_of count_of is_even counted_word spot_value spot_of status_word status_of reads_of serial_of words_of node_count desc_count address place_at OwnsNode OwnsDesc lane_of_node lane_of_desc
-  does_12 = (view_at s12 0, hand_at s12 0, record { at = refl; live = lit≤ tt }, record { held = refl; operates = refl; changes = refl; nodes = refl; count = 0; few = lit≤ tt; stored = λ i h. absurd (omega (arith, h)); certified = record { acts = refl; certifies = only_one (M.certifies small_shape) inserts ins; tidies = only_one (λ (c : Certificate). All (M.tidies small_shape) c.tidy) inserts (only_none (M.tidies small_shape)); read = only_none (λ (r : Read). first_content (reads_now s12 0 0) (writes_now s12 (attempt_of 0 0)) r.word ≡ Some r.content); replaced = only_one (λ (w : Write). first_content (reads_now s12 0 0) (writes_now s12 (attempt_of 0 0)) w.word ≡ Some w.old) (write_now s12 (record { attempt = attempt_of 0 0; slot = 0; word = 2; old = 0 })) refl; exactly = λ word. refl; nodes = only_one (λ (c : Certificate). All (λ (n : NewNode). IsOwnNode s12 (view_at s12 0) n.node) c.nodes) inserts (only_one (λ (n : NewNode). IsOwnNode s12 (view_at s12 0) n.node) (inserts_node_of 2) ((0, (0, lit≤ tt, refl), (lit≤ tt, lit≤ tt, lit≤ tt)), refl)); chain = schain12 } }, refl)
+  does_12 = (view_at s12 0, hand_at s12 0, record { at = refl; live = lit≤ tt }, record { held = refl; operates = refl; changes = refl; nodes = refl; count = 0; few = lit≤ tt; stored = λ i h. absurd (omega (arith, h)); certified = record { acts = refl; certifies = only_one (M.certifies small_shape) inserts ins; tidies = only_one (λ (c : Certificate). All (M.tidies small_shape) c.tidy) inserts (only_none (M.tidies small_shape)); read = only_none (λ (r : Read). first_content (reads_now s12 0 0) (writes_now s12 (attempt_of 0 0)) r.word ≡ Some r.content); replaced = only_one (λ (w : Write). first_content (reads_now s12 0 0) (writes_now s12 (attempt_of 0 0)) w.word ≡ Some w.old) (write_now s12 (record { attempt = attempt_of 0 0; slot = 0; word = 2; old = 0 })) refl; exactly = λ word. refl; recorded = only_one (λ (c : Certificate). All (λ (r : WordValue). is_some (first_content (reads_now s12 0 0) (writes_now s12 (attempt_of 0 0)) r.word) ≡ true) c.recorded) inserts (only_none (λ (r : WordValue). is_some (first_content (reads_now s12 0 0) (writes_now s12 (attempt_of 0 0)) r.word) ≡ true)); nodes = only_one (λ (n : NewNode). IsOwnNode s12 (view_at s12 0) n.node) (inserts_node_of 2) ((0, (0, lit≤ tt, refl), (lit≤ tt, lit≤ tt, lit≤ tt)), refl); differ = one_differs (λ (n k : NewNode). n.node ≢ k.node) (inserts_node_of 2); chain = schain12 } }, refl)
 
   does_13 : Does M s13 (load 1 807) s14
   unfolding value_of count_of is_even counted_word spot_value spot_of status_word status_of reads_of serial_of words_of node_count desc_count address place_at OwnsNode OwnsDesc lane_of_node lane_of_desc
@@ -245,7 +272,7 @@ module _ (M : Meaning) (ins : M.certifies small_shape inserts) (mis : M.certifie
 
   does_24 : Does M s24 (mark_act 1 misses) s25
   unfolding value_of count_of is_even counted_word spot_value spot_of status_word status_of reads_of serial_of words_of node_count desc_count address place_at OwnsNode OwnsDesc lane_of_node lane_of_desc
-  does_24 = (view_at s24 1, hand_at s24 1, record { at = refl; live = lit≤ tt }, record { held = refl; operates = refl; changes = refl; nodes = refl; count = 1; few = lit≤ tt; stored = one_below (IsStoredRead s24 (view_at s24 1) (attempt_of 1 0)) (record { word = record { store = record { earlier = take 10 (trail s24 1); step = (nth (trail s24 1) 10); later = drop 11 (trail s24 1); segment = (0, lit≤ tt, refl); such = record { kind = refl; attempt = refl; there = refl } }; left = refl; last = no_store_for _ 808 (drop 11 (trail s24 1)) refl }; content = record { store = record { earlier = take 11 (trail s24 1); step = (nth (trail s24 1) 11); later = drop 12 (trail s24 1); segment = (0, lit≤ tt, refl); such = record { kind = refl; attempt = refl; there = refl } }; left = refl; last = no_store_for _ 809 (drop 12 (trail s24 1)) refl } }); certified = record { acts = refl; certifies = only_one (M.certifies small_shape) misses mis; tidies = only_one (λ (c : Certificate). All (M.tidies small_shape) c.tidy) misses (only_none (M.tidies small_shape)); read = only_one (λ (r : Read). first_content (reads_now s24 1 1) (writes_now s24 (attempt_of 1 0)) r.word ≡ Some r.content) (read_now s24 1 0) refl; replaced = only_none (λ (w : Write). first_content (reads_now s24 1 1) (writes_now s24 (attempt_of 1 0)) w.word ≡ Some w.old); exactly = λ word. refl; nodes = only_one (λ (c : Certificate). All (λ (n : NewNode). IsOwnNode s24 (view_at s24 1) n.node) c.nodes) misses (only_none (λ (n : NewNode). IsOwnNode s24 (view_at s24 1) n.node)); chain = schain25 } }, refl)
+  does_24 = (view_at s24 1, hand_at s24 1, record { at = refl; live = lit≤ tt }, record { held = refl; operates = refl; changes = refl; nodes = refl; count = 1; few = lit≤ tt; stored = one_below (IsStoredRead s24 (view_at s24 1) (attempt_of 1 0)) (record { word = record { store = record { earlier = take 10 (trail s24 1); step = (nth (trail s24 1) 10); later = drop 11 (trail s24 1); segment = (0, lit≤ tt, refl); such = record { kind = refl; attempt = refl; there = refl } }; left = refl; last = no_store_for _ 808 (drop 11 (trail s24 1)) refl }; content = record { store = record { earlier = take 11 (trail s24 1); step = (nth (trail s24 1) 11); later = drop 12 (trail s24 1); segment = (0, lit≤ tt, refl); such = record { kind = refl; attempt = refl; there = refl } }; left = refl; last = no_store_for _ 809 (drop 12 (trail s24 1)) refl } }); certified = record { acts = refl; certifies = only_one (M.certifies small_shape) misses mis; tidies = only_one (λ (c : Certificate). All (M.tidies small_shape) c.tidy) misses (only_none (M.tidies small_shape)); read = only_one (λ (r : Read). first_content (reads_now s24 1 1) (writes_now s24 (attempt_of 1 0)) r.word ≡ Some r.content) (read_now s24 1 0) refl; replaced = only_none (λ (w : Write). first_content (reads_now s24 1 1) (writes_now s24 (attempt_of 1 0)) w.word ≡ Some w.old); exactly = λ word. refl; recorded = only_one (λ (c : Certificate). All (λ (r : WordValue). is_some (first_content (reads_now s24 1 1) (writes_now s24 (attempt_of 1 0)) r.word) ≡ true) c.recorded) misses (only_one (λ (r : WordValue). is_some (first_content (reads_now s24 1 1) (writes_now s24 (attempt_of 1 0)) r.word) ≡ true) (record { word = 2; value = 0 }) refl); nodes = only_none (λ (n : NewNode). IsOwnNode s24 (view_at s24 1) n.node); differ = none_differ (λ (n k : NewNode). n.node ≢ k.node); chain = schain25 } }, refl)
 
   does_25 : Does M s25 (ready 1 1) s26
   unfolding value_of count_of is_even counted_word spot_value spot_of status_word status_of reads_of serial_of words_of node_count desc_count address place_at OwnsNode OwnsDesc lane_of_node lane_of_desc
@@ -267,7 +294,9 @@ module _ (M : Meaning) (ins : M.certifies small_shape inserts) (mis : M.certifie
         read = only_one (λ (r : Read). first_content (reads_now s25 1 1) (writes_now s25 (attempt_of 1 0)) r.word ≡ Some r.content) (read_now s25 1 0) refl;
         replaced = only_none (λ (w : Write). first_content (reads_now s25 1 1) (writes_now s25 (attempt_of 1 0)) w.word ≡ Some w.old);
         exactly = λ word. refl;
-        nodes = only_one (λ (c : Certificate). All (λ (n : NewNode). IsOwnNode s25 (view_at s25 1) n.node) c.nodes) misses (only_none (λ (n : NewNode). IsOwnNode s25 (view_at s25 1) n.node));
+        recorded = only_one (λ (c : Certificate). All (λ (r : WordValue). is_some (first_content (reads_now s25 1 1) (writes_now s25 (attempt_of 1 0)) r.word) ≡ true) c.recorded) misses (only_one (λ (r : WordValue). is_some (first_content (reads_now s25 1 1) (writes_now s25 (attempt_of 1 0)) r.word) ≡ true) (record { word = 2; value = 0 }) refl);
+        nodes = only_none (λ (n : NewNode). IsOwnNode s25 (view_at s25 1) n.node);
+        differ = none_differ (λ (n k : NewNode). n.node ≢ k.node);
         chain = schain25;
       };
     },

@@ -1,7 +1,7 @@
 -- Short forms for walks through given schedules.
 use Rattle.std.proofs.Common.{◌≡◌, ◌&&◌, eq-eqb, ℕ, zero, suc, ◌<◌, Bool, true, false, not, List, [], ◌∷◌, ap, None, arith}
 use Rattle.std.specs.Prelude.{◌==◌, slice_index_or}
-use Rattle.std.specs.List.{All, list_all}
+use Rattle.std.specs.List.{All, AllPairs, list_all}
 use Rattle.std.proofs.lemmas.Bool.{and_parts, both_ways, and_from, eq-eqb, not_from_true}
 use Rattle.std.proofs.lemmas.List.Elements.{All-nil, All-cons}
 use Rattle.md_machine.specs.declared.attempt.AttemptId.{AttemptId}
@@ -23,6 +23,13 @@ only_none P = All-nil P
 
 pub only_one : {X : Type 0} (P : X → Type 0) (x : X) → P x → All P (x ∷ [])
 only_one P x p = All-cons P x [] p (All-nil P)
+
+-- of no elements, and of one, no two are to be compared
+pub none_differ : {X : Type 0} (R : X → X → Type 0) → AllPairs R []
+none_differ R i j d below inside = absurd (omega arith)
+
+pub one_differs : {X : Type 0} (R : X → X → Type 0) (x : X) → AllPairs R (x ∷ [])
+one_differs R x i j d below inside = absurd (omega arith)
 
 pub one_below : (P : ℕ → Type 0) → P 0 → (i : ℕ) → i < 1 → P i
 one_below P p zero h = p

@@ -19,7 +19,7 @@ use Rattle.md_machine.specs.Machine.{Machine, shape_of, content, present, same_a
 use Rattle.md_machine.specs.Own.{HasDesc}
 use Rattle.md_machine.specs.Trail.{Meets, SomeStepOf}
 use Rattle.md_machine.specs.Uninstalling.{IsDecided}
-use Rattle.md_machine.specs.Certified.{changes_of_tidy, IsCertified}
+use Rattle.md_machine.specs.Certified.{whole_changes, whole_nodes, IsCertified}
 use Rattle.md_machine.specs.Readying.{IsStoredRead, reads_now, writes_now}
 use Rattle.md_machine.specs.Stepping.{stepped, replaced}
 
@@ -68,8 +68,8 @@ module _ (M : Meaning) where
   pub record MayAct (m : Machine) (p : PassView) (h : Hand) (c : Certificate) : Type 0 where
     pub held : p.hand ≡ Some h
     pub operates : h.operating ≡ true
-    pub changes : changes_of_tidy c.tidy ++ c.changes ≡ h.changes
-    pub nodes : map (λ n. n.node) c.nodes ≡ h.stored
+    pub changes : whole_changes c ≡ h.changes
+    pub nodes : map (λ n. n.node) (whole_nodes c) ≡ h.stored
     pub count : ℕ
     pub few : count ≤ SET
     pub stored : (i : ℕ) → i < count → IsStoredRead m p h.attempt i

@@ -18,23 +18,32 @@ pub record Meaning : Type 1 where
   pub tidies : Shape → TidyChange → Type 0
   pub links : Shape → (word : ℕ) → Type 0
 
--- a tidy change stands in a heap: the old value is there, its facts hold, and its new nodes aren't placed
-pub record TidyStands (h : LogicalHeap) (t : TidyChange) : Type 0 where
-  pub old : h.words.value t.change.word ≡ t.change.old
+-- a tidy change stands in a heap, its old value being that of a word of another one: its facts hold, and its new nodes
+-- aren't placed
+pub record TidyStandsBy (own h : LogicalHeap) (t : TidyChange) : Type 0 where
+  pub old : own.words.value t.change.word ≡ t.change.old
   pub facts : All (Holds h) t.facts
   pub fresh : All (λ n. h.placed n.node ≡ None) t.nodes
+
+-- it stands in a heap, with all that it names
+abbrev pub TidyStands : LogicalHeap → TidyChange → Type 0
+TidyStands h t = TidyStandsBy h h t
 
 -- the heap that it leaves
 abbrev pub after_tidy : LogicalHeap → TidyChange → LogicalHeap
 after_tidy h t = after_nodes (record { words = changed h.words t.change; placed = h.placed }) t.nodes
 
--- a certificate, past its tidy changes, stands in a heap: what it recorded and the old values are there, its facts
--- hold, and its new nodes aren't placed
-pub record Stands (h : LogicalHeap) (c : Certificate) : Type 0 where
-  pub recorded : All (λ r. h.words.value r.word ≡ r.value) c.recorded
-  pub old : All (λ change. h.words.value change.word ≡ change.old) c.changes
+-- a certificate, past its tidy changes, stands in a heap, what it recorded and its old values being those of words of
+-- another one: its facts hold, and its new nodes aren't placed
+pub record StandsBy (own h : LogicalHeap) (c : Certificate) : Type 0 where
+  pub recorded : All (λ r. own.words.value r.word ≡ r.value) c.recorded
+  pub old : All (λ change. own.words.value change.word ≡ change.old) c.changes
   pub facts : All (Holds h) c.facts
   pub fresh : All (λ n. h.placed n.node ≡ None) c.nodes
+
+-- it stands in a heap, with all that it names
+abbrev pub Stands : LogicalHeap → Certificate → Type 0
+Stands h c = StandsBy h h c
 
 -- the heap that it leaves
 abbrev pub after_certificate : LogicalHeap → Certificate → LogicalHeap

@@ -1,6 +1,6 @@
 -- The event ready: an attempt joins the history.
 use Rattle.std.specs.Prelude.{◌≡◌, ◌≢◌, ◌<◌, ◌≤◌, ◌++◌, ℕ, Bool, true, List, [], ◌∷◌, map, filter, length, All, Some, if◌then◌else◌}
-use Rattle.std.specs.List.{list_all, flat_map, range_with_len}
+use Rattle.std.specs.List.{list_all, range_with_len}
 use Rattle.md_words.specs.declared.limits.TheConstants.{SET}
 use Rattle.md_words.specs.declared.status.Status.TheVariants.{InPrep, InProg}
 use Rattle.md_words.specs.Content.{count_of, is_even}
@@ -18,8 +18,6 @@ use Rattle.md_machine.specs.declared.attempt.Hand.{Hand}
 use Rattle.md_machine.specs.declared.attempt.HistoryEntry.{HistoryEntry}
 use Rattle.md_machine.specs.declared.attempt.Read.{Read}
 use Rattle.md_machine.specs.declared.attempt.Write.{Write}
-use Rattle.md_machine.specs.declared.node.PlacedNode.{PlacedNode}
-use Rattle.md_machine.specs.declared.certificate.Certificate.{Certificate}
 use Rattle.md_machine.specs.declared.step.Step.{Step}
 use Rattle.md_machine.specs.declared.step.Kind.TheVariants.{Ready, Install as Installs}
 use Rattle.md_machine.specs.declared.pass.PassView.{PassView}
@@ -30,7 +28,7 @@ use Rattle.md_machine.specs.Own.{HasDesc}
 use Rattle.md_machine.specs.Trail.{Meets, Leaves, SomeStepOf, LastStored, read_stands}
 use Rattle.md_machine.specs.Installing.{installed_word}
 use Rattle.md_machine.specs.Stepping.{exchanged, replaced, wins, left_by}
-use Rattle.md_machine.specs.Certified.{IsCertified}
+use Rattle.md_machine.specs.Certified.{placed_by, IsCertified}
 
 -- read i of a descriptor: the word, the recorded content, and whether it stands now
 abbrev pub read_now : Machine → (desc i : ℕ) → Read
@@ -91,10 +89,6 @@ module _ (M : Meaning) where
     pub recorded : All (MayRecord m p) (reads_now m h.attempt.desc count)
     pub installed : All (λ w. SomeStepOf p (InstallsFor h.attempt w)) (writes_now m h.attempt)
     pub certified : wins_ready m h.attempt ≡ true → IsCertified M m p h (reads_now m h.attempt.desc count) (writes_now m h.attempt)
-
--- the nodes that certificates place
-abbrev pub placed_by : List Certificate → List PlacedNode
-placed_by cs = flat_map (λ c. map (λ n. record { node = n.node; structure = n.structure }) c.nodes) cs
 
 -- the entry of an attempt that becomes ready
 abbrev pub entry_now : Machine → Hand → (count : ℕ) → Entry
