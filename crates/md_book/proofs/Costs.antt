@@ -1,14 +1,14 @@
 -- What acts cost that ask one queue at most: the words that they read and write but for that queue, and the nodes that they take.
 use Rattle.std.proofs.Common.{◌≡◌, ℕ, ◌+◌, ◌*◌, ◌≤◌, ◌==◌, ◌&&◌, ◌||◌, nat_eq, Bool, true, false, cond, List, [], ◌∷◌, ◌++◌, refl, sym, ap, subst, ◌∙◌, Option, Some, None, arith}
-use Rattle.std.specs.List.{AllByRecursion, filter_map, count_by}
+use Rattle.std.specs.List.{AllByRecursion, filter_map, count_by, sum_by}
 use Rattle.std.proofs.lemmas.Bool.{eq-eqb}
 use Rattle.std.proofs.lemmas.List.Elements.{filter_map-append}
 use Rattle.md_history.specs.declared.acts.Act.{Act}
 use Rattle.md_history.specs.declared.acts.Op.TheVariants.{Get, Insert, Remove, Enqueue, Dequeue, Front}
 use Rattle.md_history.specs.declared.acts.Reply.TheVariants.{Value, Flag, Nothing}
 use Rattle.md_history.specs.Act.{act_of}
-use Rattle.md_history.specs.Counts.{different_beside, different, same_key, looked, changed_key, asked_queue, changed_queue, dequeued, reads, writes, nodes, AreFew}
-use Rattle.md_history.specs.CountLaws.{count-append, different-append, same_key_equiv, nodes-append}
+use Rattle.md_history.specs.Counts.{different_beside, different, same_key, looked, changed_key, asked_queue, changed_queue, dequeued, line_words, reads, writes, nodes, AreFew}
+use Rattle.md_history.specs.CountLaws.{count-append, different-append, same_key_equiv, nodes-append, line_words-append}
 
 abbrev keys : List Act → ℕ
 keys acts = different same_key (filter_map (λ a. changed_key a.op a.reply) acts)
@@ -19,11 +19,14 @@ lookups acts = count_by (λ a. looked a.op a.reply) acts
 abbrev dequeues : List Act → ℕ
 dequeues acts = count_by (λ a. dequeued a.op a.reply) acts
 
+abbrev line_reads : List Act → ℕ
+line_reads acts = sum_by (λ a. line_words a.op) acts
+
 abbrev AreThis : ℕ → List ℕ → Type 0
 AreThis level qs = AllByRecursion (λ q. q ≡ level) qs
 
 pub record Costs (level : ℕ) (acts : List Act) (read write take : ℕ) : Type 0 where
-  pub read_few : lookups acts + dequeues acts ≤ read
+  pub read_few : lookups acts + dequeues acts + line_reads acts ≤ read
   pub write_few : 2 * keys acts + lookups acts + nodes acts ≤ write
   pub take_few : nodes acts ≤ take
   pub asked : AreThis level (filter_map (λ a. asked_queue a.op a.reply) acts)
@@ -72,7 +75,7 @@ costs-append {level} {xs} {ys} f g =
     let changed_all = filter_map-append (λ (a : Act). changed_queue a.op a.reply) xs ys in
     let different_all = different-append same_key_equiv (filter_map (λ (a : Act). changed_key a.op a.reply) xs) (filter_map (λ (a : Act). changed_key a.op a.reply) ys) [] in
     record {
-      read_few = omega (arith, f.read_few, g.read_few, looked_all, dequeued_all);
+      read_few = omega (arith, f.read_few, g.read_few, looked_all, dequeued_all, line_words-append xs ys);
       write_few = omega (arith, f.write_few, g.write_few, looked_all, nodes-append xs ys, ap (different same_key) keys_all, different_all);
       take_few = omega (arith, f.take_few, g.take_few, nodes-append xs ys);
       asked = subst (AreThis level) (sym asked_all) (these-append level _ _ f.asked g.asked);

@@ -2,7 +2,7 @@
 use Rattle.std.specs.Prelude.{ℕ, ◌+◌, ◌-◌, ◌^◌, ◌==◌, if◌then◌else◌, min, Some, None}
 use Rattle.md_history.specs.declared.acts.Op.TheVariants.{Get, Insert, Remove, Enqueue}
 use Rattle.md_history.specs.declared.acts.Reply.{Reply}
-use Rattle.md_history.specs.declared.acts.Reply.TheVariants.{Value, Flag, Nothing}
+use Rattle.md_history.specs.declared.acts.Reply.TheVariants.{Value, Flag, Nothing, Line}
 use Rattle.md_history.specs.Script.{Script, done, call, bind}
 use Rattle.md_book.specs.declared.commands.Side.{Side}
 use Rattle.md_book.specs.declared.commands.BookReply.{BookReply}
@@ -16,6 +16,7 @@ value_or_0 (Value (Some v)) = v
 value_or_0 (Value None) = 0
 value_or_0 (Flag b) = 0
 value_or_0 Nothing = 0
+value_or_0 (Line l) = 0
 
 -- one way where a reply has no value, another where it has one
 abbrev pub by_value : {R : Type 0} → Reply → Script R → (ℕ → Script R) → Script R
@@ -23,6 +24,7 @@ by_value (Value (Some v)) none some = some v
 by_value (Value None) none some = none
 by_value (Flag b) none some = none
 by_value Nothing none some = none
+by_value (Line l) none some = none
 
 -- a key gets a value, where that isn't 0
 abbrev pub put : ℕ → ℕ → ℕ → Script (Unit {0})

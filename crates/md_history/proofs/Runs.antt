@@ -4,7 +4,7 @@ use Rattle.std.specs.Prelude.{is_none}
 use Rattle.std.specs.FinMap as fin
 use Rattle.std.proofs.lemmas.List.{length-set}
 use Rattle.md_history.specs.declared.acts.Op.{Op}
-use Rattle.md_history.specs.declared.acts.Op.TheVariants.{Get, Insert, Remove, Enqueue, Dequeue, Front}
+use Rattle.md_history.specs.declared.acts.Op.TheVariants.{Get, Insert, Remove, Enqueue, Dequeue, Front, Line}
 use Rattle.md_history.specs.declared.acts.Reply.{Reply}
 use Rattle.md_history.specs.declared.acts.Act.{Act}
 use Rattle.md_history.specs.State.{State, HaveSameNumbers, run, IsRight, after, answer, map_at}
@@ -33,6 +33,7 @@ length-maps s (Remove m k) = length-set s.maps m _
 length-maps s (Enqueue q v) = refl
 length-maps s (Dequeue q) = refl
 length-maps s (Front q) = refl
+length-maps s (Line q n) = refl
 
 pub length-queues : (s : State) (op : Op) → length (after s op).queues ≡ length s.queues
 length-queues s (Get m k) = refl
@@ -41,6 +42,7 @@ length-queues s (Remove m k) = refl
 length-queues s (Enqueue q v) = length-set s.queues q _
 length-queues s (Dequeue q) = length-set s.queues q _
 length-queues s (Front q) = refl
+length-queues s (Line q n) = refl
 
 no_refusal : (o : Option Op) → is_some o ≡ false → o ≡ None
 no_refusal None e = refl

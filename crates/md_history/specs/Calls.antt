@@ -1,12 +1,15 @@
 -- What the calls of a transaction do, answered or refused.
-use Rattle.std.specs.Prelude.{◌≡◌, ◌<◌, ◌^◌, List, [], ◌∷◌, ◌++◌, Option, Some, None, unwrap_or}
+use Rattle.std.specs.Prelude.{◌≡◌, ◌<◌, ◌≤◌, ◌^◌, ℕ, List, [], ◌∷◌, ◌++◌, Option, Some, None, unwrap_or, length, All}
 use Rattle.md_history.specs.declared.acts.Op.{Op}
-use Rattle.md_history.specs.declared.acts.Op.TheVariants.{Get, Insert, Remove, Enqueue, Dequeue, Front}
+use Rattle.md_history.specs.declared.acts.Op.TheVariants.{Get, Insert, Remove, Enqueue, Dequeue, Front, Line}
+use Rattle.md_history.specs.declared.acts.Line.{Line as Values}
+use Rattle.md_history.specs.declared.acts.TheConstants.{MAX_LINE}
 use Rattle.md_history.specs.declared.acts.Reply.{Reply}
-use Rattle.md_history.specs.declared.acts.Reply.TheVariants.{Value, Flag, Nothing}
+use Rattle.md_history.specs.declared.acts.Reply.TheVariants.{Value, Flag, Nothing, Line as TheLine}
 use Rattle.md_history.specs.declared.acts.Act.{Act}
 use Rattle.md_history.specs.declared.stops.Stop.{Stop}
 use Rattle.md_history.specs.Act.{act_of}
+use Rattle.md_history.specs.State.{line_of}
 
 -- why a transaction stopped, and the operation that was refused first
 pub record Refusal : Type 0 where
@@ -29,6 +32,18 @@ pub record Refused (op : Op) (why : Stop) (acts acts' : List Act) (stop stop' : 
   pub stands : stop' ≡ Some (first_refusal stop op why)
   pub again : (first_refusal stop op why).stop ≡ why
 
+-- how many values one operation may look at
+pub record IsLineLength (n : ℕ) : Type 0 where
+  pub some : 1 ≤ n
+  pub few : n ≤ MAX_LINE
+
+-- a line of at most n values
+pub record IsLineOf (n : ℕ) (l : Values) : Type 0 where
+  pub shown : List ℕ
+  pub few : length shown ≤ n
+  pub fit : All (λ v. v < 2 ^ 64) shown
+  pub is : l ≡ line_of shown
+
 -- the replies that an operation can have
 abbrev pub MayReply : Op → Reply → Type 0
 MayReply (Insert m k v) (Flag b) = Unit {0}
@@ -41,6 +56,7 @@ MayReply (Dequeue q) (Value None) = Unit {0}
 MayReply (Dequeue q) (Value (Some v)) = v < 2 ^ 64
 MayReply (Front q) (Value None) = Unit {0}
 MayReply (Front q) (Value (Some v)) = v < 2 ^ 64
+MayReply (Line q n) (TheLine l) = IsLineOf n l
 MayReply _ _ = ⊥
 
 -- a part of a body broke off: the transaction has the stop, and whatever the refused operation would have

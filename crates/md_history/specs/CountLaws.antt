@@ -1,6 +1,6 @@
 -- Laws of counts: more acts count no less, and what two lists count bounds what both together do.
 use Rattle.std.specs.Prelude.{◌≡◌, ◌≤◌, ◌+◌, ℕ, Bool, true, false, cond, Option, List, [], ◌∷◌, ◌++◌, length, ◌||◌, nat_eq}
-use Rattle.std.specs.List.{filter_map, list_any, count_by}
+use Rattle.std.specs.List.{filter_map, list_any, count_by, sum_by}
 use Rattle.std.specs.Cmp.{IsEquivalence}
 use Rattle.std.proofs.Common.{sym, ap, subst, ◌∙◌, arith, inl, inr}
 use Rattle.std.proofs.lemmas.Bool.{cases_Bool}
@@ -9,7 +9,7 @@ use Rattle.std.proofs.lemmas.List.Sums.{sum_by-append}
 use Rattle.std.proofs.lemmas.List.Elements.{filter_map-append}
 use Rattle.std.proofs.lemmas.Map.Steps.{list_any_congr}
 use Rattle.md_history.specs.declared.acts.Act.{Act}
-use Rattle.md_history.specs.Counts.{different_beside, different, same_key, looked, changed_key, asked_queue, changed_queue, dequeued, added, reads, writes, nodes, AreFew}
+use Rattle.md_history.specs.Counts.{different_beside, different, same_key, looked, changed_key, asked_queue, changed_queue, dequeued, line_words, added, reads, writes, nodes, AreFew}
 
 -- counts of acts that pass a test add up
 pub count-append : {A : Type 0} (p : A → Bool) (xs ys : List A) → count_by p (xs ++ ys) ≡ count_by p xs + count_by p ys
@@ -96,13 +96,16 @@ module _ (xs ys : List Act) where
   dequeued-append : count_by (λ (a : Act). dequeued a.op a.reply) (xs ++ ys) ≡ count_by (λ (a : Act). dequeued a.op a.reply) xs + count_by (λ (a : Act). dequeued a.op a.reply) ys
   dequeued-append = count-append (λ (a : Act). dequeued a.op a.reply) xs ys
 
+  pub line_words-append : sum_by (λ (a : Act). line_words a.op) (xs ++ ys) ≡ sum_by (λ (a : Act). line_words a.op) xs + sum_by (λ (a : Act). line_words a.op) ys
+  line_words-append = sum_by-append (λ (a : Act). line_words a.op) xs ys
+
   -- the nodes of two lists add up
   pub nodes-append : nodes (xs ++ ys) ≡ nodes xs + nodes ys
   nodes-append = count-append (λ (a : Act). added a.op a.reply) xs ys
 
   -- both together read and write no more than the one and then the other
   pub reads-append : reads (xs ++ ys) ≤ reads xs + reads ys
-  reads-append = omega (arith, looked-append, dequeued-append, named-append nat_eq (λ (a : Act). asked_queue a.op a.reply) xs ys nat_eq_equiv)
+  reads-append = omega (arith, looked-append, dequeued-append, line_words-append, named-append nat_eq (λ (a : Act). asked_queue a.op a.reply) xs ys nat_eq_equiv)
 
   pub writes-append : writes (xs ++ ys) ≤ writes xs + writes ys
   writes-append = omega (arith, looked-append, nodes-append, named-append same_key (λ (a : Act). changed_key a.op a.reply) xs ys same_key_equiv, named-append nat_eq (λ (a : Act). changed_queue a.op a.reply) xs ys nat_eq_equiv)
@@ -112,7 +115,7 @@ module _ (xs ys : List Act) where
   nodes-prefix = omega (arith, nodes-append)
 
   pub reads-prefix : reads xs ≤ reads (xs ++ ys)
-  reads-prefix = omega (arith, looked-append, dequeued-append, named-prefix nat_eq (λ (a : Act). asked_queue a.op a.reply) xs ys)
+  reads-prefix = omega (arith, looked-append, dequeued-append, line_words-append, named-prefix nat_eq (λ (a : Act). asked_queue a.op a.reply) xs ys)
 
   pub writes-prefix : writes xs ≤ writes (xs ++ ys)
   writes-prefix = omega (arith, looked-append, nodes-append, named-prefix same_key (λ (a : Act). changed_key a.op a.reply) xs ys, named-prefix nat_eq (λ (a : Act). changed_queue a.op a.reply) xs ys)

@@ -1,8 +1,8 @@
 -- How many words acts read and write, and how many nodes they take: a store's limits are told by these numbers.
 use Rattle.std.specs.Prelude.{ℕ, ◌+◌, ◌*◌, ◌≤◌, ◌==◌, ◌&&◌, nat_eq, Bool, true, false, if◌then◌else◌, List, [], ◌∷◌, Option, Some, None}
-use Rattle.std.specs.List.{filter_map, list_any, count_by}
+use Rattle.std.specs.List.{filter_map, list_any, count_by, sum_by}
 use Rattle.md_history.specs.declared.acts.Op.{Op}
-use Rattle.md_history.specs.declared.acts.Op.TheVariants.{Get, Insert, Remove, Enqueue, Dequeue, Front}
+use Rattle.md_history.specs.declared.acts.Op.TheVariants.{Get, Insert, Remove, Enqueue, Dequeue, Front, Line}
 use Rattle.md_history.specs.declared.acts.Reply.{Reply}
 use Rattle.md_history.specs.declared.acts.Reply.TheVariants.{Value, Flag}
 use Rattle.md_history.specs.declared.acts.Act.{Act}
@@ -21,10 +21,11 @@ changed_key (Insert m k v) (Flag true) = Some (m, k)
 changed_key (Remove m k) (Value (Some v)) = Some (m, k)
 changed_key op r = None
 
--- the queue whose first value an operation asked for
+-- the queue whose first values an operation asked for
 abbrev pub asked_queue : Op → Reply → Option ℕ
 asked_queue (Dequeue q) r = Some q
 asked_queue (Front q) r = Some q
+asked_queue (Line q n) r = Some q
 asked_queue op r = None
 
 -- the queue that an operation changed
@@ -37,6 +38,11 @@ changed_queue op r = None
 abbrev pub dequeued : Op → Reply → Bool
 dequeued (Dequeue q) (Value (Some v)) = true
 dequeued op r = false
+
+-- how many words an operation looks at beside the head of its queue: one for each value of a line, and the last one's
+abbrev pub line_words : Op → ℕ
+line_words (Line q n) = n + 1
+line_words op = 0
 
 -- a pair or a value was added
 abbrev pub added : Op → Reply → Bool
@@ -57,12 +63,13 @@ abbrev pub same_key : ℕ × ℕ → ℕ × ℕ → Bool
 same_key a b = (a.0 == b.0) && (a.1 == b.1)
 
 -- the words that acts read at most: one for each operation on a map that changed nothing; for each queue that was asked
--- for its first value two, and one more for each value that it gave away
+-- for its first values two, and one more for each value that it gave away; and for each line of n values n + 1
 abbrev pub reads : List Act → ℕ
 reads acts =
     count_by (λ a. looked a.op a.reply) acts
     + 2 * different nat_eq (filter_map (λ a. asked_queue a.op a.reply) acts)
     + count_by (λ a. dequeued a.op a.reply) acts
+    + sum_by (λ a. line_words a.op) acts
 
 -- the nodes that acts take: one for each pair or value that was added
 abbrev pub nodes : List Act → ℕ

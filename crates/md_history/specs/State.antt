@@ -1,12 +1,14 @@
 -- What maps and queues contain, and what operations answer and leave.
-use Rattle.std.specs.Prelude.{◌≡◌, ℕ, List, [], ◌∷◌, ◌++◌, length, drop, replicate, slice_get, slice_index_or, slice_set, if◌then◌else◌, is_none, refl}
+use Rattle.std.specs.Prelude.{◌≡◌, ◌-◌, ℕ, List, [], ◌∷◌, ◌++◌, length, take, drop, replicate, slice_get, slice_index_or, slice_set, if◌then◌else◌, is_none, refl}
 use Rattle.std.specs.Ordering.{nat_cmp}
 use Rattle.std.specs.FinMap as fin
 use Rattle.std.specs.Coded.{Coded, code_by, coded×, coded_ℕ, coded_list}
 use Rattle.md_history.specs.declared.acts.Op.{Op}
-use Rattle.md_history.specs.declared.acts.Op.TheVariants.{Get, Insert, Remove, Enqueue, Dequeue, Front}
+use Rattle.md_history.specs.declared.acts.Op.TheVariants.{Get, Insert, Remove, Enqueue, Dequeue, Front, Line}
+use Rattle.md_history.specs.declared.acts.Line.{Line as Values}
+use Rattle.md_history.specs.declared.acts.TheConstants.{MAX_LINE}
 use Rattle.md_history.specs.declared.acts.Reply.{Reply}
-use Rattle.md_history.specs.declared.acts.Reply.TheVariants.{Value, Flag, Nothing}
+use Rattle.md_history.specs.declared.acts.Reply.TheVariants.{Value, Flag, Nothing, Line as TheLine}
 use Rattle.md_history.specs.declared.acts.Act.{Act}
 
 -- a finite map from keys to values
@@ -51,6 +53,10 @@ pub record HaveSameNumbers (s t : State) : Type 0 where
   pub maps : length s.maps ≡ length t.maps
   pub queues : length s.queues ≡ length t.queues
 
+-- values as a line, which has 0 in each place past them
+abbrev pub line_of : List ℕ → Values
+line_of xs = record { count = length xs; values = xs ++ replicate (MAX_LINE - length xs) 0 }
+
 -- what an operation answers
 abbrev pub answer : State → Op → Reply
 answer s (Get m k) = Value (fin.get (map_at s m) k)
@@ -59,6 +65,7 @@ answer s (Remove m k) = Value (fin.get (map_at s m) k)
 answer s (Enqueue q v) = Nothing
 answer s (Dequeue q) = Value (slice_get (queue_at s q) 0)
 answer s (Front q) = Value (slice_get (queue_at s q) 0)
+answer s (Line q n) = TheLine (line_of (take n (queue_at s q)))
 
 -- what an operation leaves
 abbrev pub after : State → Op → State
@@ -68,6 +75,7 @@ after s (Remove m k) = with_map s m (fin.remove (map_at s m) k)
 after s (Enqueue q v) = with_queue s q (queue_at s q ++ v ∷ [])
 after s (Dequeue q) = with_queue s q (drop 1 (queue_at s q))
 after s (Front q) = s
+after s (Line q n) = s
 
 -- the state after acts, in order
 abbrev pub run : State → List Act → State

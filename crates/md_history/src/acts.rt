@@ -20,6 +20,20 @@ pub enum Op {
     Dequeue { queue: u32 },
     /// Looks at the first value.
     Front { queue: u32 },
+    /// Looks at the first `n` values.
+    Line { queue: u32, n: u8 },
+}
+
+/// How many values of a queue one operation may look at.
+pub const MAX_LINE: usize = 12;
+
+/// The first values of a queue, in order.
+#[derive(Clone, Copy, Debug, PartialEq, Eq)]
+pub struct Line {
+    /// How many values there are, from 0 to 12.
+    pub count: u8,
+    /// The values, and 0 in each place past the last of them.
+    pub values: [u64; MAX_LINE],
 }
 
 /// What an operation answers.
@@ -31,6 +45,8 @@ pub enum Reply {
     Flag(bool),
     /// Of `Enqueue`.
     Nothing,
+    /// Of `Line`: the first `n` values, or all where there are fewer.
+    Line(Line),
 }
 
 /// An operation with its reply.

@@ -3,8 +3,9 @@ ghost use Rattle.std.specs.Prelude.{◌≡◌, ◌<◌, ℕ, List, Option, IfOk,
 ghost use Rattle.md_history.specs.declared.acts.Act.{Act};
 ghost use Rattle.md_history.specs.declared.acts.Op.TheVariants.{Get, Insert, Remove, Enqueue, Dequeue, Front};
 ghost use Rattle.md_history.specs.declared.acts.Reply.TheVariants.{Value, Flag, Nothing};
-ghost use Rattle.md_history.specs.Calls.{Refusal, Answered, Refused};
+ghost use Rattle.md_history.specs.Calls.{Refusal, Answered, Refused, IsLineLength};
 
+use crate::acts::{Line, Op, Reply};
 use crate::stops::Stop;
 
 /// A transaction under way.
@@ -67,5 +68,13 @@ pub trait TxCalls {
         requires { queue < queues (kept self.old) }
         ensures ok { IfOk result (λ v. Answered (Front queue) (Value v) (acts self.old) (acts self.new) (stop self.old) (stop self.new)) }
         ensures err { IfErr result (λ e. Refused (Front queue) e (acts self.old) (acts self.new) (stop self.old) (stop self.new)) }
+        ensures kept { kept self.new ≡ kept self.old };
+
+    /// The first `n` values of a queue, or all where there are fewer. `n` is from 1 to 12.
+    fn line(&mut self, queue: u32, n: u8) -> Result<Line, Stop>
+        requires queue { queue < queues (kept self.old) }
+        requires n { IsLineLength n }
+        ensures ok { IfOk result (λ l. Answered (Op.Line queue n) (Reply.Line l) (acts self.old) (acts self.new) (stop self.old) (stop self.new)) }
+        ensures err { IfErr result (λ e. Refused (Op.Line queue n) e (acts self.old) (acts self.new) (stop self.old) (stop self.new)) }
         ensures kept { kept self.new ≡ kept self.old };
 }

@@ -1,11 +1,12 @@
 // What the maps and the queues contain, in one place.
-ghost use Rattle.std.specs.Prelude.{◌≡◌, ◌<◌, [], ◌∷◌, ◌++◌, length, drop, slice_get, is_none, IfOk, OnOk, OnErr};
+ghost use Rattle.std.specs.Prelude.{◌≡◌, ◌<◌, ◌≤◌, [], ◌∷◌, ◌++◌, length, take, drop, slice_get, is_none, IfOk, OnOk, OnErr};
 ghost use Rattle.std.specs.FinMap as fin;
 ghost use Rattle.std.specs.Ordering.{nat_cmp};
-ghost use Rattle.md_history.specs.State.{State, empty_state, map_at, queue_at, with_map, with_queue, after};
+ghost use Rattle.md_history.specs.State.{State, empty_state, map_at, queue_at, with_map, with_queue, line_of, after};
 ghost use Rattle.md_history.specs.Contents.{table_of};
 ghost use Rattle.md_history.specs.declared.acts.Op.TheVariants.{Insert};
 
+use crate::acts::{Line, MAX_LINE};
 use std::alloc::{AllocError, Global};
 use std::collections::{BTreeMap, VecDeque};
 use std::marker::Model;
@@ -115,6 +116,24 @@ impl Contents {
         ensures { result ≡ slice_get (queue_at self.now queue) 0 }
     {
         self.queues[queue as usize].front().copied()
+    }
+
+    /// The first values of a queue, `n` of them or all where there are fewer.
+    pub(crate) fn line(&self, queue: u32, n: u8) -> Line
+        requires queue { queue < length self.now.queues }
+        requires n { n ≤ MAX_LINE }
+        ensures { result ≡ line_of (take n (queue_at self.now queue)) }
+    {
+        let items = &self.queues[queue as usize];
+        let count = items.len().min(n as usize);
+        let mut values = [0; MAX_LINE];
+        for i in 0..count {
+            values[i] = items[i];
+        }
+        Line {
+            count: count as u8,
+            values,
+        }
     }
 
     /// Adds a key that is absent, and answers whether it was.

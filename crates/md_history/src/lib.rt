@@ -15,7 +15,7 @@ mod stops;
 #[cfg(test)]
 mod tests;
 
-pub use acts::{Act, Acts, Op, Reply};
+pub use acts::{Act, Acts, Line, MAX_LINE, Op, Reply};
 pub use bodies::Body;
 pub use calls::TxCalls;
 pub use contents::Contents;

@@ -2,7 +2,7 @@
 ghost use Rattle.std.specs.Prelude.{◌≡◌, ◌∷◌, ◌++◌, [], Some, IfErr, OnOk, OnErr};
 ghost use Rattle.md_history.specs.Act.{act_of};
 
-use crate::acts::{Acts, Op, Reply};
+use crate::acts::{Acts, Line, Op, Reply};
 use crate::calls::TxCalls;
 use crate::contents::Contents;
 use crate::stops::Stop;
@@ -131,5 +131,15 @@ impl TxCalls for PlainTx {
         let op = Op::Front { queue };
         note(&mut self.acts, &mut self.refused, op, Reply::Value(value))?;
         Ok(value)
+    }
+
+    fn line(&mut self, queue: u32, n: u8) -> Result<Line, Stop> {
+        if self.refused.is_some() {
+            return Err(Stop::NoMemory);
+        }
+        let line = self.contents.line(queue, n);
+        let op = Op::Line { queue, n };
+        note(&mut self.acts, &mut self.refused, op, Reply::Line(line))?;
+        Ok(line)
     }
 }

@@ -26,14 +26,14 @@ struct EachCall {
 impl Body for EachCall {
     ghost use Rattle.std.specs.Prelude.{◌<◌, None};
     ghost use Rattle.md_history.specs.declared.acts.Op.TheVariants.{Get, Insert, Remove, Enqueue, Dequeue, Front};
-    ghost use Rattle.md_history.specs.declared.acts.Reply.TheVariants.{Value, Flag, Nothing};
+    ghost use Rattle.md_history.specs.declared.acts.Reply.TheVariants.{Value, Flag, Nothing, Line};
     ghost use Rattle.md_history.specs.Script.{Did, Follows, call, done};
 
     type Reply = Option<u64>;
 
-    ghost did = { λ b acts r. Did (call (Insert 0 b.key b.value) (λ _. call (Get 0 b.key) (λ _. call (Remove 0 9) (λ _. call (Enqueue 0 b.value) (λ _. call (Front 0) (λ _. call (Dequeue 0) (λ r. done (elim r [ Value v ↦ v | Flag b ↦ None | Nothing ↦ None ])))))))) acts r };
+    ghost did = { λ b acts r. Did (call (Insert 0 b.key b.value) (λ _. call (Get 0 b.key) (λ _. call (Remove 0 9) (λ _. call (Enqueue 0 b.value) (λ _. call (Front 0) (λ _. call (Dequeue 0) (λ r. done (elim r [ Value v ↦ v | Flag b ↦ None | Nothing ↦ None | Line l ↦ None ])))))))) acts r };
 
-    ghost makes = { λ b acts. Follows (call (Insert 0 b.key b.value) (λ _. call (Get 0 b.key) (λ _. call (Remove 0 9) (λ _. call (Enqueue 0 b.value) (λ _. call (Front 0) (λ _. call (Dequeue 0) (λ r. done (elim r [ Value v ↦ v | Flag b ↦ None | Nothing ↦ None ])))))))) acts };
+    ghost makes = { λ b acts. Follows (call (Insert 0 b.key b.value) (λ _. call (Get 0 b.key) (λ _. call (Remove 0 9) (λ _. call (Enqueue 0 b.value) (λ _. call (Front 0) (λ _. call (Dequeue 0) (λ r. done (elim r [ Value v ↦ v | Flag b ↦ None | Nothing ↦ None | Line l ↦ None ])))))))) acts };
 
     ghost fits = { λ b maps queues. (0 < maps) × (0 < queues) };
 
@@ -93,6 +93,50 @@ fn a_body_runs_twice(rt: HostRuntime) -> Result<(), Fail> {
     assert_eq!(rt; (map.len(), map.get(&5).copied()), (1, Some(6)));
     let queue = contents.queue(0);
     assert_eq!(rt; (queue.len(), queue.front().copied()), (1, Some(7)));
+    Ok(())
+}
+
+// A body that puts 1 and 2 into a queue, and looks at its first value and at its first twelve.
+#[derive(Clone, Copy, Drop)]
+struct TwoLines;
+
+impl Body for TwoLines {
+    ghost use Rattle.std.specs.Prelude.{◌<◌};
+    ghost use Rattle.md_history.specs.declared.acts.Reply.{Reply as AnyReply};
+    ghost use Rattle.md_history.specs.declared.acts.Op.TheVariants.{Enqueue, Line as LineOp};
+    ghost use Rattle.md_history.specs.declared.acts.Reply.TheVariants.{Line as LineReply};
+    ghost use Rattle.md_history.specs.Script.{Did, Follows, call, done};
+
+    type Reply = (Line, Line);
+
+    ghost did = { λ b acts r. Did {R = AnyReply × AnyReply} (call (Enqueue 0 1) (λ _. call (Enqueue 0 2) (λ _. call (LineOp 0 1) (λ one. call (LineOp 0 12) (λ two. done (one, two)))))) acts (LineReply r.0, LineReply r.1) };
+
+    ghost makes = { λ b acts. Follows {R = AnyReply × AnyReply} (call (Enqueue 0 1) (λ _. call (Enqueue 0 2) (λ _. call (LineOp 0 1) (λ one. call (LineOp 0 12) (λ two. done (one, two)))))) acts };
+
+    ghost fits = { λ b maps queues. 0 < queues };
+
+    fn go<T: TxCalls>(&self, t: &mut T) -> Result<(Line, Line), Stop> {
+        t.enqueue(0, 1)?;
+        t.enqueue(0, 2)?;
+        Ok((t.line(0, 1)?, t.line(0, 12)?))
+    }
+
+    ghost did_makes = { λ b acts r did. did.follows };
+}
+
+#[test]
+fn lines_are_looked_at(rt: HostRuntime) -> Result<(), Fail> {
+    let (store, mut pass) = PlainStore::open(Contents::empty(rt.alloc(), 0, 1)?);
+    let lines = store.attempt(&mut pass, 1, &TwoLines);
+    let values = [1, 2, 0, 0, 0, 0, 0, 0, 0, 0, 0, 0];
+    let mut first = values;
+    first[1] = 0;
+    let one = Line {
+        count: 1,
+        values: first,
+    };
+    let all = Line { count: 2, values };
+    assert_eq!(rt; lines, Attempt::Committed((one, all)));
     Ok(())
 }
 
