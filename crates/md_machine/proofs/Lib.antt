@@ -1,37 +1,7 @@
-mod Lists
-mod WordChanges
-mod Leaving
-mod Steps
-mod InstallMoves
-mod Moves
-mod Noted
-mod Installs
-mod OddWords
-mod Bracketing
-mod Undecided
-mod Shown
-mod SlotsKept
-mod InHand
-mod Stored
-mod Stamping
-mod Numbers
-mod Lanes
-mod Chronology
-mod LanesKept
-mod Hands
-mod Entries
-mod EntriesDecided
-mod EntriesReady
-mod Knowing
-mod Truth
-mod Fronts
-mod EntriesKept
-mod FrontsKept
-mod Past
-mod Decidedness
-mod Learning
-mod PlacedKept
-mod Flagging
+pub mod lists
+pub mod events
+pub mod clauses
+pub mod fates
 mod Invariant
 mod Reached
 mod RowsHold
@@ -39,5 +9,5 @@ mod Walking
 mod StoppedRowHolds
 mod HelpedRowHolds
 mod MovedRowHolds
-mod Placing
+pub mod resolutions
 mod Refusing

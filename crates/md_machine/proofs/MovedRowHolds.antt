@@ -22,8 +22,8 @@ use Rattle.md_machine.specs.Resolution.{InEveryResolution, logical_heap}
 use Rattle.md_machine.specs.Trail.{SomeStepOf}
 use Rattle.md_machine.specs.Own.{IsOwnNode}
 use Rattle.md_machine.specs.Certified.{CertifiedIn, HasWords, first_content, as_found, after_wholes}
-use Rattle.md_machine.specs.Readying.{MayRecord, IsStoredRead, InstallsFor, read_now, reads_now, write_now, writes_now}
-use Rattle.md_machine.specs.Events.{Does, Runs, opened, load, store, install, ready, commit, abort, uninstall, split, mark_begin, mark_start, mark_act, mark_end}
+use Rattle.md_machine.specs.events.Ready.{MayRecord, IsStoredRead, InstallsFor, read_now, reads_now, write_now, writes_now}
+use Rattle.md_machine.specs.Event.{Does, Runs, opened, load, store, install, ready, commit, abort, uninstall, split, mark_begin, mark_start, mark_act, mark_end}
 use Rattle.md_machine.specs.Walk.{view_at, hand_at, after_event}
 use Rattle.md_machine.specs.Rows.{small_shape, small_opening}
 use Rattle.md_machine.specs.Schedules.{inserts_change, inserts_node_of, inserts_18, misses, moving, moving_end, MovedRow}

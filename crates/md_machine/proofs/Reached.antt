@@ -13,20 +13,20 @@ use Rattle.md_machine.specs.declared.pass.PassView.{PassView}
 use Rattle.md_machine.specs.Meaning.{Meaning}
 use Rattle.md_machine.specs.Machine.{Machine}
 use Rattle.md_machine.specs.Trail.{segments}
-use Rattle.md_machine.specs.Formats.{StatusFits, AreFormats}
-use Rattle.md_machine.specs.Fates.{FrontFits}
-use Rattle.md_machine.specs.Events.{Event, Runs, CanOpen, opened, first_pass}
+use Rattle.md_machine.specs.clauses.Formats.{StatusFits, AreFormats}
+use Rattle.md_machine.specs.clauses.Fates.{FrontFits}
+use Rattle.md_machine.specs.Event.{Event, Runs, CanOpen, opened, first_pass}
 use Rattle.md_machine.specs.Theorem.{AlwaysKept, AlwaysGoesOn}
-use Rattle.md_machine.proofs.Lists.{at_one}
-use Rattle.md_machine.proofs.Numbers.{in_none, in_cons, here}
-use Rattle.md_machine.proofs.Chronology.{InOrder}
-use Rattle.md_machine.proofs.Bracketing.{IsBracket}
+use Rattle.md_machine.proofs.lists.At.{at_one}
+use Rattle.md_machine.proofs.lists.Rising.{in_none, in_cons, here}
+use Rattle.md_machine.proofs.clauses.Order.{InOrder}
+use Rattle.md_machine.proofs.clauses.Brackets.{IsBracket}
 use Rattle.std.specs.List.{Contains}
-use Rattle.md_machine.proofs.Lanes.{At, lanes_first}
+use Rattle.md_machine.proofs.clauses.LanesApart.{At, lanes_first}
 use Rattle.std.proofs.lemmas.List.Elements.{Contains-append_right}
 use Rattle.md_machine.specs.declared.attempt.Hand.{Hand}
-use Rattle.md_machine.proofs.Steps.{HasStep}
-use Rattle.md_machine.proofs.Hands.{none_some}
+use Rattle.md_machine.proofs.events.Steps.{HasStep}
+use Rattle.md_machine.proofs.clauses.Hands.{none_some}
 use Rattle.md_machine.proofs.Invariant.{Invariant, kept_by, plays_keep, runs_keep}
 
 -- the status word 0
@@ -87,24 +87,24 @@ module _ (M : Meaning) where
     lanes = lanes_first o.shape;
     hands = record { fits = λ pass p h at held. absurd (nothing_held o.shape pass p h at held) };
     entries = tt;
-    counted = record { counted = λ desc exists. inl (ap reads_of (can.descs _ (status_late o.shape desc)) ∙ zero_reads) };
+    read_counts = record { counted = λ desc exists. inl (ap reads_of (can.descs _ (status_late o.shape desc)) ∙ zero_reads) };
     past = tt;
     fronts = λ pass p at. subst (FrontFits o.shape [] []) (at_one (first_pass o.shape) p pass at).1 (record { seen = record { rest = []; is = refl }; fated = refl; known = tt; own = λ e c l. c });
-    known = λ e c. absurd (in_none e c);
+    known_past = λ e c. absurd (in_none e c);
     placed = λ pass p at x c. absurd (in_none x (subst (λ (v : PassView). Contains v.placed x) (sym (at_one (first_pass o.shape) p pass at).1) c));
     installs = record { fits = λ i c. absurd (in_none i c); held = λ i c. absurd (in_none i c) };
     order = λ pass p at segment c. subst (InOrder o.shape) (first_segment o.shape p segment (at_one (first_pass o.shape) p pass at).1 c) tt;
-    odd = λ word counted odd. absurd (true≢false (sym (can.even word counted) ∙ odd));
-    noted = λ t has. absurd (no_steps o.shape t has);
-    bracket = λ pass p at segment c. subst (IsBracket o.shape o.words) (first_segment o.shape p segment (at_one (first_pass o.shape) p pass at).1 c) tt;
+    odd_words = λ word counted odd. absurd (true≢false (sym (can.even word counted) ∙ odd));
+    statuses = λ t has. absurd (no_steps o.shape t has);
+    brackets = λ pass p at segment c. subst (IsBracket o.shape o.words) (first_segment o.shape p segment (at_one (first_pass o.shape) p pass at).1 c) tt;
     undecided = λ i c. absurd (in_none i c);
-    flagged = λ pass p at segment c s i. absurd (no_steps o.shape s (pass, p, at, (segment, c, i)));
-    written = λ e c. absurd (in_none e c);
-    alone = record { alone = λ pass p h at held. absurd (nothing_held o.shape pass p h at held); begins = λ pass p h at held. absurd (nothing_held o.shape pass p h at held) };
+    flags = λ pass p at segment c s i. absurd (no_steps o.shape s (pass, p, at, (segment, c, i)));
+    entry_slots = λ e c. absurd (in_none e c);
+    in_hand = record { alone = λ pass p h at held. absurd (nothing_held o.shape pass p h at held); begins = λ pass p h at held. absurd (nothing_held o.shape pass p h at held) };
     steps_begun = λ t has. absurd (no_steps o.shape t has);
     steps_past = λ t has. absurd (no_steps o.shape t has);
-    stored = λ pass p at a now word held entry l. absurd (no_steps o.shape l.store.step (pass, p, at, (l.store.earlier ++ l.store.step ∷ l.store.later, l.store.segment, Contains-append_right l.store.earlier (l.store.step ∷ l.store.later) l.store.step (here l.store.step l.store.later))));
-    won = λ pass p at segment c s i. absurd (no_steps o.shape s (pass, p, at, (segment, c, i)));
+    stores = λ pass p at a now word held entry l. absurd (no_steps o.shape l.store.step (pass, p, at, (l.store.earlier ++ l.store.step ∷ l.store.later, l.store.segment, Contains-append_right l.store.earlier (l.store.step ∷ l.store.later) l.store.step (here l.store.step l.store.later))));
+    won_installs = λ pass p at segment c s i. absurd (no_steps o.shape s (pass, p, at, (segment, c, i)));
     stamp = λ word count. get_or o.words word 0;
     stamps = record {
       now = λ word counted. record { bound = le_refl _; is = refl };

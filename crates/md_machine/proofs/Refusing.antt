@@ -15,10 +15,10 @@ use Rattle.md_machine.specs.Machine.{shape_of, content, attempt_of, present}
 use Rattle.md_machine.specs.Trail.{segments, StoresFor, LastStored, Loads}
 use Rattle.md_machine.specs.Own.{HasDesc}
 use Rattle.md_machine.specs.Stepping.{attempt_in_hand}
-use Rattle.md_machine.specs.Storing.{MayStoreAt}
-use Rattle.md_machine.specs.Uninstalling.{slot_by_fate, value_by_fate}
+use Rattle.md_machine.specs.events.Store.{MayStoreAt}
+use Rattle.md_machine.specs.events.Uninstall.{slot_by_fate, value_by_fate}
 use Rattle.md_machine.specs.Refused.{PublishedNodeRefused, OtherSlotRefused, EarlierValueRefused}
-use Rattle.md_machine.proofs.Numbers.{in_none, in_cons, here}
+use Rattle.md_machine.proofs.lists.Rising.{in_none, in_cons, here}
 use Rattle.md_machine.proofs.Reached.{reached}
 
 module _ (M : Meaning) where

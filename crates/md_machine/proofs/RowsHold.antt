@@ -10,7 +10,7 @@ use Rattle.md_machine.specs.declared.step.Step.{Step}
 use Rattle.md_machine.specs.declared.step.Kind.TheVariants.{Load}
 use Rattle.md_machine.specs.Meaning.{Meaning}
 use Rattle.md_machine.specs.Machine.{Machine}
-use Rattle.md_machine.specs.Events.{Does, Runs, opened, load, store, install, abort, uninstall, split, mark_begin}
+use Rattle.md_machine.specs.Event.{Does, Runs, opened, load, store, install, abort, uninstall, split, mark_begin}
 use Rattle.md_machine.specs.Walk.{view_at, hand_at, after_event}
 use Rattle.md_machine.specs.Rows.{small_opening, slot_0, installing, clearing, installed, cleared, ClearingRow}
 

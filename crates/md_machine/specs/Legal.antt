@@ -11,7 +11,7 @@ use Rattle.md_machine.specs.declared.pass.PassView.{PassView}
 use Rattle.md_machine.specs.Meaning.{Meaning}
 use Rattle.md_machine.specs.Machine.{Machine}
 use Rattle.md_machine.specs.Resolution.{Resolves, entries_of, logical_heap}
-use Rattle.md_machine.specs.Events.{opened}
+use Rattle.md_machine.specs.Event.{opened}
 
 -- an attempt with its lane
 abbrev pub begun_of : Shape → AttemptId → Begun

@@ -16,8 +16,8 @@ use Rattle.md_machine.specs.Resolution.{Resolves, placed_under, always_placed, n
 use Rattle.md_machine.specs.Trail.{LastStored, Loads}
 use Rattle.md_machine.specs.Own.{HasDesc}
 use Rattle.md_machine.specs.Stepping.{attempt_in_hand}
-use Rattle.md_machine.specs.Uninstalling.{KnowsValue}
-use Rattle.md_machine.specs.Events.{Event, Does, Runs, CanOpen, opened, store, install}
+use Rattle.md_machine.specs.events.Uninstall.{KnowsValue}
+use Rattle.md_machine.specs.Event.{Event, Does, Runs, CanOpen, opened, store, install}
 
 -- where each entry has a fate, a node counts as placed in every resolution exactly where each resolution places it
 abbrev pub AlwaysMeansEvery : Type 0

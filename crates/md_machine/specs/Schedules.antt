@@ -9,7 +9,7 @@ use Rattle.md_machine.specs.declared.certificate.Change.{Change}
 use Rattle.md_machine.specs.declared.certificate.NewNode.{NewNode}
 use Rattle.md_machine.specs.Meaning.{Meaning}
 use Rattle.md_machine.specs.Machine.{Machine, content}
-use Rattle.md_machine.specs.Events.{Event, Runs, opened, load, store, install, ready, commit, abort, uninstall, split, mark_begin, mark_start, mark_act, mark_end}
+use Rattle.md_machine.specs.Event.{Event, Runs, opened, load, store, install, ready, commit, abort, uninstall, split, mark_begin, mark_start, mark_act, mark_end}
 use Rattle.md_machine.specs.Walk.{after_all}
 use Rattle.md_machine.specs.Rows.{small_shape, small_opening}
 

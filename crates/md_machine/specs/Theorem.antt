@@ -3,32 +3,32 @@ use Rattle.std.specs.Prelude.{List}
 use Rattle.md_machine.specs.declared.opening.Opening.{Opening}
 use Rattle.md_machine.specs.Meaning.{Meaning}
 use Rattle.md_machine.specs.Machine.{Machine, shape_of}
-use Rattle.md_machine.specs.Formats.{AreFormats, LanesApart}
-use Rattle.md_machine.specs.Stamps.{StampsHold, GoesOn}
-use Rattle.md_machine.specs.Fates.{FatesByStatuses, FrontsFit}
-use Rattle.md_machine.specs.Placed.{PlacedStay, FlaggedAreNoted}
-use Rattle.md_machine.specs.Standing.{OddStand, UndecidedStand, SlotsStand}
-use Rattle.md_machine.specs.Shown.{WonAreInstalls}
-use Rattle.md_machine.specs.InHand.{HandsLast, StoresAgree}
-use Rattle.md_machine.specs.Entered.{EntriesKeepSlots}
-use Rattle.md_machine.specs.Events.{Event, Plays, Runs, CanOpen, opened}
+use Rattle.md_machine.specs.clauses.Formats.{AreFormats, LanesApart}
+use Rattle.md_machine.specs.clauses.Stamps.{StampsHold, GoesOn}
+use Rattle.md_machine.specs.clauses.Fates.{FatesByStatuses, FrontsFit}
+use Rattle.md_machine.specs.clauses.Placed.{PlacedStay, FlaggedAreNoted}
+use Rattle.md_machine.specs.clauses.Standing.{OddStand, UndecidedStand, SlotsStand}
+use Rattle.md_machine.specs.clauses.WonInstalls.{WonAreInstalls}
+use Rattle.md_machine.specs.clauses.InHand.{HandsLast, StoresAgree}
+use Rattle.md_machine.specs.clauses.EntrySlots.{EntriesKeepSlots}
+use Rattle.md_machine.specs.Event.{Event, Plays, Runs, CanOpen, opened}
 
 -- what holds of every machine that events lead to
 pub record IsKept (m : Machine) : Type 0 where
   pub formats : AreFormats (shape_of m) m.words
   pub lanes : LanesApart (shape_of m) m.passes
   pub stamps : StampsHold m
-  pub standing : OddStand (shape_of m) m.words m.installs
+  pub odd_words : OddStand (shape_of m) m.words m.installs
   pub undecided : UndecidedStand (shape_of m) m.words m.installs
   pub slots : SlotsStand (shape_of m) m.words m.installs
   pub fates : FatesByStatuses m
   pub fronts : FrontsFit (shape_of m) m.history m.fates m.passes
   pub placed : PlacedStay m
-  pub flagged : FlaggedAreNoted m
-  pub won : WonAreInstalls m
-  pub written : EntriesKeepSlots m
-  pub last : HandsLast m
-  pub stored : StoresAgree m
+  pub flags : FlaggedAreNoted m
+  pub won_installs : WonAreInstalls m
+  pub entry_slots : EntriesKeepSlots m
+  pub in_hand : HandsLast m
+  pub stores : StoresAgree m
 
 module _ (M : Meaning) where
   -- after every list of events from an opening

@@ -3,16 +3,16 @@ use Rattle.std.specs.Prelude.{ℕ, List, [], ◌∷◌, slice_index_or, unwrap_o
 use Rattle.md_machine.specs.declared.attempt.Hand.{Hand}
 use Rattle.md_machine.specs.declared.pass.PassView.{PassView}
 use Rattle.md_machine.specs.Machine.{Machine, attempt_of}
-use Rattle.md_machine.specs.Storing.{after_store}
-use Rattle.md_machine.specs.Installing.{after_install}
-use Rattle.md_machine.specs.Exchanging.{after_exchange}
-use Rattle.md_machine.specs.Readying.{after_ready}
-use Rattle.md_machine.specs.Deciding.{after_commit, after_abort}
-use Rattle.md_machine.specs.Uninstalling.{after_uninstall}
-use Rattle.md_machine.specs.Starting.{after_start}
-use Rattle.md_machine.specs.Marking.{new_hand, after_begin, after_operate, after_act, after_end, after_leave}
-use Rattle.md_machine.specs.Splitting.{spent, after_split, after_join}
-use Rattle.md_machine.specs.Events.{Event, load, store, install, exchange, ready, commit, abort, uninstall, start, split, join, mark_begin, mark_start, mark_act, mark_end, mark_leave, after_load}
+use Rattle.md_machine.specs.events.Store.{after_store}
+use Rattle.md_machine.specs.events.Install.{after_install}
+use Rattle.md_machine.specs.events.Exchange.{after_exchange}
+use Rattle.md_machine.specs.events.Ready.{after_ready}
+use Rattle.md_machine.specs.events.Decide.{after_commit, after_abort}
+use Rattle.md_machine.specs.events.Uninstall.{after_uninstall}
+use Rattle.md_machine.specs.events.Start.{after_start}
+use Rattle.md_machine.specs.events.Mark.{new_hand, after_mark_begin, after_mark_start, after_mark_act, after_mark_end, after_mark_leave}
+use Rattle.md_machine.specs.events.SplitJoin.{spent, after_split, after_join}
+use Rattle.md_machine.specs.Event.{Event, load, store, install, exchange, ready, commit, abort, uninstall, start, split, join, mark_begin, mark_start, mark_act, mark_end, mark_leave, after_load}
 
 -- the pass at a place, and what it has in hand
 abbrev pub view_at : Machine → ℕ → PassView
@@ -33,11 +33,11 @@ after_event m (uninstall pass word from value) = after_uninstall m pass (view_at
 after_event m (start pass desc from) = after_start m pass (view_at m pass) desc from
 after_event m (split pass) = after_split m pass (view_at m pass)
 after_event m (join pass other) = after_join m pass other (view_at m pass) (view_at m other)
-after_event m (mark_begin pass desc tag) = after_begin m pass (view_at m pass) desc tag
-after_event m (mark_start pass) = after_operate m pass (view_at m pass) (hand_at m pass)
-after_event m (mark_act pass certificate) = after_act m pass (view_at m pass) (hand_at m pass) certificate
-after_event m (mark_end pass) = after_end m pass (view_at m pass) (hand_at m pass)
-after_event m (mark_leave pass) = after_leave m pass (view_at m pass)
+after_event m (mark_begin pass desc tag) = after_mark_begin m pass (view_at m pass) desc tag
+after_event m (mark_start pass) = after_mark_start m pass (view_at m pass) (hand_at m pass)
+after_event m (mark_act pass certificate) = after_mark_act m pass (view_at m pass) (hand_at m pass) certificate
+after_event m (mark_end pass) = after_mark_end m pass (view_at m pass) (hand_at m pass)
+after_event m (mark_leave pass) = after_mark_leave m pass (view_at m pass)
 
 abbrev pub after_all : Machine → List Event → Machine
 after_all m [] = m

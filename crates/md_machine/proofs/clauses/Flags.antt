@@ -1,0 +1,171 @@
+-- What steps flagged as placed is noted by the pass, after every event.
+use Rattle.std.proofs.Common.{◌≡◌, ℕ, true, ◌⊎◌, List, [], ◌∷◌, ◌++◌, set, refl, sym, ap, ◌∙◌, subst, inl, inr, ⊎_elim, eqb-true, Option, Some, None, is_some}
+use Rattle.std.specs.List.{Contains}
+use Rattle.std.specs.Prelude.{◌==◌}
+use Rattle.std.proofs.lemmas.Bool.{cond_both, false≢true}
+use Rattle.std.proofs.lemmas.List.Elements.{Contains-append_left, Contains-append_right, Contains-push, Contains-push_cases, Contains-append_cases}
+use Rattle.md_words.specs.declared.shape.Shape.{Shape}
+use Rattle.md_words.specs.Place.{Place, base_word, bucket_head, queue_head, queue_tail, node_key, node_value, node_next, desc_status, read_word, read_content, slot_word, slot_old, slot_new}
+use Rattle.md_words.specs.Layout.{address}
+use Rattle.md_words.specs.PlaceAt.{place_at}
+use Rattle.md_history.specs.declared.entries.Fate.{Fate}
+use Rattle.md_history.specs.declared.entries.Fate.TheVariants.{Committed, Aborted, Undecided}
+use Rattle.md_machine.specs.declared.attempt.HistoryEntry.{HistoryEntry}
+use Rattle.md_machine.specs.declared.node.PlacedNode.{PlacedNode}
+use Rattle.md_machine.specs.declared.node.Structure.{Structure}
+use Rattle.md_machine.specs.declared.pass.PassView.{PassView}
+use Rattle.md_machine.specs.declared.step.Kind.{Kind}
+use Rattle.md_machine.specs.declared.step.Kind.TheVariants.{Load, Store, Install as Installs, Exchange, Ready, Commit, Abort, Uninstall, Start}
+use Rattle.md_machine.specs.declared.step.Step.{Step}
+use Rattle.md_machine.specs.Meaning.{Meaning}
+use Rattle.md_machine.specs.Machine.{Machine, shape_of}
+use Rattle.md_machine.specs.Trail.{segments}
+use Rattle.md_machine.specs.Resolution.{least, or_else, structure_in, kept_structure, kept_nodes, always_placed, always_nodes}
+use Rattle.md_machine.specs.Stepping.{step_of, left_by, wins, exchanged, is_next_of_placed}
+use Rattle.md_machine.specs.events.Ready.{view_after_ready, unready_word, ready_word}
+use Rattle.md_machine.specs.events.SplitJoin.{spent, joined}
+use Rattle.md_machine.specs.events.Mark.{moved}
+use Rattle.md_machine.specs.clauses.Placed.{NotesNext, NotesFlagged, FlaggedAreNoted}
+use Rattle.md_machine.specs.Event.{Event, Does, load, store, install, exchange, ready, commit, abort, uninstall, start, split, join, mark_begin, mark_start, mark_act, mark_end, mark_leave}
+use Rattle.md_machine.proofs.lists.At.{at_set, at_append, at_one}
+use Rattle.md_machine.proofs.lists.Rising.{in_none, here, there}
+use Rattle.md_machine.proofs.clauses.LanesApart.{At}
+
+-- a node of a list
+abbrev pub HasNode : List PlacedNode → ℕ → Type 0
+HasNode nodes node = (x : PlacedNode) × Contains nodes x × (x.node ≡ node)
+
+-- a node that a list places is one of it
+structure_has : (ps : List PlacedNode) (node : ℕ) → is_some (structure_in ps node) ≡ true → HasNode ps node
+structure_has [] node h = absurd (false≢true h)
+structure_has (p ∷ ps) node h = cond_both (p.node == node) (Some p.structure) (structure_in ps node) (λ (o : Option Structure). is_some o ≡ true → HasNode (p ∷ ps) node)
+    (λ yes _. (p, here p ps, eqb-true p.node node yes))
+    (λ no k. let r = structure_has ps node k in (r.0, there p ps r.0 r.1, r.2))
+    h
+
+one_of_two : (x z : Option Structure) → is_some (or_else x z) ≡ true → (is_some x ≡ true) ⊎ (is_some z ≡ true)
+one_of_two (Some s) z h = inl refl
+one_of_two None z h = inr h
+
+either_has : (ps qs : List PlacedNode) (node : ℕ) → HasNode ps node ⊎ HasNode qs node → HasNode (ps ++ qs) node
+either_has ps qs node = ⊎_elim (λ l. (l.0, Contains-append_left ps qs l.0 l.1, l.2)) (λ r. (r.0, Contains-append_right ps qs r.0 r.1, r.2))
+
+kept_has : (es : List HistoryEntry) (fs : List Fate) (node : ℕ) → is_some (kept_structure es (least fs) node) ≡ true → HasNode (kept_nodes es (least fs)) node
+kept_has [] fs node h = absurd (false≢true h)
+kept_has (e ∷ es) [] node h = absurd (false≢true h)
+kept_has (e ∷ es) (Committed ∷ fs) node h = either_has e.placed (kept_nodes es (least fs)) node
+    (⊎_elim (λ a. inl (structure_has e.placed node a)) (λ b. inr (kept_has es fs node b)) (one_of_two (structure_in e.placed node) (kept_structure es (least fs) node) h))
+kept_has (e ∷ es) (Aborted ∷ fs) node h = kept_has es fs node h
+kept_has (e ∷ es) (Undecided ∷ fs) node h = kept_has es fs node h
+
+always_has : (m : Machine) (node : ℕ) → always_placed m node ≡ true → HasNode (always_nodes m) node
+always_has m node h = either_has m.opening.placed (kept_nodes m.history (least m.fates)) node
+    (⊎_elim (λ a. inl (structure_has m.opening.placed node a)) (λ b. inr (kept_has m.history m.fates node b)) (one_of_two (structure_in m.opening.placed node) (kept_structure m.history (least m.fates) node) h))
+
+-- so the flag of a step tells a node that is placed in every resolution
+flag_tells : (m : Machine) (place : Place) → is_next_of_placed m place ≡ true → NotesNext (always_nodes m) place
+flag_tells m (node_next node) h = let r = always_has m node h in record { node = r.0; among = r.1; next = ap node_next (sym r.2) }
+flag_tells m base_word h = absurd (false≢true h)
+flag_tells m (bucket_head _ _) h = absurd (false≢true h)
+flag_tells m (queue_head _) h = absurd (false≢true h)
+flag_tells m (queue_tail _) h = absurd (false≢true h)
+flag_tells m (node_key _) h = absurd (false≢true h)
+flag_tells m (node_value _) h = absurd (false≢true h)
+flag_tells m (desc_status _) h = absurd (false≢true h)
+flag_tells m (read_word _ _) h = absurd (false≢true h)
+flag_tells m (read_content _ _) h = absurd (false≢true h)
+flag_tells m (slot_word _ _) h = absurd (false≢true h)
+flag_tells m (slot_old _ _) h = absurd (false≢true h)
+flag_tells m (slot_new _ _) h = absurd (false≢true h)
+
+notes_more : (noted more : List PlacedNode) (place : Place) → ((x : PlacedNode) → Contains noted x → Contains more x) → NotesNext noted place → NotesNext more place
+notes_more noted more place all n = record { node = n.node; among = all n.node n.among; next = n.next }
+
+-- what holds of every step of some segments, of whoever has noted more
+abbrev pub Flagged : Shape → (noted : List PlacedNode) → List (List Step) → Type 0
+Flagged shape noted all = (segment : List Step) → Contains all segment → (s : Step) → Contains segment s → s.placed ≡ true → NotesNext noted (place_at shape s.word)
+
+flagged_more : (shape : Shape) (noted more : List PlacedNode) (all : List (List Step)) → ((x : PlacedNode) → Contains noted x → Contains more x) → Flagged shape noted all → Flagged shape more all
+flagged_more shape noted more all f was segment c s i flag = notes_more noted more (place_at shape s.word) f (was segment c s i flag)
+
+flagged_both : (shape : Shape) (noted : List PlacedNode) (all others : List (List Step)) → Flagged shape noted all → Flagged shape noted others → Flagged shape noted (all ++ others)
+flagged_both shape noted all others one two segment c = ⊎_elim (λ l. one segment l) (λ r. two segment r) (Contains-append_cases all others segment c)
+
+flagged_empty : (shape : Shape) (noted : List PlacedNode) → Flagged shape noted ([] ∷ [])
+flagged_empty shape noted segment c s i = ⊎_elim (λ none. absurd (in_none segment none)) (λ e. absurd (in_none s (subst (λ l. Contains l s) (sym e) i))) (Contains-push_cases [] [] segment c)
+
+-- a pass after one more step
+one_more : (m : Machine) (p : PassView) (kind : Kind) (word new : ℕ) → NotesFlagged (shape_of m) p → Flagged (shape_of m) (p.placed ++ always_nodes m) (p.past ++ (p.trail ++ step_of m p kind word new ∷ []) ∷ [])
+one_more m p kind word new was =
+    let old : Flagged (shape_of m) (p.placed ++ always_nodes m) (segments p) = flagged_more (shape_of m) p.placed (p.placed ++ always_nodes m) (segments p) (λ x. Contains-append_left p.placed (always_nodes m) x) was in
+    λ segment c s i flag. ⊎_elim
+    (λ before. old segment (Contains-append_left p.past (p.trail ∷ []) segment before) s i flag)
+    (λ last. ⊎_elim
+    (λ earlier. old p.trail (Contains-push p.past p.trail) s earlier flag)
+    (λ same. subst (λ w. NotesNext (p.placed ++ always_nodes m) (place_at (shape_of m) w)) (ap (λ (t : Step). t.word) same)
+    (notes_more (always_nodes m) (p.placed ++ always_nodes m) (place_at (shape_of m) word) (λ x. Contains-append_right p.placed (always_nodes m) x)
+    (flag_tells m (place_at (shape_of m) word) (ap (λ (t : Step). t.placed) same ∙ flag))))
+    (Contains-push_cases p.trail (step_of m p kind word new) s (subst (λ l. Contains l s) (sym last) i)))
+    (Contains-push_cases p.past (p.trail ++ step_of m p kind word new ∷ []) segment c)
+
+stepped_flags : (m : Machine) (p q : PassView) (kind : Kind) (word new : ℕ) → q.past ≡ p.past → q.trail ≡ p.trail ++ step_of m p kind word new ∷ [] → q.placed ≡ p.placed ++ always_nodes m → NotesFlagged (shape_of m) p → NotesFlagged (shape_of m) q
+stepped_flags m p q kind word new past trail placed was =
+    subst (λ noted. Flagged (shape_of m) noted (segments q)) (sym placed)
+    (subst (λ all. Flagged (shape_of m) (p.placed ++ always_nodes m) (all ++ q.trail ∷ [])) (sym past)
+    (subst (λ last. Flagged (shape_of m) (p.placed ++ always_nodes m) (p.past ++ last ∷ [])) (sym trail) (one_more m p kind word new was)))
+
+-- passes that have noted what they flagged
+abbrev pub Noting : Shape → List PassView → Type 0
+Noting shape passes = (pass : ℕ) (p : PassView) → At passes pass p → NotesFlagged shape p
+
+noting_set : (shape : Shape) (passes : List PassView) (pass : ℕ) (q : PassView) → NotesFlagged shape q → Noting shape passes → Noting shape (set passes pass q)
+noting_set shape passes pass q new was j u at = ⊎_elim (λ e. subst (NotesFlagged shape) e.1 new) (λ o. was j u o.1) (at_set passes pass j q u at)
+
+noting_push : (shape : Shape) (passes : List PassView) (r : PassView) → NotesFlagged shape r → Noting shape passes → Noting shape (passes ++ r ∷ [])
+noting_push shape passes r new was j u at = ⊎_elim (λ old. was j u old) (λ end. subst (NotesFlagged shape) (at_one r u end.0 end.2).1 new) (at_append passes (r ∷ []) j u at)
+
+noting_step : (m : Machine) (pass : ℕ) (p q : PassView) (kind : Kind) (word new : ℕ) → At m.passes pass p → q.past ≡ p.past → q.trail ≡ p.trail ++ step_of m p kind word new ∷ [] → q.placed ≡ p.placed ++ always_nodes m → FlaggedAreNoted m → Noting (shape_of m) (set m.passes pass q)
+noting_step m pass p q kind word new at past trail placed was = noting_set (shape_of m) m.passes pass q (stepped_flags m p q kind word new past trail placed (was pass p at)) was
+
+noting_split : (m : Machine) (pass : ℕ) (p r : PassView) (later : List PassView) (kind : Kind) (word new : ℕ) → At m.passes pass p → r.past ≡ p.past → r.trail ≡ p.trail ++ step_of m p kind word new ∷ [] → r.placed ≡ p.placed ++ always_nodes m → FlaggedAreNoted m
+    → Noting (shape_of m) later → Noting (shape_of m) (later ++ r ∷ [])
+noting_split m pass p r later kind word new at past trail placed was = noting_push (shape_of m) later r (stepped_flags m p r kind word new past trail placed (was pass p at))
+
+joined_flags : (shape : Shape) (p q : PassView) → NotesFlagged shape p → NotesFlagged shape q → NotesFlagged shape (joined shape p q)
+joined_flags shape p q mine theirs =
+    let noted = p.placed ++ q.placed in
+    flagged_both shape noted (segments p ++ segments q) ([] ∷ [])
+    (flagged_both shape noted (segments p) (segments q)
+    (flagged_more shape p.placed noted (segments p) (λ x. Contains-append_left p.placed q.placed x) mine)
+    (flagged_more shape q.placed noted (segments q) (λ x. Contains-append_right p.placed q.placed x) theirs))
+    (flagged_empty shape noted)
+
+module _ (M : Meaning) where
+  -- every event keeps it
+  pub flags-kept : (m n : Machine) (e : Event) → Does M m e n → FlaggedAreNoted m → Noting (shape_of m) n.passes
+  flags-kept m n (load pass word) (p, acts, exists, is) was = subst (λ (k : Machine). Noting (shape_of m) k.passes) (sym is) (noting_step m pass p _ Load word _ acts.at refl refl refl was)
+  flags-kept m n (store pass word value) (p, h, acts, may, is) was = subst (λ (k : Machine). Noting (shape_of m) k.passes) (sym is) (noting_step m pass p _ Store word _ acts.at refl refl refl was)
+  flags-kept m n (install pass word from to) (p, h, acts, may, is) was = subst (λ (k : Machine). Noting (shape_of m) k.passes) (sym is) (noting_step m pass p _ Installs word _ acts.at refl refl refl was)
+  flags-kept m n (exchange pass word from to) (p, acts, may, is) was = subst (λ (k : Machine). Noting (shape_of m) k.passes) (sym is) (noting_step m pass p _ Exchange word _ acts.at refl refl refl was)
+  flags-kept m n (commit pass desc from) (p, acts, may, is) was = subst (λ (k : Machine). Noting (shape_of m) k.passes) (sym is) (noting_step m pass p _ Commit _ _ acts.at refl refl refl was)
+  flags-kept m n (abort pass desc from) (p, acts, may, is) was = subst (λ (k : Machine). Noting (shape_of m) k.passes) (sym is) (noting_step m pass p _ Abort _ _ acts.at refl refl refl was)
+  flags-kept m n (uninstall pass word from value) (p, acts, may, is) was = subst (λ (k : Machine). Noting (shape_of m) k.passes) (sym is) (noting_step m pass p _ Uninstall word _ acts.at refl refl refl was)
+  flags-kept m n (start pass desc from) (p, acts, may, is) was = subst (λ (k : Machine). Noting (shape_of m) k.passes) (sym is) (noting_step m pass p _ Start _ _ acts.at refl refl refl was)
+  flags-kept m n (mark_begin pass desc tag) (p, acts, may, is) was = subst (λ (k : Machine). Noting (shape_of m) k.passes) (sym is) (noting_step m pass p _ Load 0 _ acts.at refl refl refl was)
+  flags-kept m n (mark_start pass) (p, h, acts, may, is) was = subst (λ (k : Machine). Noting (shape_of m) k.passes) (sym is) (noting_step m pass p _ Load 0 _ acts.at refl refl refl was)
+  flags-kept m n (mark_act pass c) (p, h, acts, may, is) was = subst (λ (k : Machine). Noting (shape_of m) k.passes) (sym is) (noting_step m pass p _ Load 0 _ acts.at refl refl refl was)
+  flags-kept m n (mark_end pass) (p, h, acts, may, is) was = subst (λ (k : Machine). Noting (shape_of m) k.passes) (sym is) (noting_step m pass p _ Load 0 _ acts.at refl refl refl was)
+  flags-kept m n (mark_leave pass) (p, acts, is) was = subst (λ (k : Machine). Noting (shape_of m) k.passes) (sym is) (noting_step m pass p _ Load 0 _ acts.at refl refl refl was)
+  flags-kept m n (ready pass count) (p, h, acts, may, is) was = subst (λ (k : Machine). Noting (shape_of m) k.passes) (sym is) (
+      let word = address (shape_of m) (desc_status h.attempt.desc) in
+      let new = left_by m word (unready_word h.attempt) (ready_word h.attempt count) in
+      let plain = exchanged m p Ready word (unready_word h.attempt) (ready_word h.attempt count) in
+      let won = wins m word (unready_word h.attempt) in
+      noting_step m pass p (view_after_ready m p h count) Ready word new acts.at
+      (cond_both won _ plain (λ (q : PassView). q.past ≡ p.past) (λ _. refl) (λ _. refl))
+      (cond_both won _ plain (λ (q : PassView). q.trail ≡ p.trail ++ step_of m p Ready word new ∷ []) (λ _. refl) (λ _. refl))
+      (cond_both won _ plain (λ (q : PassView). q.placed ≡ p.placed ++ always_nodes m) (λ _. refl) (λ _. refl)) was)
+  flags-kept m n (split pass) (p, acts, may, is) was = subst (λ (k : Machine). Noting (shape_of m) k.passes) (sym is)
+      (noting_split m pass p _ _ Load 0 _ acts.at refl refl refl was (noting_step m pass p _ Load 0 _ acts.at refl refl refl was))
+  flags-kept m n (join pass other) (p, q, acts, ne, there, is) was = subst (λ (k : Machine). Noting (shape_of m) k.passes) (sym is)
+      (noting_set _ _ other spent (flagged_empty (shape_of m) []) (noting_set _ m.passes pass _ (joined_flags (shape_of m) (moved m p) q (stepped_flags m p (moved m p) Load 0 _ refl refl refl (was pass p acts.at)) (was other q there.at)) was))

@@ -1,0 +1,133 @@
+-- What passes noted as placed in every resolution stays so, after every event.
+use Rattle.std.proofs.Common.{◌≡◌, ℕ, true, ◌⊎◌, List, [], ◌∷◌, ◌++◌, set, refl, sym, ap, ◌∙◌, subst, eq-eqb, inl, inr, ⊎_elim, Option, Some, None, is_some}
+use Rattle.std.specs.List.{Contains}
+use Rattle.std.specs.Prelude.{◌==◌}
+use Rattle.std.proofs.lemmas.Bool.{cond_both, false≢true, true≢false}
+use Rattle.std.proofs.lemmas.List.Elements.{Contains-append_cases}
+use Rattle.md_words.specs.Place.{desc_status}
+use Rattle.md_words.specs.Layout.{address}
+use Rattle.md_history.specs.declared.entries.Fate.{Fate}
+use Rattle.md_history.specs.declared.entries.Fate.TheVariants.{Committed, Aborted, Undecided}
+use Rattle.md_history.specs.Front.{IsPrefix, AllStay}
+use Rattle.md_machine.specs.declared.attempt.HistoryEntry.{HistoryEntry}
+use Rattle.md_machine.specs.declared.node.PlacedNode.{PlacedNode}
+use Rattle.md_machine.specs.declared.node.Structure.{Structure}
+use Rattle.md_machine.specs.declared.opening.Opening.{Opening}
+use Rattle.md_machine.specs.declared.pass.PassView.{PassView}
+use Rattle.md_machine.specs.declared.step.Kind.TheVariants.{Load, Ready}
+use Rattle.md_machine.specs.Meaning.{Meaning}
+use Rattle.md_machine.specs.Machine.{Machine, shape_of, content}
+use Rattle.md_machine.specs.Resolution.{is_committed, least, or_else, structure_in, kept_structure, kept_nodes, always_placed, always_nodes}
+use Rattle.md_machine.specs.Stepping.{stepped, wins, exchanged}
+use Rattle.md_machine.specs.events.Ready.{view_after_ready, unready_word, ready_word}
+use Rattle.md_machine.specs.events.SplitJoin.{spent}
+use Rattle.md_machine.specs.clauses.Placed.{PlacedStay}
+use Rattle.md_machine.specs.Event.{Event, Does, load, store, install, exchange, ready, commit, abort, uninstall, start, split, join, mark_begin, mark_start, mark_act, mark_end, mark_leave}
+use Rattle.md_machine.proofs.lists.At.{at_set, at_append, at_one}
+use Rattle.md_machine.proofs.lists.Rising.{in_none, in_cons}
+use Rattle.md_machine.proofs.clauses.LanesApart.{At}
+use Rattle.md_machine.proofs.resolutions.Placing.{some_or, some_skip}
+
+some_first : (x z : Option Structure) → is_some x ≡ true → is_some (or_else x z) ≡ true
+some_first (Some s) z h = refl
+some_first None z h = absurd (false≢true h)
+
+-- a node of a list is placed by it
+in_structure : (ps : List PlacedNode) (x : PlacedNode) → Contains ps x → is_some (structure_in ps x.node) ≡ true
+in_structure [] x c = absurd (in_none x c)
+in_structure (p ∷ ps) x c = cond_both (p.node == x.node) (Some p.structure) (structure_in ps x.node) (λ (o : Option Structure). is_some o ≡ true)
+    (λ _. refl)
+    (λ no. ⊎_elim (λ same. absurd (true≢false (sym (eq-eqb p.node x.node (ap (λ (y : PlacedNode). y.node) same)) ∙ no))) (in_structure ps x) (in_cons p ps x c))
+
+in_kept : (es : List HistoryEntry) (fs : List Fate) (x : PlacedNode) → Contains (kept_nodes es (least fs)) x → is_some (kept_structure es (least fs) x.node) ≡ true
+in_kept [] fs x c = absurd (in_none x c)
+in_kept (e ∷ es) [] x c = absurd (in_none x c)
+in_kept (e ∷ es) (Committed ∷ fs) x c = ⊎_elim
+    (λ here. some_first (structure_in e.placed x.node) (kept_structure es (least fs) x.node) (in_structure e.placed x here))
+    (λ later. some_skip (structure_in e.placed x.node) (kept_structure es (least fs) x.node) (in_kept es fs x later))
+    (Contains-append_cases e.placed (kept_nodes es (least fs)) x c)
+in_kept (e ∷ es) (Aborted ∷ fs) x c = in_kept es fs x c
+in_kept (e ∷ es) (Undecided ∷ fs) x c = in_kept es fs x c
+
+always_in : (m : Machine) (x : PlacedNode) → Contains (always_nodes m) x → always_placed m x.node ≡ true
+always_in m x c = ⊎_elim
+    (λ opened. some_first (structure_in m.opening.placed x.node) (kept_structure m.history (least m.fates) x.node) (in_structure m.opening.placed x opened))
+    (λ kept. some_skip (structure_in m.opening.placed x.node) (kept_structure m.history (least m.fates) x.node) (in_kept m.history m.fates x kept))
+    (Contains-append_cases m.opening.placed (kept_nodes m.history (least m.fates)) x c)
+
+-- one more entry places no less
+cond_grows : (e : HistoryEntry) (es : List HistoryEntry) (g : Fate) (gs : List Fate) (node : ℕ) → is_some (kept_structure es (least gs) node) ≡ true → is_some (kept_structure (e ∷ es) (least (g ∷ gs)) node) ≡ true
+cond_grows e es Committed gs node h = some_skip (structure_in e.placed node) (kept_structure es (least gs) node) h
+cond_grows e es Aborted gs node h = h
+cond_grows e es Undecided gs node h = h
+
+-- what committed entries place stays placed
+kept_grows : (es rest : List HistoryEntry) (fs gs : List Fate) (node : ℕ) → AllStay fs gs → is_some (kept_structure es (least fs) node) ≡ true → is_some (kept_structure (es ++ rest) (least gs) node) ≡ true
+kept_grows [] rest fs gs node a k = absurd (false≢true k)
+kept_grows (e ∷ es) rest [] gs node a k = absurd (false≢true k)
+kept_grows (e ∷ es) rest (f ∷ fs) [] node a k = absurd a
+kept_grows (e ∷ es) rest (Committed ∷ fs) (g ∷ gs) node a k = subst (λ x. is_some (kept_structure (e ∷ es ++ rest) (is_committed x ∷ least gs) node) ≡ true) (sym a.0)
+    (some_or (structure_in e.placed node) (kept_structure es (least fs) node) (kept_structure (es ++ rest) (least gs) node) (kept_grows es rest fs gs node a.1) k)
+kept_grows (e ∷ es) rest (Aborted ∷ fs) (g ∷ gs) node a k = cond_grows e (es ++ rest) g gs node (kept_grows es rest fs gs node a.1 k)
+kept_grows (e ∷ es) rest (Undecided ∷ fs) (g ∷ gs) node a k = cond_grows e (es ++ rest) g gs node (kept_grows es rest fs gs node a.1 k)
+
+placed_grows : (m n : Machine) (node : ℕ) → n.opening ≡ m.opening → IsPrefix m.history n.history → AllStay m.fates n.fates → always_placed m node ≡ true → always_placed n node ≡ true
+placed_grows m n node opening grows stay k =
+    let more = some_or (structure_in m.opening.placed node) (kept_structure m.history (least m.fates) node) (kept_structure (m.history ++ grows.rest) (least n.fates) node) (kept_grows m.history grows.rest m.fates n.fates node stay) k in
+    subst (λ (o : Opening). is_some (or_else (structure_in o.placed node) (kept_structure n.history (least n.fates) node)) ≡ true) (sym opening)
+    (subst (λ h. is_some (or_else (structure_in m.opening.placed node) (kept_structure h (least n.fates) node)) ≡ true) (sym grows.is) more)
+
+-- what a pass has noted some pass had noted, or it was placed in every resolution
+abbrev pub NotesFrom : Machine → (later : List PassView) → Type 0
+NotesFrom m later = (j : ℕ) (u : PassView) → At later j u → (x : PlacedNode) → Contains u.placed x → ((i : ℕ) × (p : PassView) × At m.passes i p × Contains p.placed x) ⊎ Contains (always_nodes m) x
+
+noted_by : (m : Machine) (pass : ℕ) (p u : PassView) (x : PlacedNode) → At m.passes pass p → u.placed ≡ p.placed ++ always_nodes m → Contains u.placed x → ((i : ℕ) × (q : PassView) × At m.passes i q × Contains q.placed x) ⊎ Contains (always_nodes m) x
+noted_by m pass p u x at same c = ⊎_elim (λ old. inl (pass, p, at, old)) inr (Contains-append_cases p.placed (always_nodes m) x (subst (λ l. Contains l x) same c))
+
+notes_set : (m : Machine) (pass : ℕ) (p q : PassView) → At m.passes pass p → q.placed ≡ p.placed ++ always_nodes m → NotesFrom m (set m.passes pass q)
+notes_set m pass p q at same j u u_at x c = ⊎_elim
+    (λ e. noted_by m pass p q x at same (subst (λ (v : PassView). Contains v.placed x) (sym e.1) c))
+    (λ o. inl (j, u, o.1, c))
+    (at_set m.passes pass j q u u_at)
+
+notes_push : (m : Machine) (later : List PassView) (pass : ℕ) (p r : PassView) → At m.passes pass p → r.placed ≡ p.placed ++ always_nodes m → NotesFrom m later → NotesFrom m (later ++ r ∷ [])
+notes_push m later pass p r at same was j u u_at x c = ⊎_elim
+    (λ old. was j u old x c)
+    (λ end. noted_by m pass p r x at same (subst (λ (v : PassView). Contains v.placed x) (sym (at_one r u end.0 end.2).1) c))
+    (at_append later (r ∷ []) j u u_at)
+
+module _ (M : Meaning) where
+  pub notes : (m n : Machine) (e : Event) → Does M m e n → NotesFrom m n.passes
+  notes m n (load pass word) (p, acts, exists, is) = subst (λ (k : Machine). NotesFrom m k.passes) (sym is) (notes_set m pass p _ acts.at refl)
+  notes m n (store pass word value) (p, h, acts, may, is) = subst (λ (k : Machine). NotesFrom m k.passes) (sym is) (notes_set m pass p _ acts.at refl)
+  notes m n (install pass word from to) (p, h, acts, may, is) = subst (λ (k : Machine). NotesFrom m k.passes) (sym is) (notes_set m pass p _ acts.at refl)
+  notes m n (exchange pass word from to) (p, acts, may, is) = subst (λ (k : Machine). NotesFrom m k.passes) (sym is) (notes_set m pass p _ acts.at refl)
+  notes m n (commit pass desc from) (p, acts, may, is) = subst (λ (k : Machine). NotesFrom m k.passes) (sym is) (notes_set m pass p _ acts.at refl)
+  notes m n (abort pass desc from) (p, acts, may, is) = subst (λ (k : Machine). NotesFrom m k.passes) (sym is) (notes_set m pass p _ acts.at refl)
+  notes m n (uninstall pass word from value) (p, acts, may, is) = subst (λ (k : Machine). NotesFrom m k.passes) (sym is) (notes_set m pass p _ acts.at refl)
+  notes m n (start pass desc from) (p, acts, may, is) = subst (λ (k : Machine). NotesFrom m k.passes) (sym is) (notes_set m pass p _ acts.at refl)
+  notes m n (mark_begin pass desc tag) (p, acts, may, is) = subst (λ (k : Machine). NotesFrom m k.passes) (sym is) (notes_set m pass p _ acts.at refl)
+  notes m n (mark_start pass) (p, h, acts, may, is) = subst (λ (k : Machine). NotesFrom m k.passes) (sym is) (notes_set m pass p _ acts.at refl)
+  notes m n (mark_act pass c) (p, h, acts, may, is) = subst (λ (k : Machine). NotesFrom m k.passes) (sym is) (notes_set m pass p _ acts.at refl)
+  notes m n (mark_end pass) (p, h, acts, may, is) = subst (λ (k : Machine). NotesFrom m k.passes) (sym is) (notes_set m pass p _ acts.at refl)
+  notes m n (mark_leave pass) (p, acts, is) = subst (λ (k : Machine). NotesFrom m k.passes) (sym is) (notes_set m pass p _ acts.at refl)
+  notes m n (ready pass count) (p, h, acts, may, is) = subst (λ (k : Machine). NotesFrom m k.passes) (sym is) (
+      let plain = exchanged m p Ready (address (shape_of m) (desc_status h.attempt.desc)) (unready_word h.attempt) (ready_word h.attempt count) in
+      notes_set m pass p (view_after_ready m p h count) acts.at
+      (cond_both (wins m (address (shape_of m) (desc_status h.attempt.desc)) (unready_word h.attempt)) _ plain (λ (q : PassView). q.placed ≡ p.placed ++ always_nodes m) (λ _. refl) (λ _. refl)))
+  notes m n (split pass) (p, acts, may, is) = subst (λ (k : Machine). NotesFrom m k.passes) (sym is) (notes_push m _ pass p _ acts.at refl (notes_set m pass p _ acts.at refl))
+  notes m n (join pass other) (p, q, acts, ne, there, is) = subst (λ (k : Machine). NotesFrom m k.passes) (sym is) (λ j u u_at x c. ⊎_elim
+      (λ e. absurd (in_none x (subst (λ (v : PassView). Contains v.placed x) (sym e.1) c)))
+      (λ o. ⊎_elim
+      (λ e. ⊎_elim
+      (λ mine. noted_by m pass p (stepped m p Load 0 (content m 0)) x acts.at refl mine)
+      (λ theirs. inl (other, q, there.at, theirs))
+      (Contains-append_cases (p.placed ++ always_nodes m) q.placed x (subst (λ (v : PassView). Contains v.placed x) (sym e.1) c)))
+      (λ y. inl (j, u, y.1, c))
+      (at_set m.passes pass j _ u o.1))
+      (at_set (set m.passes pass _) other j spent u u_at))
+
+-- every event keeps it
+pub placed-kept : (m n : Machine) → n.opening ≡ m.opening → IsPrefix m.history n.history → AllStay m.fates n.fates → NotesFrom m n.passes → PlacedStay m → PlacedStay n
+placed-kept m n opening grows stay from was j u u_at x c = placed_grows m n x.node opening grows stay
+    (⊎_elim (λ o. was o.0 o.1 o.2 x o.3) (always_in m x) (from j u u_at x c))

@@ -1,0 +1,101 @@
+-- As long as an attempt is undecided its slots stand: nobody may take them out.
+use Rattle.std.proofs.Common.{◌≡◌, ℕ, ◌<◌, List, ◌∷◌, ◌++◌, set, get_or, sym, ap, ◌∙◌, subst, inl, ⊎_elim, append_assoc, get_or-set_same, get_or-set_other, arith}
+use Rattle.std.specs.List.{Contains}
+use Rattle.std.proofs.lemmas.Bool.{cases_eq}
+use Rattle.std.proofs.lemmas.List.Elements.{Contains-append_right}
+use Rattle.md_words.specs.Content.{count_of, is_even}
+use Rattle.md_words.specs.Status.{status_of, serial_of}
+use Rattle.md_words.specs.Place.{desc_status}
+use Rattle.md_words.specs.Layout.{address, desc_count}
+use Rattle.md_words.specs.LayoutLaws.{IsField}
+use Rattle.md_words.specs.PlaceAt.{IsCounted}
+use Rattle.md_machine.specs.Machine.{Machine, Install, shape_of, content, status_at, word_at}
+use Rattle.md_machine.specs.events.Install.{installed_word}
+use Rattle.md_machine.specs.events.Uninstall.{IsDecided}
+use Rattle.md_machine.specs.clauses.Standing.{IsPresent, IsUndecided, UndecidedStand, spot_of_install}
+use Rattle.md_machine.proofs.lists.Rising.{here}
+use Rattle.md_machine.proofs.events.Leaves.{install_odd}
+use Rattle.md_machine.proofs.clauses.Hands.{HandsFit}
+use Rattle.md_machine.proofs.events.Moves.{Moves, Uninstalls}
+use Rattle.md_machine.proofs.events.InstallSteps.{InstallsHere}
+use Rattle.md_machine.proofs.events.Steps.{HasStep}
+use Rattle.md_machine.proofs.clauses.Stamps.{Stamp, StampsKept}
+use Rattle.md_machine.proofs.clauses.Installs.{InstallFits, InstallsKept, was_present}
+use Rattle.md_machine.proofs.clauses.OddWords.{splits, installed_names}
+use Rattle.md_machine.proofs.clauses.Statuses.{NotedStatus, StatusesNoted, not_both, status_step}
+use Rattle.md_machine.proofs.clauses.Brackets.{TrailsBracket, IsBracket, MetStanding, bracket_of, desc_in}
+
+module _ (m : Machine) (noted : StatusesNoted (shape_of m) m.words m.passes) (bracket : TrailsBracket (shape_of m) m.words m.passes) where
+  -- the serial that an uninstall knows is the present one
+  knows_present : (w : ℕ) → IsCounted (shape_of m) w → (u : Uninstalls m w) → u.may.serial ≡ serial_of (status_at m (desc_in (content m w)))
+  knows_present w counted u = ⊎_elim
+      (λ own. own.1)
+      (λ b.
+      let from = content m w in let st = b.status in let s = b.before.0 in let f = b.before.2 in
+      let cut = splits st.earlier s b.before.1 in
+      let whole : st.earlier ++ st.step ∷ st.later ≡ cut.0 ++ s ∷ (cut.1 ++ st.step ∷ st.later) = ap (λ l. l ++ st.step ∷ st.later) cut.2 ∙ append_assoc cut.0 (s ∷ cut.1) (st.step ∷ st.later) in
+      let is = subst (IsBracket (shape_of m) m.words) whole (bracket u.pass u.p u.at (st.earlier ++ st.step ∷ st.later) st.segment) in
+      let same : content m s.word ≡ from = ap (content m) f.there in
+      let met : MetStanding (shape_of m) m.words s = record {
+        counted = subst (IsCounted (shape_of m)) (sym f.there) counted;
+        odd = ap (λ c. is_even (count_of c)) same ∙ u.may.odd;
+        met = inl (f.before ∙ sym same);
+      } in
+      let found = st.such in
+      let notes = bracket_of (shape_of m) m.words cut.0 s (cut.1 ++ st.step ∷ st.later) st.step is (Contains-append_right cut.1 (st.step ∷ st.later) st.step (here st.step st.later)) met
+      (found.1.there ∙ ap (λ c. address (shape_of m) (desc_status (desc_in c))) (sym same)) in
+      sym found.2 ∙ ap serial_of (sym found.1.before) ∙ notes.before ∙ ap (λ c. serial_of (status_at m (desc_in c))) same)
+      u.may.knows_serial
+
+  -- so what it may take out is of a decided attempt
+  takes_decided : (w : ℕ) → IsCounted (shape_of m) w → desc_in (content m w) < desc_count (shape_of m) → Uninstalls m w → IsUndecided (status_at m (desc_in (content m w))) → ⊥
+  takes_decided w counted exists u undecided =
+      let kv = u.may.knows_value in let d = desc_in (content m w) in
+      let t = kv.met.2 in
+      let has : HasStep m.passes t.0 = (u.pass, u.p, u.at, (kv.met.0, kv.met.1, t.1)) in
+      let at : t.0.word ≡ address (shape_of m) (desc_status d) = ⊎_elim (λ f. f.there) (λ l. l.there) t.2 in
+      let known = noted t.0 has d exists at in
+      let held : NotedStatus (status_at m d) kv.status = ⊎_elim (λ f. subst (NotedStatus (status_at m d)) f.before known.0) (λ l. subst (NotedStatus (status_at m d)) l.after known.1) t.2 in
+      let stands = held.stands kv.decided (kv.present ∙ knows_present w counted u) in
+      not_both (status_of (status_at m d)) undecided (subst (λ c. IsDecided (status_of c)) stands kv.decided)
+
+  module _ (stamp : Stamp) (stamps : StampsKept m stamp) (k : InstallsKept (shape_of m) m.words m.installs m.passes) (n : Machine) (v : Moves m n)
+      (field : IsField (shape_of m) m.words) (hands : HandsFit (shape_of m) m.words m.passes) (was : UndecidedStand (shape_of m) m.words m.installs) where
+    abbrev later : List ℕ
+    later = set m.words v.word v.new
+
+    -- an attempt that is undecided afterwards was undecided
+    was_undecided : (i : Install) → InstallFits (shape_of m) m.words i → IsPresent (shape_of m) later i → IsUndecided (word_at (shape_of m) later (desc_status i.attempt.desc)) → IsUndecided (status_at m i.attempt.desc)
+    was_undecided i fits now undecided = let past = fits.past in ⊎_elim
+        (λ same. subst IsUndecided same undecided)
+        (λ o. ⊎_elim (λ goes. goes.1) (λ more. absurd (omega (arith, now, past, more))) o)
+        (status_step m field v.word v.new v.left i.attempt.desc fits.exists)
+
+    old_stands : (i : Install) → Contains m.installs i → IsPresent (shape_of m) later i → IsUndecided (word_at (shape_of m) later (desc_status i.attempt.desc)) → get_or later i.word 0 ≡ installed_word i.old (spot_of_install i)
+    old_stands i c now undecided =
+        let fits = k.fits i c in
+        let present = was_present m n v field hands k i fits now in
+        let before = was_undecided i fits now undecided in
+        let held = was i c present before in
+        let counted = (stamps.installs i c).0 in
+        ⊎_elim
+        (λ e.
+        let at = subst (IsCounted (shape_of m)) e counted in let inside = at.0 in
+        let there : content m v.word ≡ installed_word i.old (spot_of_install i) = ap (content m) (sym e) ∙ held in
+        let odd = ap (λ x. is_even (count_of x)) there ∙ install_odd i.old (spot_of_install i) (record { even = fits.even; room = fits.room }) in
+        let new : get_or later i.word 0 ≡ v.new = ap (λ x. get_or later x 0) e ∙ get_or-set_same m.words v.word v.new 0 (omega (arith, inside, field)) in
+        ⊎_elim
+        (λ same. new ∙ same ∙ there)
+        (λ u. let names = sym (ap desc_in there ∙ installed_names i fits.room (fits.slot present).exists.1) in
+        absurd (takes_decided v.word at (subst (λ d. d < desc_count (shape_of m)) names fits.exists) u (subst (λ d. IsUndecided (status_at m d)) names before)))
+        (v.takes at odd))
+        (λ ne. get_or-set_other m.words v.word i.word v.new 0 ne ∙ held)
+        (cases_eq i.word v.word)
+
+    new_stands : (i : Install) → InstallsHere m v.step n.passes v.word i → get_or later i.word 0 ≡ installed_word i.old (spot_of_install i)
+    new_stands i h =
+        let at = subst (IsCounted (shape_of m)) h.there h.counted in let inside = at.0 in
+        ap (λ x. get_or later x 0) h.there ∙ get_or-set_same m.words v.word v.new 0 (omega (arith, inside, field)) ∙ sym v.after ∙ h.step.after
+
+    pub undecided-kept : UndecidedStand (shape_of m) later n.installs
+    undecided-kept i c now undecided = ⊎_elim (λ old. old_stands i old now undecided) (new_stands i) (v.installs i c)

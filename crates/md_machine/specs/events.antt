@@ -1,0 +1,9 @@
+pub mod Store
+pub mod Install
+pub mod Exchange
+pub mod Ready
+pub mod Decide
+pub mod Uninstall
+pub mod Start
+pub mod Mark
+pub mod SplitJoin

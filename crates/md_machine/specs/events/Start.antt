@@ -1,0 +1,69 @@
+-- The event start: a descriptor whose attempt is decided begins another one.
+use Rattle.std.specs.Prelude.{◌≡◌, ◌≢◌, ◌+◌, ◌<◌, ◌++◌, ◌&&◌, ◌||◌, ℕ, Bool, true, false, List, [], ◌∷◌, All, Some, None}
+use Rattle.md_words.specs.declared.status.Status.TheVariants.{InPrep}
+use Rattle.md_words.specs.Status.{status_word, status_of, serial_of}
+use Rattle.md_words.specs.Place.{desc_status}
+use Rattle.md_words.specs.Layout.{address}
+use Rattle.md_history.specs.declared.entries.Fate.{Fate}
+use Rattle.md_history.specs.declared.entries.Fate.TheVariants.{Committed, Aborted, Undecided}
+use Rattle.md_machine.specs.declared.attempt.AttemptId.{AttemptId}
+use Rattle.md_machine.specs.declared.attempt.HistoryEntry.{HistoryEntry}
+use Rattle.md_machine.specs.declared.step.Step.{Step}
+use Rattle.md_machine.specs.declared.step.Kind.TheVariants.{Install as Installs, Start}
+use Rattle.md_machine.specs.declared.pass.PassView.{PassView}
+use Rattle.md_machine.specs.Machine.{Machine, shape_of, present, same_attempt, attempt_of, is_ready}
+use Rattle.md_machine.specs.Own.{HasDesc}
+use Rattle.md_machine.specs.Trail.{Meets, SomeStep, SomeStepOf, is_store, holds_desc}
+use Rattle.md_machine.specs.events.Uninstall.{IsDecided}
+use Rattle.md_machine.specs.Stepping.{stepped, replaced}
+
+-- the fate of an attempt's entry is known to be decided
+abbrev pub is_decided : Fate → Bool
+is_decided Committed = true
+is_decided Aborted = true
+is_decided Undecided = false
+
+abbrev pub knows_decided : List HistoryEntry → List Fate → AttemptId → Bool
+knows_decided (e ∷ es) (f ∷ fs) a = (same_attempt e.attempt a && is_decided f) || knows_decided es fs a
+knows_decided _ _ a = false
+
+-- a won install of an attempt
+pub record WonInstall (a : AttemptId) (s : Step) : Type 0 where
+  pub kind : s.kind ≡ Installs
+  pub attempt : s.attempt ≡ Some a
+  pub won : s.before ≢ s.after
+
+-- a step left the word without the descriptor: it took it out, or found the word without it. A store tells nothing
+pub record LeavesWithout (word desc : ℕ) (s : Step) : Type 0 where
+  pub there : s.word ≡ word
+  pub no_store : is_store s.kind ≡ false
+  pub without : holds_desc desc s.after ≡ false
+
+-- each install of the attempt in a segment is followed by such a step, there or in further steps
+abbrev pub IsCleanIn : AttemptId → (segment further : List Step) → Type 0
+IsCleanIn a segment further = (earlier : List Step) (s : Step) (later : List Step) → segment ≡ earlier ++ s ∷ later → WonInstall a s
+    → SomeStep (LeavesWithout s.word a.desc) (later ++ further)
+
+-- in no word that the attempt wrote may its descriptor still stand. The last segment counts as after the earlier ones
+pub record IsClean (p : PassView) (a : AttemptId) : Type 0 where
+  pub past : All (λ segment. IsCleanIn a segment p.trail) p.past
+  pub last : IsCleanIn a p.trail []
+
+pub record MayStart (m : Machine) (p : PassView) (desc from : ℕ) : Type 0 where
+  pub idle : p.hand ≡ None
+  pub own : HasDesc (shape_of m) p desc
+  pub decided : IsDecided (status_of from)
+  pub met : SomeStepOf p (Meets (address (shape_of m) (desc_status desc)) from)
+  pub present_serial : serial_of from ≡ (present m desc).serial
+  pub tries : serial_of from + 1 < (shape_of m).tries
+  pub fate : is_ready m.history (attempt_of desc (serial_of from)) ≡ true → knows_decided p.seen p.known (attempt_of desc (serial_of from)) ≡ true
+  pub clean : IsClean p (attempt_of desc (serial_of from))
+
+-- the status of an attempt that begins
+abbrev pub started_word : (from : ℕ) → ℕ
+started_word from = status_word InPrep 0 (serial_of from + 1)
+
+abbrev pub after_start : Machine → (pass : ℕ) → PassView → (desc from : ℕ) → Machine
+after_start m pass p desc from =
+    let word = address (shape_of m) (desc_status desc) in
+    replaced m pass (stepped m p Start word (started_word from)) word (started_word from)
