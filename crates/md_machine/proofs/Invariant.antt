@@ -13,14 +13,17 @@ use Rattle.md_machine.specs.declared.attempt.HistoryEntry.{HistoryEntry}
 use Rattle.md_machine.specs.declared.opening.Opening.{Opening}
 use Rattle.md_machine.specs.Meaning.{Meaning}
 use Rattle.md_machine.specs.Machine.{Machine, shape_of, content, status_at, word_at}
-use Rattle.md_machine.specs.clauses.Formats.{AreFormats, LanesApart}
-use Rattle.md_machine.specs.clauses.Stamps.{GoesOn, NotedByRead, StatusGoesOn}
+use Rattle.md_machine.specs.clauses.Formats.{AreFormats}
+use Rattle.md_machine.specs.clauses.Lanes.{LanesApart}
+use Rattle.md_machine.specs.GoesOn.{GoesOn, StatusGoesOn}
+use Rattle.md_machine.specs.clauses.Stamps.{NotedByRead}
 use Rattle.md_machine.specs.Event.{Event, Does, Plays, Runs}
 use Rattle.md_machine.specs.Theorem.{IsKept}
 use Rattle.md_machine.proofs.lists.Rising.{in_none, in_cons, here, there}
 use Rattle.md_machine.proofs.events.WordChanges.{formats-kept, counts_rise, statuses_go_on, stays_on}
 use Rattle.md_machine.proofs.events.Moves.{does_move}
-use Rattle.md_machine.specs.clauses.Standing.{OddStand, UndecidedStand}
+use Rattle.md_machine.specs.clauses.OddWords.{OddStand}
+use Rattle.md_machine.specs.clauses.Undecided.{UndecidedStand}
 use Rattle.md_machine.proofs.clauses.Statuses.{StatusesNoted, statuses-kept}
 use Rattle.md_machine.proofs.clauses.Brackets.{TrailsBracket, brackets-kept}
 use Rattle.md_machine.proofs.clauses.Undecided.{undecided-kept}
@@ -35,8 +38,10 @@ use Rattle.md_machine.proofs.clauses.EntriesDecided.{all_stay}
 use Rattle.md_machine.proofs.clauses.Entries.{entries-kept}
 use Rattle.md_machine.proofs.clauses.Past.{PastDecided, past-kept, fates_told}
 use Rattle.md_machine.proofs.clauses.Fronts.{fronts-kept}
-use Rattle.md_machine.specs.clauses.Fates.{PastKnown, FrontsFit}
-use Rattle.md_machine.specs.clauses.Placed.{PlacedStay, FlaggedAreNoted}
+use Rattle.md_machine.specs.clauses.Fates.{PastKnown}
+use Rattle.md_machine.specs.clauses.Fronts.{FrontsFit}
+use Rattle.md_machine.specs.clauses.Placed.{PlacedStay}
+use Rattle.md_machine.specs.clauses.Flags.{FlaggedAreNoted}
 use Rattle.md_machine.proofs.clauses.Placed.{notes, placed-kept}
 use Rattle.md_machine.specs.clauses.WonInstalls.{WonAreInstalls}
 use Rattle.md_machine.proofs.clauses.WonInstalls.{won_installs-kept}

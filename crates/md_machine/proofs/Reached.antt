@@ -14,7 +14,7 @@ use Rattle.md_machine.specs.Meaning.{Meaning}
 use Rattle.md_machine.specs.Machine.{Machine}
 use Rattle.md_machine.specs.Trail.{segments}
 use Rattle.md_machine.specs.clauses.Formats.{StatusFits, AreFormats}
-use Rattle.md_machine.specs.clauses.Fates.{FrontFits}
+use Rattle.md_machine.specs.clauses.Fronts.{FrontFits}
 use Rattle.md_machine.specs.Event.{Event, Runs, CanOpen, opened, first_pass}
 use Rattle.md_machine.specs.Theorem.{AlwaysKept, AlwaysGoesOn}
 use Rattle.md_machine.proofs.lists.At.{at_one}

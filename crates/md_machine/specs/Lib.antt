@@ -16,3 +16,5 @@ pub mod Rows
 pub mod Refused
 pub mod Schedules
 pub mod Legal
+pub mod GoesOn
+pub mod Installs

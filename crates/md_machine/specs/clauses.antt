@@ -2,7 +2,13 @@ pub mod Formats
 pub mod Stamps
 pub mod Fates
 pub mod Placed
-pub mod Standing
 pub mod WonInstalls
 pub mod EntrySlots
 pub mod InHand
+pub mod Lanes
+pub mod OddWords
+pub mod Slots
+pub mod Undecided
+pub mod Fronts
+pub mod Flags
+pub mod Stores

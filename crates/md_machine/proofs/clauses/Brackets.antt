@@ -15,7 +15,7 @@ use Rattle.md_machine.specs.declared.step.Step.{Step}
 use Rattle.md_machine.specs.declared.pass.PassView.{PassView}
 use Rattle.md_machine.specs.Machine.{Machine, shape_of, content, status_at, word_at}
 use Rattle.md_machine.specs.Trail.{segments}
-use Rattle.md_machine.specs.clauses.Standing.{OddStand}
+use Rattle.md_machine.specs.clauses.OddWords.{OddStand}
 use Rattle.md_machine.proofs.lists.Rising.{in_none, here, there}
 use Rattle.md_machine.proofs.clauses.LanesApart.{At}
 use Rattle.md_machine.proofs.events.WordChanges.{at_counted}

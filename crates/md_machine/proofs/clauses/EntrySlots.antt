@@ -14,7 +14,7 @@ use Rattle.md_machine.specs.declared.attempt.Write.{Write}
 use Rattle.md_machine.specs.declared.opening.Opening.{Opening}
 use Rattle.md_machine.specs.Machine.{Machine, Install, shape_of, word_at, status_at, same_attempt, attempt_of}
 use Rattle.md_machine.specs.events.Ready.{write_now, writes_now, installs_by}
-use Rattle.md_machine.specs.clauses.Standing.{IsPresent}
+use Rattle.md_machine.specs.Installs.{IsPresent}
 use Rattle.md_machine.specs.clauses.EntrySlots.{SlotsAreInstalls, EntriesKeepSlots}
 use Rattle.md_machine.proofs.lists.Rising.{in_none, in_cons, here, there, in_filter, filter_in}
 use Rattle.md_machine.proofs.events.WordChanges.{Stores, at_left, at_place, statuses_go_on}

@@ -25,7 +25,7 @@ use Rattle.md_machine.specs.Stepping.{step_of, left_by, wins, exchanged, is_next
 use Rattle.md_machine.specs.events.Ready.{view_after_ready, unready_word, ready_word}
 use Rattle.md_machine.specs.events.SplitJoin.{spent, joined}
 use Rattle.md_machine.specs.events.Mark.{moved}
-use Rattle.md_machine.specs.clauses.Placed.{NotesNext, NotesFlagged, FlaggedAreNoted}
+use Rattle.md_machine.specs.clauses.Flags.{NotesNext, NotesFlagged, FlaggedAreNoted}
 use Rattle.md_machine.specs.Event.{Event, Does, load, store, install, exchange, ready, commit, abort, uninstall, start, split, join, mark_begin, mark_start, mark_act, mark_end, mark_leave}
 use Rattle.md_machine.proofs.lists.At.{at_set, at_append, at_one}
 use Rattle.md_machine.proofs.lists.Rising.{in_none, here, there}

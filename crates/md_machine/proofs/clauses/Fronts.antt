@@ -23,8 +23,8 @@ use Rattle.md_machine.specs.Stepping.{step_of, stepped, known_after, wins, left_
 use Rattle.md_machine.specs.events.Ready.{MayReady, history_entry, history_after_ready, fates_after_ready, unready_word, ready_word}
 use Rattle.md_machine.specs.events.SplitJoin.{spent}
 use Rattle.md_machine.specs.events.Mark.{moved}
-use Rattle.md_machine.specs.clauses.Formats.{LanesApart}
-use Rattle.md_machine.specs.clauses.Fates.{FrontFits, FrontsFit}
+use Rattle.md_machine.specs.clauses.Lanes.{LanesApart}
+use Rattle.md_machine.specs.clauses.Fronts.{FrontFits, FrontsFit}
 use Rattle.md_machine.specs.Event.{Event, Does, load, store, install, exchange, ready, commit, abort, uninstall, start, split, join, mark_begin, mark_start, mark_act, mark_end, mark_leave}
 use Rattle.md_machine.proofs.lists.At.{exchanged_cases}
 use Rattle.md_machine.proofs.lists.Rising.{in_take, in_drop}

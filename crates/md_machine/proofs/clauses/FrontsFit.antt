@@ -13,7 +13,7 @@ use Rattle.md_machine.specs.declared.pass.PassView.{PassView}
 use Rattle.md_machine.specs.Machine.{Machine, shape_of}
 use Rattle.md_machine.specs.Stepping.{known_after}
 use Rattle.md_machine.specs.events.SplitJoin.{joined_lanes, longer, spent}
-use Rattle.md_machine.specs.clauses.Fates.{FrontFits, FrontsFit}
+use Rattle.md_machine.specs.clauses.Fronts.{FrontFits, FrontsFit}
 use Rattle.md_machine.proofs.lists.At.{at_set, at_append, at_one}
 use Rattle.md_machine.proofs.lists.Rising.{in_none, in_filter, lane_in}
 use Rattle.md_machine.proofs.clauses.LanesApart.{At}

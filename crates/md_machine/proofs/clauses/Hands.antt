@@ -17,7 +17,7 @@ use Rattle.md_machine.specs.declared.step.Kind.TheVariants.{Ready}
 use Rattle.md_machine.specs.Meaning.{Meaning}
 use Rattle.md_machine.specs.Machine.{Machine, shape_of, content, status_at, word_at, present}
 use Rattle.md_machine.specs.Own.{HasDesc}
-use Rattle.md_machine.specs.clauses.Formats.{LanesApart}
+use Rattle.md_machine.specs.clauses.Lanes.{LanesApart}
 use Rattle.md_machine.specs.Stepping.{wins, exchanged}
 use Rattle.md_machine.specs.events.Ready.{unready_word, ready_word, view_after_ready}
 use Rattle.md_machine.specs.events.Install.{hand_after_install}

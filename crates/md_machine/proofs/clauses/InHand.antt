@@ -13,7 +13,7 @@ use Rattle.md_machine.specs.declared.step.Kind.TheVariants.{Load, Ready}
 use Rattle.md_machine.specs.Meaning.{Meaning}
 use Rattle.md_machine.specs.Machine.{Machine, shape_of, content, same_attempt, was_begun}
 use Rattle.md_machine.specs.Own.{HasDesc}
-use Rattle.md_machine.specs.clauses.Formats.{LanesApart}
+use Rattle.md_machine.specs.clauses.Lanes.{LanesApart}
 use Rattle.md_machine.specs.Trail.{segments}
 use Rattle.md_machine.specs.Stepping.{step_of, attempt_in_hand, left_by, wins, exchanged}
 use Rattle.md_machine.specs.events.Install.{hand_after_install}

@@ -18,8 +18,9 @@ use Rattle.md_machine.specs.declared.step.Step.{Step}
 use Rattle.md_machine.specs.declared.pass.PassView.{PassView}
 use Rattle.md_machine.specs.Machine.{Machine, Install, shape_of, content, word_at, status_at, same_attempt, is_installed}
 use Rattle.md_machine.specs.Own.{HasDesc}
-use Rattle.md_machine.specs.clauses.Stamps.{StatusGoesOn}
-use Rattle.md_machine.specs.clauses.Standing.{serial_now, IsPresent, SlotStands}
+use Rattle.md_machine.specs.GoesOn.{StatusGoesOn}
+use Rattle.md_machine.specs.Installs.{serial_now, IsPresent}
+use Rattle.md_machine.specs.clauses.Slots.{SlotStands}
 use Rattle.md_machine.proofs.lists.Rising.{in_none, in_cons}
 use Rattle.md_machine.proofs.clauses.LanesApart.{At}
 use Rattle.md_machine.proofs.events.WordChanges.{StoresSlot, at_left, at_place, at_counted, statuses_go_on}

@@ -21,8 +21,9 @@ use Rattle.md_machine.specs.Stepping.{step_of, stepped}
 use Rattle.md_machine.specs.events.Ready.{history_entry, history_after_ready, fates_after_ready, unready_word, ready_word}
 use Rattle.md_machine.specs.events.SplitJoin.{spent}
 use Rattle.md_machine.specs.events.Start.{knows_decided}
-use Rattle.md_machine.specs.clauses.Formats.{LanesApart}
-use Rattle.md_machine.specs.clauses.Fates.{PastKnown, FrontsFit}
+use Rattle.md_machine.specs.clauses.Lanes.{LanesApart}
+use Rattle.md_machine.specs.clauses.Fates.{PastKnown}
+use Rattle.md_machine.specs.clauses.Fronts.{FrontsFit}
 use Rattle.md_machine.specs.Event.{Event, Does, load, store, install, exchange, ready, commit, abort, uninstall, start, split, join, mark_begin, mark_start, mark_act, mark_end, mark_leave}
 use Rattle.md_machine.proofs.lists.At.{exchanged_cases, at_set, at_append, at_one}
 use Rattle.md_machine.proofs.lists.Rising.{in_none, in_filter, in_take, in_drop, lane_in}

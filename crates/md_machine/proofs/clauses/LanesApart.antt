@@ -7,7 +7,7 @@ use mathlib.Core.Option.{some, some-injective}
 use Rattle.md_words.specs.declared.shape.Shape.{Shape}
 use Rattle.md_history.specs.Front.{is_lane_of}
 use Rattle.md_machine.specs.declared.pass.PassView.{PassView}
-use Rattle.md_machine.specs.clauses.Formats.{RiseFrom, HoldsLane, LanesApart}
+use Rattle.md_machine.specs.clauses.Lanes.{RiseFrom, HoldsLane, LanesApart}
 use Rattle.md_machine.specs.events.SplitJoin.{kept_lanes, given_lanes, joined_lanes, spent}
 use Rattle.md_machine.specs.Event.{first_pass}
 use Rattle.md_machine.proofs.lists.At.{at_set, set_else, set_there, at_append, at_one, append_there, append_end}

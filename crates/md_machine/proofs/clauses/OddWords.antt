@@ -18,7 +18,8 @@ use Rattle.md_machine.specs.Machine.{Machine, Install, shape_of, content, status
 use Rattle.md_machine.specs.Trail.{holds_desc}
 use Rattle.md_machine.specs.events.Install.{installed_word}
 use Rattle.md_machine.specs.events.Start.{IsCleanIn, LeavesWithout, WonInstall}
-use Rattle.md_machine.specs.clauses.Standing.{IsPresent, spot_of_install, StandsIn, OddStand}
+use Rattle.md_machine.specs.Installs.{IsPresent, spot_of_install}
+use Rattle.md_machine.specs.clauses.OddWords.{StandsIn, OddStand}
 use Rattle.md_machine.proofs.lists.Rising.{in_none, in_cons, there}
 use Rattle.md_machine.proofs.events.WordChanges.{Restarts}
 use Rattle.md_machine.proofs.clauses.Hands.{HandsFit, serial_stays}

@@ -15,7 +15,8 @@ use Rattle.md_machine.specs.declared.attempt.AttemptId.{AttemptId}
 use Rattle.md_machine.specs.declared.attempt.HistoryEntry.{HistoryEntry}
 use Rattle.md_machine.specs.Machine.{Machine, shape_of, status_at, word_at, present, same_attempt}
 use Rattle.md_machine.specs.events.Start.{is_decided, knows_decided}
-use Rattle.md_machine.specs.clauses.Fates.{Tells, FatesTold, FrontsFit}
+use Rattle.md_machine.specs.clauses.Fates.{Tells, FatesTold}
+use Rattle.md_machine.specs.clauses.Fronts.{FrontsFit}
 use Rattle.md_machine.proofs.lists.Rising.{here, there}
 use Rattle.md_machine.proofs.events.WordChanges.{MayLeave, Restarts}
 use Rattle.md_machine.proofs.clauses.Hands.{serial_stays}

@@ -12,7 +12,7 @@ use Rattle.md_machine.specs.declared.step.Step.{Step}
 use Rattle.md_machine.specs.declared.pass.PassView.{PassView}
 use Rattle.md_machine.specs.Machine.{Machine, shape_of, content, status_at, word_at}
 use Rattle.md_machine.specs.events.Uninstall.{IsDecided}
-use Rattle.md_machine.specs.clauses.Standing.{IsUndecided}
+use Rattle.md_machine.specs.Installs.{IsUndecided}
 use Rattle.md_machine.proofs.events.WordChanges.{MayLeave, at_left, at_place}
 use Rattle.md_machine.proofs.events.Steps.{HasStep, adds_step}
 use Rattle.md_machine.proofs.events.Moves.{Moves}

@@ -16,7 +16,7 @@ use Rattle.md_machine.specs.declared.pass.PassView.{PassView}
 use Rattle.md_machine.specs.declared.step.Step.{Step}
 use Rattle.md_machine.specs.Machine.{Machine, shape_of, content, word_at, status_at, was_begun}
 use Rattle.md_machine.specs.Trail.{segments, StoresFor, LastStored}
-use Rattle.md_machine.specs.clauses.InHand.{IsEntryWord}
+use Rattle.md_machine.specs.clauses.Stores.{IsEntryWord}
 use Rattle.md_machine.proofs.lists.At.{at_set}
 use Rattle.md_machine.proofs.lists.Rising.{in_none, here}
 use Rattle.md_machine.proofs.clauses.LanesApart.{At}

@@ -12,7 +12,8 @@ use Rattle.md_words.specs.PlaceAt.{IsCounted}
 use Rattle.md_machine.specs.Machine.{Machine, Install, shape_of, content, status_at, word_at}
 use Rattle.md_machine.specs.events.Install.{installed_word}
 use Rattle.md_machine.specs.events.Uninstall.{IsDecided}
-use Rattle.md_machine.specs.clauses.Standing.{IsPresent, IsUndecided, UndecidedStand, spot_of_install}
+use Rattle.md_machine.specs.Installs.{IsPresent, IsUndecided, spot_of_install}
+use Rattle.md_machine.specs.clauses.Undecided.{UndecidedStand}
 use Rattle.md_machine.proofs.lists.Rising.{here}
 use Rattle.md_machine.proofs.events.Leaves.{install_odd}
 use Rattle.md_machine.proofs.clauses.Hands.{HandsFit}

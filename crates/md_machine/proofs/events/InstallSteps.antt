@@ -20,8 +20,8 @@ use Rattle.md_machine.specs.Machine.{Machine, Install, shape_of, content, word_a
 use Rattle.md_machine.specs.Own.{HasDesc}
 use Rattle.md_machine.specs.Stepping.{step_of, attempt_in_hand, wins, left_by}
 use Rattle.md_machine.specs.events.Install.{MayInstall, install_of, installed_word, view_after_install}
-use Rattle.md_machine.specs.clauses.Formats.{LanesApart}
-use Rattle.md_machine.specs.clauses.Standing.{SlotStands}
+use Rattle.md_machine.specs.clauses.Lanes.{LanesApart}
+use Rattle.md_machine.specs.clauses.Slots.{SlotStands}
 use Rattle.md_machine.specs.events.Start.{WonInstall}
 use Rattle.md_machine.specs.clauses.WonInstalls.{HasInstallOf}
 use Rattle.md_machine.proofs.lists.At.{at_set}

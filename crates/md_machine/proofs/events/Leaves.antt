@@ -21,7 +21,7 @@ use Rattle.md_machine.specs.declared.pass.PassView.{PassView}
 use Rattle.md_machine.specs.Meaning.{Meaning}
 use Rattle.md_machine.specs.Machine.{Machine, shape_of, content, status_at, attempt_of, is_ready, is_installed, IsAt}
 use Rattle.md_machine.specs.clauses.Formats.{StatusFits, AreFormats}
-use Rattle.md_machine.specs.clauses.Stamps.{moves_to}
+use Rattle.md_machine.specs.GoesOn.{moves_to}
 use Rattle.md_machine.specs.Stepping.{left_by}
 use Rattle.md_machine.specs.events.Store.{MayStoreNext, MayStoreAt, MayStore}
 use Rattle.md_machine.specs.events.Install.{MayBeChanged, MayInstall, installed_word}
@@ -30,7 +30,7 @@ use Rattle.md_machine.specs.events.Ready.{unready_word, ready_word}
 use Rattle.md_machine.specs.events.Decide.{MayCommit, MayAbort, decided_word}
 use Rattle.md_machine.specs.events.Uninstall.{MayUninstall, uninstalled_word}
 use Rattle.md_machine.specs.events.Start.{MayStart, started_word, knows_decided, IsClean}
-use Rattle.md_machine.specs.clauses.Standing.{IsUndecided}
+use Rattle.md_machine.specs.Installs.{IsUndecided}
 use Rattle.md_machine.proofs.lists.At.{exchanged_cases}
 use Rattle.md_machine.proofs.events.WordChanges.{Rises, MovesStatus, Stores, StoresSlot, ChangesAt, Changes, MayLeave, at_rises}
 

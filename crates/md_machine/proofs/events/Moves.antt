@@ -34,9 +34,10 @@ use Rattle.md_machine.specs.events.Start.{WonInstall}
 use Rattle.md_machine.specs.clauses.WonInstalls.{HasInstallOf}
 use Rattle.md_machine.specs.events.Store.{MayStore, MayStoreAt, view_after_store}
 use Rattle.md_machine.specs.Trail.{StoresFor}
-use Rattle.md_machine.specs.clauses.InHand.{IsEntryWord}
+use Rattle.md_machine.specs.clauses.Stores.{IsEntryWord}
 use Rattle.md_machine.proofs.clauses.InHand.{in_hand_some, begun_more}
-use Rattle.md_machine.specs.clauses.Formats.{AreFormats, LanesApart}
+use Rattle.md_machine.specs.clauses.Formats.{AreFormats}
+use Rattle.md_machine.specs.clauses.Lanes.{LanesApart}
 use Rattle.md_machine.specs.Event.{Event, Does, load, store, install, exchange, ready, commit, abort, uninstall, start, split, join, mark_begin, mark_start, mark_act, mark_end, mark_leave}
 use Rattle.md_machine.proofs.lists.At.{exchanged_cases}
 use Rattle.md_machine.proofs.events.Leaves.{install_leaves, exchange_leaves, uninstall_leaves, store_leaves, ready_leaves, decide_leaves, commit_moves, abort_moves, start_leaves, odd_stays, exchange_even, uninstall_even, store_even, status_uncounted, store_was_even, even_loses}

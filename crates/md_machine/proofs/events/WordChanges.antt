@@ -18,8 +18,8 @@ use Rattle.md_machine.specs.Machine.{Machine, shape_of, content, word_at, status
 use Rattle.md_machine.specs.Own.{HasDesc}
 use Rattle.md_machine.specs.events.Start.{IsClean, knows_decided}
 use Rattle.md_machine.specs.clauses.Formats.{StatusFits, NamesWord, AreFormats}
-use Rattle.md_machine.specs.clauses.Standing.{IsUndecided}
-use Rattle.md_machine.specs.clauses.Stamps.{AttemptGoesOn, StatusGoesOn, moves_to}
+use Rattle.md_machine.specs.Installs.{IsUndecided}
+use Rattle.md_machine.specs.GoesOn.{AttemptGoesOn, StatusGoesOn, moves_to}
 use Rattle.md_machine.proofs.lists.At.{at_changed}
 
 -- the count rises, and an odd one leaves room

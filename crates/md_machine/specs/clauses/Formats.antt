@@ -1,7 +1,5 @@
--- What each word of a field looks like, and who holds the lanes.
-use Rattle.std.specs.Prelude.{◌≡◌, ◌+◌, ◌<◌, ◌≤◌, ℕ, false, List, [], ◌∷◌, slice_index, Contains, ◌⊎◌}
-use lib.ListN.{get_elem?}
-use mathlib.Core.Option.{some}
+-- What each word of a field looks like.
+use Rattle.std.specs.Prelude.{◌≡◌, ◌+◌, ◌<◌, ◌≤◌, ℕ, false, List, slice_index, ◌⊎◌}
 use Rattle.md_words.specs.declared.shape.Shape.{Shape}
 use Rattle.md_words.specs.declared.limits.TheConstants.{SET}
 use Rattle.md_words.specs.declared.status.Status.TheVariants.{InPrep}
@@ -12,7 +10,6 @@ use Rattle.md_words.specs.Layout.{desc_count, IsInSet}
 use Rattle.md_words.specs.LayoutLaws.{IsField}
 use Rattle.md_words.specs.PlaceAt.{IsCounted}
 use Rattle.md_machine.specs.declared.step.TheConstants.{LAST_COUNT}
-use Rattle.md_machine.specs.declared.pass.PassView.{PassView}
 use Rattle.md_machine.specs.Machine.{word_at}
 
 -- a status word: its reads fit, are 0 before it is ready, and its serial is one of the tries
@@ -33,19 +30,3 @@ pub record AreFormats (shape : Shape) (words : List ℕ) : Type 0 where
   pub status : (desc : ℕ) → desc < desc_count shape → StatusFits shape (word_at shape words (desc_status desc))
   pub reads : (desc i : ℕ) → IsInSet shape desc i → NamesWord shape (word_at shape words (read_word desc i))
   pub slots : (desc j : ℕ) → IsInSet shape desc j → NamesWord shape (word_at shape words (slot_word desc j))
-
--- numbers rise, from this one on
-abbrev pub RiseFrom : ℕ → List ℕ → Type 0
-RiseFrom low [] = Unit {0}
-RiseFrom low (x ∷ xs) = (low ≤ x) × RiseFrom (x + 1) xs
-
--- a pass of the list holds the lane
-abbrev pub HoldsLane : List PassView → (pass lane : ℕ) → Type 0
-HoldsLane passes pass lane = (p : PassView) × (get_elem? passes pass ≡ some p) × Contains p.lanes lane
-
--- each lane is held by exactly one pass, no others are, and each pass has its own in rising order
-pub record LanesApart (shape : Shape) (passes : List PassView) : Type 0 where
-  pub held : (lane : ℕ) → lane < shape.lanes → (pass : ℕ) × HoldsLane passes pass lane
-  pub exists : (pass lane : ℕ) → HoldsLane passes pass lane → lane < shape.lanes
-  pub once : (pass other lane : ℕ) → HoldsLane passes pass lane → HoldsLane passes other lane → pass ≡ other
-  pub rising : (pass : ℕ) (p : PassView) → get_elem? passes pass ≡ some p → RiseFrom 0 p.lanes

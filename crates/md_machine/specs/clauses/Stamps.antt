@@ -1,13 +1,10 @@
--- What was noted of words, and how words and the history go on.
-use Rattle.std.specs.Prelude.{◌≡◌, ◌<◌, ◌≤◌, ℕ, Bool, true, false, Contains, ◌⊎◌}
-use Rattle.md_words.specs.declared.status.Status.{Status}
-use Rattle.md_words.specs.declared.status.Status.TheVariants.{InPrep, InProg, Committed, Aborted}
+-- What was noted of words.
+use Rattle.std.specs.Prelude.{◌≡◌, ◌<◌, ◌≤◌, ℕ, Contains, ◌⊎◌}
 use Rattle.md_words.specs.Content.{count_of}
-use Rattle.md_words.specs.Status.{status_of, reads_of, serial_of}
+use Rattle.md_words.specs.Status.{reads_of}
 use Rattle.md_words.specs.Place.{read_word, read_content}
 use Rattle.md_words.specs.Layout.{desc_count}
 use Rattle.md_words.specs.PlaceAt.{IsCounted}
-use Rattle.md_history.specs.Front.{IsPrefix, AllStay}
 use Rattle.md_machine.specs.declared.pass.PassView.{PassView}
 use Rattle.md_machine.specs.Machine.{Machine, Install, shape_of, content, word_at, status_at, present, IsAt}
 use Rattle.md_machine.specs.Trail.{Meets, SomeStepOf}
@@ -34,37 +31,3 @@ pub record StampsHold (m : Machine) : Type 0 where
   pub bound : (word held : ℕ) → IsCounted (shape_of m) word → IsNoted m word held → count_of held ≤ count_of (content m word)
   pub now : (word held : ℕ) → IsCounted (shape_of m) word → IsNoted m word held → count_of held ≡ count_of (content m word) → held ≡ content m word
   pub same : (word held other : ℕ) → IsCounted (shape_of m) word → IsNoted m word held → IsNoted m word other → count_of held ≡ count_of other → held ≡ other
-
--- a status moves from InPrep to InProg or Aborted, and from InProg to Committed or Aborted, or stays
-abbrev pub moves_to : Status → Status → Bool
-moves_to InPrep InPrep = true
-moves_to InPrep InProg = true
-moves_to InPrep Committed = false
-moves_to InPrep Aborted = true
-moves_to InProg InPrep = false
-moves_to InProg InProg = true
-moves_to InProg Committed = true
-moves_to InProg Aborted = true
-moves_to Committed Committed = true
-moves_to Committed _ = false
-moves_to Aborted Aborted = true
-moves_to Aborted _ = false
-
--- an attempt goes on: its status moves or the whole word stays, and once it is in progress its reads stay
-pub record AttemptGoesOn (old new : ℕ) : Type 0 where
-  pub serial : serial_of old ≡ serial_of new
-  pub moves : moves_to (status_of old) (status_of new) ≡ true
-  pub same : status_of old ≡ status_of new → old ≡ new
-  pub reads : status_of old ≡ InProg → reads_of old ≡ reads_of new
-
--- a serial never falls, and with the same serial the attempt goes on
-abbrev pub StatusGoesOn : (old new : ℕ) → Type 0
-StatusGoesOn old new = (serial_of old < serial_of new) ⊎ AttemptGoesOn old new
-
--- over an event: the history grows at its end alone, a decided fate stays, statuses go on, and no count falls
-pub record GoesOn (m n : Machine) : Type 0 where
-  pub opening : n.opening ≡ m.opening
-  pub history : IsPrefix m.history n.history
-  pub fates : AllStay m.fates n.fates
-  pub status : (desc : ℕ) → desc < desc_count (shape_of m) → StatusGoesOn (status_at m desc) (status_at n desc)
-  pub count : (word : ℕ) → IsCounted (shape_of m) word → count_of (content m word) ≤ count_of (content n word)
