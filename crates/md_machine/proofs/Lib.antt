@@ -11,3 +11,6 @@ mod HelpedRowHolds
 mod MovedRowHolds
 pub mod resolutions
 mod Refusing
+mod ChainHeaps
+mod Chain
+mod ChainEntry
