@@ -11,6 +11,4 @@ mod HelpedRowHolds
 mod MovedRowHolds
 pub mod resolutions
 mod Refusing
-mod ChainHeaps
-mod Chain
-mod ChainEntry
+pub mod chain

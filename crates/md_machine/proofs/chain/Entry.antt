@@ -1,5 +1,5 @@
 -- The heap in which an entry is kept is the one that its certificates leave.
-use Rattle.std.proofs.Common.{◌≡◌, ◌≢◌, ◌==◌, ◌⊎◌, ◌||◌, ℕ, zero, suc, Bool, true, false, List, [], ◌∷◌, ◌++◌, map, get_or, refl, sym, ap, ◌∙◌, subst, ⊎_elim, eqb-true, eq-eqb, ne_eqb, if◌then◌else◌, Option, Some, None, arith}
+use Rattle.std.proofs.Common.{◌≡◌, ◌≢◌, ◌==◌, ◌||◌, ℕ, zero, suc, Bool, true, false, List, [], ◌∷◌, ◌++◌, map, get_or, refl, sym, ap, ◌∙◌, ⊎_elim, eqb-true, eq-eqb, ne_eqb, if◌then◌else◌, Option, Some, None, arith}
 use Rattle.std.specs.Prelude.{unwrap_or, option_map}
 use Rattle.std.specs.List.{All, AllPairs, list_any, flat_map}
 use Rattle.std.proofs.lemmas.Bool.{cond_both, cond-true, cond-false, cases_eq, cases_Bool, or_cases, eqb-false, true≢false, false≢true}
@@ -17,12 +17,12 @@ use Rattle.md_machine.specs.declared.certificate.NewNode.{NewNode}
 use Rattle.md_machine.specs.declared.certificate.TidyChange.{TidyChange}
 use Rattle.md_machine.specs.declared.node.PlacedNode.{PlacedNode}
 use Rattle.md_machine.specs.declared.node.Structure.{Structure}
-use Rattle.md_machine.specs.LogicalHeap.{LogicalWords, LogicalHeap, next_of, put, changed, changed_all, after_node, after_nodes}
-use Rattle.md_machine.specs.Meaning.{Meaning, Lawful, after_tidy, after_certificate}
+use Rattle.md_machine.specs.LogicalHeap.{LogicalHeap, put, changed, changed_all, after_node, after_nodes}
+use Rattle.md_machine.specs.Meaning.{Meaning, Lawful, after_tidy}
 use Rattle.md_machine.specs.Resolution.{or_else, structure_in}
 use Rattle.md_machine.specs.Certified.{CertifiedIn, HasWords, as_found, first_content, is_written, after_tidies, after_whole, after_wholes, whole_nodes, all_changes, all_nodes, placed_by}
-use Rattle.md_machine.proofs.ChainHeaps.{SameValues, SameHeap, put_stays, same_wholes, wholes_shape, wholes_keep}
-use Rattle.md_machine.proofs.Chain.{FollowsActs, wholes_follow, same_follows}
+use Rattle.md_machine.proofs.chain.Agree.{SameValues, SameHeap, put_stays, same_wholes, wholes_shape, wholes_keep}
+use Rattle.md_machine.proofs.chain.Follow.{FollowsActs, wholes_follow, same_follows}
 
 -- the new value that slots give a word
 abbrev pub new_value : List Write → ℕ → Option ℕ

@@ -1,5 +1,5 @@
 -- Heaps that agree, and what changes and new nodes leave in a heap.
-use Rattle.std.proofs.Common.{◌≡◌, ◌≢◌, ◌==◌, ◌++◌, ℕ, List, [], ◌∷◌, refl, sym, ap, ◌∙◌, subst, eqb-true, ne_eqb, eq-eqb, if◌then◌else◌, Some, IfSome, Option, None}
+use Rattle.std.proofs.Common.{◌≡◌, ◌==◌, ◌++◌, ℕ, List, [], ◌∷◌, refl, ap, ◌∙◌, eqb-true, if◌then◌else◌, Some, IfSome, Option, None}
 use Rattle.std.proofs.lemmas.Bool.{cond_both}
 use Rattle.std.proofs.lemmas.List.Elements.{All-head, All-tail, All-contains, Contains-append_left, Contains-append_right, Contains-get_or}
 use Rattle.std.specs.List.{All, flat_map}
@@ -8,10 +8,9 @@ use Rattle.md_words.specs.Place.{node_next}
 use Rattle.md_words.specs.Layout.{address}
 use Rattle.md_machine.specs.declared.certificate.Certificate.{Certificate}
 use Rattle.md_machine.specs.declared.certificate.Change.{Change}
-use Rattle.md_machine.specs.declared.certificate.Fact.{Fact}
 use Rattle.md_machine.specs.declared.certificate.NewNode.{NewNode}
 use Rattle.md_machine.specs.declared.certificate.TidyChange.{TidyChange}
-use Rattle.md_machine.specs.LogicalHeap.{LogicalWords, LogicalHeap, Holds, IsPlaced, AgreeWherePlaced, next_of, put, changed, changed_all, after_node, after_nodes}
+use Rattle.md_machine.specs.LogicalHeap.{LogicalWords, LogicalHeap, AgreeWherePlaced, put, changed, changed_all, after_node, after_nodes}
 use Rattle.md_machine.specs.Meaning.{after_tidy, after_certificate, KeepsFacts}
 use Rattle.md_machine.specs.Certified.{after_tidies, after_whole, after_wholes, changes_of_tidy, whole_changes, whole_nodes, all_changes, all_nodes}
 

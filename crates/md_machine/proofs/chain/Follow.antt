@@ -1,5 +1,5 @@
 -- Certificates that stand one after another: the laws of a theory, taken together.
-use Rattle.std.proofs.Common.{◌≡◌, ℕ, List, [], ◌∷◌, map, get_or, refl, sym, ap, ◌∙◌, subst}
+use Rattle.std.proofs.Common.{◌≡◌, List, [], ◌∷◌, map, get_or, refl, sym, ap, ◌∙◌, subst}
 use Rattle.std.specs.List.{All}
 use Rattle.std.proofs.lemmas.List.Elements.{All-head, All-tail}
 use Rattle.md_words.specs.declared.shape.Shape.{Shape}
@@ -9,9 +9,9 @@ use Rattle.md_history.specs.State.{State, answer, after, run, IsRight}
 use Rattle.md_machine.specs.declared.certificate.Certificate.{Certificate}
 use Rattle.md_machine.specs.declared.certificate.TidyChange.{TidyChange}
 use Rattle.md_machine.specs.LogicalHeap.{LogicalHeap}
-use Rattle.md_machine.specs.Meaning.{Meaning, Lawful, TidyStandsBy, TidyStands, StandsBy, Stands, Follows, KeepsFacts, after_tidy, after_certificate}
+use Rattle.md_machine.specs.Meaning.{Meaning, Lawful, TidyStandsBy, TidyStands, StandsBy, Stands, Follows, KeepsFacts, after_tidy}
 use Rattle.md_machine.specs.Certified.{TidiesStandBy, AllStandBy, after_tidies, after_whole, after_wholes}
-use Rattle.md_machine.proofs.ChainHeaps.{SameValues, SameHeap, same_tidy, same_tidies, same_whole, tidy_shape, tidies_shape, whole_shape, same_agrees, same_facts}
+use Rattle.md_machine.proofs.chain.Agree.{SameValues, SameHeap, same_tidy, same_tidies, same_whole, tidy_shape, tidies_shape, whole_shape, same_agrees, same_facts}
 
 -- what stands by the words of one heap stands by those of another one with the same values
 tidy_itself : (own h : LogicalHeap) → SameValues own h → (t : TidyChange) → TidyStandsBy own h t → TidyStands h t
@@ -51,12 +51,14 @@ module _ (M : Meaning) (lawful : Lawful M) (shape : Shape) where
       let tidied = tidies_follow own h same is valid c.tidy tidies before in
       let here = after_tidies h c.tidy in
       let one = lawful.certificate here c tidied.valid (subst (λ s. M.certifies s c) (sym (tidies_shape h c.tidy ∙ is)) certifies)
-          (stands_itself (after_tidies own c.tidy) here (same_tidies own h same c.tidy) c stand) in
-      (one.0 ∙ ap (λ (s : State). answer s c.op) tidied.state, record {
-        valid = one.1.valid;
-        state = one.1.state ∙ ap (λ (s : State). after s c.op) tidied.state;
-        facts = λ f holds. one.1.facts f (tidied.facts f holds);
-      })
+      (stands_itself (after_tidies own c.tidy) here (same_tidies own h same c.tidy) c stand) in (
+        one.0 ∙ ap (λ (s : State). answer s c.op) tidied.state,
+        record {
+          valid = one.1.valid;
+          state = one.1.state ∙ ap (λ (s : State). after s c.op) tidied.state;
+          facts = λ f holds. one.1.facts f (tidied.facts f holds);
+        },
+      )
 
   -- certificates that stand one after another do what their acts do
   pub wholes_follow : (own h : LogicalHeap) → SameValues own h → h.words.shape ≡ shape → M.valid h → (cs : List Certificate) → All (M.certifies shape) cs
@@ -65,7 +67,7 @@ module _ (M : Meaning) (lawful : Lawful M) (shape : Shape) where
   wholes_follow own h same is valid (c ∷ cs) certifies tidies stand =
       let one = whole_follows own h same is valid c (All-head (M.certifies shape) c cs certifies) (All-head (λ c. All (M.tidies shape) c.tidy) c cs tidies) stand.0 stand.1 in
       let rest = wholes_follow (after_whole own c) (after_whole h c) (same_whole own h same c) (whole_shape h c ∙ is) one.1.valid cs
-          (All-tail (M.certifies shape) c cs certifies) (All-tail (λ c. All (M.tidies shape) c.tidy) c cs tidies) stand.2 in
+      (All-tail (M.certifies shape) c cs certifies) (All-tail (λ c. All (M.tidies shape) c.tidy) c cs tidies) stand.2 in
       let acts = map (λ (c : Certificate). act_of c.op c.reply) cs in
       record {
         valid = rest.valid;
