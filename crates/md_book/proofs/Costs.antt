@@ -7,7 +7,8 @@ use Rattle.md_history.specs.declared.acts.Act.{Act}
 use Rattle.md_history.specs.declared.acts.Op.TheVariants.{Get, Insert, Remove, Enqueue, Dequeue, Front}
 use Rattle.md_history.specs.declared.acts.Reply.TheVariants.{Value, Flag, Nothing}
 use Rattle.md_history.specs.Act.{act_of}
-use Rattle.md_history.specs.Counts.{different_beside, different, same_key, looked, changed_key, asked_queue, changed_queue, dequeued, line_words, reads, writes, nodes, AreFew}
+use Rattle.md_history.specs.Counts.{different_beside, different, same_key, looked, changed_key, asked_queue, changed_queue, dequeued, line_words, reads, writes, nodes}
+use Rattle.md_book.specs.Meets.{AreFew}
 use Rattle.md_history.specs.CountLaws.{count-append, different-append, same_key_equiv, nodes-append, line_words-append}
 
 abbrev keys : List Act → ℕ

@@ -7,7 +7,7 @@ use Rattle.md_history.specs.declared.acts.Op.TheVariants.{Insert, Enqueue}
 use Rattle.md_history.specs.declared.acts.Reply.TheVariants.{Flag, Nothing}
 use Rattle.md_history.specs.Act.{act_of}
 use Rattle.md_history.specs.State.{State, map_at, queue_at, with_map, after}
-use Rattle.md_history.specs.Counts.{AreFew}
+use Rattle.md_book.specs.Meets.{AreFew}
 use Rattle.md_history.specs.Script.{done}
 use Rattle.md_book.specs.declared.commands.Side.{Side}
 use Rattle.md_book.specs.declared.commands.Side.TheVariants.{Buy, Sell}

@@ -3,7 +3,7 @@ use Rattle.std.proofs.Common.{◌≡◌, List, sym, subst, ◌∙◌}
 use Rattle.md_history.specs.declared.acts.Act.{Act}
 use Rattle.md_history.specs.State.{State, IsRight}
 use Rattle.md_history.specs.Script.{Did}
-use Rattle.md_history.specs.Counts.{AreFew}
+use Rattle.md_book.specs.Meets.{AreFew}
 use Rattle.md_book.specs.declared.commands.Command.{Command}
 use Rattle.md_book.specs.declared.commands.BookReply.{BookReply}
 use Rattle.md_book.specs.Book.{Book, Step, book_step}

@@ -1,15 +1,25 @@
 -- That a command's acts are one step of the book.
-use Rattle.std.specs.Prelude.{◌≡◌, ◌≢◌, ◌+◌, ◌^◌, ◌<◌, List, length, All}
+use Rattle.std.specs.Prelude.{◌≡◌, ◌≢◌, ◌+◌, ◌^◌, ◌<◌, ◌≤◌, List, length, All}
 use Rattle.md_history.specs.declared.acts.Act.{Act}
 use Rattle.md_history.specs.State.{State, run, IsRight}
 use Rattle.md_history.specs.Script.{Did, Follows}
-use Rattle.md_history.specs.Counts.{AreFew, IsSmall}
+use Rattle.md_history.specs.Counts.{reads, writes, nodes}
 use Rattle.md_book.specs.declared.commands.Command.{Command}
 use Rattle.md_book.specs.declared.commands.Command.TheVariants.{Place, Cancel, Fill, Depth, Account}
 use Rattle.md_book.specs.declared.commands.BookReply.{BookReply}
 use Rattle.md_book.specs.Book.{Book, book_step}
 use Rattle.md_book.specs.Stands.{StandsFor}
 use Rattle.md_book.specs.Commands.{script_of, IsCommand}
+
+-- few enough for any store whose pass is alone
+pub record AreFew (acts : List Act) : Type 0 where
+  pub reads : reads acts ≤ 16
+  pub writes : writes acts ≤ 44
+  pub nodes : nodes acts ≤ 12
+
+-- every list of acts that a body can make, right from a state, has few
+abbrev pub IsSmall : (List Act → Type 0) → State → Type 0
+IsSmall makes s = (acts : List Act) → makes acts → IsRight s acts → AreFew acts
 
 -- a book can take a command: a place needs a name of its own and room for one more order
 abbrev pub MayTake : Book → Command → Type 0

@@ -13,7 +13,7 @@ use Rattle.md_history.specs.declared.entries.Fate.{Fate}
 use Rattle.md_history.specs.declared.entries.Fate.TheVariants.{Committed, Undecided}
 use Rattle.md_history.specs.State.{State, run, IsRight}
 use Rattle.md_history.specs.History.{IsResolution, AllCommittedSound, AllDecided, kept_acts, committed, acts_of}
-use Rattle.md_history.specs.Front.{IsPrefix, AllStay, Begins, LegalFrom, of_lane, is_of, replay_of}
+use Rattle.md_history.specs.Front.{IsPrefix, AllStay, Begins, LegalFrom, AllDecidedOn, of_lane, is_of, replay_of}
 use Rattle.md_history.specs.FrontLaws.{prefix-self}
 use Rattle.md_history.specs.Attempt.{Commits, Stops, NoneOrAborted, Settles, AreAllOwn}
 use Rattle.md_history.specs.Engine.{IsFrontFrom, AreNumberedByLane, SettlesFrom}
@@ -33,6 +33,10 @@ is-decided f e h = cc
 
 decided-all : (es : List Entry) → AllDecided (all_committed es)
 decided-all es = All-map (λ f. f ≢ Undecided) (λ _. Committed) es (λ k d below. is-decided Committed refl)
+
+decided-on : (es : List Entry) → AllDecidedOn (0 ∷ []) es (all_committed es)
+decided-on [] = tt
+decided-on (e ∷ es) = ((λ own. is-decided Committed refl), decided-on es)
 
 pub begins-more : (ps qs es : List Entry) → qs ≡ ps ++ es → Begins (front_from ps) (front_from qs)
 begins-more ps qs es e = record {
@@ -203,6 +207,7 @@ front_is start es numbered right = record {
     | inr other ↦ ap (λ b. cond b es []) other
   ];
   answered = λ lane. subst (λ (xs : List Entry). All (Contains xs) ((front_from es).mine lane)) (sym (own es numbered lane)) (All-contains_itself ((front_from es).mine lane));
+  decided = λ none. decided-on es;
   own = λ none lane in_lanes. own es numbered lane;
 }
 

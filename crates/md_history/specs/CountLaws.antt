@@ -9,7 +9,8 @@ use Rattle.std.proofs.lemmas.List.Sums.{sum_by-append}
 use Rattle.std.proofs.lemmas.List.Elements.{filter_map-append}
 use Rattle.std.proofs.lemmas.Map.Steps.{list_any_congr}
 use Rattle.md_history.specs.declared.acts.Act.{Act}
-use Rattle.md_history.specs.Counts.{different_beside, different, same_key, looked, changed_key, asked_queue, changed_queue, dequeued, line_words, added, reads, writes, nodes, AreFew}
+use Rattle.md_history.specs.State.{State}
+use Rattle.md_history.specs.Counts.{Bounds, AllowAll, IsSmall, different_beside, different, same_key, looked, changed_key, asked_queue, changed_queue, dequeued, line_words, added, reads, writes, nodes, AreFew}
 
 -- counts of acts that pass a test add up
 pub count-append : {A : Type 0} (p : A → Bool) (xs ys : List A) → count_by p (xs ++ ys) ≡ count_by p xs + count_by p ys
@@ -120,5 +121,12 @@ module _ (xs ys : List Act) where
   pub writes-prefix : writes xs ≤ writes (xs ++ ys)
   writes-prefix = omega (arith, looked-append, nodes-append, named-prefix same_key (λ (a : Act). changed_key a.op a.reply) xs ys, named-prefix nat_eq (λ (a : Act). changed_queue a.op a.reply) xs ys)
 
-  pub few-prefix : AreFew (xs ++ ys) → AreFew xs
-  few-prefix few = record { reads = omega (arith, few.reads, reads-prefix); writes = omega (arith, few.writes, writes-prefix); nodes = omega (arith, few.nodes, nodes-prefix) }
+  pub few-prefix : (most : Bounds) → AreFew most (xs ++ ys) → AreFew most xs
+  few-prefix most few = record { reads = omega (arith, few.reads, reads-prefix); writes = omega (arith, few.writes, writes-prefix); nodes = omega (arith, few.nodes, nodes-prefix) }
+
+-- what is within bounds is within larger ones
+pub few-more : (most more : Bounds) (acts : List Act) → AllowAll most more → AreFew most acts → AreFew more acts
+few-more most more acts allow few = record { reads = omega (arith, allow.reads, few.reads); writes = omega (arith, allow.writes, few.writes); nodes = omega (arith, allow.nodes, few.nodes) }
+
+pub small-more : (most more : Bounds) (makes : List Act → Type 0) (s : State) → AllowAll most more → IsSmall most makes s → IsSmall more makes s
+small-more most more makes s allow small acts made right = few-more most more acts allow (small acts made right)

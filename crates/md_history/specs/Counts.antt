@@ -84,12 +84,24 @@ writes acts =
     + count_by (λ a. looked a.op a.reply) acts
     + nodes acts
 
--- few enough for any store whose pass is alone
-pub record AreFew (acts : List Act) : Type 0 where
-  pub reads : reads acts ≤ 16
-  pub writes : writes acts ≤ 44
-  pub nodes : nodes acts ≤ 12
+-- how many words a transaction may read and write, and how many nodes it may take
+pub record Bounds : Type 0 where
+  pub reads : ℕ
+  pub writes : ℕ
+  pub nodes : ℕ
 
--- every list of acts that a body can make, right from a state, has few
-abbrev pub IsSmall : (List Act → Type 0) → State → Type 0
-IsSmall makes s = (acts : List Act) → makes acts → IsRight s acts → AreFew acts
+-- acts count no more than bounds allow
+pub record AreFew (most : Bounds) (acts : List Act) : Type 0 where
+  pub reads : reads acts ≤ most.reads
+  pub writes : writes acts ≤ most.writes
+  pub nodes : nodes acts ≤ most.nodes
+
+-- every list of acts that a body can make, right from a state, is within bounds
+abbrev pub IsSmall : Bounds → (List Act → Type 0) → State → Type 0
+IsSmall most makes s = (acts : List Act) → makes acts → IsRight s acts → AreFew most acts
+
+-- bounds that allow no less
+pub record AllowAll (most more : Bounds) : Type 0 where
+  pub reads : most.reads ≤ more.reads
+  pub writes : most.writes ≤ more.writes
+  pub nodes : most.nodes ≤ more.nodes

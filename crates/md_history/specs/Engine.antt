@@ -6,15 +6,22 @@ use Rattle.md_history.specs.declared.stops.Shown.{Shown}
 use Rattle.md_history.specs.declared.stops.Stop.{Stop}
 use Rattle.md_history.specs.declared.stops.Stop.TheVariants.{Conflict}
 use Rattle.md_history.specs.State.{State}
-use Rattle.md_history.specs.Front.{Front, Begun, Begins, LegalFrom, committed_in, replay_of, is_lane_of, of_lane, known_of_both}
+use Rattle.md_history.specs.Counts.{Bounds}
+use Rattle.md_history.specs.Front.{Front, Begun, Begins, LegalFrom, AllDecidedOn, committed_in, replay_of, is_lane_of, of_lane, known_of_both}
 use Rattle.md_history.specs.Attempt.{Settles, AreAllOwn}
 
--- each lane has so many nodes and tries from the opening or a renewal on, and a renewal can make room for so many nodes
--- of contents
+-- a transaction may read and write so many words; each lane has so many nodes and tries from the opening or a renewal on;
+-- and a renewal can make room for so many nodes of contents
 pub record Limits : Type 0 where
+  pub reads : ℕ
+  pub writes : ℕ
   pub nodes : ℕ
   pub tries : ℕ
   pub room : ℕ
+
+-- what the first transaction of a lane may do
+abbrev pub bounds_in : Limits → Bounds
+bounds_in l = record { reads = l.reads; writes = l.writes; nodes = l.nodes }
 
 -- the nodes that contents need: one for each queue, each pair of a map, and each value in a queue
 abbrev pub needed : State → ℕ
@@ -36,7 +43,8 @@ AreNumberedByLane es = (before after : List Entry) (e : Entry) → es ≡ before
 
 -- The front of a pass of an engine that starts in a state and has these lanes: it is legal; the pass holds some of the
 -- lanes; every entry is of a lane of the engine, and numbered; and what was answered to the pass as committed is of its
--- lanes and committed, and is all that they committed where nothing is pending.
+-- lanes and committed. Where nothing is pending, the fate of each entry of its lanes is decided, and what was answered is
+-- all that they committed.
 pub record IsFrontFrom (start : State) (lanes : List ℕ) (f : Front) : Type 0 where
   pub legal : LegalFrom start f
   pub some : 0 < length f.lanes
@@ -46,6 +54,7 @@ pub record IsFrontFrom (start : State) (lanes : List ℕ) (f : Front) : Type 0 w
   pub numbered : AreNumberedByLane f.seen
   pub outside : (lane : ℕ) → (Contains f.lanes lane → ⊥) → f.mine lane ≡ []
   pub answered : (lane : ℕ) → All (Contains (of_lane lane (committed_in f))) (f.mine lane)
+  pub decided : f.pending ≡ [] → AllDecidedOn f.lanes f.seen f.known
   pub own : f.pending ≡ [] → (lane : ℕ) → Contains f.lanes lane → of_lane lane (committed_in f) ≡ f.mine lane
 
 -- nothing seen, nothing of its own, nothing pending

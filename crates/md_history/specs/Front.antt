@@ -1,5 +1,5 @@
 -- What a pass holds and has seen, and how it grows.
-use Rattle.std.specs.Prelude.{◌≡◌, ◌==◌, ℕ, Bool, List, [], ◌∷◌, ◌++◌, drop, filter, Contains}
+use Rattle.std.specs.Prelude.{◌≡◌, ◌≢◌, ◌==◌, ℕ, Bool, true, List, [], ◌∷◌, ◌++◌, drop, filter, Contains}
 use Rattle.std.specs.List.{zip, list_any}
 use Rattle.md_history.specs.declared.entries.Entry.{Entry}
 use Rattle.md_history.specs.declared.entries.Fate.{Fate}
@@ -79,6 +79,15 @@ is_lane_of lanes lane = list_any (λ l. l == lane) lanes
 -- whether an entry is of one of the lanes
 abbrev pub is_of : List ℕ → Entry → Bool
 is_of lanes e = is_lane_of lanes e.lane
+
+-- of these lanes, the committed entries that a front knows of, in the history's order
+abbrev pub committed_on : List ℕ → Front → List Entry
+committed_on lanes f = filter (is_of lanes) (committed_in f)
+
+-- each entry of these lanes has a decided fate
+abbrev pub AllDecidedOn : List ℕ → List Entry → List Fate → Type 0
+AllDecidedOn lanes (e ∷ es) (f ∷ fs) = (is_of lanes e ≡ true → f ≢ Undecided) × AllDecidedOn lanes es fs
+AllDecidedOn lanes _ _ = Unit {0}
 
 -- what the pass's own lanes added to the history after its first n entries
 abbrev pub own_after : ℕ → Front → List (Entry × Fate)

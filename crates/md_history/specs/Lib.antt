@@ -13,4 +13,5 @@ pub mod Contents
 pub mod Plain
 pub mod HistoryLaws
 pub mod FrontLaws
+pub mod OwnLaws
 pub mod LaneLaws

@@ -49,9 +49,9 @@ pub record IsPassOf (start : State) (p : Plain) : Type 0 where
   pub starts : p.start ≡ start
   pub front : IsFrontFrom start (0 ∷ []) (front_of p)
 
--- the store for one thread has no limits; these are the largest numbers that a caller asks for
+-- the store for one thread has no limits; these numbers are larger than any caller needs
 abbrev pub plain_limits : Limits
-plain_limits = record { nodes = 2 ^ 32 - 1; tries = 2 ^ 32 - 1; room = 2 ^ 64 - 1 }
+plain_limits = record { reads = 2 ^ 64 - 1; writes = 2 ^ 64 - 1; nodes = 2 ^ 64 - 1; tries = 2 ^ 64 - 1; room = 2 ^ 64 - 1 }
 
 -- entries of lane 0, sound, with the numbers from n on
 abbrev pub AreNumbered : ℕ → List Entry → Type 0

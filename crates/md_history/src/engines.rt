@@ -1,11 +1,11 @@
 // What every store offers.
-ghost use Rattle.std.specs.Prelude.{◌≡◌, ◌≤◌, ◌↔◌, ℕ, List, [], length, IsNone, IfSome, IfNone, IfOk};
+ghost use Rattle.std.specs.Prelude.{◌≡◌, ◌≤◌, ◌↔◌, ℕ, List, length, IsNone, IfSome, IfNone, IfOk};
 ghost use Rattle.md_history.specs.declared.stops.Stop.{Stop};
 ghost use Rattle.md_history.specs.State.{State, HaveSameNumbers};
 ghost use Rattle.md_history.specs.Counts.{IsSmall};
 ghost use Rattle.md_history.specs.Front.{Front as View, LegalFrom, replay_of};
 ghost use Rattle.md_history.specs.Attempt.{Commits, Stops, IfCommitted, IfStopped};
-ghost use Rattle.md_history.specs.Engine.{Limits, IsFrontFrom, empty_front, AreApart, Splits, Joins, SettlesFrom, HasRoom, IsNoConflict};
+ghost use Rattle.md_history.specs.Engine.{Limits, bounds_in, IsFrontFrom, empty_front, AreApart, Splits, Joins, SettlesFrom, HasRoom, IsNoConflict};
 
 use crate::bodies::Body;
 use crate::contents::Contents;
@@ -26,7 +26,7 @@ pub trait Engine: Sized + Sync + Drop {
     /// All its lanes, rising.
     ghost lanes: { Self → List ℕ };
 
-    /// What each lane has, and what a renewal has room for.
+    /// What a transaction may read and write, what each lane has, and what a renewal has room for.
     ghost limits: { Self → Limits };
 
     /// What a pass holds and has seen.
@@ -53,9 +53,9 @@ pub trait Engine: Sized + Sync + Drop {
 
     /// Runs a body once, as a transaction with a tag.
     ///
-    /// It takes effect whole, as the last entry of the history, or not at all. A pass that holds all lanes,
-    /// with nothing pending, meets no conflict. Where it is fresh, each lane has 16 nodes and a try, and the
-    /// body makes acts of at most 16 reads, 44 writes and 12 nodes, it meets no limit either.
+    /// It takes effect whole, as the last entry of the history, or not at all. A pass that holds all lanes
+    /// meets no conflict. Where it is fresh, each lane has a try, and all that the body can do from the
+    /// engine's start is within the engine's limits, it meets no limit either.
     fn attempt<B: Body>(&self, pass: &mut Self::Pass, tag: u64, body: &B) -> Attempt<B::Reply>
         requires of { of self.now pass.old }
         requires fits { B.fits body.now (length (start self.now).maps) (length (start self.now).queues) }
@@ -64,8 +64,8 @@ pub trait Engine: Sized + Sync + Drop {
         ensures legal { LegalFrom (start self.now) (front pass.new) }
         ensures of { of self.now pass.new }
         ensures may_stop { IfStopped result (may_stop self.now) }
-        ensures alone { (front pass.old).lanes ≡ lanes self.now → (front pass.old).pending ≡ [] → IfStopped result IsNoConflict }
-        ensures small { fresh self.now pass.old → 16 ≤ (limits self.now).nodes → 1 ≤ (limits self.now).tries → IsSmall (B.makes body.now) (start self.now) → IfStopped result (λ s. s ≡ Stop.NoMemory) };
+        ensures alone { (front pass.old).lanes ≡ lanes self.now → IfStopped result IsNoConflict }
+        ensures small { fresh self.now pass.old → 1 ≤ (limits self.now).tries → IsSmall (bounds_in (limits self.now)) (B.makes body.now) (start self.now) → IfStopped result (λ s. s ≡ Stop.NoMemory) };
 
     /// Takes the lanes of another pass, and what it has seen. Two passes of an engine share no lane.
     fn join(&self, pass: &mut Self::Pass, other: Self::Pass)
@@ -84,6 +84,7 @@ pub trait Engine: Sized + Sync + Drop {
         ensures start { IfOk result (λ r. start r.0 ≡ replay_of (start self) (front r.2)) }
         ensures lanes { IfOk result (λ r. lanes r.0 ≡ lanes self) }
         ensures limits { IfOk result (λ r. limits r.0 ≡ limits self) }
+        ensures may_stop { IfOk result (λ r. (s : Stop) → may_stop r.0 s → may_stop self s) }
         ensures of { IfOk result (λ r. of r.0 r.1) }
         ensures fresh { IfOk result (λ r. fresh r.0 r.1) }
         ensures numbers { IfOk result (λ r. HaveSameNumbers (start r.0) (start self)) };

@@ -47,7 +47,8 @@ impl PlainPass {
 /// A store for one thread. Contracts see the state that it began with.
 ///
 /// It never answers a conflict or a limit. It doesn't undo: once memory was wanting, each attempt
-/// answers `NoMemory` again, and the contents are lost.
+/// answers `NoMemory` again, and the contents are lost. A store has nothing of its own but the state that
+/// it began with, so a pass of another store that began with equal contents counts as one of its passes.
 #[derive(Drop)]
 pub struct PlainStore {
     start: Snapshot<Contents>,

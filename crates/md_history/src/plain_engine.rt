@@ -1,9 +1,9 @@
 // The store for one thread as an engine.
-ghost use Rattle.std.specs.Prelude.{◌≡◌, ◌↔◌, [], length, true, false, IsOk, IfOk};
+ghost use Rattle.std.specs.Prelude.{◌≡◌, ◌↔◌, [], length, true, false, IsNone, IsOk, IfOk};
 ghost use Rattle.md_history.specs.State.{HaveSameNumbers};
 ghost use Rattle.md_history.specs.Front.{LegalFrom, replay_of};
 ghost use Rattle.md_history.specs.Attempt.{Commits, Stops, IfCommitted, IfStopped};
-ghost use Rattle.md_history.specs.Engine.{SettlesFrom};
+ghost use Rattle.md_history.specs.Engine.{AreApart, Joins, SettlesFrom};
 ghost use Rattle.md_history.specs.Plain.{front_of, IsPassOf, plain_limits};
 
 use crate::bodies::Body;
@@ -40,7 +40,11 @@ impl Engine for PlainStore {
 
     ghost may_stop = { λ s stop. stop ≡ NoMemory };
 
-    fn split(&self, pass: &mut PlainPass) -> Option<PlainPass> {
+    fn split(&self, pass: &mut PlainPass) -> Option<PlainPass>
+        requires { IsPassOf self.now pass.old }
+        ensures none { IsNone result }
+        ensures unchanged { pass.new ≡ pass.old }
+    {
         let _ = pass;
         None
     }
@@ -90,7 +94,12 @@ impl Engine for PlainStore {
         }
     }
 
-    fn join(&self, pass: &mut PlainPass, other: PlainPass) {
+    fn join(&self, pass: &mut PlainPass, other: PlainPass)
+        requires of { IsPassOf self.now pass.old }
+        requires of_other { IsPassOf self.now other }
+        ensures joined { AreApart (front_of pass.old).lanes (front_of other).lanes → Joins (front_of pass.old) (front_of other) (front_of pass.new) }
+        ensures unchanged { pass.new ≡ pass.old }
+    {
         let _ = pass;
         drop(other);
     }
