@@ -1,0 +1,118 @@
+// Attempts at lines, over any store.
+ghost use Rattle.std.specs.Prelude.{◌≡◌, ◌<◌, ◌≤◌, ◌+◌, ◌-◌, ◌∷◌, ◌++◌, [], ℕ, length, min, vec_len, vec_capacity, IfSome, OnOk, OnErr};
+ghost use Rattle.md_history.specs.Counts.{IsSmall};
+ghost use Rattle.md_history.specs.Front.{LegalFrom};
+ghost use Rattle.md_history.specs.Attempt.{Commits, Stops, IfCommitted, IfStopped};
+ghost use Rattle.md_history.specs.Engine.{bounds_in, IsNoConflict};
+ghost use Rattle.md_many.specs.Tags.{tag_of};
+ghost use Rattle.md_many.specs.Joined.{entries_after};
+ghost use Rattle.md_many.specs.Lines.{PlaysLines, StopsForMemory};
+
+use crate::callers::Lines;
+use crate::gates::Gate;
+use crate::tags::line_tag;
+use md_history::{Attempt, Body, Engine, Stop, pass_is_legal};
+use std::alloc::AllocError;
+
+/// One caller's part of a round.
+#[derive(Clone, Copy, Debug, PartialEq, Eq)]
+pub struct Turn {
+    pub caller: u32,
+    /// How many of the caller's lines were played before.
+    pub done: u32,
+    /// How many attempts the caller may make.
+    pub tries: u32,
+}
+
+/// Attempts a body once, as a caller's line, with the line's tag. The gate is told before the attempt, and
+/// after it where it was committed.
+pub fn attempt_line<E: Engine, B: Body, G: Gate>(
+    engine: &E,
+    pass: &mut E::Pass,
+    caller: u32,
+    line: u32,
+    body: &B,
+    gate: &G,
+) -> Attempt<B::Reply>
+    requires of { E.of engine.now pass.old }
+    requires fits { B.fits body.now (length (E.start engine.now).maps) (length (E.start engine.now).queues) }
+    ensures committed { IfCommitted result (λ r. Commits (B.did body.now) (tag_of caller line) r (E.front pass.old) (E.front pass.new)) }
+    ensures stopped { IfStopped result (λ _. Stops (tag_of caller line) (E.front pass.old) (E.front pass.new)) }
+    ensures legal { LegalFrom (E.start engine.now) (E.front pass.new) }
+    ensures of { E.of engine.now pass.new }
+    ensures may_stop { IfStopped result (E.may_stop engine.now) }
+    ensures alone { (E.front pass.old).lanes ≡ E.lanes engine.now → IfStopped result IsNoConflict }
+    ensures small { E.fresh engine.now pass.old → 1 ≤ (E.limits engine.now).tries → IsSmall (bounds_in (E.limits engine.now)) (B.makes body.now) (E.start engine.now) → IfStopped result (λ s. s ≡ Stop.NoMemory) }
+{
+    gate.before(caller, line);
+    let attempt = engine.attempt(pass, line_tag(caller, line), body);
+    if let Attempt::Committed(_) = &attempt {
+        gate.after(caller, line);
+    }
+    attempt
+}
+
+// Puts a reply where there is room for it.
+fn put<R: Drop>(replies: &mut Vec<R>, reply: R)
+    requires { vec_len replies.old < vec_capacity replies.old }
+    ensures items { replies.new.items ≡ replies.old.items ++ reply ∷ [] }
+    ensures len { vec_len replies.new ≡ vec_len replies.old + 1 }
+    ensures capacity { vec_capacity replies.old ≤ vec_capacity replies.new }
+{
+    let Ok(()) = replies.push(reply) else {
+        unreachable!()
+    };
+}
+
+/// Attempts a caller's lines after those that were done, in order, each again after a conflict, until there is
+/// no line left, a limit comes, or the caller has made its attempts. The replies of the lines that it played go
+/// into a list that has room for them, so no memory is taken here.
+///
+/// `Err` comes only where an attempt of the engine may want memory, and ends the attempts. Whatever comes, the
+/// pass goes on from what it had seen, and the lines that were played are what its lanes committed, each under
+/// its own tag, in the history's order. A fresh pass plays a line at least, where the line is small.
+pub fn attempt_lines<E: Engine, L: Lines, G: Gate>(
+    engine: &E,
+    pass: &mut E::Pass,
+    lines: &L,
+    turn: Turn,
+    gate: &G,
+    replies: &mut Vec<<L::B as Body>::Reply>,
+) -> Result<(), AllocError>
+    requires of { E.of engine.now pass.old }
+    requires fits { (line : ℕ) → IfSome (L.body_at lines.now turn.caller line) (λ b. L.B.fits b (length (E.start engine.now).maps) (length (E.start engine.now).queues)) }
+    requires done { turn.done ≤ L.line_count lines.now turn.caller }
+    requires empty { replies.old.items ≡ [] }
+    requires room { min turn.tries (L.line_count lines.now turn.caller - turn.done) ≤ vec_capacity replies.old }
+    ensures of { E.of engine.now pass.new }
+    ensures lanes { (E.front pass.new).lanes ≡ (E.front pass.old).lanes }
+    ensures pending { (E.front pass.new).pending ≡ (E.front pass.old).pending }
+    ensures lines { PlaysLines L.B.did (L.body_at lines.now) turn.caller turn.done (E.front pass.old).lanes (E.front pass.old) (E.front pass.new) replies.new.items }
+    ensures tries { length (entries_after (length (E.front pass.old).seen) (E.front pass.old).lanes (E.front pass.new)) ≤ turn.tries }
+    ensures no_memory { OnErr result (E.may_stop engine.now Stop.NoMemory) }
+    ensures first { E.fresh engine.now pass.old → 1 ≤ (E.limits engine.now).tries → IfSome (L.body_at lines.now turn.caller (turn.done + 1)) (λ b. IsSmall (bounds_in (E.limits engine.now)) (L.B.makes b) (E.start engine.now)) → 1 ≤ turn.tries → turn.done < L.line_count lines.now turn.caller → OnOk result (1 ≤ length replies.new.items) }
+    ensures steady { StopsForMemory (E.may_stop engine.now) → OnOk result (length replies.new.items ≡ min turn.tries (L.line_count lines.now turn.caller - turn.done)) }
+{
+    pass_is_legal(engine, pass);
+    let count = lines.len(turn.caller);
+    let mut played = turn.done;
+    'attempts: for tried in 0..turn.tries {
+        if played == count {
+            break;
+        }
+        let line = played + 1;
+        let Some(body) = lines.body(turn.caller, line) else {
+            unreachable!()
+        };
+        match attempt_line(engine, pass, turn.caller, line, &body, gate) {
+            Attempt::Committed(reply) => {
+                put(replies, reply);
+                played = line;
+            }
+            Attempt::Stopped(Stop::Conflict(_)) => {}
+            Attempt::Stopped(Stop::Limit(_)) => break,
+            Attempt::Stopped(Stop::NoMemory) => return Err(AllocError),
+        }
+    }
+    Ok(())
+}
