@@ -18,7 +18,7 @@ use Rattle.md_history.specs.FrontLaws.{prefix-self}
 use Rattle.md_history.specs.Attempt.{Commits, Stops, NoneOrAborted, Settles, AreAllOwn}
 use Rattle.md_history.specs.Engine.{IsFrontFrom, AreNumberedByLane, SettlesFrom}
 use Rattle.md_history.specs.Plain.{all_committed, front_from, AreNumbered, IsKept, IsRunning, refusal_of}
-use Rattle.md_history.proofs.Runs.{run-append, right-append}
+use Rattle.md_history.specs.HistoryLaws.{run-append, right-append}
 
 committed-stays : (es fs : List Entry) → AllStay (all_committed es) (all_committed (es ++ fs))
 committed-stays [] fs = tt

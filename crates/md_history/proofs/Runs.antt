@@ -10,16 +10,9 @@ use Rattle.md_history.specs.declared.acts.Act.{Act}
 use Rattle.md_history.specs.State.{State, HaveSameNumbers, run, IsRight, after, answer, map_at}
 use Rattle.md_history.specs.History.{acts_of}
 use Rattle.md_history.specs.Front.{Front as View, committed_in, replay_of}
+use Rattle.md_history.specs.HistoryLaws.{run-append, right-append}
 use Rattle.md_history.specs.Act.{act_of}
 use Rattle.md_history.specs.Plain.{IsRunning}
-
-pub run-append : (s : State) (xs ys : List Act) → run s (xs ++ ys) ≡ run (run s xs) ys
-run-append s [] ys = refl
-run-append s (x ∷ xs) ys = run-append (after s x.op) xs ys
-
-pub right-append : (s : State) (xs ys : List Act) → IsRight s xs → IsRight (run s xs) ys → IsRight s (xs ++ ys)
-right-append s [] ys p q = q
-right-append s (x ∷ xs) ys p q = (p.0, right-append (after s x.op) xs ys p.1 q)
 
 chosen : (b : Bool) (s t : State) (n : ℕ) (f : State → ℕ) → f s ≡ n → f t ≡ n → f (cond b s t) ≡ n
 chosen true s t n f p q = p

@@ -9,6 +9,21 @@ use Rattle.md_history.specs.declared.entries.Fate.TheVariants.{Committed, Aborte
 use Rattle.md_history.specs.State.{State, run, after, IsRight}
 use Rattle.md_history.specs.History.{IsResolution, IsLegal, kept_acts, committed, acts_of}
 
+-- acts and then more acts leave what these leave, from where those end
+pub run-append : (s : State) (xs ys : List Act) → run s (xs ++ ys) ≡ run (run s xs) ys
+run-append s [] ys = refl
+run-append s (x ∷ xs) ys = run-append (after s x.op) xs ys
+
+-- and are right if each of both are, where they begin
+pub right-append : (s : State) (xs ys : List Act) → IsRight s xs → IsRight (run s xs) ys → IsRight s (xs ++ ys)
+right-append s [] ys first rest = rest
+right-append s (x ∷ xs) ys first rest = (first.0, right-append (after s x.op) xs ys first.1 rest)
+
+-- the earlier acts of a right list are right
+pub right-first : (s : State) (xs ys : List Act) → IsRight s (xs ++ ys) → IsRight s xs
+right-first s [] ys right = tt
+right-first s (x ∷ xs) ys right = (right.0, right-first (after s x.op) xs ys right.1)
+
 -- the later acts of a right list are right where the earlier ones end
 pub right-rest : (s : State) (xs ys : List Act) → IsRight s (xs ++ ys) → IsRight (run s xs) ys
 right-rest s [] ys right = right

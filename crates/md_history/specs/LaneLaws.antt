@@ -1,7 +1,10 @@
--- Laws of lanes: rising lists that have the same lanes are equal.
-use Rattle.std.specs.Prelude.{◌≡◌, ◌<◌, ◌⊎◌, ℕ, zero, suc, List, [], ◌∷◌, refl, Contains}
-use Rattle.std.proofs.Common.{sym, ap, subst, ◌∙◌, arith, inl, inr}
-use Rattle.md_history.specs.Engine.{IsRising}
+-- Laws of lanes: rising lists that have the same lanes are equal; and entries that are numbered by lane.
+use Rattle.std.specs.Prelude.{◌≡◌, ◌<◌, ◌⊎◌, ℕ, zero, suc, List, [], ◌∷◌, ◌++◌, length, refl, Contains}
+use Rattle.std.proofs.Common.{sym, ap, subst, ◌∙◌, arith, inl, inr, append_assoc}
+use Rattle.std.proofs.lemmas.List.{length-append}
+use Rattle.md_history.specs.Engine.{IsRising, AreNumberedByLane}
+use Rattle.md_history.specs.declared.entries.Entry.{Entry}
+use Rattle.md_history.specs.Front.{of_lane}
 
 -- an element is the first one or one of the others
 pub contains-either : {A : Type 0} (x : A) (xs : List A) (z : A) → Contains (x ∷ xs) z → (x ≡ z) ⊎ Contains xs z
@@ -52,3 +55,30 @@ rising-same (x ∷ xs) (y ∷ ys) rising rising' same same' =
     let there : (z : ℕ) → Contains (x ∷ xs) z → Contains (x ∷ ys) z = subst (λ w. (z : ℕ) → Contains (x ∷ xs) z → Contains (w ∷ ys) z) (sym first) same in
     let back : (z : ℕ) → Contains (x ∷ ys) z → Contains (x ∷ xs) z = subst (λ w. (z : ℕ) → Contains (w ∷ ys) z → Contains (x ∷ xs) z) (sym first) same' in
     ap (λ z. z ∷ xs) first ∙ ap (λ zs. y ∷ zs) (rising-same xs ys (rising-rest x xs rising) (rising-rest x ys begun) (rests-same x xs ys rising there) (rests-same x ys xs begun back))
+
+-- the last element of a list, or one before it
+pub push-cases : {A : Type 0} (xs : List A) (x : A) (before : List A) (y : A) (after : List A) → xs ++ x ∷ [] ≡ before ++ y ∷ after → ((xs ≡ before) × (x ≡ y)) ⊎ ((rest : List A) × (xs ≡ before ++ y ∷ rest))
+push-cases [] x [] y after same = inl (refl, (cc))
+push-cases [] x (b ∷ before) y after same = let more : [] ≡ before ++ y ∷ after = cc in absurd (omega (arith, ap length more, length-append before (y ∷ after)))
+push-cases (w ∷ xs) x [] y after same = let first : w ≡ y = cc in inr (xs, ap (λ z. z ∷ xs) first)
+push-cases (w ∷ xs) x (b ∷ before) y after same =
+    let first : w ≡ b = cc in
+    let more : xs ++ x ∷ [] ≡ before ++ y ∷ after = cc in
+    elim (push-cases xs x before y after more) [
+      | inl last ↦ inl (ap (λ z. z ∷ xs) first ∙ ap (λ zs. b ∷ zs) last.0, last.1)
+      | inr earlier ↦ inr (earlier.0, ap (λ z. z ∷ xs) first ∙ ap (λ zs. b ∷ zs) earlier.1)
+    ]
+
+-- entries that are numbered by lane stay so with one more, which has the next number of its lane
+pub numbered-push : (es : List Entry) (e : Entry) → AreNumberedByLane es → e.number ≡ length (of_lane e.lane es) → AreNumberedByLane (es ++ e ∷ [])
+numbered-push es e numbered next before after x same = elim (push-cases es e before x after same) [
+  | inl last ↦ subst (λ (y : Entry). y.number ≡ length (of_lane y.lane before)) last.1 (next ∙ ap (λ xs. length (of_lane e.lane xs)) last.0)
+  | inr earlier ↦ numbered before earlier.0 x earlier.1
+]
+
+-- and so is a first part of them
+pub numbered-prefix : (es rest : List Entry) → AreNumberedByLane (es ++ rest) → AreNumberedByLane es
+numbered-prefix es rest numbered before after x same = numbered before (after ++ rest) x (ap (λ xs. xs ++ rest) same ∙ append_assoc before (x ∷ after) rest)
+
+pub numbered-none : AreNumberedByLane []
+numbered-none before after e same = absurd (omega (arith, ap length same, length-append before (e ∷ after)))

@@ -12,6 +12,7 @@ pub mod Engine
 pub mod Contents
 pub mod Plain
 pub mod HistoryLaws
+pub mod ResolutionLaws
 pub mod FrontLaws
 pub mod OwnLaws
 pub mod LaneLaws

@@ -5,7 +5,7 @@ use Rattle.md_history.specs.declared.entries.Entry.{Entry}
 use Rattle.md_history.specs.State.{State, run, after, IsRight}
 use Rattle.md_history.specs.History.{acts_of}
 use Rattle.md_history.specs.HistoryLaws.{right-rest}
-use Rattle.md_history.proofs.Runs.{run-append}
+use Rattle.md_history.specs.HistoryLaws.{run-append}
 use Rattle.md_book.specs.declared.commands.Command.{Command}
 use Rattle.md_book.specs.declared.commands.BookReply.{BookReply}
 use Rattle.md_book.specs.Book.{Book, book_step, book_after, replies_to}
