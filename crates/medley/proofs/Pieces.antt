@@ -1,24 +1,27 @@
 -- One read or write more.
-use Rattle.std.proofs.Common.{◌≡◌, ◌<◌, ◌≤◌, ◌+◌, ◌∙◌, ◌++◌, ℕ, List, length, take, drop, Option, Some, None, subst, sym, length-append}
+use Rattle.std.proofs.Common.{◌≡◌, ◌<◌, ◌≤◌, ◌+◌, ◌∙◌, ◌++◌, ℕ, List, length, take, drop, Option, Some, None, subst, sym, refl, length-append}
 use Rattle.std.specs.Io.KnownBytes.{Consumes, Appends, Keeps}
 use Rattle.std.proofs.KnownBytes.{Consumes-trans, Appends-trans, Appends-kept}
 use Rattle.std.proofs.Math.Seq.{take-add}
 use Rattle.std.proofs.lemmas.List.{length-take-le, take-append-drop}
 use Rattle.md_outside.specs.Steps.{Step}
 use Rattle.md_outside.proofs.Chains.{Moves-one_more-take}
-use Rattle.medley.specs.Run.{max_bytes, IsReadInPart, IsWritten, HasWriteFault}
+use Rattle.medley.specs.Run.{HasRead, IsWritten, HasWriteFault}
 use Rattle.md_outside.specs.Causes.{Rose}
 
 -- a read that gave some bytes
 pub read-more : {I : Type 0} (gives : Step I) (left : I → Option (List ℕ)) (faults : I → ℕ) (a b c : I) (bytes : List ℕ) (count : ℕ) (buffer : List ℕ)
-    → IsReadInPart gives left faults a b bytes → gives b (Some (take count buffer)) c → Consumes (left b) (left c) (take count buffer) → faults c ≡ faults b
-    → 0 < count → count ≤ length buffer → length bytes + count ≤ max_bytes + 1 → IsReadInPart gives left faults a c (bytes ++ take count buffer)
-read-more gives left faults a b c bytes count buffer so_far step told kept some fits short = record {
+    → HasRead gives left faults a b bytes → gives b (Some (take count buffer)) c → Consumes (left b) (left c) (take count buffer) → faults c ≡ faults b
+    → 0 < count → count ≤ length buffer → HasRead gives left faults a c (bytes ++ take count buffer)
+read-more gives left faults a b c bytes count buffer so_far step told kept some fits = record {
   reads = Moves-one_more-take count buffer so_far.reads step some fits;
   told = Consumes-trans (left a) (left b) (left c) bytes (take count buffer) so_far.told told;
-  short = rw (length-append bytes (take count buffer), length-take-le count buffer fits) short;
   kept = kept ∙ so_far.kept;
 }
+
+-- how long the bytes are then
+pub length-more : (bytes : List ℕ) (count : ℕ) (buffer : List ℕ) → count ≤ length buffer → length (bytes ++ take count buffer) ≡ length bytes + count
+length-more bytes count buffer fits = rw (length-append bytes (take count buffer), length-take-le count buffer fits) refl
 
 -- a write that took some bytes
 pub write-more : {O : Type 0} (takes : Step O) (holds : O → Option (List ℕ)) (faults : O → ℕ) (a b c : O) (text : List ℕ) (at count : ℕ)

@@ -1,2 +1,4 @@
+pub mod Faults
+pub mod Words
 pub mod Replay
 pub mod Run

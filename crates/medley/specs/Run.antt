@@ -38,6 +38,12 @@ status_number TooMany = 8
 
 -- A source is seen by what its reads may give, by the bytes that it has left where it tells them, and by its faults.
 module _ {I : Type 0} (gives : Step I) (left : I → Option (List ℕ)) (faults : I → ℕ) (old new : I) where
+  -- reads gave these bytes, and neither the end nor a fault
+  pub record HasRead (bytes : List ℕ) : Type 0 where
+    pub reads : Reads gives old bytes new
+    pub told : Consumes (left old) (left new) bytes
+    pub kept : faults new ≡ faults old
+
   -- the input was read to its end, and these are its bytes; no read was made after the one that gave none
   pub record IsRead (bytes : List ℕ) : Type 0 where
     pub reads : ReadsToEnd gives old bytes new
@@ -46,20 +52,16 @@ module _ {I : Type 0} (gives : Step I) (left : I → Option (List ℕ)) (faults 
     pub short : length bytes ≤ max_bytes
     pub kept : faults new ≡ faults old
 
-  -- reads gave these bytes, and neither the end nor a fault
+  -- the input was read in part: no more than an input may have
   pub record IsReadInPart (bytes : List ℕ) : Type 0 where
-    pub reads : Reads gives old bytes new
-    pub told : Consumes (left old) (left new) bytes
-    pub short : length bytes ≤ max_bytes + 1
-    pub kept : faults new ≡ faults old
+    pub read : HasRead bytes
+    pub short : length bytes ≤ max_bytes
 
   -- the reads gave one byte more than an input may have
   pub record IsOverlong : Type 0 where
     pub bytes : List ℕ
-    pub reads : Reads gives old bytes new
-    pub told : Consumes (left old) (left new) bytes
+    pub read : HasRead bytes
     pub long : length bytes ≡ max_bytes + 1
-    pub kept : faults new ≡ faults old
 
   -- the last read failed
   pub record HasReadFault : Type 0 where

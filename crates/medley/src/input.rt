@@ -16,7 +16,8 @@ pub enum InputFault {
 // The most bytes that an input may have.
 const MAX_BYTES: usize = 67_108_864;
 
-/// All the bytes of a source, to its end, with one byte at most past what an input may have.
+/// All the bytes of a source, to its end. One byte at most is read past what an input may have, and
+/// then no memory is asked for it.
 pub fn read_all<I: Source>(alloc: Global, input: &mut I) -> Result<Vec<u8>, InputFault>
     ensures read { IfOk result (λ bytes. IsRead I.gives I.left I.faults input.old input.new bytes.items) }
     ensures too_long { IsErrOf result InputFault.TooLong → IsOverlong I.gives I.left I.faults input.old input.new }
@@ -25,11 +26,14 @@ pub fn read_all<I: Source>(alloc: Global, input: &mut I) -> Result<Vec<u8>, Inpu
 {
     let mut bytes = Vec::new(alloc);
     let mut piece = [0; 8192];
-    'reads: while bytes.len() <= MAX_BYTES {
+    'reads: loop {
         let room = piece.len().min(MAX_BYTES + 1 - bytes.len());
         match input.read(&mut piece[..room]) {
             Ok(0) => return Ok(bytes),
             Ok(count) => {
+                if bytes.len() + count > MAX_BYTES {
+                    return Err(InputFault::TooLong);
+                }
                 if bytes.extend_from_slice(&piece[..count]).is_err() {
                     return Err(InputFault::NoMemory);
                 }
@@ -37,5 +41,4 @@ pub fn read_all<I: Source>(alloc: Global, input: &mut I) -> Result<Vec<u8>, Inpu
             Err(Failed) => return Err(InputFault::ReadFault),
         }
     }
-    Err(InputFault::TooLong)
 }

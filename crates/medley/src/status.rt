@@ -1,7 +1,11 @@
 // How a run ends.
 ghost use Rattle.std.specs.Prelude.{◌≡◌};
 
+use crate::input::InputFault;
 use md_history::{Front, PlainPass};
+use md_orders::OrderFault;
+use std::alloc::AllocError;
+use std::process::ExitCode;
 
 /// How a run ended, and the number that the program exits with.
 #[derive(Clone, Copy, Debug, PartialEq, Eq)]
@@ -16,7 +20,7 @@ pub enum Status {
     ReadFault,
     /// A write of the report failed. 5.
     WriteFault,
-    /// Memory was wanting. 6.
+    /// The program is out of memory. 6.
     NoMemory,
     /// The input has more than 67,108,864 bytes. 7.
     TooLong,
@@ -41,6 +45,59 @@ impl Status {
             Status::TooLong => 7,
             Status::TooMany => 8,
         }
+    }
+}
+
+/// The exit status that the number is.
+impl From<Status> for ExitCode {
+    ghost use Rattle.std.specs.Process.{exit_status};
+    ghost use Rattle.medley.specs.Run.{status_number};
+
+    ghost from_gives = { λ status code. exit_status code ≡ status_number status };
+
+    fn from(status: Status) -> ExitCode {
+        ExitCode::from(status.number())
+    }
+}
+
+/// Each fault of the input is a status of its own.
+impl From<InputFault> for Status {
+    ghost use Rattle.medley.specs.Faults.{input_status};
+
+    ghost from_gives = { λ fault status. status ≡ input_status fault };
+
+    fn from(fault: InputFault) -> Status {
+        match fault {
+            InputFault::TooLong => Status::TooLong,
+            InputFault::ReadFault => Status::ReadFault,
+            InputFault::NoMemory => Status::NoMemory,
+        }
+    }
+}
+
+/// Each fault of an order file is a status of its own.
+impl From<OrderFault> for Status {
+    ghost use Rattle.medley.specs.Faults.{order_status};
+
+    ghost from_gives = { λ fault status. status ≡ order_status fault };
+
+    fn from(fault: OrderFault) -> Status {
+        match fault {
+            OrderFault::TooMany => Status::TooMany,
+            OrderFault::BadLine(number) => Status::BadLine(number),
+            OrderFault::NoMemory => Status::NoMemory,
+        }
+    }
+}
+
+/// Want of memory.
+impl From<AllocError> for Status {
+    ghost use Rattle.medley.specs.declared.status.Status.TheVariants.{NoMemory};
+
+    ghost from_gives = { λ _ status. status ≡ NoMemory };
+
+    fn from(_: AllocError) -> Status {
+        Status::NoMemory
     }
 }
 

@@ -1,10 +1,11 @@
 // What no clause says: that runs come to their end, and what is printed of whole inputs.
 mod bad;
+mod edge;
 mod rows;
 
 use crate::run::run;
 use crate::status::Status;
-use md_outside::{MemSink, MemSource, Source};
+use md_outside::{MemSink, MemSource};
 use std::alloc::{AllocError, Global};
 use std::process::Abort;
 use std::test::Fail;
@@ -53,6 +54,9 @@ const ORDER: &[u8] = b"1,P,7,S,100,5\n";
 const REPORT: &[u8] = b"1:1 placed\nS 100 5\ndone 1\n";
 
 const READ_FAULT: &[u8] = b"fault read\n";
+
+const USAGE: &[u8] =
+    b"usage: medley [--callers N] [--nodes K] [--tries K] [--make NUMBER --lines N]\n";
 
 #[test]
 fn failing_reads(rt: HostRuntime) -> Result<(), Fail> {
@@ -110,26 +114,6 @@ fn failing_writes(rt: HostRuntime) -> Result<(), Fail> {
         ..AMPLE
     };
     expect(&rt, rt.alloc(), ORDER, streams, Status::ReadFault, b"fault")
-}
-
-#[test]
-fn words(rt: HostRuntime) -> Result<(), Fail> {
-    let alloc = rt.alloc();
-    for words in [["--callers", "2"].as_slice(), ["?"].as_slice()] {
-        let bytes = Vec::from_slice(alloc, b"1,P,7,S,100,5\n")?;
-        let mut source = MemSource::new(bytes, 8192, Vec::new(alloc));
-        let mut sink = MemSink::new(alloc, 1024, Vec::new(alloc))?;
-        let run = run(alloc, words, &mut source, &mut sink);
-        assert_eq!(rt; run.status, Status::Usage);
-        assert_eq!(rt;
-            sink.bytes(),
-            b"usage: medley [--callers N] [--nodes K] [--tries K] [--make NUMBER --lines N]\n".as_slice()
-        );
-        let mut unread = [0; 15];
-        assert_eq!(rt; source.read(&mut unread), Ok(14));
-        assert_eq!(rt; unread, *b"1,P,7,S,100,5\n\0");
-    }
-    Ok(())
 }
 
 // So many times the same bytes, and then others.
@@ -194,5 +178,27 @@ fn the_largest_inputs(rt: HostRuntime) -> Result<(), Fail> {
         assert_eq!(rt; run.status, status, "of {times} times {part:?}");
         assert_eq!(rt; sink.bytes(), text, "of {times} times {part:?}");
     }
+    Ok(())
+}
+
+// Half a million orders, each with a fill that empties it: as many lines as an input may have.
+#[test]
+fn a_million_lines(rt: HostRuntime) -> Result<(), Fail> {
+    let alloc = rt.alloc();
+    let orders = repeated(alloc, b"1,P,7,S,100,1\n1,F,8,S,100,1\n", 500_000, b"")?;
+    let mut report = String::new(alloc);
+    for pair in 0..500_000_u32 {
+        let line = pair.saturating_mul(2).saturating_add(1);
+        writeln!(report, "1:{line} placed")?;
+        let next = line.saturating_add(1);
+        writeln!(report, "1:{next} filled 1 rest 0 from 1:{line}=1")?;
+    }
+    report.push_str("account 7 bought 0 sold 500000\naccount 8 bought 500000 sold 0\n")?;
+    report.push_str("done 1000000\n")?;
+    let mut source = MemSource::new(orders, 65_536, Vec::new(alloc));
+    let mut sink = MemSink::new(alloc, report.len(), Vec::new(alloc))?;
+    let run = run(alloc, &[], &mut source, &mut sink);
+    assert_eq!(rt; run.status, Status::Done);
+    assert!(rt; sink.bytes() == report.as_bytes());
     Ok(())
 }

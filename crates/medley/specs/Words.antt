@@ -1,0 +1,36 @@
+-- The words of a program, and which of them it accepts.
+use Rattle.std.specs.Prelude.{◌≡◌, ℕ, List, [], map, drop, Result, Ok, Err, string_bytes}
+use Rattle.std.specs.Borrow.{Bor}
+use Rattle.std.specs.Vec.Iter.{into_iter_items}
+use Rattle.std.specs.IoError.{error_kind}
+use Rattle.std.specs.declared.alloc.Global.{Global}
+use Rattle.std.specs.declared.string.String.{String}
+use Rattle.std.specs.declared.vec.IntoIter.{IntoIter}
+use Rattle.std.specs.declared.io.Error.{Error}
+use Rattle.std.specs.declared.io.ErrorKind.TheVariants.{OutOfMemory}
+
+-- words as texts
+abbrev pub texts : List (Bor (List ℕ)) → List (List ℕ)
+texts words = map (λ word. word.now) words
+
+-- no words are accepted so far
+abbrev pub AreAccepted : List (List ℕ) → Type 0
+AreAccepted words = words ≡ []
+
+-- what gathering a program's arguments comes to: the arguments, or why there are none
+abbrev pub Args : Type 0
+Args = Result (IntoIter (String Global) Global) Error
+
+-- the words are the arguments after the first, which is the program's name
+abbrev pub words_in : IntoIter (String Global) Global → List (List ℕ)
+words_in args = map string_bytes (drop 1 (into_iter_items args))
+
+-- there are arguments, and their words are accepted
+abbrev pub HasAcceptedWords : Args → Type 0
+HasAcceptedWords (Ok args) = AreAccepted (words_in args)
+HasAcceptedWords (Err error) = ⊥
+
+-- there are none, since memory was wanting for them
+abbrev pub WantsMemory : Args → Type 0
+WantsMemory (Ok args) = ⊥
+WantsMemory (Err error) = error_kind error ≡ OutOfMemory

@@ -1,0 +1,73 @@
+// The program over any source and sink, from its arguments on.
+ghost use Rattle.std.specs.Prelude.{◌≡◌, ◌⊎◌, Some, List, ℕ, map, drop, string_bytes, IfOk, IsErr};
+ghost use Rattle.std.specs.Vec.Iter.{into_iter_items};
+ghost use Rattle.md_history.specs.Plain.{front_of};
+ghost use Rattle.md_outside.specs.Causes.{Rose};
+ghost use Rattle.medley.specs.Words.{texts, words_in, HasAcceptedWords, WantsMemory};
+ghost use Rattle.medley.specs.Run.{Answers, IsBadInput, IsGood};
+
+use crate::run::{run, stop};
+use crate::status::{Run, Status};
+use md_outside::{Sink, Source};
+use std::alloc::{AllocError, Global};
+use std::env::Args;
+use std::io;
+use std::io::ErrorKind;
+
+// Strings as slices.
+fn slices<'a>(alloc: Global, strings: &'a [String]) -> Result<Vec<&'a str>, AllocError>
+    ensures { IfOk result (λ slices. texts slices.items ≡ map string_bytes strings.now) }
+{
+    let mut slices = Vec::new(alloc);
+    for string in strings {
+        slices.push(string.as_str())?;
+    }
+    Ok(slices)
+}
+
+// The arguments after the first.
+fn words(alloc: Global, args: Args) -> Result<Vec<String>, AllocError>
+    ensures { IfOk result (λ words. words.items ≡ drop 1 (into_iter_items args)) }
+{
+    let mut left = args;
+    let _name = left.next();
+    let mut words = Vec::new(alloc);
+    'words: while let Some(word) = left.next() {
+        words.push(word)?;
+    }
+    Ok(words)
+}
+
+/// Runs with the words that the system gave: its arguments but for the first, the program's name.
+///
+/// Arguments of which one isn't text are no words that are accepted, so the answer is `Usage`. The answer
+/// is `NoMemory` where the system found no memory for them. In both cases nothing is read.
+pub fn run_program<I: Source, O: Sink>(
+    alloc: Global,
+    args: io::Result<Args>,
+    input: &mut I,
+    output: &mut O,
+) -> Run
+    ensures answers { Answers I.gives I.left I.faults input.old input.new O.takes O.holds O.faults output.old output.new (map front_of result.fronts.items) result.status }
+    ensures usage { result.status ≡ Status.Usage → (¬ HasAcceptedWords args) × (¬ WantsMemory args) }
+    ensures refused { ¬ HasAcceptedWords args → ((result.status ≡ Status.Usage) ⊎ (result.status ≡ Status.NoMemory)) × (input.new ≡ input.old) }
+    ensures no_text { IsErr args → ¬ WantsMemory args → result.status ≡ Status.Usage }
+    ensures no_memory { WantsMemory args → result.status ≡ Status.NoMemory }
+    ensures complete { HasAcceptedWords args → ¬ Rose (I.faults input.old) (I.faults input.new) → ¬ Rose (O.faults output.old) (O.faults output.new) → ¬ IsBadInput I.gives I.left I.faults input.old input.new → (result.status ≡ Status.Done) ⊎ (result.status ≡ Status.NoMemory) }
+    ensures told { (bytes : List ℕ) → I.left input.old ≡ Some bytes → IsGood bytes → ¬ IsBadInput I.gives I.left I.faults input.old input.new }
+{
+    let args = match args {
+        Ok(args) => args,
+        Err(error) if error.kind() == ErrorKind::OutOfMemory => {
+            return stop(alloc, output, Status::NoMemory);
+        }
+        Err(_) => return stop(alloc, output, Status::Usage),
+    };
+    let Ok(words) = words(alloc, args) else {
+        return stop(alloc, output, Status::NoMemory);
+    };
+    let Ok(slices) = slices(alloc, &words) else {
+        return stop(alloc, output, Status::NoMemory);
+    };
+    run(alloc, &slices, input, output)
+}
