@@ -1,0 +1,12 @@
+use Rattle.md_queue_law.proofs.Facts.{ranks_rise, ranks_differ, last_alone, ranks_fit}
+use Rattle.md_queue_law.proofs.theory.queue_facts.Goals as goal
+
+pub returns : goal.returns
+returns g c = let q = g.met.T.HasQueues.has_queues in record {
+  head = λ h queue is. (q.stand h is.valid queue is.within).head;
+  tail = λ h queue is. (q.stand h is.valid queue is.within).tail;
+  rise = λ h queue node is. ranks_rise h queue (q.stand h is.valid queue is.within) node;
+  last = λ h queue node other is. last_alone h queue (q.stand h is.valid queue is.within) node other;
+  differ = λ h queue node other is. ranks_differ h queue (q.stand h is.valid queue is.within) node other;
+  fit = λ h queue node is. ranks_fit h queue (q.stand h is.valid queue is.within) node;
+}

@@ -1,0 +1,7 @@
+pub mod QueueShape
+pub mod QueueValues
+pub mod QueueCertificates
+pub mod QueueMeaning
+pub mod QueueFacts
+pub mod Rows
+pub mod Lawful
