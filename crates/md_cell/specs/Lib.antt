@@ -1,0 +1,3 @@
+pub mod CellMeaning
+pub mod Lawful
+pub mod CellRows
