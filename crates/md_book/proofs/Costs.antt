@@ -7,7 +7,7 @@ use Rattle.md_history.specs.declared.acts.Act.{Act}
 use Rattle.md_history.specs.declared.acts.Op.TheVariants.{Get, Insert, Remove, Enqueue, Dequeue, Front}
 use Rattle.md_history.specs.declared.acts.Reply.TheVariants.{Value, Flag, Nothing}
 use Rattle.md_history.specs.Act.{act_of}
-use Rattle.md_history.specs.Counts.{different_beside, different, same_key, looked, changed_key, asked_queue, changed_queue, dequeued, line_words, reads, writes, nodes}
+use Rattle.md_history.specs.Counts.{different_beside, different, same_key, changed_nothing, changed_key, asked_queue, changed_queue, dequeued, line_words, reads, writes, nodes}
 use Rattle.md_book.specs.Meets.{AreFew}
 use Rattle.md_history.specs.CountLaws.{count-append, different-append, same_key_equiv, nodes-append, line_words-append}
 
@@ -15,7 +15,7 @@ abbrev keys : List Act → ℕ
 keys acts = different same_key (filter_map (λ a. changed_key a.op a.reply) acts)
 
 abbrev lookups : List Act → ℕ
-lookups acts = count_by (λ a. looked a.op a.reply) acts
+lookups acts = count_by (λ a. changed_nothing a.op a.reply) acts
 
 abbrev dequeues : List Act → ℕ
 dequeues acts = count_by (λ a. dequeued a.op a.reply) acts
@@ -69,15 +69,15 @@ module _ {level : ℕ} {acts : List Act} {read write take : ℕ} (costs : Costs 
 
 pub costs-append : {level : ℕ} {xs ys : List Act} {r w n r' w' n' : ℕ} → Costs level xs r w n → Costs level ys r' w' n' → Costs level (xs ++ ys) (r + r') (w + w') (n + n')
 costs-append {level} {xs} {ys} f g =
-    let looked_all = count-append (λ (a : Act). looked a.op a.reply) xs ys in
+    let nothing_all = count-append (λ (a : Act). changed_nothing a.op a.reply) xs ys in
     let dequeued_all = count-append (λ (a : Act). dequeued a.op a.reply) xs ys in
     let keys_all = filter_map-append (λ (a : Act). changed_key a.op a.reply) xs ys in
     let asked_all = filter_map-append (λ (a : Act). asked_queue a.op a.reply) xs ys in
     let changed_all = filter_map-append (λ (a : Act). changed_queue a.op a.reply) xs ys in
     let different_all = different-append same_key_equiv (filter_map (λ (a : Act). changed_key a.op a.reply) xs) (filter_map (λ (a : Act). changed_key a.op a.reply) ys) [] in
     record {
-      read_few = omega (arith, f.read_few, g.read_few, looked_all, dequeued_all, line_words-append xs ys);
-      write_few = omega (arith, f.write_few, g.write_few, looked_all, nodes-append xs ys, ap (different same_key) keys_all, different_all);
+      read_few = omega (arith, f.read_few, g.read_few, nothing_all, dequeued_all, line_words-append xs ys);
+      write_few = omega (arith, f.write_few, g.write_few, nothing_all, nodes-append xs ys, ap (different same_key) keys_all, different_all);
       take_few = omega (arith, f.take_few, g.take_few, nodes-append xs ys);
       asked = subst (AreThis level) (sym asked_all) (these-append level _ _ f.asked g.asked);
       changed = subst (AreThis level) (sym changed_all) (these-append level _ _ f.changed g.changed);

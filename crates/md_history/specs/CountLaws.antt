@@ -10,7 +10,7 @@ use Rattle.std.proofs.lemmas.List.Elements.{filter_map-append}
 use Rattle.std.proofs.lemmas.Map.Steps.{list_any_congr}
 use Rattle.md_history.specs.declared.acts.Act.{Act}
 use Rattle.md_history.specs.State.{State}
-use Rattle.md_history.specs.Counts.{Bounds, AllowAll, IsSmall, different_beside, different, same_key, looked, changed_key, asked_queue, changed_queue, dequeued, line_words, added, reads, writes, nodes, AreFew}
+use Rattle.md_history.specs.Counts.{Bounds, AllowAll, IsSmall, different_beside, different, same_key, changed_nothing, changed_key, asked_queue, changed_queue, dequeued, line_words, added, reads, writes, nodes, AreFew}
 
 -- counts of acts that pass a test add up
 pub count-append : {A : Type 0} (p : A → Bool) (xs ys : List A) → count_by p (xs ++ ys) ≡ count_by p xs + count_by p ys
@@ -91,8 +91,8 @@ module _ {A : Type 0} (eq : A → A → Bool) (named : Act → Option A) (xs ys 
   named-append laws = subst (λ zs. different eq zs ≤ different eq (filter_map named xs) + different eq (filter_map named ys)) (sym (filter_map-append named xs ys)) (different-append laws (filter_map named xs) (filter_map named ys) [])
 
 module _ (xs ys : List Act) where
-  looked-append : count_by (λ (a : Act). looked a.op a.reply) (xs ++ ys) ≡ count_by (λ (a : Act). looked a.op a.reply) xs + count_by (λ (a : Act). looked a.op a.reply) ys
-  looked-append = count-append (λ (a : Act). looked a.op a.reply) xs ys
+  changed_nothing-append : count_by (λ (a : Act). changed_nothing a.op a.reply) (xs ++ ys) ≡ count_by (λ (a : Act). changed_nothing a.op a.reply) xs + count_by (λ (a : Act). changed_nothing a.op a.reply) ys
+  changed_nothing-append = count-append (λ (a : Act). changed_nothing a.op a.reply) xs ys
 
   dequeued-append : count_by (λ (a : Act). dequeued a.op a.reply) (xs ++ ys) ≡ count_by (λ (a : Act). dequeued a.op a.reply) xs + count_by (λ (a : Act). dequeued a.op a.reply) ys
   dequeued-append = count-append (λ (a : Act). dequeued a.op a.reply) xs ys
@@ -106,20 +106,20 @@ module _ (xs ys : List Act) where
 
   -- both together read and write no more than the one and then the other
   pub reads-append : reads (xs ++ ys) ≤ reads xs + reads ys
-  reads-append = omega (arith, looked-append, dequeued-append, line_words-append, named-append nat_eq (λ (a : Act). asked_queue a.op a.reply) xs ys nat_eq_equiv)
+  reads-append = omega (arith, changed_nothing-append, dequeued-append, line_words-append, named-append nat_eq (λ (a : Act). asked_queue a.op a.reply) xs ys nat_eq_equiv)
 
   pub writes-append : writes (xs ++ ys) ≤ writes xs + writes ys
-  writes-append = omega (arith, looked-append, nodes-append, named-append same_key (λ (a : Act). changed_key a.op a.reply) xs ys same_key_equiv, named-append nat_eq (λ (a : Act). changed_queue a.op a.reply) xs ys nat_eq_equiv)
+  writes-append = omega (arith, changed_nothing-append, nodes-append, named-append same_key (λ (a : Act). changed_key a.op a.reply) xs ys same_key_equiv, named-append nat_eq (λ (a : Act). changed_queue a.op a.reply) xs ys nat_eq_equiv)
 
   -- acts that begin others count no more than all of them
   pub nodes-prefix : nodes xs ≤ nodes (xs ++ ys)
   nodes-prefix = omega (arith, nodes-append)
 
   pub reads-prefix : reads xs ≤ reads (xs ++ ys)
-  reads-prefix = omega (arith, looked-append, dequeued-append, line_words-append, named-prefix nat_eq (λ (a : Act). asked_queue a.op a.reply) xs ys)
+  reads-prefix = omega (arith, changed_nothing-append, dequeued-append, line_words-append, named-prefix nat_eq (λ (a : Act). asked_queue a.op a.reply) xs ys)
 
   pub writes-prefix : writes xs ≤ writes (xs ++ ys)
-  writes-prefix = omega (arith, looked-append, nodes-append, named-prefix same_key (λ (a : Act). changed_key a.op a.reply) xs ys, named-prefix nat_eq (λ (a : Act). changed_queue a.op a.reply) xs ys)
+  writes-prefix = omega (arith, changed_nothing-append, nodes-append, named-prefix same_key (λ (a : Act). changed_key a.op a.reply) xs ys, named-prefix nat_eq (λ (a : Act). changed_queue a.op a.reply) xs ys)
 
   pub few-prefix : (most : Bounds) → AreFew most (xs ++ ys) → AreFew most xs
   few-prefix most few = record { reads = omega (arith, few.reads, reads-prefix); writes = omega (arith, few.writes, writes-prefix); nodes = omega (arith, few.nodes, nodes-prefix) }

@@ -9,11 +9,11 @@ use Rattle.md_history.specs.declared.acts.Act.{Act}
 use Rattle.md_history.specs.State.{State, IsRight}
 
 -- an operation on a map that changed nothing
-abbrev pub looked : Op → Reply → Bool
-looked (Get m k) r = true
-looked (Insert m k v) (Flag false) = true
-looked (Remove m k) (Value None) = true
-looked op r = false
+abbrev pub changed_nothing : Op → Reply → Bool
+changed_nothing (Get m k) r = true
+changed_nothing (Insert m k v) (Flag false) = true
+changed_nothing (Remove m k) (Value None) = true
+changed_nothing op r = false
 
 -- the map and the key that an operation changed
 abbrev pub changed_key : Op → Reply → Option (ℕ × ℕ)
@@ -39,7 +39,7 @@ abbrev pub dequeued : Op → Reply → Bool
 dequeued (Dequeue q) (Value (Some v)) = true
 dequeued op r = false
 
--- how many words an operation looks at beside the head of its queue: one for each value of a line, and the last one's
+-- the words that a line reads at most, besides the two of any look at its queue: one for each value asked for, and one more
 abbrev pub line_words : Op → ℕ
 line_words (Line q n) = n + 1
 line_words op = 0
@@ -66,7 +66,7 @@ same_key a b = (a.0 == b.0) && (a.1 == b.1)
 -- for its first values two, and one more for each value that it gave away; and for each line of n values n + 1
 abbrev pub reads : List Act → ℕ
 reads acts =
-    count_by (λ a. looked a.op a.reply) acts
+    count_by (λ a. changed_nothing a.op a.reply) acts
     + 2 * different nat_eq (filter_map (λ a. asked_queue a.op a.reply) acts)
     + count_by (λ a. dequeued a.op a.reply) acts
     + sum_by (λ a. line_words a.op) acts
@@ -81,7 +81,7 @@ abbrev pub writes : List Act → ℕ
 writes acts =
     2 * different same_key (filter_map (λ a. changed_key a.op a.reply) acts)
     + 3 * different nat_eq (filter_map (λ a. changed_queue a.op a.reply) acts)
-    + count_by (λ a. looked a.op a.reply) acts
+    + count_by (λ a. changed_nothing a.op a.reply) acts
     + nodes acts
 
 -- how many words a transaction may read and write, and how many nodes it may take

@@ -5,47 +5,49 @@ ghost use Rattle.md_history.specs.Act.{act_of};
 use std::alloc::{AllocError, Global};
 use std::marker::Model;
 
-/// An operation on one map or one queue.
+/// An operation on one map or one queue. Maps and queues are numbered from 0; keys and values are any
+/// `u64`.
 #[derive(Clone, Copy, Debug, PartialEq, Eq)]
 pub enum Op {
-    /// Looks a key up.
+    /// Looks up a key.
     Get { map: u32, key: u64 },
-    /// Adds a key that is absent; it never replaces a value.
+    /// Adds a key with its value if the key is absent. It never replaces a value.
     Insert { map: u32, key: u64, value: u64 },
-    /// Takes a key out.
+    /// Removes a key with its value.
     Remove { map: u32, key: u64 },
     /// Appends a value.
     Enqueue { queue: u32, value: u64 },
-    /// Takes the first value out.
+    /// Removes the first value.
     Dequeue { queue: u32 },
     /// Looks at the first value.
     Front { queue: u32 },
-    /// Looks at the first `n` values.
+    /// Looks at the first `n` values; `n` is from 1 to [`MAX_LINE`].
     Line { queue: u32, n: u8 },
 }
 
-/// How many values of a queue one operation may look at.
+/// The most values that one `Line` looks at.
 pub const MAX_LINE: usize = 12;
 
-/// The first values of a queue, in order.
+/// The first values of a queue, in order. It is copied whole: 104 bytes.
 #[derive(Clone, Copy, Debug, PartialEq, Eq)]
 pub struct Line {
-    /// How many values there are, from 0 to 12.
+    /// How many values there are: at most the `n` of the operation, and fewer if the queue has fewer.
     pub count: u8,
-    /// The values, and 0 in each place past the last of them.
+    /// The values from the first on. Each place past `count` is 0.
     pub values: [u64; MAX_LINE],
 }
 
-/// What an operation answers.
+/// What an operation replies.
 #[derive(Clone, Copy, Debug, PartialEq, Eq)]
 pub enum Reply {
-    /// Of `Get`, `Remove`, `Dequeue` and `Front`: the value, if there is one.
+    /// Of `Get` and `Remove`: the value of the key; of `Dequeue` and `Front`: the first value. `None` if
+    /// there is none.
     Value(Option<u64>),
-    /// Of `Insert`: whether the key was absent.
+    /// Of `Insert`: whether the key was absent, so that it was added.
     Flag(bool),
     /// Of `Enqueue`.
     Nothing,
-    /// Of `Line`: the first `n` values, or all where there are fewer.
+    /// Of `Line`: the first `n` values, or all if there are fewer.
     Line(Line),
 }
 
@@ -72,7 +74,7 @@ impl Model for Acts {
 }
 
 impl Acts {
-    /// No acts. It takes no memory.
+    /// An empty list. It takes no memory until something is pushed.
     pub fn new(alloc: Global) -> Acts
         ensures { result ≡ [] }
     {
@@ -81,7 +83,7 @@ impl Acts {
         }
     }
 
-    /// Appends an act. A refusal changes nothing.
+    /// Appends an act. `AllocError` if memory runs out; then nothing changed.
     pub fn push(&mut self, op: Op, reply: Reply) -> Result<(), AllocError>
         ensures ok { OnOk result (self.new ≡ self.old ++ act_of op reply ∷ []) }
         ensures err { OnErr result (self.new ≡ self.old) }

@@ -10,16 +10,17 @@ use crate::stops::Stop;
 
 /// A transaction under way.
 ///
-/// On `Ok` a call adds one act, its own operation with its reply. On `Err` it adds none, and the
-/// transaction has a stop; from then on each call answers that stop again and does nothing.
+/// A call that returns `Ok` adds one act, its own operation with its reply. A call that returns `Err` adds
+/// none, and the transaction has stopped: from then on each call returns the same stop and does nothing.
+/// Each call needs its map or queue to exist.
 pub trait TxCalls {
     /// The acts so far.
     ghost acts: { Self → List Act };
 
-    /// The stop that was answered, if one was, with the operation that was refused first.
+    /// Why the transaction stopped, with the operation that was refused first; `None` while it goes on.
     ghost stop: { Self → Option Refusal };
 
-    /// What no call changes, the numbers of maps and queues among it.
+    /// What no call changes. The numbers of maps and queues are part of it.
     ghost Kept: { Type 0 };
 
     ghost kept: { Self → Kept };
@@ -28,21 +29,22 @@ pub trait TxCalls {
 
     ghost queues: { Kept → ℕ };
 
-    /// The value of a key, if it has one.
+    /// The value of a key, or `None` if the key is absent.
     fn get(&mut self, map: u32, key: u64) -> Result<Option<u64>, Stop>
         requires { map < maps (kept self.old) }
         ensures ok { IfOk result (λ v. Answered (Get map key) (Value v) (acts self.old) (acts self.new) (stop self.old) (stop self.new)) }
         ensures err { IfErr result (λ e. Refused (Get map key) e (acts self.old) (acts self.new) (stop self.old) (stop self.new)) }
         ensures kept { kept self.new ≡ kept self.old };
 
-    /// Adds a key that is absent, and answers whether it was. It never replaces a value.
+    /// Adds a key with its value if the key is absent, and returns whether it was. It never replaces a
+    /// value.
     fn insert(&mut self, map: u32, key: u64, value: u64) -> Result<bool, Stop>
         requires { map < maps (kept self.old) }
         ensures ok { IfOk result (λ b. Answered (Insert map key value) (Flag b) (acts self.old) (acts self.new) (stop self.old) (stop self.new)) }
         ensures err { IfErr result (λ e. Refused (Insert map key value) e (acts self.old) (acts self.new) (stop self.old) (stop self.new)) }
         ensures kept { kept self.new ≡ kept self.old };
 
-    /// Takes a key out, and answers the value that it had, if it had one.
+    /// Removes a key, and returns the value that it had, or `None` if the key was absent.
     fn remove(&mut self, map: u32, key: u64) -> Result<Option<u64>, Stop>
         requires { map < maps (kept self.old) }
         ensures ok { IfOk result (λ v. Answered (Remove map key) (Value v) (acts self.old) (acts self.new) (stop self.old) (stop self.new)) }
@@ -56,21 +58,21 @@ pub trait TxCalls {
         ensures err { IfErr result (λ e. Refused (Enqueue queue value) e (acts self.old) (acts self.new) (stop self.old) (stop self.new)) }
         ensures kept { kept self.new ≡ kept self.old };
 
-    /// Takes the first value out of a queue, if there is one.
+    /// Removes the first value of a queue, and returns it, or `None` if the queue is empty.
     fn dequeue(&mut self, queue: u32) -> Result<Option<u64>, Stop>
         requires { queue < queues (kept self.old) }
         ensures ok { IfOk result (λ v. Answered (Dequeue queue) (Value v) (acts self.old) (acts self.new) (stop self.old) (stop self.new)) }
         ensures err { IfErr result (λ e. Refused (Dequeue queue) e (acts self.old) (acts self.new) (stop self.old) (stop self.new)) }
         ensures kept { kept self.new ≡ kept self.old };
 
-    /// The first value of a queue, if there is one.
+    /// The first value of a queue, or `None` if the queue is empty.
     fn front(&mut self, queue: u32) -> Result<Option<u64>, Stop>
         requires { queue < queues (kept self.old) }
         ensures ok { IfOk result (λ v. Answered (Front queue) (Value v) (acts self.old) (acts self.new) (stop self.old) (stop self.new)) }
         ensures err { IfErr result (λ e. Refused (Front queue) e (acts self.old) (acts self.new) (stop self.old) (stop self.new)) }
         ensures kept { kept self.new ≡ kept self.old };
 
-    /// The first `n` values of a queue, or all where there are fewer. `n` is from 1 to 12.
+    /// The first `n` values of a queue, or all if there are fewer. `n` is from 1 to [`MAX_LINE`].
     fn line(&mut self, queue: u32, n: u8) -> Result<Line, Stop>
         requires queue { queue < queues (kept self.old) }
         requires n { IsLineLength n }

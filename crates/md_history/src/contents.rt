@@ -11,7 +11,10 @@ use std::alloc::{AllocError, Global};
 use std::collections::{BTreeMap, VecDeque};
 use std::marker::Model;
 
-/// Ordered maps and queues. Contracts see finite maps and lists.
+/// Ordered maps and queues, numbered from 0. Contracts see finite maps and lists.
+///
+/// A call on a map of n keys takes time in the order of log n, one on a queue constant time. Each call needs
+/// its map or queue to exist.
 #[derive(Drop)]
 pub struct Contents {
     maps: Vec<BTreeMap<u64, u64>>,
@@ -30,7 +33,7 @@ impl Model for Contents {
 }
 
 impl Contents {
-    /// So many maps and queues, with nothing in them.
+    /// So many maps and queues, with nothing in them. `AllocError` if memory runs out.
     pub fn empty(alloc: Global, maps: u32, queues: u32) -> Result<Contents, AllocError>
         ensures { IfOk result (λ c. c ≡ empty_state maps queues) }
     {
@@ -48,7 +51,8 @@ impl Contents {
         })
     }
 
-    /// Sets a key, and answers its old value. A refusal changes nothing.
+    /// Sets the value of a key, and returns its old value, or `None` if the key was absent. `AllocError` if
+    /// memory runs out; then nothing changed.
     pub fn put(&mut self, map: u32, key: u64, value: u64) -> Result<Option<u64>, AllocError>
         requires { map < length self.old.maps }
         ensures before { IfOk result (λ before. before ≡ fin.get (map_at self.old map) key) }
@@ -58,7 +62,7 @@ impl Contents {
         Ok(self.maps[map as usize].insert(key, value)?)
     }
 
-    /// Appends to a queue. A refusal changes nothing.
+    /// Appends a value to a queue. `AllocError` if memory runs out; then nothing changed.
     pub fn push(&mut self, queue: u32, value: u64) -> Result<(), AllocError>
         requires { queue < length self.old.queues }
         ensures ok { OnOk result (self.new ≡ with_queue self.old queue (queue_at self.old queue ++ value ∷ [])) }
@@ -68,7 +72,7 @@ impl Contents {
         Ok(())
     }
 
-    /// The map of a number.
+    /// The map with this number. It takes no memory.
     pub fn map(&self, map: u32) -> &BTreeMap<u64, u64>
         requires { map < length self.now.maps }
         ensures { table_of result.now ≡ map_at self.now map }
@@ -76,7 +80,7 @@ impl Contents {
         &self.maps[map as usize]
     }
 
-    /// The queue of a number.
+    /// The queue with this number, its first value first. It takes no memory.
     pub fn queue(&self, queue: u32) -> &VecDeque<u64>
         requires { queue < length self.now.queues }
         ensures { result.now.items ≡ queue_at self.now queue }
@@ -84,7 +88,7 @@ impl Contents {
         &self.queues[queue as usize]
     }
 
-    /// Removes a key, and answers its old value.
+    // Removes a key, and returns its old value.
     pub(crate) fn remove(&mut self, map: u32, key: u64) -> Option<u64>
         requires { map < length self.old.maps }
         ensures before { result ≡ fin.get (map_at self.old map) key }
@@ -93,7 +97,7 @@ impl Contents {
         self.maps[map as usize].remove(&key)
     }
 
-    /// Takes the first value of a queue.
+    // Removes the first value of a queue.
     pub(crate) fn pop(&mut self, queue: u32) -> Option<u64>
         requires { queue < length self.old.queues }
         ensures first { result ≡ slice_get (queue_at self.old queue) 0 }
@@ -102,7 +106,7 @@ impl Contents {
         self.queues[queue as usize].pop_front()
     }
 
-    /// The value of a key of a map, if it has one.
+    /// The value of a key of a map, or `None` if the key is absent. It takes no memory.
     pub fn get(&self, map: u32, key: u64) -> Option<u64>
         requires { map < length self.now.maps }
         ensures { result ≡ fin.get (map_at self.now map) key }
@@ -110,7 +114,7 @@ impl Contents {
         self.maps[map as usize].get(&key).copied()
     }
 
-    /// The first value of a queue.
+    // The first value of a queue.
     pub(crate) fn first(&self, queue: u32) -> Option<u64>
         requires { queue < length self.now.queues }
         ensures { result ≡ slice_get (queue_at self.now queue) 0 }
@@ -118,7 +122,7 @@ impl Contents {
         self.queues[queue as usize].front().copied()
     }
 
-    /// The first values of a queue, `n` of them or all where there are fewer.
+    // The first `n` values of a queue, or all if there are fewer.
     pub(crate) fn line(&self, queue: u32, n: u8) -> Line
         requires queue { queue < length self.now.queues }
         requires n { n ≤ MAX_LINE }
@@ -136,7 +140,7 @@ impl Contents {
         }
     }
 
-    /// Adds a key that is absent, and answers whether it was.
+    // Adds a key if it is absent, and returns whether it was.
     pub(crate) fn add(&mut self, map: u32, key: u64, value: u64) -> Result<bool, AllocError>
         requires { map < length self.old.maps }
         ensures absent { IfOk result (λ b. b ≡ is_none (fin.get (map_at self.old map) key)) }
@@ -150,7 +154,7 @@ impl Contents {
         Ok(true)
     }
 
-    /// No maps and no queues, on the same allocator.
+    // No maps and no queues, on the same allocator.
     pub(crate) fn none(&self) -> Contents {
         Contents {
             maps: Vec::new(*self.maps.allocator()),

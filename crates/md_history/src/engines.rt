@@ -13,11 +13,12 @@ use crate::fronts::Front;
 use crate::stops::{Attempt, Stop};
 use std::alloc::AllocError;
 
-/// A store that runs bodies as transactions. A caller uses it by a pass, which holds some of its lanes.
+/// A store that runs bodies as transactions. A caller uses it by a pass, which holds some of its lanes. A
+/// lane is one caller's share of the store: an attempt is made on one lane of the pass.
 ///
 /// The state of an engine is the replay of its committed entries from the state in which it starts.
 pub trait Engine: Sized + Sync + Drop {
-    /// A caller's leave to use the engine.
+    /// What lets a caller use the engine.
     type Pass: Send + Drop;
 
     /// What it contained when it was opened or renewed.
@@ -26,7 +27,7 @@ pub trait Engine: Sized + Sync + Drop {
     /// All its lanes, rising.
     ghost lanes: { Self → List ℕ };
 
-    /// What a transaction may read and write, what each lane has, and what a renewal has room for.
+    /// What a transaction may read and write, what each lane has, and for how much a renewal has room.
     ghost limits: { Self → Limits };
 
     /// What a pass holds and has seen.
@@ -38,11 +39,11 @@ pub trait Engine: Sized + Sync + Drop {
     /// The pass holds all lanes, and nothing joined the history since the engine was opened or renewed.
     ghost fresh: { Self → Self.Pass → Type 0 };
 
-    /// Which stops its attempts may answer.
+    /// The stops with which its attempts may end.
     ghost may_stop: { Self → Stop → Type 0 };
 
     /// Gives the last half of the lanes, rounded down, to a new pass, which has seen what the old one has.
-    /// `None` exactly where the pass holds one lane.
+    /// `None` exactly if the pass holds one lane. It takes no memory.
     fn split(&self, pass: &mut Self::Pass) -> Option<Self::Pass>
         requires { of self.now pass.old }
         ensures none { IsNone result ↔ (length (front pass.old).lanes ≡ 1) }
@@ -53,9 +54,9 @@ pub trait Engine: Sized + Sync + Drop {
 
     /// Runs a body once, as a transaction with a tag.
     ///
-    /// It takes effect whole, as the last entry of the history, or not at all. A pass that holds all lanes
-    /// meets no conflict. Where it is fresh, each lane has a try, and all that the body can do from the
-    /// engine's start is within the engine's limits, it meets no limit either.
+    /// It takes effect as a whole, as the last entry of the history, or not at all. A pass that holds all
+    /// lanes meets no conflict. If it is also fresh, each lane has a try, and all that the body can do from
+    /// the engine's start is within the engine's limits, then it meets no limit either.
     fn attempt<B: Body>(&self, pass: &mut Self::Pass, tag: u64, body: &B) -> Attempt<B::Reply>
         requires of { of self.now pass.old }
         requires fits { B.fits body.now (length (start self.now).maps) (length (start self.now).queues) }
@@ -67,15 +68,17 @@ pub trait Engine: Sized + Sync + Drop {
         ensures alone { (front pass.old).lanes ≡ lanes self.now → IfStopped result IsNoConflict }
         ensures small { fresh self.now pass.old → 1 ≤ (limits self.now).tries → IsSmall (bounds_in (limits self.now)) (B.makes body.now) (start self.now) → IfStopped result (λ s. s ≡ Stop.NoMemory) };
 
-    /// Takes the lanes of another pass, and what it has seen. Two passes of an engine share no lane.
+    /// Takes the lanes of another pass of the engine, and what it has seen. Two passes of an engine share no
+    /// lane. It takes no memory.
     fn join(&self, pass: &mut Self::Pass, other: Self::Pass)
         requires of { of self.now pass.old }
         requires of_other { of self.now other }
         ensures joined { AreApart (front pass.old).lanes (front other).lanes → Joins (front pass.old) (front other) (front pass.new) }
         ensures of { of self.now pass.new };
 
-    /// Ends the engine, and opens a new one on its contents, with all nodes and tries again. `AllocError`
-    /// ends the engine.
+    /// Ends the engine, and opens a new one on its contents, with all nodes and tries again. Returns the new
+    /// engine, its pass, and the front of the old pass with every fate decided. `AllocError` if memory runs
+    /// out; then the engine has ended, and its contents are lost.
     fn renew(self, pass: Self::Pass) -> Result<(Self, Self::Pass, Front<Self::Pass>), AllocError>
         requires of { of self pass }
         requires all { (front pass).lanes ≡ lanes self }
@@ -89,8 +92,8 @@ pub trait Engine: Sized + Sync + Drop {
         ensures fresh { IfOk result (λ r. fresh r.0 r.1) }
         ensures numbers { IfOk result (λ r. HaveSameNumbers (start r.0) (start self)) };
 
-    /// Ends the engine, and answers its contents and the front of its last pass. `AllocError` ends the
-    /// engine too.
+    /// Ends the engine, and returns its contents and the front of its last pass with every fate decided.
+    /// `AllocError` if memory runs out; then the engine has ended, and its contents are lost.
     fn contents(self, pass: Self::Pass) -> Result<(Contents, Front<Self::Pass>), AllocError>
         requires of { of self pass }
         requires all { (front pass).lanes ≡ lanes self }
@@ -105,13 +108,14 @@ pub trait Engine: Sized + Sync + Drop {
     ghost fresh_is: { (e : Self) (p : Self.Pass) → of e p → fresh e p → front p ≡ empty_front (lanes e) };
 }
 
-/// What the engine's law says of one of its passes, for a proof to use. There is nothing to run.
+/// Lends the engine's law on its passes to a proof. It does nothing when it runs.
 pub fn pass_is_legal<E: Engine>(engine: &E, pass: &E::Pass)
     requires { E.of engine.now pass.now }
     ensures { IsFrontFrom (E.start engine.now) (E.lanes engine.now) (E.front pass.now) }
 {}
 
-/// A fresh pass has seen nothing, and holds all lanes. There is nothing to run.
+/// Lends the engine's law on fresh passes to a proof: such a pass has seen nothing, and holds all lanes. It
+/// does nothing when it runs.
 pub fn fresh_is_empty<E: Engine>(engine: &E, pass: &E::Pass)
     requires of { E.of engine.now pass.now }
     requires fresh { E.fresh engine.now pass.now }

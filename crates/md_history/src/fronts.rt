@@ -4,7 +4,7 @@ ghost use Rattle.std.specs.Prelude.{◌≡◌};
 use std::marker::Model;
 use std::snapshot::Snapshot;
 
-/// A pass as it stood. It has no bytes; contracts see the pass that it keeps.
+/// A pass as it stood. It has no bytes when the program runs; contracts see the pass that it keeps.
 #[derive(Drop)]
 pub struct Front<P> {
     kept: Snapshot<P>,

@@ -36,7 +36,7 @@ impl Model for PlainPass {
 }
 
 impl PlainPass {
-    /// The entries of the history, in order. Each is committed.
+    /// The entries of the history, in order. Each is committed. It takes no memory.
     pub fn entries(&self) -> &[Entry]
         ensures { result.now ≡ (front_of self.now).seen }
     {
@@ -46,9 +46,12 @@ impl PlainPass {
 
 /// A store for one thread. Contracts see the state that it began with.
 ///
-/// It never answers a conflict or a limit. It doesn't undo: once memory was wanting, each attempt
-/// answers `NoMemory` again, and the contents are lost. A store has nothing of its own but the state that
-/// it began with, so a pass of another store that began with equal contents counts as one of its passes.
+/// Its attempts never stop for a conflict or a limit. They don't undo: once one ran out of memory, each
+/// later one stops with `NoMemory` too, and the contents are lost. An attempt costs what its body's calls
+/// cost on `Contents`, and keeps its acts in the history.
+///
+/// A store has nothing of its own but the state that it began with. So a pass of another store that began
+/// with equal contents counts as one of its passes.
 #[derive(Drop)]
 pub struct PlainStore {
     start: Snapshot<Contents>,
@@ -83,7 +86,7 @@ pub(crate) fn begin(pass: &mut PlainPass) -> PlainTx
 }
 
 impl PlainStore {
-    /// Opens a store on contents. It takes no memory. The pass is fresh.
+    /// Opens a store on contents, with its one pass, which is fresh. It takes no memory.
     pub fn open(start: Contents) -> (PlainStore, PlainPass)
         ensures store { result.0 ≡ start }
         ensures pass { result.1 ≡ record { start = start; entries = []; broken = false } }

@@ -16,8 +16,9 @@ use crate::plain_tx::PlainTx;
 use crate::stops::{Attempt, Stop};
 use std::alloc::AllocError;
 
-/// Want of memory is the one stop of an attempt, and it stays: from then on each attempt answers it, and
-/// `renew` and `contents` answer `AllocError`. They do so in no other case.
+/// An attempt stops only when it runs out of memory, and from then on each attempt stops with `NoMemory`, and
+/// `renew` and `contents` return `AllocError`. They do so in no other case. `split` and `join` do nothing: the
+/// pass holds the one lane.
 impl Engine for PlainStore {
     ghost use Rattle.std.specs.Prelude.{[], ◌∷◌};
     ghost use Rattle.std.proofs.Common.{ap, ◌∙◌};

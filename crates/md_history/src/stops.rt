@@ -1,17 +1,20 @@
 // How an attempt at a transaction ends.
 
-/// A word that held one content and then another.
+/// A word of a store that held one content and then another, which differs.
 #[derive(Clone, Copy, Debug, PartialEq, Eq)]
 pub struct Shown {
+    /// The word's number.
     pub word: u32,
+    /// What it held first.
     pub was: u64,
+    /// What it held later.
     pub now: u64,
 }
 
 /// A limit of the store that an attempt met.
 #[derive(Clone, Copy, Debug, PartialEq, Eq)]
 pub enum Limit {
-    /// It would have recorded more words than a transaction may.
+    /// It would have read more words than a transaction may.
     Reads,
     /// It would have written more words than a transaction may.
     Writes,
@@ -19,18 +22,18 @@ pub enum Limit {
     Nodes,
     /// Its pass has no attempt left.
     Tries,
-    /// A word's count has come so far that no new transaction changes the word.
+    /// A word was changed so often that no new transaction may change it.
     Worn { word: u32, count: u32 },
 }
 
 /// Why an attempt stopped.
 #[derive(Clone, Copy, Debug, PartialEq, Eq)]
 pub enum Stop {
-    /// Another transaction came between, as the word shows.
+    /// Another transaction came between; a word shows it.
     Conflict(Shown),
     /// A limit was met.
     Limit(Limit),
-    /// Memory was wanting.
+    /// The store ran out of memory.
     NoMemory,
 }
 
@@ -39,6 +42,6 @@ pub enum Stop {
 pub enum Attempt<R> {
     /// It took effect whole, and its body replied.
     Committed(R),
-    /// It had no effect.
+    /// It had no effect, for this reason.
     Stopped(Stop),
 }

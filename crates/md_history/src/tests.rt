@@ -16,6 +16,39 @@ fn contents_take_values(rt: HostRuntime) -> Result<(), Fail> {
     Ok(())
 }
 
+// What a line has of a queue with the values from 1 on: how many there are, how many are asked for, and how
+// many the line has.
+#[test]
+fn lines_are_the_first_values(rt: HostRuntime) -> Result<(), Fail> {
+    let table = [
+        (0, 1, 0),
+        (0, 12, 0),
+        (1, 1, 1),
+        (1, 12, 1),
+        (2, 1, 1),
+        (11, 12, 11),
+        (12, 12, 12),
+        (13, 12, 12),
+        (13, 2, 2),
+    ];
+    let all = [1, 2, 3, 4, 5, 6, 7, 8, 9, 10, 11, 12];
+    for (there, n, count) in table {
+        let mut contents = Contents::empty(rt.alloc(), 0, 1)?;
+        for before in 0..there {
+            contents.push(0, before + 1)?;
+        }
+        assert_eq!(rt; contents.queue(0).len() as u64, there);
+        assert!(rt; 1 <= n && n <= 12);
+        let line = contents.line(0, n);
+        assert_eq!(rt; line.count, count);
+        for (at, value) in line.values.iter().enumerate() {
+            let want = if at < count as usize { all[at] } else { 0 };
+            assert_eq!(rt; *value, want, "place {at} of {n} of {there}");
+        }
+    }
+    Ok(())
+}
+
 // A body that makes each call once, on one map and one queue, and answers what it dequeued.
 #[derive(Clone, Copy, Drop)]
 struct EachCall {
@@ -137,6 +170,20 @@ fn lines_are_looked_at(rt: HostRuntime) -> Result<(), Fail> {
     };
     let all = Line { count: 2, values };
     assert_eq!(rt; lines, Attempt::Committed((one, all)));
+    Ok(())
+}
+
+#[test]
+fn a_renewed_store_goes_on(rt: HostRuntime) -> Result<(), Fail> {
+    let (store, mut pass) = PlainStore::open(Contents::empty(rt.alloc(), 0, 1)?);
+    assert!(rt; store.split(&mut pass).is_none());
+    store.attempt(&mut pass, 1, &TwoLines);
+    let (store, mut pass, _front) = store.renew(pass)?;
+    assert_eq!(rt; pass.entries().len(), 0);
+    store.attempt(&mut pass, 2, &TwoLines);
+    assert_eq!(rt; pass.entries().len(), 1);
+    let (contents, _front) = store.contents(pass)?;
+    assert_eq!(rt; contents.queue(0).len(), 4);
     Ok(())
 }
 
