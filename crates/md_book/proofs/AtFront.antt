@@ -8,8 +8,9 @@ use Rattle.md_history.specs.Script.{Script, done, bind}
 use Rattle.md_book.specs.declared.commands.Side.{Side}
 use Rattle.md_book.specs.declared.fronts.Look.{Look}
 use Rattle.md_book.specs.declared.fronts.Look.TheVariants.{Live}
+use Rattle.md_book.specs.declared.maps.TheConstants.{LEVELS}
+use Rattle.md_book.specs.declared.limits.TheConstants.{MAX_QUANTITY}
 use Rattle.md_book.specs.Book.{Order, Trade, Book, IsAccount, IsPrice, level_of, lessen, front_order, pass, trade, traded}
-use Rattle.md_book.specs.Stands.{levels}
 use Rattle.md_book.specs.Scripts.{value_or_0, raise}
 use Rattle.md_book.specs.Filling.{resting_sums}
 use Rattle.md_book.proofs.Plays.{played, outcome, made, ends-bind}
@@ -39,7 +40,7 @@ then_raise side o taken account = bind (raise (resting_sums side) account taken)
 abbrev pub taking : Side → ℕ → Order → ℕ → Bool → ℕ → Script Look
 taking side level o taken emptied account = bind (take_out level o taken emptied) (λ _. then_raise side o taken account)
 
-module _ (side : Side) (price : ℕ) (priced : IsPrice price) (taker : ℕ) (taker_in_range : IsAccount taker) {s : State} {b : Book} {depths takers : ℕ → ℕ} (r : Reflects s b side depths takers) (below : level_of side price < levels) where
+module _ (side : Side) (price : ℕ) (priced : IsPrice price) (taker : ℕ) (taker_in_range : IsAccount taker) {s : State} {b : Book} {depths takers : ℕ → ℕ} (r : Reflects s b side depths takers) (below : level_of side price < LEVELS) where
   abbrev level : ℕ
   level = level_of side price
 
@@ -74,7 +75,7 @@ module _ (side : Side) (price : ℕ) (priced : IsPrice price) (taker : ℕ) (tak
         abbrev now : Book
         now = out emptied
 
-        total : sum_by (λ p. p.left) now.orders + taken + sum_by (λ x. x.taken) now.trades ≤ 1000000 * length now.orders
+        total : sum_by (λ p. p.left) now.orders + taken + sum_by (λ x. x.taken) now.trades ≤ MAX_QUANTITY * length now.orders
         total = omega (
           arith,
           r.sound.total,

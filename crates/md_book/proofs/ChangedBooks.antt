@@ -8,6 +8,7 @@ use Rattle.std.proofs.lemmas.List.{length-map, take-map}
 use Rattle.std.proofs.lemmas.List.Elements.{All-same, All-map, All-push, All-weaker, All-more}
 use Rattle.std.proofs.lemmas.List.Sums.{sum_by_push, sum_by-cons}
 use Rattle.std.proofs.lemmas.Option.{slice_get-map, slice_get_within, get_or_from_slice_get}
+use Rattle.md_book.specs.declared.limits.TheConstants.{MAX_QUANTITY}
 use Rattle.md_book.specs.Book.{Order, Trade, Book, IsAccount, level_of, orders_at, depth, lessen, lessened, front_order, pass}
 use Rattle.md_book.specs.Stands.{packed, open_order, IsInRange, IsSound}
 use Rattle.md_book.proofs.OpenOrders.{find-own}
@@ -116,7 +117,7 @@ abbrev pub with_trade : Book → Trade → Book
 with_trade b t = record b { trades = b.trades ++ t ∷ [] }
 
 pub sound-with_trade : (b : Book) (t : Trade) → IsSound b → IsAccount t.resting → IsAccount t.taker
-    → sum_by (λ o. o.left) b.orders + t.taken + sum_by (λ x. x.taken) b.trades ≤ 1000000 * length b.orders → IsSound (with_trade b t)
+    → sum_by (λ o. o.left) b.orders + t.taken + sum_by (λ x. x.taken) b.trades ≤ MAX_QUANTITY * length b.orders → IsSound (with_trade b t)
 sound-with_trade b t sound resting taker room = record {
   distinct = sound.distinct;
   few = sound.few;

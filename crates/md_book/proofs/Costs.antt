@@ -4,12 +4,14 @@ use Rattle.std.specs.List.{AllByRecursion, filter_map, count_by, sum_by}
 use Rattle.std.proofs.lemmas.Bool.{eq-eqb}
 use Rattle.std.proofs.lemmas.List.Elements.{filter_map-append}
 use Rattle.md_history.specs.declared.acts.Act.{Act}
-use Rattle.md_history.specs.declared.acts.Op.TheVariants.{Get, Insert, Remove, Enqueue, Dequeue, Front}
-use Rattle.md_history.specs.declared.acts.Reply.TheVariants.{Value, Flag, Nothing}
+use Rattle.md_history.specs.declared.acts.Line.{Line as Values}
+use Rattle.md_history.specs.declared.acts.Op.TheVariants.{Get, Insert, Remove, Enqueue, Dequeue, Front, Line}
+use Rattle.md_history.specs.declared.acts.Reply.TheVariants.{Value, Flag, Nothing, Line as TheLine}
 use Rattle.md_history.specs.Act.{act_of}
-use Rattle.md_history.specs.Counts.{different_beside, different, same_key, changed_nothing, changed_key, asked_queue, changed_queue, dequeued, line_words, reads, writes, nodes}
-use Rattle.md_book.specs.Meets.{AreFew}
+use Rattle.md_history.specs.Counts.{different_beside, different, same_key, changed_nothing, changed_key, asked_queue, changed_queue, dequeued, line_words, reads, writes, nodes, AreFew}
 use Rattle.md_history.specs.CountLaws.{count-append, different-append, same_key_equiv, nodes-append, line_words-append}
+use Rattle.md_book.specs.declared.limits.TheConstants.{COMMAND_READS, COMMAND_WRITES, COMMAND_NODES}
+use Rattle.md_book.specs.Meets.{command_bounds}
 
 abbrev keys : List Act → ℕ
 keys acts = different same_key (filter_map (λ a. changed_key a.op a.reply) acts)
@@ -55,7 +57,7 @@ module _ {level : ℕ} {acts : List Act} {read write take : ℕ} (costs : Costs 
   pub writes-cost : writes acts ≤ write + 3
   writes-cost = omega (arith, costs.write_few, one_queue level _ costs.changed)
 
-  pub few-cost : read ≤ 14 → write ≤ 41 → take ≤ 12 → AreFew acts
+  pub few-cost : read + 2 ≤ COMMAND_READS → write + 3 ≤ COMMAND_WRITES → take ≤ COMMAND_NODES → AreFew command_bounds acts
   few-cost r w n = record { reads = omega (arith, reads-cost); writes = omega (arith, writes-cost); nodes = omega (arith, costs.take_few) }
 
   pub costs-more : (read' write' take' : ℕ) → read ≤ read' → write ≤ write' → take ≤ take' → Costs level acts read' write' take'
@@ -92,6 +94,9 @@ module _ (level : ℕ) where
 
   pub costs-front : (o : Option ℕ) → Costs level (act_of (Front level) (Value o) ∷ []) 0 0 0
   costs-front o = record { read_few = omega arith; write_few = omega arith; take_few = omega arith; asked = (refl, tt); changed = tt }
+
+  pub costs-line : (n : ℕ) (l : Values) → Costs level (act_of (Line level n) (TheLine l) ∷ []) (n + 1) 0 0
+  costs-line n l = record { read_few = omega arith; write_few = omega arith; take_few = omega arith; asked = (refl, tt); changed = tt }
 
   pub costs-dequeue : (v : ℕ) → Costs level (act_of (Dequeue level) (Value (Some v)) ∷ []) 1 0 0
   costs-dequeue v = record { read_few = omega arith; write_few = omega arith; take_few = omega arith; asked = (refl, tt); changed = (refl, tt) }

@@ -7,19 +7,21 @@ use Rattle.std.proofs.lemmas.List.Elements.{All-nil, All-head, All-tail, All-pus
 use Rattle.std.proofs.lemmas.List.Sums.{sum_by-cons}
 use Rattle.md_book.specs.declared.commands.Side.{Side}
 use Rattle.md_book.specs.declared.commands.Command.{Command}
-use Rattle.md_book.specs.declared.commands.Command.TheVariants.{Place, Cancel, Fill, Depth, Account}
+use Rattle.md_book.specs.declared.commands.Command.TheVariants.{Place, Cancel, Fill, Kill, Depth, Account}
 use Rattle.md_book.specs.declared.commands.BookReply.{BookReply}
-use Rattle.md_book.specs.Book.{Order, Trade, Book, IsAccount, IsPrice, empty_book, level_of, find_open, look, cancel_step, book_step, book_after, replies_to}
+use Rattle.md_book.specs.Book.{Order, Trade, Book, IsAccount, IsPrice, empty_book, level_of, find_open, look, cancel_step, fill_step, book_step, book_after, replies_to}
 use Rattle.md_book.specs.Commands.{IsCommand}
 use Rattle.md_book.specs.Trading.{names_placed, IsDay}
 use Rattle.md_book.proofs.Lessened.{lessened-map, lessened-All}
+use Rattle.md_book.proofs.Kills.{kill-either}
 use Rattle.md_book.proofs.LookSums.{look-map, look-All, look-accounts}
 
 -- what is known of the name, side, price and account of an order that is placed
 abbrev pub PlaceKnows : (ℕ → Side → ℕ → ℕ → Type 0) → Command → Type 0
 PlaceKnows K (Place name account side price quantity) = K name side price account
 PlaceKnows K (Cancel name) = Unit {0}
-PlaceKnows K (Fill account side price quantity) = Unit {0}
+PlaceKnows K (Fill account side price quantity places) = Unit {0}
+PlaceKnows K (Kill account side price quantity places) = Unit {0}
 PlaceKnows K (Depth side price) = Unit {0}
 PlaceKnows K (Account account) = Unit {0}
 
@@ -69,8 +71,8 @@ module _ (K : ℕ → Side → ℕ → ℕ → Type 0) where
       record {
         distinct = subst (IsDistinct nat_eq) (sym names) is.distinct;
         lawful = All-tail IsCommand c cs is.lawful;
-        priced = All-push (λ (p : Order). IsPrice p.price) b.orders o is.priced lawful.priced;
-        accounts = All-push (λ (p : Order). IsAccount p.account) b.orders o is.accounts lawful.in_range;
+        priced = All-push (λ (p : Order). IsPrice p.price) b.orders o is.priced lawful.offer.priced;
+        accounts = All-push (λ (p : Order). IsAccount p.account) b.orders o is.accounts lawful.offer.in_range;
         trades = is.trades;
         known = All-push (λ (p : Order). K p.name p.side p.price p.account) b.orders o is.known (All-head (PlaceKnows K) c cs is.knows);
         knows = All-tail (PlaceKnows K) c cs is.knows;
@@ -97,15 +99,24 @@ module _ (K : ℕ → Side → ℕ → ℕ → Type 0) where
   cancel-open b name (Some o) cs is =
       less-open b (cancel_step b (Some o)).book (Cancel name) cs refl (lessened-map o.name o.left (λ p. p.name) (λ _ _. refl) b.orders) (λ P less. lessened-All o.name o.left P less b.orders) is.trades is
 
+  -- where an account takes from places, the orders only have less left
+  look-open : (b : Book) (account level quantity places : ℕ) (c : Command) (cs : List Command) → names_placed (c ∷ cs) ≡ names_placed cs → IsAccount account
+      → IsOpen K b (c ∷ cs) → IsOpen K (fill_step b account level quantity places).book cs
+  look-open b account level quantity places c cs none takes is =
+      less-open b (look level account places b quantity).book c cs none (look-map level account (λ o. o.name) (λ _ _. refl) places b quantity) (λ P less. look-All level account P less places b quantity)
+      (look-accounts level account takes places b quantity (recursion_from_All (λ (o : Order). IsAccount o.account) b.orders is.accounts) is.trades) is
+
   -- after each command the day goes on
   pub step-open : (b : Book) (c : Command) (cs : List Command) → IsOpen K b (c ∷ cs) → IsOpen K (book_step b c).book cs
   step-open b (Place name account side price quantity) cs is = place-open b name account side price quantity cs is
   step-open b (Cancel name) cs is = cancel-open b name (find_open b name) cs is
-  step-open b (Fill account side price quantity) cs is =
-      let level = level_of side price in
-      let lawful = All-head IsCommand (Fill account side price quantity) cs is.lawful in
-      less-open b (look level account 4 b quantity).book (Fill account side price quantity) cs refl (look-map level account (λ o. o.name) (λ _ _. refl) 4 b quantity) (λ P less. look-All level account P less 4 b quantity)
-      (look-accounts level account lawful.in_range 4 b quantity (recursion_from_All (λ (o : Order). IsAccount o.account) b.orders is.accounts) is.trades) is
+  step-open b (Fill account side price quantity places) cs is =
+      let c = Fill account side price quantity places in
+      look-open b account (level_of side price) quantity places c cs refl (All-head IsCommand c cs is.lawful).offer.in_range is
+  step-open b (Kill account side price quantity places) cs is =
+      let c = Kill account side price quantity places in
+      kill-either b account (level_of side price) quantity places (λ step. IsOpen K step.book cs)
+      (look-open b account (level_of side price) quantity places c cs refl (All-head IsCommand c cs is.lawful).offer.in_range is) (less-open b b c cs refl refl (λ P less all. all) is.trades is)
   step-open b (Depth side price) cs is = less-open b b (Depth side price) cs refl refl (λ P less all. all) is.trades is
   step-open b (Account account) cs is = less-open b b (Account account) cs refl refl (λ P less all. all) is.trades is
 

@@ -7,11 +7,12 @@ use Rattle.std.proofs.lemmas.List.Sums.{sum_by-cons, sum_by_push}
 use Rattle.md_book.specs.declared.commands.Side.{Side}
 use Rattle.md_book.specs.declared.commands.Side.TheVariants.{Buy, Sell}
 use Rattle.md_book.specs.declared.commands.Command.{Command}
-use Rattle.md_book.specs.declared.commands.Command.TheVariants.{Place, Cancel, Fill, Depth, Account}
+use Rattle.md_book.specs.declared.commands.Command.TheVariants.{Place, Cancel, Fill, Kill, Depth, Account}
 use Rattle.md_book.specs.declared.commands.Part.{Part}
-use Rattle.md_book.specs.Book.{Order, Trade, Book, IsPrice, empty_book, level_of, buyer, seller, find_open, lessened, look, cancel_step, book_step}
+use Rattle.md_book.specs.Book.{Order, Trade, Book, IsPrice, empty_book, level_of, buyer, seller, find_open, lessened, look, cancel_step, book_step, fill_step}
 use Rattle.md_book.specs.Commands.{IsCommand}
-use Rattle.md_book.specs.Trading.{IsDay, answered, closing, is_placed_for, is_side, dealt, EachAccountAddsUp}
+use Rattle.md_book.specs.Trading.{IsDay, answered, closing, is_placed_for, is_side, dealt, EachAccountAddsUp, told_share}
+use Rattle.md_book.proofs.Kills.{kill-either}
 use Rattle.md_book.proofs.Sums.{sum_by-equal, sum_by-nothing}
 use Rattle.md_book.proofs.Lessened.{All-has, lessened-All}
 use Rattle.md_book.proofs.Looks.{look-relates}
@@ -91,17 +92,24 @@ module _ (side : Side) (of : ℕ → Bool) (account : ℕ) where
         omega (arith, after, ap (sum_by f) (traded-trades b level o taker taken), sum_by_push f b.trades now, trade-share at taker taken o (same-side o.side at o.price price own.0 priced has.1) own.1, share-cons at taker (record { name = o.name; taken = taken }) l.parts);
   })
 
-  cancel-deals : (b : Book) (name : ℕ) (found : Option Order) → dealt_in side account (cancel_step b found).book + 0 ≡ dealt_in side account b + dealt side of account (Cancel name, (cancel_step b found).reply)
-  cancel-deals b name None = refl
-  cancel-deals b name (Some o) = refl
+  cancel-deals : (b : Book) (found : Option Order) → dealt_in side account (cancel_step b found).book + 0 ≡ dealt_in side account b + 0
+  cancel-deals b None = refl
+  cancel-deals b (Some o) = refl
+
+  fill-deals : (b : Book) (taker : ℕ) (at : Side) (price quantity places : ℕ) → IsPrice price → AllByRecursion Knows b.orders
+      → let step = fill_step b taker (level_of at price) quantity places in dealt_in side account step.book + 0 ≡ dealt_in side account b + told_share side of account at taker step.reply
+  fill-deals b taker at price quantity places priced knows =
+      let l = look (level_of at price) taker places b quantity in
+      let all = sum-padded (λ (p : Part). cond (of p.name) p.taken 0) (none_of (of 0)) l.parts in
+      omega (arith, look-deals at price taker priced places b quantity knows, ap (λ n. cond (is_side side at) n (cond (taker == account) (sum_by (λ (p : Part). p.taken) l.parts) 0)) all)
 
   step-deals : (b : Book) (c : Command) → IsCommand c → AllByRecursion Knows b.orders → dealt_in side account (book_step b c).book + 0 ≡ dealt_in side account b + dealt side of account (c, (book_step b c).reply)
   step-deals b (Place name own at price quantity) is knows = refl
-  step-deals b (Cancel name) is knows = cancel-deals b name (find_open b name)
-  step-deals b (Fill taker at price quantity) is knows =
-      let l = look (level_of at price) taker 4 b quantity in
-      let all = sum-padded (λ (p : Part). cond (of p.name) p.taken 0) (none_of (of 0)) l.parts in
-      omega (arith, look-deals at price taker is.priced 4 b quantity knows, ap (λ n. cond (is_side side at) n (cond (taker == account) (sum_by (λ (p : Part). p.taken) l.parts) 0)) all)
+  step-deals b (Cancel name) is knows = cancel-deals b (find_open b name)
+  step-deals b (Fill taker at price quantity places) is knows = fill-deals b taker at price quantity places is.offer.priced knows
+  step-deals b (Kill taker at price quantity places) is knows =
+      kill-either b taker (level_of at price) quantity places (λ step. dealt_in side account step.book + 0 ≡ dealt_in side account b + told_share side of account at taker step.reply)
+      (fill-deals b taker at price quantity places is.offer.priced knows) (omega (arith, share-none at taker))
   step-deals b (Depth at price) is knows = refl
   step-deals b (Account own) is knows = refl
 

@@ -7,7 +7,7 @@ use Rattle.std.proofs.lemmas.List.Sums.{sum_by-cons}
 use Rattle.std.proofs.lemmas.Map.Keys.{IsDistinct-head, IsDistinct-tail}
 use Rattle.md_book.specs.declared.commands.Side.{Side}
 use Rattle.md_book.specs.declared.commands.Command.{Command}
-use Rattle.md_book.specs.declared.commands.Command.TheVariants.{Place, Cancel, Fill, Depth, Account}
+use Rattle.md_book.specs.declared.commands.Command.TheVariants.{Place, Cancel, Fill, Kill, Depth, Account}
 use Rattle.md_book.specs.declared.commands.BookReply.{BookReply}
 use Rattle.md_book.specs.Book.{Book, empty_book, book_step, replies_to}
 use Rattle.md_book.specs.Trading.{names_placed, placed, EachOrderAddsUp}
@@ -32,7 +32,8 @@ module _ (name account : ℕ) (side : Side) (price quantity : ℕ) where
   all-placed P (c ∷ cs) all (inl same) = (subst (λ ds. AllByRecursion P (names_placed ds)) (ap (λ d. d ∷ cs) same) all).0
   all-placed P (Place n a s p q ∷ cs) all (inr there) = all-placed P cs all.1 there
   all-placed P (Cancel n ∷ cs) all (inr there) = all-placed P cs all there
-  all-placed P (Fill a s p q ∷ cs) all (inr there) = all-placed P cs all there
+  all-placed P (Fill a s p q n ∷ cs) all (inr there) = all-placed P cs all there
+  all-placed P (Kill a s p q n ∷ cs) all (inr there) = all-placed P cs all there
   all-placed P (Depth s p ∷ cs) all (inr there) = all-placed P cs all there
   all-placed P (Account a ∷ cs) all (inr there) = all-placed P cs all there
 
@@ -47,7 +48,8 @@ module _ (name account : ℕ) (side : Side) (price quantity : ℕ) where
   placed-none [] b apart = refl
   placed-none (Place n a s p q ∷ cs) b apart = omega (arith, told-cons (Place n a s p q) cs b, placed-other n q apart.0, placed-none cs (book_step b (Place n a s p q)).book apart.1)
   placed-none (Cancel n ∷ cs) b apart = omega (arith, told-cons (Cancel n) cs b, placed-none cs (book_step b (Cancel n)).book apart)
-  placed-none (Fill a s p q ∷ cs) b apart = omega (arith, told-cons (Fill a s p q) cs b, placed-none cs (book_step b (Fill a s p q)).book apart)
+  placed-none (Fill a s p q n ∷ cs) b apart = omega (arith, told-cons (Fill a s p q n) cs b, placed-none cs (book_step b (Fill a s p q n)).book apart)
+  placed-none (Kill a s p q n ∷ cs) b apart = omega (arith, told-cons (Kill a s p q n) cs b, placed-none cs (book_step b (Kill a s p q n)).book apart)
   placed-none (Depth s p ∷ cs) b apart = omega (arith, told-cons (Depth s p) cs b, placed-none cs (book_step b (Depth s p)).book apart)
   placed-none (Account a ∷ cs) b apart = omega (arith, told-cons (Account a) cs b, placed-none cs (book_step b (Account a)).book apart)
 
@@ -67,7 +69,8 @@ module _ (name account : ℕ) (side : Side) (price quantity : ℕ) where
       let apart = all-placed (λ m. nat_eq n m ≡ false) cs (IsDistinct-head nat_eq n (names_placed cs) distinct) there in
       omega (arith, told-cons (Place n a s p q) cs b, placed-other n q apart, placed-once cs (book_step b (Place n a s p q)).book (IsDistinct-tail nat_eq n (names_placed cs) distinct) there)
   placed-once (Cancel n ∷ cs) b distinct (inr there) = omega (arith, told-cons (Cancel n) cs b, placed-once cs (book_step b (Cancel n)).book distinct there)
-  placed-once (Fill a s p q ∷ cs) b distinct (inr there) = omega (arith, told-cons (Fill a s p q) cs b, placed-once cs (book_step b (Fill a s p q)).book distinct there)
+  placed-once (Fill a s p q n ∷ cs) b distinct (inr there) = omega (arith, told-cons (Fill a s p q n) cs b, placed-once cs (book_step b (Fill a s p q n)).book distinct there)
+  placed-once (Kill a s p q n ∷ cs) b distinct (inr there) = omega (arith, told-cons (Kill a s p q n) cs b, placed-once cs (book_step b (Kill a s p q n)).book distinct there)
   placed-once (Depth s p ∷ cs) b distinct (inr there) = omega (arith, told-cons (Depth s p) cs b, placed-once cs (book_step b (Depth s p)).book distinct there)
   placed-once (Account a ∷ cs) b distinct (inr there) = omega (arith, told-cons (Account a) cs b, placed-once cs (book_step b (Account a)).book distinct there)
 

@@ -6,8 +6,9 @@ use Rattle.std.specs.FinMap as fin
 use Rattle.std.proofs.lemmas.List.{get_or-replicate}
 use Rattle.std.proofs.lemmas.List.Elements.{All-nil}
 use Rattle.md_history.specs.State.{empty_state}
+use Rattle.md_book.specs.declared.maps.TheConstants.{LEVELS, MAPS}
 use Rattle.md_book.specs.Book.{IsAccount, Trade, empty_book}
-use Rattle.md_book.specs.Stands.{maps_of_a_book, levels, StandsFor, IsSound, IsInRange}
+use Rattle.md_book.specs.Stands.{StandsFor, IsSound, IsInRange}
 
 none_distinct : IsDistinct nat_eq []
 unfolding IsDistinct
@@ -24,14 +25,15 @@ empty-sound = record {
   total = omega arith;
 }
 
-pub empty-stands : StandsFor (empty_state maps_of_a_book levels) empty_book
+pub empty-stands : StandsFor (empty_state MAPS LEVELS) empty_book
 empty-stands = record {
-  maps = refl;
-  queues = refl;
-  sound = empty-sound;
-  orders = λ name. fin.get-empty nat_cmp name;
-  depths = λ level. fin.get-empty nat_cmp level;
-  bought = λ account. fin.get-empty nat_cmp account;
-  sold = λ account. fin.get-empty nat_cmp account;
-  names = λ level below. get_or-replicate levels level [] [] below;
+  sized = record { maps = refl; queues = refl };
+  shows = record {
+    sound = empty-sound;
+    orders = λ name. fin.get-empty nat_cmp name;
+    depths = λ level. fin.get-empty nat_cmp level;
+    bought = λ account. fin.get-empty nat_cmp account;
+    sold = λ account. fin.get-empty nat_cmp account;
+    names = λ level below. get_or-replicate LEVELS level [] [] below;
+  };
 }

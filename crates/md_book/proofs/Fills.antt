@@ -4,13 +4,14 @@ use Rattle.std.proofs.lemmas.Bool.{eq-eqb, ne_eqb}
 use Rattle.md_history.specs.Script.{done, bind}
 use Rattle.md_book.specs.declared.commands.Side.{Side}
 use Rattle.md_book.specs.declared.fill.Filling.{Filling}
+use Rattle.md_book.specs.declared.maps.TheConstants.{DEPTHS}
 use Rattle.md_book.specs.Scripts.{raise, lower}
 use Rattle.md_book.specs.Filling.{taker_sums, look_front, go_on, take_parts, book_taken}
 
 module _ (side : Side) (level account taken : ℕ) where
   -- something was taken
-  pub book_taken-some : taken ≢ 0 → book_taken side level account taken ≡ bind (raise (taker_sums side) account taken) (λ _. lower 1 level taken)
-  book_taken-some some = ap (λ b. cond b (done tt) (bind (raise (taker_sums side) account taken) (λ _. lower 1 level taken))) (ne_eqb taken 0 some)
+  pub book_taken-some : taken ≢ 0 → book_taken side level account taken ≡ bind (raise (taker_sums side) account taken) (λ _. lower DEPTHS level taken)
+  book_taken-some some = ap (λ b. cond b (done tt) (bind (raise (taker_sums side) account taken) (λ _. lower DEPTHS level taken))) (ne_eqb taken 0 some)
 
 module _ (side : Side) (level : ℕ) (f : Filling) where
   -- something remains, and a place is left to look at

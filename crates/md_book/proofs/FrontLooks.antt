@@ -13,8 +13,9 @@ use Rattle.md_history.specs.Script.{Script, done, call}
 use Rattle.md_book.specs.declared.commands.Side.{Side}
 use Rattle.md_book.specs.declared.fronts.Look.{Look}
 use Rattle.md_book.specs.declared.fronts.Look.TheVariants.{Nobody, Dead}
+use Rattle.md_book.specs.declared.maps.TheConstants.{LEVELS, OPEN_ORDERS}
 use Rattle.md_book.specs.Book.{Order, Book, IsAccount, IsPrice, level_of, front_order, pass}
-use Rattle.md_book.specs.Stands.{levels, account_in, left_in}
+use Rattle.md_book.specs.Stands.{account_in, left_in}
 use Rattle.md_book.specs.Scripts.{by_value}
 use Rattle.md_book.specs.Filling.{take_from, look_front}
 use Rattle.md_book.specs.Places.{places_looked}
@@ -48,9 +49,9 @@ at_order side level rest name v = by_value (Value v) (call (Dequeue level) (λ _
 
 abbrev at_name : Side → ℕ → ℕ → Option ℕ → Script Look
 at_name side level rest v =
-    by_value (Value v) (done Nobody) (λ name. call (Get 0 name) (λ s. by_value s (call (Dequeue level) (λ _. done Dead)) (λ order. take_from side level name order (min (left_in order) rest))))
+    by_value (Value v) (done Nobody) (λ name. call (Get OPEN_ORDERS name) (λ s. by_value s (call (Dequeue level) (λ _. done Dead)) (λ order. take_from side level name order (min (left_in order) rest))))
 
-module _ (side : Side) (price : ℕ) (priced : IsPrice price) (taker : ℕ) (taker_in_range : IsAccount taker) {s : State} {b : Book} {depths takers : ℕ → ℕ} (r : Reflects s b side depths takers) (below : level_of side price < levels) (rest : ℕ) where
+module _ (side : Side) (price : ℕ) (priced : IsPrice price) (taker : ℕ) (taker_in_range : IsAccount taker) {s : State} {b : Book} {depths takers : ℕ → ℕ} (r : Reflects s b side depths takers) (below : level_of side price < LEVELS) (rest : ℕ) where
   abbrev level : ℕ
   level = level_of side price
 
@@ -71,7 +72,7 @@ module _ (side : Side) (price : ℕ) (priced : IsPrice price) (taker : ℕ) (tak
 
     -- the acts so far
     abbrev so_far : Option ℕ → List Act → List Act
-    so_far v acts = act_of (Front level) (Value (Some o.name)) ∷ act_of (Get 0 o.name) (Value v) ∷ acts
+    so_far v acts = act_of (Front level) (Value (Some o.name)) ∷ act_of (Get OPEN_ORDERS o.name) (Value v) ∷ acts
 
     passes_dead : o.left ≡ 0 → IsDead b level side depths takers o (after s (Dequeue level)) Dead (so_far None (act_of (Dequeue level) (Value (slice_get (queue_at s level) 0)) ∷ []))
     passes_dead empty = record {
@@ -79,7 +80,7 @@ module _ (side : Side) (price : ℕ) (priced : IsPrice price) (taker : ℕ) (tak
       look_is = refl;
       reflects = reflects-pass r (after s (Dequeue level)) level (sound-pass b level o front empty r.sound) (dequeue-lines s level (omega (arith, below, r.queues)));
       costs = subst (λ v. Costs level (so_far None (act_of (Dequeue level) (Value v) ∷ [])) 2 1 0) (sym first)
-          (costs-append (costs-front level (Some o.name)) (costs-append (costs-get level 0 o.name None) (costs-dequeue level o.name)));
+          (costs-append (costs-front level (Some o.name)) (costs-append (costs-get level OPEN_ORDERS o.name None) (costs-dequeue level o.name)));
     }
 
     abbrev Lives : State → Look → List Act → Type 0
@@ -96,7 +97,7 @@ module _ (side : Side) (price : ℕ) (priced : IsPrice price) (taker : ℕ) (tak
         (record {
           look_is = taken.look_is;
           reflects = taken.reflects;
-          costs = costs-more (costs-append (costs-front level (Some o.name)) (costs-append (costs-get level 0 o.name (Some (packed_order o))) taken.costs)) 3 (7 + unless (o.left == min o.left rest)) (1 + unless (o.left == min o.left rest)) (omega arith) (omega arith) (omega arith);
+          costs = costs-more (costs-append (costs-front level (Some o.name)) (costs-append (costs-get level OPEN_ORDERS o.name (Some (packed_order o))) taken.costs)) 3 (7 + unless (o.left == min o.left rest)) (1 + unless (o.left == min o.left rest)) (omega arith) (omega arith) (omega arith);
         }))
 
     some_looks : LooksAtOrder o (played (at_name side level rest (Some o.name)) s) (outcome (at_name side level rest (Some o.name)) s) (act_of (Front level) (Value (Some o.name)) ∷ made (at_name side level rest (Some o.name)) s)
@@ -104,7 +105,7 @@ module _ (side : Side) (price : ℕ) (priced : IsPrice price) (taker : ℕ) (tak
         let P : Option ℕ → Type 0 = λ v. LooksAtOrder o (played (at_order side level rest o.name v) s) (outcome (at_order side level rest o.name v) s) (so_far v (made (at_order side level rest o.name v) s)) in
         elim (cases_eq o.left 0) [
           | inl empty ↦
-              let none : fin.get (map_at s 0) o.name ≡ None = r.orders o.name ∙ open_order-own b o r.sound (front-has b level o front).0 ∙ ap (λ t. cond t (Some (packed_order o)) None) (le-ltb 0 o.left (omega arith)) in
+              let none : fin.get (map_at s OPEN_ORDERS) o.name ≡ None = r.orders o.name ∙ open_order-own b o r.sound (front-has b level o front).0 ∙ ap (λ t. cond t (Some (packed_order o)) None) (le-ltb 0 o.left (omega arith)) in
               subst P (sym none) (inl (passes_dead empty))
           | inr some ↦
               let live : 0 < o.left = omega (arith, some) in

@@ -1,15 +1,16 @@
 -- At each level, what was placed is what was cancelled, was filled and is open.
-use Rattle.std.proofs.Common.{◌≡◌, ℕ, ◌+◌, ◌==◌, Bool, true, false, cond, List, [], ◌∷◌, refl, sym, ap, ◌∙◌, Option, Some, None}
+use Rattle.std.proofs.Common.{◌≡◌, ℕ, ◌+◌, ◌==◌, Bool, true, false, cond, List, [], ◌∷◌, refl, sym, ap, ◌∙◌}
 use Rattle.std.specs.Prelude.{sum_by}
 use Rattle.std.specs.List.{AllByRecursion}
 use Rattle.std.proofs.lemmas.List.Elements.{recursion_from_All}
 use Rattle.md_book.specs.declared.commands.Side.{Side}
 use Rattle.md_book.specs.declared.commands.Command.{Command}
-use Rattle.md_book.specs.declared.commands.Command.TheVariants.{Place, Cancel, Fill, Depth, Account}
+use Rattle.md_book.specs.declared.commands.Command.TheVariants.{Place, Cancel, Fill, Kill, Depth, Account}
 use Rattle.md_book.specs.declared.commands.Part.{Part}
-use Rattle.md_book.specs.Book.{Order, Book, empty_book, level_of, depth, find_open, look, cancel_step, book_step}
+use Rattle.md_book.specs.Book.{Order, Book, empty_book, level_of, depth, look, fill_step, book_step}
 use Rattle.md_book.specs.Trading.{closing, taken_from, filled_at, left_of, is_placed_at, LevelsAddUp}
 use Rattle.md_book.proofs.Sums.{sum_by-agree, sum_by-nothing, sum_by-filter}
+use Rattle.md_book.proofs.Kills.{kill-either}
 use Rattle.md_book.proofs.LookSums.{look-parts}
 use Rattle.md_book.proofs.Days.{opening, run-open, run-adds}
 use Rattle.md_book.proofs.PlacedOrders.{placed-tells}
@@ -32,17 +33,22 @@ module _ (of : ℕ → Bool) (level : ℕ) where
       sum_by-agree (λ p. cond (of p.name) p.taken 0) (λ p. cond (at == level) p.taken 0) parts (each at parts tells)
       ∙ elim (at == level) as (λ b. sum_by (λ (p : Part). cond b p.taken 0) parts ≡ cond b (sum_by (λ p. p.taken) parts) 0) [ true ↦ refl | false ↦ sum_by-nothing parts ]
 
-  cancel-fills : (b : Book) (name : ℕ) (found : Option Order) → taken_from of (Cancel name, (cancel_step b found).reply) ≡ filled_at level (Cancel name, (cancel_step b found).reply)
-  cancel-fills b name None = refl
-  cancel-fills b name (Some o) = refl
+  fill-fills : (b : Book) (account : ℕ) (side : Side) (price quantity places : ℕ) → AllByRecursion (λ o. Tells of level o.name (level_of o.side o.price)) b.orders
+      → let step = fill_step b account (level_of side price) quantity places in
+      taken_from of (Fill account side price quantity places, step.reply) ≡ filled_at level (Fill account side price quantity places, step.reply)
+  fill-fills b account side price quantity places known =
+      let at = level_of side price in
+      let parts = (look at account places b quantity).parts in
+      sum-padded (λ p. cond (of p.name) p.taken 0) (none_of (of 0)) parts ∙ parts-fill at parts (look-parts at account (Tells of level) places b quantity known)
 
   step-fills : (b : Book) (c : Command) → AllByRecursion (λ o. Tells of level o.name (level_of o.side o.price)) b.orders → taken_from of (c, (book_step b c).reply) ≡ filled_at level (c, (book_step b c).reply)
   step-fills b (Place name account side price quantity) known = refl
-  step-fills b (Cancel name) known = cancel-fills b name (find_open b name)
-  step-fills b (Fill account side price quantity) known =
-      let at = level_of side price in
-      let parts = (look at account 4 b quantity).parts in
-      sum-padded (λ p. cond (of p.name) p.taken 0) (none_of (of 0)) parts ∙ parts-fill at parts (look-parts at account (Tells of level) 4 b quantity known)
+  step-fills b (Cancel name) known = refl
+  step-fills b (Fill account side price quantity places) known = fill-fills b account side price quantity places known
+  step-fills b (Kill account side price quantity places) known =
+      let c = Kill account side price quantity places in
+      kill-either b account (level_of side price) quantity places (λ step. taken_from of (c, step.reply) ≡ filled_at level (c, step.reply))
+      (fill-fills b account side price quantity places known) (sym (none_of (level_of side price == level)))
   step-fills b (Depth side price) known = refl
   step-fills b (Account account) known = refl
 

@@ -1,10 +1,14 @@
 mod Plays
+mod Sizes
 mod ByValue
 mod Fills
+mod Lookups
+mod Tails
 mod Sums
 pub mod Lessened
 mod Looks
 pub mod LookSums
+mod Kills
 mod Days
 mod PlacedOrders
 mod Changes
@@ -29,6 +33,8 @@ mod Places
 mod Taking
 mod Placing
 pub mod Filling
+mod Found
+pub mod Killing
 pub mod EmptyBook
 pub mod Small
 pub mod TheBook
@@ -39,3 +45,4 @@ pub mod DayAddsUp
 pub mod AccountsAddUp
 pub mod EachAccountAddsUp
 pub mod FillsAddUp
+pub mod KillsAreWhole

@@ -11,6 +11,7 @@ use Rattle.std.proofs.lemmas.List.Filters.{sum_by-filter_both}
 use Rattle.std.proofs.lemmas.List.Folds.{find-append, list_any_none}
 use Rattle.std.proofs.lemmas.List.Sums.{sum_by_push}
 use Rattle.std.proofs.lemmas.Map.Keys.{IsDistinct-push}
+use Rattle.md_book.specs.declared.limits.TheConstants.{MAX_QUANTITY}
 use Rattle.md_book.specs.Book.{Order, Book, level_of, orders_at, depth}
 use Rattle.md_book.specs.Stands.{packed, open_order, IsInRange, IsSound}
 
@@ -27,7 +28,7 @@ pub depth-le-total : (b : Book) (level : ℕ) → depth b level ≤ sum_by (λ o
 depth-le-total b level = omega (arith, sum_by-filter_both (λ o. level_of o.side o.price == level) (λ o. not (level_of o.side o.price == level)) (λ _. refl) (λ o. o.left) b.orders)
 
 -- a sound book's depths have room for one more order
-pub depth-room : (b : Book) (level by : ℕ) → IsSound b → by ≤ 1000000 → depth b level + by < 2 ^ 64
+pub depth-room : (b : Book) (level by : ℕ) → IsSound b → by ≤ MAX_QUANTITY → depth b level + by < 2 ^ 64
 depth-room b level by sound low = omega (arith, depth-le-total b level, sound.total, sound.few)
 
 abbrev pub with_order : Book → Order → Book

@@ -6,13 +6,14 @@ use Rattle.std.proofs.lemmas.Bool.{eqb-true, and_parts}
 use Rattle.std.proofs.lemmas.List.Sums.{sum_by_push}
 use Rattle.md_book.specs.declared.commands.Side.{Side}
 use Rattle.md_book.specs.declared.commands.Command.{Command}
-use Rattle.md_book.specs.declared.commands.Command.TheVariants.{Place, Cancel, Fill, Depth, Account}
+use Rattle.md_book.specs.declared.commands.Command.TheVariants.{Place, Cancel, Fill, Kill, Depth, Account}
 use Rattle.md_book.specs.declared.commands.Part.{Part}
 use Rattle.md_book.specs.declared.commands.BookReply.{BookReply}
-use Rattle.md_book.specs.Book.{Order, Book, empty_book, level_of, find_open, look, cancel_step, book_step}
+use Rattle.md_book.specs.Book.{Order, Book, empty_book, level_of, find_open, look, cancel_step, fill_step, book_step}
 use Rattle.md_book.specs.Trading.{answered, placed, cancelled, taken_from, left_of, OrdersAddUp}
 use Rattle.md_book.proofs.Sums.{sum_by-plus}
 use Rattle.md_book.proofs.Lessened.{find-has, lessened-sum}
+use Rattle.md_book.proofs.Kills.{kill-either}
 use Rattle.md_book.proofs.LookSums.{look-left}
 use Rattle.md_book.proofs.Days.{PlaceKnows, names-distinct, opening, run-adds}
 use Rattle.md_book.proofs.FillsAddUp.{sum-padded}
@@ -29,7 +30,7 @@ lost of told = cancelled of told + taken_from of told
 module _ (of : ℕ → Bool) (b : Book) (distinct : IsDistinct nat_eq (map (λ o. o.name) b.orders)) where
   cancel-adds : (name : ℕ) (found : Option Order) → find_open b name ≡ found → left_of of (cancel_step b found).book + lost of (Cancel name, (cancel_step b found).reply) ≡ left_of of b
   unfolding lost
-  cancel-adds name None e = omega arith
+  cancel-adds name None e = omega (arith, none_of (of name))
   cancel-adds name (Some o) e =
       let has = find-has _ b.orders o e in
       let same : o.name ≡ name = eqb-true o.name name (and_parts _ _ has.1).0 in
@@ -38,15 +39,25 @@ module _ (of : ℕ → Bool) (b : Book) (distinct : IsDistinct nat_eq (map (λ o
       let mine : f o ≡ f (record o { left = o.left - o.left }) + cond (of o.name) o.left 0 = elim (of o.name) as (λ t. cond t o.left 0 ≡ cond t (o.left - o.left) 0 + cond t o.left 0) [ true ↦ omega arith | false ↦ omega arith ] in
       omega (arith, fell, mine, ap (λ n. cond (of n) o.left 0) same)
 
+  fill-adds : (account : ℕ) (side : Side) (price quantity places : ℕ)
+      → let step = fill_step b account (level_of side price) quantity places in
+      left_of of step.book + lost of (Fill account side price quantity places, step.reply) ≡ left_of of b + placed of (Fill account side price quantity places, step.reply)
+  unfolding lost
+  fill-adds account side price quantity places =
+      let l = look (level_of side price) account places b quantity in
+      let none = none_of (of 0) in
+      omega (arith, look-left (level_of side price) account of places b quantity distinct, sum-padded (λ (p : Part). cond (of p.name) p.taken 0) none l.parts)
+
   step-adds : (c : Command) → left_of of (book_step b c).book + lost of (c, (book_step b c).reply) ≡ left_of of b + placed of (c, (book_step b c).reply)
   unfolding lost
   step-adds (Place name account side price quantity) =
       omega (arith, sum_by_push (λ (o : Order). cond (of o.name) o.left 0) b.orders (record { name = name; account = account; side = side; price = price; left = quantity }))
   step-adds (Cancel name) = omega (arith, cancel-adds name (find_open b name) refl)
-  step-adds (Fill account side price quantity) =
-      let l = look (level_of side price) account 4 b quantity in
-      let none = none_of (of 0) in
-      omega (arith, look-left (level_of side price) account of 4 b quantity distinct, sum-padded (λ (p : Part). cond (of p.name) p.taken 0) none l.parts)
+  step-adds (Fill account side price quantity places) = fill-adds account side price quantity places
+  step-adds (Kill account side price quantity places) =
+      let c = Kill account side price quantity places in
+      kill-either b account (level_of side price) quantity places (λ step. left_of of step.book + lost of (c, step.reply) ≡ left_of of b + placed of (c, step.reply))
+      (fill-adds account side price quantity places) (omega arith)
   step-adds (Depth side price) = omega arith
   step-adds (Account account) = omega arith
 
@@ -57,7 +68,8 @@ Known name side price account = Unit {0}
 each-known : (c : Command) → PlaceKnows Known c
 each-known (Place name account side price quantity) = tt
 each-known (Cancel name) = tt
-each-known (Fill account side price quantity) = tt
+each-known (Fill account side price quantity places) = tt
+each-known (Kill account side price quantity places) = tt
 each-known (Depth side price) = tt
 each-known (Account account) = tt
 

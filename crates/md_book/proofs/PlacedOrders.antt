@@ -7,7 +7,7 @@ use Rattle.std.proofs.lemmas.List.Elements.{All-from_recursion}
 use Rattle.std.proofs.lemmas.Map.Keys.{IsDistinct-head, IsDistinct-tail}
 use Rattle.md_book.specs.declared.commands.Side.{Side}
 use Rattle.md_book.specs.declared.commands.Command.{Command}
-use Rattle.md_book.specs.declared.commands.Command.TheVariants.{Place, Cancel, Fill, Depth, Account}
+use Rattle.md_book.specs.declared.commands.Command.TheVariants.{Place, Cancel, Fill, Kill, Depth, Account}
 use Rattle.md_book.specs.Trading.{names_placed, places}
 use Rattle.md_book.proofs.Lessened.{apart-flip}
 use Rattle.md_book.proofs.Days.{PlaceKnows}
@@ -27,7 +27,8 @@ module _ (test : Side → ℕ → ℕ → Bool) where
   not-placed name (Place own account side price quantity ∷ cs) apart =
       or_from ((own == name) && (test side price account)) (list_any (places test name) cs) (and_left (own == name) (test side price account) (apart-flip name own apart.0)) (not-placed name cs apart.1)
   not-placed name (Cancel own ∷ cs) apart = not-placed name cs apart
-  not-placed name (Fill account side price quantity ∷ cs) apart = not-placed name cs apart
+  not-placed name (Fill account side price quantity looked ∷ cs) apart = not-placed name cs apart
+  not-placed name (Kill account side price quantity looked ∷ cs) apart = not-placed name cs apart
   not-placed name (Depth side price ∷ cs) apart = not-placed name cs apart
   not-placed name (Account account ∷ cs) apart = not-placed name cs apart
 
@@ -38,7 +39,8 @@ module _ (test : Side → ℕ → ℕ → Bool) where
   tells-after own account side price quantity cs (Place name a s p q ∷ ds) apart tells =
       (ap (λ b. b || list_any (places test name) cs) (and_left (own == name) (test side price account) apart.0) ∙ tells.0, tells-after own account side price quantity cs ds apart.1 tells.1)
   tells-after own account side price quantity cs (Cancel name ∷ ds) apart tells = (tt, tells-after own account side price quantity cs ds apart tells.1)
-  tells-after own account side price quantity cs (Fill a s p q ∷ ds) apart tells = (tt, tells-after own account side price quantity cs ds apart tells.1)
+  tells-after own account side price quantity cs (Fill a s p q looked ∷ ds) apart tells = (tt, tells-after own account side price quantity cs ds apart tells.1)
+  tells-after own account side price quantity cs (Kill a s p q looked ∷ ds) apart tells = (tt, tells-after own account side price quantity cs ds apart tells.1)
   tells-after own account side price quantity cs (Depth s p ∷ ds) apart tells = (tt, tells-after own account side price quantity cs ds apart tells.1)
   tells-after own account side price quantity cs (Account a ∷ ds) apart tells = (tt, tells-after own account side price quantity cs ds apart tells.1)
 
@@ -52,7 +54,8 @@ module _ (test : Side → ℕ → ℕ → Bool) where
         tells-after own account side price quantity cs cs apart (tells-each cs (IsDistinct-tail nat_eq own (names_placed cs) distinct)),
       )
   tells-each (Cancel name ∷ cs) distinct = (tt, tells-each cs distinct)
-  tells-each (Fill account side price quantity ∷ cs) distinct = (tt, tells-each cs distinct)
+  tells-each (Fill account side price quantity looked ∷ cs) distinct = (tt, tells-each cs distinct)
+  tells-each (Kill account side price quantity looked ∷ cs) distinct = (tt, tells-each cs distinct)
   tells-each (Depth side price ∷ cs) distinct = (tt, tells-each cs distinct)
   tells-each (Account account ∷ cs) distinct = (tt, tells-each cs distinct)
 

@@ -1,12 +1,12 @@
 -- What a whole script does to a state where each reply is right.
-use Rattle.std.proofs.Common.{arith, ◌≡◌, List, [], ◌∷◌, ◌++◌, refl, sym, ap, subst, ◌∙◌}
+use Rattle.std.proofs.Common.{◌≡◌, List, [], ◌∷◌, ◌++◌, refl, sym, ap, subst, ◌∙◌}
 use Rattle.std.proofs.lemmas.List.{append-nil}
 use Rattle.md_history.specs.declared.acts.Act.{Act}
 use Rattle.md_history.specs.Act.{act_of}
 use Rattle.md_history.specs.State.{State, answer, after, run, IsRight}
 use Rattle.md_history.specs.Script.{Script, done, call, bind, left, Follows, Did}
-use Rattle.md_book.specs.Meets.{AreFew}
-use Rattle.md_history.specs.CountLaws.{reads-prefix, writes-prefix, nodes-prefix}
+use Rattle.md_history.specs.Counts.{Bounds, AreFew}
+use Rattle.md_history.specs.CountLaws.{few-prefix}
 
 -- the state that it leaves
 abbrev pub played : {R : Type 0} → Script R → State → State
@@ -78,11 +78,8 @@ follows-made (call op next) s (a ∷ acts) f right =
     made-same {q = q} {s} e f = ap (λ x. made x s) e ∙ ap (made q) f
 
 -- they are few where those are
-pub few-made : {R : Type 0} (p : Script R) (s : State) (acts : List Act) → AreFew (made p s) → Follows p acts → IsRight s acts → AreFew acts
-few-made p s acts few f right =
-    let later = made (left p acts) (run s acts) in
-    let all = subst AreFew (follows-made p s acts f right) few in
-    record { reads = omega (arith, all.reads, reads-prefix acts later); writes = omega (arith, all.writes, writes-prefix acts later); nodes = omega (arith, all.nodes, nodes-prefix acts later) }
+pub few-made : {R : Type 0} (most : Bounds) (p : Script R) (s : State) (acts : List Act) → AreFew most (made p s) → Follows p acts → IsRight s acts → AreFew most acts
+few-made most p s acts few f right = few-prefix acts (made (left p acts) (run s acts)) most (subst (AreFew most) (follows-made p s acts f right) few)
 
 -- right acts of a whole script are those that it makes
 pub did-made : {R : Type 0} (p : Script R) (s : State) (acts : List Act) (r : R) → Did p acts r → IsRight s acts → made p s ≡ acts

@@ -4,6 +4,7 @@ use Rattle.std.specs.Prelude.{sum_by, if◌then◌else◌}
 use Rattle.std.proofs.lemmas.List.Sums.{sum_by_push, sum_by-le-sum_by}
 use Rattle.md_book.specs.declared.commands.Side.{Side}
 use Rattle.md_book.specs.declared.commands.Side.TheVariants.{Buy, Sell}
+use Rattle.md_book.specs.declared.maps.TheConstants.{DEPTHS, MAPS, OPEN_ORDERS}
 use Rattle.md_book.specs.Book.{Trade, Book, buyer, seller, bought, sold}
 use Rattle.md_book.specs.Stands.{IsSound}
 use Rattle.md_book.specs.Filling.{resting_sums, taker_sums}
@@ -31,11 +32,11 @@ resting_sum side b account = rested_in side b.trades account
 abbrev pub taker_sum : Side → Book → ℕ → ℕ
 taker_sum side b account = took_in side b.trades account
 
-pub resting_apart : (side : Side) → (resting_sums side ≢ 0) × (resting_sums side ≢ 1) × (taker_sums side ≢ 0) × (taker_sums side ≢ 1) × (taker_sums side ≢ resting_sums side)
+pub resting_apart : (side : Side) → (resting_sums side ≢ OPEN_ORDERS) × (resting_sums side ≢ DEPTHS) × (taker_sums side ≢ OPEN_ORDERS) × (taker_sums side ≢ DEPTHS) × (taker_sums side ≢ resting_sums side)
 resting_apart Buy = (λ e. omega arith, λ e. omega arith, λ e. omega arith, λ e. omega arith, λ e. omega arith)
 resting_apart Sell = (λ e. omega arith, λ e. omega arith, λ e. omega arith, λ e. omega arith, λ e. omega arith)
 
-pub sums-low : (side : Side) → (resting_sums side < 4) × (taker_sums side < 4)
+pub sums-low : (side : Side) → (resting_sums side < MAPS) × (taker_sums side < MAPS)
 sums-low Buy = (omega arith, omega arith)
 sums-low Sell = (omega arith, omega arith)
 

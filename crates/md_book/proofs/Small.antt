@@ -1,17 +1,22 @@
 -- Commands are few acts.
-use Rattle.md_book.specs.declared.commands.Command.TheVariants.{Place, Cancel, Fill, Depth, Account}
+use Rattle.md_book.specs.declared.commands.Command.TheVariants.{Place, Cancel, Fill, Kill, Depth, Account}
 use Rattle.md_book.specs.Commands.{script_of}
-use Rattle.md_book.specs.Meets.{CommandsAreSmall}
+use Rattle.md_book.specs.Meets.{CommandsAreSmall, command_bounds}
+use Rattle.md_book.proofs.Sizes.{sized-room}
 use Rattle.md_book.proofs.Plays.{few-made}
 use Rattle.md_book.proofs.Looking.{depth-steps, account-steps}
 use Rattle.md_book.proofs.Cancelling.{cancel-steps}
 use Rattle.md_book.proofs.Placing.{place-few}
-use Rattle.md_book.proofs.Filling.{fill-steps}
+use Rattle.md_book.proofs.Filling.{fill-steps, places-low}
+use Rattle.md_book.proofs.Killing.{kill-steps}
 
 pub commands-are-small : CommandsAreSmall
 commands-are-small s b (Place name account side price quantity) stands is acts follows right =
-    few-made (script_of (Place name account side price quantity)) s acts (place-few s b (record { name = name; account = account; side = side; price = price; left = quantity }) stands) follows right
-commands-are-small s b (Cancel name) stands is acts follows right = few-made (script_of (Cancel name)) s acts (cancel-steps s b name stands).few follows right
-commands-are-small s b (Fill account side price quantity) stands is acts follows right = few-made (script_of (Fill account side price quantity)) s acts (fill-steps s b stands account side price quantity is).few follows right
-commands-are-small s b (Depth side price) stands is acts follows right = few-made (script_of (Depth side price)) s acts (depth-steps s b stands side price).few follows right
-commands-are-small s b (Account account) stands is acts follows right = few-made (script_of (Account account)) s acts (account-steps s b stands account).few follows right
+    few-made command_bounds (script_of (Place name account side price quantity)) s acts (place-few s b (record { name = name; account = account; side = side; price = price; left = quantity }) (sized-room s stands.sized)) follows right
+commands-are-small s b (Cancel name) stands is acts follows right = few-made command_bounds (script_of (Cancel name)) s acts (cancel-steps s b name (sized-room s stands.sized) stands.shows).few follows right
+commands-are-small s b (Fill account side price quantity places) stands is acts follows right =
+    few-made command_bounds (script_of (Fill account side price quantity places)) s acts (fill-steps s b (sized-room s stands.sized) stands.shows account side price quantity places is.offer (places-low places is.looks)).few follows right
+commands-are-small s b (Kill account side price quantity places) stands is acts follows right =
+    few-made command_bounds (script_of (Kill account side price quantity places)) s acts (kill-steps s b (sized-room s stands.sized) stands.shows account side price quantity places is.offer (places-low places is.looks)).few follows right
+commands-are-small s b (Depth side price) stands is acts follows right = few-made command_bounds (script_of (Depth side price)) s acts (depth-steps s b stands.shows side price).few follows right
+commands-are-small s b (Account account) stands is acts follows right = few-made command_bounds (script_of (Account account)) s acts (account-steps s b stands.shows account).few follows right

@@ -12,8 +12,9 @@ use Rattle.md_book.specs.declared.commands.Part.{Part}
 use Rattle.md_book.specs.declared.fill.Filling.{Filling}
 use Rattle.md_book.specs.declared.fronts.Look.{Look}
 use Rattle.md_book.specs.declared.fronts.Look.TheVariants.{Dead, Live}
+use Rattle.md_book.specs.declared.maps.TheConstants.{LEVELS}
+use Rattle.md_book.specs.declared.limits.TheConstants.{MAX_PARTS}
 use Rattle.md_book.specs.Book.{Order, Book, IsAccount, IsPrice, level_of, front_order, pass, traded, Looked, ended, first_part, look_at, look, padded}
-use Rattle.md_book.specs.Stands.{levels}
 use Rattle.md_book.specs.Filling.{look_front, with_part, go_on, take_parts}
 use Rattle.md_book.specs.Places.{places_looked}
 use Rattle.md_book.proofs.Plays.{played, outcome, made, ends-bind}
@@ -51,14 +52,14 @@ abbrev no_part : Part
 no_part = record { name = 0; taken = 0 }
 
 -- a part more is written behind those that were taken
-padded-push : (taken : List Part) (part : Part) → length taken < 4 → slice_set (padded taken) (length taken) part ≡ padded (taken ++ part ∷ [])
+padded-push : (taken : List Part) (part : Part) → length taken < MAX_PARTS → slice_set (padded taken) (length taken) part ≡ padded (taken ++ part ∷ [])
 padded-push taken part room =
-    let left : 4 - length taken ≡ suc (4 - length (taken ++ part ∷ [])) = omega (arith, length_push taken part) in
+    let left : MAX_PARTS - length taken ≡ suc (MAX_PARTS - length (taken ++ part ∷ [])) = omega (arith, length_push taken part) in
     ap (λ n. slice_set (taken ++ replicate n no_part) (length taken) part) left
-    ∙ set_at taken no_part (replicate (4 - length (taken ++ part ∷ [])) no_part) part (length taken) refl
-    ∙ sym (append_assoc taken (part ∷ []) (replicate (4 - length (taken ++ part ∷ [])) no_part))
+    ∙ set_at taken no_part (replicate (MAX_PARTS - length (taken ++ part ∷ [])) no_part) part (length taken) refl
+    ∙ sym (append_assoc taken (part ∷ []) (replicate (MAX_PARTS - length (taken ++ part ∷ [])) no_part))
 
-module _ (side : Side) (price : ℕ) (priced : IsPrice price) (taker : ℕ) (taker_in_range : IsAccount taker) (below : level_of side price < levels) (quantity : ℕ) (depths takers : ℕ → ℕ) where
+module _ (side : Side) (price : ℕ) (priced : IsPrice price) (taker : ℕ) (taker_in_range : IsAccount taker) (below : level_of side price < LEVELS) (quantity : ℕ) (depths takers : ℕ → ℕ) where
   abbrev level : ℕ
   level = level_of side price
 
@@ -67,7 +68,7 @@ module _ (side : Side) (price : ℕ) (priced : IsPrice price) (taker : ℕ) (tak
   TakesAs places s b f before p l = Took side level taker quantity depths takers before places l (played p s) (outcome p s) (made p s)
 
   abbrev pub Takes : ℕ → Type 0
-  Takes places = (s : State) (b : Book) (f : Filling) (before : List Part) → Amid side level taker quantity depths takers s b f before → length before + places ≤ 4
+  Takes places = (s : State) (b : Book) (f : Filling) (before : List Part) → Amid side level taker quantity depths takers s b f before → length before + places ≤ MAX_PARTS
       → TakesAs places s b f before (take_parts side level places f) (look level taker places b f.rest)
 
   -- nothing more is taken
@@ -79,7 +80,7 @@ module _ (side : Side) (price : ℕ) (priced : IsPrice price) (taker : ℕ) (tak
     by_places = costs-more (costs-none level) _ _ _ (omega arith) (omega arith) (omega arith);
   }
 
-  module _ (places : ℕ) (more : Takes places) (s : State) (b : Book) (f : Filling) (before : List Part) (amid : Amid side level taker quantity depths takers s b f before) (room : length before + suc places ≤ 4) (some : f.rest ≢ 0) where
+  module _ (places : ℕ) (more : Takes places) (s : State) (b : Book) (f : Filling) (before : List Part) (amid : Amid side level taker quantity depths takers s b f before) (room : length before + suc places ≤ MAX_PARTS) (some : f.rest ≢ 0) where
     abbrev next : Look → Script Filling
     next look = go_on look f (take_parts side level places)
 

@@ -2,10 +2,11 @@
 use Rattle.std.proofs.Common.{◌≡◌, ℕ, ◌-◌, ◌≤◌, refl, arith}
 use Rattle.md_book.specs.declared.commands.Side.{Side}
 use Rattle.md_book.specs.declared.commands.Side.TheVariants.{Buy, Sell}
+use Rattle.md_book.specs.declared.limits.TheConstants.{MAX_QUANTITY}
 use Rattle.md_book.specs.Book.{IsPrice, level_of}
 use Rattle.md_book.specs.Stands.{packed, account_in, level_in, left_in}
 
-module _ (account price left : ℕ) (priced : IsPrice price) (low : left ≤ 1000000) where
+module _ (account price left : ℕ) (priced : IsPrice price) (low : left ≤ MAX_QUANTITY) where
   pub account_in-packed : (side : Side) → account_in (packed account side price left) ≡ account
   account_in-packed Buy = omega arith
   account_in-packed Sell = omega arith

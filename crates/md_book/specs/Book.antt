@@ -1,12 +1,13 @@
 -- The order book, and what each command does to it and answers.
-use Rattle.std.specs.Prelude.{◌≤◌, ℕ, zero, suc, ◌+◌, ◌-◌, ◌==◌, ◌&&◌, nat_lt, if◌then◌else◌, min, List, [], ◌∷◌, ◌++◌, Option, Some, None, filter, find, map, length, replicate, sum_by, slice_get}
+use Rattle.std.specs.Prelude.{◌≤◌, ℕ, zero, suc, ◌+◌, ◌-◌, ◌==◌, ◌&&◌, nat_lt, nat_le, if◌then◌else◌, min, take, drop, List, [], ◌∷◌, ◌++◌, Option, Some, None, filter, find, map, length, replicate, sum_by, slice_get}
 use Rattle.md_book.specs.declared.commands.Side.{Side}
 use Rattle.md_book.specs.declared.commands.Side.TheVariants.{Buy, Sell}
 use Rattle.md_book.specs.declared.commands.Command.{Command}
-use Rattle.md_book.specs.declared.commands.Command.TheVariants.{Place, Cancel, Fill, Depth, Account}
+use Rattle.md_book.specs.declared.commands.Command.TheVariants.{Place, Cancel, Fill, Kill, Depth, Account}
 use Rattle.md_book.specs.declared.commands.Part.{Part}
 use Rattle.md_book.specs.declared.commands.BookReply.{BookReply}
 use Rattle.md_book.specs.declared.commands.BookReply.TheVariants as reply
+use Rattle.md_book.specs.declared.limits.TheConstants.{MAX_PARTS, MAX_ACCOUNT, MAX_PRICE}
 
 -- an order that was placed, with what is left of it
 pub record Order : Type 0 where
@@ -34,16 +35,16 @@ empty_book = record { orders = []; passed = λ _. 0; trades = [] }
 
 pub record IsAccount (account : ℕ) : Type 0 where
   pub low : 1 ≤ account
-  pub high : account ≤ 9999
+  pub high : account ≤ MAX_ACCOUNT
 
 pub record IsPrice (price : ℕ) : Type 0 where
   pub low : 1 ≤ price
-  pub high : price ≤ 1000
+  pub high : price ≤ MAX_PRICE
 
--- the level of a side and a price: 0 to 999 for buy orders, 1000 to 1999 for sell orders
+-- the level of a side and a price: those of buy orders come first, by price, and then those of sell orders
 abbrev pub level_of : Side → ℕ → ℕ
 level_of Buy price = price - 1
-level_of Sell price = 1000 + (price - 1)
+level_of Sell price = MAX_PRICE + (price - 1)
 
 -- the orders of a level: its places, in the order in which they were placed
 abbrev pub orders_at : Book → ℕ → List Order
@@ -137,17 +138,37 @@ unfoldable pub look : ℕ → ℕ → ℕ → Book → ℕ → Looked
 look level taker zero b rest = ended b rest
 look level taker (suc places) b rest = if rest == 0 then ended b rest else look_at (front_order b level) level taker b rest (look level taker places)
 
--- four parts, those past the ones that there are being zero
+-- as many parts as a reply has room for, those past the ones that there are being zero
 abbrev pub padded : List Part → List Part
-padded parts = parts ++ replicate (4 - length parts) (record { name = 0; taken = 0 })
+padded parts = parts ++ replicate (MAX_PARTS - length parts) (record { name = 0; taken = 0 })
 
-abbrev pub fill_step : Looked → Step
-fill_step l = record { book = l.book; reply = reply.Filled (sum_by (λ p. p.taken) l.parts) l.rest (length l.parts) (padded l.parts) }
+abbrev pub looked_step : Looked → Step
+looked_step l = record { book = l.book; reply = reply.Filled (sum_by (λ p. p.taken) l.parts) l.rest (length l.parts) (padded l.parts) }
+
+-- an account takes up to a quantity from so many places of a level at most
+abbrev pub fill_step : Book → ℕ → ℕ → ℕ → ℕ → Step
+fill_step b account level quantity places = looked_step (look level account places b quantity)
+
+-- the orders at a level's first places that weren't passed: so many of them, or all where there are fewer
+abbrev pub first_orders : Book → ℕ → ℕ → List Order
+first_orders b level places = take places (drop (b.passed level) (orders_at b level))
+
+-- the sum of what these have left
+abbrev pub left_within : Book → ℕ → ℕ → ℕ
+left_within b level places = sum_by (λ o. o.left) (first_orders b level places)
+
+-- all or nothing: where those places have the whole quantity left, it is taken as a fill takes it
+abbrev pub kill_step : Book → ℕ → ℕ → ℕ → ℕ → Step
+kill_step b account level quantity places =
+    if nat_le quantity (left_within b level places)
+    then fill_step b account level quantity places
+    else record { book = b; reply = reply.Killed }
 
 abbrev pub book_step : Book → Command → Step
 book_step b (Place name account side price quantity) = place_step b (record { name = name; account = account; side = side; price = price; left = quantity })
 book_step b (Cancel name) = cancel_step b (find_open b name)
-book_step b (Fill account side price quantity) = fill_step (look (level_of side price) account 4 b quantity)
+book_step b (Fill account side price quantity places) = fill_step b account (level_of side price) quantity places
+book_step b (Kill account side price quantity places) = kill_step b account (level_of side price) quantity places
 book_step b (Depth side price) = record { book = b; reply = reply.Depth (depth b (level_of side price)) }
 book_step b (Account account) = record { book = b; reply = reply.Account (bought b account) (sold b account) }
 

@@ -10,36 +10,38 @@ use Rattle.md_book.specs.declared.commands.BookReply.TheVariants as reply
 use Rattle.md_book.specs.declared.fronts.Look.{Look}
 use Rattle.md_book.specs.declared.fronts.Look.TheVariants.{Nobody, Dead, Live}
 use Rattle.md_book.specs.declared.fill.Filling.{Filling}
+use Rattle.md_book.specs.declared.limits.TheConstants.{MAX_PARTS}
+use Rattle.md_book.specs.declared.maps.TheConstants.{OPEN_ORDERS, DEPTHS, BOUGHT, SOLD}
 use Rattle.md_book.specs.Book.{level_of}
 use Rattle.md_book.specs.Stands.{left_in, account_in}
 use Rattle.md_book.specs.Scripts.{by_value, raise, lower}
 
 -- the map where a side's resting accounts have their sums: at buy orders they bought, at sell orders they sold
 abbrev pub resting_sums : Side → ℕ
-resting_sums Buy = 2
-resting_sums Sell = 3
+resting_sums Buy = BOUGHT
+resting_sums Sell = SOLD
 
 -- the map where those who take from that side have theirs
 abbrev pub taker_sums : Side → ℕ
-taker_sums Buy = 3
-taker_sums Sell = 2
+taker_sums Buy = SOLD
+taker_sums Sell = BOUGHT
 
 -- the order at the front leaves its queue where all that it has left is taken; else it is put back with less
 abbrev pub put_back : ℕ → ℕ → ℕ → ℕ → Script (Unit {0})
 put_back level name order taken =
-    if left_in order == taken then call (Dequeue level) (λ _. done tt) else call (Insert 0 name (order - taken)) (λ _. done tt)
+    if left_in order == taken then call (Dequeue level) (λ _. done tt) else call (Insert OPEN_ORDERS name (order - taken)) (λ _. done tt)
 
 -- so much is taken from the order at the front, and its account has bought or sold it
 abbrev pub take_from : Side → ℕ → ℕ → ℕ → ℕ → Script Look
 take_from side level name order taken =
-    call (Remove 0 name) (λ _. bind (put_back level name order taken) (λ _.
+    call (Remove OPEN_ORDERS name) (λ _. bind (put_back level name order taken) (λ _.
     bind (raise (resting_sums side) (account_in order) taken) (λ _. done (Live (record { name = name; taken = taken })))))
 
 -- a look at the front place: nobody, or a dead place, which is passed, or an order from which is taken
 abbrev pub look_front : Side → ℕ → ℕ → Script Look
 look_front side level rest =
     call (Front level) (λ r. by_value r (done Nobody) (λ name.
-    call (Get 0 name) (λ s. by_value s (call (Dequeue level) (λ _. done Dead)) (λ order.
+    call (Get OPEN_ORDERS name) (λ s. by_value s (call (Dequeue level) (λ _. done Dead)) (λ order.
     take_from side level name order (min (left_in order) rest)))))
 
 -- no more is taken than that
@@ -50,7 +52,7 @@ TakesAtMost most (Live part) = part.taken ≤ most
 
 -- nothing was taken yet
 abbrev pub unfilled : ℕ → Filling
-unfilled quantity = record { rest = quantity; count = 0; parts = replicate 4 (record { name = 0; taken = 0 }) }
+unfilled quantity = record { rest = quantity; count = 0; parts = replicate MAX_PARTS (record { name = 0; taken = 0 }) }
 
 -- a part more was taken
 abbrev pub with_part : Filling → Part → Filling
@@ -69,15 +71,16 @@ take_parts side level (suc places) f = if f.rest == 0 then done f else bind (loo
 
 -- where something was taken, the taker has bought or sold it, and the depth falls by it
 abbrev pub book_taken : Side → ℕ → ℕ → ℕ → Script (Unit {0})
-book_taken side level account taken = if taken == 0 then done tt else bind (raise (taker_sums side) account taken) (λ _. lower 1 level taken)
+book_taken side level account taken = if taken == 0 then done tt else bind (raise (taker_sums side) account taken) (λ _. lower DEPTHS level taken)
 
 -- the reply
 abbrev pub filled : ℕ → Filling → BookReply
 filled quantity f = reply.Filled (quantity - f.rest) f.rest f.count f.parts
 
--- parts are taken from up to four places, and then booked in all
+-- parts are taken from up to so many places, and then booked in all
 abbrev pub finish : ℕ → Side → ℕ → ℕ → Filling → Script BookReply
 finish account side level quantity f = bind (book_taken side level account (quantity - f.rest)) (λ _. done (filled quantity f))
 
-abbrev pub fill : ℕ → Side → ℕ → ℕ → Script BookReply
-fill account side price quantity = bind (take_parts side (level_of side price) 4 (unfilled quantity)) (finish account side (level_of side price) quantity)
+abbrev pub fill : ℕ → Side → ℕ → ℕ → ℕ → Script BookReply
+fill account side price quantity places =
+    bind (take_parts side (level_of side price) places (unfilled quantity)) (finish account side (level_of side price) quantity)

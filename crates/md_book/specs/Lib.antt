@@ -2,6 +2,7 @@ pub mod Book
 pub mod Stands
 pub mod Scripts
 pub mod Filling
+pub mod Killing
 pub mod Commands
 pub mod Meets
 pub mod Trading

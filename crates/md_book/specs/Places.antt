@@ -1,5 +1,5 @@
 -- What a fill reads, writes and takes for each place that it looks at.
-use Rattle.std.specs.Prelude.{◌≤◌, ℕ, ◌+◌, ◌*◌, Bool, true, false, List, Some}
+use Rattle.std.specs.Prelude.{ℕ, ◌+◌, ◌*◌, Bool, true, false, List, Some}
 use Rattle.std.specs.List.{count_by}
 use Rattle.md_history.specs.declared.acts.Act.{Act}
 use Rattle.md_history.specs.declared.acts.Op.{Op}
@@ -8,7 +8,7 @@ use Rattle.md_history.specs.declared.acts.Reply.{Reply}
 use Rattle.md_history.specs.declared.acts.Reply.TheVariants.{Value}
 use Rattle.md_history.specs.State.{State, IsRight}
 use Rattle.md_history.specs.Script.{Did}
-use Rattle.md_history.specs.Counts.{reads, writes, nodes}
+use Rattle.md_history.specs.Counts.{Bounds, AreFew}
 use Rattle.md_book.specs.declared.commands.Side.{Side}
 use Rattle.md_book.specs.declared.commands.BookReply.{BookReply}
 use Rattle.md_book.specs.Book.{Book}
@@ -25,13 +25,12 @@ finds_place op r = false
 abbrev pub places_looked : List Act → ℕ
 places_looked acts = count_by (λ a. finds_place a.op a.reply) acts
 
--- few acts for so many places
-pub record AreFewFor (places : ℕ) (acts : List Act) : Type 0 where
-  pub reads : reads acts ≤ 3 * places + 3
-  pub writes : writes acts ≤ 7 * places + 11
-  pub nodes : nodes acts ≤ places + 3
+-- what a fill reads, writes and takes at most where it looks at so many places
+abbrev pub bounds_for : ℕ → Bounds
+bounds_for places = record { reads = 3 * places + 3; writes = 7 * places + 11; nodes = places + 3 }
 
--- a fill is few acts for the places that it looks at
+-- a fill is few acts for the places that it looks at, and so for those that it may look at
 abbrev pub FillsAreFew : Type 0
-FillsAreFew = (s : State) (b : Book) (account : ℕ) (side : Side) (price quantity : ℕ) (acts : List Act) (r : BookReply)
-    → StandsFor s b → IsFill account price quantity → Did (fill account side price quantity) acts r → IsRight s acts → AreFewFor (places_looked acts) acts
+FillsAreFew = (s : State) (b : Book) (account : ℕ) (side : Side) (price quantity places : ℕ) (acts : List Act) (r : BookReply)
+    → StandsFor s b → IsFill account price quantity places → Did (fill account side price quantity places) acts r → IsRight s acts
+    → AreFew (bounds_for (places_looked acts)) acts × AreFew (bounds_for places) acts

@@ -1,5 +1,5 @@
 -- What commands do to the maps and queues, as scripts: all but filling.
-use Rattle.std.specs.Prelude.{ℕ, ◌+◌, ◌-◌, ◌^◌, ◌==◌, if◌then◌else◌, min, Some, None}
+use Rattle.std.specs.Prelude.{ℕ, ◌+◌, ◌-◌, ◌^◌, ◌==◌, if◌then◌else◌, min, List, [], take, Some, None}
 use Rattle.md_history.specs.declared.acts.Op.TheVariants.{Get, Insert, Remove, Enqueue}
 use Rattle.md_history.specs.declared.acts.Reply.{Reply}
 use Rattle.md_history.specs.declared.acts.Reply.TheVariants.{Value, Flag, Nothing, Line}
@@ -7,6 +7,7 @@ use Rattle.md_history.specs.Script.{Script, done, call, bind}
 use Rattle.md_book.specs.declared.commands.Side.{Side}
 use Rattle.md_book.specs.declared.commands.BookReply.{BookReply}
 use Rattle.md_book.specs.declared.commands.BookReply.TheVariants as reply
+use Rattle.md_book.specs.declared.maps.TheConstants.{OPEN_ORDERS, DEPTHS, BOUGHT, SOLD}
 use Rattle.md_book.specs.Book.{level_of}
 use Rattle.md_book.specs.Stands.{packed, left_in, level_in}
 
@@ -17,6 +18,13 @@ value_or_0 (Value None) = 0
 value_or_0 (Flag b) = 0
 value_or_0 Nothing = 0
 value_or_0 (Line l) = 0
+
+-- the values of a line, or none where the reply is another
+abbrev pub line_values : Reply → List ℕ
+line_values (Value v) = []
+line_values (Flag b) = []
+line_values Nothing = []
+line_values (Line l) = take l.count l.values
 
 -- one way where a reply has no value, another where it has one
 abbrev pub by_value : {R : Type 0} → Reply → Script R → (ℕ → Script R) → Script R
@@ -41,17 +49,17 @@ lower m k by = call (Remove m k) (λ r. put m k (value_or_0 r - by))
 -- an order is added to the open ones, its name to its level's queue, and its quantity to the level's depth
 abbrev pub place : ℕ → ℕ → Side → ℕ → ℕ → Script BookReply
 place name account side price quantity =
-    call (Insert 0 name (packed account side price quantity)) (λ _. call (Enqueue (level_of side price) name) (λ _.
-    bind (raise 1 (level_of side price) quantity) (λ _. done reply.Placed)))
+    call (Insert OPEN_ORDERS name (packed account side price quantity)) (λ _. call (Enqueue (level_of side price) name) (λ _.
+    bind (raise DEPTHS (level_of side price) quantity) (λ _. done reply.Placed)))
 
 -- an order is removed from the open ones, and what was left of it from its level's depth
 abbrev pub cancel : ℕ → Script BookReply
-cancel name = call (Remove 0 name) (λ r. by_value r (done reply.Gone) (λ order. bind (lower 1 (level_in order) (left_in order)) (λ _. done (reply.Cancelled (left_in order)))))
+cancel name = call (Remove OPEN_ORDERS name) (λ r. by_value r (done reply.Gone) (λ order. bind (lower DEPTHS (level_in order) (left_in order)) (λ _. done (reply.Cancelled (left_in order)))))
 
 -- a level's depth is looked up
 abbrev pub look_depth : Side → ℕ → Script BookReply
-look_depth side price = call (Get 1 (level_of side price)) (λ r. done (reply.Depth (value_or_0 r)))
+look_depth side price = call (Get DEPTHS (level_of side price)) (λ r. done (reply.Depth (value_or_0 r)))
 
 -- an account's sums are looked up
 abbrev pub look_account : ℕ → Script BookReply
-look_account account = call (Get 2 account) (λ r. call (Get 3 account) (λ s. done (reply.Account (value_or_0 r) (value_or_0 s))))
+look_account account = call (Get BOUGHT account) (λ r. call (Get SOLD account) (λ s. done (reply.Account (value_or_0 r) (value_or_0 s))))

@@ -6,15 +6,9 @@ use Rattle.std.specs.FinMap as fin
 use Rattle.md_history.specs.State.{State, map_at, queue_at}
 use Rattle.md_book.specs.declared.commands.Side.{Side}
 use Rattle.md_book.specs.declared.commands.Side.TheVariants.{Buy, Sell}
+use Rattle.md_book.specs.declared.limits.TheConstants.{MAX_PRICE, MAX_QUANTITY}
+use Rattle.md_book.specs.declared.maps.TheConstants.{MAPS, OPEN_ORDERS, DEPTHS, BOUGHT, SOLD, LEVELS}
 use Rattle.md_book.specs.Book.{Order, Book, IsAccount, IsPrice, orders_at, find_open, depth, bought, sold}
-
--- the numbers of maps and queues that a book needs: a map each for open orders, for depths, for what each account
--- bought and for what it sold, and a queue for each level
-abbrev pub maps_of_a_book : ℕ
-maps_of_a_book = 4
-
-abbrev pub levels : ℕ
-levels = 2000
 
 -- an order's account, side, price and what is left, packed in one number
 abbrev pub side_bit : Side → ℕ
@@ -29,7 +23,7 @@ abbrev pub account_in : ℕ → ℕ
 account_in order = order / 2 ^ 31
 
 abbrev pub level_in : ℕ → ℕ
-level_in order = order / 2 ^ 30 % 2 * 1000 + (order / 2 ^ 20 % 1024 - 1)
+level_in order = order / 2 ^ 30 % 2 * MAX_PRICE + (order / 2 ^ 20 % 1024 - 1)
 
 abbrev pub left_in : ℕ → ℕ
 left_in order = order % 2 ^ 20
@@ -46,7 +40,7 @@ unless_0 n = if n == 0 then None else Some n
 pub record IsInRange (o : Order) : Type 0 where
   pub account : IsAccount o.account
   pub price : IsPrice o.price
-  pub left : o.left ≤ 1000000
+  pub left : o.left ≤ MAX_QUANTITY
 
 -- a book as commands can have made it
 pub record IsSound (b : Book) : Type 0 where
@@ -56,15 +50,23 @@ pub record IsSound (b : Book) : Type 0 where
   pub passed : (level : ℕ) → b.passed level ≤ length (orders_at b level)
   pub emptied : (level : ℕ) → All (λ o. o.left ≡ 0) (take (b.passed level) (orders_at b level))
   pub traded : All (λ t. IsAccount t.resting × IsAccount t.taker) b.trades
-  pub total : sum_by (λ o. o.left) b.orders + sum_by (λ t. t.taken) b.trades ≤ 1000000 * length b.orders
+  pub total : sum_by (λ o. o.left) b.orders + sum_by (λ t. t.taken) b.trades ≤ MAX_QUANTITY * length b.orders
+
+-- the maps and queues of a book have what it has; there may be further ones
+pub record Shows (s : State) (b : Book) : Type 0 where
+  pub sound : IsSound b
+  pub orders : (name : ℕ) → fin.get (map_at s OPEN_ORDERS) name ≡ open_order b name
+  pub depths : (level : ℕ) → fin.get (map_at s DEPTHS) level ≡ unless_0 (depth b level)
+  pub bought : (account : ℕ) → fin.get (map_at s BOUGHT) account ≡ unless_0 (bought b account)
+  pub sold : (account : ℕ) → fin.get (map_at s SOLD) account ≡ unless_0 (sold b account)
+  pub names : (level : ℕ) → level < LEVELS → queue_at s level ≡ drop (b.passed level) (map (λ o. o.name) (orders_at b level))
+
+-- there are the maps and queues of a book, and no others
+pub record IsBookSized (s : State) : Type 0 where
+  pub maps : length s.maps ≡ MAPS
+  pub queues : length s.queues ≡ LEVELS
 
 -- the maps and queues stand for the book
 pub record StandsFor (s : State) (b : Book) : Type 0 where
-  pub maps : length s.maps ≡ maps_of_a_book
-  pub queues : length s.queues ≡ levels
-  pub sound : IsSound b
-  pub orders : (name : ℕ) → fin.get (map_at s 0) name ≡ open_order b name
-  pub depths : (level : ℕ) → fin.get (map_at s 1) level ≡ unless_0 (depth b level)
-  pub bought : (account : ℕ) → fin.get (map_at s 2) account ≡ unless_0 (bought b account)
-  pub sold : (account : ℕ) → fin.get (map_at s 3) account ≡ unless_0 (sold b account)
-  pub names : (level : ℕ) → level < levels → queue_at s level ≡ drop (b.passed level) (map (λ o. o.name) (orders_at b level))
+  pub sized : IsBookSized s
+  pub shows : Shows s b

@@ -1,22 +1,25 @@
 -- What a run of commands comes to, told by the commands and their replies.
-use Rattle.std.specs.Prelude.{◌≡◌, ℕ, ◌+◌, ◌==◌, ◌&&◌, nat_eq, Bool, true, false, if◌then◌else◌, List, [], ◌∷◌, sum_by, All, Contains}
+use Rattle.std.specs.Prelude.{◌≡◌, ◌⊎◌, ℕ, ◌+◌, ◌==◌, ◌&&◌, nat_eq, Bool, true, false, if◌then◌else◌, List, [], ◌∷◌, sum_by, All, Contains}
 use Rattle.std.specs.List.{IsDistinct, zip, list_any, range_with_len}
 use Rattle.md_book.specs.declared.commands.Side.{Side}
 use Rattle.md_book.specs.declared.commands.Side.TheVariants.{Buy, Sell}
 use Rattle.md_book.specs.declared.commands.Command.{Command}
-use Rattle.md_book.specs.declared.commands.Command.TheVariants.{Place, Cancel, Fill, Depth, Account}
+use Rattle.md_book.specs.declared.commands.Command.TheVariants.{Place, Cancel, Fill, Kill, Depth, Account}
+use Rattle.md_book.specs.declared.commands.Part.{Part}
 use Rattle.md_book.specs.declared.commands.BookReply.{BookReply}
-use Rattle.md_book.specs.declared.commands.BookReply.TheVariants.{Cancelled, Filled}
+use Rattle.md_book.specs.declared.commands.BookReply.TheVariants as reply
+use Rattle.md_book.specs.declared.limits.TheConstants.{MAX_ACCOUNT}
+use Rattle.md_book.specs.declared.maps.TheConstants.{LEVELS}
 use Rattle.md_book.specs.Book.{Book, empty_book, level_of, depth, bought, sold, book_after, replies_to}
 use Rattle.md_book.specs.Commands.{IsCommand}
-use Rattle.md_book.specs.Stands.{levels}
 
 -- the names of the orders that commands place
 abbrev pub names_placed : List Command → List ℕ
 names_placed [] = []
 names_placed (Place name account side price quantity ∷ cs) = name ∷ names_placed cs
 names_placed (Cancel name ∷ cs) = names_placed cs
-names_placed (Fill account side price quantity ∷ cs) = names_placed cs
+names_placed (Fill account side price quantity places ∷ cs) = names_placed cs
+names_placed (Kill account side price quantity places ∷ cs) = names_placed cs
 names_placed (Depth side price ∷ cs) = names_placed cs
 names_placed (Account account ∷ cs) = names_placed cs
 
@@ -33,20 +36,66 @@ answered cs = zip cs (replies_to empty_book cs)
 abbrev pub closing : List Command → Book
 closing cs = book_after empty_book cs
 
+-- what a reply says was cancelled
+abbrev pub told_cancelled : BookReply → ℕ
+told_cancelled reply.Placed = 0
+told_cancelled (reply.Cancelled left) = left
+told_cancelled reply.Gone = 0
+told_cancelled reply.Killed = 0
+told_cancelled (reply.Filled taken rest count parts) = 0
+told_cancelled (reply.Depth depth) = 0
+told_cancelled (reply.Account bought sold) = 0
+
+-- what a reply says was taken in all
+abbrev pub told_taken : BookReply → ℕ
+told_taken reply.Placed = 0
+told_taken (reply.Cancelled left) = 0
+told_taken reply.Gone = 0
+told_taken reply.Killed = 0
+told_taken (reply.Filled taken rest count parts) = taken
+told_taken (reply.Depth depth) = 0
+told_taken (reply.Account bought sold) = 0
+
+-- the parts that a reply tells
+abbrev pub told_parts : BookReply → List Part
+told_parts reply.Placed = []
+told_parts (reply.Cancelled left) = []
+told_parts reply.Gone = []
+told_parts reply.Killed = []
+told_parts (reply.Filled taken rest count parts) = parts
+told_parts (reply.Depth depth) = []
+told_parts (reply.Account bought sold) = []
+
+-- what parts took from these orders
+abbrev pub parts_from : (ℕ → Bool) → List Part → ℕ
+parts_from of parts = sum_by (λ p. if of p.name then p.taken else 0) parts
+
 -- the quantity that a command places, where its order is one of these
 abbrev pub placed : (ℕ → Bool) → Command × BookReply → ℕ
 placed of (Place name account side price quantity, r) = if of name then quantity else 0
-placed of (c, r) = 0
+placed of (Cancel name, r) = 0
+placed of (Fill account side price quantity places, r) = 0
+placed of (Kill account side price quantity places, r) = 0
+placed of (Depth side price, r) = 0
+placed of (Account account, r) = 0
 
 -- what is cancelled of these orders
 abbrev pub cancelled : (ℕ → Bool) → Command × BookReply → ℕ
-cancelled of (Cancel name, Cancelled left) = if of name then left else 0
-cancelled of (c, r) = 0
+cancelled of (Place name account side price quantity, r) = 0
+cancelled of (Cancel name, r) = if of name then told_cancelled r else 0
+cancelled of (Fill account side price quantity places, r) = 0
+cancelled of (Kill account side price quantity places, r) = 0
+cancelled of (Depth side price, r) = 0
+cancelled of (Account account, r) = 0
 
 -- what is taken from these orders, part by part
 abbrev pub taken_from : (ℕ → Bool) → Command × BookReply → ℕ
-taken_from of (c, Filled taken rest count parts) = sum_by (λ p. if of p.name then p.taken else 0) parts
-taken_from of (c, r) = 0
+taken_from of (Place name account side price quantity, r) = 0
+taken_from of (Cancel name, r) = 0
+taken_from of (Fill account side price quantity places, r) = parts_from of (told_parts r)
+taken_from of (Kill account side price quantity places, r) = parts_from of (told_parts r)
+taken_from of (Depth side price, r) = 0
+taken_from of (Account account, r) = 0
 
 -- what these orders have left in a book
 abbrev pub left_of : (ℕ → Bool) → Book → ℕ
@@ -66,7 +115,11 @@ EachOrderAddsUp = (cs : List Command) (name account : ℕ) (side : Side) (price 
 -- whether a command places an order of the name, with a side, price and account that pass a test
 abbrev pub places : (Side → ℕ → ℕ → Bool) → ℕ → Command → Bool
 places test name (Place own account side price quantity) = (own == name) && test side price account
-places test name c = false
+places test name (Cancel own) = false
+places test name (Fill account side price quantity looked) = false
+places test name (Kill account side price quantity looked) = false
+places test name (Depth side price) = false
+places test name (Account account) = false
 
 -- whether one of the commands places an order of the name at the level
 abbrev pub is_placed_at : List Command → ℕ → ℕ → Bool
@@ -76,30 +129,38 @@ is_placed_at cs level name = list_any (places (λ side price account. level_of s
 abbrev pub is_placed_for : List Command → ℕ → ℕ → Bool
 is_placed_for cs account name = list_any (places (λ side price own. own == account) name) cs
 
+-- what a command fills
+abbrev pub filled : Command × BookReply → ℕ
+filled (Place name account side price quantity, r) = 0
+filled (Cancel name, r) = 0
+filled (Fill account side price quantity places, r) = told_taken r
+filled (Kill account side price quantity places, r) = told_taken r
+filled (Depth side price, r) = 0
+filled (Account account, r) = 0
+
 -- what a command fills at a level
 abbrev pub filled_at : ℕ → Command × BookReply → ℕ
-filled_at level (Fill account side price quantity, Filled taken rest count parts) = if level_of side price == level then taken else 0
-filled_at level (c, r) = 0
+filled_at level (Place name account side price quantity, r) = 0
+filled_at level (Cancel name, r) = 0
+filled_at level (Fill account side price quantity places, r) = if level_of side price == level then told_taken r else 0
+filled_at level (Kill account side price quantity places, r) = if level_of side price == level then told_taken r else 0
+filled_at level (Depth side price, r) = 0
+filled_at level (Account account, r) = 0
 
 -- at each level, what was placed is what was cancelled, was filled and is open
 abbrev pub LevelsAddUp : Type 0
 LevelsAddUp = (cs : List Command) (level : ℕ) → IsDay cs
     → sum_by (placed (is_placed_at cs level)) (answered cs) ≡ sum_by (cancelled (is_placed_at cs level)) (answered cs) + sum_by (filled_at level) (answered cs) + depth (closing cs) level
 
--- what a command fills
-abbrev pub filled : Command × BookReply → ℕ
-filled (c, Filled taken rest count parts) = taken
-filled (c, r) = 0
-
 -- in all, what was placed is what was cancelled, was filled and is open at the levels
 abbrev pub DayAddsUp : Type 0
 DayAddsUp = (cs : List Command) → IsDay cs
-    → sum_by (placed (λ _. true)) (answered cs) ≡ sum_by (cancelled (λ _. true)) (answered cs) + sum_by filled (answered cs) + sum_by (depth (closing cs)) (range_with_len 0 levels)
+    → sum_by (placed (λ _. true)) (answered cs) ≡ sum_by (cancelled (λ _. true)) (answered cs) + sum_by filled (answered cs) + sum_by (depth (closing cs)) (range_with_len 0 LEVELS)
 
 -- what all accounts bought is what was filled, and so is what they sold
 abbrev pub AccountsAddUp : Type 0
 AccountsAddUp = (cs : List Command) → IsDay cs
-    → (sum_by (bought (closing cs)) (range_with_len 1 9999) ≡ sum_by filled (answered cs)) × (sum_by (sold (closing cs)) (range_with_len 1 9999) ≡ sum_by filled (answered cs))
+    → (sum_by (bought (closing cs)) (range_with_len 1 MAX_ACCOUNT) ≡ sum_by filled (answered cs)) × (sum_by (sold (closing cs)) (range_with_len 1 MAX_ACCOUNT) ≡ sum_by filled (answered cs))
 
 abbrev pub is_side : Side → Side → Bool
 is_side Buy Buy = true
@@ -107,11 +168,18 @@ is_side Buy Sell = false
 is_side Sell Buy = false
 is_side Sell Sell = true
 
--- what an account deals in at a fill: at the one side what is taken from its orders, at the other what it takes itself
+-- what an account deals in at a side where a taker takes from one: at that side it is what is taken from the
+-- account's orders, at the other what it takes itself
+abbrev pub told_share : Side → (ℕ → Bool) → ℕ → Side → ℕ → BookReply → ℕ
+told_share side of account at taker r = if is_side side at then parts_from of (told_parts r) else (if taker == account then told_taken r else 0)
+
 abbrev pub dealt : Side → (ℕ → Bool) → ℕ → Command × BookReply → ℕ
-dealt side of account (Fill taker at price quantity, Filled taken rest count parts) =
-    if is_side side at then sum_by (λ p. if of p.name then p.taken else 0) parts else (if taker == account then taken else 0)
-dealt side of account (c, r) = 0
+dealt side of account (Place name own at price quantity, r) = 0
+dealt side of account (Cancel name, r) = 0
+dealt side of account (Fill taker at price quantity places, r) = told_share side of account at taker r
+dealt side of account (Kill taker at price quantity places, r) = told_share side of account at taker r
+dealt side of account (Depth at price, r) = 0
+dealt side of account (Account own, r) = 0
 
 -- each account bought what was taken from its buy orders and what it took from sell orders, and sold what was taken
 -- from its sell orders and what it took from buy orders
@@ -119,10 +187,36 @@ abbrev pub EachAccountAddsUp : Type 0
 EachAccountAddsUp = (cs : List Command) (account : ℕ) → IsDay cs
     → (bought (closing cs) account ≡ sum_by (dealt Buy (is_placed_for cs account) account) (answered cs)) × (sold (closing cs) account ≡ sum_by (dealt Sell (is_placed_for cs account) account) (answered cs))
 
--- a fill's parts and what remains add up to what was asked for
+-- the reply is of what was taken: its parts add up to that, and with what remains to the quantity
+abbrev pub IsFilled : ℕ → BookReply → Type 0
+IsFilled quantity reply.Placed = ⊥
+IsFilled quantity (reply.Cancelled left) = ⊥
+IsFilled quantity reply.Gone = ⊥
+IsFilled quantity reply.Killed = ⊥
+IsFilled quantity (reply.Filled taken rest count parts) = (sum_by (λ p. p.taken) parts ≡ taken) × (taken + rest ≡ quantity)
+IsFilled quantity (reply.Depth depth) = ⊥
+IsFilled quantity (reply.Account bought sold) = ⊥
+
+-- the sums that a fill or a kill and its reply tell agree
 abbrev pub AddsUp : Command × BookReply → Type 0
-AddsUp (Fill account side price quantity, Filled taken rest count parts) = (sum_by (λ p. p.taken) parts ≡ taken) × (taken + rest ≡ quantity)
-AddsUp (c, r) = Unit {0}
+AddsUp (Place name account side price quantity, r) = Unit {0}
+AddsUp (Cancel name, r) = Unit {0}
+AddsUp (Fill account side price quantity places, r) = IsFilled quantity r
+AddsUp (Kill account side price quantity places, r) = (r ≡ reply.Killed) ⊎ IsFilled quantity r
+AddsUp (Depth side price, r) = Unit {0}
+AddsUp (Account account, r) = Unit {0}
 
 abbrev pub FillsAddUp : Type 0
 FillsAddUp = (cs : List Command) → All AddsUp (answered cs)
+
+-- a kill takes nothing, or its whole quantity
+abbrev pub IsWhole : Command × BookReply → Type 0
+IsWhole (Place name account side price quantity, r) = Unit {0}
+IsWhole (Cancel name, r) = Unit {0}
+IsWhole (Fill account side price quantity places, r) = Unit {0}
+IsWhole (Kill account side price quantity places, r) = (r ≡ reply.Killed) ⊎ (told_taken r ≡ quantity)
+IsWhole (Depth side price, r) = Unit {0}
+IsWhole (Account account, r) = Unit {0}
+
+abbrev pub KillsAreWhole : Type 0
+KillsAreWhole = (cs : List Command) → IsDay cs → All IsWhole (answered cs)

@@ -2,17 +2,16 @@
 ghost use Rattle.std.specs.Prelude.{◌≡◌, ◌≤◌, None, IfOk, IfErr};
 ghost use Rattle.md_history.specs.Script.{Follows, Adds};
 ghost use Rattle.md_history.specs.Calls.{BrokeOff};
-ghost use Rattle.md_book.specs.Stands.{maps_of_a_book};
 ghost use Rattle.md_book.specs.Scripts.{look_account};
 
 use crate::commands::BookReply;
-use crate::maps::{BOUGHT, SOLD};
+use crate::maps::{BOUGHT, MAPS, SOLD};
 use md_history::{Stop, TxCalls};
 
 /// Looks an account's sums up.
 pub(crate) fn look_account<T: TxCalls>(t: &mut T, account: u32) -> Result<BookReply, Stop>
     requires going { T.stop t.old ≡ None }
-    requires maps { maps_of_a_book ≤ T.maps (T.kept t.old) }
+    requires maps { MAPS ≤ T.maps (T.kept t.old) }
     ensures ok { IfOk result (λ r. (T.stop t.new ≡ None) × Adds (look_account account) r (T.acts t.old) (T.acts t.new)) }
     ensures err { IfErr result (λ e. BrokeOff (Follows (look_account account)) e (T.acts t.old) (T.acts t.new) (T.stop t.new)) }
     ensures kept { T.kept t.new ≡ T.kept t.old }

@@ -7,6 +7,7 @@ use crate::cancel::cancel;
 use crate::commands::{BookReply, Command};
 use crate::depths::look_depth;
 use crate::fill::fill;
+use crate::kill::kill;
 use crate::place::place;
 use md_history::{Body, Stop, TxCalls};
 
@@ -34,7 +35,15 @@ impl Body for Command {
                 side,
                 price,
                 quantity,
-            } => fill(t, account, side, price, quantity),
+                places,
+            } => fill(t, account, side, price, quantity, places),
+            Command::Kill {
+                account,
+                side,
+                price,
+                quantity,
+                places,
+            } => kill(t, account, side, price, quantity, places),
             Command::Depth { side, price } => look_depth(t, side, price),
             Command::Account { account } => look_account(t, account),
         }

@@ -2,11 +2,10 @@
 ghost use Rattle.std.specs.Prelude.{◌≡◌, ◌≤◌, None, IfOk, IfErr};
 ghost use Rattle.md_history.specs.Script.{Follows, Adds};
 ghost use Rattle.md_history.specs.Calls.{BrokeOff};
-ghost use Rattle.md_book.specs.Stands.{maps_of_a_book};
 ghost use Rattle.md_book.specs.Scripts.{cancel};
 
 use crate::commands::BookReply;
-use crate::maps::{DEPTHS, OPEN_ORDERS};
+use crate::maps::{DEPTHS, MAPS, OPEN_ORDERS};
 use crate::packing::{left_in, level_in};
 use crate::parts::lower;
 use md_history::{Stop, TxCalls};
@@ -15,7 +14,7 @@ use md_history::{Stop, TxCalls};
 /// the queue.
 pub(crate) fn cancel<T: TxCalls>(t: &mut T, name: u64) -> Result<BookReply, Stop>
     requires going { T.stop t.old ≡ None }
-    requires maps { maps_of_a_book ≤ T.maps (T.kept t.old) }
+    requires maps { MAPS ≤ T.maps (T.kept t.old) }
     ensures ok { IfOk result (λ r. (T.stop t.new ≡ None) × Adds (cancel name) r (T.acts t.old) (T.acts t.new)) }
     ensures err { IfErr result (λ e. BrokeOff (Follows (cancel name)) e (T.acts t.old) (T.acts t.new) (T.stop t.new)) }
     ensures kept { T.kept t.new ≡ T.kept t.old }

@@ -1,5 +1,7 @@
 // The commands of the order book, and what they answer.
 
+use crate::limits::MAX_PARTS;
+
 /// A side of the book.
 #[derive(Clone, Copy, Debug, PartialEq, Eq)]
 pub enum Side {
@@ -7,9 +9,10 @@ pub enum Side {
     Sell,
 }
 
-/// A command. An account is from 1 to 9,999, a price from 1 to 1,000 (in ticks), a quantity from 1 to
-/// 1,000,000, and an order's name is `caller * 2^32 + line`, with a caller from 1 to 8 and the line from 1 to
-/// 1,000,000 at which that caller placed it.
+/// A command. An account is from 1 to `MAX_ACCOUNT`, a price from 1 to `MAX_PRICE` (in ticks), and a quantity
+/// from 1 to `MAX_QUANTITY`. An order's name is `caller * 2^32 + line`, with a caller from 1 to `MAX_CALLER` and
+/// the line from 1 to `MAX_LINE` at which that caller placed it. The places that a fill or a kill looks at are
+/// those of a version of the order file, `PLACES_IN_VERSION_1` or `PLACES_IN_VERSION_2`.
 #[derive(Clone, Copy, Debug, PartialEq, Eq)]
 pub enum Command {
     /// Places an order.
@@ -24,12 +27,22 @@ pub enum Command {
     Cancel {
         name: u64,
     },
-    /// Takes from the orders that rest at a side and a price, the oldest first, from four at most.
+    /// Takes from the orders that rest at a side and a price, the oldest first. It looks at so many places
+    /// at most, a cancelled order's among them.
     Fill {
         account: u32,
         side: Side,
         price: u32,
         quantity: u32,
+        places: u8,
+    },
+    /// Fill or kill: takes its whole quantity as a fill does where these places have it, and otherwise nothing.
+    Kill {
+        account: u32,
+        side: Side,
+        price: u32,
+        quantity: u32,
+        places: u8,
     },
     /// Asks for what is left at a side and a price.
     Depth {
@@ -58,12 +71,14 @@ pub enum BookReply {
     Cancelled(u32),
     /// The order has nothing left, or there is none of the name.
     Gone,
+    /// The places that a kill looks at have less left than its quantity; nothing changed.
+    Killed,
     /// What was taken in all, what remains, and the parts; those past `count` are zero.
     Filled {
         taken: u32,
         rest: u32,
         count: u8,
-        parts: [Part; 4],
+        parts: [Part; MAX_PARTS],
     },
     /// The sum of what is left at the side and price.
     Depth(u64),

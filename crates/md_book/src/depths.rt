@@ -2,19 +2,18 @@
 ghost use Rattle.std.specs.Prelude.{◌≡◌, ◌≤◌, None, IfOk, IfErr};
 ghost use Rattle.md_history.specs.Script.{Follows, Adds};
 ghost use Rattle.md_history.specs.Calls.{BrokeOff};
-ghost use Rattle.md_book.specs.Stands.{maps_of_a_book};
 ghost use Rattle.md_book.specs.Book.{IsPrice};
 ghost use Rattle.md_book.specs.Scripts.{look_depth};
 
 use crate::commands::{BookReply, Side};
-use crate::maps::DEPTHS;
+use crate::maps::{DEPTHS, MAPS};
 use md_history::{Stop, TxCalls};
 
 /// Looks a level's depth up.
 pub(crate) fn look_depth<T: TxCalls>(t: &mut T, side: Side, price: u32) -> Result<BookReply, Stop>
     requires going { T.stop t.old ≡ None }
     requires price { IsPrice price }
-    requires maps { maps_of_a_book ≤ T.maps (T.kept t.old) }
+    requires maps { MAPS ≤ T.maps (T.kept t.old) }
     ensures ok { IfOk result (λ r. (T.stop t.new ≡ None) × Adds (look_depth side price) r (T.acts t.old) (T.acts t.new)) }
     ensures err { IfErr result (λ e. BrokeOff (Follows (look_depth side price)) e (T.acts t.old) (T.acts t.new) (T.stop t.new)) }
     ensures kept { T.kept t.new ≡ T.kept t.old }

@@ -2,11 +2,11 @@
 ghost use Rattle.std.specs.Prelude.{◌≡◌, ◌<◌, ◌≤◌, None, IfOk, IfErr};
 ghost use Rattle.md_history.specs.Script.{Follows, Adds};
 ghost use Rattle.md_history.specs.Calls.{BrokeOff};
-ghost use Rattle.md_book.specs.Stands.{maps_of_a_book, left_in};
+ghost use Rattle.md_book.specs.Stands.{left_in};
 ghost use Rattle.md_book.specs.Filling.{put_back, take_from, look_front, resting_sums, taker_sums, TakesAtMost};
 
 use crate::commands::{Part, Side};
-use crate::maps::{BOUGHT, OPEN_ORDERS, SOLD};
+use crate::maps::{BOUGHT, MAPS, OPEN_ORDERS, SOLD};
 use crate::packing::{account_in, left_in};
 use crate::parts::raise;
 use md_history::{Stop, TxCalls};
@@ -54,7 +54,7 @@ fn put_back<T: TxCalls>(
 ) -> Result<(), Stop>
     requires part { taken ≤ left_in order }
     requires going { T.stop t.old ≡ None }
-    requires maps { maps_of_a_book ≤ T.maps (T.kept t.old) }
+    requires maps { MAPS ≤ T.maps (T.kept t.old) }
     requires level { level < T.queues (T.kept t.old) }
     ensures ok { IfOk result (λ r. (T.stop t.new ≡ None) × Adds (put_back level name order taken) r (T.acts t.old) (T.acts t.new)) }
     ensures err { IfErr result (λ e. BrokeOff (Follows (put_back level name order taken)) e (T.acts t.old) (T.acts t.new) (T.stop t.new)) }
@@ -79,7 +79,7 @@ fn take_from<T: TxCalls>(
 ) -> Result<Look, Stop>
     requires part { taken ≤ left_in order }
     requires going { T.stop t.old ≡ None }
-    requires maps { maps_of_a_book ≤ T.maps (T.kept t.old) }
+    requires maps { MAPS ≤ T.maps (T.kept t.old) }
     requires level { level < T.queues (T.kept t.old) }
     ensures ok { IfOk result (λ r. (T.stop t.new ≡ None) × Adds (take_from side level name order taken) r (T.acts t.old) (T.acts t.new)) }
     ensures err { IfErr result (λ e. BrokeOff (Follows (take_from side level name order taken)) e (T.acts t.old) (T.acts t.new) (T.stop t.new)) }
@@ -100,7 +100,7 @@ pub(crate) fn look_front<T: TxCalls>(
     rest: u32,
 ) -> Result<Look, Stop>
     requires going { T.stop t.old ≡ None }
-    requires maps { maps_of_a_book ≤ T.maps (T.kept t.old) }
+    requires maps { MAPS ≤ T.maps (T.kept t.old) }
     requires level { level < T.queues (T.kept t.old) }
     ensures ok { IfOk result (λ r. (T.stop t.new ≡ None) × Adds (look_front side level rest) r (T.acts t.old) (T.acts t.new)) }
     ensures err { IfErr result (λ e. BrokeOff (Follows (look_front side level rest)) e (T.acts t.old) (T.acts t.new) (T.stop t.new)) }

@@ -1,22 +1,24 @@
 // The law of the book, and laws of trading.
 ghost use Rattle.md_history.specs.State.{empty_state};
 ghost use Rattle.md_book.specs.Book.{empty_book};
-ghost use Rattle.md_book.specs.Stands.{maps_of_a_book, levels, StandsFor};
+ghost use Rattle.md_book.specs.Stands.{StandsFor};
 ghost use Rattle.md_book.specs.Meets.{CommandsMeetTheBook, CommandsAreSmall};
 ghost use Rattle.md_book.specs.Places.{FillsAreFew};
-ghost use Rattle.md_book.specs.Trading.{OrdersAddUp, EachOrderAddsUp, LevelsAddUp, DayAddsUp, AccountsAddUp, EachAccountAddsUp, FillsAddUp};
+ghost use Rattle.md_book.specs.Trading.{OrdersAddUp, EachOrderAddsUp, LevelsAddUp, DayAddsUp, AccountsAddUp, EachAccountAddsUp, FillsAddUp, KillsAreWhole};
+
+use crate::maps::{LEVELS, MAPS};
 
 /// The law of the book: each command is one step of it. From maps and queues that stand for a book, the
 /// right acts of a command that the book can take have the book's reply, leave maps and queues that stand
-/// for the book after the command, and read at most 16 words, write 44 and take 12 nodes. There is nothing to
-/// run: the law is what the call ensures.
+/// for the book after the command, and read at most `COMMAND_READS` words, write `COMMAND_WRITES` and take
+/// `COMMAND_NODES` nodes. There is nothing to run: the law is what the call ensures.
 pub fn commands_meet_the_book()
     ensures { CommandsMeetTheBook }
 {}
 
 /// Where the law begins: maps and queues with nothing in them stand for the book without orders.
 pub fn empty_book_stands()
-    ensures { StandsFor (empty_state maps_of_a_book levels) empty_book }
+    ensures { StandsFor (empty_state MAPS LEVELS) empty_book }
 {}
 
 /// The same bounds hold of all acts that a command can make, to its end or not, right from maps and queues
@@ -25,8 +27,8 @@ pub fn commands_are_small()
     ensures { CommandsAreSmall }
 {}
 
-/// A fill that looks at so many places reads at most 3 words for each and 3 more, writes 7 for each and 11
-/// more, and takes a node for each and 3 more.
+/// A fill reads at most 3 words for each place that it looks at and 3 more, writes 7 for each and 11 more, and
+/// takes a node for each and 3 more.
 pub fn fills_are_few()
     ensures { FillsAreFew }
 {}
@@ -64,7 +66,13 @@ pub fn each_account_adds_up()
     ensures { EachAccountAddsUp }
 {}
 
-/// What a fill took is the sum of its parts, and with what remains it is what was asked for.
+/// What a fill took is the sum of its parts, and with what remains it is what was asked for. So is what a kill
+/// took, if it took anything.
 pub fn fills_add_up()
     ensures { FillsAddUp }
+{}
+
+/// A kill takes nothing, or the whole quantity that it asks for.
+pub fn kills_are_whole()
+    ensures { KillsAreWhole }
 {}

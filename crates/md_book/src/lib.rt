@@ -8,8 +8,10 @@ mod commands;
 mod depths;
 mod fill;
 mod fronts;
+mod kill;
 mod laws;
 mod levels;
+mod limits;
 mod maps;
 mod names;
 mod packing;
@@ -21,8 +23,12 @@ mod tests;
 pub use commands::{BookReply, Command, Part, Side};
 pub use laws::{
     accounts_add_up, commands_are_small, commands_meet_the_book, days_add_up, each_account_adds_up,
-    each_order_adds_up, empty_book_stands, fills_add_up, fills_are_few, levels_add_up,
-    orders_add_up,
+    each_order_adds_up, empty_book_stands, fills_add_up, fills_are_few, kills_are_whole,
+    levels_add_up, orders_add_up,
+};
+pub use limits::{
+    COMMAND_NODES, COMMAND_READS, COMMAND_WRITES, MAX_ACCOUNT, MAX_CALLER, MAX_LINE, MAX_PARTS,
+    MAX_PRICE, MAX_QUANTITY, PLACES_IN_VERSION_1, PLACES_IN_VERSION_2,
 };
 pub use maps::{BOUGHT, DEPTHS, LEVELS, MAPS, OPEN_ORDERS, SOLD};
 pub use names::order_name;

@@ -1,5 +1,7 @@
 // The maps and queues of a book.
 
+use crate::limits::MAX_PRICE;
+
 /// How many maps a book needs.
 pub const MAPS: u32 = 4;
 
@@ -15,5 +17,5 @@ pub const BOUGHT: u32 = 2;
 /// The map of sums sold: an account, and what it sold in all.
 pub const SOLD: u32 = 3;
 
-/// How many levels there are. A book needs a queue for each.
-pub const LEVELS: u32 = 2_000;
+/// How many levels there are: one for each price at each side. A book needs a queue for each.
+pub const LEVELS: u32 = 2 * MAX_PRICE;

@@ -3,6 +3,7 @@ ghost use Rattle.std.specs.Prelude.{◌≡◌};
 ghost use Rattle.md_book.specs.Stands.{packed, account_in, level_in, left_in};
 
 use crate::commands::Side;
+use crate::limits::MAX_PRICE;
 
 /// An order's account, side, price and what is left, packed in one number.
 pub(crate) fn packed(account: u32, side: Side, price: u32, left: u32) -> u64
@@ -28,7 +29,7 @@ pub(crate) fn level_in(order: u64) -> u64
 {
     let side = order / 0x4000_0000 % 2;
     let price = order / 0x10_0000 % 1024;
-    side * 1000 + price.saturating_sub(1)
+    side * MAX_PRICE as u64 + price.saturating_sub(1)
 }
 
 /// What a packed order has left.

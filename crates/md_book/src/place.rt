@@ -2,12 +2,11 @@
 ghost use Rattle.std.specs.Prelude.{◌≡◌, ◌≤◌, None, IfOk, IfErr};
 ghost use Rattle.md_history.specs.Script.{Follows, Adds};
 ghost use Rattle.md_history.specs.Calls.{BrokeOff};
-ghost use Rattle.md_book.specs.Stands.{maps_of_a_book, levels};
 ghost use Rattle.md_book.specs.Book.{IsPrice};
 ghost use Rattle.md_book.specs.Scripts.{place};
 
 use crate::commands::{BookReply, Side};
-use crate::maps::{DEPTHS, OPEN_ORDERS};
+use crate::maps::{DEPTHS, LEVELS, MAPS, OPEN_ORDERS};
 use crate::packing::packed;
 use crate::parts::raise;
 use md_history::{Stop, TxCalls};
@@ -23,8 +22,8 @@ pub(crate) fn place<T: TxCalls>(
 ) -> Result<BookReply, Stop>
     requires going { T.stop t.old ≡ None }
     requires price { IsPrice price }
-    requires maps { maps_of_a_book ≤ T.maps (T.kept t.old) }
-    requires queues { levels ≤ T.queues (T.kept t.old) }
+    requires maps { MAPS ≤ T.maps (T.kept t.old) }
+    requires queues { LEVELS ≤ T.queues (T.kept t.old) }
     ensures ok { IfOk result (λ r. (T.stop t.new ≡ None) × Adds (place name account side price quantity) r (T.acts t.old) (T.acts t.new)) }
     ensures err { IfErr result (λ e. BrokeOff (Follows (place name account side price quantity)) e (T.acts t.old) (T.acts t.new) (T.stop t.new)) }
     ensures kept { T.kept t.new ≡ T.kept t.old }

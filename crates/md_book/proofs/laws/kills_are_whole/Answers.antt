@@ -1,0 +1,5 @@
+use Rattle.md_book.proofs.KillsAreWhole.{kills-are-whole}
+use Rattle.md_book.proofs.laws.kills_are_whole.Goals as goal
+
+pub returns : goal.returns
+returns c = kills-are-whole
