@@ -1,3 +1,5 @@
 pub mod Agree
 pub mod Follow
 pub mod Entry
+pub mod Values
+pub mod Ready
