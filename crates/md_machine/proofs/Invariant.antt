@@ -11,46 +11,49 @@ use Rattle.md_history.specs.declared.entries.Fate.{Fate}
 use Rattle.md_machine.specs.declared.attempt.AttemptId.{AttemptId}
 use Rattle.md_machine.specs.declared.attempt.HistoryEntry.{HistoryEntry}
 use Rattle.md_machine.specs.declared.opening.Opening.{Opening}
-use Rattle.md_machine.specs.Meaning.{Meaning}
-use Rattle.md_machine.specs.Machine.{Machine, shape_of, content, status_at, word_at}
-use Rattle.md_machine.specs.clauses.Formats.{AreFormats}
-use Rattle.md_machine.specs.clauses.Lanes.{LanesApart}
-use Rattle.md_machine.specs.GoesOn.{GoesOn, StatusGoesOn}
-use Rattle.md_machine.specs.clauses.Stamps.{NotedByRead}
-use Rattle.md_machine.specs.Event.{Event, Does, Plays, Runs}
-use Rattle.md_machine.specs.Theorem.{IsKept}
-use Rattle.md_machine.proofs.lists.Rising.{in_none, in_cons, here, there}
-use Rattle.md_machine.proofs.events.WordChanges.{formats-kept, counts_rise, statuses_go_on, stays_on}
-use Rattle.md_machine.proofs.events.Moves.{does_move}
-use Rattle.md_machine.specs.clauses.OddWords.{OddStand}
-use Rattle.md_machine.specs.clauses.Undecided.{UndecidedStand}
-use Rattle.md_machine.proofs.clauses.Statuses.{StatusesNoted, statuses-kept}
 use Rattle.md_machine.proofs.clauses.Brackets.{TrailsBracket, brackets-kept}
-use Rattle.md_machine.proofs.clauses.Undecided.{undecided-kept}
-use Rattle.md_machine.proofs.clauses.Order.{TrailsInOrder, order-kept}
-use Rattle.md_machine.proofs.clauses.Installs.{InstallsKept, installs-kept, step_rises}
-use Rattle.md_machine.proofs.clauses.OddWords.{odd_words-kept}
-use Rattle.md_machine.proofs.clauses.Stamps.{Stamp, Stamped, StampsKept, stamp_more, stamps-kept, stamps_hold}
-use Rattle.md_machine.proofs.clauses.Lanes.{lanes-kept}
-use Rattle.md_machine.proofs.clauses.Hands.{HandsFit, HandsFrom, hands_from, hands-kept}
-use Rattle.md_machine.proofs.clauses.EntriesFit.{EntriesFit, EntryFits, ReadsCounted}
-use Rattle.md_machine.proofs.clauses.EntriesDecided.{all_stay}
 use Rattle.md_machine.proofs.clauses.Entries.{entries-kept}
-use Rattle.md_machine.proofs.clauses.Past.{PastDecided, past-kept, fates_told}
-use Rattle.md_machine.proofs.clauses.Fronts.{fronts-kept}
-use Rattle.md_machine.specs.clauses.Fates.{PastKnown}
-use Rattle.md_machine.specs.clauses.Fronts.{FrontsFit}
-use Rattle.md_machine.specs.clauses.Placed.{PlacedStay}
-use Rattle.md_machine.specs.clauses.Flags.{FlaggedAreNoted}
-use Rattle.md_machine.proofs.clauses.Placed.{notes, placed-kept}
-use Rattle.md_machine.specs.clauses.WonInstalls.{WonAreInstalls}
-use Rattle.md_machine.proofs.clauses.WonInstalls.{won_installs-kept}
-use Rattle.md_machine.proofs.clauses.InHand.{HandsAlone, StepsBegun, in_hand-kept}
-use Rattle.md_machine.proofs.clauses.Stores.{StepsPast, StoresStand, steps_begun-kept, steps_past-kept, stores-kept}
-use Rattle.md_machine.specs.clauses.EntrySlots.{EntriesKeepSlots}
+use Rattle.md_machine.proofs.clauses.EntriesDecided.{all_stay}
+use Rattle.md_machine.proofs.clauses.EntriesFit.{EntriesFit, EntryFits, ReadsCounted}
 use Rattle.md_machine.proofs.clauses.EntrySlots.{entry_slots-kept}
 use Rattle.md_machine.proofs.clauses.Flags.{Noting, flags-kept}
-use Rattle.md_machine.proofs.clauses.KnownPast.{learns, known_past-kept}
+use Rattle.md_machine.proofs.clauses.Fronts.{fronts-kept}
+use Rattle.md_machine.proofs.clauses.Hands.{hands-kept}
+use Rattle.md_machine.proofs.clauses.InHand.{HandsAlone, StepsBegun, in_hand-kept}
+use Rattle.md_machine.proofs.clauses.Installs.{InstallsKept, installs-kept, step_rises}
+use Rattle.md_machine.proofs.clauses.KnownPast.{known_past-kept}
+use Rattle.md_machine.proofs.clauses.Lanes.{lanes-kept}
+use Rattle.md_machine.proofs.clauses.OddWords.{odd_words-kept}
+use Rattle.md_machine.proofs.clauses.Order.{TrailsInOrder, order-kept}
+use Rattle.md_machine.proofs.clauses.Past.{PastDecided, fates_told, past-kept}
+use Rattle.md_machine.proofs.clauses.Placed.{placed-kept}
+use Rattle.md_machine.proofs.clauses.Stamps.{Stamp, Stamped, StampsKept, stamp_more, stamps-kept, stamps_hold}
+use Rattle.md_machine.proofs.clauses.Statuses.{StatusesNoted, statuses-kept}
+use Rattle.md_machine.proofs.clauses.Stores.{StepsPast, StoresStand, steps_begun-kept, steps_past-kept, stores-kept}
+use Rattle.md_machine.proofs.clauses.Undecided.{undecided-kept}
+use Rattle.md_machine.proofs.clauses.WonInstalls.{won_installs-kept}
+use Rattle.md_machine.proofs.events.MoveFacts.{history_grows}
+use Rattle.md_machine.proofs.events.Moves.{does_move}
+use Rattle.md_machine.proofs.events.Tell.{tell}
+use Rattle.md_machine.proofs.events.WordChanges.{counts_rise, formats-kept, statuses_go_on, stays_on}
+use Rattle.md_machine.proofs.lists.Rising.{here, in_cons, in_none, there}
+use Rattle.md_machine.specs.Event.{Does, Event, Plays, Runs}
+use Rattle.md_machine.specs.GoesOn.{GoesOn, StatusGoesOn}
+use Rattle.md_machine.specs.Machine.{Machine, content, shape_of, status_at, word_at}
+use Rattle.md_machine.specs.Meaning.{Meaning}
+use Rattle.md_machine.specs.Theorem.{IsKept}
+use Rattle.md_machine.specs.clauses.EntrySlots.{EntriesKeepSlots}
+use Rattle.md_machine.specs.clauses.Fates.{PastKnown}
+use Rattle.md_machine.specs.clauses.Flags.{FlaggedAreNoted}
+use Rattle.md_machine.specs.clauses.Formats.{AreFormats}
+use Rattle.md_machine.specs.clauses.Fronts.{FrontsFit}
+use Rattle.md_machine.specs.clauses.Hands.{HandsFit}
+use Rattle.md_machine.specs.clauses.Lanes.{LanesApart}
+use Rattle.md_machine.specs.clauses.OddWords.{OddStand}
+use Rattle.md_machine.specs.clauses.Placed.{PlacedStay}
+use Rattle.md_machine.specs.clauses.Stamps.{NotedByRead}
+use Rattle.md_machine.specs.clauses.Undecided.{UndecidedStand}
+use Rattle.md_machine.specs.clauses.WonInstalls.{WonAreInstalls}
 
 pub record Invariant (m : Machine) : Type 0 where
   pub formats : AreFormats (shape_of m) m.words
@@ -128,34 +131,33 @@ kept_by m k = record {
 module _ (M : Meaning) where
   does_keep : (m n : Machine) (e : Event) → Invariant m → Does M m e n → Invariant n × GoesOn m n
   does_keep m n e k does =
-      let v = does_move M m n e k.formats k.lanes k.hands does in
-      let entries = entries-kept M m n e (record { formats = k.formats; hands = k.hands; fit = k.entries; counted = k.read_counts }) does in
+      let v = tell M m n k.formats k.lanes k.hands (does_move M m n e does) in
+      let entries = entries-kept m n (record { formats = k.formats; hands = k.hands; fit = k.entries; counted = k.read_counts }) v in
       let Shaped : (Shape → List ℕ → Type 0) → Type 0 = λ P. P (shape_of m) (set m.words v.word v.new) → P (shape_of n) n.words in
       let move : (P : Shape → List ℕ → Type 0) → Shaped P = λ P h. subst (λ (o : Opening). P o.shape n.words) (sym v.opening) (subst (P (shape_of m)) (sym v.words) h) in
       let reshape : (P : Shape → Type 0) → P (shape_of m) → P (shape_of n) = λ P h. subst (λ (o : Opening). P o.shape) (sym v.opening) h in
-      let fronts = fronts-kept M m n e k.formats.field k.lanes k.fronts does entries in
-      let hands = hands-kept m k.formats.field v.word v.new n.passes v.left k.lanes k.hands (subst (λ words. HandsFrom (shape_of m) words m.passes n.passes) v.words (hands_from M m n e does)) in
+      let fronts = fronts-kept m n v k.lanes k.fronts entries in
       let stamps = stamps-kept m n k.stamp k.formats.field k.stamps v v.words v.opening in (
         record {
           formats = move AreFormats (formats-kept (Unit {0}) m k.formats.field v.word v.new v.left k.formats);
-          lanes = lanes-kept M m n e k.lanes does;
-          hands = move (λ shape words. HandsFit shape words n.passes) hands;
+          lanes = reshape (λ shape. LanesApart shape n.passes) (lanes-kept m n v k.lanes);
+          hands = reshape (λ shape. HandsFit shape n.words n.passes) (hands-kept m n v k.formats.field k.lanes k.hands);
           entries = reshape (λ shape. EntriesFit shape n.words n.history n.fates) entries.fit;
           read_counts = reshape (λ shape. ReadsCounted shape n.words n.history) entries.counted;
           past = reshape (λ shape. PastDecided shape n.words n.history n.fates) (entries.past (subst (λ words. PastDecided (shape_of m) words m.history m.fates) (sym v.words) (past-kept m k.formats.field v.word v.new v.left k.entries k.fronts k.past)));
           fronts = reshape (λ shape. FrontsFit shape n.history n.fates n.passes) fronts;
-          known_past = reshape (λ shape. PastKnown shape n.words n.history n.passes) (known_past-kept m n k.formats.field k.lanes v.word v.new v.left (sym v.words)
-              (λ x c. (entry_fits (shape_of m) m.words m.history m.fates x k.entries c).1.exists) v.history k.fronts fronts (learns M m n e k.formats.field k.fronts does) k.known_past);
-          placed = placed-kept m n v.opening v.history entries.stay (notes M m n e does) k.placed;
+          known_past = reshape (λ shape. PastKnown shape n.words n.history n.passes) (known_past-kept m n v k.formats.field k.lanes
+              (λ x c. (entry_fits (shape_of m) m.words m.history m.fates x k.entries c).1.exists) entries.stay k.fronts fronts k.known_past);
+          placed = placed-kept m n v entries.stay k.placed;
           installs = move (λ shape words. InstallsKept shape words n.installs n.passes) (installs-kept m n v k.formats.field k.hands k.installs k.stamp k.stamps);
-          order = reshape (λ shape. TrailsInOrder shape n.passes) (order-kept m k.stamp k.stamps v.step (step_rises m n v k.formats.field k.hands k.installs) n.passes v.passes k.order);
+          order = reshape (λ shape. TrailsInOrder shape n.passes) (order-kept m k.stamp k.stamps v.step (step_rises m n v k.formats.field k.hands k.installs) n.passes v.from k.order);
           odd_words = move (λ shape words. OddStand shape words n.installs) (odd_words-kept m k.stamp k.stamps k.installs k.order n v k.formats.field k.hands k.odd_words);
           statuses = move (λ shape words. StatusesNoted shape words n.passes) (statuses-kept m n v k.formats.field k.statuses);
           brackets = move (λ shape words. TrailsBracket shape words n.passes) (brackets-kept m k.stamp k.stamps k.installs k.order n v k.formats.field k.hands k.odd_words k.brackets);
           undecided = move (λ shape words. UndecidedStand shape words n.installs) (undecided-kept m k.statuses k.brackets k.stamp k.stamps k.installs n v k.formats.field k.hands k.undecided);
-          flags = reshape (λ shape. Noting shape n.passes) (flags-kept M m n e does k.flags);
+          flags = reshape (λ shape. Noting shape n.passes) (flags-kept m n v k.flags);
           won_installs = won_installs-kept m n v k.won_installs;
-          in_hand = in_hand-kept M m n e k.lanes k.hands k.in_hand k.steps_begun does;
+          in_hand = in_hand-kept m n v k.lanes k.hands k.in_hand k.steps_begun;
           steps_begun = steps_begun-kept m n v k.formats.field k.hands k.in_hand k.steps_begun;
           steps_past = move (λ shape words. StepsPast shape words n.passes) (steps_past-kept m n v k.formats.field k.hands k.in_hand k.steps_past);
           stores = move (λ shape words. StoresStand shape words n.passes) (stores-kept m n v k.formats.field k.hands k.in_hand k.steps_past k.stores);
@@ -168,7 +170,7 @@ module _ (M : Meaning) where
         },
         record {
           opening = v.opening;
-          history = v.history;
+          history = history_grows m n v;
           fates = entries.stay;
           status = λ desc exists. move (λ shape words. StatusGoesOn (status_at m desc) (word_at shape words (desc_status desc))) (statuses_go_on (Unit {0}) m k.formats.field v.word v.new v.left desc exists);
           count = λ word counted. move (λ shape words. count_of (content m word) ≤ count_of (get_or words word 0)) (counts_rise (Unit {0}) m k.formats.field v.word v.new v.left word counted);

@@ -10,24 +10,24 @@ use Rattle.md_words.proofs.Words.{reads_of-status_word, serial_of-status_word, s
 use Rattle.md_machine.specs.declared.opening.Opening.{Opening}
 use Rattle.md_machine.specs.declared.step.Step.{Step}
 use Rattle.md_machine.specs.declared.pass.PassView.{PassView}
-use Rattle.md_machine.specs.Meaning.{Meaning}
-use Rattle.md_machine.specs.Machine.{Machine}
-use Rattle.md_machine.specs.Trail.{segments}
-use Rattle.md_machine.specs.clauses.Formats.{StatusFits, AreFormats}
-use Rattle.md_machine.specs.clauses.Fronts.{FrontFits}
-use Rattle.md_machine.specs.Event.{Event, Runs, CanOpen, opened, first_pass}
-use Rattle.md_machine.specs.Theorem.{AlwaysKept, AlwaysGoesOn}
-use Rattle.md_machine.proofs.lists.At.{at_one}
-use Rattle.md_machine.proofs.lists.Rising.{in_none, in_cons, here}
-use Rattle.md_machine.proofs.clauses.Order.{InOrder}
-use Rattle.md_machine.proofs.clauses.Brackets.{IsBracket}
 use Rattle.std.specs.List.{Contains}
-use Rattle.md_machine.proofs.clauses.LanesApart.{At, lanes_first}
 use Rattle.std.proofs.lemmas.List.Elements.{Contains-append_right}
 use Rattle.md_machine.specs.declared.attempt.Hand.{Hand}
-use Rattle.md_machine.proofs.events.Steps.{HasStep}
-use Rattle.md_machine.proofs.clauses.Hands.{none_some}
 use Rattle.md_machine.proofs.Invariant.{Invariant, kept_by, plays_keep, runs_keep}
+use Rattle.md_machine.proofs.clauses.Brackets.{IsBracket}
+use Rattle.md_machine.proofs.clauses.LanesApart.{At, lanes_first}
+use Rattle.md_machine.proofs.clauses.Order.{InOrder}
+use Rattle.md_machine.proofs.events.Steps.{HasStep}
+use Rattle.md_machine.proofs.lists.At.{at_one}
+use Rattle.md_machine.proofs.lists.Options.{none_some}
+use Rattle.md_machine.proofs.lists.Rising.{here, in_cons, in_none}
+use Rattle.md_machine.specs.Event.{CanOpen, Event, Runs, first_pass, opened}
+use Rattle.md_machine.specs.Machine.{Machine}
+use Rattle.md_machine.specs.Meaning.{Meaning}
+use Rattle.md_machine.specs.Theorem.{AlwaysGoesOn, AlwaysKept}
+use Rattle.md_machine.specs.Trail.{segments}
+use Rattle.md_machine.specs.clauses.Formats.{AreFormats, StatusFits}
+use Rattle.md_machine.specs.clauses.Fronts.{FrontFits}
 
 -- the status word 0
 zero_begins : 0 ≡ status_word InPrep 0 0

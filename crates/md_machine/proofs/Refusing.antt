@@ -10,16 +10,16 @@ use Rattle.md_words.specs.PlaceAt.{place_at}
 use Rattle.md_machine.specs.declared.attempt.AttemptId.{AttemptId}
 use Rattle.md_machine.specs.declared.step.Step.{Step}
 use Rattle.md_machine.specs.declared.pass.PassView.{PassView}
+use Rattle.md_machine.proofs.Reached.{reached}
+use Rattle.md_machine.proofs.lists.Rising.{here, in_cons, in_none}
+use Rattle.md_machine.specs.Machine.{attempt_of, content, present, shape_of}
 use Rattle.md_machine.specs.Meaning.{Meaning}
-use Rattle.md_machine.specs.Machine.{shape_of, content, attempt_of, present}
-use Rattle.md_machine.specs.Trail.{segments, StoresFor, LastStored, Loads}
 use Rattle.md_machine.specs.Own.{HasDesc}
+use Rattle.md_machine.specs.Refused.{EarlierValueRefused, OtherSlotRefused, PublishedNodeRefused}
 use Rattle.md_machine.specs.Stepping.{attempt_in_hand}
+use Rattle.md_machine.specs.Trail.{LastStored, Loads, StoresFor, segments}
 use Rattle.md_machine.specs.events.Store.{MayStoreAt}
 use Rattle.md_machine.specs.events.Uninstall.{slot_by_fate, value_by_fate}
-use Rattle.md_machine.specs.Refused.{PublishedNodeRefused, OtherSlotRefused, EarlierValueRefused}
-use Rattle.md_machine.proofs.lists.Rising.{in_none, in_cons, here}
-use Rattle.md_machine.proofs.Reached.{reached}
 
 module _ (M : Meaning) where
   pub published_node : PublishedNodeRefused M

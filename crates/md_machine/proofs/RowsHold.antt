@@ -8,11 +8,11 @@ use Rattle.md_words.specs.PlaceAt.{place_at}
 use Rattle.md_words.specs.Lanes.{OwnsNode, OwnsDesc, lane_of_node, lane_of_desc}
 use Rattle.md_machine.specs.declared.step.Step.{Step}
 use Rattle.md_machine.specs.declared.step.Kind.TheVariants.{Load}
-use Rattle.md_machine.specs.Meaning.{Meaning}
+use Rattle.md_machine.specs.Event.{Does, Runs, abort, install, load, mark_begin, opened, split, store, uninstall}
 use Rattle.md_machine.specs.Machine.{Machine}
-use Rattle.md_machine.specs.Event.{Does, Runs, opened, load, store, install, abort, uninstall, split, mark_begin}
-use Rattle.md_machine.specs.Walk.{view_at, hand_at, after_event}
-use Rattle.md_machine.specs.Rows.{small_opening, slot_0, installing, clearing, installed, cleared, ClearingRow}
+use Rattle.md_machine.specs.Meaning.{Meaning}
+use Rattle.md_machine.specs.Rows.{ClearingRow, cleared, clearing, installed, installing, slot_0, small_opening}
+use Rattle.md_machine.specs.Walk.{after_event, hand_at, view_at}
 
 abbrev m0 : Machine
 m0 = opened small_opening

@@ -4,3 +4,6 @@ pub mod Steps
 pub mod InstallSteps
 pub mod Moves
 pub mod Truth
+pub mod Attempts
+pub mod MoveFacts
+pub mod Tell

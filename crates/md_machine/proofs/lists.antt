@@ -1,2 +1,3 @@
 pub mod At
 pub mod Rising
+pub mod Options

@@ -12,11 +12,11 @@ use Rattle.md_machine.specs.declared.certificate.NewNode.{NewNode}
 use Rattle.md_machine.specs.declared.certificate.TidyChange.{TidyChange}
 use Rattle.md_machine.specs.declared.node.PlacedNode.{PlacedNode}
 use Rattle.md_machine.specs.declared.pass.PassView.{PassView}
-use Rattle.md_machine.specs.LogicalHeap.{LogicalWords, LogicalHeap, next_of}
-use Rattle.md_machine.specs.Meaning.{Meaning, TidyStandsBy, StandsBy, after_tidy, after_certificate}
+use Rattle.md_machine.specs.LogicalHeap.{LogicalHeap, LogicalWords, next_of}
 use Rattle.md_machine.specs.Machine.{Machine, shape_of}
-use Rattle.md_machine.specs.Resolution.{InEveryResolution, or_else}
+use Rattle.md_machine.specs.Meaning.{Meaning, StandsBy, TidyStandsBy, after_certificate, after_tidy}
 use Rattle.md_machine.specs.Own.{IsOwnNode}
+use Rattle.md_machine.specs.Resolution.{InEveryResolution, or_else}
 
 -- the heap after tidy changes, after a certificate with its tidy changes, and after several
 abbrev pub after_tidies : LogicalHeap → List TidyChange → LogicalHeap

@@ -14,19 +14,19 @@ use Rattle.md_machine.specs.declared.certificate.Certificate.{Certificate}
 use Rattle.md_machine.specs.declared.opening.Opening.{Opening}
 use Rattle.md_machine.specs.declared.pass.PassView.{PassView}
 use Rattle.md_machine.specs.declared.step.Kind.TheVariants.{Load}
+use Rattle.md_machine.specs.Machine.{IsAt, IsLive, Machine, content, shape_of}
 use Rattle.md_machine.specs.Meaning.{Meaning}
-use Rattle.md_machine.specs.Machine.{Machine, shape_of, content, IsAt, IsLive}
 use Rattle.md_machine.specs.Resolution.{logical_heap}
-use Rattle.md_machine.specs.Stepping.{stepped, replaced}
-use Rattle.md_machine.specs.events.Store.{MayStore, after_store}
-use Rattle.md_machine.specs.events.Install.{MayInstall, after_install}
+use Rattle.md_machine.specs.Stepping.{replaced, stepped}
+use Rattle.md_machine.specs.events.Decide.{MayAbort, MayCommit, after_abort, after_commit}
 use Rattle.md_machine.specs.events.Exchange.{MayExchange, after_exchange}
+use Rattle.md_machine.specs.events.Install.{MayInstall, after_install}
+use Rattle.md_machine.specs.events.Mark.{MayMarkAct, MayMarkBegin, MayMarkEnd, MayMarkStart, after_mark_act, after_mark_begin, after_mark_end, after_mark_leave, after_mark_start}
 use Rattle.md_machine.specs.events.Ready.{MayReady, after_ready}
-use Rattle.md_machine.specs.events.Decide.{MayCommit, MayAbort, after_commit, after_abort}
-use Rattle.md_machine.specs.events.Uninstall.{MayUninstall, after_uninstall}
+use Rattle.md_machine.specs.events.SplitJoin.{MaySplit, after_join, after_split}
 use Rattle.md_machine.specs.events.Start.{MayStart, after_start}
-use Rattle.md_machine.specs.events.Mark.{MayMarkBegin, MayMarkStart, MayMarkAct, MayMarkEnd, after_mark_begin, after_mark_start, after_mark_act, after_mark_end, after_mark_leave}
-use Rattle.md_machine.specs.events.SplitJoin.{MaySplit, after_split, after_join}
+use Rattle.md_machine.specs.events.Store.{MayStore, after_store}
+use Rattle.md_machine.specs.events.Uninstall.{MayUninstall, after_uninstall}
 
 -- what a pass may do: nine steps on words, two moves of lanes, and five marks
 pub data Event : Type 0 where

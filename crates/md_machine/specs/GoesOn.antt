@@ -7,7 +7,7 @@ use Rattle.md_words.specs.Status.{status_of, reads_of, serial_of}
 use Rattle.md_words.specs.Layout.{desc_count}
 use Rattle.md_words.specs.PlaceAt.{IsCounted}
 use Rattle.md_history.specs.Front.{IsPrefix, AllStay}
-use Rattle.md_machine.specs.Machine.{Machine, shape_of, content, status_at}
+use Rattle.md_machine.specs.Machine.{Machine, content, shape_of, status_at}
 
 -- a status moves from InPrep to InProg or Aborted, and from InProg to Committed or Aborted, or stays
 abbrev pub moves_to : Status → Status → Bool

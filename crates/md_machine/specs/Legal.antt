@@ -8,10 +8,10 @@ use Rattle.md_history.specs.Front.{Front, Begun, of_lane}
 use Rattle.md_machine.specs.declared.attempt.AttemptId.{AttemptId}
 use Rattle.md_machine.specs.declared.opening.Opening.{Opening}
 use Rattle.md_machine.specs.declared.pass.PassView.{PassView}
-use Rattle.md_machine.specs.Meaning.{Meaning}
-use Rattle.md_machine.specs.Machine.{Machine}
-use Rattle.md_machine.specs.Resolution.{Resolves, entries_of, logical_heap}
 use Rattle.md_machine.specs.Event.{opened}
+use Rattle.md_machine.specs.Machine.{Machine}
+use Rattle.md_machine.specs.Meaning.{Meaning}
+use Rattle.md_machine.specs.Resolution.{Resolves, entries_of, logical_heap}
 
 -- an attempt with its lane
 abbrev pub begun_of : Shape → AttemptId → Begun

@@ -7,7 +7,7 @@ use Rattle.md_history.specs.State.{State, answer, after}
 use Rattle.md_machine.specs.declared.certificate.Certificate.{Certificate}
 use Rattle.md_machine.specs.declared.certificate.TidyChange.{TidyChange}
 use Rattle.md_machine.specs.declared.certificate.Fact.{Fact}
-use Rattle.md_machine.specs.LogicalHeap.{LogicalWords, LogicalHeap, Holds, AgreeWherePlaced, IsNoUnplacedNext, IsPlaced, changed, changed_all, after_nodes}
+use Rattle.md_machine.specs.LogicalHeap.{AgreeWherePlaced, Holds, IsNoUnplacedNext, IsPlaced, LogicalHeap, LogicalWords, after_nodes, changed, changed_all}
 
 -- which heaps are valid, the state of their words, which certificates and tidy changes a shape has, and which of its
 -- counted words are links: words whose value names a node

@@ -8,7 +8,7 @@ use Rattle.md_history.specs.declared.stops.Shown.{Shown}
 use Rattle.md_machine.specs.declared.attempt.AttemptId.{AttemptId}
 use Rattle.md_machine.specs.declared.step.Step.{Step}
 use Rattle.md_machine.specs.declared.step.Kind.TheVariants.{Install, Exchange, Uninstall}
-use Rattle.md_machine.specs.Trail.{Finds, Leaves, StoresFor, SomeStep}
+use Rattle.md_machine.specs.Trail.{Finds, Leaves, SomeStep, StoresFor}
 
 -- another's descriptor stands in a word that holds this
 abbrev pub holds_other : ℕ → ℕ → Bool

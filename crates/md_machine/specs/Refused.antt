@@ -10,14 +10,14 @@ use Rattle.md_words.specs.Layout.{address}
 use Rattle.md_words.specs.PlaceAt.{place_at}
 use Rattle.md_machine.specs.declared.opening.Opening.{Opening}
 use Rattle.md_machine.specs.declared.pass.PassView.{PassView}
+use Rattle.md_machine.specs.Event.{CanOpen, Does, Event, Runs, install, opened, store}
+use Rattle.md_machine.specs.Machine.{IsAt, Machine, attempt_of, present, shape_of}
 use Rattle.md_machine.specs.Meaning.{Meaning}
-use Rattle.md_machine.specs.Machine.{Machine, shape_of, attempt_of, present, IsAt}
-use Rattle.md_machine.specs.Resolution.{Resolves, placed_under, always_placed, never_placed}
-use Rattle.md_machine.specs.Trail.{LastStored, Loads}
 use Rattle.md_machine.specs.Own.{HasDesc}
+use Rattle.md_machine.specs.Resolution.{Resolves, always_placed, never_placed, placed_under}
 use Rattle.md_machine.specs.Stepping.{attempt_in_hand}
+use Rattle.md_machine.specs.Trail.{LastStored, Loads}
 use Rattle.md_machine.specs.events.Uninstall.{KnowsValue}
-use Rattle.md_machine.specs.Event.{Event, Does, Runs, CanOpen, opened, store, install}
 
 -- where each entry has a fate, a node counts as placed in every resolution exactly where each resolution places it
 abbrev pub AlwaysMeansEvery : Type 0

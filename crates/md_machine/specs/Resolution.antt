@@ -13,7 +13,7 @@ use Rattle.md_machine.specs.declared.attempt.HistoryEntry.{HistoryEntry}
 use Rattle.md_machine.specs.declared.node.PlacedNode.{PlacedNode}
 use Rattle.md_machine.specs.declared.node.Structure.{Structure}
 use Rattle.md_machine.specs.LogicalHeap.{LogicalHeap}
-use Rattle.md_machine.specs.Machine.{Machine, shape_of, content, word_at, same_attempt, present}
+use Rattle.md_machine.specs.Machine.{Machine, content, present, same_attempt, shape_of, word_at}
 
 -- the entries as md_history has them
 abbrev pub entries_of : List HistoryEntry → List Entry

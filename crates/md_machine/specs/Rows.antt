@@ -5,9 +5,9 @@ use Rattle.md_words.specs.declared.shape.Shape.{Shape}
 use Rattle.md_words.specs.declared.content.Spot.{Spot}
 use Rattle.md_machine.specs.declared.node.Structure.TheVariants.{Queue}
 use Rattle.md_machine.specs.declared.opening.Opening.{Opening}
-use Rattle.md_machine.specs.Meaning.{Meaning}
+use Rattle.md_machine.specs.Event.{Event, Runs, abort, install, load, mark_begin, opened, split, store, uninstall}
 use Rattle.md_machine.specs.Machine.{Machine, content}
-use Rattle.md_machine.specs.Event.{Event, Runs, opened, load, store, install, abort, uninstall, split, mark_begin}
+use Rattle.md_machine.specs.Meaning.{Meaning}
 use Rattle.md_machine.specs.Walk.{after_all}
 
 -- two lanes of 16 nodes and four tries, one base node, one map of 64 buckets and one queue: 1,448 words

@@ -7,11 +7,11 @@ use Rattle.md_machine.specs.declared.node.Structure.TheVariants.{Bucket}
 use Rattle.md_machine.specs.declared.certificate.Certificate.{Certificate}
 use Rattle.md_machine.specs.declared.certificate.Change.{Change}
 use Rattle.md_machine.specs.declared.certificate.NewNode.{NewNode}
-use Rattle.md_machine.specs.Meaning.{Meaning}
+use Rattle.md_machine.specs.Event.{Event, Runs, abort, commit, install, load, mark_act, mark_begin, mark_end, mark_start, opened, ready, split, store, uninstall}
 use Rattle.md_machine.specs.Machine.{Machine, content}
-use Rattle.md_machine.specs.Event.{Event, Runs, opened, load, store, install, ready, commit, abort, uninstall, split, mark_begin, mark_start, mark_act, mark_end}
+use Rattle.md_machine.specs.Meaning.{Meaning}
+use Rattle.md_machine.specs.Rows.{small_opening, small_shape}
 use Rattle.md_machine.specs.Walk.{after_all}
-use Rattle.md_machine.specs.Rows.{small_shape, small_opening}
 
 -- key 1 is inserted with 10, as a node of the bucket of word 2
 abbrev pub inserts_change : ℕ → Change

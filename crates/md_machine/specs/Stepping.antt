@@ -15,8 +15,8 @@ use Rattle.md_machine.specs.declared.attempt.HistoryEntry.{HistoryEntry}
 use Rattle.md_machine.specs.declared.step.Step.{Step}
 use Rattle.md_machine.specs.declared.step.Kind.{Kind}
 use Rattle.md_machine.specs.declared.pass.PassView.{PassView}
-use Rattle.md_machine.specs.Machine.{Machine, shape_of, content, same_attempt, attempt_of}
-use Rattle.md_machine.specs.Resolution.{always_placed, always_nodes}
+use Rattle.md_machine.specs.Machine.{Machine, attempt_of, content, same_attempt, shape_of}
+use Rattle.md_machine.specs.Resolution.{always_nodes, always_placed}
 use Rattle.md_machine.specs.Trail.{is_store}
 
 -- the fate that a status tells: only a decided one tells any

@@ -1,24 +1,24 @@
 -- The theorem over all schedules.
 use Rattle.std.specs.Prelude.{List}
 use Rattle.md_machine.specs.declared.opening.Opening.{Opening}
-use Rattle.md_machine.specs.Meaning.{Meaning}
-use Rattle.md_machine.specs.Machine.{Machine, shape_of}
-use Rattle.md_machine.specs.clauses.Formats.{AreFormats}
-use Rattle.md_machine.specs.clauses.Lanes.{LanesApart}
-use Rattle.md_machine.specs.clauses.Stamps.{StampsHold}
+use Rattle.md_machine.specs.Event.{CanOpen, Event, Plays, Runs, opened}
 use Rattle.md_machine.specs.GoesOn.{GoesOn}
-use Rattle.md_machine.specs.clauses.Fates.{FatesByStatuses}
-use Rattle.md_machine.specs.clauses.Fronts.{FrontsFit}
-use Rattle.md_machine.specs.clauses.Placed.{PlacedStay}
-use Rattle.md_machine.specs.clauses.Flags.{FlaggedAreNoted}
-use Rattle.md_machine.specs.clauses.OddWords.{OddStand}
-use Rattle.md_machine.specs.clauses.Undecided.{UndecidedStand}
-use Rattle.md_machine.specs.clauses.Slots.{SlotsStand}
-use Rattle.md_machine.specs.clauses.WonInstalls.{WonAreInstalls}
-use Rattle.md_machine.specs.clauses.InHand.{HandsLast}
-use Rattle.md_machine.specs.clauses.Stores.{StoresAgree}
+use Rattle.md_machine.specs.Machine.{Machine, shape_of}
+use Rattle.md_machine.specs.Meaning.{Meaning}
 use Rattle.md_machine.specs.clauses.EntrySlots.{EntriesKeepSlots}
-use Rattle.md_machine.specs.Event.{Event, Plays, Runs, CanOpen, opened}
+use Rattle.md_machine.specs.clauses.Fates.{FatesByStatuses}
+use Rattle.md_machine.specs.clauses.Flags.{FlaggedAreNoted}
+use Rattle.md_machine.specs.clauses.Formats.{AreFormats}
+use Rattle.md_machine.specs.clauses.Fronts.{FrontsFit}
+use Rattle.md_machine.specs.clauses.InHand.{HandsLast}
+use Rattle.md_machine.specs.clauses.Lanes.{LanesApart}
+use Rattle.md_machine.specs.clauses.OddWords.{OddStand}
+use Rattle.md_machine.specs.clauses.Placed.{PlacedStay}
+use Rattle.md_machine.specs.clauses.Slots.{SlotsStand}
+use Rattle.md_machine.specs.clauses.Stamps.{StampsHold}
+use Rattle.md_machine.specs.clauses.Stores.{StoresAgree}
+use Rattle.md_machine.specs.clauses.Undecided.{UndecidedStand}
+use Rattle.md_machine.specs.clauses.WonInstalls.{WonAreInstalls}
 
 -- what holds of every machine that events lead to
 pub record IsKept (m : Machine) : Type 0 where

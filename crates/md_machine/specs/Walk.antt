@@ -2,17 +2,17 @@
 use Rattle.std.specs.Prelude.{ℕ, List, [], ◌∷◌, slice_index_or, unwrap_or}
 use Rattle.md_machine.specs.declared.attempt.Hand.{Hand}
 use Rattle.md_machine.specs.declared.pass.PassView.{PassView}
+use Rattle.md_machine.specs.Event.{Event, abort, after_load, commit, exchange, install, join, load, mark_act, mark_begin, mark_end, mark_leave, mark_start, ready, split, start, store, uninstall}
 use Rattle.md_machine.specs.Machine.{Machine, attempt_of}
-use Rattle.md_machine.specs.events.Store.{after_store}
-use Rattle.md_machine.specs.events.Install.{after_install}
+use Rattle.md_machine.specs.events.Decide.{after_abort, after_commit}
 use Rattle.md_machine.specs.events.Exchange.{after_exchange}
+use Rattle.md_machine.specs.events.Install.{after_install}
+use Rattle.md_machine.specs.events.Mark.{after_mark_act, after_mark_begin, after_mark_end, after_mark_leave, after_mark_start, new_hand}
 use Rattle.md_machine.specs.events.Ready.{after_ready}
-use Rattle.md_machine.specs.events.Decide.{after_commit, after_abort}
-use Rattle.md_machine.specs.events.Uninstall.{after_uninstall}
+use Rattle.md_machine.specs.events.SplitJoin.{after_join, after_split, spent}
 use Rattle.md_machine.specs.events.Start.{after_start}
-use Rattle.md_machine.specs.events.Mark.{new_hand, after_mark_begin, after_mark_start, after_mark_act, after_mark_end, after_mark_leave}
-use Rattle.md_machine.specs.events.SplitJoin.{spent, after_split, after_join}
-use Rattle.md_machine.specs.Event.{Event, load, store, install, exchange, ready, commit, abort, uninstall, start, split, join, mark_begin, mark_start, mark_act, mark_end, mark_leave, after_load}
+use Rattle.md_machine.specs.events.Store.{after_store}
+use Rattle.md_machine.specs.events.Uninstall.{after_uninstall}
 
 -- the pass at a place, and what it has in hand
 abbrev pub view_at : Machine → ℕ → PassView

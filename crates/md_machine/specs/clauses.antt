@@ -12,3 +12,4 @@ pub mod Undecided
 pub mod Fronts
 pub mod Flags
 pub mod Stores
+pub mod Hands

@@ -13,19 +13,19 @@ use Rattle.md_words.specs.PlaceAt.{IsCounted}
 use Rattle.md_words.proofs.Places.{address_below}
 use Rattle.md_machine.specs.declared.step.Step.{Step}
 use Rattle.md_machine.specs.declared.pass.PassView.{PassView}
-use Rattle.md_machine.specs.Machine.{Machine, shape_of, content, status_at, word_at}
-use Rattle.md_machine.specs.Trail.{segments}
-use Rattle.md_machine.specs.clauses.OddWords.{OddStand}
-use Rattle.md_machine.proofs.lists.Rising.{in_none, here, there}
-use Rattle.md_machine.proofs.clauses.LanesApart.{At}
-use Rattle.md_machine.proofs.events.WordChanges.{at_counted}
-use Rattle.md_machine.proofs.clauses.Hands.{HandsFit}
-use Rattle.md_machine.proofs.events.Moves.{Moves}
-use Rattle.md_machine.proofs.events.Steps.{HasStep, segment_from}
-use Rattle.md_machine.proofs.clauses.Stamps.{Stamp, StampsKept}
-use Rattle.md_machine.proofs.clauses.Order.{TrailsInOrder}
 use Rattle.md_machine.proofs.clauses.Installs.{InstallsKept}
+use Rattle.md_machine.proofs.clauses.LanesApart.{At}
 use Rattle.md_machine.proofs.clauses.OddWords.{standing_serial}
+use Rattle.md_machine.proofs.clauses.Order.{TrailsInOrder}
+use Rattle.md_machine.proofs.clauses.Stamps.{Stamp, StampsKept}
+use Rattle.md_machine.proofs.events.MoveFacts.{MoveFacts}
+use Rattle.md_machine.proofs.events.Steps.{HasStep, segment_from}
+use Rattle.md_machine.proofs.events.WordChanges.{at_counted}
+use Rattle.md_machine.proofs.lists.Rising.{here, in_none, there}
+use Rattle.md_machine.specs.Machine.{Machine, content, shape_of, status_at, word_at}
+use Rattle.md_machine.specs.Trail.{segments}
+use Rattle.md_machine.specs.clauses.Hands.{HandsFit}
+use Rattle.md_machine.specs.clauses.OddWords.{OddStand}
 
 -- the descriptor that a content with an odd count names
 abbrev pub desc_in : ℕ → ℕ
@@ -68,7 +68,7 @@ abbrev pub TrailsBracket : Shape → List ℕ → List PassView → Type 0
 TrailsBracket shape words passes = (pass : ℕ) (p : PassView) → At passes pass p → (segment : List Step) → Contains (segments p) segment → IsBracket shape words segment
 
 module _ (m : Machine) (stamp : Stamp) (stamps : StampsKept m stamp) (k : InstallsKept (shape_of m) m.words m.installs m.passes) (order : TrailsInOrder (shape_of m) m.passes)
-    (n : Machine) (v : Moves m n) (field : IsField (shape_of m) m.words) (hands : HandsFit (shape_of m) m.words m.passes) (odd_stand : OddStand (shape_of m) m.words m.installs) where
+    (n : Machine) (v : MoveFacts m n) (field : IsField (shape_of m) m.words) (hands : HandsFit (shape_of m) m.words m.passes) (odd_stand : OddStand (shape_of m) m.words m.installs) where
   abbrev later : List ℕ
   later = set m.words v.word v.new
 
@@ -133,4 +133,4 @@ module _ (m : Machine) (stamp : Stamp) (stamps : StampsKept m stamp) (k : Instal
       (λ s i. new_brackets s (x.0, p, x.2, (p.trail, last, i)))))
       (λ none. subst (IsBracket (shape_of m) later) none tt)
       o)
-      (segment_from m.passes n.passes v.step v.passes j u at segment c)
+      (segment_from m.passes n.passes v.step v.from j u at segment c)

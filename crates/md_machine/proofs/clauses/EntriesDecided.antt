@@ -17,14 +17,15 @@ use Rattle.md_history.specs.declared.entries.Fate.TheVariants.{Committed, Aborte
 use Rattle.md_history.specs.Front.{Stays, AllStay}
 use Rattle.md_machine.specs.declared.attempt.AttemptId.{AttemptId}
 use Rattle.md_machine.specs.declared.attempt.HistoryEntry.{HistoryEntry}
-use Rattle.md_machine.specs.Machine.{word_at, same_attempt, attempt_of}
-use Rattle.md_machine.specs.Stepping.{fate_told, with_fate}
-use Rattle.md_machine.specs.events.Decide.{decided_word}
-use Rattle.md_machine.specs.events.Uninstall.{IsDecided}
-use Rattle.md_machine.specs.clauses.Fates.{Tells}
+use Rattle.md_machine.proofs.clauses.EntriesFit.{EntriesFit, EntryFits, PresentFits, ReadsCounted}
+use Rattle.md_machine.proofs.events.Attempts.{same_from, same_parts}
 use Rattle.md_machine.proofs.lists.At.{at_below}
 use Rattle.md_machine.proofs.lists.Rising.{there}
-use Rattle.md_machine.proofs.clauses.EntriesFit.{PresentFits, EntryFits, EntriesFit, ReadsCounted, same_from, same_parts}
+use Rattle.md_machine.specs.Machine.{attempt_of, same_attempt, word_at}
+use Rattle.md_machine.specs.Stepping.{fate_told, with_fate}
+use Rattle.md_machine.specs.clauses.Fates.{Tells}
+use Rattle.md_machine.specs.events.Decide.{decided_word}
+use Rattle.md_machine.specs.events.Uninstall.{IsDecided}
 
 module _ (shape : Shape) (words : List ℕ) (field : IsField shape words) (desc new : ℕ) (exists : desc < desc_count shape) where
   abbrev old : ℕ

@@ -1,7 +1,7 @@
 -- Entries of the history agree with the statuses and the words of their descriptors.
-use Rattle.std.proofs.Common.{◌≡◌, ℕ, ◌<◌, ◌≤◌, ◌⊎◌, true, List, [], ◌∷◌, length, set, refl, sym, ap, ◌∙◌, subst, inl, inr, ⊎_elim, eq-eqb, arith}
+use Rattle.std.proofs.Common.{◌≡◌, ℕ, ◌<◌, ◌≤◌, ◌⊎◌, List, [], ◌∷◌, length, set, refl, sym, ap, ◌∙◌, subst, inl, inr, ⊎_elim, arith}
 use Rattle.std.specs.List.{Contains}
-use Rattle.std.proofs.lemmas.Bool.{and_parts, and_from, or_left, or_right, eqb-true, true≢false}
+use Rattle.std.proofs.lemmas.Bool.{true≢false}
 use lib.ListN.{get_elem?}
 use mathlib.Core.Option.{some}
 use Rattle.md_words.specs.declared.shape.Shape.{Shape}
@@ -11,15 +11,15 @@ use Rattle.md_words.specs.Place.{desc_status, read_word, read_content}
 use Rattle.md_words.specs.Layout.{address, desc_count, Exists}
 use Rattle.md_words.specs.LayoutLaws.{IsField}
 use Rattle.md_history.specs.declared.entries.Fate.{Fate}
-use Rattle.md_machine.specs.declared.attempt.AttemptId.{AttemptId}
 use Rattle.md_machine.specs.declared.attempt.HistoryEntry.{HistoryEntry}
 use Rattle.md_machine.specs.declared.attempt.Read.{Read}
-use Rattle.md_machine.specs.Machine.{Machine, shape_of, content, status_at, word_at, same_attempt, attempt_of, is_ready}
-use Rattle.md_machine.specs.clauses.Fates.{Tells}
-use Rattle.md_machine.proofs.lists.At.{at_below}
-use Rattle.md_machine.proofs.lists.Rising.{in_none, in_cons, here, there}
+use Rattle.md_machine.proofs.events.Attempts.{ready_in}
 use Rattle.md_machine.proofs.events.WordChanges.{MayLeave, Stores, at_left, at_place}
-use Rattle.md_machine.proofs.clauses.Hands.{HandsFit}
+use Rattle.md_machine.proofs.lists.At.{at_below}
+use Rattle.md_machine.proofs.lists.Rising.{here, there}
+use Rattle.md_machine.specs.Machine.{Machine, attempt_of, content, present, shape_of, status_at, word_at}
+use Rattle.md_machine.specs.clauses.Fates.{Tells}
+use Rattle.md_machine.specs.clauses.Hands.{HandsFit}
 
 -- the entry of a present attempt: the status tells its fate and counts its reads, which stand in the descriptor
 pub record PresentFits (shape : Shape) (words : List ℕ) (e : HistoryEntry) (f : Fate) : Type 0 where
@@ -44,20 +44,6 @@ EntriesFit shape words _ _ = ⊥
 pub record ReadsCounted (shape : Shape) (words : List ℕ) (history : List HistoryEntry) : Type 0 where
   pub counted : (desc : ℕ) → desc < desc_count shape → (reads_of (word_at shape words (desc_status desc)) ≡ 0)
       ⊎ ((e : HistoryEntry) × Contains history e × (e.attempt ≡ attempt_of desc (serial_of (word_at shape words (desc_status desc)))))
-
-pub same_from : (a b : AttemptId) → a.desc ≡ b.desc → a.serial ≡ b.serial → same_attempt a b ≡ true
-same_from a b d s = and_from _ _ (eq-eqb a.desc b.desc d) (eq-eqb a.serial b.serial s)
-
-pub same_parts : (a b : AttemptId) → same_attempt a b ≡ true → (a.desc ≡ b.desc) × (a.serial ≡ b.serial)
-same_parts a b e = let parts = and_parts _ _ e in (eqb-true a.desc b.desc parts.0, eqb-true a.serial b.serial parts.1)
-
--- an attempt with an entry is ready
-pub ready_in : (es : List HistoryEntry) (e : HistoryEntry) (a : AttemptId) → Contains es e → e.attempt.desc ≡ a.desc → e.attempt.serial ≡ a.serial → is_ready es a ≡ true
-ready_in [] e a c d s = absurd (in_none e c)
-ready_in (x ∷ xs) e a c d s = ⊎_elim
-    (λ same. or_left (same_attempt x.attempt a) (is_ready xs a) (same_from x.attempt a (ap (λ (y : HistoryEntry). y.attempt.desc) same ∙ d) (ap (λ (y : HistoryEntry). y.attempt.serial) same ∙ s)))
-    (λ later. or_right (same_attempt x.attempt a) (is_ready xs a) (ready_in xs e a later d s))
-    (in_cons x xs e c)
 
 -- nobody stores into the descriptor of a present attempt that has an entry
 pub not_stored : (m : Machine) → HandsFit (shape_of m) m.words m.passes → (e : HistoryEntry) → Contains m.history e → e.attempt.serial ≡ serial_of (status_at m e.attempt.desc) → Stores m e.attempt.desc → ⊥

@@ -18,12 +18,12 @@ use Rattle.md_history.specs.declared.entries.Fate.TheVariants.{Undecided}
 use Rattle.md_machine.specs.declared.attempt.Hand.{Hand}
 use Rattle.md_machine.specs.declared.attempt.HistoryEntry.{HistoryEntry}
 use Rattle.md_machine.specs.declared.attempt.Read.{Read}
-use Rattle.md_machine.specs.Machine.{Machine, shape_of, status_at, word_at, attempt_of}
-use Rattle.md_machine.specs.events.Ready.{read_now, reads_now, history_entry, unready_word, ready_word}
-use Rattle.md_machine.specs.clauses.Fates.{Tells}
+use Rattle.md_machine.proofs.clauses.EntriesDecided.{entry_other, entry_past, read_content_stays, read_word_stays, status_new, status_other}
+use Rattle.md_machine.proofs.clauses.EntriesFit.{EntriesFit, EntryFits, ReadsCounted}
 use Rattle.md_machine.proofs.lists.At.{at_below}
-use Rattle.md_machine.proofs.clauses.EntriesFit.{EntryFits, EntriesFit, ReadsCounted}
-use Rattle.md_machine.proofs.clauses.EntriesDecided.{status_new, read_word_stays, read_content_stays, status_other, entry_other, entry_past}
+use Rattle.md_machine.specs.Machine.{Machine, attempt_of, shape_of, status_at, word_at}
+use Rattle.md_machine.specs.clauses.Fates.{Tells}
+use Rattle.md_machine.specs.events.Ready.{history_entry, read_now, reads_now, ready_word, unready_word}
 
 -- the elements of what a function makes of a range
 at_range : {A : Type 0} (f : ℕ → A) (a n i : ℕ) (r : A) → get_elem? (map f (range_with_len a n)) i ≡ some r → f (a + i) ≡ r

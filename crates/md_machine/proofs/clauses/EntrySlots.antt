@@ -12,16 +12,18 @@ use Rattle.md_machine.specs.declared.attempt.AttemptId.{AttemptId}
 use Rattle.md_machine.specs.declared.attempt.HistoryEntry.{HistoryEntry}
 use Rattle.md_machine.specs.declared.attempt.Write.{Write}
 use Rattle.md_machine.specs.declared.opening.Opening.{Opening}
-use Rattle.md_machine.specs.Machine.{Machine, Install, shape_of, word_at, status_at, same_attempt, attempt_of}
-use Rattle.md_machine.specs.events.Ready.{write_now, writes_now, installs_by}
-use Rattle.md_machine.specs.Installs.{IsPresent}
-use Rattle.md_machine.specs.clauses.EntrySlots.{SlotsAreInstalls, EntriesKeepSlots}
-use Rattle.md_machine.proofs.lists.Rising.{in_none, in_cons, here, there, in_filter, filter_in}
-use Rattle.md_machine.proofs.events.WordChanges.{Stores, at_left, at_place, statuses_go_on}
-use Rattle.md_machine.proofs.clauses.Hands.{HandsFit}
-use Rattle.md_machine.proofs.clauses.EntriesFit.{same_from, same_parts, ready_in, not_stored}
-use Rattle.md_machine.proofs.events.Moves.{Moves, EntersIn}
+use Rattle.md_machine.proofs.clauses.EntriesFit.{not_stored}
 use Rattle.md_machine.proofs.clauses.Installs.{InstallsKept, was_present}
+use Rattle.md_machine.proofs.events.Attempts.{attempt_same, ready_in, same_from, same_parts}
+use Rattle.md_machine.proofs.events.MoveFacts.{Enters, MoveFacts, new_entry}
+use Rattle.md_machine.proofs.events.Moves.{own_exists}
+use Rattle.md_machine.proofs.events.WordChanges.{Stores, at_left, at_place, statuses_go_on}
+use Rattle.md_machine.proofs.lists.Rising.{filter_in, here, in_cons, in_filter, in_none, there}
+use Rattle.md_machine.specs.Installs.{IsPresent}
+use Rattle.md_machine.specs.Machine.{Install, Machine, attempt_of, same_attempt, shape_of, status_at, word_at}
+use Rattle.md_machine.specs.clauses.EntrySlots.{EntriesKeepSlots, SlotsAreInstalls}
+use Rattle.md_machine.specs.clauses.Hands.{HandsFit}
+use Rattle.md_machine.specs.events.Ready.{history_entry, installs_by, write_now, writes_now}
 
 in_map : {A B : Type 0} (f : A → B) (xs : List A) (y : B) → Contains (map f xs) y → (x : A) × Contains xs x × (f x ≡ y)
 in_map f [] y c = absurd (in_none y c)
@@ -30,9 +32,6 @@ in_map f (x ∷ xs) y c = ⊎_elim (λ e. (x, here x xs, e)) (λ i. let r = in_m
 map_in : {A B : Type 0} (f : A → B) (xs : List A) (x : A) → Contains xs x → Contains (map f xs) (f x)
 map_in f [] x c = absurd (in_none x c)
 map_in f (y ∷ ys) x c = ⊎_elim (λ e. subst (λ z. Contains (map f (y ∷ ys)) (f z)) e (here (f y) (map f ys))) (λ i. there (f y) (map f ys) (f x) (map_in f ys x i)) (in_cons y ys x c)
-
-pub attempt_same : (a b : AttemptId) → a.desc ≡ b.desc → a.serial ≡ b.serial → a ≡ b
-attempt_same a b d s = ap (λ x. attempt_of x a.serial) d ∙ ap (attempt_of b.desc) s
 
 -- an entry that has the slots of its attempt
 has_now : (m : Machine) (e : HistoryEntry) → e.writes ≡ writes_now m e.attempt → SlotsAreInstalls m e
@@ -52,7 +51,7 @@ write_with i new = record { slot = i.slot; word = i.word; old = i.old; new = new
 slot_no_status : (d j e : ℕ) → slot_new d j ≡ desc_status e → ⊥
 slot_no_status d j e same = cc
 
-module _ (m n : Machine) (v : Moves m n) (field : IsField (shape_of m) m.words) (hands : HandsFit (shape_of m) m.words m.passes) (k : InstallsKept (shape_of m) m.words m.installs m.passes) where
+module _ (m n : Machine) (v : MoveFacts m n) (field : IsField (shape_of m) m.words) (hands : HandsFit (shape_of m) m.words m.passes) (k : InstallsKept (shape_of m) m.words m.installs m.passes) where
   abbrev later : List ℕ
   later = set m.words v.word v.new
 
@@ -92,10 +91,11 @@ module _ (m n : Machine) (v : Moves m n) (field : IsField (shape_of m) m.words) 
       (λ h. absurd (true≢false (sym (ready_in m.history e i.attempt c (ap (λ (a : AttemptId). a.desc) (sym same)) (ap (λ (a : AttemptId). a.serial) (sym same))) ∙ h.unready)))
       (v.installs i made))
 
-  new_entry : (e : HistoryEntry) → EntersIn m n.installs v.word e → e.attempt.serial ≡ serial_of (word_at (shape_of m) later (desc_status e.attempt.desc)) → SlotsAreInstalls n e
-  new_entry e enters now = slots_on e (has_now m e enters.writes) now
-      (λ i same exists s q. slot_no_status i.attempt.desc i.slot e.attempt.desc (sym (place_at-address (shape_of m) (slot_new i.attempt.desc i.slot) exists) ∙ ap (place_at (shape_of m)) q ∙ enters.place))
-      (λ i made same. subst (λ is. Contains is i) enters.installs made)
+  of_new : (x : Enters m n v.p v.word v.new) → x.hand.attempt.serial ≡ serial_of (word_at (shape_of m) later (desc_status x.hand.attempt.desc)) → SlotsAreInstalls n (history_entry m x.hand x.count)
+  of_new x now = slots_on (history_entry m x.hand x.count) (has_now m (history_entry m x.hand x.count) refl) now
+      (λ i same exists s q. slot_no_status i.attempt.desc i.slot x.hand.attempt.desc (sym (place_at-address (shape_of m) (slot_new i.attempt.desc i.slot) exists) ∙ ap (place_at (shape_of m)) (q ∙ x.there)
+      ∙ place_at-address (shape_of m) (desc_status x.hand.attempt.desc) (own_exists m v.p _ x.own)))
+      (λ i made same. subst (λ is. Contains is i) x.installs made)
 
   -- every event keeps it
   pub entry_slots-kept : ((e : HistoryEntry) → Contains m.history e → (e.attempt.desc < desc_count (shape_of m)) × (e.attempt.serial ≤ serial_of (status_at m e.attempt.desc))) → EntriesKeepSlots m
@@ -105,5 +105,5 @@ module _ (m n : Machine) (v : Moves m n) (field : IsField (shape_of m) m.words) 
       let past = (fits e old).1 in
       let before : e.attempt.serial ≡ serial_of (status_at m e.attempt.desc) = ⊎_elim (λ more. absurd (omega (arith, more, past, now))) (λ same. now ∙ sym same.serial) (statuses_go_on (Unit {0}) m field v.word v.new v.left e.attempt.desc (fits e old).0) in
       old_entry e old before (was e old (ap (attempt_of e.attempt.desc) before)) now)
-      (λ enters. new_entry e enters now)
-      (v.entries e c)
+      (λ y. subst (SlotsAreInstalls n) y.1 (of_new y.0 (subst (λ (z : HistoryEntry). z.attempt.serial ≡ serial_of (word_at (shape_of m) later (desc_status z.attempt.desc))) (sym y.1) now)))
+      (new_entry m n v e c)

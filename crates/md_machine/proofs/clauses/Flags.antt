@@ -6,7 +6,6 @@ use Rattle.std.proofs.lemmas.Bool.{cond_both, false≢true}
 use Rattle.std.proofs.lemmas.List.Elements.{Contains-append_left, Contains-append_right, Contains-push, Contains-push_cases, Contains-append_cases}
 use Rattle.md_words.specs.declared.shape.Shape.{Shape}
 use Rattle.md_words.specs.Place.{Place, base_word, bucket_head, queue_head, queue_tail, node_key, node_value, node_next, desc_status, read_word, read_content, slot_word, slot_old, slot_new}
-use Rattle.md_words.specs.Layout.{address}
 use Rattle.md_words.specs.PlaceAt.{place_at}
 use Rattle.md_history.specs.declared.entries.Fate.{Fate}
 use Rattle.md_history.specs.declared.entries.Fate.TheVariants.{Committed, Aborted, Undecided}
@@ -15,21 +14,20 @@ use Rattle.md_machine.specs.declared.node.PlacedNode.{PlacedNode}
 use Rattle.md_machine.specs.declared.node.Structure.{Structure}
 use Rattle.md_machine.specs.declared.pass.PassView.{PassView}
 use Rattle.md_machine.specs.declared.step.Kind.{Kind}
-use Rattle.md_machine.specs.declared.step.Kind.TheVariants.{Load, Store, Install as Installs, Exchange, Ready, Commit, Abort, Uninstall, Start}
+use Rattle.md_machine.specs.declared.step.Kind.TheVariants.{Load}
 use Rattle.md_machine.specs.declared.step.Step.{Step}
-use Rattle.md_machine.specs.Meaning.{Meaning}
-use Rattle.md_machine.specs.Machine.{Machine, shape_of}
-use Rattle.md_machine.specs.Trail.{segments}
-use Rattle.md_machine.specs.Resolution.{least, or_else, structure_in, kept_structure, kept_nodes, always_placed, always_nodes}
-use Rattle.md_machine.specs.Stepping.{step_of, left_by, wins, exchanged, is_next_of_placed}
-use Rattle.md_machine.specs.events.Ready.{view_after_ready, unready_word, ready_word}
-use Rattle.md_machine.specs.events.SplitJoin.{spent, joined}
-use Rattle.md_machine.specs.events.Mark.{moved}
-use Rattle.md_machine.specs.clauses.Flags.{NotesNext, NotesFlagged, FlaggedAreNoted}
-use Rattle.md_machine.specs.Event.{Event, Does, load, store, install, exchange, ready, commit, abort, uninstall, start, split, join, mark_begin, mark_start, mark_act, mark_end, mark_leave}
-use Rattle.md_machine.proofs.lists.At.{at_set, at_append, at_one}
-use Rattle.md_machine.proofs.lists.Rising.{in_none, here, there}
 use Rattle.md_machine.proofs.clauses.LanesApart.{At}
+use Rattle.md_machine.proofs.events.MoveFacts.{MoveFacts}
+use Rattle.md_machine.proofs.events.Moves.{PassesGo, goes_on, is_joined, is_split}
+use Rattle.md_machine.proofs.lists.At.{at_append, at_one, at_set}
+use Rattle.md_machine.proofs.lists.Rising.{here, in_none, there}
+use Rattle.md_machine.specs.Machine.{IsAt, Machine, shape_of}
+use Rattle.md_machine.specs.Resolution.{always_nodes, always_placed, kept_nodes, kept_structure, least, or_else, structure_in}
+use Rattle.md_machine.specs.Stepping.{is_next_of_placed, step_of}
+use Rattle.md_machine.specs.Trail.{segments}
+use Rattle.md_machine.specs.clauses.Flags.{FlaggedAreNoted, NotesFlagged, NotesNext}
+use Rattle.md_machine.specs.events.Mark.{moved}
+use Rattle.md_machine.specs.events.SplitJoin.{joined, spent}
 
 -- a node of a list
 abbrev pub HasNode : List PlacedNode → ℕ → Type 0
@@ -140,32 +138,14 @@ joined_flags shape p q mine theirs =
     (flagged_more shape q.placed noted (segments q) (λ x. Contains-append_right p.placed q.placed x) theirs))
     (flagged_empty shape noted)
 
-module _ (M : Meaning) where
-  -- every event keeps it
-  pub flags-kept : (m n : Machine) (e : Event) → Does M m e n → FlaggedAreNoted m → Noting (shape_of m) n.passes
-  flags-kept m n (load pass word) (p, acts, exists, is) was = subst (λ (k : Machine). Noting (shape_of m) k.passes) (sym is) (noting_step m pass p _ Load word _ acts.at refl refl refl was)
-  flags-kept m n (store pass word value) (p, h, acts, may, is) was = subst (λ (k : Machine). Noting (shape_of m) k.passes) (sym is) (noting_step m pass p _ Store word _ acts.at refl refl refl was)
-  flags-kept m n (install pass word from to) (p, h, acts, may, is) was = subst (λ (k : Machine). Noting (shape_of m) k.passes) (sym is) (noting_step m pass p _ Installs word _ acts.at refl refl refl was)
-  flags-kept m n (exchange pass word from to) (p, acts, may, is) was = subst (λ (k : Machine). Noting (shape_of m) k.passes) (sym is) (noting_step m pass p _ Exchange word _ acts.at refl refl refl was)
-  flags-kept m n (commit pass desc from) (p, acts, may, is) was = subst (λ (k : Machine). Noting (shape_of m) k.passes) (sym is) (noting_step m pass p _ Commit _ _ acts.at refl refl refl was)
-  flags-kept m n (abort pass desc from) (p, acts, may, is) was = subst (λ (k : Machine). Noting (shape_of m) k.passes) (sym is) (noting_step m pass p _ Abort _ _ acts.at refl refl refl was)
-  flags-kept m n (uninstall pass word from value) (p, acts, may, is) was = subst (λ (k : Machine). Noting (shape_of m) k.passes) (sym is) (noting_step m pass p _ Uninstall word _ acts.at refl refl refl was)
-  flags-kept m n (start pass desc from) (p, acts, may, is) was = subst (λ (k : Machine). Noting (shape_of m) k.passes) (sym is) (noting_step m pass p _ Start _ _ acts.at refl refl refl was)
-  flags-kept m n (mark_begin pass desc tag) (p, acts, may, is) was = subst (λ (k : Machine). Noting (shape_of m) k.passes) (sym is) (noting_step m pass p _ Load 0 _ acts.at refl refl refl was)
-  flags-kept m n (mark_start pass) (p, h, acts, may, is) was = subst (λ (k : Machine). Noting (shape_of m) k.passes) (sym is) (noting_step m pass p _ Load 0 _ acts.at refl refl refl was)
-  flags-kept m n (mark_act pass c) (p, h, acts, may, is) was = subst (λ (k : Machine). Noting (shape_of m) k.passes) (sym is) (noting_step m pass p _ Load 0 _ acts.at refl refl refl was)
-  flags-kept m n (mark_end pass) (p, h, acts, may, is) was = subst (λ (k : Machine). Noting (shape_of m) k.passes) (sym is) (noting_step m pass p _ Load 0 _ acts.at refl refl refl was)
-  flags-kept m n (mark_leave pass) (p, acts, is) was = subst (λ (k : Machine). Noting (shape_of m) k.passes) (sym is) (noting_step m pass p _ Load 0 _ acts.at refl refl refl was)
-  flags-kept m n (ready pass count) (p, h, acts, may, is) was = subst (λ (k : Machine). Noting (shape_of m) k.passes) (sym is) (
-      let word = address (shape_of m) (desc_status h.attempt.desc) in
-      let new = left_by m word (unready_word h.attempt) (ready_word h.attempt count) in
-      let plain = exchanged m p Ready word (unready_word h.attempt) (ready_word h.attempt count) in
-      let won = wins m word (unready_word h.attempt) in
-      noting_step m pass p (view_after_ready m p h count) Ready word new acts.at
-      (cond_both won _ plain (λ (q : PassView). q.past ≡ p.past) (λ _. refl) (λ _. refl))
-      (cond_both won _ plain (λ (q : PassView). q.trail ≡ p.trail ++ step_of m p Ready word new ∷ []) (λ _. refl) (λ _. refl))
-      (cond_both won _ plain (λ (q : PassView). q.placed ≡ p.placed ++ always_nodes m) (λ _. refl) (λ _. refl)) was)
-  flags-kept m n (split pass) (p, acts, may, is) was = subst (λ (k : Machine). Noting (shape_of m) k.passes) (sym is)
-      (noting_split m pass p _ _ Load 0 _ acts.at refl refl refl was (noting_step m pass p _ Load 0 _ acts.at refl refl refl was))
-  flags-kept m n (join pass other) (p, q, acts, ne, there, is) was = subst (λ (k : Machine). Noting (shape_of m) k.passes) (sym is)
-      (noting_set _ _ other spent (flagged_empty (shape_of m) []) (noting_set _ m.passes pass _ (joined_flags (shape_of m) (moved m p) q (stepped_flags m p (moved m p) Load 0 _ refl refl refl (was pass p acts.at)) (was other q there.at)) was))
+-- every event keeps it
+flags_go : (m n : Machine) (pass : ℕ) (p : PassView) (kind : Kind) (word new : ℕ) (s : Step) → IsAt m pass p → s ≡ step_of m p kind word new → FlaggedAreNoted m → PassesGo m n pass p s → Noting (shape_of m) n.passes
+flags_go m n pass p kind word new s at is_step was (goes_on q is view) = subst (Noting (shape_of m)) (sym is)
+    (noting_step m pass p q kind word new at view.past (subst (λ t. q.trail ≡ p.trail ++ t ∷ []) is_step view.trail) view.placed was)
+flags_go m n pass p kind word new s at is_step was (is_split _ _ _ _ is) = subst (Noting (shape_of m)) (sym is)
+    (noting_split m pass p _ _ Load 0 _ at refl refl refl was (noting_step m pass p _ Load 0 _ at refl refl refl was))
+flags_go m n pass p kind word new s at is_step was (is_joined other q _ acts _ _ _ is) = subst (Noting (shape_of m)) (sym is)
+    (noting_set _ _ other spent (flagged_empty (shape_of m) []) (noting_set _ m.passes pass _ (joined_flags (shape_of m) (moved m p) q (stepped_flags m p (moved m p) Load 0 _ refl refl refl (was pass p at)) (was other q acts.at)) was))
+
+pub flags-kept : (m n : Machine) → MoveFacts m n → FlaggedAreNoted m → Noting (shape_of m) n.passes
+flags-kept m n v was = flags_go m n v.pass v.p v.kind v.word v.new v.step v.at v.is_step was v.passes

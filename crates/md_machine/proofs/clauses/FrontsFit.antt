@@ -10,16 +10,16 @@ use Rattle.md_history.specs.Front.{IsPrefix, AllStay, known_of_both, is_lane_of}
 use Rattle.md_machine.specs.declared.attempt.HistoryEntry.{HistoryEntry}
 use Rattle.md_machine.specs.declared.step.Step.{Step}
 use Rattle.md_machine.specs.declared.pass.PassView.{PassView}
+use Rattle.md_machine.proofs.clauses.EntriesDecided.{all_stay}
+use Rattle.md_machine.proofs.clauses.EntriesFit.{EntriesFit}
+use Rattle.md_machine.proofs.clauses.LanesApart.{At}
+use Rattle.md_machine.proofs.fates.Knowing.{TellsTruth, all_stay_on, joined_length, joined_stay, known_fits, prefix_on}
+use Rattle.md_machine.proofs.lists.At.{at_append, at_one, at_set}
+use Rattle.md_machine.proofs.lists.Rising.{in_filter, in_none, lane_in}
 use Rattle.md_machine.specs.Machine.{Machine, shape_of}
 use Rattle.md_machine.specs.Stepping.{known_after}
-use Rattle.md_machine.specs.events.SplitJoin.{joined_lanes, longer, spent}
 use Rattle.md_machine.specs.clauses.Fronts.{FrontFits, FrontsFit}
-use Rattle.md_machine.proofs.lists.At.{at_set, at_append, at_one}
-use Rattle.md_machine.proofs.lists.Rising.{in_none, in_filter, lane_in}
-use Rattle.md_machine.proofs.clauses.LanesApart.{At}
-use Rattle.md_machine.proofs.clauses.EntriesFit.{EntriesFit}
-use Rattle.md_machine.proofs.clauses.EntriesDecided.{all_stay}
-use Rattle.md_machine.proofs.fates.Knowing.{TellsTruth, known_fits, all_stay_on, prefix_on, joined_stay, joined_length}
+use Rattle.md_machine.specs.events.SplitJoin.{joined_lanes, longer, spent}
 
 -- two first parts of one list: the longer one has what the shorter one has
 within_longer : {A : Type 0} (xs ys h : List A) (x : A) → IsPrefix xs h → IsPrefix ys h → length xs ≤ length ys → Contains xs x → Contains ys x

@@ -1,32 +1,30 @@
 -- The steps for what is in hand lie in the last segment of its pass alone, after every event.
 use Rattle.std.proofs.Common.{◌≡◌, ◌≢◌, ℕ, true, false, List, [], ◌∷◌, ◌++◌, set, refl, sym, ap, ◌∙◌, subst, ⊎_elim, Option, Some, None}
 use Rattle.std.specs.List.{Contains}
-use Rattle.std.proofs.lemmas.Bool.{cond_both, or_left, or_right, or_cases, true≢false, false≢true}
+use Rattle.std.proofs.lemmas.Bool.{true≢false}
 use Rattle.std.proofs.lemmas.List.Elements.{Contains-append_left, Contains-push, Contains-push_cases, Contains-append_cases}
-use Rattle.md_words.specs.Place.{desc_status}
-use Rattle.md_words.specs.Layout.{address}
 use Rattle.md_machine.specs.declared.attempt.AttemptId.{AttemptId}
 use Rattle.md_machine.specs.declared.attempt.Hand.{Hand}
+use Rattle.std.specs.Prelude.{Option, None}
 use Rattle.md_machine.specs.declared.pass.PassView.{PassView}
 use Rattle.md_machine.specs.declared.step.Step.{Step}
-use Rattle.md_machine.specs.declared.step.Kind.TheVariants.{Load, Ready}
-use Rattle.md_machine.specs.Meaning.{Meaning}
-use Rattle.md_machine.specs.Machine.{Machine, shape_of, content, same_attempt, was_begun}
-use Rattle.md_machine.specs.Own.{HasDesc}
-use Rattle.md_machine.specs.clauses.Lanes.{LanesApart}
-use Rattle.md_machine.specs.Trail.{segments}
-use Rattle.md_machine.specs.Stepping.{step_of, attempt_in_hand, left_by, wins, exchanged}
-use Rattle.md_machine.specs.events.Install.{hand_after_install}
-use Rattle.md_machine.specs.events.Ready.{view_after_ready, unready_word, ready_word}
-use Rattle.md_machine.specs.events.SplitJoin.{spent}
-use Rattle.md_machine.specs.clauses.InHand.{FreeOf}
-use Rattle.md_machine.specs.Event.{Event, Does, load, store, install, exchange, ready, commit, abort, uninstall, start, split, join, mark_begin, mark_start, mark_act, mark_end, mark_leave}
-use Rattle.md_machine.proofs.lists.At.{at_set, at_append, at_one}
-use Rattle.md_machine.proofs.lists.Rising.{in_none}
-use Rattle.md_machine.proofs.clauses.LanesApart.{At}
+use Rattle.md_machine.proofs.clauses.LanesApart.{At, one_owner}
+use Rattle.md_machine.proofs.events.Attempts.{begun_last, begun_more, in_hand_some}
+use Rattle.md_machine.proofs.events.MoveFacts.{MoveFacts}
+use Rattle.md_machine.proofs.events.Moves.{HandGoes, PassesGo, goes_on, hand_begins, hand_changes, hand_ends, hand_leaves, hand_stays, is_joined, is_split}
 use Rattle.md_machine.proofs.events.Steps.{HasStep}
-use Rattle.md_machine.proofs.clauses.Hands.{HandsFit, SameHand, as_it_was, emptied, changed_hand, some_same, none_some, one_owner}
-use Rattle.md_machine.proofs.clauses.EntriesFit.{same_from}
+use Rattle.md_machine.proofs.lists.At.{at_append, at_one, at_set}
+use Rattle.md_machine.proofs.lists.Options.{none_some, some_same}
+use Rattle.md_machine.proofs.lists.Rising.{in_none, there}
+use Rattle.md_machine.specs.Machine.{Machine, present, shape_of, was_begun}
+use Rattle.md_machine.specs.Own.{HasDesc}
+use Rattle.md_machine.specs.Stepping.{attempt_in_hand}
+use Rattle.md_machine.specs.Trail.{segments}
+use Rattle.md_machine.specs.clauses.Hands.{HandsFit}
+use Rattle.md_machine.specs.clauses.InHand.{FreeOf}
+use Rattle.md_machine.specs.clauses.Lanes.{LanesApart}
+use Rattle.md_machine.specs.events.Mark.{moved_step, new_hand}
+use Rattle.md_machine.specs.events.SplitJoin.{given_part, joined_part, kept_part, spent}
 
 abbrev pub AwayIn : List PassView → AttemptId → (pass : ℕ) → Type 0
 AwayIn passes a pass = (j : ℕ) (q : PassView) → At passes j q → j ≢ pass → FreeOf a (segments q)
@@ -39,18 +37,6 @@ pub record HandsAlone (begun : List AttemptId) (passes : List PassView) : Type 0
 -- whatever a step was made for was begun
 abbrev pub StepsBegun : List AttemptId → List PassView → Type 0
 StepsBegun begun passes = (t : Step) → HasStep passes t → (a : AttemptId) → t.attempt ≡ Some a → was_begun begun a ≡ true
-
-pub in_hand_some : (o : Option Hand) (a : AttemptId) → attempt_in_hand o ≡ Some a → (h : Hand) × (o ≡ Some h) × (h.attempt ≡ a)
-in_hand_some None a e = absurd (none_some None a refl e)
-in_hand_some (Some h) a e = (h, refl, some_same h.attempt a e)
-
-pub begun_more : (bs cs : List AttemptId) (a : AttemptId) → was_begun bs a ≡ true → was_begun (bs ++ cs) a ≡ true
-begun_more [] cs a h = absurd (false≢true h)
-begun_more (b ∷ bs) cs a h = ⊎_elim (λ l. or_left (same_attempt b a) (was_begun (bs ++ cs) a) l) (λ r. or_right (same_attempt b a) (was_begun (bs ++ cs) a) (begun_more bs cs a r)) (or_cases (same_attempt b a) (was_begun bs a) h)
-
-begun_last : (bs : List AttemptId) (a : AttemptId) → was_begun (bs ++ a ∷ []) a ≡ true
-begun_last [] a = or_left (same_attempt a a) false (same_from a a refl refl)
-begun_last (b ∷ bs) a = or_right (same_attempt b a) (was_begun (bs ++ a ∷ []) a) (begun_last bs a)
 
 free_both : (a : AttemptId) (xs ys : List (List Step)) → FreeOf a xs → FreeOf a ys → FreeOf a (xs ++ ys)
 free_both a xs ys f g segment c = ⊎_elim (λ l. f segment l) (λ r. g segment r) (Contains-append_cases xs ys segment c)
@@ -78,6 +64,10 @@ away_self passes a pass q was j w at ne = ⊎_elim (λ e. absurd (ne e.0)) (λ o
 
 away_push : (passes : List PassView) (a : AttemptId) (i : ℕ) (r : PassView) → AwayIn passes a i → FreeOf a (segments r) → AwayIn (passes ++ r ∷ []) a i
 away_push passes a i r was f j w at ne = ⊎_elim (λ old. was j w old ne) (λ end. subst (λ (v : PassView). FreeOf a (segments v)) (at_one r w end.0 end.2).1 f) (at_append passes (r ∷ []) j w at)
+
+-- what is in hand stays the same attempt
+abbrev SameHand : (was now : Option Hand) → Type 0
+SameHand was now = (h : Hand) → now ≡ Some h → (g : Hand) × (was ≡ Some g) × (g.attempt ≡ h.attempt)
 
 module _ (m : Machine) (apart : LanesApart (shape_of m) m.passes) (hands : HandsFit (shape_of m) m.words m.passes) (was : HandsAlone m.begun m.passes) where
   -- another pass makes no step for what a pass has in hand
@@ -158,33 +148,27 @@ module _ (m : Machine) (apart : LanesApart (shape_of m) m.passes) (hands : Hands
         begins = λ i u h u_at held. let x = idle i u h u_at held in was.begins i u h x.2 held;
       }
 
-abbrev Alone : Machine → Type 0
-Alone n = HandsAlone n.begun n.passes
+module _ (m n : Machine) (v : MoveFacts m n) (apart : LanesApart (shape_of m) m.passes) (hands : HandsFit (shape_of m) m.words m.passes) (was : HandsAlone m.begun m.passes) (steps : StepsBegun m.begun m.passes) where
+  made : v.step.attempt ≡ attempt_in_hand v.p.hand
+  made = ap (λ (s : Step). s.attempt) v.is_step
 
-module _ (M : Meaning) where
-  pub in_hand-kept : (m n : Machine) (e : Event) → LanesApart (shape_of m) m.passes → HandsFit (shape_of m) m.words m.passes → HandsAlone m.begun m.passes → StepsBegun m.begun m.passes → Does M m e n → HandsAlone n.begun n.passes
-  in_hand-kept m n (load pass word) apart hands was steps (p, acts, exists, is) = subst Alone (sym is) (alone_set m apart hands was pass p _ _ acts.at refl refl refl (as_it_was p.hand))
-  in_hand-kept m n (store pass word value) apart hands was steps (p, h, acts, may, is) = subst Alone (sym is) (alone_set m apart hands was pass p _ _ acts.at refl refl refl (changed_hand p.hand h _ may.held refl))
-  in_hand-kept m n (install pass word from to) apart hands was steps (p, h, acts, may, is) = subst Alone (sym is) (alone_set m apart hands was pass p _ _ acts.at refl refl refl (changed_hand p.hand h _ may.held
-      (cond_both (wins m word from) (hand_after_install m h word from to) h (λ k. h.attempt ≡ k.attempt) (λ _. refl) (λ _. refl))))
-  in_hand-kept m n (exchange pass word from to) apart hands was steps (p, acts, may, is) = subst Alone (sym is) (alone_set m apart hands was pass p _ _ acts.at refl refl refl (as_it_was p.hand))
-  in_hand-kept m n (ready pass count) apart hands was steps (p, h, acts, may, is) = subst Alone (sym is) (
-      let word = address (shape_of m) (desc_status h.attempt.desc) in
-      let new = left_by m word (unready_word h.attempt) (ready_word h.attempt count) in
-      let plain = exchanged m p Ready word (unready_word h.attempt) (ready_word h.attempt count) in
-      let won = wins m word (unready_word h.attempt) in
-      alone_set m apart hands was pass p (view_after_ready m p h count) (step_of m p Ready word new) acts.at refl
-      (cond_both won _ plain (λ (q : PassView). q.past ≡ p.past) (λ _. refl) (λ _. refl))
-      (cond_both won _ plain (λ (q : PassView). q.trail ≡ p.trail ++ step_of m p Ready word new ∷ []) (λ _. refl) (λ _. refl))
-      (cond_both won _ plain (λ (q : PassView). SameHand p.hand q.hand) (λ _. as_it_was p.hand) (λ _. as_it_was p.hand)))
-  in_hand-kept m n (commit pass desc from) apart hands was steps (p, acts, may, is) = subst Alone (sym is) (alone_set m apart hands was pass p _ _ acts.at refl refl refl (as_it_was p.hand))
-  in_hand-kept m n (abort pass desc from) apart hands was steps (p, acts, may, is) = subst Alone (sym is) (alone_set m apart hands was pass p _ _ acts.at refl refl refl (as_it_was p.hand))
-  in_hand-kept m n (uninstall pass word from value) apart hands was steps (p, acts, may, is) = subst Alone (sym is) (alone_set m apart hands was pass p _ _ acts.at refl refl refl (as_it_was p.hand))
-  in_hand-kept m n (start pass desc from) apart hands was steps (p, acts, may, is) = subst Alone (sym is) (alone_set m apart hands was pass p _ _ acts.at refl refl refl (as_it_was p.hand))
-  in_hand-kept m n (split pass) apart hands was steps (p, acts, may, is) = subst Alone (sym is) (alone_split m apart hands was pass p _ _ _ acts.at refl refl refl refl refl refl refl)
-  in_hand-kept m n (join pass other) apart hands was steps (p, q, acts, ne, there, is) = subst Alone (sym is) (alone_join m apart hands was pass other p q _ (step_of m p Load 0 (content m 0)) acts.at there.at refl refl refl refl)
-  in_hand-kept m n (mark_begin pass desc tag) apart hands was steps (p, acts, may, is) = subst Alone (sym is) (alone_begin m apart hands was steps pass p _ _ _ acts.at refl refl refl refl may.first)
-  in_hand-kept m n (mark_start pass) apart hands was steps (p, h, acts, may, is) = subst Alone (sym is) (alone_set m apart hands was pass p _ _ acts.at refl refl refl (changed_hand p.hand h _ may.held refl))
-  in_hand-kept m n (mark_act pass c) apart hands was steps (p, h, acts, may, is) = subst Alone (sym is) (alone_set m apart hands was pass p _ _ acts.at refl refl refl (changed_hand p.hand h _ may.held refl))
-  in_hand-kept m n (mark_end pass) apart hands was steps (p, h, acts, may, is) = subst Alone (sym is) (alone_set m apart hands was pass p _ _ acts.at refl refl refl (emptied p.hand))
-  in_hand-kept m n (mark_leave pass) apart hands was steps (p, acts, is) = subst Alone (sym is) (alone_set m apart hands was pass p _ _ acts.at refl refl refl (emptied p.hand))
+  same : (q : PassView) → n.begun ≡ m.begun → q.past ≡ v.p.past → q.trail ≡ v.p.trail ++ v.step ∷ [] → SameHand v.p.hand q.hand → HandsAlone n.begun (set m.passes v.pass q)
+  same q begun past trail hand = subst (λ bs. HandsAlone bs (set m.passes v.pass q)) (sym begun) (alone_set m apart hands was v.pass v.p q v.step v.at made past trail hand)
+
+  one_alone : (q : PassView) → q.past ≡ v.p.past → q.trail ≡ v.p.trail ++ v.step ∷ [] → HandGoes m n v.p q → HandsAlone n.begun (set m.passes v.pass q)
+  one_alone q past trail (hand_stays as_was begun _ _) = same q begun past trail (λ h held. (h, sym as_was ∙ held, refl))
+  one_alone q past trail (hand_changes g k held now is begun _ _) = same q begun past trail (λ h e. (g, held, is ∙ ap (λ (x : Hand). x.attempt) (some_same k h (sym now ∙ e))))
+  one_alone q past trail (hand_begins desc tag may _ now begun _ _) = subst (λ bs. HandsAlone bs (set m.passes v.pass q)) (sym begun)
+      (alone_begin m apart hands was steps v.pass v.p q v.step (new_hand (present m desc) tag) v.at made past trail now may.first)
+  one_alone q past trail (hand_ends _ _ none begun _ _) = same q begun past trail (λ h held. absurd (none_some q.hand h none held))
+  one_alone q past trail (hand_leaves none begun _ _) = same q begun past trail (λ h held. absurd (none_some q.hand h none held))
+
+  goes : PassesGo m n v.pass v.p v.step → HandsAlone n.begun n.passes
+  goes (goes_on q is view) = subst (HandsAlone n.begun) (sym is) (one_alone q view.past view.trail view.hand)
+  goes (is_split _ _ begun _ is) = subst (HandsAlone n.begun) (sym is) (subst (λ bs. HandsAlone bs (set m.passes v.pass (kept_part m v.p) ++ given_part m v.p ∷ [])) (sym begun)
+      (alone_split m apart hands was v.pass v.p (kept_part m v.p) (given_part m v.p) (moved_step m v.p) v.at refl refl refl refl refl refl refl))
+  goes (is_joined other q _ acts _ begun _ is) = subst (HandsAlone n.begun) (sym is) (subst (λ bs. HandsAlone bs (set (set m.passes v.pass (joined_part m v.p q)) other spent)) (sym begun)
+      (alone_join m apart hands was v.pass other v.p q (joined_part m v.p q) (moved_step m v.p) v.at acts.at refl refl refl refl))
+
+  pub in_hand-kept : HandsAlone n.begun n.passes
+  in_hand-kept = goes v.passes

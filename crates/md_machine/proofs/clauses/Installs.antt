@@ -16,22 +16,22 @@ use Rattle.md_machine.specs.declared.attempt.AttemptId.{AttemptId}
 use Rattle.md_machine.specs.declared.step.TheConstants.{LAST_COUNT}
 use Rattle.md_machine.specs.declared.step.Step.{Step}
 use Rattle.md_machine.specs.declared.pass.PassView.{PassView}
-use Rattle.md_machine.specs.Machine.{Machine, Install, shape_of, content, word_at, status_at, same_attempt, is_installed}
-use Rattle.md_machine.specs.Own.{HasDesc}
-use Rattle.md_machine.specs.GoesOn.{StatusGoesOn}
-use Rattle.md_machine.specs.Installs.{serial_now, IsPresent}
-use Rattle.md_machine.specs.clauses.Slots.{SlotStands}
-use Rattle.md_machine.proofs.lists.Rising.{in_none, in_cons}
 use Rattle.md_machine.proofs.clauses.LanesApart.{At}
-use Rattle.md_machine.proofs.events.WordChanges.{StoresSlot, at_left, at_place, at_counted, statuses_go_on}
-use Rattle.md_machine.proofs.clauses.Hands.{HandsFit}
-use Rattle.md_machine.proofs.clauses.EntriesFit.{same_from}
-use Rattle.md_machine.proofs.events.Moves.{Moves}
-use Rattle.md_machine.proofs.events.InstallSteps.{InstallStep, InstallsHere}
-use Rattle.md_machine.specs.Trail.{segments}
-use Rattle.md_machine.proofs.events.Steps.{IsStill, IsNext, IsBoth}
-use Rattle.md_machine.proofs.clauses.Stamps.{Stamp, StampsKept}
 use Rattle.md_machine.proofs.clauses.Order.{NoLower, new_is_later}
+use Rattle.md_machine.proofs.clauses.Stamps.{Stamp, StampsKept}
+use Rattle.md_machine.proofs.events.Attempts.{same_from}
+use Rattle.md_machine.proofs.events.InstallSteps.{InstallStep, InstallsHere}
+use Rattle.md_machine.proofs.events.MoveFacts.{MoveFacts}
+use Rattle.md_machine.proofs.events.Steps.{IsBoth, IsNext, IsStill}
+use Rattle.md_machine.proofs.events.WordChanges.{StoresSlot, at_counted, at_left, at_place, statuses_go_on}
+use Rattle.md_machine.proofs.lists.Rising.{in_cons, in_none}
+use Rattle.md_machine.specs.GoesOn.{StatusGoesOn}
+use Rattle.md_machine.specs.Installs.{IsPresent, serial_now}
+use Rattle.md_machine.specs.Machine.{Install, Machine, content, is_installed, present, same_attempt, shape_of, status_at, word_at}
+use Rattle.md_machine.specs.Own.{HasDesc}
+use Rattle.md_machine.specs.Trail.{segments}
+use Rattle.md_machine.specs.clauses.Hands.{HandsFit}
+use Rattle.md_machine.specs.clauses.Slots.{SlotStands}
 
 -- no install is of an attempt that is still to come, and those of present ones have their slots
 pub record InstallFits (shape : Shape) (words : List ℕ) (i : Install) : Type 0 where
@@ -60,7 +60,7 @@ installed_in (x ∷ xs) i a c d s = ⊎_elim
     (λ later. or_right (same_attempt x.attempt a && (eqb x.slot i.slot)) (is_installed xs a i.slot) (installed_in xs i a later d s))
     (in_cons x xs i c)
 
-module _ (m n : Machine) (v : Moves m n) (field : IsField (shape_of m) m.words) (hands : HandsFit (shape_of m) m.words m.passes) (k : InstallsKept (shape_of m) m.words m.installs m.passes) where
+module _ (m n : Machine) (v : MoveFacts m n) (field : IsField (shape_of m) m.words) (hands : HandsFit (shape_of m) m.words m.passes) (k : InstallsKept (shape_of m) m.words m.installs m.passes) where
   abbrev later : List ℕ
   later = set m.words v.word v.new
 
@@ -178,7 +178,7 @@ module _ (m n : Machine) (v : Moves m n) (field : IsField (shape_of m) m.words) 
         (λ e. absurd (in_none own.0 (subst (λ (p : PassView). Contains p.lanes own.0) (sym e) own.1)))
         o')
         o)
-        (v.passes j u at)
+        (v.from j u at)
 
     pub installs-kept : InstallsKept (shape_of m) later n.installs n.passes
     installs-kept = record {

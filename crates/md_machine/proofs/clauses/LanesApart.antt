@@ -5,13 +5,15 @@ use Rattle.std.proofs.lemmas.Bool.{or_cases, or_left, or_right, cases_eq}
 use lib.ListN.{get_elem?}
 use mathlib.Core.Option.{some, some-injective}
 use Rattle.md_words.specs.declared.shape.Shape.{Shape}
+use Rattle.md_words.proofs.Owners.{owner_of_desc}
 use Rattle.md_history.specs.Front.{is_lane_of}
 use Rattle.md_machine.specs.declared.pass.PassView.{PassView}
-use Rattle.md_machine.specs.clauses.Lanes.{RiseFrom, HoldsLane, LanesApart}
-use Rattle.md_machine.specs.events.SplitJoin.{kept_lanes, given_lanes, joined_lanes, spent}
+use Rattle.md_machine.proofs.lists.At.{append_end, append_there, at_append, at_one, at_set, set_else, set_there}
+use Rattle.md_machine.proofs.lists.Rising.{filter_in, in_drop, in_filter, in_lane, in_none, in_range, in_take, lane_in, range_in, rise_drop, rise_filter, rise_range, rise_take, take_below_drop, take_or_drop, there}
 use Rattle.md_machine.specs.Event.{first_pass}
-use Rattle.md_machine.proofs.lists.At.{at_set, set_else, set_there, at_append, at_one, append_there, append_end}
-use Rattle.md_machine.proofs.lists.Rising.{in_none, in_take, in_drop, take_or_drop, in_filter, filter_in, rise_take, rise_drop, take_below_drop, rise_filter, rise_range, in_range, range_in, lane_in, in_lane}
+use Rattle.md_machine.specs.Own.{HasDesc}
+use Rattle.md_machine.specs.clauses.Lanes.{HoldsLane, LanesApart, RiseFrom}
+use Rattle.md_machine.specs.events.SplitJoin.{given_lanes, joined_lanes, kept_lanes, spent}
 
 abbrev pub At : List PassView → ℕ → PassView → Type 0
 At passes pass p = get_elem? passes pass ≡ some p
@@ -153,3 +155,9 @@ lanes_first shape = record {
   once = λ i j lane h g. (at_one (first_pass shape) h.0 i h.1).0 ∙ sym (at_one (first_pass shape) g.0 j g.1).0;
   rising = λ j u u_at. subst (RiseFrom 0) (ap (λ (v : PassView). v.lanes) (at_one (first_pass shape) u j u_at).1) (rise_range 0 shape.lanes);
 }
+
+-- one descriptor is of the lanes of one pass alone
+pub one_owner : (shape : Shape) (passes : List PassView) (pass other : ℕ) (p q : PassView) (desc : ℕ) → LanesApart shape passes → At passes pass p → At passes other q → HasDesc shape p desc → HasDesc shape q desc → pass ≡ other
+one_owner shape passes pass other p q desc a at there mine theirs =
+    let same : theirs.0 ≡ mine.0 = sym ((owner_of_desc shape theirs.0 desc).0 theirs.2).1 ∙ ((owner_of_desc shape mine.0 desc).0 mine.2).1 in
+    a.once pass other mine.0 (p, at, mine.1) (q, there, subst (Contains q.lanes) same theirs.1)

@@ -14,21 +14,22 @@ use Rattle.md_words.specs.PlaceAt.{IsCounted}
 use Rattle.md_words.proofs.Words.{value_of-counted_word, spot_of-spot_value}
 use Rattle.md_machine.specs.declared.step.TheConstants.{LAST_COUNT}
 use Rattle.md_machine.specs.declared.step.Step.{Step}
-use Rattle.md_machine.specs.Machine.{Machine, Install, shape_of, content, status_at, word_at, present, attempt_of}
-use Rattle.md_machine.specs.Trail.{holds_desc}
-use Rattle.md_machine.specs.events.Install.{installed_word}
-use Rattle.md_machine.specs.events.Start.{IsCleanIn, LeavesWithout, WonInstall}
-use Rattle.md_machine.specs.Installs.{IsPresent, spot_of_install}
-use Rattle.md_machine.specs.clauses.OddWords.{StandsIn, OddStand}
-use Rattle.md_machine.proofs.lists.Rising.{in_none, in_cons, there}
-use Rattle.md_machine.proofs.events.WordChanges.{Restarts}
-use Rattle.md_machine.proofs.clauses.Hands.{HandsFit, serial_stays}
-use Rattle.md_machine.proofs.events.Moves.{Moves}
-use Rattle.md_machine.proofs.events.InstallSteps.{InstallStep}
-use Rattle.md_machine.proofs.events.Steps.{HasStep}
-use Rattle.md_machine.proofs.clauses.Stamps.{Stamp, Stamped, StampsKept, same_stamp}
-use Rattle.md_machine.proofs.clauses.Order.{NoLower, InOrder, TrailsInOrder, order_of}
 use Rattle.md_machine.proofs.clauses.Installs.{InstallsKept, new_present}
+use Rattle.md_machine.proofs.clauses.Order.{InOrder, NoLower, TrailsInOrder, order_of}
+use Rattle.md_machine.proofs.clauses.Stamps.{Stamp, Stamped, StampsKept, same_stamp}
+use Rattle.md_machine.proofs.events.InstallSteps.{InstallStep}
+use Rattle.md_machine.proofs.events.MoveFacts.{MoveFacts}
+use Rattle.md_machine.proofs.events.Steps.{HasStep}
+use Rattle.md_machine.proofs.events.WordChanges.{Restarts, serial_stays}
+use Rattle.md_machine.proofs.lists.Rising.{in_cons, in_none, there}
+use Rattle.md_machine.specs.Installs.{IsPresent, spot_of_install}
+use Rattle.md_machine.specs.Machine.{Install, Machine, attempt_of, content, present, shape_of, status_at, word_at}
+use Rattle.md_machine.specs.Trail.{holds_desc}
+use Rattle.md_machine.specs.clauses.Hands.{HandsFit}
+use Rattle.md_machine.specs.clauses.OddWords.{OddStand, StandsIn}
+use Rattle.md_machine.specs.events.Install.{installed_word}
+use Rattle.md_machine.specs.events.Mark.{without}
+use Rattle.md_machine.specs.events.Start.{IsCleanIn, LeavesWithout, WonInstall}
 
 -- an installed word names its descriptor, and holds it
 pub installed_names : (i : Install) → count_of i.old ≤ LAST_COUNT → i.slot < SET → (spot_of (value_of (installed_word i.old (spot_of_install i)))).desc ≡ i.attempt.desc
@@ -89,7 +90,7 @@ module _ (m : Machine) (stamp : Stamp) (stamps : StampsKept m stamp) (k : Instal
       (Contains-append_cases cut.1 r.p.trail t.0 t.1))
       (k.held i c now r.pass r.p r.at r.own)
 
-  module _ (n : Machine) (v : Moves m n) (field : IsField (shape_of m) m.words) (hands_of : HandsFit (shape_of m) m.words m.passes) (odd_stand : OddStand (shape_of m) m.words m.installs) where
+  module _ (n : Machine) (v : MoveFacts m n) (field : IsField (shape_of m) m.words) (hands_of : HandsFit (shape_of m) m.words m.passes) (odd_stand : OddStand (shape_of m) m.words m.installs) where
     abbrev later : List ℕ
     later = set m.words v.word v.new
 

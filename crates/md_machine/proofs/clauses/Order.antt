@@ -7,12 +7,12 @@ use Rattle.md_words.specs.Content.{count_of}
 use Rattle.md_words.specs.PlaceAt.{IsCounted}
 use Rattle.md_machine.specs.declared.step.Step.{Step}
 use Rattle.md_machine.specs.declared.pass.PassView.{PassView}
-use Rattle.md_machine.specs.Machine.{Machine, shape_of, content}
-use Rattle.md_machine.specs.Trail.{segments}
-use Rattle.md_machine.proofs.lists.Rising.{in_none, here, there}
 use Rattle.md_machine.proofs.clauses.LanesApart.{At}
-use Rattle.md_machine.proofs.events.Steps.{PassesFrom, segment_from}
 use Rattle.md_machine.proofs.clauses.Stamps.{Stamp, StampsKept}
+use Rattle.md_machine.proofs.events.Steps.{PassesFrom, segment_from}
+use Rattle.md_machine.proofs.lists.Rising.{here, in_none, there}
+use Rattle.md_machine.specs.Machine.{Machine, content, shape_of}
+use Rattle.md_machine.specs.Trail.{segments}
 
 -- the later step left the word of the earlier one at no lower count
 abbrev pub NoLower : Shape → (earlier later : Step) → Type 0

@@ -13,14 +13,14 @@ use Rattle.md_history.specs.declared.entries.Fate.TheVariants.{Committed, Aborte
 use Rattle.md_history.specs.Front.{Stays, AllStay}
 use Rattle.md_machine.specs.declared.attempt.AttemptId.{AttemptId}
 use Rattle.md_machine.specs.declared.attempt.HistoryEntry.{HistoryEntry}
-use Rattle.md_machine.specs.Machine.{Machine, shape_of, status_at, word_at, present, same_attempt}
-use Rattle.md_machine.specs.events.Start.{is_decided, knows_decided}
-use Rattle.md_machine.specs.clauses.Fates.{Tells, FatesTold}
-use Rattle.md_machine.specs.clauses.Fronts.{FrontsFit}
+use Rattle.md_machine.proofs.clauses.EntriesFit.{EntriesFit, EntryFits}
+use Rattle.md_machine.proofs.events.Attempts.{ready_in, same_parts}
+use Rattle.md_machine.proofs.events.WordChanges.{MayLeave, Restarts, serial_stays}
 use Rattle.md_machine.proofs.lists.Rising.{here, there}
-use Rattle.md_machine.proofs.events.WordChanges.{MayLeave, Restarts}
-use Rattle.md_machine.proofs.clauses.Hands.{serial_stays}
-use Rattle.md_machine.proofs.clauses.EntriesFit.{EntryFits, EntriesFit, same_parts, ready_in}
+use Rattle.md_machine.specs.Machine.{Machine, present, same_attempt, shape_of, status_at, word_at}
+use Rattle.md_machine.specs.clauses.Fates.{FatesTold, Tells}
+use Rattle.md_machine.specs.clauses.Fronts.{FrontsFit}
+use Rattle.md_machine.specs.events.Start.{is_decided, knows_decided}
 
 -- an entry whose attempt isn't the present one is decided
 abbrev pub PastDecided : Shape → List ℕ → List HistoryEntry → List Fate → Type 0

@@ -4,8 +4,6 @@ use Rattle.std.specs.List.{Contains}
 use Rattle.std.specs.Prelude.{◌==◌}
 use Rattle.std.proofs.lemmas.Bool.{cond_both, false≢true, true≢false}
 use Rattle.std.proofs.lemmas.List.Elements.{Contains-append_cases}
-use Rattle.md_words.specs.Place.{desc_status}
-use Rattle.md_words.specs.Layout.{address}
 use Rattle.md_history.specs.declared.entries.Fate.{Fate}
 use Rattle.md_history.specs.declared.entries.Fate.TheVariants.{Committed, Aborted, Undecided}
 use Rattle.md_history.specs.Front.{IsPrefix, AllStay}
@@ -13,20 +11,20 @@ use Rattle.md_machine.specs.declared.attempt.HistoryEntry.{HistoryEntry}
 use Rattle.md_machine.specs.declared.node.PlacedNode.{PlacedNode}
 use Rattle.md_machine.specs.declared.node.Structure.{Structure}
 use Rattle.md_machine.specs.declared.opening.Opening.{Opening}
+use Rattle.md_machine.specs.declared.step.Step.{Step}
 use Rattle.md_machine.specs.declared.pass.PassView.{PassView}
-use Rattle.md_machine.specs.declared.step.Kind.TheVariants.{Load, Ready}
-use Rattle.md_machine.specs.Meaning.{Meaning}
-use Rattle.md_machine.specs.Machine.{Machine, shape_of, content}
-use Rattle.md_machine.specs.Resolution.{is_committed, least, or_else, structure_in, kept_structure, kept_nodes, always_placed, always_nodes}
-use Rattle.md_machine.specs.Stepping.{stepped, wins, exchanged}
-use Rattle.md_machine.specs.events.Ready.{view_after_ready, unready_word, ready_word}
-use Rattle.md_machine.specs.events.SplitJoin.{spent}
-use Rattle.md_machine.specs.clauses.Placed.{PlacedStay}
-use Rattle.md_machine.specs.Event.{Event, Does, load, store, install, exchange, ready, commit, abort, uninstall, start, split, join, mark_begin, mark_start, mark_act, mark_end, mark_leave}
-use Rattle.md_machine.proofs.lists.At.{at_set, at_append, at_one}
-use Rattle.md_machine.proofs.lists.Rising.{in_none, in_cons}
+use Rattle.md_machine.specs.declared.step.Kind.TheVariants.{Load}
 use Rattle.md_machine.proofs.clauses.LanesApart.{At}
+use Rattle.md_machine.proofs.events.MoveFacts.{MoveFacts, history_grows}
+use Rattle.md_machine.proofs.events.Moves.{PassesGo, goes_on, is_joined, is_split}
+use Rattle.md_machine.proofs.lists.At.{at_append, at_one, at_set}
+use Rattle.md_machine.proofs.lists.Rising.{in_cons, in_none}
 use Rattle.md_machine.proofs.resolutions.Placing.{some_or, some_skip}
+use Rattle.md_machine.specs.Machine.{IsAt, Machine, content}
+use Rattle.md_machine.specs.Resolution.{always_nodes, always_placed, is_committed, kept_nodes, kept_structure, least, or_else, structure_in}
+use Rattle.md_machine.specs.Stepping.{stepped}
+use Rattle.md_machine.specs.clauses.Placed.{PlacedStay}
+use Rattle.md_machine.specs.events.SplitJoin.{spent}
 
 some_first : (x z : Option Structure) → is_some x ≡ true → is_some (or_else x z) ≡ true
 some_first (Some s) z h = refl
@@ -96,38 +94,21 @@ notes_push m later pass p r at same was j u u_at x c = ⊎_elim
     (λ end. noted_by m pass p r x at same (subst (λ (v : PassView). Contains v.placed x) (sym (at_one r u end.0 end.2).1) c))
     (at_append later (r ∷ []) j u u_at)
 
-module _ (M : Meaning) where
-  pub notes : (m n : Machine) (e : Event) → Does M m e n → NotesFrom m n.passes
-  notes m n (load pass word) (p, acts, exists, is) = subst (λ (k : Machine). NotesFrom m k.passes) (sym is) (notes_set m pass p _ acts.at refl)
-  notes m n (store pass word value) (p, h, acts, may, is) = subst (λ (k : Machine). NotesFrom m k.passes) (sym is) (notes_set m pass p _ acts.at refl)
-  notes m n (install pass word from to) (p, h, acts, may, is) = subst (λ (k : Machine). NotesFrom m k.passes) (sym is) (notes_set m pass p _ acts.at refl)
-  notes m n (exchange pass word from to) (p, acts, may, is) = subst (λ (k : Machine). NotesFrom m k.passes) (sym is) (notes_set m pass p _ acts.at refl)
-  notes m n (commit pass desc from) (p, acts, may, is) = subst (λ (k : Machine). NotesFrom m k.passes) (sym is) (notes_set m pass p _ acts.at refl)
-  notes m n (abort pass desc from) (p, acts, may, is) = subst (λ (k : Machine). NotesFrom m k.passes) (sym is) (notes_set m pass p _ acts.at refl)
-  notes m n (uninstall pass word from value) (p, acts, may, is) = subst (λ (k : Machine). NotesFrom m k.passes) (sym is) (notes_set m pass p _ acts.at refl)
-  notes m n (start pass desc from) (p, acts, may, is) = subst (λ (k : Machine). NotesFrom m k.passes) (sym is) (notes_set m pass p _ acts.at refl)
-  notes m n (mark_begin pass desc tag) (p, acts, may, is) = subst (λ (k : Machine). NotesFrom m k.passes) (sym is) (notes_set m pass p _ acts.at refl)
-  notes m n (mark_start pass) (p, h, acts, may, is) = subst (λ (k : Machine). NotesFrom m k.passes) (sym is) (notes_set m pass p _ acts.at refl)
-  notes m n (mark_act pass c) (p, h, acts, may, is) = subst (λ (k : Machine). NotesFrom m k.passes) (sym is) (notes_set m pass p _ acts.at refl)
-  notes m n (mark_end pass) (p, h, acts, may, is) = subst (λ (k : Machine). NotesFrom m k.passes) (sym is) (notes_set m pass p _ acts.at refl)
-  notes m n (mark_leave pass) (p, acts, is) = subst (λ (k : Machine). NotesFrom m k.passes) (sym is) (notes_set m pass p _ acts.at refl)
-  notes m n (ready pass count) (p, h, acts, may, is) = subst (λ (k : Machine). NotesFrom m k.passes) (sym is) (
-      let plain = exchanged m p Ready (address (shape_of m) (desc_status h.attempt.desc)) (unready_word h.attempt) (ready_word h.attempt count) in
-      notes_set m pass p (view_after_ready m p h count) acts.at
-      (cond_both (wins m (address (shape_of m) (desc_status h.attempt.desc)) (unready_word h.attempt)) _ plain (λ (q : PassView). q.placed ≡ p.placed ++ always_nodes m) (λ _. refl) (λ _. refl)))
-  notes m n (split pass) (p, acts, may, is) = subst (λ (k : Machine). NotesFrom m k.passes) (sym is) (notes_push m _ pass p _ acts.at refl (notes_set m pass p _ acts.at refl))
-  notes m n (join pass other) (p, q, acts, ne, there, is) = subst (λ (k : Machine). NotesFrom m k.passes) (sym is) (λ j u u_at x c. ⊎_elim
-      (λ e. absurd (in_none x (subst (λ (v : PassView). Contains v.placed x) (sym e.1) c)))
-      (λ o. ⊎_elim
-      (λ e. ⊎_elim
-      (λ mine. noted_by m pass p (stepped m p Load 0 (content m 0)) x acts.at refl mine)
-      (λ theirs. inl (other, q, there.at, theirs))
-      (Contains-append_cases (p.placed ++ always_nodes m) q.placed x (subst (λ (v : PassView). Contains v.placed x) (sym e.1) c)))
-      (λ y. inl (j, u, y.1, c))
-      (at_set m.passes pass j _ u o.1))
-      (at_set (set m.passes pass _) other j spent u u_at))
+notes : (m n : Machine) (pass : ℕ) (p : PassView) (s : Step) → IsAt m pass p → PassesGo m n pass p s → NotesFrom m n.passes
+notes m n pass p s at (goes_on q is view) = subst (NotesFrom m) (sym is) (notes_set m pass p q at view.placed)
+notes m n pass p s at (is_split _ _ _ _ is) = subst (NotesFrom m) (sym is) (notes_push m _ pass p _ at refl (notes_set m pass p _ at refl))
+notes m n pass p s at (is_joined other q _ acts _ _ _ is) = subst (NotesFrom m) (sym is) (λ j u u_at x c. ⊎_elim
+    (λ e. absurd (in_none x (subst (λ (v : PassView). Contains v.placed x) (sym e.1) c)))
+    (λ o. ⊎_elim
+    (λ e. ⊎_elim
+    (λ mine. noted_by m pass p (stepped m p Load 0 (content m 0)) x at refl mine)
+    (λ theirs. inl (other, q, acts.at, theirs))
+    (Contains-append_cases (p.placed ++ always_nodes m) q.placed x (subst (λ (v : PassView). Contains v.placed x) (sym e.1) c)))
+    (λ y. inl (j, u, y.1, c))
+    (at_set m.passes pass j _ u o.1))
+    (at_set (set m.passes pass _) other j spent u u_at))
 
 -- every event keeps it
-pub placed-kept : (m n : Machine) → n.opening ≡ m.opening → IsPrefix m.history n.history → AllStay m.fates n.fates → NotesFrom m n.passes → PlacedStay m → PlacedStay n
-placed-kept m n opening grows stay from was j u u_at x c = placed_grows m n x.node opening grows stay
-    (⊎_elim (λ o. was o.0 o.1 o.2 x o.3) (always_in m x) (from j u u_at x c))
+pub placed-kept : (m n : Machine) → MoveFacts m n → AllStay m.fates n.fates → PlacedStay m → PlacedStay n
+placed-kept m n v stay was j u u_at x c = placed_grows m n x.node v.opening (history_grows m n v) stay
+    (⊎_elim (λ o. was o.0 o.1 o.2 x o.3) (always_in m x) (notes m n v.pass v.p v.step v.at v.passes j u u_at x c))

@@ -9,11 +9,11 @@ use Rattle.md_words.specs.PlaceAt.{IsCounted}
 use Rattle.md_machine.specs.declared.attempt.HistoryEntry.{HistoryEntry}
 use Rattle.md_machine.specs.declared.attempt.Read.{Read}
 use Rattle.md_machine.specs.declared.step.Step.{Step}
-use Rattle.md_machine.specs.Machine.{Machine, Install, shape_of, content}
-use Rattle.md_machine.specs.clauses.Stamps.{IsNoted, StampsHold, NotedByRead}
-use Rattle.md_machine.proofs.events.WordChanges.{MayLeave, at_counted, counts_rise}
+use Rattle.md_machine.proofs.events.MoveFacts.{MoveFacts, reads_met}
 use Rattle.md_machine.proofs.events.Steps.{HasStep, adds_step}
-use Rattle.md_machine.proofs.events.Moves.{Moves}
+use Rattle.md_machine.proofs.events.WordChanges.{MayLeave, at_counted, counts_rise}
+use Rattle.md_machine.specs.Machine.{Install, Machine, content, shape_of}
+use Rattle.md_machine.specs.clauses.Stamps.{IsNoted, NotedByRead, StampsHold}
 
 -- the content that a word had with a count
 abbrev pub Stamp : Type 0
@@ -75,7 +75,7 @@ module _ (m : Machine) (field : IsField (shape_of m) m.words) (word new : ℕ) (
       (cases_eq w word)
 
 -- every event keeps the stamps
-pub stamps-kept : (m n : Machine) (stamp : Stamp) → IsField (shape_of m) m.words → StampsKept m stamp → (v : Moves m n) → n.words ≡ set m.words v.word v.new → n.opening ≡ m.opening
+pub stamps-kept : (m n : Machine) (stamp : Stamp) → IsField (shape_of m) m.words → StampsKept m stamp → (v : MoveFacts m n) → n.words ≡ set m.words v.word v.new → n.opening ≡ m.opening
     → StampsKept (record n { words = set m.words v.word v.new; opening = m.opening }) (stamp_more stamp v.word v.new)
 stamps-kept m n stamp field k v words opening =
     let later = set m.words v.word v.new in
@@ -88,12 +88,12 @@ stamps-kept m n stamp field k v words opening =
           (λ same. let here = ap (λ (s : Step). s.word) (sym same) ∙ v.there in let is = ap (λ (s : Step). s.before) (sym same) ∙ v.before in
           let old = k.now t.word counted in
           kept t.word t.before counted (subst (Stamped m.words stamp t.word) (sym (is ∙ ap (λ w. get_or m.words w 0) (sym here))) old))
-          (adds_step m.passes n.passes v.step v.passes t has);
+          (adds_step m.passes n.passes v.step v.from t has);
       after = λ t has counted. ⊎_elim
           (λ was. kept t.word t.after counted (k.after t was counted))
           (λ same. let here = ap (λ (s : Step). s.word) (sym same) ∙ v.there in let is = ap (λ (s : Step). s.after) (sym same) ∙ v.after in
           subst (Stamped later more t.word) (sym is) (subst (λ w. Stamped later more w v.new) (sym here) (stamped_new m field v.word v.new stamp (subst (λ w. w < words_of (shape_of m)) here counted.0))))
-          (adds_step m.passes n.passes v.step v.passes t has);
+          (adds_step m.passes n.passes v.step v.from t has);
       installs = λ i c. ⊎_elim
           (λ was. let s = k.installs i was in (s.0, kept i.word i.old s.0 s.1))
           (λ h. (h.counted, kept i.word i.old h.counted (subst (Stamped m.words stamp i.word) (sym (h.old ∙ ap (λ w. get_or m.words w 0) (sym h.there))) (k.now i.word h.counted))))
@@ -107,7 +107,7 @@ stamps-kept m n stamp field k v words opening =
                 (λ a. subst (λ w. Stamped m.words stamp w r.content) h.there (subst (Stamped m.words stamp h.step.word) a (k.after h.step h.has counted)))
                 h.met),
           ))
-          (v.reads e r c of);
+          (reads_met m n v e r c of);
     }
 
 -- what is noted is stamped, where that is so of what a status counts

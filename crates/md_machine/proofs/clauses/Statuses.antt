@@ -10,12 +10,12 @@ use Rattle.md_words.specs.Layout.{address, desc_count}
 use Rattle.md_words.specs.LayoutLaws.{IsField}
 use Rattle.md_machine.specs.declared.step.Step.{Step}
 use Rattle.md_machine.specs.declared.pass.PassView.{PassView}
-use Rattle.md_machine.specs.Machine.{Machine, shape_of, content, status_at, word_at}
-use Rattle.md_machine.specs.events.Uninstall.{IsDecided}
-use Rattle.md_machine.specs.Installs.{IsUndecided}
-use Rattle.md_machine.proofs.events.WordChanges.{MayLeave, at_left, at_place}
+use Rattle.md_machine.proofs.events.MoveFacts.{MoveFacts}
 use Rattle.md_machine.proofs.events.Steps.{HasStep, adds_step}
-use Rattle.md_machine.proofs.events.Moves.{Moves}
+use Rattle.md_machine.proofs.events.WordChanges.{MayLeave, at_left, at_place}
+use Rattle.md_machine.specs.Installs.{IsUndecided}
+use Rattle.md_machine.specs.Machine.{Machine, content, shape_of, status_at, word_at}
+use Rattle.md_machine.specs.events.Uninstall.{IsDecided}
 
 -- a status that was noted while this one stands
 pub record NotedStatus (now held : ℕ) : Type 0 where
@@ -68,7 +68,7 @@ status_step m field word new left desc exists = at_left (Unit {0}) m field word 
     (inl refl)
 
 -- every event keeps it
-pub statuses-kept : (m n : Machine) (v : Moves m n) → IsField (shape_of m) m.words → StatusesNoted (shape_of m) m.words m.passes → StatusesNoted (shape_of m) (set m.words v.word v.new) n.passes
+pub statuses-kept : (m n : Machine) (v : MoveFacts m n) → IsField (shape_of m) m.words → StatusesNoted (shape_of m) m.words m.passes → StatusesNoted (shape_of m) (set m.words v.word v.new) n.passes
 statuses-kept m n v field was t has desc exists at =
     let how = status_step m field v.word v.new v.left desc exists in
     let now = word_at (shape_of m) (set m.words v.word v.new) (desc_status desc) in
@@ -81,7 +81,7 @@ statuses-kept m n v field was t has desc exists at =
       subst (NotedStatus now) (sym found) (noted_on (status_at m desc) now (status_at m desc) how (noted_now (status_at m desc))),
       subst (NotedStatus now) (left ∙ sym v.after ∙ ap (λ (s : Step). s.after) same) (noted_now now),
     ))
-    (adds_step m.passes n.passes v.step v.passes t has)
+    (adds_step m.passes n.passes v.step v.from t has)
   where
     inside : v.word ≡ address (shape_of m) (desc_status desc) → v.word < length m.words
     inside e = let below = address_below (shape_of m) (desc_status desc) exists in omega (arith, e, below, field)

@@ -14,18 +14,19 @@ use Rattle.md_words.proofs.Owners.{own_desc_exists}
 use Rattle.md_machine.specs.declared.attempt.AttemptId.{AttemptId}
 use Rattle.md_machine.specs.declared.pass.PassView.{PassView}
 use Rattle.md_machine.specs.declared.step.Step.{Step}
-use Rattle.md_machine.specs.Machine.{Machine, shape_of, content, word_at, status_at, was_begun}
-use Rattle.md_machine.specs.Trail.{segments, StoresFor, LastStored}
-use Rattle.md_machine.specs.clauses.Stores.{IsEntryWord}
-use Rattle.md_machine.proofs.lists.At.{at_set}
-use Rattle.md_machine.proofs.lists.Rising.{in_none, here}
-use Rattle.md_machine.proofs.clauses.LanesApart.{At}
-use Rattle.md_machine.proofs.events.WordChanges.{statuses_go_on}
-use Rattle.md_machine.proofs.clauses.Hands.{HandsFit, some_same}
-use Rattle.md_machine.proofs.events.Steps.{HasStep, adds_step, segment_from}
 use Rattle.md_machine.proofs.clauses.InHand.{HandsAlone, StepsBegun}
-use Rattle.md_machine.proofs.events.Moves.{Moves, StoredHere}
-use Rattle.md_machine.proofs.clauses.EntrySlots.{attempt_same}
+use Rattle.md_machine.proofs.clauses.LanesApart.{At}
+use Rattle.md_machine.proofs.events.Attempts.{attempt_same}
+use Rattle.md_machine.proofs.events.MoveFacts.{MoveFacts, StoredHere, actor, begun_stays}
+use Rattle.md_machine.proofs.events.Steps.{HasStep, adds_step, segment_from}
+use Rattle.md_machine.proofs.events.WordChanges.{statuses_go_on}
+use Rattle.md_machine.proofs.lists.At.{at_set}
+use Rattle.md_machine.proofs.lists.Options.{some_same}
+use Rattle.md_machine.proofs.lists.Rising.{here, in_none}
+use Rattle.md_machine.specs.Machine.{Machine, content, shape_of, status_at, was_begun, word_at}
+use Rattle.md_machine.specs.Trail.{LastStored, StoresFor, segments}
+use Rattle.md_machine.specs.clauses.Hands.{HandsFit}
+use Rattle.md_machine.specs.clauses.Stores.{IsEntryWord}
 
 -- whatever a step was made for is of no later attempt than the present one
 abbrev pub StepsPast : Shape → List ℕ → List PassView → Type 0
@@ -69,7 +70,7 @@ all_left P (x ∷ xs) ys h = All-cons P x xs (All-head P x (xs ++ ys) h) (all_le
 in_middle : (earlier : List Step) (s : Step) (later : List Step) → Contains (earlier ++ s ∷ later) s
 in_middle earlier s later = Contains-append_right earlier (s ∷ later) s (here s later)
 
-module _ (m n : Machine) (v : Moves m n) (field : IsField (shape_of m) m.words) (hands : HandsFit (shape_of m) m.words m.passes) (alone : HandsAlone m.begun m.passes) where
+module _ (m n : Machine) (v : MoveFacts m n) (field : IsField (shape_of m) m.words) (hands : HandsFit (shape_of m) m.words m.passes) (alone : HandsAlone m.begun m.passes) where
   abbrev later : List ℕ
   later = set m.words v.word v.new
 
@@ -81,20 +82,20 @@ module _ (m n : Machine) (v : Moves m n) (field : IsField (shape_of m) m.words) 
 
   pub steps_begun-kept : StepsBegun m.begun m.passes → StepsBegun n.begun n.passes
   steps_begun-kept was t has a e = ⊎_elim
-      (λ old. v.begun a (was t old a e))
-      (λ same. let x = v.actor a (ap (λ (s : Step). s.attempt) same ∙ e) in v.begun a (subst (λ b. was_begun m.begun b ≡ true) x.same (alone.begins x.pass x.p x.h x.at x.held)))
-      (adds_step m.passes n.passes v.step v.passes t has)
+      (λ old. begun_stays m n v a (was t old a e))
+      (λ same. let x = actor m n v a (ap (λ (s : Step). s.attempt) same ∙ e) in begun_stays m n v a (subst (λ b. was_begun m.begun b ≡ true) x.same (alone.begins x.pass x.p x.h x.at x.held)))
+      (adds_step m.passes n.passes v.step v.from t has)
 
   pub steps_past-kept : StepsPast (shape_of m) m.words m.passes → StepsPast (shape_of m) later n.passes
   steps_past-kept was t has a e = ⊎_elim
       (λ old. let p = was t old a e in let before = p.1 in let up = serial_rises a.desc p.0 in (p.0, omega (arith, before, up)))
       (λ same.
-      let x = v.actor a (ap (λ (s : Step). s.attempt) same ∙ e) in
+      let x = actor m n v a (ap (λ (s : Step). s.attempt) same ∙ e) in
       let fits = hands.fits x.pass x.p x.h x.at x.held in
       let exists = own_desc_exists (shape_of m) fits.own.0 x.h.attempt.desc fits.own.2 in
       let up = serial_rises x.h.attempt.desc exists in let now = fits.present in
       subst (λ (b : AttemptId). (b.desc < desc_count (shape_of m)) × (b.serial ≤ serial_later b.desc)) x.same (exists, omega (arith, up, now)))
-      (adds_step m.passes n.passes v.step v.passes t has)
+      (adds_step m.passes n.passes v.step v.from t has)
 
   -- a present attempt of a step was present
   was_now : StepsPast (shape_of m) m.words m.passes → (t : Step) → HasStep m.passes t → (a : AttemptId) → t.attempt ≡ Some a → a.serial ≡ serial_later a.desc → a.serial ≡ serial_of (status_at m a.desc)
@@ -148,7 +149,7 @@ module _ (m n : Machine) (v : Moves m n) (field : IsField (shape_of m) m.words) 
         (λ x. of_next x.0 x.1 u a word held x.2 now entry l x.3 (inl stays))
         (λ none. absurd (in_none l.store.step (subst (λ z. Contains z l.store.step) (sym none) middle)))
         o)
-        (segment_from m.passes n.passes v.step v.passes j u at (l.store.earlier ++ l.store.step ∷ l.store.later) l.store.segment)
+        (segment_from m.passes n.passes v.step v.from j u at (l.store.earlier ++ l.store.step ∷ l.store.later) l.store.segment)
 
     -- what was stored for is what is in hand
     same_hand : (j : ℕ) (u : PassView) → At n.passes j u → (a : AttemptId) → a.serial ≡ serial_later a.desc → (word held : ℕ) → LastStored u a word held → (s : StoredHere m n.passes v.step v.word a.desc) → s.h.attempt ≡ a
@@ -156,7 +157,7 @@ module _ (m n : Machine) (v : Moves m n) (field : IsField (shape_of m) m.words) 
         (λ old. let fits = hands.fits s.pass s.p s.h s.at s.held in
         attempt_same s.h.attempt a s.of (fits.present ∙ ap (λ d. serial_of (status_at m d)) s.of ∙ sym (was_now past l.store.step old a l.store.such.attempt now)))
         (λ new. some_same s.h.attempt a (sym s.stores.attempt ∙ ap (λ (t : Step). t.attempt) new ∙ l.store.such.attempt))
-        (adds_step m.passes n.passes v.step v.passes l.store.step (j, u, at, (l.store.earlier ++ l.store.step ∷ l.store.later, l.store.segment, in_middle l.store.earlier l.store.step l.store.later)))
+        (adds_step m.passes n.passes v.step v.from l.store.step (j, u, at, (l.store.earlier ++ l.store.step ∷ l.store.later, l.store.segment, in_middle l.store.earlier l.store.step l.store.later)))
 
     when_stored : (j : ℕ) (u : PassView) → At n.passes j u → (a : AttemptId) → a.serial ≡ serial_later a.desc → (word held : ℕ) → IsEntryWord a.desc (place_at (shape_of m) word) → LastStored u a word held
         → word ≡ v.word → StoredHere m n.passes v.step v.word a.desc → get_or later word 0 ≡ held

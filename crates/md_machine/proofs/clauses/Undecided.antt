@@ -9,22 +9,22 @@ use Rattle.md_words.specs.Place.{desc_status}
 use Rattle.md_words.specs.Layout.{address, desc_count}
 use Rattle.md_words.specs.LayoutLaws.{IsField}
 use Rattle.md_words.specs.PlaceAt.{IsCounted}
-use Rattle.md_machine.specs.Machine.{Machine, Install, shape_of, content, status_at, word_at}
+use Rattle.md_machine.proofs.clauses.Brackets.{IsBracket, MetStanding, TrailsBracket, bracket_of, desc_in}
+use Rattle.md_machine.proofs.clauses.Installs.{InstallFits, InstallsKept, was_present}
+use Rattle.md_machine.proofs.clauses.OddWords.{installed_names, splits}
+use Rattle.md_machine.proofs.clauses.Stamps.{Stamp, StampsKept}
+use Rattle.md_machine.proofs.clauses.Statuses.{NotedStatus, StatusesNoted, not_both, status_step}
+use Rattle.md_machine.proofs.events.InstallSteps.{InstallsHere}
+use Rattle.md_machine.proofs.events.Leaves.{install_odd}
+use Rattle.md_machine.proofs.events.MoveFacts.{MoveFacts, Uninstalls}
+use Rattle.md_machine.proofs.events.Steps.{HasStep}
+use Rattle.md_machine.proofs.lists.Rising.{here}
+use Rattle.md_machine.specs.Installs.{IsPresent, IsUndecided, spot_of_install}
+use Rattle.md_machine.specs.Machine.{Install, Machine, content, shape_of, status_at, word_at}
+use Rattle.md_machine.specs.clauses.Hands.{HandsFit}
+use Rattle.md_machine.specs.clauses.Undecided.{UndecidedStand}
 use Rattle.md_machine.specs.events.Install.{installed_word}
 use Rattle.md_machine.specs.events.Uninstall.{IsDecided}
-use Rattle.md_machine.specs.Installs.{IsPresent, IsUndecided, spot_of_install}
-use Rattle.md_machine.specs.clauses.Undecided.{UndecidedStand}
-use Rattle.md_machine.proofs.lists.Rising.{here}
-use Rattle.md_machine.proofs.events.Leaves.{install_odd}
-use Rattle.md_machine.proofs.clauses.Hands.{HandsFit}
-use Rattle.md_machine.proofs.events.Moves.{Moves, Uninstalls}
-use Rattle.md_machine.proofs.events.InstallSteps.{InstallsHere}
-use Rattle.md_machine.proofs.events.Steps.{HasStep}
-use Rattle.md_machine.proofs.clauses.Stamps.{Stamp, StampsKept}
-use Rattle.md_machine.proofs.clauses.Installs.{InstallFits, InstallsKept, was_present}
-use Rattle.md_machine.proofs.clauses.OddWords.{splits, installed_names}
-use Rattle.md_machine.proofs.clauses.Statuses.{NotedStatus, StatusesNoted, not_both, status_step}
-use Rattle.md_machine.proofs.clauses.Brackets.{TrailsBracket, IsBracket, MetStanding, bracket_of, desc_in}
 
 module _ (m : Machine) (noted : StatusesNoted (shape_of m) m.words m.passes) (bracket : TrailsBracket (shape_of m) m.words m.passes) where
   -- the serial that an uninstall knows is the present one
@@ -60,7 +60,7 @@ module _ (m : Machine) (noted : StatusesNoted (shape_of m) m.words m.passes) (br
       let stands = held.stands kv.decided (kv.present ∙ knows_present w counted u) in
       not_both (status_of (status_at m d)) undecided (subst (λ c. IsDecided (status_of c)) stands kv.decided)
 
-  module _ (stamp : Stamp) (stamps : StampsKept m stamp) (k : InstallsKept (shape_of m) m.words m.installs m.passes) (n : Machine) (v : Moves m n)
+  module _ (stamp : Stamp) (stamps : StampsKept m stamp) (k : InstallsKept (shape_of m) m.words m.installs m.passes) (n : Machine) (v : MoveFacts m n)
       (field : IsField (shape_of m) m.words) (hands : HandsFit (shape_of m) m.words m.passes) (was : UndecidedStand (shape_of m) m.words m.installs) where
     abbrev later : List ℕ
     later = set m.words v.word v.new

@@ -1,7 +1,6 @@
 -- What each event leaves in its word is a change that the word may have.
-use Rattle.std.proofs.Common.{IsTrue, ◌≡◌, ◌≢◌, ℕ, ◌+◌, ◌<◌, ◌≤◌, true, false, not, refl, sym, ap, ◌∙◌, subst, inl, inr, ⊎_elim, arith}
+use Rattle.std.proofs.Common.{IsTrue, ◌≡◌, ◌≢◌, ℕ, ◌+◌, ◌<◌, ◌≤◌, true, false, not, sym, ap, ◌∙◌, subst, inl, inr, ⊎_elim, arith}
 use Rattle.std.proofs.lemmas.Bool.{false≢true}
-use prog.Atomic.{either}
 use Rattle.md_words.specs.declared.shape.Shape.{Shape}
 use Rattle.md_words.specs.declared.content.Spot.{Spot}
 use Rattle.md_words.specs.declared.limits.TheConstants.{SET}
@@ -18,29 +17,23 @@ use Rattle.md_machine.specs.declared.step.TheConstants.{LAST_COUNT}
 use Rattle.md_machine.specs.declared.attempt.AttemptId.{AttemptId}
 use Rattle.md_machine.specs.declared.attempt.Hand.{Hand}
 use Rattle.md_machine.specs.declared.pass.PassView.{PassView}
-use Rattle.md_machine.specs.Meaning.{Meaning}
-use Rattle.md_machine.specs.Machine.{Machine, shape_of, content, status_at, attempt_of, is_ready, is_installed, IsAt}
-use Rattle.md_machine.specs.clauses.Formats.{StatusFits, AreFormats}
+use Rattle.md_machine.proofs.events.WordChanges.{Changes, ChangesAt, MovesStatus, Rises, Stores, StoresSlot, at_rises}
 use Rattle.md_machine.specs.GoesOn.{moves_to}
-use Rattle.md_machine.specs.Stepping.{left_by}
-use Rattle.md_machine.specs.events.Store.{MayStoreNext, MayStoreAt, MayStore}
-use Rattle.md_machine.specs.events.Install.{MayBeChanged, MayInstall, installed_word}
-use Rattle.md_machine.specs.events.Exchange.{MayExchange, exchanged_word}
-use Rattle.md_machine.specs.events.Ready.{unready_word, ready_word}
-use Rattle.md_machine.specs.events.Decide.{MayCommit, MayAbort, decided_word}
-use Rattle.md_machine.specs.events.Uninstall.{MayUninstall, uninstalled_word}
-use Rattle.md_machine.specs.events.Start.{MayStart, started_word, knows_decided, IsClean}
 use Rattle.md_machine.specs.Installs.{IsUndecided}
-use Rattle.md_machine.proofs.lists.At.{exchanged_cases}
-use Rattle.md_machine.proofs.events.WordChanges.{Rises, MovesStatus, Stores, StoresSlot, ChangesAt, Changes, MayLeave, at_rises}
+use Rattle.md_machine.specs.Machine.{IsAt, Machine, attempt_of, content, is_installed, is_ready, shape_of, status_at}
+use Rattle.md_machine.specs.Meaning.{Meaning}
+use Rattle.md_machine.specs.clauses.Formats.{AreFormats, StatusFits}
+use Rattle.md_machine.specs.events.Decide.{MayAbort, MayCommit, decided_word}
+use Rattle.md_machine.specs.events.Exchange.{MayExchange, exchanged_word}
+use Rattle.md_machine.specs.events.Install.{MayBeChanged, MayInstall, installed_word}
+use Rattle.md_machine.specs.events.Ready.{ready_word, unready_word}
+use Rattle.md_machine.specs.events.Start.{IsClean, MayStart, knows_decided, started_word}
+use Rattle.md_machine.specs.events.Store.{MayStore, MayStoreAt, MayStoreNext}
+use Rattle.md_machine.specs.events.Uninstall.{MayUninstall, uninstalled_word}
 
 -- the formats of the machine
 abbrev Fits : Machine → Type 0
 Fits m = AreFormats (shape_of m) m.words
-
--- an exchange leaves what it may where it wins, and nothing new where it loses
-pub left_may : (D : Type 0) (m : Machine) (word from to : ℕ) → (content m word ≡ from → Changes D m word to) → MayLeave D m word (left_by m word from to)
-left_may D m word from to may = exchanged_cases (content m word) from (λ b. MayLeave D m word (either b to (content m word))) (λ e. inr (may e)) (λ _. inl refl)
 
 counted_changes : (D : Type 0) (m : Machine) (word new : ℕ) → IsCounted (shape_of m) word → Rises (content m word) new → Changes D m word new
 counted_changes D m word new counted r = record { exists = counted.0; at = at_rises D m (content m word) new (place_at (shape_of m) word) counted.1 r }
@@ -56,26 +49,26 @@ even_after_odd n e = is_even-next n ∙ ap not e
 count_raised : (value count : ℕ) → count ≤ LAST_COUNT + 3 → count_of (counted_word value count) ≡ count
 count_raised value count h = count_of-counted_word value count (omega (arith, h))
 
-pub install_leaves : (D : Type 0) (m : Machine) (p : PassView) (h : Hand) (word from : ℕ) (spot : Spot) → MayInstall m p h word from spot → MayLeave D m word (left_by m word from (installed_word from spot))
-install_leaves D m p h word from spot may = left_may D m word from (installed_word from spot) (λ e. counted_changes D m word _ may.counted (
+pub install_changes : (D : Type 0) (m : Machine) (p : PassView) (h : Hand) (word from : ℕ) (spot : Spot) → MayInstall m p h word from spot → content m word ≡ from → Changes D m word (installed_word from spot)
+install_changes D m p h word from spot may e = counted_changes D m word _ may.counted (
     let room = may.from_even.room in
     let raised = count_raised (spot_value spot) (count_of from + 1) (omega (arith, room)) in
     let was = ap count_of e in
-    record { more = omega (arith, raised, was); room = λ _. omega (arith, raised, room) }))
+    record { more = omega (arith, raised, was); room = λ _. omega (arith, raised, room) })
 
-pub exchange_leaves : (D : Type 0) (M : Meaning) (m : Machine) (p : PassView) (word from to : ℕ) → MayExchange M m p word from to → MayLeave D m word (left_by m word from (exchanged_word from to))
-exchange_leaves D M m p word from to may = left_may D m word from (exchanged_word from to) (λ e. counted_changes D m word _ may.counted (
+pub exchange_changes : (D : Type 0) (M : Meaning) (m : Machine) (p : PassView) (word from to : ℕ) → MayExchange M m p word from to → content m word ≡ from → Changes D m word (exchanged_word from to)
+exchange_changes D M m p word from to may e = counted_changes D m word _ may.counted (
     let room = may.from_even.room in
     let raised = count_raised to (count_of from + 2) (omega (arith, room)) in
     let was = ap count_of e in
-    record { more = omega (arith, raised, was); room = λ odd. absurd (false≢true (sym odd ∙ ap is_even raised ∙ even_after_two _ may.from_even.even)) }))
+    record { more = omega (arith, raised, was); room = λ odd. absurd (false≢true (sym odd ∙ ap is_even raised ∙ even_after_two _ may.from_even.even)) })
 
-pub uninstall_leaves : (D : Type 0) (m : Machine) (p : PassView) (word from value : ℕ) → Fits m → MayUninstall m p word from value → MayLeave D m word (left_by m word from (uninstalled_word from value))
-uninstall_leaves D m p word from value f may = left_may D m word from (uninstalled_word from value) (λ e. counted_changes D m word _ may.counted (
+pub uninstall_changes : (D : Type 0) (m : Machine) (p : PassView) (word from value : ℕ) → Fits m → MayUninstall m p word from value → content m word ≡ from → Changes D m word (uninstalled_word from value)
+uninstall_changes D m p word from value f may e = counted_changes D m word _ may.counted (
     let was = ap count_of e in
     let room = f.room word may.counted (ap is_even was ∙ may.odd) in
     let raised = count_raised value (count_of from + 1) (omega (arith, room, was)) in
-    record { more = omega (arith, raised, was); room = λ odd. absurd (false≢true (sym odd ∙ ap is_even raised ∙ even_after_odd _ may.odd)) }))
+    record { more = omega (arith, raised, was); room = λ odd. absurd (false≢true (sym odd ∙ ap is_even raised ∙ even_after_odd _ may.odd)) })
 
 store_at : (D : Type 0) (m : Machine) (p : PassView) (a : AttemptId) (old value : ℕ) (q : Place) → ((desc : ℕ) → desc ≡ a.desc → Stores m desc) → ((desc j : ℕ) → desc ≡ a.desc → is_installed m.installs a j ≡ false → StoresSlot m desc j) → MayStoreAt m p a old value q → ChangesAt D m old value q
 store_at D m p a old value (node_key _) own slot may = tt
@@ -92,12 +85,12 @@ store_at D m p a old value (queue_head _) own slot may = absurd may
 store_at D m p a old value (queue_tail _) own slot may = absurd may
 store_at D m p a old value (desc_status _) own slot may = absurd may
 
-pub store_leaves : (D : Type 0) (m : Machine) (pass : ℕ) (p : PassView) (h : Hand) (word value : ℕ) → IsAt m pass p → MayStore m p h word value → MayLeave D m word value
-store_leaves D m pass p h word value at may = let mine : (desc : ℕ) → desc ≡ h.attempt.desc → Stores m desc = λ desc e. record { pass = pass; p = p; at = at; h = h; held = may.held; of = sym e; unready = may.unready } in inr (record {
+pub store_changes : (D : Type 0) (m : Machine) (pass : ℕ) (p : PassView) (h : Hand) (word value : ℕ) → IsAt m pass p → MayStore m p h word value → Changes D m word value
+store_changes D m pass p h word value at may = let mine : (desc : ℕ) → desc ≡ h.attempt.desc → Stores m desc = λ desc e. record { pass = pass; p = p; at = at; h = h; held = may.held; of = sym e; unready = may.unready } in record {
   exists = may.exists;
   at = store_at D m p h.attempt (content m word) value (place_at (shape_of m) word)
       mine (λ desc j e free. record { stores = mine desc e; free = free }) may.place;
-})
+}
 
 -- a change of a status word
 status_changes : (D : Type 0) (m : Machine) (desc new : ℕ) → desc < desc_count (shape_of m) → MovesStatus D m desc (status_at m desc) new → Changes D m (address (shape_of m) (desc_status desc)) new
@@ -144,20 +137,20 @@ Aborted≢InPrep e = cc
 status_parts : (held : ℕ) (s : Status) (reads serial : ℕ) → reads < 256 → held ≡ status_word s reads serial → (status_of held ≡ s) × (serial_of held ≡ serial)
 status_parts held s reads serial small e = (ap status_of e ∙ status_of-status_word s reads serial, ap serial_of e ∙ serial_of-status_word s reads serial small)
 
-pub ready_leaves : (m : Machine) (a : AttemptId) (count : ℕ) → Fits m → a.desc < desc_count (shape_of m) → count ≤ SET
-    → let word = address (shape_of m) (desc_status a.desc) in MayLeave (Unit {0}) m word (left_by m word (unready_word a) (ready_word a count))
-ready_leaves m a count f exists few = left_may (Unit {0}) m _ (unready_word a) (ready_word a count) (λ e.
+pub ready_changes : (m : Machine) (a : AttemptId) (count : ℕ) → Fits m → a.desc < desc_count (shape_of m) → count ≤ SET
+    → status_at m a.desc ≡ unready_word a → Changes (Unit {0}) m (address (shape_of m) (desc_status a.desc)) (ready_word a count)
+ready_changes m a count f exists few e =
     let parts = status_parts (status_at m a.desc) InPrep 0 a.serial (omega arith) e in
     status_changes (Unit {0}) m a.desc _ exists (moves_status m _ _ InProg count a.serial (f.status a.desc exists) few InProg≢InPrep (sym parts.1)
-    (ap (λ s. moves_to s InProg) parts.0) (inl parts.0) (λ e. InProg≢InPrep (sym e ∙ parts.0)) (λ e. absurd (InProg≢InPrep (sym e ∙ parts.0)))))
+    (ap (λ s. moves_to s InProg) parts.0) (inl parts.0) (λ e. InProg≢InPrep (sym e ∙ parts.0)) (λ e. absurd (InProg≢InPrep (sym e ∙ parts.0))))
 
 -- from an undecided status to a decided one, with the same reads and serial
-pub decide_leaves : (m : Machine) (desc from : ℕ) (s : Status) → Fits m → desc < desc_count (shape_of m) → s ≢ InPrep → s ≢ InProg → moves_to (status_of from) s ≡ true → IsUndecided from
-    → let word = address (shape_of m) (desc_status desc) in MayLeave (Unit {0}) m word (left_by m word from (decided_word s from))
-decide_leaves m desc from s f exists ready done moves undecided = left_may (Unit {0}) m _ from (decided_word s from) (λ e.
+pub decide_changes : (m : Machine) (desc from : ℕ) (s : Status) → Fits m → desc < desc_count (shape_of m) → s ≢ InPrep → s ≢ InProg → moves_to (status_of from) s ≡ true → IsUndecided from
+    → status_at m desc ≡ from → Changes (Unit {0}) m (address (shape_of m) (desc_status desc)) (decided_word s from)
+decide_changes m desc from s f exists ready done moves undecided e =
     status_changes (Unit {0}) m desc _ exists (moves_status m _ _ s (reads_of from) (serial_of from) (f.status desc exists)
     (subst (λ held. reads_of held ≤ SET) e (f.status desc exists).few) ready (ap serial_of (sym e)) (ap (λ held. moves_to (status_of held) s) e ∙ moves) (subst IsUndecided (sym e) undecided)
-    (λ d. ⊎_elim (λ u. ready (sym d ∙ ap status_of e ∙ u)) (λ u. done (sym d ∙ ap status_of e ∙ u)) undecided) (λ _. ap reads_of (sym e))))
+    (λ d. ⊎_elim (λ u. ready (sym d ∙ ap status_of e ∙ u)) (λ u. done (sym d ∙ ap status_of e ∙ u)) undecided) (λ _. ap reads_of (sym e)))
 
 pub commit_moves : (shape : Shape) (p : PassView) (desc from : ℕ) → MayCommit shape p desc from → moves_to (status_of from) Committed ≡ true
 commit_moves shape p desc from may = ap (λ s. moves_to s Committed) may.in_progress
@@ -165,25 +158,19 @@ commit_moves shape p desc from may = ap (λ s. moves_to s Committed) may.in_prog
 pub abort_moves : (shape : Shape) (p : PassView) (desc from : ℕ) → MayAbort shape p desc from → moves_to (status_of from) Aborted ≡ true
 abort_moves shape p desc from may = ⊎_elim (λ e. ap (λ s. moves_to s Aborted) e) (λ found. ap (λ s. moves_to s Aborted) found.in_progress) may.undecided
 
-pub start_leaves : (D : Type 0) (m : Machine) (pass : ℕ) (p : PassView) (desc from : ℕ) → IsAt m pass p → desc < desc_count (shape_of m) → MayStart m p desc from
-    → MayLeave D m (address (shape_of m) (desc_status desc)) (started_word from)
-start_leaves D m pass p desc from at exists may =
+pub start_changes : (D : Type 0) (m : Machine) (pass : ℕ) (p : PassView) (desc from : ℕ) → IsAt m pass p → desc < desc_count (shape_of m) → MayStart m p desc from
+    → Changes D m (address (shape_of m) (desc_status desc)) (started_word from)
+start_changes D m pass p desc from at exists may =
     let is = serial_of-status_word InPrep 0 (serial_of from + 1) (omega arith) in
     let none = reads_of-status_word InPrep 0 (serial_of from + 1) (omega arith) in
     let same = may.present_serial in
     let tries = may.tries in
     let fate = subst (λ s. is_ready m.history (attempt_of desc s) ≡ true → knows_decided p.seen p.known (attempt_of desc s) ≡ true) same may.fate in
     let clean = subst (λ s. IsClean p (attempt_of desc s)) same may.clean in
-    inr (status_changes D m desc (started_word from) exists (record {
+    status_changes D m desc (started_word from) exists (record {
       fits = record { few = omega (arith, none); unready = λ _. none; try = omega (arith, is, tries) };
       on = inl (record { pass = pass; p = p; at = at; idle = may.idle; own = may.own; fate = fate; clean = clean }, omega (arith, is, same), none);
-    }))
-
--- an exchange to an even content leaves no odd one but that which stood there
-pub odd_stays : (m : Machine) (word from to : ℕ) → (content m word ≡ from → is_even (count_of to) ≡ true) → is_even (count_of (left_by m word from to)) ≡ false → left_by m word from to ≡ content m word
-odd_stays m word from to even = exchanged_cases (content m word) from (λ b. is_even (count_of (either b to (content m word))) ≡ false → either b to (content m word) ≡ content m word)
-    (λ e odd. absurd (false≢true (sym odd ∙ even e)))
-    (λ _ odd. refl)
+    })
 
 pub exchange_even : (from to : ℕ) → MayBeChanged from → is_even (count_of (exchanged_word from to)) ≡ true
 exchange_even from to may = let room = may.room in ap is_even (count_raised to (count_of from + 2) (omega (arith, room))) ∙ even_after_two _ may.even
@@ -224,12 +211,6 @@ status_uncounted m desc exists counted = false≢true (subst (λ q. IsTrue (is_c
 -- an install leaves an odd count
 pub install_odd : (from : ℕ) (spot : Spot) → MayBeChanged from → is_even (count_of (installed_word from spot)) ≡ false
 install_odd from spot may = let room = may.room in ap is_even (count_raised (spot_value spot) (count_of from + 1) (omega (arith, room))) ∙ is_even-next (count_of from) ∙ ap not may.even
-
--- an exchange that expects an even content loses where an odd one stands
-pub even_loses : (m : Machine) (word from to : ℕ) → is_even (count_of from) ≡ true → is_even (count_of (content m word)) ≡ false → left_by m word from to ≡ content m word
-even_loses m word from to even odd = exchanged_cases (content m word) from (λ b. either b to (content m word) ≡ content m word)
-    (λ e. absurd (false≢true (sym odd ∙ ap (λ c. is_even (count_of c)) e ∙ even)))
-    (λ _. refl)
 
 -- and found one
 pub store_was_even : (m : Machine) (p : PassView) (h : Hand) (word value : ℕ) → MayStore m p h word value → IsCounted (shape_of m) word → is_even (count_of (content m word)) ≡ true

@@ -6,9 +6,10 @@ use lib.ListN.{get_elem?}
 use mathlib.Core.Option.{some}
 use Rattle.md_machine.specs.declared.step.Step.{Step}
 use Rattle.md_machine.specs.declared.pass.PassView.{PassView}
+use Rattle.md_machine.proofs.lists.At.{at_append, at_one, at_set}
+use Rattle.md_machine.proofs.lists.Rising.{there}
 use Rattle.md_machine.specs.Trail.{segments}
 use Rattle.md_machine.specs.events.SplitJoin.{spent}
-use Rattle.md_machine.proofs.lists.At.{at_set, at_append, at_one}
 
 -- a list of segments has the step
 abbrev pub InSegments : List (List Step) → Step → Type 0

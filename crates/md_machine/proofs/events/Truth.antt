@@ -2,7 +2,6 @@
 use Rattle.std.proofs.Common.{◌≡◌, ℕ, ◌<◌, true, set, sym, ap, ◌∙◌, subst, inl, inr, IsTrue}
 use Rattle.std.proofs.lemmas.List.{set-get_or}
 use Rattle.std.proofs.lemmas.Bool.{true≢false, false≢true}
-use prog.Atomic.{either}
 use Rattle.md_words.specs.Place.{base_word, desc_status, is_counted}
 use Rattle.md_words.specs.Layout.{words_of, desc_count, address}
 use Rattle.md_words.specs.LayoutLaws.{IsField}
@@ -10,12 +9,11 @@ use Rattle.md_words.specs.PlaceAt.{place_at, IsCounted}
 use Rattle.md_words.proofs.Places.{place_at-address, address-place_at, address-base_word}
 use Rattle.md_machine.specs.declared.step.Kind.{Kind}
 use Rattle.md_machine.specs.declared.pass.PassView.{PassView}
-use Rattle.md_machine.specs.Machine.{Machine, shape_of, content, word_at}
-use Rattle.md_machine.specs.Trail.{is_store}
-use Rattle.md_machine.specs.Stepping.{step_of, left_by}
-use Rattle.md_machine.proofs.lists.At.{exchanged_cases}
 use Rattle.md_machine.proofs.clauses.EntriesDecided.{status_new}
-use Rattle.md_machine.proofs.fates.Knowing.{TellsNothing, IsTrue_of, TellsTruth}
+use Rattle.md_machine.proofs.fates.Knowing.{IsTrue_of, TellsNothing, TellsTruth}
+use Rattle.md_machine.specs.Machine.{Machine, content, shape_of, status_at, word_at}
+use Rattle.md_machine.specs.Stepping.{step_of}
+use Rattle.md_machine.specs.Trail.{is_store}
 
 -- after a step that leaves this in the word
 abbrev pub Truth : Machine → PassView → Kind → (word new : ℕ) → Type 0
@@ -52,18 +50,12 @@ counted_truth m p kind word new counted =
 pub store_truth : (m : Machine) (p : PassView) (kind : Kind) (word new : ℕ) → is_store kind ≡ true → Truth m p kind word new
 store_truth m p kind word new store = record { before = λ desc e plain. absurd (true≢false (sym store ∙ plain)); after = λ desc e plain. absurd (true≢false (sym store ∙ plain)) }
 
--- an exchange of a status that expects an undecided one
-pub status_truth : (m : Machine) (p : PassView) (kind : Kind) (desc from to : ℕ) → IsField (shape_of m) m.words → desc < desc_count (shape_of m) → TellsNothing from
-    → let word = address (shape_of m) (desc_status desc) in Truth m p kind word (left_by m word from to)
-status_truth m p kind desc from to field exists nothing =
+-- a change of an undecided status
+pub status_truth : (m : Machine) (p : PassView) (kind : Kind) (desc from to : ℕ) → IsField (shape_of m) m.words → desc < desc_count (shape_of m) → status_at m desc ≡ from → TellsNothing from
+    → Truth m p kind (address (shape_of m) (desc_status desc)) to
+status_truth m p kind desc from to field exists was nothing =
     let word = address (shape_of m) (desc_status desc) in
-    let is : (d : ℕ) → place_at (shape_of m) word ≡ desc_status d → desc ≡ d = λ d e. same_desc desc d (sym (place_at-address (shape_of m) (desc_status desc) exists) ∙ e) in
-    let found : IsTrue_of (shape_of m) (set m.words word (left_by m word from to)) desc (content m word) = exchanged_cases (content m word) from
-    (λ b. IsTrue_of (shape_of m) (set m.words word (either b to (content m word))) desc (content m word))
-    (λ e. inr (subst TellsNothing (sym e) nothing))
-    (λ _. inl (sym (status_new (shape_of m) m.words field desc (content m word) exists))) in
-    record {
-      before = λ d e _. subst (λ x. IsTrue_of (shape_of m) (set m.words word (left_by m word from to)) x (content m word)) (is d e) found;
-      after = λ d e _. subst (λ x. IsTrue_of (shape_of m) (set m.words word (left_by m word from to)) x (left_by m word from to)) (is d e)
-          (inl (sym (status_new (shape_of m) m.words field desc (left_by m word from to) exists)));
+    let is : (d : ℕ) → place_at (shape_of m) word ≡ desc_status d → desc ≡ d = λ d e. same_desc desc d (sym (place_at-address (shape_of m) (desc_status desc) exists) ∙ e) in record {
+      before = λ d e _. subst (λ x. IsTrue_of (shape_of m) (set m.words word to) x (content m word)) (is d e) (inr (subst TellsNothing (sym was) nothing));
+      after = λ d e _. subst (λ x. IsTrue_of (shape_of m) (set m.words word to) x to) (is d e) (inl (sym (status_new (shape_of m) m.words field desc to exists)));
     }

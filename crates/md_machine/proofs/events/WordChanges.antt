@@ -14,13 +14,13 @@ use Rattle.md_words.proofs.Places.{place_at-address, address-base_word}
 use Rattle.md_machine.specs.declared.step.TheConstants.{LAST_COUNT}
 use Rattle.md_machine.specs.declared.attempt.Hand.{Hand}
 use Rattle.md_machine.specs.declared.pass.PassView.{PassView}
-use Rattle.md_machine.specs.Machine.{Machine, shape_of, content, word_at, status_at, present, is_ready, is_installed, IsAt}
-use Rattle.md_machine.specs.Own.{HasDesc}
-use Rattle.md_machine.specs.events.Start.{IsClean, knows_decided}
-use Rattle.md_machine.specs.clauses.Formats.{StatusFits, NamesWord, AreFormats}
-use Rattle.md_machine.specs.Installs.{IsUndecided}
-use Rattle.md_machine.specs.GoesOn.{AttemptGoesOn, StatusGoesOn, moves_to}
 use Rattle.md_machine.proofs.lists.At.{at_changed}
+use Rattle.md_machine.specs.GoesOn.{AttemptGoesOn, StatusGoesOn, moves_to}
+use Rattle.md_machine.specs.Installs.{IsUndecided}
+use Rattle.md_machine.specs.Machine.{IsAt, Machine, content, is_installed, is_ready, present, shape_of, status_at, word_at}
+use Rattle.md_machine.specs.Own.{HasDesc}
+use Rattle.md_machine.specs.clauses.Formats.{AreFormats, NamesWord, StatusFits}
+use Rattle.md_machine.specs.events.Start.{IsClean, knows_decided}
 
 -- the count rises, and an odd one leaves room
 pub record Rises (old new : ℕ) : Type 0 where
@@ -159,3 +159,10 @@ module _ (D : Type 0) (m : Machine) (field : IsField (shape_of m) m.words) (word
   pub statuses_go_on : MayLeave D m word new → (desc : ℕ) → desc < desc_count (shape_of m) → StatusGoesOn (status_at m desc) (word_at (shape_of m) later (desc_status desc))
   statuses_go_on left desc exists = at_left (address (shape_of m) (desc_status desc)) (StatusGoesOn (status_at m desc)) left
       (λ c e. subst (λ v. StatusGoesOn (content m v) new) (sym e) (⊎_elim (λ r. inl r.1) (λ s. inr s.1) (at_place (desc_status desc) exists c e).on)) (stays_on _)
+
+-- a serial stays, or the descriptor was started again
+pub serial_stays : (D : Type 0) (m : Machine) (field : IsField (shape_of m) m.words) (word new : ℕ) → MayLeave D m word new → (desc : ℕ) → desc < desc_count (shape_of m)
+    → (serial_of (status_at m desc) ≡ serial_of (word_at (shape_of m) (set m.words word new) (desc_status desc))) ⊎ Restarts m desc
+serial_stays D m field word new left desc exists = at_left D m field word new (address (shape_of m) (desc_status desc)) (λ x. (serial_of (status_at m desc) ≡ serial_of x) ⊎ Restarts m desc) left
+    (λ c e. ⊎_elim (λ r. inr r.0) (λ s. inl (ap (λ w. serial_of (content m w)) e ∙ s.1.serial)) (at_place D m field word new (desc_status desc) exists c e).on)
+    (inl refl)

@@ -13,11 +13,11 @@ use Rattle.md_history.specs.Front.{IsPrefix, AllStay, known_of_two, known_of_bot
 use Rattle.md_machine.specs.declared.attempt.AttemptId.{AttemptId}
 use Rattle.md_machine.specs.declared.attempt.HistoryEntry.{HistoryEntry}
 use Rattle.md_machine.specs.declared.step.Step.{Step}
-use Rattle.md_machine.specs.Machine.{same_attempt, attempt_of}
-use Rattle.md_machine.specs.Trail.{is_store}
-use Rattle.md_machine.specs.Stepping.{fate_told, with_fate, told_by, known_at, known_after}
-use Rattle.md_machine.specs.events.Start.{is_decided, knows_decided}
 use Rattle.md_machine.proofs.clauses.Past.{decided_stays}
+use Rattle.md_machine.specs.Machine.{attempt_of, same_attempt}
+use Rattle.md_machine.specs.Stepping.{fate_told, known_after, known_at, told_by, with_fate}
+use Rattle.md_machine.specs.Trail.{is_store}
+use Rattle.md_machine.specs.events.Start.{is_decided, knows_decided}
 
 -- where a fate is decided, so is the other list's
 abbrev pub MoreDecided : List Fate → List Fate → Type 0

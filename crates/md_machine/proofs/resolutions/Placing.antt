@@ -6,9 +6,10 @@ use Rattle.md_history.specs.declared.entries.Fate.TheVariants.{Committed, Aborte
 use Rattle.md_history.specs.History.{IsResolution}
 use Rattle.md_machine.specs.declared.attempt.HistoryEntry.{HistoryEntry}
 use Rattle.md_machine.specs.declared.node.Structure.{Structure}
+use Rattle.md_machine.proofs.clauses.FrontsFit.{fated}
 use Rattle.md_machine.specs.Machine.{Machine}
-use Rattle.md_machine.specs.Resolution.{entries_of, least, greatest, or_else, structure_in, kept_structure, placed_under}
 use Rattle.md_machine.specs.Refused.{AlwaysMeansEvery, NeverMeansNone}
+use Rattle.md_machine.specs.Resolution.{entries_of, greatest, kept_structure, least, or_else, placed_under, structure_in}
 
 -- one choice keeps all that another one keeps
 abbrev Within : List Bool → List Bool → Type 0

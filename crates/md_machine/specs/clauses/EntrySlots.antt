@@ -2,7 +2,7 @@
 use Rattle.std.specs.Prelude.{◌≡◌, Contains}
 use Rattle.md_machine.specs.declared.attempt.HistoryEntry.{HistoryEntry}
 use Rattle.md_machine.specs.declared.attempt.Write.{Write}
-use Rattle.md_machine.specs.Machine.{Machine, Install, present}
+use Rattle.md_machine.specs.Machine.{Install, Machine, present}
 use Rattle.md_machine.specs.events.Ready.{write_now}
 
 -- the slots of an entry are those that its attempt installed, each with its word, its old content, and the new value

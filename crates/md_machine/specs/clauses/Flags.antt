@@ -5,7 +5,7 @@ use Rattle.md_words.specs.Place.{Place, node_next}
 use Rattle.md_words.specs.PlaceAt.{place_at}
 use Rattle.md_machine.specs.declared.node.PlacedNode.{PlacedNode}
 use Rattle.md_machine.specs.declared.pass.PassView.{PassView}
-use Rattle.md_machine.specs.Machine.{Machine, shape_of, IsAt}
+use Rattle.md_machine.specs.Machine.{IsAt, Machine, shape_of}
 use Rattle.md_machine.specs.clauses.WonInstalls.{EveryStepOf}
 
 -- the place is the next word of a noted node

@@ -4,7 +4,7 @@ use Rattle.md_machine.specs.declared.attempt.AttemptId.{AttemptId}
 use Rattle.md_machine.specs.declared.attempt.Hand.{Hand}
 use Rattle.md_machine.specs.declared.pass.PassView.{PassView}
 use Rattle.md_machine.specs.declared.step.Step.{Step}
-use Rattle.md_machine.specs.Machine.{Machine, IsAt}
+use Rattle.md_machine.specs.Machine.{IsAt, Machine}
 use Rattle.md_machine.specs.Trail.{segments}
 
 -- no step of some segments was made for an attempt

@@ -2,7 +2,7 @@
 use Rattle.std.specs.Prelude.{◌≡◌, ℕ, true, Contains}
 use Rattle.md_machine.specs.declared.node.PlacedNode.{PlacedNode}
 use Rattle.md_machine.specs.declared.pass.PassView.{PassView}
-use Rattle.md_machine.specs.Machine.{Machine, IsAt}
+use Rattle.md_machine.specs.Machine.{IsAt, Machine}
 use Rattle.md_machine.specs.Resolution.{always_placed}
 
 -- what a pass noted as placed in every resolution is so

@@ -3,8 +3,8 @@ use Rattle.std.specs.Prelude.{◌≡◌, ℕ, List, Contains}
 use Rattle.md_words.specs.declared.shape.Shape.{Shape}
 use Rattle.md_words.specs.Place.{slot_word, slot_old}
 use Rattle.md_words.specs.Layout.{IsInSet}
-use Rattle.md_machine.specs.Machine.{Install, word_at}
 use Rattle.md_machine.specs.Installs.{IsPresent}
+use Rattle.md_machine.specs.Machine.{Install, word_at}
 
 -- the slot of an install names its word and its old content
 pub record SlotStands (shape : Shape) (words : List ℕ) (i : Install) : Type 0 where

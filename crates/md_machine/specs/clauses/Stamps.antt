@@ -6,7 +6,7 @@ use Rattle.md_words.specs.Place.{read_word, read_content}
 use Rattle.md_words.specs.Layout.{desc_count}
 use Rattle.md_words.specs.PlaceAt.{IsCounted}
 use Rattle.md_machine.specs.declared.pass.PassView.{PassView}
-use Rattle.md_machine.specs.Machine.{Machine, Install, shape_of, content, word_at, status_at, present, IsAt}
+use Rattle.md_machine.specs.Machine.{Install, IsAt, Machine, content, present, shape_of, status_at, word_at}
 use Rattle.md_machine.specs.Trail.{Meets, SomeStepOf}
 
 -- a trail has the content as found or left in the word

@@ -4,7 +4,7 @@ use Rattle.md_words.specs.Place.{Place, read_word, read_content, slot_word, slot
 use Rattle.md_words.specs.PlaceAt.{place_at}
 use Rattle.md_machine.specs.declared.attempt.AttemptId.{AttemptId}
 use Rattle.md_machine.specs.declared.pass.PassView.{PassView}
-use Rattle.md_machine.specs.Machine.{Machine, shape_of, content, present, IsAt}
+use Rattle.md_machine.specs.Machine.{IsAt, Machine, content, present, shape_of}
 use Rattle.md_machine.specs.Trail.{LastStored}
 
 -- the place is a read or a slot of the descriptor

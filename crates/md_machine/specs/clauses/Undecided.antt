@@ -2,9 +2,9 @@
 use Rattle.std.specs.Prelude.{◌≡◌, ℕ, List, slice_index, Contains}
 use Rattle.md_words.specs.declared.shape.Shape.{Shape}
 use Rattle.md_words.specs.Place.{desc_status}
+use Rattle.md_machine.specs.Installs.{IsPresent, IsUndecided, spot_of_install}
 use Rattle.md_machine.specs.Machine.{Install, word_at}
 use Rattle.md_machine.specs.events.Install.{installed_word}
-use Rattle.md_machine.specs.Installs.{IsPresent, spot_of_install, IsUndecided}
 
 -- as long as an attempt is undecided, each slot that it installed stands in its word
 abbrev pub UndecidedStand : Shape → List ℕ → List Install → Type 0

@@ -3,11 +3,11 @@ use Rattle.std.specs.Prelude.{◌≡◌, ℕ, List, Contains}
 use Rattle.md_machine.specs.declared.attempt.AttemptId.{AttemptId}
 use Rattle.md_machine.specs.declared.pass.PassView.{PassView}
 use Rattle.md_machine.specs.declared.step.Step.{Step}
-use Rattle.md_machine.specs.Machine.{Machine, Install, IsAt}
+use Rattle.md_machine.specs.Installs.{spot_of_install}
+use Rattle.md_machine.specs.Machine.{Install, IsAt, Machine}
 use Rattle.md_machine.specs.Trail.{segments}
 use Rattle.md_machine.specs.events.Install.{installed_word}
 use Rattle.md_machine.specs.events.Start.{WonInstall}
-use Rattle.md_machine.specs.Installs.{spot_of_install}
 
 -- every step of a pass is such, in whatever segment
 abbrev pub EveryStepOf : PassView → (Step → Type 0) → Type 0

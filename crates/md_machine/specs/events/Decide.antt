@@ -12,10 +12,10 @@ use Rattle.md_machine.specs.declared.step.Step.{Step}
 use Rattle.md_machine.specs.declared.step.Kind.{Kind}
 use Rattle.md_machine.specs.declared.step.Kind.TheVariants.{Commit, Abort}
 use Rattle.md_machine.specs.declared.pass.PassView.{PassView}
-use Rattle.md_machine.specs.Machine.{Machine, shape_of, attempt_of}
+use Rattle.md_machine.specs.Machine.{Machine, attempt_of, shape_of}
 use Rattle.md_machine.specs.Own.{HasDesc}
-use Rattle.md_machine.specs.Trail.{Meets, Finds, Loads, SomeStep, SomeStepOf, StepOf, LastStored, holds_desc, read_stands}
-use Rattle.md_machine.specs.Stepping.{exchanged, replaced, wins, left_by, with_fate}
+use Rattle.md_machine.specs.Stepping.{exchanged, left_by, replaced, wins, with_fate}
+use Rattle.md_machine.specs.Trail.{Finds, LastStored, Loads, Meets, SomeStep, SomeStepOf, StepOf, holds_desc, read_stands}
 
 -- the pass loaded this in the word since, or stored it there last for the attempt
 abbrev pub Knows : PassView → List Step → AttemptId → (word held : ℕ) → Type 0

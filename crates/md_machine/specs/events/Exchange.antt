@@ -10,13 +10,13 @@ use Rattle.md_machine.specs.declared.certificate.TidyChange.{TidyChange}
 use Rattle.md_machine.specs.declared.step.Kind.TheVariants.{Exchange}
 use Rattle.md_machine.specs.declared.pass.PassView.{PassView}
 use Rattle.md_machine.specs.LogicalHeap.{Holds}
-use Rattle.md_machine.specs.Meaning.{Meaning}
 use Rattle.md_machine.specs.Machine.{Machine, shape_of}
-use Rattle.md_machine.specs.Resolution.{InEveryResolution}
-use Rattle.md_machine.specs.Trail.{Meets, SomeStepOf}
+use Rattle.md_machine.specs.Meaning.{Meaning}
 use Rattle.md_machine.specs.Own.{MayExchangeAt}
+use Rattle.md_machine.specs.Resolution.{InEveryResolution}
+use Rattle.md_machine.specs.Stepping.{exchanged, left_by, replaced, wins}
+use Rattle.md_machine.specs.Trail.{Meets, SomeStepOf}
 use Rattle.md_machine.specs.events.Install.{MayBeChanged}
-use Rattle.md_machine.specs.Stepping.{exchanged, replaced, wins, left_by}
 
 -- the pass found or left this value, with an even count, in the next word of a node, while that node was placed in
 -- every resolution

@@ -9,9 +9,9 @@ use Rattle.md_machine.specs.declared.attempt.Hand.{Hand}
 use Rattle.md_machine.specs.declared.step.TheConstants.{LAST_COUNT}
 use Rattle.md_machine.specs.declared.step.Kind.TheVariants.{Install as Installs}
 use Rattle.md_machine.specs.declared.pass.PassView.{PassView}
-use Rattle.md_machine.specs.Machine.{Machine, Install, shape_of, word_at, is_ready}
+use Rattle.md_machine.specs.Machine.{Install, Machine, is_ready, shape_of, word_at}
 use Rattle.md_machine.specs.Own.{MayInstallAt}
-use Rattle.md_machine.specs.Stepping.{exchanged, replaced, wins, left_by}
+use Rattle.md_machine.specs.Stepping.{exchanged, left_by, replaced, wins}
 
 -- an even content from which a word may be changed: there is room for the counts that follow
 pub record MayBeChanged (from : ℕ) : Type 0 where

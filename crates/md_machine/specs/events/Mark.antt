@@ -13,17 +13,22 @@ use Rattle.md_machine.specs.declared.attempt.Hand.{Hand}
 use Rattle.md_machine.specs.declared.attempt.HistoryEntry.{HistoryEntry}
 use Rattle.md_machine.specs.declared.certificate.Certificate.{Certificate}
 use Rattle.md_machine.specs.declared.step.Kind.TheVariants.{Load}
+use Rattle.md_machine.specs.declared.step.Step.{Step}
 use Rattle.md_machine.specs.declared.pass.PassView.{PassView}
+use Rattle.md_machine.specs.Certified.{IsCertified, whole_changes, whole_nodes}
+use Rattle.md_machine.specs.Machine.{Machine, content, present, same_attempt, shape_of, was_begun}
 use Rattle.md_machine.specs.Meaning.{Meaning}
-use Rattle.md_machine.specs.Machine.{Machine, shape_of, content, present, same_attempt, was_begun}
 use Rattle.md_machine.specs.Own.{HasDesc}
+use Rattle.md_machine.specs.Stepping.{replaced, step_of, stepped}
 use Rattle.md_machine.specs.Trail.{Meets, SomeStepOf}
-use Rattle.md_machine.specs.events.Uninstall.{IsDecided}
-use Rattle.md_machine.specs.Certified.{whole_changes, whole_nodes, IsCertified}
 use Rattle.md_machine.specs.events.Ready.{IsStoredRead, reads_now, writes_now}
-use Rattle.md_machine.specs.Stepping.{stepped, replaced}
+use Rattle.md_machine.specs.events.Uninstall.{IsDecided}
 
--- the pass after a load of word 0, and the machine with such a pass
+-- the step of a mark or of a move of lanes: a load of word 0
+abbrev pub moved_step : Machine → PassView → Step
+moved_step m p = step_of m p Load 0 (content m 0)
+
+-- the pass after it, and the machine with such a pass
 abbrev pub moved : Machine → PassView → PassView
 moved m p = stepped m p Load 0 (content m 0)
 

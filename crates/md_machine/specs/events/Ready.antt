@@ -21,14 +21,14 @@ use Rattle.md_machine.specs.declared.attempt.Write.{Write}
 use Rattle.md_machine.specs.declared.step.Step.{Step}
 use Rattle.md_machine.specs.declared.step.Kind.TheVariants.{Ready, Install as Installs}
 use Rattle.md_machine.specs.declared.pass.PassView.{PassView}
+use Rattle.md_machine.specs.Certified.{IsCertified, placed_by}
+use Rattle.md_machine.specs.Machine.{Install, Machine, content, same_attempt, shape_of, word_at}
 use Rattle.md_machine.specs.Meaning.{Meaning}
-use Rattle.md_machine.specs.Machine.{Machine, Install, shape_of, content, word_at, same_attempt}
-use Rattle.md_machine.specs.Resolution.{entries_of}
 use Rattle.md_machine.specs.Own.{HasDesc}
-use Rattle.md_machine.specs.Trail.{Meets, Leaves, SomeStepOf, LastStored, read_stands}
+use Rattle.md_machine.specs.Resolution.{entries_of}
+use Rattle.md_machine.specs.Stepping.{exchanged, left_by, replaced, wins}
+use Rattle.md_machine.specs.Trail.{LastStored, Leaves, Meets, SomeStepOf, read_stands}
 use Rattle.md_machine.specs.events.Install.{installed_word}
-use Rattle.md_machine.specs.Stepping.{exchanged, replaced, wins, left_by}
-use Rattle.md_machine.specs.Certified.{placed_by, IsCertified}
 
 -- read i of a descriptor: the word, the recorded content, and whether it stands now
 abbrev pub read_now : Machine → (desc i : ℕ) → Read

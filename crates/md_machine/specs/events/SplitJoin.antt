@@ -7,7 +7,7 @@ use Rattle.md_history.specs.Front.{is_lane_of, known_of_both}
 use Rattle.md_machine.specs.declared.attempt.HistoryEntry.{HistoryEntry}
 use Rattle.md_machine.specs.declared.pass.PassView.{PassView}
 use Rattle.md_machine.specs.Machine.{Machine, shape_of}
-use Rattle.md_machine.specs.events.Mark.{moved, after_move}
+use Rattle.md_machine.specs.events.Mark.{after_move, moved}
 
 -- the pass with some of its lanes, and nothing in hand
 abbrev pub with_lanes : Shape → List ℕ → PassView → PassView
@@ -28,11 +28,15 @@ given_lanes lanes = drop (length lanes - length lanes / 2) lanes
 abbrev pub MaySplit : PassView → Type 0
 MaySplit p = 2 ≤ length p.lanes
 
+-- the pass with the lanes that it keeps, and the new one with those that it is given
+abbrev pub kept_part : Machine → PassView → PassView
+kept_part m p = with_lanes (shape_of m) (kept_lanes p.lanes) (moved m p)
+
+abbrev pub given_part : Machine → PassView → PassView
+given_part m p = with_lanes (shape_of m) (given_lanes p.lanes) (moved m p)
+
 abbrev pub after_split : Machine → (pass : ℕ) → PassView → Machine
-after_split m pass p =
-    let left = with_lanes (shape_of m) (kept_lanes p.lanes) (moved m p) in
-    let right = with_lanes (shape_of m) (given_lanes p.lanes) (moved m p) in
-    record (after_move m pass left) { passes = slice_set m.passes pass left ++ right ∷ [] }
+after_split m pass p = record (after_move m pass (kept_part m p)) { passes = slice_set m.passes pass (kept_part m p) ++ given_part m p ∷ [] }
 
 -- the lanes of both, in rising order
 abbrev pub joined_lanes : Shape → (lanes others : List ℕ) → List ℕ
@@ -60,7 +64,9 @@ joined shape p q = record {
 abbrev pub spent : PassView
 spent = record { lanes = []; seen = []; known = []; placed = []; mine = []; pending = []; past = []; trail = []; hand = None }
 
+-- the pass with all that both have
+abbrev pub joined_part : Machine → (p q : PassView) → PassView
+joined_part m p q = joined (shape_of m) (moved m p) q
+
 abbrev pub after_join : Machine → (pass other : ℕ) → (p q : PassView) → Machine
-after_join m pass other p q =
-    let both = joined (shape_of m) (moved m p) q in
-    record (after_move m pass both) { passes = slice_set (slice_set m.passes pass both) other spent }
+after_join m pass other p q = record (after_move m pass (joined_part m p q)) { passes = slice_set (slice_set m.passes pass (joined_part m p q)) other spent }

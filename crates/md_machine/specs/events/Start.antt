@@ -11,11 +11,11 @@ use Rattle.md_machine.specs.declared.attempt.HistoryEntry.{HistoryEntry}
 use Rattle.md_machine.specs.declared.step.Step.{Step}
 use Rattle.md_machine.specs.declared.step.Kind.TheVariants.{Install as Installs, Start}
 use Rattle.md_machine.specs.declared.pass.PassView.{PassView}
-use Rattle.md_machine.specs.Machine.{Machine, shape_of, present, same_attempt, attempt_of, is_ready}
+use Rattle.md_machine.specs.Machine.{Machine, attempt_of, is_ready, present, same_attempt, shape_of}
 use Rattle.md_machine.specs.Own.{HasDesc}
-use Rattle.md_machine.specs.Trail.{Meets, SomeStep, SomeStepOf, is_store, holds_desc}
+use Rattle.md_machine.specs.Stepping.{replaced, stepped}
+use Rattle.md_machine.specs.Trail.{Meets, SomeStep, SomeStepOf, holds_desc, is_store}
 use Rattle.md_machine.specs.events.Uninstall.{IsDecided}
-use Rattle.md_machine.specs.Stepping.{stepped, replaced}
 
 -- the fate of an attempt's entry is known to be decided
 abbrev pub is_decided : Fate → Bool

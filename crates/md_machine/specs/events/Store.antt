@@ -10,9 +10,9 @@ use Rattle.md_machine.specs.declared.attempt.Hand.{Hand}
 use Rattle.md_machine.specs.declared.certificate.Change.{Change}
 use Rattle.md_machine.specs.declared.step.Kind.TheVariants.{Store}
 use Rattle.md_machine.specs.declared.pass.PassView.{PassView}
-use Rattle.md_machine.specs.Machine.{Machine, shape_of, content, word_at, is_ready, is_installed}
+use Rattle.md_machine.specs.Machine.{Machine, content, is_installed, is_ready, shape_of, word_at}
 use Rattle.md_machine.specs.Own.{IsOwnNode}
-use Rattle.md_machine.specs.Stepping.{stepped, replaced}
+use Rattle.md_machine.specs.Stepping.{replaced, stepped}
 
 -- a store to a next word: it isn't under a descriptor, and the new count is even and 2 more
 pub record MayStoreNext (old value : ℕ) : Type 0 where

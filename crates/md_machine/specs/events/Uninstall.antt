@@ -12,10 +12,10 @@ use Rattle.md_words.specs.PlaceAt.{IsCounted}
 use Rattle.md_machine.specs.declared.step.Step.{Step}
 use Rattle.md_machine.specs.declared.step.Kind.TheVariants.{Uninstall}
 use Rattle.md_machine.specs.declared.pass.PassView.{PassView}
-use Rattle.md_machine.specs.Machine.{Machine, shape_of, present, attempt_of}
+use Rattle.md_machine.specs.Machine.{Machine, attempt_of, present, shape_of}
 use Rattle.md_machine.specs.Own.{HasDesc}
-use Rattle.md_machine.specs.Trail.{Meets, Finds, Loads, SomeStep, SomeStepOf, StepOf, LastStored}
-use Rattle.md_machine.specs.Stepping.{exchanged, replaced, left_by}
+use Rattle.md_machine.specs.Stepping.{exchanged, left_by, replaced}
+use Rattle.md_machine.specs.Trail.{Finds, LastStored, Loads, Meets, SomeStep, SomeStepOf, StepOf}
 
 -- a step found a status of the descriptor with this serial
 abbrev pub FindsSerial : Shape → (desc serial : ℕ) → Step → Type 0
