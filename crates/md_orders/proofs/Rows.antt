@@ -16,8 +16,7 @@ use Rattle.csv.specs.declared.parser.State.TheVariants as st
 use Rattle.csv.specs.declared.parser.Action.{Action}
 use Rattle.csv.specs.declared.parser.Action.TheVariants as act
 use Rattle.csv.proofs.ReadFacts.{rows-more, rows-end}
-use Rattle.md_orders.specs.Records.{order_records}
-use Rattle.md_orders.specs.Grammar.{Row}
+use Rattle.md_orders.specs.Records.{Row, order_records}
 
 -- a record ends in a state that the end of the text doesn't end again
 record Rests (p : State × Action) : Type 0 where

@@ -5,6 +5,8 @@ use Rattle.std.proofs.lemmas.Bool.{cases_Bool, eqb-true}
 use Rattle.std.proofs.lemmas.List.{append-nil}
 use Rattle.md_history.specs.State.{State}
 use Rattle.md_book.specs.declared.commands.Side.{Side}
+use Rattle.md_book.specs.declared.limits.TheConstants.{MAX_ACCOUNT, MAX_PRICE}
+use Rattle.md_book.specs.declared.maps.TheConstants.{SOLD}
 use Rattle.md_book.specs.Book.{Book, level_of, depth, bought, sold}
 use Rattle.md_book.specs.Stands.{StandsFor, unless_0}
 use Rattle.md_orders.specs.Report.{texts_to, level_text, account_text, value_at, levels_text, levels_text_of, accounts_text, accounts_text_of}
@@ -35,13 +37,13 @@ sum-is n = elim (cases_Bool (n == 0)) [
 
 -- the depths in the maps are those of the book
 pub levels-stand : (s : State) (b : Book) (side : Side) → StandsFor s b → levels_text_of side s ≡ levels_text side b
-levels-stand s b side stands = texts_to-same 1000 _ _ (λ price. ap (level_text side price) (ap (λ o. unwrap_or o 0) (stands.depths (level_of side price)) ∙ sum-is (depth b (level_of side price))))
+levels-stand s b side stands = texts_to-same MAX_PRICE _ _ (λ price. ap (level_text side price) (ap (λ o. unwrap_or o 0) (stands.shows.depths (level_of side price)) ∙ sum-is (depth b (level_of side price))))
 
 -- the sums in the maps are those of the book
 pub accounts-stand : (s : State) (b : Book) → StandsFor s b → accounts_text_of s ≡ accounts_text b
-accounts-stand s b stands = texts_to-same 9999 _ _ (λ account.
-    ap (λ n. account_text account n (value_at s 3 account)) (ap (λ o. unwrap_or o 0) (stands.bought account) ∙ sum-is (bought b account))
-    ∙ ap (account_text account (bought b account)) (ap (λ o. unwrap_or o 0) (stands.sold account) ∙ sum-is (sold b account)))
+accounts-stand s b stands = texts_to-same MAX_ACCOUNT _ _ (λ account.
+    ap (λ n. account_text account n (value_at s SOLD account)) (ap (λ o. unwrap_or o 0) (stands.shows.bought account) ∙ sum-is (bought b account))
+    ∙ ap (account_text account (bought b account)) (ap (λ o. unwrap_or o 0) (stands.shows.sold account) ∙ sum-is (sold b account)))
 
 -- five texts, one after another
 pub texts_joined : (o o1 o2 o3 o4 o5 a b c d e : List ℕ) → o ≡ [] → o1 ≡ o ++ a → o2 ≡ o1 ++ b → o3 ≡ o2 ++ c → o4 ≡ o3 ++ d → o5 ≡ o4 ++ e → o5 ≡ a ++ b ++ c ++ d ++ e

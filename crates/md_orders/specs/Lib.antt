@@ -1,7 +1,9 @@
 pub mod Records
+pub mod Version
 pub mod Grammar
 pub mod Lists
 pub mod Scripts
+pub mod Noted
 pub mod Replies
 pub mod Report
 pub mod Line

@@ -7,7 +7,9 @@ use Rattle.md_book.specs.declared.commands.Side.TheVariants.{Buy, Sell}
 use Rattle.md_book.specs.declared.commands.Part.{Part}
 use Rattle.md_book.specs.declared.commands.Command.{Command}
 use Rattle.md_book.specs.declared.commands.BookReply.{BookReply}
-use Rattle.md_book.specs.declared.commands.BookReply.TheVariants.{Placed, Cancelled, Gone, Filled, Depth, Account}
+use Rattle.md_book.specs.declared.commands.BookReply.TheVariants.{Placed, Cancelled, Gone, Killed, Filled, Depth, Account}
+use Rattle.md_book.specs.declared.limits.TheConstants.{MAX_ACCOUNT, MAX_PRICE}
+use Rattle.md_book.specs.declared.maps.TheConstants.{DEPTHS, BOUGHT, SOLD}
 use Rattle.md_book.specs.Book.{Book, level_of, depth, bought, sold}
 use Rattle.md_orders.specs.Scripts.{list_of, count_of}
 use Rattle.md_orders.specs.Replies.{reply_at}
@@ -31,6 +33,7 @@ abbrev pub reply_text : BookReply → List ℕ
 reply_text Placed = codes "placed"
 reply_text (Cancelled left) = codes "cancelled " ++ decimal left
 reply_text Gone = codes "gone"
+reply_text Killed = codes "killed"
 reply_text (Filled taken rest count parts) = filled_text taken rest (take count parts)
 reply_text (Depth depth) = codes "depth " ++ decimal depth
 reply_text (Account bought sold) = codes "bought " ++ decimal bought ++ codes " sold " ++ decimal sold
@@ -66,9 +69,9 @@ side_text Sell = codes "S"
 abbrev pub level_text : Side → ℕ → ℕ → List ℕ
 level_text side price depth = if depth == 0 then [] else side_text side ++ codes " " ++ decimal price ++ codes " " ++ decimal depth ++ codes "\n"
 
--- the levels of a side, prices rising from 1 to 1,000
+-- the levels of a side, prices rising
 abbrev pub levels_text : Side → Book → List ℕ
-levels_text side b = texts_to 1000 (λ price. level_text side price (depth b (level_of side price)))
+levels_text side b = texts_to MAX_PRICE (λ price. level_text side price (depth b (level_of side price)))
 
 -- account A bought X sold Y, of an account that bought or sold
 abbrev pub account_text : ℕ → ℕ → ℕ → List ℕ
@@ -76,9 +79,9 @@ account_text account bought sold =
     if (bought == 0) && (sold == 0) then []
     else codes "account " ++ decimal account ++ codes " bought " ++ decimal bought ++ codes " sold " ++ decimal sold ++ codes "\n"
 
--- the accounts, rising from 1 to 9,999
+-- the accounts, rising
 abbrev pub accounts_text : Book → List ℕ
-accounts_text b = texts_to 9999 (λ account. account_text account (bought b account) (sold b account))
+accounts_text b = texts_to MAX_ACCOUNT (λ account. account_text account (bought b account) (sold b account))
 
 -- done N
 abbrev pub done_text : ℕ → List ℕ
@@ -94,7 +97,7 @@ value_at s m k = unwrap_or (fin.get (map_at s m) k) 0
 
 -- the same texts of the book, from the maps of depths and of what accounts bought and sold
 abbrev pub levels_text_of : Side → State → List ℕ
-levels_text_of side s = texts_to 1000 (λ price. level_text side price (value_at s 1 (level_of side price)))
+levels_text_of side s = texts_to MAX_PRICE (λ price. level_text side price (value_at s DEPTHS (level_of side price)))
 
 abbrev pub accounts_text_of : State → List ℕ
-accounts_text_of s = texts_to 9999 (λ account. account_text account (value_at s 2 account) (value_at s 3 account))
+accounts_text_of s = texts_to MAX_ACCOUNT (λ account. account_text account (value_at s BOUGHT account) (value_at s SOLD account))

@@ -3,10 +3,12 @@ use Rattle.std.specs.Prelude.{◌≡◌, ℕ, zero, suc, ◌/◌, ◌^◌, ◌<�
 use Rattle.std.specs.List.{filter_map, enumerate_from}
 use Rattle.std.specs.Option.{option_map_or}
 use Rattle.md_book.specs.declared.commands.Command.{Command}
-use Rattle.md_book.specs.declared.commands.Command.TheVariants.{Place, Cancel, Fill, Depth, Account}
+use Rattle.md_book.specs.declared.commands.Command.TheVariants.{Place, Cancel, Fill, Kill, Depth, Account}
 use Rattle.md_book.specs.Commands.{IsCommand, name_of}
-use Rattle.md_orders.specs.Records.{max_records}
-use Rattle.md_orders.specs.Grammar.{Row, caller_of, command_of, first_bad}
+use Rattle.md_orders.specs.declared.version.Version.{Version}
+use Rattle.md_orders.specs.Records.{Row, max_records}
+use Rattle.md_orders.specs.Version.{file_of}
+use Rattle.md_orders.specs.Grammar.{caller_of, command_of, first_bad}
 
 -- the list of a caller, counted from 1; other callers have none
 abbrev pub list_of : {A : Type 0} → List (List A) → ℕ → List A
@@ -29,19 +31,19 @@ at_line lists caller zero = None
 at_line lists caller (suc line) = slice_get (list_of lists caller) line
 
 -- whether a record is of this caller
-abbrev pub is_by : ℕ → ℕ → Row → Bool
-is_by callers caller row = option_map_or (λ c. c == caller) (caller_of callers row) false
+abbrev pub is_by : Version → ℕ → ℕ → Row → Bool
+is_by version callers caller row = option_map_or (λ c. c == caller) (caller_of version callers row) false
 
 -- a caller's records, in order, and its script: their commands, where an order gets the name of its line
-abbrev pub script_in : ℕ → List Row → ℕ → List Command
-script_in callers rows caller =
-    filter_map (λ numbered. command_of (name_of caller numbered.0) numbered.1) (enumerate_from 1 (filter (is_by callers caller) rows))
+abbrev pub script_in : Version → ℕ → List Row → ℕ → List Command
+script_in version callers rows caller =
+    filter_map (λ numbered. command_of version (name_of caller numbered.0) numbered.1) (enumerate_from 1 (filter (is_by version callers caller) rows))
 
--- the scripts that records write, each of which keeps the grammar
+-- the scripts that a file's records write, each of which keeps the grammar
 pub record AreScripts (callers : ℕ) (rows : List Row) (scripts : List (List Command)) : Type 0 where
-  pub good : first_bad callers 1 rows ≡ None
+  pub good : first_bad callers rows ≡ None
   pub number : length scripts ≡ callers
-  pub each : (caller : ℕ) → list_of scripts caller ≡ script_in callers rows caller
+  pub each : (caller : ℕ) → list_of scripts caller ≡ script_in (file_of rows).version callers (file_of rows).lines caller
 
 -- how many commands there are
 abbrev pub count_of : List (List Command) → ℕ
@@ -51,7 +53,8 @@ count_of scripts = sum_by length scripts
 abbrev pub IsNamed : ℕ → Command → Type 0
 IsNamed name (Place n account side price quantity) = n ≡ name
 IsNamed name (Cancel order) = Unit {0}
-IsNamed name (Fill account side price quantity) = Unit {0}
+IsNamed name (Fill account side price quantity places) = Unit {0}
+IsNamed name (Kill account side price quantity places) = Unit {0}
 IsNamed name (Depth side price) = Unit {0}
 IsNamed name (Account account) = Unit {0}
 

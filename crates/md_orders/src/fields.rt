@@ -2,6 +2,7 @@
 ghost use Rattle.std.specs.Prelude.{◌≡◌, ◌<◌, ◌^◌};
 ghost use Rattle.csv.specs.Records.{fields_of};
 ghost use Rattle.md_orders.specs.Grammar.{number, number_at, byte_at, side_at};
+ghost use Rattle.md_orders.specs.Version.{is_field};
 
 use csv::ByteRecord;
 use md_book::Side;
@@ -52,5 +53,15 @@ pub(crate) fn side_at(row: &ByteRecord, place: usize) -> Option<Side>
         b'B' => Some(Side::Buy),
         b'S' => Some(Side::Sell),
         _ => None,
+    }
+}
+
+/// Whether a field has this text.
+pub(crate) fn is_field(row: &ByteRecord, place: usize, text: &[u8]) -> bool
+    ensures { result ≡ is_field (fields_of row.now) place text.now }
+{
+    match row.get(place) {
+        Some(field) => field == text,
+        None => false,
     }
 }

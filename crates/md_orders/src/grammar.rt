@@ -1,13 +1,14 @@
 // The caller and the command that a record writes.
 ghost use Rattle.std.specs.Prelude.{◌≡◌};
 ghost use Rattle.csv.specs.Records.{fields_of};
-ghost use Rattle.md_orders.specs.Grammar.{account_at, price_at, quantity_at, terms_of, place_of, cancel_of, fill_of, depth_of, account_of, command_of, caller_of};
+ghost use Rattle.md_orders.specs.Grammar.{account_at, price_at, quantity_at, terms_of, place_of, cancel_of, fill_of, kill_of, depth_of, account_of, command_of, caller_of};
 
 use crate::fields::{byte_at, number_at, side_at};
+use crate::version::Version;
 use csv::ByteRecord;
-use md_book::{Command, Side, order_name};
+use md_book::{Command, MAX_ACCOUNT, MAX_LINE, MAX_PRICE, MAX_QUANTITY, Side, order_name};
 
-// What an order and a fill write alike.
+// What an order, a fill and a kill write alike.
 #[derive(Clone, Copy)]
 pub(crate) struct Terms {
     account: u32,
@@ -19,19 +20,19 @@ pub(crate) struct Terms {
 fn account_at(row: &ByteRecord, place: usize) -> Option<u32>
     ensures { result ≡ account_at (fields_of row.now) place }
 {
-    number_at(row, place, 1, 9_999)
+    number_at(row, place, 1, MAX_ACCOUNT)
 }
 
 fn price_at(row: &ByteRecord, place: usize) -> Option<u32>
     ensures { result ≡ price_at (fields_of row.now) place }
 {
-    number_at(row, place, 1, 1_000)
+    number_at(row, place, 1, MAX_PRICE)
 }
 
 fn quantity_at(row: &ByteRecord, place: usize) -> Option<u32>
     ensures { result ≡ quantity_at (fields_of row.now) place }
 {
-    number_at(row, place, 1, 1_000_000)
+    number_at(row, place, 1, MAX_QUANTITY)
 }
 
 fn terms_of(row: &ByteRecord) -> Option<Terms>
@@ -62,18 +63,18 @@ fn place_of(name: u64, row: &ByteRecord) -> Option<Command>
     })
 }
 
-fn cancel_of(row: &ByteRecord) -> Option<Command>
-    ensures { result ≡ cancel_of (fields_of row.now) }
+fn cancel_of(version: Version, row: &ByteRecord) -> Option<Command>
+    ensures { result ≡ cancel_of version (fields_of row.now) }
 {
-    let caller = number_at(row, 2, 1, 8)?;
-    let line = number_at(row, 3, 1, 1_000_000)?;
+    let caller = number_at(row, 2, 1, version.max_caller())?;
+    let line = number_at(row, 3, 1, MAX_LINE)?;
     Some(Command::Cancel {
         name: order_name(caller, line),
     })
 }
 
-fn fill_of(row: &ByteRecord) -> Option<Command>
-    ensures { result ≡ fill_of (fields_of row.now) }
+fn fill_of(version: Version, row: &ByteRecord) -> Option<Command>
+    ensures { result ≡ fill_of version (fields_of row.now) }
 {
     let terms = terms_of(row)?;
     Some(Command::Fill {
@@ -81,6 +82,20 @@ fn fill_of(row: &ByteRecord) -> Option<Command>
         side: terms.side,
         price: terms.price,
         quantity: terms.quantity,
+        places: version.places(),
+    })
+}
+
+fn kill_of(version: Version, row: &ByteRecord) -> Option<Command>
+    ensures { result ≡ kill_of version (fields_of row.now) }
+{
+    let terms = terms_of(row)?;
+    Some(Command::Kill {
+        account: terms.account,
+        side: terms.side,
+        price: terms.price,
+        quantity: terms.quantity,
+        places: version.places(),
     })
 }
 
@@ -101,23 +116,24 @@ fn account_of(row: &ByteRecord) -> Option<Command>
 
 /// The command that a record writes; an order that it places gets the name.
 #[tactic(auto, unfolding(crate::specs::Grammar::command_of))]
-pub(crate) fn command_of(name: u64, row: &ByteRecord) -> Option<Command>
-    ensures { result ≡ command_of name (fields_of row.now) }
+pub(crate) fn command_of(version: Version, name: u64, row: &ByteRecord) -> Option<Command>
+    ensures { result ≡ command_of version name (fields_of row.now) }
 {
     match (byte_at(row, 1)?, row.len()) {
         (b'P', 6) => place_of(name, row),
-        (b'C', 4) => cancel_of(row),
-        (b'F', 6) => fill_of(row),
+        (b'C', 4) => cancel_of(version, row),
+        (b'F', 6) => fill_of(version, row),
+        (b'K', 6) => kill_of(version, row),
         (b'D', 4) => depth_of(row),
         (b'A', 3) => account_of(row),
         _ => None,
     }
 }
 
-/// The caller of a record, from 1 to `callers`.
+/// The caller of a record, from 1 to `callers` and within the version's range.
 #[tactic(auto, unfolding(crate::specs::Grammar::caller_of))]
-pub(crate) fn caller_of(callers: u32, row: &ByteRecord) -> Option<u32>
-    ensures { result ≡ caller_of callers (fields_of row.now) }
+pub(crate) fn caller_of(version: Version, callers: u32, row: &ByteRecord) -> Option<u32>
+    ensures { result ≡ caller_of version callers (fields_of row.now) }
 {
-    number_at(row, 0, 1, callers)
+    number_at(row, 0, 1, callers.min(version.max_caller()))
 }

@@ -9,6 +9,7 @@ mod scripts;
 #[cfg(test)]
 mod tests;
 mod text;
+mod version;
 
 pub use read::{OrderFault, read_orders};
 pub use replies::Replies;

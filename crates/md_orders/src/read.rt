@@ -1,17 +1,19 @@
 // Reading an order file.
-ghost use Rattle.std.specs.Prelude.{◌≡◌, ◌≤◌, ◌<◌, ℕ, true, false, Some, None, length, IfOk, IfSome, IfNone, IsErrOf};
+ghost use Rattle.std.specs.Prelude.{◌≡◌, ◌≤◌, ◌<◌, ◌+◌, ◌++◌, ◌∷◌, ℕ, List, true, false, Some, [], length, IfOk, IfSome, IfNone, OnOk, IsErrOf};
 ghost use Rattle.csv.specs.Reading.{error_kind, stops_reader};
 ghost use Rattle.csv.specs.Records.{fields_of};
-ghost use Rattle.md_orders.specs.Records.{order_records, max_records, AreFewRecords};
+ghost use Rattle.md_orders.specs.Records.{Row, order_records, max_records, AreFewRecords};
 ghost use Rattle.md_orders.specs.Grammar.{keeps, first_bad};
 ghost use Rattle.md_orders.specs.Scripts.{AreScripts, count_of};
 ghost use Rattle.md_orders.specs.Line.{IsLine};
+ghost use Rattle.md_orders.specs.Noted.{IsNoted};
 
 use crate::grammar::{caller_of, command_of};
 use crate::scripts::Scripts;
+use crate::version::{Version, begins_version_2};
 use csv::{ByteRecord, Error, ErrorKind, ReaderBuilder};
-use md_book::{Command, order_name};
-use std::alloc::Global;
+use md_book::{Command, MAX_CALLER, order_name};
+use std::alloc::{AllocError, Global};
 
 /// Why an order file was refused.
 #[derive(Clone, Copy, Debug, PartialEq, Eq)]
@@ -38,44 +40,74 @@ fn want(error: &Error) -> OrderFault
     }
 }
 
+// What was noted of the records so far: the file's version, the scripts of its lines, and the number of the
+// first record that breaks the grammar. After such a record no scripts are kept.
+#[derive(Drop)]
+struct Notes {
+    version: Version,
+    scripts: Scripts,
+    bad: Option<u32>,
+}
+
 // The caller and the command of a record, which stands at the caller's next line.
-fn line_of(scripts: &Scripts, callers: u32, row: &ByteRecord) -> Option<(u32, Command)>
-    requires callers { callers ≤ 8 }
+fn line_of(scripts: &Scripts, version: Version, callers: u32, row: &ByteRecord) -> Option<(u32, Command)>
     requires room { count_of scripts.now < max_records }
-    ensures none { IfNone result (keeps callers (fields_of row.now) ≡ false) }
-    ensures some { IfSome result (λ line. IsLine callers (fields_of row.now) scripts.now line.0 line.1) }
+    ensures none { IfNone result (keeps version callers (fields_of row.now) ≡ false) }
+    ensures some { IfSome result (λ line. IsLine version callers (fields_of row.now) scripts.now line.0 line.1) }
 {
-    let caller = caller_of(callers, row)?;
+    let caller = caller_of(version, callers, row)?;
     let name = order_name(caller, scripts.len(caller) + 1);
-    let command = command_of(name, row)?;
+    let command = command_of(version, name, row)?;
     Some((caller, command))
 }
 
+// Notes the record of a number.
+fn note(notes: &mut Notes, callers: u32, number: u32, row: &ByteRecord) -> Result<(), AllocError>
+    requires few { number ≤ max_records }
+    requires noted { (rows : List Row) × (length rows + 1 ≡ number) × IsNoted callers rows notes.old.version notes.old.scripts notes.old.bad }
+    ensures { OnOk result ((rows : List Row) → length rows + 1 ≡ number → IsNoted callers rows notes.old.version notes.old.scripts notes.old.bad → IsNoted callers (rows ++ fields_of row.now ∷ []) notes.new.version notes.new.scripts notes.new.bad) }
+{
+    if begins_version_2(number, row) {
+        notes.version = Version::Second;
+    } else if notes.bad.is_none() {
+        match line_of(&notes.scripts, notes.version, callers, row) {
+            Some((caller, command)) => notes.scripts.add(caller, command)?,
+            None => notes.bad = Some(number),
+        }
+    }
+    Ok(())
+}
+
 /// Reads the scripts of an order file. `TooMany` comes exactly where there are more than 1,000,000 records,
-/// and `BadLine(n)` exactly where there aren't, and the n-th is the first that isn't a command of a caller from
-/// 1 to `callers` with its numbers in range. `NoMemory` is the other refusal.
+/// and `BadLine(n)` exactly where there aren't, and the n-th is the first that breaks the grammar of the file's
+/// version: it isn't a command of one of the callers with its numbers in range, nor the first record of a file
+/// of version 2. `NoMemory` is the other refusal.
 pub fn read_orders(alloc: Global, bytes: &[u8], callers: u32) -> Result<Scripts, OrderFault>
-    requires { (1 ≤ callers) × (callers ≤ 8) }
+    requires { (1 ≤ callers) × (callers ≤ MAX_CALLER) }
     ensures scripts { IfOk result (λ scripts. AreFewRecords (order_records bytes.now) × AreScripts callers (order_records bytes.now) scripts) }
     ensures too_many { IsErrOf result OrderFault.TooMany → ¬ AreFewRecords (order_records bytes.now) }
-    ensures bad_line { (n : ℕ) → IsErrOf result (OrderFault.BadLine n) → AreFewRecords (order_records bytes.now) × (first_bad callers 1 (order_records bytes.now) ≡ Some n) }
+    ensures bad_line { (n : ℕ) → IsErrOf result (OrderFault.BadLine n) → AreFewRecords (order_records bytes.now) × (first_bad callers (order_records bytes.now) ≡ Some n) }
 {
     let mut reader = ReaderBuilder::new()
         .has_headers(false)
         .flexible(true)
         .from_reader(alloc, bytes);
     let mut row = ByteRecord::new(alloc);
-    let Ok(mut scripts) = Scripts::empty(alloc, callers) else {
+    let Ok(scripts) = Scripts::empty(alloc, callers) else {
         return Err(OrderFault::NoMemory);
     };
-    let mut bad = None;
+    let mut notes = Notes {
+        version: Version::First,
+        scripts,
+        bad: None,
+    };
     for number in 1..MAX_RECORDS + 2 {
         match reader.read_byte_record(&mut row) {
             Ok(true) => {}
             Ok(false) => {
-                return match bad {
+                return match notes.bad {
                     Some(number) => Err(OrderFault::BadLine(number)),
-                    None => Ok(scripts),
+                    None => Ok(notes.scripts),
                 };
             }
             Err(error) => return Err(want(&error)),
@@ -83,15 +115,8 @@ pub fn read_orders(alloc: Global, bytes: &[u8], callers: u32) -> Result<Scripts,
         if number > MAX_RECORDS {
             return Err(OrderFault::TooMany);
         }
-        if bad.is_none() {
-            match line_of(&scripts, callers, &row) {
-                Some((caller, command)) => {
-                    if scripts.add(caller, command).is_err() {
-                        return Err(OrderFault::NoMemory);
-                    }
-                }
-                None => bad = Some(number),
-            }
+        if note(&mut notes, callers, number, &row).is_err() {
+            return Err(OrderFault::NoMemory);
         }
     }
     unreachable!()

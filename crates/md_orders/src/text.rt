@@ -1,19 +1,15 @@
 // The text of a report, to its last byte.
 ghost use Rattle.std.specs.Prelude.{◌≡◌, ◌++◌, ◌≤◌, ◌<◌, length, take, flat_map, decimal, OnOk, IfOk};
 ghost use Rattle.md_book.specs.Book.{Book};
-ghost use Rattle.md_book.specs.Stands.{StandsFor, maps_of_a_book};
+ghost use Rattle.md_book.specs.Stands.{StandsFor};
 ghost use Rattle.md_orders.specs.Scripts.{list_of};
 ghost use Rattle.md_orders.specs.Report.{name_text, part_text, filled_text, reply_text, line_text, answer_text, script_text, replies_text, level_text, account_text, texts_to, done_text, report_text, value_at, levels_text_of, accounts_text_of};
 
 use crate::{Replies, Scripts};
 use itoa::Buffer;
-use md_book::{BOUGHT, BookReply, DEPTHS, Part, SOLD, Side};
+use md_book::{BOUGHT, BookReply, DEPTHS, MAPS, MAX_ACCOUNT, MAX_PRICE, Part, SOLD, Side};
 use md_history::Contents;
 use std::alloc::{AllocError, Global};
-
-const MAX_PRICE: u32 = 1_000;
-
-const MAX_ACCOUNT: u32 = 9_999;
 
 fn number(out: &mut Vec<u8>, n: u64) -> Result<(), AllocError>
     ensures { OnOk result (out.new.items ≡ out.old.items ++ decimal n) }
@@ -82,6 +78,7 @@ fn reply(out: &mut Vec<u8>, reply: &BookReply) -> Result<(), AllocError>
             number(out, u64::from(*left))
         }
         BookReply::Gone => out.extend_from_slice(b"gone"),
+        BookReply::Killed => out.extend_from_slice(b"killed"),
         BookReply::Filled {
             taken,
             rest,
@@ -167,7 +164,7 @@ fn level(out: &mut Vec<u8>, side: Side, price: u32, depth: u64) -> Result<(), Al
 }
 
 fn levels(out: &mut Vec<u8>, contents: &Contents, side: Side) -> Result<(), AllocError>
-    requires { maps_of_a_book ≤ length contents.now.maps }
+    requires { MAPS ≤ length contents.now.maps }
     ensures { OnOk result (out.new.items ≡ out.old.items ++ levels_text_of side contents.now) }
 {
     for before in 0..MAX_PRICE {
@@ -195,7 +192,7 @@ fn account(out: &mut Vec<u8>, account: u32, bought: u64, sold: u64) -> Result<()
 }
 
 fn accounts(out: &mut Vec<u8>, contents: &Contents) -> Result<(), AllocError>
-    requires { maps_of_a_book ≤ length contents.now.maps }
+    requires { MAPS ≤ length contents.now.maps }
     ensures { OnOk result (out.new.items ≡ out.old.items ++ accounts_text_of contents.now) }
 {
     for before in 0..MAX_ACCOUNT {
@@ -223,7 +220,7 @@ pub fn report(
     replies: &Replies,
     contents: &Contents,
 ) -> Result<Vec<u8>, AllocError>
-    requires { maps_of_a_book ≤ length contents.now.maps }
+    requires { MAPS ≤ length contents.now.maps }
     ensures { IfOk result (λ text. (book : Book) → StandsFor contents.now book → text.items ≡ report_text of.now replies.now book) }
 {
     let mut out = Vec::new(alloc);

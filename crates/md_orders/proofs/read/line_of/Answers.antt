@@ -7,10 +7,10 @@ use Rattle.md_orders.proofs.read.line_of.Goals as goal
 
 pub returns-in_err-command-clause-none : goal.returns-in_err-command-clause-none
 returns-in_err-command-clause-none c =
-    rw c.from_residual-in_err-command.ensures (line-breaks c.args.callers _ (fields_of c.args.row.now) (sym c.command_of.ensures ∙ c.in_err-command.was))
+    rw c.from_residual-in_err-command.ensures (line-breaks c.args.version c.args.callers _ (fields_of c.args.row.now) (sym c.command_of.ensures ∙ c.in_err-command.was))
 
 pub returns-clause-some : goal.returns-clause-some
 returns-clause-some c =
     let named = c.order_name-name.ensures ∙ ap (λ n. name_of c.in_ok-caller.caller (n + 1)) c.len.ensures.count in
-    line-is _ _ _ _ _ c.requires.callers c.requires.room (sym c.caller_of.ensures ∙ c.in_ok-caller.was)
-    (ap (λ n. command_of n (fields_of c.args.row.now)) (sym named) ∙ sym c.command_of.ensures ∙ c.in_ok-command.was)
+    line-is _ _ _ _ _ _ c.requires.room (sym c.caller_of.ensures ∙ c.in_ok-caller.was)
+    (ap (λ n. command_of c.args.version n (fields_of c.args.row.now)) (sym named) ∙ sym c.command_of.ensures ∙ c.in_ok-command.was)

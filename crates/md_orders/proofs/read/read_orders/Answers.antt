@@ -3,9 +3,9 @@ use Rattle.std.specs.Result.{is_ok}
 use Rattle.csv.specs.Records.{fields_of}
 use Rattle.csv.specs.Reading.{Reached}
 use Rattle.md_orders.proofs.Rows.{IsReadSoFar, read_more, read_end, rows_few, only_stops}
-use Rattle.md_orders.proofs.Noted.{so_far, noted-none, noted-same, noted-number, on_ok, note_line, note_bad, note_more}
+use Rattle.md_orders.proofs.Noted.{noted-none, noted-scripts, on_ok}
 use Rattle.md_orders.proofs.read.read_orders.Goals as goal
-use Rattle.md_orders.proofs.read.read_orders.Goals.{In-Ok-true, in-Some, in-None, then-is_none+in-Some-line_of+else-is_err, then-is_none+in-None-line_of, else-is_none}
+use Rattle.md_orders.proofs.read.read_orders.Goals.{In-Ok-true, in-Some, in-None}
 
 pub loop-number-init : goal.loop-number-init
 unfolding Reached
@@ -33,9 +33,9 @@ returns-in-Ok-false-clause-scripts c =
     let (rows, so_far, count, few, noted) = c.loop-number.invariant in
     let read = rw c.in-Ok-false.field-0-test at (c.in-Ok-false.ensures.reads so_far.trim so_far.ready) in
     let all = read_end c.args.bytes.now rows c.loop-number.reader c.read_byte_record.new.self _ so_far read in
-    rw all (elim c.match-bad.branch [
+    rw all (elim c.match-notes.branch [
       | in-Some w ↦ rw w.result-is tt
-      | in-None w ↦ rw w.result-is (few, (rw w.in-None.is at noted).are)
+      | in-None w ↦ rw w.result-is (few, noted-scripts _ _ _ _ (rw w.in-None.is at noted))
     ])
 
 pub returns-in-Ok-false-clause-bad_line : goal.returns-in-Ok-false-clause-bad_line
@@ -43,17 +43,10 @@ returns-in-Ok-false-clause-bad_line c =
     let (rows, so_far, count, few, noted) = c.loop-number.invariant in
     let read = rw c.in-Ok-false.field-0-test at (c.in-Ok-false.ensures.reads so_far.trim so_far.ready) in
     let all = read_end c.args.bytes.now rows c.loop-number.reader c.read_byte_record.new.self _ so_far read in
-    rw all (elim c.match-bad.branch [
-      | in-Some w ↦ rw w.result-is (λ n e. let same : w.in-Some.number ≡ n = cc e in (few, rw same at (rw w.in-Some.is at noted)))
+    rw all (elim c.match-notes.branch [
+      | in-Some w ↦ rw w.result-is (λ n e. let same : w.in-Some.number ≡ n = cc e in (few, rw same at (rw w.in-Some.is at noted).noted))
       | in-None w ↦ rw w.result-is (λ n e. cc e)
     ])
-
-pub add-requires-clause-there : goal.add-requires-clause-there
-add-requires-clause-there c =
-    let (rows, read, count, few, noted) = c.loop-number.invariant in
-    let number = noted-number _ rows _ _ c.if-is_none.ensures noted in
-    let high = c.in-Some-line_of.ensures.some.caller_high in
-    omega arith
 
 -- one record more was read
 more : (c : In-Ok-true) → IsReadSoFar c.args.bytes.now c.read_byte_record.new.self (c.loop-number.invariant.0 ++ fields_of c.read_byte_record.new.row ∷ [])
@@ -69,24 +62,19 @@ returns-then-number-gt-MAX_RECORDS-clause-too_many c = λ _ few.
     let longer = length-append rows (fields_of c.read_byte_record.new.row ∷ []) in
     omega arith
 
+pub note-requires-clause-noted : goal.note-requires-clause-noted
+note-requires-clause-noted c = let (rows, so_far, count, few, noted) = c.loop-number.invariant in (rows, count, noted)
+
 pub loop-number-preserved : goal.loop-number-preserved
 loop-number-preserved c =
     let (rows, so_far, count, few, noted) = c.loop-number.invariant in
-    let fields = fields_of c.read_byte_record.new.row in (
+    let fields = fields_of c.read_byte_record.new.row in
+    let done : is_ok c.note.result ≡ true = grind (arith, c.is_err.ensures.negation, c.if-is_err.false) in (
       rows ++ fields ∷ [],
       more (goal.at.loop-number-preserved c).In-Ok-true,
       rw (length-append rows (fields ∷ [])) (omega arith),
       rw (length-append rows (fields ∷ [])) (omega arith),
-      elim c.if-is_none.branch [
-        | then-is_none+in-Some-line_of+else-is_err w ↦
-            let added : is_ok w.add.result ≡ true = grind (arith, w.is_err.ensures.negation, w.if-is_err.false) in
-            noted-same c.args.callers _ _ _ _ _ w.scripts-is w.bad-is (noted-same c.args.callers _ _ _ _ _ (on_ok _ added w.add.ensures.ok) refl
-            (note_line c.args.callers rows fields c.loop-number.scripts c.loop-number.bad w.in-Some-line_of.caller w.in-Some-line_of.command w.if-is_none.ensures noted w.in-Some-line_of.ensures.some))
-        | then-is_none+in-None-line_of w ↦
-            noted-same c.args.callers _ _ _ _ _ w.scripts-is w.bad-is (note_bad c.args.callers rows fields c.loop-number.scripts c.loop-number.bad c.loop-number.number w.if-is_none.ensures noted w.in-None-line_of.ensures.none count)
-        | else-is_none w ↦
-            noted-same c.args.callers _ _ _ _ _ w.scripts-is w.bad-is (note_more c.args.callers rows fields c.loop-number.scripts c.loop-number.bad w.if-is_none.ensures noted)
-      ],
+      on_ok _ done c.note.ensures rows count noted,
     )
 
 pub want-requires : goal.want-requires
