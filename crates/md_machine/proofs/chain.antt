@@ -3,3 +3,4 @@ pub mod Follow
 pub mod Entry
 pub mod Values
 pub mod Ready
+pub mod Sound

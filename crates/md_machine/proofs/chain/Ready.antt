@@ -24,33 +24,41 @@ use Rattle.md_machine.specs.events.Install.{installed_word}
 use Rattle.md_machine.specs.events.Ready.{unready_word, write_now, writes_now, installs_by}
 use Rattle.md_machine.proofs.lists.Rising.{in_none, in_cons, here, there, in_filter, filter_in}
 use Rattle.md_machine.proofs.events.Leaves.{install_odd}
-use Rattle.md_machine.proofs.clauses.EntriesFit.{same_from, same_parts}
+use Rattle.md_machine.proofs.events.Attempts.{attempt_same, same_from, same_parts}
 use Rattle.md_machine.proofs.clauses.EntriesDecided.{status_new, status_other}
-use Rattle.md_machine.proofs.clauses.EntrySlots.{attempt_same}
 use Rattle.md_machine.proofs.clauses.Installs.{InstallsKept}
 use Rattle.md_machine.proofs.chain.Entry.{new_value}
 use Rattle.md_machine.proofs.chain.Values.{value_even, value_odd, installed_spot, unready_kept, kept_last}
 
--- an attempt without an entry is about to become ready: its status says that it isn't
-module _ (m : Machine) (field : IsField (shape_of m) m.words) (k : InstallsKept (shape_of m) m.words m.installs m.passes) (odd_stand : OddStand (shape_of m) m.words m.installs)
-    (undecided : UndecidedStand (shape_of m) m.words m.installs) (a : AttemptId) (exists : a.desc < desc_count (shape_of m)) (unready : status_at m a.desc ≡ unready_word a) (idle : is_ready m.history a ≡ false) where
-  serial_is : serial_of (status_at m a.desc) ≡ a.serial
-  serial_is = ap serial_of unready ∙ serial_of-status_word InPrep 0 a.serial (omega arith)
+-- what is known of an attempt that is about to become ready: it has no entry, its status says that it isn't ready, and
+-- what holds of installs and of odd words
+pub record BeforeReady (m : Machine) (a : AttemptId) : Type 0 where
+  pub field : IsField (shape_of m) m.words
+  pub installs : InstallsKept (shape_of m) m.words m.installs m.passes
+  pub odd_words : OddStand (shape_of m) m.words m.installs
+  pub undecided : UndecidedStand (shape_of m) m.words m.installs
+  pub exists : a.desc < desc_count (shape_of m)
+  pub unready : status_at m a.desc ≡ unready_word a
+  pub idle : is_ready m.history a ≡ false
+
+module _ (m : Machine) (a : AttemptId) (u : BeforeReady m a) where
+  pub serial_is : serial_of (status_at m a.desc) ≡ a.serial
+  serial_is = ap serial_of u.unready ∙ serial_of-status_word InPrep 0 a.serial (omega arith)
 
   -- its installs are present ones, and stand in their words
-  own_present : (i : Install) → i.attempt ≡ a → IsPresent (shape_of m) m.words i
+  pub own_present : (i : Install) → i.attempt ≡ a → IsPresent (shape_of m) m.words i
   own_present i mine = subst (λ (b : AttemptId). b.serial ≡ serial_of (status_at m b.desc)) (sym mine) (sym serial_is)
 
   pub own_stands : (i : Install) → Contains m.installs i → i.attempt ≡ a → content m i.word ≡ installed_word i.old (spot_of_install i)
-  own_stands i c mine = undecided i c (own_present i mine)
-      (inl (subst (λ (b : AttemptId). status_of (status_at m b.desc) ≡ InPrep) (sym mine) (ap status_of unready ∙ status_of-status_word InPrep 0 a.serial)))
+  own_stands i c mine = u.undecided i c (own_present i mine)
+      (inl (subst (λ (b : AttemptId). status_of (status_at m b.desc) ≡ InPrep) (sym mine) (ap status_of u.unready ∙ status_of-status_word InPrep 0 a.serial)))
 
   pub own_odd : (i : Install) → Contains m.installs i → i.attempt ≡ a → is_even (count_of (content m i.word)) ≡ false
-  own_odd i c mine = ap (λ x. is_even (count_of x)) (own_stands i c mine) ∙ install_odd i.old (spot_of_install i) (record { even = (k.fits i c).even; room = (k.fits i c).room })
+  own_odd i c mine = ap (λ x. is_even (count_of x)) (own_stands i c mine) ∙ install_odd i.old (spot_of_install i) (record { even = (u.installs.fits i c).even; room = (u.installs.fits i c).room })
 
   -- what stands in a word names the slot of its install
-  spot_at : (i : Install) → Contains m.installs i → IsPresent (shape_of m) m.words i → (word : ℕ) → content m word ≡ installed_word i.old (spot_of_install i) → spot_of (value_of (content m word)) ≡ spot_of_install i
-  spot_at i c now word is = ap (λ x. spot_of (value_of x)) is ∙ installed_spot i (k.fits i c).room ((k.fits i c).slot now).exists.1
+  pub spot_at : (i : Install) → Contains m.installs i → IsPresent (shape_of m) m.words i → (word : ℕ) → content m word ≡ installed_word i.old (spot_of_install i) → spot_of (value_of (content m word)) ≡ spot_of_install i
+  spot_at i c now word is = ap (λ x. spot_of (value_of x)) is ∙ installed_spot i (u.installs.fits i c).room ((u.installs.fits i c).slot now).exists.1
 
   -- its slots, and the new value that they give a word: none, or that of an install of the word
   value_of_writes : (is : List Install) → ((i : Install) → Contains is i → Contains m.installs i × (i.attempt ≡ a)) → (word : ℕ)
@@ -73,7 +81,7 @@ module _ (m : Machine) (field : IsField (shape_of m) m.words) (k : InstallsKept 
       no_some : {A : Type 0} {x : A} → Some x ≡ None → ⊥
       no_some e = cc
 
-  own_installs : (i : Install) → Contains (installs_by m.installs a) i → Contains m.installs i × (i.attempt ≡ a)
+  pub own_installs : (i : Install) → Contains (installs_by m.installs a) i → Contains m.installs i × (i.attempt ≡ a)
   own_installs i c =
       let f = in_filter (λ (j : Install). same_attempt j.attempt a) m.installs i c in
       let parts = same_parts i.attempt a f.1 in
@@ -95,16 +103,16 @@ module _ (m : Machine) (field : IsField (shape_of m) m.words) (k : InstallsKept 
 
     -- every place but the status is as it was
     pub aside : (q : Place) → Exists (shape_of m) q → q ≢ desc_status a.desc → word_at (shape_of m) later q ≡ word_at (shape_of m) m.words q
-    aside q there apart = get_or-set_other m.words (address (shape_of m) (desc_status a.desc)) (address (shape_of m) q) new 0 (address_differs (shape_of m) q (desc_status a.desc) there exists apart)
+    aside q there apart = get_or-set_other m.words (address (shape_of m) (desc_status a.desc)) (address (shape_of m) q) new 0 (address_differs (shape_of m) q (desc_status a.desc) there u.exists apart)
 
     aside_counted : (word : ℕ) → IsCounted (shape_of m) word → content readied word ≡ content m word
     aside_counted word counted = get_or-set_other m.words (address (shape_of m) (desc_status a.desc)) word new 0
-        (λ q. true≢false (sym counted.1 ∙ ap (λ w. is_counted (place_at (shape_of m) w)) q ∙ ap is_counted (place_at-address (shape_of m) (desc_status a.desc) exists)))
+        (λ q. true≢false (sym counted.1 ∙ ap (λ w. is_counted (place_at (shape_of m) w)) q ∙ ap is_counted (place_at-address (shape_of m) (desc_status a.desc) u.exists)))
 
     serial_stays : (d : ℕ) → d < desc_count (shape_of m) → serial_of (status_at readied d) ≡ serial_of (status_at m d)
     serial_stays d there = ⊎_elim
-        (λ q. ap (λ x. serial_of (word_at (shape_of m) later (desc_status x))) q ∙ ap serial_of (status_new (shape_of m) m.words field a.desc new exists) ∙ same_serial ∙ sym serial_is ∙ ap (λ x. serial_of (status_at m x)) (sym q))
-        (λ ne. ap serial_of (status_other (shape_of m) m.words field a.desc new exists d there ne))
+        (λ q. ap (λ x. serial_of (word_at (shape_of m) later (desc_status x))) q ∙ ap serial_of (status_new (shape_of m) m.words u.field a.desc new u.exists) ∙ same_serial ∙ sym serial_is ∙ ap (λ x. serial_of (status_at m x)) (sym q))
+        (λ ne. ap serial_of (status_other (shape_of m) m.words u.field a.desc new u.exists d there ne))
         (cases_eq d a.desc)
 
     -- the value under the slot of a present install
@@ -117,8 +125,8 @@ module _ (m : Machine) (field : IsField (shape_of m) m.words) (k : InstallsKept 
         → value_under readied chosen (spot_of_install i) ≡ cond (is_kept m.history choice i.attempt || (kept && same_attempt a i.attempt)) (word_at (shape_of m) m.words (slot_new i.attempt.desc i.slot)) (value_of (word_at (shape_of m) m.words (slot_old i.attempt.desc i.slot)))
     under_after i c now =
         let d = i.attempt.desc in
-        let there = (k.fits i c).exists in
-        let slot = ((k.fits i c).slot now).exists in
+        let there = (u.installs.fits i c).exists in
+        let slot = ((u.installs.fits i c).slot now).exists in
         let is : present readied d ≡ i.attempt = ap (attempt_of d) (serial_stays d there ∙ sym now) in
         let keeps : is_kept (m.history ++ e ∷ []) chosen (present readied d) ≡ (is_kept m.history choice i.attempt || (kept && same_attempt a i.attempt)) =
         ap (is_kept (m.history ++ e ∷ []) chosen) is ∙ kept_last m.history choice e kept i.attempt fits ∙ ap (λ b. is_kept m.history choice i.attempt || (kept && same_attempt b i.attempt)) of in
@@ -177,7 +185,7 @@ module _ (m : Machine) (field : IsField (shape_of m) m.words) (k : InstallsKept 
     given_own : (i : Install) → Contains m.installs i → i.attempt ≡ a → value_under readied chosen (spot_of_install i) ≡ (if kept then unwrap_or (new_value (writes_now m a) i.word) (value_under m choice (spot_of_install i)) else value_under m choice (spot_of_install i))
     given_own i c mine =
         let now = own_present i mine in
-        let none = unready_kept m.history choice i.attempt (ap (is_ready m.history) mine ∙ idle) in
+        let none = unready_kept m.history choice i.attempt (ap (is_ready m.history) mine ∙ u.idle) in
         let before = under_before i now ∙ ap (λ b. cond b new_here old_here) none in
         under_after i c now
         ∙ ap (λ b. cond (b || (kept && same_attempt a i.attempt)) new_here old_here) none
@@ -203,7 +211,7 @@ module _ (m : Machine) (field : IsField (shape_of m) m.words) (k : InstallsKept 
 
     given_odd : (word : ℕ) → IsCounted (shape_of m) word → is_even (count_of (content m word)) ≡ false → logical_value readied chosen word ≡ Given word
     given_odd word counted odd =
-        let s = odd_stand word counted odd in
+        let s = u.odd_words word counted odd in
         let i = s.install in
         let is : content m i.word ≡ installed_word i.old (spot_of_install i) = ap (content m) s.there ∙ s.holds in
         let spot = spot_at i s.made s.present word s.holds in
