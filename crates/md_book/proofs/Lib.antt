@@ -46,3 +46,4 @@ pub mod AccountsAddUp
 pub mod EachAccountAddsUp
 pub mod FillsAddUp
 pub mod KillsAreWhole
+pub mod RepliesSuit

@@ -6,4 +6,5 @@ pub mod Killing
 pub mod Commands
 pub mod Meets
 pub mod Trading
+pub mod Suits
 pub mod Places

@@ -5,6 +5,7 @@ ghost use Rattle.md_book.specs.Stands.{StandsFor};
 ghost use Rattle.md_book.specs.Meets.{CommandsMeetTheBook, CommandsAreSmall};
 ghost use Rattle.md_book.specs.Places.{FillsAreFew};
 ghost use Rattle.md_book.specs.Trading.{OrdersAddUp, EachOrderAddsUp, LevelsAddUp, DayAddsUp, AccountsAddUp, EachAccountAddsUp, FillsAddUp, KillsAreWhole};
+ghost use Rattle.md_book.specs.Suits.{RepliesSuit};
 
 use crate::maps::{LEVELS, MAPS};
 
@@ -70,6 +71,12 @@ pub fn each_account_adds_up()
 /// took, if it took anything.
 pub fn fills_add_up()
     ensures { FillsAddUp }
+{}
+
+/// Each reply is one of its command's kind, with numbers in their ranges: a fill has no more parts than places,
+/// and each part names an order and takes at most `MAX_QUANTITY`.
+pub fn replies_suit()
+    ensures { RepliesSuit }
 {}
 
 /// A kill takes nothing, or the whole quantity that it asks for.

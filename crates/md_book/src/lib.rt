@@ -24,7 +24,7 @@ pub use commands::{BookReply, Command, Part, Side};
 pub use laws::{
     accounts_add_up, commands_are_small, commands_meet_the_book, days_add_up, each_account_adds_up,
     each_order_adds_up, empty_book_stands, fills_add_up, fills_are_few, kills_are_whole,
-    levels_add_up, orders_add_up,
+    levels_add_up, orders_add_up, replies_suit,
 };
 pub use limits::{
     COMMAND_NODES, COMMAND_READS, COMMAND_WRITES, MAX_ACCOUNT, MAX_CALLER, MAX_LINE, MAX_PARTS,

@@ -7,6 +7,7 @@ ghost use Rattle.md_book.specs.Commands.{IsCommand, IsName, IsOffer, IsPlaces};
 
 mod fills;
 mod kills;
+mod limits;
 
 use crate::commands::{BookReply, Command, Part, Side};
 use crate::limits::{

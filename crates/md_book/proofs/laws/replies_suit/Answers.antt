@@ -1,0 +1,5 @@
+use Rattle.md_book.proofs.RepliesSuit.{replies-suit}
+use Rattle.md_book.proofs.laws.replies_suit.Goals as goal
+
+pub returns : goal.returns
+returns c = replies-suit
