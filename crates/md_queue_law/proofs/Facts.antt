@@ -3,8 +3,8 @@ use Rattle.std.proofs.Common.{◌≡◌, ◌≢◌, ℕ, suc, ◌<◌, ◌≤◌
 use Rattle.md_words.specs.Layout.{IsNode, node_count}
 use Rattle.md_machine.specs.LogicalHeap.{LogicalHeap, next_of}
 use Rattle.md_queue_law.specs.QueueShape.{link, IsOf, QueueShape}
-use Rattle.md_queue_law.specs.Lawful.Walk.{line_fits}
-use Rattle.md_queue_law.specs.Lawful.Named.{next_cases, ends_is_last}
+use Rattle.md_queue_law.specs.Laws.Walk.{line_fits}
+use Rattle.md_queue_law.specs.Laws.Named.{next_cases, ends_is_last}
 
 module _ (h : LogicalHeap) (queue : ℕ) (s : QueueShape h queue) where
   -- a next word that isn't 0 names the node of the next rank

@@ -4,4 +4,4 @@ pub mod QueueCertificates
 pub mod QueueMeaning
 pub mod QueueFacts
 pub mod Rows
-pub mod Lawful
+pub mod Laws

@@ -1,9 +1,10 @@
--- Worked rows on a small field: a value is enqueued, the tail follows late, the value is looked at and dequeued.
+-- Worked rows on a small field: two values are enqueued, the tail follows late, and they are looked at and dequeued.
 use Rattle.std.specs.Prelude.{◌≡◌, ℕ, List, [], ◌∷◌, replicate, Some, None}
 use Rattle.md_history.specs.declared.acts.Op.TheVariants.{Enqueue, Dequeue, Front, Line}
 use Rattle.md_history.specs.declared.acts.Reply.TheVariants.{Value, Nothing, Line as TheLine}
 use Rattle.md_history.specs.State.{queue_at}
 use Rattle.md_machine.specs.declared.certificate.Certificate.{Certificate}
+use Rattle.md_machine.specs.declared.certificate.Fact.{Fact}
 use Rattle.md_machine.specs.declared.certificate.TidyChange.{TidyChange}
 use Rattle.md_machine.specs.declared.node.Structure.TheVariants.{Queue}
 use Rattle.md_machine.specs.LogicalHeap.{LogicalHeap, put}
@@ -18,7 +19,7 @@ empty_heap = record {
   placed = put (λ node. None) 1 (Some (Queue 0));
 }
 
--- 9 is enqueued in node 2: the dummy's next word is word 69
+-- 9 is enqueued in node 2, behind the dummy, whose next word is word 69
 abbrev pub enqueues_9 : Certificate
 enqueues_9 = record {
   op = Enqueue 0 9;
@@ -30,10 +31,25 @@ enqueues_9 = record {
   facts = record { node = 1; structure = Queue 0; key = Some 0; value = None; next = None } ∷ [];
 }
 
-abbrev pub enqueued : LogicalHeap
-enqueued = after_certificate empty_heap enqueues_9
+abbrev pub one_value : LogicalHeap
+one_value = after_certificate empty_heap enqueues_9
 
--- the tail follows
+-- 8 is enqueued in node 3, behind node 2, whose next word is word 72; the tail lags behind
+abbrev pub enqueues_8 : Certificate
+enqueues_8 = record {
+  op = Enqueue 0 8;
+  reply = Nothing;
+  tidy = [];
+  recorded = [];
+  changes = record { word = 72; old = 0; new = 6 } ∷ [];
+  nodes = record { node = 3; structure = Queue 0; key = 2; value = 8; next = 0 } ∷ [];
+  facts = record { node = 2; structure = Queue 0; key = Some 1; value = None; next = None } ∷ [];
+}
+
+abbrev pub two_values : LogicalHeap
+two_values = after_certificate one_value enqueues_8
+
+-- the tail follows to node 2
 abbrev pub moves_tail : TidyChange
 moves_tail = record {
   change = record { word = 66; old = 2; new = 4 };
@@ -42,18 +58,37 @@ moves_tail = record {
 }
 
 abbrev pub moved : LogicalHeap
-moved = after_tidy enqueued moves_tail
+moved = after_tidy two_values moves_tail
 
--- a line of two finds one value, and a second next word that is 0: that of node 2, word 72
+-- node 2 has the value 9, and node 3 has 8
+abbrev pub has_9 : Fact
+has_9 = record { node = 2; structure = Queue 0; key = None; value = Some 9; next = None }
+
+abbrev pub has_8 : Fact
+has_8 = record { node = 3; structure = Queue 0; key = None; value = Some 8; next = None }
+
+-- a line of two finds them
 abbrev pub looks_at_2 : Certificate
 looks_at_2 = record {
   op = Line 0 2;
-  reply = TheLine (record { count = 1; values = 9 ∷ replicate 11 0 });
+  reply = TheLine (record { count = 2; values = 9 ∷ 8 ∷ replicate 10 0 });
   tidy = [];
-  recorded = record { word = 65; value = 2 } ∷ record { word = 69; value = 4 } ∷ record { word = 72; value = 0 } ∷ [];
+  recorded = record { word = 65; value = 2 } ∷ record { word = 69; value = 4 } ∷ record { word = 72; value = 6 } ∷ [];
   changes = [];
   nodes = [];
-  facts = record { node = 2; structure = Queue 0; key = None; value = Some 9; next = None } ∷ [];
+  facts = has_9 ∷ has_8 ∷ [];
+}
+
+-- a line of three finds them too, and that the next word of node 3, word 75, is 0
+abbrev pub looks_at_3 : Certificate
+looks_at_3 = record {
+  op = Line 0 3;
+  reply = TheLine (record { count = 2; values = 9 ∷ 8 ∷ replicate 10 0 });
+  tidy = [];
+  recorded = record { word = 65; value = 2 } ∷ record { word = 69; value = 4 } ∷ record { word = 72; value = 6 } ∷ record { word = 75; value = 0 } ∷ [];
+  changes = [];
+  nodes = [];
+  facts = has_9 ∷ has_8 ∷ [];
 }
 
 -- 9 is dequeued
@@ -65,40 +100,70 @@ dequeues_9 = record {
   recorded = record { word = 69; value = 4 } ∷ [];
   changes = record { word = 65; old = 2; new = 4 } ∷ [];
   nodes = [];
-  facts = record { node = 2; structure = Queue 0; key = None; value = Some 9; next = None } ∷ [];
+  facts = has_9 ∷ [];
 }
 
-abbrev pub dequeued : LogicalHeap
-dequeued = after_certificate moved dequeues_9
+abbrev pub one_left : LogicalHeap
+one_left = after_certificate moved dequeues_9
 
--- the queue is found empty
+-- 8 is the first one then, and is dequeued
+abbrev pub finds_8 : Certificate
+finds_8 = record {
+  op = Front 0;
+  reply = Value (Some 8);
+  tidy = [];
+  recorded = record { word = 65; value = 4 } ∷ record { word = 72; value = 6 } ∷ [];
+  changes = [];
+  nodes = [];
+  facts = has_8 ∷ [];
+}
+
+abbrev pub dequeues_8 : Certificate
+dequeues_8 = record {
+  op = Dequeue 0;
+  reply = Value (Some 8);
+  tidy = [];
+  recorded = record { word = 72; value = 6 } ∷ [];
+  changes = record { word = 65; old = 4; new = 6 } ∷ [];
+  nodes = [];
+  facts = has_8 ∷ [];
+}
+
+abbrev pub none_left : LogicalHeap
+none_left = after_certificate one_left dequeues_8
+
+-- the queue is found empty, with the tail behind its head
 abbrev pub finds_none : Certificate
 finds_none = record {
-  op = Front 0;
+  op = Dequeue 0;
   reply = Value None;
   tidy = [];
-  recorded = record { word = 65; value = 4 } ∷ record { word = 72; value = 0 } ∷ [];
+  recorded = record { word = 65; value = 6 } ∷ record { word = 75; value = 0 } ∷ [];
   changes = [];
   nodes = [];
   facts = [];
 }
 
--- a certificate is one of queues, and stands in a valid heap with these values of the queue
-pub record Certified (h : LogicalHeap) (values : List ℕ) (c : Certificate) : Type 0 where
+-- a certificate is one of queues, and stands in a valid heap in which the queue has these values
+pub record IsCertified (h : LogicalHeap) (values : List ℕ) (c : Certificate) : Type 0 where
   pub valid : queue_meaning.valid h
   pub holds : queue_at (queue_meaning.state h.words) 0 ≡ values
   pub certifies : queue_meaning.certifies small_shape c
   pub stands : Stands h c
 
-pub record Tidied (h : LogicalHeap) (values : List ℕ) (t : TidyChange) : Type 0 where
+pub record IsTidy (h : LogicalHeap) (values : List ℕ) (t : TidyChange) : Type 0 where
   pub valid : queue_meaning.valid h
   pub holds : queue_at (queue_meaning.state h.words) 0 ≡ values
   pub tidies : queue_meaning.tidies small_shape t
   pub stands : TidyStands h t
 
 pub record WorkedRows : Type 0 where
-  pub enqueues : Certified empty_heap [] enqueues_9
-  pub moves : Tidied enqueued (9 ∷ []) moves_tail
-  pub looks : Certified moved (9 ∷ []) looks_at_2
-  pub dequeues : Certified moved (9 ∷ []) dequeues_9
-  pub finds_none : Certified dequeued [] finds_none
+  pub enqueues_9 : IsCertified empty_heap [] enqueues_9
+  pub enqueues_8 : IsCertified one_value (9 ∷ []) enqueues_8
+  pub moves_tail : IsTidy two_values (9 ∷ 8 ∷ []) moves_tail
+  pub looks_at_2 : IsCertified moved (9 ∷ 8 ∷ []) looks_at_2
+  pub looks_at_3 : IsCertified moved (9 ∷ 8 ∷ []) looks_at_3
+  pub dequeues_9 : IsCertified moved (9 ∷ 8 ∷ []) dequeues_9
+  pub finds_8 : IsCertified one_left (8 ∷ []) finds_8
+  pub dequeues_8 : IsCertified one_left (8 ∷ []) dequeues_8
+  pub finds_none : IsCertified none_left [] finds_none

@@ -18,7 +18,7 @@ pub struct QueueTheory;
 
 impl Theory for QueueTheory {
     ghost use Rattle.md_queue_law.specs.QueueMeaning.{queue_meaning};
-    ghost use Rattle.md_queue_law.specs.Lawful.{queue_lawful};
+    ghost use Rattle.md_queue_law.specs.Laws.QueueLaws.{queue_lawful};
 
     ghost meaning = { queue_meaning };
 
@@ -26,7 +26,7 @@ impl Theory for QueueTheory {
 }
 
 impl HasQueues for QueueTheory {
-    ghost use Rattle.md_queue_law.specs.Lawful.{queue_has_queues};
+    ghost use Rattle.md_queue_law.specs.Laws.QueueLaws.{queue_has_queues};
 
     ghost has_queues = { queue_has_queues };
 }

@@ -9,20 +9,22 @@ use Rattle.md_machine.specs.declared.certificate.WordValue.{WordValue}
 use Rattle.md_queue_law.specs.QueueShape.{link, head_of, IsOf, QueueShape}
 use Rattle.md_queue_law.specs.QueueValues.{queue_values}
 use Rattle.md_queue_law.specs.QueueCertificates.{Seen, next_is, has_value, next_words, last_seen, LooksEnough, LooksToEnd}
-use Rattle.md_queue_law.specs.Lawful.Words.{link_not_zero}
-use Rattle.md_queue_law.specs.Lawful.Walk.{ranked_values}
-use Rattle.md_queue_law.specs.Lawful.Agreement.{queue_values-line, past}
-use Rattle.md_queue_law.specs.Lawful.Named.{ends_is_last, goes_to_next}
-use Rattle.md_queue_law.specs.Lawful.Heads.{dummy_is_of}
+use Rattle.md_queue_law.specs.Laws.Words.{link_not_zero}
+use Rattle.md_queue_law.specs.Laws.Walk.{ranked_values}
+use Rattle.md_queue_law.specs.Laws.Agreement.{queue_values-line, past}
+use Rattle.md_queue_law.specs.Laws.Named.{ends_is_last, goes_to_next}
+use Rattle.md_queue_law.specs.Laws.Heads.{dummy_is_of}
 
 -- a recorded word has its value
 abbrev pub IsThere : LogicalHeap → WordValue → Type 0
 IsThere h r = h.words.value r.word ≡ r.value
 
-take-ranked_values : (w : LogicalWords) (node_of : ℕ → ℕ) (n rank left : ℕ) → n ≤ left → take n (ranked_values w node_of rank left) ≡ ranked_values w node_of rank n
+take-ranked_values : (w : LogicalWords) (node_of : ℕ → ℕ) (n rank left : ℕ) → n ≤ left
+    → take n (ranked_values w node_of rank left) ≡ ranked_values w node_of rank n
 take-ranked_values w node_of zero rank left b = refl
 take-ranked_values w node_of (suc n) rank zero b = absurd (omega arith)
-take-ranked_values w node_of (suc n) rank (suc left) b = ap (λ vs. w.value_of_node (node_of rank) ∷ vs) (take-ranked_values w node_of n (suc rank) left (omega arith))
+take-ranked_values w node_of (suc n) rank (suc left) b =
+    ap (λ vs. w.value_of_node (node_of rank) ∷ vs) (take-ranked_values w node_of n (suc rank) left (omega arith))
 
 length-ranked_values : (w : LogicalWords) (node_of : ℕ → ℕ) (rank left : ℕ) → length (ranked_values w node_of rank left) ≡ left
 length-ranked_values w node_of rank zero = refl
@@ -38,11 +40,13 @@ module _ (h : LogicalHeap) (queue : ℕ) (s : QueueShape h queue) where
     rank : h.words.key_of (last_seen from seen) ≡ h.words.key_of from + length seen
     values : map (λ x. x.value) seen ≡ ranked_values h.words s.node_of (suc (h.words.key_of from)) (length seen)
 
-  came_to : (seen : List Seen) (from : ℕ) → IsOf h queue from → All (IsThere h) (next_words h.words.shape from seen) → All (Holds h) (map fact_of seen) → CameTo from seen
+  came_to : (seen : List Seen) (from : ℕ) → IsOf h queue from → All (IsThere h) (next_words h.words.shape from seen) → All (Holds h) (map fact_of seen)
+      → CameTo from seen
   came_to [] from of there facts = record { of = of; rank = omega arith; values = refl }
   came_to (x ∷ seen) from of there facts =
       let fact = All-head (Holds h) (fact_of x) (map fact_of seen) facts in
-      let e : next_of h.words from ≡ link x.node = All-head (IsThere h) (next_is h.words.shape from (link x.node)) (next_words h.words.shape x.node seen) there in
+      let e : next_of h.words from ≡ link x.node
+      = All-head (IsThere h) (next_is h.words.shape from (link x.node)) (next_words h.words.shape x.node seen) there in
       let goes = goes_to_next h queue s.count s.node_of s.line from x.node of e (link_not_zero h.words.shape x.node (s.line.exist x.node fact.placed)) in
       let key : h.words.key_of x.node ≡ suc (h.words.key_of from) = ap h.words.key_of goes.1 ∙ (s.line.placed (suc (h.words.key_of from)) goes.0).1 in
       let later = came_to seen x.node fact.placed
@@ -53,7 +57,8 @@ module _ (h : LogicalHeap) (queue : ℕ) (s : QueueShape h queue) where
         of = later.of;
         rank = omega arith;
         values = ap (λ v. v ∷ map (λ x. x.value) seen) (sym fact.value ∙ ap h.words.value_of_node goes.1)
-            ∙ ap (λ vs. h.words.value_of_node (s.node_of (suc (h.words.key_of from))) ∷ vs) (later.values ∙ ap (λ k. ranked_values h.words s.node_of (suc k) (length seen)) key);
+            ∙ ap (λ vs. h.words.value_of_node (s.node_of (suc (h.words.key_of from))) ∷ vs)
+            (later.values ∙ ap (λ k. ranked_values h.words s.node_of (suc k) (length seen)) key);
       }
 
   -- a look that begins at the head sees the first values

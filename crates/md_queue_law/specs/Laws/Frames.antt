@@ -12,15 +12,16 @@ use Rattle.md_machine.specs.LogicalHeap.{LogicalHeap, next_of, IsPlaced, IsNoUnp
 use Rattle.md_machine.specs.Meaning.{NamesPlaced}
 use Rattle.md_queue_law.specs.QueueShape.{IsOf, NamesOneOf, QueueShape, QueuesStand}
 use Rattle.md_queue_law.specs.QueueValues.{queue_lists}
-use Rattle.md_queue_law.specs.Lawful.Words.{linked_node-link, linked_node-zero, next_same, head_not_next, tail_not_next}
-use Rattle.md_queue_law.specs.Lawful.Agreement.{PlacedExist, NodesAgree, QueueAgrees, shape_agrees, values_agree}
-use Rattle.md_queue_law.specs.Lawful.Lists.{lists_same}
-use Rattle.md_queue_law.specs.Lawful.Named.{next_cases}
+use Rattle.md_queue_law.specs.Laws.Words.{linked_node-link, linked_node-zero, next_same, head_not_next, tail_not_next}
+use Rattle.md_queue_law.specs.Laws.Agreement.{PlacedExist, NodesAgree, QueueAgrees, shape_agrees, values_agree}
+use Rattle.md_queue_law.specs.Laws.Lists.{lists_same}
+use Rattle.md_queue_law.specs.Laws.Named.{next_cases}
 
 module _ (h k : LogicalHeap) (exist : PlacedExist h) (a : AgreeWherePlaced h k) where
   word_agrees : (p : Place) → Exists h.words.shape p → IsTrue (is_counted p) → IsNoUnplacedNext h (address h.words.shape p)
       → k.words.value (address k.words.shape p) ≡ h.words.value (address h.words.shape p)
-  word_agrees p is counted next = ap (λ (s : Shape). k.words.value (address s p)) a.shape ∙ a.value (address h.words.shape p) ((counted_by_place h.words.shape p is).1 counted) next
+  word_agrees p is counted next = ap (λ (s : Shape). k.words.value (address s p)) a.shape
+      ∙ a.value (address h.words.shape p) ((counted_by_place h.words.shape p is).1 counted) next
 
   pub nodes_agree : (s : Structure) → NodesAgree h k s
   nodes_agree s = record {
@@ -43,8 +44,10 @@ module _ (h k : LogicalHeap) (exist : PlacedExist h) (a : AgreeWherePlaced h k) 
   -- the queues stand in both, with the same values
   pub queues_framed : QueuesStand h → QueuesStand k × (queue_lists k.words ≡ queue_lists h.words)
   queues_framed stand = (
-    (λ queue below. let within = subst (λ (s : Shape). queue < s.queues) a.shape below in shape_agrees h k queue (queue_agrees queue within) (stand queue within)),
-    lists_same h.words k.words a.shape (λ queue within. values_agree h k queue (nodes_agree (Queue queue)) (queue_agrees queue within).head (stand queue within)),
+    (λ queue below. let within = subst (λ (s : Shape). queue < s.queues) a.shape below in
+        shape_agrees h k queue (queue_agrees queue within) (stand queue within)),
+    lists_same h.words k.words a.shape
+        (λ queue within. values_agree h k queue (nodes_agree (Queue queue)) (queue_agrees queue within).head (stand queue within)),
   )
 
 module _ (h : LogicalHeap) (queue : ℕ) (s : QueueShape h queue) where

@@ -10,8 +10,8 @@ use Rattle.md_machine.specs.LogicalHeap.{LogicalWords, LogicalHeap, next_of, is_
 use Rattle.md_machine.specs.Meaning.{KeepsFacts}
 use Rattle.md_queue_law.specs.QueueShape.{link, head_of, tail_of, IsOf, StandInLine, QueueShape}
 use Rattle.md_queue_law.specs.QueueValues.{values_after, queue_values}
-use Rattle.md_queue_law.specs.Lawful.Words.{linked_node-link}
-use Rattle.md_queue_law.specs.Lawful.Walk.{ranked_values, walk-line, line_fits}
+use Rattle.md_queue_law.specs.Laws.Words.{linked_node-link}
+use Rattle.md_queue_law.specs.Laws.Walk.{ranked_values, walk-line, line_fits}
 
 -- each placed node is a node of the field
 abbrev pub PlacedExist : LogicalHeap → Type 0
@@ -40,6 +40,16 @@ pub record NodesAgree (h k : LogicalHeap) (s : Structure) : Type 0 where
   pub key_of : (node : ℕ) → h.placed node ≡ Some s → k.words.key_of node ≡ h.words.key_of node
   pub value_of_node : (node : ℕ) → h.placed node ≡ Some s → k.words.value_of_node node ≡ h.words.value_of_node node
   pub next : (node : ℕ) → h.placed node ≡ Some s → next_of k.words node ≡ next_of h.words node
+
+pub agree_itself : (h : LogicalHeap) (s : Structure) → NodesAgree h h s
+agree_itself h s = record {
+  shape = refl;
+  placed = λ node at. at;
+  only = λ node at. at;
+  key_of = λ node at. refl;
+  value_of_node = λ node at. refl;
+  next = λ node at. refl;
+}
 
 -- a line stands in both
 pub line_agrees : (h k : LogicalHeap) (queue count : ℕ) (node_of : ℕ → ℕ) → NodesAgree h k (Queue queue)

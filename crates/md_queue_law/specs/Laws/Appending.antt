@@ -6,16 +6,17 @@ use Rattle.md_words.specs.Place.{node_next, queue_head, queue_tail}
 use Rattle.md_words.specs.Layout.{address, IsNode}
 use Rattle.md_machine.specs.declared.node.Structure.{Structure}
 use Rattle.md_machine.specs.declared.node.Structure.TheVariants.{Queue}
-use Rattle.md_machine.specs.LogicalHeap.{LogicalWords, LogicalHeap, next_of, put, changed, after_node, is_settled}
+use Rattle.md_machine.specs.LogicalHeap.{LogicalWords, LogicalHeap, next_of, put, after_node, is_settled}
 use Rattle.md_machine.specs.Meaning.{KeepsFacts}
 use Rattle.md_queue_law.specs.QueueShape.{link, head_of, tail_of, IsOf, NamesOneOf, StandInLine, QueueShape, QueuesStand}
 use Rattle.md_queue_law.specs.QueueValues.{queue_values}
 use Rattle.md_queue_law.specs.QueueCertificates.{next_change, new_node}
-use Rattle.md_queue_law.specs.Lawful.Words.{next_same, head_not_next, tail_not_next}
-use Rattle.md_queue_law.specs.Lawful.Walk.{ranked_values}
-use Rattle.md_queue_law.specs.Lawful.Agreement.{PlacedExist, NodesAgree, keeps_facts, queue_values-line, ranked_values-same, past}
-use Rattle.md_queue_law.specs.Lawful.Named.{ends_is_last}
-use Rattle.md_queue_law.specs.Lawful.Following.{put_same, put_other, IsNoNext, QueueFollows, RootsStay, queues_stand, queue_lists-set}
+use Rattle.md_queue_law.specs.Laws.Words.{next_same, head_not_next, tail_not_next}
+use Rattle.md_queue_law.specs.Laws.Walk.{ranked_values}
+use Rattle.md_queue_law.specs.Laws.Agreement.{PlacedExist, NodesAgree, keeps_facts, queue_values-line, ranked_values-same, past}
+use Rattle.md_queue_law.specs.Laws.Named.{ends_is_last}
+use Rattle.md_queue_law.specs.Laws.RootChanges.{after_change}
+use Rattle.md_queue_law.specs.Laws.Following.{put_same, put_other, IsNoNext, QueueFollows, RootsStay, queues_stand, queue_lists-set}
 
 -- one more rank is one more value at the end
 ranked_values-end : (w : LogicalWords) (node_of : ℕ → ℕ) (rank left : ℕ)
@@ -34,10 +35,10 @@ module _ (h : LogicalHeap) (exist : PlacedExist h) (stand : QueuesStand h) (queu
 
   -- the heap after the last node names the new one
   abbrev pub appended : LogicalHeap
-  appended = after_node (record { words = changed h.words (next_change h.words.shape last 0 (link node)); placed = h.placed }) (new_node queue node (rank + 1) value)
+  appended = after_node (after_change h (next_change h.words.shape last 0 (link node))) (new_node queue node (rank + 1) value)
 
   not_new : (n : ℕ) (s : Structure) → h.placed n ≡ Some s → n ≢ node
-  not_new n s at e = (let both : Some s ≡ None = sym at ∙ ap h.placed e ∙ fresh in cc)
+  not_new n s at e = let both : Some s ≡ None = sym at ∙ ap h.placed e ∙ fresh in cc
 
   not_new_next : (n : ℕ) (s : Structure) → h.placed n ≡ Some s → next n ≢ next node
   not_new_next n s at e = not_new n s at (next_same h.words.shape n node (exist n s at) is e)
@@ -156,10 +157,12 @@ module _ (h : LogicalHeap) (exist : PlacedExist h) (stand : QueuesStand h) (queu
         ))
         (cases_lt r count);
     next = λ r b. ⊎_elim
-        (λ lt. ap (next_of appended.words) (node_old r (omega arith)) ∙ next_kept (old_shape.node_of r) (Queue queue) (old_placed r (omega arith)) (not_last r lt)
+        (λ lt. ap (next_of appended.words) (node_old r (omega arith))
+        ∙ next_kept (old_shape.node_of r) (Queue queue) (old_placed r (omega arith)) (not_last r lt)
         ∙ old_shape.line.next r lt ∙ ap link (sym (node_old (suc r) lt)))
         (λ ge. let e : suc r ≡ count = omega arith in let l = last_rank in let same : r ≡ rank = omega arith in
-        ap (next_of appended.words) (node_old r (omega arith) ∙ ap old_shape.node_of same ∙ node_last) ∙ next_last ∙ ap link (sym node_new ∙ ap node_of (sym e)))
+        ap (next_of appended.words) (node_old r (omega arith) ∙ ap old_shape.node_of same ∙ node_last)
+        ∙ next_last ∙ ap link (sym node_new ∙ ap node_of (sym e)))
         (cases_lt (suc r) count);
     last = λ r e. let same : r ≡ count = omega arith in ap (next_of appended.words) (ap node_of same ∙ node_new) ∙ next_new;
   }
@@ -188,7 +191,8 @@ module _ (h : LogicalHeap) (exist : PlacedExist h) (stand : QueuesStand h) (queu
       let from = h.words.key_of head in
       let rest = past h queue count old_shape.node_of old_shape.line head head_is in
       let e = rest.1 in
-      queue_values-line appended queue (suc count) node_of head from (suc rest.0) appended_line (placed_kept head (Queue queue) head_is) (key_kept head (Queue queue) head_is)
+      queue_values-line appended queue (suc count) node_of head from (suc rest.0) appended_line
+      (placed_kept head (Queue queue) head_is) (key_kept head (Queue queue) head_is)
       (word_kept _ (head_no queue within) ∙ old_shape.head.2) (omega arith)
       ∙ ranked_values-end appended.words node_of (suc from) rest.0
       ∙ ap (λ x. x ++ appended.words.value_of_node (node_of (suc from + rest.0)) ∷ [])

@@ -9,11 +9,11 @@ use Rattle.md_machine.specs.LogicalHeap.{LogicalHeap, changed}
 use Rattle.md_machine.specs.Meaning.{KeepsFacts}
 use Rattle.md_queue_law.specs.QueueShape.{link, head_of, IsOf, QueueShape, QueuesStand}
 use Rattle.md_queue_law.specs.QueueValues.{queue_values}
-use Rattle.md_queue_law.specs.Lawful.Words.{head_same, tail_same, head_not_next, tail_not_next, head_not_tail}
+use Rattle.md_queue_law.specs.Laws.Words.{head_same, tail_same, head_not_next, tail_not_next, head_not_tail}
 use Rattle.md_queue_law.specs.QueueCertificates.{head_change, tail_change}
-use Rattle.md_queue_law.specs.Lawful.Walk.{ranked_values}
-use Rattle.md_queue_law.specs.Lawful.Agreement.{PlacedExist, NodesAgree, keeps_facts, line_agrees, values_agree, queue_values-line, ranked_values-same}
-use Rattle.md_queue_law.specs.Lawful.Following.{put_same, put_other, IsNoNext, QueueFollows, RootsStay, queues_stand, queue_lists-set}
+use Rattle.md_queue_law.specs.Laws.Walk.{ranked_values}
+use Rattle.md_queue_law.specs.Laws.Agreement.{PlacedExist, NodesAgree, keeps_facts, line_agrees, values_agree, queue_values-line, ranked_values-same}
+use Rattle.md_queue_law.specs.Laws.Following.{put_same, put_other, IsNoNext, QueueFollows, RootsStay, queues_stand, queue_lists-set}
 
 -- the heap after a change of one word
 abbrev pub after_change : LogicalHeap → Change → LogicalHeap
@@ -38,7 +38,8 @@ module _ (h : LogicalHeap) (c : Change) (exist : PlacedExist h) (root : IsNoNext
     next = λ node at. put_other h.words.value c.word c.new (address h.words.shape (node_next node)) (root node (exist node s at));
   }
 
-module _ (h : LogicalHeap) (exist : PlacedExist h) (stand : QueuesStand h) (queue : ℕ) (within : queue < h.words.shape.queues) (old to : ℕ) (of : IsOf h queue to) where
+module _ (h : LogicalHeap) (exist : PlacedExist h) (stand : QueuesStand h) (queue : ℕ) (within : queue < h.words.shape.queues) (old to : ℕ)
+    (of : IsOf h queue to) where
   abbrev to_tail : Change
   to_tail = tail_change h.words.shape queue old (link to)
 
@@ -81,7 +82,11 @@ module _ (h : LogicalHeap) (exist : PlacedExist h) (stand : QueuesStand h) (queu
     node_of = s.node_of;
     line = line_agrees h (after_change h to_head) queue s.count s.node_of (root_nodes h to_head exist head_root (Queue queue)) s.line;
     head = (to, of, put_same h.words.value to_head.word to_head.new to_head.word refl);
-    tail = (s.tail.0, s.tail.1, put_other h.words.value to_head.word to_head.new _ (λ e. head_not_tail h.words.shape queue queue within within (sym e)) ∙ s.tail.2);
+    tail = (
+      s.tail.0,
+      s.tail.1,
+      put_other h.words.value to_head.word to_head.new _ (λ e. head_not_tail h.words.shape queue queue within within (sym e)) ∙ s.tail.2,
+    );
   }
 
   -- a tail that is moved leaves all values as they are
@@ -106,11 +111,13 @@ module _ (h : LogicalHeap) (exist : PlacedExist h) (stand : QueuesStand h) (queu
       ∙ ranked_values-same h.words k.words s.node_of s.node_of (suc rank) left (λ r b. refl)
 
   pub head_follows : (rank left : ℕ) → h.words.key_of to ≡ rank → suc rank + left ≡ (stand queue within).count
-      → QueueFollows h queue (ranked_values h.words (stand queue within).node_of (suc rank) left) (after_change h (head_change h.words.shape queue old (link to)))
+      → QueueFollows h queue (ranked_values h.words (stand queue within).node_of (suc rank) left)
+      (after_change h (head_change h.words.shape queue old (link to)))
   head_follows rank left key e = record {
     shape = refl;
     stand = queues_stand h (after_change h to_head) queue refl stand moved_head (λ s ne. root_nodes h to_head exist head_root s) head_stays;
-    lists = queue_lists-set h (after_change h to_head) queue _ within refl stand (moved_values rank left key e) (λ s ne. root_nodes h to_head exist head_root s) head_stays;
+    lists = queue_lists-set h (after_change h to_head) queue _ within refl stand (moved_values rank left key e)
+        (λ s ne. root_nodes h to_head exist head_root s) head_stays;
     facts = root_facts h to_head exist head_root;
     nodes = λ s ne. root_nodes h to_head exist head_root s;
     words = λ word apart head tail. put_other h.words.value to_head.word to_head.new word head;

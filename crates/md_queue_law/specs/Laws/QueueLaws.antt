@@ -1,38 +1,24 @@
--- Queues alone have the laws. The files below `Lawful` are the proof, and define nothing that a contract says.
-use Rattle.std.proofs.Common.{◌≡◌, ◌≢◌, ℕ, ◌<◌, ◌⊎◌, List, replicate, refl, sym, ap, ◌∙◌, subst, inl, inr, ⊎_elim, Some}
+-- Queues alone have the laws, and contain queues.
+use Rattle.std.proofs.Common.{◌≡◌, ℕ, ◌<◌, List, replicate, refl, sym, ap, ◌∙◌, subst, ⊎_elim, Some}
 use Rattle.std.specs.Prelude.{IsTrue}
 use Rattle.std.specs.FinMap as fin
 use Rattle.std.proofs.lemmas.Bool.{cases_eq, false≢true}
 use Rattle.md_words.specs.declared.shape.Shape.{Shape}
 use Rattle.md_words.specs.Place.{Place, bucket_head, queue_head, queue_tail, node_next, base_word, node_key, node_value, desc_status, read_word, read_content, slot_word, slot_old, slot_new}
-use Rattle.md_words.specs.PlaceAt.{place_at, IsCounted}
+use Rattle.md_words.specs.PlaceAt.{place_at}
 use Rattle.md_words.specs.Layout.{address, Exists}
 use Rattle.md_words.proofs.Places.{address-place_at}
-use Rattle.md_history.specs.State.{State, after}
+use Rattle.md_history.specs.State.{State}
 use Rattle.md_machine.specs.declared.node.Structure.{Structure}
 use Rattle.md_machine.specs.declared.node.Structure.TheVariants.{Bucket, Queue}
-use Rattle.md_machine.specs.LogicalHeap.{LogicalHeap, IsPlaced, IsNoUnplacedNext}
-use Rattle.md_machine.specs.Meaning.{Lawful, Follows, NamesPlaced, after_certificate, after_tidy}
-use Rattle.md_queue_law.specs.QueueShape.{QueuesStand}
+use Rattle.md_machine.specs.LogicalHeap.{LogicalHeap, IsNoUnplacedNext}
+use Rattle.md_machine.specs.Meaning.{Lawful, NamesPlaced, after_certificate, after_tidy}
 use Rattle.md_queue_law.specs.QueueMeaning.{IsQueueHeap, is_queue_link, queue_meaning, HasQueuesOf}
-use Rattle.md_queue_law.specs.Lawful.Lists.{queue_list}
-use Rattle.md_queue_law.specs.Lawful.Agreement.{PlacedExist}
-use Rattle.md_queue_law.specs.Lawful.Following.{QueueFollows}
-use Rattle.md_queue_law.specs.Lawful.Certifying.{certificate_follows, move_follows}
-use Rattle.md_queue_law.specs.Lawful.Frames.{queues_framed, one_names_placed, next_names_placed}
-pub mod Pigeonhole
-pub mod Words
-pub mod Walk
-pub mod Agreement
-pub mod Lists
-pub mod Named
-pub mod Following
-pub mod RootChanges
-pub mod Heads
-pub mod Appending
-pub mod Looking
-pub mod Certifying
-pub mod Frames
+use Rattle.md_queue_law.specs.Laws.Lists.{queue_list}
+use Rattle.md_queue_law.specs.Laws.Agreement.{PlacedExist}
+use Rattle.md_queue_law.specs.Laws.Following.{QueueFollows}
+use Rattle.md_queue_law.specs.Laws.Certifying.{certificate_follows, move_follows}
+use Rattle.md_queue_law.specs.Laws.Frames.{queues_framed, one_names_placed, next_names_placed}
 
 -- each placed node of a heap of queues is a node of the field
 placed_exist : (h : LogicalHeap) → IsQueueHeap h → PlacedExist h
@@ -41,7 +27,8 @@ placed_exist h v node s at = let q = v.only node s at in ((v.stand q.0 q.1).line
 -- what follows a heap of queues is one
 still_only : (h k : LogicalHeap) (queue : ℕ) (values : List ℕ) → IsQueueHeap h → queue < h.words.shape.queues → QueueFollows h queue values k
     → (node : ℕ) (s : Structure) → k.placed node ≡ Some s → (q : ℕ) × (q < k.words.shape.queues) × (s ≡ Queue q)
-still_only h k queue values v within f node (Bucket map bucket) at = absurd (let q = v.only node (Bucket map bucket) ((f.nodes (Bucket map bucket) (λ e. cc)).only node at) in let e = q.2 in cc)
+still_only h k queue values v within f node (Bucket map bucket) at =
+    let q = v.only node (Bucket map bucket) ((f.nodes (Bucket map bucket) (λ e. cc)).only node at) in let e = q.2 in absurd cc
 still_only h k queue values v within f node (Queue q) at = ⊎_elim
     (λ e. (q, subst (λ (s : Shape). q < s.queues) (sym f.shape) (subst (λ n. n < h.words.shape.queues) (sym e) within), refl))
     (λ ne. let was = v.only node (Queue q) ((f.nodes (Queue q) (λ e. ne (cc))).only node at) in

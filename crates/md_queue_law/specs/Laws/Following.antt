@@ -10,8 +10,8 @@ use Rattle.md_machine.specs.LogicalHeap.{LogicalHeap, put}
 use Rattle.md_machine.specs.Meaning.{KeepsFacts}
 use Rattle.md_queue_law.specs.QueueShape.{head_of, tail_of, QueueShape, QueuesStand}
 use Rattle.md_queue_law.specs.QueueValues.{queue_values, queue_lists}
-use Rattle.md_queue_law.specs.Lawful.Agreement.{NodesAgree, shape_agrees, values_agree}
-use Rattle.md_queue_law.specs.Lawful.Lists.{lists_set}
+use Rattle.md_queue_law.specs.Laws.Agreement.{NodesAgree, shape_agrees, values_agree}
+use Rattle.md_queue_law.specs.Laws.Lists.{lists_set}
 
 module _ {A : Type 0} (f : ℕ → A) (at : ℕ) (x : A) where
   pub put_same : (n : ℕ) → n ≡ at → put f at x n ≡ x
@@ -48,7 +48,8 @@ pub queues_stand : (h k : LogicalHeap) (queue : ℕ) → k.words.shape ≡ h.wor
 queues_stand h k queue shape stand here nodes roots other below =
     let b = subst (λ (s : Shape). other < s.queues) shape below in
     ⊎_elim (λ e. subst (QueueShape k) (sym e) here)
-    (λ ne. shape_agrees h k other (record { nodes = nodes (Queue other) (other_queue other queue ne); head = roots.head other b ne; tail = roots.tail other b ne }) (stand other b))
+    (λ ne. shape_agrees h k other
+    (record { nodes = nodes (Queue other) (other_queue other queue ne); head = roots.head other b ne; tail = roots.tail other b ne }) (stand other b))
     (cases_eq other queue)
 
 pub queue_lists-set : (h k : LogicalHeap) (queue : ℕ) (values : List ℕ) → queue < h.words.shape.queues → k.words.shape ≡ h.words.shape → QueuesStand h

@@ -6,8 +6,8 @@ use Rattle.md_words.specs.Layout.{IsNode, node_count}
 use Rattle.md_machine.specs.LogicalHeap.{LogicalWords, LogicalHeap, next_of}
 use Rattle.md_queue_law.specs.QueueShape.{link, StandInLine}
 use Rattle.md_queue_law.specs.QueueValues.{node_after, values_after}
-use Rattle.md_queue_law.specs.Lawful.Pigeonhole.{pigeonhole}
-use Rattle.md_queue_law.specs.Lawful.Words.{linked_node-link, link_not_zero}
+use Rattle.md_queue_law.specs.Laws.Pigeonhole.{pigeonhole}
+use Rattle.md_queue_law.specs.Laws.Words.{linked_node-link, link_not_zero}
 
 -- the values of the nodes of so many ranks, from one on
 abbrev pub ranked_values : LogicalWords → (node_of : ℕ → ℕ) → (rank count : ℕ) → List ℕ

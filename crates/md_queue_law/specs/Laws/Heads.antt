@@ -3,10 +3,10 @@ use Rattle.std.proofs.Common.{◌≡◌, ℕ, suc, ◌+◌, ◌-◌, [], ◌∷�
 use Rattle.md_machine.specs.LogicalHeap.{LogicalHeap, next_of}
 use Rattle.md_queue_law.specs.QueueShape.{link, head_of, IsOf, QueueShape}
 use Rattle.md_queue_law.specs.QueueValues.{queue_values}
-use Rattle.md_queue_law.specs.Lawful.Words.{link_not_zero}
-use Rattle.md_queue_law.specs.Lawful.Walk.{ranked_values}
-use Rattle.md_queue_law.specs.Lawful.Agreement.{queue_values-line}
-use Rattle.md_queue_law.specs.Lawful.Named.{named_is_of, ends_is_last, goes_to_next}
+use Rattle.md_queue_law.specs.Laws.Words.{link_not_zero}
+use Rattle.md_queue_law.specs.Laws.Walk.{ranked_values}
+use Rattle.md_queue_law.specs.Laws.Agreement.{queue_values-line}
+use Rattle.md_queue_law.specs.Laws.Named.{named_is_of, ends_is_last, goes_to_next}
 
 module _ (h : LogicalHeap) (queue : ℕ) (s : QueueShape h queue) (dummy : ℕ) (named : head_of h.words queue ≡ link dummy) where
   pub dummy_is_of : IsOf h queue dummy

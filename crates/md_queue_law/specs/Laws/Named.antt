@@ -3,8 +3,8 @@ use Rattle.std.proofs.Common.{◌≡◌, ◌≢◌, ℕ, suc, ◌<◌, ◌⊎◌
 use Rattle.std.proofs.lemmas.Bool.{cases_lt}
 use Rattle.md_machine.specs.LogicalHeap.{LogicalHeap, next_of}
 use Rattle.md_queue_law.specs.QueueShape.{link, IsOf, NamesOneOf, StandInLine}
-use Rattle.md_queue_law.specs.Lawful.Words.{link-injective, link_not_zero}
-use Rattle.md_queue_law.specs.Lawful.Walk.{node_exists}
+use Rattle.md_queue_law.specs.Laws.Words.{link-injective, link_not_zero}
+use Rattle.md_queue_law.specs.Laws.Walk.{node_exists}
 
 -- a word that names one node of the queue names no other
 pub named_is_of : (h : LogicalHeap) (queue value node : ℕ) → NamesOneOf h queue value → value ≡ link node → IsOf h queue node
