@@ -1,2 +1,4 @@
 pub mod Joining
 pub mod Playing
+pub mod Following
+pub mod TagLaws

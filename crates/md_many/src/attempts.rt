@@ -89,6 +89,7 @@ pub fn attempt_lines<E: Engine, L: Lines, G: Gate>(
     ensures pending { (E.front pass.new).pending ≡ (E.front pass.old).pending }
     ensures lines { PlaysLines L.B.did (L.body_at lines.now) turn.caller turn.done (E.front pass.old).lanes (E.front pass.old) (E.front pass.new) replies.new.items }
     ensures tries { length (entries_after (length (E.front pass.old).seen) (E.front pass.old).lanes (E.front pass.new)) ≤ turn.tries }
+    ensures room { vec_capacity replies.old ≤ vec_capacity replies.new }
     ensures no_memory { OnErr result (E.may_stop engine.now Stop.NoMemory) }
     ensures first { E.fresh engine.now pass.old → 1 ≤ (E.limits engine.now).tries → IfSome (L.body_at lines.now turn.caller (turn.done + 1)) (λ b. IsSmall (bounds_in (E.limits engine.now)) (L.B.makes b) (E.start engine.now)) → 1 ≤ turn.tries → turn.done < L.line_count lines.now turn.caller → OnOk result (1 ≤ length replies.new.items) }
     ensures steady { StopsForMemory (E.may_stop engine.now) → OnOk result (length replies.new.items ≡ min turn.tries (L.line_count lines.now turn.caller - turn.done)) }

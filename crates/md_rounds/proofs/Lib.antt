@@ -1,10 +1,6 @@
-mod LinesMore
 mod Names
-mod Folding
+pub mod Folding
 mod TradingDay
-pub mod Tags
 mod CallerLines
-mod OneLane
-mod Set
+mod Keeping
 pub mod OneCaller
-pub mod Lanes

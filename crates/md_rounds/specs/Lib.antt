@@ -1,2 +1,3 @@
-pub mod Lines
+pub mod OrderLines
+pub mod Kept
 pub mod Replay

@@ -12,8 +12,10 @@ use Rattle.md_book.specs.Book.{Book, empty_book, book_after, replies_to}
 use Rattle.md_book.specs.Stands.{maps_of_a_book, levels}
 use Rattle.md_book.specs.Commands.{script_of}
 use Rattle.md_book.specs.Trading.{IsDay}
-use Rattle.md_orders.specs.Scripts.{IsInterleaving, at_line}
+use Rattle.md_orders.specs.Scripts.{at_line}
 use Rattle.md_orders.specs.Replies.{reply_at}
+use Rattle.md_many.specs.Tags.{IsInterleaving}
+use Rattle.md_rounds.specs.OrderLines.{line_count_of}
 
 -- the state without orders
 abbrev pub no_orders : State
@@ -53,7 +55,7 @@ RepliedEach replies _ _ = ⊥
 -- the state without orders.
 pub record IsPlayed (scripts : List (List Command)) (fronts : List Front) (replies : List (List (Option BookReply))) (book : Book) : Type 0 where
   pub legal : AreDecidedAndLegal no_orders fronts
-  pub each_once : IsInterleaving scripts (tags_of (committed_of fronts))
+  pub each_once : IsInterleaving (line_count_of scripts) (tags_of (committed_of fronts))
   pub commands : List Command
   pub named : commands ≡ commands_of scripts (tags_of (committed_of fronts))
   pub day : IsDay commands

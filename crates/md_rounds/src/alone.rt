@@ -1,17 +1,22 @@
 // The whole script of one caller, in one round.
-ghost use Rattle.std.specs.Prelude.{◌≡◌, ◌∷◌, [], length, IfOk};
+ghost use Rattle.std.specs.Prelude.{◌≡◌, ◌<◌, ◌≤◌, ◌+◌, ◌^◌, ◌∷◌, [], length, IfOk};
 ghost use Rattle.md_history.specs.Engine.{empty_front};
 ghost use Rattle.md_book.specs.Book.{Book};
 ghost use Rattle.md_book.specs.Stands.{StandsFor};
-ghost use Rattle.md_orders.specs.Scripts.{list_of, lines_of};
-ghost use Rattle.md_rounds.specs.Lines.{StopsForMemory};
-ghost use Rattle.md_rounds.specs.Replay.{RepliedEach, IsPlayed, no_orders};
+ghost use Rattle.md_orders.specs.Scripts.{list_of};
+ghost use Rattle.md_many.specs.Lines.{StopsForMemory};
+ghost use Rattle.md_rounds.specs.Kept.{with_replies};
+ghost use Rattle.md_rounds.specs.Replay.{IsPlayed, no_orders};
 
-use crate::lines::attempt_lines;
+use crate::order_lines::OrderLines;
 use md_book::{BookReply, commands_meet_the_book, empty_book_stands};
 use md_history::{Contents, Engine, Front, pass_is_legal};
-use md_orders::{Replies, Scripts};
+use md_many::{FreeGate, Turn, attempt_lines};
+use md_orders::{Replies, Scripts, commands_are_named};
 use std::alloc::{AllocError, Global};
+
+/// How many lines are played before their replies are put where they are kept.
+const BATCH: u32 = 1_024;
 
 /// What the playing of scripts leaves: the replies of the lines, the contents, and the front of the round.
 #[derive(Drop)]
@@ -21,21 +26,22 @@ pub struct Played<P> {
     pub front: Front<P>,
 }
 
-// Keeps the replies of the one caller's lines, in order.
-fn keep(alloc: Global, scripts: &Scripts, list: &[BookReply]) -> Result<Replies, AllocError>
-    requires one { length scripts.now ≡ 1 }
-    requires whole { length list.now ≡ length (list_of scripts.now 1) }
-    ensures { IfOk result (λ replies. RepliedEach replies (lines_of scripts.now 1) list.now) }
+// Keeps the replies of the one caller's lines that come after the first `done`.
+fn keep(replies: &mut Replies, done: u32, batch: &[BookReply])
+    requires one { length replies.old ≡ 1 }
+    requires places { done + length batch.now ≤ length (list_of replies.old 1) }
+    requires few { done + length batch.now < 2 ^ 32 }
+    ensures { replies.new ≡ with_replies replies.old 1 done batch.now }
 {
-    let mut replies = Replies::empty(alloc, scripts)?;
-    'lines: for before in 0..scripts.len(1) {
-        replies.set(1, before + 1, list[before as usize]);
+    let mut line = done;
+    'replies: for reply in batch {
+        line += 1;
+        replies.set(1, line, *reply);
     }
-    Ok(replies)
 }
 
-/// Plays the script of one caller over an engine without orders, in one round, and closes the engine. The
-/// engine has one lane, and its attempts stop for want of memory alone. `AllocError` is that.
+/// Plays the script of one caller over an engine without orders, in one round, and closes the engine. The pass
+/// holds all lanes, and the engine's attempts stop for want of memory alone. `AllocError` is that.
 pub fn play_alone<E: Engine>(
     alloc: Global,
     engine: E,
@@ -44,7 +50,6 @@ pub fn play_alone<E: Engine>(
 ) -> Result<Played<E::Pass>, AllocError>
     requires of { E.of engine pass }
     requires one { length scripts.now ≡ 1 }
-    requires lane { length (E.lanes engine) ≡ 1 }
     requires front { E.front pass ≡ empty_front (E.lanes engine) }
     requires start { E.start engine ≡ no_orders }
     requires steady { StopsForMemory (E.may_stop engine) }
@@ -52,10 +57,27 @@ pub fn play_alone<E: Engine>(
 {
     commands_meet_the_book();
     empty_book_stands();
+    commands_are_named(scripts);
+    let lines = OrderLines { scripts };
+    let count = scripts.len(1);
     let mut pass = pass;
-    let list = attempt_lines(alloc, &engine, &mut pass, scripts, 1, 0, scripts.len(1))?;
     pass_is_legal(&engine, &pass);
-    let replies = keep(alloc, scripts, &list)?;
+    let mut replies = Replies::empty(alloc, scripts)?;
+    let mut batch = Vec::with_capacity(alloc, BATCH as usize)?;
+    let mut done = 0;
+    'batches: while done < count {
+        let tries = BATCH.min(count - done);
+        let turn = Turn {
+            caller: 1,
+            done,
+            tries,
+        };
+        attempt_lines(&engine, &mut pass, &lines, turn, &FreeGate, &mut batch)?;
+        pass_is_legal(&engine, &pass);
+        keep(&mut replies, done, &batch);
+        done += batch.len() as u32;
+        batch.clear();
+    }
     let (contents, front) = engine.contents(pass)?;
     Ok(Played {
         replies,

@@ -1,10 +1,10 @@
-//! Callers that play their lines over any store, and what their rounds come to.
+//! Callers that play order commands over any store, and what their rounds come to.
 #![tactic(auto)]
 
 mod alone;
-mod lines;
+mod order_lines;
 #[cfg(test)]
 mod tests;
 
 pub use alone::{Played, play_alone};
-pub use lines::attempt_lines;
+pub use md_many::{FreeGate, Gate};

@@ -1,4 +1,4 @@
-use Rattle.std.proofs.Common.{◌≡◌, ◌≤◌, ◌+◌, ◌-◌, length, min, vec_len, vec_capacity}
+use Rattle.std.proofs.Common.{◌≡◌, ◌≤◌, ◌+◌, length, vec_capacity}
 use Rattle.std.specs.Prelude.{IfSome}
 use Rattle.md_history.specs.Counts.{IsSmall}
 use Rattle.md_history.specs.Engine.{bounds_in}
@@ -14,7 +14,7 @@ invariant-attempts g l = record {
   played : l.played ≡ l.turn.done + length l.replies.items;
   within : l.played ≤ g.L.Lines.line_count l.lines l.turn.caller;
   few : length l.replies.items ≤ l.tried;
-  room : min l.turn.tries (g.L.Lines.line_count l.lines l.turn.caller - l.turn.done) ≤ vec_capacity l.replies;
+  room : vec_capacity l.fn.replies ≤ vec_capacity l.replies;
   begun : l.tried ≡ 0 → l.pass ≡ l.fn.pass;
   first : g.E.Engine.fresh l.engine l.fn.pass → 1 ≤ (g.E.Engine.limits l.engine).tries
       → IfSome (g.L.Lines.body_at l.lines l.turn.caller (l.turn.done + 1)) (λ b. IsSmall (bounds_in (g.E.Engine.limits l.engine)) (g.L.B.Body.makes b) (g.E.Engine.start l.engine)) → 1 ≤ l.tried → 1 ≤ length l.replies.items;

@@ -1,19 +1,21 @@
-use Rattle.std.proofs.Common.{◌+◌, sym, subst, arith}
-use Rattle.md_rounds.proofs.Set.{AreSet, set-none, set-more, set-all}
+use Rattle.std.proofs.Common.{◌+◌, length, take, ap, arith}
+use Rattle.md_orders.specs.Scripts.{list_of}
+use Rattle.md_rounds.proofs.Keeping.{places-kept, batch-more}
 use Rattle.md_rounds.proofs.alone.keep.Goals as goal
 
-pub lines-init : goal.lines-init
-lines-init c = subst (AreSet c.args.scripts.now 0 c.args.list.now) (sym c.in_ok-replies.ensures) (set-none c.args.scripts.now c.args.list.now c.requires.one)
+pub set-requires-clause-caller : goal.set-requires-clause-caller
+set-requires-clause-caller c =
+    let kept = places-kept (take c.replies.reply-index c.args.batch.now) c.args.done c.args.replies.now c.requires.one in
+    (omega arith, omega (arith, ap length c.replies.invariant.kept, kept.callers))
 
-pub lines-preserved : goal.lines-preserved
-lines-preserved c =
-    let few = c.len-before-end.ensures.few in
-    let inside = c.lines-test.true in
-    subst (AreSet c.args.scripts.now (c.lines.before + 1) c.args.list.now) (sym c.set.ensures)
-    (set-more c.args.scripts.now c.lines.before c.args.list.now c.lines.replies _ c.lines.invariant (omega (arith, c.len-before-end.ensures.count)) c.requires.whole (omega arith))
+pub set-requires-clause-line : goal.set-requires-clause-line
+set-requires-clause-line c =
+    let kept = places-kept (take c.replies.reply-index c.args.batch.now) c.args.done c.args.replies.now c.requires.one in
+    let test = c.replies-test.true in
+    (omega arith, omega (arith, ap (λ rs. length (list_of rs 1)) c.replies.invariant.kept, kept.places, c.replies.invariant.line, c.requires.places))
 
-pub returns : goal.returns
-returns c =
-    let past = c.lines-test.false in
-    let most = c.lines.auto.before-end in
-    set-all c.args.scripts.now c.lines.before c.args.list.now c.lines.replies c.lines.invariant c.requires.one (omega (arith, c.len-before-end.ensures.count)) c.requires.whole
+pub replies-preserved : goal.replies-preserved
+replies-preserved c = record {
+  line = omega (arith, c.replies.invariant.line);
+  kept = batch-more c.args.replies.now c.replies.replies c.set.new.self c.args.batch.now c.args.done c.replies.reply-index (c.replies.line + 1) _ c.set.ensures c.replies.invariant.kept c.replies-test.true (omega (arith, c.replies.invariant.line));
+}

@@ -1,5 +1,9 @@
-use Rattle.md_rounds.proofs.Set.{AreSet}
+use Rattle.std.proofs.Common.{◌≡◌, ◌+◌, take}
+use Rattle.md_rounds.specs.Kept.{with_replies}
 use Rattle.md_rounds.proofs.alone.keep.Given as goal
 
-abbrev pub invariant-lines : goal.invariant-lines
-invariant-lines l = AreSet l.scripts l.before l.list l.replies
+abbrev pub invariant-replies : goal.invariant-replies
+invariant-replies l = record {
+  line : l.line ≡ l.done + l.reply-index;
+  kept : l.replies ≡ with_replies l.fn.replies 1 l.done (take l.reply-index l.batch);
+}

@@ -1,31 +1,78 @@
-use Rattle.std.proofs.Common.{◌≡◌, ◌∙◌, ◌∷◌, ◌<◌, ◌^◌, [], List, ℕ, length, ap, subst, refl, arith}
+use Rattle.std.proofs.Common.{◌≡◌, ◌≤◌, ◌+◌, ◌-◌, ◌∙◌, ◌++◌, ◌^◌, ◌<◌, ◌∷◌, [], List, ℕ, length, min, ap, sym, subst, refl, arith}
+use Rattle.std.proofs.lemmas.List.{length-append}
 use Rattle.md_history.specs.State.{State}
 use Rattle.md_history.specs.Front.{Front, replay_of}
 use Rattle.md_history.specs.Engine.{IsFrontFrom, SettlesFrom, empty_front}
-use Rattle.md_orders.specs.Scripts.{list_of, lines_of}
-use Rattle.md_rounds.specs.Lines.{PlaysLines}
-use Rattle.md_rounds.specs.Replay.{RepliedEach}
-use Rattle.md_rounds.proofs.OneCaller.{one-caller}
+use Rattle.md_book.specs.declared.commands.BookReply.{BookReply}
+use Rattle.md_orders.specs.Scripts.{list_of, at_line}
+use Rattle.md_many.specs.Lines.{PlaysLines}
+use Rattle.md_many.proofs.Following.{plays-then}
+use Rattle.md_rounds.specs.OrderLines.{did_command, line_count_of}
+use Rattle.md_rounds.specs.Kept.{with_replies}
+use Rattle.md_rounds.proofs.Keeping.{AreKept, kept-none, kept-more}
+use Rattle.md_rounds.proofs.OneCaller.{ArePlayed, plays-none, one-caller}
 use Rattle.md_rounds.proofs.alone.play_alone.Goals as goal
 
--- a list of one
-one-of : (ls : List ℕ) → length ls ≡ 1 → (l : ℕ) × (ls ≡ l ∷ [])
-one-of [] e = absurd (omega arith)
-one-of (l ∷ []) e = (l, refl)
-one-of (l ∷ k ∷ ls) e = absurd (omega arith)
+pub batches-init : goal.batches-init
+batches-init g c = record {
+  of = c.requires.of;
+  front = c.pass_is_legal.ensures;
+  lanes = ap (λ (f : Front). f.lanes) c.requires.front;
+  pending = ap (λ (f : Front). f.pending) c.requires.front;
+  played = record {
+    list = [];
+    count = refl;
+    plays = subst (λ f. PlaysLines did_command (at_line c.args.scripts.now) 1 0 (g.E.Engine.lanes c.args.engine) (empty_front (g.E.Engine.lanes c.args.engine)) f []) (sym c.requires.front) (plays-none c.args.scripts.now (g.E.Engine.lanes c.args.engine));
+    kept = subst (AreKept c.args.scripts.now []) (sym c.in_ok-replies.ensures) (kept-none c.args.scripts.now c.requires.one);
+  };
+  within = omega arith;
+  empty = c.in_ok-batch.ensures.items;
+  room = omega (arith, c.in_ok-batch.ensures.capacity);
+}
+
+pub batches-preserved : goal.batches-preserved
+batches-preserved g c =
+    let scripts = c.args.scripts.now in
+    let lanes = g.E.Engine.lanes c.args.engine in
+    let batch : List BookReply = c.attempt_lines.new.replies.items in
+    let was = c.batches.invariant.played in
+    let test = c.batches-test.true in
+    let inside = c.batches.invariant.within in
+    let few = c.len-count.ensures.few in
+    let played : length batch ≡ min c.min-tries.result (length (list_of scripts 1) - c.batches.done) = c.in_ok-attempt_lines.ensures.steady c.requires.steady in
+    let count : c.len.result ≡ length batch = c.len.ensures ∙ c.attempt_lines.new.replies.ok.0 in
+    let more : AreKept scripts (was.list ++ batch) (with_replies c.batches.replies 1 c.batches.done batch) = kept-more scripts batch c.batches.done was.list c.batches.replies was.kept was.count (omega arith) (omega (arith, c.len-count.ensures.count)) in
+    record {
+      of = c.attempt_lines.ensures.of;
+      front = c.pass_is_legal-in-batches.ensures;
+      lanes = c.attempt_lines.ensures.lanes ∙ c.batches.invariant.lanes;
+      pending = c.attempt_lines.ensures.pending ∙ c.batches.invariant.pending;
+      played = record {
+        list = was.list ++ batch;
+        count = omega (arith, count, was.count, length-append was.list batch);
+        plays = plays-then did_command (at_line scripts) 1 0 c.batches.done lanes (empty_front lanes) (g.E.Engine.front c.batches.pass) (g.E.Engine.front c.attempt_lines.new.pass) was.list batch was.plays (omega (arith, was.count))
+            (subst (λ ls. PlaysLines did_command (at_line scripts) 1 c.batches.done ls (g.E.Engine.front c.batches.pass) (g.E.Engine.front c.attempt_lines.new.pass) batch) c.batches.invariant.lanes c.attempt_lines.ensures.lines)
+            c.batches.invariant.front.legal.fated;
+        kept = subst (AreKept scripts (was.list ++ batch)) (sym (c.keep.ensures ∙ ap (with_replies c.batches.replies 1 c.batches.done) c.deref.ensures.value)) more;
+      };
+      within = omega (arith, count, played);
+      empty = c.clear.ensures.items;
+      room = omega (arith, c.clear.ensures.capacity, c.attempt_lines.ensures.room, c.batches.invariant.room);
+    }
 
 pub returns : goal.returns
 returns g c =
     let scripts = c.args.scripts.now in
-    let lane = one-of (g.E.Engine.lanes c.args.engine) c.requires.lane in
-    let new : Front = g.E.Engine.front c.attempt_lines.new.pass in
+    let lanes = g.E.Engine.lanes c.args.engine in
+    let now : Front = g.E.Engine.front c.batches.pass in
     let final : Front = g.E.Engine.front c.in_ok-contents.front in
-    let rs = c.in_ok-list.list.items in
-    let few : length (list_of scripts 1) < 2 ^ 32 = let most = c.len.ensures.few in omega (arith, c.len.ensures.count) in
-    one-caller scripts c.requires.one few c.commands_meet_the_book.ensures c.empty_book_stands.ensures lane.0 new final rs c.in_ok-replies.replies c.in_ok-contents.contents
-    (subst (λ f. PlaysLines scripts 1 0 f new rs) (c.requires.front ∙ ap empty_front lane.1) c.in_ok-list.ensures.lines)
-    (omega (arith, c.in_ok-list.ensures.steady c.requires.steady, c.len.ensures.count))
-    (subst (λ s. IsFrontFrom s (lane.0 ∷ []) new) c.requires.start (subst (λ ls. IsFrontFrom (g.E.Engine.start c.args.engine) ls new) lane.1 c.pass_is_legal.ensures))
-    (subst (λ s. SettlesFrom s new final) c.requires.start c.in_ok-contents.ensures.settled)
+    let was = c.batches.invariant.played in
+    let past = c.batches-test.false in
+    let inside = c.batches.invariant.within in
+    let most = c.len-count.ensures.few in
+    one-caller scripts c.commands_are_named.ensures c.requires.one (omega (arith, c.len-count.ensures.count)) c.commands_meet_the_book.ensures c.empty_book_stands.ensures lanes now was.list was.plays
+    (subst (λ s. IsFrontFrom s lanes now) c.requires.start c.batches.invariant.front)
+    final c.batches.replies c.in_ok-contents.contents (omega (arith, was.count, c.len-count.ensures.count)) c.batches.invariant.pending c.batches.invariant.lanes
+    (subst (λ s. SettlesFrom s now final) c.requires.start c.in_ok-contents.ensures.settled)
     (c.in_ok-contents.ensures.contents ∙ ap (λ (s : State). replay_of s final) c.requires.start)
-    (subst (RepliedEach c.in_ok-replies.replies (lines_of scripts 1)) c.deref.ensures.value c.in_ok-replies.ensures)
+    was.kept.replied

@@ -1,0 +1,36 @@
+-- The order book's lines: the commands of scripts.
+use Rattle.std.specs.Prelude.{◌≡◌, ◌<◌, ◌≤◌, ◌⊎◌, ◌↔◌, ◌+◌, ℕ, zero, suc, Option, Some, None, IsSome, List, [], ◌∷◌, length, slice_get, refl}
+use Rattle.std.proofs.Common.{ap, arith, inl, inr, sym, ◌∙◌}
+use Rattle.std.proofs.lemmas.Bool.{false≢true}
+use Rattle.std.proofs.lemmas.List.{get_or_past}
+use Rattle.std.proofs.lemmas.Option.{slice_get_cases}
+use Rattle.md_history.specs.declared.acts.Act.{Act}
+use Rattle.md_history.specs.Script.{Did}
+use Rattle.md_book.specs.declared.commands.Command.{Command}
+use Rattle.md_book.specs.declared.commands.BookReply.{BookReply}
+use Rattle.md_book.specs.Commands.{script_of}
+use Rattle.md_orders.specs.Scripts.{list_of, at_line}
+
+-- what it is that acts did a command with a reply
+abbrev pub did_command : Command → List Act → BookReply → Type 0
+did_command c acts r = Did (script_of c) acts r
+
+-- how many lines a caller's script has
+abbrev pub line_count_of : List (List Command) → ℕ → ℕ
+line_count_of scripts caller = length (list_of scripts caller)
+
+-- there is a command at each line, and nowhere else
+pub has-line : (scripts : List (List Command)) (caller line : ℕ) → IsSome (at_line scripts caller line) ↔ ((1 ≤ line) × (line ≤ line_count_of scripts caller))
+has-line scripts caller zero = ((λ some. absurd (false≢true some)), (λ within. absurd (omega (arith, within.0))))
+has-line scripts caller (suc l) = elim (slice_get_cases (list_of scripts caller) l).1 [
+  | inl there ↦ ((λ some. (omega arith, let below = there.1 in omega arith)), (λ within. rw there.2 refl))
+  | inr past ↦ ((λ some. absurd (false≢true (rw past.1 at some))), (λ within. let low = past.0 in let high = within.1 in absurd (omega arith)))
+]
+
+-- who is no caller has no lines
+pub no-lines : (scripts : List (List Command)) (caller : ℕ) → (caller ≡ 0) ⊎ (length scripts < caller) → line_count_of scripts caller ≡ 0
+no-lines scripts zero other = refl
+no-lines scripts (suc c) other = elim other [
+  | inl none ↦ absurd (omega arith)
+  | inr past ↦ ap length (get_or_past scripts c [] (omega arith))
+]

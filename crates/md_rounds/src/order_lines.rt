@@ -1,0 +1,40 @@
+// The commands of scripts as the lines of callers.
+ghost use Rattle.std.specs.Prelude.{length};
+ghost use Rattle.md_orders.specs.Scripts.{at_line};
+ghost use Rattle.md_rounds.specs.OrderLines.{line_count_of, has-line, no-lines};
+
+use md_book::Command;
+use md_many::Lines;
+use md_orders::Scripts;
+
+/// The commands of scripts, each a caller's line.
+#[derive(Clone, Copy)]
+pub(crate) struct OrderLines<'a> {
+    pub(crate) scripts: &'a Scripts,
+}
+
+impl Lines for OrderLines<'_> {
+    type B = Command;
+
+    ghost caller_count = { λ l. length l.scripts.now };
+
+    ghost line_count = { λ l caller. line_count_of l.scripts.now caller };
+
+    ghost body_at = { λ l caller line. at_line l.scripts.now caller line };
+
+    fn callers(&self) -> u32 {
+        self.scripts.callers()
+    }
+
+    fn len(&self, caller: u32) -> u32 {
+        self.scripts.len(caller)
+    }
+
+    fn body(&self, caller: u32, line: u32) -> Option<Command> {
+        self.scripts.command(caller, line)
+    }
+
+    ghost has_body = { λ l caller line. has-line l.scripts.now caller line };
+
+    ghost has_caller = { λ l caller other. no-lines l.scripts.now caller other };
+}
