@@ -1,11 +1,13 @@
 -- The names of a book's orders, and tags that are different from them.
-use Rattle.std.proofs.Common.{◌≡◌, ◌≢◌, ℕ, ◌+◌, ◌≤◌, ◌<◌, ◌^◌, List, [], ◌∷◌, ◌++◌, length, map, Option, Some, None, refl, sym, ap, subst, ◌∙◌, arith}
+use Rattle.std.proofs.Common.{◌≡◌, ◌≢◌, ℕ, ◌+◌, ◌≤◌, ◌<◌, ◌^◌, List, [], ◌∷◌, ◌++◌, length, map, Option, Some, None, true, false, cond, refl, sym, ap, subst, ◌∙◌, arith}
+use Rattle.std.specs.Prelude.{nat_le}
 use Rattle.std.specs.List.{AllByRecursion}
 use Rattle.std.proofs.lemmas.List.{append-nil, length-append, length-map, map_push}
 use Rattle.std.proofs.lemmas.List.Elements.{All-from_recursion}
 use Rattle.md_book.specs.declared.commands.Command.{Command}
-use Rattle.md_book.specs.declared.commands.Command.TheVariants.{Place, Cancel, Fill, Depth, Account}
-use Rattle.md_book.specs.Book.{Order, Book, book_step, cancel_step, find_open, level_of}
+use Rattle.md_book.specs.declared.commands.Command.TheVariants.{Place, Cancel, Fill, Kill, Depth, Account}
+use Rattle.md_book.specs.declared.commands.BookReply.TheVariants.{Killed}
+use Rattle.md_book.specs.Book.{Order, Book, book_step, cancel_step, fill_step, kill_step, left_within, find_open, level_of}
 use Rattle.md_book.specs.Trading.{names_placed}
 use Rattle.md_book.specs.Meets.{MayTake}
 use Rattle.md_book.proofs.Lessened.{lessened-map}
@@ -19,11 +21,19 @@ cancel-names : (b : Book) (o : Option Order) → map (λ (o : Order). o.name) (c
 cancel-names b None = refl
 cancel-names b (Some o) = lessened-map o.name o.left (λ (o : Order). o.name) (λ o left. refl) b.orders
 
+kill-names : (b : Book) (account level quantity places : ℕ) → names_in (kill_step b account level quantity places).book ≡ names_in b
+kill-names b account level quantity places =
+    elim (nat_le quantity (left_within b level places)) as (λ t. names_in (cond t (fill_step b account level quantity places) (record { book = b; reply = Killed })).book ≡ names_in b) [
+      | true ↦ look-map level account (λ (o : Order). o.name) (λ o left. refl) places b quantity
+      | false ↦ refl
+    ]
+
 -- a step of the book adds the name that it places, and takes none away
 names-step : (b : Book) (c : Command) → names_in (book_step b c).book ≡ names_in b ++ names_placed (c ∷ [])
 names-step b (Place name account side price quantity) = map_push (λ (o : Order). o.name) b.orders _
 names-step b (Cancel name) = cancel-names b (find_open b name) ∙ sym (append-nil (names_in b))
-names-step b (Fill account side price quantity) = look-map (level_of side price) account (λ (o : Order). o.name) (λ o left. refl) 4 b quantity ∙ sym (append-nil (names_in b))
+names-step b (Fill account side price quantity places) = look-map (level_of side price) account (λ (o : Order). o.name) (λ o left. refl) places b quantity ∙ sym (append-nil (names_in b))
+names-step b (Kill account side price quantity places) = kill-names b account (level_of side price) quantity places ∙ sym (append-nil (names_in b))
 names-step b (Depth side price) = sym (append-nil (names_in b))
 names-step b (Account account) = sym (append-nil (names_in b))
 
@@ -58,7 +68,8 @@ apart-none (t ∷ ts) = (tt, apart-none ts)
 apart-placed : (b : Book) (c : Command) (t : ℕ) (ts : List ℕ) → IsNamed t c → AreApart ts (names_in b) → HasNone t ts → AreApart ts (names_in b ++ names_placed (c ∷ []))
 apart-placed b (Place name account side price quantity) t ts is a h = apart-push ts (names_in b) name a (subst (λ n. HasNone n ts) (sym is) h)
 apart-placed b (Cancel name) t ts is a h = subst (AreApart ts) (sym (append-nil (names_in b))) a
-apart-placed b (Fill account side price quantity) t ts is a h = subst (AreApart ts) (sym (append-nil (names_in b))) a
+apart-placed b (Fill account side price quantity places) t ts is a h = subst (AreApart ts) (sym (append-nil (names_in b))) a
+apart-placed b (Kill account side price quantity places) t ts is a h = subst (AreApart ts) (sym (append-nil (names_in b))) a
 apart-placed b (Depth side price) t ts is a h = subst (AreApart ts) (sym (append-nil (names_in b))) a
 apart-placed b (Account account) t ts is a h = subst (AreApart ts) (sym (append-nil (names_in b))) a
 
@@ -69,7 +80,8 @@ apart-step b c t ts is a h = subst (AreApart ts) (sym (names-step b c)) (apart-p
 placed-few : (c : Command) → length (names_placed (c ∷ [])) ≤ 1
 placed-few (Place name account side price quantity) = omega arith
 placed-few (Cancel name) = omega arith
-placed-few (Fill account side price quantity) = omega arith
+placed-few (Fill account side price quantity places) = omega arith
+placed-few (Kill account side price quantity places) = omega arith
 placed-few (Depth side price) = omega arith
 placed-few (Account account) = omega arith
 
@@ -86,6 +98,7 @@ pub may-take : (b : Book) (c : Command) (t : ℕ) → IsNamed t c → HasNone t 
 may-take b (Place name account side price quantity) t is none room =
     (All-from_recursion (λ (o : Order). o.name ≢ name) b.orders (none-orders name b.orders (subst (λ n. HasNone n (names_in b)) (sym is) none)), room)
 may-take b (Cancel name) t is none room = tt
-may-take b (Fill account side price quantity) t is none room = tt
+may-take b (Fill account side price quantity places) t is none room = tt
+may-take b (Kill account side price quantity places) t is none room = tt
 may-take b (Depth side price) t is none room = tt
 may-take b (Account account) t is none room = tt

@@ -4,7 +4,7 @@ use Rattle.std.specs.List.{IsDistinct, AllByRecursion}
 use Rattle.std.proofs.lemmas.Bool.{ne_eqb}
 use Rattle.std.proofs.lemmas.List.Elements.{All-from_recursion}
 use Rattle.md_book.specs.declared.commands.Command.{Command}
-use Rattle.md_book.specs.declared.commands.Command.TheVariants.{Place, Cancel, Fill, Depth, Account}
+use Rattle.md_book.specs.declared.commands.Command.TheVariants.{Place, Cancel, Fill, Kill, Depth, Account}
 use Rattle.md_book.specs.Commands.{IsCommand}
 use Rattle.md_book.specs.Trading.{names_placed, IsDay}
 use Rattle.md_rounds.proofs.Names.{HasNone, AreDifferent}
@@ -15,7 +15,8 @@ none-placed : (t : ℕ) (ts : List ℕ) (cs : List Command) → AreNamedBy ts cs
 none-placed t [] [] named none = tt
 none-placed t (u ∷ ts) (Place name account side price quantity ∷ cs) named none = (ne_eqb t name (λ e. none.0 (sym named.1 ∙ sym e)), none-placed t ts cs named.2 none.1)
 none-placed t (u ∷ ts) (Cancel name ∷ cs) named none = none-placed t ts cs named.2 none.1
-none-placed t (u ∷ ts) (Fill account side price quantity ∷ cs) named none = none-placed t ts cs named.2 none.1
+none-placed t (u ∷ ts) (Fill account side price quantity places ∷ cs) named none = none-placed t ts cs named.2 none.1
+none-placed t (u ∷ ts) (Kill account side price quantity places ∷ cs) named none = none-placed t ts cs named.2 none.1
 none-placed t (u ∷ ts) (Depth side price ∷ cs) named none = none-placed t ts cs named.2 none.1
 none-placed t (u ∷ ts) (Account account ∷ cs) named none = none-placed t ts cs named.2 none.1
 none-placed t [] (c ∷ cs) named none = absurd named
@@ -27,7 +28,8 @@ distinct [] [] named different = tt
 distinct (t ∷ ts) (Place name account side price quantity ∷ cs) named different =
     (subst (λ n. AllByRecursion (λ m. nat_eq n m ≡ false) (names_placed cs)) (sym named.1) (none-placed t ts cs named.2 different.0), distinct ts cs named.2 different.1)
 distinct (t ∷ ts) (Cancel name ∷ cs) named different = distinct ts cs named.2 different.1
-distinct (t ∷ ts) (Fill account side price quantity ∷ cs) named different = distinct ts cs named.2 different.1
+distinct (t ∷ ts) (Fill account side price quantity places ∷ cs) named different = distinct ts cs named.2 different.1
+distinct (t ∷ ts) (Kill account side price quantity places ∷ cs) named different = distinct ts cs named.2 different.1
 distinct (t ∷ ts) (Depth side price ∷ cs) named different = distinct ts cs named.2 different.1
 distinct (t ∷ ts) (Account account ∷ cs) named different = distinct ts cs named.2 different.1
 distinct [] (c ∷ cs) named different = absurd named

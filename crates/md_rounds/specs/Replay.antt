@@ -9,7 +9,7 @@ use Rattle.md_history.specs.Script.{Did}
 use Rattle.md_book.specs.declared.commands.Command.{Command}
 use Rattle.md_book.specs.declared.commands.BookReply.{BookReply}
 use Rattle.md_book.specs.Book.{Book, empty_book, book_after, replies_to}
-use Rattle.md_book.specs.Stands.{maps_of_a_book, levels}
+use Rattle.md_book.specs.declared.maps.TheConstants.{MAPS, LEVELS}
 use Rattle.md_book.specs.Commands.{script_of}
 use Rattle.md_book.specs.Trading.{IsDay}
 use Rattle.md_orders.specs.Scripts.{at_line}
@@ -19,7 +19,7 @@ use Rattle.md_rounds.specs.OrderLines.{line_count_of}
 
 -- the state without orders
 abbrev pub no_orders : State
-no_orders = empty_state maps_of_a_book levels
+no_orders = empty_state MAPS LEVELS
 
 -- the committed entries of fronts, one front after another
 abbrev pub committed_of : List Front → List Entry
