@@ -12,3 +12,4 @@ mod MovedRowHolds
 pub mod resolutions
 mod Refusing
 pub mod chain
+pub mod replay
