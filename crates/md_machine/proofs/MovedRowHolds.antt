@@ -15,18 +15,22 @@ use Rattle.md_machine.specs.declared.certificate.Certificate.{Certificate}
 use Rattle.md_machine.specs.declared.certificate.Change.{Change}
 use Rattle.md_machine.specs.declared.certificate.NewNode.{NewNode}
 use Rattle.md_machine.specs.declared.certificate.WordValue.{WordValue}
+use Rattle.md_machine.proofs.Reached.{reached}
 use Rattle.md_machine.proofs.Walking.{no_store_for, none_differ, nth, one_below, one_differs, only_none, only_one, trail_at}
+use Rattle.md_machine.proofs.lists.Rising.{there}
 use Rattle.md_machine.specs.Certified.{CertifiedIn, HasWords, after_wholes, as_found, first_content}
 use Rattle.md_machine.specs.Event.{Does, Runs, abort, commit, install, load, mark_act, mark_begin, mark_end, mark_start, opened, ready, split, store, uninstall}
 use Rattle.md_machine.specs.LogicalHeap.{Holds}
-use Rattle.md_machine.specs.Machine.{Machine, attempt_of}
+use Rattle.md_machine.specs.Machine.{Machine, attempt_of, content, present}
 use Rattle.md_machine.specs.Meaning.{Meaning}
 use Rattle.md_machine.specs.Own.{IsOwnNode}
 use Rattle.md_machine.specs.Resolution.{InEveryResolution, logical_heap}
 use Rattle.md_machine.specs.Rows.{small_opening, small_shape}
 use Rattle.md_machine.specs.Schedules.{MovedRow, inserts_18, inserts_change, inserts_node_of, misses, moving, moving_end}
+use Rattle.md_machine.specs.Stepping.{replaced}
 use Rattle.md_machine.specs.Trail.{SomeStepOf}
 use Rattle.md_machine.specs.Walk.{after_event, hand_at, view_at}
+use Rattle.md_machine.specs.events.Mark.{moved}
 use Rattle.md_machine.specs.events.Ready.{InstallsFor, IsStoredRead, MayRecord, read_now, reads_now, write_now, writes_now}
 
 abbrev r0 : Machine
@@ -246,7 +250,7 @@ module _ (M : Meaning) (mis : M.certifies small_shape misses) (ins : M.certifies
 
   does_17 : Does M r17 (store 1 1066 36) r18
   unfolding value_of count_of is_even counted_word spot_value spot_of status_word status_of reads_of serial_of words_of node_count desc_count address place_at OwnsNode OwnsDesc lane_of_node lane_of_desc
-  does_17 = (view_at r17 1, hand_at r17 1, record { at = refl; live = lit≤ tt }, record { held = refl; unready = refl; exists = lit≤ tt; place = refl }, refl)
+  does_17 = (view_at r17 1, hand_at r17 1, record { at = refl; live = lit≤ tt }, record { held = refl; unready = refl; exists = lit≤ tt; place = (refl, lit≤ tt) }, refl)
 
   does_18 : Does M r18 (install 1 2 0 (record { desc = 1; slot = 0 })) r19
   unfolding value_of count_of is_even counted_word spot_value spot_of status_word status_of reads_of serial_of words_of node_count desc_count address place_at OwnsNode OwnsDesc lane_of_node lane_of_desc
@@ -297,9 +301,16 @@ module _ (M : Meaning) (mis : M.certifies small_shape misses) (ins : M.certifies
     record {
       counted = (lit≤ tt, refl);
       odd = refl;
-      serial = 0;
-      knows_serial = inl ((1, (0, lit≤ tt, refl), (lit≤ tt, refl)), refl);
-      knows_value = record { status = 2; present = refl; decided = inl refl; met = (trail r22 1, (0, lit≤ tt, refl), ((nth (trail r22 1) 14), (14, lit≤ tt, refl), inr (record { there = refl; after = refl }))); held = 36; known = inl (record { store = record { earlier = take 10 (trail r22 1); step = (nth (trail r22 1) 10); later = drop 11 (trail r22 1); segment = (0, lit≤ tt, refl); such = record { kind = refl; attempt = refl; there = refl } }; left = refl; last = no_store_for _ 1066 (drop 11 (trail r22 1)) refl }); is = refl };
+      status = 2;
+      decided = inl refl;
+      held = 36;
+      knows = inl (record {
+        own = (1, (0, lit≤ tt, refl), (lit≤ tt, refl));
+        present = refl;
+        met = (trail r22 1, (0, lit≤ tt, refl), ((nth (trail r22 1) 14), (14, lit≤ tt, refl), inr (record { there = refl; after = refl })));
+        slot = inl (record { store = record { earlier = take 10 (trail r22 1); step = (nth (trail r22 1) 10); later = drop 11 (trail r22 1); segment = (0, lit≤ tt, refl); such = record { kind = refl; attempt = refl; there = refl } }; left = refl; last = no_store_for _ 1066 (drop 11 (trail r22 1)) refl });
+      });
+      is = refl;
     },
     refl,
   )

@@ -4,7 +4,7 @@ use Rattle.std.proofs.lemmas.Bool.{true≢false}
 use Rattle.md_words.specs.declared.shape.Shape.{Shape}
 use Rattle.md_words.specs.declared.status.Status.TheVariants.{InPrep}
 use Rattle.md_words.specs.Status.{reads_of, serial_of, status_word}
-use Rattle.md_words.specs.Place.{desc_status, read_word, slot_word}
+use Rattle.md_words.specs.Place.{desc_status, read_word, slot_word, slot_new}
 use Rattle.md_words.specs.Layout.{address, first_desc}
 use Rattle.md_words.proofs.Words.{reads_of-status_word, serial_of-status_word, status_word-begins}
 use Rattle.md_machine.specs.declared.opening.Opening.{Opening}
@@ -15,6 +15,7 @@ use Rattle.std.proofs.lemmas.List.Elements.{Contains-append_right}
 use Rattle.md_machine.specs.declared.attempt.Hand.{Hand}
 use Rattle.md_machine.proofs.Invariant.{Invariant, kept_by, plays_keep, runs_keep}
 use Rattle.md_machine.proofs.clauses.Brackets.{IsBracket}
+use Rattle.md_machine.proofs.clauses.FrontsFit.{fated}
 use Rattle.md_machine.proofs.clauses.LanesApart.{At, lanes_first}
 use Rattle.md_machine.proofs.clauses.Order.{InOrder}
 use Rattle.md_machine.proofs.events.Steps.{HasStep}
@@ -58,6 +59,10 @@ slot_late : (shape : Shape) (desc j : ℕ) → first_desc shape ≤ address shap
 unfolding address
 slot_late shape desc j = omega arith
 
+value_late : (shape : Shape) (desc j : ℕ) → first_desc shape ≤ address shape (slot_new desc j)
+unfolding address
+value_late shape desc j = omega arith
+
 -- its one segment is empty
 first_segment : (shape : Shape) (p : PassView) (segment : List Step) → first_pass shape ≡ p → Contains (segments p) segment → [] ≡ segment
 first_segment shape p segment e c = ⊎_elim (λ x. x) (λ i. absurd (in_none segment i)) (in_cons [] [] segment (subst (λ (v : PassView). Contains (segments v) segment) (sym e) c))
@@ -79,6 +84,7 @@ module _ (M : Meaning) where
     status = λ desc exists. subst (StatusFits o.shape) (sym (can.descs _ (status_late o.shape desc))) (zero_fits o.shape);
     reads = λ desc i exists. inl (can.descs _ (read_late o.shape desc i));
     slots = λ desc j exists. inl (can.descs _ (slot_late o.shape desc j));
+    values = λ desc j exists. let none = can.descs _ (value_late o.shape desc j) in omega (arith, none);
   }
 
   opens : (o : Opening) → CanOpen M o → Invariant (opened o)

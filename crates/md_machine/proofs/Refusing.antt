@@ -1,5 +1,5 @@
 -- What the conditions of events refuse.
-use Rattle.std.proofs.Common.{◌≡◌, ℕ, List, [], ◌∷◌, ◌++◌, sym, ap, ◌∙◌, subst, ⊎_elim, Some}
+use Rattle.std.proofs.Common.{◌≡◌, ℕ, List, [], ◌∷◌, ◌++◌, sym, ap, ◌∙◌, subst, ⊎_elim, append_assoc, Some}
 use Rattle.std.specs.List.{Contains, All}
 use Rattle.std.proofs.lemmas.List.Elements.{All-contains, Contains-append_right}
 use Rattle.md_words.specs.declared.status.Status.TheVariants.{Committed}
@@ -10,6 +10,7 @@ use Rattle.md_words.specs.PlaceAt.{place_at}
 use Rattle.md_machine.specs.declared.attempt.AttemptId.{AttemptId}
 use Rattle.md_machine.specs.declared.step.Step.{Step}
 use Rattle.md_machine.specs.declared.pass.PassView.{PassView}
+use Rattle.md_words.specs.Status.{serial_of}
 use Rattle.md_machine.proofs.Reached.{reached}
 use Rattle.md_machine.proofs.lists.Rising.{here, in_cons, in_none}
 use Rattle.md_machine.specs.Machine.{attempt_of, content, present, shape_of}
@@ -19,7 +20,7 @@ use Rattle.md_machine.specs.Refused.{EarlierValueRefused, OtherSlotRefused, Publ
 use Rattle.md_machine.specs.Stepping.{attempt_in_hand}
 use Rattle.md_machine.specs.Trail.{LastStored, Loads, StoresFor, segments}
 use Rattle.md_machine.specs.events.Store.{MayStoreAt}
-use Rattle.md_machine.specs.events.Uninstall.{slot_by_fate, value_by_fate}
+use Rattle.md_machine.specs.events.Uninstall.{slot_by_fate, slot_of_desc, value_by_fate}
 
 module _ (M : Meaning) where
   pub published_node : PublishedNodeRefused M
@@ -65,15 +66,26 @@ last_stored_is_one p a word x y none s t =
     let same = sym (one_segment p _ none s.store.segment) ∙ one_segment p _ none t.store.segment in
     sym s.left ∙ last_is_one a word s.store.earlier t.store.earlier s.store.step t.store.step s.store.later t.store.later same s.store.such t.store.such s.last t.last ∙ t.left
 
+-- a load among the steps of the one segment
+loaded_there : (p : PassView) (earlier : List Step) (s : Step) (later : List Step) → p.past ≡ [] → Contains (segments p) (earlier ++ s ∷ later) → Contains p.trail s
+loaded_there p earlier s later none c = subst (λ xs. Contains xs s) (sym (one_segment p _ none c)) (Contains-append_right earlier (s ∷ later) s (here s later))
+
 pub earlier_value : EarlierValueRefused
-earlier_value shape p word from serial value last none stored unread k committed =
+earlier_value m p word from value last none unread k committed stored =
     let spot = spot_of (value_of from) in
-    let a = attempt_of spot.desc serial in
+    let a = attempt_of spot.desc (serial_of k.status) in
     let is : value_by_fate Committed k.held ≡ value = subst (λ s. value_by_fate s k.held ≡ value) committed k.is in
+    let never : (s : Step) → Contains p.trail s → Loads (slot_of_desc (shape_of m) from k.status) k.held s → ⊥ = λ s c loads.
+    All-contains (λ (t : Step). (held : ℕ) → ¬ Loads (address (shape_of m) (slot_by_fate Committed spot)) held t) p.trail s unread c k.held
+    (subst (λ st. Loads (address (shape_of m) (slot_by_fate st spot)) k.held s) committed loads) in
     ⊎_elim
-    (λ s. sym is ∙ last_stored_is_one p a _ k.held last none (subst (λ st. LastStored p a (address shape (slot_by_fate st spot)) k.held) committed s) stored)
-    (λ l. let load = l.load in
-    let c = subst (λ xs. Contains xs load.step) (sym (one_segment p _ none load.segment)) (Contains-append_right load.earlier (load.step ∷ load.later) load.step (here load.step load.later)) in
-    absurd (All-contains (λ (s : Step). (held : ℕ) → ¬ Loads (address shape (slot_by_fate Committed spot)) held s) p.trail load.step unread c k.held
-    (subst (λ st. Loads (address shape (slot_by_fate st spot)) k.held load.step) committed load.such)))
-    k.known
+    (λ owner. ⊎_elim
+    (λ s. sym is ∙ last_stored_is_one p a _ k.held last none (subst (λ st. LastStored p a (address (shape_of m) (slot_by_fate st spot)) k.held) committed s) stored)
+    (λ l. absurd (never l.load.step (loaded_there p l.load.earlier l.load.step l.load.later none l.load.segment) l.load.such))
+    owner.slot)
+    (λ h. absurd (never h.loaded (loaded_there p (h.earlier ++ h.found ∷ (h.first ++ h.again ∷ h.second)) h.loaded h.later none
+    (subst (Contains (segments p)) (apart h.earlier h.found h.first h.again h.second (h.loaded ∷ h.later)) h.segment)) h.loads))
+    k.knows
+  where
+    apart : (e : List Step) (f : Step) (a : List Step) (g : Step) (b c : List Step) → e ++ f ∷ (a ++ g ∷ (b ++ c)) ≡ (e ++ f ∷ (a ++ g ∷ b)) ++ c
+    apart e f a g b c = ap (λ l. e ++ f ∷ l) (sym (append_assoc a (g ∷ b) c)) ∙ sym (append_assoc e (f ∷ (a ++ g ∷ b)) c)

@@ -8,6 +8,8 @@ use Rattle.md_words.specs.PlaceAt.{place_at}
 use Rattle.md_words.specs.Lanes.{OwnsNode, OwnsDesc, lane_of_node, lane_of_desc}
 use Rattle.md_machine.specs.declared.step.Step.{Step}
 use Rattle.md_machine.specs.declared.step.Kind.TheVariants.{Load}
+use Rattle.md_machine.proofs.Reached.{reached}
+use Rattle.md_machine.proofs.lists.Rising.{there}
 use Rattle.md_machine.specs.Event.{Does, Runs, abort, install, load, mark_begin, opened, split, store, uninstall}
 use Rattle.md_machine.specs.Machine.{Machine}
 use Rattle.md_machine.specs.Meaning.{Meaning}
@@ -79,7 +81,7 @@ module _ (M : Meaning) where
 
   does_4 : Does M m4 (store 0 425 4) m5
   unfolding value_of count_of is_even counted_word spot_value spot_of status_word status_of reads_of serial_of words_of node_count desc_count address place_at OwnsNode OwnsDesc lane_of_node lane_of_desc
-  does_4 = (view_at m4 0, hand_at m4 0, record { at = refl; live = lit≤ tt }, record { held = refl; unready = refl; exists = lit≤ tt; place = refl }, refl)
+  does_4 = (view_at m4 0, hand_at m4 0, record { at = refl; live = lit≤ tt }, record { held = refl; unready = refl; exists = lit≤ tt; place = (refl, lit≤ tt) }, refl)
 
   does_5 : Does M m5 (install 0 2 0 slot_0) m6
   unfolding value_of count_of is_even counted_word spot_value spot_of status_word status_of reads_of serial_of words_of node_count desc_count address place_at OwnsNode OwnsDesc lane_of_node lane_of_desc
@@ -122,25 +124,25 @@ module _ (M : Meaning) where
     record {
       counted = (lit≤ tt, refl);
       odd = refl;
-      serial = 0;
-      knows_serial = inr (record {
-        status = record { earlier = take 2 (trail m11); step = nth m11 2; later = drop 3 (trail m11); segment = (0, lit≤ tt, refl); such = (0, record { there = refl; before = refl; found = refl }, refl) };
-        before = (nth m11 1, (1, lit≤ tt, refl), record { there = refl; before = refl; found = refl });
-        after = (nth m11 3, (0, lit≤ tt, refl), record { there = refl; before = refl; found = refl });
+      status = 3;
+      decided = inr refl;
+      held = 0;
+      knows = inr (record {
+        earlier = take 1 (trail m11);
+        found = nth m11 1;
+        first = take 1 (drop 2 (trail m11));
+        again = nth m11 3;
+        second = take 1 (drop 4 (trail m11));
+        loaded = nth m11 5;
+        later = drop 6 (trail m11);
+        segment = (0, lit≤ tt, refl);
+        finds = record { there = refl; before = refl; found = refl };
+        asks = (nth m11 2, (0, lit≤ tt, refl), (0, record { there = refl; before = refl; found = refl }, refl));
+        finds_again = record { there = refl; before = refl; found = refl };
+        decided = (nth m11 4, (2, lit≤ tt, refl), inr (record { there = refl; after = refl }));
+        loads = record { kind = refl; finds = record { there = refl; before = refl; found = refl } };
       });
-      knows_value = record {
-        status = 3;
-        present = refl;
-        decided = inr refl;
-        met = (trail m11, (0, lit≤ tt, refl), (nth m11 4, (4, lit≤ tt, refl), inr (record { there = refl; after = refl })));
-        held = 0;
-        known = inr (record {
-          load = record { earlier = take 5 (trail m11); step = nth m11 5; later = drop 6 (trail m11); segment = (0, lit≤ tt, refl); such = record { kind = refl; finds = record { there = refl; before = refl; found = refl } } };
-          decided = (nth m11 4, (4, lit≤ tt, refl), inr (record { there = refl; after = refl }));
-          stood = (nth m11 1, (1, lit≤ tt, refl), inl (record { there = refl; before = refl; found = refl }));
-        });
-        is = refl;
-      };
+      is = refl;
     },
     refl,
   )

@@ -15,16 +15,19 @@ use Rattle.md_machine.specs.declared.certificate.Certificate.{Certificate}
 use Rattle.md_machine.specs.declared.certificate.Change.{Change}
 use Rattle.md_machine.specs.declared.certificate.NewNode.{NewNode}
 use Rattle.md_machine.specs.declared.certificate.WordValue.{WordValue}
+use Rattle.md_machine.proofs.Reached.{reached}
 use Rattle.md_machine.proofs.Walking.{no_store_for, none_differ, nth, one_below, one_differs, only_none, only_one, trail_at}
+use Rattle.md_machine.proofs.lists.Rising.{there}
 use Rattle.md_machine.specs.Certified.{CertifiedIn, HasWords, after_wholes, as_found, first_content}
 use Rattle.md_machine.specs.Event.{Does, Runs, abort, commit, install, load, mark_act, mark_begin, mark_end, mark_start, opened, ready, split, store, uninstall}
 use Rattle.md_machine.specs.LogicalHeap.{Holds}
-use Rattle.md_machine.specs.Machine.{Machine, attempt_of}
+use Rattle.md_machine.specs.Machine.{Machine, attempt_of, content}
 use Rattle.md_machine.specs.Meaning.{Meaning}
 use Rattle.md_machine.specs.Own.{IsOwnNode}
 use Rattle.md_machine.specs.Resolution.{InEveryResolution, logical_heap}
 use Rattle.md_machine.specs.Rows.{small_opening, small_shape}
 use Rattle.md_machine.specs.Schedules.{StoppedRow, inserts, inserts_change, inserts_node_of, misses, stopping, stopping_end}
+use Rattle.md_machine.specs.Stepping.{replaced}
 use Rattle.md_machine.specs.Trail.{SomeStepOf}
 use Rattle.md_machine.specs.Walk.{after_event, hand_at, view_at}
 use Rattle.md_machine.specs.events.Decide.{FoundRead}
@@ -205,7 +208,7 @@ module _ (M : Meaning) (ins : M.certifies small_shape inserts) (mis : M.certifie
 
   does_10 : Does M s10 (store 0 425 4) s11
   unfolding value_of count_of is_even counted_word spot_value spot_of status_word status_of reads_of serial_of words_of node_count desc_count address place_at OwnsNode OwnsDesc lane_of_node lane_of_desc
-  does_10 = (view_at s10 0, hand_at s10 0, record { at = refl; live = lit≤ tt }, record { held = refl; unready = refl; exists = lit≤ tt; place = refl }, refl)
+  does_10 = (view_at s10 0, hand_at s10 0, record { at = refl; live = lit≤ tt }, record { held = refl; unready = refl; exists = lit≤ tt; place = (refl, lit≤ tt) }, refl)
 
   does_11 : Does M s11 (install 0 2 0 (record { desc = 0; slot = 0 })) s12
   unfolding value_of count_of is_even counted_word spot_value spot_of status_word status_of reads_of serial_of words_of node_count desc_count address place_at OwnsNode OwnsDesc lane_of_node lane_of_desc
@@ -255,9 +258,25 @@ module _ (M : Meaning) (ins : M.certifies small_shape inserts) (mis : M.certifie
     record {
       counted = (lit≤ tt, refl);
       odd = refl;
-      serial = 0;
-      knows_serial = inr (record { status = record { earlier = take 5 (trail s21 1); step = (nth (trail s21 1) 5); later = drop 6 (trail s21 1); segment = (0, lit≤ tt, refl); such = (0, (record { there = refl; before = refl; found = refl }), refl) }; before = ((nth (trail s21 1) 4), (4, lit≤ tt, refl), (record { there = refl; before = refl; found = refl })); after = ((nth (trail s21 1) 6), (0, lit≤ tt, refl), (record { there = refl; before = refl; found = refl })) });
-      knows_value = record { status = 3; present = refl; decided = inr refl; met = (trail s21 1, (0, lit≤ tt, refl), ((nth (trail s21 1) 7), (7, lit≤ tt, refl), inr (record { there = refl; after = refl }))); held = 0; known = inr (record { load = record { earlier = take 8 (trail s21 1); step = (nth (trail s21 1) 8); later = drop 9 (trail s21 1); segment = (0, lit≤ tt, refl); such = (record { kind = refl; finds = record { there = refl; before = refl; found = refl } }) }; decided = ((nth (trail s21 1) 7), (7, lit≤ tt, refl), inr (record { there = refl; after = refl })); stood = ((nth (trail s21 1) 4), (4, lit≤ tt, refl), inl (record { there = refl; before = refl; found = refl })) }); is = refl };
+      status = 3;
+      decided = inr refl;
+      held = 0;
+      knows = inr (record {
+        earlier = take 4 (trail s21 1);
+        found = nth (trail s21 1) 4;
+        first = take 1 (drop 5 (trail s21 1));
+        again = nth (trail s21 1) 6;
+        second = take 1 (drop 7 (trail s21 1));
+        loaded = nth (trail s21 1) 8;
+        later = drop 9 (trail s21 1);
+        segment = (0, lit≤ tt, refl);
+        finds = record { there = refl; before = refl; found = refl };
+        asks = (nth (trail s21 1) 5, (0, lit≤ tt, refl), (0, record { there = refl; before = refl; found = refl }, refl));
+        finds_again = record { there = refl; before = refl; found = refl };
+        decided = (nth (trail s21 1) 7, (2, lit≤ tt, refl), inr (record { there = refl; after = refl }));
+        loads = record { kind = refl; finds = record { there = refl; before = refl; found = refl } };
+      });
+      is = refl;
     },
     refl,
   )

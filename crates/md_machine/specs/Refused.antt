@@ -4,7 +4,7 @@ use Rattle.md_words.specs.declared.shape.Shape.{Shape}
 use Rattle.md_words.specs.declared.content.Spot.{Spot}
 use Rattle.md_words.specs.declared.status.Status.TheVariants.{Committed}
 use Rattle.md_words.specs.Content.{value_of, spot_of}
-use Rattle.md_words.specs.Status.{status_of}
+use Rattle.md_words.specs.Status.{status_of, serial_of}
 use Rattle.md_words.specs.Place.{node_key, node_value, node_next, slot_new}
 use Rattle.md_words.specs.Layout.{address}
 use Rattle.md_words.specs.PlaceAt.{place_at}
@@ -17,7 +17,7 @@ use Rattle.md_machine.specs.Own.{HasDesc}
 use Rattle.md_machine.specs.Resolution.{Resolves, always_placed, never_placed, placed_under}
 use Rattle.md_machine.specs.Stepping.{attempt_in_hand}
 use Rattle.md_machine.specs.Trail.{LastStored, Loads}
-use Rattle.md_machine.specs.events.Uninstall.{KnowsValue}
+use Rattle.md_machine.specs.events.Uninstall.{MayUninstall}
 
 -- where each entry has a fate, a node counts as placed in every resolution exactly where each resolution places it
 abbrev pub AlwaysMeansEvery : Type 0
@@ -45,7 +45,7 @@ module _ (M : Meaning) where
 
 -- a pass that stored a slot's new value, and never loaded it, knows no value for a committed attempt but the last one
 abbrev pub EarlierValueRefused : Type 0
-EarlierValueRefused = (shape : Shape) (p : PassView) (word from serial value last : ℕ)
-    → let spot = spot_of (value_of from) in let slot = address shape (slot_new spot.desc spot.slot) in
-    p.past ≡ [] → LastStored p (attempt_of spot.desc serial) slot last → All (λ s. (held : ℕ) → ¬ Loads slot held s) p.trail
-    → (k : KnowsValue shape p word from serial value) → status_of k.status ≡ Committed → value ≡ last
+EarlierValueRefused = (m : Machine) (p : PassView) (word from value last : ℕ)
+    → let spot = spot_of (value_of from) in let slot = address (shape_of m) (slot_new spot.desc spot.slot) in
+    p.past ≡ [] → All (λ s. (held : ℕ) → ¬ Loads slot held s) p.trail
+    → (k : MayUninstall m p word from value) → status_of k.status ≡ Committed → LastStored p (attempt_of spot.desc (serial_of k.status)) slot last → value ≡ last

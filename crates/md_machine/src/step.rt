@@ -30,3 +30,6 @@ pub struct Step {
 
 /// The highest count from which a word is changed by an install or a plain exchange.
 pub const LAST_COUNT: u32 = 4_294_967_290;
+
+/// Values of counted words are below it, and so are the new values of slots.
+pub const VALUES: u64 = 4_294_967_296;

@@ -26,10 +26,7 @@ use Rattle.md_machine.specs.Machine.{Machine, content, shape_of, status_at, word
 use Rattle.md_machine.specs.Trail.{segments}
 use Rattle.md_machine.specs.clauses.Hands.{HandsFit}
 use Rattle.md_machine.specs.clauses.OddWords.{OddStand}
-
--- the descriptor that a content with an odd count names
-abbrev pub desc_in : ℕ → ℕ
-desc_in held = (spot_of (value_of held)).desc
+use Rattle.md_machine.specs.events.Uninstall.{desc_in}
 
 -- a step met a content that stands in its word with an odd count
 pub record MetStanding (shape : Shape) (words : List ℕ) (s : Step) : Type 0 where

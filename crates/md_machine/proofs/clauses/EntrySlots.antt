@@ -18,20 +18,12 @@ use Rattle.md_machine.proofs.events.Attempts.{attempt_same, ready_in, same_from,
 use Rattle.md_machine.proofs.events.MoveFacts.{Enters, MoveFacts, new_entry}
 use Rattle.md_machine.proofs.events.Moves.{own_exists}
 use Rattle.md_machine.proofs.events.WordChanges.{Stores, at_left, at_place, statuses_go_on}
-use Rattle.md_machine.proofs.lists.Rising.{filter_in, here, in_cons, in_filter, in_none, there}
+use Rattle.md_machine.proofs.lists.Rising.{filter_in, in_filter, in_map, map_in, there}
 use Rattle.md_machine.specs.Installs.{IsPresent}
 use Rattle.md_machine.specs.Machine.{Install, Machine, attempt_of, same_attempt, shape_of, status_at, word_at}
 use Rattle.md_machine.specs.clauses.EntrySlots.{EntriesKeepSlots, SlotsAreInstalls}
 use Rattle.md_machine.specs.clauses.Hands.{HandsFit}
 use Rattle.md_machine.specs.events.Ready.{history_entry, installs_by, write_now, writes_now}
-
-in_map : {A B : Type 0} (f : A → B) (xs : List A) (y : B) → Contains (map f xs) y → (x : A) × Contains xs x × (f x ≡ y)
-in_map f [] y c = absurd (in_none y c)
-in_map f (x ∷ xs) y c = ⊎_elim (λ e. (x, here x xs, e)) (λ i. let r = in_map f xs y i in (r.0, there x xs r.0 r.1, r.2)) (in_cons (f x) (map f xs) y c)
-
-map_in : {A B : Type 0} (f : A → B) (xs : List A) (x : A) → Contains xs x → Contains (map f xs) (f x)
-map_in f [] x c = absurd (in_none x c)
-map_in f (y ∷ ys) x c = ⊎_elim (λ e. subst (λ z. Contains (map f (y ∷ ys)) (f z)) e (here (f y) (map f ys))) (λ i. there (f y) (map f ys) (f x) (map_in f ys x i)) (in_cons y ys x c)
 
 -- an entry that has the slots of its attempt
 has_now : (m : Machine) (e : HistoryEntry) → e.writes ≡ writes_now m e.attempt → SlotsAreInstalls m e
@@ -65,7 +57,7 @@ module _ (m n : Machine) (v : MoveFacts m n) (field : IsField (shape_of m) m.wor
       let place = slot_new i.attempt.desc i.slot in
       let s = (k.fits i c).slot (was_present m n v field hands k i (k.fits i c) now) in
       at_left (Unit {0}) m field v.word v.new (address (shape_of m) place) (λ x. x ≡ word_at (shape_of m) m.words place) v.left
-      (λ ch q. absurd (untouched s.exists (at_place (Unit {0}) m field v.word v.new place s.exists ch q) q)) refl
+      (λ ch q. absurd (untouched s.exists (at_place (Unit {0}) m field v.word v.new place s.exists ch q).1 q)) refl
 
   write_stays : (i : Install) → Contains m.installs i → IsPresent (shape_of m) later i → Untouched i → write_now n i ≡ write_now m i
   write_stays i c now untouched =

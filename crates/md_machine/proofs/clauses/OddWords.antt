@@ -1,5 +1,5 @@
 -- An odd word holds a slot that the present attempt of its descriptor installed there.
-use Rattle.std.proofs.Common.{◌≡◌, ℕ, ◌+◌, ◌<◌, ◌≤◌, true, false, not, List, [], ◌∷◌, ◌++◌, set, get_or, sym, ap, ◌∙◌, subst, ⊎_elim, Some, append-nil, eq-eqb, get_or-set_same, get_or-set_other, arith}
+use Rattle.std.proofs.Common.{append_assoc, ◌≡◌, ℕ, ◌+◌, ◌<◌, ◌≤◌, true, false, not, List, [], ◌∷◌, ◌++◌, set, get_or, sym, ap, ◌∙◌, subst, ⊎_elim, Some, append-nil, eq-eqb, get_or-set_same, get_or-set_other, arith}
 use Rattle.std.specs.List.{Contains}
 use Rattle.std.proofs.lemmas.Bool.{cases_eq, and_from, true≢false}
 use Rattle.std.proofs.lemmas.List.Elements.{All-contains, Contains-append_cases, Contains-append_left, Contains-append_right, Contains-push}
@@ -21,7 +21,7 @@ use Rattle.md_machine.proofs.events.InstallSteps.{InstallStep}
 use Rattle.md_machine.proofs.events.MoveFacts.{MoveFacts}
 use Rattle.md_machine.proofs.events.Steps.{HasStep}
 use Rattle.md_machine.proofs.events.WordChanges.{Restarts, serial_stays}
-use Rattle.md_machine.proofs.lists.Rising.{in_cons, in_none, there}
+use Rattle.md_machine.proofs.lists.Rising.{here, in_cons, in_none, map_in, there}
 use Rattle.md_machine.specs.Installs.{IsPresent, spot_of_install}
 use Rattle.md_machine.specs.Machine.{Install, Machine, attempt_of, content, present, shape_of, status_at, word_at}
 use Rattle.md_machine.specs.Trail.{holds_desc}
@@ -29,7 +29,7 @@ use Rattle.md_machine.specs.clauses.Hands.{HandsFit}
 use Rattle.md_machine.specs.clauses.OddWords.{OddStand, StandsIn}
 use Rattle.md_machine.specs.events.Install.{installed_word}
 use Rattle.md_machine.specs.events.Mark.{without}
-use Rattle.md_machine.specs.events.Start.{IsCleanIn, LeavesWithout, WonInstall}
+use Rattle.md_machine.specs.events.Start.{IsCleanIn, LeavesWithout, WonInstall, timelines}
 
 -- an installed word names its descriptor, and holds it
 pub installed_names : (i : Install) → count_of i.old ≤ LAST_COUNT → i.slot < SET → (spot_of (value_of (installed_word i.old (spot_of_install i)))).desc ≡ i.attempt.desc
@@ -68,19 +68,20 @@ module _ (m : Machine) (stamp : Stamp) (stamps : StampsKept m stamp) (k : Instal
       let small = ((k.fits i c).slot now).exists.1 in
       let mine : i.attempt ≡ present m i.attempt.desc = ap (attempt_of i.attempt.desc) now in
       let won : (s : Step) → InstallStep i s → WonInstall (present m i.attempt.desc) s = λ s st. record { kind = st.kind; attempt = st.attempt ∙ ap Some mine; won = st.won } in
+      let clean : (g : List Step) → Contains ([] ∷ r.p.past) g → IsCleanIn (present m i.attempt.desc) (g ++ r.p.trail) = λ g in_past.
+      All-contains (IsCleanIn (present m i.attempt.desc)) (timelines r.p) (g ++ r.p.trail) r.clean (map_in (λ l. l ++ r.p.trail) ([] ∷ r.p.past) g in_past) in
       ⊎_elim
       (λ x.
       let s = x.0 in let cut = splits r.p.trail s x.1 in
-      let t = r.clean.last cut.0 s cut.1 cut.2 (won s x.2) in
-      let later : Contains cut.1 t.0 = subst (λ l. Contains l t.0) (append-nil cut.1) t.1 in
+      let t = clean [] (here [] r.p.past) cut.0 s cut.1 cut.2 (won s x.2) in
       let segment = Contains-push r.p.past r.p.trail in
-      let inside : Contains r.p.trail t.0 = subst (λ l. Contains l t.0) (sym cut.2) (Contains-append_right cut.0 (s ∷ cut.1) t.0 (there s cut.1 t.0 later)) in
+      let inside : Contains r.p.trail t.0 = subst (λ l. Contains l t.0) (sym cut.2) (Contains-append_right cut.0 (s ∷ cut.1) t.0 (there s cut.1 t.0 t.1)) in
       not_left w i s t.0 counted lies is odd small x.2
-      (order_of (shape_of m) cut.0 s cut.1 t.0 (subst (InOrder (shape_of m)) cut.2 (order r.pass r.p r.at r.p.trail segment)) later)
+      (order_of (shape_of m) cut.0 s cut.1 t.0 (subst (InOrder (shape_of m)) cut.2 (order r.pass r.p r.at r.p.trail segment)) t.1)
       (r.pass, r.p, r.at, (r.p.trail, segment, inside)) t.2)
       (λ x.
       let segment = x.0 in let s = x.2 in let cut = splits segment s x.3 in
-      let t = All-contains (λ g. IsCleanIn (present m i.attempt.desc) g r.p.trail) r.p.past segment r.clean.past x.1 cut.0 s cut.1 cut.2 (won s x.4) in
+      let t = clean segment (there [] r.p.past segment x.1) cut.0 s (cut.1 ++ r.p.trail) (ap (λ l. l ++ r.p.trail) cut.2 ∙ append_assoc cut.0 (s ∷ cut.1) r.p.trail) (won s x.4) in
       let within = Contains-append_left r.p.past (r.p.trail ∷ []) segment x.1 in
       ⊎_elim
       (λ later. not_left w i s t.0 counted lies is odd small x.4

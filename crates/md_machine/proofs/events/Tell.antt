@@ -78,7 +78,7 @@ own_word m p a old value d (read_word _ _) e may = sym may.0 ∙ e
 own_word m p a old value d (read_content _ _) e may = sym may ∙ e
 own_word m p a old value d (slot_word _ _) e may = sym may.0 ∙ e
 own_word m p a old value d (slot_old _ _) e may = sym may.0 ∙ e
-own_word m p a old value d (slot_new _ _) e may = sym may ∙ e
+own_word m p a old value d (slot_new _ _) e may = sym may.0 ∙ e
 
 -- a lane of both is a lane of one
 joined_of : (shape : Shape) (p q : PassView) (lane : ℕ) → Contains (joined_lanes shape p.lanes q.lanes) lane → Contains p.lanes lane ⊎ Contains q.lanes lane

@@ -11,7 +11,7 @@ use Rattle.md_words.specs.Layout.{words_of, desc_count, Exists, address}
 use Rattle.md_words.specs.LayoutLaws.{IsField}
 use Rattle.md_words.specs.PlaceAt.{place_at, IsCounted}
 use Rattle.md_words.proofs.Places.{place_at-address, address-base_word}
-use Rattle.md_machine.specs.declared.step.TheConstants.{LAST_COUNT}
+use Rattle.md_machine.specs.declared.step.TheConstants.{LAST_COUNT, VALUES}
 use Rattle.md_machine.specs.declared.attempt.Hand.{Hand}
 use Rattle.md_machine.specs.declared.pass.PassView.{PassView}
 use Rattle.md_machine.proofs.lists.At.{at_changed}
@@ -71,7 +71,7 @@ ChangesAt D m old new (read_word desc i) = IsCounted (shape_of m) new × Stores 
 ChangesAt D m old new (read_content desc i) = Stores m desc
 ChangesAt D m old new (slot_word desc j) = IsCounted (shape_of m) new × StoresSlot m desc j
 ChangesAt D m old new (slot_old desc j) = StoresSlot m desc j
-ChangesAt D m old new (slot_new desc j) = Stores m desc
+ChangesAt D m old new (slot_new desc j) = (new < VALUES) × Stores m desc
 
 pub record Changes (D : Type 0) (m : Machine) (word new : ℕ) : Type 0 where
   pub exists : word < words_of (shape_of m)
@@ -147,6 +147,7 @@ module _ (D : Type 0) (m : Machine) (field : IsField (shape_of m) m.words) (word
     room = λ w counted. at_left w (λ x. is_even (count_of x) ≡ false → count_of x ≤ LAST_COUNT + 1) left (λ c e. (at_counted w counted c e).room) (f.room w counted);
     status = λ desc exists. at_left _ (StatusFits (shape_of m)) left (λ c e. (at_place (desc_status desc) exists c e).fits) (f.status desc exists);
     reads = λ desc i exists. at_left _ (NamesWord (shape_of m)) left (λ c e. inr (at_place (read_word desc i) exists c e).0) (f.reads desc i exists);
+    values = λ desc j exists. at_left _ (λ x. x < VALUES) left (λ c e. (at_place (slot_new desc j) exists c e).0) (f.values desc j exists);
     slots = λ desc j exists. at_left _ (NamesWord (shape_of m)) left (λ c e. inr (at_place (slot_word desc j) exists c e).0) (f.slots desc j exists);
   }
 

@@ -1,5 +1,5 @@
 -- Lists of numbers that rise, and their elements.
-use Rattle.std.proofs.Common.{◌≡◌, ℕ, zero, suc, ◌+◌, ◌<◌, ◌≤◌, ◌⊎◌, Bool, true, eqb, List, [], ◌∷◌, take, drop, refl, sym, ap, ◌∙◌, subst, inl, inr, ⊎_elim, eq-eqb, arith}
+use Rattle.std.proofs.Common.{◌≡◌, ℕ, zero, suc, ◌+◌, ◌<◌, ◌≤◌, ◌⊎◌, Bool, true, eqb, List, [], ◌∷◌, map, take, drop, refl, sym, ap, ◌∙◌, subst, inl, inr, ⊎_elim, eq-eqb, arith}
 use Rattle.std.specs.List.{Contains, filter, range_with_len}
 use Rattle.std.proofs.lemmas.Bool.{cond_both, cond-true, or_cases, or_left, or_right, eqb-true, false≢true, cases_order}
 use Rattle.std.proofs.lemmas.List.{take-append-drop}
@@ -49,6 +49,15 @@ module _ {A : Type 0} where
       (λ e. subst (λ l. Contains l y) (sym (cond-true (test x) (x ∷ filter test xs) (filter test xs) (ap test e ∙ passes))) (cons_in x (filter test xs) y (inl e)))
       (λ i. cond_both (test x) (x ∷ filter test xs) (filter test xs) (λ l. Contains l y) (λ _. there x (filter test xs) y (filter_in test xs y i passes)) (λ _. filter_in test xs y i passes))
       (in_cons x xs y c)
+
+-- an element of a mapped list comes from one of the list, and the other way round
+pub in_map : {A B : Type 0} (f : A → B) (xs : List A) (y : B) → Contains (map f xs) y → (x : A) × Contains xs x × (f x ≡ y)
+in_map f [] y c = absurd (in_none y c)
+in_map f (x ∷ xs) y c = ⊎_elim (λ e. (x, here x xs, e)) (λ i. let r = in_map f xs y i in (r.0, there x xs r.0 r.1, r.2)) (in_cons (f x) (map f xs) y c)
+
+pub map_in : {A B : Type 0} (f : A → B) (xs : List A) (x : A) → Contains xs x → Contains (map f xs) (f x)
+map_in f [] x c = absurd (in_none x c)
+map_in f (y ∷ ys) x c = ⊎_elim (λ e. subst (λ z. Contains (map f (y ∷ ys)) (f z)) e (here (f y) (map f ys))) (λ i. there (f y) (map f ys) (f x) (map_in f ys x i)) (in_cons y ys x c)
 
 pub rise_low : (low : ℕ) (xs : List ℕ) (y : ℕ) → RiseFrom low xs → Contains xs y → low ≤ y
 rise_low low [] y r c = absurd (in_none y c)

@@ -1,5 +1,5 @@
 -- The event start: a descriptor whose attempt is decided begins another one.
-use Rattle.std.specs.Prelude.{◌≡◌, ◌≢◌, ◌+◌, ◌<◌, ◌++◌, ◌&&◌, ◌||◌, ℕ, Bool, true, false, List, [], ◌∷◌, All, Some, None}
+use Rattle.std.specs.Prelude.{◌≡◌, ◌≢◌, ◌+◌, ◌<◌, ◌++◌, ◌&&◌, ◌||◌, ℕ, Bool, true, false, List, [], ◌∷◌, map, All, Some, None}
 use Rattle.md_words.specs.declared.status.Status.TheVariants.{InPrep}
 use Rattle.md_words.specs.Status.{status_word, status_of, serial_of}
 use Rattle.md_words.specs.Place.{desc_status}
@@ -15,6 +15,7 @@ use Rattle.md_machine.specs.Machine.{Machine, attempt_of, is_ready, present, sam
 use Rattle.md_machine.specs.Own.{HasDesc}
 use Rattle.md_machine.specs.Stepping.{replaced, stepped}
 use Rattle.md_machine.specs.Trail.{Meets, SomeStep, SomeStepOf, holds_desc, is_store}
+use Rattle.md_machine.specs.events.Mark.{without}
 use Rattle.md_machine.specs.events.Uninstall.{IsDecided}
 
 -- the fate of an attempt's entry is known to be decided
@@ -39,15 +40,17 @@ pub record LeavesWithout (word desc : ℕ) (s : Step) : Type 0 where
   pub no_store : is_store s.kind ≡ false
   pub without : holds_desc desc s.after ≡ false
 
--- each install of the attempt in a segment is followed by such a step, there or in further steps
-abbrev pub IsCleanIn : AttemptId → (segment further : List Step) → Type 0
-IsCleanIn a segment further = (earlier : List Step) (s : Step) (later : List Step) → segment ≡ earlier ++ s ∷ later → WonInstall a s
-    → SomeStep (LeavesWithout s.word a.desc) (later ++ further)
+-- each install that the attempt won is followed by a step that left its word without the descriptor
+abbrev pub IsCleanIn : AttemptId → List Step → Type 0
+IsCleanIn a steps = (earlier : List Step) (s : Step) (later : List Step) → steps ≡ earlier ++ s ∷ later → WonInstall a s → SomeStep (LeavesWithout s.word a.desc) later
 
--- in no word that the attempt wrote may its descriptor still stand. The last segment counts as after the earlier ones
-pub record IsClean (p : PassView) (a : AttemptId) : Type 0 where
-  pub past : All (λ segment. IsCleanIn a segment p.trail) p.past
-  pub last : IsCleanIn a p.trail []
+-- the last segment, alone and after each earlier one
+abbrev pub timelines : PassView → List (List Step)
+timelines p = map (λ segment. segment ++ p.trail) ([] ∷ p.past)
+
+-- in no word that the attempt wrote may its descriptor still stand
+abbrev pub IsClean : PassView → AttemptId → Type 0
+IsClean p a = All (IsCleanIn a) (timelines p)
 
 pub record MayStart (m : Machine) (p : PassView) (desc from : ℕ) : Type 0 where
   pub idle : p.hand ≡ None

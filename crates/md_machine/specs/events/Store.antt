@@ -8,6 +8,7 @@ use Rattle.md_words.specs.PlaceAt.{place_at, IsCounted}
 use Rattle.md_machine.specs.declared.attempt.AttemptId.{AttemptId}
 use Rattle.md_machine.specs.declared.attempt.Hand.{Hand}
 use Rattle.md_machine.specs.declared.certificate.Change.{Change}
+use Rattle.md_machine.specs.declared.step.TheConstants.{VALUES}
 use Rattle.md_machine.specs.declared.step.Kind.TheVariants.{Store}
 use Rattle.md_machine.specs.declared.pass.PassView.{PassView}
 use Rattle.md_machine.specs.Machine.{Machine, content, is_installed, is_ready, shape_of, word_at}
@@ -29,7 +30,7 @@ MayStoreAt m p a old value (read_word desc i) = (desc ≡ a.desc) × IsCounted (
 MayStoreAt m p a old value (read_content desc i) = desc ≡ a.desc
 MayStoreAt m p a old value (slot_word desc j) = (desc ≡ a.desc) × IsCounted (shape_of m) value × (is_installed m.installs a j ≡ false)
 MayStoreAt m p a old value (slot_old desc j) = (desc ≡ a.desc) × (is_installed m.installs a j ≡ false)
-MayStoreAt m p a old value (slot_new desc j) = desc ≡ a.desc
+MayStoreAt m p a old value (slot_new desc j) = (desc ≡ a.desc) × (value < VALUES)
 MayStoreAt m p a old value _ = ⊥
 
 pub record MayStore (m : Machine) (p : PassView) (h : Hand) (word value : ℕ) : Type 0 where

@@ -1,5 +1,5 @@
 -- The event uninstall: a descriptor is taken out of a word.
-use Rattle.std.specs.Prelude.{◌≡◌, ◌+◌, ℕ, false, ◌⊎◌}
+use Rattle.std.specs.Prelude.{◌≡◌, ◌+◌, ◌++◌, ℕ, false, List, ◌∷◌, Contains, ◌⊎◌}
 use Rattle.md_words.specs.declared.shape.Shape.{Shape}
 use Rattle.md_words.specs.declared.content.Spot.{Spot}
 use Rattle.md_words.specs.declared.status.Status.{Status}
@@ -15,22 +15,7 @@ use Rattle.md_machine.specs.declared.pass.PassView.{PassView}
 use Rattle.md_machine.specs.Machine.{Machine, attempt_of, present, shape_of}
 use Rattle.md_machine.specs.Own.{HasDesc}
 use Rattle.md_machine.specs.Stepping.{exchanged, left_by, replaced}
-use Rattle.md_machine.specs.Trail.{Finds, LastStored, Loads, Meets, SomeStep, SomeStepOf, StepOf}
-
--- a step found a status of the descriptor with this serial
-abbrev pub FindsSerial : Shape → (desc serial : ℕ) → Step → Type 0
-FindsSerial shape desc serial s = (held : ℕ) × Finds (address shape (desc_status desc)) held s × (serial_of held ≡ serial)
-
--- the pass found the content in the word before and after a step that found a status with this serial
-pub record IsBracketed (shape : Shape) (p : PassView) (word from desc serial : ℕ) : Type 0 where
-  pub status : StepOf p (FindsSerial shape desc serial)
-  pub before : SomeStep (Finds word from) status.earlier
-  pub after : SomeStep (Finds word from) status.later
-
--- the serial of the attempt that stands in the word: the present one of an own descriptor, or the bracketed one
-abbrev pub KnowsSerial : Machine → PassView → (word from desc serial : ℕ) → Type 0
-KnowsSerial m p word from desc serial =
-    (HasDesc (shape_of m) p desc × (serial ≡ (present m desc).serial)) ⊎ IsBracketed (shape_of m) p word from desc serial
+use Rattle.md_machine.specs.Trail.{Finds, LastStored, Loads, Meets, SomeStep, SomeStepOf, StepOf, segments}
 
 -- the word of a slot that a fate takes the value from, and that value: the new one after Committed, and that of the old
 -- content after Aborted
@@ -45,32 +30,61 @@ value_by_fate _ held = value_of held
 abbrev pub IsDecided : Status → Type 0
 IsDecided status = (status ≡ Committed) ⊎ (status ≡ Aborted)
 
--- the pass loaded this in the slot after a step that found or left the decided status, and after one that found or left
--- the content in the word
-pub record LoadsSlot (shape : Shape) (p : PassView) (word from status slot held : ℕ) (desc : ℕ) : Type 0 where
-  pub load : StepOf p (Loads slot held)
-  pub decided : SomeStep (Meets (address shape (desc_status desc)) status) load.earlier
+-- the descriptor that stands in a word with this content, its status word, and the slot word that the status takes the
+-- value from
+abbrev pub desc_in : ℕ → ℕ
+desc_in from = (spot_of (value_of from)).desc
+
+abbrev pub status_of_desc : Shape → (from : ℕ) → ℕ
+status_of_desc shape from = address shape (desc_status (desc_in from))
+
+abbrev pub slot_of_desc : Shape → (from status : ℕ) → ℕ
+slot_of_desc shape from status = address shape (slot_by_fate (status_of status) (spot_of (value_of from)))
+
+-- a step found a status of the descriptor with this serial
+abbrev pub FindsSerial : (word serial : ℕ) → Step → Type 0
+FindsSerial word serial s = (held : ℕ) × Finds word held s × (serial_of held ≡ serial)
+
+-- what a helper saw, in this order: the content in the word; a status with the serial; the content again; what the slot
+-- holds. Before it loaded the slot, and after it saw the content first, it found or left the decided status
+pub record HelperSaw (shape : Shape) (p : PassView) (word from status held : ℕ) : Type 0 where
+  pub earlier : List Step
+  pub found : Step
+  pub first : List Step
+  pub again : Step
+  pub second : List Step
+  pub loaded : Step
+  pub later : List Step
+  pub segment : Contains (segments p) (earlier ++ found ∷ (first ++ again ∷ (second ++ loaded ∷ later)))
+  pub finds : Finds word from found
+  pub asks : SomeStep (FindsSerial (status_of_desc shape from) (serial_of status)) first
+  pub finds_again : Finds word from again
+  pub decided : SomeStep (Meets (status_of_desc shape from) status) (first ++ again ∷ second)
+  pub loads : Loads (slot_of_desc shape from status) held loaded
+
+-- the owner loaded the slot after it found or left the decided status, and after it found or left the content
+pub record OwnerLoads (shape : Shape) (p : PassView) (word from status held : ℕ) : Type 0 where
+  pub load : StepOf p (Loads (slot_of_desc shape from status) held)
+  pub decided : SomeStep (Meets (status_of_desc shape from) status) load.earlier
   pub stood : SomeStep (Meets word from) load.earlier
 
--- a step of the pass found or left the serial decided, and the value is by that fate what the pass stored in the slot
--- last for the attempt, or what it loaded there since
-pub record KnowsValue (shape : Shape) (p : PassView) (word from serial value : ℕ) : Type 0 where
-  pub status : ℕ
-  pub present : serial_of status ≡ serial
-  pub decided : IsDecided (status_of status)
-  pub met : SomeStepOf p (Meets (address shape (desc_status (spot_of (value_of from)).desc)) status)
-  pub held : ℕ
-  pub known :
-      LastStored p (attempt_of (spot_of (value_of from)).desc serial) (address shape (slot_by_fate (status_of status) (spot_of (value_of from)))) held
-      ⊎ LoadsSlot shape p word from status (address shape (slot_by_fate (status_of status) (spot_of (value_of from)))) held (spot_of (value_of from)).desc
-  pub is : value_by_fate (status_of status) held ≡ value
+-- what the owner knows: the status is that of its present attempt, and the slot has what it stored there last for the
+-- attempt, or what it loaded there
+pub record OwnerKnows (m : Machine) (p : PassView) (word from status held : ℕ) : Type 0 where
+  pub own : HasDesc (shape_of m) p (desc_in from)
+  pub present : serial_of status ≡ (present m (desc_in from)).serial
+  pub met : SomeStepOf p (Meets (status_of_desc (shape_of m) from) status)
+  pub slot : LastStored p (attempt_of (desc_in from) (serial_of status)) (slot_of_desc (shape_of m) from status) held ⊎ OwnerLoads (shape_of m) p word from status held
 
+-- uninstall: the attempt that stands there is known to be decided, and the value is the one that its fate gives
 pub record MayUninstall (m : Machine) (p : PassView) (word from value : ℕ) : Type 0 where
   pub counted : IsCounted (shape_of m) word
   pub odd : is_even (count_of from) ≡ false
-  pub serial : ℕ
-  pub knows_serial : KnowsSerial m p word from (spot_of (value_of from)).desc serial
-  pub knows_value : KnowsValue (shape_of m) p word from serial value
+  pub status : ℕ
+  pub decided : IsDecided (status_of status)
+  pub held : ℕ
+  pub knows : OwnerKnows m p word from status held ⊎ HelperSaw (shape_of m) p word from status held
+  pub is : value_by_fate (status_of status) held ≡ value
 
 -- what it leaves in the word
 abbrev pub uninstalled_word : (from value : ℕ) → ℕ
