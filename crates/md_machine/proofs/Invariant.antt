@@ -18,11 +18,13 @@ use Rattle.md_machine.proofs.clauses.EntriesFit.{EntriesFit, EntryFits, ReadsCou
 use Rattle.md_machine.proofs.clauses.EntrySlots.{entry_slots-kept}
 use Rattle.md_machine.proofs.clauses.Flags.{Noting, flags-kept}
 use Rattle.md_machine.proofs.clauses.Fronts.{fronts-kept}
+use Rattle.md_machine.proofs.clauses.FrontsFit.{fated}
 use Rattle.md_machine.proofs.clauses.Hands.{hands-kept}
 use Rattle.md_machine.proofs.clauses.InHand.{HandsAlone, StepsBegun, in_hand-kept}
 use Rattle.md_machine.proofs.clauses.Installs.{InstallsKept, installs-kept, step_rises}
 use Rattle.md_machine.proofs.clauses.KnownPast.{known_past-kept}
 use Rattle.md_machine.proofs.clauses.Lanes.{lanes-kept}
+use Rattle.md_machine.proofs.clauses.NodeWords.{node_words-kept}
 use Rattle.md_machine.proofs.clauses.OddWords.{odd_words-kept}
 use Rattle.md_machine.proofs.clauses.Order.{TrailsInOrder, order-kept}
 use Rattle.md_machine.proofs.clauses.Past.{PastDecided, fates_told, past-kept}
@@ -49,6 +51,7 @@ use Rattle.md_machine.specs.clauses.Formats.{AreFormats}
 use Rattle.md_machine.specs.clauses.Fronts.{FrontsFit}
 use Rattle.md_machine.specs.clauses.Hands.{HandsFit}
 use Rattle.md_machine.specs.clauses.Lanes.{LanesApart}
+use Rattle.md_machine.specs.clauses.NodeWords.{DataStands, NodeWordsStand}
 use Rattle.md_machine.specs.clauses.OddWords.{OddStand}
 use Rattle.md_machine.specs.clauses.Placed.{PlacedStay}
 use Rattle.md_machine.specs.clauses.Stamps.{NotedByRead}
@@ -72,6 +75,7 @@ pub record Invariant (m : Machine) : Type 0 where
   pub brackets : TrailsBracket (shape_of m) m.words m.passes
   pub undecided : UndecidedStand (shape_of m) m.words m.installs
   pub flags : FlaggedAreNoted m
+  pub node_words : NodeWordsStand m
   pub won_installs : WonAreInstalls m
   pub entry_slots : EntriesKeepSlots m
   pub in_hand : HandsAlone m.begun m.passes
@@ -122,6 +126,7 @@ kept_by m k = record {
   fronts = k.fronts;
   placed = k.placed;
   flags = k.flags;
+  node_words = k.node_words;
   won_installs = k.won_installs;
   entry_slots = k.entry_slots;
   in_hand = k.in_hand.alone;
@@ -131,7 +136,7 @@ kept_by m k = record {
 module _ (M : Meaning) where
   does_keep : (m n : Machine) (e : Event) → Invariant m → Does M m e n → Invariant n × GoesOn m n
   does_keep m n e k does =
-      let v = tell M m n k.formats k.lanes k.hands (does_move M m n e does) in
+      let v = tell M m n k.formats k.lanes k.hands (does_move M m n e k.formats.base does) in
       let entries = entries-kept m n (record { formats = k.formats; hands = k.hands; fit = k.entries; counted = k.read_counts }) v in
       let Shaped : (Shape → List ℕ → Type 0) → Type 0 = λ P. P (shape_of m) (set m.words v.word v.new) → P (shape_of n) n.words in
       let move : (P : Shape → List ℕ → Type 0) → Shaped P = λ P h. subst (λ (o : Opening). P o.shape n.words) (sym v.opening) (subst (P (shape_of m)) (sym v.words) h) in
@@ -156,6 +161,7 @@ module _ (M : Meaning) where
           brackets = move (λ shape words. TrailsBracket shape words n.passes) (brackets-kept m k.stamp k.stamps k.installs k.order n v k.formats.field k.hands k.odd_words k.brackets);
           undecided = move (λ shape words. UndecidedStand shape words n.installs) (undecided-kept m k.statuses k.brackets k.stamp k.stamps k.installs n v k.formats.field k.hands k.undecided);
           flags = reshape (λ shape. Noting shape n.passes) (flags-kept m n v k.flags);
+          node_words = λ pass p at. reshape (λ shape. DataStands shape n.words p) (node_words-kept m n v (fated (shape_of m) m.words m.history m.fates k.entries) k.placed k.flags k.node_words pass p at);
           won_installs = won_installs-kept m n v k.won_installs;
           in_hand = in_hand-kept m n v k.lanes k.hands k.in_hand k.steps_begun;
           steps_begun = steps_begun-kept m n v k.formats.field k.hands k.in_hand k.steps_begun;

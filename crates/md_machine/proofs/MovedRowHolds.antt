@@ -30,8 +30,8 @@ use Rattle.md_machine.specs.Schedules.{MovedRow, inserts_18, inserts_change, ins
 use Rattle.md_machine.specs.Stepping.{replaced}
 use Rattle.md_machine.specs.Trail.{SomeStepOf}
 use Rattle.md_machine.specs.Walk.{after_event, hand_at, view_at}
-use Rattle.md_machine.specs.events.Mark.{moved}
 use Rattle.md_machine.specs.events.Ready.{InstallsFor, IsStoredRead, MayRecord, read_now, reads_now, write_now, writes_now}
+use Rattle.md_machine.specs.events.SplitJoin.{moved}
 
 abbrev r0 : Machine
 r0 = opened small_opening

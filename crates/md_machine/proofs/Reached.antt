@@ -105,6 +105,7 @@ module _ (M : Meaning) where
     brackets = λ pass p at segment c. subst (IsBracket o.shape o.words) (first_segment o.shape p segment (at_one (first_pass o.shape) p pass at).1 c) tt;
     undecided = λ i c. absurd (in_none i c);
     flags = λ pass p at segment c s i. absurd (no_steps o.shape s (pass, p, at, (segment, c, i)));
+    node_words = λ pass p at segment c s i. absurd (no_steps o.shape s (pass, p, at, (segment, c, i)));
     entry_slots = λ e c. absurd (in_none e c);
     in_hand = record { alone = λ pass p h at held. absurd (nothing_held o.shape pass p h at held); begins = λ pass p h at held. absurd (nothing_held o.shape pass p h at held) };
     steps_begun = λ t has. absurd (no_steps o.shape t has);

@@ -26,7 +26,7 @@ module _ (M : Meaning) where
   pub published_node : PublishedNodeRefused M
   published_node m n pass word value node is (p, h, acts, may, later) =
       let at : (q : Place) → place_at (shape_of m) word ≡ q → MayStoreAt m p h.attempt (content m word) value q = λ q e. subst (MayStoreAt m p h.attempt (content m word) value) e may.place in
-      ⊎_elim (λ e. (at (node_key node) e).1) (λ o. ⊎_elim (λ e. (at (node_value node) e).1) (λ e. (at (node_next node) e).0.1) o) is
+      ⊎_elim (λ d. ⊎_elim (λ e. (at (node_key node) e).1) (λ e. (at (node_value node) e).1) d) (λ e. (at (node_next node) e).0.1) is
 
   pub other_slot : OtherSlotRefused M
   other_slot o events m n pass word from to can runs (p, h, acts, may, later) =

@@ -22,3 +22,4 @@ pub mod Past
 pub mod KnownPast
 pub mod Placed
 pub mod Flags
+pub mod NodeWords

@@ -13,7 +13,7 @@ use Rattle.md_machine.specs.declared.pass.PassView.{PassView}
 use Rattle.md_machine.specs.Event.{CanOpen, Does, Event, Runs, install, opened, store}
 use Rattle.md_machine.specs.Machine.{IsAt, Machine, attempt_of, present, shape_of}
 use Rattle.md_machine.specs.Meaning.{Meaning}
-use Rattle.md_machine.specs.Own.{HasDesc}
+use Rattle.md_machine.specs.Own.{HasDesc, IsWordOf}
 use Rattle.md_machine.specs.Resolution.{Resolves, always_placed, never_placed, placed_under}
 use Rattle.md_machine.specs.Stepping.{attempt_in_hand}
 use Rattle.md_machine.specs.Trail.{LastStored, Loads}
@@ -29,14 +29,10 @@ abbrev pub NeverMeansNone : Type 0
 NeverMeansNone = (m : Machine) (node : ℕ) → length m.fates ≡ length m.history
     → (never_placed m node ≡ true) ↔ ((choice : List Bool) → Resolves m choice → is_none (placed_under m choice node) ≡ true)
 
--- the word is one of the node's three
-abbrev pub IsWordOf : Shape → (word node : ℕ) → Type 0
-IsWordOf shape word node = (place_at shape word ≡ node_key node) ⊎ ((place_at shape word ≡ node_value node) ⊎ (place_at shape word ≡ node_next node))
-
 module _ (M : Meaning) where
   -- no store changes a word of a node that some resolution places
   abbrev pub PublishedNodeRefused : Type 0
-  PublishedNodeRefused = (m n : Machine) (pass word value node : ℕ) → IsWordOf (shape_of m) word node → Does M m (store pass word value) n → never_placed m node ≡ true
+  PublishedNodeRefused = (m n : Machine) (pass word value node : ℕ) → IsWordOf node (place_at (shape_of m) word) → Does M m (store pass word value) n → never_placed m node ≡ true
 
   -- an install is at a slot of the present attempt of a descriptor of the pass's lanes
   abbrev pub OtherSlotRefused : Type 0

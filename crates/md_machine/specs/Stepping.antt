@@ -5,7 +5,7 @@ use Rattle.md_words.specs.declared.shape.Shape.{Shape}
 use Rattle.md_words.specs.declared.status.Status.{Status}
 use Rattle.md_words.specs.declared.status.Status.TheVariants.{Committed as IsCommitted, Aborted as IsAborted}
 use Rattle.md_words.specs.Status.{status_of, serial_of}
-use Rattle.md_words.specs.Place.{Place, desc_status, node_next}
+use Rattle.md_words.specs.Place.{Place, desc_status, node_key, node_value, node_next}
 use Rattle.md_words.specs.PlaceAt.{place_at}
 use Rattle.md_history.specs.declared.entries.Fate.{Fate}
 use Rattle.md_history.specs.declared.entries.Fate.TheVariants.{Committed, Aborted}
@@ -46,10 +46,12 @@ known_after shape seen s known = if is_store s.kind then known else known_at see
 abbrev pub with_step : Shape → Step → PassView → PassView
 with_step shape s p = record p { trail = p.trail ++ s ∷ []; known = known_after shape p.seen s p.known }
 
--- the word is the next word of a node that is placed in every resolution
-abbrev pub is_next_of_placed : Machine → Place → Bool
-is_next_of_placed m (node_next node) = always_placed m node
-is_next_of_placed m _ = false
+-- the word is one of the three of a node that is placed in every resolution
+abbrev pub is_of_placed : Machine → Place → Bool
+is_of_placed m (node_key node) = always_placed m node
+is_of_placed m (node_value node) = always_placed m node
+is_of_placed m (node_next node) = always_placed m node
+is_of_placed m _ = false
 
 abbrev pub attempt_in_hand : Option Hand → Option AttemptId
 attempt_in_hand None = None
@@ -63,7 +65,7 @@ step_of m p kind word after = record {
   before = content m word;
   after = after;
   attempt = attempt_in_hand p.hand;
-  placed = is_next_of_placed m (place_at (shape_of m) word);
+  placed = is_of_placed m (place_at (shape_of m) word);
 }
 
 -- the pass after such a step: it has noted the nodes that were placed in every resolution

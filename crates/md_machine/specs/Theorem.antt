@@ -12,6 +12,7 @@ use Rattle.md_machine.specs.clauses.Formats.{AreFormats}
 use Rattle.md_machine.specs.clauses.Fronts.{FrontsFit}
 use Rattle.md_machine.specs.clauses.InHand.{HandsLast}
 use Rattle.md_machine.specs.clauses.Lanes.{LanesApart}
+use Rattle.md_machine.specs.clauses.NodeWords.{NodeWordsStand}
 use Rattle.md_machine.specs.clauses.OddWords.{OddStand}
 use Rattle.md_machine.specs.clauses.Placed.{PlacedStay}
 use Rattle.md_machine.specs.clauses.Slots.{SlotsStand}
@@ -32,6 +33,7 @@ pub record IsKept (m : Machine) : Type 0 where
   pub fronts : FrontsFit (shape_of m) m.history m.fates m.passes
   pub placed : PlacedStay m
   pub flags : FlaggedAreNoted m
+  pub node_words : NodeWordsStand m
   pub won_installs : WonAreInstalls m
   pub entry_slots : EntriesKeepSlots m
   pub in_hand : HandsLast m

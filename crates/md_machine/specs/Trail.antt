@@ -45,6 +45,10 @@ SomeStep P steps = (s : Step) × Contains steps s × P s
 abbrev pub SomeStepOf : PassView → (Step → Type 0) → Type 0
 SomeStepOf p P = (segment : List Step) × Contains (segments p) segment × SomeStep P segment
 
+-- every step of a pass is such, in whatever segment
+abbrev pub EveryStepOf : PassView → (Step → Type 0) → Type 0
+EveryStepOf p P = (segment : List Step) → Contains (segments p) segment → (s : Step) → Contains segment s → P s
+
 -- a step of the pass is such, with the earlier and the later steps of its segment
 pub record StepOf (p : PassView) (P : Step → Type 0) : Type 0 where
   pub earlier : List Step

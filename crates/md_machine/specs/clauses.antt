@@ -13,3 +13,4 @@ pub mod Fronts
 pub mod Flags
 pub mod Stores
 pub mod Hands
+pub mod NodeWords

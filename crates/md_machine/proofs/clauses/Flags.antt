@@ -21,13 +21,13 @@ use Rattle.md_machine.proofs.events.MoveFacts.{MoveFacts}
 use Rattle.md_machine.proofs.events.Moves.{PassesGo, goes_on, is_joined, is_split}
 use Rattle.md_machine.proofs.lists.At.{at_append, at_one, at_set}
 use Rattle.md_machine.proofs.lists.Rising.{here, in_none, there}
-use Rattle.md_machine.specs.Machine.{IsAt, Machine, shape_of}
+use Rattle.md_machine.specs.Machine.{Machine, shape_of}
+use Rattle.md_machine.specs.Own.{IsWordOf}
 use Rattle.md_machine.specs.Resolution.{always_nodes, always_placed, kept_nodes, kept_structure, least, or_else, structure_in}
-use Rattle.md_machine.specs.Stepping.{is_next_of_placed, step_of}
+use Rattle.md_machine.specs.Stepping.{is_of_placed}
 use Rattle.md_machine.specs.Trail.{segments}
-use Rattle.md_machine.specs.clauses.Flags.{FlaggedAreNoted, NotesFlagged, NotesNext}
-use Rattle.md_machine.specs.events.Mark.{moved}
-use Rattle.md_machine.specs.events.SplitJoin.{joined, spent}
+use Rattle.md_machine.specs.clauses.Flags.{FlaggedAreNoted, NotesFlagged, NotesWord}
+use Rattle.md_machine.specs.events.SplitJoin.{given_part, joined, kept_part, moved, moved_step, spent}
 
 -- a node of a list
 abbrev pub HasNode : List PlacedNode → ℕ → Type 0
@@ -61,14 +61,17 @@ always_has m node h = either_has m.opening.placed (kept_nodes m.history (least m
     (⊎_elim (λ a. inl (structure_has m.opening.placed node a)) (λ b. inr (kept_has m.history m.fates node b)) (one_of_two (structure_in m.opening.placed node) (kept_structure m.history (least m.fates) node) h))
 
 -- so the flag of a step tells a node that is placed in every resolution
-flag_tells : (m : Machine) (place : Place) → is_next_of_placed m place ≡ true → NotesNext (always_nodes m) place
-flag_tells m (node_next node) h = let r = always_has m node h in record { node = r.0; among = r.1; next = ap node_next (sym r.2) }
+noted_word : (m : Machine) (node : ℕ) (place : Place) → IsWordOf node place → always_placed m node ≡ true → NotesWord (always_nodes m) place
+noted_word m node place is h = let r = always_has m node h in record { node = r.0; among = r.1; is = subst (λ k. IsWordOf k place) (sym r.2) is }
+
+flag_tells : (m : Machine) (place : Place) → is_of_placed m place ≡ true → NotesWord (always_nodes m) place
+flag_tells m (node_key node) h = noted_word m node (node_key node) (inl (inl refl)) h
+flag_tells m (node_value node) h = noted_word m node (node_value node) (inl (inr refl)) h
+flag_tells m (node_next node) h = noted_word m node (node_next node) (inr refl) h
 flag_tells m base_word h = absurd (false≢true h)
 flag_tells m (bucket_head _ _) h = absurd (false≢true h)
 flag_tells m (queue_head _) h = absurd (false≢true h)
 flag_tells m (queue_tail _) h = absurd (false≢true h)
-flag_tells m (node_key _) h = absurd (false≢true h)
-flag_tells m (node_value _) h = absurd (false≢true h)
 flag_tells m (desc_status _) h = absurd (false≢true h)
 flag_tells m (read_word _ _) h = absurd (false≢true h)
 flag_tells m (read_content _ _) h = absurd (false≢true h)
@@ -76,12 +79,12 @@ flag_tells m (slot_word _ _) h = absurd (false≢true h)
 flag_tells m (slot_old _ _) h = absurd (false≢true h)
 flag_tells m (slot_new _ _) h = absurd (false≢true h)
 
-notes_more : (noted more : List PlacedNode) (place : Place) → ((x : PlacedNode) → Contains noted x → Contains more x) → NotesNext noted place → NotesNext more place
-notes_more noted more place all n = record { node = n.node; among = all n.node n.among; next = n.next }
+notes_more : (noted more : List PlacedNode) (place : Place) → ((x : PlacedNode) → Contains noted x → Contains more x) → NotesWord noted place → NotesWord more place
+notes_more noted more place all n = record { node = n.node; among = all n.node n.among; is = n.is }
 
 -- what holds of every step of some segments, of whoever has noted more
 abbrev pub Flagged : Shape → (noted : List PlacedNode) → List (List Step) → Type 0
-Flagged shape noted all = (segment : List Step) → Contains all segment → (s : Step) → Contains segment s → s.placed ≡ true → NotesNext noted (place_at shape s.word)
+Flagged shape noted all = (segment : List Step) → Contains all segment → (s : Step) → Contains segment s → s.placed ≡ true → NotesWord noted (place_at shape s.word)
 
 flagged_more : (shape : Shape) (noted more : List PlacedNode) (all : List (List Step)) → ((x : PlacedNode) → Contains noted x → Contains more x) → Flagged shape noted all → Flagged shape more all
 flagged_more shape noted more all f was segment c s i flag = notes_more noted more (place_at shape s.word) f (was segment c s i flag)
@@ -92,25 +95,20 @@ flagged_both shape noted all others one two segment c = ⊎_elim (λ l. one segm
 flagged_empty : (shape : Shape) (noted : List PlacedNode) → Flagged shape noted ([] ∷ [])
 flagged_empty shape noted segment c s i = ⊎_elim (λ none. absurd (in_none segment none)) (λ e. absurd (in_none s (subst (λ l. Contains l s) (sym e) i))) (Contains-push_cases [] [] segment c)
 
--- a pass after one more step
-one_more : (m : Machine) (p : PassView) (kind : Kind) (word new : ℕ) → NotesFlagged (shape_of m) p → Flagged (shape_of m) (p.placed ++ always_nodes m) (p.past ++ (p.trail ++ step_of m p kind word new ∷ []) ∷ [])
-one_more m p kind word new was =
-    let old : Flagged (shape_of m) (p.placed ++ always_nodes m) (segments p) = flagged_more (shape_of m) p.placed (p.placed ++ always_nodes m) (segments p) (λ x. Contains-append_left p.placed (always_nodes m) x) was in
-    λ segment c s i flag. ⊎_elim
-    (λ before. old segment (Contains-append_left p.past (p.trail ∷ []) segment before) s i flag)
+-- a pass after one more step, whose flag tells what the pass has noted
+stepped_flags : (shape : Shape) (p q : PassView) (s : Step) → q.past ≡ p.past → q.trail ≡ p.trail ++ s ∷ [] → ((x : PlacedNode) → Contains p.placed x → Contains q.placed x)
+    → (s.placed ≡ true → NotesWord q.placed (place_at shape s.word)) → NotesFlagged shape p → NotesFlagged shape q
+stepped_flags shape p q s past trail more flag was =
+    subst (λ all. Flagged shape q.placed (all ++ q.trail ∷ [])) (sym past) (subst (λ last. Flagged shape q.placed (p.past ++ last ∷ [])) (sym trail) (λ segment c t i h. ⊎_elim
+    (λ before. old segment (Contains-append_left p.past (p.trail ∷ []) segment before) t i h)
     (λ last. ⊎_elim
-    (λ earlier. old p.trail (Contains-push p.past p.trail) s earlier flag)
-    (λ same. subst (λ w. NotesNext (p.placed ++ always_nodes m) (place_at (shape_of m) w)) (ap (λ (t : Step). t.word) same)
-    (notes_more (always_nodes m) (p.placed ++ always_nodes m) (place_at (shape_of m) word) (λ x. Contains-append_right p.placed (always_nodes m) x)
-    (flag_tells m (place_at (shape_of m) word) (ap (λ (t : Step). t.placed) same ∙ flag))))
-    (Contains-push_cases p.trail (step_of m p kind word new) s (subst (λ l. Contains l s) (sym last) i)))
-    (Contains-push_cases p.past (p.trail ++ step_of m p kind word new ∷ []) segment c)
-
-stepped_flags : (m : Machine) (p q : PassView) (kind : Kind) (word new : ℕ) → q.past ≡ p.past → q.trail ≡ p.trail ++ step_of m p kind word new ∷ [] → q.placed ≡ p.placed ++ always_nodes m → NotesFlagged (shape_of m) p → NotesFlagged (shape_of m) q
-stepped_flags m p q kind word new past trail placed was =
-    subst (λ noted. Flagged (shape_of m) noted (segments q)) (sym placed)
-    (subst (λ all. Flagged (shape_of m) (p.placed ++ always_nodes m) (all ++ q.trail ∷ [])) (sym past)
-    (subst (λ last. Flagged (shape_of m) (p.placed ++ always_nodes m) (p.past ++ last ∷ [])) (sym trail) (one_more m p kind word new was)))
+    (λ earlier. old p.trail (Contains-push p.past p.trail) t earlier h)
+    (λ same. subst (λ w. NotesWord q.placed (place_at shape w)) (ap (λ (x : Step). x.word) same) (flag (ap (λ (x : Step). x.placed) same ∙ h)))
+    (Contains-push_cases p.trail s t (subst (λ l. Contains l t) (sym last) i)))
+    (Contains-push_cases p.past (p.trail ++ s ∷ []) segment c)))
+  where
+    old : Flagged shape q.placed (segments p)
+    old = flagged_more shape p.placed q.placed (segments p) more was
 
 -- passes that have noted what they flagged
 abbrev pub Noting : Shape → List PassView → Type 0
@@ -122,13 +120,6 @@ noting_set shape passes pass q new was j u at = ⊎_elim (λ e. subst (NotesFlag
 noting_push : (shape : Shape) (passes : List PassView) (r : PassView) → NotesFlagged shape r → Noting shape passes → Noting shape (passes ++ r ∷ [])
 noting_push shape passes r new was j u at = ⊎_elim (λ old. was j u old) (λ end. subst (NotesFlagged shape) (at_one r u end.0 end.2).1 new) (at_append passes (r ∷ []) j u at)
 
-noting_step : (m : Machine) (pass : ℕ) (p q : PassView) (kind : Kind) (word new : ℕ) → At m.passes pass p → q.past ≡ p.past → q.trail ≡ p.trail ++ step_of m p kind word new ∷ [] → q.placed ≡ p.placed ++ always_nodes m → FlaggedAreNoted m → Noting (shape_of m) (set m.passes pass q)
-noting_step m pass p q kind word new at past trail placed was = noting_set (shape_of m) m.passes pass q (stepped_flags m p q kind word new past trail placed (was pass p at)) was
-
-noting_split : (m : Machine) (pass : ℕ) (p r : PassView) (later : List PassView) (kind : Kind) (word new : ℕ) → At m.passes pass p → r.past ≡ p.past → r.trail ≡ p.trail ++ step_of m p kind word new ∷ [] → r.placed ≡ p.placed ++ always_nodes m → FlaggedAreNoted m
-    → Noting (shape_of m) later → Noting (shape_of m) (later ++ r ∷ [])
-noting_split m pass p r later kind word new at past trail placed was = noting_push (shape_of m) later r (stepped_flags m p r kind word new past trail placed (was pass p at))
-
 joined_flags : (shape : Shape) (p q : PassView) → NotesFlagged shape p → NotesFlagged shape q → NotesFlagged shape (joined shape p q)
 joined_flags shape p q mine theirs =
     let noted = p.placed ++ q.placed in
@@ -139,13 +130,24 @@ joined_flags shape p q mine theirs =
     (flagged_empty shape noted)
 
 -- every event keeps it
-flags_go : (m n : Machine) (pass : ℕ) (p : PassView) (kind : Kind) (word new : ℕ) (s : Step) → IsAt m pass p → s ≡ step_of m p kind word new → FlaggedAreNoted m → PassesGo m n pass p s → Noting (shape_of m) n.passes
-flags_go m n pass p kind word new s at is_step was (goes_on q is view) = subst (Noting (shape_of m)) (sym is)
-    (noting_step m pass p q kind word new at view.past (subst (λ t. q.trail ≡ p.trail ++ t ∷ []) is_step view.trail) view.placed was)
-flags_go m n pass p kind word new s at is_step was (is_split _ _ _ _ is) = subst (Noting (shape_of m)) (sym is)
-    (noting_split m pass p _ _ Load 0 _ at refl refl refl was (noting_step m pass p _ Load 0 _ at refl refl refl was))
-flags_go m n pass p kind word new s at is_step was (is_joined other q _ acts _ _ _ is) = subst (Noting (shape_of m)) (sym is)
-    (noting_set _ _ other spent (flagged_empty (shape_of m) []) (noting_set _ m.passes pass _ (joined_flags (shape_of m) (moved m p) q (stepped_flags m p (moved m p) Load 0 _ refl refl refl (was pass p at)) (was other q acts.at)) was))
+module _ (m n : Machine) (v : MoveFacts m n) (was : FlaggedAreNoted m) where
+  -- the step of the one view that goes on
+  flag_here : (q : PassView) → q.placed ≡ v.p.placed ++ always_nodes m → v.step.placed ≡ true → NotesWord q.placed (place_at (shape_of m) v.step.word)
+  flag_here q placed h = subst (λ noted. NotesWord noted (place_at (shape_of m) v.step.word)) (sym placed)
+      (notes_more (always_nodes m) (v.p.placed ++ always_nodes m) (place_at (shape_of m) v.step.word) (λ x. Contains-append_right v.p.placed (always_nodes m) x)
+      (subst (λ w. NotesWord (always_nodes m) (place_at (shape_of m) w)) (sym v.there) (flag_tells m (place_at (shape_of m) v.word) (ap (λ (s : Step). s.placed) (sym v.is_step) ∙ h))))
 
-pub flags-kept : (m n : Machine) → MoveFacts m n → FlaggedAreNoted m → Noting (shape_of m) n.passes
-flags-kept m n v was = flags_go m n v.pass v.p v.kind v.word v.new v.step v.at v.is_step was v.passes
+  -- a move of lanes flags nothing
+  moved_flags : (q : PassView) → q.past ≡ v.p.past → q.trail ≡ v.p.trail ++ moved_step v.p ∷ [] → q.placed ≡ v.p.placed → NotesFlagged (shape_of m) q
+  moved_flags q past trail placed = stepped_flags (shape_of m) v.p q (moved_step v.p) past trail (λ x c. subst (λ l. Contains l x) (sym placed) c) (λ h. absurd (false≢true h)) (was v.pass v.p v.at)
+
+  flags_go : PassesGo m n v.pass v.p v.step → Noting (shape_of m) n.passes
+  flags_go (goes_on q is view) = subst (Noting (shape_of m)) (sym is) (noting_set (shape_of m) m.passes v.pass q
+      (stepped_flags (shape_of m) v.p q v.step view.past view.trail (λ x c. subst (λ l. Contains l x) (sym view.placed) (Contains-append_left v.p.placed (always_nodes m) x c)) (flag_here q view.placed) (was v.pass v.p v.at)) was)
+  flags_go (is_split _ _ _ _ is) = subst (Noting (shape_of m)) (sym is)
+      (noting_push (shape_of m) _ _ (moved_flags (given_part (shape_of m) v.p) refl refl refl) (noting_set (shape_of m) m.passes v.pass _ (moved_flags (kept_part (shape_of m) v.p) refl refl refl) was))
+  flags_go (is_joined other q _ acts _ _ _ is) = subst (Noting (shape_of m)) (sym is)
+      (noting_set (shape_of m) _ other spent (flagged_empty (shape_of m) []) (noting_set (shape_of m) m.passes v.pass _ (joined_flags (shape_of m) (moved v.p) q (moved_flags (moved v.p) refl refl refl) (was other q acts.at)) was))
+
+  pub flags-kept : Noting (shape_of m) n.passes
+  flags-kept = flags_go v.passes

@@ -9,18 +9,17 @@ use Rattle.md_machine.specs.declared.attempt.HistoryEntry.{HistoryEntry}
 use Rattle.md_machine.specs.declared.step.Kind.TheVariants.{Load}
 use Rattle.md_machine.specs.declared.pass.PassView.{PassView}
 use Rattle.md_machine.proofs.clauses.Entries.{GoOn}
-use Rattle.md_machine.proofs.clauses.FrontsFit.{front_all, front_joined, front_kept, front_spent, front_stepped, fronts_more, fronts_other, fronts_set}
+use Rattle.md_machine.proofs.clauses.FrontsFit.{fated, front_all, front_joined, front_kept, front_spent, front_stepped, fronts_more, fronts_other, fronts_set}
 use Rattle.md_machine.proofs.clauses.LanesApart.{At}
 use Rattle.md_machine.proofs.events.MoveFacts.{MoveFacts, history_grows, new_entry}
 use Rattle.md_machine.proofs.events.Moves.{FrontGoes, PassesGo, goes_on, is_joined, is_split, learns, sees_all}
 use Rattle.md_machine.proofs.lists.Rising.{in_drop, in_take}
-use Rattle.md_machine.specs.Machine.{IsAt, Machine, content, shape_of}
+use Rattle.md_machine.specs.Machine.{IsAt, Machine, shape_of}
 use Rattle.md_machine.specs.Own.{HasDesc}
-use Rattle.md_machine.specs.Stepping.{known_after, step_of}
+use Rattle.md_machine.specs.Stepping.{known_after}
 use Rattle.md_machine.specs.clauses.Fronts.{FrontFits, FrontsFit}
 use Rattle.md_machine.specs.clauses.Lanes.{LanesApart}
-use Rattle.md_machine.specs.events.Mark.{moved}
-use Rattle.md_machine.specs.events.SplitJoin.{spent}
+use Rattle.md_machine.specs.events.SplitJoin.{moved, spent, with_lanes}
 
 abbrev pub Fronts : (m n : Machine) → Type 0
 Fronts m n = FrontsFit (shape_of m) n.history n.fates n.passes
@@ -50,27 +49,28 @@ module _ (m n : Machine) (v : MoveFacts m n) (apart : LanesApart (shape_of m) m.
   learned : (q : PassView) → n.history ≡ m.history → q.seen ≡ v.p.seen → q.known ≡ known_after (shape_of m) v.p.seen v.step v.p.known → ((lane : ℕ) → Contains q.lanes lane → Contains v.p.lanes lane) → Fits q
   learned q same = front_stepped m n.words n.history n.fates go.fit grows go.stay v.p q v.step (was v.pass v.p v.at) (none_new same v.p) v.truth
 
-  -- a move of lanes learns nothing but by its step
-  as_step : (known : List Fate) → v.step ≡ step_of m v.p Load 0 (content m 0) → known ≡ known_after (shape_of m) v.p.seen (step_of m v.p Load 0 (content m 0)) v.p.known → known ≡ known_after (shape_of m) v.p.seen v.step v.p.known
-  as_step known e k = k ∙ ap (λ s. known_after (shape_of m) v.p.seen s v.p.known) (sym e)
-
   one_front : (q : PassView) → q.lanes ≡ v.p.lanes → FrontGoes m n v.step v.p q → Fits q
   one_front q lanes (learns same seen known) = learned q same seen known (λ lane c. subst (λ x. Contains x lane) lanes c)
   one_front q lanes (sees_all seen known) = front_all m n.words n.history n.fates go.fit grows go.stay q seen known
+
+  -- a part of the pass after a move of lanes, with these lanes
+  part : n.history ≡ m.history → (lanes : List ℕ) → ((lane : ℕ) → Contains lanes lane → Contains v.p.lanes lane) → Fits (with_lanes (shape_of m) lanes (moved v.p))
+  part same lanes fewer = let front = front_kept m n.words n.history n.fates go.fit grows go.stay v.p (none_new same v.p) (was v.pass v.p v.at) in
+      record { seen = front.seen; fated = front.fated; known = front.known; own = λ e c l. front.own e c (fewer _ l) }
 
   set_one : (q : PassView) → Fits q → FrontsFit (shape_of m) n.history n.fates (set m.passes v.pass q)
   set_one q = fronts_set m n.words n.history n.fates go.fit grows go.stay v.pass q foreign was
 
   fronts_go : PassesGo m n v.pass v.p v.step → FrontsFit (shape_of m) n.history n.fates n.passes
   fronts_go (goes_on q is view) = subst (FrontsFit (shape_of m) n.history n.fates) (sym is) (set_one q (one_front q view.lanes view.front))
-  fronts_go (is_split _ e _ same is) = subst (FrontsFit (shape_of m) n.history n.fates) (sym is)
+  fronts_go (is_split _ _ _ same is) = subst (FrontsFit (shape_of m) n.history n.fates) (sym is)
       (fronts_more m n.words n.history n.fates go.fit grows go.stay _ _
-      (set_one _ (learned _ same refl (as_step _ e refl) (λ lane. in_take _ v.p.lanes lane)))
-      (learned _ same refl (as_step _ e refl) (λ lane. in_drop _ v.p.lanes lane)))
-  fronts_go (is_joined other q _ acts e _ same is) = subst (FrontsFit (shape_of m) n.history n.fates) (sym is)
+      (set_one _ (part same _ (λ lane. in_take _ v.p.lanes lane)))
+      (part same _ (λ lane. in_drop _ v.p.lanes lane)))
+  fronts_go (is_joined other q _ acts _ _ same is) = subst (FrontsFit (shape_of m) n.history n.fates) (sym is)
       (fronts_other m n.words n.history n.fates go.fit grows go.stay _ other spent
-      (set_one _ (front_joined m n.words n.history n.fates go.fit grows go.stay (moved m v.p) q _
-      (learned (moved m v.p) same refl (as_step _ e refl) (λ lane c. c))
+      (set_one _ (front_joined m n.words n.history n.fates go.fit grows go.stay (with_lanes (shape_of m) v.p.lanes (moved v.p)) q _
+      (part same v.p.lanes (λ lane c. c))
       (front_kept m n.words n.history n.fates go.fit grows go.stay q (none_new same q) (was other q acts.at)) refl refl refl))
       (front_spent m n.words n.history n.fates go.fit grows go.stay))
 

@@ -23,8 +23,8 @@ use Rattle.md_machine.specs.Trail.{segments}
 use Rattle.md_machine.specs.clauses.Hands.{HandsFit}
 use Rattle.md_machine.specs.clauses.InHand.{FreeOf}
 use Rattle.md_machine.specs.clauses.Lanes.{LanesApart}
-use Rattle.md_machine.specs.events.Mark.{moved_step, new_hand}
-use Rattle.md_machine.specs.events.SplitJoin.{given_part, joined_part, kept_part, spent}
+use Rattle.md_machine.specs.events.Mark.{new_hand}
+use Rattle.md_machine.specs.events.SplitJoin.{given_part, joined_part, kept_part, moved_step, spent}
 
 abbrev pub AwayIn : List PassView → AttemptId → (pass : ℕ) → Type 0
 AwayIn passes a pass = (j : ℕ) (q : PassView) → At passes j q → j ≢ pass → FreeOf a (segments q)
@@ -165,10 +165,10 @@ module _ (m n : Machine) (v : MoveFacts m n) (apart : LanesApart (shape_of m) m.
 
   goes : PassesGo m n v.pass v.p v.step → HandsAlone n.begun n.passes
   goes (goes_on q is view) = subst (HandsAlone n.begun) (sym is) (one_alone q view.past view.trail view.hand)
-  goes (is_split _ _ begun _ is) = subst (HandsAlone n.begun) (sym is) (subst (λ bs. HandsAlone bs (set m.passes v.pass (kept_part m v.p) ++ given_part m v.p ∷ [])) (sym begun)
-      (alone_split m apart hands was v.pass v.p (kept_part m v.p) (given_part m v.p) (moved_step m v.p) v.at refl refl refl refl refl refl refl))
-  goes (is_joined other q _ acts _ begun _ is) = subst (HandsAlone n.begun) (sym is) (subst (λ bs. HandsAlone bs (set (set m.passes v.pass (joined_part m v.p q)) other spent)) (sym begun)
-      (alone_join m apart hands was v.pass other v.p q (joined_part m v.p q) (moved_step m v.p) v.at acts.at refl refl refl refl))
+  goes (is_split _ _ begun _ is) = subst (HandsAlone n.begun) (sym is) (subst (λ bs. HandsAlone bs (set m.passes v.pass (kept_part (shape_of m) v.p) ++ given_part (shape_of m) v.p ∷ [])) (sym begun)
+      (alone_split m apart hands was v.pass v.p (kept_part (shape_of m) v.p) (given_part (shape_of m) v.p) (moved_step v.p) v.at refl refl refl refl refl refl refl))
+  goes (is_joined other q _ acts _ begun _ is) = subst (HandsAlone n.begun) (sym is) (subst (λ bs. HandsAlone bs (set (set m.passes v.pass (joined_part (shape_of m) v.p q)) other spent)) (sym begun)
+      (alone_join m apart hands was v.pass other v.p q (joined_part (shape_of m) v.p q) (moved_step v.p) v.at acts.at refl refl refl refl))
 
   pub in_hand-kept : HandsAlone n.begun n.passes
   in_hand-kept = goes v.passes

@@ -19,7 +19,7 @@ use Rattle.md_machine.proofs.events.Attempts.{ready_in}
 use Rattle.md_machine.proofs.events.MoveFacts.{MoveFacts, history_grows, new_entry}
 use Rattle.md_machine.proofs.events.Moves.{FrontGoes, PassesGo, goes_on, is_joined, is_split, learns, sees_all}
 use Rattle.md_machine.proofs.events.WordChanges.{serial_stays}
-use Rattle.md_machine.proofs.fates.Decidedness.{MoreDecided, knows_on, more_first, more_itself, more_known, more_on, more_second, more_stay}
+use Rattle.md_machine.proofs.fates.Decidedness.{MoreDecided, knows_on, more_first, more_itself, more_known, more_second, more_stay}
 use Rattle.md_machine.proofs.fates.Knowing.{all_stay_on, prefix_on}
 use Rattle.md_machine.proofs.lists.At.{at_append, at_one, at_set}
 use Rattle.md_machine.proofs.lists.Rising.{here, in_drop, in_filter, in_none, in_take, lane_in, there}
@@ -28,7 +28,6 @@ use Rattle.md_machine.specs.Stepping.{known_after}
 use Rattle.md_machine.specs.clauses.Fates.{PastKnown}
 use Rattle.md_machine.specs.clauses.Fronts.{FrontsFit}
 use Rattle.md_machine.specs.clauses.Lanes.{LanesApart}
-use Rattle.md_machine.specs.events.Mark.{moved, moved_step}
 use Rattle.md_machine.specs.events.SplitJoin.{given_part, kept_part, spent}
 use Rattle.md_machine.specs.events.Start.{knows_decided}
 
@@ -60,14 +59,14 @@ module _ (m n : Machine) (v : MoveFacts m n) (fronts : FrontsFit (shape_of m) m.
   learns_from : PassesGo m n v.pass v.p v.step → LearnsFrom m.passes n.passes
   learns_from (goes_on q is view) = subst (LearnsFrom m.passes) (sym is) (learns_set m.passes v.pass v.p q v.at (λ lane c. subst (λ x. Contains x lane) view.lanes c) (one_learns q view.front))
   learns_from (is_split _ _ _ _ is) = subst (LearnsFrom m.passes) (sym is)
-      (learns_push m.passes _ v.pass v.p (given_part m v.p) v.at (λ lane. in_drop _ v.p.lanes lane) (steps m v.p (moved_step m v.p)) (learns_set m.passes v.pass v.p (kept_part m v.p) v.at (λ lane. in_take _ v.p.lanes lane) (steps m v.p (moved_step m v.p))))
+      (learns_push m.passes _ v.pass v.p (given_part (shape_of m) v.p) v.at (λ lane. in_drop _ v.p.lanes lane) (more_itself v.p.known) (learns_set m.passes v.pass v.p (kept_part (shape_of m) v.p) v.at (λ lane. in_take _ v.p.lanes lane) (more_itself v.p.known)))
   learns_from (is_joined other q _ acts _ _ _ is) = subst (LearnsFrom m.passes) (sym is) (λ j u u_at lane c. ⊎_elim
       (λ e. absurd (in_none lane (subst (λ (w : PassView). Contains w.lanes lane) (sym e.1) c)))
       (λ o. ⊎_elim
-      (λ e. let known = (moved m v.p).known in
+      (λ e. let known = v.p.known in
       let mine = (in_filter (λ x. is_lane_of v.p.lanes x || is_lane_of q.lanes x) (range_with_len 0 (shape_of m).lanes) lane (subst (λ (w : PassView). Contains w.lanes lane) (sym e.1) c)).1 in
       ⊎_elim
-      (λ l. (v.pass, v.p, v.at, lane_in v.p.lanes lane l, subst (λ (w : PassView). MoreDecided v.p.known w.known) e.1 (more_on v.p.known known _ (steps m v.p (moved_step m v.p)) (more_first known q.known))))
+      (λ l. (v.pass, v.p, v.at, lane_in v.p.lanes lane l, subst (λ (w : PassView). MoreDecided v.p.known w.known) e.1 (more_first known q.known)))
       (λ l. (other, q, acts.at, lane_in q.lanes lane l, subst (λ (w : PassView). MoreDecided q.known w.known) e.1 (more_second known q.known)))
       (or_cases (is_lane_of v.p.lanes lane) (is_lane_of q.lanes lane) mine))
       (λ x. (j, u, x.1, c, more_itself u.known))

@@ -21,11 +21,10 @@ use Rattle.md_machine.proofs.lists.At.{at_append, at_one, at_set}
 use Rattle.md_machine.proofs.lists.Rising.{here, in_cons, in_none}
 use Rattle.md_machine.proofs.resolutions.Placing.{some_or, some_skip}
 use Rattle.md_machine.specs.Event.{opened}
-use Rattle.md_machine.specs.Machine.{IsAt, Machine, content}
+use Rattle.md_machine.specs.Machine.{IsAt, Machine, shape_of}
 use Rattle.md_machine.specs.Resolution.{always_nodes, always_placed, is_committed, kept_nodes, kept_structure, least, or_else, structure_in}
-use Rattle.md_machine.specs.Stepping.{stepped}
 use Rattle.md_machine.specs.clauses.Placed.{PlacedStay}
-use Rattle.md_machine.specs.events.SplitJoin.{spent}
+use Rattle.md_machine.specs.events.SplitJoin.{given_part, kept_part, spent}
 
 some_first : (x z : Option Structure) → is_some x ≡ true → is_some (or_else x z) ≡ true
 some_first (Some s) z h = refl
@@ -89,22 +88,19 @@ notes_set m pass p q at same j u u_at x c = ⊎_elim
     (λ o. inl (j, u, o.1, c))
     (at_set m.passes pass j q u u_at)
 
-notes_push : (m : Machine) (later : List PassView) (pass : ℕ) (p r : PassView) → At m.passes pass p → r.placed ≡ p.placed ++ always_nodes m → NotesFrom m later → NotesFrom m (later ++ r ∷ [])
-notes_push m later pass p r at same was j u u_at x c = ⊎_elim
-    (λ old. was j u old x c)
-    (λ end. noted_by m pass p r x at same (subst (λ (v : PassView). Contains v.placed x) (sym (at_one r u end.0 end.2).1) c))
-    (at_append later (r ∷ []) j u u_at)
-
 notes : (m n : Machine) (pass : ℕ) (p : PassView) (s : Step) → IsAt m pass p → PassesGo m n pass p s → NotesFrom m n.passes
 notes m n pass p s at (goes_on q is view) = subst (NotesFrom m) (sym is) (notes_set m pass p q at view.placed)
-notes m n pass p s at (is_split _ _ _ _ is) = subst (NotesFrom m) (sym is) (notes_push m _ pass p _ at refl (notes_set m pass p _ at refl))
+notes m n pass p s at (is_split _ _ _ _ is) = subst (NotesFrom m) (sym is) (λ j u u_at x c. ⊎_elim
+    (λ was. ⊎_elim (λ e. inl (pass, p, at, subst (λ (v : PassView). Contains v.placed x) (sym e.1) c)) (λ o. inl (j, u, o.1, c)) (at_set m.passes pass j _ u was))
+    (λ end. inl (pass, p, at, subst (λ (v : PassView). Contains v.placed x) (sym (at_one _ u end.0 end.2).1) c))
+    (at_append (set m.passes pass (kept_part (shape_of m) p)) (given_part (shape_of m) p ∷ []) j u u_at))
 notes m n pass p s at (is_joined other q _ acts _ _ _ is) = subst (NotesFrom m) (sym is) (λ j u u_at x c. ⊎_elim
     (λ e. absurd (in_none x (subst (λ (v : PassView). Contains v.placed x) (sym e.1) c)))
     (λ o. ⊎_elim
     (λ e. ⊎_elim
-    (λ mine. noted_by m pass p (stepped m p Load 0 (content m 0)) x at refl mine)
+    (λ mine. inl (pass, p, at, mine))
     (λ theirs. inl (other, q, acts.at, theirs))
-    (Contains-append_cases (p.placed ++ always_nodes m) q.placed x (subst (λ (v : PassView). Contains v.placed x) (sym e.1) c)))
+    (Contains-append_cases p.placed q.placed x (subst (λ (v : PassView). Contains v.placed x) (sym e.1) c)))
     (λ y. inl (j, u, y.1, c))
     (at_set m.passes pass j _ u o.1))
     (at_set (set m.passes pass _) other j spent u u_at))

@@ -25,7 +25,8 @@ use Rattle.md_machine.proofs.fates.Knowing.{TellsTruth}
 use Rattle.md_machine.proofs.lists.Rising.{there}
 use Rattle.md_machine.specs.Installs.{spot_of_install}
 use Rattle.md_machine.specs.Machine.{Install, IsAt, Machine, content, present, shape_of, was_begun}
-use Rattle.md_machine.specs.Own.{HasDesc}
+use Rattle.md_machine.specs.Own.{HasDesc, IsDataOf}
+use Rattle.md_machine.specs.Resolution.{never_placed}
 use Rattle.md_machine.specs.Stepping.{step_of}
 use Rattle.md_machine.specs.Trail.{StoresFor}
 use Rattle.md_machine.specs.clauses.Stores.{IsEntryWord}
@@ -133,6 +134,8 @@ pub record MoveFacts (m n : Machine) : Type 0 where
   pub won : (a : AttemptId) → WonInstall a step → HasInstallOf n.installs a step
   -- a read or slot word changes by a store alone
   pub entry : (d : ℕ) → IsEntryWord d (place_at (shape_of m) word) → (new ≡ content m word) ⊎ StoredHere m n.passes step word d
+  -- the key or value of a node changes only where no resolution places it
+  pub data_word : (k : ℕ) → IsDataOf k (place_at (shape_of m) word) → (new ≡ content m word) ⊎ (never_placed m k ≡ true)
   -- what it finds of a status stands afterwards, or tells no fate
   pub truth : TellsTruth (shape_of m) n.words step
   pub fates : FatesGo m n p kind word new

@@ -1,6 +1,6 @@
 -- The one case split over the events: each is one step of one pass, with one of eight effects on the words and the
 -- history, and it replaces one view, splits one in two, or joins two in one.
-use Rattle.std.proofs.Common.{◌≡◌, ◌≢◌, ℕ, ◌<◌, ◌⊎◌, [], ◌∷◌, ◌++◌, set, refl, sym, subst, inl, inr, cond, Some, None}
+use Rattle.std.proofs.Common.{◌≡◌, ◌≢◌, ℕ, ◌<◌, ◌⊎◌, [], ◌∷◌, ◌++◌, set, refl, sym, subst, inl, inr, cond, Some, None, ap, false, ◌∙◌}
 use Rattle.md_words.specs.declared.status.Status.{Status}
 use Rattle.md_words.specs.declared.status.Status.TheVariants.{Committed, Aborted}
 use Rattle.md_words.specs.Place.{desc_status}
@@ -13,7 +13,9 @@ use Rattle.md_machine.specs.declared.step.Kind.{Kind}
 use Rattle.md_machine.specs.declared.step.Kind.TheVariants.{Load, Store, Install as Installs, Exchange, Ready, Commit, Abort, Uninstall, Start}
 use Rattle.md_machine.specs.declared.pass.PassView.{PassView}
 use Rattle.md_words.specs.Place.{base_word}
-use Rattle.md_words.proofs.Places.{address-base_word, address_below}
+use Rattle.md_words.proofs.Places.{address-base_word, address_below, place_at-address}
+use Rattle.md_words.specs.PlaceAt.{place_at}
+use Rattle.std.specs.Prelude.{Bool}
 use Rattle.md_words.proofs.Owners.{own_desc_exists}
 use prog.Atomic.{either}
 use Rattle.md_machine.proofs.lists.At.{exchanged_cases}
@@ -23,13 +25,13 @@ use Rattle.md_machine.specs.Machine.{Machine, attempt_of, content, present, shap
 use Rattle.md_machine.specs.Meaning.{Meaning}
 use Rattle.md_machine.specs.Own.{HasDesc}
 use Rattle.md_machine.specs.Resolution.{always_nodes}
-use Rattle.md_machine.specs.Stepping.{known_after, replaced, step_of, stepped, with_fate}
+use Rattle.md_machine.specs.Stepping.{attempt_in_hand, is_of_placed, known_after, replaced, step_of, stepped, with_fate}
 use Rattle.md_machine.specs.events.Decide.{MayAbort, MayCommit, after_deciding, decided_word}
 use Rattle.md_machine.specs.events.Exchange.{MayExchange, after_exchange, exchanged_word}
 use Rattle.md_machine.specs.events.Install.{MayInstall, after_install, hand_after_install, install_of, installed_word}
-use Rattle.md_machine.specs.events.Mark.{MayMarkBegin, MayMarkEnd, answered, moved_step, new_hand, without}
+use Rattle.md_machine.specs.events.Mark.{MayMarkBegin, MayMarkEnd, answered, new_hand, without}
 use Rattle.md_machine.specs.events.Ready.{MayReady, after_ready, fates_after_ready, history_after_ready, ready_word, unready_word}
-use Rattle.md_machine.specs.events.SplitJoin.{MaySplit, given_part, joined_part, kept_part, spent}
+use Rattle.md_machine.specs.events.SplitJoin.{MaySplit, given_part, joined_part, kept_part, moved_step, spent}
 use Rattle.md_machine.specs.events.Start.{MayStart, started_word}
 use Rattle.md_machine.specs.events.Store.{MayStore}
 use Rattle.md_machine.specs.events.Uninstall.{MayUninstall, after_uninstall, uninstalled_word}
@@ -59,11 +61,11 @@ pub record ViewGoes (m n : Machine) (s : Step) (p q : PassView) : Type 0 where
 -- how the passes change: one view goes on, it is split in two, or another is joined into it
 pub data PassesGo (m n : Machine) (pass : ℕ) (p : PassView) (s : Step) : Type 0 where
   goes_on : (q : PassView) → n.passes ≡ set m.passes pass q → ViewGoes m n s p q → PassesGo m n pass p s
-  is_split : MaySplit p → s ≡ moved_step m p → n.begun ≡ m.begun → n.history ≡ m.history
-      → n.passes ≡ set m.passes pass (kept_part m p) ++ given_part m p ∷ []
+  is_split : MaySplit p → s ≡ moved_step p → n.begun ≡ m.begun → n.history ≡ m.history
+      → n.passes ≡ set m.passes pass (kept_part (shape_of m) p) ++ given_part (shape_of m) p ∷ []
       → PassesGo m n pass p s
-  is_joined : (other : ℕ) (q : PassView) → other ≢ pass → Acts m other q → s ≡ moved_step m p → n.begun ≡ m.begun → n.history ≡ m.history
-      → n.passes ≡ set (set m.passes pass (joined_part m p q)) other spent → PassesGo m n pass p s
+  is_joined : (other : ℕ) (q : PassView) → other ≢ pass → Acts m other q → s ≡ moved_step p → n.begun ≡ m.begun → n.history ≡ m.history
+      → n.passes ≡ set (set m.passes pass (joined_part (shape_of m) p q)) other spent → PassesGo m n pass p s
 
 -- neither entries, fates nor installs change
 pub record IsQuiet (m n : Machine) : Type 0 where
@@ -228,6 +230,17 @@ module _ (M : Meaning) (m : Machine) (pass : ℕ) (p : PassView) (acts : Acts m 
 zero_inside : (m : Machine) → 0 < words_of (shape_of m)
 zero_inside m = subst (λ w. w < words_of (shape_of m)) (address-base_word (shape_of m)) (address_below (shape_of m) base_word tt)
 
+-- a load of word 0
+abbrev zero_step : PassView → Bool → ℕ → Step
+zero_step p flag held = record { kind = Load; word = 0; before = held; after = held; attempt = attempt_in_hand p.hand; placed = flag }
+
+-- the step of a move of lanes is that load of word 0
+moved_is : (m : Machine) (p : PassView) → content m 0 ≡ 0 → moved_step p ≡ step_of m p Load 0 (content m 0)
+moved_is m p base = ap (zero_step p false) (sym base) ∙ ap (λ b. zero_step p b (content m 0)) (sym unflagged)
+  where
+    unflagged : is_of_placed m (place_at (shape_of m) 0) ≡ false
+    unflagged = ap (is_of_placed m) (ap (place_at (shape_of m)) (sym (address-base_word (shape_of m))) ∙ place_at-address (shape_of m) base_word tt)
+
 pub own_exists : (m : Machine) (p : PassView) (desc : ℕ) → HasDesc (shape_of m) p desc → desc < desc_count (shape_of m)
 own_exists m p desc own = own_desc_exists (shape_of m) own.0 desc own.2
 
@@ -278,20 +291,20 @@ module _ (M : Meaning) where
       (by_fate (record { desc = desc; from = from; status = status; by = is; may = may; there = refl; was = won; is = refl; history = refl; fates = refl; installs = refl })))
       (λ _. by_look M m pass p acts kind word (address_below (shape_of m) (desc_status desc) exists))
 
-  pub does_move : (m n : Machine) (e : Event) → Does M m e n → Moves M m n
-  does_move m n (load pass word) (p, acts, inside, is) = subst (Moves M m) (sym is) (by_look M m pass p acts Load word inside)
-  does_move m n (store pass word value) (p, h, acts, may, is) = subst (Moves M m) (sym is) (by_one M m pass p acts _ _ Store word value refl refl refl
+  pub does_move : (m n : Machine) (e : Event) → content m 0 ≡ 0 → Does M m e n → Moves M m n
+  does_move m n (load pass word) base (p, acts, inside, is) = subst (Moves M m) (sym is) (by_look M m pass p acts Load word inside)
+  does_move m n (store pass word value) base (p, h, acts, may, is) = subst (Moves M m) (sym is) (by_one M m pass p acts _ _ Store word value refl refl refl
       (next_view m _ p _ Store word value refl refl refl refl refl refl refl (hand_changes h _ may.held refl refl refl refl refl))
       (by_store (record { by = refl; hand = h; may = may; quiet = quiet m _ refl refl refl })))
-  does_move m n (install pass word from to) (p, h, acts, may, is) = subst (Moves M m) (sym is) (installs_or_loses m pass p h word from to acts may)
-  does_move m n (exchange pass word from to) (p, acts, may, is) = subst (Moves M m) (sym is) (exchanges_or_loses m pass p word from to acts may)
-  does_move m n (ready pass count) (p, h, acts, may, is) = subst (Moves M m) (sym is) (enters_or_loses m pass p h count acts may)
-  does_move m n (commit pass desc from) (p, acts, may, is) = subst (Moves M m) (sym is) (decides_or_loses m pass p desc from Commit Committed acts may.exists (inl refl) (inl (refl, may)))
-  does_move m n (abort pass desc from) (p, acts, may, is) = subst (Moves M m) (sym is) (decides_or_loses m pass p desc from Abort Aborted acts may.exists (inr refl) (inr (refl, may)))
-  does_move m n (uninstall pass word from value) (p, acts, may, is) = subst (Moves M m) (sym is) (takes_or_loses m pass p word from value acts may)
-  does_move m n (start pass desc from) (p, acts, may, is) = subst (Moves M m) (sym is) (by_step M m pass p acts Start _ _
+  does_move m n (install pass word from to) base (p, h, acts, may, is) = subst (Moves M m) (sym is) (installs_or_loses m pass p h word from to acts may)
+  does_move m n (exchange pass word from to) base (p, acts, may, is) = subst (Moves M m) (sym is) (exchanges_or_loses m pass p word from to acts may)
+  does_move m n (ready pass count) base (p, h, acts, may, is) = subst (Moves M m) (sym is) (enters_or_loses m pass p h count acts may)
+  does_move m n (commit pass desc from) base (p, acts, may, is) = subst (Moves M m) (sym is) (decides_or_loses m pass p desc from Commit Committed acts may.exists (inl refl) (inl (refl, may)))
+  does_move m n (abort pass desc from) base (p, acts, may, is) = subst (Moves M m) (sym is) (decides_or_loses m pass p desc from Abort Aborted acts may.exists (inr refl) (inr (refl, may)))
+  does_move m n (uninstall pass word from value) base (p, acts, may, is) = subst (Moves M m) (sym is) (takes_or_loses m pass p word from value acts may)
+  does_move m n (start pass desc from) base (p, acts, may, is) = subst (Moves M m) (sym is) (by_step M m pass p acts Start _ _
       (by_start (record { by = refl; desc = desc; from = from; may = may; there = refl; is = refl; quiet = quiet m _ refl refl refl })))
-  does_move m n (split pass) (p, acts, may, is) = subst (Moves M m) (sym is) (record {
+  does_move m n (split pass) base (p, acts, may, is) = subst (Moves M m) (sym is) (record {
     pass = pass;
     p = p;
     acts = acts;
@@ -300,12 +313,12 @@ module _ (M : Meaning) where
     new = content m 0;
     opening = refl;
     words = refl;
-    step = step_of m p Load 0 (content m 0);
-    is_step = refl;
+    step = moved_step p;
+    is_step = moved_is m p base;
     passes = is_split may refl refl refl refl;
     effect = by_stay (record { inside = zero_inside m; same = refl; quiet = quiet m _ refl refl refl });
   })
-  does_move m n (join pass other) (p, q, acts, apart, there, is) = subst (Moves M m) (sym is) (record {
+  does_move m n (join pass other) base (p, q, acts, apart, there, is) = subst (Moves M m) (sym is) (record {
     pass = pass;
     p = p;
     acts = acts;
@@ -314,18 +327,18 @@ module _ (M : Meaning) where
     new = content m 0;
     opening = refl;
     words = refl;
-    step = step_of m p Load 0 (content m 0);
-    is_step = refl;
+    step = moved_step p;
+    is_step = moved_is m p base;
     passes = is_joined other q apart there refl refl refl refl;
     effect = by_stay (record { inside = zero_inside m; same = refl; quiet = quiet m _ refl refl refl });
   })
-  does_move m n (mark_begin pass desc tag) (p, acts, may, is) = subst (Moves M m) (sym is) (by_mark M m pass p acts _ _ (zero_inside m) refl refl (quiet m _ refl refl refl) refl
+  does_move m n (mark_begin pass desc tag) base (p, acts, may, is) = subst (Moves M m) (sym is) (by_mark M m pass p acts _ _ (zero_inside m) refl refl (quiet m _ refl refl refl) refl
       (next_view m _ p _ Load 0 _ refl refl refl refl refl refl refl (hand_begins desc tag may refl refl refl refl refl)))
-  does_move m n (mark_start pass) (p, h, acts, may, is) = subst (Moves M m) (sym is) (by_mark M m pass p acts _ _ (zero_inside m) refl refl (quiet m _ refl refl refl) refl
+  does_move m n (mark_start pass) base (p, h, acts, may, is) = subst (Moves M m) (sym is) (by_mark M m pass p acts _ _ (zero_inside m) refl refl (quiet m _ refl refl refl) refl
       (next_view m _ p _ Load 0 _ refl refl refl refl refl refl refl (hand_changes h _ may.held refl refl refl refl refl)))
-  does_move m n (mark_act pass c) (p, h, acts, may, is) = subst (Moves M m) (sym is) (by_mark M m pass p acts _ _ (zero_inside m) refl refl (quiet m _ refl refl refl) refl
+  does_move m n (mark_act pass c) base (p, h, acts, may, is) = subst (Moves M m) (sym is) (by_mark M m pass p acts _ _ (zero_inside m) refl refl (quiet m _ refl refl refl) refl
       (next_view m _ p _ Load 0 _ refl refl refl refl refl refl refl (hand_changes h _ may.held refl refl refl refl refl)))
-  does_move m n (mark_end pass) (p, h, acts, may, is) = subst (Moves M m) (sym is) (by_mark M m pass p acts _ _ (zero_inside m) refl refl (quiet m _ refl refl refl) refl
+  does_move m n (mark_end pass) base (p, h, acts, may, is) = subst (Moves M m) (sym is) (by_mark M m pass p acts _ _ (zero_inside m) refl refl (quiet m _ refl refl refl) refl
       (next_view m _ p _ Load 0 _ refl refl refl refl refl refl refl (hand_ends h may refl refl refl refl)))
-  does_move m n (mark_leave pass) (p, acts, is) = subst (Moves M m) (sym is) (by_mark M m pass p acts _ _ (zero_inside m) refl refl (quiet m _ refl refl refl) refl
+  does_move m n (mark_leave pass) base (p, acts, is) = subst (Moves M m) (sym is) (by_mark M m pass p acts _ _ (zero_inside m) refl refl (quiet m _ refl refl refl) refl
       (next_view m _ p _ Load 0 _ refl refl refl refl refl refl refl (hand_leaves refl refl refl refl)))

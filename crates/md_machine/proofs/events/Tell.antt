@@ -33,6 +33,8 @@ use Rattle.md_machine.specs.GoesOn.{moves_to}
 use Rattle.md_machine.specs.Installs.{IsUndecided, spot_of_install}
 use Rattle.md_machine.specs.Machine.{Install, IsAt, Machine, content, shape_of}
 use Rattle.md_machine.specs.Meaning.{Meaning}
+use Rattle.md_machine.specs.Own.{IsDataOf}
+use Rattle.md_machine.specs.Resolution.{never_placed}
 use Rattle.md_machine.specs.Stepping.{attempt_in_hand, step_of}
 use Rattle.md_machine.specs.clauses.Formats.{AreFormats}
 use Rattle.md_machine.specs.clauses.Hands.{HandsFit}
@@ -302,6 +304,32 @@ module _ (M : Meaning) (m n : Machine) (f : AreFormats (shape_of m) m.words) (ap
   entry_left (by_uninstall x) d e = absurd (counted_no_entry d _ x.may.counted.1 e)
   entry_left (by_start x) d e = absurd (status_entry _ x.there (own_exists m v.p _ x.may.own) d e)
 
+  not_counted_data : (k : ℕ) → IsCounted (shape_of m) v.word → IsDataOf k (place_at (shape_of m) v.word) → ⊥
+  not_counted_data k counted = ⊎_elim (λ e. false≢true (subst (λ q. IsTrue (is_counted q)) e counted.1)) (λ e. false≢true (subst (λ q. IsTrue (is_counted q)) e counted.1))
+
+  not_status_data : (k desc : ℕ) → v.word ≡ address (shape_of m) (desc_status desc) → desc < desc_count (shape_of m) → IsDataOf k (place_at (shape_of m) v.word) → ⊥
+  not_status_data k desc there exists =
+      let is : place_at (shape_of m) v.word ≡ desc_status desc = ap (place_at (shape_of m)) there ∙ place_at-address (shape_of m) (desc_status desc) exists in
+      ⊎_elim (λ e. no_key (sym is ∙ e)) (λ e. no_value (sym is ∙ e))
+    where
+      no_key : desc_status desc ≡ node_key k → ⊥
+      no_key e = cc
+
+      no_value : desc_status desc ≡ node_value k → ⊥
+      no_value e = cc
+
+  data_left : Effect M m n v.p v.kind v.word v.new → (k : ℕ) → IsDataOf k (place_at (shape_of m) v.word) → (v.new ≡ content m v.word) ⊎ (never_placed m k ≡ true)
+  data_left (by_stay x) k d = inl x.same
+  data_left (by_store x) k d =
+      let at : (q : Place) → place_at (shape_of m) v.word ≡ q → MayStoreAt m v.p x.hand.attempt (content m v.word) v.new q = λ q e. subst (MayStoreAt m v.p x.hand.attempt (content m v.word) v.new) e x.may.place in
+      inr (⊎_elim (λ e. (at (node_key k) e).1) (λ e. (at (node_value k) e).1) d)
+  data_left (by_install x) k d = absurd (not_counted_data k x.may.counted d)
+  data_left (by_exchange x) k d = absurd (not_counted_data k x.may.counted d)
+  data_left (by_ready x) k d = absurd (not_status_data k _ x.there (own_exists m v.p _ x.may.own) d)
+  data_left (by_fate x) k d = absurd (not_status_data k _ x.there (decided_exists x) d)
+  data_left (by_uninstall x) k d = absurd (not_counted_data k x.may.counted d)
+  data_left (by_start x) k d = absurd (not_status_data k _ x.there (own_exists m v.p _ x.may.own) d)
+
   -- a step tells the truth, as it is that step
   true_step : (kind : Kind) (word new : ℕ) → v.kind ≡ kind → v.word ≡ word → v.new ≡ new → Truth m v.p kind word new → TellsTruth (shape_of m) n.words v.step
   true_step kind word new k w x t = subst (λ words. TellsTruth (shape_of m) words v.step) (sym v.words) (subst (TellsTruth (shape_of m) (set m.words v.word v.new)) (sym v.is_step)
@@ -342,6 +370,7 @@ module _ (M : Meaning) (m n : Machine) (f : AreFormats (shape_of m) m.words) (ap
     takes = takes_odd v.effect;
     won = won_here v.effect;
     entry = entry_left v.effect;
+    data_word = data_left v.effect;
     truth = tells_truth v.effect;
     fates = ⊎_elim (λ x. inl (record { left = x.0; history = x.1; fates = x.2 })) inr (plainly ⊥ v.effect);
   }

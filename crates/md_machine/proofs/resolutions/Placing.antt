@@ -9,7 +9,7 @@ use Rattle.md_machine.specs.declared.node.Structure.{Structure}
 use Rattle.md_machine.proofs.clauses.FrontsFit.{fated}
 use Rattle.md_machine.specs.Machine.{Machine}
 use Rattle.md_machine.specs.Refused.{AlwaysMeansEvery, NeverMeansNone}
-use Rattle.md_machine.specs.Resolution.{entries_of, greatest, kept_structure, least, or_else, placed_under, structure_in}
+use Rattle.md_machine.specs.Resolution.{always_placed, entries_of, greatest, kept_structure, least, never_placed, or_else, placed_under, structure_in}
 
 -- one choice keeps all that another one keeps
 abbrev Within : List Bool → List Bool → Type 0
@@ -95,3 +95,9 @@ never_means m node fated = (
   (λ never choice r. none_unless (placed_under m choice node) (λ some. not_both (placed_under m (greatest m.history m.fates) node) never (placed_more m choice (greatest m.history m.fates) node (within_greatest m.history m.fates choice r) some))),
   (λ none. none (greatest m.history m.fates) (greatest_resolves m.history m.fates fated)),
 )
+
+-- no node is placed in every resolution and in none
+pub always_not_never : (m : Machine) (node : ℕ) → length m.fates ≡ length m.history → always_placed m node ≡ true → never_placed m node ≡ true → ⊥
+always_not_never m node fated always never =
+    let most = greatest m.history m.fates in
+    not_both (placed_under m most node) never (placed_more m (least m.fates) most node (least_within m.history m.fates most (greatest_resolves m.history m.fates fated)) always)

@@ -5,13 +5,9 @@ use Rattle.md_machine.specs.declared.pass.PassView.{PassView}
 use Rattle.md_machine.specs.declared.step.Step.{Step}
 use Rattle.md_machine.specs.Installs.{spot_of_install}
 use Rattle.md_machine.specs.Machine.{Install, IsAt, Machine}
-use Rattle.md_machine.specs.Trail.{segments}
+use Rattle.md_machine.specs.Trail.{EveryStepOf}
 use Rattle.md_machine.specs.events.Install.{installed_word}
 use Rattle.md_machine.specs.events.Start.{WonInstall}
-
--- every step of a pass is such, in whatever segment
-abbrev pub EveryStepOf : PassView → (Step → Type 0) → Type 0
-EveryStepOf p P = (segment : List Step) → Contains (segments p) segment → (s : Step) → Contains segment s → P s
 
 -- an install of an attempt is that of a step: the step found its old content in its word, and left its slot there
 pub record IsInstallOf (a : AttemptId) (s : Step) (i : Install) : Type 0 where

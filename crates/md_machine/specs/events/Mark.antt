@@ -19,18 +19,14 @@ use Rattle.md_machine.specs.Certified.{IsCertified, whole_changes, whole_nodes}
 use Rattle.md_machine.specs.Machine.{Machine, content, present, same_attempt, shape_of, was_begun}
 use Rattle.md_machine.specs.Meaning.{Meaning}
 use Rattle.md_machine.specs.Own.{HasDesc}
-use Rattle.md_machine.specs.Stepping.{replaced, step_of, stepped}
+use Rattle.md_machine.specs.Stepping.{replaced, stepped}
 use Rattle.md_machine.specs.Trail.{Meets, SomeStepOf}
 use Rattle.md_machine.specs.events.Ready.{IsStoredRead, reads_now, writes_now}
 use Rattle.md_machine.specs.events.Uninstall.{IsDecided}
 
--- the step of a mark or of a move of lanes: a load of word 0
-abbrev pub moved_step : Machine → PassView → Step
-moved_step m p = step_of m p Load 0 (content m 0)
-
--- the pass after it, and the machine with such a pass
-abbrev pub moved : Machine → PassView → PassView
-moved m p = stepped m p Load 0 (content m 0)
+-- the pass after a mark, which is a load of word 0, and the machine with such a pass
+abbrev pub marked : Machine → PassView → PassView
+marked m p = stepped m p Load 0 (content m 0)
 
 abbrev pub after_move : Machine → (pass : ℕ) → PassView → Machine
 after_move m pass p = replaced m pass p 0 (content m 0)
@@ -46,7 +42,7 @@ new_hand a tag = record { attempt = a; tag = tag; acts = []; certificates = []; 
 
 abbrev pub after_mark_begin : Machine → (pass : ℕ) → PassView → (desc tag : ℕ) → Machine
 after_mark_begin m pass p desc tag =
-    record (after_move m pass (record (moved m p) { hand = Some (new_hand (present m desc) tag); pending = p.pending ++ present m desc ∷ [] })) {
+    record (after_move m pass (record (marked m p) { hand = Some (new_hand (present m desc) tag); pending = p.pending ++ present m desc ∷ [] })) {
       begun = m.begun ++ present m desc ∷ [];
     }
 
@@ -56,7 +52,7 @@ pub record MayMarkStart (p : PassView) (h : Hand) : Type 0 where
   pub between : h.operating ≡ false
 
 abbrev pub after_mark_start : Machine → (pass : ℕ) → PassView → Hand → Machine
-after_mark_start m pass p h = after_move m pass (record (moved m p) { hand = Some (record h { operating = true; changes = []; stored = [] }) })
+after_mark_start m pass p h = after_move m pass (record (marked m p) { hand = Some (record h { operating = true; changes = []; stored = [] }) })
 
 abbrev pub hand_after_mark_act : Hand → Certificate → Hand
 hand_after_mark_act h c = record h {
@@ -81,7 +77,7 @@ module _ (M : Meaning) where
     pub certified : IsCertified M m p (hand_after_mark_act h c) (reads_now m h.attempt.desc count) (writes_now m h.attempt)
 
 abbrev pub after_mark_act : Machine → (pass : ℕ) → PassView → Hand → Certificate → Machine
-after_mark_act m pass p h c = after_move m pass (record (moved m p) { hand = Some (hand_after_mark_act h c) })
+after_mark_act m pass p h c = after_move m pass (record (marked m p) { hand = Some (hand_after_mark_act h c) })
 
 -- end: a step of the pass found or left the attempt decided
 pub record MayMarkEnd (m : Machine) (p : PassView) (h : Hand) : Type 0 where
@@ -105,7 +101,7 @@ abbrev pub without : List AttemptId → AttemptId → List AttemptId
 without attempts a = filter (λ b. not (same_attempt b a)) attempts
 
 abbrev pub after_mark_end : Machine → (pass : ℕ) → PassView → Hand → Machine
-after_mark_end m pass p h = after_move m pass (record (moved m p) {
+after_mark_end m pass p h = after_move m pass (record (marked m p) {
   hand = None;
   pending = without p.pending h.attempt;
   mine = p.mine ++ answered p.seen p.known h.attempt;
@@ -113,4 +109,4 @@ after_mark_end m pass p h = after_move m pass (record (moved m p) {
 
 -- leave: nothing is in hand, and the transaction is neither answered nor stopped
 abbrev pub after_mark_leave : Machine → (pass : ℕ) → PassView → Machine
-after_mark_leave m pass p = after_move m pass (record (moved m p) { hand = None })
+after_mark_leave m pass p = after_move m pass (record (marked m p) { hand = None })

@@ -1,13 +1,24 @@
 -- The moves split and join: lanes go to a new pass, or come back from one.
-use Rattle.std.specs.Prelude.{◌≤◌, ◌-◌, ◌/◌, ◌++◌, ◌||◌, nat_le, ℕ, List, [], ◌∷◌, length, take, drop, filter, slice_set, None, if◌then◌else◌}
+use Rattle.std.specs.Prelude.{false, ◌≤◌, ◌-◌, ◌/◌, ◌++◌, ◌||◌, nat_le, ℕ, List, [], ◌∷◌, length, take, drop, filter, slice_set, None, if◌then◌else◌}
 use Rattle.std.specs.List.{range_with_len}
 use Rattle.md_words.specs.declared.shape.Shape.{Shape}
 use Rattle.md_words.specs.Lanes.{lane_of_desc}
 use Rattle.md_history.specs.Front.{is_lane_of, known_of_both}
 use Rattle.md_machine.specs.declared.attempt.HistoryEntry.{HistoryEntry}
 use Rattle.md_machine.specs.declared.pass.PassView.{PassView}
+use Rattle.md_machine.specs.declared.step.Step.{Step}
+use Rattle.md_machine.specs.declared.step.Kind.TheVariants.{Load}
 use Rattle.md_machine.specs.Machine.{Machine, shape_of}
-use Rattle.md_machine.specs.events.Mark.{after_move, moved}
+use Rattle.md_machine.specs.Stepping.{attempt_in_hand}
+use Rattle.md_machine.specs.events.Mark.{after_move}
+
+-- the step of a move of lanes: a load of word 0, which always holds 0
+abbrev pub moved_step : PassView → Step
+moved_step p = record { kind = Load; word = 0; before = 0; after = 0; attempt = attempt_in_hand p.hand; placed = false }
+
+-- the pass after it. It notes nothing: what a move of lanes leaves in views is a function of the views alone
+abbrev pub moved : PassView → PassView
+moved p = record p { trail = p.trail ++ moved_step p ∷ [] }
 
 -- the pass with some of its lanes, and nothing in hand
 abbrev pub with_lanes : Shape → List ℕ → PassView → PassView
@@ -29,14 +40,14 @@ abbrev pub MaySplit : PassView → Type 0
 MaySplit p = 2 ≤ length p.lanes
 
 -- the pass with the lanes that it keeps, and the new one with those that it is given
-abbrev pub kept_part : Machine → PassView → PassView
-kept_part m p = with_lanes (shape_of m) (kept_lanes p.lanes) (moved m p)
+abbrev pub kept_part : Shape → PassView → PassView
+kept_part shape p = with_lanes shape (kept_lanes p.lanes) (moved p)
 
-abbrev pub given_part : Machine → PassView → PassView
-given_part m p = with_lanes (shape_of m) (given_lanes p.lanes) (moved m p)
+abbrev pub given_part : Shape → PassView → PassView
+given_part shape p = with_lanes shape (given_lanes p.lanes) (moved p)
 
 abbrev pub after_split : Machine → (pass : ℕ) → PassView → Machine
-after_split m pass p = record (after_move m pass (kept_part m p)) { passes = slice_set m.passes pass (kept_part m p) ++ given_part m p ∷ [] }
+after_split m pass p = record (after_move m pass (kept_part (shape_of m) p)) { passes = slice_set m.passes pass (kept_part (shape_of m) p) ++ given_part (shape_of m) p ∷ [] }
 
 -- the lanes of both, in rising order
 abbrev pub joined_lanes : Shape → (lanes others : List ℕ) → List ℕ
@@ -65,8 +76,8 @@ abbrev pub spent : PassView
 spent = record { lanes = []; seen = []; known = []; placed = []; mine = []; pending = []; past = []; trail = []; hand = None }
 
 -- the pass with all that both have
-abbrev pub joined_part : Machine → (p q : PassView) → PassView
-joined_part m p q = joined (shape_of m) (moved m p) q
+abbrev pub joined_part : Shape → (p q : PassView) → PassView
+joined_part shape p q = joined shape (moved p) q
 
 abbrev pub after_join : Machine → (pass other : ℕ) → (p q : PassView) → Machine
-after_join m pass other p q = record (after_move m pass (joined_part m p q)) { passes = slice_set (slice_set m.passes pass (joined_part m p q)) other spent }
+after_join m pass other p q = record (after_move m pass (joined_part (shape_of m) p q)) { passes = slice_set (slice_set m.passes pass (joined_part (shape_of m) p q)) other spent }
