@@ -1,11 +1,10 @@
 -- What the conditions of events refuse.
-use Rattle.std.specs.Prelude.{◌≡◌, ◌↔◌, ℕ, Bool, true, List, [], length, All, ◌⊎◌, Some, is_some, is_none}
-use Rattle.md_words.specs.declared.shape.Shape.{Shape}
+use Rattle.std.specs.Prelude.{◌≡◌, ◌↔◌, ℕ, Bool, true, List, [], length, All, Some, is_some, is_none}
 use Rattle.md_words.specs.declared.content.Spot.{Spot}
 use Rattle.md_words.specs.declared.status.Status.TheVariants.{Committed}
 use Rattle.md_words.specs.Content.{value_of, spot_of}
 use Rattle.md_words.specs.Status.{status_of, serial_of}
-use Rattle.md_words.specs.Place.{node_key, node_value, node_next, slot_new}
+use Rattle.md_words.specs.Place.{slot_new}
 use Rattle.md_words.specs.Layout.{address}
 use Rattle.md_words.specs.PlaceAt.{place_at}
 use Rattle.md_machine.specs.declared.opening.Opening.{Opening}

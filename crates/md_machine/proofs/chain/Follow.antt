@@ -9,7 +9,6 @@ use Rattle.md_history.specs.State.{State, answer, after, run, IsRight}
 use Rattle.md_machine.specs.declared.certificate.Certificate.{Certificate}
 use Rattle.md_machine.specs.declared.certificate.TidyChange.{TidyChange}
 use Rattle.md_machine.proofs.chain.Agree.{SameHeap, SameValues, same_agrees, same_facts, same_tidies, same_tidy, same_whole, tidies_shape, tidy_shape, whole_shape}
-use Rattle.md_machine.proofs.lists.Rising.{here}
 use Rattle.md_machine.specs.Certified.{AllStandBy, TidiesStandBy, after_tidies, after_whole, after_wholes}
 use Rattle.md_machine.specs.LogicalHeap.{LogicalHeap}
 use Rattle.md_machine.specs.Meaning.{Follows, KeepsFacts, Lawful, Meaning, Stands, StandsBy, TidyStands, TidyStandsBy, after_tidy}

@@ -13,8 +13,6 @@ use Rattle.md_machine.specs.declared.attempt.HistoryEntry.{HistoryEntry}
 use Rattle.md_machine.specs.declared.node.PlacedNode.{PlacedNode}
 use Rattle.md_machine.specs.declared.node.Structure.{Structure}
 use Rattle.md_machine.specs.declared.pass.PassView.{PassView}
-use Rattle.md_machine.specs.declared.step.Kind.{Kind}
-use Rattle.md_machine.specs.declared.step.Kind.TheVariants.{Load}
 use Rattle.md_machine.specs.declared.step.Step.{Step}
 use Rattle.md_machine.proofs.clauses.LanesApart.{At}
 use Rattle.md_machine.proofs.events.MoveFacts.{MoveFacts}

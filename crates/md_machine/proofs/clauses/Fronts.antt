@@ -1,15 +1,13 @@
 -- The fronts after each event.
-use Rattle.std.proofs.Common.{◌≡◌, ◌≢◌, ℕ, ap, ◌∙◌, List, set, refl, sym, subst, ⊎_elim}
+use Rattle.std.proofs.Common.{◌≡◌, ◌≢◌, ℕ, List, set, refl, sym, subst, ⊎_elim}
 use Rattle.std.specs.List.{Contains}
 use Rattle.md_words.specs.Lanes.{lane_of_desc}
 use Rattle.md_words.proofs.Owners.{owner_of_desc}
-use Rattle.md_history.specs.declared.entries.Fate.{Fate}
 use Rattle.md_history.specs.Front.{IsPrefix}
 use Rattle.md_machine.specs.declared.attempt.HistoryEntry.{HistoryEntry}
-use Rattle.md_machine.specs.declared.step.Kind.TheVariants.{Load}
 use Rattle.md_machine.specs.declared.pass.PassView.{PassView}
 use Rattle.md_machine.proofs.clauses.Entries.{GoOn}
-use Rattle.md_machine.proofs.clauses.FrontsFit.{fated, front_all, front_joined, front_kept, front_spent, front_stepped, fronts_more, fronts_other, fronts_set}
+use Rattle.md_machine.proofs.clauses.FrontsFit.{front_all, front_joined, front_kept, front_spent, front_stepped, fronts_more, fronts_other, fronts_set}
 use Rattle.md_machine.proofs.clauses.LanesApart.{At}
 use Rattle.md_machine.proofs.events.MoveFacts.{MoveFacts, history_grows, new_entry}
 use Rattle.md_machine.proofs.events.Moves.{FrontGoes, PassesGo, goes_on, is_joined, is_split, learns, sees_all}

@@ -1,17 +1,14 @@
 -- The key and the value of a placed node stand as flagged steps found them, after every event.
-use Rattle.std.proofs.Common.{get_or-set_other, ◌≡◌, ℕ, ◌⊎◌, List, length, refl, sym, ap, ◌∙◌, subst, inl, inr, ⊎_elim, true, set, get_or}
+use Rattle.std.proofs.Common.{get_or-set_other, ◌≡◌, ℕ, List, length, sym, ap, ◌∙◌, subst, ⊎_elim, true, set, get_or}
 use Rattle.std.specs.List.{Contains}
 use Rattle.std.proofs.lemmas.List.{set-get_or}
 use Rattle.std.proofs.lemmas.Bool.{cases_eq}
-use Rattle.md_words.specs.declared.shape.Shape.{Shape}
 use Rattle.md_words.specs.Place.{Place, node_key, node_value, node_next}
 use Rattle.md_words.specs.PlaceAt.{place_at}
 use Rattle.md_machine.specs.declared.step.Step.{Step}
 use Rattle.md_machine.specs.declared.pass.PassView.{PassView}
-use Rattle.md_machine.proofs.clauses.FrontsFit.{fated}
 use Rattle.md_machine.proofs.events.MoveFacts.{MoveFacts}
 use Rattle.md_machine.proofs.events.Steps.{adds_step}
-use Rattle.md_machine.proofs.lists.Rising.{here, there}
 use Rattle.md_machine.proofs.resolutions.Placing.{always_not_never}
 use Rattle.md_machine.specs.Machine.{IsAt, Machine, content, shape_of}
 use Rattle.md_machine.specs.Own.{IsDataOf, IsWordOf}

@@ -1,5 +1,5 @@
 -- An odd word holds a slot that the present attempt of its descriptor installed there.
-use Rattle.std.proofs.Common.{append_assoc, ◌≡◌, ℕ, ◌+◌, ◌<◌, ◌≤◌, true, false, not, List, [], ◌∷◌, ◌++◌, set, get_or, sym, ap, ◌∙◌, subst, ⊎_elim, Some, append-nil, eq-eqb, get_or-set_same, get_or-set_other, arith}
+use Rattle.std.proofs.Common.{append_assoc, ◌≡◌, ℕ, ◌+◌, ◌<◌, ◌≤◌, true, false, not, List, [], ◌∷◌, ◌++◌, set, get_or, sym, ap, ◌∙◌, subst, ⊎_elim, Some, eq-eqb, get_or-set_same, get_or-set_other, arith}
 use Rattle.std.specs.List.{Contains}
 use Rattle.std.proofs.lemmas.Bool.{cases_eq, and_from, true≢false}
 use Rattle.std.proofs.lemmas.List.Elements.{All-contains, Contains-append_cases, Contains-append_left, Contains-append_right, Contains-push}

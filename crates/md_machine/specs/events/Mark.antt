@@ -13,7 +13,6 @@ use Rattle.md_machine.specs.declared.attempt.Hand.{Hand}
 use Rattle.md_machine.specs.declared.attempt.HistoryEntry.{HistoryEntry}
 use Rattle.md_machine.specs.declared.certificate.Certificate.{Certificate}
 use Rattle.md_machine.specs.declared.step.Kind.TheVariants.{Load}
-use Rattle.md_machine.specs.declared.step.Step.{Step}
 use Rattle.md_machine.specs.declared.pass.PassView.{PassView}
 use Rattle.md_machine.specs.Certified.{IsCertified, whole_changes, whole_nodes}
 use Rattle.md_machine.specs.Machine.{Machine, content, present, same_attempt, shape_of, was_begun}
