@@ -10,9 +10,9 @@ use Rattle.md_machine.specs.declared.certificate.Certificate.{Certificate}
 use Rattle.md_machine.specs.declared.certificate.Change.{Change}
 use Rattle.md_machine.specs.declared.certificate.NewNode.{NewNode}
 use Rattle.md_machine.specs.declared.certificate.TidyChange.{TidyChange}
-use Rattle.md_machine.specs.Certified.{after_tidies, after_whole, after_wholes, all_changes, all_nodes, changes_of_tidy, whole_changes, whole_nodes}
-use Rattle.md_machine.specs.LogicalHeap.{AgreeWherePlaced, LogicalHeap, LogicalWords, after_node, after_nodes, changed, changed_all, put}
-use Rattle.md_machine.specs.Meaning.{KeepsFacts, after_certificate, after_tidy}
+use Rattle.md_machine.specs.LogicalHeap.{LogicalWords, LogicalHeap, AgreeWherePlaced, put, changed, changed_all, after_node, after_nodes}
+use Rattle.md_machine.specs.Meaning.{after_tidy, after_certificate, KeepsFacts}
+use Rattle.md_machine.specs.Certified.{after_tidies, after_whole, after_wholes, changes_of_tidy, whole_changes, whole_nodes, all_changes, all_nodes}
 
 -- what is true of each element of two lists, one after the other, is so of each list's
 pub all_left : {X : Type 0} (P : X → Type 0) (xs ys : List X) → All P (xs ++ ys) → All P xs

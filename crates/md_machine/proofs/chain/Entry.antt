@@ -17,12 +17,12 @@ use Rattle.md_machine.specs.declared.certificate.NewNode.{NewNode}
 use Rattle.md_machine.specs.declared.certificate.TidyChange.{TidyChange}
 use Rattle.md_machine.specs.declared.node.PlacedNode.{PlacedNode}
 use Rattle.md_machine.specs.declared.node.Structure.{Structure}
-use Rattle.md_machine.proofs.chain.Agree.{SameHeap, SameValues, put_stays, same_wholes, wholes_keep, wholes_shape}
-use Rattle.md_machine.proofs.chain.Follow.{FollowsActs, same_follows, wholes_follow}
-use Rattle.md_machine.specs.Certified.{CertifiedIn, HasWords, after_tidies, after_whole, after_wholes, all_changes, all_nodes, as_found, first_content, is_written, placed_by, whole_nodes}
-use Rattle.md_machine.specs.LogicalHeap.{LogicalHeap, after_node, after_nodes, changed, changed_all, put}
-use Rattle.md_machine.specs.Meaning.{Lawful, Meaning, after_tidy}
+use Rattle.md_machine.specs.LogicalHeap.{LogicalHeap, put, changed, changed_all, after_node, after_nodes}
+use Rattle.md_machine.specs.Meaning.{Meaning, Lawful, after_tidy}
 use Rattle.md_machine.specs.Resolution.{or_else, structure_in}
+use Rattle.md_machine.specs.Certified.{CertifiedIn, HasWords, as_found, first_content, is_written, after_tidies, after_whole, after_wholes, whole_nodes, all_changes, all_nodes, placed_by}
+use Rattle.md_machine.proofs.chain.Agree.{SameValues, SameHeap, put_stays, same_wholes, wholes_shape, wholes_keep}
+use Rattle.md_machine.proofs.chain.Follow.{FollowsActs, wholes_follow, same_follows}
 
 -- the new value that slots give a word
 abbrev pub new_value : List Write → ℕ → Option ℕ

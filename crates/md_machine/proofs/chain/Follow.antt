@@ -8,10 +8,10 @@ use Rattle.md_history.specs.Act.{act_of}
 use Rattle.md_history.specs.State.{State, answer, after, run, IsRight}
 use Rattle.md_machine.specs.declared.certificate.Certificate.{Certificate}
 use Rattle.md_machine.specs.declared.certificate.TidyChange.{TidyChange}
-use Rattle.md_machine.proofs.chain.Agree.{SameHeap, SameValues, same_agrees, same_facts, same_tidies, same_tidy, same_whole, tidies_shape, tidy_shape, whole_shape}
-use Rattle.md_machine.specs.Certified.{AllStandBy, TidiesStandBy, after_tidies, after_whole, after_wholes}
 use Rattle.md_machine.specs.LogicalHeap.{LogicalHeap}
-use Rattle.md_machine.specs.Meaning.{Follows, KeepsFacts, Lawful, Meaning, Stands, StandsBy, TidyStands, TidyStandsBy, after_tidy}
+use Rattle.md_machine.specs.Meaning.{Meaning, Lawful, TidyStandsBy, TidyStands, StandsBy, Stands, Follows, KeepsFacts, after_tidy}
+use Rattle.md_machine.specs.Certified.{TidiesStandBy, AllStandBy, after_tidies, after_whole, after_wholes}
+use Rattle.md_machine.proofs.chain.Agree.{SameValues, SameHeap, same_tidy, same_tidies, same_whole, tidy_shape, tidies_shape, whole_shape, same_agrees, same_facts}
 
 -- what stands by the words of one heap stands by those of another one with the same values
 tidy_itself : (own h : LogicalHeap) → SameValues own h → (t : TidyChange) → TidyStandsBy own h t → TidyStands h t

@@ -10,10 +10,10 @@ use Rattle.md_machine.specs.declared.attempt.AttemptId.{AttemptId}
 use Rattle.md_machine.specs.declared.attempt.HistoryEntry.{HistoryEntry}
 use Rattle.md_machine.specs.declared.node.Structure.{Structure}
 use Rattle.md_machine.specs.declared.step.TheConstants.{LAST_COUNT}
-use Rattle.md_machine.specs.Installs.{spot_of_install}
-use Rattle.md_machine.specs.Machine.{Install, Machine, content, is_ready, same_attempt, shape_of}
-use Rattle.md_machine.specs.Resolution.{is_kept, kept_structure, logical_value, or_else, structure_in, value_by_spot, value_under}
+use Rattle.md_machine.specs.Machine.{Machine, Install, shape_of, content, same_attempt, is_ready}
+use Rattle.md_machine.specs.Resolution.{is_kept, kept_structure, structure_in, or_else, value_under, value_by_spot, logical_value}
 use Rattle.md_machine.specs.events.Install.{installed_word}
+use Rattle.md_machine.specs.Installs.{spot_of_install}
 
 -- a word with an even count stands for its own value, and one with an odd count for that under the descriptor
 module _ (m : Machine) (choice : List Bool) (word : ℕ) (counted : IsCounted (shape_of m) word) where
