@@ -1,7 +1,6 @@
 // Asking for an account's sums.
 ghost use Rattle.std.specs.Prelude.{◌≡◌, ◌≤◌, None, IfOk, IfErr};
-ghost use Rattle.md_history.specs.Script.{Follows, Adds};
-ghost use Rattle.md_history.specs.Calls.{BrokeOff};
+ghost use Rattle.md_book.specs.Playing.{PlaysPart};
 ghost use Rattle.md_book.specs.Scripts.{look_account};
 
 use crate::commands::BookReply;
@@ -12,8 +11,7 @@ use md_history::{Stop, TxCalls};
 pub(crate) fn look_account<T: TxCalls>(t: &mut T, account: u32) -> Result<BookReply, Stop>
     requires going { T.stop t.old ≡ None }
     requires maps { MAPS ≤ T.maps (T.kept t.old) }
-    ensures ok { IfOk result (λ r. (T.stop t.new ≡ None) × Adds (look_account account) r (T.acts t.old) (T.acts t.new)) }
-    ensures err { IfErr result (λ e. BrokeOff (Follows (look_account account)) e (T.acts t.old) (T.acts t.new) (T.stop t.new)) }
+    ensures plays { PlaysPart (look_account account) result T.acts T.stop t.old t.new }
     ensures kept { T.kept t.new ≡ T.kept t.old }
 {
     let bought = t.get(BOUGHT, account as u64)?.unwrap_or(0);

@@ -1,7 +1,6 @@
 // Cancelling an order.
 ghost use Rattle.std.specs.Prelude.{◌≡◌, ◌≤◌, None, IfOk, IfErr};
-ghost use Rattle.md_history.specs.Script.{Follows, Adds};
-ghost use Rattle.md_history.specs.Calls.{BrokeOff};
+ghost use Rattle.md_book.specs.Playing.{PlaysPart};
 ghost use Rattle.md_book.specs.Scripts.{cancel};
 
 use crate::commands::BookReply;
@@ -15,8 +14,7 @@ use md_history::{Stop, TxCalls};
 pub(crate) fn cancel<T: TxCalls>(t: &mut T, name: u64) -> Result<BookReply, Stop>
     requires going { T.stop t.old ≡ None }
     requires maps { MAPS ≤ T.maps (T.kept t.old) }
-    ensures ok { IfOk result (λ r. (T.stop t.new ≡ None) × Adds (cancel name) r (T.acts t.old) (T.acts t.new)) }
-    ensures err { IfErr result (λ e. BrokeOff (Follows (cancel name)) e (T.acts t.old) (T.acts t.new) (T.stop t.new)) }
+    ensures plays { PlaysPart (cancel name) result T.acts T.stop t.old t.new }
     ensures kept { T.kept t.new ≡ T.kept t.old }
 {
     let Some(order) = t.remove(OPEN_ORDERS, name)? else {

@@ -9,10 +9,10 @@ pub enum Side {
     Sell,
 }
 
-/// A command. An account is from 1 to `MAX_ACCOUNT`, a price from 1 to `MAX_PRICE` (in ticks), and a quantity
-/// from 1 to `MAX_QUANTITY`. An order's name is `caller * 2^32 + line`, with a caller from 1 to `MAX_CALLER` and
-/// the line from 1 to `MAX_LINE` at which that caller placed it. The places that a fill or a kill looks at are
-/// those of a version of the order file, `PLACES_IN_VERSION_1` or `PLACES_IN_VERSION_2`.
+/// A command. An account is from 1 to `MAX_ACCOUNT`, a price from 1 to `MAX_PRICE` (in ticks), and a
+/// quantity from 1 to `MAX_QUANTITY`. An order's name is `caller * 2^32 + line`, with a caller from 1 to
+/// `MAX_CALLER` and the line from 1 to `MAX_LINE` at which that caller placed it. A fill or a kill looks at
+/// the places of a version of the order file, `PLACES_IN_VERSION_1` or `PLACES_IN_VERSION_2`.
 #[derive(Clone, Copy, Debug, PartialEq, Eq)]
 pub enum Command {
     /// Places an order.
@@ -27,8 +27,8 @@ pub enum Command {
     Cancel {
         name: u64,
     },
-    /// Takes from the orders that rest at a side and a price, the oldest first. It looks at so many places
-    /// at most, a cancelled order's among them.
+    /// Takes from the orders that rest at a side and a price, the oldest first. It looks at so many
+    /// places at most, and the place of a cancelled order is one of them.
     Fill {
         account: u32,
         side: Side,
@@ -36,7 +36,8 @@ pub enum Command {
         quantity: u32,
         places: u8,
     },
-    /// Fill or kill: takes its whole quantity as a fill does where these places have it, and otherwise nothing.
+    /// Fill or kill: takes its whole quantity as a fill does if those places have it, and otherwise
+    /// nothing.
     Kill {
         account: u32,
         side: Side,

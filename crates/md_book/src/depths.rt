@@ -1,7 +1,6 @@
 // Asking for a depth.
 ghost use Rattle.std.specs.Prelude.{◌≡◌, ◌≤◌, None, IfOk, IfErr};
-ghost use Rattle.md_history.specs.Script.{Follows, Adds};
-ghost use Rattle.md_history.specs.Calls.{BrokeOff};
+ghost use Rattle.md_book.specs.Playing.{PlaysPart};
 ghost use Rattle.md_book.specs.Book.{IsPrice};
 ghost use Rattle.md_book.specs.Scripts.{look_depth};
 
@@ -14,8 +13,7 @@ pub(crate) fn look_depth<T: TxCalls>(t: &mut T, side: Side, price: u32) -> Resul
     requires going { T.stop t.old ≡ None }
     requires price { IsPrice price }
     requires maps { MAPS ≤ T.maps (T.kept t.old) }
-    ensures ok { IfOk result (λ r. (T.stop t.new ≡ None) × Adds (look_depth side price) r (T.acts t.old) (T.acts t.new)) }
-    ensures err { IfErr result (λ e. BrokeOff (Follows (look_depth side price)) e (T.acts t.old) (T.acts t.new) (T.stop t.new)) }
+    ensures plays { PlaysPart (look_depth side price) result T.acts T.stop t.old t.new }
     ensures kept { T.kept t.new ≡ T.kept t.old }
 {
     let level = side.level(price);

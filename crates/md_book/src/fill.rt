@@ -1,7 +1,6 @@
 // Filling from resting orders.
 ghost use Rattle.std.specs.Prelude.{◌≡◌, ◌<◌, ◌≤◌, ◌+◌, None, IfOk, IfErr};
-ghost use Rattle.md_history.specs.Script.{Follows, Adds};
-ghost use Rattle.md_history.specs.Calls.{BrokeOff};
+ghost use Rattle.md_book.specs.Playing.{PlaysPart};
 ghost use Rattle.md_book.specs.Book.{IsPrice};
 ghost use Rattle.md_book.specs.Filling.{unfilled, with_part, take_parts, book_taken, fill};
 
@@ -56,8 +55,7 @@ fn take_parts<T: TxCalls>(
     requires going { T.stop t.old ≡ None }
     requires maps { MAPS ≤ T.maps (T.kept t.old) }
     requires level { level < T.queues (T.kept t.old) }
-    ensures ok { IfOk result (λ r. (T.stop t.new ≡ None) × Adds (take_parts side level places (unfilled quantity)) r (T.acts t.old) (T.acts t.new)) }
-    ensures err { IfErr result (λ e. BrokeOff (Follows (take_parts side level places (unfilled quantity))) e (T.acts t.old) (T.acts t.new) (T.stop t.new)) }
+    ensures plays { PlaysPart (take_parts side level places (unfilled quantity)) result T.acts T.stop t.old t.new }
     ensures kept { T.kept t.new ≡ T.kept t.old }
     ensures rest { IfOk result (λ f. f.rest ≤ quantity) }
 {
@@ -85,8 +83,7 @@ fn book_taken<T: TxCalls>(
 ) -> Result<(), Stop>
     requires going { T.stop t.old ≡ None }
     requires maps { MAPS ≤ T.maps (T.kept t.old) }
-    ensures ok { IfOk result (λ r. (T.stop t.new ≡ None) × Adds (book_taken side level account taken) r (T.acts t.old) (T.acts t.new)) }
-    ensures err { IfErr result (λ e. BrokeOff (Follows (book_taken side level account taken)) e (T.acts t.old) (T.acts t.new) (T.stop t.new)) }
+    ensures plays { PlaysPart (book_taken side level account taken) result T.acts T.stop t.old t.new }
     ensures kept { T.kept t.new ≡ T.kept t.old }
 {
     if taken != 0 {
@@ -110,8 +107,7 @@ pub(crate) fn fill<T: TxCalls>(
     requires going { T.stop t.old ≡ None }
     requires maps { MAPS ≤ T.maps (T.kept t.old) }
     requires queues { LEVELS ≤ T.queues (T.kept t.old) }
-    ensures ok { IfOk result (λ r. (T.stop t.new ≡ None) × Adds (fill account side price quantity places) r (T.acts t.old) (T.acts t.new)) }
-    ensures err { IfErr result (λ e. BrokeOff (Follows (fill account side price quantity places)) e (T.acts t.old) (T.acts t.new) (T.stop t.new)) }
+    ensures plays { PlaysPart (fill account side price quantity places) result T.acts T.stop t.old t.new }
     ensures kept { T.kept t.new ≡ T.kept t.old }
 {
     let level = side.level(price);

@@ -1,7 +1,6 @@
 // Filling from resting orders the whole quantity, or nothing.
 ghost use Rattle.std.specs.Prelude.{◌≡◌, ◌≤◌, take, None, IfOk, IfErr};
-ghost use Rattle.md_history.specs.Script.{Follows, Adds};
-ghost use Rattle.md_history.specs.Calls.{BrokeOff};
+ghost use Rattle.md_book.specs.Playing.{PlaysPart};
 ghost use Rattle.md_book.specs.Book.{IsPrice};
 ghost use Rattle.md_book.specs.Killing.{have_left, kill};
 
@@ -20,12 +19,12 @@ fn names_in(line: &Line) -> &[u64]
     &line.values[..count]
 }
 
-/// Whether the orders of these names have so much left in all. It looks one up after another, until they have.
+/// Whether the orders of these names have so much left in all. It looks one up after another, until they
+/// have.
 fn have_left<T: TxCalls>(t: &mut T, quantity: u32, names: &[u64]) -> Result<bool, Stop>
     requires going { T.stop t.old ≡ None }
     requires maps { MAPS ≤ T.maps (T.kept t.old) }
-    ensures ok { IfOk result (λ r. (T.stop t.new ≡ None) × Adds (have_left quantity names.now) r (T.acts t.old) (T.acts t.new)) }
-    ensures err { IfErr result (λ e. BrokeOff (Follows (have_left quantity names.now)) e (T.acts t.old) (T.acts t.new) (T.stop t.new)) }
+    ensures plays { PlaysPart (have_left quantity names.now) result T.acts T.stop t.old t.new }
     ensures kept { T.kept t.new ≡ T.kept t.old }
 {
     let mut lacking = quantity;
@@ -54,8 +53,7 @@ pub(crate) fn kill<T: TxCalls>(
     requires going { T.stop t.old ≡ None }
     requires maps { MAPS ≤ T.maps (T.kept t.old) }
     requires queues { LEVELS ≤ T.queues (T.kept t.old) }
-    ensures ok { IfOk result (λ r. (T.stop t.new ≡ None) × Adds (kill account side price quantity places) r (T.acts t.old) (T.acts t.new)) }
-    ensures err { IfErr result (λ e. BrokeOff (Follows (kill account side price quantity places)) e (T.acts t.old) (T.acts t.new) (T.stop t.new)) }
+    ensures plays { PlaysPart (kill account side price quantity places) result T.acts T.stop t.old t.new }
     ensures kept { T.kept t.new ≡ T.kept t.old }
 {
     let line = t.line(side.level(price), places)?;

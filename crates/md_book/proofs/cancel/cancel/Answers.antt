@@ -7,16 +7,16 @@ use Rattle.md_book.specs.Scripts.{cancel}
 use Rattle.md_book.proofs.ByValue.{at-some}
 use Rattle.md_book.proofs.cancel.cancel.Goals as goal
 
-pub returns-in_err-lower-clause-err : goal.returns-in_err-lower-clause-err
-returns-in_err-lower-clause-err g c =
+pub returns-in_err-lower-clause-plays : goal.returns-in_err-lower-clause-plays
+returns-in_err-lower-clause-plays g c =
     let p = err_from_is_err_and c.from_residual-in_err-lower.result c.from_residual-in_err-lower.ensures.1 in
     let at0 = at-begin (cancel c.args.name) (g.T.TxCalls.acts c.args.t.now) in
     let at1 = at-some _ _ _ _ (at-more at0 c.in_ok-order.ensures.ok) c.in-Some.is in
-    rw (p.1, p.2) (at-broke_part (λ _. done (Cancelled (left_in c.in-Some.order))) at1 (rw (c.level_in.ensures, c.left_in-left.ensures) at c.in_err-lower.ensures.err))
+    rw (p.1, p.2) (at-broke_part (λ _. done (Cancelled (left_in c.in-Some.order))) at1 (rw (c.level_in.ensures, c.left_in-left.ensures) at c.in_err-lower.ensures.plays))
 
-pub returns-clause-ok : goal.returns-clause-ok
-returns-clause-ok g c =
+pub returns-clause-plays : goal.returns-clause-plays
+returns-clause-plays g c =
     let at0 = at-begin (cancel c.args.name) (g.T.TxCalls.acts c.args.t.now) in
     let at1 = at-some _ _ _ _ (at-more at0 c.in_ok-order.ensures.ok) c.in-Some.is in
-    let lowered = rw (c.level_in.ensures, c.left_in-left.ensures) at c.in_ok-lower.ensures.ok in
+    let lowered = rw (c.level_in.ensures, c.left_in-left.ensures) at c.in_ok-lower.ensures.plays in
     rw c.left_in-left.ensures (lowered.0, at-done (at-part (λ _. done (Cancelled (left_in c.in-Some.order))) at1 lowered.1))

@@ -7,25 +7,25 @@ use Rattle.md_book.specs.Scripts.{raise}
 use Rattle.md_book.specs.Filling.{take_from, resting_sums}
 use Rattle.md_book.proofs.fronts.take_from.Goals as goal
 
-pub returns-in_err-put_back-clause-err : goal.returns-in_err-put_back-clause-err
-returns-in_err-put_back-clause-err g c =
+pub returns-in_err-put_back-clause-plays : goal.returns-in_err-put_back-clause-plays
+returns-in_err-put_back-clause-plays g c =
     let p = err_from_is_err_and c.from_residual-in_err-put_back.result c.from_residual-in_err-put_back.ensures.1 in
     let at0 = at-begin (take_from c.args.side c.args.level c.args.name c.args.order c.args.taken) (g.T.TxCalls.acts c.args.t.now) in
     let at1 = at-more at0 c.in_ok-remove.ensures.ok in
-    rw (p.1, p.2) (at-broke_part (λ _. bind (raise (resting_sums c.args.side) (account_in c.args.order) c.args.taken) (λ _. done (Live (record { name = c.args.name; taken = c.args.taken })))) at1 c.in_err-put_back.ensures.err)
+    rw (p.1, p.2) (at-broke_part (λ _. bind (raise (resting_sums c.args.side) (account_in c.args.order) c.args.taken) (λ _. done (Live (record { name = c.args.name; taken = c.args.taken })))) at1 c.in_err-put_back.ensures.plays)
 
-pub returns-in_err-raise-clause-err : goal.returns-in_err-raise-clause-err
-returns-in_err-raise-clause-err g c =
+pub returns-in_err-raise-clause-plays : goal.returns-in_err-raise-clause-plays
+returns-in_err-raise-clause-plays g c =
     let p = err_from_is_err_and c.from_residual-in_err-raise.result c.from_residual-in_err-raise.ensures.1 in
     let at0 = at-begin (take_from c.args.side c.args.level c.args.name c.args.order c.args.taken) (g.T.TxCalls.acts c.args.t.now) in
     let at1 = at-more at0 c.in_ok-remove.ensures.ok in
-    let at2 = at-part (λ _. bind (raise (resting_sums c.args.side) (account_in c.args.order) c.args.taken) (λ _. done (Live (record { name = c.args.name; taken = c.args.taken })))) at1 c.in_ok-put_back.ensures.ok.1 in
-    rw (p.1, p.2) (at-broke_part (λ _. done (Live (record { name = c.args.name; taken = c.args.taken }))) at2 (rw (c.resting_sums.ensures, c.account_in.ensures) at c.in_err-raise.ensures.err))
+    let at2 = at-part (λ _. bind (raise (resting_sums c.args.side) (account_in c.args.order) c.args.taken) (λ _. done (Live (record { name = c.args.name; taken = c.args.taken })))) at1 c.in_ok-put_back.ensures.plays.1 in
+    rw (p.1, p.2) (at-broke_part (λ _. done (Live (record { name = c.args.name; taken = c.args.taken }))) at2 (rw (c.resting_sums.ensures, c.account_in.ensures) at c.in_err-raise.ensures.plays))
 
-pub returns-clause-ok : goal.returns-clause-ok
-returns-clause-ok g c =
+pub returns-clause-plays : goal.returns-clause-plays
+returns-clause-plays g c =
     let at0 = at-begin (take_from c.args.side c.args.level c.args.name c.args.order c.args.taken) (g.T.TxCalls.acts c.args.t.now) in
     let at1 = at-more at0 c.in_ok-remove.ensures.ok in
-    let at2 = at-part (λ _. bind (raise (resting_sums c.args.side) (account_in c.args.order) c.args.taken) (λ _. done (Live (record { name = c.args.name; taken = c.args.taken })))) at1 c.in_ok-put_back.ensures.ok.1 in
-    let raised = rw (c.resting_sums.ensures, c.account_in.ensures) at c.in_ok-raise.ensures.ok in
+    let at2 = at-part (λ _. bind (raise (resting_sums c.args.side) (account_in c.args.order) c.args.taken) (λ _. done (Live (record { name = c.args.name; taken = c.args.taken })))) at1 c.in_ok-put_back.ensures.plays.1 in
+    let raised = rw (c.resting_sums.ensures, c.account_in.ensures) at c.in_ok-raise.ensures.plays in
     (raised.0, at-done (at-part (λ _. done (Live (record { name = c.args.name; taken = c.args.taken }))) at2 raised.1))

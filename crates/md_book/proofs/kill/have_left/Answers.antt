@@ -8,8 +8,8 @@ use Rattle.md_book.proofs.Lookups.{value_or_0-unwrap, have_left-none, have_left-
 use Rattle.md_book.proofs.kill.have_left.Goals as goal
 use Rattle.md_book.proofs.kill.have_left.Goals.{else-loop-name-test, then-loop-name-test+then-lacking-eq0}
 
-pub returns-in_err-get-clause-err : goal.returns-in_err-get-clause-err
-returns-in_err-get-clause-err g c =
+pub returns-in_err-get-clause-plays : goal.returns-in_err-get-clause-plays
+returns-in_err-get-clause-plays g c =
     let p = err_from_is_err_and c.from_residual.result c.from_residual.ensures.1 in
     let at0 = at-rest c.loop-name.invariant.at (have_left-more c.loop-name.lacking c.args.names.now c.loop-name.name-index c.loop-name-test.true c.if-lacking-eq0.false) in
     rw (p.1, p.2) (at-broke at0 c.in_err-get.ensures.err c.loop-name.invariant.going)
@@ -25,8 +25,8 @@ loop-name-preserved g c =
       kept = c.get.ensures.kept ∙ c.loop-name.invariant.kept;
     }
 
-pub returns-clause-ok : goal.returns-clause-ok
-returns-clause-ok g c =
+pub returns-clause-plays : goal.returns-clause-plays
+returns-clause-plays g c =
     let names = drop c.loop-name.name-index c.args.names.now in
     elim c.loop-name-test.branch [
       | else-loop-name-test w ↦ (c.loop-name.invariant.going, at-done (at-rest c.loop-name.invariant.at (have_left-last c.loop-name.lacking names (drop_all c.loop-name.name-index c.args.names.now w.loop-name-test.false))))

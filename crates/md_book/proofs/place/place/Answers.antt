@@ -5,18 +5,18 @@ use Rattle.md_book.specs.declared.commands.BookReply.TheVariants.{Placed}
 use Rattle.md_book.specs.Scripts.{place}
 use Rattle.md_book.proofs.place.place.Goals as goal
 
-pub returns-in_err-raise-clause-err : goal.returns-in_err-raise-clause-err
-returns-in_err-raise-clause-err g c =
+pub returns-in_err-raise-clause-plays : goal.returns-in_err-raise-clause-plays
+returns-in_err-raise-clause-plays g c =
     let p = err_from_is_err_and c.from_residual-in_err-raise.result c.from_residual-in_err-raise.ensures.1 in
     let at0 = at-begin (place c.args.name c.args.account c.args.side c.args.price c.args.quantity) (g.T.TxCalls.acts c.args.t.now) in
     let at1 = at-more at0 (rw c.packed-order.ensures at c.in_ok-insert.ensures.ok) in
     let at2 = at-more at1 (rw c.level-level.ensures.level at c.in_ok-enqueue.ensures.ok) in
-    rw (p.1, p.2) (at-broke_part (λ _. done Placed) at2 (rw c.level-level.ensures.level at c.in_err-raise.ensures.err))
+    rw (p.1, p.2) (at-broke_part (λ _. done Placed) at2 (rw c.level-level.ensures.level at c.in_err-raise.ensures.plays))
 
-pub returns-clause-ok : goal.returns-clause-ok
-returns-clause-ok g c =
+pub returns-clause-plays : goal.returns-clause-plays
+returns-clause-plays g c =
     let at0 = at-begin (place c.args.name c.args.account c.args.side c.args.price c.args.quantity) (g.T.TxCalls.acts c.args.t.now) in
     let at1 = at-more at0 (rw c.packed-order.ensures at c.in_ok-insert.ensures.ok) in
     let at2 = at-more at1 (rw c.level-level.ensures.level at c.in_ok-enqueue.ensures.ok) in
-    let raised = rw c.level-level.ensures.level at c.in_ok-raise.ensures.ok in
+    let raised = rw c.level-level.ensures.level at c.in_ok-raise.ensures.plays in
     (raised.0, at-done (at-part (λ _. done Placed) at2 raised.1))
