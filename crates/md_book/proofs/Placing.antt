@@ -8,6 +8,7 @@ use Rattle.md_history.specs.Act.{act_of}
 use Rattle.md_history.specs.State.{State, map_at, queue_at, after}
 use Rattle.md_history.specs.Counts.{AreFew}
 use Rattle.md_history.specs.Script.{done}
+use Rattle.md_history.proofs.Runs.{length-maps}
 use Rattle.md_book.specs.declared.commands.Side.{Side}
 use Rattle.md_book.specs.declared.commands.Side.TheVariants.{Buy, Sell}
 use Rattle.md_book.specs.declared.commands.Command.TheVariants.{Place}
@@ -18,7 +19,7 @@ use Rattle.md_book.specs.Stands.{packed, open_order, unless_0, Shows}
 use Rattle.md_book.specs.Scripts.{value_or_0, place, raise}
 use Rattle.md_book.specs.Commands.{IsPlace}
 use Rattle.md_book.specs.Meets.{MayTake, command_bounds}
-use Rattle.md_book.proofs.Sizes.{HasRoom, after-numbers}
+use Rattle.md_book.proofs.Sizes.{HasRoom}
 use Rattle.md_book.proofs.Plays.{played, made, played-bind, outcome-bind, ends-bind}
 use Rattle.md_book.proofs.Changes.{at_each, Sets, Lines, insert-sets, enqueue-lines, map_at-lines, queue_at-sets}
 use Rattle.md_book.proofs.Raises.{raise-sets}
@@ -40,7 +41,7 @@ place-few s b o room =
     let new = is_none (fin.get (map_at s OPEN_ORDERS) o.name) in
     ends-bind (raise DEPTHS level o.left) (λ _. done Placed) t (λ _ _ acts. AreFew command_bounds (act_of (Insert OPEN_ORDERS o.name order) (Flag new) ∷ act_of (Enqueue level o.name) Nothing ∷ acts))
     (few-cost (costs-append (costs-insert level OPEN_ORDERS o.name order new) (costs-append (costs-enqueue level o.name)
-    (costs-append (replace-costs level DEPTHS level t (omega (arith, (after-numbers s (Insert OPEN_ORDERS o.name order)).maps, room.maps)) (λ r. min (value_or_0 r + o.left) (2 ^ 64 - 1))) (costs-none level))))
+    (costs-append (replace-costs level DEPTHS level t (omega (arith, length-maps s (Insert OPEN_ORDERS o.name order), room.maps)) (λ r. min (value_or_0 r + o.left) (2 ^ 64 - 1))) (costs-none level))))
     (omega arith) (omega arith) (omega arith))
 
 module _ (s : State) (b : Book) (o : Order) (room : HasRoom s) (shows : Shows s b) (is : IsPlace o.name o.account o.price o.left) (may : MayTake b (Place o.name o.account o.side o.price o.left)) where
