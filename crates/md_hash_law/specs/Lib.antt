@@ -1,0 +1,2 @@
+pub mod HashTable
+pub mod Laws

@@ -1,0 +1,6 @@
+pub mod Walk
+pub mod ListShape
+pub mod Gaps
+pub mod Certificates
+pub mod HasLists
+pub mod OneList
