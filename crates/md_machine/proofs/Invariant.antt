@@ -41,7 +41,7 @@ use Rattle.md_machine.proofs.events.WordChanges.{counts_rise, formats-kept, stat
 use Rattle.md_machine.proofs.lists.Rising.{here, in_cons, in_none, there}
 use Rattle.md_machine.specs.Event.{Does, Event, Plays, Runs}
 use Rattle.md_machine.specs.GoesOn.{GoesOn, StatusGoesOn}
-use Rattle.md_machine.specs.Machine.{Machine, content, shape_of, status_at, word_at}
+use Rattle.md_machine.specs.Machine.{Machine, content, present, shape_of, status_at, word_at}
 use Rattle.md_machine.specs.Meaning.{Meaning}
 use Rattle.md_machine.specs.Theorem.{IsKept}
 use Rattle.md_machine.specs.clauses.EntrySlots.{EntriesKeepSlots}

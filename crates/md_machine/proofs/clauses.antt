@@ -23,3 +23,4 @@ pub mod KnownPast
 pub mod Placed
 pub mod Flags
 pub mod NodeWords
+pub mod Loads

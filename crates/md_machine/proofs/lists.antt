@@ -1,3 +1,4 @@
 pub mod At
 pub mod Rising
 pub mod Options
+pub mod Pairs

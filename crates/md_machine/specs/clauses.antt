@@ -14,3 +14,4 @@ pub mod Flags
 pub mod Stores
 pub mod Hands
 pub mod NodeWords
+pub mod Loads

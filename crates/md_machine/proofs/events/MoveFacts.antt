@@ -22,8 +22,9 @@ use Rattle.md_machine.proofs.events.Moves.{HandGoes, PassesGo, WinsFate, goes_on
 use Rattle.md_machine.proofs.events.Steps.{HasStep, PassesFrom}
 use Rattle.md_machine.proofs.events.WordChanges.{MayLeave}
 use Rattle.md_machine.proofs.fates.Knowing.{TellsTruth}
+use Rattle.md_machine.proofs.lists.Rising.{there}
 use Rattle.md_machine.specs.Installs.{spot_of_install}
-use Rattle.md_machine.specs.Machine.{Install, IsAt, Machine, content, present, shape_of, was_begun}
+use Rattle.md_machine.specs.Machine.{Install, IsAt, Machine, content, is_ready, present, shape_of, was_begun}
 use Rattle.md_machine.specs.Own.{HasDesc, IsDataOf}
 use Rattle.md_machine.specs.Resolution.{never_placed}
 use Rattle.md_machine.specs.Stepping.{step_of}
@@ -95,6 +96,7 @@ pub record StoredHere (m : Machine) (passes : List PassView) (s : Step) (word de
   pub at : IsAt m pass p
   pub held : p.hand ≡ Some h
   pub of : h.attempt.desc ≡ desc
+  pub unready : is_ready m.history h.attempt ≡ false
   pub then : passes ≡ set m.passes pass q
   pub past : q.past ≡ p.past
   pub trail : q.trail ≡ p.trail ++ s ∷ []

@@ -289,6 +289,7 @@ module _ (M : Meaning) (m n : Machine) (f : AreFormats (shape_of m) m.words) (ap
         at = v.acts.at;
         held = x.may.held;
         of = own_word m v.p x.hand.attempt (content m v.word) v.new d (place_at (shape_of m) v.word) e x.may.place;
+        unready = x.may.unready;
         then = g.is;
         past = g.view.past;
         trail = g.view.trail;

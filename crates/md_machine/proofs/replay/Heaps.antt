@@ -16,9 +16,18 @@ use Rattle.md_words.proofs.Words.{value_of-counted_word, spot_of-spot_value}
 use Rattle.md_machine.specs.declared.attempt.AttemptId.{AttemptId}
 use Rattle.md_machine.specs.declared.certificate.Change.{Change}
 use Rattle.md_machine.specs.declared.certificate.NewNode.{NewNode}
+use Rattle.md_machine.proofs.chain.Values.{unready_kept, value_even, value_odd}
+use Rattle.md_machine.proofs.clauses.FrontsFit.{fated}
+use Rattle.md_machine.proofs.events.Attempts.{attempt_same}
+use Rattle.md_machine.proofs.events.Leaves.{exchange_even, install_odd, uninstall_even}
+use Rattle.md_machine.proofs.events.MoveFacts.{MoveFacts}
+use Rattle.md_machine.proofs.events.Moves.{Effect, Moves, WinsExchange, WinsInstall, WinsUninstall, by_exchange, by_fate, by_install, by_ready, by_start, by_stay, by_store, by_uninstall, own_exists}
+use Rattle.md_machine.proofs.lists.Rising.{here, there}
+use Rattle.md_machine.proofs.replay.Under.{Grounds, value_stays}
+use Rattle.md_machine.proofs.resolutions.Placing.{never_means}
+use Rattle.md_machine.specs.LogicalHeap.{AgreeWherePlaced, IsNoUnplacedNext, IsPlaced, LogicalHeap, after_nodes, changed}
+use Rattle.md_machine.specs.Machine.{Machine, attempt_of, content, is_ready, present, shape_of, status_at, word_at}
 use Rattle.md_machine.specs.Meaning.{Meaning, TidyStands, after_tidy}
-use Rattle.md_machine.specs.LogicalHeap.{LogicalHeap, AgreeWherePlaced, IsPlaced, IsNoUnplacedNext, changed, after_nodes}
-use Rattle.md_machine.specs.Machine.{Machine, shape_of, content, status_at, word_at, present, attempt_of, is_ready}
 use Rattle.md_machine.specs.Own.{IsOwnNode}
 use Rattle.md_machine.specs.Resolution.{Resolves, is_kept, logical_heap, logical_value, placed_under, value_under}
 use Rattle.md_machine.specs.clauses.Formats.{AreFormats}
@@ -26,13 +35,6 @@ use Rattle.md_machine.specs.events.Exchange.{exchanged_word}
 use Rattle.md_machine.specs.events.Install.{installed_word}
 use Rattle.md_machine.specs.events.Store.{MayStoreAt}
 use Rattle.md_machine.specs.events.Uninstall.{uninstalled_word}
-use Rattle.md_machine.proofs.chain.Values.{value_even, value_odd, unready_kept}
-use Rattle.md_machine.proofs.events.Attempts.{attempt_same}
-use Rattle.md_machine.proofs.events.Leaves.{exchange_even, install_odd, uninstall_even}
-use Rattle.md_machine.proofs.events.MoveFacts.{MoveFacts}
-use Rattle.md_machine.proofs.events.Moves.{Effect, Moves, WinsExchange, WinsInstall, WinsUninstall, by_exchange, by_fate, by_install, by_ready, by_start, by_stay, by_store, by_uninstall, own_exists}
-use Rattle.md_machine.proofs.resolutions.Placing.{never_means}
-use Rattle.md_machine.proofs.replay.Under.{Grounds, value_stays}
 
 module _ (M : Meaning) (m n : Machine) (w : Moves M m n) (choice : List Bool) (r : Resolves m choice) (fated : length m.fates ≡ length m.history) where
   -- an own node isn't placed

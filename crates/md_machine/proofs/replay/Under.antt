@@ -8,13 +8,7 @@ use Rattle.md_words.specs.Place.{desc_status, slot_old, slot_new}
 use Rattle.md_words.specs.Layout.{address}
 use Rattle.md_words.specs.LayoutLaws.{IsField}
 use Rattle.md_words.specs.PlaceAt.{IsCounted}
-use Rattle.md_machine.specs.Machine.{Machine, shape_of, content, status_at, word_at, present, attempt_of, is_ready}
-use Rattle.md_machine.specs.Resolution.{is_kept, logical_value, value_under}
-use Rattle.md_machine.specs.Installs.{spot_of_install}
-use Rattle.md_machine.specs.clauses.Hands.{HandsFit}
-use Rattle.md_machine.specs.clauses.OddWords.{OddStand, StandsIn}
-use Rattle.md_machine.specs.clauses.Undecided.{UndecidedStand}
-use Rattle.md_machine.proofs.chain.Values.{value_even, value_odd, installed_spot, unready_kept}
+use Rattle.md_machine.proofs.chain.Values.{installed_spot, unready_kept, value_even, value_odd}
 use Rattle.md_machine.proofs.clauses.Installs.{InstallsKept, installs-kept}
 use Rattle.md_machine.proofs.clauses.OddWords.{standing_serial}
 use Rattle.md_machine.proofs.clauses.Order.{TrailsInOrder}
@@ -22,6 +16,12 @@ use Rattle.md_machine.proofs.clauses.Stamps.{Stamp, StampsKept}
 use Rattle.md_machine.proofs.events.Attempts.{attempt_same}
 use Rattle.md_machine.proofs.events.MoveFacts.{MoveFacts}
 use Rattle.md_machine.proofs.events.WordChanges.{Stores, at_left, at_place}
+use Rattle.md_machine.specs.Installs.{spot_of_install}
+use Rattle.md_machine.specs.Machine.{Machine, attempt_of, content, is_ready, present, shape_of, status_at, word_at}
+use Rattle.md_machine.specs.Resolution.{is_kept, logical_value, value_under}
+use Rattle.md_machine.specs.clauses.Hands.{HandsFit}
+use Rattle.md_machine.specs.clauses.OddWords.{OddStand, StandsIn}
+use Rattle.md_machine.specs.clauses.Undecided.{UndecidedStand}
 
 -- what the logical heap rests on
 pub record Grounds (m : Machine) : Type 0 where
@@ -70,7 +70,7 @@ module _ (m n : Machine) (v : MoveFacts m n) (g : Grounds m) (choice : List Bool
       let is : present changed_machine d ≡ present m d = ap (attempt_of d) serial in
       let new : (word_at (shape_of m) later (slot_new d i.slot) ≡ word_at (shape_of m) m.words (slot_new d i.slot)) ⊎ (is_kept m.history choice (present m d) ≡ false) =
       at_left (Unit {0}) m g.field v.word v.new (address (shape_of m) (slot_new d i.slot)) (λ x. (x ≡ word_at (shape_of m) m.words (slot_new d i.slot)) ⊎ (is_kept m.history choice (present m d) ≡ false)) v.left
-      (λ ch q. inr (not_kept d (at_place (Unit {0}) m g.field v.word v.new (slot_new d i.slot) before.exists ch q))) (inl refl) in
+      (λ ch q. inr (not_kept d (at_place (Unit {0}) m g.field v.word v.new (slot_new d i.slot) before.exists ch q).1)) (inl refl) in
       let new_before = word_at (shape_of m) m.words (slot_new d i.slot) in
       let new_after = word_at (shape_of m) later (slot_new d i.slot) in
       let old_before = value_of (word_at (shape_of m) m.words (slot_old d i.slot)) in

@@ -7,7 +7,7 @@ use Rattle.md_words.specs.Status.{serial_of}
 use Rattle.md_words.specs.Place.{desc_status}
 use Rattle.md_machine.specs.declared.attempt.Hand.{Hand}
 use Rattle.md_machine.specs.declared.pass.PassView.{PassView}
-use Rattle.md_machine.specs.Machine.{word_at}
+use Rattle.md_machine.specs.Machine.{present, word_at}
 use Rattle.md_machine.specs.Own.{HasDesc}
 
 -- it is the present attempt of a descriptor of the pass's lanes
