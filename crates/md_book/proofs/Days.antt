@@ -99,7 +99,7 @@ module _ (K : ℕ → Side → ℕ → ℕ → Type 0) where
   cancel-open b name (Some o) cs is =
       less-open b (cancel_step b (Some o)).book (Cancel name) cs refl (lessened-map o.name o.left (λ p. p.name) (λ _ _. refl) b.orders) (λ P less. lessened-All o.name o.left P less b.orders) is.trades is
 
-  -- where an account takes from places, the orders only have less left
+  -- when an account takes from places, the orders only have less left
   look-open : (b : Book) (account level quantity places : ℕ) (c : Command) (cs : List Command) → names_placed (c ∷ cs) ≡ names_placed cs → IsAccount account
       → IsOpen K b (c ∷ cs) → IsOpen K (fill_step b account level quantity places).book cs
   look-open b account level quantity places c cs none takes is =

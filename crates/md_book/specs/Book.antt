@@ -68,7 +68,7 @@ bought b account = sum_by (λ t. if buyer t == account then t.taken else 0) b.tr
 abbrev pub sold : Book → ℕ → ℕ
 sold b account = sum_by (λ t. if seller t == account then t.taken else 0) b.trades
 
--- the order of a name, where something is left of it
+-- the order of a name, if something is left of it
 abbrev pub find_open : Book → ℕ → Option Order
 find_open b name = find (λ o. (o.name == name) && nat_lt 0 o.left) b.orders
 
@@ -120,7 +120,7 @@ ended b rest = record { book = b; rest = rest; parts = [] }
 abbrev pub first_part : Order → ℕ → Looked → Looked
 first_part o taken more = record more { parts = record { name = o.name; taken = taken } ∷ more.parts }
 
--- the book after a trade at the front place: it is passed where the order is emptied
+-- the book after a trade at the front place: it is passed if the order is emptied
 abbrev pub traded : Book → ℕ → Order → ℕ → ℕ → Book
 traded b level o taker taken = if o.left == taken then pass (trade b o taker taken) level else trade b o taker taken
 
@@ -149,7 +149,7 @@ looked_step l = record { book = l.book; reply = reply.Filled (sum_by (λ p. p.ta
 abbrev pub fill_step : Book → ℕ → ℕ → ℕ → ℕ → Step
 fill_step b account level quantity places = looked_step (look level account places b quantity)
 
--- the orders at a level's first places that weren't passed: so many of them, or all where there are fewer
+-- the orders at a level's first places that weren't passed: so many of them, or all if there are fewer
 abbrev pub first_orders : Book → ℕ → ℕ → List Order
 first_orders b level places = take places (drop (b.passed level) (orders_at b level))
 
@@ -157,7 +157,7 @@ first_orders b level places = take places (drop (b.passed level) (orders_at b le
 abbrev pub left_within : Book → ℕ → ℕ → ℕ
 left_within b level places = sum_by (λ o. o.left) (first_orders b level places)
 
--- all or nothing: where those places have the whole quantity left, it is taken as a fill takes it
+-- all or nothing: if those places have the whole quantity left, it is taken as a fill takes it; otherwise nothing changes
 abbrev pub kill_step : Book → ℕ → ℕ → ℕ → ℕ → Step
 kill_step b account level quantity places =
     if nat_le quantity (left_within b level places)

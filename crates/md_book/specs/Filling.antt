@@ -26,7 +26,7 @@ abbrev pub taker_sums : Side → ℕ
 taker_sums Buy = SOLD
 taker_sums Sell = BOUGHT
 
--- the order at the front leaves its queue where all that it has left is taken; else it is put back with less
+-- the order at the front leaves its queue if all that it has left is taken; otherwise it is put back with less
 abbrev pub put_back : ℕ → ℕ → ℕ → ℕ → Script (Unit {0})
 put_back level name order taken =
     if left_in order == taken then call (Dequeue level) (λ _. done tt) else call (Insert OPEN_ORDERS name (order - taken)) (λ _. done tt)
@@ -69,7 +69,7 @@ unfoldable pub take_parts : Side → ℕ → ℕ → Filling → Script Filling
 take_parts side level zero f = done f
 take_parts side level (suc places) f = if f.rest == 0 then done f else bind (look_front side level f.rest) (λ look. go_on look f (take_parts side level places))
 
--- where something was taken, the taker has bought or sold it, and the depth falls by it
+-- if something was taken, the taker has bought or sold it, and the depth falls by it
 abbrev pub book_taken : Side → ℕ → ℕ → ℕ → Script (Unit {0})
 book_taken side level account taken = if taken == 0 then done tt else bind (raise (taker_sums side) account taken) (λ _. lower DEPTHS level taken)
 

@@ -36,6 +36,6 @@ abbrev pub CommandsMeetTheBook : Type 0
 CommandsMeetTheBook = (s : State) (b : Book) (c : Command) (acts : List Act) (r : BookReply)
     → StandsFor s b → IsCommand c → MayTake b c → Did (script_of c) acts r → IsRight s acts → Meets s b c acts r
 
--- whatever a command can make where maps and queues stand for a book is few acts
+-- whatever a command can make, when maps and queues stand for a book, is few acts
 abbrev pub CommandsAreSmall : Type 0
 CommandsAreSmall = (s : State) (b : Book) (c : Command) → StandsFor s b → IsCommand c → IsSmall command_bounds (Follows (script_of c)) s

@@ -25,7 +25,7 @@ finds_place op r = false
 abbrev pub places_looked : List Act → ℕ
 places_looked acts = count_by (λ a. finds_place a.op a.reply) acts
 
--- what a fill reads, writes and takes at most where it looks at so many places
+-- what a fill reads, writes and takes at most if it looks at so many places
 abbrev pub bounds_for : ℕ → Bounds
 bounds_for places = record { reads = 3 * places + 3; writes = 7 * places + 11; nodes = places + 3 }
 

@@ -11,7 +11,7 @@ use Rattle.md_book.specs.declared.maps.TheConstants.{OPEN_ORDERS, DEPTHS, BOUGHT
 use Rattle.md_book.specs.Book.{level_of}
 use Rattle.md_book.specs.Stands.{packed, left_in, level_in}
 
--- the value of a reply, or 0 where there is none
+-- the value of a reply, or 0 if there is none
 abbrev pub value_or_0 : Reply → ℕ
 value_or_0 (Value (Some v)) = v
 value_or_0 (Value None) = 0
@@ -19,14 +19,14 @@ value_or_0 (Flag b) = 0
 value_or_0 Nothing = 0
 value_or_0 (Line l) = 0
 
--- the values of a line, or none where the reply is another
+-- the values of a line, or none if the reply is another
 abbrev pub line_values : Reply → List ℕ
 line_values (Value v) = []
 line_values (Flag b) = []
 line_values Nothing = []
 line_values (Line l) = take l.count l.values
 
--- one way where a reply has no value, another where it has one
+-- one way if a reply has no value, another if it has one
 abbrev pub by_value : {R : Type 0} → Reply → Script R → (ℕ → Script R) → Script R
 by_value (Value (Some v)) none some = some v
 by_value (Value None) none some = none
@@ -34,7 +34,7 @@ by_value (Flag b) none some = none
 by_value Nothing none some = none
 by_value (Line l) none some = none
 
--- a key gets a value, where that isn't 0
+-- a key gets a value, unless that is 0
 abbrev pub put : ℕ → ℕ → ℕ → Script (Unit {0})
 put m k v = if v == 0 then done tt else call (Insert m k v) (λ _. done tt)
 

@@ -28,11 +28,11 @@ level_in order = order / 2 ^ 30 % 2 * MAX_PRICE + (order / 2 ^ 20 % 1024 - 1)
 abbrev pub left_in : ℕ → ℕ
 left_in order = order % 2 ^ 20
 
--- what the map of open orders has at a name: the order of that name, packed, where something is left of it
+-- what the map of open orders has at a name: the order of that name, packed, if something is left of it
 abbrev pub open_order : Book → ℕ → Option ℕ
 open_order b name = option_map (λ o. packed o.account o.side o.price o.left) (find_open b name)
 
--- a sum that is absent where it is 0
+-- a sum that is absent if it is 0
 abbrev pub unless_0 : ℕ → Option ℕ
 unless_0 n = if n == 0 then None else Some n
 

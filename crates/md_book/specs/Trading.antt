@@ -70,7 +70,7 @@ told_parts (reply.Account bought sold) = []
 abbrev pub parts_from : (ℕ → Bool) → List Part → ℕ
 parts_from of parts = sum_by (λ p. if of p.name then p.taken else 0) parts
 
--- the quantity that a command places, where its order is one of these
+-- the quantity that a command places, if its order is one of these
 abbrev pub placed : (ℕ → Bool) → Command × BookReply → ℕ
 placed of (Place name account side price quantity, r) = if of name then quantity else 0
 placed of (Cancel name, r) = 0
@@ -168,7 +168,7 @@ is_side Buy Sell = false
 is_side Sell Buy = false
 is_side Sell Sell = true
 
--- what an account deals in at a side where a taker takes from one: at that side it is what is taken from the
+-- what an account deals in at a side when a taker takes from one: at that side it is what is taken from the
 -- account's orders, at the other what it takes itself
 abbrev pub told_share : Side → (ℕ → Bool) → ℕ → Side → ℕ → BookReply → ℕ
 told_share side of account at taker r = if is_side side at then parts_from of (told_parts r) else (if taker == account then told_taken r else 0)

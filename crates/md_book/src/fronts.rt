@@ -43,7 +43,7 @@ impl Side {
     }
 }
 
-/// Dequeues the order at the front where all that it has left is taken; else puts it back with less.
+/// Dequeues the order at the front if all that it has left is taken; otherwise puts it back with less.
 fn put_back<T: TxCalls>(
     t: &mut T,
     level: u32,

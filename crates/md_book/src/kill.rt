@@ -38,7 +38,7 @@ fn have_left<T: TxCalls>(t: &mut T, quantity: u32, names: &[u64]) -> Result<bool
     Ok(lacking == 0)
 }
 
-/// Looks at the first places of a level, and fills from them where they have the whole quantity left.
+/// Looks at the first places of a level, and fills from them if they have the whole quantity left.
 pub(crate) fn kill<T: TxCalls>(
     t: &mut T,
     account: u32,

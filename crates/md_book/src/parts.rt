@@ -5,7 +5,7 @@ ghost use Rattle.md_book.specs.Scripts.{put, raise, lower};
 
 use md_history::{Stop, TxCalls};
 
-/// Gives a key a value, where that isn't 0.
+/// Gives a key a value, unless that is 0.
 fn put<T: TxCalls>(t: &mut T, map: u32, key: u64, value: u64) -> Result<(), Stop>
     requires going { T.stop t.old ≡ None }
     requires map { map < T.maps (T.kept t.old) }

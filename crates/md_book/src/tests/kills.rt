@@ -68,7 +68,7 @@ fn a_kill_takes_all_or_nothing(rt: HostRuntime) -> Result<(), Fail> {
             filled(4, 0, &[(21, 1), (22, 1), (23, 1), (24, 1)]),
         ),
         (depth(Sell, 300), BookReply::Depth(1)),
-        // dead places are places: three of the four, and they stay where it is killed
+        // dead places are places: three of the four, and they stay when it is killed
         (place(31, 37, Buy, 400, 1), placed),
         (place(32, 37, Buy, 400, 1), placed),
         (place(33, 37, Buy, 400, 1), placed),
