@@ -1,5 +1,5 @@
 -- The invariant of the machine, and the theorem.
-use Rattle.std.proofs.Common.{◌≡◌, ℕ, zero, suc, ◌<◌, ◌≤◌, List, [], ◌∷◌, length, set, get_or, refl, sym, ap, ◌∙◌, subst, ⊎_elim, le_refl, append-nil, arith}
+use Rattle.std.proofs.Common.{◌≡◌, ℕ, zero, suc, ◌<◌, ◌≤◌, List, [], ◌∷◌, length, set, get_or, refl, sym, ap, ◌∙◌, subst, ⊎_elim, le_refl, append-nil, arith, ◌++◌}
 use Rattle.std.specs.List.{Contains}
 use lib.ListN.{get_elem?}
 use mathlib.Core.Option.{some}
@@ -14,7 +14,7 @@ use Rattle.md_machine.specs.declared.opening.Opening.{Opening}
 use Rattle.md_machine.proofs.clauses.Brackets.{TrailsBracket, brackets-kept}
 use Rattle.md_machine.proofs.clauses.Entries.{entries-kept}
 use Rattle.md_machine.proofs.clauses.EntriesDecided.{all_stay}
-use Rattle.md_machine.proofs.clauses.EntriesFit.{EntriesFit, EntryFits, ReadsCounted}
+use Rattle.md_machine.proofs.clauses.EntriesFit.{EntriesFit, ReadsCounted, entry_fits}
 use Rattle.md_machine.proofs.clauses.EntrySlots.{entry_slots-kept}
 use Rattle.md_machine.proofs.clauses.Flags.{Noting, flags-kept}
 use Rattle.md_machine.proofs.clauses.Fronts.{fronts-kept}
@@ -24,11 +24,14 @@ use Rattle.md_machine.proofs.clauses.InHand.{HandsAlone, StepsBegun, in_hand-kep
 use Rattle.md_machine.proofs.clauses.Installs.{InstallsKept, installs-kept, step_rises}
 use Rattle.md_machine.proofs.clauses.KnownPast.{known_past-kept}
 use Rattle.md_machine.proofs.clauses.Lanes.{lanes-kept}
+use Rattle.md_machine.proofs.clauses.Loads.{EntriesPast, loads-kept}
 use Rattle.md_machine.proofs.clauses.NodeWords.{node_words-kept}
 use Rattle.md_machine.proofs.clauses.OddWords.{odd_words-kept}
 use Rattle.md_machine.proofs.clauses.Order.{TrailsInOrder, order-kept}
 use Rattle.md_machine.proofs.clauses.Past.{PastDecided, fates_told, past-kept}
 use Rattle.md_machine.proofs.clauses.Placed.{placed-kept}
+use Rattle.md_machine.proofs.clauses.Reads.{reads_found, reads_moved}
+use Rattle.md_machine.proofs.clauses.Sound.{sound-kept}
 use Rattle.md_machine.proofs.clauses.Stamps.{Stamp, Stamped, StampsKept, stamp_more, stamps-kept, stamps_hold}
 use Rattle.md_machine.proofs.clauses.Statuses.{StatusesNoted, statuses-kept}
 use Rattle.md_machine.proofs.clauses.Stores.{StepsPast, StoresStand, steps_begun-kept, steps_past-kept, stores-kept}
@@ -38,7 +41,8 @@ use Rattle.md_machine.proofs.events.MoveFacts.{history_grows}
 use Rattle.md_machine.proofs.events.Moves.{does_move}
 use Rattle.md_machine.proofs.events.Tell.{tell}
 use Rattle.md_machine.proofs.events.WordChanges.{counts_rise, formats-kept, statuses_go_on, stays_on}
-use Rattle.md_machine.proofs.lists.Rising.{here, in_cons, in_none, there}
+use Rattle.md_machine.proofs.lists.Pairs.{EachPair, pairs_of}
+use Rattle.md_machine.proofs.lists.Rising.{here, there}
 use Rattle.md_machine.specs.Event.{Does, Event, Plays, Runs}
 use Rattle.md_machine.specs.GoesOn.{GoesOn, StatusGoesOn}
 use Rattle.md_machine.specs.Machine.{Machine, content, present, shape_of, status_at, word_at}
@@ -51,12 +55,16 @@ use Rattle.md_machine.specs.clauses.Formats.{AreFormats}
 use Rattle.md_machine.specs.clauses.Fronts.{FrontsFit}
 use Rattle.md_machine.specs.clauses.Hands.{HandsFit}
 use Rattle.md_machine.specs.clauses.Lanes.{LanesApart}
+use Rattle.md_machine.specs.clauses.Loads.{LoadStands}
 use Rattle.md_machine.specs.clauses.NodeWords.{DataStands, NodeWordsStand}
 use Rattle.md_machine.specs.clauses.OddWords.{OddStand}
 use Rattle.md_machine.specs.clauses.Placed.{PlacedStay}
+use Rattle.md_machine.specs.clauses.Reads.{MovedReads, ReadFound}
+use Rattle.md_machine.specs.clauses.Sound.{CommittedAreSound}
 use Rattle.md_machine.specs.clauses.Stamps.{NotedByRead}
 use Rattle.md_machine.specs.clauses.Undecided.{UndecidedStand}
 use Rattle.md_machine.specs.clauses.WonInstalls.{WonAreInstalls}
+use Rattle.md_machine.specs.events.SplitJoin.{moved}
 
 pub record Invariant (m : Machine) : Type 0 where
   pub formats : AreFormats (shape_of m) m.words
@@ -82,14 +90,12 @@ pub record Invariant (m : Machine) : Type 0 where
   pub steps_begun : StepsBegun m.begun m.passes
   pub steps_past : StepsPast (shape_of m) m.words m.passes
   pub stores : StoresStand (shape_of m) m.words m.passes
+  pub loads : EachPair (LoadStands (shape_of m) m.words m.history) m.passes
+  pub moved_reads : MovedReads m.words m.history
+  pub found_reads : EachPair (ReadFound (shape_of m) m.history) m.passes
+  pub sound : CommittedAreSound m
   pub stamp : Stamp
   pub stamps : StampsKept m stamp
-
--- an entry of the history fits its fate
-entry_fits : (shape : Shape) (words : List ℕ) (es : List HistoryEntry) (fs : List Fate) (e : HistoryEntry) → EntriesFit shape words es fs → Contains es e → (f : Fate) × EntryFits shape words e f
-entry_fits shape words [] fs e was c = absurd (in_none e c)
-entry_fits shape words (x ∷ xs) [] e was c = absurd was
-entry_fits shape words (x ∷ xs) (f ∷ fs) e was c = ⊎_elim (λ same. (f, subst (λ y. EntryFits shape words y f) same was.0)) (entry_fits shape words xs fs e was.1) (in_cons x xs e c)
 
 -- a number below the length finds an element
 element : {A : Type 0} (l : List A) (i : ℕ) → i < length l → (x : A) × (get_elem? l i ≡ some x) × Contains l x
@@ -130,6 +136,9 @@ kept_by m k = record {
   won_installs = k.won_installs;
   entry_slots = k.entry_slots;
   in_hand = k.in_hand.alone;
+  loads = λ pass p at earlier s later segment t c. pairs_of (LoadStands (shape_of m) m.words m.history) earlier s later t (k.loads pass p at (earlier ++ s ∷ later) segment) c;
+  reads = record { moved = k.moved_reads; found = λ pass p at earlier s later segment t c. pairs_of (ReadFound (shape_of m) m.history) earlier s later t (k.found_reads pass p at (earlier ++ s ∷ later) segment) c };
+  sound = k.sound;
   stores = λ pass p at a now. k.stores pass p at a (ap (λ (b : AttemptId). b.serial) now);
 }
 
@@ -141,6 +150,7 @@ module _ (M : Meaning) where
       let Shaped : (Shape → List ℕ → Type 0) → Type 0 = λ P. P (shape_of m) (set m.words v.word v.new) → P (shape_of n) n.words in
       let move : (P : Shape → List ℕ → Type 0) → Shaped P = λ P h. subst (λ (o : Opening). P o.shape n.words) (sym v.opening) (subst (P (shape_of m)) (sym v.words) h) in
       let reshape : (P : Shape → Type 0) → P (shape_of m) → P (shape_of n) = λ P h. subst (λ (o : Opening). P o.shape) (sym v.opening) h in
+      let past : EntriesPast m = λ y i. let fits = (entry_fits (shape_of m) m.words m.history m.fates y k.entries i).1 in (fits.exists, fits.past) in
       let fronts = fronts-kept m n v k.lanes k.fronts entries in
       let stamps = stamps-kept m n k.stamp k.formats.field k.stamps v v.words v.opening in (
         record {
@@ -167,9 +177,13 @@ module _ (M : Meaning) where
           steps_begun = steps_begun-kept m n v k.formats.field k.hands k.in_hand k.steps_begun;
           steps_past = move (λ shape words. StepsPast shape words n.passes) (steps_past-kept m n v k.formats.field k.hands k.in_hand k.steps_past);
           stores = move (λ shape words. StoresStand shape words n.passes) (stores-kept m n v k.formats.field k.hands k.in_hand k.steps_past k.stores);
-          entry_slots = λ x c now. entry_slots-kept m n v k.formats.field k.hands k.installs (λ y i. let fits = (entry_fits (shape_of m) m.words m.history m.fates y k.entries i).1 in (fits.exists, fits.past)) k.entry_slots x c
+          entry_slots = λ x c now. entry_slots-kept m n v k.formats.field k.hands k.installs past k.entry_slots x c
               (subst (λ words. x.attempt.serial ≡ serial_of (word_at (shape_of m) words (desc_status x.attempt.desc))) v.words
               (subst (λ (o : Opening). x.attempt.serial ≡ serial_of (word_at o.shape n.words (desc_status x.attempt.desc))) v.opening (ap (λ (a : AttemptId). a.serial) now)));
+          loads = reshape (λ shape. EachPair (LoadStands shape n.words n.history) n.passes) (loads-kept m n v k.formats.field k.hands k.statuses past k.loads);
+          moved_reads = reads_moved m n v k.formats.field k.hands k.statuses past k.stamp k.stamps k.moved_reads;
+          found_reads = reshape (λ shape. EachPair (ReadFound shape n.history) n.passes) (reads_found m n v k.formats.field k.hands k.statuses past k.stamp k.stamps k.moved_reads k.found_reads);
+          sound = sound-kept m n v (record { formats = k.formats; entries = k.entries; stores = k.stores; loads = k.loads; found = k.found_reads; sound = k.sound }) (fated (shape_of m) m.words m.history m.fates k.entries);
           stamp = stamp_more k.stamp v.word v.new;
           stamps = subst (λ o. StampsKept (record n { opening = o }) (stamp_more k.stamp v.word v.new)) (sym v.opening)
               (subst (λ words. StampsKept (record n { words = words; opening = m.opening }) (stamp_more k.stamp v.word v.new)) (sym v.words) stamps);

@@ -21,6 +21,7 @@ use Rattle.md_machine.proofs.clauses.Order.{InOrder}
 use Rattle.md_machine.proofs.events.Steps.{HasStep}
 use Rattle.md_machine.proofs.lists.At.{at_one}
 use Rattle.md_machine.proofs.lists.Options.{none_some}
+use Rattle.md_machine.proofs.lists.Pairs.{InPairs}
 use Rattle.md_machine.proofs.lists.Rising.{here, in_cons, in_none}
 use Rattle.md_machine.specs.Event.{CanOpen, Event, Runs, first_pass, opened}
 use Rattle.md_machine.specs.Machine.{Machine}
@@ -29,6 +30,8 @@ use Rattle.md_machine.specs.Theorem.{AlwaysGoesOn, AlwaysKept}
 use Rattle.md_machine.specs.Trail.{segments}
 use Rattle.md_machine.specs.clauses.Formats.{AreFormats, StatusFits}
 use Rattle.md_machine.specs.clauses.Fronts.{FrontFits}
+use Rattle.md_machine.specs.clauses.Loads.{LoadStands}
+use Rattle.md_machine.specs.clauses.Reads.{ReadFound}
 
 -- the status word 0
 zero_begins : 0 ≡ status_word InPrep 0 0
@@ -112,6 +115,10 @@ module _ (M : Meaning) where
     steps_past = λ t has. absurd (no_steps o.shape t has);
     stores = λ pass p at a now word held entry l. absurd (no_steps o.shape l.store.step (pass, p, at, (l.store.earlier ++ l.store.step ∷ l.store.later, l.store.segment, Contains-append_right l.store.earlier (l.store.step ∷ l.store.later) l.store.step (here l.store.step l.store.later))));
     won_installs = λ pass p at segment c s i. absurd (no_steps o.shape s (pass, p, at, (segment, c, i)));
+    loads = λ pass p at segment c. subst (InPairs (LoadStands o.shape o.words [])) (first_segment o.shape p segment (at_one (first_pass o.shape) p pass at).1 c) tt;
+    moved_reads = λ e c. absurd (in_none e c);
+    found_reads = λ pass p at segment c. subst (InPairs (ReadFound o.shape [])) (first_segment o.shape p segment (at_one (first_pass o.shape) p pass at).1 c) tt;
+    sound = record { flags = λ e c. absurd (in_none e c); sound = tt };
     stamp = λ word count. get_or o.words word 0;
     stamps = record {
       now = λ word counted. record { bound = le_refl _; is = refl };

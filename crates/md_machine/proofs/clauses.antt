@@ -24,3 +24,5 @@ pub mod Placed
 pub mod Flags
 pub mod NodeWords
 pub mod Loads
+pub mod Reads
+pub mod Sound

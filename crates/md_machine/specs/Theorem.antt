@@ -12,10 +12,13 @@ use Rattle.md_machine.specs.clauses.Formats.{AreFormats}
 use Rattle.md_machine.specs.clauses.Fronts.{FrontsFit}
 use Rattle.md_machine.specs.clauses.InHand.{HandsLast}
 use Rattle.md_machine.specs.clauses.Lanes.{LanesApart}
+use Rattle.md_machine.specs.clauses.Loads.{LoadsStand}
 use Rattle.md_machine.specs.clauses.NodeWords.{NodeWordsStand}
 use Rattle.md_machine.specs.clauses.OddWords.{OddStand}
 use Rattle.md_machine.specs.clauses.Placed.{PlacedStay}
+use Rattle.md_machine.specs.clauses.Reads.{ReadsShow}
 use Rattle.md_machine.specs.clauses.Slots.{SlotsStand}
+use Rattle.md_machine.specs.clauses.Sound.{CommittedAreSound}
 use Rattle.md_machine.specs.clauses.Stamps.{StampsHold}
 use Rattle.md_machine.specs.clauses.Stores.{StoresAgree}
 use Rattle.md_machine.specs.clauses.Undecided.{UndecidedStand}
@@ -38,6 +41,9 @@ pub record IsKept (m : Machine) : Type 0 where
   pub entry_slots : EntriesKeepSlots m
   pub in_hand : HandsLast m
   pub stores : StoresAgree m
+  pub loads : LoadsStand m
+  pub reads : ReadsShow m
+  pub sound : CommittedAreSound m
 
 module _ (M : Meaning) where
   -- after every list of events from an opening

@@ -15,3 +15,5 @@ pub mod Stores
 pub mod Hands
 pub mod NodeWords
 pub mod Loads
+pub mod Reads
+pub mod Sound

@@ -16,7 +16,7 @@ use Rattle.md_machine.specs.declared.attempt.Read.{Read}
 use Rattle.md_machine.proofs.events.Attempts.{ready_in}
 use Rattle.md_machine.proofs.events.WordChanges.{MayLeave, Stores, at_left, at_place}
 use Rattle.md_machine.proofs.lists.At.{at_below}
-use Rattle.md_machine.proofs.lists.Rising.{here, there}
+use Rattle.md_machine.proofs.lists.Rising.{here, in_cons, in_none, there}
 use Rattle.md_machine.specs.Machine.{Machine, attempt_of, content, present, shape_of, status_at, word_at}
 use Rattle.md_machine.specs.clauses.Fates.{Tells}
 use Rattle.md_machine.specs.clauses.Hands.{HandsFit}
@@ -39,6 +39,12 @@ abbrev pub EntriesFit : Shape → List ℕ → List HistoryEntry → List Fate �
 EntriesFit shape words [] [] = Unit {0}
 EntriesFit shape words (e ∷ es) (f ∷ fs) = EntryFits shape words e f × EntriesFit shape words es fs
 EntriesFit shape words _ _ = ⊥
+
+-- an entry of the history fits its fate
+pub entry_fits : (shape : Shape) (words : List ℕ) (es : List HistoryEntry) (fs : List Fate) (e : HistoryEntry) → EntriesFit shape words es fs → Contains es e → (f : Fate) × EntryFits shape words e f
+entry_fits shape words [] fs e was c = absurd (in_none e c)
+entry_fits shape words (x ∷ xs) [] e was c = absurd was
+entry_fits shape words (x ∷ xs) (f ∷ fs) e was c = ⊎_elim (λ same. (f, subst (λ y. EntryFits shape words y f) same was.0)) (entry_fits shape words xs fs e was.1) (in_cons x xs e c)
 
 -- a status that counts reads is that of an entry
 pub record ReadsCounted (shape : Shape) (words : List ℕ) (history : List HistoryEntry) : Type 0 where

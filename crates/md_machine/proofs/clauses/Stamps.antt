@@ -9,7 +9,7 @@ use Rattle.md_words.specs.PlaceAt.{IsCounted}
 use Rattle.md_machine.specs.declared.attempt.HistoryEntry.{HistoryEntry}
 use Rattle.md_machine.specs.declared.attempt.Read.{Read}
 use Rattle.md_machine.specs.declared.step.Step.{Step}
-use Rattle.md_machine.proofs.events.MoveFacts.{MoveFacts, reads_met}
+use Rattle.md_machine.proofs.events.MoveFacts.{MoveFacts, WasMet, reads_met}
 use Rattle.md_machine.proofs.events.Steps.{HasStep, adds_step}
 use Rattle.md_machine.proofs.events.WordChanges.{MayLeave, at_counted, counts_rise}
 use Rattle.md_machine.proofs.lists.Rising.{here, there}
@@ -75,6 +75,15 @@ module _ (m : Machine) (field : IsField (shape_of m) m.words) (word new : ℕ) (
       (λ other. subst (λ x. Stamped (set m.words word new) (stamp_more stamp word new) w x) (sym (get_or-set_other m.words word w new 0 other)) (stamped_kept left now w _ counted (now w counted)))
       (cases_eq w word)
 
+-- what a pass met is stamped
+pub met_stamped : (m : Machine) (stamp : Stamp) (k : StampsKept m stamp) (r : Read) → WasMet m r → Stamped m.words stamp r.word r.content
+met_stamped m stamp k r h =
+    let counted : IsCounted (shape_of m) h.step.word = subst (IsCounted (shape_of m)) (sym h.there) h.counted in
+    ⊎_elim
+    (λ b. subst (λ w. Stamped m.words stamp w r.content) h.there (subst (Stamped m.words stamp h.step.word) b (k.before h.step h.has counted)))
+    (λ a. subst (λ w. Stamped m.words stamp w r.content) h.there (subst (Stamped m.words stamp h.step.word) a (k.after h.step h.has counted)))
+    h.met
+
 -- every event keeps the stamps
 pub stamps-kept : (m n : Machine) (stamp : Stamp) → IsField (shape_of m) m.words → StampsKept m stamp → (v : MoveFacts m n) → n.words ≡ set m.words v.word v.new → n.opening ≡ m.opening
     → StampsKept (record n { words = set m.words v.word v.new; opening = m.opening }) (stamp_more stamp v.word v.new)
@@ -101,13 +110,7 @@ stamps-kept m n stamp field k v words opening =
           (v.installs i c);
       reads = λ e r c of. ⊎_elim
           (λ was. let s = k.reads e r was of in (s.0, kept r.word r.content s.0 s.1))
-          (λ h. let counted : IsCounted (shape_of m) h.step.word = subst (IsCounted (shape_of m)) (sym h.there) h.counted in (
-            h.counted,
-            kept r.word r.content h.counted (⊎_elim
-                (λ b. subst (λ w. Stamped m.words stamp w r.content) h.there (subst (Stamped m.words stamp h.step.word) b (k.before h.step h.has counted)))
-                (λ a. subst (λ w. Stamped m.words stamp w r.content) h.there (subst (Stamped m.words stamp h.step.word) a (k.after h.step h.has counted)))
-                h.met),
-          ))
+          (λ h. (h.counted, kept r.word r.content h.counted (met_stamped m stamp k r h)))
           (reads_met m n v e r c of);
     }
 

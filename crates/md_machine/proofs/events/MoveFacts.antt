@@ -168,21 +168,21 @@ new_entry m n v x c = ⊎_elim
     v.fates
 
 -- its reads were met
-pub reads_met : (m n : Machine) (v : MoveFacts m n) (x : HistoryEntry) (r : Read) → Contains n.history x → Contains x.reads r → Contains m.history x ⊎ WasMet m r
-reads_met m n v x r c of = ⊎_elim inl
-    (λ y.
-    let e = y.0 in
-    let may = All-contains (MayRecord m v.p) (reads_now m e.hand.attempt.desc e.count) r e.recorded (subst (λ (z : HistoryEntry). Contains z.reads r) (sym y.1) of) in
+pub enters_met : (m n : Machine) (v : MoveFacts m n) (e : Enters m n v.p v.word v.new) (r : Read) → Contains (reads_now m e.hand.attempt.desc e.count) r → WasMet m r
+enters_met m n v e r of =
+    let may = All-contains (MayRecord m v.p) (reads_now m e.hand.attempt.desc e.count) r e.recorded of in
     let t = may.met in
-    let s = t.2 in inr (record {
+    let s = t.2 in record {
       counted = may.counted;
       even = may.even;
       step = s.0;
       has = (v.pass, v.p, v.at, (t.0, t.1, s.1));
       there = ⊎_elim (λ f. f.there) (λ l. l.there) s.2;
       met = ⊎_elim (λ f. inl f.before) (λ l. inr l.after) s.2;
-    }))
-    (new_entry m n v x c)
+    }
+
+pub reads_met : (m n : Machine) (v : MoveFacts m n) (x : HistoryEntry) (r : Read) → Contains n.history x → Contains x.reads r → Contains m.history x ⊎ WasMet m r
+reads_met m n v x r c of = ⊎_elim inl (λ y. inr (enters_met m n v y.0 r (subst (λ (z : HistoryEntry). Contains z.reads r) (sym y.1) of))) (new_entry m n v x c)
 
 -- what was begun stays so
 pub begun_stays : (m n : Machine) (v : MoveFacts m n) (a : AttemptId) → was_begun m.begun a ≡ true → was_begun n.begun a ≡ true
