@@ -48,14 +48,14 @@ module _ (h : LogicalHeap) (are : AreBuckets h) (alone : (node : ℕ) (s : Struc
     still_known = facts_kept h k map bucket (head_word h.words.shape map bucket) a.only (head_apart h.words.shape map bucket m b) node_of
 
 -- the nodes of a changed list have keys of its bucket
-row_home : (h k : LogicalHeap) (map bucket key : ℕ) (c : Certificate) → IsBucket h map bucket → bucket_of h.words.shape key ≡ bucket
+pub row_home : (h k : LogicalHeap) (map bucket key : ℕ) (c : Certificate) → IsBucket h map bucket → bucket_of h.words.shape key ≡ bucket
     → RowAfter h k (Bucket map bucket) (head_word h.words.shape map bucket) map key c → (node : ℕ) → IsIn k (Bucket map bucket) node → bucket_of h.words.shape (k.words.key_of node) ≡ bucket
 row_home h k map bucket key c is at r node i = ⊎_elim
     (λ j. ap (bucket_of h.words.shape) (r.after.only.key_of node (Bucket map bucket, j)) ∙ is.keys node j)
     (λ e. ap (bucket_of h.words.shape) e ∙ at)
     (r.nodes node i)
 
-unlink_home : (h k : LogicalHeap) (map bucket : ℕ) → IsBucket h map bucket → SameAfter h k (Bucket map bucket) (head_word h.words.shape map bucket)
+pub unlink_home : (h k : LogicalHeap) (map bucket : ℕ) → IsBucket h map bucket → SameAfter h k (Bucket map bucket) (head_word h.words.shape map bucket)
     → (node : ℕ) → IsIn k (Bucket map bucket) node → bucket_of h.words.shape (k.words.key_of node) ≡ bucket
 unlink_home h k map bucket is r node i = let j = r.nodes node i in ap (bucket_of h.words.shape) (r.after.only.key_of node (Bucket map bucket, j)) ∙ is.keys node j
 

@@ -1,0 +1,17 @@
+//! The store as a theory of the machine: the hash tables of all maps together with all queues, over
+//! fields of any shape.
+//!
+//! What follows for a program whose transactions leave these certificates, by `all_schedules`:
+//!
+//! 1. However passes interleave, every bucket stays a list of its keys and every queue keeps its shape.
+//! 2. Each operation on a map or on a queue has its reply and its effect, and leaves all others alone.
+//! 3. An unlink of a removed node and a move of a lagging tail change no contents.
+//! 4. The words of a node that isn't placed may be written at will.
+//! 5. Every counted word but a next word of an unplaced node names no node, or a placed one.
+#![tactic(auto)]
+
+pub use theory::StoreTheory;
+
+#[cfg(test)]
+mod tests;
+pub mod theory;

@@ -1,0 +1,25 @@
+// The theorem over all schedules, and what walks show, at the store.
+ghost use Rattle.md_machine.specs.Theorem.{AlwaysKept, AlwaysGoesOn};
+ghost use Rattle.md_store_law.specs.Store.{store};
+
+use super::*;
+use md_list_law::list_facts;
+use md_machine::all_schedules;
+use md_queue_law::queue_facts;
+use std::test::Fail;
+
+// what the theorem says of stores
+fn schedules_of_stores()
+    ensures kept { AlwaysKept store }
+    ensures goes_on { AlwaysGoesOn store }
+{
+    all_schedules::<StoreTheory>();
+}
+
+#[test]
+fn stores_are_a_theory(_rt: HostRuntime) -> Result<(), Fail> {
+    schedules_of_stores();
+    list_facts::<StoreTheory>();
+    queue_facts::<StoreTheory>();
+    Ok(())
+}
