@@ -1,2 +1,4 @@
 pub mod Under
 pub mod Heaps
+pub mod Nodes
+pub mod Enter

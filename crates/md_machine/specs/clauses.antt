@@ -2,6 +2,7 @@ pub mod Formats
 pub mod Stamps
 pub mod Fates
 pub mod Placed
+pub mod PlacedNodes
 pub mod WonInstalls
 pub mod EntrySlots
 pub mod InHand
