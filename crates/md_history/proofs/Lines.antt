@@ -8,7 +8,8 @@ zeros-more : (m i : ℕ) → i < m → replicate {A = ℕ} (m - i) 0 ≡ 0 ∷ r
 zeros-more m i below = let e : m - i ≡ suc (m - (i + 1)) = omega arith in rw e refl
 
 -- one place more is filled
-pub line-more : (m : ℕ) (xs : List ℕ) (i v : ℕ) → i < m → i < length xs → v ≡ get_or xs i v → set (take i xs ++ replicate {A = ℕ} (m - i) 0) i v ≡ take (i + 1) xs ++ replicate {A = ℕ} (m - (i + 1)) 0
+pub line-more : (m : ℕ) (xs : List ℕ) (i v : ℕ) → i < m → i < length xs → v ≡ get_or xs i v
+    → set (take i xs ++ replicate {A = ℕ} (m - i) 0) i v ≡ take (i + 1) xs ++ replicate {A = ℕ} (m - (i + 1)) 0
 line-more m xs i v below there is =
     let zeros : List ℕ = replicate {A = ℕ} (m - (i + 1)) 0 in
     let full : length (take i xs) ≡ i = length-take i xs ∙ omega arith in

@@ -56,25 +56,33 @@ drop-map f (suc n) [] = refl
 drop-map f (suc n) (x ∷ xs) = drop-map f n xs
 
 drop-zip : (ps es : List Entry) → drop (length ps) (zip (ps ++ es) (all_committed (ps ++ es))) ≡ map (λ e. (e, Committed)) es
-drop-zip ps es = ap (drop (length ps)) (zip-committed (ps ++ es)) ∙ drop-map (λ e. (e, Committed)) (length ps) (ps ++ es) ∙ ap (map (λ e. (e, Committed))) (drop-append_seam ps es)
+drop-zip ps es =
+    ap (drop (length ps)) (zip-committed (ps ++ es)) ∙ drop-map (λ e. (e, Committed)) (length ps) (ps ++ es)
+    ∙ ap (map (λ e. (e, Committed))) (drop-append_seam ps es)
 
 is_of-zero : (e : Entry) → e.lane ≡ 0 → is_of (0 ∷ []) e ≡ true
 is_of-zero e at = ap (λ n. (0 == n) || false) at
 
-own-one : (e : Entry) → e.lane ≡ 0 → filter (λ (p : Entry × Fate). is_of (0 ∷ []) p.0) ((e, Committed) ∷ []) ≡ (e, Committed) ∷ []
+own-one : (e : Entry) → e.lane ≡ 0
+    → filter (λ (p : Entry × Fate). is_of (0 ∷ []) p.0) ((e, Committed) ∷ []) ≡ (e, Committed) ∷ []
 own-one e at = ap (λ b. cond b ((e, Committed) ∷ []) []) (is_of-zero e at)
 
-own-none : (ps : List Entry) → filter (λ (p : Entry × Fate). is_of (0 ∷ []) p.0) (drop (length ps) (zip ps (all_committed ps))) ≡ []
-own-none ps = ap (filter (λ (p : Entry × Fate). is_of (0 ∷ []) p.0)) (ap (λ es. drop (length ps) (zip es (all_committed es))) (sym (append-nil ps)) ∙ drop-zip ps [])
+own-none : (ps : List Entry)
+    → filter (λ (p : Entry × Fate). is_of (0 ∷ []) p.0) (drop (length ps) (zip ps (all_committed ps))) ≡ []
+own-none ps =
+    ap (filter (λ (p : Entry × Fate). is_of (0 ∷ []) p.0)) (ap (λ es. drop (length ps) (zip es (all_committed es))) (sym (append-nil ps)) ∙ drop-zip ps [])
 
 -- entries of lane 0 are all of the lane
 of_lane-all : (n : ℕ) (es : List Entry) → AreNumbered n es → of_lane 0 es ≡ es
 of_lane-all n [] h = refl
-of_lane-all n (e ∷ es) h = ap (λ b. cond b (e ∷ of_lane 0 es) (of_lane 0 es)) (ap (λ n. 0 == n) h.0) ∙ ap (λ xs. e ∷ xs) (of_lane-all (n + 1) es h.3)
+of_lane-all n (e ∷ es) h =
+    ap (λ b. cond b (e ∷ of_lane 0 es) (of_lane 0 es)) (ap (λ n. 0 == n) h.0) ∙ ap (λ xs. e ∷ xs) (of_lane-all (n + 1) es h.3)
 
-pub numbered-more : (n m : ℕ) (es : List Entry) (e : Entry) → AreNumbered n es → m ≡ n + length es → e.lane ≡ 0 → e.number ≡ m → e.sound ≡ true → AreNumbered n (es ++ e ∷ [])
+pub numbered-more : (n m : ℕ) (es : List Entry) (e : Entry) → AreNumbered n es → m ≡ n + length es → e.lane ≡ 0 → e.number ≡ m
+    → e.sound ≡ true → AreNumbered n (es ++ e ∷ [])
 numbered-more n m [] e h at lane number sound = (lane, number ∙ at ∙ omega arith, sound, tt)
-numbered-more n m (x ∷ es) e h at lane number sound = (h.0, h.1, h.2, numbered-more (n + 1) m es e h.3 (at ∙ omega arith) lane number sound)
+numbered-more n m (x ∷ es) e h at lane number sound =
+    (h.0, h.1, h.2, numbered-more (n + 1) m es e h.3 (at ∙ omega arith) lane number sound)
 
 -- a pass whose entries are the same has stopped
 pub stops : (tag : ℕ) (ps qs : List Entry) → qs ≡ ps → Stops tag (front_from ps) (front_from qs)
@@ -88,29 +96,37 @@ stops tag ps qs e = record {
 }
 
 -- a pass with one entry more has committed it
-commits : {R : Type 0} (did : List Act → R → Type 0) (tag : ℕ) (r : R) (ps qs : List Entry) (e : Entry) → qs ≡ ps ++ e ∷ [] → AreNumbered 0 qs → AreNumbered 0 ps → e.lane ≡ 0 → e.tag ≡ tag → did e.acts r → Commits did tag r (front_from ps) (front_from qs)
+commits : {R : Type 0} (did : List Act → R → Type 0) (tag : ℕ) (r : R) (ps qs : List Entry) (e : Entry) → qs ≡ ps ++ e ∷ []
+    → AreNumbered 0 qs → AreNumbered 0 ps → e.lane ≡ 0 → e.tag ≡ tag → did e.acts r
+    → Commits did tag r (front_from ps) (front_from qs)
 commits did tag r ps qs e more numbered before lane tagged did_it = record {
   begins = begins-more ps qs (e ∷ []) more;
   fated = length-map qs (λ _. Committed);
   lanes = refl;
   pending = refl;
   entry = e;
-  own = ap (λ es. filter (λ (p : Entry × Fate). is_of (0 ∷ []) p.0) (drop (length ps) (zip es (all_committed es)))) more ∙ ap (filter (λ (p : Entry × Fate). is_of (0 ∷ []) p.0)) (drop-zip ps (e ∷ [])) ∙ own-one e lane;
+  own = ap (λ es. filter (λ (p : Entry × Fate). is_of (0 ∷ []) p.0) (drop (length ps) (zip es (all_committed es)))) more
+      ∙ ap (filter (λ (p : Entry × Fate). is_of (0 ∷ []) p.0)) (drop-zip ps (e ∷ [])) ∙ own-one e lane;
   before = ps;
   last = more;
   tagged = tagged;
   did_it = did_it;
-  mine = λ l. ap (λ n. cond (l == 0) qs []) lane ∙ elim (l == 0) as (λ t. cond t qs [] ≡ cond t (cond t ps [] ++ e ∷ []) (cond t ps [])) [ true ↦ more | false ↦ refl ] ∙ ap (λ n. cond (l == n) (cond (l == 0) ps [] ++ e ∷ []) (cond (l == 0) ps [])) (sym lane);
+  mine = λ l. ap (λ n. cond (l == 0) qs []) lane
+      ∙ elim (l == 0) as (λ t. cond t qs [] ≡ cond t (cond t ps [] ++ e ∷ []) (cond t ps [])) [ true ↦ more | false ↦ refl ]
+      ∙ ap (λ n. cond (l == n) (cond (l == 0) ps [] ++ e ∷ []) (cond (l == 0) ps [])) (sym lane);
 }
 
 -- the same of a pass whose entries are written in another way
-pub commits-same : {R : Type 0} (did : List Act → R → Type 0) (tag : ℕ) (r : R) (ps ps' qs : List Entry) (e : Entry) → ps' ≡ ps → qs ≡ ps' ++ e ∷ [] → AreNumbered 0 qs → AreNumbered 0 ps' → e.lane ≡ 0 → e.tag ≡ tag → did e.acts r → Commits did tag r (front_from ps) (front_from qs)
+pub commits-same : {R : Type 0} (did : List Act → R → Type 0) (tag : ℕ) (r : R) (ps ps' qs : List Entry) (e : Entry) → ps' ≡ ps
+    → qs ≡ ps' ++ e ∷ [] → AreNumbered 0 qs → AreNumbered 0 ps' → e.lane ≡ 0 → e.tag ≡ tag → did e.acts r
+    → Commits did tag r (front_from ps) (front_from qs)
 commits-same did tag r ps ps' qs e same more numbered before lane tagged did_it =
     subst (λ xs. Commits did tag r (front_from xs) (front_from qs)) same (commits did tag r ps' qs e more numbered before lane tagged did_it)
 
 pub acts_of-append : (es fs : List Entry) → acts_of (es ++ fs) ≡ acts_of es ++ acts_of fs
 acts_of-append [] fs = refl
-acts_of-append (e ∷ es) fs = ap (λ xs. e.acts ++ xs) (acts_of-append es fs) ∙ sym (append_assoc e.acts (acts_of es) (acts_of fs))
+acts_of-append (e ∷ es) fs =
+    ap (λ xs. e.acts ++ xs) (acts_of-append es fs) ∙ sym (append_assoc e.acts (acts_of es) (acts_of fs))
 
 sound-all : (n : ℕ) (es : List Entry) → AreNumbered n es → AllCommittedSound es (all_committed es)
 sound-all n [] h = tt
@@ -135,13 +151,17 @@ not_refused None e = refl
 not_refused (Some op) e = cc
 
 -- what the pass contains after one entry more
-pub kept-more : (start now mid then : State) (es es' : List Entry) (e : Entry) (b : Bool) (o : Option Op) → IsKept start now es b → IsRunning mid then e.acts o → mid ≡ run start (acts_of es) → refusal_of o ≡ None → es' ≡ es ++ e ∷ [] → e.lane ≡ 0 → e.number ≡ length es → e.sound ≡ true → IsKept start then es' false
+pub kept-more : (start now mid then : State) (es es' : List Entry) (e : Entry) (b : Bool) (o : Option Op)
+    → IsKept start now es b → IsRunning mid then e.acts o → mid ≡ run start (acts_of es) → refusal_of o ≡ None
+    → es' ≡ es ++ e ∷ [] → e.lane ≡ 0 → e.number ≡ length es → e.sound ≡ true → IsKept start then es' false
 kept-more start now mid then es es' e b o k r at none pushed lane number sound =
-    let all : acts_of es' ≡ acts_of es ++ e.acts = ap acts_of pushed ∙ acts_of-append es _ ∙ ap (λ xs. acts_of es ++ xs) (append-nil e.acts) in
+    let all : acts_of es' ≡ acts_of es ++ e.acts = ap acts_of pushed ∙ acts_of-append es _
+    ∙ ap (λ xs. acts_of es ++ xs) (append-nil e.acts) in
     record {
       numbered = subst (AreNumbered 0) (sym pushed) (numbered-more 0 (length es) es e k.numbered (omega arith) lane number sound);
       right = subst (IsRight start) (sym all) (right-append start _ _ k.right (subst (λ s. IsRight s e.acts) at r.right));
-      state = λ _. r.state (not_refused o none) ∙ ap (λ s. run s e.acts) at ∙ sym (run-append start (acts_of es) e.acts) ∙ ap (run start) (sym all);
+      state = λ _. r.state (not_refused o none) ∙ ap (λ s. run s e.acts) at ∙ sym (run-append start (acts_of es) e.acts)
+          ∙ ap (run start) (sym all);
     }
 
 -- the replay of a pass, by its entries
@@ -149,7 +169,8 @@ pub replay_of-all : (start : State) (es : List Entry) → replay_of start (front
 replay_of-all start es = ap (λ xs. run start (acts_of xs)) (committed-all es)
 
 -- what the pass contains is the replay of its front
-pub replayed : (start now : State) (es : List Entry) (b : Bool) → IsKept start now es b → b ≡ false → now ≡ replay_of start (front_from es)
+pub replayed : (start now : State) (es : List Entry) (b : Bool) → IsKept start now es b → b ≡ false
+    → now ≡ replay_of start (front_from es)
 replayed start now es b k whole = k.state whole ∙ sym (replay_of-all start es)
 
 settles : (es : List Entry) → Settles (front_from es) (front_from es)
@@ -166,7 +187,9 @@ settles es = record {
 -- entries of lane 0 are of no other
 of_lane-none : (lane n : ℕ) (es : List Entry) → (lane == 0) ≡ false → AreNumbered n es → of_lane lane es ≡ []
 of_lane-none lane n [] other h = refl
-of_lane-none lane n (e ∷ es) other h = ap (λ l. cond (lane == l) (e ∷ of_lane lane es) (of_lane lane es)) h.0 ∙ ap (λ b. cond b (e ∷ of_lane lane es) (of_lane lane es)) other ∙ of_lane-none lane (n + 1) es other h.3
+of_lane-none lane n (e ∷ es) other h =
+    ap (λ l. cond (lane == l) (e ∷ of_lane lane es) (of_lane lane es)) h.0
+    ∙ ap (λ b. cond b (e ∷ of_lane lane es) (of_lane lane es)) other ∙ of_lane-none lane (n + 1) es other h.3
 
 own-lane : (es : List Entry) (lane : ℕ) → AreNumbered 0 es → of_lane lane es ≡ cond (lane == 0) es []
 own-lane es lane numbered = elim (cases_Bool (lane == 0)) [
@@ -184,9 +207,11 @@ within-all : (n : ℕ) (es : List Entry) → AreNumbered n es → AllByRecursion
 within-all n [] h = tt
 within-all n (e ∷ es) h = (is_lane_zero e.lane h.0, within-all (n + 1) es h.3)
 
-numbered-at : (n : ℕ) (before after : List Entry) (e : Entry) → AreNumbered n (before ++ e ∷ after) → (e.lane ≡ 0) × (e.number ≡ n + length before) × AreNumbered n before
+numbered-at : (n : ℕ) (before after : List Entry) (e : Entry) → AreNumbered n (before ++ e ∷ after)
+    → (e.lane ≡ 0) × (e.number ≡ n + length before) × AreNumbered n before
 numbered-at n [] after e h = (h.0, h.1 ∙ omega arith, tt)
-numbered-at n (x ∷ before) after e h = let more = numbered-at (n + 1) before after e h.3 in (more.0, more.1 ∙ omega arith, (h.0, h.1, h.2, more.2))
+numbered-at n (x ∷ before) after e h =
+    let more = numbered-at (n + 1) before after e h.3 in (more.0, more.1 ∙ omega arith, (h.0, h.1, h.2, more.2))
 
 numbered_by_lane : (es : List Entry) → AreNumbered 0 es → AreNumberedByLane es
 numbered_by_lane es h before after e at =
@@ -194,7 +219,8 @@ numbered_by_lane es h before after e at =
     here.1 ∙ omega arith ∙ ap length (sym (of_lane-all 0 before here.2)) ∙ ap (λ n. length (of_lane n before)) (sym here.0)
 
 -- the front of a pass is one of its store
-pub front_is : (start : State) (es : List Entry) → AreNumbered 0 es → IsRight start (acts_of es) → IsFrontFrom start (0 ∷ []) (front_from es)
+pub front_is : (start : State) (es : List Entry) → AreNumbered 0 es → IsRight start (acts_of es)
+    → IsFrontFrom start (0 ∷ []) (front_from es)
 front_is start es numbered right = record {
   legal = legal start es numbered right;
   some = omega arith;
@@ -212,5 +238,6 @@ front_is start es numbered right = record {
 }
 
 -- a pass that is closed has seen all, and all that is committed is its own
-pub settled : (start : State) (es : List Entry) → AreNumbered 0 es → LegalFrom start (front_from es) → SettlesFrom start (front_from es) (front_from es)
+pub settled : (start : State) (es : List Entry) → AreNumbered 0 es → LegalFrom start (front_from es)
+    → SettlesFrom start (front_from es) (front_from es)
 settled start es numbered is_legal = record { settles = settles es; legal = is_legal; own = λ none. own es numbered }

@@ -21,7 +21,8 @@ chosen false s t n f p q = q
 -- no operation changes how many maps and queues there are
 pub length-maps : (s : State) (op : Op) → length (after s op).maps ≡ length s.maps
 length-maps s (Get m k) = refl
-length-maps s (Insert m k v) = chosen (is_none (fin.get (map_at s m) k)) _ s (length s.maps) (λ t. length t.maps) (length-set s.maps m _) refl
+length-maps s (Insert m k v) =
+    chosen (is_none (fin.get (map_at s m) k)) _ s (length s.maps) (λ t. length t.maps) (length-set s.maps m _) refl
 length-maps s (Remove m k) = length-set s.maps m _
 length-maps s (Enqueue q v) = refl
 length-maps s (Dequeue q) = refl
@@ -30,7 +31,8 @@ length-maps s (Line q n) = refl
 
 pub length-queues : (s : State) (op : Op) → length (after s op).queues ≡ length s.queues
 length-queues s (Get m k) = refl
-length-queues s (Insert m k v) = chosen (is_none (fin.get (map_at s m) k)) _ s (length s.queues) (λ t. length t.queues) refl refl
+length-queues s (Insert m k v) =
+    chosen (is_none (fin.get (map_at s m) k)) _ s (length s.queues) (λ t. length t.queues) refl refl
 length-queues s (Remove m k) = refl
 length-queues s (Enqueue q v) = length-set s.queues q _
 length-queues s (Dequeue q) = length-set s.queues q _
@@ -42,7 +44,9 @@ no_refusal None e = refl
 no_refusal (Some op) e = cc
 
 -- a right act goes on
-pub running-more : (start now now' : State) (acts acts' : List Act) (op : Op) (reply : Reply) (o o' : Option Op) → IsRunning start now acts o → is_some o ≡ false → reply ≡ answer now op → now' ≡ after now op → acts' ≡ acts ++ act_of op reply ∷ [] → IsRunning start now' acts' o'
+pub running-more : (start now now' : State) (acts acts' : List Act) (op : Op) (reply : Reply) (o o' : Option Op)
+    → IsRunning start now acts o → is_some o ≡ false → reply ≡ answer now op → now' ≡ after now op
+    → acts' ≡ acts ++ act_of op reply ∷ [] → IsRunning start now' acts' o'
 running-more start now now' acts acts' op reply o o' r none replied changed added =
     let at : now ≡ run start acts = r.state (no_refusal o none) in
     record {
@@ -62,4 +66,5 @@ length-queues-run s (a ∷ acts) = length-queues-run (after s a.op) acts ∙ len
 
 -- a replay has as many maps and queues as it starts from
 pub replay-numbers : (start : State) (f : View) → HaveSameNumbers (replay_of start f) start
-replay-numbers start f = record { maps = length-maps-run start (acts_of (committed_in f)); queues = length-queues-run start (acts_of (committed_in f)) }
+replay-numbers start f =
+    record { maps = length-maps-run start (acts_of (committed_in f)); queues = length-queues-run start (acts_of (committed_in f)) }

@@ -26,12 +26,16 @@ pub get-table : (es : List (ℕ × ℕ)) (q : ℕ) → fin.get (table es) q ≡ 
 get-table es q = fin.get-from_entries nat_cmp_total es q ∙ find_is_lookup es q
 
 -- entries that differ at one key make maps that differ there
-pub table-insert : (es fs : List (ℕ × ℕ)) (k v : ℕ) → ((q : ℕ) → lookup (is_at (nat_cmp q)) fs ≡ cond (is_at (nat_cmp k) q) (Some v) (lookup (is_at (nat_cmp q)) es)) → table fs ≡ fin.insert (table es) k v
+pub table-insert : (es fs : List (ℕ × ℕ)) (k v : ℕ)
+    → ((q : ℕ) → lookup (is_at (nat_cmp q)) fs ≡ cond (is_at (nat_cmp k) q) (Some v) (lookup (is_at (nat_cmp q)) es))
+    → table fs ≡ fin.insert (table es) k v
 table-insert es fs k v h = fin.same_map nat_cmp_total fin.nat_cmp-IsAntisymmetric _ _ (λ q.
     get-table fs q ∙ h q ∙ ap (λ b. cond b (Some v) (lookup (is_at (nat_cmp q)) es)) ((eq_by_cmp_equiv nat_cmp_total).symm k q)
     ∙ sym (fin.get-insert nat_cmp_total (table es) k v q ∙ ap (cond (is_at (nat_cmp q) k) (Some v)) (get-table es q)))
 
-pub table-remove : (es fs : List (ℕ × ℕ)) (k : ℕ) → ((q : ℕ) → lookup (is_at (nat_cmp q)) fs ≡ cond (is_at (nat_cmp k) q) None (lookup (is_at (nat_cmp q)) es)) → table fs ≡ fin.remove (table es) k
+pub table-remove : (es fs : List (ℕ × ℕ)) (k : ℕ)
+    → ((q : ℕ) → lookup (is_at (nat_cmp q)) fs ≡ cond (is_at (nat_cmp k) q) None (lookup (is_at (nat_cmp q)) es))
+    → table fs ≡ fin.remove (table es) k
 table-remove es fs k h = fin.same_map nat_cmp_total fin.nat_cmp-IsAntisymmetric _ _ (λ q.
     get-table fs q ∙ h q ∙ ap (λ b. cond b None (lookup (is_at (nat_cmp q)) es)) ((eq_by_cmp_equiv nat_cmp_total).symm k q)
     ∙ sym (fin.get-remove nat_cmp_total (table es) k q ∙ ap (cond (is_at (nat_cmp q) k) None) (get-table es q)))
@@ -40,31 +44,46 @@ module _ {X Y : Type 0} (f : X → Y) (xs : List X) (i : ℕ) (x : X) (is : x �
   read_map : (d : Y) → i < length xs → f x ≡ slice_index_or (map f xs) i d
   read_map d below = ap f is ∙ sym (get_or-map f xs i x d below)
 
-  write_map : (d : Y) (y : X) → i < length xs → (h : Y → Y) → f y ≡ h (f x) → map f (slice_set xs i y) ≡ slice_set (map f xs) i (h (slice_index_or (map f xs) i d))
+  write_map : (d : Y) (y : X) → i < length xs → (h : Y → Y) → f y ≡ h (f x)
+      → map f (slice_set xs i y) ≡ slice_set (map f xs) i (h (slice_index_or (map f xs) i d))
   write_map d y below h e = map-set f xs i y ∙ ap (slice_set (map f xs) i) (e ∙ ap h (read_map d below))
 
   keep_map : (y : X) → f y ≡ f x → map f (slice_set xs i y) ≡ map f xs
-  keep_map y e = map-set f xs i y ∙ ap (slice_set (map f xs) i) (e ∙ ap f is) ∙ sym (map-set f xs i _) ∙ ap (map f) (set-get_or xs i x)
+  keep_map y e =
+      map-set f xs i y ∙ ap (slice_set (map f xs) i) (e ∙ ap f is) ∙ sym (map-set f xs i _) ∙ ap (map f) (set-get_or xs i x)
 
 module _ (ms : List (BTreeMap ℕ ℕ)) (qs : List (VecDeque ℕ Global)) (s : State) (e : state_of ms qs ≡ s) where
   some_map : (i : ℕ) → i < length s.maps → i < length ms
-  some_map i below = let eq : length (map table_of ms) ≡ length s.maps = ap (λ t. length t.maps) e in let l : length (map table_of ms) ≡ length ms = length-map ms table_of in omega arith
+  some_map i below =
+      let eq : length (map table_of ms) ≡ length s.maps = ap (λ t. length t.maps) e in let l : length (map table_of ms) ≡ length ms = length-map ms table_of in omega arith
 
   some_queue : (i : ℕ) → i < length s.queues → i < length qs
-  some_queue i below = let eq : length (state_of ms qs).queues ≡ length s.queues = ap (λ t. length t.queues) e in let l : length (state_of ms qs).queues ≡ length qs = length-map qs (λ q. q.items) in omega arith
+  some_queue i below =
+      let eq : length (state_of ms qs).queues ≡ length s.queues = ap (λ t. length t.queues) e in let l : length (state_of ms qs).queues ≡ length qs = length-map qs (λ q. q.items) in omega arith
 
   -- the map at a number is that of the tree there
   pub map_at-state_of : (i : ℕ) (m : BTreeMap ℕ ℕ) → i < length s.maps → m ≡ slice_index_or ms i m → table_of m ≡ map_at s i
   map_at-state_of i m below is = read_map table_of ms i m is _ (some_map i below) ∙ ap (λ t. map_at t i) e
 
-  pub state_of-set_map : (i : ℕ) (m n : BTreeMap ℕ ℕ) → i < length s.maps → m ≡ slice_index_or ms i m → (h : Table → Table) → table_of n ≡ h (table_of m) → state_of (slice_set ms i n) qs ≡ with_map s i (h (map_at s i))
-  state_of-set_map i m n below is h changed = ap (λ (t : List Table). record { maps = t; queues = (state_of ms qs).queues }) (write_map table_of ms i m is fin.empty n (some_map i below) h changed) ∙ ap (λ t. with_map t i (h (map_at t i))) e
+  pub state_of-set_map : (i : ℕ) (m n : BTreeMap ℕ ℕ) → i < length s.maps → m ≡ slice_index_or ms i m → (h : Table → Table)
+      → table_of n ≡ h (table_of m) → state_of (slice_set ms i n) qs ≡ with_map s i (h (map_at s i))
+  state_of-set_map i m n below is h changed =
+      ap (λ (t : List Table). record { maps = t; queues = (state_of ms qs).queues }) (write_map table_of ms i m is fin.empty n (some_map i below) h changed)
+      ∙ ap (λ t. with_map t i (h (map_at t i))) e
 
-  pub state_of-same_map : (i : ℕ) (m n : BTreeMap ℕ ℕ) → m ≡ slice_index_or ms i m → table_of n ≡ table_of m → state_of (slice_set ms i n) qs ≡ s
-  state_of-same_map i m n is same = ap (λ (t : List Table). record { maps = t; queues = (state_of ms qs).queues }) (keep_map table_of ms i m is n same) ∙ e
+  pub state_of-same_map : (i : ℕ) (m n : BTreeMap ℕ ℕ) → m ≡ slice_index_or ms i m → table_of n ≡ table_of m
+      → state_of (slice_set ms i n) qs ≡ s
+  state_of-same_map i m n is same =
+      ap (λ (t : List Table). record { maps = t; queues = (state_of ms qs).queues }) (keep_map table_of ms i m is n same) ∙ e
 
-  pub state_of-set_queue : (i : ℕ) (m n : VecDeque ℕ Global) → i < length s.queues → m ≡ slice_index_or qs i m → (h : List ℕ → List ℕ) → n.items ≡ h m.items → state_of ms (slice_set qs i n) ≡ with_queue s i (h (queue_at s i))
-  state_of-set_queue i m n below is h changed = ap (λ (t : List (List ℕ)). record { maps = (state_of ms qs).maps; queues = t }) (write_map (λ q. q.items) qs i m is [] n (some_queue i below) h changed) ∙ ap (λ t. with_queue t i (h (queue_at t i))) e
+  pub state_of-set_queue : (i : ℕ) (m n : VecDeque ℕ Global) → i < length s.queues → m ≡ slice_index_or qs i m
+      → (h : List ℕ → List ℕ) → n.items ≡ h m.items → state_of ms (slice_set qs i n) ≡ with_queue s i (h (queue_at s i))
+  state_of-set_queue i m n below is h changed =
+      ap (λ (t : List (List ℕ)). record { maps = (state_of ms qs).maps; queues = t }) (write_map (λ q. q.items) qs i m is [] n (some_queue i below) h changed)
+      ∙ ap (λ t. with_queue t i (h (queue_at t i))) e
 
-  pub state_of-same_queue : (i : ℕ) (m n : VecDeque ℕ Global) → m ≡ slice_index_or qs i m → n.items ≡ m.items → state_of ms (slice_set qs i n) ≡ s
-  state_of-same_queue i m n is same = ap (λ (t : List (List ℕ)). record { maps = (state_of ms qs).maps; queues = t }) (keep_map (λ q. q.items) qs i m is n same) ∙ e
+  pub state_of-same_queue : (i : ℕ) (m n : VecDeque ℕ Global) → m ≡ slice_index_or qs i m → n.items ≡ m.items
+      → state_of ms (slice_set qs i n) ≡ s
+  state_of-same_queue i m n is same =
+      ap (λ (t : List (List ℕ)). record { maps = (state_of ms qs).maps; queues = t }) (keep_map (λ q. q.items) qs i m is n same)
+      ∙ e

@@ -17,20 +17,23 @@ pub count-append : {A : Type 0} (p : A → Bool) (xs ys : List A) → count_by p
 count-append p xs ys = sum_by-append (λ x. cond (p x) 1 0) xs ys
 
 -- a list that begins another has no more different elements
-pub different-prefix : {A : Type 0} (eq : A → A → Bool) (xs ys others : List A) → different_beside eq xs others ≤ different_beside eq (xs ++ ys) others
+pub different-prefix : {A : Type 0} (eq : A → A → Bool) (xs ys others : List A)
+    → different_beside eq xs others ≤ different_beside eq (xs ++ ys) others
 different-prefix eq [] ys others = omega arith
-different-prefix eq (x ∷ xs) ys others = elim (list_any (eq x) others) as (λ b. cond b (different_beside eq xs others) (1 + different_beside eq xs (x ∷ others)) ≤ cond b (different_beside eq (xs ++ ys) others) (1 + different_beside eq (xs ++ ys) (x ∷ others))) [
-  | true ↦ different-prefix eq xs ys others
-  | false ↦ let more = different-prefix eq xs ys (x ∷ others) in omega arith
-]
+different-prefix eq (x ∷ xs) ys others =
+    elim (list_any (eq x) others) as (λ b. cond b (different_beside eq xs others) (1 + different_beside eq xs (x ∷ others)) ≤ cond b (different_beside eq (xs ++ ys) others) (1 + different_beside eq (xs ++ ys) (x ∷ others))) [
+      | true ↦ different-prefix eq xs ys others
+      | false ↦ let more = different-prefix eq xs ys (x ∷ others) in omega arith
+    ]
 
 -- a list has no more different elements than elements
 pub different-length : {A : Type 0} (eq : A → A → Bool) (xs others : List A) → different_beside eq xs others ≤ length xs
 different-length eq [] others = omega arith
-different-length eq (x ∷ xs) others = elim (list_any (eq x) others) as (λ b. cond b (different_beside eq xs others) (1 + different_beside eq xs (x ∷ others)) ≤ length (x ∷ xs)) [
-  | true ↦ let more = different-length eq xs others in omega arith
-  | false ↦ let more = different-length eq xs (x ∷ others) in omega arith
-]
+different-length eq (x ∷ xs) others =
+    elim (list_any (eq x) others) as (λ b. cond b (different_beside eq xs others) (1 + different_beside eq xs (x ∷ others)) ≤ length (x ∷ xs)) [
+      | true ↦ let more = different-length eq xs others in omega arith
+      | false ↦ let more = different-length eq xs (x ∷ others) in omega arith
+    ]
 
 -- every element of one list is among those of another
 abbrev AreAmong : {A : Type 0} → (A → A → Bool) → List A → List A → Type 0
@@ -72,12 +75,14 @@ module _ {A : Type 0} {eq : A → A → Bool} (laws : IsEquivalence eq) where
   ]
 
   -- a list has no more different elements than its parts
-  pub different-append : (xs ys others : List A) → different_beside eq (xs ++ ys) others ≤ different_beside eq xs others + different_beside eq ys others
+  pub different-append : (xs ys others : List A)
+      → different_beside eq (xs ++ ys) others ≤ different_beside eq xs others + different_beside eq ys others
   different-append [] ys others = omega arith
-  different-append (x ∷ xs) ys others = elim (list_any (eq x) others) as (λ b. cond b (different_beside eq (xs ++ ys) others) (1 + different_beside eq (xs ++ ys) (x ∷ others)) ≤ cond b (different_beside eq xs others) (1 + different_beside eq xs (x ∷ others)) + different_beside eq ys others) [
-    | true ↦ different-append xs ys others
-    | false ↦ let more = different-append xs ys (x ∷ others) in let less = different-among ys others (x ∷ others) (among-push x others others (λ z some. some)) in omega arith
-  ]
+  different-append (x ∷ xs) ys others =
+      elim (list_any (eq x) others) as (λ b. cond b (different_beside eq (xs ++ ys) others) (1 + different_beside eq (xs ++ ys) (x ∷ others)) ≤ cond b (different_beside eq xs others) (1 + different_beside eq xs (x ∷ others)) + different_beside eq ys others) [
+        | true ↦ different-append xs ys others
+        | false ↦ let more = different-append xs ys (x ∷ others) in let less = different-among ys others (x ∷ others) (among-push x others others (λ z some. some)) in omega arith
+      ]
 
 pub same_key_equiv : IsEquivalence same_key
 same_key_equiv = and_equiv (on_equiv (λ (k : ℕ × ℕ). k.0) nat_eq_equiv) (on_equiv (λ (k : ℕ × ℕ). k.1) nat_eq_equiv)
@@ -85,10 +90,13 @@ same_key_equiv = and_equiv (on_equiv (λ (k : ℕ × ℕ). k.0) nat_eq_equiv) (o
 -- the elements that acts name, as a test or a limit counts them
 module _ {A : Type 0} (eq : A → A → Bool) (named : Act → Option A) (xs ys : List Act) where
   named-prefix : different eq (filter_map named xs) ≤ different eq (filter_map named (xs ++ ys))
-  named-prefix = subst (λ zs. different eq (filter_map named xs) ≤ different eq zs) (sym (filter_map-append named xs ys)) (different-prefix eq (filter_map named xs) (filter_map named ys) [])
+  named-prefix =
+      subst (λ zs. different eq (filter_map named xs) ≤ different eq zs) (sym (filter_map-append named xs ys)) (different-prefix eq (filter_map named xs) (filter_map named ys) [])
 
-  named-append : IsEquivalence eq → different eq (filter_map named (xs ++ ys)) ≤ different eq (filter_map named xs) + different eq (filter_map named ys)
-  named-append laws = subst (λ zs. different eq zs ≤ different eq (filter_map named xs) + different eq (filter_map named ys)) (sym (filter_map-append named xs ys)) (different-append laws (filter_map named xs) (filter_map named ys) [])
+  named-append : IsEquivalence eq
+      → different eq (filter_map named (xs ++ ys)) ≤ different eq (filter_map named xs) + different eq (filter_map named ys)
+  named-append laws =
+      subst (λ zs. different eq zs ≤ different eq (filter_map named xs) + different eq (filter_map named ys)) (sym (filter_map-append named xs ys)) (different-append laws (filter_map named xs) (filter_map named ys) [])
 
 module _ (xs ys : List Act) where
   changed_nothing-append : count_by (λ (a : Act). changed_nothing a.op a.reply) (xs ++ ys) ≡ count_by (λ (a : Act). changed_nothing a.op a.reply) xs + count_by (λ (a : Act). changed_nothing a.op a.reply) ys
@@ -106,27 +114,34 @@ module _ (xs ys : List Act) where
 
   -- both together read and write no more than the one and then the other
   pub reads-append : reads (xs ++ ys) ≤ reads xs + reads ys
-  reads-append = omega (arith, changed_nothing-append, dequeued-append, line_words-append, named-append nat_eq (λ (a : Act). asked_queue a.op a.reply) xs ys nat_eq_equiv)
+  reads-append =
+      omega (arith, changed_nothing-append, dequeued-append, line_words-append, named-append nat_eq (λ (a : Act). asked_queue a.op a.reply) xs ys nat_eq_equiv)
 
   pub writes-append : writes (xs ++ ys) ≤ writes xs + writes ys
-  writes-append = omega (arith, changed_nothing-append, nodes-append, named-append same_key (λ (a : Act). changed_key a.op a.reply) xs ys same_key_equiv, named-append nat_eq (λ (a : Act). changed_queue a.op a.reply) xs ys nat_eq_equiv)
+  writes-append =
+      omega (arith, changed_nothing-append, nodes-append, named-append same_key (λ (a : Act). changed_key a.op a.reply) xs ys same_key_equiv, named-append nat_eq (λ (a : Act). changed_queue a.op a.reply) xs ys nat_eq_equiv)
 
   -- acts that begin others count no more than all of them
   pub nodes-prefix : nodes xs ≤ nodes (xs ++ ys)
   nodes-prefix = omega (arith, nodes-append)
 
   pub reads-prefix : reads xs ≤ reads (xs ++ ys)
-  reads-prefix = omega (arith, changed_nothing-append, dequeued-append, line_words-append, named-prefix nat_eq (λ (a : Act). asked_queue a.op a.reply) xs ys)
+  reads-prefix =
+      omega (arith, changed_nothing-append, dequeued-append, line_words-append, named-prefix nat_eq (λ (a : Act). asked_queue a.op a.reply) xs ys)
 
   pub writes-prefix : writes xs ≤ writes (xs ++ ys)
-  writes-prefix = omega (arith, changed_nothing-append, nodes-append, named-prefix same_key (λ (a : Act). changed_key a.op a.reply) xs ys, named-prefix nat_eq (λ (a : Act). changed_queue a.op a.reply) xs ys)
+  writes-prefix =
+      omega (arith, changed_nothing-append, nodes-append, named-prefix same_key (λ (a : Act). changed_key a.op a.reply) xs ys, named-prefix nat_eq (λ (a : Act). changed_queue a.op a.reply) xs ys)
 
   pub few-prefix : (most : Bounds) → AreFew most (xs ++ ys) → AreFew most xs
-  few-prefix most few = record { reads = omega (arith, few.reads, reads-prefix); writes = omega (arith, few.writes, writes-prefix); nodes = omega (arith, few.nodes, nodes-prefix) }
+  few-prefix most few =
+      record { reads = omega (arith, few.reads, reads-prefix); writes = omega (arith, few.writes, writes-prefix); nodes = omega (arith, few.nodes, nodes-prefix) }
 
 -- what is within bounds is within larger ones
 pub few-more : (most more : Bounds) (acts : List Act) → AllowAll most more → AreFew most acts → AreFew more acts
-few-more most more acts allow few = record { reads = omega (arith, allow.reads, few.reads); writes = omega (arith, allow.writes, few.writes); nodes = omega (arith, allow.nodes, few.nodes) }
+few-more most more acts allow few =
+    record { reads = omega (arith, allow.reads, few.reads); writes = omega (arith, allow.writes, few.writes); nodes = omega (arith, allow.nodes, few.nodes) }
 
-pub small-more : (most more : Bounds) (makes : List Act → Type 0) (s : State) → AllowAll most more → IsSmall most makes s → IsSmall more makes s
+pub small-more : (most more : Bounds) (makes : List Act → Type 0) (s : State) → AllowAll most more → IsSmall most makes s
+    → IsSmall more makes s
 small-more most more makes s allow small acts made right = few-more most more acts allow (small acts made right)

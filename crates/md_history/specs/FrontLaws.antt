@@ -12,7 +12,8 @@ pub prefix-self : {A : Type 0} (xs : List A) → IsPrefix xs xs
 prefix-self xs = record { rest = []; is = sym (append-nil xs) }
 
 pub prefix-trans : {A : Type 0} {xs ys zs : List A} → IsPrefix xs ys → IsPrefix ys zs → IsPrefix xs zs
-prefix-trans {xs = xs} p q = record { rest = p.rest ++ q.rest; is = q.is ∙ ap (λ t. t ++ q.rest) p.is ∙ append_assoc xs p.rest q.rest }
+prefix-trans {xs = xs} p q =
+    record { rest = p.rest ++ q.rest; is = q.is ∙ ap (λ t. t ++ q.rest) p.is ∙ append_assoc xs p.rest q.rest }
 
 pub stays-self : (f : Fate) → Stays f f
 stays-self Committed = refl
@@ -86,7 +87,8 @@ length-known_of_both (f ∷ fs) (g ∷ gs) = omega (arith, length-known_of_both 
 
 -- a front begins itself
 pub begins-self : (f : Front) → Begins f f
-begins-self f = record { seen = prefix-self f.seen; known = all_stay-self f.known; mine = λ lane in_lanes. prefix-self (f.mine lane) }
+begins-self f =
+    record { seen = prefix-self f.seen; known = all_stay-self f.known; mine = λ lane in_lanes. prefix-self (f.mine lane) }
 
 -- a front begins what one that it begins begins
 pub begins-trans : (f g h : Front) → Begins f g → BeginsOn f.lanes g h → Begins f h

@@ -43,7 +43,8 @@ only_committed-allowed [] (f ∷ fs) fated = absurd (omega arith)
 only_committed-allowed (e ∷ es) [] fated = absurd (omega arith)
 only_committed-allowed (e ∷ es) (Committed ∷ fs) fated = (refl, only_committed-allowed es fs (omega arith))
 only_committed-allowed (e ∷ es) (Aborted ∷ fs) fated = (refl, only_committed-allowed es fs (omega arith))
-only_committed-allowed (e ∷ es) (Undecided ∷ fs) fated = ((λ kept. absurd (false≢true kept)), only_committed-allowed es fs (omega arith))
+only_committed-allowed (e ∷ es) (Undecided ∷ fs) fated =
+    ((λ kept. absurd (false≢true kept)), only_committed-allowed es fs (omega arith))
 
 only_committed-acts : (es : List Entry) (fs : List Fate) → kept_acts es (only_committed es fs) ≡ acts_of (committed es fs)
 unfolding only_committed
@@ -55,4 +56,5 @@ only_committed-acts (e ∷ es) (Undecided ∷ fs) = only_committed-acts es fs
 
 -- the committed entries of a legal history are right by themselves, in their order
 pub committed-right : (s : State) (es : List Entry) (fs : List Fate) → IsLegal s es fs → IsRight s (acts_of (committed es fs))
-committed-right s es fs legal = subst (IsRight s) (only_committed-acts es fs) (legal.right (only_committed es fs) (only_committed-allowed es fs legal.fated))
+committed-right s es fs legal =
+    subst (IsRight s) (only_committed-acts es fs) (legal.right (only_committed es fs) (only_committed-allowed es fs legal.fated))

@@ -14,7 +14,7 @@ use Rattle.md_history.specs.Front.{Front}
 use Rattle.md_history.specs.Engine.{IsFrontFrom, Limits, empty_front}
 use Rattle.md_history.specs.Calls.{Refusal}
 
--- a pass: where its store began, its entries, and whether memory was wanting
+-- a pass: where its store began, its entries, and whether an attempt ran out of memory
 pub record Plain : Type 0 where
   pub start : State
   pub entries : List Entry
@@ -58,14 +58,14 @@ abbrev pub AreNumbered : ℕ → List Entry → Type 0
 AreNumbered n [] = Unit {0}
 AreNumbered n (e ∷ es) = (e.lane ≡ 0) × (e.number ≡ n) × (e.sound ≡ true) × AreNumbered (n + 1) es
 
--- what a pass contains is what its entries make of the start, until memory was wanting
+-- what a pass contains is what its entries make of the start, until an attempt runs out of memory
 pub record IsKept (start now : State) (es : List Entry) (broken : Bool) : Type 0 where
   pub numbered : AreNumbered 0 es
   pub right : IsRight start (acts_of es)
   pub state : broken ≡ false → now ≡ run start (acts_of es)
 
--- a transaction under way: the state that it began with, its acts, and the operation that was refused for want
--- of memory, if one was
+-- a transaction under way: the state that it began with, its acts, and the operation for which memory ran out, if it
+-- did
 pub record Running : Type 0 where
   pub start : State
   pub acts : List Act

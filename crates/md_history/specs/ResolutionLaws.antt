@@ -11,7 +11,8 @@ use Rattle.md_history.specs.Front.{AllStay, Stays}
 use Rattle.md_history.specs.HistoryLaws.{right-append}
 
 -- a choice speaks of each entry
-pub resolution-length : (es : List Entry) (fs : List Fate) (choice : List Bool) → IsResolution es fs choice → length choice ≡ length es
+pub resolution-length : (es : List Entry) (fs : List Fate) (choice : List Bool) → IsResolution es fs choice
+    → length choice ≡ length es
 resolution-length [] [] [] r = refl
 resolution-length [] [] (k ∷ ks) r = absurd r
 resolution-length [] (f ∷ fs) choice r = absurd r
@@ -20,7 +21,8 @@ resolution-length (e ∷ es) (f ∷ fs) [] r = absurd r
 resolution-length (e ∷ es) (f ∷ fs) (k ∷ ks) r = ap suc (resolution-length es fs ks r.1)
 
 -- what a decided fate allows, the undecided one allowed, if a committed entry is sound
-allowed-before : (f g : Fate) (e : Entry) (kept : Bool) → Stays f g → (g ≡ Committed → e.sound ≡ true) → MayKeep g e kept → MayKeep f e kept
+allowed-before : (f g : Fate) (e : Entry) (kept : Bool) → Stays f g → (g ≡ Committed → e.sound ≡ true) → MayKeep g e kept
+    → MayKeep f e kept
 allowed-before Undecided Committed e kept stays sound may = λ _. sound refl
 allowed-before Undecided Aborted e kept stays sound may = λ keeps. let both : true ≡ false = sym keeps ∙ may in cc
 allowed-before Undecided Undecided e kept stays sound may = may
@@ -28,18 +30,21 @@ allowed-before Committed g e kept stays sound may = subst (λ x. MayKeep x e kep
 allowed-before Aborted g e kept stays sound may = subst (λ x. MayKeep x e kept) stays may
 
 -- deciding narrows: a resolution of fates that go on is one of the earlier fates
-pub narrows : (es : List Entry) (fs gs : List Fate) (choice : List Bool) → length fs ≡ length es → AllStay fs gs → AllCommittedSound es gs → IsResolution es gs choice → IsResolution es fs choice
+pub narrows : (es : List Entry) (fs gs : List Fate) (choice : List Bool) → length fs ≡ length es → AllStay fs gs
+    → AllCommittedSound es gs → IsResolution es gs choice → IsResolution es fs choice
 narrows [] [] [] choice fated stay sound r = r
 narrows [] [] (g ∷ gs) choice fated stay sound r = absurd r
 narrows [] (f ∷ fs) gs choice fated stay sound r = absurd (omega arith)
 narrows (e ∷ es) [] gs choice fated stay sound r = absurd (omega arith)
 narrows (e ∷ es) (f ∷ fs) [] choice fated stay sound r = absurd stay
 narrows (e ∷ es) (f ∷ fs) (g ∷ gs) [] fated stay sound r = absurd r
-narrows (e ∷ es) (f ∷ fs) (g ∷ gs) (k ∷ ks) fated stay sound r = (allowed-before f g e k stay.0 sound.0 r.0, narrows es fs gs ks (omega arith) stay.1 sound.1 r.1)
+narrows (e ∷ es) (f ∷ fs) (g ∷ gs) (k ∷ ks) fated stay sound r =
+    (allowed-before f g e k stay.0 sound.0 r.0, narrows es fs gs ks (omega arith) stay.1 sound.1 r.1)
 
 -- So a legal history stays legal when fates are decided, and each committed entry is sound. There is no such law the other
 -- way: fates that know less have more resolutions.
-pub legal-narrows : (s : State) (es : List Entry) (fs gs : List Fate) → IsLegal s es fs → AllStay fs gs → length gs ≡ length es → AllCommittedSound es gs → IsLegal s es gs
+pub legal-narrows : (s : State) (es : List Entry) (fs gs : List Fate) → IsLegal s es fs → AllStay fs gs → length gs ≡ length es
+    → AllCommittedSound es gs → IsLegal s es gs
 legal-narrows s es fs gs legal stay fated sound = record {
   fated = fated;
   sound = sound;
@@ -47,16 +52,21 @@ legal-narrows s es fs gs legal stay fated sound = record {
 }
 
 -- committed entries are sound also where less is known, of a first part
-pub sound-earlier : (es rest : List Entry) (fs gs : List Fate) → AllStay fs gs → AllCommittedSound (es ++ rest) gs → AllCommittedSound es fs
+pub sound-earlier : (es rest : List Entry) (fs gs : List Fate) → AllStay fs gs → AllCommittedSound (es ++ rest) gs
+    → AllCommittedSound es fs
 sound-earlier [] rest fs gs stay sound = tt
 sound-earlier (e ∷ es) rest [] gs stay sound = tt
 sound-earlier (e ∷ es) rest (f ∷ fs) [] stay sound = absurd stay
-sound-earlier (e ∷ es) rest (Committed ∷ fs) (g ∷ gs) stay sound = ((λ _. sound.0 stay.0), sound-earlier es rest fs gs stay.1 sound.1)
-sound-earlier (e ∷ es) rest (Aborted ∷ fs) (g ∷ gs) stay sound = ((λ other. let both : Aborted ≡ Committed = other in cc), sound-earlier es rest fs gs stay.1 sound.1)
-sound-earlier (e ∷ es) rest (Undecided ∷ fs) (g ∷ gs) stay sound = ((λ other. let both : Undecided ≡ Committed = other in cc), sound-earlier es rest fs gs stay.1 sound.1)
+sound-earlier (e ∷ es) rest (Committed ∷ fs) (g ∷ gs) stay sound =
+    ((λ _. sound.0 stay.0), sound-earlier es rest fs gs stay.1 sound.1)
+sound-earlier (e ∷ es) rest (Aborted ∷ fs) (g ∷ gs) stay sound =
+    ((λ other. let both : Aborted ≡ Committed = other in cc), sound-earlier es rest fs gs stay.1 sound.1)
+sound-earlier (e ∷ es) rest (Undecided ∷ fs) (g ∷ gs) stay sound =
+    ((λ other. let both : Undecided ≡ Committed = other in cc), sound-earlier es rest fs gs stay.1 sound.1)
 
 -- the choice for a history and that for what follows it make one for both
-pub resolution-append : (es later : List Entry) (fs gs : List Fate) (choice more : List Bool) → IsResolution es fs choice → IsResolution later gs more → IsResolution (es ++ later) (fs ++ gs) (choice ++ more)
+pub resolution-append : (es later : List Entry) (fs gs : List Fate) (choice more : List Bool) → IsResolution es fs choice
+    → IsResolution later gs more → IsResolution (es ++ later) (fs ++ gs) (choice ++ more)
 resolution-append [] later [] gs [] more r q = q
 resolution-append [] later [] gs (k ∷ ks) more r q = absurd r
 resolution-append [] later (f ∷ fs) gs choice more r q = absurd r
@@ -72,7 +82,8 @@ pub record IsInParts (es later : List Entry) (fs gs : List Fate) (choice : List 
   pub of_first : IsResolution es fs first
   pub of_more : IsResolution later gs more
 
-pub resolution-parts : (es later : List Entry) (fs gs : List Fate) (choice : List Bool) → length fs ≡ length es → IsResolution (es ++ later) (fs ++ gs) choice → IsInParts es later fs gs choice
+pub resolution-parts : (es later : List Entry) (fs gs : List Fate) (choice : List Bool) → length fs ≡ length es
+    → IsResolution (es ++ later) (fs ++ gs) choice → IsInParts es later fs gs choice
 resolution-parts [] later [] gs choice fated r = record { first = []; more = choice; joined = refl; of_first = tt; of_more = r }
 resolution-parts [] later (f ∷ fs) gs choice fated r = absurd (omega arith)
 resolution-parts (e ∷ es) later [] gs choice fated r = absurd (omega arith)
@@ -82,11 +93,14 @@ resolution-parts (e ∷ es) later (f ∷ fs) gs (k ∷ ks) fated r =
     record { first = k ∷ parts.first; more = parts.more; joined = ap (λ xs. k ∷ xs) parts.joined; of_first = (r.0, parts.of_first); of_more = parts.of_more }
 
 -- the acts that are kept of both
-pub kept_acts-append : (es later : List Entry) (choice more : List Bool) → length choice ≡ length es → kept_acts (es ++ later) (choice ++ more) ≡ kept_acts es choice ++ kept_acts later more
+pub kept_acts-append : (es later : List Entry) (choice more : List Bool) → length choice ≡ length es
+    → kept_acts (es ++ later) (choice ++ more) ≡ kept_acts es choice ++ kept_acts later more
 kept_acts-append [] later [] more fits = refl
 kept_acts-append [] later (k ∷ ks) more fits = absurd (omega arith)
 kept_acts-append (e ∷ es) later [] more fits = absurd (omega arith)
-kept_acts-append (e ∷ es) later (true ∷ ks) more fits = ap (λ acts. e.acts ++ acts) (kept_acts-append es later ks more (omega arith)) ∙ sym (append_assoc e.acts (kept_acts es ks) (kept_acts later more))
+kept_acts-append (e ∷ es) later (true ∷ ks) more fits =
+    ap (λ acts. e.acts ++ acts) (kept_acts-append es later ks more (omega arith))
+    ∙ sym (append_assoc e.acts (kept_acts es ks) (kept_acts later more))
 kept_acts-append (e ∷ es) later (false ∷ ks) more fits = kept_acts-append es later ks more (omega arith)
 
 -- a resolution with an undecided entry at the end: one from before, and the entry, which may be kept if it is sound
@@ -97,27 +111,36 @@ pub record IsWithLast (es : List Entry) (fs : List Fate) (e : Entry) (choice : L
   pub of_first : IsResolution es fs first
   pub may : kept ≡ true → e.sound ≡ true
 
-with-last : (es : List Entry) (fs : List Fate) (e : Entry) (choice first more : List Bool) → choice ≡ first ++ more → IsResolution es fs first → IsResolution (e ∷ []) (Undecided ∷ []) more → IsWithLast es fs e choice
+with-last : (es : List Entry) (fs : List Fate) (e : Entry) (choice first more : List Bool) → choice ≡ first ++ more
+    → IsResolution es fs first → IsResolution (e ∷ []) (Undecided ∷ []) more → IsWithLast es fs e choice
 with-last es fs e choice first [] joined r q = absurd q
-with-last es fs e choice first (kept ∷ []) joined r q = record { first = first; kept = kept; joined = joined; of_first = r; may = q.0 }
+with-last es fs e choice first (kept ∷ []) joined r q =
+    record { first = first; kept = kept; joined = joined; of_first = r; may = q.0 }
 with-last es fs e choice first (kept ∷ k ∷ ks) joined r q = absurd q.1
 
-pub resolution-last : (es : List Entry) (fs : List Fate) (e : Entry) (choice : List Bool) → length fs ≡ length es → IsResolution (es ++ e ∷ []) (fs ++ Undecided ∷ []) choice → IsWithLast es fs e choice
+pub resolution-last : (es : List Entry) (fs : List Fate) (e : Entry) (choice : List Bool) → length fs ≡ length es
+    → IsResolution (es ++ e ∷ []) (fs ++ Undecided ∷ []) choice → IsWithLast es fs e choice
 resolution-last es fs e choice fated r =
     let parts = resolution-parts es (e ∷ []) fs (Undecided ∷ []) choice fated r in
     with-last es fs e choice parts.first parts.more parts.joined parts.of_first parts.of_more
 
 -- each resolution from before goes on without the entry, and with it if it is sound
-pub resolution-with : (es : List Entry) (fs : List Fate) (e : Entry) (choice : List Bool) (kept : Bool) → IsResolution es fs choice → (kept ≡ true → e.sound ≡ true) → IsResolution (es ++ e ∷ []) (fs ++ Undecided ∷ []) (choice ++ kept ∷ [])
+pub resolution-with : (es : List Entry) (fs : List Fate) (e : Entry) (choice : List Bool) (kept : Bool)
+    → IsResolution es fs choice → (kept ≡ true → e.sound ≡ true)
+    → IsResolution (es ++ e ∷ []) (fs ++ Undecided ∷ []) (choice ++ kept ∷ [])
 resolution-with es fs e choice kept r may = resolution-append es (e ∷ []) fs (Undecided ∷ []) choice (kept ∷ []) r (may, tt)
 
-pub kept_acts-with : (es : List Entry) (e : Entry) (choice : List Bool) → length choice ≡ length es → kept_acts (es ++ e ∷ []) (choice ++ true ∷ []) ≡ kept_acts es choice ++ e.acts
-kept_acts-with es e choice fits = kept_acts-append es (e ∷ []) choice (true ∷ []) fits ∙ ap (λ acts. kept_acts es choice ++ acts) (append-nil e.acts)
+pub kept_acts-with : (es : List Entry) (e : Entry) (choice : List Bool) → length choice ≡ length es
+    → kept_acts (es ++ e ∷ []) (choice ++ true ∷ []) ≡ kept_acts es choice ++ e.acts
+kept_acts-with es e choice fits =
+    kept_acts-append es (e ∷ []) choice (true ∷ []) fits ∙ ap (λ acts. kept_acts es choice ++ acts) (append-nil e.acts)
 
-pub kept_acts-without : (es : List Entry) (e : Entry) (choice : List Bool) → length choice ≡ length es → kept_acts (es ++ e ∷ []) (choice ++ false ∷ []) ≡ kept_acts es choice
+pub kept_acts-without : (es : List Entry) (e : Entry) (choice : List Bool) → length choice ≡ length es
+    → kept_acts (es ++ e ∷ []) (choice ++ false ∷ []) ≡ kept_acts es choice
 kept_acts-without es e choice fits = kept_acts-append es (e ∷ []) choice (false ∷ []) fits ∙ append-nil (kept_acts es choice)
 
-sound-last : (es : List Entry) (fs : List Fate) (e : Entry) → length fs ≡ length es → AllCommittedSound es fs → AllCommittedSound (es ++ e ∷ []) (fs ++ Undecided ∷ [])
+sound-last : (es : List Entry) (fs : List Fate) (e : Entry) → length fs ≡ length es → AllCommittedSound es fs
+    → AllCommittedSound (es ++ e ∷ []) (fs ++ Undecided ∷ [])
 sound-last [] [] e fated sound = ((λ other. let both : Undecided ≡ Committed = other in cc), tt)
 sound-last [] (f ∷ fs) e fated sound = absurd (omega arith)
 sound-last (x ∷ es) [] e fated sound = absurd (omega arith)

@@ -60,20 +60,24 @@ pub trait Engine: Sized + Sync + Drop {
     fn attempt<B: Body>(&self, pass: &mut Self::Pass, tag: u64, body: &B) -> Attempt<B::Reply>
         requires of { of self.now pass.old }
         requires fits { B.fits body.now (length (start self.now).maps) (length (start self.now).queues) }
-        ensures committed { IfCommitted result (λ r. Commits (B.did body.now) tag r (front pass.old) (front pass.new)) }
+        ensures committed { IfCommitted result (λ r.
+            Commits (B.did body.now) tag r (front pass.old) (front pass.new)) }
         ensures stopped { IfStopped result (λ _. Stops tag (front pass.old) (front pass.new)) }
         ensures legal { LegalFrom (start self.now) (front pass.new) }
         ensures of { of self.now pass.new }
         ensures may_stop { IfStopped result (may_stop self.now) }
         ensures alone { (front pass.old).lanes ≡ lanes self.now → IfStopped result IsNoConflict }
-        ensures small { fresh self.now pass.old → 1 ≤ (limits self.now).tries → IsSmall (bounds_in (limits self.now)) (B.makes body.now) (start self.now) → IfStopped result (λ s. s ≡ Stop.NoMemory) };
+        ensures small { fresh self.now pass.old → 1 ≤ (limits self.now).tries
+            → IsSmall (bounds_in (limits self.now)) (B.makes body.now) (start self.now)
+            → IfStopped result (λ s. s ≡ Stop.NoMemory) };
 
     /// Takes the lanes of another pass of the engine, and what it has seen. Two passes of an engine share no
     /// lane. It takes no memory.
     fn join(&self, pass: &mut Self::Pass, other: Self::Pass)
         requires of { of self.now pass.old }
         requires of_other { of self.now other }
-        ensures joined { AreApart (front pass.old).lanes (front other).lanes → Joins (front pass.old) (front other) (front pass.new) }
+        ensures joined { AreApart (front pass.old).lanes (front other).lanes
+            → Joins (front pass.old) (front other) (front pass.new) }
         ensures of { of self.now pass.new };
 
     /// Ends the engine, and opens a new one on its contents, with all nodes and tries again. Returns the new

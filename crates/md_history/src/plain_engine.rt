@@ -53,7 +53,8 @@ impl Engine for PlainStore {
     fn attempt<B: Body>(&self, pass: &mut PlainPass, tag: u64, body: &B) -> Attempt<B::Reply>
         requires of { IsPassOf self.now pass.old }
         requires fits { B.fits body.now (length self.now.maps) (length self.now.queues) }
-        ensures committed { IfCommitted result (λ r. Commits (B.did body.now) tag r (front_of pass.old) (front_of pass.new)) }
+        ensures committed { IfCommitted result (λ r.
+            Commits (B.did body.now) tag r (front_of pass.old) (front_of pass.new)) }
         ensures stopped { IfStopped result (λ _. Stops tag (front_of pass.old) (front_of pass.new)) }
         ensures legal { LegalFrom self.now (front_of pass.new) }
         ensures of { IsPassOf self.now pass.new }
@@ -98,7 +99,8 @@ impl Engine for PlainStore {
     fn join(&self, pass: &mut PlainPass, other: PlainPass)
         requires of { IsPassOf self.now pass.old }
         requires of_other { IsPassOf self.now other }
-        ensures joined { AreApart (front_of pass.old).lanes (front_of other).lanes → Joins (front_of pass.old) (front_of other) (front_of pass.new) }
+        ensures joined { AreApart (front_of pass.old).lanes (front_of other).lanes
+            → Joins (front_of pass.old) (front_of other) (front_of pass.new) }
         ensures unchanged { pass.new ≡ pass.old }
     {
         let _ = pass;

@@ -33,7 +33,7 @@ impl Model for PlainTx {
     ghost invariant = { λ t. IsRunning t.start.value t.contents t.acts t.refused };
 }
 
-/// Keeps an act, or the operation that is refused for want of memory.
+// Keeps an act, or the operation for which memory ran out.
 fn note(acts: &mut Acts, refused: &mut Option<Op>, op: Op, reply: Reply) -> Result<(), Stop>
     ensures ok { OnOk result (acts.new ≡ acts.old ++ act_of op reply ∷ []) }
     ensures goes_on { OnOk result (refused.new ≡ refused.old) }

@@ -1,6 +1,34 @@
 // What no clause says: that calls succeed, and that bodies run over the store through their bounds.
+ghost use Rattle.std.specs.Prelude.{◌≡◌, ◌∷◌, [], Some, None, true, false};
+ghost use Rattle.md_history.specs.declared.acts.Op.TheVariants as op;
+ghost use Rattle.md_history.specs.declared.acts.Reply.TheVariants as reply;
+ghost use Rattle.md_history.specs.Act.{act_of};
+ghost use Rattle.md_history.specs.State.{line_of};
+ghost use Rattle.md_history.specs.Counts.{reads, writes, nodes};
+
 use super::*;
 use std::test::Fail;
+
+// What some acts count, by hand. They look for a key in vain, add another, take it out and fail to add the
+// first; they put a value into queue 0, take it out, and look at its first values twice; and they put a
+// value into queue 1.
+fn counts()
+    ensures { let acts = act_of (op.Get 0 1) (reply.Value None)
+        ∷ act_of (op.Insert 0 2 9) (reply.Flag true)
+        ∷ act_of (op.Remove 0 2) (reply.Value (Some 9))
+        ∷ act_of (op.Insert 0 1 9) (reply.Flag false)
+        ∷ act_of (op.Enqueue 0 7) reply.Nothing
+        ∷ act_of (op.Dequeue 0) (reply.Value (Some 7))
+        ∷ act_of (op.Front 0) (reply.Value None)
+        ∷ act_of (op.Line 0 3) (reply.Line (line_of []))
+        ∷ act_of (op.Enqueue 1 8) reply.Nothing ∷ []
+        in (reads acts ≡ 9) × (writes acts ≡ 13) × (nodes acts ≡ 3) }
+{}
+
+#[test]
+fn acts_are_counted() {
+    counts();
+}
 
 #[test]
 fn contents_take_values(rt: HostRuntime) -> Result<(), Fail> {
