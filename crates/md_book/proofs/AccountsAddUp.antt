@@ -7,8 +7,8 @@ use Rattle.md_book.specs.declared.commands.Side.TheVariants.{Buy, Sell}
 use Rattle.md_book.specs.declared.commands.Command.{Command}
 use Rattle.md_book.specs.declared.commands.Command.TheVariants.{Place, Cancel, Fill, Kill, Depth, Account}
 use Rattle.md_book.specs.declared.limits.TheConstants.{MAX_ACCOUNT}
-use Rattle.md_book.specs.Book.{Order, Trade, Book, IsAccount, empty_book, level_of, buyer, seller, find_open, cancel_step, book_step, fill_step}
-use Rattle.md_book.specs.Trading.{answered, closing, filled, AccountsAddUp, told_taken}
+use Rattle.md_book.specs.Book.{Order, Trade, Book, IsAccount, empty_book, level_of, buyer, seller, find_open, cancel_step, fill_step, book_step}
+use Rattle.md_book.specs.Trading.{answered, closing, told_taken, filled, AccountsAddUp}
 use Rattle.md_book.proofs.Kills.{kill-either}
 use Rattle.md_book.proofs.Sums.{sum_by-nothing, sum_by-keys}
 use Rattle.md_book.proofs.LookSums.{look-trades}
@@ -19,6 +19,7 @@ use Rattle.md_book.proofs.OrdersAddUp.{Known, all-known}
 all_taken : Book → ℕ
 all_taken b = sum_by (λ t. t.taken) b.trades
 
+-- a cancel takes nothing, and a fill what it tells
 cancel-takes : (b : Book) (found : Option Order) → all_taken (cancel_step b found).book + 0 ≡ all_taken b + 0
 unfolding all_taken
 cancel-takes b None = refl

@@ -8,8 +8,8 @@ use Rattle.md_book.specs.declared.commands.Side.TheVariants.{Buy, Sell}
 use Rattle.md_book.specs.declared.commands.Command.{Command}
 use Rattle.md_book.specs.declared.commands.Command.TheVariants.{Place, Cancel, Fill, Kill, Depth, Account}
 use Rattle.md_book.specs.declared.maps.TheConstants.{LEVELS}
-use Rattle.md_book.specs.Book.{Order, Book, IsPrice, empty_book, level_of, depth, look, book_step, fill_step}
-use Rattle.md_book.specs.Trading.{closing, taken_from, filled, DayAddsUp, told_taken, told_parts, parts_from}
+use Rattle.md_book.specs.Book.{Order, Book, IsPrice, empty_book, level_of, depth, look, fill_step, book_step}
+use Rattle.md_book.specs.Trading.{told_taken, told_parts, parts_from, closing, taken_from, filled, DayAddsUp}
 use Rattle.md_book.proofs.Kills.{kill-either}
 use Rattle.md_book.proofs.Sums.{sum_by-equal, sum_by-filter, sum_by-keys}
 use Rattle.md_book.proofs.Days.{opening, run-open, run-adds}

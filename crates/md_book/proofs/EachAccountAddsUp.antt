@@ -9,9 +9,9 @@ use Rattle.md_book.specs.declared.commands.Side.TheVariants.{Buy, Sell}
 use Rattle.md_book.specs.declared.commands.Command.{Command}
 use Rattle.md_book.specs.declared.commands.Command.TheVariants.{Place, Cancel, Fill, Kill, Depth, Account}
 use Rattle.md_book.specs.declared.commands.Part.{Part}
-use Rattle.md_book.specs.Book.{Order, Trade, Book, IsPrice, empty_book, level_of, buyer, seller, find_open, lessened, look, cancel_step, book_step, fill_step}
+use Rattle.md_book.specs.Book.{Order, Trade, Book, IsPrice, empty_book, level_of, buyer, seller, find_open, lessened, look, cancel_step, fill_step, book_step}
 use Rattle.md_book.specs.Commands.{IsCommand}
-use Rattle.md_book.specs.Trading.{IsDay, answered, closing, is_placed_for, is_side, dealt, EachAccountAddsUp, told_share}
+use Rattle.md_book.specs.Trading.{IsDay, answered, closing, is_placed_for, is_side, told_share, dealt, EachAccountAddsUp}
 use Rattle.md_book.proofs.Kills.{kill-either}
 use Rattle.md_book.proofs.Sums.{sum_by-equal, sum_by-nothing}
 use Rattle.md_book.proofs.Lessened.{All-has, lessened-All}
@@ -92,6 +92,7 @@ module _ (side : Side) (of : ℕ → Bool) (account : ℕ) where
         omega (arith, after, ap (sum_by f) (traded-trades b level o taker taken), sum_by_push f b.trades now, trade-share at taker taken o (same-side o.side at o.price price own.0 priced has.1) own.1, share-cons at taker (record { name = o.name; taken = taken }) l.parts);
   })
 
+  -- a cancel deals in nothing, and a fill in the share that it tells
   cancel-deals : (b : Book) (found : Option Order) → dealt_in side account (cancel_step b found).book + 0 ≡ dealt_in side account b + 0
   cancel-deals b None = refl
   cancel-deals b (Some o) = refl

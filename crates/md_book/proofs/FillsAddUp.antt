@@ -22,6 +22,7 @@ sum-padded f none parts =
     let zeros : (MAX_PARTS - length parts) * f zero_part ≡ 0 = ap (λ n. (MAX_PARTS - length parts) * n) none ∙ omega arith in
     omega (arith, zeros, sum_by-append f parts (replicate (MAX_PARTS - length parts) zero_part), sum_by-replicate f (MAX_PARTS - length parts) zero_part)
 
+-- the parts of a fill and what remains
 fill-adds : (b : Book) (account level quantity places : ℕ) → IsFilled quantity (fill_step b account level quantity places).reply
 fill-adds b account level quantity places = (sum-padded (λ p. p.taken) (omega arith) (look level account places b quantity).parts, look-rest level account places b quantity)
 

@@ -24,7 +24,7 @@ use Rattle.md_book.proofs.Unpacking.{left_in-packed}
 use Rattle.md_book.proofs.ChangedBooks.{open_order-own}
 use Rattle.md_book.proofs.TakingOut.{packed_order}
 
--- the tests that a lookup goes by
+-- nothing lacks, told by either test
 le-none : (lacking : ℕ) → (lacking == 0) ≡ nat_le lacking 0
 le-none lacking = elim (cases_Bool (lacking == 0)) [
   | inl none ↦ none ∙ sym (le-leb lacking 0 (omega (arith, eqb-true lacking 0 none)))
@@ -37,6 +37,7 @@ le-none lacking = elim (cases_Bool (lacking == 0)) [
       | inr isnt ↦ isnt.0
     ]
 
+-- what lacks after some is found
 le-less : (lacking by more : ℕ) → nat_le (lacking - by) more ≡ nat_le lacking (by + more)
 le-less lacking by more = elim (leb_tells (lacking - by) more) [
   | inl is ↦ is.0 ∙ sym (le-leb lacking (by + more) (omega (arith, is.1)))
@@ -67,9 +68,11 @@ module _ {s : State} {b : Book} (shows : Shows s b) where
     abbrev pub FindsBy : ℕ → List Order → Script Bool → Type 0
     FindsBy lacking os p = Finds lacking os (played p s) (outcome p s) (made p s)
 
+    -- nothing lacks
     finds-none : (os : List Order) → Finds 0 os s true []
     finds-none os = record { same = refl; tells = sym (le-leb 0 (sum_by (λ o. o.left) os) (omega arith)); costs = costs-more (costs-none level) (length os) (length os) 0 (omega arith) (omega arith) (omega arith) }
 
+    -- an order is looked up, and then the others
     finds-one : (lacking : ℕ) (o : Order) (os : List Order) → Has b.orders o → ((less : ℕ) → FindsBy less os (have_left less (map (λ p. p.name) os)))
         → FindsBy lacking (o ∷ os) (looks_up lacking o.name (map (λ p. p.name) os))
     finds-one lacking o os has more =

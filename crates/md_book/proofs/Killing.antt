@@ -30,6 +30,7 @@ use Rattle.md_book.proofs.Stepping.{IsStep, MakesStep}
 use Rattle.md_book.proofs.Filling.{fills}
 use Rattle.md_book.proofs.Found.{Finds, finds}
 
+-- a list has what a shorter one has, and all of its own elements
 has-more : {X : Type 0} (y : X) (xs zs : List X) → AllByRecursion (Has xs) zs → AllByRecursion (Has (y ∷ xs)) zs
 has-more y xs [] all = tt
 has-more y xs (z ∷ zs) all = (inr all.0, has-more y xs zs all.1)
@@ -62,6 +63,7 @@ module _ (s : State) (b : Book) (room : HasRoom s) (shows : Shows s b) (account 
       ∙ ap (take places) (shows.names level (level_of-below side price is.priced) ∙ drop-map (λ (o : Order). o.name) (b.passed level) (orders_at b level))
       ∙ take-map (λ (o : Order). o.name) places (drop (b.passed level) (orders_at b level))
 
+  -- there are no more of them than places
   firsts-few : length firsts ≤ places
   firsts-few = omega (arith, length-take places (drop (b.passed level) (orders_at b level)))
 
@@ -89,6 +91,7 @@ module _ (s : State) (b : Book) (room : HasRoom s) (shows : Shows s b) (account 
     few = few-cost (costs-append (costs-line level places _) (costs-append costs (costs-none level))) (omega (arith, low)) (omega (arith, low)) (omega (arith, low));
   }
 
+  -- and from what the lookups found
   goes-as : (t : State) (enough : Bool) (acts : List Act) → Finds shows level quantity firsts t enough acts
       → IsStep (kill_step b account level quantity places) (played (then enough) t) (outcome (then enough) t) (line ∷ acts ++ made (then enough) t)
   goes-as t enough acts found =

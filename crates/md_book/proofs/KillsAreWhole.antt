@@ -47,6 +47,7 @@ module _ (level taker : ℕ) where
   abbrev waiting : Book → List Order
   waiting b = drop (b.passed level) (orders_at b level)
 
+  -- a place is passed, and an order has less left
   waiting-pass : (b : Book) → waiting (pass b level) ≡ drop 1 (waiting b)
   waiting-pass b = ap (λ n. drop n (orders_at b level)) (passed-here b level) ∙ sym (drop-drop 1 (b.passed level) (orders_at b level))
 
@@ -69,6 +70,7 @@ module _ (level taker : ℕ) where
   TakesAll places = (b : Book) (rest : ℕ) (os : List Order) → waiting b ≡ os → AreApart os → rest ≤ left_in_first places os → (look level taker places b rest).rest ≡ 0
 
   module _ (places : ℕ) (more : TakesAll places) (b : Book) (rest : ℕ) (some : rest ≢ 0) where
+    -- the order at the front has something left
     all-live : (o : Order) (os : List Order) → waiting b ≡ o ∷ os → AreApart (o ∷ os) → rest ≤ o.left + left_in_first places os → (look level taker places (traded b level o taker (min o.left rest)) (rest - min o.left rest)).rest ≡ 0
     all-live o os e apart low = elim (leb_tells o.left rest) [
       | inl within ↦
@@ -78,6 +80,7 @@ module _ (level taker : ℕ) where
       | inr above ↦ omega (arith, above.1, look-rest level taker places (traded b level o taker (min o.left rest)) (rest - min o.left rest))
     ]
 
+    -- an order is at the front
     all-at : (o : Order) (os : List Order) → waiting b ≡ o ∷ os → AreApart (o ∷ os) → rest ≤ o.left + left_in_first places os → (look_at (Some o) level taker b rest (look level taker places)).rest ≡ 0
     all-at o os e apart low =
         let taken = min o.left rest in
@@ -86,6 +89,7 @@ module _ (level taker : ℕ) where
           | false ↦ λ _. all-live o os e apart low
         ] refl
 
+    -- an order is at the front, or none
     all-front : (os : List Order) → waiting b ≡ os → AreApart os → rest ≤ left_in_first (suc places) os → (look_at (slice_get os 0) level taker b rest (look level taker places)).rest ≡ 0
     all-front [] e apart low = absurd (some (omega (arith, low)))
     all-front (o ∷ os) e apart low = all-at o os e apart (omega (arith, low, sum_by-cons (λ (p : Order). p.left) o (take places os)))
@@ -101,6 +105,7 @@ module _ (level taker : ℕ) where
             subst (λ o. (look_at o level taker b rest (look level taker places)).rest ≡ 0) front (all-front places (takes-all places) b rest (eqb-false rest 0 some) os e apart low)
       ] refl
 
+-- so a kill that takes anything takes all
 kill-whole : (b : Book) (account level quantity places : ℕ) → AreApart b.orders → let r = (kill_step b account level quantity places).reply in (r ≡ reply.Killed) ⊎ (told_taken r ≡ quantity)
 kill-whole b account level quantity places apart =
     elim (nat_le quantity (left_within b level places)) as (λ t. nat_le quantity (left_within b level places) ≡ t → let r = (cond t (fill_step b account level quantity places) (record { book = b; reply = reply.Killed })).reply in (r ≡ reply.Killed) ⊎ (told_taken r ≡ quantity)) [

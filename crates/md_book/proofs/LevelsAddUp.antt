@@ -33,6 +33,7 @@ module _ (of : ℕ → Bool) (level : ℕ) where
       sum_by-agree (λ p. cond (of p.name) p.taken 0) (λ p. cond (at == level) p.taken 0) parts (each at parts tells)
       ∙ elim (at == level) as (λ b. sum_by (λ (p : Part). cond b p.taken 0) parts ≡ cond b (sum_by (λ p. p.taken) parts) 0) [ true ↦ refl | false ↦ sum_by-nothing parts ]
 
+  -- a fill fills at its level what it takes from the orders of it
   fill-fills : (b : Book) (account : ℕ) (side : Side) (price quantity places : ℕ) → AllByRecursion (λ o. Tells of level o.name (level_of o.side o.price)) b.orders
       → let step = fill_step b account (level_of side price) quantity places in
       taken_from of (Fill account side price quantity places, step.reply) ≡ filled_at level (Fill account side price quantity places, step.reply)

@@ -39,6 +39,7 @@ module _ (of : ℕ → Bool) (b : Book) (distinct : IsDistinct nat_eq (map (λ o
       let mine : f o ≡ f (record o { left = o.left - o.left }) + cond (of o.name) o.left 0 = elim (of o.name) as (λ t. cond t o.left 0 ≡ cond t (o.left - o.left) 0 + cond t o.left 0) [ true ↦ omega arith | false ↦ omega arith ] in
       omega (arith, fell, mine, ap (λ n. cond (of n) o.left 0) same)
 
+  -- a fill takes from these orders what they have less
   fill-adds : (account : ℕ) (side : Side) (price quantity places : ℕ)
       → let step = fill_step b account (level_of side price) quantity places in
       left_of of step.book + lost of (Fill account side price quantity places, step.reply) ≡ left_of of b + placed of (Fill account side price quantity places, step.reply)

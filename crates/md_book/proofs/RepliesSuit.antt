@@ -20,6 +20,7 @@ use Rattle.md_book.proofs.Kills.{kill-either}
 abbrev Fits : Order → Type 0
 Fits o = IsName o.name × (o.left ≤ MAX_QUANTITY)
 
+-- an order that has less left fits too
 fits-less : (o : Order) (left : ℕ) → left ≤ o.left → Fits o → Fits (record o { left = left })
 fits-less o left less is = (is.0, omega (arith, less, is.1))
 
@@ -60,11 +61,13 @@ module _ (level taker : ℕ) where
     live = λ b rest o l e left some more. ((omega (arith, left, some), omega arith), some-less (rest - min o.left rest) rest (omega arith) l.parts more);
   })
 
+  -- so each is a part of an order
   both : (quantity : ℕ) → quantity ≤ MAX_QUANTITY → (parts : List Part) → AllByRecursion (λ p. IsName p.name) parts → AreSome quantity parts → AllByRecursion IsPart parts
   unfolding AreSome
   both quantity low [] names some = tt
   both quantity low (p ∷ parts) names some = (record { named = names.0; low = some.0.0; high = omega (arith, low, some.0.1) }, both quantity low parts names.1 some.1)
 
+  -- a fill answers what was taken
   pub fill-suits : (b : Book) (quantity places : ℕ) → quantity ≤ MAX_QUANTITY → All Fits b.orders → IsTaken quantity places (fill_step b taker level quantity places).reply
   fill-suits b quantity places low fit =
       let l = look level taker places b quantity in
@@ -83,6 +86,7 @@ module _ (level taker : ℕ) where
       only-names (o ∷ os) all = (all.0.0, only-names os all.1)
 
 module _ (b : Book) (fit : All Fits b.orders) where
+  -- each reply suits
   cancel-suits : (name : ℕ) (found : Option Order) → find_open b name ≡ found → Suits (Cancel name, (cancel_step b found).reply)
   cancel-suits name None e = inl refl
   cancel-suits name (Some o) e = inr (record { left = o.left; is = refl; high = (All-has Fits b.orders o (recursion_from_All Fits b.orders fit) (find-has _ b.orders o e).0).1 })
@@ -96,6 +100,7 @@ module _ (b : Book) (fit : All Fits b.orders) where
   step-suits (Depth side price) is = record { depth = _; is = refl }
   step-suits (Account account) is = record { bought = _; sold = _; is = refl }
 
+  -- the orders fit after each command
   cancel-fits : (found : Option Order) → All Fits (cancel_step b found).book.orders
   cancel-fits None = fit
   cancel-fits (Some o) = lessened-All o.name o.left Fits fits-less b.orders fit

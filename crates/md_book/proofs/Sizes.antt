@@ -9,5 +9,6 @@ pub record HasRoom (s : State) : Type 0 where
   pub maps : MAPS ≤ length s.maps
   pub queues : LEVELS ≤ length s.queues
 
+-- a book's own sizes are enough
 pub sized-room : (s : State) → IsBookSized s → HasRoom s
 sized-room s sized = record { maps = omega (arith, sized.maps); queues = omega (arith, sized.queues) }
