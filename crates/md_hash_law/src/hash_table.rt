@@ -6,12 +6,13 @@ ghost use Rattle.md_hash_law.specs.HashTable.{hash_table};
 use md_list_law::HasLists;
 use md_machine::{Theory, all_schedules};
 
-/// Hash tables and nothing else: every placed node is of a bucket. The state has the shape's maps and
-/// no queue.
+/// Hash tables and nothing else: every placed node is of a bucket. The state has the shape's maps
+/// and no queue.
 pub struct HashTheory;
 
 impl Theory for HashTheory {
-    ghost use Rattle.md_hash_law.specs.Laws.HashTableLaws.{certificate_law, tidy_law, frame_law, link_law};
+    ghost use Rattle.md_hash_law.specs.Laws.HashTableLaws.{certificate_law, frame_law, link_law};
+    ghost use Rattle.md_hash_law.specs.Laws.HashTableLaws.{tidy_law};
 
     ghost meaning = { hash_table };
 

@@ -40,7 +40,8 @@ module _ (h : LogicalHeap) (list : Structure) (r : Rises h list) where
   named value n ne = ⊎_elim (λ none. absurd (ne none)) (λ i. i) n
 
   -- the next word of a named node
-  onward : (value : ℕ) → Names h list value → linked_node value ≢ 0 → NamesAbove h list (h.words.key_of (linked_node value)) (next_of h.words (linked_node value))
+  onward : (value : ℕ) → Names h list value → linked_node value ≢ 0
+      → NamesAbove h list (h.words.key_of (linked_node value)) (next_of h.words (linked_node value))
   onward value n ne = r.rises (linked_node value) (named value n ne)
 
   -- a walk passes nodes of the list
@@ -58,11 +59,13 @@ module _ (h : LogicalHeap) (list : Structure) (r : Rises h list) where
       let above : key < h.words.key_of (linked_node value) = ⊎_elim (λ none. absurd (p.some none)) (λ t. t.1) s in
       ⊎_elim
       (λ e. subst (λ x. key < h.words.key_of x) e above)
-      (λ later. let more = walked_above n (h.words.key_of (linked_node value)) (next_of h.words (linked_node value)) node (onward value (names_above key value s) p.some) later in omega (arith, above, more))
+      (λ later. let more = walked_above n (h.words.key_of (linked_node value)) (next_of h.words (linked_node value)) node
+      (onward value (names_above key value s) p.some) later in omega (arith, above, more))
       p.here_or_later
 
   -- two nodes that it passes are one, if their keys are equal
-  pub same_key : (n value a b : ℕ) → Names h list value → Contains (walk h.words n value) a → Contains (walk h.words n value) b → h.words.key_of a ≡ h.words.key_of b → a ≡ b
+  pub same_key : (n value a b : ℕ) → Names h list value → Contains (walk h.words n value) a → Contains (walk h.words n value) b
+      → h.words.key_of a ≡ h.words.key_of b → a ≡ b
   same_key zero value a b s c d e = absurd (in_none a c)
   same_key (suc n) value a b s c d e =
       let p = passes h.words n value a c in
@@ -81,7 +84,8 @@ module _ (h : LogicalHeap) (list : Structure) (r : Rises h list) where
       p.here_or_later
 
   -- of two nodes that it passes the one with the greater key is reached from the other
-  pub reached_from : (n value a b : ℕ) → Names h list value → Contains (walk h.words n value) a → Contains (walk h.words n value) b → h.words.key_of a < h.words.key_of b → Reaches h.words (next_of h.words a) b
+  pub reached_from : (n value a b : ℕ) → Names h list value → Contains (walk h.words n value) a → Contains (walk h.words n value) b
+      → h.words.key_of a < h.words.key_of b → Reaches h.words (next_of h.words a) b
   reached_from zero value a b s c d less = absurd (in_none a c)
   reached_from (suc n) value a b s c d less =
       let p = passes h.words n value a c in
@@ -107,7 +111,8 @@ module _ (h : LogicalHeap) (list : Structure) (r : Rises h list) where
       (λ some. let next = next_of h.words (linked_node value) in let on = onward value s some in
       subst (IsDistinct eqb) (sym (walk-some h.words n value some))
       (IsDistinct-cons eqb (linked_node value) (walk h.words n next)
-      (all_from (λ y. eqb (linked_node value) y ≡ false) (walk h.words n next) (λ y c. let more = walked_above n (h.words.key_of (linked_node value)) next y on c in
+      (all_from (λ y. eqb (linked_node value) y ≡ false) (walk h.words n next)
+      (λ y c. let more = walked_above n (h.words.key_of (linked_node value)) next y on c in
       ne_eqb (linked_node value) y (λ e. omega (arith, more, ap h.words.key_of e))))
       (walk_distinct n next (names_above _ _ on))))
       (cases_eq (linked_node value) 0)
@@ -116,8 +121,10 @@ module _ (h : LogicalHeap) (list : Structure) (r : Rises h list) where
   walk_short : (n value : ℕ) → Names h list value → length (walk h.words n value) ≤ node_count h.words.shape
   walk_short n value s =
       let w = walk h.words n value in
-      let distinct : IsDistinct eqb (0 ∷ w) = IsDistinct-cons eqb 0 w (all_from (λ y. eqb 0 y ≡ false) w (λ y c. ne_eqb 0 y (λ e. not_null y (walked n value y s c) (sym e)))) (walk_distinct n value s) in
-      let fits : length (0 ∷ w) ≤ node_count h.words.shape + 1 = length-le_from_distinct_below (0 ∷ w) (node_count h.words.shape + 1) distinct (λ q found. ⊎_elim
+      let distinct : IsDistinct eqb (0 ∷ w) = IsDistinct-cons eqb 0 w
+      (all_from (λ y. eqb 0 y ≡ false) w (λ y c. ne_eqb 0 y (λ e. not_null y (walked n value y s c) (sym e)))) (walk_distinct n value s) in
+      let fits : length (0 ∷ w) ≤ node_count h.words.shape + 1 = length-le_from_distinct_below (0 ∷ w) (node_count h.words.shape + 1) distinct
+      (λ q found. ⊎_elim
       (λ zeroth. omega (arith, zeroth))
       (λ c. let below = (r.nodes q (walked n value q s c)).1 in omega (arith, below))
       (in_cons 0 w q (Contains-from_any eqb-true q (0 ∷ w) found))) in
@@ -132,7 +139,8 @@ module _ (h : LogicalHeap) (list : Structure) (r : Rises h list) where
   walk_ends (suc n) value fits = ⊎_elim
       (λ none. walk-none h.words (suc (suc n)) value none ∙ sym (walk-none h.words (suc n) value none))
       (λ some. walk-some h.words (suc n) value some
-      ∙ ap (λ nodes. linked_node value ∷ nodes) (walk_ends n (next_of h.words (linked_node value)) (omega (arith, fits, ap length (walk-some h.words (suc n) value some))))
+      ∙ ap (λ nodes. linked_node value ∷ nodes) (walk_ends n (next_of h.words (linked_node value))
+      (omega (arith, fits, ap length (walk-some h.words (suc n) value some))))
       ∙ sym (walk-some h.words n value some))
       (cases_eq (linked_node value) 0)
 
@@ -148,12 +156,15 @@ module _ (h : LogicalHeap) (list : Structure) (r : Rises h list) where
   walk_longer (suc k) n value node c = let e : suc (k + n) ≡ suc k + n = omega arith in
       subst (λ m. Contains (walk h.words m value) node) e (walk_more (k + n) value node (walk_longer k n value node c))
 
-  walk_enough : (k value node : ℕ) → Names h list value → Contains (walk h.words (k + node_count h.words.shape) value) node → Contains (walk h.words (node_count h.words.shape) value) node
-  walk_enough zero value node s c = let e : zero + node_count h.words.shape ≡ node_count h.words.shape = omega arith in subst (λ m. Contains (walk h.words m value) node) e c
+  walk_enough : (k value node : ℕ) → Names h list value → Contains (walk h.words (k + node_count h.words.shape) value) node
+      → Contains (walk h.words (node_count h.words.shape) value) node
+  walk_enough zero value node s c = let e : zero + node_count h.words.shape ≡ node_count h.words.shape = omega arith in subst
+      (λ m. Contains (walk h.words m value) node) e c
   walk_enough (suc k) value node s c =
       let e : suc k + node_count h.words.shape ≡ suc (k + node_count h.words.shape) = omega arith in
       let short = walk_short (suc (k + node_count h.words.shape)) value s in
-      walk_enough k value node s (subst (λ nodes. Contains nodes node) (walk_ends (k + node_count h.words.shape) value (omega (arith, short))) (subst (λ m. Contains (walk h.words m value) node) e c))
+      walk_enough k value node s (subst (λ nodes. Contains nodes node) (walk_ends (k + node_count h.words.shape) value (omega (arith, short)))
+      (subst (λ m. Contains (walk h.words m value) node) e c))
 
   -- what some walk reaches is reached in as many steps as there are nodes
   pub reached_at_all : (value node : ℕ) → Names h list value → Reaches h.words value node → Contains (walk h.words (node_count h.words.shape) value) node

@@ -16,7 +16,8 @@ IsListWord h list head word = (word ≡ head) ⊎ ((node : ℕ) × IsIn h list n
 abbrev pub after_change : LogicalHeap → Change → LogicalHeap
 after_change h c = record { words = changed h.words c; placed = h.placed }
 
-module _ (h : LogicalHeap) (list : Structure) (head : ℕ) (is : IsList h list head) (c : Change) (stands : h.words.value c.word ≡ c.old) (plain : is_marked c.old ≡ false) (word : IsListWord h list head c.word) where
+module _ (h : LogicalHeap) (list : Structure) (head : ℕ) (is : IsList h list head) (c : Change) (stands : h.words.value c.word ≡ c.old)
+    (plain : is_marked c.old ≡ false) (word : IsListWord h list head c.word) where
   -- a marked word isn't the changed one
   pub marked_same : (u : ℕ) → is_marked (h.words.value u) ≡ true → (changed h.words c).value u ≡ h.words.value u
   marked_same u marked = ⊎_elim

@@ -43,7 +43,8 @@ module _ (h k : LogicalHeap) (list : Structure) (head : ℕ) (only : ChangesOnly
       (λ at_head. absurd (apart node is_node at_head))
       (λ t. ⊎_elim
       (λ same. inr (subst (IsIn k list) (sym same) t.1))
-      (λ other. absurd (next_words_differ h.words.shape node t.0 is_node (subst (λ (shape : Shape). IsNode shape t.0) only.shape t.2) other (t.3 ∙ ap (λ (shape : Shape). next_word shape t.0) only.shape)))
+      (λ other. absurd (next_words_differ h.words.shape node t.0 is_node (subst (λ (shape : Shape). IsNode shape t.0) only.shape t.2) other
+      (t.3 ∙ ap (λ (shape : Shape). next_word shape t.0) only.shape)))
       (cases_eq node t.0))
       word)
       (only.elsewhere (next_word h.words.shape node))
@@ -60,7 +61,8 @@ module _ (h k : LogicalHeap) (list : Structure) (head : ℕ) (only : ChangesOnly
       back = λ node i. ⊎_elim (λ e. sym e ∙ i) (λ t. absurd (not_both node i t.1)) (only.placed node);
       first = ⊎_elim (λ e. e)
           (λ word. ⊎_elim (λ e. absurd (apart_head e))
-          (λ t. absurd (no_next t.0 (subst (λ (shape : Shape). IsNode shape t.0) only.shape t.2) (sym (t.3 ∙ ap (λ (shape : Shape). next_word shape t.0) only.shape)))) word)
+          (λ t. absurd (no_next t.0 (subst (λ (shape : Shape). IsNode shape t.0) only.shape t.2)
+          (sym (t.3 ∙ ap (λ (shape : Shape). next_word shape t.0) only.shape)))) word)
           (only.elsewhere other_head);
       next = λ node i. ⊎_elim (λ e. e) (λ j. absurd (not_both node (stays node other i) j)) (next_same node (is.nodes node i));
       key_of = λ node i. only.key_of node (other, i);

@@ -14,7 +14,8 @@ use Rattle.md_list_law.proofs.Links.{next_words_differ, head_is_no_next}
 use Rattle.md_list_law.proofs.ListKept.{SameList}
 
 -- a bucket's head is no node's next word, and a placed node's next word is no other's
-pub head_free : (h : LogicalHeap) (map bucket : ℕ) → map < h.words.shape.maps → bucket < h.words.shape.buckets → IsNoUnplacedNext h (head_word h.words.shape map bucket)
+pub head_free : (h : LogicalHeap) (map bucket : ℕ) → map < h.words.shape.maps → bucket < h.words.shape.buckets
+    → IsNoUnplacedNext h (head_word h.words.shape map bucket)
 head_free h map bucket m b node is_node e = absurd (head_is_no_next h.words.shape map bucket node m b is_node (sym e))
 
 pub next_free : (h : LogicalHeap) (node : ℕ) → IsNode h.words.shape node → IsPlaced h node → IsNoUnplacedNext h (next_word h.words.shape node)
@@ -30,7 +31,8 @@ head_counted shape map bucket m b = (counted_by_place shape (bucket_head map buc
 pub next_counted : (shape : Shape) (node : ℕ) → IsNode shape node → IsCounted shape (next_word shape node)
 next_counted shape node is_node = (counted_by_place shape (node_next node) is_node).1 refl
 
-module _ (h k : LogicalHeap) (agree : AgreeWherePlaced h k) (list : Structure) (map bucket : ℕ) (m : map < h.words.shape.maps) (b : bucket < h.words.shape.buckets) where
+module _ (h k : LogicalHeap) (agree : AgreeWherePlaced h k) (list : Structure) (map bucket : ℕ) (m : map < h.words.shape.maps)
+    (b : bucket < h.words.shape.buckets) where
   -- heaps that agree where nodes are placed have the same list
   pub same_framed : IsList h list (head_word h.words.shape map bucket) → SameList h k list (head_word h.words.shape map bucket)
   same_framed is = record {

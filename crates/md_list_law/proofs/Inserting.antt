@@ -128,7 +128,8 @@ module _ (h : LogicalHeap) (list : Structure) (head : ℕ) (is : IsList h list h
       (subst (λ m. Reaches with_new.words (next_of with_new.words m) node) (sym new_names)
       (subst (λ value. Reaches with_new.words value node) (sym next_now) r))
 
-  along : (u node : ℕ) → u ≢ next_word h.words.shape n.node → Reaches with_new.words (h.words.value u) node → Reaches with_new.words (with_new.words.value u) node
+  along : (u node : ℕ) → u ≢ next_word h.words.shape n.node → Reaches with_new.words (h.words.value u) node
+      → Reaches with_new.words (with_new.words.value u) node
   along u node ne r = ⊎_elim
       (λ at. subst (λ value. Reaches with_new.words value node) (sym at.now) (through node (subst (λ value. Reaches with_new.words value node) at.was r)))
       (λ same. subst (λ value. Reaches with_new.words value node) (sym same) r)
@@ -149,7 +150,8 @@ module _ (h : LogicalHeap) (list : Structure) (head : ℕ) (is : IsList h list h
   -- and so is the new node, from the gap
   from_gap : (u : ℕ) → u ≢ next_word h.words.shape n.node → u ≡ c.word → Reaches with_new.words (with_new.words.value u) n.node
   from_gap u ne e = reaches_first with_new.words (with_new.words.value u) n.node
-      (ap linked_node (put_other (changed h.words c).value (next_word h.words.shape n.node) n.next u ne ∙ put_same h.words.value c.word c.new u e) ∙ new_names) some_node
+      (ap linked_node (put_other (changed h.words c).value (next_word h.words.shape n.node) n.next u ne ∙ put_same h.words.value c.word c.new u e)
+      ∙ new_names) some_node
 
   reach_new : Reaches with_new.words (with_new.words.value head) n.node
   reach_new = ⊎_elim
@@ -172,18 +174,38 @@ module _ (h : LogicalHeap) (list : Structure) (head : ℕ) (is : IsList h list h
 
   others_same : (q : ℕ) → q ≢ n.key → fin.find nat_cmp q (pairs_from with_new.words head) ≡ fin.find nat_cmp q (pairs_from h.words head)
   others_same q ne = finds_same h with_new list head is inserted q
-      (λ v p. record { node = p.node; is_in = extends.grows p.node p.is_in; unmarked = plain_after (next_word h.words.shape p.node) (next_apart p.node p.is_in) p.unmarked; has_key = extends.key_of p.node p.is_in ∙ p.has_key; has_value = extends.value_of_node p.node p.is_in ∙ p.has_value })
+      (λ v p. record {
+        node = p.node;
+        is_in = extends.grows p.node p.is_in;
+        unmarked = plain_after (next_word h.words.shape p.node) (next_apart p.node p.is_in) p.unmarked;
+        has_key = extends.key_of p.node p.is_in ∙ p.has_key;
+        has_value = extends.value_of_node p.node p.is_in ∙ p.has_value;
+      })
       (λ v p. ⊎_elim
       (λ e. absurd (ne (sym p.has_key ∙ ap with_new.words.key_of e ∙ key_now)))
-      (λ j. record { node = p.node; is_in = j; unmarked = plain_before (next_word h.words.shape p.node) (next_apart p.node j) p.unmarked; has_key = sym (extends.key_of p.node j) ∙ p.has_key; has_value = sym (extends.value_of_node p.node j) ∙ p.has_value })
+      (λ j. record {
+        node = p.node;
+        is_in = j;
+        unmarked = plain_before (next_word h.words.shape p.node) (next_apart p.node j) p.unmarked;
+        has_key = sym (extends.key_of p.node j) ∙ p.has_key;
+        has_value = sym (extends.value_of_node p.node j) ∙ p.has_value;
+      })
       (in_either p.node p.is_in))
 
   new_pair : HasPair with_new list n.key n.value
-  new_pair = record { node = n.node; is_in = placed_now; unmarked = ap is_marked next_now ∙ old_plain; has_key = key_now; has_value = put_same h.words.value_of_node n.node n.value n.node refl }
+  new_pair = record {
+    node = n.node;
+    is_in = placed_now;
+    unmarked = ap is_marked next_now ∙ old_plain;
+    has_key = key_now;
+    has_value = put_same h.words.value_of_node n.node n.value n.node refl;
+  }
 
-  pub inserted_finds : (q : ℕ) → fin.find nat_cmp q (pairs_from with_new.words head) ≡ cond (eq_by_cmp nat_cmp q n.key) (Some n.value) (fin.find nat_cmp q (pairs_from h.words head))
+  pub inserted_finds : (q : ℕ) → fin.find nat_cmp q (pairs_from with_new.words head) ≡ cond (eq_by_cmp nat_cmp q n.key) (Some n.value)
+      (fin.find nat_cmp q (pairs_from h.words head))
   inserted_finds q = ⊎_elim
-      (λ e. subst (λ k. fin.find nat_cmp k (pairs_from with_new.words head) ≡ Some n.value) (sym e) (pair-found with_new list head inserted n.key n.value new_pair)
+      (λ e. subst (λ k. fin.find nat_cmp k (pairs_from with_new.words head) ≡ Some n.value) (sym e)
+      (pair-found with_new list head inserted n.key n.value new_pair)
       ∙ sym (ap (λ b. cond b (Some n.value) (fin.find nat_cmp q (pairs_from h.words head))) (same_ties q n.key e)))
       (λ ne. others_same q ne ∙ sym (ap (λ b. cond b (Some n.value) (fin.find nat_cmp q (pairs_from h.words head))) (apart_ties q n.key ne)))
       (cases_eq q n.key)

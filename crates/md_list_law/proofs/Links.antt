@@ -24,10 +24,13 @@ next_words_differ shape m n is_m is_n apart = address_differs shape (node_next m
     next_is : node_next m ≡ node_next n → m ≡ n
     next_is e = cc e
 
-pub head_is_no_next : (shape : Shape) (map bucket n : ℕ) → map < shape.maps → bucket < shape.buckets → IsNode shape n → next_word shape n ≢ head_word shape map bucket
+pub head_is_no_next : (shape : Shape) (map bucket n : ℕ) → map < shape.maps → bucket < shape.buckets → IsNode shape n
+    → next_word shape n ≢ head_word shape map bucket
 head_is_no_next shape map bucket n below inside is_n = address_differs shape (node_next n) (bucket_head map bucket) is_n (below, inside) (λ e. cc e)
 
 -- the heads of two buckets differ
-pub heads_differ : (shape : Shape) (map bucket other_map other_bucket : ℕ) → map < shape.maps → bucket < shape.buckets → other_map < shape.maps → other_bucket < shape.buckets
+pub heads_differ : (shape : Shape) (map bucket other_map other_bucket : ℕ) → map < shape.maps → bucket < shape.buckets → other_map < shape.maps
+    → other_bucket < shape.buckets
     → bucket_head map bucket ≢ bucket_head other_map other_bucket → head_word shape map bucket ≢ head_word shape other_map other_bucket
-heads_differ shape map bucket other_map other_bucket m b om ob apart = address_differs shape (bucket_head map bucket) (bucket_head other_map other_bucket) (m, b) (om, ob) apart
+heads_differ shape map bucket other_map other_bucket m b om ob apart = address_differs shape (bucket_head map bucket)
+    (bucket_head other_map other_bucket) (m, b) (om, ob) apart

@@ -20,7 +20,8 @@ use Rattle.md_list_law.proofs.Pairs.{HasPair, rises_of, pair-found, found-pair}
 pub names_link : (h : LogicalHeap) (list : Structure) (value other : ℕ) → linked_node other ≡ linked_node value → Names h list value → Names h list other
 names_link h list value other e = subst (λ (node : ℕ). (node ≡ 0) ⊎ IsIn h list node) (sym e)
 
-pub above_link : (h : LogicalHeap) (list : Structure) (key value other : ℕ) → linked_node other ≡ linked_node value → NamesAbove h list key value → NamesAbove h list key other
+pub above_link : (h : LogicalHeap) (list : Structure) (key value other : ℕ) → linked_node other ≡ linked_node value → NamesAbove h list key value
+    → NamesAbove h list key other
 above_link h list key value other e = subst (λ (node : ℕ). (node ≡ 0) ⊎ (IsIn h list node × (key < h.words.key_of node))) (sym e)
 
 pub above_less : (h : LogicalHeap) (list : Structure) (less key value : ℕ) → less < key → NamesAbove h list key value → NamesAbove h list less value
@@ -50,7 +51,8 @@ reach_kept h w list node r some on (suc n) value names c =
     let i : IsIn h list y = ⊎_elim (λ none. absurd (p.some none)) (λ i. i) names in
     ⊎_elim
     (λ e. reaches_first w value node e some)
-    (λ later. reaches_later w value node p.some (on y i (reach_kept h w list node r some on n (next_of h.words y) (names_above h list r _ _ (r.rises y i)) later)))
+    (λ later. reaches_later w value node p.some (on y i (reach_kept h w list node r some on n (next_of h.words y)
+    (names_above h list r _ _ (r.rises y i)) later)))
     p.here_or_later
 
 -- so a heap has the list again
@@ -104,5 +106,17 @@ module _ (h k : LogicalHeap) (list : Structure) (head : ℕ) (same : SameList h 
 
   pub pairs_same : (q : ℕ) → fin.find nat_cmp q (pairs_from k.words head) ≡ fin.find nat_cmp q (pairs_from h.words head)
   pairs_same q = finds_same h k list head is list_same q
-      (λ v p. record { node = p.node; is_in = same.there p.node p.is_in; unmarked = ap is_marked (same.next p.node p.is_in) ∙ p.unmarked; has_key = same.key_of p.node p.is_in ∙ p.has_key; has_value = same.value_of_node p.node p.is_in ∙ p.has_value })
-      (λ v p. let j = same.back p.node p.is_in in record { node = p.node; is_in = j; unmarked = ap is_marked (sym (same.next p.node j)) ∙ p.unmarked; has_key = sym (same.key_of p.node j) ∙ p.has_key; has_value = sym (same.value_of_node p.node j) ∙ p.has_value })
+      (λ v p. record {
+        node = p.node;
+        is_in = same.there p.node p.is_in;
+        unmarked = ap is_marked (same.next p.node p.is_in) ∙ p.unmarked;
+        has_key = same.key_of p.node p.is_in ∙ p.has_key;
+        has_value = same.value_of_node p.node p.is_in ∙ p.has_value;
+      })
+      (λ v p. let j = same.back p.node p.is_in in record {
+        node = p.node;
+        is_in = j;
+        unmarked = ap is_marked (sym (same.next p.node j)) ∙ p.unmarked;
+        has_key = sym (same.key_of p.node j) ∙ p.has_key;
+        has_value = sym (same.value_of_node p.node j) ∙ p.has_value;
+      })

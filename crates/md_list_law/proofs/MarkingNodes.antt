@@ -20,7 +20,8 @@ use Rattle.md_list_law.proofs.ListKept.{names_link, above_link, reach_kept, list
 use Rattle.md_list_law.proofs.Elsewhere.{ChangesOnly, IsNoNext}
 use Rattle.md_list_law.proofs.Changing.{after_change, change_only}
 
-module _ (h : LogicalHeap) (list : Structure) (head : ℕ) (is : IsList h list head) (apart : IsNoNext h.words.shape head) (c : Change) (p : ℕ) (in_list : IsIn h list p)
+module _ (h : LogicalHeap) (list : Structure) (head : ℕ) (is : IsList h list head) (apart : IsNoNext h.words.shape head) (c : Change) (p : ℕ)
+    (in_list : IsIn h list p)
     (word : c.word ≡ next_word h.words.shape p) (stands : h.words.value c.word ≡ c.old) (plain : is_marked c.old ≡ false) (new : c.new ≡ c.old + 1) where
   rise : Rises h list
   rise = rises_of h list head is
@@ -63,7 +64,8 @@ module _ (h : LogicalHeap) (list : Structure) (head : ℕ) (is : IsList h list h
       (ap is_marked head_same ∙ is.unmarked)
       (names_link h list _ _ (same_link head) is.first)
       (λ node i q. reaches_link (changed h.words c) _ _ node (same_link head)
-      (reach_kept h (changed h.words c) list node rise (not_null h list rise node i) (λ y iy r. reaches_link (changed h.words c) _ _ node (same_link (next_word h.words.shape y)) r)
+      (reach_kept h (changed h.words c) list node rise (not_null h list rise node i)
+      (λ y iy r. reaches_link (changed h.words c) _ _ node (same_link (next_word h.words.shape y)) r)
       (node_count h.words.shape) (h.words.value head) is.first (is.reached node i (plain_before (next_word h.words.shape node) q))))
 
   -- the node is the only unmarked one with its key
@@ -75,18 +77,33 @@ module _ (h : LogicalHeap) (list : Structure) (head : ℕ) (is : IsList h list h
   gone : (v : ℕ) → HasPair (after_change h c) list (h.words.key_of p) v → ⊥
   gone v q =
       let e = only_node q.node q.is_in (plain_before (next_word h.words.shape q.node) q.unmarked) (sym q.has_key) in
-      let at : (changed h.words c).value (next_word h.words.shape q.node) ≡ c.new = ⊎_elim (λ at. at.new) (λ other. absurd (other.0 (ap (next_word h.words.shape) (sym e) ∙ sym word))) (changed_or_same h.words c (next_word h.words.shape q.node) stands) in
+      let at : (changed h.words c).value (next_word h.words.shape q.node) ≡ c.new = ⊎_elim (λ at. at.new)
+      (λ other. absurd (other.0 (ap (next_word h.words.shape) (sym e) ∙ sym word))) (changed_or_same h.words c (next_word h.words.shape q.node) stands) in
       both_ways (is_marked c.new) (ap is_marked (sym at) ∙ q.unmarked) now_marked
 
   others_same : (q : ℕ) → q ≢ h.words.key_of p → fin.find nat_cmp q (pairs_from (changed h.words c) head) ≡ fin.find nat_cmp q (pairs_from h.words head)
   others_same q ne = finds_same h (after_change h c) list head is marked_list q
       (λ v r. let other : p ≢ r.node = λ e. ne (sym (ap h.words.key_of e ∙ r.has_key)) in
-      record { node = r.node; is_in = r.is_in; unmarked = ap is_marked (next_same r.node r.is_in other) ∙ r.unmarked; has_key = r.has_key; has_value = r.has_value })
-      (λ v r. record { node = r.node; is_in = r.is_in; unmarked = plain_before (next_word h.words.shape r.node) r.unmarked; has_key = r.has_key; has_value = r.has_value })
+      record {
+        node = r.node;
+        is_in = r.is_in;
+        unmarked = ap is_marked (next_same r.node r.is_in other) ∙ r.unmarked;
+        has_key = r.has_key;
+        has_value = r.has_value;
+      })
+      (λ v r. record {
+        node = r.node;
+        is_in = r.is_in;
+        unmarked = plain_before (next_word h.words.shape r.node) r.unmarked;
+        has_key = r.has_key;
+        has_value = r.has_value;
+      })
 
-  pub marked_finds : (q : ℕ) → fin.find nat_cmp q (pairs_from (changed h.words c) head) ≡ cond (eq_by_cmp nat_cmp q (h.words.key_of p)) None (fin.find nat_cmp q (pairs_from h.words head))
+  pub marked_finds : (q : ℕ) → fin.find nat_cmp q (pairs_from (changed h.words c) head) ≡ cond (eq_by_cmp nat_cmp q (h.words.key_of p)) None
+      (fin.find nat_cmp q (pairs_from h.words head))
   marked_finds q = ⊎_elim
-      (λ e. none_unless _ (λ v f. gone v (found-pair (after_change h c) list head marked_list (h.words.key_of p) v (subst (λ k. fin.find nat_cmp k (pairs_from (changed h.words c) head) ≡ Some v) e f)))
+      (λ e. none_unless _ (λ v f. gone v (found-pair (after_change h c) list head marked_list (h.words.key_of p) v
+      (subst (λ k. fin.find nat_cmp k (pairs_from (changed h.words c) head) ≡ Some v) e f)))
       ∙ sym (ap (λ b. cond b None (fin.find nat_cmp q (pairs_from h.words head))) (same_ties q (h.words.key_of p) e)))
       (λ ne. others_same q ne ∙ sym (ap (λ b. cond b None (fin.find nat_cmp q (pairs_from h.words head))) (apart_ties q (h.words.key_of p) ne)))
       (cases_eq q (h.words.key_of p))

@@ -65,16 +65,23 @@ certificate_law h c valid (key, is) stands =
     let r = row_after h the_list (the_head h.words.shape) valid.list (apart h) 0 key c stands is.row in
     let k = after_certificate h c in
     let done = acts (state_of_list h.words) 0 key (the_table k.words) c
-    (does_as c 0 key _ _ (fin.get (the_table k.words)) (fin.get (the_table h.words)) (λ q. inl (get_after h valid k r.after q, get-the_table h.words q)) r.does) in
+    (does_as c 0 key _ _ (fin.get (the_table k.words)) (fin.get (the_table h.words))
+    (λ q. inl (get_after h valid k r.after q, get-the_table h.words q)) r.does) in
     (done.0, record { valid = valid_after h valid k r.after; state = done.1; facts = facts_after h valid k r.after })
 
-tidy_law : (h : LogicalHeap) (t : TidyChange) → IsOneList h → one_list.tidies h.words.shape t → TidyStands h t → Follows one_list h (state_of_list h.words) (after_tidy h t)
+tidy_law : (h : LogicalHeap) (t : TidyChange) → IsOneList h → one_list.tidies h.words.shape t → TidyStands h t
+    → Follows one_list h (state_of_list h.words) (after_tidy h t)
 unfolding the_table
 tidy_law h t valid is stands =
     let r = unlink_after h the_list (the_head h.words.shape) valid.list (apart h) t is stands in
     let k = after_tidy h t in
-    let same : the_table k.words ≡ the_table h.words = same_table (the_table k.words) (the_table h.words) (λ q. get_after h valid k r.after q ∙ r.same q ∙ sym (get-the_table h.words q)) in
-    record { valid = valid_after h valid k r.after; state = ap (λ (table : Table). record { maps = table ∷ []; queues = [] }) same; facts = facts_after h valid k r.after }
+    let same : the_table k.words ≡ the_table h.words = same_table (the_table k.words) (the_table h.words)
+    (λ q. get_after h valid k r.after q ∙ r.same q ∙ sym (get-the_table h.words q)) in
+    record {
+      valid = valid_after h valid k r.after;
+      state = ap (λ (table : Table). record { maps = table ∷ []; queues = [] }) same;
+      facts = facts_after h valid k r.after;
+    }
 
 frame_law : (h k : LogicalHeap) → IsOneList h → AgreeWherePlaced h k → IsOneList k × (state_of_list k.words ≡ state_of_list h.words)
 unfolding the_table
@@ -91,7 +98,8 @@ frame_law h k valid agree =
       ap (λ (table : Table). record { maps = table ∷ []; queues = [] }) same,
     )
 
-link_law : (h : LogicalHeap) (word : ℕ) → IsOneList h → IsCounted h.words.shape word → one_list.links h.words.shape word → IsNoUnplacedNext h word → NamesPlaced h (h.words.value word)
+link_law : (h : LogicalHeap) (word : ℕ) → IsOneList h → IsCounted h.words.shape word → one_list.links h.words.shape word → IsNoUnplacedNext h word
+    → NamesPlaced h (h.words.value word)
 link_law h word valid counted links free = ⊎_elim
     (λ e. subst (λ w. NamesPlaced h (h.words.value w)) (sym e) (names_placed h the_list _ valid.list.first))
     (λ t. let placed = free t.0 t.1 t.2 in

@@ -19,22 +19,26 @@ use Rattle.md_list_law.proofs.Chains.{Rises, walked, walked_above, same_key, rea
 pairs-marked : (w : LogicalWords) (n : ℕ) (ns : List ℕ) → is_marked (next_of w n) ≡ true → unmarked_pairs w (n ∷ ns) ≡ unmarked_pairs w ns
 pairs-marked w n ns e = cond-true (is_marked (next_of w n)) (unmarked_pairs w ns) ((w.key_of n, w.value_of_node n) ∷ unmarked_pairs w ns) e
 
-pairs-unmarked : (w : LogicalWords) (n : ℕ) (ns : List ℕ) → is_marked (next_of w n) ≡ false → unmarked_pairs w (n ∷ ns) ≡ (w.key_of n, w.value_of_node n) ∷ unmarked_pairs w ns
+pairs-unmarked : (w : LogicalWords) (n : ℕ) (ns : List ℕ) → is_marked (next_of w n) ≡ false
+    → unmarked_pairs w (n ∷ ns) ≡ (w.key_of n, w.value_of_node n) ∷ unmarked_pairs w ns
 pairs-unmarked w n ns e = cond-false (is_marked (next_of w n)) (unmarked_pairs w ns) ((w.key_of n, w.value_of_node n) ∷ unmarked_pairs w ns) e
 
 -- an unmarked node is found by its key, if no other node has it
-find-pairs : (w : LogicalWords) (ns : List ℕ) (a : ℕ) → Contains ns a → is_marked (next_of w a) ≡ false → ((b : ℕ) → Contains ns b → w.key_of a ≡ w.key_of b → a ≡ b)
+find-pairs : (w : LogicalWords) (ns : List ℕ) (a : ℕ) → Contains ns a → is_marked (next_of w a) ≡ false
+    → ((b : ℕ) → Contains ns b → w.key_of a ≡ w.key_of b → a ≡ b)
     → fin.find nat_cmp (w.key_of a) (unmarked_pairs w ns) ≡ Some (w.value_of_node a)
 find-pairs w [] a c unmarked only = absurd (in_none a c)
 find-pairs w (x ∷ xs) a c unmarked only =
-    let rest : Contains xs a → fin.find nat_cmp (w.key_of a) (unmarked_pairs w xs) ≡ Some (w.value_of_node a) = λ later. find-pairs w xs a later unmarked (λ b d. only b (there x xs b d)) in
+    let rest : Contains xs a → fin.find nat_cmp (w.key_of a) (unmarked_pairs w xs) ≡ Some
+    (w.value_of_node a) = λ later. find-pairs w xs a later unmarked (λ b d. only b (there x xs b d)) in
     ⊎_elim
     (λ marked. ap (fin.find nat_cmp (w.key_of a)) (pairs-marked w x xs marked) ∙ ⊎_elim
     (λ e. absurd (both_ways (is_marked (next_of w a)) unmarked (ap (λ n. is_marked (next_of w n)) (sym e) ∙ marked)))
     rest
     (in_cons x xs a c))
     (λ plain. ap (fin.find nat_cmp (w.key_of a)) (pairs-unmarked w x xs plain) ∙ ⊎_elim
-    (λ same. find-here (w.key_of a) (w.key_of x) (w.value_of_node x) (unmarked_pairs w xs) same ∙ ap (λ n. Some (w.value_of_node n)) (sym (only x (here x xs) same)))
+    (λ same. find-here (w.key_of a) (w.key_of x) (w.value_of_node x) (unmarked_pairs w xs) same
+    ∙ ap (λ n. Some (w.value_of_node n)) (sym (only x (here x xs) same)))
     (λ other. find-further (w.key_of a) (w.key_of x) (w.value_of_node x) (unmarked_pairs w xs) other ∙ ⊎_elim
     (λ e. absurd (other (ap w.key_of (sym e))))
     rest
@@ -57,8 +61,15 @@ pairs-find : (w : LogicalWords) (ns : List ℕ) (q v : ℕ) → fin.find nat_cmp
 pairs-find w [] q v e = absurd (cc e)
 pairs-find w (x ∷ xs) q v e = ⊎_elim
     (λ marked. pair_later w x xs q v (pairs-find w xs q v (sym (ap (fin.find nat_cmp q) (pairs-marked w x xs marked)) ∙ e)))
-    (λ plain. let f : fin.find nat_cmp q ((w.key_of x, w.value_of_node x) ∷ unmarked_pairs w xs) ≡ Some v = sym (ap (fin.find nat_cmp q) (pairs-unmarked w x xs plain)) ∙ e in ⊎_elim
-    (λ same. record { node = x; among = here x xs; unmarked = plain; has_key = sym same; has_value = some_same _ _ (sym (find-here q (w.key_of x) (w.value_of_node x) (unmarked_pairs w xs) same) ∙ f) })
+    (λ plain. let f : fin.find nat_cmp q ((w.key_of x, w.value_of_node x) ∷ unmarked_pairs w xs) ≡ Some v = sym
+    (ap (fin.find nat_cmp q) (pairs-unmarked w x xs plain)) ∙ e in ⊎_elim
+    (λ same. record {
+      node = x;
+      among = here x xs;
+      unmarked = plain;
+      has_key = sym same;
+      has_value = some_same _ _ (sym (find-here q (w.key_of x) (w.value_of_node x) (unmarked_pairs w xs) same) ∙ f);
+    })
     (λ other. pair_later w x xs q v (pairs-find w xs q v (sym (find-further q (w.key_of x) (w.value_of_node x) (unmarked_pairs w xs) other) ∙ f)))
     (cases_eq q (w.key_of x)))
     (cases_Bool (is_marked (next_of w x)))
@@ -81,7 +92,8 @@ module _ (h : LogicalHeap) (list : Structure) (head : ℕ) (is : IsList h list h
   -- the list finds the pairs of its unmarked nodes, and no others
   pub pair-found : (key value : ℕ) → HasPair h list key value → fin.find nat_cmp key (pairs_from h.words head) ≡ Some value
   pair-found key value p = subst (λ k. fin.find nat_cmp k (pairs_from h.words head) ≡ Some value) p.has_key
-      (find-pairs h.words (reached_nodes h.words head) p.node c p.unmarked (λ b d. same_key h list rises_of (node_count h.words.shape) (h.words.value head) p.node b is.first c d) ∙ ap Some p.has_value)
+      (find-pairs h.words (reached_nodes h.words head) p.node c p.unmarked
+      (λ b d. same_key h list rises_of (node_count h.words.shape) (h.words.value head) p.node b is.first c d) ∙ ap Some p.has_value)
     where
       c : Contains (reached_nodes h.words head) p.node
       c = is.reached p.node p.is_in p.unmarked
@@ -89,7 +101,13 @@ module _ (h : LogicalHeap) (list : Structure) (head : ℕ) (is : IsList h list h
   pub found-pair : (key value : ℕ) → fin.find nat_cmp key (pairs_from h.words head) ≡ Some value → HasPair h list key value
   found-pair key value e =
       let p = pairs-find h.words (reached_nodes h.words head) key value e in
-      record { node = p.node; is_in = walked h list rises_of (node_count h.words.shape) (h.words.value head) p.node is.first p.among; unmarked = p.unmarked; has_key = p.has_key; has_value = p.has_value }
+      record {
+        node = p.node;
+        is_in = walked h list rises_of (node_count h.words.shape) (h.words.value head) p.node is.first p.among;
+        unmarked = p.unmarked;
+        has_key = p.has_key;
+        has_value = p.has_value;
+      }
 
   -- a gap leaves no room for the key
   pub gap_empty : (key word : ℕ) → IsGap h list head key word → fin.find nat_cmp key (pairs_from h.words head) ≡ None
@@ -100,13 +118,17 @@ module _ (h : LogicalHeap) (list : Structure) (head : ℕ) (is : IsList h list h
 
       no_pair : {v : ℕ} → HasPair h list key v → ⊥
       no_pair p = ⊎_elim
-          (λ at_head. above (node_count h.words.shape) (h.words.value head) p.node (subst (λ w. NamesAbove h list key (h.words.value w)) at_head g.before) (is.reached p.node p.is_in p.unmarked) p.has_key)
+          (λ at_head. above (node_count h.words.shape) (h.words.value head) p.node
+          (subst (λ w. NamesAbove h list key (h.words.value w)) at_head g.before) (is.reached p.node p.is_in p.unmarked) p.has_key)
           (λ t. let less = t.2 in
           let r = reached_from h list rises_of (node_count h.words.shape) (h.words.value head) t.0 p.node is.first
-          (is.reached t.0 t.1 (ap (λ w. is_marked (h.words.value w)) (sym t.3) ∙ g.unmarked)) (is.reached p.node p.is_in p.unmarked) (omega (arith, less, p.has_key)) in
+          (is.reached t.0 t.1 (ap (λ w. is_marked (h.words.value w)) (sym t.3) ∙ g.unmarked)) (is.reached p.node p.is_in p.unmarked)
+          (omega (arith, less, p.has_key)) in
           above r.0 (next_of h.words t.0) p.node (subst (λ w. NamesAbove h list key (h.words.value w)) t.3 g.before) r.1 p.has_key)
           g.after
 
   -- a node shows its key
-  pub node_found : (node : ℕ) → IsIn h list node → is_marked (next_of h.words node) ≡ false → fin.find nat_cmp (h.words.key_of node) (pairs_from h.words head) ≡ Some (h.words.value_of_node node)
-  node_found node i unmarked = pair-found (h.words.key_of node) (h.words.value_of_node node) (record { node = node; is_in = i; unmarked = unmarked; has_key = refl; has_value = refl })
+  pub node_found : (node : ℕ) → IsIn h list node → is_marked (next_of h.words node) ≡ false
+      → fin.find nat_cmp (h.words.key_of node) (pairs_from h.words head) ≡ Some (h.words.value_of_node node)
+  node_found node i unmarked = pair-found (h.words.key_of node) (h.words.value_of_node node)
+      (record { node = node; is_in = i; unmarked = unmarked; has_key = refl; has_value = refl })

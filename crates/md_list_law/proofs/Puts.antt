@@ -18,7 +18,8 @@ pub record IsChanged (w : LogicalWords) (c : Change) (word : ℕ) : Type 0 where
   pub old : w.value word ≡ c.old
   pub new : (changed w c).value word ≡ c.new
 
-pub changed_or_same : (w : LogicalWords) (c : Change) (word : ℕ) → w.value c.word ≡ c.old → IsChanged w c word ⊎ ((word ≢ c.word) × ((changed w c).value word ≡ w.value word))
+pub changed_or_same : (w : LogicalWords) (c : Change) (word : ℕ) → w.value c.word ≡ c.old
+    → IsChanged w c word ⊎ ((word ≢ c.word) × ((changed w c).value word ≡ w.value word))
 changed_or_same w c word old = ⊎_elim
     (λ e. inl (record { here = e; old = ap w.value e ∙ old; new = put_same w.value c.word c.new word e }))
     (λ ne. inr (ne, put_other w.value c.word c.new word ne))

@@ -33,7 +33,8 @@ look_up map key reply word value facts = record {
   facts = facts;
 }
 
-looked_up : (h : LogicalHeap) (map key : ℕ) (reply : Option ℕ) (word : ℕ) (facts : List Fact) → All (Holds h) facts → Stands h (look_up map key reply word (h.words.value word) facts)
+looked_up : (h : LogicalHeap) (map key : ℕ) (reply : Option ℕ) (word : ℕ) (facts : List Fact) → All (Holds h) facts
+    → Stands h (look_up map key reply word (h.words.value word) facts)
 unfolding look_up
 looked_up h map key reply word facts hold = record {
   recorded = All-cons (λ (r : WordValue). h.words.value r.word ≡ r.value) _ [] refl (All-nil (λ (r : WordValue). h.words.value r.word ≡ r.value));
@@ -50,16 +51,28 @@ module _ (h : LogicalHeap) (list : Structure) (head key word : ℕ) (gap : IsGap
   key_holds node i = record { placed = i; key = refl; value = tt; next = tt }
 
   -- facts that hold and say what lies before the gap, and what lies after it
-  after_facts : (facts : List Fact) × All (Holds h) facts × ((word ≡ head) ⊎ ((node less : ℕ) × Contains facts (key_fact list node less) × (less < key) × (word ≡ next_word h.words.shape node)))
+  after_facts : (facts : List Fact) × All (Holds h) facts × ((word ≡ head)
+      ⊎ ((node less : ℕ) × Contains facts (key_fact list node less) × (less < key) × (word ≡ next_word h.words.shape node)))
   after_facts = ⊎_elim
       (λ e. ([], All-nil (Holds h), inl e))
-      (λ t. (key_fact list t.0 (h.words.key_of t.0) ∷ [], All-cons (Holds h) _ [] (key_holds t.0 t.1) (All-nil (Holds h)), inr (t.0, h.words.key_of t.0, here _ [], t.2, t.3)))
+      (λ t. (
+        key_fact list t.0 (h.words.key_of t.0) ∷ [],
+        All-cons (Holds h) _ [] (key_holds t.0 t.1) (All-nil (Holds h)),
+        inr
+            (t.0, h.words.key_of t.0, here _ [], t.2, t.3),
+      ))
       gap.after
 
-  before_facts : (facts : List Fact) × All (Holds h) facts × (NamesNone (h.words.value word) ⊎ ((more : ℕ) × Contains facts (key_fact list (linked_node (h.words.value word)) more) × (key < more)))
+  before_facts : (facts : List Fact) × All (Holds h) facts × (NamesNone (h.words.value word)
+      ⊎ ((more : ℕ) × Contains facts (key_fact list (linked_node (h.words.value word)) more) × (key < more)))
   before_facts = ⊎_elim
       (λ e. ([], All-nil (Holds h), inl e))
-      (λ t. (key_fact list (linked_node (h.words.value word)) (h.words.key_of (linked_node (h.words.value word))) ∷ [], All-cons (Holds h) _ [] (key_holds _ t.0) (All-nil (Holds h)), inr (h.words.key_of (linked_node (h.words.value word)), here _ [], t.1)))
+      (λ t. (
+        key_fact list (linked_node (h.words.value word)) (h.words.key_of (linked_node (h.words.value word))) ∷ [],
+        All-cons (Holds h) _ []
+            (key_holds _ t.0) (All-nil (Holds h)),
+        inr (h.words.key_of (linked_node (h.words.value word)), here _ [], t.1),
+      ))
       gap.before
 
   -- so the gap is the place of the key
@@ -88,7 +101,8 @@ module _ (M : Meaning) (lawful : Lawful M) (lists : HasListsOf M) where
       let c = look_up map key None word (h.words.value word) p.0 in
       let r = lawful.certificate h c valid
       (lists.certifies h.words.shape map key c m (record {
-        row = get_none refl refl (record { changes = refl; nodes = refl }) (record { word = word; value = h.words.value word; place = p.2; recorded = here _ [] });
+        row = get_none refl refl (record { changes = refl; nodes = refl })
+            (record { word = word; value = h.words.value word; place = p.2; recorded = here _ [] });
         unlinks = All-nil (IsUnlink h.words.shape s head);
       }))
       (looked_up h map key None word p.0 p.1) in
@@ -107,7 +121,8 @@ module _ (M : Meaning) (lawful : Lawful M) (lists : HasListsOf M) where
       let hold : Holds h (pair_fact s node key value) = record { placed = i; key = refl; value = refl; next = tt } in
       let r = lawful.certificate h c valid
       (lists.certifies h.words.shape map key c m (record {
-        row = get_some node value refl refl (record { changes = refl; nodes = refl }) (record { fact = here _ []; next = h.words.value word; unmarked = plain; recorded = here _ [] });
+        row = get_some node value refl refl (record { changes = refl; nodes = refl })
+            (record { fact = here _ []; next = h.words.value word; unmarked = plain; recorded = here _ [] });
         unlinks = All-nil (IsUnlink h.words.shape s head);
       }))
       (looked_up h map key (Some value) word facts (All-cons (Holds h) _ [] hold (All-nil (Holds h)))) in

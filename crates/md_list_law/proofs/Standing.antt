@@ -54,7 +54,14 @@ pub record SameAfter (h k : LogicalHeap) (list : Structure) (head : ℕ) : Type 
 nothing_changed : (h : LogicalHeap) (list : Structure) (head : ℕ) → IsList h list head → ListAfter h h list head
 nothing_changed h list head is = record {
   again = is;
-  only = record { shape = refl; placed = λ node. inl refl; elsewhere = λ word. inl refl; marked = λ node i m. refl; key_of = λ node i. refl; value_of_node = λ node i. refl };
+  only = record {
+    shape = refl;
+    placed = λ node. inl refl;
+    elsewhere = λ word. inl refl;
+    marked = λ node i m. refl;
+    key_of = λ node i. refl;
+    value_of_node = λ node i. refl;
+  };
 }
 
 -- the heap after changes and nodes
@@ -73,7 +80,8 @@ absent_taken was key none q = ⊎_elim
 
 module _ (h : LogicalHeap) (list : Structure) (head : ℕ) (is : IsList h list head) (apart : IsNoNext h.words.shape head) where
   -- a node that has a place in the heap's list, by facts that hold
-  gap_of : (facts : List Fact) (key word value : ℕ) → All (Holds h) facts → IsPlaceOf h.words.shape list head facts key word value → h.words.value word ≡ value → IsGap h list head key word
+  gap_of : (facts : List Fact) (key word value : ℕ) → All (Holds h) facts → IsPlaceOf h.words.shape list head facts key word value
+      → h.words.value word ≡ value → IsGap h list head key word
   gap_of facts key word value hold place stands = record {
     unmarked = ap is_marked stands ∙ place.unmarked;
     after = ⊎_elim inl
@@ -93,7 +101,8 @@ module _ (h : LogicalHeap) (list : Structure) (head : ℕ) (is : IsList h list h
         (record { after = nothing_changed h list head is; nodes = λ node i. inl i; does = does })
 
     -- the recorded node was found
-    recorded_found : (f : Fact) → RecordsNode h.words.shape c f → f.structure ≡ list → h.words.key_of f.node ≡ key → found_in h head key ≡ Some (h.words.value_of_node f.node)
+    recorded_found : (f : Fact) → RecordsNode h.words.shape c f → f.structure ≡ list → h.words.key_of f.node ≡ key
+        → found_in h head key ≡ Some (h.words.value_of_node f.node)
     recorded_found f r s k = subst (λ q. found_in h head q ≡ Some (h.words.value_of_node f.node)) k
         (node_found h list head is f.node (placed ∙ ap (λ (t : Structure). Some t) s)
         (ap is_marked (All-contains (λ w. h.words.value w.word ≡ w.value) c.recorded _ st.recorded r.recorded) ∙ r.unmarked))
@@ -115,7 +124,8 @@ module _ (h : LogicalHeap) (list : Structure) (head : ℕ) (is : IsList h list h
       node = record { node = p.node; structure = list; key = key; value = value; next = p.old }
 
       stands : h.words.value p.word ≡ p.old
-      stands = All-head (λ (ch : Change). h.words.value ch.word ≡ ch.old) change [] (subst (All (λ (ch : Change). h.words.value ch.word ≡ ch.old)) p.changes st.old)
+      stands = All-head (λ (ch : Change). h.words.value ch.word ≡ ch.old) change []
+          (subst (All (λ (ch : Change). h.words.value ch.word ≡ ch.old)) p.changes st.old)
 
       fresh : h.placed p.node ≡ None
       fresh = All-head (λ (n : NewNode). h.placed n.node ≡ None) node [] (subst (All (λ (n : NewNode). h.placed n.node ≡ None)) p.nodes st.fresh)
@@ -124,7 +134,8 @@ module _ (h : LogicalHeap) (list : Structure) (head : ℕ) (is : IsList h list h
       gap = gap_of c.facts key p.word p.old st.facts p.place stands
 
       placed_node : c.reply ≡ Flag true → c.op ≡ Insert map key value → RowAfter h (after_certificate h c) list head map key c
-      placed_node reply op = subst (λ (k : LogicalHeap). RowAfter h k list head map key c) (sym (heap_is h c.changes (change ∷ []) c.nodes (node ∷ []) p.changes p.nodes))
+      placed_node reply op = subst (λ (k : LogicalHeap). RowAfter h k list head map key c)
+          (sym (heap_is h c.changes (change ∷ []) c.nodes (node ∷ []) p.changes p.nodes))
           (record {
             after = record {
               again = inserted h list head is apart change node gap stands refl p.is_node fresh refl refl;
@@ -148,10 +159,12 @@ module _ (h : LogicalHeap) (list : Structure) (head : ℕ) (is : IsList h list h
       known = All-contains (Holds h) c.facts (pair_fact list m.node key value) st.facts m.fact
 
       next_is : next_of h.words m.node ≡ m.old
-      next_is = All-head (λ (ch : Change). h.words.value ch.word ≡ ch.old) mark [] (subst (All (λ (ch : Change). h.words.value ch.word ≡ ch.old)) m.changes st.old)
+      next_is = All-head (λ (ch : Change). h.words.value ch.word ≡ ch.old) mark []
+          (subst (All (λ (ch : Change). h.words.value ch.word ≡ ch.old)) m.changes st.old)
 
       was_found : found_in h head key ≡ Some value
-      was_found = subst (λ q. found_in h head q ≡ Some (h.words.value_of_node m.node)) known.key (node_found h list head is m.node known.placed (ap is_marked next_is ∙ m.unmarked)) ∙ ap Some known.value
+      was_found = subst (λ q. found_in h head q ≡ Some (h.words.value_of_node m.node)) known.key
+          (node_found h list head is m.node known.placed (ap is_marked next_is ∙ m.unmarked)) ∙ ap Some known.value
 
       marked_node : c.reply ≡ Value (Some value) → c.op ≡ Remove map key → RowAfter h (after_certificate h c) list head map key c
       marked_node reply op = subst (λ (k : LogicalHeap). RowAfter h k list head map key c) (sym (heap_is h c.changes (mark ∷ []) c.nodes [] m.changes m.nodes))
@@ -185,7 +198,8 @@ module _ (h : LogicalHeap) (list : Structure) (head : ℕ) (is : IsList h list h
         found : found_in h head key ≡ Some (h.words.value_of_node node)
         found = recorded_found (key_fact list node key) r refl known.key
     row_after (insert_true value op reply p) = placed_node value p reply op
-    row_after (remove_none op reply none r) = unchanged none (removes op (reply ∙ ap Value (sym (recorded_absent r))) (absent_taken (found_in h head) key (recorded_absent r)))
+    row_after (remove_none op reply none r) = unchanged none (removes op (reply ∙ ap Value (sym (recorded_absent r)))
+        (absent_taken (found_in h head) key (recorded_absent r)))
     row_after (remove_some value op reply m) = marked_node value m reply op
 
   -- and an unlink

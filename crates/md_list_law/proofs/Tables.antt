@@ -32,7 +32,8 @@ does_as c map key now was more before how d = told d
         (λ q. ⊎_elim
         (λ t. t.0 ∙ finds q ∙ ap (λ x. cond (is_none x) (cond (eq_by_cmp nat_cmp q key) (Some value) (was q)) (was q)) (sym at_key)
         ∙ ap (λ x. cond (is_none (before key)) (cond (eq_by_cmp nat_cmp q key) (Some value) x) x) (sym t.1))
-        (λ t. t.1 ∙ sym (ap (λ b. cond (is_none (before key)) (cond b (Some value) (before q)) (before q)) (apart_ties q key t.0) ∙ either_same (is_none (before key)) (before q)))
+        (λ t. t.1 ∙ sym (ap (λ b. cond (is_none (before key)) (cond b (Some value) (before q)) (before q)) (apart_ties q key t.0)
+        ∙ either_same (is_none (before key)) (before q)))
         (how q))
       where
         either_same : (b : Bool) (x : Option ℕ) → cond b x x ≡ x
@@ -55,9 +56,11 @@ module _ (s : State) (m key : ℕ) (t : Table) where
   kept : ((q : ℕ) → fin.get t q ≡ fin.get (map_at s m) q) → with_map s m t ≡ s
   kept same = ap (with_map s m) (same_table t (map_at s m) same) ∙ with_same s m
 
-  added : (value : ℕ) (b : Bool) → ((q : ℕ) → fin.get t q ≡ cond b (cond (eq_by_cmp nat_cmp q key) (Some value) (fin.get (map_at s m) q)) (fin.get (map_at s m) q))
+  added : (value : ℕ) (b : Bool) → ((q : ℕ) → fin.get t q ≡ cond b (cond (eq_by_cmp nat_cmp q key) (Some value) (fin.get (map_at s m) q))
+      (fin.get (map_at s m) q))
       → with_map s m t ≡ cond b (with_map s m (fin.insert (map_at s m) key value)) s
-  added value true finds = ap (with_map s m) (same_table t (fin.insert (map_at s m) key value) (λ q. finds q ∙ sym (fin.get-insert nat_cmp_total (map_at s m) key value q)))
+  added value true finds = ap (with_map s m) (same_table t (fin.insert (map_at s m) key value)
+      (λ q. finds q ∙ sym (fin.get-insert nat_cmp_total (map_at s m) key value q)))
   added value false finds = kept finds
 
   taken : ((q : ℕ) → fin.get t q ≡ cond (eq_by_cmp nat_cmp q key) None (fin.get (map_at s m) q)) → with_map s m t ≡ with_map s m (fin.remove (map_at s m) key)

@@ -48,7 +48,8 @@ module _ (h : LogicalHeap) (list : Structure) (head : ℕ) (is : IsList h list h
   still_rises : (node : ℕ) → IsIn h list node → NamesAbove h list (h.words.key_of node) ((changed h.words c).value (next_word h.words.shape node))
   still_rises node i = ⊎_elim
       (λ at. subst (NamesAbove h list (h.words.key_of node)) (sym at.new)
-      (above_less h list (h.words.key_of node) (h.words.key_of x) c.new (key_below (h.words.key_of node) (subst (NamesAbove h list (h.words.key_of node)) at.old (is.rises node i))) above_x))
+      (above_less h list (h.words.key_of node) (h.words.key_of x) c.new
+      (key_below (h.words.key_of node) (subst (NamesAbove h list (h.words.key_of node)) at.old (is.rises node i))) above_x))
       (λ other. subst (NamesAbove h list (h.words.key_of node)) (sym other.1) (is.rises node i))
       (changed_or_same h.words c (next_word h.words.shape node) stands)
 
@@ -68,7 +69,8 @@ module _ (h : LogicalHeap) (list : Structure) (head : ℕ) (is : IsList h list h
 
   along : (u node : ℕ) → x ≢ node → Reaches (changed h.words c) (h.words.value u) node → Reaches (changed h.words c) ((changed h.words c).value u) node
   along u node apart r = ⊎_elim
-      (λ at. subst (λ value. Reaches (changed h.words c) value node) (sym at.new) (around node apart (subst (λ value. Reaches (changed h.words c) value node) at.old r)))
+      (λ at. subst (λ value. Reaches (changed h.words c) value node) (sym at.new)
+      (around node apart (subst (λ value. Reaches (changed h.words c) value node) at.old r)))
       (λ other. subst (λ value. Reaches (changed h.words c) value node) (sym other.1) r)
       (changed_or_same h.words c u stands)
 
@@ -82,13 +84,26 @@ module _ (h : LogicalHeap) (list : Structure) (head : ℕ) (is : IsList h list h
       (λ node i plain.
       let before = plain_before (next_word h.words.shape node) plain in
       let apart : x ≢ node = λ e. both_ways (is_marked (next_of h.words x)) (ap (λ n. is_marked (next_of h.words n)) e ∙ before) x_marked in
-      along head node apart (reach_kept h (changed h.words c) list node rise (not_null h list rise node i) (λ y iy r. along (next_word h.words.shape y) node apart r)
+      along head node apart (reach_kept h (changed h.words c) list node rise (not_null h list rise node i)
+      (λ y iy r. along (next_word h.words.shape y) node apart r)
       (node_count h.words.shape) (h.words.value head) is.first (is.reached node i before)))
 
   pub unlinked_same : (q : ℕ) → fin.find nat_cmp q (pairs_from (changed h.words c) head) ≡ fin.find nat_cmp q (pairs_from h.words head)
   unlinked_same q = finds_same h (after_change h c) list head is unlinked q
-      (λ v p. record { node = p.node; is_in = p.is_in; unmarked = plain_after (next_word h.words.shape p.node) p.unmarked; has_key = p.has_key; has_value = p.has_value })
-      (λ v p. record { node = p.node; is_in = p.is_in; unmarked = plain_before (next_word h.words.shape p.node) p.unmarked; has_key = p.has_key; has_value = p.has_value })
+      (λ v p. record {
+        node = p.node;
+        is_in = p.is_in;
+        unmarked = plain_after (next_word h.words.shape p.node) p.unmarked;
+        has_key = p.has_key;
+        has_value = p.has_value;
+      })
+      (λ v p. record {
+        node = p.node;
+        is_in = p.is_in;
+        unmarked = plain_before (next_word h.words.shape p.node) p.unmarked;
+        has_key = p.has_key;
+        has_value = p.has_value;
+      })
 
   pub unlink_only : ChangesOnly h (after_change h c) list head
   unlink_only = change_only h list head is c stands old_plain word

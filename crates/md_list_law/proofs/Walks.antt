@@ -14,11 +14,13 @@ Reaches w value node = (n : ℕ) × Contains (walk w n value) node
 -- a walk from a value that names no node passes none
 pub walk-none : (w : LogicalWords) (n value : ℕ) → linked_node value ≡ 0 → walk w n value ≡ []
 walk-none w zero value e = refl
-walk-none w (suc n) value e = cond-true (eqb (linked_node value) 0) [] (linked_node value ∷ walk w n (next_of w (linked_node value))) (eq-eqb (linked_node value) 0 e)
+walk-none w (suc n) value e = cond-true (eqb (linked_node value) 0) [] (linked_node value ∷ walk w n (next_of w (linked_node value)))
+    (eq-eqb (linked_node value) 0 e)
 
 -- from any other value it passes the node that it names, and goes on
 pub walk-some : (w : LogicalWords) (n value : ℕ) → linked_node value ≢ 0 → walk w (suc n) value ≡ linked_node value ∷ walk w n (next_of w (linked_node value))
-walk-some w n value ne = cond-false (eqb (linked_node value) 0) [] (linked_node value ∷ walk w n (next_of w (linked_node value))) (ne_eqb (linked_node value) 0 ne)
+walk-some w n value ne = cond-false (eqb (linked_node value) 0) [] (linked_node value ∷ walk w n (next_of w (linked_node value)))
+    (ne_eqb (linked_node value) 0 ne)
 
 -- a walk goes by the nodes that values name, not by their marks
 pub walk-link : (w : LogicalWords) (n value other : ℕ) → linked_node other ≡ linked_node value → walk w n other ≡ walk w n value
@@ -33,15 +35,22 @@ pub record Passes (w : LogicalWords) (n value node : ℕ) : Type 0 where
 pub passes : (w : LogicalWords) (n value node : ℕ) → Contains (walk w (suc n) value) node → Passes w n value node
 passes w n value node c = ⊎_elim
     (λ none. absurd (in_none node (subst (λ nodes. Contains nodes node) (walk-none w (suc n) value none) c)))
-    (λ some. record { some = some; here_or_later = in_cons (linked_node value) (walk w n (next_of w (linked_node value))) node (subst (λ nodes. Contains nodes node) (walk-some w n value some) c) })
+    (λ some. record {
+      some = some;
+      here_or_later = in_cons (linked_node value) (walk w n (next_of w (linked_node value))) node
+          (subst (λ nodes. Contains nodes node) (walk-some w n value some) c);
+    })
     (cases_eq (linked_node value) 0)
 
 pub walk_first : (w : LogicalWords) (n value node : ℕ) → linked_node value ≡ node → node ≢ 0 → Contains (walk w (suc n) value) node
 walk_first w n value node e ne = subst (λ nodes. Contains nodes node) (sym (walk-some w n value (λ none. ne (sym e ∙ none))))
-    (subst (λ (x : ℕ). Contains (linked_node value ∷ walk w n (next_of w (linked_node value))) x) e (here (linked_node value) (walk w n (next_of w (linked_node value)))))
+    (subst (λ (x : ℕ). Contains (linked_node value ∷ walk w n (next_of w (linked_node value))) x) e
+    (here (linked_node value) (walk w n (next_of w (linked_node value)))))
 
-pub walk_later : (w : LogicalWords) (n value node : ℕ) → linked_node value ≢ 0 → Contains (walk w n (next_of w (linked_node value))) node → Contains (walk w (suc n) value) node
-walk_later w n value node ne c = subst (λ nodes. Contains nodes node) (sym (walk-some w n value ne)) (there (linked_node value) (walk w n (next_of w (linked_node value))) node c)
+pub walk_later : (w : LogicalWords) (n value node : ℕ) → linked_node value ≢ 0 → Contains (walk w n (next_of w (linked_node value))) node
+    → Contains (walk w (suc n) value) node
+walk_later w n value node ne c = subst (λ nodes. Contains nodes node) (sym (walk-some w n value ne))
+    (there (linked_node value) (walk w n (next_of w (linked_node value))) node c)
 
 pub reaches_first : (w : LogicalWords) (value node : ℕ) → linked_node value ≡ node → node ≢ 0 → Reaches w value node
 reaches_first w value node e ne = (1, walk_first w 0 value node e ne)

@@ -71,9 +71,11 @@ pub record MarksNode (shape : Shape) (list : Structure) (c : Certificate) (key v
 
 -- the certificate of an operation on a key of a map, by what it is answered
 pub data IsRow (shape : Shape) (list : Structure) (head map key : ℕ) (c : Certificate) : Type 0 where
-  get_some : (node value : ℕ) → c.op ≡ Get map key → c.reply ≡ Value (Some value) → ChangesNothing c → RecordsNode shape c (pair_fact list node key value) → IsRow shape list head map key c
+  get_some : (node value : ℕ) → c.op ≡ Get map key → c.reply ≡ Value (Some value) → ChangesNothing c
+      → RecordsNode shape c (pair_fact list node key value) → IsRow shape list head map key c
   get_none : c.op ≡ Get map key → c.reply ≡ Value None → ChangesNothing c → RecordsPlace shape list head c key → IsRow shape list head map key c
-  insert_false : (node value : ℕ) → c.op ≡ Insert map key value → c.reply ≡ Flag false → ChangesNothing c → RecordsNode shape c (key_fact list node key) → IsRow shape list head map key c
+  insert_false : (node value : ℕ) → c.op ≡ Insert map key value → c.reply ≡ Flag false → ChangesNothing c
+      → RecordsNode shape c (key_fact list node key) → IsRow shape list head map key c
   insert_true : (value : ℕ) → c.op ≡ Insert map key value → c.reply ≡ Flag true → PlacesNode shape list head c key value → IsRow shape list head map key c
   remove_none : c.op ≡ Remove map key → c.reply ≡ Value None → ChangesNothing c → RecordsPlace shape list head c key → IsRow shape list head map key c
   remove_some : (value : ℕ) → c.op ≡ Remove map key → c.reply ≡ Value (Some value) → MarksNode shape list c key value → IsRow shape list head map key c

@@ -20,7 +20,8 @@ pub record IsGap (h : LogicalHeap) (list : Structure) (head key word : ℕ) : Ty
 module _ (M : Meaning) where
   -- keys rise along the next words of a bucket's nodes
   abbrev pub KeysRise : Type 0
-  KeysRise = (h : LogicalHeap) (map bucket node : ℕ) → M.valid h → map < h.words.shape.maps → bucket < h.words.shape.buckets → IsIn h (Bucket map bucket) node → NamesAbove h (Bucket map bucket) (h.words.key_of node) (next_of h.words node)
+  KeysRise = (h : LogicalHeap) (map bucket node : ℕ) → M.valid h → map < h.words.shape.maps → bucket < h.words.shape.buckets
+      → IsIn h (Bucket map bucket) node → NamesAbove h (Bucket map bucket) (h.words.key_of node) (next_of h.words node)
 
   -- a gap shows that a key is absent
   abbrev pub GapShowsAbsent : Type 0

@@ -23,4 +23,5 @@ IsBucketUnlink shape map bucket t = IsUnlink shape (Bucket map bucket) (head_wor
 pub record HasListsOf (M : Meaning) : Type 0 where
   pub buckets : (h : LogicalHeap) (map bucket : ℕ) → M.valid h → map < h.words.shape.maps → bucket < h.words.shape.buckets → IsBucket h map bucket
   pub certifies : (shape : Shape) (map key : ℕ) (c : Certificate) → map < shape.maps → IsMapCertificate shape map key c → M.certifies shape c
-  pub unlinks : (shape : Shape) (map bucket : ℕ) (t : TidyChange) → map < shape.maps → bucket < shape.buckets → IsBucketUnlink shape map bucket t → M.tidies shape t
+  pub unlinks : (shape : Shape) (map bucket : ℕ) (t : TidyChange) → map < shape.maps → bucket < shape.buckets → IsBucketUnlink shape map bucket t
+      → M.tidies shape t

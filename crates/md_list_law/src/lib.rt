@@ -1,5 +1,5 @@
-//! Michael's lock-free list: when words are a list, which certificates Get, Insert and Remove have, and
-//! what an unlink is. After M. M. Michael, "High Performance Dynamic Lock-Free Hash Tables and
+//! Michael's lock-free list: when words are a list, which certificates Get, Insert and Remove have,
+//! and what an unlink is. After M. M. Michael, "High Performance Dynamic Lock-Free Hash Tables and
 //! List-Based Sets" (2002).
 //!
 //! What follows:

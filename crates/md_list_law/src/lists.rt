@@ -12,9 +12,9 @@ pub trait HasLists: Theory {
     ghost has_lists: { HasListsOf Self.meaning };
 }
 
-/// It does nothing: its contract is what a walk along a bucket shows. Keys rise along next words. A
-/// gap between keys shows that a key is absent. A node with an unmarked next word shows that its key
-/// is present.
+/// It does nothing: its contract is what a walk along a bucket shows. Keys rise along next words.
+/// A gap between keys shows that a key is absent. A node with an unmarked next word shows that its
+/// key is present.
 pub fn list_facts<T: HasLists>()
     ensures rises { KeysRise T.meaning }
     ensures absent { GapShowsAbsent T.meaning }

@@ -31,7 +31,8 @@ pub table_at : LogicalWords → (map : ℕ) → Table
 table_at w map = table_of (pairs_of_map w map)
 
 -- it is that of the state, whatever the queues are
-map_at_is : (w : LogicalWords) (queues : List (List ℕ)) (map : ℕ) → map < w.shape.maps → map_at (record { maps = maps_of w; queues = queues }) map ≡ table_at w map
+map_at_is : (w : LogicalWords) (queues : List (List ℕ)) (map : ℕ) → map < w.shape.maps
+    → map_at (record { maps = maps_of w; queues = queues }) map ≡ table_at w map
 unfolding table_at
 map_at_is w queues map m = get_or-map-range_with_len (table_at w) 0 w.shape.maps map map fin.empty m (omega arith)
 
@@ -45,7 +46,8 @@ get-table_at h are map m q =
     ∙ find-home pairs q (bucket_of h.words.shape q) 0 h.words.shape.buckets (omega arith) (let below = bucket_of_below h.words.shape q in omega (arith, below))
     (λ bucket low high ne. lacks bucket (omega (arith, high)) ne)
   where
-    lacks : (bucket : ℕ) → bucket < h.words.shape.buckets → bucket ≢ bucket_of h.words.shape q → fin.find nat_cmp q (pairs_from h.words (head_word h.words.shape map bucket)) ≡ None
+    lacks : (bucket : ℕ) → bucket < h.words.shape.buckets → bucket ≢ bucket_of h.words.shape q
+        → fin.find nat_cmp q (pairs_from h.words (head_word h.words.shape map bucket)) ≡ None
     lacks bucket b ne = none_unless _ (λ v e.
         let is = are map bucket m b in
         let p = found-pair h (Bucket map bucket) (head_word h.words.shape map bucket) is.list q v e in
@@ -60,20 +62,24 @@ bucket_at k shape map bucket e list keys = record {
 }
 
 -- a bucket that is the same in another heap
-pub bucket_same : (h k : LogicalHeap) (map bucket : ℕ) → SameList h k (Bucket map bucket) (head_word h.words.shape map bucket) → IsBucket h map bucket → IsBucket k map bucket
-bucket_same h k map bucket same is = bucket_at k h.words.shape map bucket same.shape (list_same h k (Bucket map bucket) (head_word h.words.shape map bucket) same is.list)
+pub bucket_same : (h k : LogicalHeap) (map bucket : ℕ) → SameList h k (Bucket map bucket) (head_word h.words.shape map bucket)
+    → IsBucket h map bucket → IsBucket k map bucket
+bucket_same h k map bucket same is = bucket_at k h.words.shape map bucket same.shape
+    (list_same h k (Bucket map bucket) (head_word h.words.shape map bucket) same is.list)
     (λ node i. let j = same.back node i in ap (bucket_of h.words.shape) (same.key_of node j) ∙ is.keys node j)
 
 -- maps of heaps whose buckets find the same
 tables_same : (h k : LogicalHeap) → AreBuckets h → AreBuckets k → k.words.shape ≡ h.words.shape → (map : ℕ) → map < h.words.shape.maps
-    → ((q : ℕ) → found_in k (head_word h.words.shape map (bucket_of h.words.shape q)) q ≡ found_in h (head_word h.words.shape map (bucket_of h.words.shape q)) q)
+    → ((q : ℕ) → found_in k (head_word h.words.shape map (bucket_of h.words.shape q)) q ≡ found_in h
+    (head_word h.words.shape map (bucket_of h.words.shape q)) q)
     → table_at k.words map ≡ table_at h.words map
 tables_same h k are_h are_k e map m same = same_table _ _ (λ q.
     get-table_at k are_k map (subst (λ (s : Shape). map < s.maps) (sym e) m) q
     ∙ ap (λ (s : Shape). found_in k (head_word s map (bucket_of s q)) q) e ∙ same q ∙ sym (get-table_at h are_h map m q))
 
 pub maps_same : (h k : LogicalHeap) → AreBuckets h → AreBuckets k → k.words.shape ≡ h.words.shape
-    → ((map bucket q : ℕ) → map < h.words.shape.maps → bucket < h.words.shape.buckets → found_in k (head_word h.words.shape map bucket) q ≡ found_in h (head_word h.words.shape map bucket) q)
+    → ((map bucket q : ℕ) → map < h.words.shape.maps → bucket < h.words.shape.buckets
+    → found_in k (head_word h.words.shape map bucket) q ≡ found_in h (head_word h.words.shape map bucket) q)
     → maps_of k.words ≡ maps_of h.words
 unfolding table_at
 maps_same h k are_h are_k e same =
@@ -93,7 +99,8 @@ module _ (h k : LogicalHeap) (are : AreBuckets h) (map bucket : ℕ) (m : map < 
   -- any other bucket is as it was
   others : (other_map other_bucket : ℕ) → other_map < h.words.shape.maps → other_bucket < h.words.shape.buckets → (other_map ≢ map) ⊎ (other_bucket ≢ bucket)
       → SameList h k (Bucket other_map other_bucket) (head_word h.words.shape other_map other_bucket)
-  others other_map other_bucket om ob apart = same_elsewhere h k (Bucket map bucket) (head_word h.words.shape map bucket) a.only (head_apart h.words.shape map bucket m b)
+  others other_map other_bucket om ob apart = same_elsewhere h k (Bucket map bucket) (head_word h.words.shape map bucket) a.only
+      (head_apart h.words.shape map bucket m b)
       (Bucket other_map other_bucket) (head_word h.words.shape other_map other_bucket)
       (λ e. ⊎_elim (λ ne. ne (cc e)) (λ ne. ne (cc e)) apart)
       (heads_differ h.words.shape other_map other_bucket map bucket om ob m b (λ e. ⊎_elim (λ ne. ne (cc e)) (λ ne. ne (cc e)) apart))
@@ -117,7 +124,8 @@ module _ (h k : LogicalHeap) (are : AreBuckets h) (map bucket : ℕ) (m : map < 
       (this_or_other other_map other_bucket)
 
   -- and finds what it found
-  pub finds_elsewhere : (other_map other_bucket q : ℕ) → other_map < h.words.shape.maps → other_bucket < h.words.shape.buckets → (other_map ≢ map) ⊎ (other_bucket ≢ bucket)
+  pub finds_elsewhere : (other_map other_bucket q : ℕ) → other_map < h.words.shape.maps → other_bucket < h.words.shape.buckets
+      → (other_map ≢ map) ⊎ (other_bucket ≢ bucket)
       → found_in k (head_word h.words.shape other_map other_bucket) q ≡ found_in h (head_word h.words.shape other_map other_bucket) q
   finds_elsewhere other_map other_bucket q om ob apart = pairs_same h k (Bucket other_map other_bucket) (head_word h.words.shape other_map other_bucket)
       (others other_map other_bucket om ob apart) (are other_map other_bucket om ob).list q
@@ -130,28 +138,41 @@ module _ (h k : LogicalHeap) (are : AreBuckets h) (map bucket : ℕ) (m : map < 
       ap (λ (s : Shape). map_list (table_at k.words) (range_with_len 0 s.maps)) a.only.shape
       ∙ map-set_one (table_at k.words) (table_at h.words) 0 h.words.shape.maps map m
       (λ other low high ne. let om : other < h.words.shape.maps = omega (arith, high) in
-      tables_same h k are buckets_after a.only.shape other om (λ q. finds_elsewhere other (bucket_of h.words.shape q) q om (bucket_of_below h.words.shape q) (inl (λ is. ne (is ∙ sym e)))))
+      tables_same h k are buckets_after a.only.shape other om
+      (λ q. finds_elsewhere other (bucket_of h.words.shape q) q om (bucket_of_below h.words.shape q) (inl (λ is. ne (is ∙ sym e)))))
       ∙ ap (λ n. set (maps_of h.words) map (table_at k.words n)) e
 
   -- and does what the list does
   does_after : (key : ℕ) (c : Certificate) → bucket_of h.words.shape key ≡ bucket
-      → Does c map key (found_in k (head_word h.words.shape map bucket)) (found_in h (head_word h.words.shape map bucket)) → Does c map key (fin.get (table_at k.words map)) (fin.get (table_at h.words map))
+      → Does c map key (found_in k (head_word h.words.shape map bucket)) (found_in h (head_word h.words.shape map bucket))
+      → Does c map key (fin.get (table_at k.words map)) (fin.get (table_at h.words map))
   does_after key c at = does_as c map key _ _ _ _ (λ q. ⊎_elim
-      (λ e. inl (now q ∙ ap (λ n. found_in k (head_word h.words.shape map n) q) e, get-table_at h are map m q ∙ ap (λ n. found_in h (head_word h.words.shape map n) q) e))
-      (λ ne. inr ((λ is. ne (ap (bucket_of h.words.shape) is ∙ at)), now q ∙ finds_elsewhere map (bucket_of h.words.shape q) q m (bucket_of_below h.words.shape q) (inr ne) ∙ sym (get-table_at h are map m q)))
+      (λ e. inl (
+        now q ∙ ap (λ n. found_in k (head_word h.words.shape map n) q) e,
+        get-table_at h are map m q
+            ∙ ap (λ n. found_in h (head_word h.words.shape map n) q) e,
+      ))
+      (λ ne. inr (
+        (λ is. ne (ap (bucket_of h.words.shape) is ∙ at)),
+        now q
+            ∙ finds_elsewhere map (bucket_of h.words.shape q) q m (bucket_of_below h.words.shape q) (inr ne) ∙ sym (get-table_at h are map m q),
+      ))
       (cases_eq (bucket_of h.words.shape q) bucket))
     where
       now : (q : ℕ) → fin.get (table_at k.words map) q ≡ found_in k (head_word h.words.shape map (bucket_of h.words.shape q)) q
-      now q = get-table_at k buckets_after map (subst (λ (s : Shape). map < s.maps) (sym a.only.shape) m) q ∙ ap (λ (s : Shape). found_in k (head_word s map (bucket_of s q)) q) a.only.shape
+      now q = get-table_at k buckets_after map (subst (λ (s : Shape). map < s.maps) (sym a.only.shape) m) q
+          ∙ ap (λ (s : Shape). found_in k (head_word s map (bucket_of s q)) q) a.only.shape
 
   -- the reply and the state are those of the operation, whatever the queues are
   pub acts_after : (key : ℕ) (c : Certificate) (queues : List (List ℕ)) → bucket_of h.words.shape key ≡ bucket
       → Does c map key (found_in k (head_word h.words.shape map bucket)) (found_in h (head_word h.words.shape map bucket))
-      → (c.reply ≡ answer (record { maps = maps_of h.words; queues = queues }) c.op) × (◌≡◌ {A = State} (record { maps = maps_of k.words; queues = queues }) (after (record { maps = maps_of h.words; queues = queues }) c.op))
+      → (c.reply ≡ answer (record { maps = maps_of h.words; queues = queues }) c.op)
+      × (◌≡◌ {A = State} (record { maps = maps_of k.words; queues = queues }) (after (record { maps = maps_of h.words; queues = queues }) c.op))
   acts_after key c queues at does =
       let s : State = record { maps = maps_of h.words; queues = queues } in
       let this : map_at s map ≡ table_at h.words map = map_at_is h.words queues map m in
-      let done = acts s map key (table_at k.words map) c (subst (λ (t : Table). Does c map key (fin.get (table_at k.words map)) (fin.get t)) (sym this) (does_after key c at does)) in
+      let done = acts s map key (table_at k.words map) c (subst (λ (t : Table). Does c map key (fin.get (table_at k.words map)) (fin.get t))
+      (sym this) (does_after key c at does)) in
       (done.0, ap (λ (maps : List Table). record { maps = maps; queues = queues }) maps_changed ∙ done.1)
 
   -- if the list finds what it found, every bucket does

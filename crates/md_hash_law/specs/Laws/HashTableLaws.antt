@@ -35,10 +35,12 @@ module _ (h : LogicalHeap) (are : AreBuckets h) (alone : (node : ℕ) (s : Struc
   next_names node placed =
       let t = alone node placed.0 placed.1 in
       let is = (are t.0 t.1 t.2 t.3).list in
-      names_placed h (Bucket t.0 t.1) _ (names_above h (Bucket t.0 t.1) (rises_of h (Bucket t.0 t.1) (head_word h.words.shape t.0 t.1) is) _ _ (is.rises node (placed.1 ∙ ap (λ (s : Structure). Some s) t.4)))
+      names_placed h (Bucket t.0 t.1) _ (names_above h (Bucket t.0 t.1) (rises_of h (Bucket t.0 t.1) (head_word h.words.shape t.0 t.1) is) _ _
+      (is.rises node (placed.1 ∙ ap (λ (s : Structure). Some s) t.4)))
 
   -- after a change of a bucket's list each placed node is still of a bucket, and each fact holds
-  module _ (k : LogicalHeap) (map bucket : ℕ) (m : map < h.words.shape.maps) (b : bucket < h.words.shape.buckets) (a : ListAfter h k (Bucket map bucket) (head_word h.words.shape map bucket))
+  module _ (k : LogicalHeap) (map bucket : ℕ) (m : map < h.words.shape.maps) (b : bucket < h.words.shape.buckets)
+      (a : ListAfter h k (Bucket map bucket) (head_word h.words.shape map bucket))
       (home : (node : ℕ) → IsIn k (Bucket map bucket) node → bucket_of h.words.shape (k.words.key_of node) ≡ bucket) where
     pub still_alone : (node : ℕ) (s : Structure) → k.placed node ≡ Some s → IsBucketOf k.words.shape s
     still_alone node s i = subst (λ (shape : Shape). IsBucketOf shape s) (sym a.only.shape)
@@ -49,7 +51,8 @@ module _ (h : LogicalHeap) (are : AreBuckets h) (alone : (node : ℕ) (s : Struc
 
 -- the nodes of a changed list have keys of its bucket
 pub row_home : (h k : LogicalHeap) (map bucket key : ℕ) (c : Certificate) → IsBucket h map bucket → bucket_of h.words.shape key ≡ bucket
-    → RowAfter h k (Bucket map bucket) (head_word h.words.shape map bucket) map key c → (node : ℕ) → IsIn k (Bucket map bucket) node → bucket_of h.words.shape (k.words.key_of node) ≡ bucket
+    → RowAfter h k (Bucket map bucket) (head_word h.words.shape map bucket) map key c → (node : ℕ) → IsIn k (Bucket map bucket) node
+    → bucket_of h.words.shape (k.words.key_of node) ≡ bucket
 row_home h k map bucket key c is at r node i = ⊎_elim
     (λ j. ap (bucket_of h.words.shape) (r.after.only.key_of node (Bucket map bucket, j)) ∙ is.keys node j)
     (λ e. ap (bucket_of h.words.shape) e ∙ at)
@@ -57,7 +60,8 @@ row_home h k map bucket key c is at r node i = ⊎_elim
 
 pub unlink_home : (h k : LogicalHeap) (map bucket : ℕ) → IsBucket h map bucket → SameAfter h k (Bucket map bucket) (head_word h.words.shape map bucket)
     → (node : ℕ) → IsIn k (Bucket map bucket) node → bucket_of h.words.shape (k.words.key_of node) ≡ bucket
-unlink_home h k map bucket is r node i = let j = r.nodes node i in ap (bucket_of h.words.shape) (r.after.only.key_of node (Bucket map bucket, j)) ∙ is.keys node j
+unlink_home h k map bucket is r node i = let j = r.nodes node i in ap (bucket_of h.words.shape) (r.after.only.key_of node (Bucket map bucket, j))
+    ∙ is.keys node j
 
 -- the five laws; facts are kept in what follows
 pub certificate_law : (h : LogicalHeap) (c : Certificate) → hash_table.valid h → hash_table.certifies h.words.shape c → Stands h c
@@ -72,13 +76,17 @@ certificate_law h c valid (map, key, m, is) stands =
     let done = acts_after h k valid.buckets map bucket m b r.after home key c [] refl r.does in (
       done.0,
       record {
-        valid = record { buckets = buckets_after h k valid.buckets map bucket m b r.after home; alone = still_alone h valid.buckets valid.alone k map bucket m b r.after home };
+        valid = record {
+          buckets = buckets_after h k valid.buckets map bucket m b r.after home;
+          alone = still_alone h valid.buckets valid.alone k map bucket m b r.after home;
+        };
         state = done.1;
         facts = still_known h valid.buckets valid.alone k map bucket m b r.after home;
       },
     )
 
-pub tidy_law : (h : LogicalHeap) (t : TidyChange) → hash_table.valid h → hash_table.tidies h.words.shape t → TidyStands h t → Follows hash_table h (hash_table.state h.words) (after_tidy h t)
+pub tidy_law : (h : LogicalHeap) (t : TidyChange) → hash_table.valid h → hash_table.tidies h.words.shape t → TidyStands h t
+    → Follows hash_table h (hash_table.state h.words) (after_tidy h t)
 tidy_law h t valid (map, bucket, m, b, is) stands =
     let k = after_tidy h t in
     let of = valid.buckets map bucket m b in
@@ -94,17 +102,24 @@ tidy_law h t valid (map, bucket, m, b, is) stands =
 
 pub frame_law : (h k : LogicalHeap) → hash_table.valid h → AgreeWherePlaced h k → hash_table.valid k × (hash_table.state k.words ≡ hash_table.state h.words)
 frame_law h k valid agree =
-    let same = λ (map bucket : ℕ) (m : map < h.words.shape.maps) (b : bucket < h.words.shape.buckets). same_framed h k agree (Bucket map bucket) map bucket m b (valid.buckets map bucket m b).list in
+    let same = λ (map bucket : ℕ) (m : map < h.words.shape.maps) (b : bucket < h.words.shape.buckets). same_framed h k agree
+    (Bucket map bucket) map bucket m b (valid.buckets map bucket m b).list in
     let buckets : AreBuckets k = λ map bucket below inside.
     let m = subst (λ (s : Shape). map < s.maps) agree.shape below in
     let b = subst (λ (s : Shape). bucket < s.buckets) agree.shape inside in
     bucket_same h k map bucket (same map bucket m b) (valid.buckets map bucket m b) in (
-      record { buckets = buckets; alone = λ node s i. subst (λ (shape : Shape). IsBucketOf shape s) (sym agree.shape) (valid.alone node s (sym (agree.placed node) ∙ i)) },
+      record {
+        buckets = buckets;
+        alone = λ node s i. subst (λ (shape : Shape). IsBucketOf shape s) (sym agree.shape)
+            (valid.alone node s (sym (agree.placed node) ∙ i));
+      },
       maps_state _ _ (maps_same h k valid.buckets buckets agree.shape
-          (λ map bucket q m b. pairs_same h k (Bucket map bucket) (head_word h.words.shape map bucket) (same map bucket m b) (valid.buckets map bucket m b).list q)),
+          (λ map bucket q m b. pairs_same h k (Bucket map bucket) (head_word h.words.shape map bucket) (same map bucket m b)
+          (valid.buckets map bucket m b).list q)),
     )
 
-pub link_law : (h : LogicalHeap) (word : ℕ) → hash_table.valid h → IsCounted h.words.shape word → hash_table.links h.words.shape word → IsNoUnplacedNext h word → NamesPlaced h (h.words.value word)
+pub link_law : (h : LogicalHeap) (word : ℕ) → hash_table.valid h → IsCounted h.words.shape word → hash_table.links h.words.shape word
+    → IsNoUnplacedNext h word → NamesPlaced h (h.words.value word)
 link_law h word valid counted links free = ⊎_elim
     (λ t. subst (λ w. NamesPlaced h (h.words.value w)) (sym t.4) (names_placed h (Bucket t.0 t.1) _ (valid.buckets t.0 t.1 t.2 t.3).list.first))
     (λ t. subst (λ w. NamesPlaced h (h.words.value w)) (sym t.2) (next_names h valid.buckets valid.alone t.0 (free t.0 t.1 t.2)))
