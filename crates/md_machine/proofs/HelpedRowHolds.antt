@@ -17,6 +17,7 @@ use Rattle.md_machine.specs.declared.certificate.NewNode.{NewNode}
 use Rattle.md_machine.specs.declared.certificate.WordValue.{WordValue}
 use Rattle.md_machine.specs.declared.node.Structure.TheVariants.{Bucket}
 use Rattle.md_machine.proofs.Walking.{no_store_for, none_differ, nth, one_below, one_differs, only_none, only_one, trail_at}
+use Rattle.md_machine.proofs.clauses.Brackets.{stood}
 use Rattle.md_machine.proofs.lists.Rising.{there}
 use Rattle.md_machine.specs.Certified.{CertifiedIn, HasWords, after_wholes, as_found, first_content}
 use Rattle.md_machine.specs.Event.{Does, Runs, commit, install, load, mark_act, mark_begin, mark_end, mark_start, opened, ready, split, store, uninstall}

@@ -27,10 +27,12 @@ use Rattle.md_machine.proofs.clauses.Lanes.{lanes-kept}
 use Rattle.md_machine.proofs.clauses.Loads.{EntriesPast, loads-kept}
 use Rattle.md_machine.proofs.clauses.NodeWords.{node_words-kept}
 use Rattle.md_machine.proofs.clauses.OddWords.{odd_words-kept}
+use Rattle.md_machine.proofs.clauses.OldSlots.{OldSlotStands, old_slots-kept}
 use Rattle.md_machine.proofs.clauses.Order.{TrailsInOrder, order-kept}
 use Rattle.md_machine.proofs.clauses.Past.{PastDecided, fates_told, past-kept}
 use Rattle.md_machine.proofs.clauses.Placed.{placed-kept}
 use Rattle.md_machine.proofs.clauses.Reads.{reads_found, reads_moved}
+use Rattle.md_machine.proofs.clauses.ReadyEntries.{ReadyHaveEntries, ready_entries-kept}
 use Rattle.md_machine.proofs.clauses.Sound.{sound-kept}
 use Rattle.md_machine.proofs.clauses.Stamps.{Stamp, Stamped, StampsKept, stamp_more, stamps-kept, stamps_hold}
 use Rattle.md_machine.proofs.clauses.Statuses.{StatusesNoted, statuses-kept}
@@ -40,6 +42,7 @@ use Rattle.md_machine.proofs.clauses.WonInstalls.{won_installs-kept}
 use Rattle.md_machine.proofs.events.MoveFacts.{history_grows}
 use Rattle.md_machine.proofs.events.Moves.{does_move}
 use Rattle.md_machine.proofs.events.Tell.{tell}
+use Rattle.md_machine.proofs.events.UninstallValue.{UninstallRests}
 use Rattle.md_machine.proofs.events.WordChanges.{counts_rise, formats-kept, statuses_go_on, stays_on}
 use Rattle.md_machine.proofs.lists.Pairs.{EachPair, pairs_of}
 use Rattle.md_machine.proofs.lists.Rising.{here, there}
@@ -94,6 +97,8 @@ pub record Invariant (m : Machine) : Type 0 where
   pub moved_reads : MovedReads m.words m.history
   pub found_reads : EachPair (ReadFound (shape_of m) m.history) m.passes
   pub sound : CommittedAreSound m
+  pub ready_entries : ReadyHaveEntries (shape_of m) m.words m.history
+  pub old_slots : EachPair (OldSlotStands (shape_of m) m.words) m.passes
   pub stamp : Stamp
   pub stamps : StampsKept m stamp
 
@@ -119,6 +124,20 @@ reads_stamped m k word held (desc, i, exists, inside, is_word, is_held) = ⊎_el
     let c = sym (p.content i r.0 r.1) ∙ ap (λ j. word_at (shape_of m) m.words (read_content j i)) d ∙ is_held in
     subst (λ v. Stamped m.words k.stamp v held) w (subst (Stamped m.words k.stamp r.0.word) c (k.stamps.reads e r.0 x.1 r.2).1))
     (k.read_counts.counted desc exists)
+
+-- what an uninstall rests on is in the invariant
+pub rests_of : (m : Machine) → Invariant m → UninstallRests m
+rests_of m k = record {
+  entries = k.entries;
+  ready_entries = k.ready_entries;
+  statuses = k.statuses;
+  brackets = k.brackets;
+  installs = k.installs;
+  odd_words = k.odd_words;
+  loads = k.loads;
+  old_slots = k.old_slots;
+  stores = k.stores;
+}
 
 pub kept_by : (m : Machine) → Invariant m → IsKept m
 kept_by m k = record {
@@ -184,6 +203,8 @@ module _ (M : Meaning) where
           moved_reads = reads_moved m n v k.formats.field k.hands k.statuses past k.stamp k.stamps k.moved_reads;
           found_reads = reshape (λ shape. EachPair (ReadFound shape n.history) n.passes) (reads_found m n v k.formats.field k.hands k.statuses past k.stamp k.stamps k.moved_reads k.found_reads);
           sound = sound-kept m n v (record { formats = k.formats; entries = k.entries; stores = k.stores; loads = k.loads; found = k.found_reads; sound = k.sound }) (fated (shape_of m) m.words m.history m.fates k.entries);
+          ready_entries = reshape (λ shape. ReadyHaveEntries shape n.words n.history) (ready_entries-kept m n v k.formats.field k.hands k.ready_entries);
+          old_slots = move (λ shape words. EachPair (OldSlotStands shape words) n.passes) (old_slots-kept m k.stamp k.stamps k.installs k.order n v k.formats.field k.hands k.odd_words k.old_slots);
           stamp = stamp_more k.stamp v.word v.new;
           stamps = subst (λ o. StampsKept (record n { opening = o }) (stamp_more k.stamp v.word v.new)) (sym v.opening)
               (subst (λ words. StampsKept (record n { words = words; opening = m.opening }) (stamp_more k.stamp v.word v.new)) (sym v.words) stamps);

@@ -3,10 +3,10 @@ use Rattle.std.proofs.Common.{◌≡◌, ℕ, ◌≤◌, List, [], ◌∷◌, �
 use Rattle.std.proofs.lemmas.Bool.{true≢false}
 use Rattle.md_words.specs.declared.shape.Shape.{Shape}
 use Rattle.md_words.specs.declared.status.Status.TheVariants.{InPrep}
-use Rattle.md_words.specs.Status.{reads_of, serial_of, status_word}
+use Rattle.md_words.specs.Status.{status_of, reads_of, serial_of, status_word}
 use Rattle.md_words.specs.Place.{desc_status, read_word, slot_word, slot_new}
 use Rattle.md_words.specs.Layout.{address, first_desc}
-use Rattle.md_words.proofs.Words.{reads_of-status_word, serial_of-status_word, status_word-begins}
+use Rattle.md_words.proofs.Words.{status_of-status_word, reads_of-status_word, serial_of-status_word, status_word-begins}
 use Rattle.md_machine.specs.declared.opening.Opening.{Opening}
 use Rattle.md_machine.specs.declared.step.Step.{Step}
 use Rattle.md_machine.specs.declared.pass.PassView.{PassView}
@@ -17,7 +17,9 @@ use Rattle.md_machine.proofs.Invariant.{Invariant, kept_by, plays_keep, runs_kee
 use Rattle.md_machine.proofs.clauses.Brackets.{IsBracket}
 use Rattle.md_machine.proofs.clauses.FrontsFit.{fated}
 use Rattle.md_machine.proofs.clauses.LanesApart.{At, lanes_first}
+use Rattle.md_machine.proofs.clauses.OldSlots.{OldSlotStands}
 use Rattle.md_machine.proofs.clauses.Order.{InOrder}
+use Rattle.md_machine.proofs.clauses.ReadyEntries.{prep_not_ready}
 use Rattle.md_machine.proofs.events.Steps.{HasStep}
 use Rattle.md_machine.proofs.lists.At.{at_one}
 use Rattle.md_machine.proofs.lists.Options.{none_some}
@@ -119,6 +121,8 @@ module _ (M : Meaning) where
     moved_reads = λ e c. absurd (in_none e c);
     found_reads = λ pass p at segment c. subst (InPairs (ReadFound o.shape [])) (first_segment o.shape p segment (at_one (first_pass o.shape) p pass at).1 c) tt;
     sound = record { flags = λ e c. absurd (in_none e c); sound = tt };
+    ready_entries = λ desc exists ready. absurd (prep_not_ready _ (ap status_of (can.descs _ (status_late o.shape desc) ∙ zero_begins) ∙ status_of-status_word InPrep 0 0) ready);
+    old_slots = λ pass p at segment c. subst (InPairs (OldSlotStands o.shape o.words)) (first_segment o.shape p segment (at_one (first_pass o.shape) p pass at).1 c) tt;
     stamp = λ word count. get_or o.words word 0;
     stamps = record {
       now = λ word counted. record { bound = le_refl _; is = refl };

@@ -26,3 +26,5 @@ pub mod NodeWords
 pub mod Loads
 pub mod Reads
 pub mod Sound
+pub mod ReadyEntries
+pub mod OldSlots

@@ -7,3 +7,4 @@ pub mod Truth
 pub mod Attempts
 pub mod MoveFacts
 pub mod Tell
+pub mod UninstallValue

@@ -70,7 +70,7 @@ module _ (m : Machine) (stamp : Stamp) (stamps : StampsKept m stamp) (k : Instal
   later = set m.words v.word v.new
 
   -- what an earlier step met, and stands afterwards, stood before
-  stood : (s : Step) → HasStep m.passes s → MetStanding (shape_of m) later s → get_or later s.word 0 ≡ content m s.word
+  pub stood : (s : Step) → HasStep m.passes s → MetStanding (shape_of m) later s → get_or later s.word 0 ≡ content m s.word
   stood s has met = ⊎_elim
       (λ e.
       let here' : IsCounted (shape_of m) v.word = subst (IsCounted (shape_of m)) e met.counted in
@@ -88,7 +88,7 @@ module _ (m : Machine) (stamp : Stamp) (stamps : StampsKept m stamp) (k : Instal
       (cases_eq s.word v.word)
 
   -- it met it before, and the serial of the descriptor is the same
-  met_before : (s : Step) → HasStep m.passes s → MetStanding (shape_of m) later s → MetStanding (shape_of m) m.words s
+  pub met_before : (s : Step) → HasStep m.passes s → MetStanding (shape_of m) later s → MetStanding (shape_of m) m.words s
   met_before s has met = let same = stood s has met in record {
     counted = met.counted;
     odd = ap (λ c. is_even (count_of c)) (sym same) ∙ met.odd;

@@ -4,6 +4,7 @@ use Rattle.std.specs.List.{Contains}
 use Rattle.std.proofs.lemmas.Bool.{true≢false}
 use lib.ListN.{get_elem?}
 use mathlib.Core.Option.{some}
+use Rattle.md_words.specs.declared.status.Status.TheVariants.{InPrep}
 use Rattle.md_words.specs.declared.shape.Shape.{Shape}
 use Rattle.md_words.specs.declared.limits.TheConstants.{SET}
 use Rattle.md_words.specs.Status.{status_of, reads_of, serial_of}
@@ -63,9 +64,9 @@ module _ (m : Machine) (field : IsField (shape_of m) m.words) (word new : ℕ) (
 
   -- where no attempt goes on, a status stays or is started again
   pub status_stays : (desc : ℕ) → desc < desc_count (shape_of m)
-      → (word_at (shape_of m) later (desc_status desc) ≡ status_at m desc) ⊎ ((serial_of (status_at m desc) < serial_of (word_at (shape_of m) later (desc_status desc))) × (reads_of (word_at (shape_of m) later (desc_status desc)) ≡ 0))
-  status_stays desc exists = at_left ⊥ m field word new (address (shape_of m) (desc_status desc)) (λ x. (x ≡ status_at m desc) ⊎ ((serial_of (status_at m desc) < serial_of x) × (reads_of x ≡ 0))) left
-      (λ c e. ⊎_elim (λ r. inr (subst (λ w. serial_of (content m w) < serial_of new) (sym e) r.1, r.2)) (λ s. absurd s.0) (at_place ⊥ m field word new (desc_status desc) exists c e).on)
+      → (word_at (shape_of m) later (desc_status desc) ≡ status_at m desc) ⊎ ((serial_of (status_at m desc) < serial_of (word_at (shape_of m) later (desc_status desc))) × (reads_of (word_at (shape_of m) later (desc_status desc)) ≡ 0) × (status_of (word_at (shape_of m) later (desc_status desc)) ≡ InPrep))
+  status_stays desc exists = at_left ⊥ m field word new (address (shape_of m) (desc_status desc)) (λ x. (x ≡ status_at m desc) ⊎ ((serial_of (status_at m desc) < serial_of x) × (reads_of x ≡ 0) × (status_of x ≡ InPrep))) left
+      (λ c e. ⊎_elim (λ r. inr (subst (λ w. serial_of (content m w) < serial_of new) (sym e) r.1, r.2, r.3)) (λ s. absurd s.0) (at_place ⊥ m field word new (desc_status desc) exists c e).on)
       (inl refl)
 
   entry_quiet : (e : HistoryEntry) (f : Fate) → Contains m.history e → EntryFits (shape_of m) m.words e f → EntryFits (shape_of m) later e f

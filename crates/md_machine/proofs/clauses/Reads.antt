@@ -11,6 +11,7 @@ use Rattle.md_words.specs.PlaceAt.{IsCounted}
 use Rattle.md_machine.specs.declared.step.Step.{Step}
 use Rattle.md_machine.specs.declared.attempt.HistoryEntry.{HistoryEntry}
 use Rattle.md_machine.specs.declared.attempt.Read.{Read}
+use Rattle.md_machine.proofs.clauses.Brackets.{stood}
 use Rattle.md_machine.proofs.clauses.Loads.{EntriesPast, not_ready_before, other_word}
 use Rattle.md_machine.proofs.clauses.Stamps.{Stamp, StampsKept, met_stamped, same_stamp}
 use Rattle.md_machine.proofs.clauses.Statuses.{StatusesNoted}

@@ -21,6 +21,7 @@ use Rattle.md_machine.specs.declared.pass.PassView.{PassView}
 use Rattle.md_machine.specs.declared.attempt.AttemptId.{AttemptId}
 use Rattle.md_machine.specs.declared.attempt.HistoryEntry.{HistoryEntry}
 use Rattle.md_machine.specs.declared.attempt.Read.{Read}
+use Rattle.md_machine.proofs.clauses.Brackets.{stood}
 use Rattle.md_machine.proofs.clauses.EntriesFit.{EntriesFit, PresentFits, entry_fits}
 use Rattle.md_machine.proofs.clauses.FrontsFit.{fated}
 use Rattle.md_machine.proofs.clauses.Stores.{StoresStand}

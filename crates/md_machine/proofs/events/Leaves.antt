@@ -169,7 +169,7 @@ start_changes D m pass p desc from at exists may =
     let clean = subst (λ s. IsClean p (attempt_of desc s)) same may.clean in
     status_changes D m desc (started_word from) exists (record {
       fits = record { few = omega (arith, none); unready = λ _. none; try = omega (arith, is, tries) };
-      on = inl (record { pass = pass; p = p; at = at; idle = may.idle; own = may.own; fate = fate; clean = clean }, omega (arith, is, same), none);
+      on = inl (record { pass = pass; p = p; at = at; idle = may.idle; own = may.own; fate = fate; clean = clean }, omega (arith, is, same), none, status_of-status_word InPrep 0 (serial_of from + 1));
     })
 
 pub exchange_even : (from to : ℕ) → MayBeChanged from → is_even (count_of (exchanged_word from to)) ≡ true

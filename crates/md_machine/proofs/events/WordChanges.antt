@@ -55,7 +55,7 @@ pub record StoresSlot (m : Machine) (desc slot : ℕ) : Type 0 where
 -- a status moves: the descriptor is started again, or, where D holds, the attempt goes on
 pub record MovesStatus (D : Type 0) (m : Machine) (desc old new : ℕ) : Type 0 where
   pub fits : StatusFits (shape_of m) new
-  pub on : (Restarts m desc × (serial_of old < serial_of new) × (reads_of new ≡ 0)) ⊎ (D × AttemptGoesOn old new × IsUndecided old)
+  pub on : (Restarts m desc × (serial_of old < serial_of new) × (reads_of new ≡ 0) × (status_of new ≡ InPrep)) ⊎ (D × AttemptGoesOn old new × IsUndecided old)
 
 -- how the word of a place may change
 abbrev pub ChangesAt : Type 0 → Machine → (old new : ℕ) → Place → Type 0
