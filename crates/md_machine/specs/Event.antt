@@ -1,6 +1,6 @@
 -- The events of the machine, and the machines that lists of them lead to.
 use Rattle.std.specs.Prelude.{◌≡◌, ◌≢◌, ◌<◌, ◌≤◌, ℕ, true, List, [], ◌∷◌, slice_index, All, ◌⊎◌, None}
-use Rattle.std.specs.List.{range_with_len}
+use Rattle.std.specs.List.{range_with_len, AllPairs}
 use Rattle.md_words.specs.declared.content.Spot.{Spot}
 use Rattle.md_words.specs.declared.shape.Shape.{Shape}
 use Rattle.md_words.specs.Content.{count_of, is_even}
@@ -97,13 +97,14 @@ pub record IsUnused (o : Opening) (node : ℕ) : Type 0 where
   pub value : slice_index o.words (address o.shape (node_value node)) ≡ 0
   pub next : slice_index o.words (address o.shape (node_next node)) ≡ 0
 
--- a field may be opened: its words are a valid heap with even counts, base nodes alone are placed, and the base word, the
--- nodes of the lanes and the descriptors are 0
+-- a field may be opened: its words are a valid heap with even counts, base nodes alone are placed, each once, and the
+-- base word, the nodes of the lanes and the descriptors are 0
 pub record CanOpen (M : Meaning) (o : Opening) : Type 0 where
   pub field : IsField o.shape o.words
   pub base : slice_index o.words 0 ≡ 0
   pub even : (word : ℕ) → IsCounted o.shape word → is_even (count_of (slice_index o.words word)) ≡ true
   pub placed : All (λ p. (1 ≤ p.node) × (p.node ≤ o.shape.base)) o.placed
+  pub once : AllPairs (λ a b. a.node ≢ b.node) o.placed
   pub unused : (lane node : ℕ) → OwnsNode o.shape lane node → IsUnused o node
   pub descs : (word : ℕ) → first_desc o.shape ≤ word → slice_index o.words word ≡ 0
   pub valid : M.valid (logical_heap (opened o) [])

@@ -1,5 +1,5 @@
 -- Worked certificates of the cell, and the field of zeros.
-use Rattle.std.proofs.Common.{◌≡◌, ℕ, zero, suc, replicate, slice_index, refl, ap, inl, inr}
+use Rattle.std.proofs.Common.{◌≡◌, ℕ, zero, suc, replicate, slice_index, refl, ap, inl, inr, arith}
 use Rattle.std.proofs.lemmas.List.{length-replicate}
 use Rattle.std.proofs.lemmas.List.Elements.{All-nil, All-from_recursion}
 use Rattle.md_words.specs.declared.shape.Shape.{Shape}
@@ -45,6 +45,7 @@ returns-clause-opens c shape = record {
   base = zero_at (words_of shape) 0;
   even = λ word counted. ap (λ x. is_even (count_of x)) (zero_at (words_of shape) word);
   placed = All-nil _;
+  once = λ i j d before inside. absurd (omega (arith, inside));
   unused = λ lane node own. record { key = zero_at (words_of shape) _; value = zero_at (words_of shape) _; next = zero_at (words_of shape) _ };
   descs = λ word beyond. zero_at (words_of shape) word;
   valid = λ node. refl;
