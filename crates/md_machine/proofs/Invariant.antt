@@ -144,6 +144,7 @@ kept_by m k = record {
   formats = k.formats;
   lanes = k.lanes;
   stamps = stamps_hold m k.stamp k.stamps (reads_stamped m k);
+  hands = k.hands;
   odd_words = k.odd_words;
   undecided = k.undecided;
   slots = λ i c. (k.installs.fits i c).slot;

@@ -10,6 +10,7 @@ use Rattle.md_machine.specs.clauses.Fates.{FatesByStatuses}
 use Rattle.md_machine.specs.clauses.Flags.{FlaggedAreNoted}
 use Rattle.md_machine.specs.clauses.Formats.{AreFormats}
 use Rattle.md_machine.specs.clauses.Fronts.{FrontsFit}
+use Rattle.md_machine.specs.clauses.Hands.{HandsFit}
 use Rattle.md_machine.specs.clauses.InHand.{HandsLast}
 use Rattle.md_machine.specs.clauses.Lanes.{LanesApart}
 use Rattle.md_machine.specs.clauses.Loads.{LoadsStand}
@@ -29,6 +30,7 @@ pub record IsKept (m : Machine) : Type 0 where
   pub formats : AreFormats (shape_of m) m.words
   pub lanes : LanesApart (shape_of m) m.passes
   pub stamps : StampsHold m
+  pub hands : HandsFit (shape_of m) m.words m.passes
   pub odd_words : OddStand (shape_of m) m.words m.installs
   pub undecided : UndecidedStand (shape_of m) m.words m.installs
   pub slots : SlotsStand (shape_of m) m.words m.installs
