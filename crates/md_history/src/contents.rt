@@ -1,5 +1,5 @@
 // What the maps and the queues contain, in one place.
-ghost use Rattle.std.specs.Prelude.{◌≡◌, ◌<◌, ◌≤◌, [], ◌∷◌, ◌++◌, length, take, drop, slice_get, is_none, IfOk, OnOk, OnErr};
+ghost use Rattle.std.specs.Prelude.{◌≡◌, ◌<◌, ◌≤◌, [], ◌∷◌, ◌++◌, map, length, take, drop, slice_get, is_none, IfOk, OnOk, OnErr};
 ghost use Rattle.std.specs.FinMap as fin;
 ghost use Rattle.std.specs.Ordering.{nat_cmp};
 ghost use Rattle.md_history.specs.State.{State, empty_state, map_at, queue_at, with_map, with_queue, line_of, after};
@@ -86,6 +86,20 @@ impl Contents {
         ensures { result.now.items ≡ queue_at self.now queue }
     {
         &self.queues[queue as usize]
+    }
+
+    /// All maps, in order.
+    pub fn maps(&self) -> &[BTreeMap<u64, u64>]
+        ensures { map table_of result.now ≡ self.now.maps }
+    {
+        &self.maps
+    }
+
+    /// All queues, in order.
+    pub fn queues(&self) -> &[VecDeque<u64>]
+        ensures { map (λ q. q.items) result.now ≡ self.now.queues }
+    {
+        &self.queues
     }
 
     // Removes a key, and returns its old value.

@@ -41,6 +41,8 @@ fn contents_take_values(rt: HostRuntime) -> Result<(), Fail> {
     assert_eq!(rt; contents.map(0).len(), 1);
     assert_eq!(rt; contents.queue(0).len(), 1);
     assert_eq!(rt; contents.queue(0).front().copied(), Some(1));
+    assert_eq!(rt; contents.maps().len(), 1);
+    assert_eq!(rt; contents.queues().len(), 1);
     Ok(())
 }
 

@@ -10,8 +10,10 @@
 //! 5. Every counted word but a next word of an unplaced node names no node, or a placed one.
 #![tactic(auto)]
 
+pub use sizes::needed;
 pub use theory::StoreTheory;
 
+mod sizes;
 #[cfg(test)]
 mod tests;
 pub mod theory;

@@ -1,0 +1,34 @@
+-- The size of a map made of entries whose keys rise, and a capped sum over a whole list.
+use Rattle.std.proofs.Common.{◌≡◌, ℕ, ◌+◌, ◌≤◌, false, cond, List, [], ◌∷◌, map, length, drop, refl, sym, ap, ◌∙◌, Some, None, is_some, arith}
+use Rattle.std.specs.List.{sum_by, AllByRecursion}
+use Rattle.std.specs.List.Sorted.{IsStrictlySortedBy}
+use Rattle.std.specs.Ordering.{nat_cmp, is_eq}
+use Rattle.std.specs.declared.cmp.Ordering.TheVariants.{Less}
+use Rattle.std.specs.Cmp.{nat_cmp_total}
+use Rattle.std.specs.FinMap as fin
+use Rattle.std.specs.Map.{keys_of}
+use Rattle.std.proofs.lemmas.List.{at_drop_all}
+use Rattle.md_store_law.specs.Needed.{capped}
+
+-- a key that is below all others isn't found
+below_none : (key : ℕ) (es : List (ℕ × ℕ)) → AllByRecursion (λ y. nat_cmp key y ≡ Less) (keys_of es) → fin.find nat_cmp key es ≡ None
+below_none key [] less = refl
+below_none key (e ∷ es) less = ap (λ r. cond (is_eq r) (Some e.1) (fin.find nat_cmp key es)) less.0 ∙ below_none key es less.1
+
+-- so such entries make a map of as many
+pub len-from_entries : (es : List (ℕ × ℕ)) → IsStrictlySortedBy nat_cmp (keys_of es) → fin.len (fin.from_entries {R = nat_cmp} es) ≡ length es
+unfolding IsStrictlySortedBy
+len-from_entries [] sorted = fin.len-empty nat_cmp ℕ
+len-from_entries (e ∷ es) sorted =
+    let rest = fin.from_entries {R = nat_cmp} es in
+    let absent : is_some (fin.get rest e.0) ≡ false = ap is_some (fin.get-from_entries nat_cmp_total es e.0 ∙ below_none e.0 es sorted.0) in
+    fin.len-insert nat_cmp_total rest e.0 e.1
+    ∙ ap (λ b. cond b (fin.len rest) (fin.len rest + 1)) absent
+    ∙ (let before = len-from_entries es sorted.1 in omega arith)
+
+-- at the end of a list nothing is left to add
+pub capped-all : {X Y : Type 0} (f : Y → ℕ) (g : X → Y) (xs : List X) (i all total : ℕ) → length xs ≤ i → capped all ≡ all
+    → capped (all + sum_by f (map g (drop i xs))) ≡ total → all ≡ total
+capped-all f g xs i all total past fits e =
+    let none : sum_by f (map g (drop i xs)) ≡ 0 = at_drop_all (λ ys. sum_by f (map g ys)) xs i past in
+    sym fits ∙ ap capped (omega arith) ∙ e
