@@ -2,3 +2,4 @@ pub mod Under
 pub mod Heaps
 pub mod Nodes
 pub mod Enter
+pub mod Kept
