@@ -1,4 +1,5 @@
 // A cell as a theory, and what holds of it over all schedules.
+ghost use Rattle.md_machine.specs.Legal.{AlwaysMeant};
 ghost use Rattle.md_machine.specs.Theorem.{AlwaysKept, AlwaysGoesOn};
 ghost use Rattle.md_cell.specs.CellMeaning.{cell_meaning};
 
@@ -20,6 +21,7 @@ impl Theory for CellTheory {
 pub fn cell_schedules()
     ensures kept { AlwaysKept cell_meaning }
     ensures goes_on { AlwaysGoesOn cell_meaning }
+    ensures legal { AlwaysMeant cell_meaning }
 {
     all_schedules::<CellTheory>();
 }

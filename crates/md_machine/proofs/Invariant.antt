@@ -163,7 +163,7 @@ kept_by m k = record {
 }
 
 module _ (M : Meaning) where
-  does_keep : (m n : Machine) (e : Event) → Invariant m → Does M m e n → Invariant n × GoesOn m n
+  pub does_keep : (m n : Machine) (e : Event) → Invariant m → Does M m e n → Invariant n × GoesOn m n
   does_keep m n e k does =
       let v = tell M m n k.formats k.lanes k.hands (does_move M m n e k.formats.base does) in
       let entries = entries-kept m n (record { formats = k.formats; hands = k.hands; fit = k.entries; counted = k.read_counts }) v in

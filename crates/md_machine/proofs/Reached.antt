@@ -92,7 +92,7 @@ module _ (M : Meaning) where
     values = λ desc j exists. let none = can.descs _ (value_late o.shape desc j) in omega (arith, none);
   }
 
-  opens : (o : Opening) → CanOpen M o → Invariant (opened o)
+  pub opens : (o : Opening) → CanOpen M o → Invariant (opened o)
   opens o can = record {
     formats = formats_first o can;
     lanes = lanes_first o.shape;

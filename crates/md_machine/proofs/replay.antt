@@ -3,3 +3,4 @@ pub mod Heaps
 pub mod Nodes
 pub mod Enter
 pub mod Kept
+pub mod Always

@@ -8,7 +8,7 @@ use Rattle.md_history.specs.Front.{Front, Begun, of_lane}
 use Rattle.md_machine.specs.declared.attempt.AttemptId.{AttemptId}
 use Rattle.md_machine.specs.declared.opening.Opening.{Opening}
 use Rattle.md_machine.specs.declared.pass.PassView.{PassView}
-use Rattle.md_machine.specs.Event.{opened}
+use Rattle.md_machine.specs.Event.{CanOpen, Event, Runs, opened}
 use Rattle.md_machine.specs.Machine.{Machine}
 use Rattle.md_machine.specs.Meaning.{Meaning}
 use Rattle.md_machine.specs.Resolution.{Resolves, entries_of, logical_heap}
@@ -43,3 +43,12 @@ module _ (M : Meaning) where
 
   abbrev pub EveryHeapIsReplay : Machine → Type 0
   EveryHeapIsReplay m = (choice : List Bool) → Resolves m choice → IsReplay m choice
+
+  -- of a machine: in every resolution the logical heap is a replay, and the history is legal
+  pub record IsMeant (m : Machine) : Type 0 where
+    pub every : EveryHeapIsReplay m
+    pub legal : HistoryIsLegal m
+
+  -- after every list of events from an opening
+  abbrev pub AlwaysMeant : Type 0
+  AlwaysMeant = (o : Opening) (events : List Event) (m : Machine) → CanOpen M o → Runs M (opened o) events m → IsMeant m

@@ -1,4 +1,5 @@
 // Theories, and the theorem over all schedules.
+ghost use Rattle.md_machine.specs.Legal.{AlwaysMeant};
 ghost use Rattle.md_machine.specs.Theorem.{AlwaysKept, AlwaysGoesOn};
 
 /// What a heap means. A theory has a meaning, and the laws of it.
@@ -15,4 +16,5 @@ pub trait Theory {
 pub fn all_schedules<T: Theory>()
     ensures kept { AlwaysKept T.meaning }
     ensures goes_on { AlwaysGoesOn T.meaning }
+    ensures legal { AlwaysMeant T.meaning }
 {}

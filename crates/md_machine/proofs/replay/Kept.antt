@@ -27,6 +27,7 @@ use Rattle.md_machine.proofs.clauses.FrontsFit.{fated}
 use Rattle.md_machine.proofs.events.MoveFacts.{MoveFacts}
 use Rattle.md_machine.proofs.events.Moves.{Effect, Moves, WinsExchange, WinsReady, by_exchange, by_fate, by_install, by_ready, by_start, by_stay, by_store, by_uninstall}
 use Rattle.md_machine.proofs.events.Tell.{tell}
+use Rattle.md_machine.proofs.events.UninstallValue.{UninstallRests, wins_uninstall_value}
 use Rattle.md_machine.proofs.replay.Enter.{entered, entered_legal, entered_replay, entry_nodes_exist}
 use Rattle.md_machine.proofs.replay.Heaps.{IsPlain, LeavesValue, exchange_agrees, exchange_leaves, exchange_stands, onward, plain_agrees}
 use Rattle.md_machine.proofs.replay.Nodes.{placed_exists}
@@ -43,6 +44,20 @@ grounds_of m k = record {
   undecided = k.undecided;
   stamp = k.stamp;
   stamps = k.stamps;
+}
+
+-- and those that an uninstall rests on
+uninstall_rests : (m : Machine) → Invariant m → UninstallRests m
+uninstall_rests m k = record {
+  entries = k.entries;
+  ready_entries = k.ready_entries;
+  statuses = k.statuses;
+  brackets = k.brackets;
+  installs = k.installs;
+  odd_words = k.odd_words;
+  loads = k.loads;
+  old_slots = k.old_slots;
+  stores = k.stores;
 }
 
 module _ (M : Meaning) where
@@ -153,9 +168,13 @@ module _ (M : Meaning) where
     abbrev Plain : Effect M m n w.p w.kind w.word w.new → Type 0
     Plain e = (choice : List Bool) (r : Resolves m choice) → IsPlain M m n w choice r fated_now facts k.formats (grounds_of m k) e
 
+    -- an uninstall leaves the value that its word stands for
+    leaves : (choice : List Bool) (r : Resolves m choice) → LeavesValue M m n w choice r fated_now facts k.formats (grounds_of m k)
+    leaves choice r s = wins_uninstall_value m n (uninstall_rests m k) w.pass w.p w.acts.at w.kind w.word w.new s choice r
+
     -- whatever the move does
-    pub means-kept : ((choice : List Bool) (r : Resolves m choice) → LeavesValue M m n w choice r fated_now facts k.formats (grounds_of m k)) → Means n
-    means-kept leaves = by w.effect refl
+    pub means-kept : Means n
+    means-kept = by w.effect refl
       where
         by : (e : Effect M m n w.p w.kind w.word w.new) → w.effect ≡ e → Means n
         by (by_stay s) is = plain_on s.quiet.history leaves (subst Plain (sym is) (λ choice r. tt))
