@@ -16,3 +16,4 @@ pub mod Standing
 pub mod Framing
 pub mod OneListLaws
 mod Shown
+mod RowsHold

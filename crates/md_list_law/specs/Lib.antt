@@ -4,3 +4,4 @@ pub mod Gaps
 pub mod Certificates
 pub mod HasLists
 pub mod OneList
+pub mod Rows

@@ -13,7 +13,9 @@
 #![tactic(auto)]
 
 pub use lists::{HasLists, list_facts};
-pub use one_list::one_list_laws;
+pub use one_list::{one_list_laws, worked_list};
 
 pub mod lists;
 mod one_list;
+#[cfg(test)]
+mod tests;
