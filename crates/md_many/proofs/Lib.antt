@@ -2,3 +2,4 @@ pub mod Joining
 pub mod Playing
 pub mod Following
 pub mod TagLaws
+pub mod Parting

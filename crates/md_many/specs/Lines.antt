@@ -1,10 +1,12 @@
 -- Lines of callers: any bodies, each with the replies that it can have. What did a body is told by `did`, and which body
 -- is a caller's line by `body_at`.
-use Rattle.std.specs.Prelude.{◌≡◌, ◌+◌, ℕ, Option, Some, List, [], ◌∷◌}
+use Rattle.std.specs.Prelude.{◌≡◌, ◌+◌, ℕ, Option, Some, IfSome, List, [], ◌∷◌, length}
 use Rattle.md_history.specs.declared.acts.Act.{Act}
 use Rattle.md_history.specs.declared.entries.Entry.{Entry}
 use Rattle.md_history.specs.declared.stops.Stop.{Stop}
 use Rattle.md_history.specs.declared.stops.Stop.TheVariants.{NoMemory}
+use Rattle.md_history.specs.Counts.{Bounds, IsSmall}
+use Rattle.md_history.specs.State.{State}
 use Rattle.md_history.specs.Front.{Front}
 use Rattle.md_many.specs.Tags.{tag_of}
 use Rattle.md_many.specs.Joined.{HasCommitted}
@@ -28,6 +30,14 @@ pub record PlaysLines {B R : Type 0} (did : B → List Act → R → Type 0) (bo
   pub entries : List Entry
   pub commits : HasCommitted lanes entries old new
   pub lines : AreLines did body_at caller entries replies n
+
+-- each line's body may run over a store that begins in a state, by its numbers of maps and queues
+abbrev pub AreFitting : {B : Type 0} → (B → ℕ → ℕ → Type 0) → (ℕ → ℕ → Option B) → State → Type 0
+AreFitting fits body_at start = (caller line : ℕ) → IfSome (body_at caller line) (λ b. fits b (length start.maps) (length start.queues))
+
+-- whatever a caller's line can do over a store that begins in a state is within bounds
+abbrev pub IsSmallLine : {B : Type 0} → Bounds → (B → List Act → Type 0) → (ℕ → ℕ → Option B) → ℕ → ℕ → State → Type 0
+IsSmallLine most makes body_at caller line start = IfSome (body_at caller line) (λ b. IsSmall most (makes b) start)
 
 -- an engine's attempts stop for want of memory alone
 abbrev pub StopsForMemory : (Stop → Type 0) → Type 0

@@ -1,12 +1,12 @@
 // Attempts at lines, over any store.
-ghost use Rattle.std.specs.Prelude.{◌≡◌, ◌<◌, ◌≤◌, ◌+◌, ◌-◌, ◌∷◌, ◌++◌, [], ℕ, length, min, vec_len, vec_capacity, IfSome, OnOk, OnErr};
+ghost use Rattle.std.specs.Prelude.{◌≡◌, ◌<◌, ◌≤◌, ◌+◌, ◌-◌, ◌∷◌, ◌++◌, [], ℕ, length, min, vec_len, vec_capacity, OnOk, OnErr};
 ghost use Rattle.md_history.specs.Counts.{IsSmall};
 ghost use Rattle.md_history.specs.Front.{LegalFrom};
 ghost use Rattle.md_history.specs.Attempt.{Commits, Stops, IfCommitted, IfStopped};
 ghost use Rattle.md_history.specs.Engine.{bounds_in, IsNoConflict};
 ghost use Rattle.md_many.specs.Tags.{tag_of};
 ghost use Rattle.md_many.specs.Joined.{entries_after};
-ghost use Rattle.md_many.specs.Lines.{PlaysLines, StopsForMemory};
+ghost use Rattle.md_many.specs.Lines.{AreFitting, IsSmallLine, PlaysLines, StopsForMemory};
 
 use crate::callers::Lines;
 use crate::gates::Gate;
@@ -80,7 +80,7 @@ pub fn attempt_lines<E: Engine, L: Lines, G: Gate>(
     replies: &mut Vec<<L::B as Body>::Reply>,
 ) -> Result<(), AllocError>
     requires of { E.of engine.now pass.old }
-    requires fits { (line : ℕ) → IfSome (L.body_at lines.now turn.caller line) (λ b. L.B.fits b (length (E.start engine.now).maps) (length (E.start engine.now).queues)) }
+    requires fits { AreFitting L.B.fits (L.body_at lines.now) (E.start engine.now) }
     requires done { turn.done ≤ L.line_count lines.now turn.caller }
     requires empty { replies.old.items ≡ [] }
     requires room { min turn.tries (L.line_count lines.now turn.caller - turn.done) ≤ vec_capacity replies.old }
@@ -91,7 +91,9 @@ pub fn attempt_lines<E: Engine, L: Lines, G: Gate>(
     ensures tries { length (entries_after (length (E.front pass.old).seen) (E.front pass.old).lanes (E.front pass.new)) ≤ turn.tries }
     ensures room { vec_capacity replies.old ≤ vec_capacity replies.new }
     ensures no_memory { OnErr result (E.may_stop engine.now Stop.NoMemory) }
-    ensures first { E.fresh engine.now pass.old → 1 ≤ (E.limits engine.now).tries → IfSome (L.body_at lines.now turn.caller (turn.done + 1)) (λ b. IsSmall (bounds_in (E.limits engine.now)) (L.B.makes b) (E.start engine.now)) → 1 ≤ turn.tries → turn.done < L.line_count lines.now turn.caller → OnOk result (1 ≤ length replies.new.items) }
+    ensures first { E.fresh engine.now pass.old → 1 ≤ (E.limits engine.now).tries
+        → IsSmallLine (bounds_in (E.limits engine.now)) L.B.makes (L.body_at lines.now) turn.caller (turn.done + 1) (E.start engine.now)
+        → 1 ≤ turn.tries → turn.done < L.line_count lines.now turn.caller → OnOk result (1 ≤ length replies.new.items) }
     ensures steady { StopsForMemory (E.may_stop engine.now) → OnOk result (length replies.new.items ≡ min turn.tries (L.line_count lines.now turn.caller - turn.done)) }
 {
     pass_is_legal(engine, pass);

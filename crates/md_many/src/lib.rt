@@ -5,6 +5,8 @@ mod attempts;
 mod callers;
 mod gates;
 mod tags;
+#[cfg(test)]
+mod tests;
 
 pub use attempts::{Turn, attempt_line, attempt_lines};
 pub use callers::Lines;

@@ -1,8 +1,6 @@
 use Rattle.std.proofs.Common.{◌≡◌, ◌≤◌, ◌+◌, length, vec_capacity}
-use Rattle.std.specs.Prelude.{IfSome}
-use Rattle.md_history.specs.Counts.{IsSmall}
 use Rattle.md_history.specs.Engine.{bounds_in}
-use Rattle.md_many.specs.Lines.{StopsForMemory}
+use Rattle.md_many.specs.Lines.{IsSmallLine, StopsForMemory}
 use Rattle.md_many.proofs.Playing.{HasPlayed}
 use Rattle.md_many.proofs.attempts.attempt_lines.Given as goal
 
@@ -17,6 +15,6 @@ invariant-attempts g l = record {
   room : vec_capacity l.fn.replies ≤ vec_capacity l.replies;
   begun : l.tried ≡ 0 → l.pass ≡ l.fn.pass;
   first : g.E.Engine.fresh l.engine l.fn.pass → 1 ≤ (g.E.Engine.limits l.engine).tries
-      → IfSome (g.L.Lines.body_at l.lines l.turn.caller (l.turn.done + 1)) (λ b. IsSmall (bounds_in (g.E.Engine.limits l.engine)) (g.L.B.Body.makes b) (g.E.Engine.start l.engine)) → 1 ≤ l.tried → 1 ≤ length l.replies.items;
+      → IsSmallLine (bounds_in (g.E.Engine.limits l.engine)) g.L.B.Body.makes (g.L.Lines.body_at l.lines) l.turn.caller (l.turn.done + 1) (g.E.Engine.start l.engine) → 1 ≤ l.tried → 1 ≤ length l.replies.items;
   steady : StopsForMemory (g.E.Engine.may_stop l.engine) → length l.replies.items ≡ l.tried;
 }

@@ -1,0 +1,131 @@
+// Attempts at lines over a store that refuses as a list says, and two callers in threads.
+mod numbers;
+mod refusing;
+mod side_by_side;
+
+use crate::attempts::{Turn, attempt_lines};
+use crate::gates::Gate;
+use md_history::{Contents, Engine, Limit, PlainStore, Shown, Stop};
+use numbers::Numbers;
+use refusing::{Refusing, RefusingPass};
+use side_by_side::two_callers;
+use std::alloc::{AllocError, Global};
+use std::cell::Cell;
+use std::process::Abort;
+use std::test::Fail;
+
+// A gate that counts its calls.
+#[derive(Drop)]
+struct Counting {
+    before: Cell<u32>,
+    after: Cell<u32>,
+}
+
+impl Gate for Counting {
+    fn before(&self, caller: u32, line: u32) {
+        let _ = (caller, line);
+        self.before.set(self.before.get().saturating_add(1));
+    }
+
+    fn after(&self, caller: u32, line: u32) {
+        let _ = (caller, line);
+        self.after.set(self.after.get().saturating_add(1));
+    }
+}
+
+// How the attempts of a caller with three lines end over a store that refuses so.
+#[derive(Clone, Copy, Debug, PartialEq, Eq)]
+struct End {
+    ok: bool,
+    played: usize,
+    attempts: u32,
+}
+
+const CONFLICT: Option<Stop> = Some(Stop::Conflict(Shown {
+    word: 2,
+    was: 1,
+    now: 2,
+}));
+
+const LIMIT: Option<Stop> = Some(Stop::Limit(Limit::Nodes));
+
+const NO_MEMORY: Option<Stop> = Some(Stop::NoMemory);
+
+// Plays three lines; each line that is played has its own tag as reply and in the queue.
+fn play_three(
+    rt: &impl Abort,
+    alloc: Global,
+    stops: [Option<Stop>; 4],
+    tries: u32,
+) -> Result<End, AllocError> {
+    let (store, pass) = PlainStore::open(Contents::empty(alloc, 0, 1)?);
+    let engine = Refusing { store };
+    let mut pass = RefusingPass {
+        pass,
+        stops,
+        attempts: 0,
+    };
+    let lines = Numbers {
+        callers: 2,
+        lines: 3,
+    };
+    let gate = Counting {
+        before: Cell::new(0),
+        after: Cell::new(0),
+    };
+    let turn = Turn {
+        caller: 2,
+        done: 0,
+        tries,
+    };
+    let mut replies = Vec::with_capacity(alloc, 3)?;
+    let outcome = attempt_lines(&engine, &mut pass, &lines, turn, &gate, &mut replies);
+    for (number, reply) in replies.iter().enumerate() {
+        assert_eq!(rt; *reply, 2 * 4_294_967_296 + number as u64 + 1);
+    }
+    let entries = pass.pass.entries();
+    assert_eq!(rt; entries.len(), replies.len());
+    assert_eq!(rt; gate.after.get() as usize, replies.len());
+    Ok(End {
+        ok: outcome.is_ok(),
+        played: replies.len(),
+        attempts: gate.before.get(),
+    })
+}
+
+#[test]
+fn attempts_end(rt: HostRuntime) -> Result<(), Fail> {
+    for (stops, tries, ok, played, attempts) in [
+        ([None; 4], 9, true, 3, 3),
+        ([None; 4], 2, true, 2, 2),
+        ([CONFLICT, None, CONFLICT, None], 9, true, 3, 5),
+        ([CONFLICT; 4], 3, true, 0, 3),
+        ([CONFLICT; 4], 5, true, 1, 5),
+        ([None, LIMIT, None, None], 9, true, 1, 2),
+        ([None, CONFLICT, NO_MEMORY, None], 9, false, 1, 3),
+        ([NO_MEMORY, None, None, None], 9, false, 0, 1),
+    ] {
+        let want = End {
+            ok,
+            played,
+            attempts,
+        };
+        assert_eq!(rt; play_three(&rt, rt.alloc(), stops, tries)?, want);
+    }
+    Ok(())
+}
+
+#[test]
+fn callers_in_threads(rt: HostRuntime) -> Result<(), Fail> {
+    let alloc = rt.alloc();
+    let (store, pass) = PlainStore::open(Contents::empty(alloc, 0, 1)?);
+    let lines = Numbers {
+        callers: 2,
+        lines: 3,
+    };
+    let pass = two_callers(&rt, alloc, &store, pass, &lines)?;
+    assert_eq!(rt; pass.entries().len(), 3);
+    let (contents, _) = store.contents(pass)?;
+    assert_eq!(rt; contents.queue(0).front().copied(), Some(4_294_967_297));
+    Ok(())
+}
