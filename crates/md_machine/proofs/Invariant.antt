@@ -7,13 +7,11 @@ use Rattle.md_words.specs.declared.shape.Shape.{Shape}
 use Rattle.md_words.specs.Content.{count_of}
 use Rattle.md_words.specs.Status.{reads_of, serial_of}
 use Rattle.md_words.specs.Place.{desc_status, read_word, read_content}
-use Rattle.md_history.specs.declared.entries.Fate.{Fate}
+use Rattle.md_history.specs.FrontLaws.{all_stay-self}
 use Rattle.md_machine.specs.declared.attempt.AttemptId.{AttemptId}
-use Rattle.md_machine.specs.declared.attempt.HistoryEntry.{HistoryEntry}
 use Rattle.md_machine.specs.declared.opening.Opening.{Opening}
 use Rattle.md_machine.proofs.clauses.Brackets.{TrailsBracket, brackets-kept}
 use Rattle.md_machine.proofs.clauses.Entries.{entries-kept}
-use Rattle.md_machine.proofs.clauses.EntriesDecided.{all_stay}
 use Rattle.md_machine.proofs.clauses.EntriesFit.{EntriesFit, ReadsCounted, entry_fits}
 use Rattle.md_machine.proofs.clauses.EntrySlots.{entry_slots-kept}
 use Rattle.md_machine.proofs.clauses.Flags.{Noting, flags-kept}
@@ -48,7 +46,7 @@ use Rattle.md_machine.proofs.lists.Pairs.{EachPair, pairs_of}
 use Rattle.md_machine.proofs.lists.Rising.{here, there}
 use Rattle.md_machine.specs.Event.{Does, Event, Plays, Runs}
 use Rattle.md_machine.specs.GoesOn.{GoesOn, StatusGoesOn}
-use Rattle.md_machine.specs.Machine.{Machine, content, present, shape_of, status_at, word_at}
+use Rattle.md_machine.specs.Machine.{IsPresentIn, Machine, content, shape_of, status_at, word_at}
 use Rattle.md_machine.specs.Meaning.{Meaning}
 use Rattle.md_machine.specs.Theorem.{IsKept}
 use Rattle.md_machine.specs.clauses.EntrySlots.{EntriesKeepSlots}
@@ -67,7 +65,6 @@ use Rattle.md_machine.specs.clauses.Sound.{CommittedAreSound}
 use Rattle.md_machine.specs.clauses.Stamps.{NotedByRead}
 use Rattle.md_machine.specs.clauses.Undecided.{UndecidedStand}
 use Rattle.md_machine.specs.clauses.WonInstalls.{WonAreInstalls}
-use Rattle.md_machine.specs.events.SplitJoin.{moved}
 
 pub record Invariant (m : Machine) : Type 0 where
   pub formats : AreFormats (shape_of m) m.words
@@ -198,8 +195,8 @@ module _ (M : Meaning) where
           steps_past = move (λ shape words. StepsPast shape words n.passes) (steps_past-kept m n v k.formats.field k.hands k.in_hand k.steps_past);
           stores = move (λ shape words. StoresStand shape words n.passes) (stores-kept m n v k.formats.field k.hands k.in_hand k.steps_past k.stores);
           entry_slots = λ x c now. entry_slots-kept m n v k.formats.field k.hands k.installs past k.entry_slots x c
-              (subst (λ words. x.attempt.serial ≡ serial_of (word_at (shape_of m) words (desc_status x.attempt.desc))) v.words
-              (subst (λ (o : Opening). x.attempt.serial ≡ serial_of (word_at o.shape n.words (desc_status x.attempt.desc))) v.opening (ap (λ (a : AttemptId). a.serial) now)));
+              (subst (λ words. IsPresentIn (shape_of m) words x.attempt) v.words
+              (subst (λ (o : Opening). IsPresentIn o.shape n.words x.attempt) v.opening (ap (λ (a : AttemptId). a.serial) now)));
           loads = reshape (λ shape. EachPair (LoadStands shape n.words n.history) n.passes) (loads-kept m n v k.formats.field k.hands k.statuses past k.loads);
           moved_reads = reads_moved m n v k.formats.field k.hands k.statuses past k.stamp k.stamps k.moved_reads;
           found_reads = reshape (λ shape. EachPair (ReadFound shape n.history) n.passes) (reads_found m n v k.formats.field k.hands k.statuses past k.stamp k.stamps k.moved_reads k.found_reads);
@@ -224,7 +221,7 @@ module _ (M : Meaning) where
   rests m = record {
     opening = refl;
     history = record { rest = []; is = sym (append-nil m.history) };
-    fates = all_stay m.fates;
+    fates = all_stay-self m.fates;
     status = λ desc exists. stays_on (status_at m desc);
     count = λ word counted. le_refl _;
   }

@@ -15,7 +15,6 @@ use Rattle.std.proofs.lemmas.List.Elements.{Contains-append_right}
 use Rattle.md_machine.specs.declared.attempt.Hand.{Hand}
 use Rattle.md_machine.proofs.Invariant.{Invariant, kept_by, plays_keep, runs_keep}
 use Rattle.md_machine.proofs.clauses.Brackets.{IsBracket}
-use Rattle.md_machine.proofs.clauses.FrontsFit.{fated}
 use Rattle.md_machine.proofs.clauses.LanesApart.{At, lanes_first}
 use Rattle.md_machine.proofs.clauses.OldSlots.{OldSlotStands}
 use Rattle.md_machine.proofs.clauses.Order.{InOrder}

@@ -5,14 +5,14 @@ use Rattle.md_words.specs.declared.content.Spot.{Spot}
 use Rattle.md_words.specs.declared.status.Status.TheVariants.{InPrep, InProg}
 use Rattle.md_words.specs.Status.{status_of, serial_of}
 use Rattle.md_words.specs.Place.{desc_status}
-use Rattle.md_machine.specs.Machine.{Install, word_at}
+use Rattle.md_machine.specs.Machine.{Install, IsPresentIn, word_at}
 
--- the serial that stands in the status of an install's descriptor, and whether it is that of its attempt
+-- the serial that stands in the status of an install's descriptor, and whether its attempt is the present one
 abbrev pub serial_now : Shape → List ℕ → Install → ℕ
 serial_now shape words i = serial_of (word_at shape words (desc_status i.attempt.desc))
 
 abbrev pub IsPresent : Shape → List ℕ → Install → Type 0
-IsPresent shape words i = i.attempt.serial ≡ serial_now shape words i
+IsPresent shape words i = IsPresentIn shape words i.attempt
 
 abbrev pub spot_of_install : Install → Spot
 spot_of_install i = record { desc = i.attempt.desc; slot = i.slot }

@@ -55,6 +55,10 @@ attempt_of desc serial = record { desc = desc; serial = serial }
 abbrev pub present : Machine → ℕ → AttemptId
 present m desc = attempt_of desc (serial_of (status_at m desc))
 
+-- the attempt is the present one of its descriptor, by these words
+abbrev pub IsPresentIn : Shape → List ℕ → AttemptId → Type 0
+IsPresentIn shape words a = a.serial ≡ serial_of (word_at shape words (desc_status a.desc))
+
 -- an attempt was in hand, and became ready
 abbrev pub was_begun : List AttemptId → AttemptId → Bool
 was_begun begun a = list_any (λ b. same_attempt b a) begun

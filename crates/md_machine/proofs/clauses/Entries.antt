@@ -9,10 +9,11 @@ use Rattle.md_words.proofs.Owners.{own_desc_exists}
 use Rattle.md_history.specs.declared.entries.Fate.{Fate}
 use Rattle.md_history.specs.declared.entries.Fate.TheVariants.{Undecided}
 use Rattle.md_history.specs.Front.{AllStay}
+use Rattle.md_history.specs.FrontLaws.{all_stay-self}
 use Rattle.md_machine.specs.declared.step.Kind.{Kind}
 use Rattle.md_machine.specs.declared.pass.PassView.{PassView}
 use Rattle.md_machine.specs.declared.attempt.HistoryEntry.{HistoryEntry}
-use Rattle.md_machine.proofs.clauses.EntriesDecided.{all_stay, all_stay_more, counted_decided, entries_decided}
+use Rattle.md_machine.proofs.clauses.EntriesDecided.{all_stay_more, counted_decided, entries_decided}
 use Rattle.md_machine.proofs.clauses.EntriesFit.{EntriesFit, ReadsCounted, counted_quiet, entries_quiet}
 use Rattle.md_machine.proofs.clauses.EntriesReady.{counted_ready, entries_ready, ready_present}
 use Rattle.md_machine.proofs.clauses.FrontsFit.{fated}
@@ -20,7 +21,6 @@ use Rattle.md_machine.proofs.clauses.Past.{PastDecided, past_more, past_stays}
 use Rattle.md_machine.proofs.events.MoveFacts.{Enters, MoveFacts}
 use Rattle.md_machine.proofs.events.Moves.{WinsFate}
 use Rattle.md_machine.proofs.events.WordChanges.{MayLeave}
-use Rattle.md_machine.proofs.lists.Rising.{there}
 use Rattle.md_machine.specs.Machine.{Machine, content, shape_of, status_at}
 use Rattle.md_machine.specs.clauses.Formats.{AreFormats}
 use Rattle.md_machine.specs.clauses.Hands.{HandsFit}
@@ -52,7 +52,7 @@ quiet : (m : Machine) (word new : ℕ) → EntriesNow m → MayLeave ⊥ m word 
 quiet m word new k left = record {
   fit = entries_quiet m k.formats.field word new left k.hands m.history m.fates (λ e c. c) k.fit;
   counted = counted_quiet m k.formats.field word new left k.hands k.counted;
-  stay = all_stay m.fates;
+  stay = all_stay-self m.fates;
   past = λ was. was;
 }
 

@@ -18,7 +18,7 @@ use Rattle.md_machine.proofs.events.Attempts.{ready_in}
 use Rattle.md_machine.proofs.events.WordChanges.{MayLeave, Stores, at_left, at_place}
 use Rattle.md_machine.proofs.lists.At.{at_below}
 use Rattle.md_machine.proofs.lists.Rising.{here, in_cons, in_none, there}
-use Rattle.md_machine.specs.Machine.{Machine, attempt_of, content, present, shape_of, status_at, word_at}
+use Rattle.md_machine.specs.Machine.{IsPresentIn, Machine, attempt_of, content, present, shape_of, status_at, word_at}
 use Rattle.md_machine.specs.clauses.Fates.{Tells}
 use Rattle.md_machine.specs.clauses.Hands.{HandsFit}
 
@@ -33,7 +33,7 @@ pub record EntryFits (shape : Shape) (words : List ℕ) (e : HistoryEntry) (f : 
   pub exists : e.attempt.desc < desc_count shape
   pub few : length e.reads ≤ SET
   pub past : e.attempt.serial ≤ serial_of (word_at shape words (desc_status e.attempt.desc))
-  pub present : e.attempt.serial ≡ serial_of (word_at shape words (desc_status e.attempt.desc)) → PresentFits shape words e f
+  pub present : IsPresentIn shape words e.attempt → PresentFits shape words e f
 
 -- each entry fits its fate, and there are as many
 abbrev pub EntriesFit : Shape → List ℕ → List HistoryEntry → List Fate → Type 0
@@ -53,7 +53,7 @@ pub record ReadsCounted (shape : Shape) (words : List ℕ) (history : List Histo
       ⊎ ((e : HistoryEntry) × Contains history e × (e.attempt ≡ attempt_of desc (serial_of (word_at shape words (desc_status desc)))))
 
 -- nobody stores into the descriptor of a present attempt that has an entry
-pub not_stored : (m : Machine) → HandsFit (shape_of m) m.words m.passes → (e : HistoryEntry) → Contains m.history e → e.attempt.serial ≡ serial_of (status_at m e.attempt.desc) → Stores m e.attempt.desc → ⊥
+pub not_stored : (m : Machine) → HandsFit (shape_of m) m.words m.passes → (e : HistoryEntry) → Contains m.history e → IsPresentIn (shape_of m) m.words e.attempt → Stores m e.attempt.desc → ⊥
 not_stored m hands e c present s =
     let fits = hands.fits s.pass s.p s.h s.at s.held in
     true≢false (sym (ready_in m.history e s.h.attempt c (sym s.of) (present ∙ ap (λ d. serial_of (status_at m d)) (sym s.of) ∙ sym fits.present)) ∙ s.unready)

@@ -21,8 +21,7 @@ use Rattle.md_machine.specs.declared.attempt.Read.{Read}
 use Rattle.md_machine.proofs.clauses.EntriesDecided.{entry_other, entry_past, read_content_stays, read_word_stays, status_new, status_other}
 use Rattle.md_machine.proofs.clauses.EntriesFit.{EntriesFit, EntryFits, ReadsCounted}
 use Rattle.md_machine.proofs.lists.At.{at_below}
-use Rattle.md_machine.proofs.lists.Rising.{there}
-use Rattle.md_machine.specs.Machine.{Machine, attempt_of, content, present, shape_of, status_at, word_at}
+use Rattle.md_machine.specs.Machine.{IsPresentIn, Machine, attempt_of, shape_of, status_at, word_at}
 use Rattle.md_machine.specs.clauses.Fates.{Tells}
 use Rattle.md_machine.specs.events.Ready.{history_entry, read_now, reads_now, ready_word, unready_word}
 
@@ -48,7 +47,7 @@ module _ (m : Machine) (field : IsField (shape_of m) m.words) (h : Hand) (count 
   ready_serial = serial_of-status_word InProg count h.attempt.serial (omega (arith, few))
 
   -- the attempt is the present one
-  pub ready_present : h.attempt.serial ≡ serial_of (word_at (shape_of m) after_ready (desc_status h.attempt.desc))
+  pub ready_present : IsPresentIn (shape_of m) after_ready h.attempt
   ready_present = sym (ap serial_of ready_status ∙ ready_serial)
 
   was_serial : serial_of (status_at m h.attempt.desc) ≡ h.attempt.serial

@@ -18,9 +18,9 @@ use Rattle.md_machine.proofs.events.Attempts.{attempt_same, ready_in, same_from,
 use Rattle.md_machine.proofs.events.MoveFacts.{Enters, MoveFacts, new_entry}
 use Rattle.md_machine.proofs.events.Moves.{own_exists}
 use Rattle.md_machine.proofs.events.WordChanges.{Stores, at_left, at_place, statuses_go_on}
-use Rattle.md_machine.proofs.lists.Rising.{filter_in, in_filter, in_map, map_in, there}
+use Rattle.md_machine.proofs.lists.Rising.{filter_in, in_filter, in_map, map_in}
 use Rattle.md_machine.specs.Installs.{IsPresent}
-use Rattle.md_machine.specs.Machine.{Install, Machine, attempt_of, same_attempt, shape_of, status_at, word_at}
+use Rattle.md_machine.specs.Machine.{Install, IsPresentIn, Machine, attempt_of, same_attempt, shape_of, status_at, word_at}
 use Rattle.md_machine.specs.clauses.EntrySlots.{EntriesKeepSlots, SlotsAreInstalls}
 use Rattle.md_machine.specs.clauses.Hands.{HandsFit}
 use Rattle.md_machine.specs.events.Ready.{history_entry, installs_by, write_now, writes_now}
@@ -66,24 +66,24 @@ module _ (m n : Machine) (v : MoveFacts m n) (field : IsField (shape_of m) m.wor
       ap (write_with i) (subst (λ (o : Opening). word_at o.shape n.words place ≡ old) (sym v.opening) (subst (λ ws. word_at (shape_of m) ws place ≡ old) (sym v.words) (value_stays i c now untouched)))
 
   -- slots that nobody touches stay, if no install is added
-  slots_on : (e : HistoryEntry) → SlotsAreInstalls m e → e.attempt.serial ≡ serial_of (word_at (shape_of m) later (desc_status e.attempt.desc))
+  slots_on : (e : HistoryEntry) → SlotsAreInstalls m e → IsPresentIn (shape_of m) later e.attempt
       → ((i : Install) → i.attempt ≡ e.attempt → Untouched i) → ((i : Install) → Contains n.installs i → i.attempt ≡ e.attempt → Contains m.installs i) → SlotsAreInstalls n e
   slots_on e was now untouched none =
-      let present_now : (i : Install) → i.attempt ≡ e.attempt → IsPresent (shape_of m) later i = λ i same. subst (λ (a : AttemptId). a.serial ≡ serial_of (word_at (shape_of m) later (desc_status a.desc))) (sym same) now in
+      let present_now : (i : Install) → i.attempt ≡ e.attempt → IsPresent (shape_of m) later i = λ i same. subst (λ (a : AttemptId). IsPresentIn (shape_of m) later a) (sym same) now in
       record {
         made = λ w c. let x = was.made w c in (x.0, v.installs_stay x.0 x.1, x.2, write_stays x.0 x.1 (present_now x.0 x.2) (untouched x.0 x.2) ∙ x.3);
         all = λ i c same. let old = none i c same in subst (Contains e.writes) (sym (write_stays i old (present_now i same) (untouched i same))) (was.all i old same);
       }
 
-  old_entry : (e : HistoryEntry) → Contains m.history e → e.attempt.serial ≡ serial_of (status_at m e.attempt.desc) → SlotsAreInstalls m e
-      → e.attempt.serial ≡ serial_of (word_at (shape_of m) later (desc_status e.attempt.desc)) → SlotsAreInstalls n e
+  old_entry : (e : HistoryEntry) → Contains m.history e → IsPresentIn (shape_of m) m.words e.attempt → SlotsAreInstalls m e
+      → IsPresentIn (shape_of m) later e.attempt → SlotsAreInstalls n e
   old_entry e c before was now = slots_on e was now
       (λ i same exists s q. not_stored m hands e c before (subst (λ (a : AttemptId). Stores m a.desc) same s))
       (λ i made same. ⊎_elim (λ old. old)
       (λ h. absurd (true≢false (sym (ready_in m.history e i.attempt c (ap (λ (a : AttemptId). a.desc) (sym same)) (ap (λ (a : AttemptId). a.serial) (sym same))) ∙ h.unready)))
       (v.installs i made))
 
-  of_new : (x : Enters m n v.p v.word v.new) → x.hand.attempt.serial ≡ serial_of (word_at (shape_of m) later (desc_status x.hand.attempt.desc)) → SlotsAreInstalls n (history_entry m x.hand x.count)
+  of_new : (x : Enters m n v.p v.word v.new) → IsPresentIn (shape_of m) later x.hand.attempt → SlotsAreInstalls n (history_entry m x.hand x.count)
   of_new x now = slots_on (history_entry m x.hand x.count) (has_now m (history_entry m x.hand x.count) refl) now
       (λ i same exists s q. slot_no_status i.attempt.desc i.slot x.hand.attempt.desc (sym (place_at-address (shape_of m) (slot_new i.attempt.desc i.slot) exists) ∙ ap (place_at (shape_of m)) (q ∙ x.there)
       ∙ place_at-address (shape_of m) (desc_status x.hand.attempt.desc) (own_exists m v.p _ x.own)))
@@ -91,11 +91,11 @@ module _ (m n : Machine) (v : MoveFacts m n) (field : IsField (shape_of m) m.wor
 
   -- every event keeps it
   pub entry_slots-kept : ((e : HistoryEntry) → Contains m.history e → (e.attempt.desc < desc_count (shape_of m)) × (e.attempt.serial ≤ serial_of (status_at m e.attempt.desc))) → EntriesKeepSlots m
-      → (e : HistoryEntry) → Contains n.history e → e.attempt.serial ≡ serial_of (word_at (shape_of m) later (desc_status e.attempt.desc)) → SlotsAreInstalls n e
+      → (e : HistoryEntry) → Contains n.history e → IsPresentIn (shape_of m) later e.attempt → SlotsAreInstalls n e
   entry_slots-kept fits was e c now = ⊎_elim
       (λ old.
       let past = (fits e old).1 in
-      let before : e.attempt.serial ≡ serial_of (status_at m e.attempt.desc) = ⊎_elim (λ more. absurd (omega (arith, more, past, now))) (λ same. now ∙ sym same.serial) (statuses_go_on (Unit {0}) m field v.word v.new v.left e.attempt.desc (fits e old).0) in
+      let before : IsPresentIn (shape_of m) m.words e.attempt = ⊎_elim (λ more. absurd (omega (arith, more, past, now))) (λ same. now ∙ sym same.serial) (statuses_go_on (Unit {0}) m field v.word v.new v.left e.attempt.desc (fits e old).0) in
       old_entry e old before (was e old (ap (attempt_of e.attempt.desc) before)) now)
-      (λ y. subst (SlotsAreInstalls n) y.1 (of_new y.0 (subst (λ (z : HistoryEntry). z.attempt.serial ≡ serial_of (word_at (shape_of m) later (desc_status z.attempt.desc))) (sym y.1) now)))
+      (λ y. subst (SlotsAreInstalls n) y.1 (of_new y.0 (subst (λ (z : HistoryEntry). IsPresentIn (shape_of m) later z.attempt) (sym y.1) now)))
       (new_entry m n v e c)

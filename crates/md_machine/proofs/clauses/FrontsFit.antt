@@ -7,13 +7,13 @@ use Rattle.md_words.specs.declared.shape.Shape.{Shape}
 use Rattle.md_words.specs.Lanes.{lane_of_desc}
 use Rattle.md_history.specs.declared.entries.Fate.{Fate}
 use Rattle.md_history.specs.Front.{IsPrefix, AllStay, known_of_both, is_lane_of}
+use Rattle.md_history.specs.FrontLaws.{all_stay-self, all_stay-trans, prefix-trans}
 use Rattle.md_machine.specs.declared.attempt.HistoryEntry.{HistoryEntry}
 use Rattle.md_machine.specs.declared.step.Step.{Step}
 use Rattle.md_machine.specs.declared.pass.PassView.{PassView}
-use Rattle.md_machine.proofs.clauses.EntriesDecided.{all_stay}
 use Rattle.md_machine.proofs.clauses.EntriesFit.{EntriesFit}
 use Rattle.md_machine.proofs.clauses.LanesApart.{At}
-use Rattle.md_machine.proofs.fates.Knowing.{TellsTruth, all_stay_on, joined_length, joined_stay, known_fits, prefix_on}
+use Rattle.md_machine.proofs.fates.Knowing.{TellsTruth, joined_length, joined_stay, known_fits}
 use Rattle.md_machine.proofs.lists.At.{at_append, at_one, at_set}
 use Rattle.md_machine.proofs.lists.Rising.{in_filter, in_none, lane_in}
 use Rattle.md_machine.specs.Machine.{Machine, shape_of}
@@ -49,9 +49,9 @@ module _ (m : Machine) (words : List ℕ) (history : List HistoryEntry) (fates :
 
   pub front_kept : (p : PassView) → Foreign p → Was p → Is p
   front_kept p foreign was = record {
-    seen = prefix_on p.seen m.history history was.seen grows;
+    seen = prefix-trans was.seen grows;
     fated = was.fated;
-    known = all_stay_on p.known m.fates fates was.known stay;
+    known = all_stay-trans p.known m.fates fates was.known stay;
     own = λ e c l. was.own e (foreign e c l) l;
   }
 
@@ -59,8 +59,8 @@ module _ (m : Machine) (words : List ℕ) (history : List HistoryEntry) (fates :
   pub front_stepped : (p q : PassView) (s : Step) → Was p → Foreign p → TellsTruth (shape_of m) words s → q.seen ≡ p.seen → q.known ≡ known_after (shape_of m) p.seen s p.known
       → ((lane : ℕ) → Contains q.lanes lane → Contains p.lanes lane) → Is q
   front_stepped p q s was foreign truth seen known lanes =
-      let prefix = prefix_on p.seen m.history history was.seen grows in
-      let k = known_fits (shape_of m) words p.seen prefix.rest s p.known fates truth (subst (λ h. EntriesFit (shape_of m) words h fates) prefix.is fit) (all_stay_on p.known m.fates fates was.known stay) in record {
+      let prefix = prefix-trans was.seen grows in
+      let k = known_fits (shape_of m) words p.seen prefix.rest s p.known fates truth (subst (λ h. EntriesFit (shape_of m) words h fates) prefix.is fit) (all_stay-trans p.known m.fates fates was.known stay) in record {
         seen = subst (λ x. IsPrefix x history) (sym seen) prefix;
         fated = ap length known ∙ k.1 ∙ was.fated ∙ ap length (sym seen);
         known = subst (λ x. AllStay x fates) (sym known) k.0;
@@ -72,7 +72,7 @@ module _ (m : Machine) (words : List ℕ) (history : List HistoryEntry) (fates :
   front_all q seen known = record {
     seen = subst (λ x. IsPrefix x history) (sym seen) (record { rest = []; is = sym (append-nil history) });
     fated = ap length known ∙ fated (shape_of m) words history fates fit ∙ ap length (sym seen);
-    known = subst (λ x. AllStay x fates) (sym known) (all_stay fates);
+    known = subst (λ x. AllStay x fates) (sym known) (all_stay-self fates);
     own = λ e c l. subst (λ x. Contains x e) (sym seen) c;
   }
 

@@ -18,8 +18,7 @@ use Rattle.md_machine.proofs.events.Moves.{HandGoes, PassesGo, goes_on, hand_beg
 use Rattle.md_machine.proofs.events.WordChanges.{serial_stays}
 use Rattle.md_machine.proofs.lists.At.{at_append, at_one, at_set}
 use Rattle.md_machine.proofs.lists.Options.{none_some, some_same}
-use Rattle.md_machine.proofs.lists.Rising.{here}
-use Rattle.md_machine.specs.Machine.{IsAt, Machine, content, present, shape_of, word_at}
+use Rattle.md_machine.specs.Machine.{IsAt, IsPresentIn, Machine, content, present, shape_of, word_at}
 use Rattle.md_machine.specs.Own.{HasDesc}
 use Rattle.md_machine.specs.clauses.Hands.{HandFits, HandsFit}
 use Rattle.md_machine.specs.clauses.Lanes.{LanesApart}
@@ -42,7 +41,7 @@ module _ (m n : Machine) (pass : ℕ) (p : PassView) (at : IsAt m pass p) where
   one_hand q h lanes held (hand_begins desc tag may words now _ _ _) =
       let same : present m desc ≡ h.attempt = ap (λ (x : Hand). x.attempt) (some_same (new_hand (present m desc) tag) h (sym now ∙ held)) in inr (record {
         own = subst (λ (a : AttemptId). HasDesc (shape_of m) q a.desc) same (subst (λ l. (lane : ℕ) × Contains l lane × OwnsDesc (shape_of m) lane desc) (sym lanes) may.own);
-        present = subst (λ (a : AttemptId). a.serial ≡ serial_of (word_at (shape_of m) n.words (desc_status a.desc))) same (present_on m n desc words);
+        present = subst (λ (a : AttemptId). IsPresentIn (shape_of m) n.words a) same (present_on m n desc words);
       })
   one_hand q h lanes held (hand_ends _ _ none _ _ _) = absurd (none_some q.hand h none held)
   one_hand q h lanes held (hand_leaves none _ _ _) = absurd (none_some q.hand h none held)
@@ -63,10 +62,10 @@ module _ (m n : Machine) (pass : ℕ) (p : PassView) (at : IsAt m pass p) where
       (at_set (set m.passes pass _) other j spent u (subst (λ l. At l j u) is u_at))
 
 module _ (m n : Machine) (v : MoveFacts m n) (field : IsField (shape_of m) m.words) (apart : LanesApart (shape_of m) m.passes) (hands : HandsFit (shape_of m) m.words m.passes) where
-  serial_kept : (pass : ℕ) (p : PassView) (g : Hand) → IsAt m pass p → p.hand ≡ Some g → g.attempt.serial ≡ serial_of (word_at (shape_of m) n.words (desc_status g.attempt.desc))
+  serial_kept : (pass : ℕ) (p : PassView) (g : Hand) → IsAt m pass p → p.hand ≡ Some g → IsPresentIn (shape_of m) n.words g.attempt
   serial_kept pass p g at held =
       let was = hands.fits pass p g at held in
-      subst (λ words. g.attempt.serial ≡ serial_of (word_at (shape_of m) words (desc_status g.attempt.desc))) (sym v.words) (⊎_elim
+      subst (λ words. IsPresentIn (shape_of m) words g.attempt) (sym v.words) (⊎_elim
       (λ stays. was.present ∙ stays)
       (λ r. let here = one_owner (shape_of m) m.passes r.pass pass r.p p g.attempt.desc apart r.at at r.own was.own in
       let is : r.p ≡ p = at_once m.passes pass r.p p (subst (λ i. At m.passes i r.p) here r.at) at in
@@ -78,7 +77,7 @@ module _ (m n : Machine) (v : MoveFacts m n) (field : IsField (shape_of m) m.wor
   fits_on pass q h = ⊎_elim
       (λ x. let p = x.0 in let g = x.1 in let same : g.attempt ≡ h.attempt = x.4 in record {
         own = subst (λ (a : AttemptId). HasDesc (shape_of m) q a.desc) same (subst (λ lanes. (lane : ℕ) × Contains lanes lane × OwnsDesc (shape_of m) lane g.attempt.desc) x.5 (hands.fits pass p g x.2 x.3).own);
-        present = subst (λ (a : AttemptId). a.serial ≡ serial_of (word_at (shape_of m) n.words (desc_status a.desc))) same (serial_kept pass p g x.2 x.3);
+        present = subst (λ (a : AttemptId). IsPresentIn (shape_of m) n.words a) same (serial_kept pass p g x.2 x.3);
       })
       (λ fits. fits)
 

@@ -9,21 +9,20 @@ use Rattle.md_words.specs.Lanes.{lane_of_desc}
 use Rattle.md_words.specs.LayoutLaws.{IsField}
 use Rattle.md_words.proofs.Owners.{owner_of_desc, own_desc_exists}
 use Rattle.md_history.specs.Front.{AllStay, is_lane_of}
+use Rattle.md_history.specs.FrontLaws.{all_stay-trans, prefix-trans}
 use Rattle.md_machine.specs.declared.attempt.HistoryEntry.{HistoryEntry}
 use Rattle.md_machine.specs.declared.step.Step.{Step}
 use Rattle.md_machine.specs.declared.pass.PassView.{PassView}
 use Rattle.md_machine.proofs.clauses.EntriesReady.{ready_present}
-use Rattle.md_machine.proofs.clauses.FrontsFit.{fated}
 use Rattle.md_machine.proofs.clauses.LanesApart.{At, at_once}
 use Rattle.md_machine.proofs.events.Attempts.{ready_in}
 use Rattle.md_machine.proofs.events.MoveFacts.{MoveFacts, history_grows, new_entry}
 use Rattle.md_machine.proofs.events.Moves.{FrontGoes, PassesGo, goes_on, is_joined, is_split, learns, sees_all}
 use Rattle.md_machine.proofs.events.WordChanges.{serial_stays}
 use Rattle.md_machine.proofs.fates.Decidedness.{MoreDecided, knows_on, more_first, more_itself, more_known, more_second, more_stay}
-use Rattle.md_machine.proofs.fates.Knowing.{all_stay_on, prefix_on}
 use Rattle.md_machine.proofs.lists.At.{at_append, at_one, at_set}
-use Rattle.md_machine.proofs.lists.Rising.{here, in_drop, in_filter, in_none, in_take, lane_in, there}
-use Rattle.md_machine.specs.Machine.{Machine, attempt_of, content, present, shape_of, status_at, word_at}
+use Rattle.md_machine.proofs.lists.Rising.{in_drop, in_filter, in_none, in_take, lane_in}
+use Rattle.md_machine.specs.Machine.{IsPresentIn, Machine, attempt_of, content, present, shape_of, status_at, word_at}
 use Rattle.md_machine.specs.Stepping.{known_after}
 use Rattle.md_machine.specs.clauses.Fates.{PastKnown}
 use Rattle.md_machine.specs.clauses.Fronts.{FrontsFit}
@@ -54,7 +53,7 @@ steps m p s = more_known (shape_of m) p.seen s p.known
 module _ (m n : Machine) (v : MoveFacts m n) (fronts : FrontsFit (shape_of m) m.history m.fates m.passes) (stay : AllStay m.fates n.fates) where
   one_learns : (q : PassView) → FrontGoes m n v.step v.p q → MoreDecided v.p.known q.known
   one_learns q (learns same seen known) = subst (MoreDecided v.p.known) (sym known) (steps m v.p v.step)
-  one_learns q (sees_all seen known) = subst (MoreDecided v.p.known) (sym known) (more_stay v.p.known n.fates (all_stay_on v.p.known m.fates n.fates (fronts v.pass v.p v.at).known stay))
+  one_learns q (sees_all seen known) = subst (MoreDecided v.p.known) (sym known) (more_stay v.p.known n.fates (all_stay-trans v.p.known m.fates n.fates (fronts v.pass v.p v.at).known stay))
 
   learns_from : PassesGo m n v.pass v.p v.step → LearnsFrom m.passes n.passes
   learns_from (goes_on q is view) = subst (LearnsFrom m.passes) (sym is) (learns_set m.passes v.pass v.p q v.at (λ lane c. subst (λ x. Contains x lane) view.lanes c) (one_learns q view.front))
@@ -74,12 +73,12 @@ module _ (m n : Machine) (v : MoveFacts m n) (fronts : FrontsFit (shape_of m) m.
       (at_set (set m.passes v.pass _) other j spent u u_at))
 
 -- a new entry is of a present attempt
-enters_present : (m n : Machine) (v : MoveFacts m n) → IsField (shape_of m) m.words → (e : HistoryEntry) → Contains n.history e → Contains m.history e ⊎ (e.attempt.serial ≡ serial_of (word_at (shape_of m) n.words (desc_status e.attempt.desc)))
+enters_present : (m n : Machine) (v : MoveFacts m n) → IsField (shape_of m) m.words → (e : HistoryEntry) → Contains n.history e → Contains m.history e ⊎ (IsPresentIn (shape_of m) n.words e.attempt)
 enters_present m n v field e c = ⊎_elim inl
     (λ y. let x = y.0 in
     let word = address (shape_of m) (desc_status x.hand.attempt.desc) in
-    inr (subst (λ (z : HistoryEntry). z.attempt.serial ≡ serial_of (word_at (shape_of m) n.words (desc_status z.attempt.desc))) y.1
-    (subst (λ words. x.hand.attempt.serial ≡ serial_of (word_at (shape_of m) words (desc_status x.hand.attempt.desc))) (sym (v.words ∙ ap (λ w. set m.words w v.new) x.there ∙ ap (set m.words word) x.is))
+    inr (subst (λ (z : HistoryEntry). IsPresentIn (shape_of m) n.words z.attempt) y.1
+    (subst (λ words. IsPresentIn (shape_of m) words x.hand.attempt) (sym (v.words ∙ ap (λ w. set m.words w v.new) x.there ∙ ap (set m.words word) x.is))
     (ready_present m field x.hand x.count (own_desc_exists (shape_of m) x.own.0 x.hand.attempt.desc x.own.2) x.few (ap (content m) (sym x.there) ∙ x.was)))))
     (new_entry m n v e c)
 
@@ -108,7 +107,7 @@ module _ (m n : Machine) (v : MoveFacts m n) (field : IsField (shape_of m) m.wor
       (λ old.
       let from = learns_from m n v fronts stay v.passes j u u_at (lane_of_desc (shape_of m) e.attempt.desc) mine in
       let p = from.1 in let front = later j u u_at in
-      knows_on n.history p.seen u.seen p.known u.known e.attempt (prefix_on p.seen m.history n.history (fronts from.0 p from.2).seen (history_grows m n v)) front.seen front.fated from.4
+      knows_on n.history p.seen u.seen p.known u.known e.attempt (prefix-trans (fronts from.0 p from.2).seen (history_grows m n v)) front.seen front.fated from.4
       (knew was e old (subst (λ ws. e.attempt.serial ≢ serial_of (word_at (shape_of m) ws (desc_status e.attempt.desc))) v.words ne) from.0 p from.2 from.3))
       (λ now. absurd (ne now))
       (enters_present m n v field e c)

@@ -1,9 +1,8 @@
 -- Loads of a ready attempt's reads and slots agree with what stands there, after every event.
-use Rattle.std.proofs.Common.{◌≡◌, ◌≢◌, ℕ, ◌<◌, ◌≤◌, ◌⊎◌, List, refl, sym, ap, ◌∙◌, subst, inl, inr, ⊎_elim, set, get_or, get_or-set_other, true, false, arith}
+use Rattle.std.proofs.Common.{◌≡◌, ◌≢◌, ℕ, ◌<◌, ◌≤◌, sym, ap, ◌∙◌, subst, ⊎_elim, set, get_or, get_or-set_other, arith}
 use Rattle.std.specs.List.{Contains}
 use Rattle.std.proofs.lemmas.List.{set-get_or}
 use Rattle.std.proofs.lemmas.Bool.{cases_eq, true≢false}
-use Rattle.md_words.specs.declared.shape.Shape.{Shape}
 use Rattle.md_words.specs.declared.status.Status.TheVariants.{InPrep}
 use Rattle.md_words.specs.Status.{status_of, serial_of}
 use Rattle.md_words.specs.Place.{desc_status}
@@ -20,8 +19,7 @@ use Rattle.md_machine.proofs.events.Moves.{own_exists}
 use Rattle.md_machine.proofs.events.Steps.{HasStep}
 use Rattle.md_machine.proofs.events.WordChanges.{statuses_go_on}
 use Rattle.md_machine.proofs.lists.Pairs.{EachPair, pairs-kept}
-use Rattle.md_machine.proofs.lists.Rising.{here, there}
-use Rattle.md_machine.specs.Machine.{Machine, content, present, shape_of, status_at, word_at}
+use Rattle.md_machine.specs.Machine.{IsPresentIn, Machine, content, present, shape_of, status_at}
 use Rattle.md_machine.specs.clauses.Hands.{HandsFit}
 use Rattle.md_machine.specs.clauses.Loads.{LoadStands, MeetsReady}
 use Rattle.md_machine.specs.clauses.Stores.{IsEntryWord}
@@ -33,10 +31,10 @@ EntriesPast m = (e : HistoryEntry) → Contains m.history e → (e.attempt.desc 
 
 module _ (m n : Machine) (v : MoveFacts m n) (field : IsField (shape_of m) m.words) (hands : HandsFit (shape_of m) m.words m.passes) (statuses : StatusesNoted (shape_of m) m.words m.passes) (past : EntriesPast m) where
   -- an entry of a present attempt was of one, if it was there
-  pub was_present_entry : (e : HistoryEntry) → Contains m.history e → e.attempt.serial ≡ serial_of (word_at (shape_of m) n.words (desc_status e.attempt.desc)) → e.attempt.serial ≡ serial_of (status_at m e.attempt.desc)
+  pub was_present_entry : (e : HistoryEntry) → Contains m.history e → IsPresentIn (shape_of m) n.words e.attempt → IsPresentIn (shape_of m) m.words e.attempt
   was_present_entry e c now =
       let fits = past e c in let before = fits.1 in
-      let now_set : e.attempt.serial ≡ serial_of (word_at (shape_of m) (set m.words v.word v.new) (desc_status e.attempt.desc)) = subst (λ ws. e.attempt.serial ≡ serial_of (word_at (shape_of m) ws (desc_status e.attempt.desc))) v.words now in
+      let now_set : IsPresentIn (shape_of m) (set m.words v.word v.new) e.attempt = subst (λ ws. IsPresentIn (shape_of m) ws e.attempt) v.words now in
       ⊎_elim (λ more. absurd (omega (arith, more, before, now_set))) (λ same. now_set ∙ sym same.serial) (statuses_go_on (Unit {0}) m field v.word v.new v.left e.attempt.desc fits.0)
 
   -- where the word stays, all do
@@ -47,7 +45,7 @@ module _ (m n : Machine) (v : MoveFacts m n) (field : IsField (shape_of m) m.wor
   other_word w ne = ap (λ ws. get_or ws w 0) v.words ∙ get_or-set_other m.words v.word w v.new 0 ne
 
   -- nobody changes a read or a slot of a present attempt that has an entry
-  pub entry_word_stays : (e : HistoryEntry) → Contains m.history e → e.attempt.serial ≡ serial_of (status_at m e.attempt.desc) → (w : ℕ) → IsEntryWord e.attempt.desc (place_at (shape_of m) w) → get_or n.words w 0 ≡ content m w
+  pub entry_word_stays : (e : HistoryEntry) → Contains m.history e → IsPresentIn (shape_of m) m.words e.attempt → (w : ℕ) → IsEntryWord e.attempt.desc (place_at (shape_of m) w) → get_or n.words w 0 ≡ content m w
   entry_word_stays e c present w is = ⊎_elim
       (λ here. ⊎_elim
       (λ same. ap (λ ws. get_or ws w 0) (all_stay_words same))

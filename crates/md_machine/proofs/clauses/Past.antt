@@ -17,7 +17,7 @@ use Rattle.md_machine.proofs.clauses.EntriesFit.{EntriesFit, EntryFits}
 use Rattle.md_machine.proofs.events.Attempts.{ready_in, same_parts}
 use Rattle.md_machine.proofs.events.WordChanges.{MayLeave, Restarts, serial_stays}
 use Rattle.md_machine.proofs.lists.Rising.{here, there}
-use Rattle.md_machine.specs.Machine.{Machine, present, same_attempt, shape_of, status_at, word_at}
+use Rattle.md_machine.specs.Machine.{IsPresentIn, Machine, present, same_attempt, shape_of, status_at, word_at}
 use Rattle.md_machine.specs.clauses.Fates.{FatesTold, Tells}
 use Rattle.md_machine.specs.clauses.Fronts.{FrontsFit}
 use Rattle.md_machine.specs.events.Start.{is_decided, knows_decided}
@@ -42,7 +42,7 @@ decided_stays Undecided g s d = absurd (false≢true d)
 
 -- what a pass knows to be decided, the present status tells
 knows_told : (shape : Shape) (words : List ℕ) (seen rest : List HistoryEntry) (known fates : List Fate) (a : AttemptId) → EntriesFit shape words (seen ++ rest) fates → AllStay known fates
-    → a.serial ≡ serial_of (word_at shape words (desc_status a.desc)) → knows_decided seen known a ≡ true → (g : Fate) × Tells (status_of (word_at shape words (desc_status a.desc))) g × (is_decided g ≡ true)
+    → IsPresentIn shape words a → knows_decided seen known a ≡ true → (g : Fate) × Tells (status_of (word_at shape words (desc_status a.desc))) g × (is_decided g ≡ true)
 knows_told shape words [] rest known fates a fit stay now k = absurd (false≢true k)
 knows_told shape words (e ∷ es) rest [] fates a fit stay now k = absurd (false≢true k)
 knows_told shape words (e ∷ es) rest (f ∷ fs) [] a fit stay now k = absurd fit
@@ -60,7 +60,7 @@ module _ (m : Machine) (field : IsField (shape_of m) m.words) (word new : ℕ) (
   later = set m.words word new
 
   -- an entry of a present attempt whose descriptor is started again is decided
-  restarted : (e : HistoryEntry) (f : Fate) → Contains m.history e → EntryFits (shape_of m) m.words e f → e.attempt.serial ≡ serial_of (status_at m e.attempt.desc) → Restarts m e.attempt.desc → is_decided f ≡ true
+  restarted : (e : HistoryEntry) (f : Fate) → Contains m.history e → EntryFits (shape_of m) m.words e f → IsPresentIn (shape_of m) m.words e.attempt → Restarts m e.attempt.desc → is_decided f ≡ true
   restarted e f c fits now r =
       let a = present m e.attempt.desc in
       let front = fronts r.pass r.p r.at in
@@ -93,7 +93,7 @@ past_stays shape words (e ∷ es) [] gs a l was = absurd (zero_suc l)
 past_stays shape words (e ∷ es) (f ∷ fs) [] a l was = absurd a
 past_stays shape words (e ∷ es) (f ∷ fs) (g ∷ gs) a l was = ((λ ne. decided_stays f g a.0 (was.0 ne)), past_stays shape words es fs gs a.1 (omega (arith, l)) was.1)
 
-pub past_more : (shape : Shape) (words : List ℕ) (es : List HistoryEntry) (fs : List Fate) (e : HistoryEntry) (f : Fate) → e.attempt.serial ≡ serial_of (word_at shape words (desc_status e.attempt.desc)) → length fs ≡ length es
+pub past_more : (shape : Shape) (words : List ℕ) (es : List HistoryEntry) (fs : List Fate) (e : HistoryEntry) (f : Fate) → IsPresentIn shape words e.attempt → length fs ≡ length es
     → PastDecided shape words es fs → PastDecided shape words (es ++ e ∷ []) (fs ++ f ∷ [])
 past_more shape words [] [] e f now l was = ((λ ne. absurd (ne now)), tt)
 past_more shape words [] (x ∷ fs) e f now l was = absurd (omega (arith, l))

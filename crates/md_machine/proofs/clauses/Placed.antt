@@ -17,9 +17,8 @@ use Rattle.md_machine.proofs.clauses.LanesApart.{At}
 use Rattle.md_machine.proofs.events.MoveFacts.{MoveFacts, history_grows}
 use Rattle.md_machine.proofs.events.Moves.{PassesGo, goes_on, is_joined, is_split}
 use Rattle.md_machine.proofs.lists.At.{at_append, at_one, at_set}
-use Rattle.md_machine.proofs.lists.Rising.{here, in_cons, in_none}
+use Rattle.md_machine.proofs.lists.Rising.{in_cons, in_none}
 use Rattle.md_machine.proofs.resolutions.Placing.{some_or, some_skip}
-use Rattle.md_machine.specs.Event.{opened}
 use Rattle.md_machine.specs.Machine.{IsAt, Machine, shape_of}
 use Rattle.md_machine.specs.Resolution.{always_nodes, always_placed, is_committed, kept_nodes, kept_structure, least, or_else, structure_in}
 use Rattle.md_machine.specs.clauses.Placed.{PlacedStay}

@@ -1,5 +1,5 @@
 -- A present attempt that is in progress or committed has an entry, after every event.
-use Rattle.std.proofs.Common.{◌≡◌, ◌≢◌, ℕ, ◌<◌, ◌⊎◌, List, refl, sym, ap, ◌∙◌, subst, inl, inr, ⊎_elim, set}
+use Rattle.std.proofs.Common.{◌≡◌, ℕ, ◌<◌, ◌⊎◌, List, sym, ap, ◌∙◌, subst, inl, ⊎_elim, set}
 use Rattle.std.specs.List.{Contains}
 use Rattle.std.proofs.lemmas.Bool.{cases_eq}
 use Rattle.std.proofs.lemmas.List.Elements.{Contains-append_left, Contains-push}
@@ -17,7 +17,7 @@ use Rattle.md_machine.proofs.clauses.EntriesFit.{status_stays}
 use Rattle.md_machine.proofs.clauses.EntriesReady.{ready_present}
 use Rattle.md_machine.proofs.events.MoveFacts.{Enters, LeavesFates, MoveFacts}
 use Rattle.md_machine.proofs.events.Moves.{WinsFate, own_exists}
-use Rattle.md_machine.proofs.lists.Rising.{here, there}
+use Rattle.md_machine.proofs.lists.Rising.{there}
 use Rattle.md_machine.specs.Machine.{Machine, content, shape_of, status_at, word_at}
 use Rattle.md_machine.specs.clauses.Hands.{HandsFit}
 use Rattle.md_machine.specs.events.Decide.{decided_word}

@@ -1,17 +1,15 @@
 -- A committed entry is sound, after every event.
-use Rattle.std.proofs.Common.{◌≤◌, ◌≡◌, ◌≢◌, ℕ, zero, suc, ◌<◌, ◌⊎◌, ◌++◌, ◌∷◌, Bool, List, [], length, cond, refl, sym, ap, ◌∙◌, subst, inl, inr, ⊎_elim, get_or, true, false, arith}
+use Rattle.std.proofs.Common.{◌≤◌, ◌≡◌, ℕ, zero, suc, ◌<◌, ◌⊎◌, ◌++◌, ◌∷◌, List, [], length, refl, sym, ap, ◌∙◌, subst, inl, inr, ⊎_elim, true, arith}
 use Rattle.std.specs.List.{Contains, list_all}
-use Rattle.std.proofs.lemmas.Bool.{cond_both, and_from, cases_Bool}
+use Rattle.std.proofs.lemmas.Bool.{cond_both, and_from}
 use lib.ListN.{get_elem?}
 use mathlib.Core.Option.{some, some-injective, some-ne-none}
-use Rattle.md_words.specs.declared.shape.Shape.{Shape}
 use Rattle.md_words.specs.declared.status.Status.{Status}
 use Rattle.md_words.specs.declared.status.Status.TheVariants.{InPrep, InProg, Committed as IsCommitted, Aborted as IsAborted}
 use Rattle.md_words.specs.declared.limits.TheConstants.{SET}
-use Rattle.md_words.specs.Status.{status_of, reads_of, serial_of}
+use Rattle.md_words.specs.Status.{reads_of, serial_of}
 use Rattle.md_words.specs.Place.{Place, desc_status, read_word, read_content}
-use Rattle.md_words.specs.Layout.{address, desc_count, Exists}
-use Rattle.md_words.specs.LayoutLaws.{IsField}
+use Rattle.md_words.specs.Layout.{address, Exists}
 use Rattle.md_words.specs.PlaceAt.{place_at}
 use Rattle.md_words.proofs.Places.{place_at-address}
 use Rattle.md_history.specs.declared.entries.Fate.{Fate}
@@ -21,7 +19,6 @@ use Rattle.md_machine.specs.declared.pass.PassView.{PassView}
 use Rattle.md_machine.specs.declared.attempt.AttemptId.{AttemptId}
 use Rattle.md_machine.specs.declared.attempt.HistoryEntry.{HistoryEntry}
 use Rattle.md_machine.specs.declared.attempt.Read.{Read}
-use Rattle.md_machine.proofs.clauses.Brackets.{stood}
 use Rattle.md_machine.proofs.clauses.EntriesFit.{EntriesFit, PresentFits, entry_fits}
 use Rattle.md_machine.proofs.clauses.FrontsFit.{fated}
 use Rattle.md_machine.proofs.clauses.Stores.{StoresStand}
@@ -31,7 +28,7 @@ use Rattle.md_machine.proofs.events.Moves.{WinsFate}
 use Rattle.md_machine.proofs.lists.At.{at_below}
 use Rattle.md_machine.proofs.lists.Pairs.{EachPair, pairs_of}
 use Rattle.md_machine.proofs.lists.Rising.{cons_in, here, there}
-use Rattle.md_machine.specs.Machine.{IsAt, Machine, attempt_of, content, present, same_attempt, shape_of, status_at, word_at}
+use Rattle.md_machine.specs.Machine.{IsAt, IsPresentIn, Machine, attempt_of, content, same_attempt, shape_of, status_at, word_at}
 use Rattle.md_machine.specs.Resolution.{entries_of}
 use Rattle.md_machine.specs.Stepping.{fate_told, with_fate}
 use Rattle.md_machine.specs.Trail.{Meets, read_stands}
@@ -95,7 +92,7 @@ module _ (m : Machine) (pass : ℕ) (p : PassView) (at : IsAt m pass p) (loads :
       prog_prep : InProg ≡ InPrep → ⊥
       prog_prep x = cc
 
-  present_now : e.attempt.serial ≡ serial_of (status_at m e.attempt.desc)
+  present_now : IsPresentIn (shape_of m) m.words e.attempt
   present_now = mine_serial ∙ ap serial_of (sym (ap (status_at m) mine_desc ∙ stands))
 
   -- what it knows of a read or slot word is what stands there

@@ -22,8 +22,8 @@ use Rattle.md_machine.proofs.events.Steps.{HasStep, adds_step, segment_from}
 use Rattle.md_machine.proofs.events.WordChanges.{statuses_go_on}
 use Rattle.md_machine.proofs.lists.At.{at_set}
 use Rattle.md_machine.proofs.lists.Options.{some_same}
-use Rattle.md_machine.proofs.lists.Rising.{here, in_none, there}
-use Rattle.md_machine.specs.Machine.{Machine, content, present, shape_of, status_at, was_begun, word_at}
+use Rattle.md_machine.proofs.lists.Rising.{here, in_none}
+use Rattle.md_machine.specs.Machine.{IsPresentIn, Machine, content, shape_of, status_at, was_begun, word_at}
 use Rattle.md_machine.specs.Trail.{LastStored, StoresFor, segments}
 use Rattle.md_machine.specs.clauses.Hands.{HandsFit}
 use Rattle.md_machine.specs.clauses.Stores.{IsEntryWord}
@@ -34,7 +34,7 @@ StepsPast shape words passes = (t : Step) → HasStep passes t → (a : AttemptI
 
 -- what was stored last for a present attempt stands
 abbrev pub StoresStand : Shape → List ℕ → List PassView → Type 0
-StoresStand shape words passes = (pass : ℕ) (p : PassView) → At passes pass p → (a : AttemptId) → a.serial ≡ serial_of (word_at shape words (desc_status a.desc))
+StoresStand shape words passes = (pass : ℕ) (p : PassView) → At passes pass p → (a : AttemptId) → IsPresentIn shape words a
     → (word held : ℕ) → IsEntryWord a.desc (place_at shape word) → LastStored p a word held → get_or words word 0 ≡ held
 
 -- where one step was added at the end, a step is that one, or stood before it
@@ -98,7 +98,7 @@ module _ (m n : Machine) (v : MoveFacts m n) (field : IsField (shape_of m) m.wor
       (adds_step m.passes n.passes v.step v.from t has)
 
   -- a present attempt of a step was present
-  was_now : StepsPast (shape_of m) m.words m.passes → (t : Step) → HasStep m.passes t → (a : AttemptId) → t.attempt ≡ Some a → a.serial ≡ serial_later a.desc → a.serial ≡ serial_of (status_at m a.desc)
+  was_now : StepsPast (shape_of m) m.words m.passes → (t : Step) → HasStep m.passes t → (a : AttemptId) → t.attempt ≡ Some a → a.serial ≡ serial_later a.desc → IsPresentIn (shape_of m) m.words a
   was_now past t has a e now = let p = past t has a e in let before = p.1 in let up = serial_rises a.desc p.0 in omega (arith, now, before, up)
 
   -- what the step left stands

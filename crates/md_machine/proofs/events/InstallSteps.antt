@@ -5,7 +5,6 @@ use Rattle.std.proofs.lemmas.Bool.{true≢false}
 use Rattle.std.proofs.lemmas.List.Elements.{Contains-push}
 use Rattle.md_words.specs.declared.content.Spot.{Spot}
 use Rattle.md_words.specs.Content.{count_of, is_even}
-use Rattle.md_words.specs.Status.{serial_of}
 use Rattle.md_words.specs.Place.{slot_word, slot_old}
 use Rattle.md_words.specs.PlaceAt.{IsCounted}
 use Rattle.md_words.proofs.Owners.{own_desc_exists}
@@ -17,8 +16,7 @@ use Rattle.md_machine.specs.declared.pass.PassView.{PassView}
 use Rattle.md_machine.proofs.clauses.LanesApart.{At, one_owner}
 use Rattle.md_machine.proofs.events.Leaves.{install_odd}
 use Rattle.md_machine.proofs.lists.At.{at_set}
-use Rattle.md_machine.proofs.lists.Rising.{there}
-use Rattle.md_machine.specs.Machine.{Install, IsAt, Machine, content, is_ready, present, shape_of, status_at, word_at}
+use Rattle.md_machine.specs.Machine.{Install, IsAt, IsPresentIn, Machine, content, is_ready, shape_of, word_at}
 use Rattle.md_machine.specs.Own.{HasDesc}
 use Rattle.md_machine.specs.Stepping.{attempt_in_hand, step_of}
 use Rattle.md_machine.specs.clauses.Hands.{HandsFit}
@@ -43,7 +41,7 @@ pub record InstallsHere (m : Machine) (s : Step) (later : List PassView) (word :
   pub there : i.word ≡ word
   pub old : i.old ≡ content m word
   pub step : InstallStep i s
-  pub present : i.attempt.serial ≡ serial_of (status_at m i.attempt.desc)
+  pub present : IsPresentIn (shape_of m) m.words i.attempt
   pub unready : is_ready m.history i.attempt ≡ false
   pub slot : SlotStands (shape_of m) m.words i
   pub held : (pass : ℕ) (p : PassView) → At later pass p → HasDesc (shape_of m) p i.attempt.desc → Contains p.trail s

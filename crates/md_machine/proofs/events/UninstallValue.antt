@@ -1,20 +1,18 @@
 -- An uninstall leaves the value that the word stands for, under every resolution.
-use Rattle.std.proofs.Common.{◌≡◌, ℕ, ◌<◌, ◌⊎◌, ◌&&◌, ◌||◌, Bool, List, [], ◌∷◌, ◌++◌, cond, refl, sym, ap, ◌∙◌, subst, inl, inr, ⊎_elim, get_or, true, false, append_assoc}
+use Rattle.std.proofs.Common.{◌≡◌, ℕ, ◌&&◌, Bool, List, [], ◌∷◌, ◌++◌, refl, sym, ap, ◌∙◌, subst, inl, inr, ⊎_elim, true, false, append_assoc}
 use Rattle.std.specs.List.{Contains}
 use Rattle.std.proofs.lemmas.Bool.{or_left, or_right, and_from, and_parts, or_cases, cond-true, cond-false, false≢true, cases_Bool}
-use Rattle.std.proofs.lemmas.List.Elements.{Contains-append_left, Contains-append_right}
+use Rattle.std.proofs.lemmas.List.Elements.{Contains-append_right}
 use Rattle.md_words.specs.declared.shape.Shape.{Shape}
 use Rattle.md_words.specs.declared.content.Spot.{Spot}
-use Rattle.md_words.specs.declared.status.Status.{Status}
-use Rattle.md_words.specs.declared.status.Status.TheVariants.{InPrep, InProg, Committed as IsCommitted, Aborted as IsAborted}
-use Rattle.md_words.specs.Content.{value_of, spot_of, count_of, is_even}
+use Rattle.md_words.specs.declared.status.Status.TheVariants.{InPrep, Committed as IsCommitted, Aborted as IsAborted}
+use Rattle.md_words.specs.Content.{value_of, count_of, is_even}
 use Rattle.md_words.specs.Status.{status_of, serial_of}
 use Rattle.md_words.specs.Place.{Place, desc_status, slot_old, slot_new}
-use Rattle.md_words.specs.Layout.{address, desc_count, IsInSet}
+use Rattle.md_words.specs.Layout.{address, IsInSet}
 use Rattle.md_words.specs.PlaceAt.{place_at, IsCounted}
 use Rattle.md_words.proofs.Places.{place_at-address}
 use Rattle.md_history.specs.declared.entries.Fate.{Fate}
-use Rattle.md_history.specs.declared.entries.Fate.TheVariants.{Committed, Aborted, Undecided}
 use Rattle.md_history.specs.History.{IsResolution, MayKeep}
 use Rattle.md_machine.specs.declared.step.Kind.{Kind}
 use Rattle.md_machine.specs.declared.step.Step.{Step}
@@ -22,7 +20,7 @@ use Rattle.md_machine.specs.declared.attempt.AttemptId.{AttemptId}
 use Rattle.md_machine.specs.declared.attempt.HistoryEntry.{HistoryEntry}
 use Rattle.md_machine.specs.declared.pass.PassView.{PassView}
 use Rattle.md_machine.proofs.chain.Values.{installed_spot, value_odd}
-use Rattle.md_machine.proofs.clauses.Brackets.{MetStanding, TrailsBracket, stood}
+use Rattle.md_machine.proofs.clauses.Brackets.{MetStanding, TrailsBracket}
 use Rattle.md_machine.proofs.clauses.EntriesFit.{EntriesFit}
 use Rattle.md_machine.proofs.clauses.Installs.{InstallsKept}
 use Rattle.md_machine.proofs.clauses.OddWords.{splits}
@@ -37,7 +35,7 @@ use Rattle.md_machine.proofs.events.Moves.{WinsUninstall}
 use Rattle.md_machine.proofs.lists.Pairs.{EachPair, InPairs, pairs_of}
 use Rattle.md_machine.proofs.lists.Rising.{here, in_cons, in_none, there}
 use Rattle.md_machine.specs.Installs.{spot_of_install}
-use Rattle.md_machine.specs.Machine.{IsAt, Machine, attempt_of, content, present, same_attempt, shape_of, status_at, word_at}
+use Rattle.md_machine.specs.Machine.{IsAt, IsPresentIn, Machine, attempt_of, content, present, same_attempt, shape_of, status_at, word_at}
 use Rattle.md_machine.specs.Resolution.{Resolves, entries_of, is_kept, logical_value, value_under}
 use Rattle.md_machine.specs.Trail.{LastStored, Loads, Meets}
 use Rattle.md_machine.specs.clauses.Fates.{Tells}
@@ -48,7 +46,7 @@ use Rattle.md_machine.specs.events.Uninstall.{HelperSaw, MayUninstall, slot_by_f
 
 -- the entry of a committed present attempt is kept
 kept_where_committed : (shape : Shape) (words : List ℕ) (es : List HistoryEntry) (fs : List Fate) (choice : List Bool) (a : AttemptId) → EntriesFit shape words es fs → IsResolution (entries_of es) fs choice
-    → a.serial ≡ serial_of (word_at shape words (desc_status a.desc)) → status_of (word_at shape words (desc_status a.desc)) ≡ IsCommitted → (e : HistoryEntry) → Contains es e → e.attempt.desc ≡ a.desc → e.attempt.serial ≡ a.serial → is_kept es choice a ≡ true
+    → IsPresentIn shape words a → status_of (word_at shape words (desc_status a.desc)) ≡ IsCommitted → (e : HistoryEntry) → Contains es e → e.attempt.desc ≡ a.desc → e.attempt.serial ≡ a.serial → is_kept es choice a ≡ true
 kept_where_committed shape words [] fs choice a fit r now is e c d s = absurd (in_none e c)
 kept_where_committed shape words (x ∷ es) [] choice a fit r now is e c d s = absurd fit
 kept_where_committed shape words (x ∷ es) (f ∷ fs) [] a fit r now is e c d s = absurd r
@@ -65,7 +63,7 @@ kept_where_committed shape words (x ∷ es) (f ∷ fs) (kept ∷ choice) a fit r
 
 -- no entry of an aborted present attempt is kept
 left_where_aborted : (shape : Shape) (words : List ℕ) (es : List HistoryEntry) (fs : List Fate) (choice : List Bool) (a : AttemptId) → EntriesFit shape words es fs → IsResolution (entries_of es) fs choice
-    → a.serial ≡ serial_of (word_at shape words (desc_status a.desc)) → status_of (word_at shape words (desc_status a.desc)) ≡ IsAborted → is_kept es choice a ≡ true → ⊥
+    → IsPresentIn shape words a → status_of (word_at shape words (desc_status a.desc)) ≡ IsAborted → is_kept es choice a ≡ true → ⊥
 left_where_aborted shape words [] fs choice a fit r now is k = false≢true k
 left_where_aborted shape words (x ∷ es) [] choice a fit r now is k = absurd fit
 left_where_aborted shape words (x ∷ es) (f ∷ fs) [] a fit r now is k = absurd r
@@ -140,7 +138,7 @@ module _ (m : Machine) (k : UninstallRests m) (word : ℕ) (counted : IsCounted 
     ready_entry : EntryOf m.history spot.desc (status_at m spot.desc)
     ready_entry = k.ready_entries spot.desc in_set.0 (inr (ap status_of (sym status_is) ∙ committed))
 
-    entry_present : ready_entry.0.attempt.serial ≡ serial_of (status_at m ready_entry.0.attempt.desc)
+    entry_present : IsPresentIn (shape_of m) m.words ready_entry.0.attempt
     entry_present = ready_entry.3 ∙ ap (λ d. serial_of (status_at m d)) (sym ready_entry.2)
 
     new_place : place_at (shape_of m) (address (shape_of m) (slot_new spot.desc spot.slot)) ≡ slot_new spot.desc spot.slot

@@ -1,5 +1,5 @@
 -- What a pass learns from a status agrees with the fates.
-use Rattle.std.proofs.Common.{◌≡◌, ℕ, suc, ◌≤◌, ◌⊎◌, false, cond, List, [], ◌∷◌, ◌++◌, length, refl, sym, ap, ◌∙◌, subst, ⊎_elim, nat_le, append_assoc, arith}
+use Rattle.std.proofs.Common.{◌≡◌, ℕ, suc, ◌≤◌, ◌⊎◌, false, cond, List, [], ◌∷◌, ◌++◌, length, refl, sym, ap, ◌∙◌, subst, ⊎_elim, nat_le, arith}
 use Rattle.std.proofs.lemmas.Bool.{cond_both, leb-true, leb-false}
 use Rattle.md_words.specs.declared.shape.Shape.{Shape}
 use Rattle.md_words.specs.declared.status.Status.{Status}
@@ -9,14 +9,13 @@ use Rattle.md_words.specs.Place.{Place, base_word, bucket_head, queue_head, queu
 use Rattle.md_words.specs.PlaceAt.{place_at}
 use Rattle.md_history.specs.declared.entries.Fate.{Fate}
 use Rattle.md_history.specs.declared.entries.Fate.TheVariants.{Committed, Aborted, Undecided}
-use Rattle.md_history.specs.Front.{IsPrefix, Stays, AllStay, known_of_two, known_of_both}
+use Rattle.md_history.specs.Front.{Stays, AllStay, known_of_two, known_of_both}
 use Rattle.md_machine.specs.declared.attempt.AttemptId.{AttemptId}
 use Rattle.md_machine.specs.declared.attempt.HistoryEntry.{HistoryEntry}
 use Rattle.md_machine.specs.declared.step.Step.{Step}
 use Rattle.md_machine.proofs.clauses.EntriesFit.{EntriesFit, EntryFits}
 use Rattle.md_machine.proofs.events.Attempts.{same_parts}
-use Rattle.md_machine.proofs.lists.Rising.{here}
-use Rattle.md_machine.specs.Machine.{attempt_of, present, same_attempt, word_at}
+use Rattle.md_machine.specs.Machine.{attempt_of, same_attempt, word_at}
 use Rattle.md_machine.specs.Stepping.{fate_told, known_after, known_at, told_by, with_fate}
 use Rattle.md_machine.specs.Trail.{is_store}
 use Rattle.md_machine.specs.clauses.Fates.{Tells}
@@ -96,21 +95,6 @@ module _ (shape : Shape) (words : List ℕ) where
   known_fits seen rest s known fates truth fits k = cond_both (is_store s.kind) known (known_at seen s (place_at shape s.word) known) (λ x. AllStay x fates × (length x ≡ length known))
       (λ store. (k, refl))
       (λ plain. known_at_fits seen rest s (place_at shape s.word) known fates refl plain truth fits k)
-
--- a fate that stays twice stays
-stays_on : (f g h : Fate) → Stays f g → Stays g h → Stays f h
-stays_on Undecided g h a b = tt
-stays_on Committed g h a b = subst (λ x. Stays x h) a b
-stays_on Aborted g h a b = subst (λ x. Stays x h) a b
-
-pub all_stay_on : (fs gs hs : List Fate) → AllStay fs gs → AllStay gs hs → AllStay fs hs
-all_stay_on [] gs hs a b = tt
-all_stay_on (f ∷ fs) [] hs a b = absurd a
-all_stay_on (f ∷ fs) (g ∷ gs) [] a b = absurd b
-all_stay_on (f ∷ fs) (g ∷ gs) (h ∷ hs) a b = (stays_on f g h a.0 b.0, all_stay_on fs gs hs a.1 b.1)
-
-pub prefix_on : {A : Type 0} (xs ys zs : List A) → IsPrefix xs ys → IsPrefix ys zs → IsPrefix xs zs
-prefix_on xs ys zs a b = record { rest = a.rest ++ b.rest; is = b.is ∙ ap (λ l. l ++ b.rest) a.is ∙ append_assoc xs a.rest b.rest }
 
 -- the decided fates of two passes agree with the fates where those of each do, and are as many as the longer ones
 first_stays : (f g h : Fate) → Stays f h → Stays g h → Stays (known_of_two f g) h

@@ -12,7 +12,7 @@ use Rattle.md_history.specs.declared.entries.Fate.{Fate}
 use Rattle.md_history.specs.declared.entries.Fate.TheVariants.{Committed, Aborted, Undecided}
 use Rattle.md_machine.specs.declared.attempt.HistoryEntry.{HistoryEntry}
 use Rattle.md_machine.specs.declared.pass.PassView.{PassView}
-use Rattle.md_machine.specs.Machine.{Machine, present, shape_of, word_at}
+use Rattle.md_machine.specs.Machine.{IsPresentIn, Machine, shape_of, word_at}
 use Rattle.md_machine.specs.events.Start.{is_decided, knows_decided}
 
 -- the fate that a status stands for; no attempt with an entry is InPrep
@@ -25,7 +25,7 @@ Tells IsAborted f = f ≡ Aborted
 -- the fate of an entry is what its descriptor's status says, where the status has the serial of its attempt; any other
 -- entry's is decided
 pub record FateTold (shape : Shape) (words : List ℕ) (e : HistoryEntry) (f : Fate) : Type 0 where
-  pub present : e.attempt.serial ≡ serial_of (word_at shape words (desc_status e.attempt.desc)) → Tells (status_of (word_at shape words (desc_status e.attempt.desc))) f
+  pub present : IsPresentIn shape words e.attempt → Tells (status_of (word_at shape words (desc_status e.attempt.desc))) f
   pub past : e.attempt.serial ≢ serial_of (word_at shape words (desc_status e.attempt.desc)) → is_decided f ≡ true
 
 -- each entry has a fate, and it is told so

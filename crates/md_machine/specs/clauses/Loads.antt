@@ -10,7 +10,7 @@ use Rattle.md_machine.specs.declared.attempt.AttemptId.{AttemptId}
 use Rattle.md_machine.specs.declared.attempt.HistoryEntry.{HistoryEntry}
 use Rattle.md_machine.specs.declared.pass.PassView.{PassView}
 use Rattle.md_machine.specs.declared.step.Step.{Step}
-use Rattle.md_machine.specs.Machine.{IsAt, Machine, shape_of, word_at}
+use Rattle.md_machine.specs.Machine.{IsAt, IsPresentIn, Machine, shape_of}
 use Rattle.md_machine.specs.Trail.{Meets, is_store, segments}
 use Rattle.md_machine.specs.clauses.Stores.{IsEntryWord}
 
@@ -21,7 +21,7 @@ MeetsReady shape a s = (held : ℕ) × Meets (address shape (desc_status a.desc)
 -- where it did so of the present attempt with this entry, a later step on a read or slot word of the descriptor, that
 -- is no store, found what stands there now
 abbrev pub LoadStands : Shape → List ℕ → List HistoryEntry → (s t : Step) → Type 0
-LoadStands shape words history s t = (e : HistoryEntry) → Contains history e → e.attempt.serial ≡ serial_of (word_at shape words (desc_status e.attempt.desc)) → MeetsReady shape e.attempt s
+LoadStands shape words history s t = (e : HistoryEntry) → Contains history e → IsPresentIn shape words e.attempt → MeetsReady shape e.attempt s
     → IsEntryWord e.attempt.desc (place_at shape t.word) → is_store t.kind ≡ false → t.before ≡ slice_index words t.word
 
 -- so it is of any two steps of a segment

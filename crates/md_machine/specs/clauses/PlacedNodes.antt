@@ -5,9 +5,9 @@ use Rattle.md_words.specs.Place.{node_key, node_value}
 use Rattle.md_history.specs.declared.entries.Fate.{Fate}
 use Rattle.md_machine.specs.declared.attempt.HistoryEntry.{HistoryEntry}
 use Rattle.md_machine.specs.declared.certificate.NewNode.{NewNode}
+use Rattle.md_machine.specs.Certified.{all_nodes}
 use Rattle.md_machine.specs.Machine.{Machine, shape_of, word_at}
 use Rattle.md_machine.specs.Resolution.{greatest, kept_structure, may_commit, structure_in}
-use Rattle.md_machine.specs.Certified.{all_nodes}
 
 -- each node that the opening or an entry places is one of the field
 pub record NodesExist (m : Machine) : Type 0 where

@@ -1,12 +1,11 @@
 -- The marks: what is in hand changes, by a load of word 0.
-use Rattle.std.specs.Prelude.{◌≡◌, ◌<◌, ◌≤◌, ◌++◌, ◌&&◌, not, ℕ, Bool, true, false, List, [], ◌∷◌, map, filter, Some, None, if◌then◌else◌}
+use Rattle.std.specs.Prelude.{◌≡◌, ◌<◌, ◌≤◌, ◌++◌, ◌&&◌, not, ℕ, true, false, List, [], ◌∷◌, map, filter, Some, None, if◌then◌else◌}
 use Rattle.md_words.specs.declared.limits.TheConstants.{SET}
 use Rattle.md_words.specs.Status.{status_of, serial_of}
 use Rattle.md_words.specs.Place.{desc_status}
 use Rattle.md_words.specs.Layout.{address}
 use Rattle.md_history.specs.declared.entries.Entry.{Entry}
 use Rattle.md_history.specs.declared.entries.Fate.{Fate}
-use Rattle.md_history.specs.declared.entries.Fate.TheVariants.{Committed, Aborted, Undecided}
 use Rattle.md_history.specs.Act.{act_of}
 use Rattle.md_machine.specs.declared.attempt.AttemptId.{AttemptId}
 use Rattle.md_machine.specs.declared.attempt.Hand.{Hand}
@@ -18,6 +17,7 @@ use Rattle.md_machine.specs.Certified.{IsCertified, whole_changes, whole_nodes}
 use Rattle.md_machine.specs.Machine.{Machine, content, present, same_attempt, shape_of, was_begun}
 use Rattle.md_machine.specs.Meaning.{Meaning}
 use Rattle.md_machine.specs.Own.{HasDesc}
+use Rattle.md_machine.specs.Resolution.{is_committed}
 use Rattle.md_machine.specs.Stepping.{replaced, stepped}
 use Rattle.md_machine.specs.Trail.{Meets, SomeStepOf}
 use Rattle.md_machine.specs.events.Ready.{IsStoredRead, reads_now, writes_now}
@@ -87,13 +87,8 @@ pub record MayMarkEnd (m : Machine) (p : PassView) (h : Hand) : Type 0 where
   pub met : SomeStepOf p (Meets (address (shape_of m) (desc_status h.attempt.desc)) status)
 
 -- the attempt's entry where it is known to be committed
-abbrev pub is_known_committed : Fate → Bool
-is_known_committed Committed = true
-is_known_committed Aborted = false
-is_known_committed Undecided = false
-
 abbrev pub answered : List HistoryEntry → List Fate → AttemptId → List Entry
-answered (e ∷ es) (f ∷ fs) a = if same_attempt e.attempt a && is_known_committed f then e.entry ∷ answered es fs a else answered es fs a
+answered (e ∷ es) (f ∷ fs) a = if same_attempt e.attempt a && is_committed f then e.entry ∷ answered es fs a else answered es fs a
 answered _ _ a = []
 
 abbrev pub without : List AttemptId → AttemptId → List AttemptId
