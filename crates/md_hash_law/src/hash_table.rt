@@ -1,5 +1,6 @@
 //! The theory of hash tables.
 
+ghost use Rattle.md_machine.specs.Legal.{AlwaysMeant};
 ghost use Rattle.md_machine.specs.Theorem.{AlwaysKept, AlwaysGoesOn};
 ghost use Rattle.md_hash_law.specs.HashTable.{hash_table};
 
@@ -34,6 +35,7 @@ impl HasLists for HashTheory {
 pub fn hash_table_schedules()
     ensures kept { AlwaysKept hash_table }
     ensures goes_on { AlwaysGoesOn hash_table }
+    ensures legal { AlwaysMeant hash_table }
 {
     all_schedules::<HashTheory>();
 }

@@ -1,5 +1,6 @@
 //! The theory of one list, of which md_list_law has the definitions and proves the laws.
 
+ghost use Rattle.md_machine.specs.Legal.{AlwaysMeant};
 ghost use Rattle.md_machine.specs.Theorem.{AlwaysKept, AlwaysGoesOn};
 ghost use Rattle.md_list_law.specs.OneList.{one_list};
 
@@ -20,6 +21,7 @@ impl Theory for ListTheory {
 pub fn one_list_schedules()
     ensures kept { AlwaysKept one_list }
     ensures goes_on { AlwaysGoesOn one_list }
+    ensures legal { AlwaysMeant one_list }
 {
     all_schedules::<ListTheory>();
 }
