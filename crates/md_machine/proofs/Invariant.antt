@@ -10,6 +10,7 @@ use Rattle.md_words.specs.Place.{desc_status, read_word, read_content}
 use Rattle.md_history.specs.FrontLaws.{all_stay-self}
 use Rattle.md_machine.specs.declared.attempt.AttemptId.{AttemptId}
 use Rattle.md_machine.specs.declared.opening.Opening.{Opening}
+use Rattle.md_machine.proofs.clauses.Alone.{HoldersFind, alone-kept, holders_alone}
 use Rattle.md_machine.proofs.clauses.Brackets.{TrailsBracket, brackets-kept}
 use Rattle.md_machine.proofs.clauses.Entries.{entries-kept}
 use Rattle.md_machine.proofs.clauses.EntriesFit.{EntriesFit, ReadsCounted, entry_fits}
@@ -24,6 +25,7 @@ use Rattle.md_machine.proofs.clauses.KnownPast.{known_past-kept}
 use Rattle.md_machine.proofs.clauses.Lanes.{lanes-kept}
 use Rattle.md_machine.proofs.clauses.Loads.{EntriesPast, loads-kept}
 use Rattle.md_machine.proofs.clauses.NodeWords.{node_words-kept}
+use Rattle.md_machine.proofs.clauses.Numbered.{numbered-kept}
 use Rattle.md_machine.proofs.clauses.OddWords.{odd_words-kept}
 use Rattle.md_machine.proofs.clauses.OldSlots.{OldSlotStands, old_slots-kept}
 use Rattle.md_machine.proofs.clauses.Order.{TrailsInOrder, order-kept}
@@ -31,6 +33,7 @@ use Rattle.md_machine.proofs.clauses.Past.{PastDecided, fates_told, past-kept}
 use Rattle.md_machine.proofs.clauses.Placed.{placed-kept}
 use Rattle.md_machine.proofs.clauses.Reads.{reads_found, reads_moved}
 use Rattle.md_machine.proofs.clauses.ReadyEntries.{ReadyHaveEntries, ready_entries-kept}
+use Rattle.md_machine.proofs.clauses.Serials.{serials-kept}
 use Rattle.md_machine.proofs.clauses.Sound.{sound-kept}
 use Rattle.md_machine.proofs.clauses.Stamps.{Stamp, Stamped, StampsKept, stamp_more, stamps-kept, stamps_hold}
 use Rattle.md_machine.proofs.clauses.Statuses.{StatusesNoted, statuses-kept}
@@ -49,6 +52,7 @@ use Rattle.md_machine.specs.GoesOn.{GoesOn, StatusGoesOn}
 use Rattle.md_machine.specs.Machine.{IsPresentIn, Machine, content, shape_of, status_at, word_at}
 use Rattle.md_machine.specs.Meaning.{Meaning}
 use Rattle.md_machine.specs.Theorem.{IsKept}
+use Rattle.md_machine.specs.clauses.Alone.{HoldsAll, LastStand}
 use Rattle.md_machine.specs.clauses.EntrySlots.{EntriesKeepSlots}
 use Rattle.md_machine.specs.clauses.Fates.{PastKnown}
 use Rattle.md_machine.specs.clauses.Flags.{FlaggedAreNoted}
@@ -58,9 +62,11 @@ use Rattle.md_machine.specs.clauses.Hands.{HandsFit}
 use Rattle.md_machine.specs.clauses.Lanes.{LanesApart}
 use Rattle.md_machine.specs.clauses.Loads.{LoadStands}
 use Rattle.md_machine.specs.clauses.NodeWords.{DataStands, NodeWordsStand}
+use Rattle.md_machine.specs.clauses.Numbered.{EntriesNumbered}
 use Rattle.md_machine.specs.clauses.OddWords.{OddStand}
 use Rattle.md_machine.specs.clauses.Placed.{PlacedStay}
 use Rattle.md_machine.specs.clauses.Reads.{MovedReads, ReadFound}
+use Rattle.md_machine.specs.clauses.Serials.{EntriesInTurn}
 use Rattle.md_machine.specs.clauses.Sound.{CommittedAreSound}
 use Rattle.md_machine.specs.clauses.Stamps.{NotedByRead}
 use Rattle.md_machine.specs.clauses.Undecided.{UndecidedStand}
@@ -96,6 +102,9 @@ pub record Invariant (m : Machine) : Type 0 where
   pub sound : CommittedAreSound m
   pub ready_entries : ReadyHaveEntries (shape_of m) m.words m.history
   pub old_slots : EachPair (OldSlotStands (shape_of m) m.words) m.passes
+  pub numbered : EntriesNumbered (shape_of m) m.history
+  pub serials : EntriesInTurn m
+  pub alone : HoldersFind m
   pub stamp : Stamp
   pub stamps : StampsKept m stamp
 
@@ -156,6 +165,9 @@ kept_by m k = record {
   loads = λ pass p at earlier s later segment t c. pairs_of (LoadStands (shape_of m) m.words m.history) earlier s later t (k.loads pass p at (earlier ++ s ∷ later) segment) c;
   reads = record { moved = k.moved_reads; found = λ pass p at earlier s later segment t c. pairs_of (ReadFound (shape_of m) m.history) earlier s later t (k.found_reads pass p at (earlier ++ s ∷ later) segment) c };
   sound = k.sound;
+  numbered = k.numbered;
+  serials = k.serials;
+  alone = holders_alone m k.lanes k.fronts k.known_past k.numbered k.alone;
   stores = λ pass p at a now. k.stores pass p at a (ap (λ (b : AttemptId). b.serial) now);
 }
 
@@ -203,6 +215,9 @@ module _ (M : Meaning) where
           sound = sound-kept m n v (record { formats = k.formats; entries = k.entries; stores = k.stores; loads = k.loads; found = k.found_reads; sound = k.sound }) (fated (shape_of m) m.words m.history m.fates k.entries);
           ready_entries = reshape (λ shape. ReadyHaveEntries shape n.words n.history) (ready_entries-kept m n v k.formats.field k.hands k.ready_entries);
           old_slots = move (λ shape words. EachPair (OldSlotStands shape words) n.passes) (old_slots-kept m k.stamp k.stamps k.installs k.order n v k.formats.field k.hands k.odd_words k.old_slots);
+          numbered = reshape (λ shape. EntriesNumbered shape n.history) (numbered-kept m n v k.entries k.numbered);
+          serials = serials-kept m n v k.entries k.in_hand k.serials;
+          alone = λ pass p at. reshape (λ shape. HoldsAll shape p → LastStand n p.trail) (alone-kept m n v k.formats.field v.live k.lanes k.alone pass p at);
           stamp = stamp_more k.stamp v.word v.new;
           stamps = subst (λ o. StampsKept (record n { opening = o }) (stamp_more k.stamp v.word v.new)) (sym v.opening)
               (subst (λ words. StampsKept (record n { words = words; opening = m.opening }) (stamp_more k.stamp v.word v.new)) (sym v.words) stamps);

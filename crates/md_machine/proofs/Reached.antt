@@ -17,6 +17,7 @@ use Rattle.md_machine.proofs.Invariant.{Invariant, kept_by, plays_keep, runs_kee
 use Rattle.md_machine.proofs.clauses.Brackets.{IsBracket}
 use Rattle.md_machine.proofs.clauses.LanesApart.{At, lanes_first}
 use Rattle.md_machine.proofs.clauses.OldSlots.{OldSlotStands}
+use Rattle.md_machine.proofs.clauses.Numbered.{none_numbered}
 use Rattle.md_machine.proofs.clauses.Order.{InOrder}
 use Rattle.md_machine.proofs.clauses.ReadyEntries.{prep_not_ready}
 use Rattle.md_machine.proofs.events.Steps.{HasStep}
@@ -29,6 +30,7 @@ use Rattle.md_machine.specs.Machine.{Machine}
 use Rattle.md_machine.specs.Meaning.{Meaning}
 use Rattle.md_machine.specs.Theorem.{AlwaysGoesOn, AlwaysKept}
 use Rattle.md_machine.specs.Trail.{segments}
+use Rattle.md_machine.specs.clauses.Alone.{LastStand}
 use Rattle.md_machine.specs.clauses.Formats.{AreFormats, StatusFits}
 use Rattle.md_machine.specs.clauses.Fronts.{FrontFits}
 use Rattle.md_machine.specs.clauses.Loads.{LoadStands}
@@ -122,6 +124,9 @@ module _ (M : Meaning) where
     sound = record { flags = λ e c. absurd (in_none e c); sound = tt };
     ready_entries = λ desc exists ready. absurd (prep_not_ready _ (ap status_of (can.descs _ (status_late o.shape desc) ∙ zero_begins) ∙ status_of-status_word InPrep 0 0) ready);
     old_slots = λ pass p at segment c. subst (InPairs (OldSlotStands o.shape o.words)) (first_segment o.shape p segment (at_one (first_pass o.shape) p pass at).1 c) tt;
+    numbered = none_numbered o.shape;
+    serials = record { rise = tt; begun = λ e c. absurd (in_none e c) };
+    alone = λ pass p at all. subst (λ (q : PassView). LastStand (opened o) q.trail) (at_one (first_pass o.shape) p pass at).1 tt;
     stamp = λ word count. get_or o.words word 0;
     stamps = record {
       now = λ word counted. record { bound = le_refl _; is = refl };

@@ -28,3 +28,7 @@ pub mod Reads
 pub mod Sound
 pub mod ReadyEntries
 pub mod OldSlots
+pub mod Numbered
+pub mod FrontsLegal
+pub mod Alone
+pub mod Serials

@@ -1,5 +1,5 @@
 -- What the machine means in the words of histories: the front of a pass, and when its history is legal.
-use Rattle.std.specs.Prelude.{◌≡◌, Bool, List, [], map}
+use Rattle.std.specs.Prelude.{◌≡◌, ℕ, Bool, List, [], map}
 use Rattle.md_words.specs.declared.shape.Shape.{Shape}
 use Rattle.md_words.specs.Lanes.{lane_of_desc}
 use Rattle.md_history.specs.State.{State, run}
@@ -9,7 +9,7 @@ use Rattle.md_machine.specs.declared.attempt.AttemptId.{AttemptId}
 use Rattle.md_machine.specs.declared.opening.Opening.{Opening}
 use Rattle.md_machine.specs.declared.pass.PassView.{PassView}
 use Rattle.md_machine.specs.Event.{CanOpen, Event, Runs, opened}
-use Rattle.md_machine.specs.Machine.{Machine}
+use Rattle.md_machine.specs.Machine.{IsAt, Machine}
 use Rattle.md_machine.specs.Meaning.{Meaning}
 use Rattle.md_machine.specs.Resolution.{Resolves, entries_of, logical_heap}
 
@@ -44,10 +44,15 @@ module _ (M : Meaning) where
   abbrev pub EveryHeapIsReplay : Machine → Type 0
   EveryHeapIsReplay m = (choice : List Bool) → Resolves m choice → IsReplay m choice
 
-  -- of a machine: in every resolution the logical heap is a replay, and the history is legal
+  -- what each pass has seen is legal, whatever becomes of the entries that it doesn't know to be decided
+  abbrev pub FrontsLegal : Machine → Type 0
+  FrontsLegal m = (pass : ℕ) (p : PassView) → IsAt m pass p → IsLegal (opening_state m.opening) (entries_of p.seen) p.known
+
+  -- of a machine: in every resolution the logical heap is a replay, and the history is legal, as each pass has seen it too
   pub record IsMeant (m : Machine) : Type 0 where
     pub every : EveryHeapIsReplay m
     pub legal : HistoryIsLegal m
+    pub fronts_legal : FrontsLegal m
 
   -- after every list of events from an opening
   abbrev pub AlwaysMeant : Type 0

@@ -5,6 +5,7 @@ use Rattle.md_machine.specs.Event.{CanOpen, Event, Plays, Runs, opened}
 use Rattle.md_machine.specs.GoesOn.{GoesOn}
 use Rattle.md_machine.specs.Machine.{Machine, shape_of}
 use Rattle.md_machine.specs.Meaning.{Meaning}
+use Rattle.md_machine.specs.clauses.Alone.{HoldersAreAlone}
 use Rattle.md_machine.specs.clauses.EntrySlots.{EntriesKeepSlots}
 use Rattle.md_machine.specs.clauses.Fates.{FatesByStatuses}
 use Rattle.md_machine.specs.clauses.Flags.{FlaggedAreNoted}
@@ -15,9 +16,11 @@ use Rattle.md_machine.specs.clauses.InHand.{HandsLast}
 use Rattle.md_machine.specs.clauses.Lanes.{LanesApart}
 use Rattle.md_machine.specs.clauses.Loads.{LoadsStand}
 use Rattle.md_machine.specs.clauses.NodeWords.{NodeWordsStand}
+use Rattle.md_machine.specs.clauses.Numbered.{EntriesNumbered}
 use Rattle.md_machine.specs.clauses.OddWords.{OddStand}
 use Rattle.md_machine.specs.clauses.Placed.{PlacedStay}
 use Rattle.md_machine.specs.clauses.Reads.{ReadsShow}
+use Rattle.md_machine.specs.clauses.Serials.{EntriesInTurn}
 use Rattle.md_machine.specs.clauses.Slots.{SlotsStand}
 use Rattle.md_machine.specs.clauses.Sound.{CommittedAreSound}
 use Rattle.md_machine.specs.clauses.Stamps.{StampsHold}
@@ -46,6 +49,9 @@ pub record IsKept (m : Machine) : Type 0 where
   pub loads : LoadsStand m
   pub reads : ReadsShow m
   pub sound : CommittedAreSound m
+  pub numbered : EntriesNumbered (shape_of m) m.history
+  pub serials : EntriesInTurn m
+  pub alone : HoldersAreAlone m
 
 module _ (M : Meaning) where
   -- after every list of events from an opening

@@ -18,3 +18,6 @@ pub mod NodeWords
 pub mod Loads
 pub mod Reads
 pub mod Sound
+pub mod Numbered
+pub mod Alone
+pub mod Serials

@@ -23,7 +23,7 @@ use Rattle.md_machine.proofs.events.Steps.{HasStep, PassesFrom}
 use Rattle.md_machine.proofs.events.WordChanges.{MayLeave}
 use Rattle.md_machine.proofs.fates.Knowing.{TellsTruth}
 use Rattle.md_machine.specs.Installs.{spot_of_install}
-use Rattle.md_machine.specs.Machine.{Install, IsAt, Machine, content, is_ready, present, shape_of, was_begun}
+use Rattle.md_machine.specs.Machine.{Install, IsAt, IsLive, Machine, content, is_ready, present, shape_of, was_begun}
 use Rattle.md_machine.specs.Own.{HasDesc, IsDataOf}
 use Rattle.md_machine.specs.Resolution.{never_placed}
 use Rattle.md_machine.specs.Stepping.{step_of}
@@ -110,6 +110,7 @@ pub record MoveFacts (m n : Machine) : Type 0 where
   pub pass : ℕ
   pub p : PassView
   pub at : IsAt m pass p
+  pub live : IsLive p
   pub kind : Kind
   pub word : ℕ
   pub new : ℕ

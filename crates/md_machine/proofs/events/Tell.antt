@@ -352,6 +352,7 @@ module _ (M : Meaning) (m n : Machine) (f : AreFormats (shape_of m) m.words) (ap
     pass = v.pass;
     p = v.p;
     at = v.acts.at;
+    live = v.acts.live;
     kind = v.kind;
     word = v.word;
     new = v.new;

@@ -49,7 +49,7 @@ use Rattle.md_machine.proofs.replay.Nodes.{else_some, placed_exists, structure_a
 use Rattle.md_machine.proofs.replay.Under.{Grounds}
 
 -- a present attempt that is InPrep has no entry
-prep_idle : (m : Machine) (a : AttemptId) → status_at m a.desc ≡ unready_word a → (es : List HistoryEntry) (fs : List Fate) → EntriesFit (shape_of m) m.words es fs → is_ready es a ≡ false
+pub prep_idle : (m : Machine) (a : AttemptId) → status_at m a.desc ≡ unready_word a → (es : List HistoryEntry) (fs : List Fate) → EntriesFit (shape_of m) m.words es fs → is_ready es a ≡ false
 prep_idle m a unready [] fs fit = refl
 prep_idle m a unready (e ∷ es) [] fit = absurd fit
 prep_idle m a unready (e ∷ es) (f ∷ fs) fit = ⊎_elim
