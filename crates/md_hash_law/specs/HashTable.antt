@@ -9,7 +9,7 @@ use Rattle.md_machine.specs.declared.certificate.Certificate.{Certificate}
 use Rattle.md_machine.specs.declared.certificate.TidyChange.{TidyChange}
 use Rattle.md_machine.specs.LogicalHeap.{LogicalWords, LogicalHeap}
 use Rattle.md_machine.specs.Meaning.{Meaning}
-use Rattle.md_list_law.specs.Walk.{pairs_from, table_of}
+use Rattle.md_list_law.specs.Walk.{pairs_from, map_of_pairs}
 use Rattle.md_list_law.specs.ListShape.{head_word, IsNextWord, IsBucket}
 use Rattle.md_list_law.specs.HasLists.{IsMapCertificate, IsBucketUnlink}
 
@@ -26,7 +26,7 @@ abbrev pub pairs_of_map : LogicalWords → (map : ℕ) → List (ℕ × ℕ)
 pairs_of_map w map = flat_map (λ bucket. pairs_from w (head_word w.shape map bucket)) (range_with_len 0 w.shape.buckets)
 
 abbrev pub maps_of : LogicalWords → List Table
-maps_of w = map_list (λ map. table_of (pairs_of_map w map)) (range_with_len 0 w.shape.maps)
+maps_of w = map_list (λ map. map_of_pairs (pairs_of_map w map)) (range_with_len 0 w.shape.maps)
 
 -- the word is a bucket's head
 abbrev pub IsHeadWord : Shape → (word : ℕ) → Type 0

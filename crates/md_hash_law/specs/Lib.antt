@@ -1,2 +1,3 @@
 pub mod HashTable
 pub mod Laws
+pub mod Rows

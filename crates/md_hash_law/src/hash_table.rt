@@ -3,6 +3,7 @@
 ghost use Rattle.md_machine.specs.Legal.{AlwaysMeant};
 ghost use Rattle.md_machine.specs.Theorem.{AlwaysKept, AlwaysGoesOn};
 ghost use Rattle.md_hash_law.specs.HashTable.{hash_table};
+ghost use Rattle.md_hash_law.specs.Rows.{WorkedTables};
 
 use md_list_law::HasLists;
 use md_machine::{Theory, all_schedules};
@@ -39,3 +40,9 @@ pub fn hash_table_schedules()
 {
     all_schedules::<HashTheory>();
 }
+
+/// It does nothing: its contract is that worked hash tables go as they must. Each certificate is one of
+/// the theory and stands, and the maps stand for the pairs expected.
+pub fn worked_tables()
+    ensures { WorkedTables }
+{}

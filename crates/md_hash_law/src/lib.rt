@@ -13,7 +13,7 @@
 //!   every other theory that has lists.
 #![tactic(auto)]
 
-pub use hash_table::{HashTheory, hash_table_schedules};
+pub use hash_table::{HashTheory, hash_table_schedules, worked_tables};
 pub use one_list::{ListTheory, one_list_schedules};
 
 mod hash_table;

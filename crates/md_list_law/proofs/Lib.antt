@@ -16,4 +16,4 @@ pub mod Standing
 pub mod Framing
 pub mod OneListLaws
 mod Shown
-mod RowsHold
+pub mod RowsHold

@@ -13,7 +13,7 @@ use Rattle.md_machine.specs.declared.certificate.Certificate.{Certificate}
 use Rattle.md_machine.specs.declared.certificate.TidyChange.{TidyChange}
 use Rattle.md_machine.specs.LogicalHeap.{LogicalHeap, LogicalWords, IsPlaced, IsNoUnplacedNext, AgreeWherePlaced}
 use Rattle.md_machine.specs.Meaning.{Stands, TidyStands, KeepsFacts, Follows, Lawful, NamesPlaced, after_certificate, after_tidy}
-use Rattle.md_list_law.specs.Walk.{pairs_from, table_of}
+use Rattle.md_list_law.specs.Walk.{pairs_from, map_of_pairs}
 use Rattle.md_list_law.specs.ListShape.{IsList}
 use Rattle.md_list_law.specs.OneList.{the_list, the_head, IsOneList, state_of_list, one_list}
 use Rattle.md_list_law.proofs.Links.{head_is_no_next}
@@ -34,7 +34,7 @@ apart h node is_node = head_is_no_next h.words.shape 0 0 node (first_bucket h.wo
 
 -- the map of a list
 the_table : LogicalWords → Table
-the_table w = table_of (pairs_from w (the_head w.shape))
+the_table w = map_of_pairs (pairs_from w (the_head w.shape))
 
 get-the_table : (w : LogicalWords) (q : ℕ) → fin.get (the_table w) q ≡ fin.find nat_cmp q (pairs_from w (the_head w.shape))
 unfolding the_table

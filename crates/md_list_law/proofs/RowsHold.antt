@@ -33,7 +33,7 @@ no_unlinks : All (IsUnlink list_shape the_list (the_head list_shape)) []
 no_unlinks = All-nil (IsUnlink list_shape the_list (the_head list_shape))
 
 -- a certificate stands if it does element by element
-stands_each : (h : LogicalHeap) (c : Certificate) → AllByRecursion (λ (r : WordValue). h.words.value r.word ≡ r.value) c.recorded
+pub stands_each : (h : LogicalHeap) (c : Certificate) → AllByRecursion (λ (r : WordValue). h.words.value r.word ≡ r.value) c.recorded
     → AllByRecursion (λ (ch : Change). h.words.value ch.word ≡ ch.old) c.changes → AllByRecursion (Holds h) c.facts
     → AllByRecursion (λ (n : NewNode). h.placed n.node ≡ None) c.nodes → Stands h c
 stands_each h c recorded old facts fresh = record {

@@ -6,7 +6,7 @@ use Rattle.md_machine.specs.declared.node.Structure.{Structure}
 use Rattle.md_machine.specs.declared.node.Structure.TheVariants.{Bucket}
 use Rattle.md_machine.specs.LogicalHeap.{LogicalWords, LogicalHeap}
 use Rattle.md_machine.specs.Meaning.{Meaning}
-use Rattle.md_list_law.specs.Walk.{pairs_from, table_of}
+use Rattle.md_list_law.specs.Walk.{pairs_from, map_of_pairs}
 use Rattle.md_list_law.specs.ListShape.{head_word, IsNextWord, IsList}
 use Rattle.md_list_law.specs.Certificates.{IsUnlink, IsListCertificate}
 
@@ -23,7 +23,7 @@ pub record IsOneList (h : LogicalHeap) : Type 0 where
 
 -- its state is one map
 abbrev pub state_of_list : LogicalWords → State
-state_of_list w = record { maps = table_of (pairs_from w (the_head w.shape)) ∷ []; queues = [] }
+state_of_list w = record { maps = map_of_pairs (pairs_from w (the_head w.shape)) ∷ []; queues = [] }
 
 -- its links are its head and the next words of nodes
 abbrev pub one_list : Meaning

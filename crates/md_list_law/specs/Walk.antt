@@ -27,5 +27,5 @@ abbrev pub pairs_from : LogicalWords → (head : ℕ) → List (ℕ × ℕ)
 pairs_from w head = unmarked_pairs w (reached_nodes w head)
 
 -- pairs as a finite map
-abbrev pub table_of : List (ℕ × ℕ) → Table
-table_of pairs = fin.from_entries pairs
+abbrev pub map_of_pairs : List (ℕ × ℕ) → Table
+map_of_pairs pairs = fin.from_entries pairs

@@ -13,7 +13,7 @@ use Rattle.md_history.specs.State.{State, Table, map_at, answer, after}
 use Rattle.md_machine.specs.declared.node.Structure.TheVariants.{Bucket}
 use Rattle.md_machine.specs.declared.certificate.Certificate.{Certificate}
 use Rattle.md_machine.specs.LogicalHeap.{LogicalWords, LogicalHeap}
-use Rattle.md_list_law.specs.Walk.{pairs_from, table_of}
+use Rattle.md_list_law.specs.Walk.{pairs_from, map_of_pairs}
 use Rattle.md_list_law.specs.ListShape.{head_word, IsIn, IsList, IsBucket}
 use Rattle.md_list_law.proofs.Keys.{none_unless}
 use Rattle.md_list_law.proofs.Links.{head_is_no_next, heads_differ}
@@ -28,7 +28,7 @@ use Rattle.md_hash_law.specs.Laws.Maps.{map-same, map-set_one}
 
 -- the map of a number
 pub table_at : LogicalWords → (map : ℕ) → Table
-table_at w map = table_of (pairs_of_map w map)
+table_at w map = map_of_pairs (pairs_of_map w map)
 
 -- it is that of the state, whatever the queues are
 map_at_is : (w : LogicalWords) (queues : List (List ℕ)) (map : ℕ) → map < w.shape.maps
