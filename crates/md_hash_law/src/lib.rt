@@ -7,8 +7,8 @@
 //!   operation's reply on the state, and leaves a valid heap with the operation's state.
 //! - An unlink in any bucket leaves a valid heap with the same state.
 //! - Neither takes away a fact on a placed node; words of nodes that aren't placed don't matter.
-//! - So [`md_machine::all_schedules`] holds for [`HashTheory`], and every schedule of transactions on
-//!   hash tables has a legal history: [`hash_table_schedules`].
+//! - So [`md_machine::all_schedules`] holds for [`HashTheory`], and every schedule of transactions
+//!   on hash tables has a legal history: [`hash_table_schedules`].
 //! - [`HashTheory`] has [`md_list_law::HasLists`], so code that walks a bucket works for it as for
 //!   every other theory that has lists.
 #![tactic(auto)]
