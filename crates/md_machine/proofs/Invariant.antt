@@ -30,7 +30,8 @@ use Rattle.md_machine.proofs.clauses.OddWords.{odd_words-kept}
 use Rattle.md_machine.proofs.clauses.OldSlots.{OldSlotStands, old_slots-kept}
 use Rattle.md_machine.proofs.clauses.Order.{TrailsInOrder, order-kept}
 use Rattle.md_machine.proofs.clauses.Past.{PastDecided, fates_told, past-kept}
-use Rattle.md_machine.proofs.clauses.Placed.{placed-kept}
+use Rattle.md_machine.proofs.clauses.Placed.{NotedAlways, placed-kept}
+use Rattle.md_machine.proofs.clauses.PlacedOnce.{AliveOnce, noted_structure, placed_once-kept}
 use Rattle.md_machine.proofs.clauses.Reads.{reads_found, reads_moved}
 use Rattle.md_machine.proofs.clauses.ReadyEntries.{ReadyHaveEntries, ready_entries-kept}
 use Rattle.md_machine.proofs.clauses.Serials.{serials-kept}
@@ -49,7 +50,7 @@ use Rattle.md_machine.proofs.lists.Pairs.{EachPair, pairs_of}
 use Rattle.md_machine.proofs.lists.Rising.{here, there}
 use Rattle.md_machine.specs.Event.{Does, Event, Plays, Runs}
 use Rattle.md_machine.specs.GoesOn.{GoesOn, StatusGoesOn}
-use Rattle.md_machine.specs.Machine.{IsPresentIn, Machine, content, shape_of, status_at, word_at}
+use Rattle.md_machine.specs.Machine.{IsPresentIn, Machine, content, present, shape_of, status_at, word_at}
 use Rattle.md_machine.specs.Meaning.{Meaning}
 use Rattle.md_machine.specs.Theorem.{IsKept}
 use Rattle.md_machine.specs.clauses.Alone.{HoldsAll, LastStand}
@@ -64,13 +65,13 @@ use Rattle.md_machine.specs.clauses.Loads.{LoadStands}
 use Rattle.md_machine.specs.clauses.NodeWords.{DataStands, NodeWordsStand}
 use Rattle.md_machine.specs.clauses.Numbered.{EntriesNumbered}
 use Rattle.md_machine.specs.clauses.OddWords.{OddStand}
-use Rattle.md_machine.specs.clauses.Placed.{PlacedStay}
 use Rattle.md_machine.specs.clauses.Reads.{MovedReads, ReadFound}
 use Rattle.md_machine.specs.clauses.Serials.{EntriesInTurn}
 use Rattle.md_machine.specs.clauses.Sound.{CommittedAreSound}
 use Rattle.md_machine.specs.clauses.Stamps.{NotedByRead}
 use Rattle.md_machine.specs.clauses.Undecided.{UndecidedStand}
 use Rattle.md_machine.specs.clauses.WonInstalls.{WonAreInstalls}
+use Rattle.md_machine.specs.events.SplitJoin.{moved}
 
 pub record Invariant (m : Machine) : Type 0 where
   pub formats : AreFormats (shape_of m) m.words
@@ -81,7 +82,8 @@ pub record Invariant (m : Machine) : Type 0 where
   pub past : PastDecided (shape_of m) m.words m.history m.fates
   pub fronts : FrontsFit (shape_of m) m.history m.fates m.passes
   pub known_past : PastKnown (shape_of m) m.words m.history m.passes
-  pub placed : PlacedStay m
+  pub placed : NotedAlways m
+  pub placed_once : AliveOnce m
   pub installs : InstallsKept (shape_of m) m.words m.installs m.passes
   pub order : TrailsInOrder (shape_of m) m.passes
   pub odd_words : OddStand (shape_of m) m.words m.installs
@@ -156,7 +158,7 @@ kept_by m k = record {
   slots = λ i c. (k.installs.fits i c).slot;
   fates = record { told = fates_told (shape_of m) m.words m.history m.fates k.entries k.past; past = k.known_past };
   fronts = k.fronts;
-  placed = k.placed;
+  placed = λ pass p at x c. noted_structure m k.placed_once x (k.placed pass p at x c);
   flags = k.flags;
   node_words = k.node_words;
   won_installs = k.won_installs;
@@ -180,6 +182,7 @@ module _ (M : Meaning) where
       let move : (P : Shape → List ℕ → Type 0) → Shaped P = λ P h. subst (λ (o : Opening). P o.shape n.words) (sym v.opening) (subst (P (shape_of m)) (sym v.words) h) in
       let reshape : (P : Shape → Type 0) → P (shape_of m) → P (shape_of n) = λ P h. subst (λ (o : Opening). P o.shape) (sym v.opening) h in
       let past : EntriesPast m = λ y i. let fits = (entry_fits (shape_of m) m.words m.history m.fates y k.entries i).1 in (fits.exists, fits.past) in
+      let sound = sound-kept m n v (record { formats = k.formats; entries = k.entries; stores = k.stores; loads = k.loads; found = k.found_reads; sound = k.sound }) (fated (shape_of m) m.words m.history m.fates k.entries) in
       let fronts = fronts-kept m n v k.lanes k.fronts entries in
       let stamps = stamps-kept m n k.stamp k.formats.field k.stamps v v.words v.opening in (
         record {
@@ -193,6 +196,7 @@ module _ (M : Meaning) where
           known_past = reshape (λ shape. PastKnown shape n.words n.history n.passes) (known_past-kept m n v k.formats.field k.lanes
               (λ x c. (entry_fits (shape_of m) m.words m.history m.fates x k.entries c).1.exists) entries.stay k.fronts fronts k.known_past);
           placed = placed-kept m n v entries.stay k.placed;
+          placed_once = placed_once-kept m n v (fated (shape_of m) m.words m.history m.fates k.entries) entries.stay sound.sound k.placed_once;
           installs = move (λ shape words. InstallsKept shape words n.installs n.passes) (installs-kept m n v k.formats.field k.hands k.installs k.stamp k.stamps);
           order = reshape (λ shape. TrailsInOrder shape n.passes) (order-kept m k.stamp k.stamps v.step (step_rises m n v k.formats.field k.hands k.installs) n.passes v.from k.order);
           odd_words = move (λ shape words. OddStand shape words n.installs) (odd_words-kept m k.stamp k.stamps k.installs k.order n v k.formats.field k.hands k.odd_words);
@@ -212,7 +216,7 @@ module _ (M : Meaning) where
           loads = reshape (λ shape. EachPair (LoadStands shape n.words n.history) n.passes) (loads-kept m n v k.formats.field k.hands k.statuses past k.loads);
           moved_reads = reads_moved m n v k.formats.field k.hands k.statuses past k.stamp k.stamps k.moved_reads;
           found_reads = reshape (λ shape. EachPair (ReadFound shape n.history) n.passes) (reads_found m n v k.formats.field k.hands k.statuses past k.stamp k.stamps k.moved_reads k.found_reads);
-          sound = sound-kept m n v (record { formats = k.formats; entries = k.entries; stores = k.stores; loads = k.loads; found = k.found_reads; sound = k.sound }) (fated (shape_of m) m.words m.history m.fates k.entries);
+          sound = sound;
           ready_entries = reshape (λ shape. ReadyHaveEntries shape n.words n.history) (ready_entries-kept m n v k.formats.field k.hands k.ready_entries);
           old_slots = move (λ shape words. EachPair (OldSlotStands shape words) n.passes) (old_slots-kept m k.stamp k.stamps k.installs k.order n v k.formats.field k.hands k.odd_words k.old_slots);
           numbered = reshape (λ shape. EntriesNumbered shape n.history) (numbered-kept m n v k.entries k.numbered);

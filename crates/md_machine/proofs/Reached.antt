@@ -1,5 +1,5 @@
 -- A field that may be opened meets the invariant, and so does every machine that events lead to.
-use Rattle.std.proofs.Common.{◌≡◌, ℕ, ◌≤◌, List, [], ◌∷◌, ◌++◌, Some, get_or, refl, sym, ap, ◌∙◌, subst, inl, ⊎_elim, le_refl, arith}
+use Rattle.std.proofs.Common.{append-nil, ◌≡◌, ℕ, ◌≤◌, List, [], ◌∷◌, ◌++◌, Some, get_or, refl, sym, ap, ◌∙◌, subst, inl, ⊎_elim, le_refl, arith, ◌≢◌}
 use Rattle.std.proofs.lemmas.Bool.{true≢false}
 use Rattle.md_words.specs.declared.shape.Shape.{Shape}
 use Rattle.md_words.specs.declared.status.Status.TheVariants.{InPrep}
@@ -10,11 +10,13 @@ use Rattle.md_words.proofs.Words.{status_of-status_word, reads_of-status_word, s
 use Rattle.md_machine.specs.declared.opening.Opening.{Opening}
 use Rattle.md_machine.specs.declared.step.Step.{Step}
 use Rattle.md_machine.specs.declared.pass.PassView.{PassView}
-use Rattle.std.specs.List.{Contains}
+use Rattle.std.specs.List.{AllPairs, Contains}
 use Rattle.std.proofs.lemmas.List.Elements.{Contains-append_right}
 use Rattle.md_machine.specs.declared.attempt.Hand.{Hand}
+use Rattle.md_machine.specs.declared.node.PlacedNode.{PlacedNode}
 use Rattle.md_machine.proofs.Invariant.{Invariant, kept_by, plays_keep, runs_keep}
 use Rattle.md_machine.proofs.clauses.Brackets.{IsBracket}
+use Rattle.md_machine.proofs.clauses.FrontsFit.{fated}
 use Rattle.md_machine.proofs.clauses.LanesApart.{At, lanes_first}
 use Rattle.md_machine.proofs.clauses.OldSlots.{OldSlotStands}
 use Rattle.md_machine.proofs.clauses.Numbered.{none_numbered}
@@ -104,6 +106,7 @@ module _ (M : Meaning) where
     fronts = λ pass p at. subst (FrontFits o.shape [] []) (at_one (first_pass o.shape) p pass at).1 (record { seen = record { rest = []; is = refl }; fated = refl; known = tt; own = λ e c l. c });
     known_past = λ e c. absurd (in_none e c);
     placed = λ pass p at x c. absurd (in_none x (subst (λ (v : PassView). Contains v.placed x) (sym (at_one (first_pass o.shape) p pass at).1) c));
+    placed_once = λ i j d before inside. subst (AllPairs (λ (x y : PlacedNode). x.node ≢ y.node)) (sym (append-nil o.placed)) can.once i j d before inside;
     installs = record { fits = λ i c. absurd (in_none i c); held = λ i c. absurd (in_none i c) };
     order = λ pass p at segment c. subst (InOrder o.shape) (first_segment o.shape p segment (at_one (first_pass o.shape) p pass at).1 c) tt;
     odd_words = λ word counted odd. absurd (true≢false (sym (can.even word counted) ∙ odd));

@@ -15,16 +15,20 @@ use Rattle.md_machine.specs.declared.certificate.Certificate.{Certificate}
 use Rattle.md_machine.specs.declared.certificate.Change.{Change}
 use Rattle.md_machine.specs.declared.certificate.NewNode.{NewNode}
 use Rattle.md_machine.specs.declared.certificate.WordValue.{WordValue}
+use Rattle.md_machine.proofs.Reached.{reached}
 use Rattle.md_machine.proofs.Walking.{no_store_for, none_differ, nth, one_below, one_differs, only_none, only_one, trail_at}
+use Rattle.md_machine.proofs.clauses.Brackets.{stood}
+use Rattle.md_machine.proofs.lists.Rising.{there}
 use Rattle.md_machine.specs.Certified.{CertifiedIn, HasWords, after_wholes, as_found, first_content}
 use Rattle.md_machine.specs.Event.{Does, Runs, abort, commit, install, load, mark_act, mark_begin, mark_end, mark_start, opened, ready, split, store, uninstall}
 use Rattle.md_machine.specs.LogicalHeap.{Holds}
-use Rattle.md_machine.specs.Machine.{Machine, attempt_of}
+use Rattle.md_machine.specs.Machine.{Machine, attempt_of, content}
 use Rattle.md_machine.specs.Meaning.{Meaning}
 use Rattle.md_machine.specs.Own.{IsOwnNode}
 use Rattle.md_machine.specs.Resolution.{InEveryResolution, logical_heap}
 use Rattle.md_machine.specs.Rows.{small_opening, small_shape}
 use Rattle.md_machine.specs.Schedules.{StoppedRow, inserts, inserts_change, inserts_node_of, misses, stopping, stopping_end}
+use Rattle.md_machine.specs.Stepping.{replaced}
 use Rattle.md_machine.specs.Trail.{SomeStepOf}
 use Rattle.md_machine.specs.Walk.{after_event, hand_at, view_at}
 use Rattle.md_machine.specs.events.Decide.{FoundRead}

@@ -32,3 +32,4 @@ pub mod Numbered
 pub mod FrontsLegal
 pub mod Alone
 pub mod Serials
+pub mod PlacedOnce

@@ -2,3 +2,4 @@ pub mod At
 pub mod Rising
 pub mod Options
 pub mod Pairs
+pub mod Differ

@@ -21,6 +21,7 @@ use Rattle.md_machine.proofs.clauses.Past.{PastDecided, past_more, past_stays}
 use Rattle.md_machine.proofs.events.MoveFacts.{Enters, MoveFacts}
 use Rattle.md_machine.proofs.events.Moves.{WinsFate}
 use Rattle.md_machine.proofs.events.WordChanges.{MayLeave}
+use Rattle.md_machine.proofs.lists.Rising.{there}
 use Rattle.md_machine.specs.Machine.{Machine, content, shape_of, status_at}
 use Rattle.md_machine.specs.clauses.Formats.{AreFormats}
 use Rattle.md_machine.specs.clauses.Hands.{HandsFit}

@@ -7,8 +7,11 @@ use Rattle.md_words.specs.Place.{Place, node_key, node_value, node_next}
 use Rattle.md_words.specs.PlaceAt.{place_at}
 use Rattle.md_machine.specs.declared.step.Step.{Step}
 use Rattle.md_machine.specs.declared.pass.PassView.{PassView}
+use Rattle.md_machine.proofs.clauses.FrontsFit.{fated}
+use Rattle.md_machine.proofs.clauses.Placed.{NotedAlways, always_in}
 use Rattle.md_machine.proofs.events.MoveFacts.{MoveFacts}
 use Rattle.md_machine.proofs.events.Steps.{adds_step}
+use Rattle.md_machine.proofs.lists.Rising.{here, there}
 use Rattle.md_machine.proofs.resolutions.Placing.{always_not_never}
 use Rattle.md_machine.specs.Machine.{IsAt, Machine, content, shape_of}
 use Rattle.md_machine.specs.Own.{IsDataOf, IsWordOf}
@@ -17,7 +20,6 @@ use Rattle.md_machine.specs.Stepping.{is_of_placed}
 use Rattle.md_machine.specs.Trail.{segments}
 use Rattle.md_machine.specs.clauses.Flags.{FlaggedAreNoted}
 use Rattle.md_machine.specs.clauses.NodeWords.{DataStands, NodeWordsStand, StandsAsFound}
-use Rattle.md_machine.specs.clauses.Placed.{PlacedStay}
 
 -- a word of a node that is a key or a value is that node's key or value
 data_of : (x k : ℕ) (place : Place) → IsWordOf x place → IsDataOf k place → IsDataOf x place
@@ -29,7 +31,7 @@ data_of x k place is d = ⊎_elim (λ y. y) (λ next. absurd (⊎_elim (λ e. ne
     next_value : node_next x ≡ node_value k → ⊥
     next_value e = cc
 
-module _ (m n : Machine) (v : MoveFacts m n) (fated : length m.fates ≡ length m.history) (placed : PlacedStay m) (flags : FlaggedAreNoted m) (was : NodeWordsStand m) where
+module _ (m n : Machine) (v : MoveFacts m n) (fated : length m.fates ≡ length m.history) (placed : NotedAlways m) (flags : FlaggedAreNoted m) (was : NodeWordsStand m) where
   -- where a word stays, all do
   words_same : v.new ≡ content m v.word → n.words ≡ m.words
   words_same same = v.words ∙ ap (set m.words v.word) same ∙ set-get_or m.words v.word 0
@@ -42,7 +44,7 @@ module _ (m n : Machine) (v : MoveFacts m n) (fated : length m.fates ≡ length 
   old_stands pass p at segment c s i flag k d =
       let f = was pass p at segment c s i flag k d in
       let note = flags pass p at segment c s i flag in
-      let always = placed pass p at note.node note.among in
+      let always = always_in m note.node (placed pass p at note.node note.among) in
       let stays : get_or n.words s.word 0 ≡ content m s.word = ⊎_elim
       (λ e. ap (λ ws. get_or ws s.word 0) (words_same (data_stays note.node.node always (subst (λ w. IsDataOf note.node.node (place_at (shape_of m) w)) e (data_of note.node.node k _ note.is d)))))
       (λ ne. ap (λ ws. get_or ws s.word 0) v.words ∙ get_or-set_other m.words v.word s.word v.new 0 ne)

@@ -20,8 +20,9 @@ use Rattle.md_machine.proofs.clauses.Stamps.{Stamp, StampsKept}
 use Rattle.md_machine.proofs.events.MoveFacts.{MoveFacts}
 use Rattle.md_machine.proofs.events.Steps.{HasStep}
 use Rattle.md_machine.proofs.lists.Pairs.{EachPair, pairs-kept}
+use Rattle.md_machine.proofs.lists.Rising.{there}
 use Rattle.md_machine.specs.Installs.{spot_of_install}
-use Rattle.md_machine.specs.Machine.{Machine, content, shape_of, status_at, word_at}
+use Rattle.md_machine.specs.Machine.{Machine, content, present, shape_of, status_at, word_at}
 use Rattle.md_machine.specs.clauses.Hands.{HandsFit}
 use Rattle.md_machine.specs.clauses.OddWords.{OddStand}
 

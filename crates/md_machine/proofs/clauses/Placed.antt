@@ -3,7 +3,7 @@ use Rattle.std.proofs.Common.{◌≡◌, ℕ, true, ◌⊎◌, List, [], ◌∷�
 use Rattle.std.specs.List.{Contains}
 use Rattle.std.specs.Prelude.{◌==◌}
 use Rattle.std.proofs.lemmas.Bool.{cond_both, false≢true, true≢false}
-use Rattle.std.proofs.lemmas.List.Elements.{Contains-append_cases}
+use Rattle.std.proofs.lemmas.List.Elements.{Contains-append_left, Contains-append_right, Contains-append_cases}
 use Rattle.md_history.specs.declared.entries.Fate.{Fate}
 use Rattle.md_history.specs.declared.entries.Fate.TheVariants.{Committed, Aborted, Undecided}
 use Rattle.md_history.specs.Front.{IsPrefix, AllStay}
@@ -17,11 +17,11 @@ use Rattle.md_machine.proofs.clauses.LanesApart.{At}
 use Rattle.md_machine.proofs.events.MoveFacts.{MoveFacts, history_grows}
 use Rattle.md_machine.proofs.events.Moves.{PassesGo, goes_on, is_joined, is_split}
 use Rattle.md_machine.proofs.lists.At.{at_append, at_one, at_set}
-use Rattle.md_machine.proofs.lists.Rising.{in_cons, in_none}
-use Rattle.md_machine.proofs.resolutions.Placing.{some_or, some_skip}
+use Rattle.md_machine.proofs.lists.Rising.{here, in_cons, in_none}
+use Rattle.md_machine.proofs.resolutions.Placing.{some_skip}
+use Rattle.md_machine.specs.Event.{opened}
 use Rattle.md_machine.specs.Machine.{IsAt, Machine, shape_of}
 use Rattle.md_machine.specs.Resolution.{always_nodes, always_placed, is_committed, kept_nodes, kept_structure, least, or_else, structure_in}
-use Rattle.md_machine.specs.clauses.Placed.{PlacedStay}
 use Rattle.md_machine.specs.events.SplitJoin.{given_part, kept_part, spent}
 
 some_first : (x z : Option Structure) → is_some x ≡ true → is_some (or_else x z) ≡ true
@@ -45,33 +45,40 @@ in_kept (e ∷ es) (Committed ∷ fs) x c = ⊎_elim
 in_kept (e ∷ es) (Aborted ∷ fs) x c = in_kept es fs x c
 in_kept (e ∷ es) (Undecided ∷ fs) x c = in_kept es fs x c
 
-always_in : (m : Machine) (x : PlacedNode) → Contains (always_nodes m) x → always_placed m x.node ≡ true
+pub always_in : (m : Machine) (x : PlacedNode) → Contains (always_nodes m) x → always_placed m x.node ≡ true
 always_in m x c = ⊎_elim
     (λ opened. some_first (structure_in m.opening.placed x.node) (kept_structure m.history (least m.fates) x.node) (in_structure m.opening.placed x opened))
     (λ kept. some_skip (structure_in m.opening.placed x.node) (kept_structure m.history (least m.fates) x.node) (in_kept m.history m.fates x kept))
     (Contains-append_cases m.opening.placed (kept_nodes m.history (least m.fates)) x c)
 
--- one more entry places no less
-cond_grows : (e : HistoryEntry) (es : List HistoryEntry) (g : Fate) (gs : List Fate) (node : ℕ) → is_some (kept_structure es (least gs) node) ≡ true → is_some (kept_structure (e ∷ es) (least (g ∷ gs)) node) ≡ true
-cond_grows e es Committed gs node h = some_skip (structure_in e.placed node) (kept_structure es (least gs) node) h
-cond_grows e es Aborted gs node h = h
-cond_grows e es Undecided gs node h = h
+-- one more entry has no fewer nodes
+cond_grows : (e : HistoryEntry) (es : List HistoryEntry) (g : Fate) (gs : List Fate) (x : PlacedNode) → Contains (kept_nodes es (least gs)) x → Contains (kept_nodes (e ∷ es) (least (g ∷ gs))) x
+cond_grows e es Committed gs x c = Contains-append_right e.placed (kept_nodes es (least gs)) x c
+cond_grows e es Aborted gs x c = c
+cond_grows e es Undecided gs x c = c
 
 -- what committed entries place stays placed
-kept_grows : (es rest : List HistoryEntry) (fs gs : List Fate) (node : ℕ) → AllStay fs gs → is_some (kept_structure es (least fs) node) ≡ true → is_some (kept_structure (es ++ rest) (least gs) node) ≡ true
-kept_grows [] rest fs gs node a k = absurd (false≢true k)
-kept_grows (e ∷ es) rest [] gs node a k = absurd (false≢true k)
-kept_grows (e ∷ es) rest (f ∷ fs) [] node a k = absurd a
-kept_grows (e ∷ es) rest (Committed ∷ fs) (g ∷ gs) node a k = subst (λ x. is_some (kept_structure (e ∷ es ++ rest) (is_committed x ∷ least gs) node) ≡ true) (sym a.0)
-    (some_or (structure_in e.placed node) (kept_structure es (least fs) node) (kept_structure (es ++ rest) (least gs) node) (kept_grows es rest fs gs node a.1) k)
-kept_grows (e ∷ es) rest (Aborted ∷ fs) (g ∷ gs) node a k = cond_grows e (es ++ rest) g gs node (kept_grows es rest fs gs node a.1 k)
-kept_grows (e ∷ es) rest (Undecided ∷ fs) (g ∷ gs) node a k = cond_grows e (es ++ rest) g gs node (kept_grows es rest fs gs node a.1 k)
+kept_grows : (es rest : List HistoryEntry) (fs gs : List Fate) (x : PlacedNode) → AllStay fs gs → Contains (kept_nodes es (least fs)) x → Contains (kept_nodes (es ++ rest) (least gs)) x
+kept_grows [] rest fs gs x a k = absurd (in_none x k)
+kept_grows (e ∷ es) rest [] gs x a k = absurd (in_none x k)
+kept_grows (e ∷ es) rest (f ∷ fs) [] x a k = absurd a
+kept_grows (e ∷ es) rest (Committed ∷ fs) (g ∷ gs) x a k = subst (λ y. Contains (kept_nodes (e ∷ es ++ rest) (is_committed y ∷ least gs)) x) (sym a.0) (⊎_elim
+    (λ l. Contains-append_left e.placed (kept_nodes (es ++ rest) (least gs)) x l)
+    (λ r. Contains-append_right e.placed (kept_nodes (es ++ rest) (least gs)) x (kept_grows es rest fs gs x a.1 r))
+    (Contains-append_cases e.placed (kept_nodes es (least fs)) x k))
+kept_grows (e ∷ es) rest (Aborted ∷ fs) (g ∷ gs) x a k = cond_grows e (es ++ rest) g gs x (kept_grows es rest fs gs x a.1 k)
+kept_grows (e ∷ es) rest (Undecided ∷ fs) (g ∷ gs) x a k = cond_grows e (es ++ rest) g gs x (kept_grows es rest fs gs x a.1 k)
 
-placed_grows : (m n : Machine) (node : ℕ) → n.opening ≡ m.opening → IsPrefix m.history n.history → AllStay m.fates n.fates → always_placed m node ≡ true → always_placed n node ≡ true
-placed_grows m n node opening grows stay k =
-    let more = some_or (structure_in m.opening.placed node) (kept_structure m.history (least m.fates) node) (kept_structure (m.history ++ grows.rest) (least n.fates) node) (kept_grows m.history grows.rest m.fates n.fates node stay) k in
-    subst (λ (o : Opening). is_some (or_else (structure_in o.placed node) (kept_structure n.history (least n.fates) node)) ≡ true) (sym opening)
-    (subst (λ h. is_some (or_else (structure_in m.opening.placed node) (kept_structure h (least n.fates) node)) ≡ true) (sym grows.is) more)
+always_grows : (m n : Machine) (x : PlacedNode) → n.opening ≡ m.opening → IsPrefix m.history n.history → AllStay m.fates n.fates → Contains (always_nodes m) x → Contains (always_nodes n) x
+always_grows m n x opening grows stay c = subst (λ (o : Opening). Contains (o.placed ++ kept_nodes n.history (least n.fates)) x) (sym opening)
+    (subst (λ h. Contains (m.opening.placed ++ kept_nodes h (least n.fates)) x) (sym grows.is) (⊎_elim
+    (λ l. Contains-append_left m.opening.placed _ x l)
+    (λ k. Contains-append_right m.opening.placed _ x (kept_grows m.history grows.rest m.fates n.fates x stay k))
+    (Contains-append_cases m.opening.placed (kept_nodes m.history (least m.fates)) x c)))
+
+-- what passes noted is among the nodes that every resolution places
+abbrev pub NotedAlways : Machine → Type 0
+NotedAlways m = (pass : ℕ) (p : PassView) → At m.passes pass p → (x : PlacedNode) → Contains p.placed x → Contains (always_nodes m) x
 
 -- what a pass has noted some pass had noted, or it was placed in every resolution
 abbrev pub NotesFrom : Machine → (later : List PassView) → Type 0
@@ -104,6 +111,6 @@ notes m n pass p s at (is_joined other q _ acts _ _ _ is) = subst (NotesFrom m) 
     (at_set (set m.passes pass _) other j spent u u_at))
 
 -- every event keeps it
-pub placed-kept : (m n : Machine) → MoveFacts m n → AllStay m.fates n.fates → PlacedStay m → PlacedStay n
-placed-kept m n v stay was j u u_at x c = placed_grows m n x.node v.opening (history_grows m n v) stay
-    (⊎_elim (λ o. was o.0 o.1 o.2 x o.3) (always_in m x) (notes m n v.pass v.p v.step v.at v.passes j u u_at x c))
+pub placed-kept : (m n : Machine) → MoveFacts m n → AllStay m.fates n.fates → NotedAlways m → NotedAlways n
+placed-kept m n v stay was j u u_at x c = always_grows m n x v.opening (history_grows m n v) stay
+    (⊎_elim (λ o. was o.0 o.1 o.2 x o.3) (λ now. now) (notes m n v.pass v.p v.step v.at v.passes j u u_at x c))

@@ -14,6 +14,7 @@ use Rattle.md_machine.specs.declared.pass.PassView.{PassView}
 use Rattle.md_machine.proofs.events.MoveFacts.{MoveFacts}
 use Rattle.md_machine.proofs.events.Steps.{HasStep, adds_step}
 use Rattle.md_machine.proofs.events.WordChanges.{MayLeave, at_left, at_place}
+use Rattle.md_machine.proofs.lists.Rising.{here, there}
 use Rattle.md_machine.specs.GoesOn.{AttemptGoesOn, moves_to}
 use Rattle.md_machine.specs.Installs.{IsUndecided}
 use Rattle.md_machine.specs.Machine.{Machine, content, shape_of, status_at, word_at}

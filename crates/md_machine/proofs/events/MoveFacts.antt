@@ -1,6 +1,6 @@
 -- What every move tells, whatever its effect: how its word is left, which steps passes have, and what is new.
-use Rattle.std.proofs.Common.{◌≡◌, ℕ, ◌≤◌, ◌⊎◌, false, List, [], ◌∷◌, ◌++◌, set, sym, ap, ◌∙◌, subst, inl, inr, ⊎_elim, append-nil, true, Some}
-use Rattle.std.specs.List.{Contains}
+use Rattle.std.proofs.Common.{◌≢◌, ◌≡◌, ℕ, ◌≤◌, ◌⊎◌, false, List, [], ◌∷◌, ◌++◌, set, sym, ap, ◌∙◌, subst, inl, inr, ⊎_elim, append-nil, true, Some}
+use Rattle.std.specs.List.{Contains, AllPairs}
 use Rattle.std.proofs.lemmas.List.Elements.{Contains-push_cases, All-contains}
 use Rattle.std.specs.Prelude.{All}
 use Rattle.md_words.specs.declared.limits.TheConstants.{SET}
@@ -16,12 +16,15 @@ use Rattle.md_machine.specs.declared.attempt.Read.{Read}
 use Rattle.md_machine.specs.declared.step.Step.{Step}
 use Rattle.md_machine.specs.declared.step.Kind.{Kind}
 use Rattle.md_machine.specs.declared.pass.PassView.{PassView}
+use Rattle.md_machine.specs.declared.node.PlacedNode.{PlacedNode}
 use Rattle.md_machine.proofs.events.Attempts.{begun_more, in_hand_some}
 use Rattle.md_machine.proofs.events.InstallSteps.{InstallsHere}
 use Rattle.md_machine.proofs.events.Moves.{HandGoes, PassesGo, WinsFate, goes_on, hand_begins, hand_changes, hand_ends, hand_leaves, hand_stays, is_joined, is_split}
 use Rattle.md_machine.proofs.events.Steps.{HasStep, PassesFrom}
 use Rattle.md_machine.proofs.events.WordChanges.{MayLeave}
 use Rattle.md_machine.proofs.fates.Knowing.{TellsTruth}
+use Rattle.md_machine.proofs.lists.Rising.{there}
+use Rattle.md_machine.specs.Certified.{placed_by}
 use Rattle.md_machine.specs.Installs.{spot_of_install}
 use Rattle.md_machine.specs.Machine.{Install, IsAt, IsLive, Machine, content, is_ready, present, shape_of, was_begun}
 use Rattle.md_machine.specs.Own.{HasDesc, IsDataOf}
@@ -60,6 +63,8 @@ pub record Enters (m n : Machine) (p : PassView) (word new : ℕ) : Type 0 where
   pub own : HasDesc (shape_of m) p hand.attempt.desc
   pub few : count ≤ SET
   pub recorded : All (MayRecord m p) (reads_now m hand.attempt.desc count)
+  pub free : All (λ x. never_placed m x.node ≡ true) (placed_by hand.certificates)
+  pub differ : AllPairs (λ (x y : PlacedNode). x.node ≢ y.node) (placed_by hand.certificates)
   pub there : word ≡ address (shape_of m) (desc_status hand.attempt.desc)
   pub was : content m word ≡ unready_word hand.attempt
   pub is : new ≡ ready_word hand.attempt count

@@ -1,9 +1,14 @@
 -- A move tells its facts, from its effect.
-use Rattle.std.proofs.Common.{◌≡◌, ℕ, ◌<◌, ◌⊎◌, ◌||◌, false, [], ◌∷◌, ◌++◌, set, refl, sym, ap, ◌∙◌, subst, inl, inr, ⊎_elim, true, IsTrue}
+use Rattle.std.proofs.Common.{List, [], ◌∷◌, ◌≢◌, arith, eq-eqb, ◌≡◌, ℕ, ◌<◌, ◌⊎◌, ◌||◌, false, ◌++◌, set, refl, sym, ap, ◌∙◌, subst, inl, inr, ⊎_elim, true, IsTrue}
 use Rattle.std.specs.List.{Contains}
 use Rattle.std.proofs.lemmas.Bool.{false≢true, or_cases}
 use Rattle.std.proofs.lemmas.List.Elements.{Contains-append_left, Contains-push, Contains-push_cases}
-use Rattle.std.specs.List.{range_with_len}
+use Rattle.std.specs.List.{range_with_len, AllPairs}
+use Rattle.std.proofs.lemmas.List.Kept.{AllPairs-cons}
+use Rattle.std.proofs.lemmas.List.Elements.{All-map, All-weaker}
+use Rattle.std.specs.Prelude.{map}
+use Rattle.md_machine.specs.declared.certificate.NewNode.{NewNode}
+use Rattle.md_machine.specs.declared.node.PlacedNode.{PlacedNode}
 use Rattle.md_words.specs.declared.shape.Shape.{Shape}
 use Rattle.md_words.specs.declared.status.Status.TheVariants.{InPrep, InProg, Committed, Aborted}
 use Rattle.md_words.specs.Content.{count_of, is_even}
@@ -27,13 +32,15 @@ use Rattle.md_machine.proofs.events.Steps.{PassesFrom, join_from, set_from, spli
 use Rattle.md_machine.proofs.events.Truth.{Truth, counted_truth, load_truth, status_truth, store_truth}
 use Rattle.md_machine.proofs.events.WordChanges.{Changes, MayLeave}
 use Rattle.md_machine.proofs.fates.Knowing.{TellsTruth}
+use Rattle.md_machine.proofs.lists.Differ.{no_pairs, pairs_head, pairs_tail}
 use Rattle.md_machine.proofs.lists.Options.{some_same}
 use Rattle.md_machine.proofs.lists.Rising.{in_drop, in_filter, in_take, lane_in, there}
+use Rattle.md_machine.specs.Certified.{all_nodes}
 use Rattle.md_machine.specs.GoesOn.{moves_to}
 use Rattle.md_machine.specs.Installs.{IsUndecided, spot_of_install}
 use Rattle.md_machine.specs.Machine.{Install, IsAt, Machine, content, shape_of}
 use Rattle.md_machine.specs.Meaning.{Meaning}
-use Rattle.md_machine.specs.Own.{IsDataOf}
+use Rattle.md_machine.specs.Own.{IsDataOf, IsOwnNode}
 use Rattle.md_machine.specs.Resolution.{never_placed}
 use Rattle.md_machine.specs.Stepping.{attempt_in_hand, step_of}
 use Rattle.md_machine.specs.clauses.Formats.{AreFormats}
@@ -42,6 +49,7 @@ use Rattle.md_machine.specs.clauses.Lanes.{LanesApart}
 use Rattle.md_machine.specs.clauses.Stores.{IsEntryWord}
 use Rattle.md_machine.specs.clauses.WonInstalls.{HasInstallOf}
 use Rattle.md_machine.specs.events.Install.{install_of, installed_word}
+use Rattle.md_machine.specs.events.Ready.{unready_word}
 use Rattle.md_machine.specs.events.SplitJoin.{joined_lanes}
 use Rattle.md_machine.specs.events.Start.{WonInstall}
 use Rattle.md_machine.specs.events.Store.{MayStoreAt}
@@ -98,6 +106,13 @@ steps_from m n pass p s at (is_split may is_step begun _ is) = subst (λ later. 
 steps_from m n pass p s at (is_joined other q apart acts is_step begun _ is) = subst (λ later. PassesFrom m.passes later s) (sym is) (subst (PassesFrom m.passes _) (sym is_step)
     (join_from m.passes pass other p q _ _ at acts.at (record { past = refl; trail = refl; lanes = λ lane c. joined_of (shape_of m) p q lane c })))
 
+-- the nodes that certificates place differ where their new nodes do
+placed_differ : (ns : List NewNode) → AllPairs (λ (n k : NewNode). n.node ≢ k.node) ns → AllPairs (λ (x y : PlacedNode). x.node ≢ y.node) (map (λ (n : NewNode). record { node = n.node; structure = n.structure }) ns)
+placed_differ [] h = no_pairs (λ (x y : PlacedNode). x.node ≢ y.node)
+placed_differ (n ∷ ns) h = AllPairs-cons (λ (x y : PlacedNode). x.node ≢ y.node) (record { node = n.node; structure = n.structure }) (map (λ (k : NewNode). record { node = k.node; structure = k.structure }) ns)
+    (All-map (λ (y : PlacedNode). n.node ≢ y.node) (λ (k : NewNode). record { node = k.node; structure = k.structure }) ns (pairs_head (λ (a b : NewNode). a.node ≢ b.node) n ns h))
+    (placed_differ ns (pairs_tail (λ (a b : NewNode). a.node ≢ b.node) n ns h))
+
 -- a step that isn't a load is of a view that goes on
 pub record GoesOnAt (m n : Machine) (pass : ℕ) (p : PassView) (s : Step) : Type 0 where
   pub q : PassView
@@ -118,20 +133,24 @@ module _ (M : Meaning) (m n : Machine) (f : AreFormats (shape_of m) m.words) (ap
   plainly D (by_exchange x) = inl (inr (subst (Changes D m v.word) (sym x.is) (exchange_changes D M m v.p v.word x.from x.to x.may x.was)), x.quiet.history, x.quiet.fates)
   plainly D (by_uninstall x) = inl (inr (subst (Changes D m v.word) (sym x.is) (uninstall_changes D m v.p v.word x.from x.value f x.may x.was)), x.quiet.history, x.quiet.fates)
   plainly D (by_start x) = inl (inr (subst (λ w. Changes D m w v.new) (sym x.there) (subst (Changes D m _) (sym x.is) (start_changes D m v.pass v.p x.desc x.from v.acts.at (own_exists m v.p x.desc x.may.own) x.may))), x.quiet.history, x.quiet.fates)
-  plainly D (by_ready x) = inr (inl (record {
-    hand = x.hand;
-    count = x.count;
-    held = x.may.held;
-    own = x.may.own;
-    few = x.may.few;
-    recorded = x.may.recorded;
-    there = x.there;
-    was = x.was;
-    is = x.is;
-    history = x.history;
-    fates = x.fates;
-    installs = x.installs;
-  }))
+  plainly D (by_ready x) = inr (inl (
+      let c = x.may.certified (eq-eqb (content m (address (shape_of m) (desc_status x.hand.attempt.desc))) (unready_word x.hand.attempt) (ap (content m) (sym x.there) ∙ x.was)) in record {
+        hand = x.hand;
+        count = x.count;
+        held = x.may.held;
+        own = x.may.own;
+        few = x.may.few;
+        recorded = x.may.recorded;
+        free = All-map (λ (y : PlacedNode). never_placed m y.node ≡ true) (λ (n : NewNode). record { node = n.node; structure = n.structure }) (all_nodes x.hand.certificates)
+            (All-weaker (λ (n : NewNode). IsOwnNode m v.p n.node) (λ n. never_placed m n.node ≡ true) (λ n own. own.1) (all_nodes x.hand.certificates) c.nodes);
+        differ = placed_differ (all_nodes x.hand.certificates) c.differ;
+        there = x.there;
+        was = x.was;
+        is = x.is;
+        history = x.history;
+        fates = x.fates;
+        installs = x.installs;
+      }))
   plainly D (by_fate x) = inr (inr x)
 
   enter_leaves : Enters m n v.p v.word v.new → MayLeave (Unit {0}) m v.word v.new

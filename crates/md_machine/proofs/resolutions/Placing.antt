@@ -12,13 +12,13 @@ use Rattle.md_machine.specs.Refused.{AlwaysMeansEvery, NeverMeansNone}
 use Rattle.md_machine.specs.Resolution.{always_placed, entries_of, greatest, kept_structure, least, never_placed, or_else, placed_under, structure_in}
 
 -- one choice keeps all that another one keeps
-abbrev Within : List Bool → List Bool → Type 0
+abbrev pub Within : List Bool → List Bool → Type 0
 Within [] ks = Unit {0}
 Within (j ∷ js) [] = ⊥
 Within (j ∷ js) (k ∷ ks) = (j ≡ true → k ≡ true) × Within js ks
 
 -- a resolution lies between the least and the greatest
-least_within : (es : List HistoryEntry) (fs : List Fate) (choice : List Bool) → IsResolution (entries_of es) fs choice → Within (least fs) choice
+pub least_within : (es : List HistoryEntry) (fs : List Fate) (choice : List Bool) → IsResolution (entries_of es) fs choice → Within (least fs) choice
 least_within [] [] [] r = tt
 least_within [] [] (k ∷ ks) r = tt
 least_within [] (f ∷ fs) ks r = absurd r
@@ -28,7 +28,7 @@ least_within (e ∷ es) (Committed ∷ fs) (k ∷ ks) r = ((λ _. r.0), least_wi
 least_within (e ∷ es) (Aborted ∷ fs) (k ∷ ks) r = ((λ h. absurd (false≢true h)), least_within es fs ks r.1)
 least_within (e ∷ es) (Undecided ∷ fs) (k ∷ ks) r = ((λ h. absurd (false≢true h)), least_within es fs ks r.1)
 
-within_greatest : (es : List HistoryEntry) (fs : List Fate) (choice : List Bool) → IsResolution (entries_of es) fs choice → Within choice (greatest es fs)
+pub within_greatest : (es : List HistoryEntry) (fs : List Fate) (choice : List Bool) → IsResolution (entries_of es) fs choice → Within choice (greatest es fs)
 within_greatest [] [] [] r = tt
 within_greatest [] [] (k ∷ ks) r = absurd r
 within_greatest [] (f ∷ fs) ks r = absurd r
@@ -39,7 +39,7 @@ within_greatest (e ∷ es) (Aborted ∷ fs) (k ∷ ks) r = ((λ h. absurd (false
 within_greatest (e ∷ es) (Undecided ∷ fs) (k ∷ ks) r = (r.0, within_greatest es fs ks r.1)
 
 -- both are resolutions where each entry has a fate
-least_resolves : (es : List HistoryEntry) (fs : List Fate) → length fs ≡ length es → IsResolution (entries_of es) fs (least fs)
+pub least_resolves : (es : List HistoryEntry) (fs : List Fate) → length fs ≡ length es → IsResolution (entries_of es) fs (least fs)
 least_resolves [] [] e = tt
 least_resolves [] (f ∷ fs) e = absurd (omega (arith, e))
 least_resolves (x ∷ es) [] e = absurd (omega (arith, e))

@@ -6,6 +6,7 @@ use Rattle.md_history.specs.declared.entries.Fate.{Fate}
 use Rattle.md_machine.specs.declared.attempt.HistoryEntry.{HistoryEntry}
 use Rattle.md_machine.specs.declared.certificate.NewNode.{NewNode}
 use Rattle.md_machine.specs.Certified.{all_nodes}
+use Rattle.md_machine.specs.Event.{opened}
 use Rattle.md_machine.specs.Machine.{Machine, shape_of, word_at}
 use Rattle.md_machine.specs.Resolution.{greatest, kept_structure, may_commit, structure_in}
 
