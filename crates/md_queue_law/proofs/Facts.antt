@@ -1,8 +1,10 @@
 -- The facts that are lent, from the shape of a queue.
-use Rattle.std.proofs.Common.{◌≡◌, ◌≢◌, ℕ, suc, ◌<◌, ◌≤◌, sym, ap, ◌∙◌, ⊎_elim, arith}
+use Rattle.std.proofs.Common.{◌≡◌, ◌≢◌, ℕ, suc, ◌<◌, ◌≤◌, sym, ap, ◌∙◌, ⊎_elim, arith, [], ◌∷◌, refl}
 use Rattle.md_words.specs.Layout.{IsNode, node_count}
 use Rattle.md_machine.specs.LogicalHeap.{LogicalHeap, next_of}
 use Rattle.md_queue_law.specs.QueueShape.{link, IsOf, QueueShape}
+use Rattle.md_queue_law.specs.QueueCertificates.{next_is}
+use Rattle.md_queue_law.specs.QueueFacts.{LookGoesOn}
 use Rattle.md_queue_law.specs.Laws.Walk.{line_fits}
 use Rattle.md_queue_law.specs.Laws.Named.{next_cases, ends_is_last}
 
@@ -32,3 +34,10 @@ module _ (h : LogicalHeap) (queue : ℕ) (s : QueueShape h queue) where
       let below = (s.line.ranked node of).0 in
       let fits = line_fits h queue s.count s.node_of s.line in
       (s.line.exist node of, omega arith)
+
+-- one more node seen
+pub look_goes_on : LookGoesOn
+look_goes_on shape node [] s = (refl, refl)
+look_goes_on shape node (first ∷ seen) s =
+    let rest = look_goes_on shape first.node seen s in
+    (ap (λ ws. next_is shape node (link first.node) ∷ ws) rest.0, rest.1)

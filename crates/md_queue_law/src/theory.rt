@@ -1,6 +1,7 @@
 // Queues as a theory, and theories that contain queues.
 ghost use Rattle.md_queue_law.specs.QueueFacts.{HeadNamesOne, TailNamesOne};
 ghost use Rattle.md_queue_law.specs.QueueFacts.{RanksRise, LastAlone, RanksDiffer, RanksFit};
+ghost use Rattle.md_queue_law.specs.QueueFacts.{LookGoesOn};
 
 use md_machine::Theory;
 
@@ -40,4 +41,5 @@ pub fn queue_facts<T: HasQueues>()
     ensures last { LastAlone T.meaning }
     ensures differ { RanksDiffer T.meaning }
     ensures fit { RanksFit T.meaning }
+    ensures look { LookGoesOn }
 {}

@@ -1,4 +1,4 @@
-use Rattle.md_queue_law.proofs.Facts.{ranks_rise, ranks_differ, last_alone, ranks_fit}
+use Rattle.md_queue_law.proofs.Facts.{ranks_rise, ranks_differ, last_alone, ranks_fit, look_goes_on}
 use Rattle.md_queue_law.proofs.theory.queue_facts.Goals as goal
 
 pub returns : goal.returns
@@ -9,4 +9,5 @@ returns g c = let q = g.met.T.HasQueues.has_queues in record {
   last = λ h queue node other is. last_alone h queue (q.stand h is.valid queue is.within) node other;
   differ = λ h queue node other is. ranks_differ h queue (q.stand h is.valid queue is.within) node other;
   fit = λ h queue node is. ranks_fit h queue (q.stand h is.valid queue is.within) node;
+  look = look_goes_on;
 }
