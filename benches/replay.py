@@ -1,7 +1,8 @@
 #!/usr/bin/env python3
-"""Times the program on 1,000,000 lines, over all accounts, sides and prices.
+"""Times the program on 1,000,000 records, over all accounts, sides and prices.
 
-There are two mixes of commands: half Place and half Depth; and half Place, a fifth Fill, and a tenth each of Cancel,
+There are three mixes of commands: half Place and half Depth; half Place, a fifth Fill, and a tenth each of Cancel,
+Depth and Account; and all six kinds, in a file of version 2 that is half Place, a fifth Fill, a tenth Kill, and the rest Cancel,
 Depth and Account. Each file is run as it is, and with a bad record in place of its last, so that the program reads
 and parses and then stops: the difference is what playing and reporting take. Each line tells seconds, seconds of a processor
 and peak memory, of the best of three runs. The load of the machine is told first.
@@ -30,10 +31,12 @@ def order(random, kind, line):
     return f"1,{kind},{account},{side},{price},{quantity}\n"
 
 
-def write(path, kinds, last):
+def write(path, version, kinds, last):
     chosen = random.Random(1)
     with open(path, "w") as file:
-        file.writelines(order(chosen, chosen.choice(kinds), line) for line in range(1, LINES + 1 - bool(last)))
+        file.write(version)
+        lines = LINES - bool(version) - bool(last)
+        file.writelines(order(chosen, chosen.choice(kinds), line) for line in range(1, lines + 1))
         file.write(last)
 
 
@@ -54,9 +57,14 @@ def main():
     print(f"load {os.getloadavg()[0]:.1f} on {os.cpu_count()} processors, {LINES:,} lines")
     with tempfile.TemporaryDirectory() as folder:
         path = os.path.join(folder, "orders.csv")
-        for mix, kinds in (("Place and Depth", "PD"), ("all five kinds", "PPPPPFFCDA")):
+        mixes = (
+            ("Place and Depth", "", "PD"),
+            ("five kinds", "", "PPPPPFFCDA"),
+            ("six kinds, version 2", "medley,2\n", "PPPPPPPPPPFFFFKKCCDA"),
+        )
+        for mix, version, kinds in mixes:
             for work, last, status in (("read, run and reported", "", 0), ("read and parsed alone", "bad\n", 3)):
-                write(path, kinds, last)
+                write(path, version, kinds, last)
                 seconds, busy, peak = min(run(program, path, status) for _ in range(3))
                 print(f"{mix}, {work}: {seconds:.2f} s, {busy:.2f} s of a processor, {peak:.0f} MiB at most")
 

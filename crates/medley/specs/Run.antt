@@ -75,7 +75,7 @@ module _ {I : Type 0} (gives : Step I) (left : I → Option (List ℕ)) (faults 
 pub record IsGood (bytes : List ℕ) : Type 0 where
   pub short : length bytes ≤ max_bytes
   pub few : AreFewRecords (order_records bytes)
-  pub lawful : first_bad 1 1 (order_records bytes) ≡ None
+  pub lawful : first_bad 1 (order_records bytes) ≡ None
 
 -- A sink is seen by what its writes may take, by the bytes that it holds where it tells them, and by its faults.
 module _ {O : Type 0} (takes : Step O) (holds : O → Option (List ℕ)) (faults : O → ℕ) (old new : O) where
@@ -112,12 +112,12 @@ module _ {I : Type 0} (gives : Step I) (left : I → Option (List ℕ)) (faults 
   IsBadInput =
       IsOverlong gives left faults old new
       ⊎ ((bytes : List ℕ) × IsRead gives left faults old new bytes × (¬ AreFewRecords (order_records bytes)))
-      ⊎ ((bytes : List ℕ) × (n : ℕ) × IsRead gives left faults old new bytes × (first_bad 1 1 (order_records bytes) ≡ Some n))
+      ⊎ ((bytes : List ℕ) × (n : ℕ) × IsRead gives left faults old new bytes × (first_bad 1 (order_records bytes) ≡ Some n))
 
   -- why a run stopped before its report
   abbrev pub StopsWith : Status → Type 0
   StopsWith Usage = new ≡ old
-  StopsWith (BadLine n) = (bytes : List ℕ) × IsRead gives left faults old new bytes × AreFewRecords (order_records bytes) × (first_bad 1 1 (order_records bytes) ≡ Some n)
+  StopsWith (BadLine n) = (bytes : List ℕ) × IsRead gives left faults old new bytes × AreFewRecords (order_records bytes) × (first_bad 1 (order_records bytes) ≡ Some n)
   StopsWith ReadFault = HasReadFault gives left faults old new
   StopsWith TooLong = IsOverlong gives left faults old new
   StopsWith TooMany = (bytes : List ℕ) × IsRead gives left faults old new bytes × (¬ AreFewRecords (order_records bytes))

@@ -29,6 +29,10 @@ fn bad_inputs(rt: HostRuntime) -> Result<(), Fail> {
         b"1,F,7,S,100,1000001\n",
         b"1,A,0\n",
         b"1,A,10000\n",
+        // Versions that there are not.
+        b"medley,3\n",
+        b"medley,02\n",
+        b"medley,2,2\n",
         // Fields too few and too many.
         b"1,P,7,S,10",
         b"1,P,7,S,100,5,\n",
@@ -75,6 +79,9 @@ fn later_bad_inputs(rt: HostRuntime) -> Result<(), Fail> {
         ("1,P,7,S,100,5\n1,P,7,X,100,5\n", 2, "fault line 2\n"),
         ("\n1,A,7\n\n1,C,9,1\n1,A,0\n", 2, "fault line 2\n"),
         ("1,A,7\r1,\"A\",8\n1,D,S\n", 3, "fault line 3\n"),
+        ("medley,2\nmedley,2\n", 2, "fault line 2\n"),
+        ("1,A,7\nmedley,2\n", 2, "fault line 2\n"),
+        ("medley,2\n2,A,7\n", 2, "fault line 2\n"),
     ] {
         expect(
             &rt,

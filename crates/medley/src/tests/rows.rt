@@ -140,6 +140,25 @@ fn inputs(rt: HostRuntime) -> Result<(), Fail> {
             "1:1 placed\n1:2 filled 5 rest 0 from 1:1=5\n1:3 bought 0 sold 5\n\
              account 7 bought 0 sold 5\naccount 12 bought 5 sold 0\ndone 3\n",
         ),
+        // A kill that asks for more than there is, one that is filled, and one past four places.
+        (
+            "1,P,7,S,100,5\n1,K,8,S,100,6\n1,K,8,S,100,5\n",
+            "1:1 placed\n1:2 killed\n1:3 filled 5 rest 0 from 1:1=5\n\
+             account 7 bought 0 sold 5\naccount 8 bought 5 sold 0\ndone 3\n",
+        ),
+        (
+            "1,P,7,S,100,1\n1,P,7,S,100,1\n1,P,7,S,100,1\n1,P,7,S,100,1\n1,P,7,S,100,1\n1,K,8,S,100,5\n",
+            "1:1 placed\n1:2 placed\n1:3 placed\n1:4 placed\n1:5 placed\n1:6 killed\nS 100 5\ndone 6\n",
+        ),
+        // Version 2: more places, and the version's record is no line.
+        (
+            "medley,2\n1,P,7,S,100,1\n1,P,7,S,100,1\n1,P,7,S,100,1\n1,P,7,S,100,1\n1,P,7,S,100,1\n1,F,8,S,100,5\n",
+            "1:1 placed\n1:2 placed\n1:3 placed\n1:4 placed\n1:5 placed\n\
+             1:6 filled 5 rest 0 from 1:1=1 1:2=1 1:3=1 1:4=1 1:5=1\n\
+             account 7 bought 0 sold 5\naccount 8 bought 5 sold 0\ndone 6\n",
+        ),
+        ("medley,2", "done 0\n"),
+        ("\"medley\",\"2\"", "done 0\n"),
     ] {
         expect(
             &rt,
