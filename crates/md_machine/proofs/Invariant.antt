@@ -18,12 +18,14 @@ use Rattle.md_machine.proofs.clauses.EntrySlots.{entry_slots-kept}
 use Rattle.md_machine.proofs.clauses.Flags.{Noting, flags-kept}
 use Rattle.md_machine.proofs.clauses.Fronts.{fronts-kept}
 use Rattle.md_machine.proofs.clauses.FrontsFit.{fated}
+use Rattle.md_machine.proofs.clauses.HandKnows.{hand_knows-kept}
 use Rattle.md_machine.proofs.clauses.Hands.{hands-kept}
 use Rattle.md_machine.proofs.clauses.InHand.{HandsAlone, StepsBegun, in_hand-kept}
 use Rattle.md_machine.proofs.clauses.Installs.{InstallsKept, installs-kept, step_rises}
 use Rattle.md_machine.proofs.clauses.KnownPast.{known_past-kept}
 use Rattle.md_machine.proofs.clauses.Lanes.{lanes-kept}
 use Rattle.md_machine.proofs.clauses.Loads.{EntriesPast, loads-kept}
+use Rattle.md_machine.proofs.clauses.Mine.{mine-kept}
 use Rattle.md_machine.proofs.clauses.NodeWords.{node_words-kept}
 use Rattle.md_machine.proofs.clauses.Numbered.{numbered-kept}
 use Rattle.md_machine.proofs.clauses.OddWords.{odd_words-kept}
@@ -59,8 +61,10 @@ use Rattle.md_machine.specs.clauses.Fates.{PastKnown}
 use Rattle.md_machine.specs.clauses.Flags.{FlaggedAreNoted}
 use Rattle.md_machine.specs.clauses.Formats.{AreFormats}
 use Rattle.md_machine.specs.clauses.Fronts.{FrontsFit}
+use Rattle.md_machine.specs.clauses.HandKnows.{HandsKnow}
 use Rattle.md_machine.specs.clauses.Hands.{HandsFit}
 use Rattle.md_machine.specs.clauses.Lanes.{LanesApart}
+use Rattle.md_machine.specs.clauses.Mine.{MineAreEnded}
 use Rattle.md_machine.specs.clauses.Loads.{LoadStands}
 use Rattle.md_machine.specs.clauses.NodeWords.{DataStands, NodeWordsStand}
 use Rattle.md_machine.specs.clauses.Numbered.{EntriesNumbered}
@@ -106,6 +110,8 @@ pub record Invariant (m : Machine) : Type 0 where
   pub old_slots : EachPair (OldSlotStands (shape_of m) m.words) m.passes
   pub numbered : EntriesNumbered (shape_of m) m.history
   pub serials : EntriesInTurn m
+  pub hand_knows : HandsKnow (shape_of m) m.passes
+  pub mine : MineAreEnded m.passes
   pub alone : HoldersFind m
   pub stamp : Stamp
   pub stamps : StampsKept m stamp
@@ -169,6 +175,8 @@ kept_by m k = record {
   sound = k.sound;
   numbered = k.numbered;
   serials = k.serials;
+  hand_knows = k.hand_knows;
+  mine = k.mine;
   alone = holders_alone m k.lanes k.fronts k.known_past k.numbered k.alone;
   stores = λ pass p at a now. k.stores pass p at a (ap (λ (b : AttemptId). b.serial) now);
 }
@@ -184,6 +192,9 @@ module _ (M : Meaning) where
       let past : EntriesPast m = λ y i. let fits = (entry_fits (shape_of m) m.words m.history m.fates y k.entries i).1 in (fits.exists, fits.past) in
       let sound = sound-kept m n v (record { formats = k.formats; entries = k.entries; stores = k.stores; loads = k.loads; found = k.found_reads; sound = k.sound }) (fated (shape_of m) m.words m.history m.fates k.entries) in
       let fronts = fronts-kept m n v k.lanes k.fronts entries in
+      let past_now = entries.past (subst (λ words. PastDecided (shape_of m) words m.history m.fates) (sym v.words) (past-kept m k.formats.field v.word v.new v.left k.entries k.fronts k.past)) in
+      let statuses = subst (λ words. StatusesNoted (shape_of m) words n.passes) (sym v.words) (statuses-kept m n v k.formats.field k.statuses) in
+      let numbered = numbered-kept m n v k.entries k.numbered in
       let stamps = stamps-kept m n k.stamp k.formats.field k.stamps v v.words v.opening in (
         record {
           formats = move AreFormats (formats-kept (Unit {0}) m k.formats.field v.word v.new v.left k.formats);
@@ -191,7 +202,7 @@ module _ (M : Meaning) where
           hands = reshape (λ shape. HandsFit shape n.words n.passes) (hands-kept m n v k.formats.field k.lanes k.hands);
           entries = reshape (λ shape. EntriesFit shape n.words n.history n.fates) entries.fit;
           read_counts = reshape (λ shape. ReadsCounted shape n.words n.history) entries.counted;
-          past = reshape (λ shape. PastDecided shape n.words n.history n.fates) (entries.past (subst (λ words. PastDecided (shape_of m) words m.history m.fates) (sym v.words) (past-kept m k.formats.field v.word v.new v.left k.entries k.fronts k.past)));
+          past = reshape (λ shape. PastDecided shape n.words n.history n.fates) past_now;
           fronts = reshape (λ shape. FrontsFit shape n.history n.fates n.passes) fronts;
           known_past = reshape (λ shape. PastKnown shape n.words n.history n.passes) (known_past-kept m n v k.formats.field k.lanes
               (λ x c. (entry_fits (shape_of m) m.words m.history m.fates x k.entries c).1.exists) entries.stay k.fronts fronts k.known_past);
@@ -200,7 +211,7 @@ module _ (M : Meaning) where
           installs = move (λ shape words. InstallsKept shape words n.installs n.passes) (installs-kept m n v k.formats.field k.hands k.installs k.stamp k.stamps);
           order = reshape (λ shape. TrailsInOrder shape n.passes) (order-kept m k.stamp k.stamps v.step (step_rises m n v k.formats.field k.hands k.installs) n.passes v.from k.order);
           odd_words = move (λ shape words. OddStand shape words n.installs) (odd_words-kept m k.stamp k.stamps k.installs k.order n v k.formats.field k.hands k.odd_words);
-          statuses = move (λ shape words. StatusesNoted shape words n.passes) (statuses-kept m n v k.formats.field k.statuses);
+          statuses = reshape (λ shape. StatusesNoted shape n.words n.passes) statuses;
           brackets = move (λ shape words. TrailsBracket shape words n.passes) (brackets-kept m k.stamp k.stamps k.installs k.order n v k.formats.field k.hands k.odd_words k.brackets);
           undecided = move (λ shape words. UndecidedStand shape words n.installs) (undecided-kept m k.statuses k.brackets k.stamp k.stamps k.installs n v k.formats.field k.hands k.undecided);
           flags = reshape (λ shape. Noting shape n.passes) (flags-kept m n v k.flags);
@@ -219,8 +230,10 @@ module _ (M : Meaning) where
           sound = sound;
           ready_entries = reshape (λ shape. ReadyHaveEntries shape n.words n.history) (ready_entries-kept m n v k.formats.field k.hands k.ready_entries);
           old_slots = move (λ shape words. EachPair (OldSlotStands shape words) n.passes) (old_slots-kept m k.stamp k.stamps k.installs k.order n v k.formats.field k.hands k.odd_words k.old_slots);
-          numbered = reshape (λ shape. EntriesNumbered shape n.history) (numbered-kept m n v k.entries k.numbered);
+          numbered = reshape (λ shape. EntriesNumbered shape n.history) numbered;
           serials = serials-kept m n v k.entries k.in_hand k.serials;
+          hand_knows = reshape (λ shape. HandsKnow shape n.passes) (hand_knows-kept m n v k.lanes k.hands k.serials k.fronts fronts statuses (fates_told (shape_of m) n.words n.history n.fates entries.fit past_now) k.hand_knows);
+          mine = mine-kept m n v k.lanes k.hands k.entries k.numbered numbered k.serials k.fronts fronts entries.stay k.hand_knows k.mine;
           alone = λ pass p at. reshape (λ shape. HoldsAll shape p → LastStand n p.trail) (alone-kept m n v k.formats.field v.live k.lanes k.alone pass p at);
           stamp = stamp_more k.stamp v.word v.new;
           stamps = subst (λ o. StampsKept (record n { opening = o }) (stamp_more k.stamp v.word v.new)) (sym v.opening)

@@ -35,6 +35,7 @@ use Rattle.md_machine.specs.Trail.{segments}
 use Rattle.md_machine.specs.clauses.Alone.{LastStand}
 use Rattle.md_machine.specs.clauses.Formats.{AreFormats, StatusFits}
 use Rattle.md_machine.specs.clauses.Fronts.{FrontFits}
+use Rattle.md_machine.specs.clauses.Mine.{MineIsEnded}
 use Rattle.md_machine.specs.clauses.Loads.{LoadStands}
 use Rattle.md_machine.specs.clauses.Reads.{ReadFound}
 
@@ -129,6 +130,12 @@ module _ (M : Meaning) where
     old_slots = λ pass p at segment c. subst (InPairs (OldSlotStands o.shape o.words)) (first_segment o.shape p segment (at_one (first_pass o.shape) p pass at).1 c) tt;
     numbered = none_numbered o.shape;
     serials = record { rise = tt; begun = λ e c. absurd (in_none e c) };
+    hand_knows = record {
+      hands = λ pass p h at held. absurd (nothing_held o.shape pass p h at held);
+      own = λ pass p a at c. absurd (in_none a (subst (λ (q : PassView). Contains q.pending a) (sym (at_one (first_pass o.shape) p pass at).1) c));
+    };
+    mine = λ pass p at. subst (λ (q : PassView). MineIsEnded q.lanes q.seen q.known q.mine q.pending) (at_one (first_pass o.shape) p pass at).1
+        (record { mine = λ lane c. refl; outside = λ lane out. refl; decided = tt });
     alone = λ pass p at all. subst (λ (q : PassView). LastStand (opened o) q.trail) (at_one (first_pass o.shape) p pass at).1 tt;
     stamp = λ word count. get_or o.words word 0;
     stamps = record {

@@ -33,3 +33,8 @@ pub mod FrontsLegal
 pub mod Alone
 pub mod Serials
 pub mod PlacedOnce
+pub mod Ended
+pub mod EndedLast
+pub mod HandKnows
+pub mod MineParts
+pub mod Mine

@@ -3,4 +3,5 @@ pub mod Heaps
 pub mod Nodes
 pub mod Enter
 pub mod Kept
+pub mod FrontsFrom
 pub mod Always

@@ -1,15 +1,17 @@
 -- What the machine means in the words of histories: the front of a pass, and when its history is legal.
 use Rattle.std.specs.Prelude.{◌≡◌, ℕ, Bool, List, [], map}
+use Rattle.std.specs.List.{range_with_len}
 use Rattle.md_words.specs.declared.shape.Shape.{Shape}
 use Rattle.md_words.specs.Lanes.{lane_of_desc}
 use Rattle.md_history.specs.State.{State, run}
 use Rattle.md_history.specs.History.{IsLegal, kept_acts}
+use Rattle.md_history.specs.Engine.{IsFrontFrom}
 use Rattle.md_history.specs.Front.{Front, Begun, of_lane}
 use Rattle.md_machine.specs.declared.attempt.AttemptId.{AttemptId}
 use Rattle.md_machine.specs.declared.opening.Opening.{Opening}
 use Rattle.md_machine.specs.declared.pass.PassView.{PassView}
 use Rattle.md_machine.specs.Event.{CanOpen, Event, Runs, opened}
-use Rattle.md_machine.specs.Machine.{IsAt, Machine}
+use Rattle.md_machine.specs.Machine.{IsAt, IsLive, Machine, shape_of}
 use Rattle.md_machine.specs.Meaning.{Meaning}
 use Rattle.md_machine.specs.Resolution.{Resolves, entries_of, logical_heap}
 
@@ -48,11 +50,17 @@ module _ (M : Meaning) where
   abbrev pub FrontsLegal : Machine → Type 0
   FrontsLegal m = (pass : ℕ) (p : PassView) → IsAt m pass p → IsLegal (opening_state m.opening) (entries_of p.seen) p.known
 
+  -- the front of each live pass is one of an engine with all lanes that starts in the opening's state
+  abbrev pub FrontsAreFrom : Machine → Type 0
+  FrontsAreFrom m = (pass : ℕ) (p : PassView) → IsAt m pass p → IsLive p
+      → IsFrontFrom (opening_state m.opening) (range_with_len 0 (shape_of m).lanes) (front_of (shape_of m) p)
+
   -- of a machine: in every resolution the logical heap is a replay, and the history is legal, as each pass has seen it too
   pub record IsMeant (m : Machine) : Type 0 where
     pub every : EveryHeapIsReplay m
     pub legal : HistoryIsLegal m
     pub fronts_legal : FrontsLegal m
+    pub fronts : FrontsAreFrom m
 
   -- after every list of events from an opening
   abbrev pub AlwaysMeant : Type 0

@@ -12,9 +12,11 @@ use Rattle.md_machine.specs.clauses.Flags.{FlaggedAreNoted}
 use Rattle.md_machine.specs.clauses.Formats.{AreFormats}
 use Rattle.md_machine.specs.clauses.Fronts.{FrontsFit}
 use Rattle.md_machine.specs.clauses.Hands.{HandsFit}
+use Rattle.md_machine.specs.clauses.HandKnows.{HandsKnow}
 use Rattle.md_machine.specs.clauses.InHand.{HandsLast}
 use Rattle.md_machine.specs.clauses.Lanes.{LanesApart}
 use Rattle.md_machine.specs.clauses.Loads.{LoadsStand}
+use Rattle.md_machine.specs.clauses.Mine.{MineAreEnded}
 use Rattle.md_machine.specs.clauses.NodeWords.{NodeWordsStand}
 use Rattle.md_machine.specs.clauses.Numbered.{EntriesNumbered}
 use Rattle.md_machine.specs.clauses.OddWords.{OddStand}
@@ -51,6 +53,8 @@ pub record IsKept (m : Machine) : Type 0 where
   pub sound : CommittedAreSound m
   pub numbered : EntriesNumbered (shape_of m) m.history
   pub serials : EntriesInTurn m
+  pub hand_knows : HandsKnow (shape_of m) m.passes
+  pub mine : MineAreEnded m.passes
   pub alone : HoldersAreAlone m
 
 module _ (M : Meaning) where

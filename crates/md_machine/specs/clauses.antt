@@ -21,3 +21,5 @@ pub mod Sound
 pub mod Numbered
 pub mod Alone
 pub mod Serials
+pub mod HandKnows
+pub mod Mine

@@ -97,7 +97,7 @@ module _ (m n : Machine) (v : MoveFacts m n) (field : IsField (shape_of m) m.wor
     alone-kept = finds_on v.passes
 
 -- the lane of a descriptor is one of the field's
-lane_exists : (shape : Shape) (desc : ℕ) → desc < desc_count shape → lane_of_desc shape desc < shape.lanes
+pub lane_exists : (shape : Shape) (desc : ℕ) → desc < desc_count shape → lane_of_desc shape desc < shape.lanes
 unfolding lane_of_desc desc_count
 lane_exists shape desc h = h
 

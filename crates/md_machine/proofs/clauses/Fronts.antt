@@ -49,7 +49,7 @@ module _ (m n : Machine) (v : MoveFacts m n) (apart : LanesApart (shape_of m) m.
 
   one_front : (q : PassView) → q.lanes ≡ v.p.lanes → FrontGoes m n v.step v.p q → Fits q
   one_front q lanes (learns same seen known) = learned q same seen known (λ lane c. subst (λ x. Contains x lane) lanes c)
-  one_front q lanes (sees_all seen known) = front_all m n.words n.history n.fates go.fit grows go.stay q seen known
+  one_front q lanes (sees_all seen known _ _) = front_all m n.words n.history n.fates go.fit grows go.stay q seen known
 
   -- a part of the pass after a move of lanes, with these lanes
   part : n.history ≡ m.history → (lanes : List ℕ) → ((lane : ℕ) → Contains lanes lane → Contains v.p.lanes lane) → Fits (with_lanes (shape_of m) lanes (moved v.p))

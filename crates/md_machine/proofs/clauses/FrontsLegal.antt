@@ -43,7 +43,7 @@ agree Aborted Committed h a b more = sym b ∙ a
 agree Aborted Aborted h a b more = refl
 agree Aborted Undecided h a b more = absurd (false≢true (more refl))
 
-all_agree : (fs gs hs : List Fate) → AllStay fs hs → AllStay gs hs → MoreDecided fs gs → AllStay fs gs
+pub all_agree : (fs gs hs : List Fate) → AllStay fs hs → AllStay gs hs → MoreDecided fs gs → AllStay fs gs
 all_agree [] gs hs a b more = tt
 all_agree (f ∷ fs) [] hs a b more = absurd more
 all_agree (f ∷ fs) (g ∷ gs) [] a b more = absurd a
@@ -65,7 +65,7 @@ module _ (m n : Machine) (v : MoveFacts m n) where
 
   one_comes : (q : PassView) → FrontGoes m n v.step v.p q → Comes q
   one_comes q (learns same seen known) = inl (v.pass, v.p, v.at, seen, subst (MoreDecided v.p.known) (sym known) (more_known (shape_of m) v.p.seen v.step v.p.known))
-  one_comes q (sees_all seen known) = inr (inl (seen, known))
+  one_comes q (sees_all seen known _ _) = inr (inl (seen, known))
 
   both_come : (other : ℕ) (q : PassView) → At m.passes other q → ComesFrom m n (longer v.p.seen q.seen) (known_of_both v.p.known q.known)
   both_come other q at = cond_both (nat_le (length v.p.seen) (length q.seen)) q.seen v.p.seen (λ seen. ComesFrom m n seen (known_of_both v.p.known q.known))

@@ -52,9 +52,9 @@ steps : (m : Machine) (p : PassView) (s : Step) → MoreDecided p.known (known_a
 steps m p s = more_known (shape_of m) p.seen s p.known
 
 module _ (m n : Machine) (v : MoveFacts m n) (fronts : FrontsFit (shape_of m) m.history m.fates m.passes) (stay : AllStay m.fates n.fates) where
-  one_learns : (q : PassView) → FrontGoes m n v.step v.p q → MoreDecided v.p.known q.known
+  pub one_learns : (q : PassView) → FrontGoes m n v.step v.p q → MoreDecided v.p.known q.known
   one_learns q (learns same seen known) = subst (MoreDecided v.p.known) (sym known) (steps m v.p v.step)
-  one_learns q (sees_all seen known) = subst (MoreDecided v.p.known) (sym known) (more_stay v.p.known n.fates (all_stay-trans v.p.known m.fates n.fates (fronts v.pass v.p v.at).known stay))
+  one_learns q (sees_all seen known _ _) = subst (MoreDecided v.p.known) (sym known) (more_stay v.p.known n.fates (all_stay-trans v.p.known m.fates n.fates (fronts v.pass v.p v.at).known stay))
 
   learns_from : PassesGo m n v.pass v.p v.step → LearnsFrom m.passes n.passes
   learns_from (goes_on q is view) = subst (LearnsFrom m.passes) (sym is) (learns_set m.passes v.pass v.p q v.at (λ lane c. subst (λ x. Contains x lane) view.lanes c) (one_learns q view.front))

@@ -1,12 +1,13 @@
 -- What every move tells, whatever its effect: how its word is left, which steps passes have, and what is new.
-use Rattle.std.proofs.Common.{◌≢◌, ◌≡◌, ℕ, ◌≤◌, ◌⊎◌, false, List, [], ◌∷◌, ◌++◌, set, sym, ap, ◌∙◌, subst, inl, inr, ⊎_elim, append-nil, true, Some}
+use Rattle.std.proofs.Common.{◌≢◌, ◌≡◌, ℕ, ◌<◌, ◌≤◌, ◌⊎◌, false, List, [], ◌∷◌, ◌++◌, set, sym, ap, ◌∙◌, subst, inl, inr, ⊎_elim, append-nil, true, Some}
 use Rattle.std.specs.List.{Contains, AllPairs}
 use Rattle.std.proofs.lemmas.List.Elements.{Contains-push_cases, All-contains}
 use Rattle.std.specs.Prelude.{All}
 use Rattle.md_words.specs.declared.limits.TheConstants.{SET}
 use Rattle.md_words.specs.Content.{count_of, is_even}
 use Rattle.md_words.specs.Place.{desc_status}
-use Rattle.md_words.specs.Layout.{address}
+use Rattle.md_words.specs.Status.{status_of}
+use Rattle.md_words.specs.Layout.{address, desc_count}
 use Rattle.md_words.specs.PlaceAt.{place_at, IsCounted}
 use Rattle.md_history.specs.Front.{IsPrefix}
 use Rattle.md_machine.specs.declared.attempt.AttemptId.{AttemptId}
@@ -30,13 +31,13 @@ use Rattle.md_machine.specs.Machine.{Install, IsAt, IsLive, Machine, content, is
 use Rattle.md_machine.specs.Own.{HasDesc, IsDataOf}
 use Rattle.md_machine.specs.Resolution.{never_placed}
 use Rattle.md_machine.specs.Stepping.{step_of}
-use Rattle.md_machine.specs.Trail.{StoresFor}
+use Rattle.md_machine.specs.Trail.{StoresFor, is_store}
 use Rattle.md_machine.specs.clauses.Stores.{IsEntryWord}
 use Rattle.md_machine.specs.clauses.WonInstalls.{HasInstallOf}
 use Rattle.md_machine.specs.events.Install.{installed_word}
 use Rattle.md_machine.specs.events.Ready.{MayRecord, fates_after_ready, history_after_ready, history_entry, reads_now, ready_word, unready_word}
 use Rattle.md_machine.specs.events.Start.{WonInstall}
-use Rattle.md_machine.specs.events.Uninstall.{MayUninstall}
+use Rattle.md_machine.specs.events.Uninstall.{IsDecided, MayUninstall}
 
 -- some pass met a read's content in its counted word
 pub record WasMet (m : Machine) (r : Read) : Type 0 where
@@ -144,6 +145,8 @@ pub record MoveFacts (m n : Machine) : Type 0 where
   pub data_word : (k : ℕ) → IsDataOf k (place_at (shape_of m) word) → (new ≡ content m word) ⊎ (never_placed m k ≡ true)
   -- what it finds of a status stands afterwards, or tells no fate
   pub truth : TellsTruth (shape_of m) n.words step
+  -- a store leaves no status decided
+  pub store : is_store kind ≡ true → (desc : ℕ) → desc < desc_count (shape_of m) → word ≡ address (shape_of m) (desc_status desc) → IsDecided (status_of new) → ⊥
   pub fates : FatesGo m n p kind word new
 
 -- whatever it was made for is in hand

@@ -1,6 +1,6 @@
 -- The one case split over the events: each is one step of one pass, with one of eight effects on the words and the
 -- history, and it replaces one view, splits one in two, or joins two in one.
-use Rattle.std.proofs.Common.{◌≡◌, ◌≢◌, ℕ, ◌<◌, ◌⊎◌, [], ◌∷◌, ◌++◌, set, refl, sym, subst, inl, inr, cond, Some, None, ap, false, ◌∙◌}
+use Rattle.std.proofs.Common.{◌≡◌, ◌≢◌, ℕ, ◌<◌, ◌⊎◌, [], ◌∷◌, ◌++◌, set, refl, sym, subst, inl, inr, cond, Some, None, ap, false, ◌∙◌, ⊎_elim}
 use Rattle.md_words.specs.declared.status.Status.{Status}
 use Rattle.md_words.specs.declared.status.Status.TheVariants.{Committed, Aborted}
 use Rattle.md_words.specs.Place.{desc_status}
@@ -26,6 +26,7 @@ use Rattle.md_machine.specs.Meaning.{Meaning}
 use Rattle.md_machine.specs.Own.{HasDesc}
 use Rattle.md_machine.specs.Resolution.{always_nodes}
 use Rattle.md_machine.specs.Stepping.{attempt_in_hand, is_of_placed, known_after, replaced, step_of, stepped, with_fate}
+use Rattle.md_machine.specs.Trail.{is_store}
 use Rattle.md_machine.specs.events.Decide.{MayAbort, MayCommit, after_deciding, decided_word}
 use Rattle.md_machine.specs.events.Exchange.{MayExchange, after_exchange, exchanged_word}
 use Rattle.md_machine.specs.events.Install.{MayInstall, after_install, hand_after_install, install_of, installed_word}
@@ -44,10 +45,11 @@ pub data HandGoes (m n : Machine) (p q : PassView) : Type 0 where
   hand_ends : (h : Hand) → MayMarkEnd m p h → q.hand ≡ None → n.begun ≡ m.begun → q.pending ≡ without p.pending h.attempt → q.mine ≡ p.mine ++ answered p.seen p.known h.attempt → HandGoes m n p q
   hand_leaves : q.hand ≡ None → n.begun ≡ m.begun → q.pending ≡ p.pending → q.mine ≡ p.mine → HandGoes m n p q
 
--- a view sees no more entries and learns what the step tells, or sees the whole history, with the fates as they are
+-- a view sees no more entries and learns what the step tells; or sees the whole history, with the fates as they are, and
+-- answers nothing
 pub data FrontGoes (m n : Machine) (s : Step) (p q : PassView) : Type 0 where
   learns : n.history ≡ m.history → q.seen ≡ p.seen → q.known ≡ known_after (shape_of m) p.seen s p.known → FrontGoes m n s p q
-  sees_all : q.seen ≡ n.history → q.known ≡ n.fates → FrontGoes m n s p q
+  sees_all : q.seen ≡ n.history → q.known ≡ n.fates → q.pending ≡ p.pending → q.mine ≡ p.mine → FrontGoes m n s p q
 
 -- a view goes on by one step
 pub record ViewGoes (m n : Machine) (s : Step) (p q : PassView) : Type 0 where
@@ -74,7 +76,8 @@ pub record IsQuiet (m n : Machine) : Type 0 where
   pub installs : n.installs ≡ m.installs
 
 -- a load, a lost exchange, a mark, or a move of lanes
-pub record Stays (m n : Machine) (word new : ℕ) : Type 0 where
+pub record Stays (m n : Machine) (kind : Kind) (word new : ℕ) : Type 0 where
+  pub plain : is_store kind ≡ false
   pub inside : word < words_of (shape_of m)
   pub same : new ≡ content m word
   pub quiet : IsQuiet m n
@@ -159,7 +162,7 @@ module _ (M : Meaning) where
 
   -- what the step does to its word, the history, the fates and the installs
   pub data Effect (m n : Machine) (p : PassView) (kind : Kind) (word new : ℕ) : Type 0 where
-    by_stay : Stays m n word new → Effect m n p kind word new
+    by_stay : Stays m n kind word new → Effect m n p kind word new
     by_store : Stores m n p kind word new → Effect m n p kind word new
     by_install : WinsInstall m n p kind word new → Effect m n p kind word new
     by_exchange : WinsExchange m n p kind word new → Effect m n p kind word new
@@ -218,13 +221,13 @@ module _ (M : Meaning) (m : Machine) (pass : ℕ) (p : PassView) (acts : Acts m 
   by_step kind word new = by_one (replaced m pass (stepped m p kind word new) word new) (stepped m p kind word new) kind word new refl refl refl (plain_view m _ p kind word new refl refl)
 
   -- by a plain step that leaves the word as it is
-  by_look : (kind : Kind) (word : ℕ) → word < words_of (shape_of m) → Moves M m (replaced m pass (stepped m p kind word (content m word)) word (content m word))
-  by_look kind word inside = by_step kind word (content m word) (by_stay (record { inside = inside; same = refl; quiet = quiet m _ refl refl refl }))
+  by_look : (kind : Kind) (word : ℕ) → is_store kind ≡ false → word < words_of (shape_of m) → Moves M m (replaced m pass (stepped m p kind word (content m word)) word (content m word))
+  by_look kind word plain inside = by_step kind word (content m word) (by_stay (record { plain = plain; inside = inside; same = refl; quiet = quiet m _ refl refl refl }))
 
   -- by a mark that leaves this view
   by_mark : (n : Machine) (q : PassView) → 0 < words_of (shape_of m) → n.opening ≡ m.opening → n.words ≡ set m.words 0 (content m 0) → IsQuiet m n → n.passes ≡ set m.passes pass q
       → ViewGoes m n (step_of m p Load 0 (content m 0)) p q → Moves M m n
-  by_mark n q inside opening words quiet passes view = by_one n q Load 0 (content m 0) opening words passes view (by_stay (record { inside = inside; same = refl; quiet = quiet }))
+  by_mark n q inside opening words quiet passes view = by_one n q Load 0 (content m 0) opening words passes view (by_stay (record { plain = refl; inside = inside; same = refl; quiet = quiet }))
 
 -- word 0 exists, and so does the status of an own descriptor
 zero_inside : (m : Machine) → 0 < words_of (shape_of m)
@@ -254,19 +257,19 @@ module _ (M : Meaning) where
       (by_install (record { by = refl; hand = h; from = from; to = to; may = may; was = won; is = refl; installs = refl; history = refl; fates = refl })))
       (λ _. by_one M m pass p acts _ _ Installs word (content m word) refl refl refl
       (next_view m _ p _ Installs word (content m word) refl refl refl refl refl refl refl (hand_changes h h may.held refl refl refl refl refl))
-      (by_stay (record { inside = may.counted.0; same = refl; quiet = quiet m _ refl refl refl })))
+      (by_stay (record { plain = refl; inside = may.counted.0; same = refl; quiet = quiet m _ refl refl refl })))
 
   exchanges_or_loses : (m : Machine) (pass : ℕ) (p : PassView) (word from to : ℕ) → Acts m pass p → MayExchange M m p word from to → Moves M m (after_exchange m pass p word from to)
   exchanges_or_loses m pass p word from to acts may = exchanged_cases (content m word) from
       (λ b. let new = either b (exchanged_word from to) (content m word) in Moves M m (replaced m pass (stepped m p Exchange word new) word new))
       (λ won. by_step M m pass p acts Exchange word _ (by_exchange (record { by = refl; from = from; to = to; may = may; was = won; is = refl; quiet = quiet m _ refl refl refl })))
-      (λ _. by_look M m pass p acts Exchange word may.counted.0)
+      (λ _. by_look M m pass p acts Exchange word refl may.counted.0)
 
   takes_or_loses : (m : Machine) (pass : ℕ) (p : PassView) (word from value : ℕ) → Acts m pass p → MayUninstall m p word from value → Moves M m (after_uninstall m pass p word from value)
   takes_or_loses m pass p word from value acts may = exchanged_cases (content m word) from
       (λ b. let new = either b (uninstalled_word from value) (content m word) in Moves M m (replaced m pass (stepped m p Uninstall word new) word new))
       (λ won. by_step M m pass p acts Uninstall word _ (by_uninstall (record { by = refl; from = from; value = value; may = may; was = won; is = refl; quiet = quiet m _ refl refl refl })))
-      (λ _. by_look M m pass p acts Uninstall word may.counted.0)
+      (λ _. by_look M m pass p acts Uninstall word refl may.counted.0)
 
   enters_or_loses : (m : Machine) (pass : ℕ) (p : PassView) (h : Hand) (count : ℕ) → Acts m pass p → MayReady M m p h count → Moves M m (after_ready m pass p h count)
   enters_or_loses m pass p h count acts may =
@@ -276,9 +279,9 @@ module _ (M : Meaning) where
       (λ b. let new = either b (ready_word h.attempt count) (content m word) in let plain = stepped m p Ready word new in
       Moves M m (record (replaced m pass (cond b (record plain { seen = history_after_ready m h count; known = fates_after_ready m }) plain) word new) { history = cond b (history_after_ready m h count) m.history; fates = cond b (fates_after_ready m) m.fates }))
       (λ won. by_one M m pass p acts _ _ Ready word (ready_word h.attempt count) refl refl refl
-      (record { lanes = refl; past = refl; trail = refl; placed = refl; front = sees_all refl refl; hand = hand_stays refl refl refl refl })
+      (record { lanes = refl; past = refl; trail = refl; placed = refl; front = sees_all refl refl refl refl; hand = hand_stays refl refl refl refl })
       (by_ready (record { by = refl; hand = h; count = count; may = may; there = refl; was = won; is = refl; history = refl; fates = refl; installs = refl })))
-      (λ _. by_look M m pass p acts Ready word inside)
+      (λ _. by_look M m pass p acts Ready word refl inside)
 
   decides_or_loses : (m : Machine) (pass : ℕ) (p : PassView) (desc from : ℕ) (kind : Kind) (status : Status) → Acts m pass p → desc < desc_count (shape_of m) → (kind ≡ Commit) ⊎ (kind ≡ Abort)
       → ((status ≡ Committed) × MayCommit (shape_of m) p desc from) ⊎ ((status ≡ Aborted) × MayAbort (shape_of m) p desc from) → Moves M m (after_deciding kind status m pass p desc from)
@@ -289,10 +292,10 @@ module _ (M : Meaning) where
       Moves M m (record (replaced m pass (stepped m p kind word new) word new) { fates = cond b (with_fate m.history (attempt_of desc (serial_of from)) status m.fates) m.fates }))
       (λ won. by_one M m pass p acts _ _ kind word (decided_word status from) refl refl refl (plain_view m _ p kind word _ refl refl)
       (by_fate (record { desc = desc; from = from; status = status; by = is; may = may; there = refl; was = won; is = refl; history = refl; fates = refl; installs = refl })))
-      (λ _. by_look M m pass p acts kind word (address_below (shape_of m) (desc_status desc) exists))
+      (λ _. by_look M m pass p acts kind word (⊎_elim (λ e. ap is_store e) (λ e. ap is_store e) is) (address_below (shape_of m) (desc_status desc) exists))
 
   pub does_move : (m n : Machine) (e : Event) → content m 0 ≡ 0 → Does M m e n → Moves M m n
-  does_move m n (load pass word) base (p, acts, inside, is) = subst (Moves M m) (sym is) (by_look M m pass p acts Load word inside)
+  does_move m n (load pass word) base (p, acts, inside, is) = subst (Moves M m) (sym is) (by_look M m pass p acts Load word refl inside)
   does_move m n (store pass word value) base (p, h, acts, may, is) = subst (Moves M m) (sym is) (by_one M m pass p acts _ _ Store word value refl refl refl
       (next_view m _ p _ Store word value refl refl refl refl refl refl refl (hand_changes h _ may.held refl refl refl refl refl))
       (by_store (record { by = refl; hand = h; may = may; quiet = quiet m _ refl refl refl })))
@@ -316,7 +319,7 @@ module _ (M : Meaning) where
     step = moved_step p;
     is_step = moved_is m p base;
     passes = is_split may refl refl refl refl;
-    effect = by_stay (record { inside = zero_inside m; same = refl; quiet = quiet m _ refl refl refl });
+    effect = by_stay (record { plain = refl; inside = zero_inside m; same = refl; quiet = quiet m _ refl refl refl });
   })
   does_move m n (join pass other) base (p, q, acts, apart, there, is) = subst (Moves M m) (sym is) (record {
     pass = pass;
@@ -330,7 +333,7 @@ module _ (M : Meaning) where
     step = moved_step p;
     is_step = moved_is m p base;
     passes = is_joined other q apart there refl refl refl refl;
-    effect = by_stay (record { inside = zero_inside m; same = refl; quiet = quiet m _ refl refl refl });
+    effect = by_stay (record { plain = refl; inside = zero_inside m; same = refl; quiet = quiet m _ refl refl refl });
   })
   does_move m n (mark_begin pass desc tag) base (p, acts, may, is) = subst (Moves M m) (sym is) (by_mark M m pass p acts _ _ (zero_inside m) refl refl (quiet m _ refl refl refl) refl
       (next_view m _ p _ Load 0 _ refl refl refl refl refl refl refl (hand_begins desc tag may refl refl refl refl refl)))

@@ -1,5 +1,5 @@
 -- A move tells its facts, from its effect.
-use Rattle.std.proofs.Common.{List, [], ◌∷◌, ◌≢◌, arith, eq-eqb, ◌≡◌, ℕ, ◌<◌, ◌⊎◌, ◌||◌, false, ◌++◌, set, refl, sym, ap, ◌∙◌, subst, inl, inr, ⊎_elim, true, IsTrue}
+use Rattle.std.proofs.Common.{List, [], ◌∷◌, ◌≢◌, arith, eq-eqb, ◌≡◌, ℕ, ◌+◌, ◌<◌, ◌⊎◌, ◌||◌, false, ◌++◌, set, refl, sym, ap, ◌∙◌, subst, inl, inr, ⊎_elim, true, IsTrue}
 use Rattle.std.specs.List.{Contains}
 use Rattle.std.proofs.lemmas.Bool.{false≢true, or_cases}
 use Rattle.std.proofs.lemmas.List.Elements.{Contains-append_left, Contains-push, Contains-push_cases}
@@ -12,7 +12,7 @@ use Rattle.md_machine.specs.declared.node.PlacedNode.{PlacedNode}
 use Rattle.md_words.specs.declared.shape.Shape.{Shape}
 use Rattle.md_words.specs.declared.status.Status.TheVariants.{InPrep, InProg, Committed, Aborted}
 use Rattle.md_words.specs.Content.{count_of, is_even}
-use Rattle.md_words.specs.Status.{status_of}
+use Rattle.md_words.specs.Status.{serial_of, status_of}
 use Rattle.md_words.specs.Place.{Place, base_word, bucket_head, queue_head, queue_tail, node_key, node_value, node_next, desc_status, read_word, read_content, slot_word, slot_old, slot_new, is_counted}
 use Rattle.md_words.specs.Layout.{desc_count, address}
 use Rattle.md_words.specs.PlaceAt.{place_at, IsCounted}
@@ -24,6 +24,7 @@ use Rattle.md_machine.specs.declared.step.Step.{Step}
 use Rattle.md_machine.specs.declared.step.Kind.{Kind}
 use Rattle.md_machine.specs.declared.step.Kind.TheVariants.{Load, Store, Install as Installs, Exchange, Ready, Commit, Abort, Uninstall, Start}
 use Rattle.md_machine.specs.declared.pass.PassView.{PassView}
+use Rattle.md_machine.proofs.clauses.Statuses.{not_both}
 use Rattle.md_machine.proofs.events.InstallSteps.{InstallsHere, installs_here}
 use Rattle.md_machine.proofs.events.Leaves.{abort_moves, commit_moves, decide_changes, exchange_changes, exchange_even, install_changes, ready_changes, start_changes, status_uncounted, store_changes, store_even, store_was_even, uninstall_changes, uninstall_even}
 use Rattle.md_machine.proofs.events.MoveFacts.{Enters, InstallsMade, MoveFacts, StoredHere, Uninstalls}
@@ -43,6 +44,7 @@ use Rattle.md_machine.specs.Meaning.{Meaning}
 use Rattle.md_machine.specs.Own.{IsDataOf, IsOwnNode}
 use Rattle.md_machine.specs.Resolution.{never_placed}
 use Rattle.md_machine.specs.Stepping.{attempt_in_hand, step_of}
+use Rattle.md_machine.specs.Trail.{is_store}
 use Rattle.md_machine.specs.clauses.Formats.{AreFormats}
 use Rattle.md_machine.specs.clauses.Hands.{HandsFit}
 use Rattle.md_machine.specs.clauses.Lanes.{LanesApart}
@@ -53,7 +55,7 @@ use Rattle.md_machine.specs.events.Ready.{unready_word}
 use Rattle.md_machine.specs.events.SplitJoin.{joined_lanes}
 use Rattle.md_machine.specs.events.Start.{WonInstall}
 use Rattle.md_machine.specs.events.Store.{MayStoreAt}
-use Rattle.md_machine.specs.events.Uninstall.{MayUninstall}
+use Rattle.md_machine.specs.events.Uninstall.{IsDecided, MayUninstall}
 
 -- a counted word is of no read or slot, and neither is a status
 counted_no_entry : (d : ℕ) (q : Place) → IsTrue (is_counted q) → IsEntryWord d q → ⊥
@@ -366,6 +368,21 @@ module _ (M : Meaning) (m n : Machine) (f : AreFormats (shape_of m) m.words) (ap
   tells_truth (by_uninstall x) = true_step v.kind v.word v.new refl refl refl (counted_truth m v.p v.kind v.word v.new x.may.counted)
   tells_truth (by_start x) = true_step Start v.word v.new x.by refl refl (store_truth m v.p Start v.word v.new refl)
 
+  plain_kind : (k : Kind) → v.kind ≡ k → is_store k ≡ false → is_store v.kind ≡ true → ⊥
+  plain_kind k e plain store = false≢true (sym plain ∙ ap is_store (sym e) ∙ store)
+
+  stores_undecided : Effect M m n v.p v.kind v.word v.new → is_store v.kind ≡ true → (desc : ℕ) → desc < desc_count (shape_of m) → v.word ≡ address (shape_of m) (desc_status desc) → IsDecided (status_of v.new) → ⊥
+  stores_undecided (by_stay x) store desc exists there decided = plain_kind v.kind refl x.plain store
+  stores_undecided (by_store x) store desc exists there decided =
+      subst (MayStoreAt m v.p x.hand.attempt (content m v.word) v.new) (ap (place_at (shape_of m)) there ∙ place_at-address (shape_of m) (desc_status desc) exists) x.may.place
+  stores_undecided (by_install x) store desc exists there decided = plain_kind Installs x.by refl store
+  stores_undecided (by_exchange x) store desc exists there decided = plain_kind Exchange x.by refl store
+  stores_undecided (by_ready x) store desc exists there decided = plain_kind Ready x.by refl store
+  stores_undecided (by_fate x) store desc exists there decided = ⊎_elim (λ e. plain_kind Commit e refl store) (λ e. plain_kind Abort e refl store) x.by
+  stores_undecided (by_uninstall x) store desc exists there decided = plain_kind Uninstall x.by refl store
+  stores_undecided (by_start x) store desc exists there decided =
+      not_both (status_of v.new) (inl (ap status_of x.is ∙ status_of-status_word InPrep 0 (serial_of x.from + 1))) decided
+
   pub tell : MoveFacts m n
   tell = record {
     pass = v.pass;
@@ -393,5 +410,6 @@ module _ (M : Meaning) (m n : Machine) (f : AreFormats (shape_of m) m.words) (ap
     entry = entry_left v.effect;
     data_word = data_left v.effect;
     truth = tells_truth v.effect;
+    store = stores_undecided v.effect;
     fates = ⊎_elim (λ x. inl (record { left = x.0; history = x.1; fates = x.2 })) inr (plainly ⊥ v.effect);
   }

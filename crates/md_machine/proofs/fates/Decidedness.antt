@@ -47,7 +47,7 @@ told_decided InProg f d = d
 told_decided IsCommitted f d = refl
 told_decided IsAborted f d = refl
 
-more_told : (es : List HistoryEntry) (a : AttemptId) (s : Status) (fs : List Fate) → MoreDecided fs (with_fate es a s fs)
+pub more_told : (es : List HistoryEntry) (a : AttemptId) (s : Status) (fs : List Fate) → MoreDecided fs (with_fate es a s fs)
 more_told [] a s [] = tt
 more_told [] a s (f ∷ fs) = more_itself (f ∷ fs)
 more_told (e ∷ es) a s [] = tt

@@ -13,12 +13,13 @@ use Rattle.md_machine.specs.Event.{CanOpen, Event, Plays, Runs, first_pass, open
 use Rattle.md_machine.specs.Legal.{AlwaysMeant, FrontsLegal, IsReplay, opening_state}
 use Rattle.md_machine.specs.Resolution.{Resolves, entries_of}
 use Rattle.md_machine.proofs.Invariant.{Invariant, does_keep}
-use Rattle.md_machine.proofs.Reached.{opens}
+use Rattle.md_machine.proofs.Reached.{always_kept, opens}
 use Rattle.md_machine.proofs.clauses.FrontsLegal.{fronts_legal-kept, none_legal}
 use Rattle.md_machine.proofs.events.Moves.{does_move}
 use Rattle.md_machine.proofs.events.Tell.{tell}
 use Rattle.md_machine.proofs.lists.At.{at_one}
 use Rattle.md_machine.proofs.lists.Rising.{in_none}
+use Rattle.md_machine.proofs.replay.FrontsFrom.{fronts_from}
 use Rattle.md_machine.proofs.replay.Kept.{Means, means-kept}
 
 module _ (M : Meaning) (lawful : Lawful M) where
@@ -61,4 +62,4 @@ module _ (M : Meaning) (lawful : Lawful M) where
   pub always_meant : AlwaysMeant M
   always_meant o events m can runs =
       let means = runs_mean events (opened o) m (opens M o can) (means_opened o can) (fronts_opened o can) runs in
-      record { every = means.0.every; legal = means.0.legal; fronts_legal = means.1 }
+      record { every = means.0.every; legal = means.0.legal; fronts_legal = means.1; fronts = fronts_from M m (always_kept M o events m can runs) means.1 }
