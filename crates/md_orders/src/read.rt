@@ -50,7 +50,12 @@ struct Notes {
 }
 
 // The caller and the command of a record, which stands at the caller's next line.
-fn line_of(scripts: &Scripts, version: Version, callers: u32, row: &ByteRecord) -> Option<(u32, Command)>
+fn line_of(
+    scripts: &Scripts,
+    version: Version,
+    callers: u32,
+    row: &ByteRecord,
+) -> Option<(u32, Command)>
     requires room { count_of scripts.now < max_records }
     ensures none { IfNone result (keeps version callers (fields_of row.now) ≡ false) }
     ensures some { IfSome result (λ line. IsLine version callers (fields_of row.now) scripts.now line.0 line.1) }

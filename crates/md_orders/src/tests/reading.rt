@@ -45,6 +45,7 @@ fn records_are_commands(rt: HostRuntime) -> Result<(), Fail> {
         side: Side::Buy,
         price: 99,
         quantity: 3,
+        places: 4,
     };
     let cancel = Command::Cancel {
         name: order_name(8, 1_000_000),
@@ -120,6 +121,111 @@ fn the_first_record_that_breaks_the_grammar_is_told(rt: HostRuntime) -> Result<(
     Ok(())
 }
 
+// A fill and a kill of the same terms.
+fn fill(places: u8) -> Command {
+    Command::Fill {
+        account: 8,
+        side: Side::Buy,
+        price: 99,
+        quantity: 3,
+        places,
+    }
+}
+
+fn kill(places: u8) -> Command {
+    Command::Kill {
+        account: 8,
+        side: Side::Buy,
+        price: 99,
+        quantity: 3,
+        places,
+    }
+}
+
+#[test]
+fn a_file_has_a_version(rt: HostRuntime) -> Result<(), Fail> {
+    let alloc = rt.alloc();
+    let first = depth(Side::Buy, 1);
+    let cancel = Command::Cancel {
+        name: order_name(64, 1),
+    };
+    let short = [fill(4), kill(4)];
+    let long = [fill(12), kill(12)];
+    let rows = [
+        (b"1,F,8,B,99,3\n1,K,8,B,99,3\n".as_slice(), short.as_slice()),
+        (b"medley,2\n1,F,8,B,99,3\n1,K,8,B,99,3\n", &long),
+        (b"medley,2", &[]),
+        (b"\"medley\",\"2\"\n1,D,B,1\n", &[first]),
+        (b"\xef\xbb\xbfmedley,2\r\n1,D,B,1", &[first]),
+        (b"\n\nmedley,2\n\n1,D,B,1\n", &[first]),
+        (
+            b"medley,2\n1,D,B,1\n1,P,9999,S,1000,1000000\n",
+            &[first, place(2)],
+        ),
+        (b"medley,2\n1,C,64,1\n", &[cancel]),
+    ];
+    for (text, want) in rows {
+        let Ok(commands) = commands(alloc, text)? else {
+            return Err(Fail::new("refused"));
+        };
+        assert_eq!(rt; commands.as_slice(), want);
+    }
+    Ok(())
+}
+
+#[test]
+fn a_version_record_stands_first_and_alone(rt: HostRuntime) -> Result<(), Fail> {
+    let rows = [
+        (b"medley,3\n".as_slice(), 1),
+        (b"medley,02\n", 1),
+        (b"medley,1\n", 1),
+        (b"medley, 2\n", 1),
+        (b"Medley,2\n", 1),
+        (b"medley\n", 1),
+        (b"medley,2,\n", 1),
+        (b"medley,2,2\n", 1),
+        (b"medley,2\nmedley,2\n", 2),
+        (b"1,D,B,1\nmedley,2\n", 2),
+        (b"medley,2\n1,D,B,1\nmedley,2\n", 3),
+        (b"medley,2\n1,D,B,0\n", 2),
+        (b"1,C,9,1\n", 1),
+        (b"medley,2\n1,C,65,1\n", 2),
+        (b"medley,2\n3,D,B,1\n", 2),
+        (b"1,K,8,B,99\n", 1),
+        (b"1,K,8,B,99,0\n", 1),
+        (b"1,K,8,B,99,3,3\n", 1),
+        (b"1,k,8,B,99,3\n", 1),
+    ];
+    for (text, number) in rows {
+        let fault = commands(rt.alloc(), text)?.err();
+        assert_eq!(rt; fault, Some(OrderFault::BadLine(number)));
+    }
+    Ok(())
+}
+
+// Up to 64 callers, but in version 1 no more than 8.
+#[test]
+fn callers_are_within_the_version(rt: HostRuntime) -> Result<(), Fail> {
+    let alloc = rt.alloc();
+    let rows = [
+        (b"8,D,B,1\n".as_slice(), 64, Ok(1)),
+        (b"9,D,B,1\n", 64, Err(OrderFault::BadLine(1))),
+        (b"8,D,B,1\n", 7, Err(OrderFault::BadLine(1))),
+        (b"medley,2\n64,D,B,1\n", 64, Ok(1)),
+        (b"medley,2\n65,D,B,1\n", 64, Err(OrderFault::BadLine(2))),
+        (b"medley,2\n64,D,B,1\n", 63, Err(OrderFault::BadLine(2))),
+        (b"medley,2\n9,D,B,1\n", 1, Err(OrderFault::BadLine(2))),
+    ];
+    for (text, callers, want) in rows {
+        let total = match read_orders(alloc, text, callers) {
+            Ok(scripts) => Ok(scripts.total()),
+            Err(fault) => Err(fault),
+        };
+        assert_eq!(rt; total, want);
+    }
+    Ok(())
+}
+
 // A record, and so many good ones after it.
 fn records(alloc: Global, first: &[u8], more: u32) -> Result<Vec<u8>, AllocError> {
     let mut text = first.to_vec(alloc)?;
@@ -137,6 +243,8 @@ fn more_than_a_million_records_are_too_many(rt: HostRuntime) -> Result<(), Fail>
         (b"1,D,S,1\n", 1_000_000, Err(OrderFault::TooMany)),
         (b"1,D,X,1\n", 1_000_000, Err(OrderFault::TooMany)),
         (b"1,D,X,1\n", 999_999, Err(OrderFault::BadLine(1))),
+        (b"medley,2\n", 999_999, Ok(999_999)),
+        (b"medley,2\n", 1_000_000, Err(OrderFault::TooMany)),
     ];
     for (first, more, want) in rows {
         let text = records(alloc, first, more)?;

@@ -1,16 +1,16 @@
 // Replies, and reports from outside.
 ghost use Rattle.std.specs.Prelude.{◌≤◌, length, IfOk};
-ghost use Rattle.md_book.specs.Stands.{maps_of_a_book};
+ghost use Rattle.md_book.specs.declared.maps.TheConstants.{MAPS};
 
 use crate::{Replies, Scripts, read_orders, report};
-use md_book::{BOUGHT, BookReply, DEPTHS, MAPS, Part, SOLD, order_name};
+use md_book::{BOUGHT, BookReply, DEPTHS, MAPS, MAX_PARTS, Part, SOLD, order_name};
 use md_history::Contents;
 use std::alloc::Global;
 use std::test::Fail;
 
 // A book's maps with values in them: a map, a key and a value each.
 fn contents_of(alloc: Global, values: &[(u32, u64, u64)]) -> Result<Contents, Fail>
-    ensures { IfOk result (λ contents. maps_of_a_book ≤ length contents.maps) }
+    ensures { IfOk result (λ contents. MAPS ≤ length contents.maps) }
 {
     let mut contents = Contents::empty(alloc, MAPS, 0)?;
     for (map, key, value) in values {
@@ -57,44 +57,38 @@ fn a_line_has_the_reply_that_was_set(rt: HostRuntime) -> Result<(), Fail> {
 }
 
 // The answer to a fill with these parts, each of an order of the first caller.
-fn filled(rest: u32, count: u8, taken: [u32; 4]) -> BookReply {
-    let [first, second, third, fourth] = taken;
-    let part = |line: u32, taken: u32| Part {
-        name: if taken == 0 { 0 } else { order_name(1, line) },
-        taken,
-    };
+fn filled(rest: u32, takes: &[u32]) -> BookReply {
+    let mut parts = [Part { name: 0, taken: 0 }; MAX_PARTS];
+    let mut taken: u32 = 0;
+    let mut count: u8 = 0;
+    for (part, (take, line)) in parts.iter_mut().zip(takes.iter().zip(1..)) {
+        *part = Part {
+            name: order_name(1, line),
+            taken: *take,
+        };
+        taken = taken.saturating_add(*take);
+        count = count.saturating_add(1);
+    }
     BookReply::Filled {
-        taken: first
-            .saturating_add(second)
-            .saturating_add(third)
-            .saturating_add(fourth),
+        taken,
         rest,
         count,
-        parts: [
-            part(1, first),
-            part(2, second),
-            part(3, third),
-            part(4, fourth),
-        ],
+        parts,
     }
 }
 
 #[test]
 fn a_report_has_its_text(rt: HostRuntime) -> Result<(), Fail> {
     let alloc = rt.alloc();
-    let none = Part { name: 0, taken: 0 };
-    let parts = [
-        Part {
-            name: order_name(2, 7),
-            taken: 1_000_000,
-        },
-        Part {
-            name: order_name(8, 1_000_000),
-            taken: 1,
-        },
-        none,
-        none,
-    ];
+    let mut parts = [Part { name: 0, taken: 0 }; MAX_PARTS];
+    parts[0] = Part {
+        name: order_name(2, 7),
+        taken: 1_000_000,
+    };
+    parts[1] = Part {
+        name: order_name(8, 1_000_000),
+        taken: 1,
+    };
     let rows = [
         (
             b"".as_slice(),
@@ -104,10 +98,7 @@ fn a_report_has_its_text(rt: HostRuntime) -> Result<(), Fail> {
         ),
         (
             b"1,P,7,S,100,5\n1,F,8,S,100,3\n",
-            &[
-                (1, 1, BookReply::Placed),
-                (1, 2, filled(0, 1, [3, 0, 0, 0])),
-            ],
+            &[(1, 1, BookReply::Placed), (1, 2, filled(0, &[3]))],
             &[(BOUGHT, 8, 3), (SOLD, 7, 3), (DEPTHS, 1_099, 2)],
             b"1:1 placed\n1:2 filled 3 rest 0 from 1:1=3\nS 100 2\naccount 7 bought 0 sold 3\naccount 8 bought 3 sold 0\ndone 2\n",
         ),
@@ -117,16 +108,25 @@ fn a_report_has_its_text(rt: HostRuntime) -> Result<(), Fail> {
                 (1, 1, BookReply::Placed),
                 (1, 2, BookReply::Cancelled(5)),
                 (1, 3, BookReply::Gone),
-                (1, 4, filled(3, 0, [0, 0, 0, 0])),
+                (1, 4, filled(3, &[])),
             ],
             &[],
             b"1:1 placed\n1:2 cancelled 5\n1:3 gone\n1:4 filled 0 rest 3\ndone 4\n",
         ),
         (
             b"1,F,8,S,100,5\n",
-            &[(1, 1, filled(1, 4, [1, 1, 1, 1]))],
+            &[(1, 1, filled(1, &[1, 1, 1, 1]))],
             &[(DEPTHS, 1_099, 1), (SOLD, 7, 4), (BOUGHT, 8, 4)],
             b"1:1 filled 4 rest 1 from 1:1=1 1:2=1 1:3=1 1:4=1\nS 100 1\naccount 7 bought 0 sold 4\naccount 8 bought 4 sold 0\ndone 1\n",
+        ),
+        (
+            b"medley,2\n1,F,8,S,100,12\n1,K,8,S,100,1\n",
+            &[
+                (1, 1, filled(0, &[1, 1, 1, 1, 1, 1, 1, 1, 1, 1, 1, 1])),
+                (1, 2, BookReply::Killed),
+            ],
+            &[(SOLD, 7, 12), (BOUGHT, 8, 12)],
+            b"1:1 filled 12 rest 0 from 1:1=1 1:2=1 1:3=1 1:4=1 1:5=1 1:6=1 1:7=1 1:8=1 1:9=1 1:10=1 1:11=1 1:12=1\n1:2 killed\naccount 7 bought 0 sold 12\naccount 8 bought 12 sold 0\ndone 2\n",
         ),
         (
             b"1,A,7\n1,D,B,10\n",
