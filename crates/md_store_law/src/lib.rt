@@ -3,8 +3,9 @@
 //!
 //! What follows for a program whose transactions leave these certificates, by `all_schedules`:
 //!
-//! 1. However passes interleave, every bucket stays a list of its keys and every queue keeps its shape.
-//! 2. Each operation on a map or on a queue has its reply and its effect, and leaves all others alone.
+//! 1. However passes interleave, every bucket stays a list of its keys, and every queue keeps its
+//!    shape.
+//! 2. Each operation on a map or a queue has its reply and its effect, and leaves all others alone.
 //! 3. An unlink of a removed node and a move of a lagging tail change no contents.
 //! 4. The words of a node that isn't placed may be written at will.
 //! 5. Every counted word but a next word of an unplaced node names no node, or a placed one.

@@ -8,8 +8,8 @@ ghost use Rattle.md_store_law.specs.Needed.{node_number, capped};
 use md_history::Contents;
 use std::collections::{BTreeMap, VecDeque};
 
-/// The number of base nodes that a field needs for these contents: one for each queue, each pair and
-/// each queued value. It is 2^64 - 1 where they are more. It takes no memory.
+/// The number of base nodes that a field needs for these contents: one for each queue, each pair
+/// and each queued value. It is 2^64 - 1 if they are more. It takes no memory.
 pub fn needed(contents: &Contents) -> u64
     ensures { result ≡ capped (node_number contents.now) }
 {

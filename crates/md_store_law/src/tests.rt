@@ -1,4 +1,5 @@
-// The theorem over all schedules, and what walks show, at the store; and the sizes of small contents.
+// The theorem over all schedules, and what walks show, at the store; and sizes of small contents.
+ghost use Rattle.md_machine.specs.Legal.{AlwaysMeant};
 ghost use Rattle.md_machine.specs.Theorem.{AlwaysKept, AlwaysGoesOn};
 ghost use Rattle.md_store_law.specs.Store.{store};
 
@@ -13,6 +14,7 @@ use std::test::Fail;
 fn schedules_of_stores()
     ensures kept { AlwaysKept store }
     ensures goes_on { AlwaysGoesOn store }
+    ensures legal { AlwaysMeant store }
 {
     all_schedules::<StoreTheory>();
 }
