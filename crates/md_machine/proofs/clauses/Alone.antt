@@ -1,5 +1,5 @@
 -- What a pass that holds all lanes knows, after every event.
-use Rattle.std.proofs.Common.{◌≡◌, ◌≢◌, ℕ, ◌<◌, ◌++◌, ◌∷◌, false, List, [], length, set, get_or, refl, sym, ap, ◌∙◌, subst, ⊎_elim, append-nil, get_or-set_same, arith}
+use Rattle.std.proofs.Common.{◌≡◌, ◌≢◌, ℕ, ◌<◌, ◌++◌, ◌∷◌, List, [], length, set, get_or, refl, sym, ap, ◌∙◌, subst, ⊎_elim, append-nil, get_or-set_same, arith}
 use Rattle.std.specs.List.{Contains}
 use Rattle.std.proofs.lemmas.Bool.{cases_eq, true≢false}
 use Rattle.std.proofs.lemmas.List.{set-get_or}
@@ -9,7 +9,6 @@ use Rattle.md_words.specs.Status.{serial_of}
 use Rattle.md_words.specs.Lanes.{lane_of_desc}
 use Rattle.md_words.specs.Layout.{desc_count}
 use Rattle.md_words.specs.LayoutLaws.{IsField}
-use Rattle.md_history.specs.Front.{IsPrefix}
 use Rattle.md_machine.specs.declared.attempt.HistoryEntry.{HistoryEntry}
 use Rattle.md_machine.specs.declared.step.Step.{Step}
 use Rattle.md_machine.specs.declared.pass.PassView.{PassView}
@@ -19,15 +18,14 @@ use Rattle.md_machine.proofs.events.MoveFacts.{MoveFacts}
 use Rattle.md_machine.proofs.events.Moves.{PassesGo, goes_on, is_joined, is_split}
 use Rattle.md_machine.proofs.events.WordChanges.{at_left}
 use Rattle.md_machine.proofs.lists.At.{at_append, at_one, at_set}
-use Rattle.md_machine.proofs.lists.Rising.{here, in_drop, in_none, in_take, there}
+use Rattle.md_machine.proofs.lists.Rising.{here, in_drop, in_take}
 use Rattle.md_machine.specs.Machine.{IsLive, Machine, content, present, shape_of, status_at}
 use Rattle.md_machine.specs.clauses.Alone.{HoldersAreAlone, HoldsAll, LastStand}
 use Rattle.md_machine.specs.clauses.Fates.{PastKnown}
-use Rattle.md_machine.specs.clauses.Fronts.{FrontFits, FrontsFit}
+use Rattle.md_machine.specs.clauses.Fronts.{FrontsFit}
 use Rattle.md_machine.specs.clauses.Lanes.{LanesApart}
 use Rattle.md_machine.specs.clauses.Numbered.{EntriesNumbered}
 use Rattle.md_machine.specs.events.SplitJoin.{given_part, kept_part}
-use Rattle.md_machine.specs.events.Start.{knows_decided}
 
 -- a pass that holds all lanes finds in words what its last segment left there last
 abbrev pub HoldersFind : Machine → Type 0
@@ -38,7 +36,8 @@ some_lane [] h = absurd (omega (arith, h))
 some_lane (x ∷ xs) h = (x, here x xs)
 
 -- where some pass holds all lanes, only that one is live
-no_other : (m : Machine) → LanesApart (shape_of m) m.passes → (pass : ℕ) (p : PassView) → At m.passes pass p → HoldsAll (shape_of m) p → (other : ℕ) (q : PassView) → At m.passes other q → IsLive q → other ≡ pass
+no_other : (m : Machine) → LanesApart (shape_of m) m.passes → (pass : ℕ) (p : PassView) → At m.passes pass p → HoldsAll (shape_of m) p
+    → (other : ℕ) (q : PassView) → At m.passes other q → IsLive q → other ≡ pass
 no_other m apart pass p at all other q q_at live =
     let l = some_lane q.lanes live in
     apart.once other pass l.0 (q, q_at, l.1) (p, at, all l.0 (apart.exists other l.0 (q, q_at, l.1)))
@@ -67,14 +66,16 @@ module _ (m n : Machine) (v : MoveFacts m n) (field : IsField (shape_of m) m.wor
 
   module _ (live : IsLive v.p) (apart : LanesApart (shape_of m) m.passes) (was : HoldersFind m) where
     -- the pass after the step, with some of its lanes
-    next_finds : (q : PassView) → ((lane : ℕ) → Contains q.lanes lane → Contains v.p.lanes lane) → q.trail ≡ v.p.trail ++ v.step ∷ [] → HoldsAll (shape_of m) q → LastStand n q.trail
+    next_finds : (q : PassView) → ((lane : ℕ) → Contains q.lanes lane → Contains v.p.lanes lane) → q.trail ≡ v.p.trail ++ v.step ∷ []
+        → HoldsAll (shape_of m) q → LastStand n q.trail
     next_finds q fewer trail all = subst (LastStand n) (sym trail) (last_push v.p.trail (was v.pass v.p v.at (λ lane exists. fewer lane (all lane exists))))
 
     -- no other pass holds all lanes
     not_other : (j : ℕ) (u : PassView) → j ≢ v.pass → At m.passes j u → HoldsAll (shape_of m) u → ⊥
     not_other j u ne at all = ne (sym (no_other m apart j u at all v.pass v.p v.at live))
 
-    set_finds : (q : PassView) → (HoldsAll (shape_of m) q → LastStand n q.trail) → (j : ℕ) (u : PassView) → At (set m.passes v.pass q) j u → HoldsAll (shape_of m) u → LastStand n u.trail
+    set_finds : (q : PassView) → (HoldsAll (shape_of m) q → LastStand n q.trail) → (j : ℕ) (u : PassView) → At (set m.passes v.pass q) j u
+        → HoldsAll (shape_of m) u → LastStand n u.trail
     set_finds q finds j u at = ⊎_elim
         (λ e. subst (λ (w : PassView). HoldsAll (shape_of m) w → LastStand n w.trail) e.1 finds)
         (λ o all. absurd (not_other j u o.0 o.1 all))
@@ -84,7 +85,8 @@ module _ (m n : Machine) (v : MoveFacts m n) (field : IsField (shape_of m) m.wor
     finds_on (goes_on q is view) j u at =
         set_finds q (next_finds q (λ lane c. subst (λ lanes. Contains lanes lane) view.lanes c) view.trail) j u (subst (λ passes. At passes j u) is at)
     finds_on (is_split _ step _ _ is) j u at = ⊎_elim
-        (λ old. set_finds (kept_part (shape_of m) v.p) (next_finds (kept_part (shape_of m) v.p) (λ lane. in_take _ v.p.lanes lane) (ap (λ s. v.p.trail ++ s ∷ []) (sym step))) j u old)
+        (λ old. set_finds (kept_part (shape_of m) v.p)
+        (next_finds (kept_part (shape_of m) v.p) (λ lane. in_take _ v.p.lanes lane) (ap (λ s. v.p.trail ++ s ∷ []) (sym step))) j u old)
         (λ end. subst (λ (w : PassView). HoldsAll (shape_of m) w → LastStand n w.trail) (at_one (given_part (shape_of m) v.p) u end.0 end.2).1
         (next_finds (given_part (shape_of m) v.p) (λ lane. in_drop _ v.p.lanes lane) (ap (λ s. v.p.trail ++ s ∷ []) (sym step))))
         (at_append _ _ j u (subst (λ passes. At passes j u) is at))
@@ -102,17 +104,20 @@ unfolding lane_of_desc desc_count
 lane_exists shape desc h = h
 
 -- a first part that has each entry is the whole, since no attempt has two
-whole : (shape : Shape) (history seen rest : List HistoryEntry) → EntriesNumbered shape history → history ≡ seen ++ rest → ((e : HistoryEntry) → Contains history e → Contains seen e) → seen ≡ history
+whole : (shape : Shape) (history seen rest : List HistoryEntry) → EntriesNumbered shape history → history ≡ seen ++ rest
+    → ((e : HistoryEntry) → Contains history e → Contains seen e) → seen ≡ history
 whole shape history seen [] numbered is all = sym (is ∙ append-nil seen)
 whole shape history seen (e ∷ rest) numbered is all =
     let inside : Contains history e = subst (λ es. Contains es e) (sym is) (Contains-append_right seen (e ∷ rest) e (here e rest)) in
     absurd (true≢false (sym (ready_in seen e e.attempt (all e inside) refl refl) ∙ numbered.distinct seen rest e is))
 
 -- with what is known of lanes, entries and fronts, such a pass is alone
-pub holders_alone : (m : Machine) → LanesApart (shape_of m) m.passes → FrontsFit (shape_of m) m.history m.fates m.passes → PastKnown (shape_of m) m.words m.history m.passes → EntriesNumbered (shape_of m) m.history → HoldersFind m → HoldersAreAlone m
+pub holders_alone : (m : Machine) → LanesApart (shape_of m) m.passes → FrontsFit (shape_of m) m.history m.fates m.passes
+    → PastKnown (shape_of m) m.words m.history m.passes → EntriesNumbered (shape_of m) m.history → HoldersFind m → HoldersAreAlone m
 holders_alone m apart fronts past numbered finds pass p at all =
     let front = fronts pass p at in
-    let own : (e : HistoryEntry) → Contains m.history e → Contains p.lanes (lane_of_desc (shape_of m) e.attempt.desc) = λ e c. all _ (lane_exists (shape_of m) e.attempt.desc (numbered.lanes e c).exists) in record {
+    let own : (e : HistoryEntry) → Contains m.history e → Contains p.lanes (lane_of_desc (shape_of m) e.attempt.desc) =
+    λ e c. all _ (lane_exists (shape_of m) e.attempt.desc (numbered.lanes e c).exists) in record {
       no_other = no_other m apart pass p at all;
       words = finds pass p at all;
       seen = whole (shape_of m) m.history p.seen front.seen.rest numbered front.seen.is (λ e c. front.own e c (own e c));

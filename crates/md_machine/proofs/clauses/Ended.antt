@@ -1,16 +1,16 @@
 -- The committed entries of a lane whose attempts aren't pending, as more is seen, known, begun and answered.
-use Rattle.std.proofs.Common.{◌≡◌, ℕ, ◌<◌, ◌≤◌, ◌∷◌, ◌++◌, ◌&&◌, Bool, true, false, cond, eqb, List, [], length, refl, sym, ap, ◌∙◌, subst, ⊎_elim, append-nil, arith}
+use Rattle.std.proofs.Common.{◌≡◌, ℕ, ◌∷◌, ◌++◌, ◌&&◌, Bool, true, false, cond, eqb, List, [], length, refl, sym, ap, ◌∙◌, subst, ⊎_elim, arith}
 use Rattle.std.specs.List.{Contains}
 use Rattle.std.specs.Prelude.{not}
-use Rattle.std.proofs.lemmas.Bool.{and_parts, cases_Bool, eqb-true, false≢true, true≢false}
+use Rattle.std.proofs.lemmas.Bool.{cases_Bool, eqb-true, false≢true, true≢false}
 use Rattle.md_history.specs.declared.entries.Entry.{Entry}
 use Rattle.md_history.specs.declared.entries.Fate.{Fate}
 use Rattle.md_history.specs.declared.entries.Fate.TheVariants.{Committed, Aborted, Undecided}
-use Rattle.md_history.specs.Front.{AllStay, Stays, of_lane}
+use Rattle.md_history.specs.Front.{AllStay, Stays}
 use Rattle.md_machine.specs.declared.attempt.AttemptId.{AttemptId}
 use Rattle.md_machine.specs.declared.attempt.HistoryEntry.{HistoryEntry}
 use Rattle.md_machine.proofs.lists.Rising.{here, there}
-use Rattle.md_machine.specs.Machine.{same_attempt, was_begun}
+use Rattle.md_machine.specs.Machine.{was_begun}
 use Rattle.md_machine.specs.Resolution.{is_committed}
 use Rattle.md_machine.specs.clauses.Mine.{AllEndedDecided, ended_of, is_ended}
 use Rattle.md_machine.specs.events.Start.{is_decided}
@@ -33,7 +33,8 @@ lane_test lane e s t same = ⊎_elim
     (cases_Bool (eqb lane e.entry.lane))
 
 -- with other pending attempts of other lanes the same entries are ended
-pub ended_pending : (lane : ℕ) (P Q : List AttemptId) (es : List HistoryEntry) (fs : List Fate) → ((e : HistoryEntry) → Contains es e → lane ≡ e.entry.lane → was_begun P e.attempt ≡ was_begun Q e.attempt)
+pub ended_pending : (lane : ℕ) (P Q : List AttemptId) (es : List HistoryEntry) (fs : List Fate)
+    → ((e : HistoryEntry) → Contains es e → lane ≡ e.entry.lane → was_begun P e.attempt ≡ was_begun Q e.attempt)
     → ended_of lane P es fs ≡ ended_of lane Q es fs
 ended_pending lane P Q [] fs same = refl
 ended_pending lane P Q (e ∷ es) [] same = refl
@@ -42,7 +43,8 @@ ended_pending lane P Q (e ∷ es) (f ∷ fs) same = cond_cons (is_ended lane P e
     (ended_pending lane P Q es fs (λ x c. same x (there e es x c)))
 
 -- where each entry of the lane is pending none is ended
-pub ended_none : (lane : ℕ) (P : List AttemptId) (es : List HistoryEntry) (fs : List Fate) → ((e : HistoryEntry) → Contains es e → lane ≡ e.entry.lane → was_begun P e.attempt ≡ true) → ended_of lane P es fs ≡ []
+pub ended_none : (lane : ℕ) (P : List AttemptId) (es : List HistoryEntry) (fs : List Fate)
+    → ((e : HistoryEntry) → Contains es e → lane ≡ e.entry.lane → was_begun P e.attempt ≡ true) → ended_of lane P es fs ≡ []
 ended_none lane P [] fs all = refl
 ended_none lane P (e ∷ es) [] all = refl
 ended_none lane P (e ∷ es) (f ∷ fs) all = cond_cons (is_ended lane P e f) (eqb lane e.entry.lane && false) e.entry (ended_of lane P es fs) []
@@ -55,7 +57,8 @@ ended_none lane P (e ∷ es) (f ∷ fs) all = cond_cons (is_ended lane P e f) (e
     never false = refl
 
 -- as more is seen, of other lanes or pending, and more is known, the same entries are ended
-pub ended_longer : (lanes : List ℕ) (lane : ℕ) (P : List AttemptId) (es rest : List HistoryEntry) (fs gs : List Fate) → Contains lanes lane → length fs ≡ length es → AllStay fs gs → AllEndedDecided lanes P es fs
+pub ended_longer : (lanes : List ℕ) (lane : ℕ) (P : List AttemptId) (es rest : List HistoryEntry) (fs gs : List Fate) → Contains lanes lane
+    → length fs ≡ length es → AllStay fs gs → AllEndedDecided lanes P es fs
     → ((x : HistoryEntry) → Contains rest x → lane ≡ x.entry.lane → was_begun P x.attempt ≡ true) → ended_of lane P (es ++ rest) gs ≡ ended_of lane P es fs
 ended_longer lanes lane P [] rest [] gs own fated stay decided new = ended_none lane P rest gs new
 ended_longer lanes lane P [] rest (f ∷ fs) gs own fated stay decided new = absurd (omega (arith, fated))
@@ -73,7 +76,8 @@ settled_stays : (f g : Fate) → Stays f g → is_decided f ≡ true → is_deci
 settled_stays f g s d = ap is_decided (sym (settled_fate f g s d)) ∙ d
 
 -- what is new is pending, so it needn't be decided
-none_decided : (lanes : List ℕ) (P : List AttemptId) (es : List HistoryEntry) (fs : List Fate) → ((x : HistoryEntry) → Contains es x → Contains lanes x.entry.lane → was_begun P x.attempt ≡ true) → AllEndedDecided lanes P es fs
+none_decided : (lanes : List ℕ) (P : List AttemptId) (es : List HistoryEntry) (fs : List Fate)
+    → ((x : HistoryEntry) → Contains es x → Contains lanes x.entry.lane → was_begun P x.attempt ≡ true) → AllEndedDecided lanes P es fs
 none_decided lanes P [] fs new = tt
 none_decided lanes P (e ∷ es) [] new = tt
 none_decided lanes P (e ∷ es) (f ∷ fs) new = (
@@ -82,7 +86,8 @@ none_decided lanes P (e ∷ es) (f ∷ fs) new = (
 )
 
 -- what was decided stays so
-pub decided_longer : (lanes : List ℕ) (P : List AttemptId) (es rest : List HistoryEntry) (fs gs : List Fate) → length fs ≡ length es → AllStay fs gs → AllEndedDecided lanes P es fs
+pub decided_longer : (lanes : List ℕ) (P : List AttemptId) (es rest : List HistoryEntry) (fs gs : List Fate) → length fs ≡ length es → AllStay fs gs
+    → AllEndedDecided lanes P es fs
     → ((x : HistoryEntry) → Contains rest x → Contains lanes x.entry.lane → was_begun P x.attempt ≡ true) → AllEndedDecided lanes P (es ++ rest) gs
 decided_longer lanes P [] rest [] gs fated stay decided new = none_decided lanes P rest gs new
 decided_longer lanes P [] rest (f ∷ fs) gs fated stay decided new = absurd (omega (arith, fated))
@@ -95,7 +100,8 @@ decided_longer lanes P (e ∷ es) rest (f ∷ fs) (g ∷ gs) fated stay decided 
 
 -- with fewer lanes and more pending attempts less is asked
 pub decided_fewer : (lanes fewer : List ℕ) (P Q : List AttemptId) (es : List HistoryEntry) (fs : List Fate)
-    → ((e : HistoryEntry) → Contains es e → Contains fewer e.entry.lane → was_begun Q e.attempt ≡ false → Contains lanes e.entry.lane × (was_begun P e.attempt ≡ false))
+    → ((e : HistoryEntry) → Contains es e → Contains fewer e.entry.lane → was_begun Q e.attempt ≡ false
+    → Contains lanes e.entry.lane × (was_begun P e.attempt ≡ false))
     → AllEndedDecided lanes P es fs → AllEndedDecided fewer Q es fs
 decided_fewer lanes fewer P Q [] fs less was = tt
 decided_fewer lanes fewer P Q (e ∷ es) [] less was = tt

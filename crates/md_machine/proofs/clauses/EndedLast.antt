@@ -1,8 +1,8 @@
 -- What a pass answers of an attempt comes after all that it answered of the lane.
-use Rattle.std.proofs.Common.{◌≡◌, ℕ, ◌≤◌, ◌∷◌, ◌++◌, ◌&&◌, Bool, true, false, cond, eqb, List, [], length, refl, sym, ap, ◌∙◌, subst, ⊎_elim, append-nil, arith}
+use Rattle.std.proofs.Common.{◌≡◌, ℕ, ◌≤◌, ◌∷◌, ◌++◌, ◌&&◌, Bool, true, false, cond, eqb, List, [], length, refl, sym, ap, ◌∙◌, ⊎_elim, append-nil, arith}
 use Rattle.std.specs.List.{Contains}
 use Rattle.std.specs.Prelude.{not}
-use Rattle.std.proofs.lemmas.Bool.{cases_Bool, eqb-true, true≢false}
+use Rattle.std.proofs.lemmas.Bool.{cases_Bool, eqb-true}
 use Rattle.std.proofs.lemmas.Map.Views.{any-filter_same}
 use Rattle.md_words.specs.declared.shape.Shape.{Shape}
 use Rattle.md_words.specs.Lanes.{lane_of_desc}
@@ -20,16 +20,17 @@ use Rattle.md_machine.specs.clauses.HandKnows.{AllDecidedOf}
 use Rattle.md_machine.specs.clauses.Mine.{AllEndedDecided, ended_of, is_ended}
 use Rattle.md_machine.specs.clauses.Serials.{SerialsRise}
 use Rattle.md_machine.specs.events.Mark.{answered, without}
-use Rattle.md_machine.specs.events.Start.{is_decided}
 
 pub same_as : (a b : AttemptId) → same_attempt a b ≡ true → a ≡ b
 same_as a b same = let parts = same_parts a b same in attempt_same a b parts.0 parts.1
 
 -- an attempt is among those without another where it is among them and isn't the other
 pub without_begun : (P : List AttemptId) (a b : AttemptId) → was_begun (without P a) b ≡ (not (same_attempt b a) && was_begun P b)
-without_begun P a b = any-filter_same (λ c. same_attempt c b) (λ c. not (same_attempt c a)) (not (same_attempt b a)) (λ c same. ap (λ x. not (same_attempt x a)) (same_as c b same)) P
+without_begun P a b = any-filter_same (λ c. same_attempt c b) (λ c. not (same_attempt c a)) (not (same_attempt b a))
+    (λ c same. ap (λ x. not (same_attempt x a)) (same_as c b same)) P
 
-answered_none : (es : List HistoryEntry) (fs : List Fate) (a : AttemptId) → ((x : HistoryEntry) → Contains es x → same_attempt x.attempt a ≡ false) → answered es fs a ≡ []
+answered_none : (es : List HistoryEntry) (fs : List Fate) (a : AttemptId) → ((x : HistoryEntry) → Contains es x → same_attempt x.attempt a ≡ false)
+    → answered es fs a ≡ []
 answered_none [] fs a none = refl
 answered_none (e ∷ es) [] a none = refl
 answered_none (e ∷ es) (f ∷ fs) a none = ap (λ b. cond (b && is_committed f) (e.entry ∷ answered es fs a) (answered es fs a)) (none e (here e es))
@@ -40,7 +41,8 @@ push_in true x xs ys = refl
 push_in false x xs ys = refl
 
 -- the last entry of a lane
-last_of_lane : (b c : Bool) (lane : ℕ) (x : Entry) (xs : List Entry) → eqb lane x.lane ≡ b → (b ≡ true → xs ≡ []) → cond (b && c) (x ∷ xs) xs ≡ xs ++ of_lane lane (cond c (x ∷ []) [])
+last_of_lane : (b c : Bool) (lane : ℕ) (x : Entry) (xs : List Entry) → eqb lane x.lane ≡ b → (b ≡ true → xs ≡ [])
+    → cond (b && c) (x ∷ xs) xs ≡ xs ++ of_lane lane (cond c (x ∷ []) [])
 last_of_lane true true lane x xs is none =
     ap (λ l. x ∷ l) (none refl) ∙ ap (λ t. cond t (x ∷ []) []) (sym is) ∙ ap (λ l. l ++ of_lane lane (x ∷ [])) (sym (none refl))
 last_of_lane true false lane x xs is none = sym (append-nil xs)
@@ -64,7 +66,8 @@ abbrev AllBy : Shape → AttemptId → List HistoryEntry → Type 0
 AllBy shape a es = (e : HistoryEntry) → Contains es e → IsBy shape a e
 
 -- where the first is of the attempt, no later entry is of its descriptor
-alone : (shape : Shape) (a : AttemptId) (e : HistoryEntry) (es : List HistoryEntry) → same_attempt e.attempt a ≡ true → SerialsRise (e ∷ es) → AllBy shape a (e ∷ es) → (x : HistoryEntry) → Contains es x → x.attempt.desc ≡ a.desc → ⊥
+alone : (shape : Shape) (a : AttemptId) (e : HistoryEntry) (es : List HistoryEntry) → same_attempt e.attempt a ≡ true → SerialsRise (e ∷ es)
+    → AllBy shape a (e ∷ es) → (x : HistoryEntry) → Contains es x → x.attempt.desc ≡ a.desc → ⊥
 alone shape a e es same rise by x c d =
     let parts = same_parts e.attempt a same in
     let more = rise.0 x c (d ∙ sym parts.0) in
@@ -74,20 +77,24 @@ alone shape a e es same rise by x c d =
 
 module _ (shape : Shape) (a : AttemptId) (P : List AttemptId) (pending : was_begun P a ≡ true) (lane : ℕ) where
   -- the entry is of the attempt
-  this_one : (e : HistoryEntry) (es : List HistoryEntry) (f : Fate) (fs : List Fate) → SerialsRise (e ∷ es) → AllBy shape a (e ∷ es) → same_attempt e.attempt a ≡ true
+  this_one : (e : HistoryEntry) (es : List HistoryEntry) (f : Fate) (fs : List Fate) → SerialsRise (e ∷ es) → AllBy shape a (e ∷ es)
+      → same_attempt e.attempt a ≡ true
       → ended_of lane (without P a) es fs ≡ ended_of lane P es fs ++ of_lane lane (answered es fs a)
       → ended_of lane (without P a) (e ∷ es) (f ∷ fs) ≡ ended_of lane P (e ∷ es) (f ∷ fs) ++ of_lane lane (answered (e ∷ es) (f ∷ fs) a)
   this_one e es f fs rise by same rest =
       let b = eqb lane e.entry.lane in let c = is_committed f in let x = e.entry in
       let R = ended_of lane P es fs in let A = answered es fs a in
       let later = alone shape a e es same rise by in
-      let none : A ≡ [] = answered_none es fs a (λ y i. ⊎_elim (λ again. absurd (later y i (same_parts y.attempt a again).0)) (λ no. no) (cases_Bool (same_attempt y.attempt a))) in
+      let none : A ≡ [] = answered_none es fs a
+      (λ y i. ⊎_elim (λ again. absurd (later y i (same_parts y.attempt a again).0)) (λ no. no) (cases_Bool (same_attempt y.attempt a))) in
       let same_rest : ended_of lane (without P a) es fs ≡ R = rest ∙ ap (λ l. R ++ of_lane lane l) none ∙ append-nil R in
-      let now : is_ended lane (without P a) e f ≡ (b && c) = ap (λ w. b && (not w && c)) (without_begun P a e.attempt ∙ ap (λ t. not t && was_begun P e.attempt) same) in
+      let now : is_ended lane (without P a) e f ≡ (b && c) =
+      ap (λ w. b && (not w && c)) (without_begun P a e.attempt ∙ ap (λ t. not t && was_begun P e.attempt) same) in
       let was : is_ended lane P e f ≡ (b && false) = ap (λ w. b && (not w && c)) (ap (was_begun P) (same_as e.attempt a same) ∙ pending) in
       let answers : answered (e ∷ es) (f ∷ fs) a ≡ cond c (x ∷ []) [] = ap (λ t. cond (t && c) (x ∷ A) A) same ∙ ap (λ l. cond c (x ∷ l) l) none in
       let empty : b ≡ true → R ≡ [] = λ at. ended_none lane P es fs (λ y i on. absurd (later y i
-          (same_desc shape y.attempt.desc e.attempt.desc (sym (by y (there e es y i)).lane ∙ sym on ∙ eqb-true lane x.lane at ∙ (by e (here e es)).lane) ∙ (same_parts e.attempt a same).0))) in
+      (same_desc shape y.attempt.desc e.attempt.desc
+      (sym (by y (there e es y i)).lane ∙ sym on ∙ eqb-true lane x.lane at ∙ (by e (here e es)).lane) ∙ (same_parts e.attempt a same).0))) in
       cond_cons (is_ended lane (without P a) e f) (b && c) x (ended_of lane (without P a) es fs) R now same_rest
       ∙ last_of_lane b c lane x R refl empty
       ∙ ap (λ l. l ++ of_lane lane (cond c (x ∷ []) [])) (sym (ap (λ t. cond t (x ∷ R) R) was ∙ never b x R))
@@ -100,12 +107,14 @@ module _ (shape : Shape) (a : AttemptId) (P : List AttemptId) (pending : was_beg
   other_one e es f fs differs rest =
       let b = eqb lane e.entry.lane in let c = is_committed f in let x = e.entry in
       let R = ended_of lane P es fs in let A = answered es fs a in
-      let same : is_ended lane (without P a) e f ≡ is_ended lane P e f = ap (λ w. b && (not w && c)) (without_begun P a e.attempt ∙ ap (λ t. not t && was_begun P e.attempt) differs) in
+      let same : is_ended lane (without P a) e f ≡ is_ended lane P e f =
+      ap (λ w. b && (not w && c)) (without_begun P a e.attempt ∙ ap (λ t. not t && was_begun P e.attempt) differs) in
       cond_cons (is_ended lane (without P a) e f) (is_ended lane P e f) x (ended_of lane (without P a) es fs) (R ++ of_lane lane A) same rest
       ∙ push_in (is_ended lane P e f) x R (of_lane lane A)
       ∙ ap (λ l. ended_of lane P (e ∷ es) (f ∷ fs) ++ of_lane lane l) (sym (ap (λ t. cond (t && c) (x ∷ A) A) differs))
 
-  pub ended_last : (es : List HistoryEntry) (fs : List Fate) → length fs ≡ length es → SerialsRise es → AllBy shape a es → ended_of lane (without P a) es fs ≡ ended_of lane P es fs ++ of_lane lane (answered es fs a)
+  pub ended_last : (es : List HistoryEntry) (fs : List Fate) → length fs ≡ length es → SerialsRise es → AllBy shape a es
+      → ended_of lane (without P a) es fs ≡ ended_of lane P es fs ++ of_lane lane (answered es fs a)
   ended_last [] fs fated rise by = refl
   ended_last (e ∷ es) [] fated rise by = refl
   ended_last (e ∷ es) (f ∷ fs) fated rise by =
@@ -113,7 +122,8 @@ module _ (shape : Shape) (a : AttemptId) (P : List AttemptId) (pending : was_beg
       ⊎_elim (λ yes. this_one e es f fs rise by yes rest) (λ no. other_one e es f fs no rest) (cases_Bool (same_attempt e.attempt a))
 
 -- an attempt that is known to be decided may be ended
-pub decided_without : (lanes : List ℕ) (P : List AttemptId) (a : AttemptId) (es : List HistoryEntry) (fs : List Fate) → AllDecidedOf a es fs → AllEndedDecided lanes P es fs → AllEndedDecided lanes (without P a) es fs
+pub decided_without : (lanes : List ℕ) (P : List AttemptId) (a : AttemptId) (es : List HistoryEntry) (fs : List Fate) → AllDecidedOf a es fs
+    → AllEndedDecided lanes P es fs → AllEndedDecided lanes (without P a) es fs
 decided_without lanes P a [] fs knows was = tt
 decided_without lanes P a (e ∷ es) [] knows was = tt
 decided_without lanes P a (e ∷ es) (f ∷ fs) knows was = (

@@ -1,11 +1,11 @@
 -- What passes have seen is legal by what they know, after every event.
-use Rattle.std.proofs.Common.{◌≡◌, ℕ, ◌⊎◌, Bool, true, ◌∷◌, ◌++◌, List, [], length, set, refl, sym, ap, ◌∙◌, subst, inl, inr, ⊎_elim, nat_le, append-nil}
+use Rattle.std.proofs.Common.{◌≡◌, ℕ, ◌⊎◌, Bool, true, ◌∷◌, List, [], length, set, refl, sym, ap, ◌∙◌, subst, inl, inr, ⊎_elim, nat_le}
 use Rattle.std.proofs.lemmas.Bool.{cond_both, false≢true}
 use Rattle.std.proofs.lemmas.List.{length-map, map-append}
 use Rattle.md_history.specs.declared.entries.Fate.{Fate}
 use Rattle.md_history.specs.declared.entries.Fate.TheVariants.{Committed, Aborted, Undecided}
 use Rattle.md_history.specs.FrontLaws.{all_stay-trans}
-use Rattle.md_history.specs.Front.{AllStay, IsPrefix, Stays, known_of_both}
+use Rattle.md_history.specs.Front.{AllStay, Stays, known_of_both}
 use Rattle.md_history.specs.History.{AllCommittedSound, IsLegal, IsResolution, kept_acts}
 use Rattle.md_history.specs.ResolutionLaws.{legal-narrows, sound-earlier}
 use Rattle.md_history.specs.State.{IsRight, State}
@@ -64,7 +64,8 @@ module _ (m n : Machine) (v : MoveFacts m n) where
   same_view j u at = inl (j, u, at, refl, more_itself u.known)
 
   one_comes : (q : PassView) → FrontGoes m n v.step v.p q → Comes q
-  one_comes q (learns same seen known) = inl (v.pass, v.p, v.at, seen, subst (MoreDecided v.p.known) (sym known) (more_known (shape_of m) v.p.seen v.step v.p.known))
+  one_comes q (learns same seen known) =
+      inl (v.pass, v.p, v.at, seen, subst (MoreDecided v.p.known) (sym known) (more_known (shape_of m) v.p.seen v.step v.p.known))
   one_comes q (sees_all seen known _ _) = inr (inl (seen, known))
 
   both_come : (other : ℕ) (q : PassView) → At m.passes other q → ComesFrom m n (longer v.p.seen q.seen) (known_of_both v.p.known q.known)
@@ -86,16 +87,20 @@ module _ (m n : Machine) (v : MoveFacts m n) where
       (λ o. set_comes _ (both_come other q acts.at) j u o.1)
       (at_set _ other j _ u (subst (λ passes. At passes j u) is at))
 
-module _ (M : Meaning) (m n : Machine) (v : MoveFacts m n) (before : FrontsFit (shape_of m) m.history m.fates m.passes) (after : FrontsFit (shape_of n) n.history n.fates n.passes)
+module _ (M : Meaning) (m n : Machine) (v : MoveFacts m n) (before : FrontsFit (shape_of m) m.history m.fates m.passes)
+    (after : FrontsFit (shape_of n) n.history n.fates n.passes)
     (stay : AllStay m.fates n.fates) (sound : CommittedAreSound n) (legal : HistoryIsLegal M n) (was : FrontsLegal M m) where
   abbrev Legal : List HistoryEntry → List Fate → Type 0
   Legal seen known = IsLegal (opening_state M n.opening) (entries_of seen) known
 
   -- what was legal stays so where more is known of it
-  narrowed : (u p : PassView) (i : ℕ) → FrontFits (shape_of n) n.history n.fates u → At m.passes i p → u.seen ≡ p.seen → MoreDecided p.known u.known → Legal u.seen u.known
+  narrowed : (u p : PassView) (i : ℕ) → FrontFits (shape_of n) n.history n.fates u → At m.passes i p → u.seen ≡ p.seen → MoreDecided p.known u.known
+      → Legal u.seen u.known
   narrowed u p i fits at seen more =
       let rest = fits.seen.rest in
-      let old : Legal u.seen p.known = subst (λ es. Legal es p.known) (sym seen) (subst (λ o. IsLegal (opening_state M o) (entries_of p.seen) p.known) (sym v.opening) (was i p at)) in
+      let old : Legal u.seen p.known =
+      subst (λ es. Legal es p.known) (sym seen)
+      (subst (λ o. IsLegal (opening_state M o) (entries_of p.seen) p.known) (sym v.opening) (was i p at)) in
       legal-narrows (opening_state M n.opening) (entries_of u.seen) p.known u.known old
       (all_agree p.known u.known n.fates (all_stay-trans p.known m.fates n.fates (before i p at).known stay) fits.known more)
       (fits.fated ∙ sym (length-map u.seen (λ (e : HistoryEntry). e.entry)))

@@ -16,17 +16,21 @@ use Rattle.md_machine.specs.clauses.Mine.{AllEndedDecided}
 use Rattle.md_machine.specs.clauses.Numbered.{AreOfDistinctAttempts}
 
 -- a part has what was answered of its lanes
-pub part_mine : (lanes : List ℕ) (lane : ℕ) → Contains lanes lane → (xs : List Entry) → of_lane lane (filter (λ e. is_lane_of lanes e.lane) xs) ≡ of_lane lane xs
+pub part_mine : (lanes : List ℕ) (lane : ℕ) → Contains lanes lane → (xs : List Entry)
+    → of_lane lane (filter (λ e. is_lane_of lanes e.lane) xs) ≡ of_lane lane xs
 part_mine lanes lane c [] = refl
 part_mine lanes lane c (x ∷ xs) =
     let F = filter (λ (e : Entry). is_lane_of lanes e.lane) xs in
     ⊎_elim
-    (λ yes. ap (λ b. of_lane lane (cond b (x ∷ F) F)) yes ∙ cond_cons (eqb lane x.lane) (eqb lane x.lane) x (of_lane lane F) (of_lane lane xs) refl (part_mine lanes lane c xs))
+    (λ yes. ap (λ b. of_lane lane (cond b (x ∷ F) F)) yes
+    ∙ cond_cons (eqb lane x.lane) (eqb lane x.lane) x (of_lane lane F) (of_lane lane xs) refl (part_mine lanes lane c xs))
     (λ no. ap (λ b. of_lane lane (cond b (x ∷ F) F)) no ∙ part_mine lanes lane c xs ∙ sym (ap (λ b. cond b (x ∷ of_lane lane xs) (of_lane lane xs)) (other no)))
     (cases_Bool (is_lane_of lanes x.lane))
   where
     other : is_lane_of lanes x.lane ≡ false → eqb lane x.lane ≡ false
-    other outside = ⊎_elim (λ same. absurd (true≢false (sym (in_lane lanes x.lane (subst (Contains lanes) (eqb-true lane x.lane same) c)) ∙ outside))) (λ ne. ne) (cases_Bool (eqb lane x.lane))
+    other outside = ⊎_elim (λ same. absurd
+        (true≢false (sym (in_lane lanes x.lane (subst (Contains lanes) (eqb-true lane x.lane same) c)) ∙ outside))) (λ ne. ne)
+        (cases_Bool (eqb lane x.lane))
 
 -- and nothing of others
 pub part_outside : (lanes : List ℕ) (lane : ℕ) → (Contains lanes lane → ⊥) → (xs : List Entry) → of_lane lane (filter (λ e. is_lane_of lanes e.lane) xs) ≡ []
@@ -39,7 +43,8 @@ part_outside lanes lane out (x ∷ xs) =
     (cases_Bool (is_lane_of lanes x.lane))
   where
     other : is_lane_of lanes x.lane ≡ true → eqb lane x.lane ≡ false
-    other inside = ⊎_elim (λ same. absurd (out (subst (Contains lanes) (sym (eqb-true lane x.lane same)) (lane_in lanes x.lane inside)))) (λ ne. ne) (cases_Bool (eqb lane x.lane))
+    other inside = ⊎_elim (λ same. absurd (out (subst (Contains lanes) (sym (eqb-true lane x.lane same)) (lane_in lanes x.lane inside)))) (λ ne. ne)
+        (cases_Bool (eqb lane x.lane))
 
 -- an attempt is among two lists where it is among either
 pub begun_first : (P Q : List AttemptId) (a : AttemptId) → was_begun Q a ≡ false → was_begun (P ++ Q) a ≡ was_begun P a
@@ -64,7 +69,8 @@ begun_in (b ∷ P) a h = ⊎_elim
     shift (k, below, is) = (suc k, omega (arith, below), is)
 
 -- what is decided of the lanes of two passes is decided of those of both
-pub decided_both : (lanes others both : List ℕ) (P : List AttemptId) (es : List HistoryEntry) (fs : List Fate) → ((lane : ℕ) → Contains both lane → Contains lanes lane ⊎ Contains others lane)
+pub decided_both : (lanes others both : List ℕ) (P : List AttemptId) (es : List HistoryEntry) (fs : List Fate)
+    → ((lane : ℕ) → Contains both lane → Contains lanes lane ⊎ Contains others lane)
     → AllEndedDecided lanes P es fs → AllEndedDecided others P es fs → AllEndedDecided both P es fs
 decided_both lanes others both P [] fs either_one a b = tt
 decided_both lanes others both P (e ∷ es) [] either_one a b = tt
@@ -82,7 +88,8 @@ split_at (y ∷ ys) x c = ⊎_elim
     (in_cons y ys x c)
 
 -- what is in a first part of the history isn't in the rest
-pub not_again : (history seen rest : List HistoryEntry) (x : HistoryEntry) → AreOfDistinctAttempts history → history ≡ seen ++ rest → Contains seen x → Contains rest x → ⊥
+pub not_again : (history seen rest : List HistoryEntry) (x : HistoryEntry) → AreOfDistinctAttempts history → history ≡ seen ++ rest
+    → Contains seen x → Contains rest x → ⊥
 not_again history seen rest x distinct is c later =
     let r = split_at rest x later in
     true≢false (sym (ready_in (seen ++ r.0) x x.attempt (Contains-append_left seen r.0 x c) refl refl)

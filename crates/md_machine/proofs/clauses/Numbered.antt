@@ -1,10 +1,8 @@
 -- The entries are numbered by lane, and no attempt has two, after every event.
-use Rattle.std.proofs.Common.{◌≡◌, ◌∷◌, ◌++◌, List, [], false, refl, sym, ap, ◌∙◌, subst, inl, inr, ⊎_elim}
-use Rattle.std.specs.List.{Contains}
-use Rattle.std.proofs.lemmas.List.{map-append, length-append}
+use Rattle.std.proofs.Common.{◌≡◌, ◌∷◌, ◌++◌, List, [], false, refl, sym, ap, ◌∙◌, subst, ⊎_elim}
+use Rattle.std.proofs.lemmas.List.{map-append}
 use Rattle.std.proofs.lemmas.List.Elements.{Contains-push_cases}
 use Rattle.md_words.specs.declared.shape.Shape.{Shape}
-use Rattle.md_words.specs.Place.{desc_status}
 use Rattle.md_history.specs.Engine.{AreNumberedByLane}
 use Rattle.md_history.specs.LaneLaws.{numbered-none, numbered-push, push-cases}
 use Rattle.md_machine.specs.declared.attempt.HistoryEntry.{HistoryEntry}
@@ -15,7 +13,7 @@ use Rattle.md_machine.proofs.lists.Rising.{in_none}
 use Rattle.md_machine.proofs.replay.Enter.{prep_idle}
 use Rattle.md_machine.specs.Machine.{Machine, content, is_ready, shape_of}
 use Rattle.md_machine.specs.Resolution.{entries_of}
-use Rattle.md_machine.specs.clauses.Numbered.{AreOfDistinctAttempts, EntriesNumbered, IsOfItsLane}
+use Rattle.md_machine.specs.clauses.Numbered.{EntriesNumbered, IsOfItsLane}
 use Rattle.md_machine.specs.events.Ready.{history_after_ready, history_entry}
 
 -- an empty history is numbered
@@ -39,7 +37,8 @@ module _ (m n : Machine) (v : MoveFacts m n) (fit : EntriesFit (shape_of m) m.wo
         lanes = λ y c. ⊎_elim (was.lanes y)
             (λ same. subst (IsOfItsLane (shape_of m)) same (record { exists = own_exists m v.p x.hand.attempt.desc x.own; lane = refl }))
             (Contains-push_cases m.history e y c);
-        numbered = subst AreNumberedByLane (sym (map-append (λ (y : HistoryEntry). y.entry) m.history (e ∷ []))) (numbered-push (entries_of m.history) e.entry was.numbered refl);
+        numbered = subst AreNumberedByLane (sym (map-append (λ (y : HistoryEntry). y.entry) m.history (e ∷ [])))
+            (numbered-push (entries_of m.history) e.entry was.numbered refl);
         distinct = λ earlier later y is. ⊎_elim
             (λ last. subst (λ (z : HistoryEntry). is_ready earlier z.attempt ≡ false) last.1 (subst (λ es. is_ready es x.hand.attempt ≡ false) last.0 idle))
             (λ before. was.distinct earlier before.0 y before.1)

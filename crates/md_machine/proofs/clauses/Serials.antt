@@ -17,7 +17,8 @@ use Rattle.md_machine.specs.Machine.{Machine, content, shape_of, status_at, was_
 use Rattle.md_machine.specs.clauses.Serials.{EntriesInTurn, SerialsRise}
 use Rattle.md_machine.specs.events.Ready.{history_after_ready, history_entry}
 
-rise_push : (es : List HistoryEntry) (x : HistoryEntry) → SerialsRise es → ((e : HistoryEntry) → Contains es e → x.attempt.desc ≡ e.attempt.desc → e.attempt.serial < x.attempt.serial) → SerialsRise (es ++ x ∷ [])
+rise_push : (es : List HistoryEntry) (x : HistoryEntry) → SerialsRise es
+    → ((e : HistoryEntry) → Contains es e → x.attempt.desc ≡ e.attempt.desc → e.attempt.serial < x.attempt.serial) → SerialsRise (es ++ x ∷ [])
 rise_push [] x rise new = ((λ y c. absurd (in_none y c)), tt)
 rise_push (e ∷ es) x rise new = (
   (λ y c. ⊎_elim
@@ -27,16 +28,19 @@ rise_push (e ∷ es) x rise new = (
   rise_push es x rise.1 (λ y c. new y (there e es y c)),
 )
 
-module _ (m n : Machine) (v : MoveFacts m n) (fit : EntriesFit (shape_of m) m.words m.history m.fates) (hands : HandsAlone m.begun m.passes) (was : EntriesInTurn m) where
+module _ (m n : Machine) (v : MoveFacts m n) (fit : EntriesFit (shape_of m) m.words m.history m.fates) (hands : HandsAlone m.begun m.passes)
+    (was : EntriesInTurn m) where
   -- the attempt that becomes ready is later than those of its descriptor that have an entry
-  is_later : (x : Enters m n v.p v.word v.new) (e : HistoryEntry) → Contains m.history e → x.hand.attempt.desc ≡ e.attempt.desc → e.attempt.serial < x.hand.attempt.serial
+  is_later : (x : Enters m n v.p v.word v.new) (e : HistoryEntry) → Contains m.history e → x.hand.attempt.desc ≡ e.attempt.desc
+      → e.attempt.serial < x.hand.attempt.serial
   is_later x e c same =
       let a = x.hand.attempt in
       let unready = ap (content m) (sym x.there) ∙ x.was in
       let past = (entry_fits (shape_of m) m.words m.history m.fates e fit c).1.past in
       let now = ap serial_of unready ∙ serial_of-status_word InPrep 0 a.serial (omega arith) in
       let here_now = ap (λ d. serial_of (status_at m d)) same in
-      let other : e.attempt.serial ≢ a.serial = λ equal. true≢false (sym (ready_in m.history e a c (sym same) equal) ∙ prep_idle m a unready m.history m.fates fit) in
+      let other : e.attempt.serial ≢ a.serial =
+      λ equal. true≢false (sym (ready_in m.history e a c (sym same) equal) ∙ prep_idle m a unready m.history m.fates fit) in
       omega (arith, past, now, here_now, other)
 
   rises : (x : Enters m n v.p v.word v.new) → SerialsRise (history_after_ready m x.hand x.count)

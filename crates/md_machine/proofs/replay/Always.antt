@@ -26,7 +26,11 @@ module _ (M : Meaning) (lawful : Lawful M) where
   -- an opening means what its heap means
   means_opened : (o : Opening) → CanOpen M o → Means M (opened o)
   means_opened o can = record {
-    exist = record { opened = All-weaker (λ (x : PlacedNode). (1 ≤ x.node) × (x.node ≤ o.shape.base)) (λ (x : PlacedNode). IsNode o.shape x.node) (λ x b. (b.0, below x b.1)) o.placed can.placed; entered = λ e c. absurd (in_none e c) };
+    exist = record {
+      opened = All-weaker (λ (x : PlacedNode). (1 ≤ x.node) × (x.node ≤ o.shape.base)) (λ (x : PlacedNode). IsNode o.shape x.node)
+          (λ x b. (b.0, below x b.1)) o.placed can.placed;
+      entered = λ e c. absurd (in_none e c);
+    };
     every = every;
     legal = none_legal (opening_state M o);
   }
@@ -40,7 +44,9 @@ module _ (M : Meaning) (lawful : Lawful M) where
 
   -- the opening's pass has seen nothing
   fronts_opened : (o : Opening) → CanOpen M o → FrontsLegal M (opened o)
-  fronts_opened o can pass p at = subst (λ (q : PassView). IsLegal (opening_state M o) (entries_of q.seen) q.known) (at_one (first_pass o.shape) p pass at).1 (means_opened o can).legal
+  fronts_opened o can pass p at =
+      subst (λ (q : PassView). IsLegal (opening_state M o) (entries_of q.seen) q.known) (at_one (first_pass o.shape) p pass at).1
+      (means_opened o can).legal
 
   plays_mean : (m n : Machine) (e : Event) → Invariant m → Plays M m e n → Means M m → FrontsLegal M m → Invariant n × Means M n × FrontsLegal M n
   plays_mean m n e k plays was fronts = ⊎_elim

@@ -23,7 +23,8 @@ ended_of lane pending _ _ = []
 
 -- each entry of the lanes has a decided fate, if its attempt is none of these
 abbrev pub AllEndedDecided : List ℕ → List AttemptId → List HistoryEntry → List Fate → Type 0
-AllEndedDecided lanes pending (e ∷ es) (f ∷ fs) = (Contains lanes e.entry.lane → was_begun pending e.attempt ≡ false → is_decided f ≡ true) × AllEndedDecided lanes pending es fs
+AllEndedDecided lanes pending (e ∷ es) (f ∷ fs) =
+    (Contains lanes e.entry.lane → was_begun pending e.attempt ≡ false → is_decided f ≡ true) × AllEndedDecided lanes pending es fs
 AllEndedDecided lanes pending _ _ = Unit {0}
 
 -- of each of these lanes the committed entries were answered whose attempts aren't pending, in the history's order, and of

@@ -1,6 +1,5 @@
 -- In which order the entries of a descriptor stand, and that they were begun.
 use Rattle.std.specs.Prelude.{◌≡◌, ◌<◌, true, List, [], ◌∷◌, Contains}
-use Rattle.md_machine.specs.declared.attempt.AttemptId.{AttemptId}
 use Rattle.md_machine.specs.declared.attempt.HistoryEntry.{HistoryEntry}
 use Rattle.md_machine.specs.Machine.{Machine, was_begun}
 
