@@ -9,6 +9,7 @@ use Rattle.md_history.specs.declared.entries.Fate.TheVariants.{Committed, Aborte
 use Rattle.md_history.specs.Front.{AllStay, Stays}
 use Rattle.md_machine.specs.declared.attempt.AttemptId.{AttemptId}
 use Rattle.md_machine.specs.declared.attempt.HistoryEntry.{HistoryEntry}
+use Rattle.md_machine.proofs.clauses.Past.{decided_stays}
 use Rattle.md_machine.proofs.lists.Rising.{here, there}
 use Rattle.md_machine.specs.Machine.{was_begun}
 use Rattle.md_machine.specs.Resolution.{is_committed}
@@ -72,9 +73,6 @@ ended_longer lanes lane P (e ∷ es) rest (f ∷ fs) (g ∷ gs) own fated stay d
     (cases_Bool (was_begun P e.attempt))))
     (ended_longer lanes lane P es rest fs gs own (omega (arith, fated)) stay.1 decided.1 new)
 
-settled_stays : (f g : Fate) → Stays f g → is_decided f ≡ true → is_decided g ≡ true
-settled_stays f g s d = ap is_decided (sym (settled_fate f g s d)) ∙ d
-
 -- what is new is pending, so it needn't be decided
 none_decided : (lanes : List ℕ) (P : List AttemptId) (es : List HistoryEntry) (fs : List Fate)
     → ((x : HistoryEntry) → Contains es x → Contains lanes x.entry.lane → was_begun P x.attempt ≡ true) → AllEndedDecided lanes P es fs
@@ -94,7 +92,7 @@ decided_longer lanes P [] rest (f ∷ fs) gs fated stay decided new = absurd (om
 decided_longer lanes P (e ∷ es) rest [] gs fated stay decided new = absurd (omega (arith, fated))
 decided_longer lanes P (e ∷ es) rest (f ∷ fs) [] fated stay decided new = absurd stay
 decided_longer lanes P (e ∷ es) rest (f ∷ fs) (g ∷ gs) fated stay decided new = (
-  (λ own ended. settled_stays f g stay.0 (decided.0 own ended)),
+  (λ own ended. decided_stays f g stay.0 (decided.0 own ended)),
   decided_longer lanes P es rest fs gs (omega (arith, fated)) stay.1 decided.1 new,
 )
 

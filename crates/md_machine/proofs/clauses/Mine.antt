@@ -220,7 +220,7 @@ module _ (m n : Machine) (v : MoveFacts m n) (apart : LanesApart (shape_of m) m.
       }
 
   -- two passes joined
-  module _ (other : ℕ) (q : PassView) (differ : other ≢ v.pass) (at : At m.passes other q) (same_history : n.history ≡ m.history) where
+  module _ (other : ℕ) (q : PassView) (differ : other ≢ v.pass) (at : At m.passes other q) where
     abbrev seen : List HistoryEntry
     seen = longer v.p.seen q.seen
 
@@ -327,9 +327,9 @@ module _ (m n : Machine) (v : MoveFacts m n) (apart : LanesApart (shape_of m) m.
       (at_set m.passes v.pass j (kept_part (shape_of m) v.p) u old))
       (λ end. subst Ended (at_one (given_part (shape_of m) v.p) u end.0 end.2).1 (part_ended (given_lanes v.p.lanes) (λ lane. in_drop _ v.p.lanes lane)))
       (at_append (set m.passes v.pass (kept_part (shape_of m) v.p)) (given_part (shape_of m) v.p ∷ []) j u (subst (λ passes. At passes j u) is at))
-  mine_go (is_joined other q differ acts _ _ same is) j u at = ⊎_elim
+  mine_go (is_joined other q differ acts _ _ _ is) j u at = ⊎_elim
       (λ e. subst Ended e.1 (record { mine = λ lane c. refl; outside = λ lane out. refl; decided = tt }))
-      (λ o. ⊎_elim (λ e. subst Ended e.1 (joined_ended other q differ acts.at same)) (λ x. was j u x.1)
+      (λ o. ⊎_elim (λ e. subst Ended e.1 (joined_ended other q differ acts.at)) (λ x. was j u x.1)
       (at_set m.passes v.pass j (joined_part (shape_of m) v.p q) u o.1))
       (at_set (set m.passes v.pass (joined_part (shape_of m) v.p q)) other j spent u (subst (λ passes. At passes j u) is at))
 

@@ -9,8 +9,9 @@ use Rattle.md_history.specs.Front.{IsPrefix, is_lane_of, of_lane}
 use Rattle.md_machine.specs.declared.attempt.AttemptId.{AttemptId}
 use Rattle.md_machine.specs.declared.attempt.HistoryEntry.{HistoryEntry}
 use Rattle.md_machine.proofs.clauses.Ended.{cond_cons}
+use Rattle.md_machine.proofs.clauses.OddWords.{splits}
 use Rattle.md_machine.proofs.events.Attempts.{ready_in}
-use Rattle.md_machine.proofs.lists.Rising.{in_cons, in_lane, in_none, lane_in}
+use Rattle.md_machine.proofs.lists.Rising.{in_lane, lane_in}
 use Rattle.md_machine.specs.Machine.{same_attempt, was_begun}
 use Rattle.md_machine.specs.clauses.Mine.{AllEndedDecided}
 use Rattle.md_machine.specs.clauses.Numbered.{AreOfDistinctAttempts}
@@ -79,19 +80,11 @@ decided_both lanes others both P (e ∷ es) (f ∷ fs) either_one a b = (
   decided_both lanes others both P es fs either_one a.1 b.1,
 )
 
--- an element of a list, with those before and after it
-pub split_at : {A : Type 0} (xs : List A) (x : A) → Contains xs x → (before : List A) × (after : List A) × (xs ≡ before ++ x ∷ after)
-split_at [] x c = absurd (in_none x c)
-split_at (y ∷ ys) x c = ⊎_elim
-    (λ same. ([], ys, ap (λ z. z ∷ ys) same))
-    (λ later. let r = split_at ys x later in (y ∷ r.0, r.1, ap (λ l. y ∷ l) r.2))
-    (in_cons y ys x c)
-
 -- what is in a first part of the history isn't in the rest
 pub not_again : (history seen rest : List HistoryEntry) (x : HistoryEntry) → AreOfDistinctAttempts history → history ≡ seen ++ rest
     → Contains seen x → Contains rest x → ⊥
 not_again history seen rest x distinct is c later =
-    let r = split_at rest x later in
+    let r = splits rest x later in
     true≢false (sym (ready_in (seen ++ r.0) x x.attempt (Contains-append_left seen r.0 x c) refl refl)
     ∙ distinct (seen ++ r.0) r.1 x (is ∙ ap (λ l. seen ++ l) r.2 ∙ sym (append_assoc seen r.0 (x ∷ r.1))))
 
