@@ -1,6 +1,5 @@
 -- What was played from one front to a second, and from there to a third.
 use Rattle.std.proofs.Common.{◌≡◌, ◌+◌, ℕ, Option, List, [], ◌∷◌, ◌++◌, length, sym, ap, subst, ◌∙◌, append_assoc, arith}
-use Rattle.std.specs.Prelude.{Contains}
 use Rattle.std.proofs.lemmas.List.{length-append}
 use Rattle.std.proofs.lemmas.List.Elements.{filter-append}
 use Rattle.std.specs.Prelude.{◌==◌}
@@ -9,7 +8,7 @@ use Rattle.md_history.specs.declared.entries.Entry.{Entry}
 use Rattle.md_history.specs.Front.{Front, BeginsOn, of_lane}
 use Rattle.md_history.specs.FrontLaws.{prefix-trans, all_stay-trans}
 use Rattle.md_many.specs.Joined.{HasCommitted, entries_after}
-use Rattle.md_many.specs.Lines.{IsLine, AreLines, PlaysLines}
+use Rattle.md_many.specs.Lines.{AreLines, PlaysLines}
 use Rattle.md_many.proofs.Joining.{AreDecided, entries-more, committed_pairs-append, decided-append}
 
 pub begins-then : (lanes : List ℕ) (f g h : Front) → BeginsOn lanes f g → BeginsOn lanes g h → BeginsOn lanes f h

@@ -1,6 +1,6 @@
 -- A pass that was split and joined again: it holds the lanes that it held, and what its parts played stands in its history.
 use Rattle.std.proofs.Common.{◌≡◌, ◌≤◌, ◌⊎◌, ℕ, Option, List, [], ◌∷◌, ◌++◌, take, drop, length, inl, inr, refl, sym, ap, subst, ◌∙◌, arith}
-use Rattle.std.specs.Prelude.{◌-◌, ◌/◌, ◌==◌, Contains, filter}
+use Rattle.std.specs.Prelude.{◌-◌, ◌/◌, ◌==◌, Contains}
 use Rattle.std.specs.List.{zip}
 use Rattle.std.proofs.lemmas.Bool.{cases_Bool, eq-eqb}
 use Rattle.std.proofs.lemmas.List.{take-append-drop, append-nil, length-append}

@@ -1,10 +1,10 @@
 -- The tags of lines.
-use Rattle.std.proofs.Common.{◌≡◌, ◌<◌, ◌+◌, ◌*◌, ◌^◌, ◌++◌, ◌∷◌, ℕ, zero, suc, List, [], Bool, true, false, cond, Option, length, map, refl, sym, ap, ◌∙◌, arith}
+use Rattle.std.proofs.Common.{◌≡◌, ◌<◌, ◌+◌, ◌^◌, ◌++◌, ◌∷◌, ℕ, zero, suc, List, [], true, false, cond, Option, length, map, refl, ap, ◌∙◌, arith}
 use Rattle.std.specs.Prelude.{◌/◌, ◌%◌, ◌==◌, filter}
 use Rattle.std.proofs.lemmas.Nat.{div-mul-add, mod-mul-add}
 use Rattle.md_history.specs.declared.acts.Act.{Act}
 use Rattle.md_history.specs.declared.entries.Entry.{Entry}
-use Rattle.md_many.specs.Tags.{tag_of, tags_after, IsInterleaving}
+use Rattle.md_many.specs.Tags.{tag_of, tags_after}
 use Rattle.md_many.specs.Lines.{AreLines}
 
 -- a tag's caller and line

@@ -59,7 +59,10 @@ fn play_three(
     tries: u32,
 ) -> Result<End, AllocError> {
     let (store, pass) = PlainStore::open(Contents::empty(alloc, 0, 1)?);
-    let engine = Refusing { store };
+    let engine = Refusing {
+        store,
+        shared: true,
+    };
     let mut pass = RefusingPass {
         pass,
         stops,

@@ -6,13 +6,16 @@ ghost use Rattle.md_history.specs.Engine.{IsFrontFrom};
 use md_history::{Attempt, Body, Contents, Engine, Front, PlainPass, PlainStore, Stop};
 use std::alloc::AllocError;
 
-// A store for one thread, seen as one of two lanes. So its pass doesn't hold all lanes, and conflicts are lawful.
+// A store for one thread. If it is shared, it is seen as one of two lanes: its pass doesn't hold all lanes, and
+// conflicts are lawful.
 #[derive(Drop)]
 pub(crate) struct Refusing {
     pub(crate) store: PlainStore,
+    pub(crate) shared: bool,
 }
 
-// Its pass, with the stops that its attempts answer, one after another; `None` is an attempt of the store.
+// Its pass, with the stops that attempts of a shared store answer, one after another; `None` is an attempt of the
+// store.
 #[derive(Drop)]
 pub(crate) struct RefusingPass {
     pub(crate) pass: PlainPass,
@@ -21,19 +24,19 @@ pub(crate) struct RefusingPass {
 }
 
 impl Engine for Refusing {
-    ghost use Rattle.std.specs.Prelude.{◌∷◌};
+    ghost use Rattle.std.specs.Prelude.{◌∷◌, if◌then◌else◌};
 
     type Pass = RefusingPass;
 
     ghost start = { λ s. s.store };
 
-    ghost lanes = { λ s. 0 ∷ 1 ∷ [] };
+    ghost lanes = { λ s. if s.shared then 0 ∷ 1 ∷ [] else 0 ∷ [] };
 
     ghost limits = { λ s. plain_limits };
 
     ghost front = { λ p. front_of p.pass };
 
-    ghost of = { λ s p. IsPassOf s.store p.pass × IsFrontFrom s.store (0 ∷ 1 ∷ []) (front_of p.pass) };
+    ghost of = { λ s p. IsPassOf s.store p.pass × IsFrontFrom s.store (if s.shared then 0 ∷ 1 ∷ [] else 0 ∷ []) (front_of p.pass) };
 
     ghost fresh = { λ s p. ⊥ };
 
@@ -47,7 +50,7 @@ impl Engine for Refusing {
     fn attempt<B: Body>(&self, pass: &mut RefusingPass, tag: u64, body: &B) -> Attempt<B::Reply> {
         let number = pass.attempts;
         pass.attempts = number.saturating_add(1);
-        if number < 4 {
+        if self.shared && number < 4 {
             if let Some(stop) = pass.stops[number] {
                 return Attempt::Stopped(stop);
             }
@@ -60,18 +63,18 @@ impl Engine for Refusing {
         drop(other);
     }
 
-    // No pass holds both lanes, so none is closed.
+    // No pass of a shared store holds both lanes; no test renews or closes another.
     fn renew(
         self,
         pass: RefusingPass,
     ) -> Result<(Refusing, RefusingPass, Front<RefusingPass>), AllocError> {
         drop(pass);
-        unreachable!()
+        Err(AllocError)
     }
 
     fn contents(self, pass: RefusingPass) -> Result<(Contents, Front<RefusingPass>), AllocError> {
         drop(pass);
-        unreachable!()
+        Err(AllocError)
     }
 
     ghost of_is = { λ s p of. of.1 };

@@ -1,14 +1,10 @@
-use Rattle.std.proofs.Common.{◌≡◌, ◌+◌, ◌∙◌, ◌++◌, ◌∷◌, [], List, Option, Some, Vec, Global, length, ap, sym, subst, refl, inl, inr, arith, vec_capacity}
+use Rattle.std.proofs.Common.{◌≡◌, ◌+◌, ◌∙◌, ◌++◌, ◌∷◌, [], Option, Some, Vec, Global, length, ap, sym, subst, refl, inl, inr, arith, vec_capacity}
 use Rattle.std.specs.Prelude.{IfSome}
 use Rattle.std.proofs.lemmas.Bool.{cases_eq}
 use Rattle.std.proofs.lemmas.List.{length_push}
 use Rattle.md_history.specs.declared.stops.Shown.{Shown}
 use Rattle.md_history.specs.declared.stops.Stop.TheVariants.{Conflict, NoMemory}
-use Rattle.md_history.specs.Attempt.{Stops}
-use Rattle.md_history.specs.Engine.{IsFrontFrom}
-use Rattle.md_many.specs.Tags.{tag_of}
-use Rattle.md_many.specs.Lines.{PlaysLines}
-use Rattle.md_many.proofs.Playing.{HasPlayed, played-none, played-stopped, played-more, plays}
+use Rattle.md_many.proofs.Playing.{played-none, played-stopped, played-more, plays}
 use Rattle.md_many.proofs.attempts.attempt_lines.Goals as goal
 use Rattle.md_many.proofs.attempts.attempt_lines.Goals.{in-Committed, in-Stopped-Conflict}
 

@@ -1,6 +1,5 @@
 use Rattle.std.proofs.Common.{◌≡◌, ℕ, List}
 use Rattle.std.proofs.lemmas.Result.{IfOk-at_ok}
-use Rattle.md_history.specs.Front.{Front}
 use Rattle.md_history.specs.Engine.{AreApart, Joins}
 use Rattle.md_many.proofs.Parting.{lanes-joined, plays-parted}
 use Rattle.md_many.proofs.tests.side_by_side.two_callers.Goals as goal

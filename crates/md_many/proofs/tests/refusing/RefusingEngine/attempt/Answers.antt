@@ -1,12 +1,12 @@
-use Rattle.std.proofs.Common.{◌≡◌, ◌∙◌, ◌∷◌, [], List, ℕ, refl, subst, sym, length, inl, inr, arith}
-use Rattle.std.specs.Prelude.{All, Contains}
+use Rattle.std.proofs.Common.{cond, Bool, true, false, ◌≡◌, ◌∷◌, [], List, ℕ, refl, subst, sym, length, inl, inr, arith}
+use Rattle.std.specs.Prelude.{Contains}
 use Rattle.std.specs.List.{AllByRecursion}
 use Rattle.std.proofs.lemmas.List.Elements.{All-from_recursion, recursion_from_All}
 use Rattle.md_history.specs.declared.entries.Entry.{Entry}
 use Rattle.md_history.specs.State.{State}
 use Rattle.md_history.specs.Front.{Front}
 use Rattle.md_history.specs.FrontLaws.{begins-self}
-use Rattle.md_history.specs.LaneLaws.{contains-either, contains-first, contains-more}
+use Rattle.md_history.specs.LaneLaws.{contains-either, contains-first}
 use Rattle.md_history.specs.Attempt.{Stops, NoneOrAborted}
 use Rattle.md_history.specs.Engine.{IsFrontFrom}
 use Rattle.md_many.proofs.Joining.{entries-none}
@@ -52,8 +52,13 @@ wider start f is =
       own = is.own;
     }
 
+-- and of a store that may have a lane more
+maybe_wider : (shared : Bool) (start : State) (f : Front) → IsFrontFrom start (0 ∷ []) f → IsFrontFrom start (cond shared (0 ∷ 1 ∷ []) (0 ∷ [])) f
+maybe_wider true start f is = wider start f is
+maybe_wider false start f is = is
+
 pub returns-in-Some-clause-stopped : goal.returns-in-Some-clause-stopped
 returns-in-Some-clause-stopped g c = stops-none _ _ c.requires.of.1.legal.fated
 
 pub returns-clause-of : goal.returns-clause-of
-returns-clause-of g c = (c.attempt.ensures.of, wider _ _ c.attempt.ensures.of.front)
+returns-clause-of g c = (c.attempt.ensures.of, maybe_wider _ _ _ c.attempt.ensures.of.front)
