@@ -39,7 +39,7 @@ use Rattle.md_machine.proofs.clauses.ReadyEntries.{ReadyHaveEntries, ready_entri
 use Rattle.md_machine.proofs.clauses.Serials.{serials-kept}
 use Rattle.md_machine.proofs.clauses.Sound.{sound-kept}
 use Rattle.md_machine.proofs.clauses.Stamps.{Stamp, Stamped, StampsKept, stamp_more, stamps-kept, stamps_hold}
-use Rattle.md_machine.proofs.clauses.Statuses.{StatusesNoted, statuses-kept}
+use Rattle.md_machine.proofs.clauses.Statuses.{statuses-kept, statuses_noted}
 use Rattle.md_machine.proofs.clauses.Stores.{StepsPast, StoresStand, steps_begun-kept, steps_past-kept, stores-kept}
 use Rattle.md_machine.proofs.clauses.Undecided.{undecided-kept}
 use Rattle.md_machine.proofs.clauses.WonInstalls.{won_installs-kept}
@@ -73,6 +73,7 @@ use Rattle.md_machine.specs.clauses.Reads.{MovedReads, ReadFound}
 use Rattle.md_machine.specs.clauses.Serials.{EntriesInTurn}
 use Rattle.md_machine.specs.clauses.Sound.{CommittedAreSound}
 use Rattle.md_machine.specs.clauses.Stamps.{NotedByRead}
+use Rattle.md_machine.specs.clauses.Statuses.{StatusesCame}
 use Rattle.md_machine.specs.clauses.Undecided.{UndecidedStand}
 use Rattle.md_machine.specs.clauses.WonInstalls.{WonAreInstalls}
 use Rattle.md_machine.specs.events.SplitJoin.{moved}
@@ -91,7 +92,7 @@ pub record Invariant (m : Machine) : Type 0 where
   pub installs : InstallsKept (shape_of m) m.words m.installs m.passes
   pub order : TrailsInOrder (shape_of m) m.passes
   pub odd_words : OddStand (shape_of m) m.words m.installs
-  pub statuses : StatusesNoted (shape_of m) m.words m.passes
+  pub statuses : StatusesCame (shape_of m) m.words m.passes
   pub brackets : TrailsBracket (shape_of m) m.words m.passes
   pub undecided : UndecidedStand (shape_of m) m.words m.installs
   pub flags : FlaggedAreNoted m
@@ -144,7 +145,7 @@ pub rests_of : (m : Machine) → Invariant m → UninstallRests m
 rests_of m k = record {
   entries = k.entries;
   ready_entries = k.ready_entries;
-  statuses = k.statuses;
+  statuses = statuses_noted (shape_of m) m.words m.passes k.statuses;
   brackets = k.brackets;
   installs = k.installs;
   odd_words = k.odd_words;
@@ -161,6 +162,7 @@ kept_by m k = record {
   hands = k.hands;
   odd_words = k.odd_words;
   undecided = k.undecided;
+  statuses = k.statuses;
   slots = λ i c. (k.installs.fits i c).slot;
   fates = record { told = fates_told (shape_of m) m.words m.history m.fates k.entries k.past; past = k.known_past };
   fronts = k.fronts;
@@ -193,7 +195,9 @@ module _ (M : Meaning) where
       let sound = sound-kept m n v (record { formats = k.formats; entries = k.entries; stores = k.stores; loads = k.loads; found = k.found_reads; sound = k.sound }) (fated (shape_of m) m.words m.history m.fates k.entries) in
       let fronts = fronts-kept m n v k.lanes k.fronts entries in
       let past_now = entries.past (subst (λ words. PastDecided (shape_of m) words m.history m.fates) (sym v.words) (past-kept m k.formats.field v.word v.new v.left k.entries k.fronts k.past)) in
-      let statuses = subst (λ words. StatusesNoted (shape_of m) words n.passes) (sym v.words) (statuses-kept m n v k.formats.field k.statuses) in
+      let noted = statuses_noted (shape_of m) m.words m.passes k.statuses in
+      let statuses = subst (λ words. StatusesCame (shape_of m) words n.passes) (sym v.words) (statuses-kept m n v k.formats.field k.statuses) in
+      let noted_now = statuses_noted (shape_of m) n.words n.passes statuses in
       let numbered = numbered-kept m n v k.entries k.numbered in
       let stamps = stamps-kept m n k.stamp k.formats.field k.stamps v v.words v.opening in (
         record {
@@ -211,9 +215,9 @@ module _ (M : Meaning) where
           installs = move (λ shape words. InstallsKept shape words n.installs n.passes) (installs-kept m n v k.formats.field k.hands k.installs k.stamp k.stamps);
           order = reshape (λ shape. TrailsInOrder shape n.passes) (order-kept m k.stamp k.stamps v.step (step_rises m n v k.formats.field k.hands k.installs) n.passes v.from k.order);
           odd_words = move (λ shape words. OddStand shape words n.installs) (odd_words-kept m k.stamp k.stamps k.installs k.order n v k.formats.field k.hands k.odd_words);
-          statuses = reshape (λ shape. StatusesNoted shape n.words n.passes) statuses;
+          statuses = reshape (λ shape. StatusesCame shape n.words n.passes) statuses;
           brackets = move (λ shape words. TrailsBracket shape words n.passes) (brackets-kept m k.stamp k.stamps k.installs k.order n v k.formats.field k.hands k.odd_words k.brackets);
-          undecided = move (λ shape words. UndecidedStand shape words n.installs) (undecided-kept m k.statuses k.brackets k.stamp k.stamps k.installs n v k.formats.field k.hands k.undecided);
+          undecided = move (λ shape words. UndecidedStand shape words n.installs) (undecided-kept m noted k.brackets k.stamp k.stamps k.installs n v k.formats.field k.hands k.undecided);
           flags = reshape (λ shape. Noting shape n.passes) (flags-kept m n v k.flags);
           node_words = λ pass p at. reshape (λ shape. DataStands shape n.words p) (node_words-kept m n v (fated (shape_of m) m.words m.history m.fates k.entries) k.placed k.flags k.node_words pass p at);
           won_installs = won_installs-kept m n v k.won_installs;
@@ -224,15 +228,15 @@ module _ (M : Meaning) where
           entry_slots = λ x c now. entry_slots-kept m n v k.formats.field k.hands k.installs past k.entry_slots x c
               (subst (λ words. IsPresentIn (shape_of m) words x.attempt) v.words
               (subst (λ (o : Opening). IsPresentIn o.shape n.words x.attempt) v.opening (ap (λ (a : AttemptId). a.serial) now)));
-          loads = reshape (λ shape. EachPair (LoadStands shape n.words n.history) n.passes) (loads-kept m n v k.formats.field k.hands k.statuses past k.loads);
-          moved_reads = reads_moved m n v k.formats.field k.hands k.statuses past k.stamp k.stamps k.moved_reads;
-          found_reads = reshape (λ shape. EachPair (ReadFound shape n.history) n.passes) (reads_found m n v k.formats.field k.hands k.statuses past k.stamp k.stamps k.moved_reads k.found_reads);
+          loads = reshape (λ shape. EachPair (LoadStands shape n.words n.history) n.passes) (loads-kept m n v k.formats.field k.hands noted past k.loads);
+          moved_reads = reads_moved m n v k.formats.field k.hands noted past k.stamp k.stamps k.moved_reads;
+          found_reads = reshape (λ shape. EachPair (ReadFound shape n.history) n.passes) (reads_found m n v k.formats.field k.hands noted past k.stamp k.stamps k.moved_reads k.found_reads);
           sound = sound;
           ready_entries = reshape (λ shape. ReadyHaveEntries shape n.words n.history) (ready_entries-kept m n v k.formats.field k.hands k.ready_entries);
           old_slots = move (λ shape words. EachPair (OldSlotStands shape words) n.passes) (old_slots-kept m k.stamp k.stamps k.installs k.order n v k.formats.field k.hands k.odd_words k.old_slots);
           numbered = reshape (λ shape. EntriesNumbered shape n.history) numbered;
           serials = serials-kept m n v k.entries k.in_hand k.serials;
-          hand_knows = reshape (λ shape. HandsKnow shape n.passes) (hand_knows-kept m n v k.lanes k.hands k.serials k.fronts fronts statuses (fates_told (shape_of m) n.words n.history n.fates entries.fit past_now) k.hand_knows);
+          hand_knows = reshape (λ shape. HandsKnow shape n.passes) (hand_knows-kept m n v k.lanes k.hands k.serials k.fronts fronts noted_now (fates_told (shape_of m) n.words n.history n.fates entries.fit past_now) k.hand_knows);
           mine = mine-kept m n v k.lanes k.hands k.entries k.numbered numbered k.serials k.fronts fronts entries.stay k.hand_knows k.mine;
           alone = λ pass p at. reshape (λ shape. HoldsAll shape p → LastStand n p.trail) (alone-kept m n v k.formats.field v.live k.lanes k.alone pass p at);
           stamp = stamp_more k.stamp v.word v.new;

@@ -111,7 +111,7 @@ module _ (M : Meaning) where
     installs = record { fits = λ i c. absurd (in_none i c); held = λ i c. absurd (in_none i c) };
     order = λ pass p at segment c. subst (InOrder o.shape) (first_segment o.shape p segment (at_one (first_pass o.shape) p pass at).1 c) tt;
     odd_words = λ word counted odd. absurd (true≢false (sym (can.even word counted) ∙ odd));
-    statuses = λ t has. absurd (no_steps o.shape t has);
+    statuses = λ pass p at segment c s i. absurd (no_steps o.shape s (pass, p, at, (segment, c, i)));
     brackets = λ pass p at segment c. subst (IsBracket o.shape o.words) (first_segment o.shape p segment (at_one (first_pass o.shape) p pass at).1 c) tt;
     undecided = λ i c. absurd (in_none i c);
     flags = λ pass p at segment c s i. absurd (no_steps o.shape s (pass, p, at, (segment, c, i)));

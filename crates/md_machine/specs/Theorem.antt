@@ -26,6 +26,7 @@ use Rattle.md_machine.specs.clauses.Serials.{EntriesInTurn}
 use Rattle.md_machine.specs.clauses.Slots.{SlotsStand}
 use Rattle.md_machine.specs.clauses.Sound.{CommittedAreSound}
 use Rattle.md_machine.specs.clauses.Stamps.{StampsHold}
+use Rattle.md_machine.specs.clauses.Statuses.{StatusesCame}
 use Rattle.md_machine.specs.clauses.Stores.{StoresAgree}
 use Rattle.md_machine.specs.clauses.Undecided.{UndecidedStand}
 use Rattle.md_machine.specs.clauses.WonInstalls.{WonAreInstalls}
@@ -38,6 +39,7 @@ pub record IsKept (m : Machine) : Type 0 where
   pub hands : HandsFit (shape_of m) m.words m.passes
   pub odd_words : OddStand (shape_of m) m.words m.installs
   pub undecided : UndecidedStand (shape_of m) m.words m.installs
+  pub statuses : StatusesCame (shape_of m) m.words m.passes
   pub slots : SlotsStand (shape_of m) m.words m.installs
   pub fates : FatesByStatuses m
   pub fronts : FrontsFit (shape_of m) m.history m.fates m.passes

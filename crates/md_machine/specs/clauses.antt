@@ -23,3 +23,4 @@ pub mod Alone
 pub mod Serials
 pub mod HandKnows
 pub mod Mine
+pub mod Statuses

@@ -24,6 +24,7 @@ use Rattle.md_machine.specs.clauses.PlacedNodes.{NodesExist}
 use Rattle.md_machine.specs.events.Ready.{history_entry, ready_word}
 use Rattle.md_machine.proofs.Invariant.{Invariant, kept_by}
 use Rattle.md_machine.proofs.clauses.FrontsFit.{fated}
+use Rattle.md_machine.proofs.clauses.Statuses.{statuses_noted}
 use Rattle.md_machine.proofs.events.MoveFacts.{MoveFacts}
 use Rattle.md_machine.proofs.events.Moves.{Effect, Moves, WinsExchange, WinsReady, by_exchange, by_fate, by_install, by_ready, by_start, by_stay, by_store, by_uninstall}
 use Rattle.md_machine.proofs.events.Tell.{tell}
@@ -51,7 +52,7 @@ uninstall_rests : (m : Machine) → Invariant m → UninstallRests m
 uninstall_rests m k = record {
   entries = k.entries;
   ready_entries = k.ready_entries;
-  statuses = k.statuses;
+  statuses = statuses_noted (shape_of m) m.words m.passes k.statuses;
   brackets = k.brackets;
   installs = k.installs;
   odd_words = k.odd_words;
