@@ -11,7 +11,7 @@ use Rattle.md_history.specs.FrontLaws.{all_stay-self}
 use Rattle.md_machine.specs.declared.attempt.AttemptId.{AttemptId}
 use Rattle.md_machine.specs.declared.opening.Opening.{Opening}
 use Rattle.md_machine.proofs.clauses.Alone.{HoldersFind, alone-kept, holders_alone}
-use Rattle.md_machine.proofs.clauses.Brackets.{TrailsBracket, brackets-kept}
+use Rattle.md_machine.proofs.clauses.Brackets.{TrailsBracket, between-kept, brackets-kept, old_brackets}
 use Rattle.md_machine.proofs.clauses.Entries.{entries-kept}
 use Rattle.md_machine.proofs.clauses.EntriesFit.{EntriesFit, ReadsCounted, entry_fits}
 use Rattle.md_machine.proofs.clauses.EntrySlots.{entry_slots-kept}
@@ -29,7 +29,7 @@ use Rattle.md_machine.proofs.clauses.Mine.{mine-kept}
 use Rattle.md_machine.proofs.clauses.NodeWords.{node_words-kept}
 use Rattle.md_machine.proofs.clauses.Numbered.{numbered-kept}
 use Rattle.md_machine.proofs.clauses.OddWords.{odd_words-kept}
-use Rattle.md_machine.proofs.clauses.OldSlots.{OldSlotStands, old_slots-kept}
+use Rattle.md_machine.proofs.clauses.OldSlots.{old_slots-kept}
 use Rattle.md_machine.proofs.clauses.Order.{TrailsInOrder, order-kept}
 use Rattle.md_machine.proofs.clauses.Past.{PastDecided, fates_told, past-kept}
 use Rattle.md_machine.proofs.clauses.Placed.{NotedAlways, placed-kept}
@@ -50,12 +50,14 @@ use Rattle.md_machine.proofs.events.UninstallValue.{UninstallRests}
 use Rattle.md_machine.proofs.events.WordChanges.{counts_rise, formats-kept, statuses_go_on, stays_on}
 use Rattle.md_machine.proofs.lists.Pairs.{EachPair, pairs_of}
 use Rattle.md_machine.proofs.lists.Rising.{here, there}
+use Rattle.md_machine.proofs.lists.Triples.{EachTriple, triples_of}
 use Rattle.md_machine.specs.Event.{Does, Event, Plays, Runs}
 use Rattle.md_machine.specs.GoesOn.{GoesOn, StatusGoesOn}
 use Rattle.md_machine.specs.Machine.{IsPresentIn, Machine, content, present, shape_of, status_at, word_at}
 use Rattle.md_machine.specs.Meaning.{Meaning}
 use Rattle.md_machine.specs.Theorem.{IsKept}
 use Rattle.md_machine.specs.clauses.Alone.{HoldsAll, LastStand}
+use Rattle.md_machine.specs.clauses.Brackets.{NotesBetween, NotesStanding}
 use Rattle.md_machine.specs.clauses.EntrySlots.{EntriesKeepSlots}
 use Rattle.md_machine.specs.clauses.Fates.{PastKnown}
 use Rattle.md_machine.specs.clauses.Flags.{FlaggedAreNoted}
@@ -69,6 +71,7 @@ use Rattle.md_machine.specs.clauses.Loads.{LoadStands}
 use Rattle.md_machine.specs.clauses.NodeWords.{DataStands, NodeWordsStand}
 use Rattle.md_machine.specs.clauses.Numbered.{EntriesNumbered}
 use Rattle.md_machine.specs.clauses.OddWords.{OddStand}
+use Rattle.md_machine.specs.clauses.OldSlots.{OldSlotStands}
 use Rattle.md_machine.specs.clauses.Reads.{MovedReads, ReadFound}
 use Rattle.md_machine.specs.clauses.Serials.{EntriesInTurn}
 use Rattle.md_machine.specs.clauses.Sound.{CommittedAreSound}
@@ -94,6 +97,7 @@ pub record Invariant (m : Machine) : Type 0 where
   pub odd_words : OddStand (shape_of m) m.words m.installs
   pub statuses : StatusesCame (shape_of m) m.words m.passes
   pub brackets : TrailsBracket (shape_of m) m.words m.passes
+  pub between : EachTriple (NotesBetween (shape_of m) m.installs) m.passes
   pub undecided : UndecidedStand (shape_of m) m.words m.installs
   pub flags : FlaggedAreNoted m
   pub node_words : NodeWordsStand m
@@ -163,6 +167,11 @@ kept_by m k = record {
   odd_words = k.odd_words;
   undecided = k.undecided;
   statuses = k.statuses;
+  brackets = record {
+    standing = λ pass p at earlier s later segment t c. pairs_of (NotesStanding (shape_of m) m.words) earlier s later t (k.brackets pass p at (earlier ++ s ∷ later) segment) c;
+    between = λ pass p at earlier s middle u later segment t c. triples_of (NotesBetween (shape_of m) m.installs) earlier s middle u later t (k.between pass p at (earlier ++ s ∷ (middle ++ u ∷ later)) segment) c;
+  };
+  old_slots = λ pass p at earlier s later segment t c. pairs_of (OldSlotStands (shape_of m) m.words) earlier s later t (k.old_slots pass p at (earlier ++ s ∷ later) segment) c;
   slots = λ i c. (k.installs.fits i c).slot;
   fates = record { told = fates_told (shape_of m) m.words m.history m.fates k.entries k.past; past = k.known_past };
   fronts = k.fronts;
@@ -199,7 +208,9 @@ module _ (M : Meaning) where
       let statuses = subst (λ words. StatusesCame (shape_of m) words n.passes) (sym v.words) (statuses-kept m n v k.formats.field k.statuses) in
       let noted_now = statuses_noted (shape_of m) n.words n.passes statuses in
       let numbered = numbered-kept m n v k.entries k.numbered in
-      let stamps = stamps-kept m n k.stamp k.formats.field k.stamps v v.words v.opening in (
+      let stamps = stamps-kept m n k.stamp k.formats.field k.stamps v v.words v.opening in
+      let installs = installs-kept m n v k.formats.field k.hands k.installs k.stamp k.stamps in
+      let odd_words = odd_words-kept m k.stamp k.stamps k.installs k.order n v k.formats.field k.hands k.odd_words in (
         record {
           formats = move AreFormats (formats-kept (Unit {0}) m k.formats.field v.word v.new v.left k.formats);
           lanes = reshape (λ shape. LanesApart shape n.passes) (lanes-kept m n v k.lanes);
@@ -212,11 +223,13 @@ module _ (M : Meaning) where
               (λ x c. (entry_fits (shape_of m) m.words m.history m.fates x k.entries c).1.exists) entries.stay k.fronts fronts k.known_past);
           placed = placed-kept m n v entries.stay k.placed;
           placed_once = placed_once-kept m n v (fated (shape_of m) m.words m.history m.fates k.entries) entries.stay sound.sound k.placed_once;
-          installs = move (λ shape words. InstallsKept shape words n.installs n.passes) (installs-kept m n v k.formats.field k.hands k.installs k.stamp k.stamps);
+          installs = move (λ shape words. InstallsKept shape words n.installs n.passes) installs;
           order = reshape (λ shape. TrailsInOrder shape n.passes) (order-kept m k.stamp k.stamps v.step (step_rises m n v k.formats.field k.hands k.installs) n.passes v.from k.order);
-          odd_words = move (λ shape words. OddStand shape words n.installs) (odd_words-kept m k.stamp k.stamps k.installs k.order n v k.formats.field k.hands k.odd_words);
+          odd_words = move (λ shape words. OddStand shape words n.installs) odd_words;
           statuses = reshape (λ shape. StatusesCame shape n.words n.passes) statuses;
           brackets = move (λ shape words. TrailsBracket shape words n.passes) (brackets-kept m k.stamp k.stamps k.installs k.order n v k.formats.field k.hands k.odd_words k.brackets);
+          between = reshape (λ shape. EachTriple (NotesBetween shape n.installs) n.passes) (between-kept m n v k.formats.field k.installs k.odd_words installs odd_words k.brackets
+              (old_brackets m k.stamp k.stamps k.installs k.order n v k.formats.field k.hands k.odd_words) k.between);
           undecided = move (λ shape words. UndecidedStand shape words n.installs) (undecided-kept m noted k.brackets k.stamp k.stamps k.installs n v k.formats.field k.hands k.undecided);
           flags = reshape (λ shape. Noting shape n.passes) (flags-kept m n v k.flags);
           node_words = λ pass p at. reshape (λ shape. DataStands shape n.words p) (node_words-kept m n v (fated (shape_of m) m.words m.history m.fates k.entries) k.placed k.flags k.node_words pass p at);

@@ -15,10 +15,8 @@ use Rattle.std.proofs.lemmas.List.Elements.{Contains-append_right}
 use Rattle.md_machine.specs.declared.attempt.Hand.{Hand}
 use Rattle.md_machine.specs.declared.node.PlacedNode.{PlacedNode}
 use Rattle.md_machine.proofs.Invariant.{Invariant, kept_by, plays_keep, runs_keep}
-use Rattle.md_machine.proofs.clauses.Brackets.{IsBracket}
 use Rattle.md_machine.proofs.clauses.FrontsFit.{fated}
 use Rattle.md_machine.proofs.clauses.LanesApart.{At, lanes_first}
-use Rattle.md_machine.proofs.clauses.OldSlots.{OldSlotStands}
 use Rattle.md_machine.proofs.clauses.Numbered.{none_numbered}
 use Rattle.md_machine.proofs.clauses.Order.{InOrder}
 use Rattle.md_machine.proofs.clauses.ReadyEntries.{prep_not_ready}
@@ -27,16 +25,19 @@ use Rattle.md_machine.proofs.lists.At.{at_one}
 use Rattle.md_machine.proofs.lists.Options.{none_some}
 use Rattle.md_machine.proofs.lists.Pairs.{InPairs}
 use Rattle.md_machine.proofs.lists.Rising.{here, in_cons, in_none}
+use Rattle.md_machine.proofs.lists.Triples.{InTriples}
 use Rattle.md_machine.specs.Event.{CanOpen, Event, Runs, first_pass, opened}
 use Rattle.md_machine.specs.Machine.{Machine}
 use Rattle.md_machine.specs.Meaning.{Meaning}
 use Rattle.md_machine.specs.Theorem.{AlwaysGoesOn, AlwaysKept}
 use Rattle.md_machine.specs.Trail.{segments}
 use Rattle.md_machine.specs.clauses.Alone.{LastStand}
+use Rattle.md_machine.specs.clauses.Brackets.{NotesBetween, NotesStanding}
 use Rattle.md_machine.specs.clauses.Formats.{AreFormats, StatusFits}
 use Rattle.md_machine.specs.clauses.Fronts.{FrontFits}
 use Rattle.md_machine.specs.clauses.Mine.{MineIsEnded}
 use Rattle.md_machine.specs.clauses.Loads.{LoadStands}
+use Rattle.md_machine.specs.clauses.OldSlots.{OldSlotStands}
 use Rattle.md_machine.specs.clauses.Reads.{ReadFound}
 
 -- the status word 0
@@ -112,7 +113,8 @@ module _ (M : Meaning) where
     order = λ pass p at segment c. subst (InOrder o.shape) (first_segment o.shape p segment (at_one (first_pass o.shape) p pass at).1 c) tt;
     odd_words = λ word counted odd. absurd (true≢false (sym (can.even word counted) ∙ odd));
     statuses = λ pass p at segment c s i. absurd (no_steps o.shape s (pass, p, at, (segment, c, i)));
-    brackets = λ pass p at segment c. subst (IsBracket o.shape o.words) (first_segment o.shape p segment (at_one (first_pass o.shape) p pass at).1 c) tt;
+    brackets = λ pass p at segment c. subst (InPairs (NotesStanding o.shape o.words)) (first_segment o.shape p segment (at_one (first_pass o.shape) p pass at).1 c) tt;
+    between = λ pass p at segment c. subst (InTriples (NotesBetween o.shape [])) (first_segment o.shape p segment (at_one (first_pass o.shape) p pass at).1 c) tt;
     undecided = λ i c. absurd (in_none i c);
     flags = λ pass p at segment c s i. absurd (no_steps o.shape s (pass, p, at, (segment, c, i)));
     node_words = λ pass p at segment c s i. absurd (no_steps o.shape s (pass, p, at, (segment, c, i)));

@@ -6,6 +6,7 @@ use Rattle.md_machine.specs.GoesOn.{GoesOn}
 use Rattle.md_machine.specs.Machine.{Machine, shape_of}
 use Rattle.md_machine.specs.Meaning.{Meaning}
 use Rattle.md_machine.specs.clauses.Alone.{HoldersAreAlone}
+use Rattle.md_machine.specs.clauses.Brackets.{StatusesBracketed}
 use Rattle.md_machine.specs.clauses.EntrySlots.{EntriesKeepSlots}
 use Rattle.md_machine.specs.clauses.Fates.{FatesByStatuses}
 use Rattle.md_machine.specs.clauses.Flags.{FlaggedAreNoted}
@@ -20,6 +21,7 @@ use Rattle.md_machine.specs.clauses.Mine.{MineAreEnded}
 use Rattle.md_machine.specs.clauses.NodeWords.{NodeWordsStand}
 use Rattle.md_machine.specs.clauses.Numbered.{EntriesNumbered}
 use Rattle.md_machine.specs.clauses.OddWords.{OddStand}
+use Rattle.md_machine.specs.clauses.OldSlots.{OldSlotsStand}
 use Rattle.md_machine.specs.clauses.Placed.{PlacedStay}
 use Rattle.md_machine.specs.clauses.Reads.{ReadsShow}
 use Rattle.md_machine.specs.clauses.Serials.{EntriesInTurn}
@@ -40,6 +42,8 @@ pub record IsKept (m : Machine) : Type 0 where
   pub odd_words : OddStand (shape_of m) m.words m.installs
   pub undecided : UndecidedStand (shape_of m) m.words m.installs
   pub statuses : StatusesCame (shape_of m) m.words m.passes
+  pub brackets : StatusesBracketed m
+  pub old_slots : OldSlotsStand m
   pub slots : SlotsStand (shape_of m) m.words m.installs
   pub fates : FatesByStatuses m
   pub fronts : FrontsFit (shape_of m) m.history m.fates m.passes

@@ -24,3 +24,5 @@ pub mod Serials
 pub mod HandKnows
 pub mod Mine
 pub mod Statuses
+pub mod Brackets
+pub mod OldSlots

@@ -1,8 +1,8 @@
 -- A status that a pass found after a content that still stands is one of the attempt that stands there.
-use Rattle.std.proofs.Common.{◌≡◌, ℕ, ◌⊎◌, false, List, [], ◌∷◌, ◌++◌, set, get_or, refl, sym, ap, ◌∙◌, subst, inl, inr, ⊎_elim, get_or-set_same, get_or-set_other, arith}
+use Rattle.std.proofs.Common.{◌≡◌, ℕ, ◌<◌, List, length, set, get_or, refl, sym, ap, ◌∙◌, subst, inl, inr, ⊎_elim, get_or-set_same, get_or-set_other, arith}
 use Rattle.std.specs.List.{Contains}
 use Rattle.std.proofs.lemmas.Bool.{cases_eq}
-use Rattle.std.proofs.lemmas.List.Elements.{Contains-push, Contains-push_cases}
+use Rattle.std.proofs.lemmas.List.Elements.{Contains-push}
 use Rattle.md_words.specs.declared.shape.Shape.{Shape}
 use Rattle.md_words.specs.Content.{count_of, is_even}
 use Rattle.md_words.specs.Status.{serial_of}
@@ -14,55 +14,27 @@ use Rattle.md_words.proofs.Places.{address_below}
 use Rattle.md_machine.specs.declared.step.Step.{Step}
 use Rattle.md_machine.specs.declared.pass.PassView.{PassView}
 use Rattle.md_machine.proofs.clauses.Installs.{InstallsKept}
-use Rattle.md_machine.proofs.clauses.LanesApart.{At}
-use Rattle.md_machine.proofs.clauses.OddWords.{standing_serial}
+use Rattle.md_machine.proofs.clauses.OddWords.{installed_names, standing_serial}
 use Rattle.md_machine.proofs.clauses.Order.{TrailsInOrder}
 use Rattle.md_machine.proofs.clauses.Stamps.{Stamp, StampsKept}
 use Rattle.md_machine.proofs.events.MoveFacts.{MoveFacts}
-use Rattle.md_machine.proofs.events.Steps.{HasStep, segment_from}
+use Rattle.md_machine.proofs.events.Steps.{HasStep}
 use Rattle.md_machine.proofs.events.WordChanges.{at_counted}
-use Rattle.md_machine.proofs.lists.Rising.{here, in_none, there}
-use Rattle.md_machine.specs.Machine.{Machine, content, shape_of, status_at, word_at}
-use Rattle.md_machine.specs.Trail.{segments}
+use Rattle.md_machine.proofs.lists.Pairs.{EachPair, pairs-kept, pairs_weaker}
+use Rattle.md_machine.proofs.lists.Triples.{EachTriple, triples-kept}
+use Rattle.md_machine.specs.Machine.{Install, Machine, content, shape_of, status_at, word_at}
 use Rattle.md_machine.specs.clauses.Hands.{HandsFit}
 use Rattle.md_machine.specs.clauses.OddWords.{OddStand}
-use Rattle.md_machine.specs.events.Uninstall.{desc_in}
+use Rattle.md_machine.specs.clauses.Brackets.{MeetsOdd, NotesBetween, NotesSerial, NotesStanding, WasInstalled, serial_in}
+use Rattle.md_machine.specs.events.Uninstall.{desc_in, status_of_desc}
 
--- a step met a content that stands in its word with an odd count
-pub record MetStanding (shape : Shape) (words : List ℕ) (s : Step) : Type 0 where
-  pub counted : IsCounted shape s.word
-  pub odd : is_even (count_of (get_or words s.word 0)) ≡ false
-  pub met : (s.before ≡ get_or words s.word 0) ⊎ (s.after ≡ get_or words s.word 0)
-
--- a step on the status of a descriptor noted its present serial
-pub record NotesPresent (shape : Shape) (words : List ℕ) (desc : ℕ) (t : Step) : Type 0 where
-  pub before : serial_of t.before ≡ serial_of (word_at shape words (desc_status desc))
-  pub after : serial_of t.after ≡ serial_of (word_at shape words (desc_status desc))
-
-abbrev pub Brackets : Shape → List ℕ → (s t : Step) → Type 0
-Brackets shape words s t = MetStanding shape words s → t.word ≡ address shape (desc_status (desc_in (get_or words s.word 0))) → NotesPresent shape words (desc_in (get_or words s.word 0)) t
-
-abbrev pub IsBracket : Shape → List ℕ → List Step → Type 0
-IsBracket shape words [] = Unit {0}
-IsBracket shape words (s ∷ steps) = ((t : Step) → Contains steps t → Brackets shape words s t) × IsBracket shape words steps
-
-pub bracket_of : (shape : Shape) (words : List ℕ) (earlier : List Step) (s : Step) (later : List Step) (t : Step) → IsBracket shape words (earlier ++ s ∷ later) → Contains later t → Brackets shape words s t
-bracket_of shape words [] s later t b c = b.0 t c
-bracket_of shape words (x ∷ earlier) s later t b c = bracket_of shape words earlier s later t b.1 c
-
-bracket_push : (shape : Shape) (words : List ℕ) (steps : List Step) (x : Step) → IsBracket shape words steps → ((s : Step) → Contains steps s → Brackets shape words s x) → IsBracket shape words (steps ++ x ∷ [])
-bracket_push shape words [] x b new = ((λ t c. absurd (in_none t c)), tt)
-bracket_push shape words (s ∷ steps) x b new = (
-  (λ t c. ⊎_elim (λ old. b.0 t old) (λ same. subst (Brackets shape words s) same (new s (here s steps))) (Contains-push_cases steps x t c)),
-  bracket_push shape words steps x b.1 (λ y c. new y (there s steps y c)),
-)
-
-bracket_weaker : (shape : Shape) (words later : List ℕ) (steps : List Step) → ((s : Step) → Contains steps s → (t : Step) → Brackets shape words s t → Brackets shape later s t) → IsBracket shape words steps → IsBracket shape later steps
-bracket_weaker shape words later [] f b = tt
-bracket_weaker shape words later (s ∷ steps) f b = ((λ t c. f s (here s steps) t (b.0 t c)), bracket_weaker shape words later steps (λ x c. f x (there s steps x c)) b.1)
-
+-- so it is in every segment of every pass
 abbrev pub TrailsBracket : Shape → List ℕ → List PassView → Type 0
-TrailsBracket shape words passes = (pass : ℕ) (p : PassView) → At passes pass p → (segment : List Step) → Contains (segments p) segment → IsBracket shape words segment
+TrailsBracket shape words passes = EachPair (NotesStanding shape words) passes
+
+-- a step met what stands in its word with an odd count
+abbrev pub MetStanding : Shape → List ℕ → Step → Type 0
+MetStanding shape words s = MeetsOdd shape s.word (get_or words s.word 0) s
 
 module _ (m : Machine) (stamp : Stamp) (stamps : StampsKept m stamp) (k : InstallsKept (shape_of m) m.words m.installs m.passes) (order : TrailsInOrder (shape_of m) m.passes)
     (n : Machine) (v : MoveFacts m n) (field : IsField (shape_of m) m.words) (hands : HandsFit (shape_of m) m.words m.passes) (odd_stand : OddStand (shape_of m) m.words m.installs) where
@@ -92,6 +64,7 @@ module _ (m : Machine) (stamp : Stamp) (stamps : StampsKept m stamp) (k : Instal
   met_before s has met = let same = stood s has met in record {
     counted = met.counted;
     odd = ap (λ c. is_even (count_of c)) (sym same) ∙ met.odd;
+    there = refl;
     met = ⊎_elim (λ b. inl (b ∙ same)) (λ a. inr (a ∙ same)) met.met;
   }
 
@@ -99,15 +72,15 @@ module _ (m : Machine) (stamp : Stamp) (stamps : StampsKept m stamp) (k : Instal
       → serial_of (status_at m (desc_in (content m s.word))) ≡ serial_of (word_at (shape_of m) later (desc_status (desc_in (content m s.word))))
   same_serial s has met = let was = met_before s has met in (standing_serial m stamp stamps k order n v field hands odd_stand s.word was.counted was.odd).1
 
-  old_brackets : (s t : Step) → HasStep m.passes s → Brackets (shape_of m) m.words s t → Brackets (shape_of m) later s t
+  pub old_brackets : (s t : Step) → HasStep m.passes s → NotesStanding (shape_of m) m.words s t → NotesStanding (shape_of m) later s t
   old_brackets s t has b met at =
       let same = ap desc_in (stood s has met) in
       let notes = b (met_before s has met) (at ∙ ap (λ d. address (shape_of m) (desc_status d)) same) in
       let serial = same_serial s has met in
-      subst (λ d. NotesPresent (shape_of m) later d t) (sym same) (record { before = notes.before ∙ serial; after = notes.after ∙ serial })
+      subst (λ d. NotesSerial (serial_of (word_at (shape_of m) later (desc_status d))) t) (sym same) (record { before = notes.before ∙ serial; after = notes.after ∙ serial })
 
   -- the new step notes the present serial
-  new_brackets : (s : Step) → HasStep m.passes s → Brackets (shape_of m) later s v.step
+  new_brackets : (s : Step) → HasStep m.passes s → NotesStanding (shape_of m) later s v.step
   new_brackets s has met at =
       let d = desc_in (content m s.word) in
       let same = ap desc_in (stood s has met) in
@@ -115,19 +88,66 @@ module _ (m : Machine) (stamp : Stamp) (stamps : StampsKept m stamp) (k : Instal
       let exists = (standing_serial m stamp stamps k order n v field hands odd_stand s.word was.counted was.odd).0 in
       let is : v.word ≡ address (shape_of m) (desc_status d) = sym v.there ∙ at ∙ ap (λ x. address (shape_of m) (desc_status x)) same in
       let left : word_at (shape_of m) later (desc_status d) ≡ v.new = ap (λ w. get_or later w 0) (sym is) ∙ get_or-set_same m.words v.word v.new 0 (let below = address_below (shape_of m) (desc_status d) exists in omega (arith, is, below, field)) in
-      subst (λ x. NotesPresent (shape_of m) later x v.step) (sym same) (record {
+      subst (λ x. NotesSerial (serial_of (word_at (shape_of m) later (desc_status x))) v.step) (sym same) (record {
         before = ap serial_of (v.before ∙ ap (content m) is) ∙ same_serial s has met;
         after = ap serial_of (v.after ∙ sym left);
       })
 
   pub brackets-kept : TrailsBracket (shape_of m) m.words m.passes → TrailsBracket (shape_of m) later n.passes
-  brackets-kept was j u at segment c = ⊎_elim
-      (λ x. bracket_weaker (shape_of m) m.words later segment (λ s i t. old_brackets s t (x.0, x.1, x.2, (segment, x.3, i))) (was x.0 x.1 x.2 segment x.3))
-      (λ o. ⊎_elim
-      (λ x. let p = x.1 in let last = Contains-push p.past p.trail in
-      subst (IsBracket (shape_of m) later) x.3 (bracket_push (shape_of m) later p.trail v.step
-      (bracket_weaker (shape_of m) m.words later p.trail (λ s i t. old_brackets s t (x.0, p, x.2, (p.trail, last, i))) (was x.0 p x.2 p.trail last))
-      (λ s i. new_brackets s (x.0, p, x.2, (p.trail, last, i)))))
-      (λ none. subst (IsBracket (shape_of m) later) none tt)
-      o)
-      (segment_from m.passes n.passes v.step v.from j u at segment c)
+  brackets-kept = pairs-kept m.passes n.passes v.step (NotesStanding (shape_of m) m.words) (NotesStanding (shape_of m) later) v.from old_brackets new_brackets
+
+-- where a step met what stands in its word, a later status is that of the install that stands there
+standing_install : (shape : Shape) (words : List ℕ) (installs : List Install) (passes : List PassView) → OddStand shape words installs → InstallsKept shape words installs passes
+    → (s t : Step) → NotesStanding shape words s t → (word held : ℕ) → held ≡ get_or words word 0 → MeetsOdd shape word held s → t.word ≡ status_of_desc shape held
+    → (serial : ℕ) × NotesSerial serial t × WasInstalled installs word held serial
+standing_install shape words installs passes odd k s t notes word held now met at =
+    let stands = odd word met.counted (ap (λ c. is_even (count_of c)) (sym now) ∙ met.odd) in
+    let i = stands.install in
+    let fits = k.fits i stands.made in
+    let here' : held ≡ get_or words s.word 0 = now ∙ ap (λ w. get_or words w 0) (sym met.there) in
+    let noted = notes (record {
+      counted = subst (IsCounted shape) (sym met.there) met.counted;
+      odd = ap (λ c. is_even (count_of c)) (sym here') ∙ met.odd;
+      there = refl;
+      met = ⊎_elim (λ b. inl (b ∙ here')) (λ a. inr (a ∙ here')) met.met;
+    }) (at ∙ ap (status_of_desc shape) here') in
+    let desc : desc_in (get_or words s.word 0) ≡ i.attempt.desc = ap desc_in (sym here' ∙ now ∙ stands.holds) ∙ installed_names i fits.room (fits.slot stands.present).exists.1 in (
+      serial_in shape words (get_or words s.word 0),
+      noted,
+      record {
+        install = i;
+        made = stands.made;
+        there = stands.there;
+        left = now ∙ stands.holds;
+        of = stands.present ∙ ap (λ d. serial_of (word_at shape words (desc_status d))) (sym desc);
+      },
+    )
+
+module _ (m n : Machine) (v : MoveFacts m n) (field : IsField (shape_of m) m.words) (k : InstallsKept (shape_of m) m.words m.installs m.passes) (odd_stand : OddStand (shape_of m) m.words m.installs)
+    (new_k : InstallsKept (shape_of m) (set m.words v.word v.new) n.installs n.passes) (new_odd : OddStand (shape_of m) (set m.words v.word v.new) n.installs) where
+  still_installed : (word held serial : ℕ) → WasInstalled m.installs word held serial → WasInstalled n.installs word held serial
+  still_installed word held serial w = record { install = w.install; made = v.installs_stay w.install w.made; there = w.there; left = w.left; of = w.of }
+
+  old_between : (s t u : Step) → NotesBetween (shape_of m) m.installs s t u → NotesBetween (shape_of m) n.installs s t u
+  old_between s t u was word held first second at = let r = was word held first second at in (r.0, r.1, still_installed word held r.0 r.2)
+
+  -- what the new step met stands before it, or after it
+  new_between : (s t : Step) → NotesStanding (shape_of m) m.words s t → NotesStanding (shape_of m) (set m.words v.word v.new) s t → NotesBetween (shape_of m) n.installs s t v.step
+  new_between s t before after word held first second at =
+      let is : v.word ≡ word = sym v.there ∙ second.there in
+      let inside : word < length m.words = let counted = second.counted.0 in omega (arith, counted, field) in
+      ⊎_elim
+      (λ b.
+      let r = standing_install (shape_of m) m.words m.installs m.passes odd_stand k s t before word held (sym b ∙ v.before ∙ ap (content m) is) first at in
+      (r.0, r.1, still_installed word held r.0 r.2))
+      (λ a. standing_install (shape_of m) (set m.words v.word v.new) n.installs n.passes new_odd new_k s t after word held
+      (sym a ∙ v.after ∙ sym (ap (λ w. get_or (set m.words v.word v.new) w 0) (sym is) ∙ get_or-set_same m.words v.word v.new 0 (subst (λ w. w < length m.words) (sym is) inside))) first at)
+      second.met
+
+  -- every event keeps what was noted between
+  pub between-kept : TrailsBracket (shape_of m) m.words m.passes → ((s t : Step) → HasStep m.passes s → NotesStanding (shape_of m) m.words s t → NotesStanding (shape_of m) (set m.words v.word v.new) s t)
+      → EachTriple (NotesBetween (shape_of m) m.installs) m.passes → EachTriple (NotesBetween (shape_of m) n.installs) n.passes
+  between-kept brackets goes = triples-kept m.passes n.passes v.step (NotesBetween (shape_of m) m.installs) (NotesBetween (shape_of m) n.installs) v.from old_between
+      (λ pass p at. let last = Contains-push p.past p.trail in
+      pairs_weaker (NotesStanding (shape_of m) m.words) (λ s t. NotesBetween (shape_of m) n.installs s t v.step) p.trail
+      (λ s i t b. new_between s t b (goes s t (pass, p, at, (p.trail, last, i)) b)) (brackets pass p at p.trail last))

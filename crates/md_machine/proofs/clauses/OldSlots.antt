@@ -25,15 +25,7 @@ use Rattle.md_machine.specs.Installs.{spot_of_install}
 use Rattle.md_machine.specs.Machine.{Machine, content, present, shape_of, status_at, word_at}
 use Rattle.md_machine.specs.clauses.Hands.{HandsFit}
 use Rattle.md_machine.specs.clauses.OddWords.{OddStand}
-
-abbrev pub spot_in_word : ℕ → Spot
-spot_in_word held = spot_of (value_of held)
-
-abbrev pub old_place : Shape → (held : ℕ) → ℕ
-old_place shape held = address shape (slot_old (spot_in_word held).desc (spot_in_word held).slot)
-
-abbrev pub OldSlotStands : Shape → List ℕ → (s t : Step) → Type 0
-OldSlotStands shape words s t = MetStanding shape words s → t.word ≡ old_place shape (get_or words s.word 0) → t.before ≡ get_or words t.word 0
+use Rattle.md_machine.specs.clauses.OldSlots.{OldSlotStands, old_place, spot_in_word}
 
 module _ (m : Machine) (stamp : Stamp) (stamps : StampsKept m stamp) (k : InstallsKept (shape_of m) m.words m.installs m.passes) (order : TrailsInOrder (shape_of m) m.passes)
     (n : Machine) (v : MoveFacts m n) (field : IsField (shape_of m) m.words) (hands : HandsFit (shape_of m) m.words m.passes) (odd_stand : OddStand (shape_of m) m.words m.installs) where

@@ -1,5 +1,5 @@
 -- As long as an attempt is undecided its slots stand: nobody may take them out.
-use Rattle.std.proofs.Common.{◌≡◌, ℕ, ◌<◌, List, ◌∷◌, ◌++◌, set, get_or, sym, ap, ◌∙◌, subst, inl, ⊎_elim, append_assoc, get_or-set_same, get_or-set_other, arith, false}
+use Rattle.std.proofs.Common.{◌≡◌, ℕ, ◌<◌, List, ◌∷◌, ◌++◌, set, get_or, refl, sym, ap, ◌∙◌, subst, inl, ⊎_elim, append_assoc, get_or-set_same, get_or-set_other, arith, false}
 use Rattle.std.specs.List.{Contains}
 use Rattle.std.proofs.lemmas.Bool.{cases_eq}
 use Rattle.std.proofs.lemmas.List.Elements.{Contains-append_left, Contains-append_right}
@@ -11,7 +11,7 @@ use Rattle.md_words.specs.LayoutLaws.{IsField}
 use Rattle.md_words.specs.PlaceAt.{IsCounted}
 use Rattle.md_machine.specs.declared.pass.PassView.{PassView}
 use Rattle.md_machine.specs.declared.step.Step.{Step}
-use Rattle.md_machine.proofs.clauses.Brackets.{MetStanding, NotesPresent, TrailsBracket, bracket_of}
+use Rattle.md_machine.proofs.clauses.Brackets.{MetStanding, TrailsBracket}
 use Rattle.md_machine.proofs.clauses.Installs.{InstallFits, InstallsKept, was_present}
 use Rattle.md_machine.proofs.clauses.OddWords.{installed_names}
 use Rattle.md_machine.proofs.clauses.Stamps.{Stamp, StampsKept}
@@ -20,10 +20,12 @@ use Rattle.md_machine.proofs.events.InstallSteps.{InstallsHere}
 use Rattle.md_machine.proofs.events.Leaves.{install_odd}
 use Rattle.md_machine.proofs.events.MoveFacts.{MoveFacts, Uninstalls}
 use Rattle.md_machine.proofs.events.Steps.{HasStep}
+use Rattle.md_machine.proofs.lists.Pairs.{pairs_of}
 use Rattle.md_machine.proofs.lists.Rising.{there}
 use Rattle.md_machine.specs.Installs.{IsPresent, IsUndecided, spot_of_install}
 use Rattle.md_machine.specs.Machine.{Install, IsAt, Machine, content, present, shape_of, status_at, word_at}
 use Rattle.md_machine.specs.Trail.{Finds, Meets, segments}
+use Rattle.md_machine.specs.clauses.Brackets.{NotesSerial, NotesStanding, serial_in}
 use Rattle.md_machine.specs.clauses.Hands.{HandsFit}
 use Rattle.md_machine.specs.clauses.Undecided.{UndecidedStand}
 use Rattle.md_machine.specs.events.Install.{installed_word}
@@ -33,15 +35,16 @@ module _ (m : Machine) (noted : StatusesNoted (shape_of m) m.words m.passes) (br
   -- a status that a pass found after a content that still stands is of the attempt that stands there
   found_present : (pass : ℕ) (p : PassView) (w : ℕ) → IsAt m pass p → IsCounted (shape_of m) w → is_even (count_of (content m w)) ≡ false
       → (earlier : List Step) (s : Step) (later : List Step) → Contains (segments p) (earlier ++ s ∷ later) → Finds w (content m w) s
-      → (t : Step) → Contains later t → t.word ≡ status_of_desc (shape_of m) (content m w) → NotesPresent (shape_of m) m.words (desc_in (content m w)) t
+      → (t : Step) → Contains later t → t.word ≡ status_of_desc (shape_of m) (content m w) → NotesSerial (serial_in (shape_of m) m.words (content m w)) t
   found_present pass p w at counted odd earlier s later segment f t c there =
       let same : content m s.word ≡ content m w = ap (content m) f.there in
       let met : MetStanding (shape_of m) m.words s = record {
         counted = subst (IsCounted (shape_of m)) (sym f.there) counted;
         odd = ap (λ c. is_even (count_of c)) same ∙ odd;
+        there = refl;
         met = inl (f.before ∙ sym same);
       } in
-      subst (λ d. NotesPresent (shape_of m) m.words d t) (ap desc_in same) (bracket_of (shape_of m) m.words earlier s later t (bracket pass p at (earlier ++ s ∷ later) segment) c met (there ∙ ap (status_of_desc (shape_of m)) (sym same)))
+      subst (λ c. NotesSerial (serial_in (shape_of m) m.words c) t) same (pairs_of (NotesStanding (shape_of m) m.words) earlier s later t (bracket pass p at (earlier ++ s ∷ later) segment) c met (there ∙ ap (status_of_desc (shape_of m)) (sym same)))
 
   -- what a helper asked comes after the content that it found, and before what it loaded
   in_first : (h : List Step) (a : Step) (b : List Step) (t : Step) → Contains h t → Contains (h ++ a ∷ b) t

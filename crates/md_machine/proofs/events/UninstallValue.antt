@@ -24,7 +24,6 @@ use Rattle.md_machine.proofs.clauses.Brackets.{MetStanding, TrailsBracket, stood
 use Rattle.md_machine.proofs.clauses.EntriesFit.{EntriesFit}
 use Rattle.md_machine.proofs.clauses.Installs.{InstallsKept}
 use Rattle.md_machine.proofs.clauses.OddWords.{splits}
-use Rattle.md_machine.proofs.clauses.OldSlots.{OldSlotStands, old_place, spot_in_word}
 use Rattle.md_machine.proofs.clauses.ReadyEntries.{EntryOf, ReadyHaveEntries}
 use Rattle.md_machine.proofs.clauses.Statuses.{StatusesNoted}
 use Rattle.md_machine.proofs.clauses.Stores.{StoresStand}
@@ -41,6 +40,7 @@ use Rattle.md_machine.specs.Trail.{LastStored, Loads, Meets}
 use Rattle.md_machine.specs.clauses.Fates.{Tells}
 use Rattle.md_machine.specs.clauses.Loads.{LoadStands, MeetsReady}
 use Rattle.md_machine.specs.clauses.OddWords.{OddStand, StandsIn}
+use Rattle.md_machine.specs.clauses.OldSlots.{OldSlotStands, old_place, spot_in_word}
 use Rattle.md_machine.specs.clauses.Stores.{IsEntryWord}
 use Rattle.md_machine.specs.events.Uninstall.{HelperSaw, MayUninstall, slot_by_fate, slot_of_desc, status_of_desc, value_by_fate}
 
@@ -200,6 +200,7 @@ module _ (m : Machine) (k : UninstallRests m) (word : ℕ) (counted : IsCounted 
         let met : MetStanding (shape_of m) m.words s = record {
           counted = subst (IsCounted (shape_of m)) (sym at) counted;
           odd = ap (λ c. is_even (count_of c)) same ∙ odd;
+          there = refl;
           met = ⊎_elim (λ f. inl (f.before ∙ sym same)) (λ g. inr (g.after ∙ sym same)) meets;
         } in
         ap (content m) (sym there) ∙ sym (pair met (there ∙ ap (old_place (shape_of m)) (sym same))) ∙ l.before

@@ -17,14 +17,14 @@ pub pairs_of : (R : Step → Step → Type 0) (earlier : List Step) (s : Step) (
 pairs_of R [] s later t h c = h.0 t c
 pairs_of R (x ∷ earlier) s later t h c = pairs_of R earlier s later t h.1 c
 
-pairs_push : (R : Step → Step → Type 0) (steps : List Step) (x : Step) → InPairs R steps → ((s : Step) → Contains steps s → R s x) → InPairs R (steps ++ x ∷ [])
+pub pairs_push : (R : Step → Step → Type 0) (steps : List Step) (x : Step) → InPairs R steps → ((s : Step) → Contains steps s → R s x) → InPairs R (steps ++ x ∷ [])
 pairs_push R [] x h new = ((λ t c. absurd (in_none t c)), tt)
 pairs_push R (s ∷ steps) x h new = (
   (λ t c. ⊎_elim (λ old. h.0 t old) (λ same. subst (R s) same (new s (here s steps))) (Contains-push_cases steps x t c)),
   pairs_push R steps x h.1 (λ y c. new y (there s steps y c)),
 )
 
-pairs_weaker : (R S : Step → Step → Type 0) (steps : List Step) → ((s : Step) → Contains steps s → (t : Step) → R s t → S s t) → InPairs R steps → InPairs S steps
+pub pairs_weaker : (R S : Step → Step → Type 0) (steps : List Step) → ((s : Step) → Contains steps s → (t : Step) → R s t → S s t) → InPairs R steps → InPairs S steps
 pairs_weaker R S [] f h = tt
 pairs_weaker R S (s ∷ steps) f h = ((λ t c. f s (here s steps) t (h.0 t c)), pairs_weaker R S steps (λ x c. f x (there s steps x c)) h.1)
 
