@@ -31,6 +31,7 @@ use Rattle.md_machine.proofs.clauses.Numbered.{numbered-kept}
 use Rattle.md_machine.proofs.clauses.OddWords.{odd_words-kept}
 use Rattle.md_machine.proofs.clauses.OldSlots.{old_slots-kept}
 use Rattle.md_machine.proofs.clauses.Order.{TrailsInOrder, order-kept}
+use Rattle.md_machine.proofs.clauses.OwnInstalls.{own_installs}
 use Rattle.md_machine.proofs.clauses.Past.{PastDecided, fates_told, past-kept}
 use Rattle.md_machine.proofs.clauses.Placed.{NotedAlways, placed-kept}
 use Rattle.md_machine.proofs.clauses.PlacedOnce.{AliveOnce, noted_structure, placed_once-kept}
@@ -179,6 +180,7 @@ kept_by m k = record {
   flags = k.flags;
   node_words = k.node_words;
   won_installs = k.won_installs;
+  own_installs = own_installs m k.installs;
   entry_slots = k.entry_slots;
   in_hand = k.in_hand.alone;
   loads = λ pass p at earlier s later segment t c. pairs_of (LoadStands (shape_of m) m.words m.history) earlier s later t (k.loads pass p at (earlier ++ s ∷ later) segment) c;

@@ -38,3 +38,4 @@ pub mod EndedLast
 pub mod HandKnows
 pub mod MineParts
 pub mod Mine
+pub mod OwnInstalls

@@ -26,3 +26,4 @@ pub mod Mine
 pub mod Statuses
 pub mod Brackets
 pub mod OldSlots
+pub mod OwnInstalls

@@ -30,6 +30,7 @@ pub record InstallStep (i : Install) (s : Step) : Type 0 where
   pub kind : s.kind ≡ Installs
   pub attempt : s.attempt ≡ Some i.attempt
   pub there : s.word ≡ i.word
+  pub before : s.before ≡ i.old
   pub after : s.after ≡ installed_word i.old (record { desc = i.attempt.desc; slot = i.slot })
   pub won : s.before ≢ s.after
   pub room : count_of i.old ≤ LAST_COUNT
@@ -61,6 +62,7 @@ installs_here m pass p q h word from to later apart hands at may won is trail =
         kind = refl;
         attempt = ap attempt_in_hand may.held;
         there = refl;
+        before = won;
         after = ap (λ d. installed_word from (record { desc = d; slot = to.slot })) may.own;
         won = λ e. true≢false (sym (ap (λ c. is_even (count_of c)) (sym e ∙ won) ∙ may.from_even.even) ∙ install_odd from to may.from_even);
         room = may.from_even.room;
