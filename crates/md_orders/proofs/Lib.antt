@@ -2,6 +2,9 @@ pub mod Digits
 pub mod ByCaller
 pub mod Keeps
 pub mod Lines
+pub mod Apart
 pub mod Rows
+pub mod Packed
+pub mod Placed
 pub mod Noted
 pub mod Texts

@@ -1,5 +1,5 @@
 -- Lines: records at their caller's next line.
-use Rattle.std.proofs.Common.{◌≡◌, ◌<◌, ◌≤◌, ◌+◌, ◌∙◌, ℕ, List, Bool, true, false, Option, Some, None, is_some, length, refl, ap, arith}
+use Rattle.std.proofs.Common.{◌≡◌, ◌<◌, ◌+◌, ◌∙◌, ℕ, List, Bool, true, false, Option, Some, None, is_some, length, refl, ap, arith}
 use Rattle.std.specs.Prelude.{◌&&◌}
 use Rattle.md_book.specs.declared.commands.Command.{Command}
 use Rattle.md_orders.specs.declared.version.Version.{Version}

@@ -16,7 +16,7 @@ use Rattle.md_orders.specs.declared.version.Version.{Version}
 use Rattle.md_orders.specs.declared.version.Version.TheVariants.{First, Second}
 use Rattle.md_orders.specs.Records.{Row}
 use Rattle.md_orders.specs.Version.{OrderFile, file_of, is_version_record}
-use Rattle.md_orders.specs.Grammar.{caller_of, command_of, keeps, first_bad_line}
+use Rattle.md_orders.specs.Grammar.{caller_of, command_of, keeps}
 use Rattle.md_orders.specs.Scripts.{list_of, with_list, count_of, is_by, script_in, AreScripts}
 use Rattle.md_orders.specs.Noted.{AreScriptsOf, AreNoted, IsNoted}
 use Rattle.md_orders.specs.Line.{IsLine}

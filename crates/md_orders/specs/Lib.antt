@@ -5,5 +5,6 @@ pub mod Lists
 pub mod Scripts
 pub mod Noted
 pub mod Replies
+pub mod Rooms
 pub mod Report
 pub mod Line

@@ -4,6 +4,11 @@ use Rattle.md_book.specs.declared.commands.Command.{Command}
 use Rattle.md_book.specs.declared.commands.BookReply.{BookReply}
 use Rattle.md_orders.specs.Scripts.{list_of, with_list, with_line, at_line}
 
+-- the scripts that replies are of, and the reply of each line
+pub record RepliesState : Type 0 where
+  pub scripts : List (List Command)
+  pub replies : List (List (Option BookReply))
+
 -- a place for each line, and no reply
 abbrev pub no_replies : List (List Command) → List (List (Option BookReply))
 no_replies scripts = map (λ script. replicate (length script) None) scripts

@@ -1,5 +1,5 @@
 -- Scripts: the commands of each caller, in order.
-use Rattle.std.specs.Prelude.{◌≡◌, ℕ, zero, suc, ◌/◌, ◌^◌, ◌<◌, ◌≤◌, ◌==◌, Bool, false, Option, None, List, [], length, map, filter, slice_get, slice_index_or, slice_set, sum_by, IfSome}
+use Rattle.std.specs.Prelude.{◌≡◌, ℕ, zero, suc, ◌^◌, ◌<◌, ◌≤◌, ◌==◌, Bool, false, Option, None, List, [], length, filter, slice_get, slice_index_or, slice_set, sum_by, IfSome}
 use Rattle.std.specs.List.{filter_map, enumerate_from}
 use Rattle.std.specs.Option.{option_map_or}
 use Rattle.md_book.specs.declared.commands.Command.{Command}
@@ -68,11 +68,3 @@ pub record AreKept (total : ℕ) (scripts : List (List Command)) : Type 0 where
   pub counted : total ≡ count_of scripts
   pub few : count_of scripts ≤ max_records
   pub callers : length scripts < 2 ^ 32
-
--- the tags of a caller's lines: 1 to the last
-abbrev pub lines_of : List (List Command) → ℕ → List ℕ
-lines_of scripts caller = map (λ numbered. name_of caller numbered.0) (enumerate_from 1 (list_of scripts caller))
-
--- of each caller the tags are its lines, each once, in order, and there are no others
-abbrev pub IsInterleaving : List (List Command) → List ℕ → Type 0
-IsInterleaving scripts tags = (caller : ℕ) → filter (λ tag. tag / 2 ^ 32 == caller) tags ≡ lines_of scripts caller

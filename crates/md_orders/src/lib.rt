@@ -3,8 +3,10 @@
 
 mod fields;
 mod grammar;
+mod parts;
 mod read;
 mod replies;
+mod rooms;
 mod scripts;
 #[cfg(test)]
 mod tests;

@@ -1,82 +1,87 @@
 // Replies: a place for the reply of each line.
-ghost use Rattle.std.specs.Prelude.{◌≡◌, ◌≤◌, length, map, replicate, None, IfOk};
-ghost use Rattle.md_orders.specs.Lists.{lists_in};
-ghost use Rattle.md_orders.specs.Scripts.{list_of};
+ghost use Rattle.std.specs.Prelude.{◌≡◌, IfOk};
+ghost use Rattle.std.specs.Option.{IsSomeAnd};
+ghost use Rattle.md_book.specs.Suits.{Suits};
+ghost use Rattle.md_orders.specs.Scripts.{at_line};
 ghost use Rattle.md_orders.specs.Replies.{no_replies, reply_at, with_reply};
+ghost use Rattle.md_orders.specs.Rooms.{sizes_of, sizes_in, replies_of};
 
-use crate::Scripts;
+use crate::rooms::ReplyRooms;
+use crate::scripts::{Scripts, commands_are_named};
 use md_book::BookReply;
 use std::alloc::{AllocError, Global};
 use std::marker::Model;
+use std::snapshot::Snapshot;
 
-/// A place for the reply of each line. Callers and lines are counted from 1. Contracts see a list of lists.
+/// A place for the reply of each line of some scripts. Callers and lines are counted from 1.
+///
+/// A line has as much memory as a reply to its command can need: eight bytes for each part of a fill or a kill
+/// and for each sum, and some fifteen bytes beside them. All of it is taken when the places are made.
 #[derive(Drop)]
 pub struct Replies {
-    replies: Vec<Vec<Option<BookReply>>>,
+    of: Snapshot<Scripts>,
+    callers: Vec<ReplyRooms>,
 }
 
 impl Model for Replies {
-    ghost use Rattle.std.specs.Prelude.{List, Option};
-    ghost use Rattle.md_book.specs.declared.commands.BookReply.{BookReply};
-    ghost use Rattle.md_orders.specs.Lists.{lists_in};
+    ghost use Rattle.std.specs.Prelude.{◌≡◌};
+    ghost use Rattle.md_orders.specs.Scripts.{AreNamed};
+    ghost use Rattle.md_orders.specs.Replies.{RepliesState};
+    ghost use Rattle.md_orders.specs.Rooms.{sizes_of, sizes_in, replies_of};
 
-    ghost Value = { List (List (Option BookReply)) };
+    ghost Value = { RepliesState };
 
-    ghost view = { λ r. lists_in r.replies.items };
+    ghost view = { λ r. record { scripts = r.of.value; replies = replies_of r.callers.items } };
+
+    // Each line's room is that of its command, which is in range.
+    ghost invariant = { λ r. (sizes_in r.callers.items ≡ sizes_of r.of.value) × AreNamed r.of.value };
 }
 
-// So many places, with no reply.
-fn places(alloc: Global, count: u32) -> Result<Vec<Option<BookReply>>, AllocError>
-    ensures { IfOk result (λ places. places.items ≡ replicate count None) }
-{
-    let mut places = Vec::with_capacity(alloc, count as usize)?;
-    for made in 0..count {
-        places.push(None)?;
-    }
-    Ok(places)
-}
-
-// Places for each script.
-fn all_places(alloc: Global, scripts: &Scripts) -> Result<Vec<Vec<Option<BookReply>>>, AllocError>
-    ensures { IfOk result (λ lists. lists_in lists.items ≡ no_replies scripts.now) }
+// The rooms of each script.
+fn all_rooms(alloc: Global, scripts: &Scripts) -> Result<Vec<ReplyRooms>, AllocError>
+    ensures sizes { IfOk result (λ rooms. sizes_in rooms.items ≡ sizes_of scripts.now) }
+    ensures replies { IfOk result (λ rooms. replies_of rooms.items ≡ no_replies scripts.now) }
 {
     let callers = scripts.callers();
-    let mut lists = Vec::with_capacity(alloc, callers as usize)?;
+    let mut rooms = Vec::with_capacity(alloc, callers as usize)?;
     for before in 0..callers {
-        lists.push(places(alloc, scripts.len(before + 1))?)?;
+        rooms.push(ReplyRooms::empty(alloc, scripts.script(before + 1))?)?;
     }
-    Ok(lists)
+    Ok(rooms)
 }
 
 impl Replies {
     /// The places of scripts, with no reply.
     pub fn empty(alloc: Global, scripts: &Scripts) -> Result<Replies, AllocError>
-        ensures { IfOk result (λ replies. replies ≡ no_replies scripts.now) }
+        ensures { IfOk result (λ r. r ≡ record { scripts = scripts.now; replies = no_replies scripts.now }) }
     {
-        let replies = all_places(alloc, scripts)?;
-        Ok(Replies { replies })
+        let callers = all_rooms(alloc, scripts)?;
+        commands_are_named(scripts);
+        Ok(Replies {
+            of: Snapshot::of(scripts),
+            callers,
+        })
     }
 
-    /// Sets the reply of a line, which has a place.
+    /// Sets the reply of a line, which suits the line's command. It takes no memory.
     pub fn set(&mut self, caller: u32, line: u32, reply: BookReply)
-        requires caller { (1 ≤ caller) × (caller ≤ length self.old) }
-        requires line { (1 ≤ line) × (line ≤ length (list_of self.old caller)) }
-        ensures { self.new ≡ with_reply self.old caller line reply }
+        requires { IsSomeAnd (at_line self.old.scripts caller line) (λ command. Suits (command, reply)) }
+        ensures { self.new ≡ record self.old { replies = with_reply self.old.replies caller line reply } }
     {
-        self.replies[caller as usize - 1][line as usize - 1] = Some(reply);
+        self.callers[caller as usize - 1].set(line as usize - 1, &reply);
     }
 
     /// The reply of a line. None exactly where it has no place, or no reply was set there.
     pub fn get(&self, caller: u32, line: u32) -> Option<BookReply>
-        ensures { result ≡ reply_at self.now caller line }
+        ensures { result ≡ reply_at self.now.replies caller line }
     {
-        if caller == 0 || caller as usize > self.replies.len() || line == 0 {
+        if caller == 0 || caller as usize > self.callers.len() || line == 0 {
             return None;
         }
-        let replies = &self.replies[caller as usize - 1];
-        if line as usize > replies.len() {
+        let rooms = &self.callers[caller as usize - 1];
+        if line as usize > rooms.len() {
             return None;
         }
-        replies[line as usize - 1]
+        rooms.get(line as usize - 1)
     }
 }

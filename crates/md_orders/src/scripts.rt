@@ -75,8 +75,8 @@ impl Scripts {
         Ok(())
     }
 
-    // A caller's script; of a caller that the scripts don't have, an empty one.
-    fn script(&self, caller: u32) -> &[Command]
+    /// A caller's script; of a caller that the scripts don't have, an empty one.
+    pub(crate) fn script(&self, caller: u32) -> &[Command]
         ensures script { result.now ≡ list_of self.now caller }
         ensures few { length result.now ≤ max_records }
         ensures lawful { AreNamed self.now }

@@ -119,7 +119,7 @@ fn answer(
 }
 
 fn script(out: &mut Vec<u8>, replies: &Replies, caller: u32, lines: u32) -> Result<(), AllocError>
-    ensures { OnOk result (out.new.items ≡ out.old.items ++ script_text replies.now caller lines) }
+    ensures { OnOk result (out.new.items ≡ out.old.items ++ script_text replies.now.replies caller lines) }
 {
     for before in 0..lines {
         let line = before + 1;
@@ -129,7 +129,7 @@ fn script(out: &mut Vec<u8>, replies: &Replies, caller: u32, lines: u32) -> Resu
 }
 
 fn scripts(out: &mut Vec<u8>, scripts: &Scripts, replies: &Replies) -> Result<(), AllocError>
-    ensures { OnOk result (out.new.items ≡ out.old.items ++ replies_text scripts.now replies.now) }
+    ensures { OnOk result (out.new.items ≡ out.old.items ++ replies_text scripts.now replies.now.replies) }
 {
     for before in 0..scripts.callers() {
         let caller = before + 1;
@@ -221,7 +221,7 @@ pub fn report(
     contents: &Contents,
 ) -> Result<Vec<u8>, AllocError>
     requires { MAPS ≤ length contents.now.maps }
-    ensures { IfOk result (λ text. (book : Book) → StandsFor contents.now book → text.items ≡ report_text of.now replies.now book) }
+    ensures { IfOk result (λ text. (book : Book) → StandsFor contents.now book → text.items ≡ report_text of.now replies.now.replies book) }
 {
     let mut out = Vec::new(alloc);
     scripts(&mut out, of, replies)?;

@@ -23,7 +23,7 @@ pub record AreDone (n : ℕ) (script : List Command) (es : List Entry) (rs : Lis
   pub did : DidEach es (take (length rs) (drop n script)) rs
   pub named : AreNamedBy (tags_of es) (take (length rs) (drop n script))
 
-take-drop-more : {A : Type 0} (xs : List A) (n k : ℕ) (x : A) → slice_get xs n ≡ Some x → take (suc k) (drop n xs) ≡ x ∷ take k (drop (n + 1) xs)
+pub take-drop-more : {A : Type 0} (xs : List A) (n k : ℕ) (x : A) → slice_get xs n ≡ Some x → take (suc k) (drop n xs) ≡ x ∷ take k (drop (n + 1) xs)
 take-drop-more [] n k x e = cc e
 take-drop-more (y ∷ xs) zero k x e = let same : y ≡ x = cc e in ap (λ z. z ∷ take k xs) same
 take-drop-more (y ∷ xs) (suc n) k x e = let next : suc (n + 1) ≡ suc n + 1 = omega arith in take-drop-more xs n k x e ∙ ap (λ m. x ∷ take k (drop m (y ∷ xs))) next

@@ -120,17 +120,6 @@ pub with_replies-push : (replies : List (List (Option BookReply))) (batch : List
 with_replies-push replies [] n m r at = ap (λ k. with_reply replies 1 k r) (let same : n + 1 ≡ m = omega arith in same)
 with_replies-push replies (s ∷ batch) n m r at = with_replies-push (with_reply replies 1 (n + 1) s) batch (n + 1) m r (at ∙ omega arith)
 
--- a batch leaves the places
-pub record HasPlaces (old new : List (List (Option BookReply))) : Type 0 where
-  pub callers : length new ≡ 1
-  pub places : length (list_of new 1) ≡ length (list_of old 1)
-
-pub places-kept : (batch : List BookReply) (n : ℕ) (replies : List (List (Option BookReply))) → length replies ≡ 1 → HasPlaces replies (with_replies replies 1 n batch)
-places-kept [] n replies one = record { callers = one; places = refl }
-places-kept (r ∷ batch) n replies one =
-    let more = places-kept batch (n + 1) (with_reply replies 1 (n + 1) r) (length-with_reply replies (n + 1) r ∙ one) in
-    record { callers = more.callers; places = more.places ∙ lines-with_reply replies (n + 1) r one }
-
 -- the next reply of a batch was set
 pub batch-more : (before replies new : List (List (Option BookReply))) (batch : List BookReply) (n i m : ℕ) (d : BookReply)
     → new ≡ with_reply replies 1 m (get_or batch i d) → replies ≡ with_replies before 1 n (take i batch) → i < length batch → m ≡ n + i + 1 → new ≡ with_replies before 1 n (take (i + 1) batch)

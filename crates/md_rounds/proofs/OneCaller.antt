@@ -1,5 +1,5 @@
 -- What one caller's lines come to, over an engine whose pass holds all lanes.
-use Rattle.std.proofs.Common.{◌≡◌, ℕ, zero, suc, ◌+◌, ◌<◌, ◌≤◌, ◌^◌, List, [], ◌∷◌, ◌++◌, length, take, drop, Bool, true, cond, Option, refl, false, sym, ap, subst, ◌∙◌, arith, inl, inr}
+use Rattle.std.proofs.Common.{◌≡◌, ℕ, zero, suc, ◌<◌, ◌≤◌, ◌^◌, List, [], ◌∷◌, ◌++◌, length, take, true, Option, refl, false, sym, ap, subst, ◌∙◌, arith, inl, inr}
 use Rattle.std.proofs.Math.Seq.{take-length}
 use Rattle.std.specs.Prelude.{◌==◌, All, Contains, filter}
 use Rattle.std.specs.List.{AllByRecursion}
@@ -18,16 +18,18 @@ use Rattle.md_history.specs.LaneLaws.{contains-either}
 use Rattle.md_history.specs.Engine.{IsFrontFrom, SettlesFrom, empty_front}
 use Rattle.md_book.specs.declared.commands.Command.{Command}
 use Rattle.md_book.specs.declared.commands.BookReply.{BookReply}
-use Rattle.md_book.specs.Book.{Book, empty_book, book_after, replies_to}
+use Rattle.md_book.specs.Book.{Book, empty_book, book_after}
 use Rattle.md_book.specs.Stands.{StandsFor}
 use Rattle.md_book.specs.Trading.{IsDay}
 use Rattle.md_book.specs.Meets.{CommandsMeetTheBook}
 use Rattle.md_orders.specs.Scripts.{list_of, at_line, AreNamed}
+use Rattle.md_orders.specs.Replies.{RepliesState}
 use Rattle.md_many.specs.Tags.{tags_after, IsInterleaving}
 use Rattle.md_many.specs.Lines.{PlaysLines}
 use Rattle.md_many.proofs.TagLaws.{filter-tags_after, lines-tags, lines-length}
 use Rattle.md_many.proofs.Playing.{played-none, plays}
 use Rattle.md_many.proofs.Joining.{committed_on-more}
+use Rattle.md_many.proofs.Following.{plays-then}
 use Rattle.md_rounds.specs.OrderLines.{did_command, line_count_of}
 use Rattle.md_rounds.specs.Replay.{tags_of, committed_of, commands_of, DidEach, RepliedEach, IsPlayed, no_orders}
 use Rattle.md_rounds.proofs.Names.{AreDifferent, apart-none}
@@ -71,14 +73,23 @@ interleaving scripts one few caller = filter-tags_after 1 caller 0 (line_count_o
 ]
 
 -- the one caller's first lines were played, and their replies are kept
-pub record ArePlayed (scripts : List (List Command)) (lanes : List ℕ) (f : Front) (done : ℕ) (replies : List (List (Option BookReply))) : Type 0 where
+pub record ArePlayed (scripts : List (List Command)) (lanes : List ℕ) (f : Front) (done : ℕ) (replies : RepliesState) : Type 0 where
   pub list : List BookReply
+  pub of : replies.scripts ≡ scripts
   pub count : done ≡ length list
   pub plays : PlaysLines did_command (at_line scripts) 1 0 lanes (empty_front lanes) f list
-  pub kept : AreKept scripts list replies
+  pub kept : AreKept scripts list replies.replies
 
 pub plays-none : (scripts : List (List Command)) (lanes : List ℕ) → PlaysLines did_command (at_line scripts) 1 0 lanes (empty_front lanes) (empty_front lanes) []
 plays-none scripts lanes = plays did_command (at_line scripts) 1 0 (empty_front lanes) 0 (empty_front lanes) [] (played-none did_command (at_line scripts) 1 0 (empty_front lanes))
+
+-- the lines that were played, with those of a batch
+pub plays-more : (scripts : List (List Command)) (lanes : List ℕ) (start : State) (f g : Front) (done : ℕ) (replies : RepliesState) (was : ArePlayed scripts lanes f done replies) (batch : List BookReply)
+    → IsFrontFrom start lanes f → f.lanes ≡ lanes → PlaysLines did_command (at_line scripts) 1 done f.lanes f g batch
+    → PlaysLines did_command (at_line scripts) 1 0 lanes (empty_front lanes) g (was.list ++ batch)
+plays-more scripts lanes start f g done replies was batch is holds plays =
+    plays-then did_command (at_line scripts) 1 0 done lanes (empty_front lanes) f g was.list batch was.plays (omega (arith, was.count))
+    (subst (λ ls. PlaysLines did_command (at_line scripts) 1 done ls f g batch) holds plays) is.legal.fated
 
 -- what was played so far: from the empty front on these lanes played the caller's first lines
 module _ (scripts : List (List Command)) (named : AreNamed scripts) (one : length scripts ≡ 1) (few : line_count_of scripts 1 < 2 ^ 32) (law : CommandsMeetTheBook) (none : StandsFor no_orders empty_book)

@@ -1,15 +1,14 @@
 // The whole script of one caller, in one round.
-ghost use Rattle.std.specs.Prelude.{◌≡◌, ◌<◌, ◌≤◌, ◌+◌, ◌^◌, ◌∷◌, [], length, IfOk};
+ghost use Rattle.std.specs.Prelude.{◌≡◌, ◌<◌, ◌+◌, ◌^◌, ◌∷◌, [], length, IfOk};
 ghost use Rattle.md_history.specs.Engine.{empty_front};
 ghost use Rattle.md_book.specs.Book.{Book};
 ghost use Rattle.md_book.specs.Stands.{StandsFor};
-ghost use Rattle.md_orders.specs.Scripts.{list_of};
 ghost use Rattle.md_many.specs.Lines.{StopsForMemory};
-ghost use Rattle.md_rounds.specs.Kept.{with_replies};
+ghost use Rattle.md_rounds.specs.Kept.{AllSuit, with_replies};
 ghost use Rattle.md_rounds.specs.Replay.{IsPlayed, no_orders};
 
 use crate::order_lines::OrderLines;
-use md_book::{BookReply, commands_meet_the_book, empty_book_stands};
+use md_book::{BookReply, commands_meet_the_book, empty_book_stands, replies_suit};
 use md_history::{Contents, Engine, Front, pass_is_legal};
 use md_many::{FreeGate, Turn, attempt_lines};
 use md_orders::{Replies, Scripts, commands_are_named};
@@ -28,10 +27,9 @@ pub struct Played<P> {
 
 // Keeps the replies of the one caller's lines that come after the first `done`.
 fn keep(replies: &mut Replies, done: u32, batch: &[BookReply])
-    requires one { length replies.old ≡ 1 }
-    requires places { done + length batch.now ≤ length (list_of replies.old 1) }
+    requires suit { AllSuit replies.old.scripts 1 done batch.now }
     requires few { done + length batch.now < 2 ^ 32 }
-    ensures { replies.new ≡ with_replies replies.old 1 done batch.now }
+    ensures { replies.new ≡ record replies.old { replies = with_replies replies.old.replies 1 done batch.now } }
 {
     let mut line = done;
     'replies: for reply in batch {
@@ -53,11 +51,12 @@ pub fn play_alone<E: Engine>(
     requires front { E.front pass ≡ empty_front (E.lanes engine) }
     requires start { E.start engine ≡ no_orders }
     requires steady { StopsForMemory (E.may_stop engine) }
-    ensures { IfOk result (λ p. (book : Book) × StandsFor p.contents book × IsPlayed scripts.now (E.front p.front ∷ []) p.replies book) }
+    ensures { IfOk result (λ p. (book : Book) × StandsFor p.contents book × IsPlayed scripts.now (E.front p.front ∷ []) p.replies.replies book) }
 {
     commands_meet_the_book();
     empty_book_stands();
     commands_are_named(scripts);
+    replies_suit();
     let lines = OrderLines { scripts };
     let count = scripts.len(1);
     let mut pass = pass;

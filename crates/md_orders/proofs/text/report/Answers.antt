@@ -7,7 +7,7 @@ use Rattle.md_orders.proofs.text.report.Goals as goal
 pub returns : goal.returns
 returns c = λ b stands.
     let contents = c.args.contents.now in
-    texts_joined _ _ _ _ _ _ (replies_text c.args.of.now c.args.replies.now) (levels_text Buy b) (levels_text Sell b) (accounts_text b) _
+    texts_joined _ _ _ _ _ _ (replies_text c.args.of.now c.args.replies.now.replies) (levels_text Buy b) (levels_text Sell b) (accounts_text b) _
     c.new-out.ensures.items c.in_ok-scripts.ensures
     (c.in_ok-levels.ensures ∙ ap (λ t. c.scripts.new.out.items ++ t) (levels-stand contents b Buy stands))
     (c.in_ok-levels-2.ensures ∙ ap (λ t. c.levels.new.out.items ++ t) (levels-stand contents b Sell stands))

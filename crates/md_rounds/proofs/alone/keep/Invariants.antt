@@ -5,5 +5,6 @@ use Rattle.md_rounds.proofs.alone.keep.Given as goal
 abbrev pub invariant-replies : goal.invariant-replies
 invariant-replies l = record {
   line : l.line ≡ l.done + l.reply-index;
-  kept : l.replies ≡ with_replies l.fn.replies 1 l.done (take l.reply-index l.batch);
+  scripts : l.replies.scripts ≡ l.fn.replies.scripts;
+  kept : l.replies.replies ≡ with_replies l.fn.replies.replies 1 l.done (take l.reply-index l.batch);
 }

@@ -1,11 +1,7 @@
-use Rattle.std.proofs.Common.{◌≡◌, ◌≤◌, ◌-◌, ◌+◌, ◌++◌, [], List, length, vec_capacity}
-use Rattle.md_book.specs.declared.commands.BookReply.{BookReply}
+use Rattle.std.proofs.Common.{◌≡◌, ◌≤◌, ◌-◌, [], length, vec_capacity}
 use Rattle.md_history.specs.Engine.{IsFrontFrom}
-use Rattle.md_orders.specs.Scripts.{list_of, at_line}
-use Rattle.md_many.specs.Lines.{PlaysLines}
-use Rattle.md_rounds.specs.OrderLines.{did_command}
+use Rattle.md_orders.specs.Scripts.{list_of}
 use Rattle.md_rounds.specs.declared.alone.TheConstants.{BATCH}
-use Rattle.md_rounds.proofs.Keeping.{AreKept}
 use Rattle.md_rounds.proofs.OneCaller.{ArePlayed}
 use Rattle.md_rounds.proofs.alone.play_alone.Given as goal
 

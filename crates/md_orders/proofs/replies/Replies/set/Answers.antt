@@ -1,26 +1,30 @@
-use Rattle.std.proofs.Common.{◌∙◌, List, Option, Some, length, ap, sym, refl, arith}
-use Rattle.md_book.specs.declared.commands.BookReply.{BookReply}
-use Rattle.md_orders.specs.Lists.{lists_in}
-use Rattle.md_orders.specs.Scripts.{list_of, with_list, with_line}
-use Rattle.md_orders.proofs.ByCaller.{items-list_of, length-lists_in, lists_in-set, with_line-at}
+use Rattle.std.proofs.Common.{◌∙◌, ap, sym, subst, refl}
+use Rattle.std.specs.Option.{IsSomeAnd}
+use Rattle.md_book.specs.Suits.{Suits}
+use Rattle.md_orders.specs.Scripts.{at_line}
+use Rattle.md_orders.specs.Replies.{RepliesState, with_reply}
+use Rattle.md_orders.proofs.Placed.{IsPlaceOf, place-of, map-same, replies-set}
 use Rattle.md_orders.proofs.replies.Replies.set.Goals as goal
 
-pub index_mut-requires-2 : goal.index_mut-requires-2
-index_mut-requires-2 c =
-    let size = length-lists_in _ _ c.self.view_is in
-    let (low, high) = c.requires.caller in
-    let (line_low, line_high) = c.requires.line in
-    let found = items-list_of _ c.args.self.now c.args.caller _ _ c.self.view_is low (omega arith) refl c.index_mut.ensures.value in
-    let same = ap length found in
-    let whole = c.index_mut.result.now.ok.0 in
-    omega arith
+-- the line has a place
+place : (c : goal.After-reply-1) → IsPlaceOf c.self.inside.callers.items c.args.caller c.args.line c.args.reply
+place c = place-of _ c.self.inside.of.value _ _ _ c.self.invariant.0 c.self.invariant.1
+    (subst (λ (s : RepliesState). IsSomeAnd (at_line s.scripts c.args.caller c.args.line) (λ command. Suits (command, c.args.reply))) (sym c.self.view_is) c.requires)
+
+pub set-requires-clause-there : goal.set-requires-clause-there
+set-requires-clause-there c = (place c).line_high _ c.index_mut.ensures.value
+
+pub set-requires-clause-room : goal.set-requires-clause-room
+set-requires-clause-room c = (place c).room _ c.index_mut.ensures.value
+
+pub invariant_of-self : goal.invariant_of-self
+invariant_of-self c =
+    (map-same (λ s. s.sizes) c.self.inside.callers.items _ c.index_mut.result.now c.set.new.self c.index_mut.ensures.value (ap (λ s. s.sizes) c.set.ensures) ∙ c.self.invariant.0, c.self.invariant.1)
 
 pub returns : goal.returns
 returns c =
-    let size = length-lists_in _ _ c.self.view_is in
-    let (low, high) = c.requires.caller in
-    let (line_low, line_high) = c.requires.line in
-    let found = items-list_of _ c.args.self.now c.args.caller _ _ c.self.view_is low (omega arith) refl c.index_mut.ensures.value in
-    lists_in-set _ c.args.caller _ _ low refl
-    ∙ ap (λ (list : List (Option BookReply)). with_list (lists_in c.self.inside.replies.items) c.args.caller list) (sym (with_line-at c.index_mut.result.now.items c.args.line _ (Some c.args.reply) line_low refl) ∙ ap (λ (list : List (Option BookReply)). with_line list c.args.line (Some c.args.reply)) found)
-    ∙ ap (λ (ls : List (List (Option BookReply))). with_list ls c.args.caller (with_line (list_of c.args.self.now c.args.caller) c.args.line (Some c.args.reply))) c.self.view_is
+    let at = place-of _ c.self.inside.of.value _ c.args.line c.args.reply c.self.invariant.0 c.self.invariant.1
+    (subst (λ (s : RepliesState). IsSomeAnd (at_line s.scripts c.args.caller c.args.line) (λ command. Suits (command, c.args.reply))) (sym c.self.view_is) c.requires) in
+    let replies = replies-set c.self.inside.callers.items c.args.caller c.args.line _ _ c.index_mut.result.now c.set.new.self c.args.reply at.caller_low at.caller_high refl at.line_low refl c.index_mut.ensures.value c.set.ensures in
+    ap (λ rs. record { scripts = c.self.inside.of.value; replies = rs }) replies
+    ∙ ap (λ (s : RepliesState). record s { replies = with_reply s.replies c.args.caller c.args.line c.args.reply }) c.self.view_is

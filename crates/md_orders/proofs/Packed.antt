@@ -1,0 +1,65 @@
+-- Parts in numbers, and what comes of them again.
+use Rattle.std.proofs.Common.{◌≡◌, ◌<◌, ◌+◌, ◌-◌, ◌*◌, ◌/◌, ◌%◌, ◌^◌, ◌∙◌, ◌++◌, ℕ, suc, List, [], ◌∷◌, All, length, map, take, drop, get_or, set, replicate, refl, sym, ap, arith, append_assoc, length-append}
+use Rattle.std.specs.Prelude.{min}
+use Rattle.std.proofs.lemmas.Grind.{take_at_read}
+use Rattle.std.proofs.lemmas.List.{length-map, length-replicate, length-take, length-take-le, set-append_right, map-append}
+use Rattle.std.proofs.lemmas.List.Elements.{All-head, All-tail}
+use Rattle.md_book.specs.declared.commands.Part.{Part}
+use Rattle.md_book.specs.declared.limits.TheConstants.{MAX_PARTS}
+use Rattle.md_book.specs.Book.{padded}
+use Rattle.md_book.specs.Suits.{IsPart}
+use Rattle.md_orders.specs.Rooms.{IsFilled, part_number, part_in, parts_in}
+
+-- a part's number is that part again
+part-back : (p : Part) → IsPart p → part_in (part_number p) ≡ p
+part-back p ok =
+    let caller = ok.named.caller_high in
+    let line = ok.named.line_high in
+    let taken = ok.high in
+    let n = part_number p in
+    let low : n % 2 ^ 20 ≡ p.taken = omega arith in
+    let high : n / 2 ^ 20 ≡ p.name / 2 ^ 32 * 2 ^ 20 + p.name % 2 ^ 32 = omega arith in
+    let line_is : n / 2 ^ 20 % 2 ^ 20 ≡ p.name % 2 ^ 32 = omega arith in
+    let caller_is : n / 2 ^ 40 ≡ p.name / 2 ^ 32 = omega arith in
+    let name_is : n / 2 ^ 40 * 2 ^ 32 + n / 2 ^ 20 % 2 ^ 20 ≡ p.name = omega arith in
+    rw (name_is, low) refl
+
+-- and so are those of more parts
+parts-back : (ps : List Part) → All IsPart ps → map part_in (map part_number ps) ≡ ps
+parts-back [] ok = refl
+parts-back (p ∷ ps) ok = ap (λ q. q ∷ map part_in (map part_number ps)) (part-back p (All-head IsPart p ps ok)) ∙ ap (λ qs. p ∷ qs) (parts-back ps (All-tail IsPart p ps ok))
+
+-- so the parts that a room keeps are those that were put there
+pub parts-kept : (count : ℕ) (parts : List Part) (room : List ℕ) → IsFilled count parts
+    → take (length (take count parts)) (drop 1 room) ≡ map part_number (take count parts) → parts_in count room ≡ parts
+parts-kept count parts room filled kept =
+    let few = filled.few in
+    let zero_part : Part = record { name = 0; taken = 0 } in
+    let short = length-take count parts in
+    let whole : length parts ≡ length (take count parts) + length (replicate (MAX_PARTS - length (take count parts)) zero_part) = ap length filled.zeros ∙ length-append (take count parts) (replicate (MAX_PARTS - length (take count parts)) zero_part) in
+    let padding = length-replicate (MAX_PARTS - length (take count parts)) zero_part in
+    let told : length (take count parts) ≡ count = omega arith in
+    let least : min count MAX_PARTS ≡ count = omega arith in
+    ap (λ n. padded (map part_in (take n (drop 1 room)))) (least ∙ sym told)
+    ∙ ap (λ ns. padded (map part_in ns)) kept
+    ∙ ap padded (parts-back (take count parts) filled.in_range)
+    ∙ sym filled.zeros
+
+-- one part more
+pub parts-more : (numbers : List ℕ) (place : ℕ) → place < length numbers → place < MAX_PARTS
+    → set (padded (map part_in (take place numbers))) place (part_in (get_or numbers place 0)) ≡ padded (map part_in (take (place + 1) numbers))
+parts-more numbers place inside room =
+    let zero_part : Part = record { name = 0; taken = 0 } in
+    let xs = map part_in (take place numbers) in
+    let y = part_in (get_or numbers place 0) in
+    let size : length xs ≡ place = length-map (take place numbers) part_in ∙ length-take-le place numbers (omega arith) in
+    let more : xs ++ y ∷ [] ≡ map part_in (take (place + 1) numbers) = sym (ap (map part_in) (take_at_read numbers place 0 inside).1 ∙ map-append part_in (take place numbers) (get_or numbers place 0 ∷ [])) in
+    let count : MAX_PARTS - length xs ≡ suc (MAX_PARTS - (place + 1)) = omega arith in
+    let left : MAX_PARTS - length (xs ++ y ∷ []) ≡ MAX_PARTS - (place + 1) = omega (arith, ap length more, length-append xs (y ∷ [])) in
+    let none : place - place ≡ 0 = omega arith in
+    set-append_right xs (replicate (MAX_PARTS - length xs) zero_part) place place y size (omega arith)
+    ∙ ap (λ k. xs ++ set (replicate (MAX_PARTS - length xs) zero_part) k y) none
+    ∙ ap (λ n. xs ++ set (replicate n zero_part) 0 y) count
+    ∙ sym (append_assoc xs (y ∷ []) (replicate (MAX_PARTS - (place + 1)) zero_part))
+    ∙ ap (λ n. xs ++ y ∷ [] ++ replicate n zero_part) (sym left)
+    ∙ ap padded more

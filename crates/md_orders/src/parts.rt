@@ -1,0 +1,33 @@
+// A part of a fill in one number.
+ghost use Rattle.std.specs.Prelude.{◌≡◌};
+ghost use Rattle.md_book.specs.Suits.{IsPart};
+ghost use Rattle.md_orders.specs.Rooms.{part_number, part_in};
+
+use md_book::Part;
+
+// The caller and the line stand in a name with this factor between them, and in a number with that.
+const NAME_LINES: u64 = 0x1_0000_0000;
+
+const NUMBER_LINES: u64 = 0x10_0000;
+
+/// The number of a part, whose caller, line and quantity are in range.
+pub(crate) fn part_number(part: &Part) -> u64
+    requires { IsPart part.now }
+    ensures { result ≡ part_number part.now }
+{
+    let caller = part.name / NAME_LINES;
+    let line = part.name % NAME_LINES;
+    (caller * NUMBER_LINES + line) * NUMBER_LINES + u64::from(part.taken)
+}
+
+/// The part that a number is.
+pub(crate) fn part_in(number: u64) -> Part
+    ensures { result ≡ part_in number }
+{
+    let caller = number / (NUMBER_LINES * NUMBER_LINES);
+    let line = number / NUMBER_LINES % NUMBER_LINES;
+    Part {
+        name: caller * NAME_LINES + line,
+        taken: (number % NUMBER_LINES) as u32,
+    }
+}
