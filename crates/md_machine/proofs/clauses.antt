@@ -39,3 +39,4 @@ pub mod HandKnows
 pub mod MineParts
 pub mod Mine
 pub mod OwnInstalls
+pub mod OwnSerials

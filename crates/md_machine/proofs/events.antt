@@ -8,3 +8,4 @@ pub mod Attempts
 pub mod MoveFacts
 pub mod Tell
 pub mod UninstallValue
+pub mod Holders

@@ -23,6 +23,7 @@ use Rattle.md_machine.specs.clauses.Numbered.{EntriesNumbered}
 use Rattle.md_machine.specs.clauses.OddWords.{OddStand}
 use Rattle.md_machine.specs.clauses.OldSlots.{OldSlotsStand}
 use Rattle.md_machine.specs.clauses.OwnInstalls.{OwnInstallsShown}
+use Rattle.md_machine.specs.clauses.OwnSerials.{OwnSerialsMet}
 use Rattle.md_machine.specs.clauses.Placed.{PlacedStay}
 use Rattle.md_machine.specs.clauses.Reads.{ReadsShow}
 use Rattle.md_machine.specs.clauses.Serials.{EntriesInTurn}
@@ -53,6 +54,7 @@ pub record IsKept (m : Machine) : Type 0 where
   pub node_words : NodeWordsStand m
   pub won_installs : WonAreInstalls m
   pub own_installs : OwnInstallsShown m
+  pub own_serials : OwnSerialsMet (shape_of m) m.words m.passes
   pub entry_slots : EntriesKeepSlots m
   pub in_hand : HandsLast m
   pub stores : StoresAgree m

@@ -27,3 +27,4 @@ pub mod Statuses
 pub mod Brackets
 pub mod OldSlots
 pub mod OwnInstalls
+pub mod OwnSerials

@@ -3,10 +3,12 @@ use Rattle.std.proofs.Common.{◌≢◌, ◌≡◌, ℕ, ◌<◌, ◌≤◌, ◌
 use Rattle.std.specs.List.{Contains, AllPairs}
 use Rattle.std.proofs.lemmas.List.Elements.{Contains-push_cases, All-contains}
 use Rattle.std.specs.Prelude.{All}
+use mathlib.Core.Option.{some}
+use lib.ListN.{get_elem?}
 use Rattle.md_words.specs.declared.limits.TheConstants.{SET}
 use Rattle.md_words.specs.Content.{count_of, is_even}
 use Rattle.md_words.specs.Place.{desc_status}
-use Rattle.md_words.specs.Status.{status_of}
+use Rattle.md_words.specs.Status.{status_of, serial_of}
 use Rattle.md_words.specs.Layout.{address, desc_count}
 use Rattle.md_words.specs.PlaceAt.{place_at, IsCounted}
 use Rattle.md_history.specs.Front.{IsPrefix}
@@ -111,6 +113,10 @@ pub record StoredHere (m : Machine) (passes : List PassView) (s : Step) (word de
 abbrev pub InstallsMade : (m n : Machine) (s : Step) (word new : ℕ) → Type 0
 InstallsMade m n s word new = (i : Install) → Contains n.installs i → Contains m.installs i ⊎ InstallsHere m s n.passes word i
 
+-- whoever holds the lane of the descriptor has the step in its last segment
+abbrev pub IsWithHolder : Machine → List PassView → (desc : ℕ) → Step → Type 0
+IsWithHolder m passes desc s = (pass : ℕ) (p : PassView) → get_elem? passes pass ≡ some p → HasDesc (shape_of m) p desc → Contains p.trail s
+
 -- from one machine to another: one word is left as it may, and one step is added
 pub record MoveFacts (m n : Machine) : Type 0 where
   pub pass : ℕ
@@ -147,6 +153,8 @@ pub record MoveFacts (m n : Machine) : Type 0 where
   pub truth : TellsTruth (shape_of m) n.words step
   -- a store leaves no status decided
   pub store : is_store kind ≡ true → (desc : ℕ) → desc < desc_count (shape_of m) → word ≡ address (shape_of m) (desc_status desc) → IsDecided (status_of new) → ⊥
+  -- a serial changes by a step of the pass that holds the lane
+  pub serial : (desc : ℕ) → desc < desc_count (shape_of m) → word ≡ address (shape_of m) (desc_status desc) → (serial_of new ≡ serial_of (content m word)) ⊎ IsWithHolder m n.passes desc step
   pub fates : FatesGo m n p kind word new
 
 -- whatever it was made for is in hand

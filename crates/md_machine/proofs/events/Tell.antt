@@ -12,25 +12,29 @@ use Rattle.md_machine.specs.declared.node.PlacedNode.{PlacedNode}
 use Rattle.md_words.specs.declared.shape.Shape.{Shape}
 use Rattle.md_words.specs.declared.status.Status.TheVariants.{InPrep, InProg, Committed, Aborted}
 use Rattle.md_words.specs.Content.{count_of, is_even}
-use Rattle.md_words.specs.Status.{serial_of, status_of}
+use Rattle.md_words.specs.Status.{reads_of, serial_of, status_of}
 use Rattle.md_words.specs.Place.{Place, base_word, bucket_head, queue_head, queue_tail, node_key, node_value, node_next, desc_status, read_word, read_content, slot_word, slot_old, slot_new, is_counted}
 use Rattle.md_words.specs.Layout.{desc_count, address}
 use Rattle.md_words.specs.PlaceAt.{place_at, IsCounted}
 use Rattle.md_words.proofs.Places.{place_at-address}
-use Rattle.md_words.proofs.Words.{status_of-status_word}
+use Rattle.md_words.proofs.Words.{reads_of_below, serial_of-status_word, status_of-status_word}
 use Rattle.md_history.specs.Front.{is_lane_of}
 use Rattle.md_machine.specs.declared.attempt.AttemptId.{AttemptId}
 use Rattle.md_machine.specs.declared.step.Step.{Step}
 use Rattle.md_machine.specs.declared.step.Kind.{Kind}
 use Rattle.md_machine.specs.declared.step.Kind.TheVariants.{Load, Store, Install as Installs, Exchange, Ready, Commit, Abort, Uninstall, Start}
 use Rattle.md_machine.specs.declared.pass.PassView.{PassView}
+use mathlib.Core.Option.{some}
+use lib.ListN.{get_elem?}
+use Rattle.md_machine.proofs.clauses.LanesApart.{one_owner}
 use Rattle.md_machine.proofs.clauses.Statuses.{not_both}
+use Rattle.md_machine.proofs.lists.At.{at_set}
 use Rattle.md_machine.proofs.events.InstallSteps.{InstallsHere, installs_here}
 use Rattle.md_machine.proofs.events.Leaves.{abort_moves, commit_moves, decide_changes, exchange_changes, exchange_even, install_changes, ready_changes, start_changes, status_uncounted, store_changes, store_even, store_was_even, uninstall_changes, uninstall_even}
-use Rattle.md_machine.proofs.events.MoveFacts.{Enters, InstallsMade, MoveFacts, StoredHere, Uninstalls}
-use Rattle.md_machine.proofs.events.Moves.{Effect, Moves, PassesGo, ViewGoes, WinsFate, WinsInstall, by_exchange, by_fate, by_install, by_ready, by_start, by_stay, by_store, by_uninstall, goes_on, is_joined, is_split, own_exists}
+use Rattle.md_machine.proofs.events.MoveFacts.{Enters, InstallsMade, IsWithHolder, MoveFacts, StoredHere, Uninstalls}
+use Rattle.md_machine.proofs.events.Moves.{Effect, Moves, PassesGo, Starts, ViewGoes, WinsFate, WinsInstall, by_exchange, by_fate, by_install, by_ready, by_start, by_stay, by_store, by_uninstall, goes_on, is_joined, is_split, own_exists}
 use Rattle.md_machine.proofs.events.Steps.{PassesFrom, join_from, set_from, split_from}
-use Rattle.md_machine.proofs.events.Truth.{Truth, counted_truth, load_truth, status_truth, store_truth}
+use Rattle.md_machine.proofs.events.Truth.{Truth, counted_truth, load_truth, same_desc, status_truth, store_truth}
 use Rattle.md_machine.proofs.events.WordChanges.{Changes, MayLeave}
 use Rattle.md_machine.proofs.fates.Knowing.{TellsTruth}
 use Rattle.md_machine.proofs.lists.Differ.{no_pairs, pairs_head, pairs_tail}
@@ -41,7 +45,7 @@ use Rattle.md_machine.specs.GoesOn.{moves_to}
 use Rattle.md_machine.specs.Installs.{IsUndecided, spot_of_install}
 use Rattle.md_machine.specs.Machine.{Install, IsAt, Machine, content, shape_of}
 use Rattle.md_machine.specs.Meaning.{Meaning}
-use Rattle.md_machine.specs.Own.{IsDataOf, IsOwnNode}
+use Rattle.md_machine.specs.Own.{HasDesc, IsDataOf, IsOwnNode}
 use Rattle.md_machine.specs.Resolution.{never_placed}
 use Rattle.md_machine.specs.Stepping.{attempt_in_hand, step_of}
 use Rattle.md_machine.specs.Trail.{is_store}
@@ -383,6 +387,32 @@ module _ (M : Meaning) (m n : Machine) (f : AreFormats (shape_of m) m.words) (ap
   stores_undecided (by_start x) store desc exists there decided =
       not_both (status_of v.new) (inl (ap status_of x.is ∙ status_of-status_word InPrep 0 (serial_of x.from + 1))) decided
 
+  -- the pass that starts a descriptor holds its lane, and no other does
+  started : (desc : ℕ) → desc < desc_count (shape_of m) → v.word ≡ address (shape_of m) (desc_status desc) → (x : Starts m n v.p v.kind v.word v.new) → IsWithHolder m n.passes desc v.step
+  started desc exists there x j u u_at own =
+      let is : x.desc ≡ desc = same_desc x.desc desc (sym (place_at-address (shape_of m) (desc_status x.desc) (own_exists m v.p x.desc x.may.own)) ∙ ap (place_at (shape_of m)) (sym x.there ∙ there) ∙ place_at-address (shape_of m) (desc_status desc) exists) in
+      let g = no_load m n v.pass v.p v.step (λ k. no_start (sym k ∙ ap (λ (s : Step). s.kind) v.is_step ∙ x.by)) v.passes in
+      ⊎_elim
+      (λ e. subst (λ l. Contains l v.step) (sym g.view.trail ∙ ap (λ (w : PassView). w.trail) e.1) (Contains-push v.p.trail v.step))
+      (λ o. absurd (o.0 (one_owner (shape_of m) m.passes j v.pass u v.p desc apart o.1 v.acts.at own (subst (HasDesc (shape_of m) v.p) is x.may.own))))
+      (at_set m.passes v.pass j g.q u (subst (λ l. get_elem? l j ≡ some u) g.is u_at))
+    where
+      no_start : Load ≡ Start → ⊥
+      no_start e = cc
+
+  serial_left : Effect M m n v.p v.kind v.word v.new → (desc : ℕ) → desc < desc_count (shape_of m) → v.word ≡ address (shape_of m) (desc_status desc)
+      → (serial_of v.new ≡ serial_of (content m v.word)) ⊎ IsWithHolder m n.passes desc v.step
+  serial_left (by_stay x) desc exists there = inl (ap serial_of x.same)
+  serial_left (by_store x) desc exists there =
+      absurd (subst (MayStoreAt m v.p x.hand.attempt (content m v.word) v.new) (ap (place_at (shape_of m)) there ∙ place_at-address (shape_of m) (desc_status desc) exists) x.may.place)
+  serial_left (by_install x) desc exists there = absurd (uncounted desc there exists x.may.counted)
+  serial_left (by_exchange x) desc exists there = absurd (uncounted desc there exists x.may.counted)
+  serial_left (by_ready x) desc exists there = let few = x.may.few in
+      inl (ap serial_of x.is ∙ serial_of-status_word InProg x.count x.hand.attempt.serial (omega (arith, few)) ∙ sym (ap serial_of x.was ∙ serial_of-status_word InPrep 0 x.hand.attempt.serial (omega arith)))
+  serial_left (by_fate x) desc exists there = inl (ap serial_of x.is ∙ serial_of-status_word x.status (reads_of x.from) (serial_of x.from) (reads_of_below x.from) ∙ ap serial_of (sym x.was))
+  serial_left (by_uninstall x) desc exists there = absurd (uncounted desc there exists x.may.counted)
+  serial_left (by_start x) desc exists there = inr (started desc exists there x)
+
   pub tell : MoveFacts m n
   tell = record {
     pass = v.pass;
@@ -411,5 +441,6 @@ module _ (M : Meaning) (m n : Machine) (f : AreFormats (shape_of m) m.words) (ap
     data_word = data_left v.effect;
     truth = tells_truth v.effect;
     store = stores_undecided v.effect;
+    serial = serial_left v.effect;
     fates = ⊎_elim (λ x. inl (record { left = x.0; history = x.1; fates = x.2 })) inr (plainly ⊥ v.effect);
   }
