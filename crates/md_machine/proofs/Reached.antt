@@ -125,6 +125,7 @@ module _ (M : Meaning) where
     stores = λ pass p at a now word held entry l. absurd (no_steps o.shape l.store.step (pass, p, at, (l.store.earlier ++ l.store.step ∷ l.store.later, l.store.segment, Contains-append_right l.store.earlier (l.store.step ∷ l.store.later) l.store.step (here l.store.step l.store.later))));
     won_installs = λ pass p at segment c s i. absurd (no_steps o.shape s (pass, p, at, (segment, c, i)));
     own_serials = λ pass p at desc own. inl (ap serial_of (can.descs _ (status_late o.shape desc) ∙ zero_begins) ∙ serial_of-status_word InPrep 0 0 (omega arith));
+    own_nodes = λ pass p at e c. absurd (in_none e c);
     loads = λ pass p at segment c. subst (InPairs (LoadStands o.shape o.words [])) (first_segment o.shape p segment (at_one (first_pass o.shape) p pass at).1 c) tt;
     moved_reads = λ e c. absurd (in_none e c);
     found_reads = λ pass p at segment c. subst (InPairs (ReadFound o.shape [])) (first_segment o.shape p segment (at_one (first_pass o.shape) p pass at).1 c) tt;

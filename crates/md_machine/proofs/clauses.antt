@@ -40,3 +40,4 @@ pub mod MineParts
 pub mod Mine
 pub mod OwnInstalls
 pub mod OwnSerials
+pub mod OwnNodes

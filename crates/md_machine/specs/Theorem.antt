@@ -23,6 +23,7 @@ use Rattle.md_machine.specs.clauses.Numbered.{EntriesNumbered}
 use Rattle.md_machine.specs.clauses.OddWords.{OddStand}
 use Rattle.md_machine.specs.clauses.OldSlots.{OldSlotsStand}
 use Rattle.md_machine.specs.clauses.OwnInstalls.{OwnInstallsShown}
+use Rattle.md_machine.specs.clauses.OwnNodes.{OwnNodesSeen}
 use Rattle.md_machine.specs.clauses.OwnSerials.{OwnSerialsMet}
 use Rattle.md_machine.specs.clauses.Placed.{PlacedStay}
 use Rattle.md_machine.specs.clauses.Reads.{ReadsShow}
@@ -55,6 +56,7 @@ pub record IsKept (m : Machine) : Type 0 where
   pub won_installs : WonAreInstalls m
   pub own_installs : OwnInstallsShown m
   pub own_serials : OwnSerialsMet (shape_of m) m.words m.passes
+  pub own_nodes : OwnNodesSeen (shape_of m) m.history m.passes
   pub entry_slots : EntriesKeepSlots m
   pub in_hand : HandsLast m
   pub stores : StoresAgree m

@@ -28,3 +28,4 @@ pub mod Brackets
 pub mod OldSlots
 pub mod OwnInstalls
 pub mod OwnSerials
+pub mod OwnNodes

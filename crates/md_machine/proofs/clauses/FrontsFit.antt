@@ -22,7 +22,7 @@ use Rattle.md_machine.specs.clauses.Fronts.{FrontFits, FrontsFit}
 use Rattle.md_machine.specs.events.SplitJoin.{joined_lanes, longer, spent}
 
 -- two first parts of one list: the longer one has what the shorter one has
-within_longer : {A : Type 0} (xs ys h : List A) (x : A) → IsPrefix xs h → IsPrefix ys h → length xs ≤ length ys → Contains xs x → Contains ys x
+pub within_longer : {A : Type 0} (xs ys h : List A) (x : A) → IsPrefix xs h → IsPrefix ys h → length xs ≤ length ys → Contains xs x → Contains ys x
 within_longer xs ys h x a b le (k, inside, is) = (
   k,
   omega (arith, inside, le),

@@ -56,7 +56,7 @@ module _ (m n : Machine) (v : MoveFacts m n) (fronts : FrontsFit (shape_of m) m.
   one_learns q (learns same seen known) = subst (MoreDecided v.p.known) (sym known) (steps m v.p v.step)
   one_learns q (sees_all seen known _ _) = subst (MoreDecided v.p.known) (sym known) (more_stay v.p.known n.fates (all_stay-trans v.p.known m.fates n.fates (fronts v.pass v.p v.at).known stay))
 
-  learns_from : PassesGo m n v.pass v.p v.step → LearnsFrom m.passes n.passes
+  pub learns_from : PassesGo m n v.pass v.p v.step → LearnsFrom m.passes n.passes
   learns_from (goes_on q is view) = subst (LearnsFrom m.passes) (sym is) (learns_set m.passes v.pass v.p q v.at (λ lane c. subst (λ x. Contains x lane) view.lanes c) (one_learns q view.front))
   learns_from (is_split _ _ _ _ is) = subst (LearnsFrom m.passes) (sym is)
       (learns_push m.passes _ v.pass v.p (given_part (shape_of m) v.p) v.at (λ lane. in_drop _ v.p.lanes lane) (more_itself v.p.known) (learns_set m.passes v.pass v.p (kept_part (shape_of m) v.p) v.at (λ lane. in_take _ v.p.lanes lane) (more_itself v.p.known)))

@@ -30,7 +30,7 @@ use Rattle.md_machine.proofs.lists.Rising.{there}
 use Rattle.md_machine.specs.Certified.{placed_by}
 use Rattle.md_machine.specs.Installs.{spot_of_install}
 use Rattle.md_machine.specs.Machine.{Install, IsAt, IsLive, Machine, content, is_ready, present, shape_of, was_begun}
-use Rattle.md_machine.specs.Own.{HasDesc, IsDataOf}
+use Rattle.md_machine.specs.Own.{HasDesc, HasNode, IsDataOf}
 use Rattle.md_machine.specs.Resolution.{never_placed}
 use Rattle.md_machine.specs.Stepping.{step_of}
 use Rattle.md_machine.specs.Trail.{StoresFor, is_store}
@@ -66,6 +66,7 @@ pub record Enters (m n : Machine) (p : PassView) (word new : ℕ) : Type 0 where
   pub own : HasDesc (shape_of m) p hand.attempt.desc
   pub few : count ≤ SET
   pub recorded : All (MayRecord m p) (reads_now m hand.attempt.desc count)
+  pub own_nodes : All (λ x. HasNode (shape_of m) p x.node) (placed_by hand.certificates)
   pub free : All (λ x. never_placed m x.node ≡ true) (placed_by hand.certificates)
   pub differ : AllPairs (λ (x y : PlacedNode). x.node ≢ y.node) (placed_by hand.certificates)
   pub there : word ≡ address (shape_of m) (desc_status hand.attempt.desc)

@@ -45,7 +45,7 @@ use Rattle.md_machine.specs.GoesOn.{moves_to}
 use Rattle.md_machine.specs.Installs.{IsUndecided, spot_of_install}
 use Rattle.md_machine.specs.Machine.{Install, IsAt, Machine, content, shape_of}
 use Rattle.md_machine.specs.Meaning.{Meaning}
-use Rattle.md_machine.specs.Own.{HasDesc, IsDataOf, IsOwnNode}
+use Rattle.md_machine.specs.Own.{HasDesc, HasNode, IsDataOf, IsOwnNode}
 use Rattle.md_machine.specs.Resolution.{never_placed}
 use Rattle.md_machine.specs.Stepping.{attempt_in_hand, step_of}
 use Rattle.md_machine.specs.Trail.{is_store}
@@ -147,6 +147,8 @@ module _ (M : Meaning) (m n : Machine) (f : AreFormats (shape_of m) m.words) (ap
         own = x.may.own;
         few = x.may.few;
         recorded = x.may.recorded;
+        own_nodes = All-map (λ (y : PlacedNode). HasNode (shape_of m) v.p y.node) (λ (n : NewNode). record { node = n.node; structure = n.structure }) (all_nodes x.hand.certificates)
+            (All-weaker (λ (n : NewNode). IsOwnNode m v.p n.node) (λ n. HasNode (shape_of m) v.p n.node) (λ n own. own.0) (all_nodes x.hand.certificates) c.nodes);
         free = All-map (λ (y : PlacedNode). never_placed m y.node ≡ true) (λ (n : NewNode). record { node = n.node; structure = n.structure }) (all_nodes x.hand.certificates)
             (All-weaker (λ (n : NewNode). IsOwnNode m v.p n.node) (λ n. never_placed m n.node ≡ true) (λ n own. own.1) (all_nodes x.hand.certificates) c.nodes);
         differ = placed_differ (all_nodes x.hand.certificates) c.differ;
