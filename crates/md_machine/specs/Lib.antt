@@ -18,3 +18,4 @@ pub mod Schedules
 pub mod Legal
 pub mod GoesOn
 pub mod Installs
+pub mod Serial

@@ -10,7 +10,7 @@ pub use opening::Opening;
 pub use pass::PassView;
 pub use rows::{clearing_row, placed_laws, refused_events, worked_rows};
 pub use step::{Kind, Step};
-pub use theory::{Theory, all_schedules};
+pub use theory::{Theory, all_schedules, schedules_are_serial};
 
 pub mod attempt;
 pub mod certificate;

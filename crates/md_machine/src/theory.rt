@@ -1,5 +1,6 @@
 // Theories, and the theorem over all schedules.
 ghost use Rattle.md_machine.specs.Legal.{AlwaysMeant};
+ghost use Rattle.md_machine.specs.Serial.{SchedulesAreSerial};
 ghost use Rattle.md_machine.specs.Theorem.{AlwaysKept, AlwaysGoesOn};
 
 /// What a heap means. A theory has a meaning, and the laws of it.
@@ -17,4 +18,11 @@ pub fn all_schedules<T: Theory>()
     ensures kept { AlwaysKept T.meaning }
     ensures goes_on { AlwaysGoesOn T.meaning }
     ensures legal { AlwaysMeant T.meaning }
+{}
+
+/// The same in a reader's words. For every theory, opening, list of events and end of the undecided:
+/// what the words stand for, and every reply, is what one thread would have that ran the kept
+/// transactions one after another.
+pub fn schedules_are_serial<T: Theory>()
+    ensures { SchedulesAreSerial T.meaning }
 {}
