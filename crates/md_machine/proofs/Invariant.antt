@@ -34,6 +34,7 @@ use Rattle.md_machine.proofs.clauses.Order.{TrailsInOrder, order-kept}
 use Rattle.md_machine.proofs.clauses.OwnInstalls.{own_installs}
 use Rattle.md_machine.proofs.clauses.OwnNodes.{own_nodes-kept}
 use Rattle.md_machine.proofs.clauses.OwnSerials.{own_serials-kept}
+use Rattle.md_machine.proofs.clauses.OwnWords.{own_words-kept}
 use Rattle.md_machine.proofs.clauses.Past.{PastDecided, fates_told, past-kept}
 use Rattle.md_machine.proofs.clauses.Placed.{NotedAlways, placed-kept}
 use Rattle.md_machine.proofs.clauses.PlacedOnce.{AliveOnce, noted_structure, placed_once-kept}
@@ -77,6 +78,7 @@ use Rattle.md_machine.specs.clauses.OddWords.{OddStand}
 use Rattle.md_machine.specs.clauses.OldSlots.{OldSlotStands}
 use Rattle.md_machine.specs.clauses.OwnNodes.{OwnNodesSeen}
 use Rattle.md_machine.specs.clauses.OwnSerials.{OwnSerialsMet}
+use Rattle.md_machine.specs.clauses.OwnWords.{NodesKeep, OwnWordsStand}
 use Rattle.md_machine.specs.clauses.Reads.{MovedReads, ReadFound}
 use Rattle.md_machine.specs.clauses.Serials.{EntriesInTurn}
 use Rattle.md_machine.specs.clauses.Sound.{CommittedAreSound}
@@ -109,6 +111,7 @@ pub record Invariant (m : Machine) : Type 0 where
   pub won_installs : WonAreInstalls m
   pub own_serials : OwnSerialsMet (shape_of m) m.words m.passes
   pub own_nodes : OwnNodesSeen (shape_of m) m.history m.passes
+  pub own_words : OwnWordsStand m
   pub entry_slots : EntriesKeepSlots m
   pub in_hand : HandsAlone m.begun m.passes
   pub steps_begun : StepsBegun m.begun m.passes
@@ -189,6 +192,7 @@ kept_by m k = record {
   own_installs = own_installs m k.installs;
   own_serials = k.own_serials;
   own_nodes = k.own_nodes;
+  own_words = k.own_words;
   entry_slots = k.entry_slots;
   in_hand = k.in_hand.alone;
   loads = λ pass p at earlier s later segment t c. pairs_of (LoadStands (shape_of m) m.words m.history) earlier s later t (k.loads pass p at (earlier ++ s ∷ later) segment) c;
@@ -245,6 +249,7 @@ module _ (M : Meaning) where
           node_words = λ pass p at. reshape (λ shape. DataStands shape n.words p) (node_words-kept m n v (fated (shape_of m) m.words m.history m.fates k.entries) k.placed k.flags k.node_words pass p at);
           won_installs = won_installs-kept m n v k.won_installs;
           own_nodes = reshape (λ shape. OwnNodesSeen shape n.history n.passes) (own_nodes-kept m n v k.lanes entries.stay k.fronts fronts k.own_nodes);
+          own_words = λ pass p at. reshape (λ shape. NodesKeep shape n p) (own_words-kept m n v k.formats.field k.lanes entries.stay k.own_words pass p at);
           own_serials = move (λ shape words. OwnSerialsMet shape words n.passes) (own_serials-kept m n v k.formats.field k.own_serials);
           in_hand = in_hand-kept m n v k.lanes k.hands k.in_hand k.steps_begun;
           steps_begun = steps_begun-kept m n v k.formats.field k.hands k.in_hand k.steps_begun;

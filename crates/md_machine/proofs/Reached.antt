@@ -38,6 +38,7 @@ use Rattle.md_machine.specs.clauses.Fronts.{FrontFits}
 use Rattle.md_machine.specs.clauses.Mine.{MineIsEnded}
 use Rattle.md_machine.specs.clauses.Loads.{LoadStands}
 use Rattle.md_machine.specs.clauses.OldSlots.{OldSlotStands}
+use Rattle.md_machine.specs.clauses.OwnWords.{NodesKeep}
 use Rattle.md_machine.specs.clauses.Reads.{ReadFound}
 
 -- the status word 0
@@ -126,6 +127,7 @@ module _ (M : Meaning) where
     won_installs = λ pass p at segment c s i. absurd (no_steps o.shape s (pass, p, at, (segment, c, i)));
     own_serials = λ pass p at desc own. inl (ap serial_of (can.descs _ (status_late o.shape desc) ∙ zero_begins) ∙ serial_of-status_word InPrep 0 0 (omega arith));
     own_nodes = λ pass p at e c. absurd (in_none e c);
+    own_words = λ pass p at. subst (NodesKeep o.shape (opened o)) (at_one (first_pass o.shape) p pass at).1 (λ node own not place is. tt);
     loads = λ pass p at segment c. subst (InPairs (LoadStands o.shape o.words [])) (first_segment o.shape p segment (at_one (first_pass o.shape) p pass at).1 c) tt;
     moved_reads = λ e c. absurd (in_none e c);
     found_reads = λ pass p at segment c. subst (InPairs (ReadFound o.shape [])) (first_segment o.shape p segment (at_one (first_pass o.shape) p pass at).1 c) tt;

@@ -41,3 +41,4 @@ pub mod Mine
 pub mod OwnInstalls
 pub mod OwnSerials
 pub mod OwnNodes
+pub mod OwnWords

@@ -25,6 +25,7 @@ use Rattle.md_machine.specs.clauses.OldSlots.{OldSlotsStand}
 use Rattle.md_machine.specs.clauses.OwnInstalls.{OwnInstallsShown}
 use Rattle.md_machine.specs.clauses.OwnNodes.{OwnNodesSeen}
 use Rattle.md_machine.specs.clauses.OwnSerials.{OwnSerialsMet}
+use Rattle.md_machine.specs.clauses.OwnWords.{OwnWordsStand}
 use Rattle.md_machine.specs.clauses.Placed.{PlacedStay}
 use Rattle.md_machine.specs.clauses.Reads.{ReadsShow}
 use Rattle.md_machine.specs.clauses.Serials.{EntriesInTurn}
@@ -57,6 +58,7 @@ pub record IsKept (m : Machine) : Type 0 where
   pub own_installs : OwnInstallsShown m
   pub own_serials : OwnSerialsMet (shape_of m) m.words m.passes
   pub own_nodes : OwnNodesSeen (shape_of m) m.history m.passes
+  pub own_words : OwnWordsStand m
   pub entry_slots : EntriesKeepSlots m
   pub in_hand : HandsLast m
   pub stores : StoresAgree m

@@ -29,3 +29,4 @@ pub mod OldSlots
 pub mod OwnInstalls
 pub mod OwnSerials
 pub mod OwnNodes
+pub mod OwnWords

@@ -44,7 +44,7 @@ no_other m apart pass p at all other q q_at live =
 
 module _ (m n : Machine) (v : MoveFacts m n) (field : IsField (shape_of m) m.words) where
   -- what stands in the step's word, and in others
-  left_now : content n v.step.word ≡ v.step.after
+  pub left_now : content n v.step.word ≡ v.step.after
   left_now = subst (λ w. content n w ≡ v.step.after) (sym v.there) (ap (λ words. get_or words v.word 0) v.words ∙ there_now ∙ sym v.after)
     where
       there_now : get_or (set m.words v.word v.new) v.word 0 ≡ v.new
@@ -53,7 +53,7 @@ module _ (m n : Machine) (v : MoveFacts m n) (field : IsField (shape_of m) m.wor
           (λ c. get_or-set_same m.words v.word v.new 0 (omega (arith, c.exists, field)))
           v.left
 
-  left_else : (w : ℕ) → v.step.word ≢ w → content n w ≡ content m w
+  pub left_else : (w : ℕ) → v.step.word ≢ w → content n w ≡ content m w
   left_else w ne = subst (λ words. get_or words w 0 ≡ content m w) (sym v.words)
       (at_left (Unit {0}) m field v.word v.new w (λ x. x ≡ content m w) v.left (λ _ e. absurd (ne (v.there ∙ sym e))) refl)
 

@@ -54,7 +54,7 @@ kept_has (e ∷ es) (Committed ∷ fs) node h = either_has e.placed (kept_nodes 
 kept_has (e ∷ es) (Aborted ∷ fs) node h = kept_has es fs node h
 kept_has (e ∷ es) (Undecided ∷ fs) node h = kept_has es fs node h
 
-always_has : (m : Machine) (node : ℕ) → always_placed m node ≡ true → HasNode (always_nodes m) node
+pub always_has : (m : Machine) (node : ℕ) → always_placed m node ≡ true → HasNode (always_nodes m) node
 always_has m node h = either_has m.opening.placed (kept_nodes m.history (least m.fates)) node
     (⊎_elim (λ a. inl (structure_has m.opening.placed node a)) (λ b. inr (kept_has m.history m.fates node b)) (one_of_two (structure_in m.opening.placed node) (kept_structure m.history (least m.fates) node) h))
 

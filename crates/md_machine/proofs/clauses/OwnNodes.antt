@@ -31,7 +31,7 @@ no_fewer (f ∷ fs) [] m = absurd m
 no_fewer (f ∷ fs) (g ∷ gs) m = let h = no_fewer fs gs m.1 in omega (arith, h)
 
 -- a node is of the lanes of one pass
-one_node_owner : (shape : Shape) (passes : List PassView) (pass other : ℕ) (p q : PassView) (node : ℕ) → LanesApart shape passes → At passes pass p → At passes other q → HasNode shape p node → HasNode shape q node → pass ≡ other
+pub one_node_owner : (shape : Shape) (passes : List PassView) (pass other : ℕ) (p q : PassView) (node : ℕ) → LanesApart shape passes → At passes pass p → At passes other q → HasNode shape p node → HasNode shape q node → pass ≡ other
 one_node_owner shape passes pass other p q node a at there' mine theirs =
     let one = (owner_of_node shape mine.0 node).0 mine.2 in
     let two = (owner_of_node shape theirs.0 node).0 theirs.2 in

@@ -69,7 +69,7 @@ kept_grows (e ∷ es) rest (Committed ∷ fs) (g ∷ gs) x a k = subst (λ y. Co
 kept_grows (e ∷ es) rest (Aborted ∷ fs) (g ∷ gs) x a k = cond_grows e (es ++ rest) g gs x (kept_grows es rest fs gs x a.1 k)
 kept_grows (e ∷ es) rest (Undecided ∷ fs) (g ∷ gs) x a k = cond_grows e (es ++ rest) g gs x (kept_grows es rest fs gs x a.1 k)
 
-always_grows : (m n : Machine) (x : PlacedNode) → n.opening ≡ m.opening → IsPrefix m.history n.history → AllStay m.fates n.fates → Contains (always_nodes m) x → Contains (always_nodes n) x
+pub always_grows : (m n : Machine) (x : PlacedNode) → n.opening ≡ m.opening → IsPrefix m.history n.history → AllStay m.fates n.fates → Contains (always_nodes m) x → Contains (always_nodes n) x
 always_grows m n x opening grows stay c = subst (λ (o : Opening). Contains (o.placed ++ kept_nodes n.history (least n.fates)) x) (sym opening)
     (subst (λ h. Contains (m.opening.placed ++ kept_nodes h (least n.fates)) x) (sym grows.is) (⊎_elim
     (λ l. Contains-append_left m.opening.placed _ x l)

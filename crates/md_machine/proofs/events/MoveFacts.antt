@@ -30,8 +30,8 @@ use Rattle.md_machine.proofs.lists.Rising.{there}
 use Rattle.md_machine.specs.Certified.{placed_by}
 use Rattle.md_machine.specs.Installs.{spot_of_install}
 use Rattle.md_machine.specs.Machine.{Install, IsAt, IsLive, Machine, content, is_ready, present, shape_of, was_begun}
-use Rattle.md_machine.specs.Own.{HasDesc, HasNode, IsDataOf}
-use Rattle.md_machine.specs.Resolution.{never_placed}
+use Rattle.md_machine.specs.Own.{HasDesc, HasNode, IsDataOf, IsWordOf}
+use Rattle.md_machine.specs.Resolution.{always_placed, never_placed}
 use Rattle.md_machine.specs.Stepping.{step_of}
 use Rattle.md_machine.specs.Trail.{StoresFor, is_store}
 use Rattle.md_machine.specs.clauses.Stores.{IsEntryWord}
@@ -150,6 +150,9 @@ pub record MoveFacts (m n : Machine) : Type 0 where
   pub entry : (d : ℕ) → IsEntryWord d (place_at (shape_of m) word) → (new ≡ content m word) ⊎ StoredHere m n.passes step word d
   -- the key or value of a node changes only where no resolution places it
   pub data_word : (k : ℕ) → IsDataOf k (place_at (shape_of m) word) → (new ≡ content m word) ⊎ (never_placed m k ≡ true)
+  -- a word of a node changes only where every resolution places it, or the pass has it in its lanes, or by an uninstall
+  pub node_word : (k : ℕ) → IsWordOf k (place_at (shape_of m) word)
+      → (new ≡ content m word) ⊎ ((always_placed m k ≡ true) ⊎ (HasNode (shape_of m) p k ⊎ (IsCounted (shape_of m) word × (is_even (count_of (content m word)) ≡ false))))
   -- what it finds of a status stands afterwards, or tells no fate
   pub truth : TellsTruth (shape_of m) n.words step
   -- a store leaves no status decided

@@ -45,8 +45,8 @@ use Rattle.md_machine.specs.GoesOn.{moves_to}
 use Rattle.md_machine.specs.Installs.{IsUndecided, spot_of_install}
 use Rattle.md_machine.specs.Machine.{Install, IsAt, Machine, content, shape_of}
 use Rattle.md_machine.specs.Meaning.{Meaning}
-use Rattle.md_machine.specs.Own.{HasDesc, HasNode, IsDataOf, IsOwnNode}
-use Rattle.md_machine.specs.Resolution.{never_placed}
+use Rattle.md_machine.specs.Own.{HasDesc, HasNode, IsDataOf, IsOwnNode, IsWordOf, MayExchangeAt, MayInstallAt}
+use Rattle.md_machine.specs.Resolution.{always_placed, never_placed}
 use Rattle.md_machine.specs.Stepping.{attempt_in_hand, step_of}
 use Rattle.md_machine.specs.Trail.{is_store}
 use Rattle.md_machine.specs.clauses.Formats.{AreFormats}
@@ -358,6 +358,30 @@ module _ (M : Meaning) (m n : Machine) (f : AreFormats (shape_of m) m.words) (ap
   data_left (by_uninstall x) k d = absurd (not_counted_data k x.may.counted d)
   data_left (by_start x) k d = absurd (not_status_data k _ x.there (own_exists m v.p _ x.may.own) d)
 
+  -- how a word of a node may change
+  abbrev NodeWord : ℕ → Type 0
+  NodeWord k = (v.new ≡ content m v.word) ⊎ ((always_placed m k ≡ true) ⊎ (HasNode (shape_of m) v.p k ⊎ (IsCounted (shape_of m) v.word × (is_even (count_of (content m v.word)) ≡ false))))
+
+  not_status_node : (k desc : ℕ) → v.word ≡ address (shape_of m) (desc_status desc) → desc < desc_count (shape_of m) → IsWordOf k (place_at (shape_of m) v.word) → ⊥
+  not_status_node k desc there exists = ⊎_elim (not_status_data k desc there exists)
+      (λ e. no_next (sym (ap (place_at (shape_of m)) there ∙ place_at-address (shape_of m) (desc_status desc) exists) ∙ e))
+    where
+      no_next : desc_status desc ≡ node_next k → ⊥
+      no_next e = cc
+
+  node_left : Effect M m n v.p v.kind v.word v.new → (k : ℕ) → IsWordOf k (place_at (shape_of m) v.word) → NodeWord k
+  node_left (by_stay x) k is = inl x.same
+  node_left (by_store x) k is =
+      let at : (q : Place) → place_at (shape_of m) v.word ≡ q → MayStoreAt m v.p x.hand.attempt (content m v.word) v.new q = λ q e. subst (MayStoreAt m v.p x.hand.attempt (content m v.word) v.new) e x.may.place in
+      inr (inr (inl (⊎_elim (λ d. ⊎_elim (λ e. (at (node_key k) e).0) (λ e. (at (node_value k) e).0) d) (λ e. (at (node_next k) e).0.0) is)))
+  node_left (by_install x) k is = ⊎_elim (λ d. absurd (not_counted_data k x.may.counted d))
+      (λ e. ⊎_elim (λ always. inr (inl always)) (λ own. inr (inr (inl own.0))) (subst (MayInstallAt m v.p) e x.may.place)) is
+  node_left (by_exchange x) k is = ⊎_elim (λ d. absurd (not_counted_data k x.may.counted d)) (λ e. inr (inl (subst (MayExchangeAt m) e x.may.place))) is
+  node_left (by_ready x) k is = absurd (not_status_node k _ x.there (own_exists m v.p _ x.may.own) is)
+  node_left (by_fate x) k is = absurd (not_status_node k _ x.there (decided_exists x) is)
+  node_left (by_uninstall x) k is = inr (inr (inr (x.may.counted, ap (λ c. is_even (count_of c)) x.was ∙ x.may.odd)))
+  node_left (by_start x) k is = absurd (not_status_node k _ x.there (own_exists m v.p _ x.may.own) is)
+
   -- a step tells the truth, as it is that step
   true_step : (kind : Kind) (word new : ℕ) → v.kind ≡ kind → v.word ≡ word → v.new ≡ new → Truth m v.p kind word new → TellsTruth (shape_of m) n.words v.step
   true_step kind word new k w x t = subst (λ words. TellsTruth (shape_of m) words v.step) (sym v.words) (subst (TellsTruth (shape_of m) (set m.words v.word v.new)) (sym v.is_step)
@@ -444,5 +468,6 @@ module _ (M : Meaning) (m n : Machine) (f : AreFormats (shape_of m) m.words) (ap
     truth = tells_truth v.effect;
     store = stores_undecided v.effect;
     serial = serial_left v.effect;
+    node_word = node_left v.effect;
     fates = ⊎_elim (λ x. inl (record { left = x.0; history = x.1; fates = x.2 })) inr (plainly ⊥ v.effect);
   }
