@@ -1,13 +1,13 @@
 -- When a theory contains the lists of a hash table: a list for each bucket of each map.
 use Rattle.std.specs.Prelude.{◌<◌, ℕ}
 use Rattle.md_words.specs.declared.shape.Shape.{Shape}
-use Rattle.md_words.specs.Layout.{bucket_of}
+use Rattle.md_words.specs.Layout.{bucket_of, IsNode}
 use Rattle.md_machine.specs.declared.certificate.Certificate.{Certificate}
 use Rattle.md_machine.specs.declared.certificate.TidyChange.{TidyChange}
 use Rattle.md_machine.specs.declared.node.Structure.TheVariants.{Bucket}
 use Rattle.md_machine.specs.LogicalHeap.{LogicalHeap}
 use Rattle.md_machine.specs.Meaning.{Meaning}
-use Rattle.md_list_law.specs.ListShape.{head_word, IsBucket}
+use Rattle.md_list_law.specs.ListShape.{head_word, next_word, IsBucket}
 use Rattle.md_list_law.specs.Certificates.{IsUnlink, IsListCertificate}
 
 -- a certificate for a key of a map, in the bucket of the key
@@ -19,9 +19,12 @@ IsMapCertificate shape map key c =
 abbrev pub IsBucketUnlink : Shape → (map bucket : ℕ) → TidyChange → Type 0
 IsBucketUnlink shape map bucket t = IsUnlink shape (Bucket map bucket) (head_word shape map bucket) t
 
--- the buckets of a valid heap are lists, and the theory has their certificates and unlinks
+-- the buckets of a valid heap are lists, the theory has their certificates and unlinks, and their heads and the next
+-- words of nodes are links
 pub record HasListsOf (M : Meaning) : Type 0 where
   pub buckets : (h : LogicalHeap) (map bucket : ℕ) → M.valid h → map < h.words.shape.maps → bucket < h.words.shape.buckets → IsBucket h map bucket
   pub certifies : (shape : Shape) (map key : ℕ) (c : Certificate) → map < shape.maps → IsMapCertificate shape map key c → M.certifies shape c
   pub unlinks : (shape : Shape) (map bucket : ℕ) (t : TidyChange) → map < shape.maps → bucket < shape.buckets → IsBucketUnlink shape map bucket t
       → M.tidies shape t
+  pub heads : (shape : Shape) (map bucket : ℕ) → map < shape.maps → bucket < shape.buckets → M.links shape (head_word shape map bucket)
+  pub next_words : (shape : Shape) (node : ℕ) → IsNode shape node → M.links shape (next_word shape node)

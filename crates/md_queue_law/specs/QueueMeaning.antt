@@ -4,6 +4,7 @@ use Rattle.std.specs.FinMap as fin
 use Rattle.md_words.specs.declared.shape.Shape.{Shape}
 use Rattle.md_words.specs.Place.{Place, queue_head, queue_tail, node_next}
 use Rattle.md_words.specs.PlaceAt.{place_at}
+use Rattle.md_words.specs.Layout.{address, Exists}
 use Rattle.md_history.specs.State.{queue_at}
 use Rattle.md_machine.specs.declared.certificate.Certificate.{Certificate}
 use Rattle.md_machine.specs.declared.certificate.TidyChange.{TidyChange}
@@ -38,10 +39,11 @@ queue_meaning = record {
 }
 
 -- A theory contains queues: in a valid heap each queue has its shape and its values, the certificates of queues are
--- certificates of the theory, and a move of a tail is tidy.
+-- certificates of the theory, a move of a tail is tidy, and heads, tails and next words are links.
 pub record HasQueuesOf (M : Meaning) : Type 0 where
   pub stand : (h : LogicalHeap) → M.valid h → QueuesStand h
   pub values : (h : LogicalHeap) (queue : ℕ) → M.valid h → queue < h.words.shape.queues
       → queue_at (M.state h.words) queue ≡ queue_values h.words queue
   pub certifies : (shape : Shape) (c : Certificate) → CertifiesQueue shape c → M.certifies shape c
   pub tidies : (shape : Shape) (t : TidyChange) → MovesTail shape t → M.tidies shape t
+  pub links : (shape : Shape) (p : Place) → Exists shape p → IsTrue (is_queue_link p) → M.links shape (address shape p)

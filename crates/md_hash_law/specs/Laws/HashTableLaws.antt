@@ -1,5 +1,5 @@
 -- The laws of the theory of hash tables, and that it has lists. Each is cited by the impl alone.
-use Rattle.std.proofs.Common.{◌≡◌, ℕ, ◌<◌, List, [], Some, refl, sym, ap, ◌∙◌, subst, ⊎_elim}
+use Rattle.std.proofs.Common.{◌≡◌, ℕ, ◌<◌, List, [], Some, refl, sym, ap, ◌∙◌, subst, inl, inr, ⊎_elim}
 use Rattle.md_words.specs.declared.shape.Shape.{Shape}
 use Rattle.md_words.specs.Layout.{IsNode, bucket_of}
 use Rattle.md_words.specs.PlaceAt.{IsCounted}
@@ -130,4 +130,6 @@ has_lists_law = record {
   buckets = λ h map bucket valid m b. valid.buckets map bucket m b;
   certifies = λ shape map key c m is. (map, key, m, is);
   unlinks = λ shape map bucket t m b is. (map, bucket, m, b, is);
+  heads = λ shape map bucket m b. inl (map, bucket, m, b, refl);
+  next_words = λ shape node is. inr (node, is, refl);
 }

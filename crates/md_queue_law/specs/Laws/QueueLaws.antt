@@ -7,7 +7,7 @@ use Rattle.md_words.specs.declared.shape.Shape.{Shape}
 use Rattle.md_words.specs.Place.{Place, bucket_head, queue_head, queue_tail, node_next, base_word, node_key, node_value, desc_status, read_word, read_content, slot_word, slot_old, slot_new}
 use Rattle.md_words.specs.PlaceAt.{place_at}
 use Rattle.md_words.specs.Layout.{address, Exists}
-use Rattle.md_words.proofs.Places.{address-place_at}
+use Rattle.md_words.proofs.Places.{address-place_at, place_at-address}
 use Rattle.md_history.specs.State.{State}
 use Rattle.md_machine.specs.declared.node.Structure.{Structure}
 use Rattle.md_machine.specs.declared.node.Structure.TheVariants.{Bucket, Queue}
@@ -108,4 +108,5 @@ queue_has_queues = record {
   values = λ h queue v within. queue_list h.words queue within;
   certifies = λ shape c certifies. certifies;
   tidies = λ shape t tidies. tidies;
+  links = λ shape p is link. subst (λ (q : Place). IsTrue (is_queue_link q)) (sym (place_at-address shape p is)) link;
 }

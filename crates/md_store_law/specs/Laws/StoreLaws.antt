@@ -6,7 +6,7 @@ use Rattle.md_words.specs.declared.shape.Shape.{Shape}
 use Rattle.md_words.specs.Place.{Place, is_counted, bucket_head, queue_head, queue_tail, node_next, base_word, node_key, node_value, desc_status, read_word, read_content, slot_word, slot_old, slot_new}
 use Rattle.md_words.specs.PlaceAt.{place_at}
 use Rattle.md_words.specs.Layout.{address, Exists, bucket_of}
-use Rattle.md_words.proofs.Places.{address-place_at, bucket_of_below}
+use Rattle.md_words.proofs.Places.{address-place_at, counted_by_place, bucket_of_below}
 use Rattle.md_history.specs.State.{State, Table, answer, after}
 use Rattle.md_machine.specs.declared.node.Structure.{Structure}
 use Rattle.md_machine.specs.declared.node.Structure.TheVariants.{Bucket}
@@ -26,7 +26,7 @@ use Rattle.md_hash_law.specs.Laws.Buckets.{head_apart, bucket_same, buckets_afte
 use Rattle.md_hash_law.specs.Laws.HashTableLaws.{row_home, unlink_home}
 use Rattle.md_queue_law.specs.QueueValues.{queue_lists}
 use Rattle.md_queue_law.specs.QueueCertificates.{CertifiesQueue, MovesTail}
-use Rattle.md_queue_law.specs.QueueMeaning.{HasQueuesOf}
+use Rattle.md_queue_law.specs.QueueMeaning.{HasQueuesOf, is_queue_link}
 use Rattle.md_queue_law.specs.Laws.Lists.{queue_list}
 use Rattle.md_queue_law.specs.Laws.Certifying.{certificate_follows, move_follows}
 use Rattle.md_queue_law.specs.Laws.Frames.{queues_framed, one_names_placed, next_names_placed}
@@ -160,12 +160,30 @@ store_lawful = record {
       subst (λ w. NamesPlaced h (h.words.value w)) found.1 goal;
 }
 
+-- a queue's links are counted words
+queue_link_counted : (p : Place) → IsTrue (is_queue_link p) → IsTrue (is_counted p)
+queue_link_counted (queue_head _) link = refl
+queue_link_counted (queue_tail _) link = refl
+queue_link_counted (node_next _) link = refl
+queue_link_counted base_word link = absurd (false≢true link)
+queue_link_counted (bucket_head _ _) link = refl
+queue_link_counted (node_key _) link = absurd (false≢true link)
+queue_link_counted (node_value _) link = absurd (false≢true link)
+queue_link_counted (desc_status _) link = absurd (false≢true link)
+queue_link_counted (read_word _ _) link = absurd (false≢true link)
+queue_link_counted (read_content _ _) link = absurd (false≢true link)
+queue_link_counted (slot_word _ _) link = absurd (false≢true link)
+queue_link_counted (slot_old _ _) link = absurd (false≢true link)
+queue_link_counted (slot_new _ _) link = absurd (false≢true link)
+
 -- stores have lists and queues
 pub store_has_lists : HasListsOf store
 store_has_lists = record {
   buckets = λ h map bucket v m b. v.buckets map bucket m b;
   certifies = λ shape map key c m is. inl (map, key, m, is);
   unlinks = λ shape map bucket t m b is. inl (map, bucket, m, b, is);
+  heads = λ shape map bucket m b. let e = counted_by_place shape (bucket_head map bucket) (m, b) in e.1 refl;
+  next_words = λ shape node is. let e = counted_by_place shape (node_next node) is in e.1 refl;
 }
 
 pub store_has_queues : HasQueuesOf store
@@ -174,4 +192,5 @@ store_has_queues = record {
   values = λ h queue v within. queue_list h.words queue within;
   certifies = λ shape c is. inr is;
   tidies = λ shape t is. inr is;
+  links = λ shape p is link. let e = counted_by_place shape p is in e.1 (queue_link_counted p link);
 }
