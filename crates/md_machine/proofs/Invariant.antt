@@ -16,6 +16,7 @@ use Rattle.md_machine.proofs.clauses.Entries.{entries-kept}
 use Rattle.md_machine.proofs.clauses.EntriesFit.{EntriesFit, ReadsCounted, entry_fits}
 use Rattle.md_machine.proofs.clauses.EntrySlots.{entry_slots-kept}
 use Rattle.md_machine.proofs.clauses.Flags.{Noting, flags-kept}
+use Rattle.md_machine.proofs.clauses.FreeNodes.{OpeningIsBase, free_nodes}
 use Rattle.md_machine.proofs.clauses.Fronts.{fronts-kept}
 use Rattle.md_machine.proofs.clauses.FrontsFit.{fated}
 use Rattle.md_machine.proofs.clauses.HandKnows.{hand_knows-kept}
@@ -110,6 +111,7 @@ pub record Invariant (m : Machine) : Type 0 where
   pub node_words : NodeWordsStand m
   pub won_installs : WonAreInstalls m
   pub own_serials : OwnSerialsMet (shape_of m) m.words m.passes
+  pub opening_base : OpeningIsBase (shape_of m) m.opening.placed
   pub own_nodes : OwnNodesSeen (shape_of m) m.history m.passes
   pub own_words : OwnWordsStand m
   pub entry_slots : EntriesKeepSlots m
@@ -193,6 +195,7 @@ kept_by m k = record {
   own_serials = k.own_serials;
   own_nodes = k.own_nodes;
   own_words = k.own_words;
+  free_nodes = free_nodes m k.opening_base k.fronts k.numbered.distinct k.sound.sound k.own_nodes;
   entry_slots = k.entry_slots;
   in_hand = k.in_hand.alone;
   loads = λ pass p at earlier s later segment t c. pairs_of (LoadStands (shape_of m) m.words m.history) earlier s later t (k.loads pass p at (earlier ++ s ∷ later) segment) c;
@@ -250,6 +253,7 @@ module _ (M : Meaning) where
           won_installs = won_installs-kept m n v k.won_installs;
           own_nodes = reshape (λ shape. OwnNodesSeen shape n.history n.passes) (own_nodes-kept m n v k.lanes entries.stay k.fronts fronts k.own_nodes);
           own_words = λ pass p at. reshape (λ shape. NodesKeep shape n p) (own_words-kept m n v k.formats.field k.lanes entries.stay k.own_words pass p at);
+          opening_base = subst (λ (o : Opening). OpeningIsBase o.shape o.placed) (sym v.opening) k.opening_base;
           own_serials = move (λ shape words. OwnSerialsMet shape words n.passes) (own_serials-kept m n v k.formats.field k.own_serials);
           in_hand = in_hand-kept m n v k.lanes k.hands k.in_hand k.steps_begun;
           steps_begun = steps_begun-kept m n v k.formats.field k.hands k.in_hand k.steps_begun;

@@ -15,6 +15,7 @@ use Rattle.std.proofs.lemmas.List.Elements.{Contains-append_right}
 use Rattle.md_machine.specs.declared.attempt.Hand.{Hand}
 use Rattle.md_machine.specs.declared.node.PlacedNode.{PlacedNode}
 use Rattle.md_machine.proofs.Invariant.{Invariant, kept_by, plays_keep, runs_keep}
+use Rattle.md_machine.proofs.clauses.FreeNodes.{base_alone}
 use Rattle.md_machine.proofs.clauses.FrontsFit.{fated}
 use Rattle.md_machine.proofs.clauses.LanesApart.{At, lanes_first}
 use Rattle.md_machine.proofs.clauses.Numbered.{none_numbered}
@@ -128,6 +129,7 @@ module _ (M : Meaning) where
     own_serials = λ pass p at desc own. inl (ap serial_of (can.descs _ (status_late o.shape desc) ∙ zero_begins) ∙ serial_of-status_word InPrep 0 0 (omega arith));
     own_nodes = λ pass p at e c. absurd (in_none e c);
     own_words = λ pass p at. subst (NodesKeep o.shape (opened o)) (at_one (first_pass o.shape) p pass at).1 (λ node own not place is. tt);
+    opening_base = base_alone o.shape o.placed can.placed;
     loads = λ pass p at segment c. subst (InPairs (LoadStands o.shape o.words [])) (first_segment o.shape p segment (at_one (first_pass o.shape) p pass at).1 c) tt;
     moved_reads = λ e c. absurd (in_none e c);
     found_reads = λ pass p at segment c. subst (InPairs (ReadFound o.shape [])) (first_segment o.shape p segment (at_one (first_pass o.shape) p pass at).1 c) tt;

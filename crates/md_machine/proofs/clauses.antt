@@ -42,3 +42,4 @@ pub mod OwnInstalls
 pub mod OwnSerials
 pub mod OwnNodes
 pub mod OwnWords
+pub mod FreeNodes

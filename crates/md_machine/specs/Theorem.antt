@@ -11,6 +11,7 @@ use Rattle.md_machine.specs.clauses.EntrySlots.{EntriesKeepSlots}
 use Rattle.md_machine.specs.clauses.Fates.{FatesByStatuses}
 use Rattle.md_machine.specs.clauses.Flags.{FlaggedAreNoted}
 use Rattle.md_machine.specs.clauses.Formats.{AreFormats}
+use Rattle.md_machine.specs.clauses.FreeNodes.{FreeAreUnplaced}
 use Rattle.md_machine.specs.clauses.Fronts.{FrontsFit}
 use Rattle.md_machine.specs.clauses.Hands.{HandsFit}
 use Rattle.md_machine.specs.clauses.HandKnows.{HandsKnow}
@@ -58,6 +59,7 @@ pub record IsKept (m : Machine) : Type 0 where
   pub own_installs : OwnInstallsShown m
   pub own_serials : OwnSerialsMet (shape_of m) m.words m.passes
   pub own_nodes : OwnNodesSeen (shape_of m) m.history m.passes
+  pub free_nodes : FreeAreUnplaced m
   pub own_words : OwnWordsStand m
   pub entry_slots : EntriesKeepSlots m
   pub in_hand : HandsLast m

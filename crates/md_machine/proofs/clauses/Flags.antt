@@ -32,7 +32,7 @@ abbrev pub HasNode : List PlacedNode → ℕ → Type 0
 HasNode nodes node = (x : PlacedNode) × Contains nodes x × (x.node ≡ node)
 
 -- a node that a list places is one of it
-structure_has : (ps : List PlacedNode) (node : ℕ) → is_some (structure_in ps node) ≡ true → HasNode ps node
+pub structure_has : (ps : List PlacedNode) (node : ℕ) → is_some (structure_in ps node) ≡ true → HasNode ps node
 structure_has [] node h = absurd (false≢true h)
 structure_has (p ∷ ps) node h = cond_both (p.node == node) (Some p.structure) (structure_in ps node) (λ (o : Option Structure). is_some o ≡ true → HasNode (p ∷ ps) node)
     (λ yes _. (p, here p ps, eqb-true p.node node yes))

@@ -57,7 +57,7 @@ fewer placed es js ks w h = pairs_append Differ placed (kept_nodes es js) (pairs
     (λ x y c d. pairs_cross Differ placed (kept_nodes es ks) h x y c (kept_more es js ks w y d))
 
 -- fates that go on to sound ones let no more entries commit
-within_stay : (es : List HistoryEntry) (fs gs : List Fate) → length fs ≡ length es → AllStay fs gs → AllCommittedSound (entries_of es) gs → Within (greatest es gs) (greatest es fs)
+pub within_stay : (es : List HistoryEntry) (fs gs : List Fate) → length fs ≡ length es → AllStay fs gs → AllCommittedSound (entries_of es) gs → Within (greatest es gs) (greatest es fs)
 within_stay [] fs gs l a s = tt
 within_stay (e ∷ es) [] gs l a s = absurd (omega (arith, l))
 within_stay (e ∷ es) (f ∷ fs) [] l a s = absurd a
