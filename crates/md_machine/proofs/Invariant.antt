@@ -12,6 +12,7 @@ use Rattle.md_machine.specs.declared.attempt.AttemptId.{AttemptId}
 use Rattle.md_machine.specs.declared.opening.Opening.{Opening}
 use Rattle.md_machine.proofs.clauses.Alone.{HoldersFind, alone-kept, holders_alone}
 use Rattle.md_machine.proofs.clauses.Brackets.{TrailsBracket, between-kept, brackets-kept, old_brackets}
+use Rattle.md_machine.proofs.clauses.Clean.{clean_out}
 use Rattle.md_machine.proofs.clauses.Entries.{entries-kept}
 use Rattle.md_machine.proofs.clauses.EntriesFit.{EntriesFit, ReadsCounted, entry_fits}
 use Rattle.md_machine.proofs.clauses.EntrySlots.{entry_slots-kept}
@@ -39,6 +40,7 @@ use Rattle.md_machine.proofs.clauses.OwnWords.{own_words-kept}
 use Rattle.md_machine.proofs.clauses.Past.{PastDecided, fates_told, past-kept}
 use Rattle.md_machine.proofs.clauses.Placed.{NotedAlways, placed-kept}
 use Rattle.md_machine.proofs.clauses.PlacedOnce.{AliveOnce, noted_structure, placed_once-kept}
+use Rattle.md_machine.proofs.clauses.PresentEntries.{entries_by_status}
 use Rattle.md_machine.proofs.clauses.Reads.{reads_found, reads_moved}
 use Rattle.md_machine.proofs.clauses.ReadyEntries.{ReadyHaveEntries, ready_entries-kept}
 use Rattle.md_machine.proofs.clauses.Serials.{serials-kept}
@@ -51,7 +53,7 @@ use Rattle.md_machine.proofs.clauses.WonInstalls.{won_installs-kept}
 use Rattle.md_machine.proofs.events.MoveFacts.{history_grows}
 use Rattle.md_machine.proofs.events.Moves.{does_move}
 use Rattle.md_machine.proofs.events.Tell.{tell}
-use Rattle.md_machine.proofs.events.UninstallValue.{UninstallRests}
+use Rattle.md_machine.proofs.events.UninstallValue.{UninstallRests, uninstall_value}
 use Rattle.md_machine.proofs.events.WordChanges.{counts_rise, formats-kept, statuses_go_on, stays_on}
 use Rattle.md_machine.proofs.lists.Pairs.{EachPair, pairs_of}
 use Rattle.md_machine.proofs.lists.Rising.{here, there}
@@ -88,6 +90,7 @@ use Rattle.md_machine.specs.clauses.Statuses.{StatusesCame}
 use Rattle.md_machine.specs.clauses.Undecided.{UndecidedStand}
 use Rattle.md_machine.specs.clauses.WonInstalls.{WonAreInstalls}
 use Rattle.md_machine.specs.events.SplitJoin.{moved}
+use Rattle.md_machine.specs.events.Uninstall.{MayUninstall}
 
 pub record Invariant (m : Machine) : Type 0 where
   pub formats : AreFormats (shape_of m) m.words
@@ -195,6 +198,10 @@ kept_by m k = record {
   own_serials = k.own_serials;
   own_nodes = k.own_nodes;
   own_words = k.own_words;
+  uninstalls = λ pass p at word from value may was choice r. sym (uninstall_value m (rests_of m k) word may.counted
+      (record { pass = pass; p = p; at = at; value = value; may = subst (λ c. MayUninstall m p word c value) (sym was) may }) choice r);
+  clean = clean_out m k.stamp k.stamps k.installs k.order k.odd_words;
+  present_entries = entries_by_status m k.read_counts k.ready_entries;
   free_nodes = free_nodes m k.opening_base k.fronts k.numbered.distinct k.sound.sound k.own_nodes;
   entry_slots = k.entry_slots;
   in_hand = k.in_hand.alone;

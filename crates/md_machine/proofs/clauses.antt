@@ -43,3 +43,5 @@ pub mod OwnSerials
 pub mod OwnNodes
 pub mod OwnWords
 pub mod FreeNodes
+pub mod Clean
+pub mod PresentEntries

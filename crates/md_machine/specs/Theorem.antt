@@ -7,6 +7,7 @@ use Rattle.md_machine.specs.Machine.{Machine, shape_of}
 use Rattle.md_machine.specs.Meaning.{Meaning}
 use Rattle.md_machine.specs.clauses.Alone.{HoldersAreAlone}
 use Rattle.md_machine.specs.clauses.Brackets.{StatusesBracketed}
+use Rattle.md_machine.specs.clauses.Clean.{CleanAreOut}
 use Rattle.md_machine.specs.clauses.EntrySlots.{EntriesKeepSlots}
 use Rattle.md_machine.specs.clauses.Fates.{FatesByStatuses}
 use Rattle.md_machine.specs.clauses.Flags.{FlaggedAreNoted}
@@ -28,6 +29,7 @@ use Rattle.md_machine.specs.clauses.OwnNodes.{OwnNodesSeen}
 use Rattle.md_machine.specs.clauses.OwnSerials.{OwnSerialsMet}
 use Rattle.md_machine.specs.clauses.OwnWords.{OwnWordsStand}
 use Rattle.md_machine.specs.clauses.Placed.{PlacedStay}
+use Rattle.md_machine.specs.clauses.PresentEntries.{EntriesByStatus}
 use Rattle.md_machine.specs.clauses.Reads.{ReadsShow}
 use Rattle.md_machine.specs.clauses.Serials.{EntriesInTurn}
 use Rattle.md_machine.specs.clauses.Slots.{SlotsStand}
@@ -36,6 +38,7 @@ use Rattle.md_machine.specs.clauses.Stamps.{StampsHold}
 use Rattle.md_machine.specs.clauses.Statuses.{StatusesCame}
 use Rattle.md_machine.specs.clauses.Stores.{StoresAgree}
 use Rattle.md_machine.specs.clauses.Undecided.{UndecidedStand}
+use Rattle.md_machine.specs.clauses.Uninstalls.{UninstallsKeepValues}
 use Rattle.md_machine.specs.clauses.WonInstalls.{WonAreInstalls}
 
 -- what holds of every machine that events lead to
@@ -49,6 +52,9 @@ pub record IsKept (m : Machine) : Type 0 where
   pub statuses : StatusesCame (shape_of m) m.words m.passes
   pub brackets : StatusesBracketed m
   pub old_slots : OldSlotsStand m
+  pub uninstalls : UninstallsKeepValues m
+  pub clean : CleanAreOut m
+  pub present_entries : EntriesByStatus m
   pub slots : SlotsStand (shape_of m) m.words m.installs
   pub fates : FatesByStatuses m
   pub fronts : FrontsFit (shape_of m) m.history m.fates m.passes

@@ -31,3 +31,6 @@ pub mod OwnSerials
 pub mod OwnNodes
 pub mod OwnWords
 pub mod FreeNodes
+pub mod Clean
+pub mod Uninstalls
+pub mod PresentEntries

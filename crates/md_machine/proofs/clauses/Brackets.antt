@@ -4,7 +4,7 @@ use Rattle.std.specs.List.{Contains}
 use Rattle.std.proofs.lemmas.Bool.{cases_eq}
 use Rattle.std.proofs.lemmas.List.Elements.{Contains-push}
 use Rattle.md_words.specs.declared.shape.Shape.{Shape}
-use Rattle.md_words.specs.Content.{count_of, is_even}
+use Rattle.md_words.specs.Content.{count_of, is_even, spot_of, value_of}
 use Rattle.md_words.specs.Status.{serial_of}
 use Rattle.md_words.specs.Place.{desc_status}
 use Rattle.md_words.specs.Layout.{address}
@@ -13,6 +13,7 @@ use Rattle.md_words.specs.PlaceAt.{IsCounted}
 use Rattle.md_words.proofs.Places.{address_below}
 use Rattle.md_machine.specs.declared.step.Step.{Step}
 use Rattle.md_machine.specs.declared.pass.PassView.{PassView}
+use Rattle.md_machine.proofs.chain.Values.{installed_spot}
 use Rattle.md_machine.proofs.clauses.Installs.{InstallsKept}
 use Rattle.md_machine.proofs.clauses.OddWords.{installed_names, standing_serial}
 use Rattle.md_machine.proofs.clauses.Order.{TrailsInOrder}
@@ -119,6 +120,7 @@ standing_install shape words installs passes odd k s t notes word held now met a
         made = stands.made;
         there = stands.there;
         left = now ∙ stands.holds;
+        spot = sym (ap (λ c. spot_of (value_of c)) (now ∙ stands.holds) ∙ installed_spot i fits.room (fits.slot stands.present).exists.1);
         of = stands.present ∙ ap (λ d. serial_of (word_at shape words (desc_status d))) (sym desc);
       },
     )
@@ -126,7 +128,7 @@ standing_install shape words installs passes odd k s t notes word held now met a
 module _ (m n : Machine) (v : MoveFacts m n) (field : IsField (shape_of m) m.words) (k : InstallsKept (shape_of m) m.words m.installs m.passes) (odd_stand : OddStand (shape_of m) m.words m.installs)
     (new_k : InstallsKept (shape_of m) (set m.words v.word v.new) n.installs n.passes) (new_odd : OddStand (shape_of m) (set m.words v.word v.new) n.installs) where
   still_installed : (word held serial : ℕ) → WasInstalled m.installs word held serial → WasInstalled n.installs word held serial
-  still_installed word held serial w = record { install = w.install; made = v.installs_stay w.install w.made; there = w.there; left = w.left; of = w.of }
+  still_installed word held serial w = record { install = w.install; made = v.installs_stay w.install w.made; there = w.there; left = w.left; spot = w.spot; of = w.of }
 
   old_between : (s t u : Step) → NotesBetween (shape_of m) m.installs s t u → NotesBetween (shape_of m) n.installs s t u
   old_between s t u was word held first second at = let r = was word held first second at in (r.0, r.1, still_installed word held r.0 r.2)

@@ -14,6 +14,7 @@ use Rattle.md_words.specs.PlaceAt.{IsCounted}
 use Rattle.md_words.proofs.Words.{value_of-counted_word, spot_of-spot_value}
 use Rattle.md_machine.specs.declared.step.TheConstants.{LAST_COUNT}
 use Rattle.md_machine.specs.declared.step.Step.{Step}
+use Rattle.md_machine.specs.declared.pass.PassView.{PassView}
 use Rattle.md_machine.proofs.clauses.Installs.{InstallsKept, new_present}
 use Rattle.md_machine.proofs.clauses.Order.{InOrder, NoLower, TrailsInOrder, order_of}
 use Rattle.md_machine.proofs.clauses.Stamps.{Stamp, Stamped, StampsKept, same_stamp}
@@ -23,13 +24,14 @@ use Rattle.md_machine.proofs.events.Steps.{HasStep}
 use Rattle.md_machine.proofs.events.WordChanges.{Restarts, serial_stays}
 use Rattle.md_machine.proofs.lists.Rising.{here, in_cons, in_none, map_in, there}
 use Rattle.md_machine.specs.Installs.{IsPresent, spot_of_install}
-use Rattle.md_machine.specs.Machine.{Install, Machine, attempt_of, content, present, shape_of, status_at, word_at}
+use Rattle.md_machine.specs.Machine.{Install, IsAt, Machine, attempt_of, content, present, shape_of, status_at, word_at}
 use Rattle.md_machine.specs.Trail.{holds_desc}
 use Rattle.md_machine.specs.clauses.Hands.{HandsFit}
 use Rattle.md_machine.specs.clauses.OddWords.{OddStand, StandsIn}
 use Rattle.md_machine.specs.events.Install.{installed_word}
 use Rattle.md_machine.specs.events.Mark.{without}
-use Rattle.md_machine.specs.events.Start.{IsCleanIn, LeavesWithout, WonInstall, timelines}
+use Rattle.md_machine.specs.Own.{HasDesc}
+use Rattle.md_machine.specs.events.Start.{IsClean, IsCleanIn, LeavesWithout, WonInstall, timelines}
 
 -- an installed word names its descriptor, and holds it
 pub installed_names : (i : Install) → count_of i.old ≤ LAST_COUNT → i.slot < SET → (spot_of (value_of (installed_word i.old (spot_of_install i)))).desc ≡ i.attempt.desc
@@ -61,35 +63,41 @@ module _ (m : Machine) (stamp : Stamp) (stamps : StampsKept m stamp) (k : Instal
       let held = same_stamp m.words stamp w t.after (content m w) noted (stamps.now w counted) equal in
       true≢false (sym (installed_holds i st.room small (sym (ap (λ c. is_even (count_of c)) is) ∙ odd)) ∙ ap (holds_desc i.attempt.desc) (sym (held ∙ is)) ∙ without.without)
 
-  -- so a descriptor that stands in a word isn't started again
-  not_restarted : (w : ℕ) (i : Install) → IsCounted (shape_of m) w → is_even (count_of (content m w)) ≡ false → Contains m.installs i → IsPresent (shape_of m) m.words i → i.word ≡ w
-      → content m w ≡ installed_word i.old (spot_of_install i) → Restarts m i.attempt.desc → ⊥
-  not_restarted w i counted odd c now lies is r =
+  -- so the descriptor of a clean attempt stands in no word
+  pub clean_is_out : (w : ℕ) (i : Install) → IsCounted (shape_of m) w → is_even (count_of (content m w)) ≡ false → Contains m.installs i → IsPresent (shape_of m) m.words i → i.word ≡ w
+      → content m w ≡ installed_word i.old (spot_of_install i) → (pass : ℕ) (p : PassView) → IsAt m pass p → HasDesc (shape_of m) p i.attempt.desc
+      → IsClean p (present m i.attempt.desc) → ⊥
+  clean_is_out w i counted odd c now lies is pass p at own is_clean =
       let small = ((k.fits i c).slot now).exists.1 in
       let mine : i.attempt ≡ present m i.attempt.desc = ap (attempt_of i.attempt.desc) now in
       let won : (s : Step) → InstallStep i s → WonInstall (present m i.attempt.desc) s = λ s st. record { kind = st.kind; attempt = st.attempt ∙ ap Some mine; won = st.won } in
-      let clean : (g : List Step) → Contains ([] ∷ r.p.past) g → IsCleanIn (present m i.attempt.desc) (g ++ r.p.trail) = λ g in_past.
-      All-contains (IsCleanIn (present m i.attempt.desc)) (timelines r.p) (g ++ r.p.trail) r.clean (map_in (λ l. l ++ r.p.trail) ([] ∷ r.p.past) g in_past) in
+      let clean : (g : List Step) → Contains ([] ∷ p.past) g → IsCleanIn (present m i.attempt.desc) (g ++ p.trail) = λ g in_past.
+      All-contains (IsCleanIn (present m i.attempt.desc)) (timelines p) (g ++ p.trail) is_clean (map_in (λ l. l ++ p.trail) ([] ∷ p.past) g in_past) in
       ⊎_elim
       (λ x.
-      let s = x.0 in let cut = splits r.p.trail s x.1 in
-      let t = clean [] (here [] r.p.past) cut.0 s cut.1 cut.2 (won s x.2) in
-      let segment = Contains-push r.p.past r.p.trail in
-      let inside : Contains r.p.trail t.0 = subst (λ l. Contains l t.0) (sym cut.2) (Contains-append_right cut.0 (s ∷ cut.1) t.0 (there s cut.1 t.0 t.1)) in
+      let s = x.0 in let cut = splits p.trail s x.1 in
+      let t = clean [] (here [] p.past) cut.0 s cut.1 cut.2 (won s x.2) in
+      let segment = Contains-push p.past p.trail in
+      let inside : Contains p.trail t.0 = subst (λ l. Contains l t.0) (sym cut.2) (Contains-append_right cut.0 (s ∷ cut.1) t.0 (there s cut.1 t.0 t.1)) in
       not_left w i s t.0 counted lies is odd small x.2
-      (order_of (shape_of m) cut.0 s cut.1 t.0 (subst (InOrder (shape_of m)) cut.2 (order r.pass r.p r.at r.p.trail segment)) t.1)
-      (r.pass, r.p, r.at, (r.p.trail, segment, inside)) t.2)
+      (order_of (shape_of m) cut.0 s cut.1 t.0 (subst (InOrder (shape_of m)) cut.2 (order pass p at p.trail segment)) t.1)
+      (pass, p, at, (p.trail, segment, inside)) t.2)
       (λ x.
       let segment = x.0 in let s = x.2 in let cut = splits segment s x.3 in
-      let t = clean segment (there [] r.p.past segment x.1) cut.0 s (cut.1 ++ r.p.trail) (ap (λ l. l ++ r.p.trail) cut.2 ∙ append_assoc cut.0 (s ∷ cut.1) r.p.trail) (won s x.4) in
-      let within = Contains-append_left r.p.past (r.p.trail ∷ []) segment x.1 in
+      let t = clean segment (there [] p.past segment x.1) cut.0 s (cut.1 ++ p.trail) (ap (λ l. l ++ p.trail) cut.2 ∙ append_assoc cut.0 (s ∷ cut.1) p.trail) (won s x.4) in
+      let within = Contains-append_left p.past (p.trail ∷ []) segment x.1 in
       ⊎_elim
       (λ later. not_left w i s t.0 counted lies is odd small x.4
-      (order_of (shape_of m) cut.0 s cut.1 t.0 (subst (InOrder (shape_of m)) cut.2 (order r.pass r.p r.at segment within)) later)
-      (r.pass, r.p, r.at, (segment, within, subst (λ l. Contains l t.0) (sym cut.2) (Contains-append_right cut.0 (s ∷ cut.1) t.0 (there s cut.1 t.0 later)))) t.2)
-      (λ last. not_left w i s t.0 counted lies is odd small x.4 (x.5 t.0 last) (r.pass, r.p, r.at, (r.p.trail, Contains-push r.p.past r.p.trail, last)) t.2)
-      (Contains-append_cases cut.1 r.p.trail t.0 t.1))
-      (k.held i c now r.pass r.p r.at r.own)
+      (order_of (shape_of m) cut.0 s cut.1 t.0 (subst (InOrder (shape_of m)) cut.2 (order pass p at segment within)) later)
+      (pass, p, at, (segment, within, subst (λ l. Contains l t.0) (sym cut.2) (Contains-append_right cut.0 (s ∷ cut.1) t.0 (there s cut.1 t.0 later)))) t.2)
+      (λ last. not_left w i s t.0 counted lies is odd small x.4 (x.5 t.0 last) (pass, p, at, (p.trail, Contains-push p.past p.trail, last)) t.2)
+      (Contains-append_cases cut.1 p.trail t.0 t.1))
+      (k.held i c now pass p at own)
+
+  -- and it isn't started again
+  not_restarted : (w : ℕ) (i : Install) → IsCounted (shape_of m) w → is_even (count_of (content m w)) ≡ false → Contains m.installs i → IsPresent (shape_of m) m.words i → i.word ≡ w
+      → content m w ≡ installed_word i.old (spot_of_install i) → Restarts m i.attempt.desc → ⊥
+  not_restarted w i counted odd c now lies is r = clean_is_out w i counted odd c now lies is r.pass r.p r.at r.own r.clean
 
   module _ (n : Machine) (v : MoveFacts m n) (field : IsField (shape_of m) m.words) (hands_of : HandsFit (shape_of m) m.words m.passes) (odd_stand : OddStand (shape_of m) m.words m.installs) where
     abbrev later : List ℕ

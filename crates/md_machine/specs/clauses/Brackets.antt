@@ -1,7 +1,7 @@
 -- What a status shows of an attempt that a step met in a word before it.
 use Rattle.std.specs.Prelude.{◌≡◌, ℕ, false, List, ◌∷◌, ◌++◌, slice_index, Contains, ◌⊎◌}
 use Rattle.md_words.specs.declared.shape.Shape.{Shape}
-use Rattle.md_words.specs.Content.{count_of, is_even}
+use Rattle.md_words.specs.Content.{count_of, is_even, spot_of, value_of}
 use Rattle.md_words.specs.Status.{serial_of}
 use Rattle.md_words.specs.Place.{desc_status}
 use Rattle.md_words.specs.PlaceAt.{IsCounted}
@@ -40,6 +40,7 @@ pub record WasInstalled (installs : List Install) (word held serial : ℕ) : Typ
   pub made : Contains installs install
   pub there : install.word ≡ word
   pub left : held ≡ installed_word install.old (spot_of_install install)
+  pub spot : spot_of_install install ≡ spot_of (value_of held)
   pub of : install.attempt.serial ≡ serial
 
 -- where two steps met the same content with an odd count, a step between them on the status of the descriptor there
