@@ -27,6 +27,7 @@ use Rattle.md_machine.proofs.clauses.Installs.{InstallsKept, installs-kept, step
 use Rattle.md_machine.proofs.clauses.KnownPast.{known_past-kept}
 use Rattle.md_machine.proofs.clauses.Lanes.{lanes-kept}
 use Rattle.md_machine.proofs.clauses.Loads.{EntriesPast, loads-kept}
+use Rattle.md_machine.proofs.clauses.MetSpots.{met_spots-kept}
 use Rattle.md_machine.proofs.clauses.Mine.{mine-kept}
 use Rattle.md_machine.proofs.clauses.NodeWords.{node_words-kept}
 use Rattle.md_machine.proofs.clauses.Numbered.{numbered-kept}
@@ -73,6 +74,7 @@ use Rattle.md_machine.specs.clauses.Fronts.{FrontsFit}
 use Rattle.md_machine.specs.clauses.HandKnows.{HandsKnow}
 use Rattle.md_machine.specs.clauses.Hands.{HandsFit}
 use Rattle.md_machine.specs.clauses.Lanes.{LanesApart}
+use Rattle.md_machine.specs.clauses.MetSpots.{MetSpotsExist}
 use Rattle.md_machine.specs.clauses.Mine.{MineAreEnded}
 use Rattle.md_machine.specs.clauses.Loads.{LoadStands}
 use Rattle.md_machine.specs.clauses.NodeWords.{DataStands, NodeWordsStand}
@@ -115,6 +117,7 @@ pub record Invariant (m : Machine) : Type 0 where
   pub won_installs : WonAreInstalls m
   pub own_serials : OwnSerialsMet (shape_of m) m.words m.passes
   pub opening_base : OpeningIsBase (shape_of m) m.opening.placed
+  pub met_spots : MetSpotsExist (shape_of m) m.passes
   pub own_nodes : OwnNodesSeen (shape_of m) m.history m.passes
   pub own_words : OwnWordsStand m
   pub entry_slots : EntriesKeepSlots m
@@ -198,6 +201,7 @@ kept_by m k = record {
   own_serials = k.own_serials;
   own_nodes = k.own_nodes;
   own_words = k.own_words;
+  met_spots = k.met_spots;
   uninstalls = λ pass p at word from value may was choice r. sym (uninstall_value m (rests_of m k) word may.counted
       (record { pass = pass; p = p; at = at; value = value; may = subst (λ c. MayUninstall m p word c value) (sym was) may }) choice r);
   clean = clean_out m k.stamp k.stamps k.installs k.order k.odd_words;
@@ -261,6 +265,7 @@ module _ (M : Meaning) where
           own_nodes = reshape (λ shape. OwnNodesSeen shape n.history n.passes) (own_nodes-kept m n v k.lanes entries.stay k.fronts fronts k.own_nodes);
           own_words = λ pass p at. reshape (λ shape. NodesKeep shape n p) (own_words-kept m n v k.formats.field k.lanes entries.stay k.own_words pass p at);
           opening_base = subst (λ (o : Opening). OpeningIsBase o.shape o.placed) (sym v.opening) k.opening_base;
+          met_spots = reshape (λ shape. MetSpotsExist shape n.passes) (met_spots-kept m n v k.formats.field k.installs k.odd_words installs odd_words k.met_spots);
           own_serials = move (λ shape words. OwnSerialsMet shape words n.passes) (own_serials-kept m n v k.formats.field k.own_serials);
           in_hand = in_hand-kept m n v k.lanes k.hands k.in_hand k.steps_begun;
           steps_begun = steps_begun-kept m n v k.formats.field k.hands k.in_hand k.steps_begun;

@@ -130,6 +130,7 @@ module _ (M : Meaning) where
     own_nodes = λ pass p at e c. absurd (in_none e c);
     own_words = λ pass p at. subst (NodesKeep o.shape (opened o)) (at_one (first_pass o.shape) p pass at).1 (λ node own not place is. tt);
     opening_base = base_alone o.shape o.placed can.placed;
+    met_spots = λ pass p at segment c s i. absurd (no_steps o.shape s (pass, p, at, (segment, c, i)));
     loads = λ pass p at segment c. subst (InPairs (LoadStands o.shape o.words [])) (first_segment o.shape p segment (at_one (first_pass o.shape) p pass at).1 c) tt;
     moved_reads = λ e c. absurd (in_none e c);
     found_reads = λ pass p at segment c. subst (InPairs (ReadFound o.shape [])) (first_segment o.shape p segment (at_one (first_pass o.shape) p pass at).1 c) tt;

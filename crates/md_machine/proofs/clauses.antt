@@ -45,3 +45,4 @@ pub mod OwnWords
 pub mod FreeNodes
 pub mod Clean
 pub mod PresentEntries
+pub mod MetSpots

@@ -19,6 +19,7 @@ use Rattle.md_machine.specs.clauses.HandKnows.{HandsKnow}
 use Rattle.md_machine.specs.clauses.InHand.{HandsLast}
 use Rattle.md_machine.specs.clauses.Lanes.{LanesApart}
 use Rattle.md_machine.specs.clauses.Loads.{LoadsStand}
+use Rattle.md_machine.specs.clauses.MetSpots.{MetSpotsExist}
 use Rattle.md_machine.specs.clauses.Mine.{MineAreEnded}
 use Rattle.md_machine.specs.clauses.NodeWords.{NodeWordsStand}
 use Rattle.md_machine.specs.clauses.Numbered.{EntriesNumbered}
@@ -51,6 +52,7 @@ pub record IsKept (m : Machine) : Type 0 where
   pub undecided : UndecidedStand (shape_of m) m.words m.installs
   pub statuses : StatusesCame (shape_of m) m.words m.passes
   pub brackets : StatusesBracketed m
+  pub met_spots : MetSpotsExist (shape_of m) m.passes
   pub old_slots : OldSlotsStand m
   pub uninstalls : UninstallsKeepValues m
   pub clean : CleanAreOut m

@@ -34,3 +34,4 @@ pub mod FreeNodes
 pub mod Clean
 pub mod Uninstalls
 pub mod PresentEntries
+pub mod MetSpots
