@@ -34,6 +34,7 @@ use Rattle.md_machine.proofs.clauses.Numbered.{numbered-kept}
 use Rattle.md_machine.proofs.clauses.OddWords.{odd_words-kept}
 use Rattle.md_machine.proofs.clauses.OldSlots.{old_slots-kept}
 use Rattle.md_machine.proofs.clauses.Order.{TrailsInOrder, order-kept}
+use Rattle.md_machine.proofs.clauses.OwnBegun.{own_begun-kept}
 use Rattle.md_machine.proofs.clauses.OwnInstalls.{own_installs}
 use Rattle.md_machine.proofs.clauses.OwnNodes.{own_nodes-kept}
 use Rattle.md_machine.proofs.clauses.OwnSerials.{own_serials-kept}
@@ -81,6 +82,7 @@ use Rattle.md_machine.specs.clauses.NodeWords.{DataStands, NodeWordsStand}
 use Rattle.md_machine.specs.clauses.Numbered.{EntriesNumbered}
 use Rattle.md_machine.specs.clauses.OddWords.{OddStand}
 use Rattle.md_machine.specs.clauses.OldSlots.{OldSlotStands}
+use Rattle.md_machine.specs.clauses.OwnBegun.{OwnBegunShown}
 use Rattle.md_machine.specs.clauses.OwnNodes.{OwnNodesSeen}
 use Rattle.md_machine.specs.clauses.OwnSerials.{OwnSerialsMet}
 use Rattle.md_machine.specs.clauses.OwnWords.{NodesKeep, OwnWordsStand}
@@ -118,6 +120,7 @@ pub record Invariant (m : Machine) : Type 0 where
   pub own_serials : OwnSerialsMet (shape_of m) m.words m.passes
   pub opening_base : OpeningIsBase (shape_of m) m.opening.placed
   pub met_spots : MetSpotsExist (shape_of m) m.passes
+  pub own_begun : OwnBegunShown (shape_of m) m.begun m.passes
   pub own_nodes : OwnNodesSeen (shape_of m) m.history m.passes
   pub own_words : OwnWordsStand m
   pub entry_slots : EntriesKeepSlots m
@@ -199,6 +202,7 @@ kept_by m k = record {
   won_installs = k.won_installs;
   own_installs = own_installs m k.installs;
   own_serials = k.own_serials;
+  own_begun = k.own_begun;
   own_nodes = k.own_nodes;
   own_words = k.own_words;
   met_spots = k.met_spots;
@@ -266,6 +270,7 @@ module _ (M : Meaning) where
           own_words = λ pass p at. reshape (λ shape. NodesKeep shape n p) (own_words-kept m n v k.formats.field k.lanes entries.stay k.own_words pass p at);
           opening_base = subst (λ (o : Opening). OpeningIsBase o.shape o.placed) (sym v.opening) k.opening_base;
           met_spots = reshape (λ shape. MetSpotsExist shape n.passes) (met_spots-kept m n v k.formats.field k.installs k.odd_words installs odd_words k.met_spots);
+          own_begun = reshape (λ shape. OwnBegunShown shape n.begun n.passes) (own_begun-kept m n v k.lanes k.own_begun);
           own_serials = move (λ shape words. OwnSerialsMet shape words n.passes) (own_serials-kept m n v k.formats.field k.own_serials);
           in_hand = in_hand-kept m n v k.lanes k.hands k.in_hand k.steps_begun;
           steps_begun = steps_begun-kept m n v k.formats.field k.hands k.in_hand k.steps_begun;

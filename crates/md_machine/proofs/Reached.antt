@@ -1,6 +1,6 @@
 -- A field that may be opened meets the invariant, and so does every machine that events lead to.
 use Rattle.std.proofs.Common.{append-nil, ◌≡◌, ℕ, ◌≤◌, List, [], ◌∷◌, ◌++◌, Some, get_or, refl, sym, ap, ◌∙◌, subst, inl, ⊎_elim, le_refl, arith, ◌≢◌}
-use Rattle.std.proofs.lemmas.Bool.{true≢false}
+use Rattle.std.proofs.lemmas.Bool.{false≢true, true≢false}
 use Rattle.md_words.specs.declared.shape.Shape.{Shape}
 use Rattle.md_words.specs.declared.status.Status.TheVariants.{InPrep}
 use Rattle.md_words.specs.Status.{status_of, reads_of, serial_of, status_word}
@@ -131,6 +131,7 @@ module _ (M : Meaning) where
     own_words = λ pass p at. subst (NodesKeep o.shape (opened o)) (at_one (first_pass o.shape) p pass at).1 (λ node own not place is. tt);
     opening_base = base_alone o.shape o.placed can.placed;
     met_spots = λ pass p at segment c s i. absurd (no_steps o.shape s (pass, p, at, (segment, c, i)));
+    own_begun = λ pass p at a begun. absurd (false≢true begun);
     loads = λ pass p at segment c. subst (InPairs (LoadStands o.shape o.words [])) (first_segment o.shape p segment (at_one (first_pass o.shape) p pass at).1 c) tt;
     moved_reads = λ e c. absurd (in_none e c);
     found_reads = λ pass p at segment c. subst (InPairs (ReadFound o.shape [])) (first_segment o.shape p segment (at_one (first_pass o.shape) p pass at).1 c) tt;

@@ -46,3 +46,4 @@ pub mod FreeNodes
 pub mod Clean
 pub mod PresentEntries
 pub mod MetSpots
+pub mod OwnBegun

@@ -25,6 +25,7 @@ use Rattle.md_machine.specs.clauses.NodeWords.{NodeWordsStand}
 use Rattle.md_machine.specs.clauses.Numbered.{EntriesNumbered}
 use Rattle.md_machine.specs.clauses.OddWords.{OddStand}
 use Rattle.md_machine.specs.clauses.OldSlots.{OldSlotsStand}
+use Rattle.md_machine.specs.clauses.OwnBegun.{OwnBegunShown}
 use Rattle.md_machine.specs.clauses.OwnInstalls.{OwnInstallsShown}
 use Rattle.md_machine.specs.clauses.OwnNodes.{OwnNodesSeen}
 use Rattle.md_machine.specs.clauses.OwnSerials.{OwnSerialsMet}
@@ -66,6 +67,7 @@ pub record IsKept (m : Machine) : Type 0 where
   pub won_installs : WonAreInstalls m
   pub own_installs : OwnInstallsShown m
   pub own_serials : OwnSerialsMet (shape_of m) m.words m.passes
+  pub own_begun : OwnBegunShown (shape_of m) m.begun m.passes
   pub own_nodes : OwnNodesSeen (shape_of m) m.history m.passes
   pub free_nodes : FreeAreUnplaced m
   pub own_words : OwnWordsStand m

@@ -35,3 +35,4 @@ pub mod Clean
 pub mod Uninstalls
 pub mod PresentEntries
 pub mod MetSpots
+pub mod OwnBegun

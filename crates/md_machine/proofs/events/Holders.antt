@@ -27,19 +27,19 @@ one_more_has past trail x s (segment, c, i) = ⊎_elim
     (λ last. (trail ++ x ∷ [], Contains-push past (trail ++ x ∷ []), Contains-append_left trail (x ∷ []) s (subst (λ l. Contains l s) (sym last) i)))
     (Contains-push_cases past trail segment c)
 
-next_has : (x : Step) (p u : PassView) → IsNext x p u → HasStepsOf p u
+pub next_has : (x : Step) (p u : PassView) → IsNext x p u → HasStepsOf p u
 next_has x p u next s has = subst (λ past. InSegments (past ++ u.trail ∷ []) s) (sym next.past) (subst (λ l. InSegments (p.past ++ l ∷ []) s) (sym next.trail) (one_more_has p.past p.trail x s has))
 
 -- segments of the past of a joined pass
 in_past : (u : PassView) (past : List (List Step)) (s : Step) → u.past ≡ past → InSegments past s → InSegments (segments u) s
 in_past u past s e (segment, c, i) = (segment, Contains-append_left u.past (u.trail ∷ []) segment (subst (λ l. Contains l segment) (sym e) c), i)
 
-first_has : (x : Step) (p q u : PassView) → IsBoth x p q u → HasStepsOf p u
+pub first_has : (x : Step) (p q u : PassView) → IsBoth x p q u → HasStepsOf p u
 first_has x p q u both s has =
     let r = one_more_has p.past p.trail x s has in
     in_past u _ s both.past (r.0, Contains-append_left (p.past ++ (p.trail ++ x ∷ []) ∷ []) (q.past ++ q.trail ∷ []) r.0 r.1, r.2)
 
-second_has : (x : Step) (p q u : PassView) → IsBoth x p q u → HasStepsOf q u
+pub second_has : (x : Step) (p q u : PassView) → IsBoth x p q u → HasStepsOf q u
 second_has x p q u both s has = in_past u _ s both.past (has.0, Contains-append_right (p.past ++ (p.trail ++ x ∷ []) ∷ []) (q.past ++ q.trail ∷ []) has.0 has.1, has.2)
 
 pub held_before : (passes later : List PassView) (x : Step) → PassesFrom passes later x → (j : ℕ) (u : PassView) → At later j u → (lane : ℕ) → Contains u.lanes lane → HeldBefore passes lane u

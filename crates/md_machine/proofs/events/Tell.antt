@@ -97,7 +97,7 @@ own_word m p a old value d (slot_old _ _) e may = sym may.0 ∙ e
 own_word m p a old value d (slot_new _ _) e may = sym may.0 ∙ e
 
 -- a lane of both is a lane of one
-joined_of : (shape : Shape) (p q : PassView) (lane : ℕ) → Contains (joined_lanes shape p.lanes q.lanes) lane → Contains p.lanes lane ⊎ Contains q.lanes lane
+pub joined_of : (shape : Shape) (p q : PassView) (lane : ℕ) → Contains (joined_lanes shape p.lanes q.lanes) lane → Contains p.lanes lane ⊎ Contains q.lanes lane
 joined_of shape p q lane c = ⊎_elim (λ l. inl (lane_in p.lanes lane l)) (λ l. inr (lane_in q.lanes lane l))
     (or_cases (is_lane_of p.lanes lane) (is_lane_of q.lanes lane) (in_filter (λ l. is_lane_of p.lanes l || is_lane_of q.lanes l) (range_with_len 0 shape.lanes) lane c).1)
 
