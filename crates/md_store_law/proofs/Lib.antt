@@ -1,1 +1,5 @@
 pub mod Sums
+pub mod States
+pub mod Walking
+pub mod Filling
+pub mod RowHolds

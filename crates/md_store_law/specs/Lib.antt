@@ -1,3 +1,5 @@
 pub mod Store
+pub mod Field
+pub mod Row
 pub mod Needed
 pub mod Laws

@@ -11,10 +11,13 @@
 //! 5. Every counted word but a next word of an unplaced node names no node, or a placed one.
 #![tactic(auto)]
 
+pub use reading::read_off;
 pub use sizes::needed;
 pub use theory::StoreTheory;
 
+mod reading;
 mod sizes;
 #[cfg(test)]
 mod tests;
 pub mod theory;
+mod walks;

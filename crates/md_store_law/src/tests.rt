@@ -1,13 +1,19 @@
 // The theorem over all schedules, and what walks show, at the store; and sizes of small contents.
 ghost use Rattle.md_machine.specs.Legal.{AlwaysMeant};
 ghost use Rattle.md_machine.specs.Theorem.{AlwaysKept, AlwaysGoesOn};
+ghost use Rattle.std.specs.Prelude.{◌≡◌, ◌≤◌, IfOk};
+ghost use Rattle.md_words.specs.Layout.{HasNumbers};
 ghost use Rattle.md_store_law.specs.Store.{store};
+ghost use Rattle.md_store_law.specs.Field.{IsStoreField};
+ghost use Rattle.md_store_law.specs.Row.{row_words};
 
 use super::*;
 use md_history::Contents;
 use md_list_law::list_facts;
 use md_machine::all_schedules;
 use md_queue_law::queue_facts;
+use md_words::Shape;
+use std::alloc::{AllocError, Global};
 use std::test::Fail;
 
 // what the theorem says of stores
@@ -37,5 +43,44 @@ fn nodes_of_small_contents(rt: HostRuntime) -> Result<(), Fail> {
     assert_eq!(rt; needed(&contents), 3);
     contents.put(0, 5, 7)?;
     assert_eq!(rt; needed(&contents), 3);
+    Ok(())
+}
+
+// The words of a field with key 5 and value 6 in its map, and with 9 in its queue.
+fn row_words(alloc: Global, size: usize) -> Result<Vec<u64>, AllocError>
+    requires { 75 ≤ size }
+    ensures { IfOk result (λ words. words.items ≡ row_words size) }
+{
+    let mut words = vec![in alloc; 0; size]?;
+    words[74] = 9;
+    words[73] = 1;
+    words[71] = 6;
+    words[70] = 5;
+    words[69] = 25769803776;
+    words[66] = 25769803776;
+    words[65] = 8589934592;
+    words[6] = 17179869184;
+    Ok(words)
+}
+
+// They are a store.
+fn small_field(alloc: Global, shape: &Shape) -> Result<Vec<u64>, AllocError>
+    requires { HasNumbers shape.now 2 16 3 4 1 64 1 }
+    ensures { IfOk result (λ words. IsStoreField shape.now words.items) }
+{
+    let words = row_words(alloc, shape.words() as usize)?;
+    Ok(words)
+}
+
+#[test]
+fn a_small_field_is_read_off(rt: HostRuntime) -> Result<(), Fail> {
+    let shape = Shape::new(2, 16, 3, 4, 1, 64, 1)?;
+    let words = small_field(rt.alloc(), &shape)?;
+    let contents = read_off(rt.alloc(), &shape, &words)?;
+    assert_eq!(rt; contents.maps().len(), 1);
+    assert_eq!(rt; contents.queues().len(), 1);
+    assert_eq!(rt; needed(&contents), 3);
+    assert_eq!(rt; contents.get(0, 5), Some(6));
+    assert_eq!(rt; contents.queue(0).front().copied(), Some(9));
     Ok(())
 }

@@ -1,0 +1,90 @@
+-- Contents that are filled, map after map and then queue after queue, from the words of a field.
+use Rattle.std.proofs.Common.{◌≡◌, ◌≢◌, ℕ, zero, suc, ◌+◌, ◌<◌, ◌≤◌, ◌++◌, List, [], ◌∷◌, length, replicate, get_or, refl, sym, ap, ◌∙◌, ⊎_elim, arith}
+use Rattle.std.specs.List.{flat_map, range_with_len}
+use Rattle.std.specs.FinMap as fin
+use Rattle.std.proofs.lemmas.Bool.{cases_eq}
+use Rattle.std.proofs.lemmas.List.{length-set, length-replicate, get_or-set_same, get_or-set_other, map-id, append-nil}
+use Rattle.std.proofs.lemmas.List.Concat.{flat_map-append}
+use Rattle.std.proofs.lemmas.List.FromFn.{map-range_with_len_more, fill_by_all}
+use Rattle.md_history.specs.State.{State, Table, empty_state, map_at, queue_at, with_map, with_queue}
+use Rattle.md_machine.specs.LogicalHeap.{LogicalWords}
+use Rattle.md_list_law.specs.Walk.{map_of_pairs}
+use Rattle.md_hash_law.specs.HashTable.{pairs_of_map, maps_of}
+use Rattle.md_queue_law.specs.QueueValues.{queue_values}
+use Rattle.md_store_law.specs.Store.{state_of_store}
+
+-- one more number
+pub range_more : (n : ℕ) → range_with_len 0 (n + 1) ≡ range_with_len 0 n ++ n ∷ []
+range_more n = sym (map-id (range_with_len 0 (n + 1))) ∙ map-range_with_len_more (λ k. k) 0 n n (omega arith)
+    ∙ ap (λ ks. ks ++ n ∷ []) (map-id (range_with_len 0 n))
+
+-- and one more piece
+pub flat_map_range_more : {X : Type 0} (f : ℕ → List X) (n : ℕ) → flat_map f (range_with_len 0 (n + 1)) ≡ flat_map f (range_with_len 0 n) ++ f n
+flat_map_range_more f n = ap (flat_map f) (range_more n) ∙ flat_map-append f (range_with_len 0 n) (n ∷ [])
+    ∙ ap (λ ys. flat_map f (range_with_len 0 n) ++ ys) (append-nil (f n))
+
+-- an element of equal ones, or the same past the end
+get_or-same : {X : Type 0} (n i : ℕ) (x : X) → get_or (replicate n x) i x ≡ x
+get_or-same zero i x = refl
+get_or-same (suc n) zero x = refl
+get_or-same (suc n) (suc i) x = get_or-same n i x
+
+module _ (w : LogicalWords) where
+  -- the maps below a number are filled, and all else is empty
+  pub record MapsFilled (s : State) (count : ℕ) : Type 0 where
+    pub maps : length s.maps ≡ w.shape.maps
+    pub filled : (map : ℕ) → map < count → map_at s map ≡ map_of_pairs (pairs_of_map w map)
+    pub empty : (map : ℕ) → count ≤ map → map_at s map ≡ fin.empty
+    pub queues : s.queues ≡ replicate w.shape.queues []
+
+  -- all maps are filled, and the queues below a number
+  pub record QueuesFilled (s : State) (count : ℕ) : Type 0 where
+    pub maps : s.maps ≡ maps_of w
+    pub queues : length s.queues ≡ w.shape.queues
+    pub filled : (queue : ℕ) → queue < count → queue_at s queue ≡ queue_values w queue
+    pub empty : (queue : ℕ) → count ≤ queue → queue_at s queue ≡ []
+
+  pub maps_begin : MapsFilled (empty_state w.shape.maps w.shape.queues) 0
+  maps_begin = record {
+    maps = length-replicate w.shape.maps _;
+    filled = λ map below. absurd (omega arith);
+    empty = λ map low. get_or-same w.shape.maps map fin.empty;
+    queues = refl;
+  }
+
+  pub maps_on : (s : State) (count : ℕ) → count < w.shape.maps → MapsFilled s count
+      → MapsFilled (with_map s count (map_of_pairs (pairs_of_map w count))) (count + 1)
+  maps_on s count below f = let t = map_of_pairs (pairs_of_map w count) in let maps = f.maps in record {
+    maps = length-set s.maps count t ∙ f.maps;
+    filled = λ map less. ⊎_elim
+        (λ e. ap (λ m. get_or (with_map s count t).maps m fin.empty) e ∙ get_or-set_same s.maps count t fin.empty (omega arith)
+        ∙ ap (λ m. map_of_pairs (pairs_of_map w m)) (sym e))
+        (λ ne. get_or-set_other s.maps count map t fin.empty ne ∙ f.filled map (omega arith))
+        (cases_eq map count);
+    empty = λ map low. let ne : map ≢ count = omega arith in get_or-set_other s.maps count map t fin.empty ne ∙ f.empty map (omega arith);
+    queues = f.queues;
+  }
+
+  pub maps_end : (s : State) → MapsFilled s w.shape.maps → QueuesFilled s 0
+  maps_end s f = record {
+    maps = fill_by_all (λ map. map_of_pairs (pairs_of_map w map)) s.maps w.shape.maps fin.empty f.maps f.filled;
+    queues = ap length f.queues ∙ length-replicate w.shape.queues [];
+    filled = λ queue below. absurd (omega arith);
+    empty = λ queue low. ap (λ qs. get_or qs queue []) f.queues ∙ get_or-same w.shape.queues queue [];
+  }
+
+  pub queues_on : (s : State) (count : ℕ) → count < w.shape.queues → QueuesFilled s count → QueuesFilled (with_queue s count (queue_values w count)) (count + 1)
+  queues_on s count below f = let vs = queue_values w count in let queues = f.queues in record {
+    maps = f.maps;
+    queues = length-set s.queues count vs ∙ f.queues;
+    filled = λ queue less. ⊎_elim
+        (λ e. ap (λ q. get_or (with_queue s count vs).queues q []) e ∙ get_or-set_same s.queues count vs [] (omega arith) ∙ ap (queue_values w) (sym e))
+        (λ ne. get_or-set_other s.queues count queue vs [] ne ∙ f.filled queue (omega arith))
+        (cases_eq queue count);
+    empty = λ queue low. let ne : queue ≢ count = omega arith in get_or-set_other s.queues count queue vs [] ne ∙ f.empty queue (omega arith);
+  }
+
+  pub queues_end : (s : State) → QueuesFilled s w.shape.queues → s ≡ state_of_store w
+  queues_end s f =
+      ap (λ (ms : List Table). record { maps = ms; queues = s.queues }) f.maps
+      ∙ ap (λ (qs : List (List ℕ)). record { maps = maps_of w; queues = qs }) (fill_by_all (queue_values w) s.queues w.shape.queues [] f.queues f.filled)

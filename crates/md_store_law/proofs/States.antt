@@ -1,0 +1,57 @@
+-- States with another map or another queue.
+use Rattle.std.proofs.Common.{◌≡◌, ℕ, ◌+◌, ◌<◌, ◌++◌, List, [], ◌∷◌, length, set, get_or, take, drop, sym, ap, ◌∙◌}
+use Rattle.std.specs.FinMap as fin
+use Rattle.std.proofs.lemmas.List.{set-set, set-get_or, get_or-set_same, drop_more, take_more}
+use Rattle.md_list_law.specs.Walk.{map_of_pairs}
+use Rattle.md_history.specs.State.{State, Table, map_at, queue_at, with_map, with_queue}
+
+abbrev of_maps : State → List Table → State
+of_maps s maps = record { maps = maps; queues = s.queues }
+
+abbrev of_queues : State → List (List ℕ) → State
+of_queues s queues = record { maps = s.maps; queues = queues }
+
+-- what was put last stands
+pub map_at-with_map : (s : State) (map : ℕ) (t : Table) → map < length s.maps → map_at (with_map s map t) map ≡ t
+map_at-with_map s map t below = get_or-set_same s.maps map t fin.empty below
+
+pub queue_at-with_queue : (s : State) (queue : ℕ) (xs : List ℕ) → queue < length s.queues → queue_at (with_queue s queue xs) queue ≡ xs
+queue_at-with_queue s queue xs below = get_or-set_same s.queues queue xs _ below
+
+pub with_map-with_map : (s : State) (map : ℕ) (t u : Table) → with_map (with_map s map t) map u ≡ with_map s map u
+with_map-with_map s map t u = ap (of_maps s) (set-set s.maps map t u)
+
+pub with_queue-with_queue : (s : State) (queue : ℕ) (xs ys : List ℕ) → with_queue (with_queue s queue xs) queue ys ≡ with_queue s queue ys
+with_queue-with_queue s queue xs ys = ap (of_queues s) (set-set s.queues queue xs ys)
+
+-- to put what stands changes nothing
+pub with_map_same : (s : State) (map : ℕ) (t : Table) → map_at s map ≡ t → with_map s map t ≡ s
+with_map_same s map t e = ap (of_maps s) (ap (set s.maps map) (sym e) ∙ set-get_or s.maps map fin.empty)
+
+pub with_queue_same : (s : State) (queue : ℕ) (xs : List ℕ) → queue_at s queue ≡ xs → with_queue s queue xs ≡ s
+with_queue_same s queue xs e = ap (of_queues s) (ap (set s.queues queue) (sym e) ∙ set-get_or s.queues queue _)
+
+-- pairs are put from the last one on: before the pair at `j` those from `i` on, the one after it, were put
+pub pairs_put : (s before later : State) (map : ℕ) (pairs : List (ℕ × ℕ)) (i j : ℕ) → map < length s.maps → j + 1 ≡ i → j < length pairs
+    → before ≡ with_map s map (map_of_pairs (drop i pairs))
+    → later ≡ with_map before map (fin.insert (map_at before map) (get_or pairs j (0, 0)).0 (get_or pairs j (0, 0)).1)
+    → later ≡ with_map s map (map_of_pairs (drop j pairs))
+pairs_put s before later map pairs i j below next inside e f =
+    let p = get_or pairs j (0, 0) in
+    let t = map_of_pairs (drop i pairs) in
+    f ∙ ap (λ b. with_map b map (fin.insert (map_at b map) p.0 p.1)) e
+    ∙ with_map-with_map s map t _
+    ∙ ap (λ u. with_map s map (fin.insert u p.0 p.1)) (map_at-with_map s map t below)
+    ∙ ap (λ ps. with_map s map (map_of_pairs ps)) (ap (λ n. p ∷ drop n pairs) (sym next) ∙ sym (drop_more pairs j (0, 0) inside))
+
+-- values are pushed from the first one on
+pub values_pushed : (s before later : State) (queue : ℕ) (values : List ℕ) (i : ℕ) → queue < length s.queues → i < length values
+    → before ≡ with_queue s queue (take i values)
+    → later ≡ with_queue before queue (queue_at before queue ++ get_or values i 0 ∷ [])
+    → later ≡ with_queue s queue (take (i + 1) values)
+values_pushed s before later queue values i below inside e f =
+    let v = get_or values i 0 in
+    f ∙ ap (λ b. with_queue b queue (queue_at b queue ++ v ∷ [])) e
+    ∙ with_queue-with_queue s queue (take i values) _
+    ∙ ap (λ vs. with_queue s queue (vs ++ v ∷ [])) (queue_at-with_queue s queue (take i values) below)
+    ∙ ap (with_queue s queue) (sym (take_more values i 0 inside))

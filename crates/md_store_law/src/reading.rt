@@ -1,0 +1,98 @@
+// The contents of a field, read off from its words.
+ghost use Rattle.std.specs.Prelude.{◌≡◌, ◌<◌, [], length, IfOk, OnOk};
+ghost use Rattle.std.specs.FinMap as fin;
+ghost use Rattle.md_history.specs.State.{State, map_at, queue_at, with_map, with_queue};
+ghost use Rattle.md_store_law.specs.Store.{state_of_store};
+ghost use Rattle.md_store_law.specs.Field.{logical_words, IsStoreField};
+ghost use Rattle.md_list_law.specs.Walk.{map_of_pairs};
+ghost use Rattle.md_hash_law.specs.HashTable.{pairs_of_map};
+ghost use Rattle.md_queue_law.specs.QueueValues.{queue_values};
+
+use crate::walks::{append_pairs, append_values};
+use md_history::Contents;
+use md_words::Shape;
+use std::alloc::{AllocError, Global};
+
+/// The contents of a field in which every count is even: the pairs of the nodes that its buckets
+/// reach, without the removed ones, and the values behind the heads of its queues. `AllocError` if
+/// memory runs out.
+///
+/// Takes time linear in the heads and the nodes, and that of putting each pair into its map.
+pub fn read_off(alloc: Global, shape: &Shape, words: &[u64]) -> Result<Contents, AllocError>
+    requires { IsStoreField shape.now words.now }
+    ensures { IfOk result (λ c. c ≡ state_of_store (logical_words shape.now words.now)) }
+{
+    let mut contents = Contents::empty(alloc, shape.maps, shape.queues)?;
+    for map in 0..shape.maps {
+        let pairs = pairs_of(alloc, shape, words, map)?;
+        put_pairs(&mut contents, map, &pairs)?;
+    }
+    for queue in 0..shape.queues {
+        let values = values_of(alloc, shape, words, queue)?;
+        push_values(&mut contents, queue, &values)?;
+    }
+    Ok(contents)
+}
+
+// The pairs of a map, by bucket and then by key.
+fn pairs_of(
+    alloc: Global,
+    shape: &Shape,
+    words: &[u64],
+    map: u32,
+) -> Result<Vec<(u64, u64)>, AllocError>
+    requires store { IsStoreField shape.now words.now }
+    requires map { map < shape.now.maps }
+    ensures { IfOk result
+        (λ pairs. pairs.items ≡ pairs_of_map (logical_words shape.now words.now) map) }
+{
+    let mut pairs = Vec::new(alloc);
+    for bucket in 0..shape.buckets {
+        append_pairs(&mut pairs, shape, words, map, bucket)?;
+    }
+    Ok(pairs)
+}
+
+// The values of a queue, in order.
+fn values_of(
+    alloc: Global,
+    shape: &Shape,
+    words: &[u64],
+    queue: u32,
+) -> Result<Vec<u64>, AllocError>
+    requires store { IsStoreField shape.now words.now }
+    requires queue { queue < shape.now.queues }
+    ensures { IfOk result
+        (λ values. values.items ≡ queue_values (logical_words shape.now words.now) queue) }
+{
+    let mut values = Vec::new(alloc);
+    append_values(&mut values, shape, words, queue)?;
+    Ok(values)
+}
+
+// Fills an empty map with pairs. It begins with the last one: of a list of pairs, a finite map has
+// the first that has a key.
+fn put_pairs(contents: &mut Contents, map: u32, pairs: &[(u64, u64)]) -> Result<(), AllocError>
+    requires map { map < length contents.old.maps }
+    requires empty { map_at contents.old map ≡ fin.empty }
+    ensures { OnOk result
+        (contents.new ≡ with_map contents.old map (map_of_pairs pairs.now)) }
+{
+    for i in (0..pairs.len()).rev() {
+        let (key, value) = pairs[i];
+        contents.put(map, key, value)?;
+    }
+    Ok(())
+}
+
+// Fills an empty queue with values.
+fn push_values(contents: &mut Contents, queue: u32, values: &[u64]) -> Result<(), AllocError>
+    requires queue { queue < length contents.old.queues }
+    requires empty { queue_at contents.old queue ≡ [] }
+    ensures { OnOk result (contents.new ≡ with_queue contents.old queue values.now) }
+{
+    for value in values {
+        contents.push(queue, *value)?;
+    }
+    Ok(())
+}

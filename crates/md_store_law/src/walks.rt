@@ -1,0 +1,103 @@
+// Walks along the next words of a field in which no descriptor stands.
+ghost use Rattle.std.specs.Prelude.{◌≡◌, ◌<◌, ◌++◌, length, slice_index, OnOk};
+ghost use Rattle.md_words.specs.Content.{value_of};
+ghost use Rattle.md_words.specs.Layout.{IsNode, node_count};
+ghost use Rattle.md_words.specs.LayoutLaws.{IsField};
+ghost use Rattle.md_machine.specs.LogicalHeap.{next_of};
+ghost use Rattle.md_list_law.specs.Walk.{pairs_from};
+ghost use Rattle.md_list_law.specs.ListShape.{head_word};
+ghost use Rattle.md_queue_law.specs.QueueValues.{queue_values};
+ghost use Rattle.md_store_law.specs.Field.{logical_words, IsStoreField};
+
+use md_words::{Content, Shape};
+use std::alloc::AllocError;
+
+/// Appends the pairs of a bucket, in rising order of their keys, without the removed ones.
+pub(crate) fn append_pairs(
+    pairs: &mut Vec<(u64, u64)>,
+    shape: &Shape,
+    words: &[u64],
+    map: u32,
+    bucket: u32,
+) -> Result<(), AllocError>
+    requires store { IsStoreField shape.now words.now }
+    requires map { map < shape.now.maps }
+    requires bucket { bucket < shape.now.buckets }
+    ensures { OnOk result (pairs.new.items ≡ pairs.old.items
+        ++ pairs_from (logical_words shape.now words.now) (head_word shape.now map bucket)) }
+{
+    let mut value = value_at(words, shape.map_head(map, bucket as u64));
+    for step in 0..node_count(shape) {
+        let node = value / 2;
+        if node == 0 {
+            return Ok(());
+        }
+        value = next_of(shape, words, node);
+        if value % 2 == 0 {
+            pairs.push(pair_of(shape, words, node))?;
+        }
+    }
+    Ok(())
+}
+
+/// Appends the values of a queue, in order.
+pub(crate) fn append_values(
+    values: &mut Vec<u64>,
+    shape: &Shape,
+    words: &[u64],
+    queue: u32,
+) -> Result<(), AllocError>
+    requires store { IsStoreField shape.now words.now }
+    requires queue { queue < shape.now.queues }
+    ensures { OnOk result (values.new.items ≡ values.old.items
+        ++ queue_values (logical_words shape.now words.now) queue) }
+{
+    let mut node = value_at(words, shape.queue_head(queue)) / 2;
+    for step in 0..node_count(shape) {
+        let next = next_of(shape, words, node);
+        if next == 0 {
+            return Ok(());
+        }
+        node = next / 2;
+        values.push(pair_of(shape, words, node).1)?;
+    }
+    Ok(())
+}
+
+// The number of nodes: no walk along next words is longer.
+#[tactic(auto, unfolding(md_words::specs::Layout::node_count))]
+fn node_count(shape: &Shape) -> u32
+    ensures { result ≡ node_count shape.now }
+{
+    shape.base + shape.lanes * shape.nodes
+}
+
+// The value of a counted word.
+fn value_at(words: &[u64], word: u32) -> u32
+    requires { word < length words.now }
+    ensures { result ≡ value_of (slice_index words.now word) }
+{
+    Content::of(words[word as usize]).value
+}
+
+// The value of a node's next word.
+fn next_of(shape: &Shape, words: &[u64], node: u32) -> u32
+    requires field { IsField shape.now words.now }
+    requires node { IsNode shape.now node }
+    ensures { result ≡ next_of (logical_words shape.now words.now) node }
+{
+    value_at(words, shape.node_next(node))
+}
+
+// The key and the value of a node.
+fn pair_of(shape: &Shape, words: &[u64], node: u32) -> (u64, u64)
+    requires field { IsField shape.now words.now }
+    requires node { IsNode shape.now node }
+    ensures { let w = logical_words shape.now words.now in
+        result ≡ (w.key_of node, w.value_of_node node) }
+{
+    (
+        words[shape.node_key(node) as usize],
+        words[shape.node_value(node) as usize],
+    )
+}
