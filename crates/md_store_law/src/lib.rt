@@ -1,5 +1,5 @@
 //! The store as a theory of the machine: the hash tables of all maps together with all queues, over
-//! fields of any shape.
+//! fields of any shape. `read_off` gives the contents of a field from its words.
 //!
 //! What follows for a program whose transactions leave these certificates, by `all_schedules`:
 //!
