@@ -4,11 +4,6 @@ pub mod clauses
 pub mod fates
 mod Invariant
 mod Reached
-mod RowsHold
-mod Walking
-mod StoppedRowHolds
-mod HelpedRowHolds
-mod MovedRowHolds
 pub mod resolutions
 mod Refusing
 pub mod chain

@@ -11,10 +11,7 @@ pub mod Event
 pub mod Moved
 pub mod clauses
 pub mod Theorem
-pub mod Walk
-pub mod Rows
 pub mod Refused
-pub mod Schedules
 pub mod Legal
 pub mod GoesOn
 pub mod Installs

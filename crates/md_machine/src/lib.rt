@@ -8,7 +8,7 @@ pub use certificate::{Certificate, Change, Fact, NewNode, TidyChange, WordValue}
 pub use node::{PlacedNode, Structure};
 pub use opening::Opening;
 pub use pass::PassView;
-pub use rows::{clearing_row, placed_laws, refused_events, worked_rows};
+pub use rows::{placed_laws, refused_events};
 pub use step::{Kind, Step};
 pub use theory::{Theory, all_schedules, schedules_are_serial};
 

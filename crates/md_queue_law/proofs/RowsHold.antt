@@ -14,14 +14,13 @@ use Rattle.md_machine.specs.declared.node.Structure.{Structure}
 use Rattle.md_machine.specs.declared.node.Structure.TheVariants.{Queue}
 use Rattle.md_machine.specs.LogicalHeap.{LogicalHeap, Holds}
 use Rattle.md_machine.specs.Meaning.{Stands, TidyStands, after_certificate}
-use Rattle.md_machine.specs.Rows.{small_shape}
 use Rattle.md_queue_law.specs.QueueShape.{StandInLine, QueueShape}
 use Rattle.md_queue_law.specs.QueueMeaning.{IsQueueHeap, queue_meaning}
 use Rattle.md_queue_law.specs.Laws.QueueLaws.{queue_lawful}
 use Rattle.md_queue_law.specs.QueueCertificates.{Seen, has_key, has_next}
 use Rattle.md_queue_law.specs.Laws.Following.{put_other}
 use Rattle.md_queue_law.specs.Laws.Looking.{IsThere}
-use Rattle.md_queue_law.specs.Rows.{empty_heap, enqueues_9, one_value, enqueues_8, two_values, moves_tail, moved, has_9, has_8, looks_at_2, looks_at_3, dequeues_9, one_left, finds_8, dequeues_8, none_left, finds_none, WorkedRows}
+use Rattle.md_queue_law.specs.Rows.{WorkedRows, dequeues_8, dequeues_9, empty_heap, enqueues_8, enqueues_9, finds_8, finds_none, has_8, has_9, looks_at_2, looks_at_3, moved, moves_tail, none_left, one_left, one_value, queue_shape, two_values}
 
 -- the dummy is the one node that is placed at first
 only_dummy : (node : ℕ) (s : Structure) → empty_heap.placed node ≡ Some s → (node ≡ 1) × (s ≡ Queue 0)
@@ -74,7 +73,7 @@ stands_with h c recorded old facts fresh = record { recorded = recorded; old = o
 still_valid : (h : LogicalHeap) (c : Certificate) → IsQueueHeap h → queue_meaning.certifies h.words.shape c → Stands h c → IsQueueHeap (after_certificate h c)
 still_valid h c valid certifies stands = ((queue_lawful.certificate h c valid certifies stands).1).valid
 
-enqueues_9_certifies : queue_meaning.certifies small_shape enqueues_9
+enqueues_9_certifies : queue_meaning.certifies queue_shape enqueues_9
 unfolding address link_value node_count
 enqueues_9_certifies = (
   lit< tt,
@@ -101,7 +100,7 @@ enqueues_9_stands = stands_with empty_heap enqueues_9 (All-nil (IsThere empty_he
 one_valid : IsQueueHeap one_value
 one_valid = still_valid empty_heap enqueues_9 empty_valid enqueues_9_certifies enqueues_9_stands
 
-enqueues_8_certifies : queue_meaning.certifies small_shape enqueues_8
+enqueues_8_certifies : queue_meaning.certifies queue_shape enqueues_8
 unfolding address link_value node_count
 enqueues_8_certifies = (
   lit< tt,
@@ -128,7 +127,7 @@ enqueues_8_stands = stands_with one_value enqueues_8 (All-nil (IsThere one_value
 two_valid : IsQueueHeap two_values
 two_valid = still_valid one_value enqueues_8 one_valid enqueues_8_certifies enqueues_8_stands
 
-moves_tidies : queue_meaning.tidies small_shape moves_tail
+moves_tidies : queue_meaning.tidies queue_shape moves_tail
 unfolding address link_value
 moves_tidies = record { queue = 0; from = 1; to = 2; within = lit< tt; change = refl; nodes = refl; facts = refl }
 
@@ -159,7 +158,7 @@ there word value = record { word = word; value = value }
 both_seen : List Seen
 both_seen = record { node = 2; value = 9 } ∷ record { node = 3; value = 8 } ∷ []
 
-looks_at_2_certifies : queue_meaning.certifies small_shape looks_at_2
+looks_at_2_certifies : queue_meaning.certifies queue_shape looks_at_2
 unfolding address link_value both_seen
 looks_at_2_certifies = (
   lit< tt,
@@ -182,7 +181,7 @@ looks_at_2_stands = stands_with moved looks_at_2
     (All-cons (IsThere moved) (there 65 2) (there 69 4 ∷ there 72 6 ∷ []) refl (two (IsThere moved) (there 69 4) (there 72 6) refl refl))
     (All-nil (IsOld moved)) (two (Holds moved) has_9 has_8 holds_9 holds_8) (All-nil (IsFresh moved))
 
-looks_at_3_certifies : queue_meaning.certifies small_shape looks_at_3
+looks_at_3_certifies : queue_meaning.certifies queue_shape looks_at_3
 unfolding address link_value both_seen
 looks_at_3_certifies = (
   lit< tt,
@@ -206,7 +205,7 @@ looks_at_3_stands = stands_with moved looks_at_3
     (All-cons (IsThere moved) (there 69 4) (there 72 6 ∷ there 75 0 ∷ []) refl (two (IsThere moved) (there 72 6) (there 75 0) refl refl)))
     (All-nil (IsOld moved)) (two (Holds moved) has_9 has_8 holds_9 holds_8) (All-nil (IsFresh moved))
 
-dequeues_9_certifies : queue_meaning.certifies small_shape dequeues_9
+dequeues_9_certifies : queue_meaning.certifies queue_shape dequeues_9
 unfolding address link_value
 dequeues_9_certifies = (lit< tt, inl (record { dummy = 1; first = 2; value = 9; reply = refl; recorded = refl; changes = refl; nodes = refl; facts = refl }))
 
@@ -222,7 +221,7 @@ still_holds_8 : Holds one_left has_8
 unfolding address
 still_holds_8 = record { placed = refl; key = tt; value = refl; next = tt }
 
-finds_8_certifies : queue_meaning.certifies small_shape finds_8
+finds_8_certifies : queue_meaning.certifies queue_shape finds_8
 unfolding address link_value
 finds_8_certifies = (lit< tt, inl (record { dummy = 2; first = 3; value = 8; reply = refl; recorded = refl; changes = refl; nodes = refl; facts = refl }))
 
@@ -231,7 +230,7 @@ unfolding address
 finds_8_stands = stands_with one_left finds_8 (two (IsThere one_left) (there 65 4) (there 72 6) refl refl) (All-nil (IsOld one_left))
     (one (Holds one_left) has_8 still_holds_8) (All-nil (IsFresh one_left))
 
-dequeues_8_certifies : queue_meaning.certifies small_shape dequeues_8
+dequeues_8_certifies : queue_meaning.certifies queue_shape dequeues_8
 unfolding address link_value
 dequeues_8_certifies = (lit< tt, inl (record { dummy = 2; first = 3; value = 8; reply = refl; recorded = refl; changes = refl; nodes = refl; facts = refl }))
 
@@ -244,7 +243,7 @@ dequeues_8_stands = stands_with one_left dequeues_8 (one (IsThere one_left) (the
 none_valid : IsQueueHeap none_left
 none_valid = still_valid one_left dequeues_8 left_valid dequeues_8_certifies dequeues_8_stands
 
-finds_none_certifies : queue_meaning.certifies small_shape finds_none
+finds_none_certifies : queue_meaning.certifies queue_shape finds_none
 unfolding address link_value
 finds_none_certifies = (lit< tt, inr (record { dummy = 3; reply = refl; recorded = refl; changes = refl; nodes = refl; facts = refl }))
 

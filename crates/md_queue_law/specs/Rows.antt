@@ -1,5 +1,7 @@
 -- Worked rows on a small field: two values are enqueued, the tail follows late, and they are looked at and dequeued.
 use Rattle.std.specs.Prelude.{◌≡◌, ℕ, List, [], ◌∷◌, replicate, Some, None}
+use Rattle.std.proofs.Common.{lit≤}
+use Rattle.md_words.specs.declared.shape.Shape.{Shape}
 use Rattle.md_history.specs.declared.acts.Op.TheVariants.{Enqueue, Dequeue, Front, Line}
 use Rattle.md_history.specs.declared.acts.Reply.TheVariants.{Value, Nothing, Line as TheLine}
 use Rattle.md_history.specs.State.{queue_at}
@@ -9,13 +11,34 @@ use Rattle.md_machine.specs.declared.certificate.TidyChange.{TidyChange}
 use Rattle.md_machine.specs.declared.node.Structure.TheVariants.{Queue}
 use Rattle.md_machine.specs.LogicalHeap.{LogicalHeap, put}
 use Rattle.md_machine.specs.Meaning.{Stands, TidyStands, after_certificate, after_tidy}
-use Rattle.md_machine.specs.Rows.{small_shape}
 use Rattle.md_queue_law.specs.QueueMeaning.{queue_meaning}
+
+-- two lanes of 16 nodes, one base node, one map of 64 buckets and one queue
+abbrev pub queue_shape : Shape
+queue_shape = record {
+  lanes = 2;
+  nodes = 16;
+  base = 1;
+  tries = 4;
+  maps = 1;
+  buckets = 64;
+  queues = 1;
+  in_range = record {
+    lanes_fit = (lit≤ tt, lit≤ tt);
+    nodes_fit = (lit≤ tt, lit≤ tt);
+    base_fits = lit≤ tt;
+    tries_fit = (lit≤ tt, lit≤ tt);
+    maps_fit = (lit≤ tt, lit≤ tt);
+    buckets_fit = (lit≤ tt, lit≤ tt);
+    queues_fit = lit≤ tt;
+  };
+  fits = lit≤ tt;
+}
 
 -- the head, word 65, and the tail, word 66, name the dummy, node 1
 abbrev pub empty_heap : LogicalHeap
 empty_heap = record {
-  words = record { shape = small_shape; value = put (put (λ word. 0) 65 2) 66 2; key_of = λ node. 0; value_of_node = λ node. 0 };
+  words = record { shape = queue_shape; value = put (put (λ word. 0) 65 2) 66 2; key_of = λ node. 0; value_of_node = λ node. 0 };
   placed = put (λ node. None) 1 (Some (Queue 0));
 }
 
@@ -148,13 +171,13 @@ finds_none = record {
 pub record IsCertified (h : LogicalHeap) (values : List ℕ) (c : Certificate) : Type 0 where
   pub valid : queue_meaning.valid h
   pub holds : queue_at (queue_meaning.state h.words) 0 ≡ values
-  pub certifies : queue_meaning.certifies small_shape c
+  pub certifies : queue_meaning.certifies queue_shape c
   pub stands : Stands h c
 
 pub record IsTidy (h : LogicalHeap) (values : List ℕ) (t : TidyChange) : Type 0 where
   pub valid : queue_meaning.valid h
   pub holds : queue_at (queue_meaning.state h.words) 0 ≡ values
-  pub tidies : queue_meaning.tidies small_shape t
+  pub tidies : queue_meaning.tidies queue_shape t
   pub stands : TidyStands h t
 
 pub record WorkedRows : Type 0 where

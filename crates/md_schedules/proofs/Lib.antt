@@ -1,0 +1,4 @@
+mod Walking
+mod Certifying
+mod walks
+mod RowsHold

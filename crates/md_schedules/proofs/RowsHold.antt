@@ -1,0 +1,67 @@
+-- The worked schedules are runs of the machine, and lead where they say.
+use Rattle.std.proofs.Common.{List, ◌++◌, refl}
+use Rattle.md_words.specs.Content.{value_of, count_of, is_even, counted_word, spot_value, spot_of}
+use Rattle.md_words.specs.Status.{status_word, status_of, reads_of, serial_of}
+use Rattle.md_words.specs.Layout.{words_of, node_count, desc_count, address}
+use Rattle.md_words.specs.PlaceAt.{place_at}
+use Rattle.md_machine.specs.Event.{Event}
+use Rattle.md_machine.specs.Meaning.{Meaning}
+use Rattle.md_schedules.specs.Field.{small_shape}
+use Rattle.md_schedules.specs.Transactions.{beginning, finds, inserting, inserts, misses}
+use Rattle.md_schedules.specs.Schedules.{HelpedRow, MovedRow, StoppedRow, aborting, completing, finding, helping, losing, missing, moving, noting, overtaking, stopping, winning}
+use Rattle.md_schedules.specs.Clearing.{ClearingRow, clearing, installed, installing}
+use Rattle.md_schedules.proofs.Walking.{Walks, walk_on, walk_runs}
+use Rattle.md_schedules.proofs.walks.Beginning.{begins, m0, m5}
+use Rattle.md_schedules.proofs.walks.Inserting.{inserts_next, m13}
+use Rattle.md_schedules.proofs.walks.Clearing.{clears, installs}
+use Rattle.md_schedules.proofs.walks.Aborting.{aborts}
+use Rattle.md_schedules.proofs.walks.Missing.{misses_next}
+use Rattle.md_schedules.proofs.walks.Completing.{completes}
+use Rattle.md_schedules.proofs.walks.Finding.{finds_next}
+use Rattle.md_schedules.proofs.walks.Noting.{notes, r8}
+use Rattle.md_schedules.proofs.walks.Overtaking.{overtakes, r20}
+use Rattle.md_schedules.proofs.walks.Winning.{wins}
+use Rattle.md_schedules.proofs.walks.Losing.{loses}
+
+module _ (M : Meaning) where
+  pub clearing_row : ClearingRow M
+  unfolding value_of count_of is_even counted_word spot_value spot_of
+      status_word status_of reads_of serial_of words_of node_count desc_count address place_at
+  clearing_row = record {
+    installs = walk_runs M m0 installing (installs M);
+    stands = refl;
+    clears = walk_runs M installed clearing (clears M);
+    status = refl;
+    left = refl;
+  }
+
+  -- a schedule in which pass 0 makes its insert first
+  after_insert : M.certifies small_shape (inserts 2) → (es : List Event) → Walks M m13 es → Walks M m0 (beginning ++ inserting 0 0 2 ++ es)
+  after_insert ins es rest = walk_on M m0 beginning (inserting 0 0 2 ++ es) (begins M) (walk_on M m5 (inserting 0 0 2) es (inserts_next M ins) rest)
+
+  stops : M.certifies small_shape (inserts 2) → M.certifies small_shape misses → Walks M m0 stopping
+  stops ins mis = after_insert ins (aborting ++ missing) (walk_on M m13 aborting missing (aborts M) (misses_next M mis))
+
+  helps : M.certifies small_shape (inserts 2) → M.certifies small_shape finds → Walks M m0 helping
+  helps ins fin = after_insert ins (completing ++ finding) (walk_on M m13 completing finding (completes M ins) (finds_next M fin))
+
+  overtaken : M.certifies small_shape (inserts 18) → M.certifies small_shape misses → Walks M m0 moving
+  overtaken late mis =
+      walk_on M m0 beginning (noting ++ overtaking ++ winning ++ losing) (begins M)
+      (walk_on M m5 noting (overtaking ++ winning ++ losing) (notes M mis)
+      (walk_on M r8 overtaking (winning ++ losing) (overtakes M late) (walk_on M r20 winning losing (wins M late) (loses M mis))))
+
+  pub stopped_row : M.certifies small_shape (inserts 2) → M.certifies small_shape misses → StoppedRow M
+  unfolding value_of count_of is_even counted_word spot_value spot_of
+      status_word status_of reads_of serial_of words_of node_count desc_count address place_at
+  stopped_row ins mis = record { runs = walk_runs M m0 stopping (stops ins mis); word = refl; status = refl; fates = refl; tags = refl }
+
+  pub helped_row : M.certifies small_shape (inserts 2) → M.certifies small_shape finds → HelpedRow M
+  unfolding value_of count_of is_even counted_word spot_value spot_of
+      status_word status_of reads_of serial_of words_of node_count desc_count address place_at
+  helped_row ins fin = record { runs = walk_runs M m0 helping (helps ins fin); word = refl; fates = refl; tags = refl }
+
+  pub moved_row : M.certifies small_shape (inserts 18) → M.certifies small_shape misses → MovedRow M
+  unfolding value_of count_of is_even counted_word spot_value spot_of
+      status_word status_of reads_of serial_of words_of node_count desc_count address place_at
+  moved_row late mis = record { runs = walk_runs M m0 moving (overtaken late mis); word = refl; status = refl; fates = refl; sound = refl }

@@ -1,0 +1,11 @@
+pub mod Beginning
+pub mod Inserting
+pub mod Aborting
+pub mod Missing
+pub mod Completing
+pub mod Finding
+pub mod Noting
+pub mod Overtaking
+pub mod Winning
+pub mod Losing
+pub mod Clearing

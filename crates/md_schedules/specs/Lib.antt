@@ -1,0 +1,5 @@
+pub mod Walk
+pub mod Field
+pub mod Clearing
+pub mod Transactions
+pub mod Schedules
