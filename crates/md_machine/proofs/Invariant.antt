@@ -40,7 +40,7 @@ use Rattle.md_machine.proofs.clauses.OwnNodes.{own_nodes-kept}
 use Rattle.md_machine.proofs.clauses.OwnSerials.{own_serials-kept}
 use Rattle.md_machine.proofs.clauses.OwnWords.{own_words-kept}
 use Rattle.md_machine.proofs.clauses.Past.{PastDecided, fates_told, past-kept}
-use Rattle.md_machine.proofs.clauses.Placed.{NotedAlways, placed-kept}
+use Rattle.md_machine.proofs.clauses.Placed.{NotedAlways, always_in, placed-kept}
 use Rattle.md_machine.proofs.clauses.PlacedOnce.{AliveOnce, noted_structure, placed_once-kept}
 use Rattle.md_machine.proofs.clauses.PresentEntries.{entries_by_status}
 use Rattle.md_machine.proofs.clauses.Reads.{reads_found, reads_moved}
@@ -197,6 +197,7 @@ kept_by m k = record {
   fates = record { told = fates_told (shape_of m) m.words m.history m.fates k.entries k.past; past = k.known_past };
   fronts = k.fronts;
   placed = λ pass p at x c. noted_structure m k.placed_once x (k.placed pass p at x c);
+  noted = λ pass p at x c. always_in m x (k.placed pass p at x c);
   flags = k.flags;
   node_words = k.node_words;
   won_installs = k.won_installs;

@@ -30,7 +30,7 @@ use Rattle.md_machine.specs.clauses.OwnInstalls.{OwnInstallsShown}
 use Rattle.md_machine.specs.clauses.OwnNodes.{OwnNodesSeen}
 use Rattle.md_machine.specs.clauses.OwnSerials.{OwnSerialsMet}
 use Rattle.md_machine.specs.clauses.OwnWords.{OwnWordsStand}
-use Rattle.md_machine.specs.clauses.Placed.{PlacedStay}
+use Rattle.md_machine.specs.clauses.Placed.{NotedArePlaced, PlacedStay}
 use Rattle.md_machine.specs.clauses.PresentEntries.{EntriesByStatus}
 use Rattle.md_machine.specs.clauses.Reads.{ReadsShow}
 use Rattle.md_machine.specs.clauses.Serials.{EntriesInTurn}
@@ -62,6 +62,7 @@ pub record IsKept (m : Machine) : Type 0 where
   pub fates : FatesByStatuses m
   pub fronts : FrontsFit (shape_of m) m.history m.fates m.passes
   pub placed : PlacedStay m
+  pub noted : NotedArePlaced m
   pub flags : FlaggedAreNoted m
   pub node_words : NodeWordsStand m
   pub won_installs : WonAreInstalls m
