@@ -12,7 +12,7 @@ use Rattle.md_machine.specs.declared.certificate.NewNode.{NewNode}
 use Rattle.md_machine.specs.declared.certificate.TidyChange.{TidyChange}
 use Rattle.md_machine.specs.declared.node.PlacedNode.{PlacedNode}
 use Rattle.md_machine.specs.declared.pass.PassView.{PassView}
-use Rattle.md_machine.specs.LogicalHeap.{LogicalHeap, LogicalWords, next_of}
+use Rattle.md_machine.specs.LogicalHeap.{IsNoUnplacedNext, LogicalHeap, LogicalWords, next_of}
 use Rattle.md_machine.specs.Machine.{Machine, content, shape_of}
 use Rattle.md_machine.specs.Meaning.{Meaning, StandsBy, TidyStandsBy, after_certificate, after_tidy}
 use Rattle.md_machine.specs.Own.{IsOwnNode}
@@ -94,6 +94,8 @@ pub record CertifiedIn (reads : List Read) (writes : List Write) (cs : List Cert
   pub stand : AllStandBy (as_found reads writes h) h cs
   pub words : All (HasWords h.words) (all_nodes cs)
   pub last : All (λ w. (after_wholes (as_found reads writes h) cs).words.value w.word ≡ w.new) writes
+  -- a slot's word is the next word of no node but a placed one, those that the certificates place among them
+  pub rooted : All (λ w. IsNoUnplacedNext (after_wholes h cs) w.word) writes
 
 module _ (M : Meaning) where
   -- a transaction with these reads and slots is certified

@@ -1,9 +1,12 @@
 -- The worked transactions are certified: an insert by its one slot, a look-up by its one read.
-use Rattle.std.proofs.Common.{◌≡◌, ℕ, List, [], ◌∷◌, refl, ap, ◌∙◌, true, None, Some}
+use Rattle.std.proofs.Common.{◌≡◌, ℕ, List, [], ◌∷◌, refl, ap, ◌∙◌, subst, arith, true, None, Some}
 use Rattle.std.specs.Prelude.{is_some, ◌≢◌, option_map, unwrap_or}
 use Rattle.std.specs.List.{All}
 use Rattle.md_words.specs.Content.{value_of}
-use Rattle.md_words.specs.Layout.{address}
+use Rattle.md_words.specs.declared.shape.Shape.{Shape}
+use Rattle.md_words.specs.Layout.{address, IsNode}
+use Rattle.md_words.specs.Place.{bucket_head, node_next}
+use Rattle.md_words.proofs.Places.{address_differs}
 use Rattle.md_history.specs.declared.acts.Reply.{Reply}
 use Rattle.md_history.specs.Act.{act_of}
 use Rattle.md_machine.specs.declared.attempt.Hand.{Hand}
@@ -16,12 +19,12 @@ use Rattle.md_machine.specs.declared.certificate.NewNode.{NewNode}
 use Rattle.md_machine.specs.declared.certificate.WordValue.{WordValue}
 use Rattle.md_machine.specs.declared.pass.PassView.{PassView}
 use Rattle.md_machine.specs.Certified.{CertifiedIn, HasWords, IsCertified, after_wholes, as_found, first_content}
-use Rattle.md_machine.specs.LogicalHeap.{Holds, LogicalHeap}
+use Rattle.md_machine.specs.LogicalHeap.{Holds, IsNoUnplacedNext, LogicalHeap}
 use Rattle.md_machine.specs.Machine.{Machine, shape_of}
 use Rattle.md_machine.specs.Meaning.{Meaning}
 use Rattle.md_machine.specs.Own.{IsOwnNode}
 use Rattle.md_machine.specs.Resolution.{InEveryResolution}
-use Rattle.md_schedules.specs.Field.{bucket, link_to}
+use Rattle.md_schedules.specs.Field.{bucket, link_to, small_shape}
 use Rattle.md_schedules.specs.Transactions.{inserted_change, inserted_node, inserts, looks_up}
 use Rattle.md_schedules.proofs.Walking.{none_differ, one_differs, only_none, only_one}
 
@@ -36,12 +39,17 @@ insert_slot node = record { slot = 0; word = bucket; old = 0; new = link_to node
 abbrev by_insert : ℕ → LogicalHeap → LogicalHeap
 by_insert node heap = as_found [] (insert_slot node ∷ []) heap
 
+-- the bucket's word is the next word of no node
+bucket_rooted : (heap : LogicalHeap) → heap.words.shape ≡ small_shape → IsNoUnplacedNext heap bucket
+bucket_rooted heap shape n exists at = absurd (address_differs small_shape (bucket_head 0 1) (node_next n) (omega arith, omega arith)
+    (subst (λ (s : Shape). IsNode s n) shape exists) (λ e. cc) (at ∙ ap (λ (s : Shape). address s (node_next n)) shape))
+
 -- an insert stands in a heap in which its node isn't placed and has its words
-pub insert_in : (node : ℕ) (heap : LogicalHeap) → heap.placed node ≡ None → HasWords heap.words (inserted_node node)
+pub insert_in : (node : ℕ) (heap : LogicalHeap) → heap.words.shape ≡ small_shape → heap.placed node ≡ None → HasWords heap.words (inserted_node node)
     → (after_wholes (by_insert node heap) (inserts node ∷ [])).words.value bucket ≡ link_to node
     → CertifiedIn [] (insert_slot node ∷ []) (inserts node ∷ []) heap
 unfolding address value_of
-insert_in node heap fresh words last = record {
+insert_in node heap shape fresh words last = record {
   stand = (
     tt,
     record {
@@ -54,6 +62,8 @@ insert_in node heap fresh words last = record {
   );
   words = only_one (HasWords heap.words) (inserted_node node) words;
   last = only_one (λ (w : Write). (after_wholes (by_insert node heap) (inserts node ∷ [])).words.value w.word ≡ w.new) (insert_slot node) last;
+  rooted = only_one (λ (w : Write). IsNoUnplacedNext (after_wholes heap (inserts node ∷ [])) w.word) (insert_slot node)
+      (bucket_rooted (after_wholes heap (inserts node ∷ [])) shape);
 }
 
 -- a look-up stands in a heap in which its facts hold
@@ -74,6 +84,7 @@ look_up_in reply facts r heap first empty hold =
       );
       words = only_none (HasWords heap.words);
       last = only_none (λ (w : Write). (after_wholes (as_found (r ∷ []) [] heap) (looks_up reply r.word facts ∷ [])).words.value w.word ≡ w.new);
+      rooted = only_none (λ (w : Write). IsNoUnplacedNext (after_wholes heap (looks_up reply r.word facts ∷ [])) w.word);
     }
 
 module _ (M : Meaning) (m : Machine) (p : PassView) (h : Hand) where

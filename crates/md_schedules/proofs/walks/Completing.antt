@@ -55,7 +55,7 @@ h23 = after_event h22 (uninstall 1 bucket (standing 0) (link_to 2))
 chain_13 : InEveryResolution m13 (CertifiedIn [] (insert_slot 2 ∷ []) (inserts 2 ∷ []))
 unfolding value_of count_of is_even counted_word spot_value spot_of
     status_word serial_of words_of node_count address place_at
-chain_13 [] r = insert_in 2 (logical_heap m13 []) refl (record { key = refl; value = refl; next = refl }) refl
+chain_13 [] r = insert_in 2 (logical_heap m13 []) refl refl (record { key = refl; value = refl; next = refl }) refl
 chain_13 (k ∷ ks) r = absurd r
 
 module _ (M : Meaning) (ins : M.certifies small_shape (inserts 2)) where

@@ -45,7 +45,7 @@ m13 = after_event m12 (mark_act 0 (inserts 2))
 chain_12 : InEveryResolution m12 (CertifiedIn [] (insert_slot 2 ∷ []) (inserts 2 ∷ []))
 unfolding value_of count_of is_even counted_word spot_value spot_of
     status_word serial_of words_of node_count address place_at
-chain_12 [] r = insert_in 2 (logical_heap m12 []) refl (record { key = refl; value = refl; next = refl }) refl
+chain_12 [] r = insert_in 2 (logical_heap m12 []) refl refl (record { key = refl; value = refl; next = refl }) refl
 chain_12 (k ∷ ks) r = absurd r
 
 module _ (M : Meaning) (ins : M.certifies small_shape (inserts 2)) where

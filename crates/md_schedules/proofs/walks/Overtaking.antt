@@ -58,7 +58,7 @@ r20 = after_event r19 (mark_act 1 (inserts 18))
 chain_19 : InEveryResolution r19 (CertifiedIn [] (insert_slot 18 ∷ []) (inserts 18 ∷ []))
 unfolding value_of count_of is_even counted_word spot_value spot_of
     status_word serial_of words_of node_count address place_at
-chain_19 [] r = insert_in 18 (logical_heap r19 []) refl (record { key = refl; value = refl; next = refl }) refl
+chain_19 [] r = insert_in 18 (logical_heap r19 []) refl refl (record { key = refl; value = refl; next = refl }) refl
 chain_19 (k ∷ ks) r = absurd r
 
 module _ (M : Meaning) (ins : M.certifies small_shape (inserts 18)) where

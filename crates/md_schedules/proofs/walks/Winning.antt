@@ -36,7 +36,7 @@ r24 = after_event r23 (mark_end 1)
 chain_20 : InEveryResolution r20 (CertifiedIn [] (insert_slot 18 ∷ []) (inserts 18 ∷ []))
 unfolding value_of count_of is_even counted_word spot_value spot_of
     status_word serial_of words_of node_count address place_at
-chain_20 [] r = insert_in 18 (logical_heap r20 []) refl (record { key = refl; value = refl; next = refl }) refl
+chain_20 [] r = insert_in 18 (logical_heap r20 []) refl refl (record { key = refl; value = refl; next = refl }) refl
 chain_20 (k ∷ ks) r = absurd r
 
 module _ (M : Meaning) (ins : M.certifies small_shape (inserts 18)) where
