@@ -37,7 +37,8 @@ TrailsBracket shape words passes = EachPair (NotesStanding shape words) passes
 abbrev pub MetStanding : Shape → List ℕ → Step → Type 0
 MetStanding shape words s = MeetsOdd shape s.word (get_or words s.word 0) s
 
-module _ (m : Machine) (stamp : Stamp) (stamps : StampsKept m stamp) (k : InstallsKept (shape_of m) m.words m.installs m.passes) (order : TrailsInOrder (shape_of m) m.passes)
+module _ (m : Machine) (stamp : Stamp) (stamps : StampsKept m stamp) (k : InstallsKept (shape_of m) m.words m.installs m.passes)
+    (order : TrailsInOrder (shape_of m) m.passes)
     (n : Machine) (v : MoveFacts m n) (field : IsField (shape_of m) m.words) (hands : HandsFit (shape_of m) m.words m.passes) (odd_stand : OddStand (shape_of m) m.words m.installs) where
   abbrev later : List ℕ
   later = set m.words v.word v.new
@@ -98,7 +99,8 @@ module _ (m : Machine) (stamp : Stamp) (stamps : StampsKept m stamp) (k : Instal
   brackets-kept = pairs-kept m.passes n.passes v.step (NotesStanding (shape_of m) m.words) (NotesStanding (shape_of m) later) v.from old_brackets new_brackets
 
 -- where a step met what stands in its word, a later status is that of the install that stands there
-standing_install : (shape : Shape) (words : List ℕ) (installs : List Install) (passes : List PassView) → OddStand shape words installs → InstallsKept shape words installs passes
+standing_install : (shape : Shape) (words : List ℕ) (installs : List Install) (passes : List PassView) → OddStand shape words installs
+    → InstallsKept shape words installs passes
     → (s t : Step) → NotesStanding shape words s t → (word held : ℕ) → held ≡ get_or words word 0 → MeetsOdd shape word held s → t.word ≡ status_of_desc shape held
     → (serial : ℕ) × NotesSerial serial t × WasInstalled installs word held serial
 standing_install shape words installs passes odd k s t notes word held now met at =
@@ -125,7 +127,8 @@ standing_install shape words installs passes odd k s t notes word held now met a
       },
     )
 
-module _ (m n : Machine) (v : MoveFacts m n) (field : IsField (shape_of m) m.words) (k : InstallsKept (shape_of m) m.words m.installs m.passes) (odd_stand : OddStand (shape_of m) m.words m.installs)
+module _ (m n : Machine) (v : MoveFacts m n) (field : IsField (shape_of m) m.words)
+    (k : InstallsKept (shape_of m) m.words m.installs m.passes) (odd_stand : OddStand (shape_of m) m.words m.installs)
     (new_k : InstallsKept (shape_of m) (set m.words v.word v.new) n.installs n.passes) (new_odd : OddStand (shape_of m) (set m.words v.word v.new) n.installs) where
   still_installed : (word held serial : ℕ) → WasInstalled m.installs word held serial → WasInstalled n.installs word held serial
   still_installed word held serial w = record { install = w.install; made = v.installs_stay w.install w.made; there = w.there; left = w.left; spot = w.spot; of = w.of }
@@ -134,7 +137,8 @@ module _ (m n : Machine) (v : MoveFacts m n) (field : IsField (shape_of m) m.wor
   old_between s t u was word held first second at = let r = was word held first second at in (r.0, r.1, still_installed word held r.0 r.2)
 
   -- what the new step met stands before it, or after it
-  new_between : (s t : Step) → NotesStanding (shape_of m) m.words s t → NotesStanding (shape_of m) (set m.words v.word v.new) s t → NotesBetween (shape_of m) n.installs s t v.step
+  new_between : (s t : Step) → NotesStanding (shape_of m) m.words s t → NotesStanding (shape_of m) (set m.words v.word v.new) s t
+      → NotesBetween (shape_of m) n.installs s t v.step
   new_between s t before after word held first second at =
       let is : v.word ≡ word = sym v.there ∙ second.there in
       let inside : word < length m.words = let counted = second.counted.0 in omega (arith, counted, field) in
@@ -147,7 +151,8 @@ module _ (m n : Machine) (v : MoveFacts m n) (field : IsField (shape_of m) m.wor
       second.met
 
   -- every event keeps what was noted between
-  pub between-kept : TrailsBracket (shape_of m) m.words m.passes → ((s t : Step) → HasStep m.passes s → NotesStanding (shape_of m) m.words s t → NotesStanding (shape_of m) (set m.words v.word v.new) s t)
+  pub between-kept : TrailsBracket (shape_of m) m.words m.passes
+      → ((s t : Step) → HasStep m.passes s → NotesStanding (shape_of m) m.words s t → NotesStanding (shape_of m) (set m.words v.word v.new) s t)
       → EachTriple (NotesBetween (shape_of m) m.installs) m.passes → EachTriple (NotesBetween (shape_of m) n.installs) n.passes
   between-kept brackets goes = triples-kept m.passes n.passes v.step (NotesBetween (shape_of m) m.installs) (NotesBetween (shape_of m) n.installs) v.from old_between
       (λ pass p at. let last = Contains-push p.past p.trail in

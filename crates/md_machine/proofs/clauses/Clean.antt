@@ -13,7 +13,8 @@ use Rattle.md_machine.specs.clauses.Clean.{CleanAreOut}
 use Rattle.md_machine.specs.clauses.OddWords.{OddStand}
 use Rattle.md_machine.specs.events.Start.{IsClean}
 
-pub clean_out : (m : Machine) (stamp : Stamp) → StampsKept m stamp → InstallsKept (shape_of m) m.words m.installs m.passes → TrailsInOrder (shape_of m) m.passes
+pub clean_out : (m : Machine) (stamp : Stamp) → StampsKept m stamp → InstallsKept (shape_of m) m.words m.installs m.passes
+    → TrailsInOrder (shape_of m) m.passes
     → OddStand (shape_of m) m.words m.installs → CleanAreOut m
 clean_out m stamp stamps k order odd_stand pass p at desc own clean word counted = ⊎_elim
     (λ holds.

@@ -30,7 +30,8 @@ abbrev pub OpeningIsBase : Shape → List PlacedNode → Type 0
 OpeningIsBase shape placed = (lane node : ℕ) → OwnsNode shape lane node → structure_in placed node ≡ None
 
 -- so it is where it places base nodes alone
-pub base_alone : (shape : Shape) (placed : List PlacedNode) → All (λ p. (1 ≤ p.node) × (p.node ≤ shape.base)) placed → OpeningIsBase shape placed
+pub base_alone : (shape : Shape) (placed : List PlacedNode) → All (λ p. (1 ≤ p.node) × (p.node ≤ shape.base)) placed
+    → OpeningIsBase shape placed
 base_alone shape [] all lane node own = refl
 base_alone shape (p ∷ ps) all lane node own = cond_both (p.node == node) (Some p.structure) (structure_in ps node) (λ o. o ≡ None)
     (λ same. let low = (All-head (λ (x : PlacedNode). (1 ≤ x.node) × (x.node ≤ shape.base)) p ps all).1 in let high = ((owner_of_node shape lane node).0 own).0 in let e = eqb-true p.node node same in
@@ -57,27 +58,33 @@ second_none (Some s) y h = absurd (some_none s h)
     some_none s e = cc
 
 -- entries of which none places a node
-none_kept : (es : List HistoryEntry) (choice : List Bool) (node : ℕ) → ((e : HistoryEntry) → Contains es e → structure_in e.placed node ≡ None) → kept_structure es choice node ≡ None
+none_kept : (es : List HistoryEntry) (choice : List Bool) (node : ℕ)
+    → ((e : HistoryEntry) → Contains es e → structure_in e.placed node ≡ None) → kept_structure es choice node ≡ None
 none_kept [] choice node none = refl
 none_kept (e ∷ es) [] node none = refl
 none_kept (e ∷ es) (true ∷ choice) node none = both_none (structure_in e.placed node) (kept_structure es choice node) (none e (here e es)) (none_kept es choice node (λ x c. none x (there e es x c)))
 none_kept (e ∷ es) (false ∷ choice) node none = none_kept es choice node (λ x c. none x (there e es x c))
 
 -- what one entry and those after it don't place
-head_none : (e : HistoryEntry) (es : List HistoryEntry) (b : Bool) (choice : List Bool) (node : ℕ) → kept_structure (e ∷ es) (b ∷ choice) node ≡ None → b ≡ true → structure_in e.placed node ≡ None
+head_none : (e : HistoryEntry) (es : List HistoryEntry) (b : Bool) (choice : List Bool) (node : ℕ)
+    → kept_structure (e ∷ es) (b ∷ choice) node ≡ None → b ≡ true → structure_in e.placed node ≡ None
 head_none e es true choice node h kept = first_none (structure_in e.placed node) (kept_structure es choice node) h
 head_none e es false choice node h kept = absurd (false≢true kept)
 
-tail_none : (e : HistoryEntry) (es : List HistoryEntry) (b : Bool) (choice : List Bool) (node : ℕ) → kept_structure (e ∷ es) (b ∷ choice) node ≡ None → kept_structure es choice node ≡ None
+tail_none : (e : HistoryEntry) (es : List HistoryEntry) (b : Bool) (choice : List Bool) (node : ℕ)
+    → kept_structure (e ∷ es) (b ∷ choice) node ≡ None → kept_structure es choice node ≡ None
 tail_none e es true choice node h = second_none (structure_in e.placed node) (kept_structure es choice node) h
 tail_none e es false choice node h = h
 
-join_none : (e : HistoryEntry) (es : List HistoryEntry) (b : Bool) (choice : List Bool) (node : ℕ) → (b ≡ true → structure_in e.placed node ≡ None) → kept_structure es choice node ≡ None → kept_structure (e ∷ es) (b ∷ choice) node ≡ None
+join_none : (e : HistoryEntry) (es : List HistoryEntry) (b : Bool) (choice : List Bool) (node : ℕ)
+    → (b ≡ true → structure_in e.placed node ≡ None) → kept_structure es choice node ≡ None
+    → kept_structure (e ∷ es) (b ∷ choice) node ≡ None
 join_none e es true choice node one rest = both_none (structure_in e.placed node) (kept_structure es choice node) (one refl) rest
 join_none e es false choice node one rest = rest
 
 -- what a first part doesn't place by earlier fates, the whole doesn't place by later ones, if the rest doesn't place it
-none_on : (seen rest : List HistoryEntry) (known fates : List Fate) (node : ℕ) → length known ≡ length seen → AllStay known fates → AllCommittedSound (entries_of (seen ++ rest)) fates
+none_on : (seen rest : List HistoryEntry) (known fates : List Fate) (node : ℕ) → length known ≡ length seen → AllStay known fates
+    → AllCommittedSound (entries_of (seen ++ rest)) fates
     → ((e : HistoryEntry) → Contains rest e → structure_in e.placed node ≡ None) → kept_structure seen (greatest seen known) node ≡ None → kept_structure (seen ++ rest) (greatest (seen ++ rest) fates) node ≡ None
 none_on [] rest known fates node l a s none h = none_kept rest (greatest rest fates) node none
 none_on (e ∷ es) rest [] fates node l a s none h = absurd (omega (arith, l))
@@ -92,7 +99,8 @@ none_is : (x y : Option Structure) → x ≡ None → y ≡ None → is_none (or
 none_is x y a b = ap is_none (both_none x y a b)
 
 -- with what is known of entries, fates and fronts it is placed in no resolution
-pub free_nodes : (m : Machine) → OpeningIsBase (shape_of m) m.opening.placed → FrontsFit (shape_of m) m.history m.fates m.passes → AreOfDistinctAttempts m.history
+pub free_nodes : (m : Machine) → OpeningIsBase (shape_of m) m.opening.placed → FrontsFit (shape_of m) m.history m.fates m.passes
+    → AreOfDistinctAttempts m.history
     → AllCommittedSound (entries_of m.history) m.fates → OwnNodesSeen (shape_of m) m.history m.passes → FreeAreUnplaced m
 free_nodes m base fronts distinct sound seen pass p at node own h =
     let front = fronts pass p at in

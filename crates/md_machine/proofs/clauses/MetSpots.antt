@@ -20,7 +20,8 @@ use Rattle.md_machine.specs.clauses.MetSpots.{MetSpotsExist, NamesSlot}
 use Rattle.md_machine.specs.clauses.OddWords.{OddStand}
 
 -- what stands in a counted word names a slot that exists, if its count is odd
-standing_names : (shape : Shape) (words : List ℕ) (installs : List Install) (passes : List PassView) → OddStand shape words installs → InstallsKept shape words installs passes
+standing_names : (shape : Shape) (words : List ℕ) (installs : List Install) (passes : List PassView) → OddStand shape words installs
+    → InstallsKept shape words installs passes
     → (word : ℕ) → IsCounted shape word → NamesSlot shape (get_or words word 0)
 standing_names shape words installs passes odd_stand k word counted odd =
     let s = odd_stand word counted odd in
@@ -30,7 +31,8 @@ standing_names shape words installs passes odd_stand k word counted odd =
     let spot : spot_of (value_of (get_or words word 0)) ≡ spot_of_install i = ap (λ c. spot_of (value_of c)) s.holds ∙ installed_spot i fits.room exists.1 in
     subst (λ (x : Spot). IsInSet shape x.desc x.slot) (sym spot) exists
 
-module _ (m n : Machine) (v : MoveFacts m n) (field : IsField (shape_of m) m.words) (k : InstallsKept (shape_of m) m.words m.installs m.passes) (odd_stand : OddStand (shape_of m) m.words m.installs)
+module _ (m n : Machine) (v : MoveFacts m n) (field : IsField (shape_of m) m.words)
+    (k : InstallsKept (shape_of m) m.words m.installs m.passes) (odd_stand : OddStand (shape_of m) m.words m.installs)
     (new_k : InstallsKept (shape_of m) (set m.words v.word v.new) n.installs n.passes) (new_odd : OddStand (shape_of m) (set m.words v.word v.new) n.installs) where
   pub met_spots-kept : MetSpotsExist (shape_of m) m.passes → MetSpotsExist (shape_of m) n.passes
   met_spots-kept was pass p at segment c s i counted = ⊎_elim

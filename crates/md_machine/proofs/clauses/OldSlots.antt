@@ -27,13 +27,15 @@ use Rattle.md_machine.specs.clauses.Hands.{HandsFit}
 use Rattle.md_machine.specs.clauses.OddWords.{OddStand}
 use Rattle.md_machine.specs.clauses.OldSlots.{OldSlotStands, old_place, spot_in_word}
 
-module _ (m : Machine) (stamp : Stamp) (stamps : StampsKept m stamp) (k : InstallsKept (shape_of m) m.words m.installs m.passes) (order : TrailsInOrder (shape_of m) m.passes)
+module _ (m : Machine) (stamp : Stamp) (stamps : StampsKept m stamp) (k : InstallsKept (shape_of m) m.words m.installs m.passes)
+    (order : TrailsInOrder (shape_of m) m.passes)
     (n : Machine) (v : MoveFacts m n) (field : IsField (shape_of m) m.words) (hands : HandsFit (shape_of m) m.words m.passes) (odd_stand : OddStand (shape_of m) m.words m.installs) where
   abbrev later : List ℕ
   later = set m.words v.word v.new
 
   -- the old content of a slot that stands in a word stays
-  old_stays : (w : ℕ) → IsCounted (shape_of m) w → is_even (count_of (content m w)) ≡ false → get_or later (old_place (shape_of m) (content m w)) 0 ≡ content m (old_place (shape_of m) (content m w))
+  old_stays : (w : ℕ) → IsCounted (shape_of m) w → is_even (count_of (content m w)) ≡ false
+      → get_or later (old_place (shape_of m) (content m w)) 0 ≡ content m (old_place (shape_of m) (content m w))
   old_stays w counted odd =
       let s = odd_stand w counted odd in
       let i = s.install in
@@ -48,7 +50,9 @@ module _ (m : Machine) (stamp : Stamp) (stamps : StampsKept m stamp) (k : Instal
       subst (λ (x : Spot). get_or later (address (shape_of m) (slot_old x.desc x.slot)) 0 ≡ content m (address (shape_of m) (slot_old x.desc x.slot))) (sym spot) (after.old ∙ sym before.old)
 
   -- what a step met and stands afterwards names the same slot, whose old content stays
-  place_stays : (s : Step) → HasStep m.passes s → (met : MetStanding (shape_of m) later s) → (t : Step) → t.word ≡ old_place (shape_of m) (get_or later s.word 0) → (t.word ≡ old_place (shape_of m) (content m s.word)) × (get_or later t.word 0 ≡ content m t.word)
+  place_stays : (s : Step) → HasStep m.passes s → (met : MetStanding (shape_of m) later s) → (t : Step)
+      → t.word ≡ old_place (shape_of m) (get_or later s.word 0)
+      → (t.word ≡ old_place (shape_of m) (content m s.word)) × (get_or later t.word 0 ≡ content m t.word)
   place_stays s has met t at =
       let same = stood m stamp stamps k order n v field hands odd_stand s has met in
       let was = met_before m stamp stamps k order n v field hands odd_stand s has met in

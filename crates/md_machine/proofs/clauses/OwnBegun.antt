@@ -28,7 +28,8 @@ use Rattle.md_machine.specs.clauses.OwnBegun.{OwnBegunShown}
 use Rattle.md_machine.specs.events.SplitJoin.{given_lanes, given_part, joined_part, kept_lanes, kept_part, moved, spent, with_lanes}
 
 -- an attempt of a list with one more is of the list, or that one
-begun_cases : (bs : List AttemptId) (x a : AttemptId) → was_begun (bs ++ x ∷ []) a ≡ true → (was_begun bs a ≡ true) ⊎ (same_attempt x a ≡ true)
+begun_cases : (bs : List AttemptId) (x a : AttemptId) → was_begun (bs ++ x ∷ []) a ≡ true
+    → (was_begun bs a ≡ true) ⊎ (same_attempt x a ≡ true)
 begun_cases [] x a h = ⊎_elim inr (λ none. absurd (false≢true none)) (or_cases (same_attempt x a) false h)
 begun_cases (b ∷ bs) x a h = ⊎_elim
     (λ this. inl (or_left (same_attempt b a) (was_begun bs a) this))
@@ -40,14 +41,16 @@ begun_right [] cs a h = h
 begun_right (b ∷ bs) cs a h = or_right (same_attempt b a) (was_begun (bs ++ cs) a) (begun_right bs cs a h)
 
 -- an attempt stays in a list of which it is kept
-begun_filter : (keep : AttemptId → Bool) (bs : List AttemptId) (a : AttemptId) → ((b : AttemptId) → same_attempt b a ≡ true → keep b ≡ true) → was_begun bs a ≡ true → was_begun (filter keep bs) a ≡ true
+begun_filter : (keep : AttemptId → Bool) (bs : List AttemptId) (a : AttemptId)
+    → ((b : AttemptId) → same_attempt b a ≡ true → keep b ≡ true) → was_begun bs a ≡ true → was_begun (filter keep bs) a ≡ true
 begun_filter keep [] a kept h = h
 begun_filter keep (b ∷ bs) a kept h = cond_both (keep b) (b ∷ filter keep bs) (filter keep bs) (λ l. was_begun l a ≡ true)
     (λ _. ⊎_elim (λ this. or_left (same_attempt b a) (was_begun (filter keep bs) a) this) (λ later. or_right (same_attempt b a) (was_begun (filter keep bs) a) (begun_filter keep bs a kept later))
     (or_cases (same_attempt b a) (was_begun bs a) h))
     (λ left. ⊎_elim (λ this. absurd (true≢false (sym (kept b this) ∙ left))) (λ later. begun_filter keep bs a kept later) (or_cases (same_attempt b a) (was_begun bs a) h))
 
-module _ (m n : Machine) (v : MoveFacts m n) (apart : LanesApart (shape_of m) m.passes) (was : OwnBegunShown (shape_of m) m.begun m.passes) where
+module _ (m n : Machine) (v : MoveFacts m n) (apart : LanesApart (shape_of m) m.passes)
+    (was : OwnBegunShown (shape_of m) m.begun m.passes) where
   -- the pass made a step for the attempt
   abbrev Made : PassView → AttemptId → Type 0
   Made u a = SomeStepOf u (λ s. s.attempt ≡ Some a)
@@ -59,13 +62,17 @@ module _ (m n : Machine) (v : MoveFacts m n) (apart : LanesApart (shape_of m) m.
   made_still p u a keeps x = let r = keeps x.2.0 (x.0, x.1, x.2.1) in (r.0, r.1, (x.2.0, r.2, x.2.2))
 
   -- a pass that keeps the steps, and of what is pending this attempt
-  shown_still : (j : ℕ) (p u : PassView) → At m.passes j p → HasStepsOf p u → (a : AttemptId) → (was_begun p.pending a ≡ true → was_begun u.pending a ≡ true) → was_begun m.begun a ≡ true → HasDesc (shape_of m) p a.desc → IsShown u a
+  shown_still : (j : ℕ) (p u : PassView) → At m.passes j p → HasStepsOf p u → (a : AttemptId)
+      → (was_begun p.pending a ≡ true → was_begun u.pending a ≡ true) → was_begun m.begun a ≡ true → HasDesc (shape_of m) p a.desc
+      → IsShown u a
   shown_still j p u at keeps a pending begun own = ⊎_elim (λ h. inl (pending h)) (λ x. inr (made_still p u a keeps x)) (was j p at a begun own)
 
-  next : (q : PassView) → q.past ≡ v.p.past → q.trail ≡ v.p.trail ++ v.step ∷ [] → ((lane : ℕ) → Contains q.lanes lane → Contains v.p.lanes lane) → HasStepsOf v.p q
+  next : (q : PassView) → q.past ≡ v.p.past → q.trail ≡ v.p.trail ++ v.step ∷ []
+      → ((lane : ℕ) → Contains q.lanes lane → Contains v.p.lanes lane) → HasStepsOf v.p q
   next q past trail lanes = next_has v.step v.p q (record { past = past; trail = trail; lanes = lanes })
 
-  one_shown : (q : PassView) → q.trail ≡ v.p.trail ++ v.step ∷ [] → HasStepsOf v.p q → HandGoes m n v.p q → (a : AttemptId) → was_begun n.begun a ≡ true → HasDesc (shape_of m) v.p a.desc → IsShown q a
+  one_shown : (q : PassView) → q.trail ≡ v.p.trail ++ v.step ∷ [] → HasStepsOf v.p q → HandGoes m n v.p q → (a : AttemptId)
+      → was_begun n.begun a ≡ true → HasDesc (shape_of m) v.p a.desc → IsShown q a
   one_shown q trail keeps (hand_stays _ begun pending _) a h = shown_still v.pass v.p q v.at keeps a (subst (λ ps. was_begun ps a ≡ true) (sym pending)) (subst (λ bs. was_begun bs a ≡ true) begun h)
   one_shown q trail keeps (hand_changes _ _ _ _ _ begun pending _) a h = shown_still v.pass v.p q v.at keeps a (subst (λ ps. was_begun ps a ≡ true) (sym pending)) (subst (λ bs. was_begun bs a ≡ true) begun h)
   one_shown q trail keeps (hand_leaves _ begun pending _) a h = shown_still v.pass v.p q v.at keeps a (subst (λ ps. was_begun ps a ≡ true) (sym pending)) (subst (λ bs. was_begun bs a ≡ true) begun h)
@@ -87,7 +94,8 @@ module _ (m n : Machine) (v : MoveFacts m n) (apart : LanesApart (shape_of m) m.
       (cases_Bool (same_attempt g.attempt a))
 
   -- an attempt of another pass's lanes was begun before
-  begun_before : (q : PassView) → HandGoes m n v.p q → (j : ℕ) (u : PassView) → j ≢ v.pass → At m.passes j u → (a : AttemptId) → HasDesc (shape_of m) u a.desc → was_begun n.begun a ≡ true → was_begun m.begun a ≡ true
+  begun_before : (q : PassView) → HandGoes m n v.p q → (j : ℕ) (u : PassView) → j ≢ v.pass → At m.passes j u → (a : AttemptId)
+      → HasDesc (shape_of m) u a.desc → was_begun n.begun a ≡ true → was_begun m.begun a ≡ true
   begun_before q (hand_stays _ begun _ _) j u ne at a own h = subst (λ bs. was_begun bs a ≡ true) begun h
   begun_before q (hand_changes _ _ _ _ _ begun _ _) j u ne at a own h = subst (λ bs. was_begun bs a ≡ true) begun h
   begun_before q (hand_ends _ _ _ begun _ _) j u ne at a own h = subst (λ bs. was_begun bs a ≡ true) begun h
@@ -98,7 +106,8 @@ module _ (m n : Machine) (v : MoveFacts m n) (apart : LanesApart (shape_of m) m.
       (begun_cases m.begun (present m desc) a (subst (λ bs. was_begun bs a ≡ true) begun h))
 
   -- a part of the pass has what is pending of its lanes
-  part_shown : (lanes : List ℕ) → ((lane : ℕ) → Contains lanes lane → Contains v.p.lanes lane) → HasStepsOf v.p (with_lanes (shape_of m) lanes (moved v.p)) → (a : AttemptId) → was_begun m.begun a ≡ true
+  part_shown : (lanes : List ℕ) → ((lane : ℕ) → Contains lanes lane → Contains v.p.lanes lane)
+      → HasStepsOf v.p (with_lanes (shape_of m) lanes (moved v.p)) → (a : AttemptId) → was_begun m.begun a ≡ true
       → HasDesc (shape_of m) (with_lanes (shape_of m) lanes (moved v.p)) a.desc → IsShown (with_lanes (shape_of m) lanes (moved v.p)) a
   part_shown lanes fewer keeps a h own =
       let lane : lane_of_desc (shape_of m) a.desc ≡ own.0 = ((owner_of_desc (shape_of m) own.0 a.desc).0 own.2).1 in
@@ -107,10 +116,12 @@ module _ (m n : Machine) (v : MoveFacts m n) (apart : LanesApart (shape_of m) m.
       (λ b same. ap (λ d. is_lane_of lanes (lane_of_desc (shape_of m) d)) (same_parts b a same).0 ∙ ap (is_lane_of lanes) lane ∙ in_lane lanes own.0 own.1))
       h (own.0, fewer own.0 own.1, own.2)
 
-  other_shown : (j : ℕ) (u : PassView) → At m.passes j u → (a : AttemptId) → was_begun m.begun a ≡ true → HasDesc (shape_of m) u a.desc → IsShown u a
+  other_shown : (j : ℕ) (u : PassView) → At m.passes j u → (a : AttemptId) → was_begun m.begun a ≡ true → HasDesc (shape_of m) u a.desc
+      → IsShown u a
   other_shown j u at = was j u at
 
-  shown_on : PassesGo m n v.pass v.p v.step → (j : ℕ) (u : PassView) → At n.passes j u → (a : AttemptId) → was_begun n.begun a ≡ true → HasDesc (shape_of m) u a.desc → IsShown u a
+  shown_on : PassesGo m n v.pass v.p v.step → (j : ℕ) (u : PassView) → At n.passes j u → (a : AttemptId) → was_begun n.begun a ≡ true
+      → HasDesc (shape_of m) u a.desc → IsShown u a
   shown_on (goes_on q is view) j u at a h own = ⊎_elim
       (λ e. subst (λ w. IsShown w a) e.1 (one_shown q view.trail (next q view.past view.trail (λ lane c. subst (λ lanes. Contains lanes lane) view.lanes c)) view.hand a h
       (own.0, subst (λ lanes. Contains lanes own.0) (ap (λ (w : PassView). w.lanes) (sym e.1) ∙ view.lanes) own.1, own.2)))

@@ -31,7 +31,8 @@ no_fewer (f ∷ fs) [] m = absurd m
 no_fewer (f ∷ fs) (g ∷ gs) m = let h = no_fewer fs gs m.1 in omega (arith, h)
 
 -- a node is of the lanes of one pass
-pub one_node_owner : (shape : Shape) (passes : List PassView) (pass other : ℕ) (p q : PassView) (node : ℕ) → LanesApart shape passes → At passes pass p → At passes other q → HasNode shape p node → HasNode shape q node → pass ≡ other
+pub one_node_owner : (shape : Shape) (passes : List PassView) (pass other : ℕ) (p q : PassView) (node : ℕ) → LanesApart shape passes
+    → At passes pass p → At passes other q → HasNode shape p node → HasNode shape q node → pass ≡ other
 one_node_owner shape passes pass other p q node a at there' mine theirs =
     let one = (owner_of_node shape mine.0 node).0 mine.2 in
     let two = (owner_of_node shape theirs.0 node).0 theirs.2 in
@@ -41,7 +42,8 @@ one_node_owner shape passes pass other p q node a at there' mine theirs =
 module _ (m n : Machine) (v : MoveFacts m n) (apart : LanesApart (shape_of m) m.passes) (stay : AllStay m.fates n.fates)
     (fronts : FrontsFit (shape_of m) m.history m.fates m.passes) (later : FrontsFit (shape_of m) n.history n.fates n.passes) (was : OwnNodesSeen (shape_of m) m.history m.passes) where
   -- an entry that was there was seen by the pass that held the lane
-  old_seen : (j : ℕ) (u : PassView) → At n.passes j u → (e : HistoryEntry) → Contains m.history e → (x : PlacedNode) → Contains e.placed x → HasNode (shape_of m) u x.node → Contains u.seen e
+  old_seen : (j : ℕ) (u : PassView) → At n.passes j u → (e : HistoryEntry) → Contains m.history e → (x : PlacedNode)
+      → Contains e.placed x → HasNode (shape_of m) u x.node → Contains u.seen e
   old_seen j u at e c x i own =
       let from = learns_from m n v fronts stay v.passes j u at own.0 own.1 in
       let p = from.1 in
@@ -51,7 +53,8 @@ module _ (m n : Machine) (v : MoveFacts m n) (apart : LanesApart (shape_of m) m.
       within_longer p.seen u.seen n.history e (prefix-trans front.seen (history_grows m n v)) now.seen (omega (arith, one, two, few)) (was from.0 p from.2 e c x i (own.0, from.3, own.2))
 
   -- a new one was seen by the pass that made it
-  seen_by : PassesGo m n v.pass v.p v.step → (j : ℕ) (u : PassView) → At n.passes j u → (e : HistoryEntry) → Contains n.history e → (x : PlacedNode) → Contains e.placed x → HasNode (shape_of m) u x.node → Contains u.seen e
+  seen_by : PassesGo m n v.pass v.p v.step → (j : ℕ) (u : PassView) → At n.passes j u → (e : HistoryEntry) → Contains n.history e
+      → (x : PlacedNode) → Contains e.placed x → HasNode (shape_of m) u x.node → Contains u.seen e
   seen_by (is_split _ _ _ same _) j u at e c x i own = old_seen j u at e (subst (λ es. Contains es e) same c) x i own
   seen_by (is_joined _ _ _ _ _ _ same _) j u at e c x i own = old_seen j u at e (subst (λ es. Contains es e) same c) x i own
   seen_by (goes_on q is view) j u at e c x i own = ⊎_elim

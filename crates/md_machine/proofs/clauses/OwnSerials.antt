@@ -20,7 +20,8 @@ use Rattle.md_machine.specs.Own.{HasDesc}
 use Rattle.md_machine.specs.Trail.{SomeStepOf}
 use Rattle.md_machine.specs.clauses.OwnSerials.{MeetsSerial, OwnSerialsMet}
 
-module _ (m n : Machine) (v : MoveFacts m n) (field : IsField (shape_of m) m.words) (was : OwnSerialsMet (shape_of m) m.words m.passes) where
+module _ (m n : Machine) (v : MoveFacts m n) (field : IsField (shape_of m) m.words)
+    (was : OwnSerialsMet (shape_of m) m.words m.passes) where
   abbrev later : List ℕ
   later = set m.words v.word v.new
 
@@ -29,7 +30,8 @@ module _ (m n : Machine) (v : MoveFacts m n) (field : IsField (shape_of m) m.wor
   IsMet u desc serial = (serial ≡ 0) ⊎ SomeStepOf u (MeetsSerial (shape_of m) desc serial)
 
   -- a serial that stays was met by the pass that held the lane
-  stays_met : (j : ℕ) (u : PassView) → At n.passes j u → (desc : ℕ) → HasDesc (shape_of m) u desc → IsMet u desc (serial_of (status_at m desc))
+  stays_met : (j : ℕ) (u : PassView) → At n.passes j u → (desc : ℕ) → HasDesc (shape_of m) u desc
+      → IsMet u desc (serial_of (status_at m desc))
   stays_met j u at desc own =
       let f = held_before m.passes n.passes v.step v.from j u at own.0 own.1 in
       ⊎_elim inl

@@ -30,7 +30,8 @@ use Rattle.md_machine.specs.clauses.OwnWords.{IsPlain, LastLeft, NodesKeep, OwnW
 use Rattle.md_machine.specs.events.SplitJoin.{given_part, kept_part}
 
 -- steps with one more, which left what stands now, or is on another word, which stays
-last_push : (place : Place) (word was now : ℕ) (steps : List Step) (x : Step) → (x.word ≡ word → (now ≡ x.after) × (x.before ≡ was)) → (x.word ≢ word → now ≡ was)
+last_push : (place : Place) (word was now : ℕ) (steps : List Step) (x : Step) → (x.word ≡ word → (now ≡ x.after) × (x.before ≡ was))
+    → (x.word ≢ word → now ≡ was)
     → LastLeft place word was steps → LastLeft place word now (steps ++ x ∷ [])
 last_push place word was now [] x here else h = ((λ e plain none. (here e).0), tt)
 last_push place word was now (s ∷ steps) x here else h = (
@@ -44,7 +45,8 @@ last_push place word was now (s ∷ steps) x here else h = (
 )
 
 -- the same steps, where the word stays, or held a descriptor
-last_other : (place : Place) (word was now : ℕ) (steps : List Step) → (now ≡ was) ⊎ (IsPlain place was → ⊥) → LastLeft place word was steps → LastLeft place word now steps
+last_other : (place : Place) (word was now : ℕ) (steps : List Step) → (now ≡ was) ⊎ (IsPlain place was → ⊥)
+    → LastLeft place word was steps → LastLeft place word now steps
 last_other place word was now [] how h = tt
 last_other place word was now (s ∷ steps) how h = (
   (λ e plain none. let old = h.0 e plain none in ⊎_elim (λ same. same ∙ old) (λ spot. absurd (spot (subst (IsPlain place) (sym old) plain))) how),
@@ -52,19 +54,22 @@ last_other place word was now (s ∷ steps) how h = (
 )
 
 -- a word of a node that exists exists
-word_exists : (m : Machine) (p : PassView) (node : ℕ) (place : Place) → HasNode (shape_of m) p node → IsWordOf node place → Exists (shape_of m) place
+word_exists : (m : Machine) (p : PassView) (node : ℕ) (place : Place) → HasNode (shape_of m) p node → IsWordOf node place
+    → Exists (shape_of m) place
 word_exists m p node place own is =
     let exists = own_node_exists (shape_of m) own.0 node own.2 in
     ⊎_elim (λ d. ⊎_elim (λ e. subst (Exists (shape_of m)) (sym e) exists) (λ e. subst (Exists (shape_of m)) (sym e) exists) d) (λ e. subst (Exists (shape_of m)) (sym e) exists) is
 
 -- a counted word of a node with an odd count isn't plain
-odd_not_plain : (node held : ℕ) (place : Place) → IsWordOf node place → IsTrue (is_counted place) → is_even (count_of held) ≡ false → IsPlain place held → ⊥
+odd_not_plain : (node held : ℕ) (place : Place) → IsWordOf node place → IsTrue (is_counted place) → is_even (count_of held) ≡ false
+    → IsPlain place held → ⊥
 odd_not_plain node held place is counted odd plain = ⊎_elim
     (λ d. ⊎_elim (λ e. false≢true (subst (λ q. IsTrue (is_counted q)) e counted)) (λ e. false≢true (subst (λ q. IsTrue (is_counted q)) e counted)) d)
     (λ e. true≢false (sym (subst (λ q. IsPlain q held) e plain) ∙ odd))
     is
 
-module _ (m n : Machine) (v : MoveFacts m n) (field : IsField (shape_of m) m.words) (apart : LanesApart (shape_of m) m.passes) (stay : AllStay m.fates n.fates) (was : OwnWordsStand m) where
+module _ (m n : Machine) (v : MoveFacts m n) (field : IsField (shape_of m) m.words) (apart : LanesApart (shape_of m) m.passes)
+    (stay : AllStay m.fates n.fates) (was : OwnWordsStand m) where
   -- a node that isn't placed in every resolution wasn't
   wasnt_always : (node : ℕ) → always_placed n node ≡ false → always_placed m node ≡ false
   wasnt_always node now = ⊎_elim
@@ -74,7 +79,8 @@ module _ (m n : Machine) (v : MoveFacts m n) (field : IsField (shape_of m) m.wor
       (cases_Bool (always_placed m node))
 
   -- the pass after the step, with some of its lanes
-  next_keeps : (q : PassView) → ((lane : ℕ) → Contains q.lanes lane → Contains v.p.lanes lane) → q.trail ≡ v.p.trail ++ v.step ∷ [] → NodesKeep (shape_of m) n q
+  next_keeps : (q : PassView) → ((lane : ℕ) → Contains q.lanes lane → Contains v.p.lanes lane) → q.trail ≡ v.p.trail ++ v.step ∷ []
+      → NodesKeep (shape_of m) n q
   next_keeps q fewer trail node own not place is =
       let word = address (shape_of m) place in
       subst (LastLeft place word (content n word)) (sym trail) (last_push place word (content m word) (content n word) v.p.trail v.step
@@ -83,7 +89,8 @@ module _ (m n : Machine) (v : MoveFacts m n) (field : IsField (shape_of m) m.wor
       (was v.pass v.p v.at node (own.0, fewer own.0 own.1, own.2) (wasnt_always node not) place is))
 
   -- a word of another pass's new node stays, or held a descriptor
-  other_word : (j : ℕ) (u : PassView) → j ≢ v.pass → At m.passes j u → (node : ℕ) → HasNode (shape_of m) u node → always_placed m node ≡ false → (place : Place) → IsWordOf node place
+  other_word : (j : ℕ) (u : PassView) → j ≢ v.pass → At m.passes j u → (node : ℕ) → HasNode (shape_of m) u node
+      → always_placed m node ≡ false → (place : Place) → IsWordOf node place
       → (content n (address (shape_of m) place) ≡ content m (address (shape_of m) place)) ⊎ (IsPlain place (content m (address (shape_of m) place)) → ⊥)
   other_word j u ne at node own not place is =
       let word = address (shape_of m) place in
@@ -104,7 +111,8 @@ module _ (m n : Machine) (v : MoveFacts m n) (field : IsField (shape_of m) m.wor
       (λ other. inl (left_else m n v field word other))
       (cases_eq v.step.word word)
 
-  set_keeps : (q : PassView) → NodesKeep (shape_of m) n q → (j : ℕ) (u : PassView) → At (set m.passes v.pass q) j u → NodesKeep (shape_of m) n u
+  set_keeps : (q : PassView) → NodesKeep (shape_of m) n q → (j : ℕ) (u : PassView) → At (set m.passes v.pass q) j u
+      → NodesKeep (shape_of m) n u
   set_keeps q keeps j u at = ⊎_elim
       (λ e. subst (NodesKeep (shape_of m) n) e.1 keeps)
       (λ o node own not place is. let before = wasnt_always node not in

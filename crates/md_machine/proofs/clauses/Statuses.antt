@@ -168,7 +168,8 @@ noted_came now held came = ⊎_elim
     })
     came
 
-pub statuses_noted : (shape : Shape) (words : List ℕ) (passes : List PassView) → StatusesCame shape words passes → StatusesNoted shape words passes
+pub statuses_noted : (shape : Shape) (words : List ℕ) (passes : List PassView) → StatusesCame shape words passes
+    → StatusesNoted shape words passes
 statuses_noted shape words passes came t (pass, p, at, (segment, c, i)) desc exists there =
     let now = word_at shape words (desc_status desc) in
     let met = came pass p at segment c t i desc exists there in
@@ -178,14 +179,16 @@ statuses_noted shape words passes came t (pass, p, at, (segment, c, i)) desc exi
 abbrev pub StatusStep : (old new : ℕ) → Type 0
 StatusStep old new = (new ≡ old) ⊎ ((AttemptGoesOn old new × IsUndecided old) ⊎ (serial_of old < serial_of new))
 
-pub status_step : (m : Machine) (field : IsField (shape_of m) m.words) (word new : ℕ) → MayLeave (Unit {0}) m word new → (desc : ℕ) → desc < desc_count (shape_of m)
+pub status_step : (m : Machine) (field : IsField (shape_of m) m.words) (word new : ℕ) → MayLeave (Unit {0}) m word new → (desc : ℕ)
+    → desc < desc_count (shape_of m)
     → StatusStep (status_at m desc) (word_at (shape_of m) (set m.words word new) (desc_status desc))
 status_step m field word new left desc exists = at_left (Unit {0}) m field word new (address (shape_of m) (desc_status desc)) (StatusStep (status_at m desc)) left
     (λ c e. subst (λ w. StatusStep (content m w) new) (sym e) (⊎_elim (λ r. inr (inr r.1)) (λ s. inr (inl (s.1, s.2))) (at_place (Unit {0}) m field word new (desc_status desc) exists c e).on))
     (inl refl)
 
 -- every event keeps it
-pub statuses-kept : (m n : Machine) (v : MoveFacts m n) → IsField (shape_of m) m.words → StatusesCame (shape_of m) m.words m.passes → StatusesCame (shape_of m) (set m.words v.word v.new) n.passes
+pub statuses-kept : (m n : Machine) (v : MoveFacts m n) → IsField (shape_of m) m.words → StatusesCame (shape_of m) m.words m.passes
+    → StatusesCame (shape_of m) (set m.words v.word v.new) n.passes
 statuses-kept m n v field was pass p p_at segment c t i desc exists at =
     let how = statuses_go_on (Unit {0}) m field v.word v.new v.left desc exists in
     let now = word_at (shape_of m) (set m.words v.word v.new) (desc_status desc) in

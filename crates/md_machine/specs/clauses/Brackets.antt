@@ -32,7 +32,8 @@ serial_in shape words held = serial_of (word_at shape words (desc_status (desc_i
 -- where a step met what stands in its word now, with an odd count, a later step on the status of the descriptor there
 -- noted its present serial
 abbrev pub NotesStanding : Shape → List ℕ → (s t : Step) → Type 0
-NotesStanding shape words s t = let held = slice_index words s.word in MeetsOdd shape s.word held s → t.word ≡ status_of_desc shape held → NotesSerial (serial_in shape words held) t
+NotesStanding shape words s t = let held = slice_index words s.word in MeetsOdd shape s.word held s
+    → t.word ≡ status_of_desc shape held → NotesSerial (serial_in shape words held) t
 
 -- an attempt with this serial was installed in the word, and that left this content
 pub record WasInstalled (installs : List Install) (word held serial : ℕ) : Type 0 where
@@ -46,12 +47,15 @@ pub record WasInstalled (installs : List Install) (word held serial : ℕ) : Typ
 -- where two steps met the same content with an odd count, a step between them on the status of the descriptor there
 -- noted the serial of the attempt that had been installed so
 abbrev pub NotesBetween : Shape → List Install → (s t u : Step) → Type 0
-NotesBetween shape installs s t u = (word held : ℕ) → MeetsOdd shape word held s → MeetsOdd shape word held u → t.word ≡ status_of_desc shape held
+NotesBetween shape installs s t u = (word held : ℕ) → MeetsOdd shape word held s → MeetsOdd shape word held u
+    → t.word ≡ status_of_desc shape held
     → (serial : ℕ) × NotesSerial serial t × WasInstalled installs word held serial
 
 -- so it is of all steps of a segment
 pub record StatusesBracketed (m : Machine) : Type 0 where
-  pub standing : (pass : ℕ) (p : PassView) → IsAt m pass p → (earlier : List Step) (s : Step) (later : List Step) → Contains (segments p) (earlier ++ s ∷ later)
+  pub standing : (pass : ℕ) (p : PassView) → IsAt m pass p → (earlier : List Step) (s : Step) (later : List Step)
+      → Contains (segments p) (earlier ++ s ∷ later)
       → (t : Step) → Contains later t → NotesStanding (shape_of m) m.words s t
-  pub between : (pass : ℕ) (p : PassView) → IsAt m pass p → (earlier : List Step) (s : Step) (middle : List Step) (u : Step) (later : List Step)
+  pub between : (pass : ℕ) (p : PassView) → IsAt m pass p
+      → (earlier : List Step) (s : Step) (middle : List Step) (u : Step) (later : List Step)
       → Contains (segments p) (earlier ++ s ∷ (middle ++ u ∷ later)) → (t : Step) → Contains middle t → NotesBetween (shape_of m) m.installs s t u

@@ -15,4 +15,5 @@ NamesSlot shape held = is_even (count_of held) ≡ false → IsInSet shape (spot
 
 -- so it is of what steps met in counted words
 abbrev pub MetSpotsExist : Shape → List PassView → Type 0
-MetSpotsExist shape passes = (pass : ℕ) (p : PassView) → get_elem? passes pass ≡ some p → EveryStepOf p (λ s. IsCounted shape s.word → NamesSlot shape s.before × NamesSlot shape s.after)
+MetSpotsExist shape passes = (pass : ℕ) (p : PassView) → get_elem? passes pass ≡ some p
+    → EveryStepOf p (λ s. IsCounted shape s.word → NamesSlot shape s.before × NamesSlot shape s.after)

@@ -21,9 +21,11 @@ old_place shape held = address shape (slot_old (spot_in_word held).desc (spot_in
 -- where a step met what stands in its word now, with an odd count, a later step on the old content of the slot there
 -- found what stands in the slot now
 abbrev pub OldSlotStands : Shape → List ℕ → (s t : Step) → Type 0
-OldSlotStands shape words s t = let held = slice_index words s.word in MeetsOdd shape s.word held s → t.word ≡ old_place shape held → t.before ≡ slice_index words t.word
+OldSlotStands shape words s t = let held = slice_index words s.word in MeetsOdd shape s.word held s → t.word ≡ old_place shape held
+    → t.before ≡ slice_index words t.word
 
 -- so it is of any two steps of a segment
 abbrev pub OldSlotsStand : Machine → Type 0
-OldSlotsStand m = (pass : ℕ) (p : PassView) → IsAt m pass p → (earlier : List Step) (s : Step) (later : List Step) → Contains (segments p) (earlier ++ s ∷ later)
+OldSlotsStand m = (pass : ℕ) (p : PassView) → IsAt m pass p → (earlier : List Step) (s : Step) (later : List Step)
+    → Contains (segments p) (earlier ++ s ∷ later)
     → (t : Step) → Contains later t → OldSlotStands (shape_of m) m.words s t

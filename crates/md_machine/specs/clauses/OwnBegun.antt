@@ -11,5 +11,6 @@ use Rattle.md_machine.specs.Trail.{SomeStepOf}
 
 -- a begun attempt of a pass's lanes is pending, or the pass made a step while it had it in hand
 abbrev pub OwnBegunShown : Shape → List AttemptId → List PassView → Type 0
-OwnBegunShown shape begun passes = (pass : ℕ) (p : PassView) → get_elem? passes pass ≡ some p → (a : AttemptId) → was_begun begun a ≡ true → HasDesc shape p a.desc
+OwnBegunShown shape begun passes = (pass : ℕ) (p : PassView) → get_elem? passes pass ≡ some p → (a : AttemptId)
+    → was_begun begun a ≡ true → HasDesc shape p a.desc
     → (was_begun p.pending a ≡ true) ⊎ SomeStepOf p (λ s. s.attempt ≡ Some a)

@@ -15,4 +15,5 @@ WonIt i s = WonInstall i.attempt s × IsInstallOf i.attempt s i
 
 -- the pass that holds the lane won each install of a present attempt, in whatever segment
 abbrev pub OwnInstallsShown : Machine → Type 0
-OwnInstallsShown m = (i : Install) → Contains m.installs i → IsPresent (shape_of m) m.words i → (pass : ℕ) (p : PassView) → IsAt m pass p → HasDesc (shape_of m) p i.attempt.desc → SomeStepOf p (WonIt i)
+OwnInstallsShown m = (i : Install) → Contains m.installs i → IsPresent (shape_of m) m.words i → (pass : ℕ) (p : PassView)
+    → IsAt m pass p → HasDesc (shape_of m) p i.attempt.desc → SomeStepOf p (WonIt i)
