@@ -1,8 +1,10 @@
 -- Rooms that stand one after another.
-use Rattle.std.proofs.Common.{◌≡◌, ◌<◌, ◌≤◌, ◌+◌, ◌∙◌, ◌++◌, ℕ, zero, suc, List, [], ◌∷◌, Option, Some, None, length, take, drop, get_or, set, replicate, refl, sym, ap, arith, length-append}
+use Rattle.std.proofs.Common.{◌≡◌, ◌<◌, ◌≤◌, ◌+◌, ◌∙◌, ◌++◌, ℕ, zero, suc, List, [], ◌∷◌, Option, Some, None}
+use Rattle.std.proofs.Common.{length, take, drop, get_or, set, replicate, refl, sym, ap, arith, length-append}
 use Rattle.std.specs.Prelude.{sum, slice_get}
 use Rattle.std.proofs.lemmas.List.Sums.{sum_by-cons}
-use Rattle.std.proofs.lemmas.List.{drop-drop, drop-take, drop-append-le, drop_at, length-drop, length-take-le, take-append-drop, take-append-le, take_at, get_or_read}
+use Rattle.std.proofs.lemmas.List.{drop-drop, drop-take, drop-append-le, drop_at, length-drop, get_or_read}
+use Rattle.std.proofs.lemmas.List.{length-take-le, take-append-drop, take-append-le, take_at}
 use Rattle.md_book.specs.declared.commands.BookReply.{BookReply}
 use Rattle.md_orders.specs.declared.rooms.Head.{Head}
 use Rattle.md_orders.specs.declared.rooms.Head.TheVariants.{Unset}
@@ -52,7 +54,8 @@ reply-at (z ∷ sizes) [] numbers i h inside same = absurd (omega arith)
 reply-at (z ∷ sizes) (h0 ∷ heads) numbers zero h inside same = refl
 reply-at (z ∷ sizes) (h0 ∷ heads) numbers (suc i) h inside same =
     reply-at sizes heads (drop z numbers) i h (omega arith) (omega arith)
-    ∙ ap (λ ns. Some (reply_in (get_or heads i h) (take (get_or sizes i 0) ns))) (drop-drop (sum (take i sizes)) z numbers ∙ ap (λ k. drop k numbers) (sym (sum-cons z (take i sizes))))
+    ∙ ap (λ ns. Some (reply_in (get_or heads i h) (take (get_or sizes i 0) ns)))
+    (drop-drop (sum (take i sizes)) z numbers ∙ ap (λ k. drop k numbers) (sym (sum-cons z (take i sizes))))
 
 -- the first numbers are as before where something past them was set
 first-same : (z s : ℕ) (numbers room rest : List ℕ) → z + s ≤ length numbers → take z (take (z + s) numbers ++ room ++ rest) ≡ take z numbers
@@ -70,17 +73,21 @@ rest-set z s n numbers room fits =
     let more = length-append (take (z + s) numbers) room in
     let at : z + s + n ≡ z + (s + n) = omega arith in
     drop-append-le z (take (z + s) numbers ++ room) (drop (z + s + n) numbers) (omega arith)
-    ∙ ap (λ ns. ns ++ drop (z + s + n) numbers) (drop-append-le z (take (z + s) numbers) room (omega arith) ∙ ap (λ ns. ns ++ room) (drop-take z s numbers))
+    ∙ ap (λ ns. ns ++ drop (z + s + n) numbers)
+    (drop-append-le z (take (z + s) numbers) room (omega arith) ∙ ap (λ ns. ns ++ room) (drop-take z s numbers))
     ∙ ap (λ ns. take s (drop z numbers) ++ room ++ ns) (ap (λ k. drop k numbers) at ∙ sym (drop-drop (s + n) z numbers))
 
 -- a head and a room that are set change the one reply
-pub reply-set : (sizes : List ℕ) (heads : List Head) (numbers room : List ℕ) (i : ℕ) (h : Head) → i < length sizes → length heads ≡ length sizes → length numbers ≡ sum sizes → length room ≡ get_or sizes i 0
-    → replies_in sizes (set heads i h) (take (sum (take i sizes)) numbers ++ room ++ drop (sum (take i sizes) + get_or sizes i 0) numbers) ≡ set (replies_in sizes heads numbers) i (reply_in h room)
+pub reply-set : (sizes : List ℕ) (heads : List Head) (numbers room : List ℕ) (i : ℕ) (h : Head)
+    → i < length sizes → length heads ≡ length sizes → length numbers ≡ sum sizes → length room ≡ get_or sizes i 0
+    → replies_in sizes (set heads i h) (take (sum (take i sizes)) numbers ++ room ++ drop (sum (take i sizes) + get_or sizes i 0) numbers)
+    ≡ set (replies_in sizes heads numbers) i (reply_in h room)
 reply-set [] heads numbers room i h inside same whole fits = absurd (omega arith)
 reply-set (z ∷ sizes) [] numbers room i h inside same whole fits = absurd (omega arith)
 reply-set (z ∷ sizes) (h0 ∷ heads) numbers room zero h inside same whole fits =
     let none : 0 + z ≡ z = omega arith in
-    ap (λ (r : Option BookReply). r ∷ replies_in sizes heads (drop z (room ++ drop (0 + z) numbers))) (ap (reply_in h) (take_at room (drop (0 + z) numbers) z fits))
+    ap (λ (r : Option BookReply). r ∷ replies_in sizes heads (drop z (room ++ drop (0 + z) numbers)))
+    (ap (reply_in h) (take_at room (drop (0 + z) numbers) z fits))
     ∙ ap (λ ns. reply_in h room ∷ replies_in sizes heads ns) (drop_at room (drop (0 + z) numbers) z fits ∙ ap (λ k. drop k numbers) none)
 reply-set (z ∷ sizes) (h0 ∷ heads) numbers room (suc i) h inside same whole fits =
     let s = sum (take i sizes) in
@@ -91,9 +98,11 @@ reply-set (z ∷ sizes) (h0 ∷ heads) numbers room (suc i) h inside same whole 
     let fewer = length-drop z numbers in
     let reach : z + s ≤ length numbers = omega arith in
     ap (λ k. replies_in (z ∷ sizes) (h0 ∷ set heads i h) (take k numbers ++ room ++ drop (k + n) numbers)) start_is
-    ∙ ap (λ ns. reply_in h0 ns ∷ replies_in sizes (set heads i h) (drop z (take (z + s) numbers ++ room ++ drop (z + s + n) numbers))) (first-same z s numbers room (drop (z + s + n) numbers) reach)
+    ∙ ap (λ ns. reply_in h0 ns ∷ replies_in sizes (set heads i h) (drop z (take (z + s) numbers ++ room ++ drop (z + s + n) numbers)))
+    (first-same z s numbers room (drop (z + s + n) numbers) reach)
     ∙ ap (λ ns. reply_in h0 (take z numbers) ∷ replies_in sizes (set heads i h) ns) (rest-set z s n numbers room reach)
-    ∙ ap (λ rs. reply_in h0 (take z numbers) ∷ rs) (reply-set sizes heads (drop z numbers) room i h (omega arith) (omega arith) (omega arith) fits)
+    ∙ ap (λ rs. reply_in h0 (take z numbers) ∷ rs)
+    (reply-set sizes heads (drop z numbers) room i h (omega arith) (omega arith) (omega arith) fits)
 
 -- as many starts as sizes
 length-starts : (start : ℕ) (sizes : List ℕ) → length (starts_of start sizes) ≡ length sizes
@@ -107,11 +116,13 @@ pub record IsLineAt (sizes numbers : List ℕ) (at start size : ℕ) : Type 0 wh
   pub inside : start + size ≤ length numbers
 
 -- every line has its index among the starts and the heads
-pub same-lengths : (starts sizes : List ℕ) (heads : List Head) (numbers : List ℕ) → AreRooms starts sizes heads numbers → (length starts ≡ length sizes) × (length heads ≡ length sizes)
+pub same-lengths : (starts sizes : List ℕ) (heads : List Head) (numbers : List ℕ) → AreRooms starts sizes heads numbers
+    → (length starts ≡ length sizes) × (length heads ≡ length sizes)
 same-lengths starts sizes heads numbers rooms = (ap length rooms.starts_are ∙ length-starts 0 sizes, rooms.heads_are)
 
 -- and its room is where the start and the size say
-pub line-at : (starts sizes : List ℕ) (heads : List Head) (numbers : List ℕ) (at start size : ℕ) → AreRooms starts sizes heads numbers → at < length sizes → start ≡ get_or starts at start → size ≡ get_or sizes at size
+pub line-at : (starts sizes : List ℕ) (heads : List Head) (numbers : List ℕ) (at start size : ℕ)
+    → AreRooms starts sizes heads numbers → at < length sizes → start ≡ get_or starts at start → size ≡ get_or sizes at size
     → IsLineAt sizes numbers at start size
 line-at starts sizes heads numbers at start size rooms there start_is size_is =
     let same = same-lengths starts sizes heads numbers rooms in
@@ -125,7 +136,8 @@ line-at starts sizes heads numbers at start size rooms there start_is size_is =
 
 -- where a line's room was set, its reply changed and no other
 pub replies-kept : (starts sizes : List ℕ) (heads : List Head) (numbers old new : List ℕ) (at start size : ℕ) (h : Head) (r : BookReply)
-    → AreRooms starts sizes heads numbers → at < length sizes → IsLineAt sizes numbers at start size → old ≡ numbers → KeepsAt old new start size h r
+    → AreRooms starts sizes heads numbers → at < length sizes → IsLineAt sizes numbers at start size
+    → old ≡ numbers → KeepsAt old new start size h r
     → replies_in sizes (set heads at h) new ≡ set (replies_in sizes heads numbers) at (Some r)
 replies-kept starts sizes heads numbers old new at start size h r rooms there line old_is kept =
     let first = sum (take at sizes) in
@@ -139,7 +151,8 @@ replies-kept starts sizes heads numbers old new at start size h r rooms there li
     ∙ ap (set (replies_in sizes heads numbers) at) kept.is
 
 -- as many replies as rooms
-length-replies : (sizes : List ℕ) (heads : List Head) (numbers : List ℕ) → length heads ≡ length sizes → length (replies_in sizes heads numbers) ≡ length sizes
+length-replies : (sizes : List ℕ) (heads : List Head) (numbers : List ℕ) → length heads ≡ length sizes
+    → length (replies_in sizes heads numbers) ≡ length sizes
 length-replies [] heads numbers same = refl
 length-replies (z ∷ sizes) [] numbers same = absurd (omega arith)
 length-replies (z ∷ sizes) (h ∷ heads) numbers same = ap suc (length-replies sizes heads (drop z numbers) (omega arith))

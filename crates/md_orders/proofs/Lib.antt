@@ -5,6 +5,7 @@ pub mod Lines
 pub mod Apart
 pub mod Rows
 pub mod Packed
+pub mod Ones
 pub mod Placed
 pub mod Noted
 pub mod Texts

@@ -1,5 +1,6 @@
 -- Parts in numbers, and what comes of them again.
-use Rattle.std.proofs.Common.{◌≡◌, ◌<◌, ◌+◌, ◌-◌, ◌*◌, ◌/◌, ◌%◌, ◌^◌, ◌∙◌, ◌++◌, ℕ, suc, List, [], ◌∷◌, All, length, map, take, drop, get_or, set, replicate, refl, sym, ap, arith, append_assoc, length-append}
+use Rattle.std.proofs.Common.{◌≡◌, ◌<◌, ◌+◌, ◌-◌, ◌*◌, ◌/◌, ◌%◌, ◌^◌, ◌∙◌, ◌++◌, refl, sym, ap, arith}
+use Rattle.std.proofs.Common.{ℕ, suc, List, [], ◌∷◌, All, length, map, take, drop, get_or, set, replicate, append_assoc, length-append}
 use Rattle.std.specs.Prelude.{min}
 use Rattle.std.proofs.lemmas.Grind.{take_at_read}
 use Rattle.std.proofs.lemmas.List.{length-map, length-replicate, length-take, length-take-le, set-append_right, map-append}
@@ -27,7 +28,9 @@ part-back p ok =
 -- and so are those of more parts
 parts-back : (ps : List Part) → All IsPart ps → map part_in (map part_number ps) ≡ ps
 parts-back [] ok = refl
-parts-back (p ∷ ps) ok = ap (λ q. q ∷ map part_in (map part_number ps)) (part-back p (All-head IsPart p ps ok)) ∙ ap (λ qs. p ∷ qs) (parts-back ps (All-tail IsPart p ps ok))
+parts-back (p ∷ ps) ok =
+    ap (λ q. q ∷ map part_in (map part_number ps)) (part-back p (All-head IsPart p ps ok))
+    ∙ ap (λ qs. p ∷ qs) (parts-back ps (All-tail IsPart p ps ok))
 
 -- so the parts that a room keeps are those that were put there
 pub parts-kept : (count : ℕ) (parts : List Part) (room : List ℕ) → IsFilled count parts
@@ -36,8 +39,11 @@ parts-kept count parts room filled kept =
     let few = filled.few in
     let zero_part : Part = record { name = 0; taken = 0 } in
     let short = length-take count parts in
-    let whole : length parts ≡ length (take count parts) + length (replicate (MAX_PARTS - length (take count parts)) zero_part) = ap length filled.zeros ∙ length-append (take count parts) (replicate (MAX_PARTS - length (take count parts)) zero_part) in
-    let padding = length-replicate (MAX_PARTS - length (take count parts)) zero_part in
+    let zeros = replicate (MAX_PARTS - length (take count parts)) zero_part in
+    let whole : length parts ≡ length (take count parts) + length zeros =
+    ap length filled.zeros ∙ length-append (take count parts) zeros in
+    let padding : length zeros ≡ MAX_PARTS - length (take count parts) =
+    length-replicate (MAX_PARTS - length (take count parts)) zero_part in
     let told : length (take count parts) ≡ count = omega arith in
     let least : min count MAX_PARTS ≡ count = omega arith in
     ap (λ n. padded (map part_in (take n (drop 1 room)))) (least ∙ sym told)
@@ -45,21 +51,29 @@ parts-kept count parts room filled kept =
     ∙ ap padded (parts-back (take count parts) filled.in_range)
     ∙ sym filled.zeros
 
--- one part more
-pub parts-more : (numbers : List ℕ) (place : ℕ) → place < length numbers → place < MAX_PARTS
-    → set (padded (map part_in (take place numbers))) place (part_in (get_or numbers place 0)) ≡ padded (map part_in (take (place + 1) numbers))
-parts-more numbers place inside room =
+-- padded parts with one more at their end
+pub padded-more : (parts : List Part) (place : ℕ) (p : Part) → length parts ≡ place → place < MAX_PARTS
+    → set (padded parts) place p ≡ padded (parts ++ p ∷ [])
+padded-more parts place p size room =
     let zero_part : Part = record { name = 0; taken = 0 } in
-    let xs = map part_in (take place numbers) in
-    let y = part_in (get_or numbers place 0) in
-    let size : length xs ≡ place = length-map (take place numbers) part_in ∙ length-take-le place numbers (omega arith) in
-    let more : xs ++ y ∷ [] ≡ map part_in (take (place + 1) numbers) = sym (ap (map part_in) (take_at_read numbers place 0 inside).1 ∙ map-append part_in (take place numbers) (get_or numbers place 0 ∷ [])) in
-    let count : MAX_PARTS - length xs ≡ suc (MAX_PARTS - (place + 1)) = omega arith in
-    let left : MAX_PARTS - length (xs ++ y ∷ []) ≡ MAX_PARTS - (place + 1) = omega (arith, ap length more, length-append xs (y ∷ [])) in
+    let longer = length-append parts (p ∷ []) in
+    let count : MAX_PARTS - length parts ≡ suc (MAX_PARTS - (place + 1)) = omega arith in
+    let left : MAX_PARTS - length (parts ++ p ∷ []) ≡ MAX_PARTS - (place + 1) = omega arith in
     let none : place - place ≡ 0 = omega arith in
-    set-append_right xs (replicate (MAX_PARTS - length xs) zero_part) place place y size (omega arith)
-    ∙ ap (λ k. xs ++ set (replicate (MAX_PARTS - length xs) zero_part) k y) none
-    ∙ ap (λ n. xs ++ set (replicate n zero_part) 0 y) count
-    ∙ sym (append_assoc xs (y ∷ []) (replicate (MAX_PARTS - (place + 1)) zero_part))
-    ∙ ap (λ n. xs ++ y ∷ [] ++ replicate n zero_part) (sym left)
-    ∙ ap padded more
+    set-append_right parts (replicate (MAX_PARTS - length parts) zero_part) place place p size (omega arith)
+    ∙ ap (λ k. parts ++ set (replicate (MAX_PARTS - length parts) zero_part) k p) none
+    ∙ ap (λ n. parts ++ set (replicate n zero_part) 0 p) count
+    ∙ sym (append_assoc parts (p ∷ []) (replicate (MAX_PARTS - (place + 1)) zero_part))
+    ∙ ap (λ n. parts ++ p ∷ [] ++ replicate n zero_part) (sym left)
+
+-- one part more of a room
+pub parts-more : (numbers : List ℕ) (place : ℕ) → place < length numbers → place < MAX_PARTS
+    → set (padded (map part_in (take place numbers))) place (part_in (get_or numbers place 0))
+    ≡ padded (map part_in (take (place + 1) numbers))
+parts-more numbers place inside room =
+    let first = take place numbers in
+    let next = get_or numbers place 0 in
+    let size : length (map part_in first) ≡ place = length-map first part_in ∙ length-take-le place numbers (omega arith) in
+    let more : map part_in first ++ part_in next ∷ [] ≡ map part_in (take (place + 1) numbers) =
+    sym (ap (map part_in) (take_at_read numbers place 0 inside).1 ∙ map-append part_in first (next ∷ [])) in
+    padded-more (map part_in first) place (part_in next) size room ∙ ap padded more

@@ -1,5 +1,6 @@
 -- The rooms of each caller, and the replies that suit their lines.
-use Rattle.std.proofs.Common.{◌≡◌, ◌<◌, ◌≤◌, ◌+◌, ◌-◌, ◌∙◌, ℕ, zero, suc, List, [], Option, Some, None, length, map, take, replicate, get_or, set, refl, sym, ap, subst, arith, inl, inr}
+use Rattle.std.proofs.Common.{◌≡◌, ◌<◌, ◌≤◌, ◌+◌, ◌-◌, ◌∙◌, ℕ, zero, suc, List, [], Option, Some, None}
+use Rattle.std.proofs.Common.{length, map, take, replicate, get_or, set, refl, sym, ap, subst, arith, inl, inr}
 use Rattle.std.specs.Prelude.{All, IfSome, nat_lt, slice_get}
 use borrow.Author.Tests.{ltb-true, ltb-false}
 use Rattle.std.proofs.lemmas.Bool.{cases_Bool}
@@ -19,11 +20,13 @@ use Rattle.md_orders.specs.Rooms.{room_of, HasRoom, RoomsState, sizes_of, sizes_
 use Rattle.md_orders.proofs.ByCaller.{list_of-at, with_list-at, with_line-at}
 
 -- what one value shows for a caller
-pub list_of-map : {A B : Type 0} (f : A → List B) (vs : List A) (caller i : ℕ) (v : A) → 1 ≤ caller → caller ≤ length vs → i ≡ caller - 1 → v ≡ get_or vs i v → list_of (map f vs) caller ≡ f v
+pub list_of-map : {A B : Type 0} (f : A → List B) (vs : List A) (caller i : ℕ) (v : A)
+    → 1 ≤ caller → caller ≤ length vs → i ≡ caller - 1 → v ≡ get_or vs i v → list_of (map f vs) caller ≡ f v
 list_of-map f vs caller i v low high at is = list_of-at (map f vs) caller i low at ∙ get_or-map f vs i v [] (omega arith) ∙ ap f (sym is)
 
 -- and where one value is set, the others show what they did
-pub map-with_list : {A B : Type 0} (f : A → List B) (vs : List A) (caller i : ℕ) (v : A) → 1 ≤ caller → i ≡ caller - 1 → map f (set vs i v) ≡ with_list (map f vs) caller (f v)
+pub map-with_list : {A B : Type 0} (f : A → List B) (vs : List A) (caller i : ℕ) (v : A)
+    → 1 ≤ caller → i ≡ caller - 1 → map f (set vs i v) ≡ with_list (map f vs) caller (f v)
 map-with_list f vs caller i v low at = map-set f vs i v ∙ sym (with_list-at (map f vs) caller i (f v) low at)
 
 -- a fill from so many places has room
@@ -31,7 +34,8 @@ taken-room : (quantity places : ℕ) (r : BookReply) → IsPlaces places → IsT
 taken-room quantity places r looks taken =
     let few = taken.few in
     let most : places ≤ MAX_PARTS = elim looks [ inl first ↦ omega arith | inr second ↦ omega arith ] in
-    let told : take (length taken.parts) (padded taken.parts) ≡ taken.parts = take_at taken.parts (replicate (MAX_PARTS - length taken.parts) (record { name = 0; taken = 0 })) (length taken.parts) refl in
+    let zeros = replicate (MAX_PARTS - length taken.parts) (record { name = 0; taken = 0 }) in
+    let told : take (length taken.parts) (padded taken.parts) ≡ taken.parts = take_at taken.parts zeros (length taken.parts) refl in
     rw taken.is (omega arith, record { few = omega arith; in_range = subst (All IsPart) (sym told) taken.each; zeros = ap padded (sym told) })
 
 -- a reply that suits a command in range has room at its line
@@ -58,7 +62,8 @@ none-suits : {A : Type 0} (P : A → Type 0) (o : Option A) → o ≡ None → I
 none-suits P o none is = subst (λ q. IsSomeAnd q P) none is
 
 -- a line that has a command has a place, and room for a reply that suits the command
-pub place-of : (callers : List RoomsState) (scripts : List (List Command)) (caller line : ℕ) (r : BookReply) → sizes_in callers ≡ sizes_of scripts → AreNamed scripts
+pub place-of : (callers : List RoomsState) (scripts : List (List Command)) (caller line : ℕ) (r : BookReply)
+    → sizes_in callers ≡ sizes_of scripts → AreNamed scripts
     → IsSomeAnd (at_line scripts caller line) (λ c. Suits (c, r)) → IsPlaceOf callers caller line r
 place-of callers scripts caller zero r sized named suits = absurd suits
 place-of callers scripts zero (suc l) r sized named suits = absurd suits
@@ -77,7 +82,8 @@ place-of callers scripts (suc c) (suc l) r sized named suits = elim (cases_Bool 
             let lawful = subst (λ (o : Option Command). IfSome o (λ x. IsCommand x × IsNamed (name_of (suc c) (suc l)) x)) found (named (suc c) (suc l)) in
             let fits = subst (λ (o : Option Command). IsSomeAnd o (λ x. Suits (x, r))) found suits in
             let room = suits-room (get_or script l d) r lawful.0 fits in
-            let as_many : length callers ≡ length scripts = sym (length-map callers (λ v. v.sizes)) ∙ ap length sized ∙ length-map scripts (λ s. map room_of s) in
+            let as_many : length callers ≡ length scripts =
+            sym (length-map callers (λ v. v.sizes)) ∙ ap length sized ∙ length-map scripts (λ s. map room_of s) in
             let reach = ltb-true c (length scripts) there in
             let sizes : (v : RoomsState) → v ≡ get_or callers c v → v.sizes ≡ map room_of script = λ v is.
             ap (λ s. s.sizes) is ∙ sym (get_or-map (λ s. s.sizes) callers c v [] (omega arith)) ∙ ap (λ ss. get_or ss c []) sized
@@ -95,13 +101,20 @@ place-of callers scripts (suc c) (suc l) r sized named suits = elim (cases_Bool 
 ]
 
 -- a value that is set to one that shows the same leaves what the values show
-pub map-same : {A B : Type 0} (f : A → B) (vs : List A) (i : ℕ) (v w : A) → v ≡ get_or vs i v → f w ≡ f v → map f (set vs i w) ≡ map f vs
-map-same f vs i v w is same = map-set f vs i w ∙ ap (set (map f vs) i) (same ∙ ap f is) ∙ sym (map-set f vs i (get_or vs i v)) ∙ ap (map f) (set-get_or vs i v)
+pub map-same : {A B : Type 0} (f : A → B) (vs : List A) (i : ℕ) (v w : A)
+    → v ≡ get_or vs i v → f w ≡ f v → map f (set vs i w) ≡ map f vs
+map-same f vs i v w is same =
+    map-set f vs i w ∙ ap (set (map f vs) i) (same ∙ ap f is)
+    ∙ sym (map-set f vs i (get_or vs i v)) ∙ ap (map f) (set-get_or vs i v)
 
 -- one reply of one caller's rooms was set
-pub replies-set : (callers : List RoomsState) (caller line i k : ℕ) (v w : RoomsState) (r : BookReply) → 1 ≤ caller → caller ≤ length callers → i ≡ caller - 1 → 1 ≤ line → k ≡ line - 1
-    → v ≡ get_or callers i v → w ≡ record v { replies = set v.replies k (Some r) } → replies_of (set callers i w) ≡ with_reply (replies_of callers) caller line r
+pub replies-set : (callers : List RoomsState) (caller line i k : ℕ) (v w : RoomsState) (r : BookReply)
+    → 1 ≤ caller → caller ≤ length callers → i ≡ caller - 1 → 1 ≤ line → k ≡ line - 1
+    → v ≡ get_or callers i v → w ≡ record v { replies = set v.replies k (Some r) }
+    → replies_of (set callers i w) ≡ with_reply (replies_of callers) caller line r
 replies-set callers caller line i k v w r low high at line_low line_at is new =
     let found = list_of-map (λ s. s.replies) callers caller i v low high at is in
     map-with_list (λ s. s.replies) callers caller i w low at
-    ∙ ap (λ rs. with_list (replies_of callers) caller rs) (ap (λ s. s.replies) new ∙ sym (with_line-at v.replies line k (Some r) line_low line_at) ∙ ap (λ (rs : List (Option BookReply)). with_line rs line (Some r)) (sym found))
+    ∙ ap (λ rs. with_list (replies_of callers) caller rs)
+    (ap (λ s. s.replies) new ∙ sym (with_line-at v.replies line k (Some r) line_low line_at)
+    ∙ ap (λ (rs : List (Option BookReply)). with_line rs line (Some r)) (sym found))

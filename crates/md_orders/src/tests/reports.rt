@@ -1,6 +1,6 @@
 // Replies, and a report from outside.
 ghost use Rattle.std.specs.Prelude.{◌≡◌, ◌≤◌, length, IfOk, IfSome};
-ghost use Rattle.md_book.specs.Suits.{Suits};
+ghost use Rattle.md_book.specs.Suits.{IsTaken, Suits};
 ghost use Rattle.md_book.specs.Commands.{IsCommand};
 
 use crate::{Replies, Scripts, read_orders, report};
@@ -50,16 +50,63 @@ fn some_reply(command: Command) -> BookReply
     }
 }
 
-// Sets such a reply at each line of a caller but the first.
-fn set_after_first(replies: &mut Replies, scripts: &Scripts, caller: u32)
-    requires { replies.old.scripts ≡ scripts.now }
+// The answer to a fill: so many parts of one each, from the first orders of the first caller.
+fn filled(quantity: u32, count: u8) -> BookReply
+    requires few { count ≤ MAX_PARTS }
+    requires enough { count ≤ quantity }
+    ensures { IsTaken quantity count result }
+{
+    let mut parts = [Part { name: 0, taken: 0 }; MAX_PARTS];
+    for place in 0..count {
+        parts[usize::from(place)] = Part {
+            name: order_name(1, u32::from(place) + 1),
+            taken: 1,
+        };
+    }
+    BookReply::Filled {
+        taken: u32::from(count),
+        rest: quantity - u32::from(count),
+        count,
+        parts,
+    }
+}
+
+// A reply that suits a command: of a fill so many parts, where it has the places and the quantity.
+fn reply_with(command: Command, count: u8) -> BookReply
+    requires { IsCommand command }
+    ensures { Suits (command, result) }
+{
+    match command {
+        Command::Fill {
+            quantity,
+            places,
+            ..
+        } if count <= places && u32::from(count) <= quantity => filled(quantity, count),
+        _ => some_reply(command),
+    }
+}
+
+// Sets such a reply at each line of a caller from a first one on.
+fn set_lines(replies: &mut Replies, scripts: &Scripts, caller: u32, first: u32, count: u8)
+    requires first { 1 ≤ first }
+    requires same { replies.old.scripts ≡ scripts.now }
     ensures { replies.new.scripts ≡ scripts.now }
 {
-    'lines: for line in 2..scripts.len(caller) + 1 {
+    'lines: for line in first..scripts.len(caller) + 1 {
         let Some(command) = scripts.command(caller, line) else {
             unreachable!()
         };
-        replies.set(caller, line, some_reply(command));
+        replies.set(caller, line, reply_with(command, count));
+    }
+}
+
+// Sets such a reply at each line of each caller.
+fn set_all(replies: &mut Replies, scripts: &Scripts, count: u8)
+    requires { replies.old.scripts ≡ scripts.now }
+    ensures { replies.new.scripts ≡ scripts.now }
+{
+    'callers: for before in 0..scripts.callers() {
+        set_lines(replies, scripts, before + 1, 1, count);
     }
 }
 
@@ -72,7 +119,7 @@ fn a_report_has_its_text(rt: HostRuntime) -> Result<(), Fail> {
         return Err(Fail::new("refused"));
     };
     let mut replies = Replies::empty(alloc, &scripts)?;
-    set_after_first(&mut replies, &scripts, 2);
+    set_lines(&mut replies, &scripts, 2, 2, u8::MAX);
     let told = [replies.get(2, 2), replies.get(2, 6), replies.get(2, 1)];
     let want = [
         Some(BookReply::Depth(u64::MAX)),
@@ -102,5 +149,48 @@ fn a_report_has_its_text(rt: HostRuntime) -> Result<(), Fail> {
     let want =
         b"2:2 depth 18446744073709551615\n2:3 placed\n2:4 cancelled 5\n2:5 filled 1000000 rest 0 from 64:1000000=1000000\n2:6 killed\n2:7 bought 5 sold 6\nB 1 4\nB 1000 5\nS 1 6\nS 1000 7\naccount 1 bought 0 sold 2\naccount 9999 bought 3 sold 0\ndone 8\n".as_slice();
     assert_eq!(rt; text.as_slice(), want);
+    Ok(())
+}
+
+#[test]
+fn each_line_has_its_text(rt: HostRuntime) -> Result<(), Fail> {
+    let alloc = rt.alloc();
+    let rows = [
+        (b"".as_slice(), 0, [].as_slice(), b"done 0\n".as_slice()),
+        (
+            b"1,P,7,B,50,5\n1,C,1,1\n1,F,8,B,50,3\n1,A,8\n",
+            0,
+            &[],
+            b"1:1 placed\n1:2 cancelled 5\n1:3 filled 0 rest 3\n1:4 bought 5 sold 6\ndone 4\n",
+        ),
+        (
+            b"1,F,8,S,100,2\n",
+            2,
+            &[(SOLD, 7, 2), (BOUGHT, 8, 2)],
+            b"1:1 filled 2 rest 0 from 1:1=1 1:2=1\naccount 7 bought 0 sold 2\naccount 8 bought 2 sold 0\ndone 1\n",
+        ),
+        (
+            b"1,F,8,S,100,5\n",
+            4,
+            &[(DEPTHS, 1_099, 1), (SOLD, 7, 4), (BOUGHT, 8, 4)],
+            b"1:1 filled 4 rest 1 from 1:1=1 1:2=1 1:3=1 1:4=1\nS 100 1\naccount 7 bought 0 sold 4\naccount 8 bought 4 sold 0\ndone 1\n",
+        ),
+        (
+            b"medley,2\n64,F,8,S,100,12\n1,K,8,S,100,1\n",
+            12,
+            &[(SOLD, 7, 12), (BOUGHT, 8, 12)],
+            b"1:1 killed\n64:1 filled 12 rest 0 from 1:1=1 1:2=1 1:3=1 1:4=1 1:5=1 1:6=1 1:7=1 1:8=1 1:9=1 1:10=1 1:11=1 1:12=1\naccount 7 bought 0 sold 12\naccount 8 bought 12 sold 0\ndone 2\n",
+        ),
+    ];
+    for (orders, count, values, want) in rows {
+        let Ok(scripts) = read_orders(alloc, orders, 64) else {
+            return Err(Fail::new("refused"));
+        };
+        let mut replies = Replies::empty(alloc, &scripts)?;
+        set_all(&mut replies, &scripts, count);
+        let contents = contents_of(alloc, values)?;
+        let text = report(alloc, &scripts, &replies, &contents)?;
+        assert_eq!(rt; text.as_slice(), want);
+    }
     Ok(())
 }
