@@ -2,10 +2,17 @@
 """Times the program on 1,000,000 records, over all accounts, sides and prices.
 
 There are three mixes of commands: half Place and half Depth; half Place, a fifth Fill, and a tenth each of Cancel,
-Depth and Account; and all six kinds, in a file of version 2 that is half Place, a fifth Fill, a tenth Kill, and the rest Cancel,
-Depth and Account. Each file is run as it is, and with a bad record in place of its last, so that the program reads
-and parses and then stops: the difference is what playing and reporting take. Each line tells seconds, seconds of a processor
-and peak memory, of the best of three runs. The load of the machine is told first.
+Depth and Account; and all six kinds, in a file of version 2 that is half Place, a fifth Fill, a tenth each of Kill
+and Cancel, and a twentieth each of Depth and Account. Each file is run as it is, and with a bad record in place of
+its last, so that the program reads and parses and then stops: the difference is what playing and reporting take.
+
+The places for replies are taken before the first line is played. Each mix tells how much memory they take: this is
+counted by the kinds of its lines, and not measured. Two more files show it by measurement: fills of an empty book in
+version 1 and in version 2. They differ only in the places of each reply, so the difference of their peaks is what
+eight more parts a line take, which is 64 bytes.
+
+Each line tells seconds, seconds of a processor and peak memory, each the least of three runs. The load of the machine
+is told first.
 """
 
 import os
@@ -17,6 +24,12 @@ import time
 
 PROGRAM = os.path.join(os.path.dirname(__file__), "..", "crates", "medley", "out", "medley")
 LINES = 1_000_000
+
+# What a reply's place takes: a head of 8 bytes, a start of 4 and a size of 2, and 8 for each number that a reply to the
+# command can need. A fill and a kill need one number and one for each place that they look at.
+PLACE_BYTES = 14
+NUMBERS = {"P": 0, "C": 0, "D": 1, "A": 2}
+PLACES = {"": 4, "medley,2\n": 12}
 
 
 def order(random, kind, line):
@@ -40,6 +53,11 @@ def write(path, version, kinds, last):
         file.write(last)
 
 
+def places_bytes(version, kinds):
+    numbers = sum(NUMBERS.get(kind, PLACES[version] + 1) for kind in kinds) / len(kinds)
+    return LINES * (PLACE_BYTES + 8 * numbers)
+
+
 def run(program, path, wanted):
     with open(path) as orders, tempfile.TemporaryFile() as report:
         start = time.perf_counter()
@@ -61,12 +79,16 @@ def main():
             ("Place and Depth", "", "PD"),
             ("five kinds", "", "PPPPPFFCDA"),
             ("six kinds, version 2", "medley,2\n", "PPPPPPPPPPFFFFKKCCDA"),
+            ("Fill of an empty book, version 1", "", "F"),
+            ("Fill of an empty book, version 2", "medley,2\n", "F"),
         )
         for mix, version, kinds in mixes:
+            print(f"{mix}, places for replies by count: {places_bytes(version, kinds) / 2**20:.0f} MiB")
             for work, last, status in (("read, run and reported", "", 0), ("read and parsed alone", "bad\n", 3)):
                 write(path, version, kinds, last)
-                seconds, busy, peak = min(run(program, path, status) for _ in range(3))
-                print(f"{mix}, {work}: {seconds:.2f} s, {busy:.2f} s of a processor, {peak:.0f} MiB at most")
+                runs = [run(program, path, status) for _ in range(3)]
+                seconds, busy, peak = (min(column) for column in zip(*runs))
+                print(f"{mix}, {work}: {seconds:.2f} s, {busy:.2f} s of a processor, {peak:.0f} MiB")
 
 
 main()
