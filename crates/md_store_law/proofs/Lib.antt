@@ -3,3 +3,4 @@ pub mod States
 pub mod Walking
 pub mod Filling
 pub mod RowHolds
+pub mod EvenFields

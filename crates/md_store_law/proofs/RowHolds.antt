@@ -72,7 +72,7 @@ row_length size = simp (length-set, length-replicate)
 pub row_written : (size : ℕ) → 75 ≤ size → (word : ℕ) → slice_index (row_words size) word ≡ row_word word
 row_written size fits word =
     let z = replicate size 0 in
-    let l0 : length z ≡ size = simp (length-set, length-replicate) in
+    let l0 : length z ≡ size = length-replicate size 0 in
     let a = set z 74 9 in
     let l1 : length a ≡ size = simp (length-set, length-replicate) in
     let b = set a 73 1 in

@@ -1,5 +1,6 @@
 pub mod Store
 pub mod Field
+pub mod EvenFields
 pub mod Row
 pub mod Needed
 pub mod Laws

@@ -11,10 +11,12 @@
 //! 5. Every counted word but a next word of an unplaced node names no node, or a placed one.
 #![tactic(auto)]
 
+pub use fields::even_fields_are_stores;
 pub use reading::read_off;
 pub use sizes::needed;
 pub use theory::StoreTheory;
 
+mod fields;
 mod reading;
 mod sizes;
 #[cfg(test)]

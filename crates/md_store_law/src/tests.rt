@@ -30,6 +30,7 @@ fn stores_are_a_theory(_rt: HostRuntime) -> Result<(), Fail> {
     schedules_of_stores();
     list_facts::<StoreTheory>();
     queue_facts::<StoreTheory>();
+    even_fields_are_stores();
     Ok(())
 }
 
