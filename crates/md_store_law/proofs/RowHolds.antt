@@ -23,7 +23,8 @@ use Rattle.md_store_law.specs.Field.{logical_words, IsStoreField}
 use Rattle.md_store_law.specs.Row.{row_word, row_words, row_placed}
 
 -- a placed node is one of the three
-placed_cases : (node : ℕ) (s : Structure) → row_placed node ≡ Some s → ((node ≡ 1) × (s ≡ Queue 0)) ⊎ (((node ≡ 2) × (s ≡ Bucket 0 5)) ⊎ ((node ≡ 3) × (s ≡ Queue 0)))
+placed_cases : (node : ℕ) (s : Structure) → row_placed node ≡ Some s
+    → ((node ≡ 1) × (s ≡ Queue 0)) ⊎ (((node ≡ 2) × (s ≡ Bucket 0 5)) ⊎ ((node ≡ 3) × (s ≡ Queue 0)))
 placed_cases node s e = ⊎_elim
     (λ one. inl (one, some_same _ _ (sym e ∙ cond-true (eqb node 1) _ _ (eq-eqb node 1 one))))
     (λ not_one. ⊎_elim
@@ -216,7 +217,8 @@ module _ (shape : Shape) (n : HasNumbers shape 2 16 3 4 1 64 1) (words : List �
 
   row_store : IsStore h
   row_store = record {
-    buckets = λ map bucket m b. let zeroth : map ≡ 0 = omega (arith, n.4) in subst (λ k. IsBucket h k bucket) (sym zeroth) (bucket_is bucket (omega (arith, n.5)));
+    buckets = λ map bucket m b. let zeroth : map ≡ 0 = omega (arith, n.4) in
+        subst (λ k. IsBucket h k bucket) (sym zeroth) (bucket_is bucket (omega (arith, n.5)));
     queues = λ queue q. let zeroth : queue ≡ 0 = omega (arith, n.6) in subst (QueueShape h) (sym zeroth) queue_is;
     alone = λ node s e. ⊎_elim
         (λ t. inr (0, omega (arith, n.6), t.1))
@@ -226,7 +228,8 @@ module _ (shape : Shape) (n : HasNumbers shape 2 16 3 4 1 64 1) (words : List �
 
   -- the words of keys and values hold no counts
   no_count : (p : Place) (word : ℕ) → Exists shape p → is_counted p ≡ false → address shape p ≡ word → IsCounted shape word → ⊥
-  no_count p word is un e counted = false≢true (sym un ∙ ap is_counted (sym (place_at-address shape p is)) ∙ subst (λ w. IsTrue (is_counted (place_at shape w))) (sym e) counted.1)
+  no_count p word is un e counted = false≢true (sym un ∙ ap is_counted (sym (place_at-address shape p is))
+      ∙ subst (λ w. IsTrue (is_counted (place_at shape w))) (sym e) counted.1)
 
   key_word : (node word : ℕ) → 67 + 3 * (node - 1) ≡ word → address shape (node_key node) ≡ word
   unfolding address
@@ -236,7 +239,8 @@ module _ (shape : Shape) (n : HasNumbers shape 2 16 3 4 1 64 1) (words : List �
   unfolding address
   value_word node word e = ap (λ f. f + 3 * (node - 1) + 1) first_is ∙ e
 
-  evens : (is_even (count_of 17179869184) ≡ true) × (is_even (count_of 8589934592) ≡ true) × (is_even (count_of 25769803776) ≡ true) × (is_even (count_of 0) ≡ true)
+  evens : (is_even (count_of 17179869184) ≡ true) × (is_even (count_of 8589934592) ≡ true)
+      × (is_even (count_of 25769803776) ≡ true) × (is_even (count_of 0) ≡ true)
   unfolding is_even count_of
   evens = (refl, refl, refl, refl)
 
@@ -252,7 +256,8 @@ module _ (shape : Shape) (n : HasNumbers shape 2 16 3 4 1 64 1) (words : List �
       ⊎_elim (λ g. absurd (no_count (node_key 3) word (node_is 3 (lit≤ tt) (lit≤ tt)) refl (key_word 3 73 refl ∙ sym g) counted)) (λ g.
       ⊎_elim (λ i. absurd (no_count (node_value 3) word (node_is 3 (lit≤ tt) (lit≤ tt)) refl (value_word 3 74 refl ∙ sym i) counted)) (λ i.
       ap (λ w. is_even (count_of w)) (row_zero word a b c d e f g i) ∙ evens.3)
-      (cases_eq word 74)) (cases_eq word 73)) (cases_eq word 71)) (cases_eq word 70)) (cases_eq word 69)) (cases_eq word 66)) (cases_eq word 65)) (cases_eq word 6)
+      (cases_eq word 74)) (cases_eq word 73)) (cases_eq word 71)) (cases_eq word 70))
+      (cases_eq word 69)) (cases_eq word 66)) (cases_eq word 65)) (cases_eq word 6)
 
   pub row_is : length words ≡ words_of shape → IsStoreField shape words
   row_is field = record {

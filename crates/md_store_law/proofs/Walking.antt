@@ -90,7 +90,8 @@ module _ (shape : Shape) (words : List ℕ) where
         let ws = logical_words shape words in
         record {
           names = onward now (suc left) value w some;
-          rest = ap (λ ps. now ++ ps) (sym (ap (unmarked_pairs ws) (walk-some ws left value some) ∙ cond-true (is_marked (next_of ws (linked_node value))) _ _ marked))
+          rest = ap (λ ps. now ++ ps) (sym (ap (unmarked_pairs ws) (walk-some ws left value some)
+              ∙ cond-true (is_marked (next_of ws (linked_node value))) _ _ marked))
               ∙ w.rest;
         }
 
@@ -103,7 +104,8 @@ module _ (shape : Shape) (words : List ℕ) where
         record {
           names = onward now (suc left) value w some;
           rest = append_assoc now ((ws.key_of (linked_node value), ws.value_of_node (linked_node value)) ∷ []) _
-              ∙ ap (λ ps. now ++ ps) (sym (ap (unmarked_pairs ws) (walk-some ws left value some) ∙ cond-false (is_marked (next_of ws (linked_node value))) _ _ plain))
+              ∙ ap (λ ps. now ++ ps) (sym (ap (unmarked_pairs ws) (walk-some ws left value some)
+              ∙ cond-false (is_marked (next_of ws (linked_node value))) _ _ plain))
               ∙ w.rest;
         }
 

@@ -44,7 +44,8 @@ loop-step-preserved c =
     let start = c.args.pairs.now.items in
     let now = c.loop-step.pairs.items in
     let left : ℕ = node_count shape - (c.loop-step.step + 1) in
-    let before = pairs_moved shape words c.args.map c.args.bucket start now now _ (suc left) _ c.loop-step.value refl (omega arith) refl c.loop-step.invariant.1 in (
+    let before = pairs_moved shape words c.args.map c.args.bucket start now now _ (suc left) _ c.loop-step.value
+    refl (omega arith) refl c.loop-step.invariant.1 in (
       c.loop-step.invariant.0,
       elim c.if-value-eq0.branch [
         | then-value-eq0+in_ok-push w ↦

@@ -47,7 +47,8 @@ loop-step-preserved c =
     let before = values_moved shape words c.args.queue start now now _ (suc left) _ c.loop-step.node refl (omega arith) refl c.loop-step.invariant.1 in (
       c.loop-step.invariant.0,
       values_moved shape words c.args.queue start _ _ left left _ _
-          (c.in_ok-push.ensures.items ∙ ap (λ p. now ++ p.1 ∷ []) c.pair_of.ensures ∙ ap (λ v. now ++ (logical_words shape words).value_of_node (linked_node v) ∷ []) next)
+          (c.in_ok-push.ensures.items ∙ ap (λ p. now ++ p.1 ∷ []) c.pair_of.ensures
+          ∙ ap (λ v. now ++ (logical_words shape words).value_of_node (linked_node v) ∷ []) next)
           refl (ap linked_node next)
           (values_on shape words c.args.queue c.requires.queue start now left c.loop-step.node before (λ z. c.if-next-eq0.false (next ∙ z))),
     )
