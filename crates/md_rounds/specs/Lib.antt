@@ -1,3 +1,4 @@
 pub mod OrderLines
 pub mod Kept
 pub mod Replay
+pub mod Limits

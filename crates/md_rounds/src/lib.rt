@@ -2,9 +2,11 @@
 #![tactic(auto)]
 
 mod alone;
+mod limits;
 mod order_lines;
 #[cfg(test)]
 mod tests;
 
 pub use alone::{Played, play_alone};
+pub use limits::limits_hold;
 pub use md_many::{FreeGate, Gate};
