@@ -1,4 +1,5 @@
-// Asking for an account's sums.
+//! Asking for an account's sums.
+
 ghost use Rattle.std.specs.Prelude.{◌≡◌, ◌≤◌, None, IfOk, IfErr};
 ghost use Rattle.md_book.specs.Playing.{PlaysPart};
 ghost use Rattle.md_book.specs.Scripts.{look_account};

@@ -1,4 +1,5 @@
-// Commands as bodies of transactions.
+//! Commands as bodies of transactions.
+
 ghost use Rattle.md_history.specs.Script.{Did, Follows};
 ghost use Rattle.md_book.specs.Commands.{script_of, FitsBook};
 

@@ -1,4 +1,5 @@
-// Cancelling an order.
+//! Cancelling an order.
+
 ghost use Rattle.std.specs.Prelude.{◌≡◌, ◌≤◌, None, IfOk, IfErr};
 ghost use Rattle.md_book.specs.Playing.{PlaysPart};
 ghost use Rattle.md_book.specs.Scripts.{cancel};

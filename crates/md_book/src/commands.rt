@@ -1,4 +1,4 @@
-// The commands of the order book, and what they answer.
+//! The commands of the order book, and what they answer.
 
 use crate::limits::MAX_PARTS;
 

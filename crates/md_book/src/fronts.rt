@@ -1,4 +1,5 @@
-// A look at the front place of a level.
+//! A look at the front place of a level.
+
 ghost use Rattle.std.specs.Prelude.{◌≡◌, ◌<◌, ◌≤◌, None, IfOk, IfErr};
 ghost use Rattle.md_book.specs.Playing.{PlaysPart};
 ghost use Rattle.md_book.specs.Stands.{left_in};

@@ -1,4 +1,5 @@
-// Filling from resting orders the whole quantity, or nothing.
+//! Filling from resting orders the whole quantity, or nothing.
+
 ghost use Rattle.std.specs.Prelude.{◌≡◌, ◌≤◌, take, None, IfOk, IfErr};
 ghost use Rattle.md_book.specs.Playing.{PlaysPart};
 ghost use Rattle.md_book.specs.Book.{IsPrice};

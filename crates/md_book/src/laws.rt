@@ -1,4 +1,5 @@
-// The law of the book, and laws of trading.
+//! The law of the book, and laws of trading.
+
 ghost use Rattle.md_history.specs.State.{empty_state};
 ghost use Rattle.md_book.specs.Book.{empty_book};
 ghost use Rattle.md_book.specs.Stands.{StandsFor};

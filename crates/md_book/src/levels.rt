@@ -1,4 +1,5 @@
-// The level of a side and a price.
+//! The level of a side and a price.
+
 ghost use Rattle.std.specs.Prelude.{◌≡◌, ◌<◌};
 ghost use Rattle.md_book.specs.Book.{IsPrice, level_of};
 

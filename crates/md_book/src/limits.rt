@@ -1,4 +1,4 @@
-// The limits of commands: the ranges of their numbers, and how much they read, write and take.
+//! The limits of commands: the ranges of their numbers, and how much they read, write and take.
 
 /// How many places of a level a fill or a kill of version 1 of the order file looks at.
 pub const PLACES_IN_VERSION_1: u8 = 4;

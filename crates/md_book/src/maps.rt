@@ -1,4 +1,4 @@
-// The maps and queues of a book.
+//! The maps and queues of a book.
 
 use crate::limits::MAX_PRICE;
 

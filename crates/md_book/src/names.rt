@@ -1,4 +1,5 @@
-// The names of orders.
+//! The names of orders.
+
 ghost use Rattle.std.specs.Prelude.{◌≡◌};
 ghost use Rattle.md_book.specs.Commands.{name_of};
 

@@ -1,4 +1,5 @@
-// An order in one number, as the map of open orders holds it.
+//! An order in one number, as the map of open orders holds it.
+
 ghost use Rattle.std.specs.Prelude.{◌≡◌};
 ghost use Rattle.md_book.specs.Stands.{packed, account_in, level_in, left_in};
 

@@ -1,4 +1,5 @@
-// Parts that commands have in common.
+//! Parts that commands have in common.
+
 ghost use Rattle.std.specs.Prelude.{◌≡◌, ◌<◌, None, IfOk, IfErr};
 ghost use Rattle.md_book.specs.Playing.{PlaysPart};
 ghost use Rattle.md_book.specs.Scripts.{put, raise, lower};

@@ -1,4 +1,5 @@
-// Commands over the store for one thread.
+//! Commands over the store for one thread.
+
 ghost use Rattle.std.specs.Prelude.{IsTrue, IfOk};
 ghost use Rattle.md_history.specs.Plain.{IsPassOf};
 ghost use Rattle.md_book.specs.Book.{IsAccount};

@@ -1,4 +1,5 @@
-// Worked certificates of the cell, and where it begins.
+//! Worked certificates of the cell, and where it begins.
+
 ghost use Rattle.md_cell.specs.CellRows.{CellRow, BlankOpens};
 
 /// One transaction that looks, inserts, looks, doesn't insert again, and removes; and the field in

@@ -1,4 +1,5 @@
-// The theorem is called at the cell.
+//! The theorem is called at the cell.
+
 use crate::{cell_rows, cell_schedules};
 
 #[test]

@@ -1,4 +1,5 @@
-// A cell as a theory, and what holds of it over all schedules.
+//! A cell as a theory, and what holds of it over all schedules.
+
 ghost use Rattle.md_machine.specs.Legal.{AlwaysMeant};
 ghost use Rattle.md_machine.specs.Theorem.{AlwaysKept, AlwaysGoesOn};
 ghost use Rattle.md_cell.specs.CellMeaning.{cell_meaning};

@@ -1,4 +1,5 @@
-// The theorem over all schedules, called at both theories, and what walks show of hash tables.
+//! The theorem over all schedules, called at both theories, and what walks show of hash tables.
+
 use crate::{HashTheory, hash_table_schedules, one_list_schedules, worked_tables};
 use md_list_law::list_facts;
 

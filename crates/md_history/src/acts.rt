@@ -1,4 +1,5 @@
-// Operations on maps and queues, their replies, and lists of both.
+//! Operations on maps and queues, their replies, and lists of both.
+
 ghost use Rattle.std.specs.Prelude.{◌≡◌, [], ◌∷◌, ◌++◌, OnOk, OnErr};
 ghost use Rattle.md_history.specs.Act.{act_of};
 

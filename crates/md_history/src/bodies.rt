@@ -1,4 +1,5 @@
-// What transactions do.
+//! What transactions do.
+
 ghost use Rattle.std.specs.Prelude.{◌≡◌, ℕ, List, [], None, IfOk, IfErr};
 ghost use Rattle.md_history.specs.declared.acts.Act.{Act};
 ghost use Rattle.md_history.specs.Calls.{BrokeOff};

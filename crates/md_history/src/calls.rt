@@ -1,4 +1,5 @@
-// The calls that a transaction offers.
+//! The calls that a transaction offers.
+
 ghost use Rattle.std.specs.Prelude.{◌≡◌, ◌<◌, ℕ, List, Option, IfOk, IfErr};
 ghost use Rattle.md_history.specs.declared.acts.Act.{Act};
 ghost use Rattle.md_history.specs.declared.acts.Op.TheVariants.{Get, Insert, Remove, Enqueue, Dequeue, Front};

@@ -1,4 +1,5 @@
-// What every store offers.
+//! What every store offers.
+
 ghost use Rattle.std.specs.Prelude.{◌≡◌, ◌≤◌, ◌↔◌, ℕ, List, length, IsNone, IfSome, IfNone, IfOk};
 ghost use Rattle.md_history.specs.declared.stops.Stop.{Stop};
 ghost use Rattle.md_history.specs.State.{State, HaveSameNumbers};

@@ -1,4 +1,5 @@
-// Entries of a history, and what becomes of them.
+//! Entries of a history, and what becomes of them.
+
 use crate::acts::Acts;
 
 /// What became of a transaction that was ready. A fate that is decided never changes.

@@ -1,4 +1,5 @@
-// A pass as it stood, for contracts to speak of.
+//! A pass as it stood, for contracts to speak of.
+
 ghost use Rattle.std.specs.Prelude.{◌≡◌};
 
 use std::marker::Model;

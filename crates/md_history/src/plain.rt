@@ -1,4 +1,5 @@
-// A store for one thread.
+//! A store for one thread.
+
 ghost use Rattle.std.specs.Prelude.{◌≡◌, [], None, true, false};
 ghost use Rattle.md_history.specs.Front.{replay_of};
 ghost use Rattle.md_history.specs.Plain.{front_of, IsPassOf};

@@ -1,4 +1,5 @@
-// The store for one thread as an engine.
+//! The store for one thread as an engine.
+
 ghost use Rattle.std.specs.Prelude.{◌≡◌, ◌↔◌, [], length, true, false, IsNone, IsOk, IfOk};
 ghost use Rattle.md_history.specs.State.{HaveSameNumbers};
 ghost use Rattle.md_history.specs.Front.{LegalFrom, replay_of};

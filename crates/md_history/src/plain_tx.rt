@@ -1,4 +1,5 @@
-// A transaction of the store for one thread.
+//! A transaction of the store for one thread.
+
 ghost use Rattle.std.specs.Prelude.{◌≡◌, ◌∷◌, ◌++◌, [], Some, IfErr, OnOk, OnErr};
 ghost use Rattle.md_history.specs.Act.{act_of};
 

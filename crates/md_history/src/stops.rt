@@ -1,4 +1,4 @@
-// How an attempt at a transaction ends.
+//! How an attempt at a transaction ends.
 
 /// A word of a store that held one content and then another, which differs.
 #[derive(Clone, Copy, Debug, PartialEq, Eq)]

@@ -1,4 +1,5 @@
-// What no clause says: that calls succeed, and that bodies run over the store through their bounds.
+//! What no clause says: that calls succeed, and that bodies run over the store through their bounds.
+
 ghost use Rattle.std.specs.Prelude.{◌≡◌, ◌∷◌, [], Some, None, true, false};
 ghost use Rattle.md_history.specs.declared.acts.Op.TheVariants as op;
 ghost use Rattle.md_history.specs.declared.acts.Reply.TheVariants as reply;

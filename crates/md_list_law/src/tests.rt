@@ -1,4 +1,5 @@
-// The laws and the worked list, called once.
+//! The laws and the worked list, called once.
+
 use crate::one_list::{one_list_laws, worked_list};
 
 #[test]

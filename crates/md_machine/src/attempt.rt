@@ -1,4 +1,5 @@
-// Attempts: in hand, and in the history.
+//! Attempts: in hand, and in the history.
+
 use crate::certificate::{Certificate, Change};
 use crate::node::PlacedNode;
 use md_history::{Act, Entry};

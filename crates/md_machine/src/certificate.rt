@@ -1,4 +1,5 @@
-// Certificates: why an operation has its reply, and what it changes.
+//! Certificates: why an operation has its reply, and what it changes.
+
 use crate::node::Structure;
 use md_history::{Op, Reply};
 use std::collections::LinkedList;

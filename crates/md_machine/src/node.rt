@@ -1,4 +1,4 @@
-// Where a node belongs.
+//! Where a node belongs.
 
 /// A list of nodes that begins at a bucket's head, or a queue.
 #[derive(Clone, Copy)]

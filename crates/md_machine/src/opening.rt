@@ -1,4 +1,5 @@
-// A field as it was opened.
+//! A field as it was opened.
+
 use crate::node::PlacedNode;
 use md_words::Shape;
 use std::collections::LinkedList;

@@ -1,4 +1,5 @@
-// What a pass knows.
+//! What a pass knows.
+
 use crate::attempt::{AttemptId, Hand, HistoryEntry};
 use crate::node::PlacedNode;
 use crate::step::Step;

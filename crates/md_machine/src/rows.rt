@@ -1,4 +1,5 @@
-// Placed nodes, and events that are refused: what the definitions say in single cases.
+//! Placed nodes, and events that are refused: what the definitions say in single cases.
+
 ghost use Rattle.md_machine.specs.Refused.{AlwaysMeansEvery, NeverMeansNone, PublishedNodeRefused, OtherSlotRefused, EarlierValueRefused};
 
 use crate::theory::Theory;

@@ -1,4 +1,5 @@
-// One step of a pass.
+//! One step of a pass.
+
 use crate::attempt::AttemptId;
 
 /// The kinds of step. The moves split, join and mark are loads of word 0.

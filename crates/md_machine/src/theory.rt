@@ -1,4 +1,5 @@
-// Theories, and the theorem over all schedules.
+//! Theories, and the theorem over all schedules.
+
 ghost use Rattle.md_machine.specs.Legal.{AlwaysMeant};
 ghost use Rattle.md_machine.specs.Serial.{SchedulesAreSerial};
 ghost use Rattle.md_machine.specs.Theorem.{AlwaysKept, AlwaysGoesOn};

@@ -1,4 +1,5 @@
-// Attempts at lines, over any store.
+//! Attempts at lines, over any store.
+
 ghost use Rattle.std.specs.Prelude.{◌≡◌, ◌<◌, ◌≤◌, ◌+◌, ◌-◌, ◌∷◌, ◌++◌, [], ℕ, length, min, vec_len, vec_capacity, OnOk, OnErr};
 ghost use Rattle.md_history.specs.Counts.{IsSmall};
 ghost use Rattle.md_history.specs.Front.{LegalFrom};

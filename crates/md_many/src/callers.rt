@@ -1,4 +1,5 @@
-// What callers have to do.
+//! What callers have to do.
+
 ghost use Rattle.std.specs.Prelude.{◌≡◌, ◌<◌, ◌≤◌, ◌⊎◌, ◌↔◌, ℕ, Option, IsSome};
 
 use md_history::Body;

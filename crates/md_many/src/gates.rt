@@ -1,4 +1,4 @@
-// What is called around attempts.
+//! What is called around attempts.
 
 /// What is called around each attempt at a line. No contract says what it does.
 pub trait Gate {

@@ -1,4 +1,5 @@
-// The tags of lines.
+//! The tags of lines.
+
 ghost use Rattle.std.specs.Prelude.{◌≡◌};
 ghost use Rattle.md_many.specs.Tags.{tag_of};
 

@@ -1,4 +1,5 @@
-// Attempts at lines over a store that refuses as a list says, and two callers in threads.
+//! Attempts at lines over a store that refuses as a list says, and two callers in threads.
+
 mod numbers;
 mod refusing;
 mod side_by_side;

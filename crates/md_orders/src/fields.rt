@@ -1,4 +1,5 @@
-// The fields of a record.
+//! The fields of a record.
+
 ghost use Rattle.std.specs.Prelude.{◌≡◌, ◌<◌, ◌^◌};
 ghost use Rattle.csv.specs.Records.{fields_of};
 ghost use Rattle.md_orders.specs.Grammar.{number, number_at, byte_at, side_at};

@@ -1,4 +1,5 @@
-// The caller and the command that a record writes.
+//! The caller and the command that a record writes.
+
 ghost use Rattle.std.specs.Prelude.{◌≡◌};
 ghost use Rattle.csv.specs.Records.{fields_of};
 ghost use Rattle.md_orders.specs.Grammar.{account_at, price_at, quantity_at, terms_of, place_of, cancel_of, fill_of, kill_of, depth_of, account_of, command_of, caller_of};

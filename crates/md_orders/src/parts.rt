@@ -1,4 +1,5 @@
-// A part of a fill in one number.
+//! A part of a fill in one number.
+
 ghost use Rattle.std.specs.Prelude.{◌≡◌};
 ghost use Rattle.md_book.specs.Suits.{IsPart};
 ghost use Rattle.md_orders.specs.Rooms.{part_number, part_in};

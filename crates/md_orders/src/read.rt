@@ -1,4 +1,5 @@
-// Reading an order file.
+//! Reading an order file.
+
 ghost use Rattle.std.specs.Prelude.{◌≡◌, ◌≤◌, ◌<◌, ◌+◌, ◌++◌, ◌∷◌, ℕ, List, true, false, Some, [], length, IfOk, IfSome, IfNone, OnOk, IsErrOf};
 ghost use Rattle.csv.specs.Reading.{error_kind, stops_reader};
 ghost use Rattle.csv.specs.Records.{fields_of};

@@ -1,4 +1,5 @@
-// Replies: a place for the reply of each line.
+//! Replies: a place for the reply of each line.
+
 ghost use Rattle.std.specs.Prelude.{◌≡◌, IfOk};
 ghost use Rattle.std.specs.Option.{IsSomeAnd};
 ghost use Rattle.md_book.specs.Suits.{Suits};

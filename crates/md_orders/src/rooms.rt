@@ -1,4 +1,5 @@
-// The replies of one caller's lines, each in a head and a room of some numbers.
+//! The replies of one caller's lines, each in a head and a room of some numbers.
+
 ghost use Rattle.std.specs.Prelude.{◌≡◌, ◌<◌, ◌≤◌, ◌+◌, Some, None, All, map, length, take, drop, replicate, slice_get, slice_set, slice_index_or, IfOk};
 ghost use Rattle.md_orders.specs.Records.{max_records};
 ghost use Rattle.md_book.specs.Suits.{IsPart};

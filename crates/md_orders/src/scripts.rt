@@ -1,4 +1,5 @@
-// Scripts: the commands of each caller, in order.
+//! Scripts: the commands of each caller, in order.
+
 ghost use Rattle.std.specs.Prelude.{◌≡◌, ◌+◌, ◌<◌, ◌≤◌, ◌++◌, ◌∷◌, [], length, replicate, IfOk, IfSome, OnOk, OnErr};
 ghost use Rattle.md_book.specs.Commands.{IsCommand, name_of};
 ghost use Rattle.md_orders.specs.Lists.{lists_in};

@@ -1,3 +1,4 @@
-// What no clause says: that calls succeed, and bytes, commands and reports from outside.
+//! What no clause says: that calls succeed, and bytes, commands and reports from outside.
+
 mod reading;
 mod reports;

@@ -1,4 +1,5 @@
-// The text of a report, to its last byte.
+//! The text of a report, to its last byte.
+
 ghost use Rattle.std.specs.Prelude.{◌≡◌, ◌++◌, ◌≤◌, ◌<◌, length, take, flat_map, decimal, OnOk, IfOk};
 ghost use Rattle.md_book.specs.Book.{Book};
 ghost use Rattle.md_book.specs.Stands.{StandsFor};

@@ -1,4 +1,5 @@
-// The two versions of the order file.
+//! The two versions of the order file.
+
 ghost use Rattle.std.specs.Prelude.{◌≡◌, ◌==◌, ◌&&◌};
 ghost use Rattle.csv.specs.Records.{fields_of};
 ghost use Rattle.md_orders.specs.Version.{is_version_record};

@@ -1,4 +1,5 @@
-// The calls that are told to fail.
+//! The calls that are told to fail.
+
 ghost use Rattle.std.specs.Prelude.{◌↔◌, IsTrue};
 ghost use Rattle.std.specs.List.{Contains};
 

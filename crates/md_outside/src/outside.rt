@@ -1,4 +1,5 @@
-// What a program reads from and writes to.
+//! What a program reads from and writes to.
+
 ghost use Rattle.std.specs.Prelude.{◌<◌, List, ℕ, length, Option, ⊤};
 ghost use Rattle.std.specs.Io.{ReadsAtMost};
 ghost use Rattle.std.specs.Io.KnownBytes.{ReadConsumes, WriteAppends};

@@ -1,4 +1,5 @@
-// A sink over any writer of std.
+//! A sink over any writer of std.
+
 ghost use Rattle.std.specs.Prelude.{◌≡◌, ◌≤◌, IfNone, IfSome, length, take};
 ghost use Rattle.std.specs.Io.KnownBytes.{Appends};
 ghost use Rattle.md_outside.specs.Grows.{Grows};

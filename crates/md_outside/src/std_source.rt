@@ -1,4 +1,5 @@
-// A source over any reader of std.
+//! A source over any reader of std.
+
 ghost use Rattle.std.specs.Prelude.{◌≡◌};
 
 use crate::{Failed, Source};

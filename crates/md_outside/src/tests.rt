@@ -1,5 +1,6 @@
-// What no clause says: that calls succeed, that each impl works through its bound, and what
-// readers and writers of std do that fail once.
+//! What no clause says: that calls succeed, that each impl works through its bound, and what
+//! readers and writers of std do that fail once.
+
 use super::*;
 use std::alloc::{AllocError, Global};
 use std::io::{self, ErrorKind, Read, Write};

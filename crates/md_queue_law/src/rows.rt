@@ -1,4 +1,5 @@
-// Worked rows: what the definitions say of one small queue.
+//! Worked rows: what the definitions say of one small queue.
+
 ghost use Rattle.md_queue_law.specs.Rows.{WorkedRows};
 
 /// A value is enqueued in an empty queue, the tail follows, a line sees the value, it is dequeued,

@@ -1,4 +1,5 @@
-// The theorem over all schedules, and the facts that are lent, at queues alone.
+//! The theorem over all schedules, and the facts that are lent, at queues alone.
+
 ghost use Rattle.md_machine.specs.Legal.{AlwaysMeant};
 ghost use Rattle.md_machine.specs.Theorem.{AlwaysKept, AlwaysGoesOn};
 ghost use Rattle.md_queue_law.specs.QueueFacts.{HeadNamesOne, TailNamesOne, RanksRise, LastAlone};

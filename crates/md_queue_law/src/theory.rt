@@ -1,4 +1,5 @@
-// Queues as a theory, and theories that contain queues.
+//! Queues as a theory, and theories that contain queues.
+
 ghost use Rattle.md_queue_law.specs.QueueFacts.{HeadNamesOne, TailNamesOne};
 ghost use Rattle.md_queue_law.specs.QueueFacts.{RanksRise, LastAlone, RanksDiffer, RanksFit};
 ghost use Rattle.md_queue_law.specs.QueueFacts.{LookGoesOn};

@@ -1,4 +1,5 @@
-// The whole script of one caller, in one round.
+//! The whole script of one caller, in one round.
+
 ghost use Rattle.std.specs.Prelude.{◌≡◌, ◌<◌, ◌+◌, ◌^◌, ◌∷◌, [], length, IfOk};
 ghost use Rattle.md_history.specs.Engine.{empty_front};
 ghost use Rattle.md_book.specs.Book.{Book};

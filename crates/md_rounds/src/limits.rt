@@ -1,4 +1,5 @@
-// The limits in one place, as numbers.
+//! The limits in one place, as numbers.
+
 ghost use Rattle.md_rounds.specs.Limits.{LimitsOfWords, LimitsOfBooks, SetHoldsCommands};
 
 /// The limits of fields and of books, number by number, and that a transaction's sets hold all that a command

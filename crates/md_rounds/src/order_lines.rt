@@ -1,4 +1,5 @@
-// The commands of scripts as the lines of callers.
+//! The commands of scripts as the lines of callers.
+
 ghost use Rattle.std.specs.Prelude.{length};
 ghost use Rattle.md_orders.specs.Scripts.{at_line};
 ghost use Rattle.md_rounds.specs.OrderLines.{line_count_of, has-line, no-lines};

@@ -1,4 +1,5 @@
-// One caller's scripts over the store for one thread.
+//! One caller's scripts over the store for one thread.
+
 ghost use Rattle.std.specs.Prelude.{◌≡◌, length, IfOk};
 
 use crate::alone::play_alone;

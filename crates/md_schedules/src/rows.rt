@@ -1,4 +1,5 @@
-// Worked schedules of two passes, each of which holds one lane.
+//! Worked schedules of two passes, each of which holds one lane.
+
 ghost use Rattle.md_schedules.specs.Clearing.{ClearingRow};
 ghost use Rattle.md_schedules.specs.Schedules.{WorkedRows};
 

@@ -1,4 +1,5 @@
-// What the words of a machine tell when no descriptor stands in them.
+//! What the words of a machine tell when no descriptor stands in them.
+
 ghost use Rattle.md_store_law.specs.EvenFields.{EvenFieldsAreStores};
 
 /// If every count of a machine is even and the logical heap of a resolution is a store, then its

@@ -1,4 +1,5 @@
-// The contents of a field, read off from its words.
+//! The contents of a field, read off from its words.
+
 ghost use Rattle.std.specs.Prelude.{◌≡◌, ◌<◌, [], length, IfOk, OnOk};
 ghost use Rattle.std.specs.FinMap as fin;
 ghost use Rattle.md_history.specs.State.{State, map_at, queue_at, with_map, with_queue};

@@ -1,4 +1,5 @@
-// How many base nodes contents take.
+//! How many base nodes contents take.
+
 ghost use Rattle.std.specs.Prelude.{◌≡◌, map, length};
 ghost use Rattle.std.specs.List.{sum_by};
 ghost use Rattle.std.specs.FinMap as fin;

@@ -1,4 +1,5 @@
-// The theorem over all schedules, and what walks show, at the store; and sizes of small contents.
+//! The theorem over all schedules, and what walks show, at the store; and sizes of small contents.
+
 ghost use Rattle.md_machine.specs.Legal.{AlwaysMeant};
 ghost use Rattle.md_machine.specs.Theorem.{AlwaysKept, AlwaysGoesOn};
 ghost use Rattle.std.specs.Prelude.{◌≡◌, ◌≤◌, IfOk};

@@ -1,4 +1,5 @@
-// The store as a theory.
+//! The store as a theory.
+
 use md_list_law::HasLists;
 use md_machine::Theory;
 use md_queue_law::HasQueues;

@@ -1,4 +1,5 @@
-// Walks along the next words of a field in which no descriptor stands.
+//! Walks along the next words of a field in which no descriptor stands.
+
 ghost use Rattle.std.specs.Prelude.{◌≡◌, ◌<◌, ◌++◌, length, slice_index, OnOk};
 ghost use Rattle.md_words.specs.Content.{value_of};
 ghost use Rattle.md_words.specs.Layout.{IsNode, node_count};

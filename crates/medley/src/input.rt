@@ -1,4 +1,5 @@
-// Reading a whole source.
+//! Reading a whole source.
+
 ghost use Rattle.std.specs.Prelude.{◌≡◌, List, ℕ, IfOk, IsErrOf};
 ghost use Rattle.medley.specs.Run.{IsRead, IsReadInPart, IsOverlong, HasReadFault};
 

@@ -1,4 +1,5 @@
-// Writing a whole text.
+//! Writing a whole text.
+
 ghost use Rattle.std.specs.Prelude.{◌≡◌, IfErr, OnErr, OnOk};
 ghost use Rattle.medley.specs.Run.{IsWritten, HasWriteFault, Tells, status_text};
 

@@ -1,4 +1,5 @@
-// Playing the script of one caller over a store for one thread.
+//! Playing the script of one caller over a store for one thread.
+
 ghost use Rattle.std.specs.Prelude.{◌≡◌, [], ◌∷◌, length, IfOk};
 ghost use Rattle.md_history.specs.Plain.{front_of};
 ghost use Rattle.md_book.specs.Book.{Book};

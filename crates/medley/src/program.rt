@@ -1,4 +1,5 @@
-// The program over any source and sink, from its arguments on.
+//! The program over any source and sink, from its arguments on.
+
 ghost use Rattle.std.specs.Prelude.{◌≡◌, ◌⊎◌, Some, List, ℕ, map, drop, string_bytes, IfOk, IsErr};
 ghost use Rattle.std.specs.Vec.Iter.{into_iter_items};
 ghost use Rattle.md_history.specs.Plain.{front_of};

@@ -1,4 +1,5 @@
-// The top call: words and input in, report out.
+//! The top call: words and input in, report out.
+
 ghost use Rattle.std.specs.Prelude.{◌≡◌, ◌≢◌, ◌↔◌, ◌⊎◌, Some, List, ℕ, [], map, IfOk, IfErr};
 ghost use Rattle.md_history.specs.Plain.{front_of};
 ghost use Rattle.md_outside.specs.Causes.{Rose};

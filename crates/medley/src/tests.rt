@@ -1,4 +1,5 @@
-// What no clause says: that runs come to their end, and what is printed of whole inputs.
+//! What no clause says: that runs come to their end, and what is printed of whole inputs.
+
 mod bad;
 mod edge;
 mod rows;

@@ -1,4 +1,5 @@
-// Days with fills.
+//! Days with fills.
+
 use super::{account, cancel, depth, filled, place, play, sums};
 use crate::commands::{BookReply, Command, Side};
 use crate::limits::{MAX_CALLER, MAX_LINE, PLACES_IN_VERSION_1, PLACES_IN_VERSION_2};

@@ -1,4 +1,5 @@
-// Days with kills.
+//! Days with kills.
+
 use super::{account, cancel, depth, filled, place, play, sums};
 use crate::commands::{BookReply, Command, Side};
 use crate::limits::{MAX_QUANTITY, PLACES_IN_VERSION_1, PLACES_IN_VERSION_2};

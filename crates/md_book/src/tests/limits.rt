@@ -1,4 +1,5 @@
-// The limits, as the order file writes them.
+//! The limits, as the order file writes them.
+
 use crate::limits::{
     COMMAND_NODES, COMMAND_READS, COMMAND_WRITES, MAX_ACCOUNT, MAX_CALLER, MAX_LINE, MAX_PARTS,
     MAX_PRICE, MAX_QUANTITY, PLACES_IN_VERSION_1, PLACES_IN_VERSION_2,

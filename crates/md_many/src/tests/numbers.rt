@@ -1,4 +1,5 @@
-// Lines whose bodies put numbers into a queue.
+//! Lines whose bodies put numbers into a queue.
+
 ghost use Rattle.md_many.specs.Tags.{tag_of};
 
 use crate::callers::Lines;

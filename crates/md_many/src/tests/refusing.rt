@@ -1,4 +1,5 @@
-// A store that refuses attempts as a list says.
+//! A store that refuses attempts as a list says.
+
 ghost use Rattle.std.specs.Prelude.{◌≡◌, [], IfOk};
 ghost use Rattle.md_history.specs.Plain.{front_of, plain_limits, IsPassOf};
 ghost use Rattle.md_history.specs.Engine.{IsFrontFrom};

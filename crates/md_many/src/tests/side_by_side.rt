@@ -1,4 +1,5 @@
-// Two callers that play their lines side by side.
+//! Two callers that play their lines side by side.
+
 ghost use Rattle.std.specs.Prelude.{◌≡◌, List, length, IfOk};
 ghost use Rattle.md_history.specs.Engine.{lanes_kept, lanes_given};
 ghost use Rattle.md_many.specs.Lines.{AreFitting, PlaysLines};

@@ -1,4 +1,5 @@
-// Bytes from outside, and the commands that they write.
+//! Bytes from outside, and the commands that they write.
+
 use crate::{OrderFault, read_orders};
 use md_book::{Command, Side, order_name};
 use std::alloc::{AllocError, Global};

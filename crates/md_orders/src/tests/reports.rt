@@ -1,4 +1,5 @@
-// Replies, and a report from outside.
+//! Replies, and a report from outside.
+
 ghost use Rattle.std.specs.Prelude.{◌≡◌, ◌≤◌, length, IfOk, IfSome};
 ghost use Rattle.md_book.specs.Suits.{IsTaken, Suits};
 ghost use Rattle.md_book.specs.Commands.{IsCommand};

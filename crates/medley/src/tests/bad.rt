@@ -1,4 +1,5 @@
-// Inputs with a record that breaks the grammar.
+//! Inputs with a record that breaks the grammar.
+
 use crate::status::Status;
 use crate::tests::{AMPLE, expect};
 use std::test::Fail;

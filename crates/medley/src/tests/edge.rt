@@ -1,4 +1,5 @@
-// The program from its arguments to its exit status, and streams of std that fail once or end early.
+//! The program from its arguments to its exit status, and streams of std that fail once or end early.
+
 use crate::program::run_program;
 use crate::run::run;
 use crate::start;

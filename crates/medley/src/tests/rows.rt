@@ -1,4 +1,5 @@
-// Inputs and their reports, worked out by hand.
+//! Inputs and their reports, worked out by hand.
+
 use crate::status::Status;
 use crate::tests::{AMPLE, expect};
 use std::test::Fail;
