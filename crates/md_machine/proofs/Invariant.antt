@@ -10,48 +10,48 @@ use Rattle.md_words.specs.Place.{desc_status, read_word, read_content}
 use Rattle.md_history.specs.FrontLaws.{all_stay-self}
 use Rattle.md_machine.specs.declared.attempt.AttemptId.{AttemptId}
 use Rattle.md_machine.specs.declared.opening.Opening.{Opening}
-use Rattle.md_machine.proofs.clauses.Alone.{HoldersFind, alone-kept, holders_alone}
-use Rattle.md_machine.proofs.clauses.Brackets.{TrailsBracket, between-kept, brackets-kept, old_brackets}
-use Rattle.md_machine.proofs.clauses.Clean.{clean_out}
-use Rattle.md_machine.proofs.clauses.Entries.{entries-kept}
-use Rattle.md_machine.proofs.clauses.EntriesFit.{EntriesFit, ReadsCounted, entry_fits}
-use Rattle.md_machine.proofs.clauses.EntrySlots.{entry_slots-kept}
-use Rattle.md_machine.proofs.clauses.Flags.{Noting, flags-kept}
-use Rattle.md_machine.proofs.clauses.FreeNodes.{OpeningIsBase, free_nodes}
-use Rattle.md_machine.proofs.clauses.Fronts.{fronts-kept}
-use Rattle.md_machine.proofs.clauses.FrontsFit.{fated}
-use Rattle.md_machine.proofs.clauses.HandKnows.{hand_knows-kept}
-use Rattle.md_machine.proofs.clauses.Hands.{hands-kept}
-use Rattle.md_machine.proofs.clauses.InHand.{HandsAlone, StepsBegun, in_hand-kept}
-use Rattle.md_machine.proofs.clauses.Installs.{InstallsKept, installs-kept, step_rises}
-use Rattle.md_machine.proofs.clauses.KnownPast.{known_past-kept}
-use Rattle.md_machine.proofs.clauses.Lanes.{lanes-kept}
-use Rattle.md_machine.proofs.clauses.Loads.{EntriesPast, loads-kept}
-use Rattle.md_machine.proofs.clauses.MetSpots.{met_spots-kept}
-use Rattle.md_machine.proofs.clauses.Mine.{mine-kept}
-use Rattle.md_machine.proofs.clauses.NodeWords.{node_words-kept}
-use Rattle.md_machine.proofs.clauses.Numbered.{numbered-kept}
-use Rattle.md_machine.proofs.clauses.OddWords.{odd_words-kept}
-use Rattle.md_machine.proofs.clauses.OldSlots.{old_slots-kept}
-use Rattle.md_machine.proofs.clauses.Order.{TrailsInOrder, order-kept}
-use Rattle.md_machine.proofs.clauses.OwnBegun.{own_begun-kept}
-use Rattle.md_machine.proofs.clauses.OwnInstalls.{own_installs}
-use Rattle.md_machine.proofs.clauses.OwnNodes.{own_nodes-kept}
-use Rattle.md_machine.proofs.clauses.OwnSerials.{own_serials-kept}
-use Rattle.md_machine.proofs.clauses.OwnWords.{own_words-kept}
-use Rattle.md_machine.proofs.clauses.Past.{PastDecided, fates_told, past-kept}
-use Rattle.md_machine.proofs.clauses.Placed.{NotedAlways, always_in, placed-kept}
-use Rattle.md_machine.proofs.clauses.PlacedOnce.{AliveOnce, noted_structure, placed_once-kept}
-use Rattle.md_machine.proofs.clauses.PresentEntries.{entries_by_status}
-use Rattle.md_machine.proofs.clauses.Reads.{reads_found, reads_moved}
-use Rattle.md_machine.proofs.clauses.ReadyEntries.{ReadyHaveEntries, ready_entries-kept}
-use Rattle.md_machine.proofs.clauses.Serials.{serials-kept}
-use Rattle.md_machine.proofs.clauses.Sound.{sound-kept}
-use Rattle.md_machine.proofs.clauses.Stamps.{Stamp, Stamped, StampsKept, stamp_more, stamps-kept, stamps_hold}
-use Rattle.md_machine.proofs.clauses.Statuses.{statuses-kept, statuses_noted}
-use Rattle.md_machine.proofs.clauses.Stores.{StepsPast, StoresStand, steps_begun-kept, steps_past-kept, stores-kept}
-use Rattle.md_machine.proofs.clauses.Undecided.{undecided-kept}
-use Rattle.md_machine.proofs.clauses.WonInstalls.{won_installs-kept}
+use Rattle.md_machine.proofs.clauses.passes.Alone.{HoldersFind, alone-kept, holders_alone}
+use Rattle.md_machine.proofs.clauses.words.Brackets.{TrailsBracket, between-kept, brackets-kept, old_brackets}
+use Rattle.md_machine.proofs.clauses.slots.Clean.{clean_out}
+use Rattle.md_machine.proofs.clauses.entries.Entries.{entries-kept}
+use Rattle.md_machine.proofs.clauses.entries.EntriesFit.{EntriesFit, ReadsCounted, entry_fits}
+use Rattle.md_machine.proofs.clauses.slots.EntrySlots.{entry_slots-kept}
+use Rattle.md_machine.proofs.clauses.nodes.Flags.{Noting, flags-kept}
+use Rattle.md_machine.proofs.clauses.nodes.FreeNodes.{OpeningIsBase, free_nodes}
+use Rattle.md_machine.proofs.clauses.passes.Fronts.{fronts-kept}
+use Rattle.md_machine.proofs.clauses.passes.FrontsFit.{fated}
+use Rattle.md_machine.proofs.clauses.passes.HandKnows.{hand_knows-kept}
+use Rattle.md_machine.proofs.clauses.passes.Hands.{hands-kept}
+use Rattle.md_machine.proofs.clauses.passes.InHand.{HandsAlone, StepsBegun, in_hand-kept}
+use Rattle.md_machine.proofs.clauses.slots.Installs.{InstallsKept, installs-kept, step_rises}
+use Rattle.md_machine.proofs.clauses.passes.KnownPast.{known_past-kept}
+use Rattle.md_machine.proofs.clauses.passes.Lanes.{lanes-kept}
+use Rattle.md_machine.proofs.clauses.words.Loads.{EntriesPast, loads-kept}
+use Rattle.md_machine.proofs.clauses.words.MetSpots.{met_spots-kept}
+use Rattle.md_machine.proofs.clauses.passes.Mine.{mine-kept}
+use Rattle.md_machine.proofs.clauses.words.NodeWords.{node_words-kept}
+use Rattle.md_machine.proofs.clauses.entries.Numbered.{numbered-kept}
+use Rattle.md_machine.proofs.clauses.slots.OddWords.{odd_words-kept}
+use Rattle.md_machine.proofs.clauses.words.OldSlots.{old_slots-kept}
+use Rattle.md_machine.proofs.clauses.words.Order.{TrailsInOrder, order-kept}
+use Rattle.md_machine.proofs.clauses.passes.OwnBegun.{own_begun-kept}
+use Rattle.md_machine.proofs.clauses.slots.OwnInstalls.{own_installs}
+use Rattle.md_machine.proofs.clauses.nodes.OwnNodes.{own_nodes-kept}
+use Rattle.md_machine.proofs.clauses.passes.OwnSerials.{own_serials-kept}
+use Rattle.md_machine.proofs.clauses.nodes.OwnWords.{own_words-kept}
+use Rattle.md_machine.proofs.clauses.entries.Past.{PastDecided, fates_told, past-kept}
+use Rattle.md_machine.proofs.clauses.nodes.Placed.{NotedAlways, always_in, placed-kept}
+use Rattle.md_machine.proofs.clauses.nodes.PlacedOnce.{AliveOnce, noted_structure, placed_once-kept}
+use Rattle.md_machine.proofs.clauses.entries.PresentEntries.{entries_by_status}
+use Rattle.md_machine.proofs.clauses.words.Reads.{reads_found, reads_moved}
+use Rattle.md_machine.proofs.clauses.entries.ReadyEntries.{ReadyHaveEntries, ready_entries-kept}
+use Rattle.md_machine.proofs.clauses.entries.Serials.{serials-kept}
+use Rattle.md_machine.proofs.clauses.entries.Sound.{sound-kept}
+use Rattle.md_machine.proofs.clauses.words.Stamps.{Stamp, Stamped, StampsKept, stamp_more, stamps-kept, stamps_hold}
+use Rattle.md_machine.proofs.clauses.words.Statuses.{statuses-kept, statuses_noted}
+use Rattle.md_machine.proofs.clauses.words.Stores.{StepsPast, StoresStand, steps_begun-kept, steps_past-kept, stores-kept}
+use Rattle.md_machine.proofs.clauses.slots.Undecided.{undecided-kept}
+use Rattle.md_machine.proofs.clauses.slots.WonInstalls.{won_installs-kept}
 use Rattle.md_machine.proofs.events.MoveFacts.{history_grows}
 use Rattle.md_machine.proofs.events.Moves.{does_move}
 use Rattle.md_machine.proofs.events.Tell.{tell}
@@ -65,34 +65,34 @@ use Rattle.md_machine.specs.GoesOn.{GoesOn, StatusGoesOn}
 use Rattle.md_machine.specs.Machine.{IsPresentIn, Machine, content, present, shape_of, status_at, word_at}
 use Rattle.md_machine.specs.Meaning.{Meaning}
 use Rattle.md_machine.specs.Theorem.{IsKept}
-use Rattle.md_machine.specs.clauses.Alone.{HoldsAll, LastStand}
-use Rattle.md_machine.specs.clauses.Brackets.{NotesBetween, NotesStanding}
-use Rattle.md_machine.specs.clauses.EntrySlots.{EntriesKeepSlots}
-use Rattle.md_machine.specs.clauses.Fates.{PastKnown}
-use Rattle.md_machine.specs.clauses.Flags.{FlaggedAreNoted}
-use Rattle.md_machine.specs.clauses.Formats.{AreFormats}
-use Rattle.md_machine.specs.clauses.Fronts.{FrontsFit}
-use Rattle.md_machine.specs.clauses.HandKnows.{HandsKnow}
-use Rattle.md_machine.specs.clauses.Hands.{HandsFit}
-use Rattle.md_machine.specs.clauses.Lanes.{LanesApart}
-use Rattle.md_machine.specs.clauses.MetSpots.{MetSpotsExist}
-use Rattle.md_machine.specs.clauses.Mine.{MineAreEnded}
-use Rattle.md_machine.specs.clauses.Loads.{LoadStands}
-use Rattle.md_machine.specs.clauses.NodeWords.{DataStands, NodeWordsStand}
-use Rattle.md_machine.specs.clauses.Numbered.{EntriesNumbered}
-use Rattle.md_machine.specs.clauses.OddWords.{OddStand}
-use Rattle.md_machine.specs.clauses.OldSlots.{OldSlotStands}
-use Rattle.md_machine.specs.clauses.OwnBegun.{OwnBegunShown}
-use Rattle.md_machine.specs.clauses.OwnNodes.{OwnNodesSeen}
-use Rattle.md_machine.specs.clauses.OwnSerials.{OwnSerialsMet}
-use Rattle.md_machine.specs.clauses.OwnWords.{NodesKeep, OwnWordsStand}
-use Rattle.md_machine.specs.clauses.Reads.{MovedReads, ReadFound}
-use Rattle.md_machine.specs.clauses.Serials.{EntriesInTurn}
-use Rattle.md_machine.specs.clauses.Sound.{CommittedAreSound}
-use Rattle.md_machine.specs.clauses.Stamps.{NotedByRead}
-use Rattle.md_machine.specs.clauses.Statuses.{StatusesCame}
-use Rattle.md_machine.specs.clauses.Undecided.{UndecidedStand}
-use Rattle.md_machine.specs.clauses.WonInstalls.{WonAreInstalls}
+use Rattle.md_machine.specs.clauses.passes.Alone.{HoldsAll, LastStand}
+use Rattle.md_machine.specs.clauses.words.Brackets.{NotesBetween, NotesStanding}
+use Rattle.md_machine.specs.clauses.slots.EntrySlots.{EntriesKeepSlots}
+use Rattle.md_machine.specs.clauses.entries.Fates.{PastKnown}
+use Rattle.md_machine.specs.clauses.nodes.Flags.{FlaggedAreNoted}
+use Rattle.md_machine.specs.clauses.words.Formats.{AreFormats}
+use Rattle.md_machine.specs.clauses.passes.Fronts.{FrontsFit}
+use Rattle.md_machine.specs.clauses.passes.HandKnows.{HandsKnow}
+use Rattle.md_machine.specs.clauses.passes.Hands.{HandsFit}
+use Rattle.md_machine.specs.clauses.passes.Lanes.{LanesApart}
+use Rattle.md_machine.specs.clauses.words.MetSpots.{MetSpotsExist}
+use Rattle.md_machine.specs.clauses.passes.Mine.{MineAreEnded}
+use Rattle.md_machine.specs.clauses.words.Loads.{LoadStands}
+use Rattle.md_machine.specs.clauses.words.NodeWords.{DataStands, NodeWordsStand}
+use Rattle.md_machine.specs.clauses.entries.Numbered.{EntriesNumbered}
+use Rattle.md_machine.specs.clauses.slots.OddWords.{OddStand}
+use Rattle.md_machine.specs.clauses.words.OldSlots.{OldSlotStands}
+use Rattle.md_machine.specs.clauses.passes.OwnBegun.{OwnBegunShown}
+use Rattle.md_machine.specs.clauses.nodes.OwnNodes.{OwnNodesSeen}
+use Rattle.md_machine.specs.clauses.passes.OwnSerials.{OwnSerialsMet}
+use Rattle.md_machine.specs.clauses.nodes.OwnWords.{NodesKeep, OwnWordsStand}
+use Rattle.md_machine.specs.clauses.words.Reads.{MovedReads, ReadFound}
+use Rattle.md_machine.specs.clauses.entries.Serials.{EntriesInTurn}
+use Rattle.md_machine.specs.clauses.entries.Sound.{CommittedAreSound}
+use Rattle.md_machine.specs.clauses.words.Stamps.{NotedByRead}
+use Rattle.md_machine.specs.clauses.words.Statuses.{StatusesCame}
+use Rattle.md_machine.specs.clauses.slots.Undecided.{UndecidedStand}
+use Rattle.md_machine.specs.clauses.slots.WonInstalls.{WonAreInstalls}
 use Rattle.md_machine.specs.events.SplitJoin.{moved}
 use Rattle.md_machine.specs.events.Uninstall.{MayUninstall}
 

@@ -15,12 +15,12 @@ use Rattle.std.proofs.lemmas.List.Elements.{Contains-append_right}
 use Rattle.md_machine.specs.declared.attempt.Hand.{Hand}
 use Rattle.md_machine.specs.declared.node.PlacedNode.{PlacedNode}
 use Rattle.md_machine.proofs.Invariant.{Invariant, kept_by, plays_keep, runs_keep}
-use Rattle.md_machine.proofs.clauses.FreeNodes.{base_alone}
-use Rattle.md_machine.proofs.clauses.FrontsFit.{fated}
-use Rattle.md_machine.proofs.clauses.LanesApart.{At, lanes_first}
-use Rattle.md_machine.proofs.clauses.Numbered.{none_numbered}
-use Rattle.md_machine.proofs.clauses.Order.{InOrder}
-use Rattle.md_machine.proofs.clauses.ReadyEntries.{prep_not_ready}
+use Rattle.md_machine.proofs.clauses.nodes.FreeNodes.{base_alone}
+use Rattle.md_machine.proofs.clauses.passes.FrontsFit.{fated}
+use Rattle.md_machine.proofs.clauses.passes.LanesApart.{At, lanes_first}
+use Rattle.md_machine.proofs.clauses.entries.Numbered.{none_numbered}
+use Rattle.md_machine.proofs.clauses.words.Order.{InOrder}
+use Rattle.md_machine.proofs.clauses.entries.ReadyEntries.{prep_not_ready}
 use Rattle.md_machine.proofs.events.Steps.{HasStep}
 use Rattle.md_machine.proofs.lists.At.{at_one}
 use Rattle.md_machine.proofs.lists.Options.{none_some}
@@ -32,15 +32,15 @@ use Rattle.md_machine.specs.Machine.{Machine}
 use Rattle.md_machine.specs.Meaning.{Meaning}
 use Rattle.md_machine.specs.Theorem.{AlwaysGoesOn, AlwaysKept}
 use Rattle.md_machine.specs.Trail.{segments}
-use Rattle.md_machine.specs.clauses.Alone.{LastStand}
-use Rattle.md_machine.specs.clauses.Brackets.{NotesBetween, NotesStanding}
-use Rattle.md_machine.specs.clauses.Formats.{AreFormats, StatusFits}
-use Rattle.md_machine.specs.clauses.Fronts.{FrontFits}
-use Rattle.md_machine.specs.clauses.Mine.{MineIsEnded}
-use Rattle.md_machine.specs.clauses.Loads.{LoadStands}
-use Rattle.md_machine.specs.clauses.OldSlots.{OldSlotStands}
-use Rattle.md_machine.specs.clauses.OwnWords.{NodesKeep}
-use Rattle.md_machine.specs.clauses.Reads.{ReadFound}
+use Rattle.md_machine.specs.clauses.passes.Alone.{LastStand}
+use Rattle.md_machine.specs.clauses.words.Brackets.{NotesBetween, NotesStanding}
+use Rattle.md_machine.specs.clauses.words.Formats.{AreFormats, StatusFits}
+use Rattle.md_machine.specs.clauses.passes.Fronts.{FrontFits}
+use Rattle.md_machine.specs.clauses.passes.Mine.{MineIsEnded}
+use Rattle.md_machine.specs.clauses.words.Loads.{LoadStands}
+use Rattle.md_machine.specs.clauses.words.OldSlots.{OldSlotStands}
+use Rattle.md_machine.specs.clauses.nodes.OwnWords.{NodesKeep}
+use Rattle.md_machine.specs.clauses.words.Reads.{ReadFound}
 
 -- the status word 0
 zero_begins : 0 ≡ status_word InPrep 0 0

@@ -18,15 +18,15 @@ use Rattle.md_machine.specs.declared.attempt.HistoryEntry.{HistoryEntry}
 use Rattle.md_machine.specs.Machine.{Machine, Install, shape_of, content, status_at, word_at, present, same_attempt, attempt_of, is_ready}
 use Rattle.md_machine.specs.Resolution.{is_kept, logical_value, value_under}
 use Rattle.md_machine.specs.Installs.{IsPresent, spot_of_install}
-use Rattle.md_machine.specs.clauses.OddWords.{OddStand}
-use Rattle.md_machine.specs.clauses.Undecided.{UndecidedStand}
+use Rattle.md_machine.specs.clauses.slots.OddWords.{OddStand}
+use Rattle.md_machine.specs.clauses.slots.Undecided.{UndecidedStand}
 use Rattle.md_machine.specs.events.Install.{installed_word}
 use Rattle.md_machine.specs.events.Ready.{unready_word, write_now, writes_now, installs_by}
 use Rattle.md_machine.proofs.lists.Rising.{in_none, in_cons, here, there, in_filter, filter_in}
 use Rattle.md_machine.proofs.events.Leaves.{install_odd}
 use Rattle.md_machine.proofs.events.Attempts.{attempt_same, same_from, same_parts}
-use Rattle.md_machine.proofs.clauses.EntriesDecided.{status_new, status_other}
-use Rattle.md_machine.proofs.clauses.Installs.{InstallsKept}
+use Rattle.md_machine.proofs.clauses.entries.EntriesDecided.{status_new, status_other}
+use Rattle.md_machine.proofs.clauses.slots.Installs.{InstallsKept}
 use Rattle.md_machine.proofs.chain.Entry.{new_value}
 use Rattle.md_machine.proofs.chain.Values.{value_even, value_odd, installed_spot, unready_kept, kept_last}
 

@@ -16,8 +16,8 @@ use Rattle.md_machine.specs.Machine.{Machine, Install, shape_of, content, status
 use Rattle.md_machine.specs.Resolution.{or_else, logical_value, logical_heap, value_under}
 use Rattle.md_machine.specs.Trail.{read_stands}
 use Rattle.md_machine.specs.Installs.{spot_of_install}
-use Rattle.md_machine.specs.clauses.Formats.{AreFormats}
-use Rattle.md_machine.specs.clauses.Stamps.{StampsHold, NotedByTrail}
+use Rattle.md_machine.specs.clauses.words.Formats.{AreFormats}
+use Rattle.md_machine.specs.clauses.words.Stamps.{StampsHold, NotedByTrail}
 use Rattle.md_machine.specs.events.Ready.{MayRecord, read_now, reads_now, write_now, writes_now, installs_by}
 use Rattle.md_machine.specs.Certified.{content_read, content_replaced}
 use Rattle.md_machine.proofs.lists.Rising.{here, there}

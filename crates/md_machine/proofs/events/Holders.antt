@@ -4,7 +4,7 @@ use Rattle.std.specs.List.{Contains}
 use Rattle.std.proofs.lemmas.List.Elements.{Contains-append_left, Contains-append_right, Contains-push, Contains-push_cases}
 use Rattle.md_machine.specs.declared.step.Step.{Step}
 use Rattle.md_machine.specs.declared.pass.PassView.{PassView}
-use Rattle.md_machine.proofs.clauses.LanesApart.{At}
+use Rattle.md_machine.proofs.clauses.passes.LanesApart.{At}
 use Rattle.md_machine.proofs.events.Steps.{InSegments, IsBoth, IsNext, IsStill, PassesFrom}
 use Rattle.md_machine.proofs.lists.Rising.{in_none, there}
 use Rattle.md_machine.specs.Trail.{segments}

@@ -13,16 +13,16 @@ use Rattle.md_machine.specs.declared.step.Step.{Step}
 use Rattle.md_machine.specs.declared.step.TheConstants.{LAST_COUNT}
 use Rattle.md_machine.specs.declared.step.Kind.TheVariants.{Install as Installs}
 use Rattle.md_machine.specs.declared.pass.PassView.{PassView}
-use Rattle.md_machine.proofs.clauses.LanesApart.{At, one_owner}
+use Rattle.md_machine.proofs.clauses.passes.LanesApart.{At, one_owner}
 use Rattle.md_machine.proofs.events.Leaves.{install_odd}
 use Rattle.md_machine.proofs.lists.At.{at_set}
 use Rattle.md_machine.proofs.lists.Rising.{there}
 use Rattle.md_machine.specs.Machine.{Install, IsAt, IsPresentIn, Machine, content, is_ready, present, shape_of, word_at}
 use Rattle.md_machine.specs.Own.{HasDesc}
 use Rattle.md_machine.specs.Stepping.{attempt_in_hand, step_of}
-use Rattle.md_machine.specs.clauses.Hands.{HandsFit}
-use Rattle.md_machine.specs.clauses.Lanes.{LanesApart}
-use Rattle.md_machine.specs.clauses.Slots.{SlotStands}
+use Rattle.md_machine.specs.clauses.passes.Hands.{HandsFit}
+use Rattle.md_machine.specs.clauses.passes.Lanes.{LanesApart}
+use Rattle.md_machine.specs.clauses.slots.Slots.{SlotStands}
 use Rattle.md_machine.specs.events.Install.{MayInstall, install_of, installed_word}
 
 -- a step installed a slot of an attempt

@@ -22,7 +22,7 @@ use Rattle.md_machine.specs.GoesOn.{moves_to}
 use Rattle.md_machine.specs.Installs.{IsUndecided}
 use Rattle.md_machine.specs.Machine.{IsAt, Machine, attempt_of, content, is_installed, is_ready, shape_of, status_at}
 use Rattle.md_machine.specs.Meaning.{Meaning}
-use Rattle.md_machine.specs.clauses.Formats.{AreFormats, StatusFits}
+use Rattle.md_machine.specs.clauses.words.Formats.{AreFormats, StatusFits}
 use Rattle.md_machine.specs.events.Decide.{MayAbort, MayCommit, decided_word}
 use Rattle.md_machine.specs.events.Exchange.{MayExchange, exchanged_word}
 use Rattle.md_machine.specs.events.Install.{MayBeChanged, MayInstall, installed_word}

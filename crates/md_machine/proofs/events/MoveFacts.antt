@@ -34,8 +34,8 @@ use Rattle.md_machine.specs.Own.{HasDesc, HasNode, IsDataOf, IsWordOf}
 use Rattle.md_machine.specs.Resolution.{always_placed, never_placed}
 use Rattle.md_machine.specs.Stepping.{step_of}
 use Rattle.md_machine.specs.Trail.{StoresFor, is_store}
-use Rattle.md_machine.specs.clauses.Stores.{IsEntryWord}
-use Rattle.md_machine.specs.clauses.WonInstalls.{HasInstallOf}
+use Rattle.md_machine.specs.clauses.words.Stores.{IsEntryWord}
+use Rattle.md_machine.specs.clauses.slots.WonInstalls.{HasInstallOf}
 use Rattle.md_machine.specs.events.Install.{installed_word}
 use Rattle.md_machine.specs.events.Ready.{MayRecord, fates_after_ready, history_after_ready, history_entry, reads_now, ready_word, unready_word}
 use Rattle.md_machine.specs.events.Start.{WonInstall}

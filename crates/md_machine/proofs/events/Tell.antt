@@ -26,8 +26,8 @@ use Rattle.md_machine.specs.declared.step.Kind.TheVariants.{Load, Store, Install
 use Rattle.md_machine.specs.declared.pass.PassView.{PassView}
 use mathlib.Core.Option.{some}
 use lib.ListN.{get_elem?}
-use Rattle.md_machine.proofs.clauses.LanesApart.{one_owner}
-use Rattle.md_machine.proofs.clauses.Statuses.{not_both}
+use Rattle.md_machine.proofs.clauses.passes.LanesApart.{one_owner}
+use Rattle.md_machine.proofs.clauses.words.Statuses.{not_both}
 use Rattle.md_machine.proofs.lists.At.{at_set}
 use Rattle.md_machine.proofs.events.InstallSteps.{InstallsHere, installs_here}
 use Rattle.md_machine.proofs.events.Leaves.{abort_moves, commit_moves, decide_changes, exchange_changes, exchange_even, install_changes, ready_changes, start_changes, status_uncounted, store_changes, store_even, store_was_even, uninstall_changes, uninstall_even}
@@ -49,11 +49,11 @@ use Rattle.md_machine.specs.Own.{HasDesc, HasNode, IsDataOf, IsOwnNode, IsWordOf
 use Rattle.md_machine.specs.Resolution.{always_placed, never_placed}
 use Rattle.md_machine.specs.Stepping.{attempt_in_hand, step_of}
 use Rattle.md_machine.specs.Trail.{is_store}
-use Rattle.md_machine.specs.clauses.Formats.{AreFormats}
-use Rattle.md_machine.specs.clauses.Hands.{HandsFit}
-use Rattle.md_machine.specs.clauses.Lanes.{LanesApart}
-use Rattle.md_machine.specs.clauses.Stores.{IsEntryWord}
-use Rattle.md_machine.specs.clauses.WonInstalls.{HasInstallOf}
+use Rattle.md_machine.specs.clauses.words.Formats.{AreFormats}
+use Rattle.md_machine.specs.clauses.passes.Hands.{HandsFit}
+use Rattle.md_machine.specs.clauses.passes.Lanes.{LanesApart}
+use Rattle.md_machine.specs.clauses.words.Stores.{IsEntryWord}
+use Rattle.md_machine.specs.clauses.slots.WonInstalls.{HasInstallOf}
 use Rattle.md_machine.specs.events.Install.{install_of, installed_word}
 use Rattle.md_machine.specs.events.Ready.{unready_word}
 use Rattle.md_machine.specs.events.SplitJoin.{joined_lanes}

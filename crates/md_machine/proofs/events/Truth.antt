@@ -9,7 +9,7 @@ use Rattle.md_words.specs.PlaceAt.{place_at, IsCounted}
 use Rattle.md_words.proofs.Places.{place_at-address, address-place_at, address-base_word}
 use Rattle.md_machine.specs.declared.step.Kind.{Kind}
 use Rattle.md_machine.specs.declared.pass.PassView.{PassView}
-use Rattle.md_machine.proofs.clauses.EntriesDecided.{status_new}
+use Rattle.md_machine.proofs.clauses.entries.EntriesDecided.{status_new}
 use Rattle.md_machine.proofs.fates.Knowing.{IsTrue_of, TellsNothing, TellsTruth}
 use Rattle.md_machine.proofs.lists.Rising.{here}
 use Rattle.md_machine.specs.Machine.{Machine, content, shape_of, status_at, word_at}

@@ -20,14 +20,14 @@ use Rattle.md_machine.specs.declared.attempt.AttemptId.{AttemptId}
 use Rattle.md_machine.specs.declared.attempt.HistoryEntry.{HistoryEntry}
 use Rattle.md_machine.specs.declared.pass.PassView.{PassView}
 use Rattle.md_machine.proofs.chain.Values.{installed_spot, value_odd}
-use Rattle.md_machine.proofs.clauses.Brackets.{MetStanding, TrailsBracket, stood}
-use Rattle.md_machine.proofs.clauses.EntriesFit.{EntriesFit}
-use Rattle.md_machine.proofs.clauses.Installs.{InstallsKept}
-use Rattle.md_machine.proofs.clauses.OddWords.{splits}
-use Rattle.md_machine.proofs.clauses.ReadyEntries.{EntryOf, ReadyHaveEntries}
-use Rattle.md_machine.proofs.clauses.Statuses.{StatusesNoted}
-use Rattle.md_machine.proofs.clauses.Stores.{StoresStand}
-use Rattle.md_machine.proofs.clauses.Undecided.{stands_decided}
+use Rattle.md_machine.proofs.clauses.words.Brackets.{MetStanding, TrailsBracket, stood}
+use Rattle.md_machine.proofs.clauses.entries.EntriesFit.{EntriesFit}
+use Rattle.md_machine.proofs.clauses.slots.Installs.{InstallsKept}
+use Rattle.md_machine.proofs.clauses.slots.OddWords.{splits}
+use Rattle.md_machine.proofs.clauses.entries.ReadyEntries.{EntryOf, ReadyHaveEntries}
+use Rattle.md_machine.proofs.clauses.words.Statuses.{StatusesNoted}
+use Rattle.md_machine.proofs.clauses.words.Stores.{StoresStand}
+use Rattle.md_machine.proofs.clauses.slots.Undecided.{stands_decided}
 use Rattle.md_machine.proofs.events.Attempts.{same_from, same_parts}
 use Rattle.md_machine.proofs.events.MoveFacts.{Uninstalls}
 use Rattle.md_machine.proofs.events.Moves.{WinsUninstall}
@@ -37,11 +37,11 @@ use Rattle.md_machine.specs.Installs.{spot_of_install}
 use Rattle.md_machine.specs.Machine.{IsAt, IsPresentIn, Machine, attempt_of, content, present, same_attempt, shape_of, status_at, word_at}
 use Rattle.md_machine.specs.Resolution.{Resolves, entries_of, is_kept, logical_value, value_under}
 use Rattle.md_machine.specs.Trail.{LastStored, Loads, Meets}
-use Rattle.md_machine.specs.clauses.Fates.{Tells}
-use Rattle.md_machine.specs.clauses.Loads.{LoadStands, MeetsReady}
-use Rattle.md_machine.specs.clauses.OddWords.{OddStand, StandsIn}
-use Rattle.md_machine.specs.clauses.OldSlots.{OldSlotStands, old_place, spot_in_word}
-use Rattle.md_machine.specs.clauses.Stores.{IsEntryWord}
+use Rattle.md_machine.specs.clauses.entries.Fates.{Tells}
+use Rattle.md_machine.specs.clauses.words.Loads.{LoadStands, MeetsReady}
+use Rattle.md_machine.specs.clauses.slots.OddWords.{OddStand, StandsIn}
+use Rattle.md_machine.specs.clauses.words.OldSlots.{OldSlotStands, old_place, spot_in_word}
+use Rattle.md_machine.specs.clauses.words.Stores.{IsEntryWord}
 use Rattle.md_machine.specs.events.Uninstall.{HelperSaw, MayUninstall, slot_by_fate, slot_of_desc, status_of_desc, value_by_fate}
 
 -- the entry of a committed present attempt is kept

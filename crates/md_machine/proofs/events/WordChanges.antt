@@ -19,7 +19,7 @@ use Rattle.md_machine.specs.GoesOn.{AttemptGoesOn, StatusGoesOn, moves_to}
 use Rattle.md_machine.specs.Installs.{IsUndecided}
 use Rattle.md_machine.specs.Machine.{IsAt, Machine, content, is_installed, is_ready, present, shape_of, status_at, word_at}
 use Rattle.md_machine.specs.Own.{HasDesc}
-use Rattle.md_machine.specs.clauses.Formats.{AreFormats, NamesWord, StatusFits}
+use Rattle.md_machine.specs.clauses.words.Formats.{AreFormats, NamesWord, StatusFits}
 use Rattle.md_machine.specs.events.Start.{IsClean, knows_decided}
 
 -- the count rises, and an odd one leaves room

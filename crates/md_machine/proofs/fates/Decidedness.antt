@@ -13,7 +13,7 @@ use Rattle.md_history.specs.Front.{IsPrefix, AllStay, known_of_two, known_of_bot
 use Rattle.md_machine.specs.declared.attempt.AttemptId.{AttemptId}
 use Rattle.md_machine.specs.declared.attempt.HistoryEntry.{HistoryEntry}
 use Rattle.md_machine.specs.declared.step.Step.{Step}
-use Rattle.md_machine.proofs.clauses.Past.{decided_stays}
+use Rattle.md_machine.proofs.clauses.entries.Past.{decided_stays}
 use Rattle.md_machine.specs.Machine.{attempt_of, same_attempt}
 use Rattle.md_machine.specs.Stepping.{fate_told, known_after, known_at, told_by, with_fate}
 use Rattle.md_machine.specs.Trail.{is_store}

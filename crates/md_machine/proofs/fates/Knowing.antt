@@ -13,13 +13,13 @@ use Rattle.md_history.specs.Front.{Stays, AllStay, known_of_two, known_of_both}
 use Rattle.md_machine.specs.declared.attempt.AttemptId.{AttemptId}
 use Rattle.md_machine.specs.declared.attempt.HistoryEntry.{HistoryEntry}
 use Rattle.md_machine.specs.declared.step.Step.{Step}
-use Rattle.md_machine.proofs.clauses.EntriesFit.{EntriesFit, EntryFits}
+use Rattle.md_machine.proofs.clauses.entries.EntriesFit.{EntriesFit, EntryFits}
 use Rattle.md_machine.proofs.events.Attempts.{same_parts}
 use Rattle.md_machine.proofs.lists.Rising.{here}
 use Rattle.md_machine.specs.Machine.{attempt_of, present, same_attempt, word_at}
 use Rattle.md_machine.specs.Stepping.{fate_told, known_after, known_at, told_by, with_fate}
 use Rattle.md_machine.specs.Trail.{is_store}
-use Rattle.md_machine.specs.clauses.Fates.{Tells}
+use Rattle.md_machine.specs.clauses.entries.Fates.{Tells}
 
 -- a fate that is told agrees with the one that the status tells, or stays as it was known
 told_stays : (s : Status) (f g : Fate) → Stays f g → Tells s g → Stays (fate_told s f) g

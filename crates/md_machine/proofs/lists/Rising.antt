@@ -5,7 +5,7 @@ use Rattle.std.proofs.lemmas.Bool.{cond_both, cond-true, or_cases, or_left, or_r
 use Rattle.std.proofs.lemmas.List.{take-append-drop}
 use Rattle.std.proofs.lemmas.List.Elements.{Contains-append_cases}
 use Rattle.md_history.specs.Front.{is_lane_of}
-use Rattle.md_machine.specs.clauses.Lanes.{RiseFrom}
+use Rattle.md_machine.specs.clauses.passes.Lanes.{RiseFrom}
 
 module _ {A : Type 0} where
   pub in_none : (y : A) → Contains [] y → ⊥

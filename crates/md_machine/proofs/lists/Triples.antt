@@ -4,7 +4,7 @@ use Rattle.std.specs.List.{Contains}
 use Rattle.std.proofs.lemmas.List.Elements.{Contains-append_right, Contains-push}
 use Rattle.md_machine.specs.declared.step.Step.{Step}
 use Rattle.md_machine.specs.declared.pass.PassView.{PassView}
-use Rattle.md_machine.proofs.clauses.LanesApart.{At}
+use Rattle.md_machine.proofs.clauses.passes.LanesApart.{At}
 use Rattle.md_machine.proofs.events.Steps.{HasStep, PassesFrom, segment_from}
 use Rattle.md_machine.proofs.lists.Pairs.{InPairs, pairs_push, pairs_weaker}
 use Rattle.md_machine.proofs.lists.Rising.{here, in_cons, in_none, there}

@@ -14,7 +14,7 @@ use Rattle.md_machine.specs.Legal.{AlwaysMeant, FrontsLegal, IsReplay, opening_s
 use Rattle.md_machine.specs.Resolution.{Resolves, entries_of}
 use Rattle.md_machine.proofs.Invariant.{Invariant, does_keep}
 use Rattle.md_machine.proofs.Reached.{always_kept, opens}
-use Rattle.md_machine.proofs.clauses.FrontsLegal.{fronts_legal-kept, none_legal}
+use Rattle.md_machine.proofs.clauses.passes.FrontsLegal.{fronts_legal-kept, none_legal}
 use Rattle.md_machine.proofs.events.Moves.{does_move}
 use Rattle.md_machine.proofs.events.Tell.{tell}
 use Rattle.md_machine.proofs.lists.At.{at_one}

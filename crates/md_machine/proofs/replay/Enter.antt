@@ -31,17 +31,17 @@ use Rattle.md_machine.specs.Own.{IsOwnNode}
 use Rattle.md_machine.specs.Resolution.{Resolves, entries_of, logical_heap, placed_under, kept_structure, or_else, structure_in}
 use Rattle.md_machine.specs.Certified.{IsCertified, all_nodes, placed_by}
 use Rattle.md_machine.specs.Legal.{IsReplay, HistoryIsLegal, EveryHeapIsReplay, opening_state}
-use Rattle.md_machine.specs.clauses.Fates.{Tells}
-use Rattle.md_machine.specs.clauses.Formats.{AreFormats}
-use Rattle.md_machine.specs.clauses.PlacedNodes.{NodesExist}
-use Rattle.md_machine.specs.clauses.Stamps.{StampsHold}
+use Rattle.md_machine.specs.clauses.entries.Fates.{Tells}
+use Rattle.md_machine.specs.clauses.words.Formats.{AreFormats}
+use Rattle.md_machine.specs.clauses.nodes.PlacedNodes.{NodesExist}
+use Rattle.md_machine.specs.clauses.words.Stamps.{StampsHold}
 use Rattle.md_machine.specs.events.Ready.{history_entry, reads_now, ready_word, unready_word, writes_now}
 use Rattle.md_machine.proofs.chain.Entry.{entry_follows, with_entry}
 use Rattle.md_machine.proofs.chain.Follow.{FollowsActs}
 use Rattle.md_machine.proofs.chain.Ready.{BeforeReady, aside, readied_value}
 use Rattle.md_machine.proofs.chain.Sound.{found_stands, sound_reads}
 use Rattle.md_machine.proofs.chain.Values.{else_assoc, placed_last, placed_without}
-use Rattle.md_machine.proofs.clauses.EntriesFit.{EntriesFit}
+use Rattle.md_machine.proofs.clauses.entries.EntriesFit.{EntriesFit}
 use Rattle.md_machine.proofs.events.Attempts.{same_parts}
 use Rattle.md_machine.proofs.events.Moves.{Moves, WinsReady, own_exists}
 use Rattle.md_machine.proofs.resolutions.Placing.{never_means}

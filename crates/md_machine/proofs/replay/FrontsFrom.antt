@@ -15,16 +15,16 @@ use Rattle.md_history.specs.LaneLaws.{numbered-prefix}
 use Rattle.md_machine.specs.declared.attempt.AttemptId.{AttemptId}
 use Rattle.md_machine.specs.declared.attempt.HistoryEntry.{HistoryEntry}
 use Rattle.md_machine.specs.declared.pass.PassView.{PassView}
-use Rattle.md_machine.proofs.clauses.Alone.{lane_exists}
-use Rattle.md_machine.proofs.clauses.Ended.{cond_cons}
+use Rattle.md_machine.proofs.clauses.passes.Alone.{lane_exists}
+use Rattle.md_machine.proofs.clauses.passes.Ended.{cond_cons}
 use Rattle.md_machine.proofs.lists.Rising.{here, in_cons, in_lane, lane_in, range_in, there}
 use Rattle.md_machine.specs.Legal.{FrontsAreFrom, FrontsLegal, begun_of}
 use Rattle.md_machine.specs.Machine.{IsAt, Machine, shape_of, was_begun}
 use Rattle.md_machine.specs.Meaning.{Meaning}
 use Rattle.md_machine.specs.Resolution.{entries_of}
 use Rattle.md_machine.specs.Theorem.{IsKept}
-use Rattle.md_machine.specs.clauses.Lanes.{RiseFrom}
-use Rattle.md_machine.specs.clauses.Mine.{AllEndedDecided, MineIsEnded, ended_of, is_ended}
+use Rattle.md_machine.specs.clauses.passes.Lanes.{RiseFrom}
+use Rattle.md_machine.specs.clauses.passes.Mine.{AllEndedDecided, MineIsEnded, ended_of, is_ended}
 use Rattle.md_machine.specs.events.Start.{is_decided}
 
 all_of : {A : Type 0} (P : A → Type 0) (xs : List A) → ((x : A) → Contains xs x → P x) → All P xs

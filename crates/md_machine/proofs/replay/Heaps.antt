@@ -17,7 +17,7 @@ use Rattle.md_machine.specs.declared.attempt.AttemptId.{AttemptId}
 use Rattle.md_machine.specs.declared.certificate.Change.{Change}
 use Rattle.md_machine.specs.declared.certificate.NewNode.{NewNode}
 use Rattle.md_machine.proofs.chain.Values.{unready_kept, value_even, value_odd}
-use Rattle.md_machine.proofs.clauses.FrontsFit.{fated}
+use Rattle.md_machine.proofs.clauses.passes.FrontsFit.{fated}
 use Rattle.md_machine.proofs.events.Attempts.{attempt_same}
 use Rattle.md_machine.proofs.events.Leaves.{exchange_even, install_odd, uninstall_even}
 use Rattle.md_machine.proofs.events.MoveFacts.{MoveFacts}
@@ -30,7 +30,7 @@ use Rattle.md_machine.specs.Machine.{Machine, attempt_of, content, is_ready, pre
 use Rattle.md_machine.specs.Meaning.{Meaning, TidyStands, after_tidy}
 use Rattle.md_machine.specs.Own.{IsOwnNode}
 use Rattle.md_machine.specs.Resolution.{Resolves, is_kept, logical_heap, logical_value, placed_under, value_under}
-use Rattle.md_machine.specs.clauses.Formats.{AreFormats}
+use Rattle.md_machine.specs.clauses.words.Formats.{AreFormats}
 use Rattle.md_machine.specs.events.Exchange.{exchanged_word}
 use Rattle.md_machine.specs.events.Install.{installed_word}
 use Rattle.md_machine.specs.events.Store.{MayStoreAt}

@@ -20,11 +20,11 @@ use Rattle.md_machine.specs.GoesOn.{GoesOn}
 use Rattle.md_machine.specs.Machine.{Machine, shape_of}
 use Rattle.md_machine.specs.Resolution.{Resolves, entries_of, logical_heap}
 use Rattle.md_machine.specs.Legal.{EveryHeapIsReplay, HistoryIsLegal, IsReplay, opening_state}
-use Rattle.md_machine.specs.clauses.PlacedNodes.{NodesExist}
+use Rattle.md_machine.specs.clauses.nodes.PlacedNodes.{NodesExist}
 use Rattle.md_machine.specs.events.Ready.{history_entry, ready_word}
 use Rattle.md_machine.proofs.Invariant.{Invariant, kept_by}
-use Rattle.md_machine.proofs.clauses.FrontsFit.{fated}
-use Rattle.md_machine.proofs.clauses.Statuses.{statuses_noted}
+use Rattle.md_machine.proofs.clauses.passes.FrontsFit.{fated}
+use Rattle.md_machine.proofs.clauses.words.Statuses.{statuses_noted}
 use Rattle.md_machine.proofs.events.MoveFacts.{MoveFacts}
 use Rattle.md_machine.proofs.events.Moves.{Effect, Moves, WinsExchange, WinsReady, by_exchange, by_fate, by_install, by_ready, by_start, by_stay, by_store, by_uninstall}
 use Rattle.md_machine.proofs.events.Tell.{tell}

@@ -9,19 +9,19 @@ use Rattle.md_words.specs.Layout.{address}
 use Rattle.md_words.specs.LayoutLaws.{IsField}
 use Rattle.md_words.specs.PlaceAt.{IsCounted}
 use Rattle.md_machine.proofs.chain.Values.{installed_spot, unready_kept, value_even, value_odd}
-use Rattle.md_machine.proofs.clauses.Installs.{InstallsKept, installs-kept}
-use Rattle.md_machine.proofs.clauses.OddWords.{standing_serial}
-use Rattle.md_machine.proofs.clauses.Order.{TrailsInOrder}
-use Rattle.md_machine.proofs.clauses.Stamps.{Stamp, StampsKept}
+use Rattle.md_machine.proofs.clauses.slots.Installs.{InstallsKept, installs-kept}
+use Rattle.md_machine.proofs.clauses.slots.OddWords.{standing_serial}
+use Rattle.md_machine.proofs.clauses.words.Order.{TrailsInOrder}
+use Rattle.md_machine.proofs.clauses.words.Stamps.{Stamp, StampsKept}
 use Rattle.md_machine.proofs.events.Attempts.{attempt_same}
 use Rattle.md_machine.proofs.events.MoveFacts.{MoveFacts}
 use Rattle.md_machine.proofs.events.WordChanges.{Stores, at_left, at_place}
 use Rattle.md_machine.specs.Installs.{spot_of_install}
 use Rattle.md_machine.specs.Machine.{Machine, attempt_of, content, is_ready, present, shape_of, status_at, word_at}
 use Rattle.md_machine.specs.Resolution.{is_kept, logical_value, value_under}
-use Rattle.md_machine.specs.clauses.Hands.{HandsFit}
-use Rattle.md_machine.specs.clauses.OddWords.{OddStand, StandsIn}
-use Rattle.md_machine.specs.clauses.Undecided.{UndecidedStand}
+use Rattle.md_machine.specs.clauses.passes.Hands.{HandsFit}
+use Rattle.md_machine.specs.clauses.slots.OddWords.{OddStand, StandsIn}
+use Rattle.md_machine.specs.clauses.slots.Undecided.{UndecidedStand}
 
 -- what the logical heap rests on
 pub record Grounds (m : Machine) : Type 0 where

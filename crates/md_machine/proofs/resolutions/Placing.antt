@@ -6,7 +6,7 @@ use Rattle.md_history.specs.declared.entries.Fate.TheVariants.{Committed, Aborte
 use Rattle.md_history.specs.History.{IsResolution}
 use Rattle.md_machine.specs.declared.attempt.HistoryEntry.{HistoryEntry}
 use Rattle.md_machine.specs.declared.node.Structure.{Structure}
-use Rattle.md_machine.proofs.clauses.FrontsFit.{fated}
+use Rattle.md_machine.proofs.clauses.passes.FrontsFit.{fated}
 use Rattle.md_machine.specs.Machine.{Machine}
 use Rattle.md_machine.specs.Refused.{AlwaysMeansEvery, NeverMeansNone}
 use Rattle.md_machine.specs.Resolution.{always_placed, entries_of, greatest, kept_structure, least, never_placed, or_else, placed_under, structure_in}

@@ -1,0 +1,10 @@
+pub mod EntriesFit
+pub mod EntriesDecided
+pub mod EntriesReady
+pub mod Entries
+pub mod Past
+pub mod Sound
+pub mod ReadyEntries
+pub mod Numbered
+pub mod Serials
+pub mod PresentEntries

@@ -1,0 +1,16 @@
+pub mod InHand
+pub mod LanesApart
+pub mod Lanes
+pub mod Hands
+pub mod FrontsFit
+pub mod Fronts
+pub mod KnownPast
+pub mod FrontsLegal
+pub mod Alone
+pub mod Ended
+pub mod EndedLast
+pub mod HandKnows
+pub mod MineParts
+pub mod Mine
+pub mod OwnSerials
+pub mod OwnBegun

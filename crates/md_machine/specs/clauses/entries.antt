@@ -1,0 +1,5 @@
+pub mod Fates
+pub mod Sound
+pub mod Numbered
+pub mod Serials
+pub mod PresentEntries

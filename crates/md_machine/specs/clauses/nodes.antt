@@ -1,0 +1,6 @@
+pub mod Placed
+pub mod PlacedNodes
+pub mod Flags
+pub mod OwnNodes
+pub mod OwnWords
+pub mod FreeNodes

@@ -1,0 +1,9 @@
+pub mod InHand
+pub mod Lanes
+pub mod Fronts
+pub mod Hands
+pub mod Alone
+pub mod HandKnows
+pub mod Mine
+pub mod OwnSerials
+pub mod OwnBegun

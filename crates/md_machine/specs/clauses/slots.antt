@@ -1,0 +1,8 @@
+pub mod WonInstalls
+pub mod EntrySlots
+pub mod OddWords
+pub mod Slots
+pub mod Undecided
+pub mod OwnInstalls
+pub mod Clean
+pub mod Uninstalls
