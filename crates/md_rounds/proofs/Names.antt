@@ -10,8 +10,8 @@ use Rattle.md_book.specs.declared.commands.BookReply.TheVariants.{Killed}
 use Rattle.md_book.specs.Book.{Order, Book, book_step, cancel_step, fill_step, kill_step, left_within, find_open, level_of}
 use Rattle.md_book.specs.Trading.{names_placed}
 use Rattle.md_book.specs.Meets.{MayTake}
-use Rattle.md_book.proofs.Lessened.{lessened-map}
-use Rattle.md_book.proofs.LookSums.{look-map}
+use Rattle.md_book.proofs.books.Lessened.{lessened-map}
+use Rattle.md_book.proofs.sums.LookSums.{look-map}
 use Rattle.md_orders.specs.Scripts.{IsNamed}
 
 abbrev pub names_in : Book → List ℕ

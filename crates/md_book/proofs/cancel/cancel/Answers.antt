@@ -4,7 +4,7 @@ use Rattle.md_history.specs.ScriptLaws.{at-begin, at-more, at-part, at-broke_par
 use Rattle.md_book.specs.declared.commands.BookReply.TheVariants.{Cancelled}
 use Rattle.md_book.specs.Stands.{left_in}
 use Rattle.md_book.specs.Scripts.{cancel}
-use Rattle.md_book.proofs.ByValue.{at-some}
+use Rattle.md_book.proofs.books.ByValue.{at-some}
 use Rattle.md_book.proofs.cancel.cancel.Goals as goal
 
 pub returns-in_err-lower-clause-plays : goal.returns-in_err-lower-clause-plays

@@ -3,7 +3,7 @@ use Rattle.md_history.specs.ScriptLaws.{at-begin, at-rest, at-part, at-tail, at-
 use Rattle.md_book.specs.declared.maps.TheConstants.{DEPTHS}
 use Rattle.md_book.specs.Scripts.{lower}
 use Rattle.md_book.specs.Filling.{book_taken}
-use Rattle.md_book.proofs.Fills.{book_taken-some}
+use Rattle.md_book.proofs.steps.Fills.{book_taken-some}
 use Rattle.md_book.proofs.fill.book_taken.Goals as goal
 
 pub returns-in_err-raise-clause-plays : goal.returns-in_err-raise-clause-plays

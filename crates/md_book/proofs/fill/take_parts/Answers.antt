@@ -2,7 +2,7 @@ use Rattle.std.proofs.Common.{◌-◌, ◌+◌, ◌∙◌, ap, arith}
 use Rattle.std.proofs.lemmas.Result.{err_from_is_err_and}
 use Rattle.md_history.specs.ScriptLaws.{at-rest, at-part, at-broke_part, at-done}
 use Rattle.md_book.specs.Filling.{go_on, take_parts}
-use Rattle.md_book.proofs.Fills.{take_parts-more, take_parts-none, take_parts-last}
+use Rattle.md_book.proofs.steps.Fills.{take_parts-more, take_parts-none, take_parts-last}
 use Rattle.md_book.proofs.fill.take_parts.Goals as goal
 use Rattle.md_book.proofs.fill.take_parts.Goals.{in-Dead, in-Live}
 

@@ -4,7 +4,7 @@ use Rattle.std.proofs.lemmas.List.{drop_all}
 use Rattle.md_history.specs.ScriptLaws.{at-rest, at-more, at-broke, at-done}
 use Rattle.md_book.specs.Stands.{left_in}
 use Rattle.md_book.specs.Killing.{have_left}
-use Rattle.md_book.proofs.Lookups.{value_or_0-unwrap, have_left-none, have_left-last, have_left-more}
+use Rattle.md_book.proofs.looks.Lookups.{value_or_0-unwrap, have_left-none, have_left-last, have_left-more}
 use Rattle.md_book.proofs.kill.have_left.Goals as goal
 use Rattle.md_book.proofs.kill.have_left.Goals.{else-loop-name-test, then-loop-name-test+then-lacking-eq0}
 

@@ -1,4 +1,4 @@
-use Rattle.md_book.proofs.DayAddsUp.{day-adds-up}
+use Rattle.md_book.proofs.sums.DayAddsUp.{day-adds-up}
 use Rattle.md_book.proofs.laws.days_add_up.Goals as goal
 
 pub returns : goal.returns

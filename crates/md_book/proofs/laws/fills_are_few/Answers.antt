@@ -1,4 +1,4 @@
-use Rattle.md_book.proofs.Filling.{fills-are-few}
+use Rattle.md_book.proofs.steps.Filling.{fills-are-few}
 use Rattle.md_book.proofs.laws.fills_are_few.Goals as goal
 
 pub returns : goal.returns

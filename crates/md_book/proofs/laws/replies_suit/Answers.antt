@@ -1,4 +1,4 @@
-use Rattle.md_book.proofs.RepliesSuit.{replies-suit}
+use Rattle.md_book.proofs.steps.RepliesSuit.{replies-suit}
 use Rattle.md_book.proofs.laws.replies_suit.Goals as goal
 
 pub returns : goal.returns

@@ -1,0 +1,16 @@
+pub mod Sizes
+pub mod ByValue
+pub mod Lessened
+pub mod PlacedOrders
+pub mod Changes
+pub mod Raises
+pub mod Orders
+pub mod OpenOrders
+pub mod Lessening
+pub mod Unpacking
+pub mod ChangedBooks
+pub mod Reflects
+pub mod Replacing
+pub mod Places
+pub mod EmptyBook
+pub mod TheBook

@@ -1,0 +1,8 @@
+pub mod Lookups
+pub mod Tails
+pub mod Looks
+pub mod Looking
+pub mod AtFront
+pub mod FrontLooks
+pub mod Lags
+pub mod Found

@@ -1,0 +1,14 @@
+pub mod Plays
+pub mod Fills
+pub mod Kills
+pub mod Costs
+pub mod Stepping
+pub mod TakingOut
+pub mod Cancelling
+pub mod Taking
+pub mod Placing
+pub mod Filling
+pub mod Killing
+pub mod Small
+pub mod KillsAreWhole
+pub mod RepliesSuit

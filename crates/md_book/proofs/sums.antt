@@ -1,0 +1,11 @@
+pub mod Sums
+pub mod LookSums
+pub mod Days
+pub mod SideSums
+pub mod OrdersAddUp
+pub mod EachOrderAddsUp
+pub mod LevelsAddUp
+pub mod DayAddsUp
+pub mod AccountsAddUp
+pub mod EachAccountAddsUp
+pub mod FillsAddUp
