@@ -41,8 +41,8 @@ pub fn hash_table_schedules()
     all_schedules::<HashTheory>();
 }
 
-/// It does nothing: its contract is that worked hash tables go as they must. Each certificate is one
-/// of the theory and stands, and the maps stand for the pairs expected.
+/// It does nothing: its contract is that worked hash tables go as they must. Each certificate is
+/// one of the theory and stands, and the maps stand for the pairs expected.
 pub fn worked_tables()
     ensures { WorkedTables }
 {}

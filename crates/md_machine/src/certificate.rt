@@ -29,8 +29,8 @@ pub struct NewNode {
     pub next: u32,
 }
 
-/// What is known of a placed node: where it belongs and, if given, its key, its value, and the value of
-/// its next word, which is settled.
+/// What is known of a placed node: where it belongs and, if given, its key, its value, and the
+/// value of its next word, which is settled.
 #[derive(Clone, Copy)]
 pub struct Fact {
     pub node: u32,
@@ -40,7 +40,8 @@ pub struct Fact {
     pub next: Option<u32>,
 }
 
-/// A change that leaves the state as it is, the nodes that it places, and the facts that it rests on.
+/// A change that leaves the state as it is, the nodes that it places, and the facts that it rests
+/// on.
 #[derive(Drop)]
 pub struct TidyChange {
     pub change: Change,
@@ -48,8 +49,8 @@ pub struct TidyChange {
     pub facts: LinkedList<Fact>,
 }
 
-/// Why an operation has its reply: tidy changes that come first, the words that it read, the words that
-/// it changes, the nodes that it places, and facts on placed nodes.
+/// Why an operation has its reply: tidy changes that come first, the words that it read, the words
+/// that it changes, the nodes that it places, and facts on placed nodes.
 #[derive(Drop)]
 pub struct Certificate {
     pub op: Op,

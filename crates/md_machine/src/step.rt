@@ -25,7 +25,8 @@ pub struct Step {
     pub after: u64,
     /// The attempt that the pass had in hand.
     pub attempt: Option<AttemptId>,
-    /// Where the word is a node's key, value or next word: that node was placed in every resolution.
+    /// Where the word is a node's key, value or next word: that node was placed in every
+    /// resolution.
     pub placed: bool,
 }
 

@@ -10,8 +10,9 @@ pub fn clearing_row<T: Theory>()
     ensures { ClearingRow T.meaning }
 {}
 
-/// Three schedules of two transactions: an insert that is aborted before it is ready, one that stalls
-/// when it is ready and is committed by another pass, and a get that is overtaken and aborted.
+/// Three schedules of two transactions: an insert that is aborted before it is ready, one that
+/// stalls when it is ready and is committed by another pass, and a get that is overtaken and
+/// aborted.
 pub fn worked_rows<T: Theory>()
     ensures { WorkedRows T.meaning }
 {}

@@ -1,5 +1,5 @@
-//! The laws of words, places and lanes. Each function does nothing: its contract is the law, for every
-//! word and every shape.
+//! The laws of words, places and lanes. Each function does nothing: its contract is the law, for
+//! every word and every shape.
 
 ghost use Rattle.md_words.specs.WordLaws.{ValueFound, CountFound, PartsMakeWord, CountFits, ValueFits, CountedWordFits, ZeroIsEmpty, ZeroIsEven, EvenTurns, SpotFound, SpotMakesValue, SpotStands, StandingSpot, NodeFound, MarkFound, LinkMakesValue, StatusFound, ReadsFound, SerialFound, PartsMakeStatus, ReadsFit, StatusWordFits, StatusAdds, BeginsAt};
 ghost use Rattle.md_words.specs.LayoutLaws.{AddressIsWord, AddressesDiffer, PlaceFound, WordIsPlace, BaseIsZero, BucketExists, WriteLands, WriteLeaves, WordLeaves, CountedByPlace, WordsFit, NodesFitValues, DescsFitValues, BaseNodesExist, NodeHasLane, DescHasLane, OwnNodeExists, OwnDescExists, NodeInLane, NodeNumber, NodesRise, OneDesc};

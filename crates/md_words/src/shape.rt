@@ -65,13 +65,15 @@ impl Shape {
             HasNumbers shape lanes nodes base tries maps buckets queues) }
 
         ensures lanes { (result ≡ Err ShapeFault.Lanes) ↔ ¬ LanesFit lanes }
-        ensures nodes { (result ≡ Err ShapeFault.Nodes) ↔ (LanesFit lanes × ¬ NodesFit nodes) }
+        ensures nodes { (result ≡ Err ShapeFault.Nodes)
+            ↔ (LanesFit lanes × ¬ NodesFit nodes) }
         ensures base { (result ≡ Err ShapeFault.Base)
             ↔ (LanesFit lanes × NodesFit nodes × ¬ BaseFits base) }
         ensures tries { (result ≡ Err ShapeFault.Tries)
             ↔ (LanesFit lanes × NodesFit nodes × BaseFits base × ¬ TriesFit tries) }
         ensures maps { (result ≡ Err ShapeFault.Maps)
-            ↔ (LanesFit lanes × NodesFit nodes × BaseFits base × TriesFit tries × ¬ MapsFit maps) }
+            ↔ (LanesFit lanes × NodesFit nodes × BaseFits base × TriesFit tries
+            × ¬ MapsFit maps) }
         ensures buckets { (result ≡ Err ShapeFault.Buckets)
             ↔ (LanesFit lanes × NodesFit nodes × BaseFits base × TriesFit tries × MapsFit maps
             × ¬ BucketsFit buckets) }
