@@ -78,6 +78,10 @@ content_replaced (w ∷ ws) word = if w.word == word then Some w.old else conten
 abbrev pub first_content : List Read → List Write → ℕ → Option ℕ
 first_content reads writes word = or_else (content_read reads word) (content_replaced writes word)
 
+-- each word that a certificate records was found by a read or by a slot
+abbrev pub RecordsFound : List Read → List Write → Certificate → Type 0
+RecordsFound reads writes c = All (λ r. is_some (first_content reads writes r.word) ≡ true) c.recorded
+
 abbrev pub is_written : List Write → ℕ → Bool
 is_written writes word = list_any (λ w. w.word == word) writes
 
@@ -107,7 +111,7 @@ module _ (M : Meaning) where
     pub read : All (λ r. first_content reads writes r.word ≡ Some r.content) reads
     pub replaced : All (λ w. first_content reads writes w.word ≡ Some w.old) writes
     -- each word that its certificates record is among them, and its slots are exactly the words that they change
-    pub recorded : All (λ c. All (λ r. is_some (first_content reads writes r.word) ≡ true) c.recorded) h.certificates
+    pub recorded : All (RecordsFound reads writes) h.certificates
     pub exactly : (word : ℕ) → is_written writes word ≡ list_any (λ c. c.word == word) (all_changes h.certificates)
     -- its new nodes are own ones, and differ
     pub nodes : All (λ n. IsOwnNode m p n.node) (all_nodes h.certificates)

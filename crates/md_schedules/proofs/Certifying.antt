@@ -18,7 +18,7 @@ use Rattle.md_machine.specs.declared.certificate.Fact.{Fact}
 use Rattle.md_machine.specs.declared.certificate.NewNode.{NewNode}
 use Rattle.md_machine.specs.declared.certificate.WordValue.{WordValue}
 use Rattle.md_machine.specs.declared.pass.PassView.{PassView}
-use Rattle.md_machine.specs.Certified.{CertifiedIn, HasWords, IsCertified, after_wholes, as_found, first_content}
+use Rattle.md_machine.specs.Certified.{CertifiedIn, HasWords, IsCertified, RecordsFound, after_wholes, as_found, first_content}
 use Rattle.md_machine.specs.LogicalHeap.{Holds, IsNoUnplacedNext, LogicalHeap}
 use Rattle.md_machine.specs.Machine.{Machine, shape_of}
 use Rattle.md_machine.specs.Meaning.{Meaning}
@@ -87,13 +87,18 @@ look_up_in reply facts r heap first empty hold =
       rooted = only_none (λ (w : Write). IsNoUnplacedNext (after_wholes heap (looks_up reply r.word facts ∷ [])) w.word);
     }
 
+-- an insert records no word, and a look-up records that of its read
+pub insert_found : (node : ℕ) → RecordsFound [] (insert_slot node ∷ []) (inserts node)
+insert_found node = only_none (λ (x : WordValue). is_some (first_content [] (insert_slot node ∷ []) x.word) ≡ true)
+
+pub look_up_found : (reply : Reply) (facts : List Fact) (r : Read) → first_content (r ∷ []) [] r.word ≡ Some r.content
+    → RecordsFound (r ∷ []) [] (looks_up reply r.word facts)
+look_up_found reply facts r first =
+    only_one (λ (x : WordValue). is_some (first_content (r ∷ []) [] x.word) ≡ true) (record { word = r.word; value = 0 }) (ap is_some first)
+
 module _ (M : Meaning) (m : Machine) (p : PassView) (h : Hand) where
   abbrev TidiesOf : Certificate → Type 0
   TidiesOf c = All (M.tidies (shape_of m)) c.tidy
-
-  -- every word that the certificate records was found
-  abbrev AreFound : List Read → List Write → Certificate → Type 0
-  AreFound reads writes c = All (λ (r : WordValue). is_some (first_content reads writes r.word) ≡ true) c.recorded
 
   pub insert_certified : (node : ℕ) → M.certifies (shape_of m) (inserts node) → IsOwnNode m p node
       → InEveryResolution m (CertifiedIn [] (insert_slot node ∷ []) (inserts node ∷ []))
@@ -106,7 +111,7 @@ module _ (M : Meaning) (m : Machine) (p : PassView) (h : Hand) where
         tidies = only_one TidiesOf (inserts node) (only_none (M.tidies (shape_of m)));
         read = only_none (λ (r : Read). first_content [] slots r.word ≡ Some r.content);
         replaced = only_one (λ (w : Write). first_content [] slots w.word ≡ Some w.old) (insert_slot node) refl;
-        recorded = only_one (AreFound [] slots) (inserts node) (only_none (λ (r : WordValue). is_some (first_content [] slots r.word) ≡ true));
+        recorded = only_one (RecordsFound [] slots) (inserts node) (insert_found node);
         exactly = λ word. refl;
         nodes = only_one (λ (n : NewNode). IsOwnNode m p n.node) (inserted_node node) own;
         differ = one_differs (λ (n k : NewNode). n.node ≢ k.node) (inserted_node node);
@@ -125,8 +130,7 @@ module _ (M : Meaning) (m : Machine) (p : PassView) (h : Hand) where
         tidies = only_one TidiesOf c (only_none (M.tidies (shape_of m)));
         read = only_one (λ (x : Read). first_content reads [] x.word ≡ Some x.content) r first;
         replaced = only_none (λ (w : Write). first_content reads [] w.word ≡ Some w.old);
-        recorded = only_one (AreFound reads []) c
-            (only_one (λ (x : WordValue). is_some (first_content reads [] x.word) ≡ true) (record { word = r.word; value = 0 }) (ap is_some first));
+        recorded = only_one (RecordsFound reads []) c (look_up_found reply facts r first);
         exactly = λ word. refl;
         nodes = only_none (λ (n : NewNode). IsOwnNode m p n.node);
         differ = none_differ (λ (n k : NewNode). n.node ≢ k.node);

@@ -1,5 +1,5 @@
 -- The marks: what is in hand changes, by a load of word 0.
-use Rattle.std.specs.Prelude.{◌≡◌, ◌<◌, ◌≤◌, ◌++◌, ◌&&◌, not, ℕ, true, false, List, [], ◌∷◌, map, filter, Some, None, if◌then◌else◌}
+use Rattle.std.specs.Prelude.{◌≡◌, ◌<◌, ◌≤◌, ◌++◌, ◌&&◌, not, ℕ, true, false, List, [], ◌∷◌, map, filter, All, Some, None, if◌then◌else◌}
 use Rattle.md_words.specs.declared.limits.TheConstants.{SET}
 use Rattle.md_words.specs.Status.{status_of, serial_of}
 use Rattle.md_words.specs.Place.{desc_status}
@@ -13,7 +13,7 @@ use Rattle.md_machine.specs.declared.attempt.HistoryEntry.{HistoryEntry}
 use Rattle.md_machine.specs.declared.certificate.Certificate.{Certificate}
 use Rattle.md_machine.specs.declared.step.Kind.TheVariants.{Load}
 use Rattle.md_machine.specs.declared.pass.PassView.{PassView}
-use Rattle.md_machine.specs.Certified.{IsCertified, whole_changes, whole_nodes}
+use Rattle.md_machine.specs.Certified.{RecordsFound, whole_changes, whole_nodes}
 use Rattle.md_machine.specs.Machine.{Machine, content, present, same_attempt, shape_of, was_begun}
 use Rattle.md_machine.specs.Meaning.{Meaning}
 use Rattle.md_machine.specs.Own.{HasDesc}
@@ -63,17 +63,20 @@ hand_after_mark_act h c = record h {
 }
 
 module _ (M : Meaning) where
-  -- act: the certificate's changes and its new nodes are those that were made and stored since the operation began, and
-  -- with it the transaction is certified, by reads that it has stored so far and by the slots that it has installed
+  -- act: the certificate is one of the theory, its changes and its new nodes are those that were made and stored since
+  -- the operation began, and each word that it records is among the reads that the attempt has stored so far or its
+  -- slots. That the certificates of all acts stand one after another is asked at the ready step alone
   pub record MayMarkAct (m : Machine) (p : PassView) (h : Hand) (c : Certificate) : Type 0 where
     pub held : p.hand ≡ Some h
     pub operates : h.operating ≡ true
+    pub certifies : M.certifies (shape_of m) c
+    pub tidies : All (M.tidies (shape_of m)) c.tidy
     pub changes : whole_changes c ≡ h.changes
     pub nodes : map (λ n. n.node) (whole_nodes c) ≡ h.stored
     pub count : ℕ
     pub few : count ≤ SET
     pub stored : (i : ℕ) → i < count → IsStoredRead m p h.attempt i
-    pub certified : IsCertified M m p (hand_after_mark_act h c) (reads_now m h.attempt.desc count) (writes_now m h.attempt)
+    pub recorded : RecordsFound (reads_now m h.attempt.desc count) (writes_now m h.attempt) c
 
 abbrev pub after_mark_act : Machine → (pass : ℕ) → PassView → Hand → Certificate → Machine
 after_mark_act m pass p h c = after_move m pass (record (marked m p) { hand = Some (hand_after_mark_act h c) })

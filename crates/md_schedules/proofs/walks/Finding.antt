@@ -23,7 +23,7 @@ use Rattle.md_schedules.specs.Transactions.{finds, found_node}
 use Rattle.md_schedules.specs.Schedules.{finding}
 use Rattle.md_schedules.specs.Walk.{after_event, hand_at, view_at}
 use Rattle.md_schedules.proofs.Walking.{Walks, nth, one_below, only_none, only_one, step_at, stored_at}
-use Rattle.md_schedules.proofs.Certifying.{look_up_certified, look_up_in}
+use Rattle.md_schedules.proofs.Certifying.{look_up_certified, look_up_found, look_up_in}
 use Rattle.md_schedules.proofs.walks.Completing.{h23}
 
 abbrev h24 : Machine
@@ -55,16 +55,6 @@ h32 = after_event h31 (commit 1 1 5)
 
 abbrev h33 : Machine
 h33 = after_event h32 (mark_end 1)
-
-chain_28 : InEveryResolution h28 (CertifiedIn (read_now h28 1 0 ∷ []) [] (finds ∷ []))
-unfolding value_of count_of is_even counted_word spot_value spot_of
-    status_word serial_of words_of node_count address place_at
-chain_28 (true ∷ []) r =
-    look_up_in (Value (Some 10)) (found_node ∷ []) (read_now h28 1 0) (logical_heap h28 (true ∷ [])) refl refl
-    (only_one (Holds (logical_heap h28 (true ∷ []))) found_node (record { placed = refl; key = refl; value = refl; next = tt }))
-chain_28 (false ∷ []) r = absurd (false≢true r.0)
-chain_28 (k ∷ j ∷ ks) r = absurd r.1
-chain_28 [] r = absurd r
 
 chain_29 : InEveryResolution h29 (CertifiedIn (read_now h29 1 0 ∷ []) [] (finds ∷ []))
 unfolding value_of count_of is_even counted_word spot_value spot_of
@@ -121,6 +111,8 @@ module _ (M : Meaning) (fin : M.certifies small_shape finds) where
     record {
       held = refl;
       operates = refl;
+      certifies = fin;
+      tidies = only_none (M.tidies small_shape);
       changes = refl;
       nodes = refl;
       count = 1;
@@ -129,7 +121,7 @@ module _ (M : Meaning) (fin : M.certifies small_shape finds) where
         word = stored_at (view_at h28 1) _ _ _ 12 (0, lit≤ tt, refl) (record { kind = refl; attempt = refl; there = refl }) refl refl;
         content = stored_at (view_at h28 1) _ _ _ 13 (0, lit≤ tt, refl) (record { kind = refl; attempt = refl; there = refl }) refl refl;
       });
-      certified = look_up_certified M h28 (view_at h28 1) (hand_at h29 1) (Value (Some 10)) (found_node ∷ []) (read_now h28 1 0) fin refl chain_28;
+      recorded = look_up_found (Value (Some 10)) (found_node ∷ []) (read_now h28 1 0) refl;
     },
     refl,
   )

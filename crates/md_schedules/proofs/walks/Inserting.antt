@@ -1,21 +1,19 @@
 -- Pass 0 makes an insert, with which two of the schedules go on.
-use Rattle.std.proofs.Common.{[], ◌∷◌, refl, lit≤, arith}
+use Rattle.std.proofs.Common.{refl, lit≤, arith}
 use Rattle.md_words.specs.Content.{value_of, count_of, is_even, counted_word, spot_value, spot_of}
-use Rattle.md_words.specs.Status.{status_word, serial_of}
+use Rattle.md_words.specs.Status.{serial_of}
 use Rattle.md_words.specs.Layout.{words_of, node_count, address}
 use Rattle.md_words.specs.Place.{node_key, node_next, node_value, slot_new, slot_old, slot_word}
 use Rattle.md_words.specs.PlaceAt.{place_at}
 use Rattle.md_words.specs.Lanes.{OwnsNode}
-use Rattle.md_machine.specs.Certified.{CertifiedIn}
 use Rattle.md_machine.specs.Event.{Does, install, mark_act, store}
 use Rattle.md_machine.specs.Machine.{Machine}
 use Rattle.md_machine.specs.Meaning.{Meaning}
-use Rattle.md_machine.specs.Resolution.{InEveryResolution, logical_heap}
 use Rattle.md_schedules.specs.Field.{bucket, first_slot, link_to, place_word, small_shape}
 use Rattle.md_schedules.specs.Transactions.{inserting, inserts}
 use Rattle.md_schedules.specs.Walk.{after_event, hand_at, view_at}
-use Rattle.md_schedules.proofs.Walking.{Walks}
-use Rattle.md_schedules.proofs.Certifying.{insert_certified, insert_in, insert_slot}
+use Rattle.md_schedules.proofs.Walking.{Walks, only_none}
+use Rattle.md_schedules.proofs.Certifying.{insert_found}
 use Rattle.md_schedules.proofs.walks.Beginning.{m5}
 
 abbrev m6 : Machine
@@ -41,12 +39,6 @@ m12 = after_event m11 (install 0 bucket 0 (first_slot 0))
 
 abbrev pub m13 : Machine
 m13 = after_event m12 (mark_act 0 (inserts 2))
-
-chain_12 : InEveryResolution m12 (CertifiedIn [] (insert_slot 2 ∷ []) (inserts 2 ∷ []))
-unfolding value_of count_of is_even counted_word spot_value spot_of
-    status_word serial_of words_of node_count address place_at
-chain_12 [] r = insert_in 2 (logical_heap m12 []) refl refl (record { key = refl; value = refl; next = refl }) refl
-chain_12 (k ∷ ks) r = absurd r
 
 module _ (M : Meaning) (ins : M.certifies small_shape (inserts 2)) where
   does_5 : Does M m5 (store 0 (place_word (node_key 2)) 1) m6
@@ -139,12 +131,14 @@ module _ (M : Meaning) (ins : M.certifies small_shape (inserts 2)) where
     record {
       held = refl;
       operates = refl;
+      certifies = ins;
+      tidies = only_none (M.tidies small_shape);
       changes = refl;
       nodes = refl;
       count = 0;
       few = lit≤ tt;
       stored = λ i h. absurd (omega (arith, h));
-      certified = insert_certified M m12 (view_at m12 0) (hand_at m13 0) 2 ins ((0, (0, lit≤ tt, refl), (lit≤ tt, lit≤ tt, lit≤ tt)), refl) chain_12;
+      recorded = insert_found 2;
     },
     refl,
   )

@@ -23,7 +23,7 @@ use Rattle.md_schedules.specs.Transactions.{misses}
 use Rattle.md_schedules.specs.Schedules.{missing}
 use Rattle.md_schedules.specs.Walk.{after_event, hand_at, view_at}
 use Rattle.md_schedules.proofs.Walking.{Walks, nth, one_below, only_none, only_one, step_at, stored_at}
-use Rattle.md_schedules.proofs.Certifying.{insert_slot, look_up_certified, look_up_in}
+use Rattle.md_schedules.proofs.Certifying.{insert_slot, look_up_certified, look_up_found, look_up_in}
 use Rattle.md_schedules.proofs.walks.Aborting.{s22}
 
 abbrev s23 : Machine
@@ -49,12 +49,6 @@ s29 = after_event s28 (mark_end 1)
 
 abbrev s30 : Machine
 s30 = after_event s29 (ready 0 0)
-
-chain_24 : InEveryResolution s24 (CertifiedIn (read_now s24 1 0 ∷ []) [] (misses ∷ []))
-unfolding value_of count_of is_even counted_word spot_value spot_of
-    status_word serial_of words_of node_count address place_at
-chain_24 [] r = look_up_in (Value None) [] (read_now s24 1 0) (logical_heap s24 []) refl refl (only_none (Holds (logical_heap s24 [])))
-chain_24 (k ∷ ks) r = absurd r
 
 chain_25 : InEveryResolution s25 (CertifiedIn (read_now s25 1 0 ∷ []) [] (misses ∷ []))
 unfolding value_of count_of is_even counted_word spot_value spot_of
@@ -93,6 +87,8 @@ module _ (M : Meaning) (mis : M.certifies small_shape misses) where
     record {
       held = refl;
       operates = refl;
+      certifies = mis;
+      tidies = only_none (M.tidies small_shape);
       changes = refl;
       nodes = refl;
       count = 1;
@@ -101,7 +97,7 @@ module _ (M : Meaning) (mis : M.certifies small_shape misses) where
         word = stored_at (view_at s24 1) _ _ _ 10 (0, lit≤ tt, refl) (record { kind = refl; attempt = refl; there = refl }) refl refl;
         content = stored_at (view_at s24 1) _ _ _ 11 (0, lit≤ tt, refl) (record { kind = refl; attempt = refl; there = refl }) refl refl;
       });
-      certified = look_up_certified M s24 (view_at s24 1) (hand_at s25 1) (Value None) [] (read_now s24 1 0) mis refl chain_24;
+      recorded = look_up_found (Value None) [] (read_now s24 1 0) refl;
     },
     refl,
   )

@@ -1,25 +1,22 @@
 -- Pass 0 notes a get that finds the bucket empty.
-use Rattle.std.proofs.Common.{[], ◌∷◌, refl, lit≤, None}
+use Rattle.std.proofs.Common.{[], refl, lit≤, None}
 use Rattle.md_words.specs.Content.{value_of, count_of, is_even, counted_word, spot_value, spot_of}
-use Rattle.md_words.specs.Status.{status_word, serial_of}
+use Rattle.md_words.specs.Status.{serial_of}
 use Rattle.md_words.specs.Layout.{words_of, node_count, address}
 use Rattle.md_words.specs.Place.{read_content, read_word}
 use Rattle.md_words.specs.PlaceAt.{place_at}
 use Rattle.md_words.specs.Lanes.{OwnsNode}
 use Rattle.md_history.specs.declared.acts.Reply.TheVariants.{Value}
-use Rattle.md_machine.specs.Certified.{CertifiedIn}
 use Rattle.md_machine.specs.Event.{Does, mark_act, store}
-use Rattle.md_machine.specs.LogicalHeap.{Holds}
 use Rattle.md_machine.specs.Machine.{Machine, attempt_of}
 use Rattle.md_machine.specs.Meaning.{Meaning}
-use Rattle.md_machine.specs.Resolution.{InEveryResolution, logical_heap}
 use Rattle.md_machine.specs.events.Ready.{IsStoredRead, read_now}
 use Rattle.md_schedules.specs.Field.{bucket, place_word, small_shape}
 use Rattle.md_schedules.specs.Transactions.{misses}
 use Rattle.md_schedules.specs.Schedules.{noting}
 use Rattle.md_schedules.specs.Walk.{after_event, hand_at, view_at}
 use Rattle.md_schedules.proofs.Walking.{Walks, one_below, only_none, stored_at}
-use Rattle.md_schedules.proofs.Certifying.{look_up_certified, look_up_in}
+use Rattle.md_schedules.proofs.Certifying.{look_up_found}
 use Rattle.md_schedules.proofs.walks.Beginning.{m5}
 
 abbrev r6 : Machine
@@ -30,12 +27,6 @@ r7 = after_event r6 (store 0 (place_word (read_content 0 0)) 0)
 
 abbrev pub r8 : Machine
 r8 = after_event r7 (mark_act 0 misses)
-
-chain_7 : InEveryResolution r7 (CertifiedIn (read_now r7 0 0 ∷ []) [] (misses ∷ []))
-unfolding value_of count_of is_even counted_word spot_value spot_of
-    status_word serial_of words_of node_count address place_at
-chain_7 [] r = look_up_in (Value None) [] (read_now r7 0 0) (logical_heap r7 []) refl refl (only_none (Holds (logical_heap r7 [])))
-chain_7 (k ∷ ks) r = absurd r
 
 module _ (M : Meaning) (mis : M.certifies small_shape misses) where
   does_5 : Does M m5 (store 0 (place_word (read_word 0 0)) bucket) r6
@@ -68,6 +59,8 @@ module _ (M : Meaning) (mis : M.certifies small_shape misses) where
     record {
       held = refl;
       operates = refl;
+      certifies = mis;
+      tidies = only_none (M.tidies small_shape);
       changes = refl;
       nodes = refl;
       count = 1;
@@ -76,7 +69,7 @@ module _ (M : Meaning) (mis : M.certifies small_shape misses) where
         word = stored_at (view_at r7 0) _ _ _ 5 (0, lit≤ tt, refl) (record { kind = refl; attempt = refl; there = refl }) refl refl;
         content = stored_at (view_at r7 0) _ _ _ 6 (0, lit≤ tt, refl) (record { kind = refl; attempt = refl; there = refl }) refl refl;
       });
-      certified = look_up_certified M r7 (view_at r7 0) (hand_at r8 0) (Value None) [] (read_now r7 0 0) mis refl chain_7;
+      recorded = look_up_found (Value None) [] (read_now r7 0 0) refl;
     },
     refl,
   )

@@ -1,22 +1,20 @@
 -- Pass 1 makes an insert, while the get of pass 0 stalls.
-use Rattle.std.proofs.Common.{[], ◌∷◌, refl, lit≤, arith}
+use Rattle.std.proofs.Common.{refl, lit≤, arith}
 use Rattle.md_words.specs.Content.{value_of, count_of, is_even, counted_word, spot_value, spot_of}
-use Rattle.md_words.specs.Status.{status_word, serial_of}
+use Rattle.md_words.specs.Status.{serial_of}
 use Rattle.md_words.specs.Layout.{words_of, node_count, address}
 use Rattle.md_words.specs.Place.{desc_status, node_key, node_next, node_value, slot_new, slot_old, slot_word}
 use Rattle.md_words.specs.PlaceAt.{place_at}
 use Rattle.md_words.specs.Lanes.{OwnsNode, OwnsDesc}
-use Rattle.md_machine.specs.Certified.{CertifiedIn}
 use Rattle.md_machine.specs.Event.{Does, install, load, mark_act, mark_begin, mark_start, store}
 use Rattle.md_machine.specs.Machine.{Machine}
 use Rattle.md_machine.specs.Meaning.{Meaning}
-use Rattle.md_machine.specs.Resolution.{InEveryResolution, logical_heap}
 use Rattle.md_schedules.specs.Field.{bucket, first_slot, link_to, place_word, small_shape}
 use Rattle.md_schedules.specs.Transactions.{inserts}
 use Rattle.md_schedules.specs.Schedules.{overtaking}
 use Rattle.md_schedules.specs.Walk.{after_event, hand_at, view_at}
-use Rattle.md_schedules.proofs.Walking.{Walks}
-use Rattle.md_schedules.proofs.Certifying.{insert_certified, insert_in, insert_slot}
+use Rattle.md_schedules.proofs.Walking.{Walks, only_none}
+use Rattle.md_schedules.proofs.Certifying.{insert_found}
 use Rattle.md_schedules.proofs.walks.Noting.{r8}
 
 abbrev r9 : Machine
@@ -54,12 +52,6 @@ r19 = after_event r18 (install 1 bucket 0 (first_slot 1))
 
 abbrev pub r20 : Machine
 r20 = after_event r19 (mark_act 1 (inserts 18))
-
-chain_19 : InEveryResolution r19 (CertifiedIn [] (insert_slot 18 ∷ []) (inserts 18 ∷ []))
-unfolding value_of count_of is_even counted_word spot_value spot_of
-    status_word serial_of words_of node_count address place_at
-chain_19 [] r = insert_in 18 (logical_heap r19 []) refl refl (record { key = refl; value = refl; next = refl }) refl
-chain_19 (k ∷ ks) r = absurd r
 
 module _ (M : Meaning) (ins : M.certifies small_shape (inserts 18)) where
   does_8 : Does M r8 (load 1 (place_word (desc_status 1))) r9
@@ -167,12 +159,14 @@ module _ (M : Meaning) (ins : M.certifies small_shape (inserts 18)) where
     record {
       held = refl;
       operates = refl;
+      certifies = ins;
+      tidies = only_none (M.tidies small_shape);
       changes = refl;
       nodes = refl;
       count = 0;
       few = lit≤ tt;
       stored = λ i h. absurd (omega (arith, h));
-      certified = insert_certified M r19 (view_at r19 1) (hand_at r20 1) 18 ins ((1, (0, lit≤ tt, refl), (lit≤ tt, lit≤ tt, lit≤ tt)), refl) chain_19;
+      recorded = insert_found 18;
     },
     refl,
   )
