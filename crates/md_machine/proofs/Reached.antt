@@ -80,7 +80,7 @@ first_segment : (shape : Shape) (p : PassView) (segment : List Step) → first_p
 first_segment shape p segment e c = ⊎_elim (λ x. x) (λ i. absurd (in_none segment i)) (in_cons [] [] segment (subst (λ (v : PassView). Contains (segments v) segment) (sym e) c))
 
 -- so it has no steps
-no_steps : (shape : Shape) (t : Step) → HasStep (first_pass shape ∷ []) t → ⊥
+pub no_steps : (shape : Shape) (t : Step) → HasStep (first_pass shape ∷ []) t → ⊥
 no_steps shape t (j, p, at, (segment, c, i)) = in_none t (subst (λ l. Contains l t) (sym (first_segment shape p segment (at_one (first_pass shape) p j at).1 c)) i)
 
 -- and has nothing in hand

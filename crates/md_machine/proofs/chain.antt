@@ -4,3 +4,5 @@ pub mod Entry
 pub mod Values
 pub mod Ready
 pub mod Sound
+pub mod SameNodes
+pub mod EntryFacts

@@ -3,5 +3,10 @@ pub mod Heaps
 pub mod Nodes
 pub mod Enter
 pub mod Kept
+pub mod Rise
+pub mod RiseReady
+pub mod FactsRise
+pub mod WasIn
+pub mod Settled
 pub mod FrontsFrom
 pub mod Always

@@ -14,6 +14,7 @@ use Rattle.md_machine.specs.Event.{CanOpen, Event, Runs, opened}
 use Rattle.md_machine.specs.Machine.{IsAt, IsLive, Machine, shape_of}
 use Rattle.md_machine.specs.Meaning.{Meaning}
 use Rattle.md_machine.specs.Resolution.{Resolves, entries_of, logical_heap}
+use Rattle.md_machine.specs.clauses.words.WasIn.{LeastFactsHold, MetWereIn, SettledStay}
 
 -- an attempt with its lane
 abbrev pub begun_of : Shape → AttemptId → Begun
@@ -55,12 +56,16 @@ module _ (M : Meaning) where
   FrontsAreFrom m = (pass : ℕ) (p : PassView) → IsAt m pass p → IsLive p
       → IsFrontFrom (opening_state m.opening) (range_with_len 0 (shape_of m).lanes) (front_of (shape_of m) p)
 
-  -- of a machine: in every resolution the logical heap is a replay, and the history is legal, as each pass has seen it too
+  -- of a machine: in every resolution the logical heap is a replay, and the history is legal, as each pass has seen it
+  -- too; and what steps met was in valid heaps whose facts hold for good
   pub record IsMeant (m : Machine) : Type 0 where
     pub every : EveryHeapIsReplay m
     pub legal : HistoryIsLegal m
     pub fronts_legal : FrontsLegal m
     pub fronts : FrontsAreFrom m
+    pub least_facts : LeastFactsHold m
+    pub was_in : MetWereIn M m
+    pub settled : SettledStay m
 
   -- after every list of events from an opening
   abbrev pub AlwaysMeant : Type 0

@@ -1,5 +1,5 @@
 -- All schedules are legal: after every list of events from an opening with a valid heap.
-use Rattle.std.proofs.Common.{◌≤◌, Bool, List, [], ◌∷◌, refl, sym, subst, ⊎_elim, arith}
+use Rattle.std.proofs.Common.{◌≡◌, ◌≤◌, Bool, List, [], ◌∷◌, length, refl, sym, subst, ⊎_elim, arith}
 use Rattle.std.proofs.lemmas.List.Elements.{All-weaker}
 use Rattle.md_words.specs.Layout.{IsNode, node_count}
 use Rattle.md_words.proofs.Owners.{base_nodes_exist}
@@ -7,20 +7,26 @@ use Rattle.md_history.specs.History.{IsLegal}
 use Rattle.md_machine.specs.declared.node.PlacedNode.{PlacedNode}
 use Rattle.md_machine.specs.declared.opening.Opening.{Opening}
 use Rattle.md_machine.specs.Meaning.{Lawful, Meaning}
-use Rattle.md_machine.specs.Machine.{Machine}
+use Rattle.md_machine.specs.Machine.{Machine, shape_of}
 use Rattle.md_machine.specs.declared.pass.PassView.{PassView}
-use Rattle.md_machine.specs.Event.{CanOpen, Event, Plays, Runs, first_pass, opened}
+use Rattle.md_machine.specs.Event.{CanOpen, Does, Event, Plays, Runs, first_pass, opened}
 use Rattle.md_machine.specs.Legal.{AlwaysMeant, FrontsLegal, IsReplay, opening_state}
 use Rattle.md_machine.specs.Resolution.{Resolves, entries_of}
 use Rattle.md_machine.proofs.Invariant.{Invariant, does_keep}
-use Rattle.md_machine.proofs.Reached.{always_kept, opens}
+use Rattle.md_machine.specs.clauses.words.WasIn.{MetWereIn}
+use Rattle.md_machine.proofs.Reached.{always_kept, no_steps, opens}
+use Rattle.md_machine.proofs.clauses.passes.FrontsFit.{fated}
 use Rattle.md_machine.proofs.clauses.passes.FrontsLegal.{fronts_legal-kept, none_legal}
 use Rattle.md_machine.proofs.events.Moves.{does_move}
 use Rattle.md_machine.proofs.events.Tell.{tell}
 use Rattle.md_machine.proofs.lists.At.{at_one}
 use Rattle.md_machine.proofs.lists.Rising.{in_none}
 use Rattle.md_machine.proofs.replay.FrontsFrom.{fronts_from}
+use Rattle.md_machine.proofs.replay.FactsRise.{facts_rise-kept, facts_stay}
 use Rattle.md_machine.proofs.replay.Kept.{Means, means-kept}
+use Rattle.md_machine.proofs.replay.Rise.{FactsRise}
+use Rattle.md_machine.proofs.replay.Settled.{settled}
+use Rattle.md_machine.proofs.replay.WasIn.{least_facts, was_in-kept}
 
 module _ (M : Meaning) (lawful : Lawful M) where
   -- an opening means what its heap means
@@ -48,24 +54,66 @@ module _ (M : Meaning) (lawful : Lawful M) where
       subst (λ (q : PassView). IsLegal (opening_state M o) (entries_of q.seen) q.known) (at_one (first_pass o.shape) p pass at).1
       (means_opened o can).legal
 
-  plays_mean : (m n : Machine) (e : Event) → Invariant m → Plays M m e n → Means M m → FrontsLegal M m → Invariant n × Means M n × FrontsLegal M n
-  plays_mean m n e k plays was fronts = ⊎_elim
-      (λ does.
+  -- in an opening there is one resolution, and no step was made
+  rise_opened : (o : Opening) → FactsRise (opened o)
+  rise_opened o [] [] r q within = λ f holds. holds
+  rise_opened o [] (k ∷ ks) r q within = absurd q
+  rise_opened o (k ∷ ks) many r q within = absurd r
+
+  -- what every event keeps
+  record MeansSoFar (m : Machine) : Type 0 where
+    invariant : Invariant m
+    means : Means M m
+    fronts_legal : FrontsLegal M m
+    facts_rise : FactsRise m
+    was_in : MetWereIn M m
+
+  so_far_opened : (o : Opening) → CanOpen M o → MeansSoFar (opened o)
+  so_far_opened o can = record {
+    invariant = opens M o can;
+    means = means_opened o can;
+    fronts_legal = fronts_opened o can;
+    facts_rise = rise_opened o;
+    was_in = λ pass p at segment c s i. absurd (no_steps o.shape s (pass, p, at, (segment, c, i)));
+  }
+
+  fated_of : (m : Machine) → Invariant m → length m.fates ≡ length m.history
+  fated_of m k = fated (shape_of m) m.words m.history m.fates k.entries
+
+  does_mean : (m n : Machine) (e : Event) → MeansSoFar m → Does M m e n → MeansSoFar n
+  does_mean m n e was does =
+      let k = was.invariant in
       let on = does_keep M m n e k does in
       let move = does_move M m n e k.formats.base does in
-      let means = means-kept M lawful m n k on.0 on.1 move was in
+      let means = means-kept M lawful m n k on.0 on.1 move was.means in
       let v = tell M m n k.formats k.lanes k.hands move in
-      (on.0, means, fronts_legal-kept M m n v k.fronts on.0.fronts on.1.fates on.0.sound means.legal fronts))
-      (λ still. subst (λ (x : Machine). Invariant x × Means M x × FrontsLegal M x) (sym still.1) (k, was, fronts))
-      plays
+      let rise = facts_rise-kept M lawful m n k on.0 on.1 move was.means was.facts_rise in
+      let stay = facts_stay M lawful m n k on.0 on.1 move was.means in
+      record {
+        invariant = on.0;
+        means = means;
+        fronts_legal = fronts_legal-kept M m n v k.fronts on.0.fronts on.1.fates on.0.sound means.legal was.fronts_legal;
+        facts_rise = rise;
+        was_in = was_in-kept M m n v k.formats.field (fated_of m k) (fated_of n on.0) was.means.every means.every was.facts_rise rise stay was.was_in;
+      }
 
-  runs_mean : (events : List Event) (m n : Machine) → Invariant m → Means M m → FrontsLegal M m → Runs M m events n → Means M n × FrontsLegal M n
-  runs_mean [] m n k was fronts runs = subst (λ (x : Machine). Means M x × FrontsLegal M x) (sym runs) (was, fronts)
-  runs_mean (e ∷ es) m n k was fronts runs =
-      let on = plays_mean m runs.0 e k runs.1 was fronts in
-      runs_mean es runs.0 n on.0 on.1 on.2 runs.2
+  plays_mean : (m n : Machine) (e : Event) → MeansSoFar m → Plays M m e n → MeansSoFar n
+  plays_mean m n e was = ⊎_elim (does_mean m n e was) (λ still. subst MeansSoFar (sym still.1) was)
+
+  runs_mean : (events : List Event) (m n : Machine) → MeansSoFar m → Runs M m events n → MeansSoFar n
+  runs_mean [] m n was runs = subst MeansSoFar (sym runs) was
+  runs_mean (e ∷ es) m n was runs = runs_mean es runs.0 n (plays_mean m runs.0 e was runs.1) runs.2
 
   pub always_meant : AlwaysMeant M
   always_meant o events m can runs =
-      let means = runs_mean events (opened o) m (opens M o can) (means_opened o can) (fronts_opened o can) runs in
-      record { every = means.0.every; legal = means.0.legal; fronts_legal = means.1; fronts = fronts_from M m (always_kept M o events m can runs) means.1 }
+      let so_far = runs_mean events (opened o) m (so_far_opened o can) runs in
+      let fated = fated_of m so_far.invariant in
+      record {
+        every = so_far.means.every;
+        legal = so_far.means.legal;
+        fronts_legal = so_far.fronts_legal;
+        fronts = fronts_from M m (always_kept M o events m can runs) so_far.fronts_legal;
+        least_facts = least_facts m fated so_far.facts_rise;
+        was_in = so_far.was_in;
+        settled = settled M m so_far.means.exist fated so_far.was_in;
+      }

@@ -94,7 +94,7 @@ module _ (M : Meaning) (lawful : Lawful M) (m n : Machine) (w : Moves M m n) (s 
     idle = prep_idle m a unready m.history m.fates entries;
   }
 
-  certified : IsCertified M m w.p s.hand reads (writes_now m a)
+  pub certified : IsCertified M m w.p s.hand reads (writes_now m a)
   certified = s.may.certified (eq-eqb (status_at m a.desc) (unready_word a) unready)
 
   -- its nodes are nodes of the field, and none of them is placed
@@ -104,7 +104,7 @@ module _ (M : Meaning) (lawful : Lawful M) (m n : Machine) (w : Moves M m n) (s 
   pub entry_nodes_exist : All (λ (x : PlacedNode). IsNode (shape_of m) x.node) e.placed
   entry_nodes_exist = All-map (λ (x : PlacedNode). IsNode (shape_of m) x.node) (λ (k : NewNode). let x : PlacedNode = record { node = k.node; structure = k.structure } in x) (all_nodes certificates) nodes_exist
 
-  nodes_fresh : (choice : List Bool) → Resolves m choice → All (λ (k : NewNode). placed_under m choice k.node ≡ None) (all_nodes certificates)
+  pub nodes_fresh : (choice : List Bool) → Resolves m choice → All (λ (k : NewNode). placed_under m choice k.node ≡ None) (all_nodes certificates)
   nodes_fresh choice r = All-weaker (λ (k : NewNode). IsOwnNode m w.p k.node) (λ (k : NewNode). placed_under m choice k.node ≡ None)
       (λ k own. none_from (placed_under m choice k.node) ((never_means m k.node fated).0 own.1 choice r)) (all_nodes certificates) certified.nodes
 
@@ -120,7 +120,7 @@ module _ (M : Meaning) (lawful : Lawful M) (m n : Machine) (w : Moves M m n) (s 
     fits = resolution-length (entries_of m.history) m.fates choice r ∙ length-map m.history (λ (x : HistoryEntry). x.entry)
 
     -- a sound attempt's certificates follow from the logical heap
-    follows : e.entry.sound ≡ true → FollowsActs M (logical_heap m choice) (map (λ c. act_of c.op c.reply) certificates) (with_entry (logical_heap m choice) (writes_now m a) (placed_by certificates))
+    pub follows : e.entry.sound ≡ true → FollowsActs M (logical_heap m choice) (map (λ c. act_of c.op c.reply) certificates) (with_entry (logical_heap m choice) (writes_now m a) (placed_by certificates))
     follows sound = entry_follows M lawful (logical_heap m choice) replay.valid reads (writes_now m a) certificates (record {
       certifies = certified.certifies;
       tidies = certified.tidies;
@@ -137,7 +137,7 @@ module _ (M : Meaning) (lawful : Lawful M) (m n : Machine) (w : Moves M m n) (s 
         ap (or_else (structure_in m.opening.placed node)) (placed_last m.history choice e node fits)
         ∙ sym (else_assoc (structure_in m.opening.placed node) (kept_structure m.history choice node) (structure_in e.placed node))
 
-    with_exist : (node : ℕ) → IsPlaced (with_entry (logical_heap m choice) (writes_now m a) (placed_by certificates)) node → IsNode (shape_of m) node
+    pub with_exist : (node : ℕ) → IsPlaced (with_entry (logical_heap m choice) (writes_now m a) (placed_by certificates)) node → IsNode (shape_of m) node
     with_exist node placed = ⊎_elim
         (λ old. placed_exists m choice exist node (placed.0, old))
         (λ new. structure_at (IsNode (shape_of m)) e.placed node placed.0 entry_nodes_exist new)
@@ -155,7 +155,7 @@ module _ (M : Meaning) (lawful : Lawful M) (m n : Machine) (w : Moves M m n) (s 
         no_status : node_value node ≡ desc_status a.desc → ⊥
         no_status q = cc
 
-    with_agrees : AgreeWherePlaced (with_entry (logical_heap m choice) (writes_now m a) (placed_by certificates)) (logical_heap entered (choice ++ true ∷ []))
+    pub with_agrees : AgreeWherePlaced (with_entry (logical_heap m choice) (writes_now m a) (placed_by certificates)) (logical_heap entered (choice ++ true ∷ []))
     with_agrees = record {
       shape = refl;
       placed = with_places;
@@ -165,7 +165,7 @@ module _ (M : Meaning) (lawful : Lawful M) (m n : Machine) (w : Moves M m n) (s 
     }
 
     -- without it, with the one before
-    without_agrees : AgreeWherePlaced (logical_heap m choice) (logical_heap entered (choice ++ false ∷ []))
+    pub without_agrees : AgreeWherePlaced (logical_heap m choice) (logical_heap entered (choice ++ false ∷ []))
     without_agrees = record {
       shape = refl;
       placed = λ node. ap (or_else (structure_in m.opening.placed node)) (placed_without m.history choice e node fits);

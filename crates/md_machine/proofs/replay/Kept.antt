@@ -95,7 +95,7 @@ module _ (M : Meaning) where
       sound : AllCommittedSound (entries_of m.history) n.fates
       sound = subst (λ es. AllCommittedSound (entries_of es) n.fates) history kn.sound.sound
 
-      resolved : (choice : List Bool) → Resolves n choice → Resolves m choice
+      pub resolved : (choice : List Bool) → Resolves n choice → Resolves m choice
       resolved choice r = narrows (entries_of m.history) m.fates n.fates choice (fated_now ∙ sym (length-map m.history (λ (x : HistoryEntry). x.entry))) on.fates sound
           (subst (λ es. IsResolution (entries_of es) n.fates choice) history r)
 
@@ -170,7 +170,7 @@ module _ (M : Meaning) where
     Plain e = (choice : List Bool) (r : Resolves m choice) → IsPlain M m n w choice r fated_now facts k.formats (grounds_of m k) e
 
     -- an uninstall leaves the value that its word stands for
-    leaves : (choice : List Bool) (r : Resolves m choice) → LeavesValue M m n w choice r fated_now facts k.formats (grounds_of m k)
+    pub leaves : (choice : List Bool) (r : Resolves m choice) → LeavesValue M m n w choice r fated_now facts k.formats (grounds_of m k)
     leaves choice r s = wins_uninstall_value m n (uninstall_rests m k) w.pass w.p w.acts.at w.kind w.word w.new s choice r
 
     -- whatever the move does

@@ -8,3 +8,4 @@ pub mod Statuses
 pub mod Brackets
 pub mod OldSlots
 pub mod MetSpots
+pub mod WasIn
