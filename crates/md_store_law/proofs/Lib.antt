@@ -4,3 +4,8 @@ pub mod Walking
 pub mod Filling
 pub mod RowHolds
 pub mod EvenFields
+pub mod Numbers
+pub mod Appending
+pub mod Writes
+pub mod Growing
+pub mod Dummies

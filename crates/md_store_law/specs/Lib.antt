@@ -3,4 +3,6 @@ pub mod Field
 pub mod EvenFields
 pub mod Row
 pub mod Needed
+pub mod Laid
+pub mod Opens
 pub mod Laws

@@ -16,6 +16,7 @@ pub use reading::read_off;
 pub use sizes::needed;
 pub use theory::StoreTheory;
 
+mod building;
 mod fields;
 mod reading;
 mod sizes;
