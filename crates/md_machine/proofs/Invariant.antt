@@ -16,6 +16,7 @@ use Rattle.md_machine.proofs.clauses.slots.Clean.{clean_out}
 use Rattle.md_machine.proofs.clauses.entries.Entries.{entries-kept}
 use Rattle.md_machine.proofs.clauses.entries.EntriesFit.{EntriesFit, ReadsCounted, entry_fits}
 use Rattle.md_machine.proofs.clauses.slots.EntrySlots.{entry_slots-kept}
+use Rattle.md_machine.proofs.clauses.nodes.EvenNexts.{even_nexts}
 use Rattle.md_machine.proofs.clauses.nodes.Flags.{Noting, flags-kept}
 use Rattle.md_machine.proofs.clauses.nodes.FreeNodes.{OpeningIsBase, free_nodes}
 use Rattle.md_machine.proofs.clauses.passes.Fronts.{fronts-kept}
@@ -36,6 +37,7 @@ use Rattle.md_machine.proofs.clauses.words.OldSlots.{old_slots-kept}
 use Rattle.md_machine.proofs.clauses.words.Order.{TrailsInOrder, order-kept}
 use Rattle.md_machine.proofs.clauses.passes.OwnBegun.{own_begun-kept}
 use Rattle.md_machine.proofs.clauses.slots.OwnInstalls.{own_installs}
+use Rattle.md_machine.proofs.clauses.nodes.OwnNexts.{own_nexts-kept}
 use Rattle.md_machine.proofs.clauses.nodes.OwnNodes.{own_nodes-kept}
 use Rattle.md_machine.proofs.clauses.passes.OwnSerials.{own_serials-kept}
 use Rattle.md_machine.proofs.clauses.nodes.OwnWords.{own_words-kept}
@@ -45,11 +47,13 @@ use Rattle.md_machine.proofs.clauses.nodes.PlacedOnce.{AliveOnce, noted_structur
 use Rattle.md_machine.proofs.clauses.entries.PresentEntries.{entries_by_status}
 use Rattle.md_machine.proofs.clauses.words.Reads.{reads_found, reads_moved}
 use Rattle.md_machine.proofs.clauses.entries.ReadyEntries.{ReadyHaveEntries, ready_entries-kept}
+use Rattle.md_machine.proofs.clauses.entries.Rooted.{rooted-kept}
 use Rattle.md_machine.proofs.clauses.entries.Serials.{serials-kept}
 use Rattle.md_machine.proofs.clauses.entries.Sound.{sound-kept}
 use Rattle.md_machine.proofs.clauses.words.Stamps.{Stamp, Stamped, StampsKept, stamp_more, stamps-kept, stamps_hold}
 use Rattle.md_machine.proofs.clauses.words.Statuses.{statuses-kept, statuses_noted}
 use Rattle.md_machine.proofs.clauses.words.Stores.{StepsPast, StoresStand, steps_begun-kept, steps_past-kept, stores-kept}
+use Rattle.md_machine.proofs.clauses.slots.TakenOut.{taken_out}
 use Rattle.md_machine.proofs.clauses.slots.Undecided.{undecided-kept}
 use Rattle.md_machine.proofs.clauses.slots.WonInstalls.{won_installs-kept}
 use Rattle.md_machine.proofs.events.MoveFacts.{history_grows}
@@ -83,10 +87,12 @@ use Rattle.md_machine.specs.clauses.entries.Numbered.{EntriesNumbered}
 use Rattle.md_machine.specs.clauses.slots.OddWords.{OddStand}
 use Rattle.md_machine.specs.clauses.words.OldSlots.{OldSlotStands}
 use Rattle.md_machine.specs.clauses.passes.OwnBegun.{OwnBegunShown}
+use Rattle.md_machine.specs.clauses.nodes.OwnNexts.{OwnNextsShown, ShowsOwnNext}
 use Rattle.md_machine.specs.clauses.nodes.OwnNodes.{OwnNodesSeen}
 use Rattle.md_machine.specs.clauses.passes.OwnSerials.{OwnSerialsMet}
 use Rattle.md_machine.specs.clauses.nodes.OwnWords.{NodesKeep, OwnWordsStand}
 use Rattle.md_machine.specs.clauses.words.Reads.{MovedReads, ReadFound}
+use Rattle.md_machine.specs.clauses.entries.Rooted.{EntriesRooted}
 use Rattle.md_machine.specs.clauses.entries.Serials.{EntriesInTurn}
 use Rattle.md_machine.specs.clauses.entries.Sound.{CommittedAreSound}
 use Rattle.md_machine.specs.clauses.words.Stamps.{NotedByRead}
@@ -139,6 +145,8 @@ pub record Invariant (m : Machine) : Type 0 where
   pub hand_knows : HandsKnow (shape_of m) m.passes
   pub mine : MineAreEnded m.passes
   pub alone : HoldersFind m
+  pub own_nexts : OwnNextsShown m
+  pub rooted : EntriesRooted m
   pub stamp : Stamp
   pub stamps : StampsKept m stamp
 
@@ -222,6 +230,10 @@ kept_by m k = record {
   hand_knows = k.hand_knows;
   mine = k.mine;
   alone = holders_alone m k.lanes k.fronts k.known_past k.numbered k.alone;
+  own_nexts = k.own_nexts;
+  rooted = k.rooted;
+  even_nexts = even_nexts m k.odd_words (stamps_hold m k.stamp k.stamps (reads_stamped m k)) k.own_nexts;
+  taken_out = taken_out m k.stamp k.stamps k.installs k.order k.won_installs;
   stores = λ pass p at a now. k.stores pass p at a (ap (λ (b : AttemptId). b.serial) now);
 }
 
@@ -291,6 +303,8 @@ module _ (M : Meaning) where
           hand_knows = reshape (λ shape. HandsKnow shape n.passes) (hand_knows-kept m n v k.lanes k.hands k.serials k.fronts fronts noted_now (fates_told (shape_of m) n.words n.history n.fates entries.fit past_now) k.hand_knows);
           mine = mine-kept m n v k.lanes k.hands k.entries k.numbered numbered k.serials k.fronts fronts entries.stay k.hand_knows k.mine;
           alone = λ pass p at. reshape (λ shape. HoldsAll shape p → LastStand n p.trail) (alone-kept m n v k.formats.field v.live k.lanes k.alone pass p at);
+          rooted = rooted-kept m n v (fated (shape_of m) m.words m.history m.fates k.entries) entries.stay sound.sound k.rooted;
+          own_nexts = λ i c pass p at. reshape (λ shape. ShowsOwnNext shape n p i) (own_nexts-kept m n v k.lanes entries.stay k.own_nexts i c pass p at);
           stamp = stamp_more k.stamp v.word v.new;
           stamps = subst (λ o. StampsKept (record n { opening = o }) (stamp_more k.stamp v.word v.new)) (sym v.opening)
               (subst (λ words. StampsKept (record n { words = words; opening = m.opening }) (stamp_more k.stamp v.word v.new)) (sym v.words) stamps);

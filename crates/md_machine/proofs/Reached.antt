@@ -147,6 +147,8 @@ module _ (M : Meaning) where
     mine = λ pass p at. subst (λ (q : PassView). MineIsEnded q.lanes q.seen q.known q.mine q.pending) (at_one (first_pass o.shape) p pass at).1
         (record { mine = λ lane c. refl; outside = λ lane out. refl; decided = tt });
     alone = λ pass p at all. subst (λ (q : PassView). LastStand (opened o) q.trail) (at_one (first_pass o.shape) p pass at).1 tt;
+    own_nexts = λ i c. absurd (in_none i c);
+    rooted = λ choice r. tt;
     stamp = λ word count. get_or o.words word 0;
     stamps = record {
       now = λ word counted. record { bound = le_refl _; is = refl };

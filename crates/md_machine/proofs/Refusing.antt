@@ -1,5 +1,5 @@
 -- What the conditions of events refuse.
-use Rattle.std.proofs.Common.{◌≡◌, ℕ, List, [], ◌∷◌, ◌++◌, sym, ap, ◌∙◌, subst, ⊎_elim, append_assoc, Some}
+use Rattle.std.proofs.Common.{◌≡◌, ℕ, List, [], ◌∷◌, ◌++◌, sym, ap, ◌∙◌, subst, ⊎_elim, append_assoc, Some, is_some}
 use Rattle.std.specs.List.{Contains, All}
 use Rattle.std.proofs.lemmas.List.Elements.{All-contains, Contains-append_right}
 use Rattle.md_words.specs.declared.status.Status.TheVariants.{Committed}
@@ -12,11 +12,16 @@ use Rattle.md_machine.specs.declared.step.Step.{Step}
 use Rattle.md_machine.specs.declared.pass.PassView.{PassView}
 use Rattle.md_words.specs.Status.{serial_of}
 use Rattle.md_machine.proofs.Reached.{reached}
+use Rattle.md_machine.proofs.clauses.passes.FrontsFit.{fated}
+use Rattle.md_machine.proofs.clauses.slots.UndecidedSlots.{named_placed}
 use Rattle.md_machine.proofs.lists.Rising.{here, in_cons, in_none}
+use Rattle.md_machine.proofs.replay.Always.{always_meant}
+use Rattle.md_machine.proofs.resolutions.Placing.{greatest_resolves}
 use Rattle.md_machine.specs.Machine.{attempt_of, content, present, shape_of}
-use Rattle.md_machine.specs.Meaning.{Meaning}
+use Rattle.md_machine.specs.Meaning.{Lawful, Meaning}
 use Rattle.md_machine.specs.Own.{HasDesc}
-use Rattle.md_machine.specs.Refused.{EarlierValueRefused, OtherSlotRefused, PublishedNodeRefused}
+use Rattle.md_machine.specs.Refused.{EarlierValueRefused, NamedNodeRefused, OtherSlotRefused, PublishedNodeRefused}
+use Rattle.md_machine.specs.Resolution.{greatest}
 use Rattle.md_machine.specs.Stepping.{attempt_in_hand}
 use Rattle.md_machine.specs.Trail.{LastStored, Loads, StoresFor, segments}
 use Rattle.md_machine.specs.events.Store.{MayStoreAt}
@@ -38,6 +43,12 @@ module _ (M : Meaning) where
         subst (HasDesc (shape_of m) p) same fits.own,
         ap attempt_in_hand may.held ∙ ap Some (ap (attempt_of h.attempt.desc) fits.present ∙ ap (present m) same),
       )
+
+  pub named_node : Lawful M → NamedNodeRefused M
+  named_node lawful o events m i node can runs exists names may =
+      let placed = named_placed M m (always_meant M lawful o events m can runs).undecided_slots i node exists names may in
+      let k = reached M o events m can runs in
+      (greatest m.history m.fates, greatest_resolves m.history m.fates (fated (shape_of m) m.words m.history m.fates k.entries), ap is_some placed.1)
 
 head_of : (s t : Step) (l k : List Step) → s ∷ l ≡ t ∷ k → s ≡ t
 head_of s t l k e = cc

@@ -4,3 +4,4 @@ pub mod Options
 pub mod Pairs
 pub mod Differ
 pub mod Triples
+pub mod Splits

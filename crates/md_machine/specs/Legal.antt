@@ -15,6 +15,7 @@ use Rattle.md_machine.specs.Machine.{IsAt, IsLive, Machine, shape_of}
 use Rattle.md_machine.specs.Meaning.{Meaning}
 use Rattle.md_machine.specs.Resolution.{Resolves, entries_of, logical_heap}
 use Rattle.md_machine.specs.clauses.words.WasIn.{LeastFactsHold, MetWereIn, SettledStay}
+use Rattle.md_machine.specs.clauses.slots.UndecidedSlots.{UndecidedNamePlaced}
 
 -- an attempt with its lane
 abbrev pub begun_of : Shape → AttemptId → Begun
@@ -66,6 +67,7 @@ module _ (M : Meaning) where
     pub least_facts : LeastFactsHold m
     pub was_in : MetWereIn M m
     pub settled : SettledStay m
+    pub undecided_slots : UndecidedNamePlaced M m
 
   -- after every list of events from an opening
   abbrev pub AlwaysMeant : Type 0

@@ -16,3 +16,4 @@ pub mod Legal
 pub mod GoesOn
 pub mod Installs
 pub mod Serial
+pub mod FreeToReturn

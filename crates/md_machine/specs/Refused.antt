@@ -1,5 +1,5 @@
 -- What the conditions of events refuse.
-use Rattle.std.specs.Prelude.{◌≡◌, ◌↔◌, ℕ, Bool, true, List, [], length, All, Some, is_some, is_none}
+use Rattle.std.specs.Prelude.{◌≡◌, ◌↔◌, ◌≤◌, ℕ, Bool, true, List, [], length, All, Some, is_some, is_none}
 use Rattle.md_words.specs.declared.content.Spot.{Spot}
 use Rattle.md_words.specs.declared.status.Status.TheVariants.{Committed}
 use Rattle.md_words.specs.Content.{value_of, spot_of}
@@ -10,12 +10,13 @@ use Rattle.md_words.specs.PlaceAt.{place_at}
 use Rattle.md_machine.specs.declared.opening.Opening.{Opening}
 use Rattle.md_machine.specs.declared.pass.PassView.{PassView}
 use Rattle.md_machine.specs.Event.{CanOpen, Does, Event, Runs, install, opened, store}
-use Rattle.md_machine.specs.Machine.{IsAt, Machine, attempt_of, present, shape_of}
+use Rattle.md_machine.specs.Machine.{Install, IsAt, Machine, attempt_of, present, shape_of}
 use Rattle.md_machine.specs.Meaning.{Meaning}
 use Rattle.md_machine.specs.Own.{HasDesc, IsWordOf}
 use Rattle.md_machine.specs.Resolution.{Resolves, always_placed, never_placed, placed_under}
 use Rattle.md_machine.specs.Stepping.{attempt_in_hand}
 use Rattle.md_machine.specs.Trail.{LastStored, Loads}
+use Rattle.md_machine.specs.clauses.slots.UndecidedSlots.{NamesNode, may_still_commit}
 use Rattle.md_machine.specs.events.Uninstall.{MayUninstall}
 
 -- where each entry has a fate, a node counts as placed in every resolution exactly where each resolution places it
@@ -37,6 +38,14 @@ module _ (M : Meaning) where
   abbrev pub OtherSlotRefused : Type 0
   OtherSlotRefused = (o : Opening) (events : List Event) (m n : Machine) (pass word from : ℕ) (to : Spot) → CanOpen M o → Runs M (opened o) events m → Does M m (install pass word from to) n
       → (p : PassView) × IsAt m pass p × HasDesc (shape_of m) p to.desc × (attempt_in_hand p.hand ≡ Some (present m to.desc))
+
+  -- no node is free to be given back that an installed slot for a link names, of an attempt that may still commit:
+  -- some resolution places it
+  abbrev pub NamedNodeRefused : Type 0
+  NamedNodeRefused = (o : Opening) (events : List Event) (m : Machine) (i : Install) (node : ℕ)
+      → CanOpen M o → Runs M (opened o) events m → 1 ≤ node → NamesNode M m i node
+      → may_still_commit m.history m.fates i.attempt ≡ true
+      → (choice : List Bool) × Resolves m choice × (is_some (placed_under m choice node) ≡ true)
 
 -- a pass that stored a slot's new value, and never loaded it, knows no value for a committed attempt but the last one
 abbrev pub EarlierValueRefused : Type 0

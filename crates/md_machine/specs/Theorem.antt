@@ -28,13 +28,17 @@ use Rattle.md_machine.specs.clauses.words.OldSlots.{OldSlotsStand}
 use Rattle.md_machine.specs.clauses.passes.OwnBegun.{OwnBegunShown}
 use Rattle.md_machine.specs.clauses.slots.OwnInstalls.{OwnInstallsShown}
 use Rattle.md_machine.specs.clauses.nodes.OwnNodes.{OwnNodesSeen}
+use Rattle.md_machine.specs.clauses.nodes.EvenNexts.{OwnNextsEven}
+use Rattle.md_machine.specs.clauses.nodes.OwnNexts.{OwnNextsShown}
 use Rattle.md_machine.specs.clauses.passes.OwnSerials.{OwnSerialsMet}
 use Rattle.md_machine.specs.clauses.nodes.OwnWords.{OwnWordsStand}
 use Rattle.md_machine.specs.clauses.nodes.Placed.{NotedArePlaced, PlacedStay}
 use Rattle.md_machine.specs.clauses.entries.PresentEntries.{EntriesByStatus}
 use Rattle.md_machine.specs.clauses.words.Reads.{ReadsShow}
 use Rattle.md_machine.specs.clauses.entries.Serials.{EntriesInTurn}
+use Rattle.md_machine.specs.clauses.entries.Rooted.{EntriesRooted}
 use Rattle.md_machine.specs.clauses.slots.Slots.{SlotsStand}
+use Rattle.md_machine.specs.clauses.slots.TakenOut.{CleanAreTakenOut}
 use Rattle.md_machine.specs.clauses.entries.Sound.{CommittedAreSound}
 use Rattle.md_machine.specs.clauses.words.Stamps.{StampsHold}
 use Rattle.md_machine.specs.clauses.words.Statuses.{StatusesCame}
@@ -83,6 +87,10 @@ pub record IsKept (m : Machine) : Type 0 where
   pub hand_knows : HandsKnow (shape_of m) m.passes
   pub mine : MineAreEnded m.passes
   pub alone : HoldersAreAlone m
+  pub rooted : EntriesRooted m
+  pub own_nexts : OwnNextsShown m
+  pub even_nexts : OwnNextsEven m
+  pub taken_out : CleanAreTakenOut m
 
 module _ (M : Meaning) where
   -- after every list of events from an opening

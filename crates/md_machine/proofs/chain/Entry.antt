@@ -81,7 +81,7 @@ module _ (h : LogicalHeap) (cs : List Certificate) (has : All (HasWords h.words)
   node_stays node = wholes_keep (NodeIs node) (λ c. Unit {0}) (HasWords h.words) (λ k c _ is. record { key = is.key; value = is.value }) (node_node node) h cs (λ i d below. tt) has (record { key = refl; value = refl })
 
 -- the structures after nodes were placed, one after another
-abbrev puts : (ℕ → Option Structure) → List NewNode → ℕ → Option Structure
+abbrev pub puts : (ℕ → Option Structure) → List NewNode → ℕ → Option Structure
 puts f [] = f
 puts f (n ∷ ns) = puts (put f n.node (Some n.structure)) ns
 
@@ -107,7 +107,7 @@ whole_placed h c =
     ∙ ap (λ f. puts f c.nodes) (tidies_placed h c.tidy)
     ∙ sym (puts_append h.placed (flat_map (λ t. t.nodes) c.tidy) c.nodes)
 
-wholes_placed : (h : LogicalHeap) (cs : List Certificate) → (after_wholes h cs).placed ≡ puts h.placed (all_nodes cs)
+pub wholes_placed : (h : LogicalHeap) (cs : List Certificate) → (after_wholes h cs).placed ≡ puts h.placed (all_nodes cs)
 wholes_placed h [] = refl
 wholes_placed h (c ∷ cs) =
     wholes_placed (after_whole h c) cs ∙ ap (λ f. puts f (all_nodes cs)) (whole_placed h c) ∙ sym (puts_append h.placed (whole_nodes c) (all_nodes cs))

@@ -8,3 +8,4 @@ pub mod ReadyEntries
 pub mod Numbered
 pub mod Serials
 pub mod PresentEntries
+pub mod Rooted

@@ -4,3 +4,7 @@ pub mod PlacedOnce
 pub mod OwnNodes
 pub mod OwnWords
 pub mod FreeNodes
+pub mod OwnNexts
+pub mod EvenNexts
+pub mod InstalledValue
+pub mod StillTakenOut

@@ -1,7 +1,10 @@
 pub mod Installs
+pub mod LeftLater
 pub mod OddWords
 pub mod Undecided
 pub mod WonInstalls
 pub mod EntrySlots
 pub mod OwnInstalls
 pub mod Clean
+pub mod TakenOut
+pub mod UndecidedSlots

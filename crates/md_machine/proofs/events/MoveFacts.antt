@@ -27,17 +27,18 @@ use Rattle.md_machine.proofs.events.Steps.{HasStep, PassesFrom}
 use Rattle.md_machine.proofs.events.WordChanges.{MayLeave}
 use Rattle.md_machine.proofs.fates.Knowing.{TellsTruth}
 use Rattle.md_machine.proofs.lists.Rising.{there}
-use Rattle.md_machine.specs.Certified.{placed_by}
+use Rattle.md_machine.specs.Certified.{after_wholes, placed_by}
 use Rattle.md_machine.specs.Installs.{spot_of_install}
 use Rattle.md_machine.specs.Machine.{Install, IsAt, IsLive, Machine, content, is_ready, present, shape_of, was_begun}
 use Rattle.md_machine.specs.Own.{HasDesc, HasNode, IsDataOf, IsWordOf}
-use Rattle.md_machine.specs.Resolution.{always_placed, never_placed}
+use Rattle.md_machine.specs.LogicalHeap.{IsNoUnplacedNext}
+use Rattle.md_machine.specs.Resolution.{InEveryResolution, always_placed, never_placed}
 use Rattle.md_machine.specs.Stepping.{step_of}
 use Rattle.md_machine.specs.Trail.{StoresFor, is_store}
 use Rattle.md_machine.specs.clauses.words.Stores.{IsEntryWord}
 use Rattle.md_machine.specs.clauses.slots.WonInstalls.{HasInstallOf}
 use Rattle.md_machine.specs.events.Install.{installed_word}
-use Rattle.md_machine.specs.events.Ready.{MayRecord, fates_after_ready, history_after_ready, history_entry, reads_now, ready_word, unready_word}
+use Rattle.md_machine.specs.events.Ready.{MayRecord, fates_after_ready, history_after_ready, history_entry, reads_now, ready_word, unready_word, writes_now}
 use Rattle.md_machine.specs.events.Start.{WonInstall}
 use Rattle.md_machine.specs.events.Uninstall.{IsDecided, MayUninstall}
 
@@ -75,6 +76,7 @@ pub record Enters (m n : Machine) (p : PassView) (word new : ℕ) : Type 0 where
   pub history : n.history ≡ history_after_ready m hand count
   pub fates : n.fates ≡ fates_after_ready m
   pub installs : n.installs ≡ m.installs
+  pub rooted : InEveryResolution m (λ heap. All (λ w. IsNoUnplacedNext (after_wholes heap hand.certificates) w.word) (writes_now m hand.attempt))
 
 -- a step leaves its word as it may where no attempt goes on, and neither entries nor fates change
 pub record LeavesFates (m n : Machine) (word new : ℕ) : Type 0 where

@@ -158,6 +158,7 @@ module _ (M : Meaning) (m n : Machine) (f : AreFormats (shape_of m) m.words) (ap
         history = x.history;
         fates = x.fates;
         installs = x.installs;
+        rooted = λ choice r. (c.chain choice r).rooted;
       }))
   plainly D (by_fate x) = inr (inr x)
 

@@ -23,7 +23,7 @@ use Rattle.md_machine.proofs.chain.Values.{installed_spot, value_odd}
 use Rattle.md_machine.proofs.clauses.words.Brackets.{MetStanding, TrailsBracket, stood}
 use Rattle.md_machine.proofs.clauses.entries.EntriesFit.{EntriesFit}
 use Rattle.md_machine.proofs.clauses.slots.Installs.{InstallsKept}
-use Rattle.md_machine.proofs.clauses.slots.OddWords.{splits}
+use Rattle.md_machine.proofs.lists.Splits.{splits}
 use Rattle.md_machine.proofs.clauses.entries.ReadyEntries.{EntryOf, ReadyHaveEntries}
 use Rattle.md_machine.proofs.clauses.words.Statuses.{StatusesNoted}
 use Rattle.md_machine.proofs.clauses.words.Stores.{StoresStand}

@@ -12,11 +12,12 @@ use Rattle.md_machine.specs.declared.pass.PassView.{PassView}
 use Rattle.md_machine.specs.Event.{CanOpen, Does, Event, Plays, Runs, first_pass, opened}
 use Rattle.md_machine.specs.Legal.{AlwaysMeant, FrontsLegal, IsReplay, opening_state}
 use Rattle.md_machine.specs.Resolution.{Resolves, entries_of}
-use Rattle.md_machine.proofs.Invariant.{Invariant, does_keep}
+use Rattle.md_machine.proofs.Invariant.{Invariant, does_keep, kept_by}
 use Rattle.md_machine.specs.clauses.words.WasIn.{MetWereIn}
-use Rattle.md_machine.proofs.Reached.{always_kept, no_steps, opens}
+use Rattle.md_machine.proofs.Reached.{no_steps, opens}
 use Rattle.md_machine.proofs.clauses.passes.FrontsFit.{fated}
 use Rattle.md_machine.proofs.clauses.passes.FrontsLegal.{fronts_legal-kept, none_legal}
+use Rattle.md_machine.proofs.clauses.slots.UndecidedSlots.{undecided_slots}
 use Rattle.md_machine.proofs.events.Moves.{does_move}
 use Rattle.md_machine.proofs.events.Tell.{tell}
 use Rattle.md_machine.proofs.lists.At.{at_one}
@@ -108,12 +109,15 @@ module _ (M : Meaning) (lawful : Lawful M) where
   always_meant o events m can runs =
       let so_far = runs_mean events (opened o) m (so_far_opened o can) runs in
       let fated = fated_of m so_far.invariant in
+      let k = so_far.invariant in
+      let kept = kept_by m k in
       record {
         every = so_far.means.every;
         legal = so_far.means.legal;
         fronts_legal = so_far.fronts_legal;
-        fronts = fronts_from M m (always_kept M o events m can runs) so_far.fronts_legal;
+        fronts = fronts_from M m kept so_far.fronts_legal;
         least_facts = least_facts m fated so_far.facts_rise;
         was_in = so_far.was_in;
         settled = settled M m so_far.means.exist fated so_far.was_in;
+        undecided_slots = undecided_slots M lawful m k.stamp k.stamps k.installs k.undecided kept.fates.told k.entry_slots k.rooted fated so_far.means.every;
       }

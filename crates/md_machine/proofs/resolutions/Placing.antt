@@ -47,7 +47,7 @@ least_resolves (x ∷ es) (Committed ∷ fs) e = (refl, least_resolves es fs (om
 least_resolves (x ∷ es) (Aborted ∷ fs) e = (refl, least_resolves es fs (omega (arith, e)))
 least_resolves (x ∷ es) (Undecided ∷ fs) e = ((λ h. absurd (false≢true h)), least_resolves es fs (omega (arith, e)))
 
-greatest_resolves : (es : List HistoryEntry) (fs : List Fate) → length fs ≡ length es → IsResolution (entries_of es) fs (greatest es fs)
+pub greatest_resolves : (es : List HistoryEntry) (fs : List Fate) → length fs ≡ length es → IsResolution (entries_of es) fs (greatest es fs)
 greatest_resolves [] [] e = tt
 greatest_resolves [] (f ∷ fs) e = absurd (omega (arith, e))
 greatest_resolves (x ∷ es) [] e = absurd (omega (arith, e))

@@ -4,3 +4,5 @@ pub mod Flags
 pub mod OwnNodes
 pub mod OwnWords
 pub mod FreeNodes
+pub mod OwnNexts
+pub mod EvenNexts

@@ -13,7 +13,7 @@ use Rattle.md_machine.specs.declared.attempt.HistoryEntry.{HistoryEntry}
 use Rattle.md_machine.specs.declared.node.PlacedNode.{PlacedNode}
 use Rattle.md_machine.specs.declared.node.Structure.{Structure}
 use Rattle.md_machine.proofs.clauses.nodes.Flags.{structure_has}
-use Rattle.md_machine.proofs.clauses.slots.OddWords.{splits}
+use Rattle.md_machine.proofs.lists.Splits.{splits}
 use Rattle.md_machine.proofs.clauses.nodes.PlacedOnce.{within_stay}
 use Rattle.md_machine.proofs.events.Attempts.{ready_in}
 use Rattle.md_machine.proofs.lists.Rising.{here, there}

@@ -1,27 +1,26 @@
 -- The words of a new node of a pass stand as its steps left them, after every event.
-use Rattle.std.proofs.Common.{◌≡◌, ◌≢◌, ℕ, ◌⊎◌, true, false, List, [], ◌∷◌, ◌++◌, set, sym, ap, ◌∙◌, subst, inl, inr, ⊎_elim, IsTrue}
+use Rattle.std.proofs.Common.{◌≡◌, ◌≢◌, ℕ, ◌⊎◌, false, List, [], ◌∷◌, ◌++◌, set, sym, ap, ◌∙◌, subst, inl, inr, ⊎_elim, IsTrue}
 use Rattle.std.specs.List.{Contains}
-use Rattle.std.proofs.lemmas.Bool.{cases_Bool, cases_eq, false≢true, true≢false}
+use Rattle.std.proofs.lemmas.Bool.{cases_eq, false≢true, true≢false}
 use Rattle.std.proofs.lemmas.List.Elements.{Contains-append_left, Contains-push}
 use Rattle.md_words.specs.Content.{count_of, is_even}
-use Rattle.md_words.specs.Layout.{Exists, IsNode, address}
+use Rattle.md_words.specs.Layout.{Exists, address}
 use Rattle.md_words.specs.LayoutLaws.{IsField}
-use Rattle.md_words.specs.Place.{Place, is_counted, node_next}
-use Rattle.md_words.specs.PlaceAt.{IsCounted, place_at}
+use Rattle.md_words.specs.Place.{Place, is_counted}
+use Rattle.md_words.specs.PlaceAt.{place_at}
 use Rattle.md_words.proofs.Owners.{own_node_exists}
 use Rattle.md_words.proofs.Places.{place_at-address}
 use Rattle.md_history.specs.Front.{AllStay}
 use Rattle.md_machine.specs.declared.pass.PassView.{PassView}
 use Rattle.md_machine.specs.declared.step.Step.{Step}
 use Rattle.md_machine.proofs.clauses.passes.Alone.{left_else, left_now}
-use Rattle.md_machine.proofs.clauses.nodes.Flags.{always_has}
 use Rattle.md_machine.proofs.clauses.passes.LanesApart.{At}
 use Rattle.md_machine.proofs.clauses.nodes.OwnNodes.{one_node_owner}
-use Rattle.md_machine.proofs.clauses.nodes.Placed.{always_grows, always_in}
-use Rattle.md_machine.proofs.events.MoveFacts.{MoveFacts, history_grows}
+use Rattle.md_machine.proofs.clauses.nodes.Placed.{wasnt_always}
+use Rattle.md_machine.proofs.events.MoveFacts.{MoveFacts}
 use Rattle.md_machine.proofs.events.Moves.{PassesGo, goes_on, is_joined, is_split}
 use Rattle.md_machine.proofs.lists.At.{at_append, at_one, at_set}
-use Rattle.md_machine.proofs.lists.Rising.{in_drop, in_take, there}
+use Rattle.md_machine.proofs.lists.Rising.{in_drop, in_take}
 use Rattle.md_machine.specs.Machine.{Machine, content, shape_of}
 use Rattle.md_machine.specs.Own.{HasNode, IsWordOf}
 use Rattle.md_machine.specs.Resolution.{always_placed}
@@ -70,14 +69,6 @@ odd_not_plain node held place is counted odd plain = ⊎_elim
 
 module _ (m n : Machine) (v : MoveFacts m n) (field : IsField (shape_of m) m.words) (apart : LanesApart (shape_of m) m.passes)
     (stay : AllStay m.fates n.fates) (was : OwnWordsStand m) where
-  -- a node that isn't placed in every resolution wasn't
-  wasnt_always : (node : ℕ) → always_placed n node ≡ false → always_placed m node ≡ false
-  wasnt_always node now = ⊎_elim
-      (λ always. let x = always_has m node always in
-      absurd (true≢false (sym (subst (λ k. always_placed n k ≡ true) x.2 (always_in n x.0 (always_grows m n x.0 v.opening (history_grows m n v) stay x.1))) ∙ now)))
-      (λ not. not)
-      (cases_Bool (always_placed m node))
-
   -- the pass after the step, with some of its lanes
   next_keeps : (q : PassView) → ((lane : ℕ) → Contains q.lanes lane → Contains v.p.lanes lane) → q.trail ≡ v.p.trail ++ v.step ∷ []
       → NodesKeep (shape_of m) n q
@@ -86,7 +77,7 @@ module _ (m n : Machine) (v : MoveFacts m n) (field : IsField (shape_of m) m.wor
       subst (LastLeft place word (content n word)) (sym trail) (last_push place word (content m word) (content n word) v.p.trail v.step
       (λ e. (subst (λ w. content n w ≡ v.step.after) e (left_now m n v field), v.before ∙ ap (content m) (sym v.there ∙ e)))
       (left_else m n v field word)
-      (was v.pass v.p v.at node (own.0, fewer own.0 own.1, own.2) (wasnt_always node not) place is))
+      (was v.pass v.p v.at node (own.0, fewer own.0 own.1, own.2) (wasnt_always m n v stay node not) place is))
 
   -- a word of another pass's new node stays, or held a descriptor
   other_word : (j : ℕ) (u : PassView) → j ≢ v.pass → At m.passes j u → (node : ℕ) → HasNode (shape_of m) u node
@@ -115,7 +106,7 @@ module _ (m n : Machine) (v : MoveFacts m n) (field : IsField (shape_of m) m.wor
       → NodesKeep (shape_of m) n u
   set_keeps q keeps j u at = ⊎_elim
       (λ e. subst (NodesKeep (shape_of m) n) e.1 keeps)
-      (λ o node own not place is. let before = wasnt_always node not in
+      (λ o node own not place is. let before = wasnt_always m n v stay node not in
       last_other place (address (shape_of m) place) (content m (address (shape_of m) place)) (content n (address (shape_of m) place)) u.trail (other_word j u o.0 o.1 node own before place is) (was j u o.1 node own before place is))
       (at_set m.passes v.pass j q u at)
 

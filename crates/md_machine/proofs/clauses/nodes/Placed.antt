@@ -1,8 +1,8 @@
 -- What passes noted as placed in every resolution stays so, after every event.
-use Rattle.std.proofs.Common.{◌≡◌, ℕ, true, ◌⊎◌, List, [], ◌∷◌, ◌++◌, set, refl, sym, ap, ◌∙◌, subst, eq-eqb, inl, inr, ⊎_elim, Option, Some, None, is_some}
+use Rattle.std.proofs.Common.{◌≡◌, ℕ, true, false, ◌⊎◌, List, [], ◌∷◌, ◌++◌, set, refl, sym, ap, ◌∙◌, subst, eq-eqb, inl, inr, ⊎_elim, Option, Some, None, is_some}
 use Rattle.std.specs.List.{Contains}
 use Rattle.std.specs.Prelude.{◌==◌}
-use Rattle.std.proofs.lemmas.Bool.{cond_both, false≢true, true≢false}
+use Rattle.std.proofs.lemmas.Bool.{cases_Bool, cond_both, false≢true, true≢false}
 use Rattle.std.proofs.lemmas.List.Elements.{Contains-append_left, Contains-append_right, Contains-append_cases}
 use Rattle.md_history.specs.declared.entries.Fate.{Fate}
 use Rattle.md_history.specs.declared.entries.Fate.TheVariants.{Committed, Aborted, Undecided}
@@ -13,13 +13,13 @@ use Rattle.md_machine.specs.declared.node.Structure.{Structure}
 use Rattle.md_machine.specs.declared.opening.Opening.{Opening}
 use Rattle.md_machine.specs.declared.step.Step.{Step}
 use Rattle.md_machine.specs.declared.pass.PassView.{PassView}
+use Rattle.md_machine.proofs.clauses.nodes.Flags.{always_has}
 use Rattle.md_machine.proofs.clauses.passes.LanesApart.{At}
 use Rattle.md_machine.proofs.events.MoveFacts.{MoveFacts, history_grows}
 use Rattle.md_machine.proofs.events.Moves.{PassesGo, goes_on, is_joined, is_split}
 use Rattle.md_machine.proofs.lists.At.{at_append, at_one, at_set}
-use Rattle.md_machine.proofs.lists.Rising.{here, in_cons, in_none}
+use Rattle.md_machine.proofs.lists.Rising.{in_cons, in_none}
 use Rattle.md_machine.proofs.resolutions.Placing.{some_skip}
-use Rattle.md_machine.specs.Event.{opened}
 use Rattle.md_machine.specs.Machine.{IsAt, Machine, shape_of}
 use Rattle.md_machine.specs.Resolution.{always_nodes, always_placed, is_committed, kept_nodes, kept_structure, least, or_else, structure_in}
 use Rattle.md_machine.specs.events.SplitJoin.{given_part, kept_part, spent}
@@ -109,6 +109,14 @@ notes m n pass p s at (is_joined other q _ acts _ _ _ is) = subst (NotesFrom m) 
     (λ y. inl (j, u, y.1, c))
     (at_set m.passes pass j _ u o.1))
     (at_set (set m.passes pass _) other j spent u u_at))
+
+-- a node that isn't placed in every resolution wasn't
+pub wasnt_always : (m n : Machine) → MoveFacts m n → AllStay m.fates n.fates → (node : ℕ) → always_placed n node ≡ false → always_placed m node ≡ false
+wasnt_always m n v stay node now = ⊎_elim
+    (λ always. let x = always_has m node always in
+    absurd (true≢false (sym (subst (λ k. always_placed n k ≡ true) x.2 (always_in n x.0 (always_grows m n x.0 v.opening (history_grows m n v) stay x.1))) ∙ now)))
+    (λ not. not)
+    (cases_Bool (always_placed m node))
 
 -- every event keeps it
 pub placed-kept : (m n : Machine) → MoveFacts m n → AllStay m.fates n.fates → NotedAlways m → NotedAlways n

@@ -9,7 +9,7 @@ use Rattle.md_history.specs.Front.{IsPrefix, is_lane_of, of_lane}
 use Rattle.md_machine.specs.declared.attempt.AttemptId.{AttemptId}
 use Rattle.md_machine.specs.declared.attempt.HistoryEntry.{HistoryEntry}
 use Rattle.md_machine.proofs.clauses.passes.Ended.{cond_cons}
-use Rattle.md_machine.proofs.clauses.slots.OddWords.{splits}
+use Rattle.md_machine.proofs.lists.Splits.{splits}
 use Rattle.md_machine.proofs.events.Attempts.{ready_in}
 use Rattle.md_machine.proofs.lists.Rising.{in_lane, lane_in}
 use Rattle.md_machine.specs.Machine.{same_attempt, was_begun}

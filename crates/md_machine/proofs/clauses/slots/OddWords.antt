@@ -1,8 +1,7 @@
 -- An odd word holds a slot that the present attempt of its descriptor installed there.
-use Rattle.std.proofs.Common.{append_assoc, ◌≡◌, ℕ, ◌+◌, ◌<◌, ◌≤◌, true, false, not, List, [], ◌∷◌, ◌++◌, set, get_or, sym, ap, ◌∙◌, subst, ⊎_elim, Some, eq-eqb, get_or-set_same, get_or-set_other, arith}
+use Rattle.std.proofs.Common.{◌≡◌, ℕ, ◌+◌, ◌<◌, ◌≤◌, true, false, not, List, set, get_or, sym, ap, ◌∙◌, subst, ⊎_elim, eq-eqb, get_or-set_same, get_or-set_other, arith}
 use Rattle.std.specs.List.{Contains}
 use Rattle.std.proofs.lemmas.Bool.{cases_eq, and_from, true≢false}
-use Rattle.std.proofs.lemmas.List.Elements.{All-contains, Contains-append_cases, Contains-append_left, Contains-append_right, Contains-push}
 use Rattle.md_words.specs.declared.content.Spot.{Spot}
 use Rattle.md_words.specs.declared.limits.TheConstants.{SET}
 use Rattle.md_words.specs.Content.{value_of, count_of, is_even, spot_of, spot_value}
@@ -16,22 +15,23 @@ use Rattle.md_machine.specs.declared.step.TheConstants.{LAST_COUNT}
 use Rattle.md_machine.specs.declared.step.Step.{Step}
 use Rattle.md_machine.specs.declared.pass.PassView.{PassView}
 use Rattle.md_machine.proofs.clauses.slots.Installs.{InstallsKept, new_present}
-use Rattle.md_machine.proofs.clauses.words.Order.{InOrder, NoLower, TrailsInOrder, order_of}
+use Rattle.md_machine.proofs.clauses.slots.LeftLater.{left_later}
+use Rattle.md_machine.proofs.clauses.words.Order.{NoLower, TrailsInOrder}
 use Rattle.md_machine.proofs.clauses.words.Stamps.{Stamp, Stamped, StampsKept, same_stamp}
 use Rattle.md_machine.proofs.events.InstallSteps.{InstallStep}
 use Rattle.md_machine.proofs.events.MoveFacts.{MoveFacts}
 use Rattle.md_machine.proofs.events.Steps.{HasStep}
 use Rattle.md_machine.proofs.events.WordChanges.{Restarts, serial_stays}
-use Rattle.md_machine.proofs.lists.Rising.{here, in_cons, in_none, map_in, there}
+use Rattle.md_machine.proofs.lists.Rising.{there}
 use Rattle.md_machine.specs.Installs.{IsPresent, spot_of_install}
-use Rattle.md_machine.specs.Machine.{Install, IsAt, Machine, attempt_of, content, present, shape_of, status_at, word_at}
+use Rattle.md_machine.specs.Machine.{Install, IsAt, Machine, content, present, shape_of, status_at, word_at}
 use Rattle.md_machine.specs.Trail.{holds_desc}
 use Rattle.md_machine.specs.clauses.passes.Hands.{HandsFit}
 use Rattle.md_machine.specs.clauses.slots.OddWords.{OddStand, StandsIn}
 use Rattle.md_machine.specs.events.Install.{installed_word}
 use Rattle.md_machine.specs.events.Mark.{without}
 use Rattle.md_machine.specs.Own.{HasDesc}
-use Rattle.md_machine.specs.events.Start.{IsClean, IsCleanIn, LeavesWithout, WonInstall, timelines}
+use Rattle.md_machine.specs.events.Start.{IsClean, LeavesWithout}
 
 -- an installed word names its descriptor, and holds it
 pub installed_names : (i : Install) → count_of i.old ≤ LAST_COUNT → i.slot < SET → (spot_of (value_of (installed_word i.old (spot_of_install i)))).desc ≡ i.attempt.desc
@@ -40,13 +40,8 @@ installed_names i room small =
     let value = value_of-counted_word (spot_value spot) (count_of i.old + 1) (omega (arith, room)) in
     ap (λ x. (spot_of x).desc) value ∙ ap (λ (s : Spot). s.desc) (spot_of-spot_value spot (omega (arith, small)))
 
-installed_holds : (i : Install) → count_of i.old ≤ LAST_COUNT → i.slot < SET → is_even (count_of (installed_word i.old (spot_of_install i))) ≡ false → holds_desc i.attempt.desc (installed_word i.old (spot_of_install i)) ≡ true
+pub installed_holds : (i : Install) → count_of i.old ≤ LAST_COUNT → i.slot < SET → is_even (count_of (installed_word i.old (spot_of_install i))) ≡ false → holds_desc i.attempt.desc (installed_word i.old (spot_of_install i)) ≡ true
 installed_holds i room small odd = and_from _ _ (ap not odd) (eq-eqb _ i.attempt.desc (installed_names i room small))
-
--- an element splits its list
-pub splits : {A : Type 0} (xs : List A) (x : A) → Contains xs x → (e : List A) × (l : List A) × (xs ≡ e ++ x ∷ l)
-splits [] x c = absurd (in_none x c)
-splits (y ∷ ys) x c = ⊎_elim (λ e. ([], ys, ap (λ z. z ∷ ys) e)) (λ i. let r = splits ys x i in (y ∷ r.0, r.1, ap (λ l. y ∷ l) r.2)) (in_cons y ys x c)
 
 module _ (m : Machine) (stamp : Stamp) (stamps : StampsKept m stamp) (k : InstallsKept (shape_of m) m.words m.installs m.passes) (order : TrailsInOrder (shape_of m) m.passes) where
   -- no step that came after an install, and left the word without the descriptor, is of a word that still holds it
@@ -67,32 +62,9 @@ module _ (m : Machine) (stamp : Stamp) (stamps : StampsKept m stamp) (k : Instal
   pub clean_is_out : (w : ℕ) (i : Install) → IsCounted (shape_of m) w → is_even (count_of (content m w)) ≡ false → Contains m.installs i → IsPresent (shape_of m) m.words i → i.word ≡ w
       → content m w ≡ installed_word i.old (spot_of_install i) → (pass : ℕ) (p : PassView) → IsAt m pass p → HasDesc (shape_of m) p i.attempt.desc
       → IsClean p (present m i.attempt.desc) → ⊥
-  clean_is_out w i counted odd c now lies is pass p at own is_clean =
-      let small = ((k.fits i c).slot now).exists.1 in
-      let mine : i.attempt ≡ present m i.attempt.desc = ap (attempt_of i.attempt.desc) now in
-      let won : (s : Step) → InstallStep i s → WonInstall (present m i.attempt.desc) s = λ s st. record { kind = st.kind; attempt = st.attempt ∙ ap Some mine; won = st.won } in
-      let clean : (g : List Step) → Contains ([] ∷ p.past) g → IsCleanIn (present m i.attempt.desc) (g ++ p.trail) = λ g in_past.
-      All-contains (IsCleanIn (present m i.attempt.desc)) (timelines p) (g ++ p.trail) is_clean (map_in (λ l. l ++ p.trail) ([] ∷ p.past) g in_past) in
-      ⊎_elim
-      (λ x.
-      let s = x.0 in let cut = splits p.trail s x.1 in
-      let t = clean [] (here [] p.past) cut.0 s cut.1 cut.2 (won s x.2) in
-      let segment = Contains-push p.past p.trail in
-      let inside : Contains p.trail t.0 = subst (λ l. Contains l t.0) (sym cut.2) (Contains-append_right cut.0 (s ∷ cut.1) t.0 (there s cut.1 t.0 t.1)) in
-      not_left w i s t.0 counted lies is odd small x.2
-      (order_of (shape_of m) cut.0 s cut.1 t.0 (subst (InOrder (shape_of m)) cut.2 (order pass p at p.trail segment)) t.1)
-      (pass, p, at, (p.trail, segment, inside)) t.2)
-      (λ x.
-      let segment = x.0 in let s = x.2 in let cut = splits segment s x.3 in
-      let t = clean segment (there [] p.past segment x.1) cut.0 s (cut.1 ++ p.trail) (ap (λ l. l ++ p.trail) cut.2 ∙ append_assoc cut.0 (s ∷ cut.1) p.trail) (won s x.4) in
-      let within = Contains-append_left p.past (p.trail ∷ []) segment x.1 in
-      ⊎_elim
-      (λ later. not_left w i s t.0 counted lies is odd small x.4
-      (order_of (shape_of m) cut.0 s cut.1 t.0 (subst (InOrder (shape_of m)) cut.2 (order pass p at segment within)) later)
-      (pass, p, at, (segment, within, subst (λ l. Contains l t.0) (sym cut.2) (Contains-append_right cut.0 (s ∷ cut.1) t.0 (there s cut.1 t.0 later)))) t.2)
-      (λ last. not_left w i s t.0 counted lies is odd small x.4 (x.5 t.0 last) (pass, p, at, (p.trail, Contains-push p.past p.trail, last)) t.2)
-      (Contains-append_cases cut.1 p.trail t.0 t.1))
-      (k.held i c now pass p at own)
+  clean_is_out w i counted odd c now lies is pass p at own clean =
+      let l = left_later m k order i c now pass p at own clean in
+      not_left w i l.install l.step counted lies is odd ((k.fits i c).slot now).exists.1 l.is l.later (pass, p, at, l.within) l.without
 
   -- and it isn't started again
   not_restarted : (w : ℕ) (i : Install) → IsCounted (shape_of m) w → is_even (count_of (content m w)) ≡ false → Contains m.installs i → IsPresent (shape_of m) m.words i → i.word ≡ w

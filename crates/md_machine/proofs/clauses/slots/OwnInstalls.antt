@@ -13,7 +13,7 @@ use Rattle.md_machine.specs.Trail.{SomeStepOf}
 use Rattle.md_machine.specs.clauses.slots.OwnInstalls.{OwnInstallsShown, WonIt}
 
 -- the step of an install won it
-step_won : (i : Install) (s : Step) → InstallStep i s → WonIt i s
+pub step_won : (i : Install) (s : Step) → InstallStep i s → WonIt i s
 step_won i s step = (
   record { kind = step.kind; attempt = step.attempt; won = step.won },
   record { attempt = refl; there = sym step.there; old = sym step.before; left = step.after },
