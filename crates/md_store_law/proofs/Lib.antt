@@ -9,3 +9,5 @@ pub mod Appending
 pub mod Writes
 pub mod Growing
 pub mod Dummies
+pub mod PairCounts
+pub mod Prefixes

@@ -1,4 +1,4 @@
--- The size of a map made of entries whose keys rise, and a capped sum over a whole list.
+-- The size of a map made of pairs with keys apart, and a capped sum over a whole list.
 use Rattle.std.proofs.Common.{◌≡◌, ℕ, ◌+◌, ◌≤◌, false, cond, List, [], ◌∷◌, map, length, drop, refl, sym, ap, ◌∙◌, Some, None, is_some, arith}
 use Rattle.std.specs.List.{sum_by, AllByRecursion}
 use Rattle.std.specs.List.Sorted.{IsStrictlySortedBy}
@@ -15,16 +15,26 @@ below_none : (key : ℕ) (es : List (ℕ × ℕ)) → AllByRecursion (λ y. nat_
 below_none key [] less = refl
 below_none key (e ∷ es) less = ap (λ r. cond (is_eq r) (Some e.1) (fin.find nat_cmp key es)) less.0 ∙ below_none key es less.1
 
--- so such entries make a map of as many
-pub len-from_entries : (es : List (ℕ × ℕ)) → IsStrictlySortedBy nat_cmp (keys_of es) → fin.len (fin.from_entries {R = nat_cmp} es) ≡ length es
-unfolding IsStrictlySortedBy
-len-from_entries [] sorted = fin.len-empty nat_cmp ℕ
-len-from_entries (e ∷ es) sorted =
+-- each key isn't found in the pairs after it
+abbrev pub KeysApart : List (ℕ × ℕ) → Type 0
+KeysApart [] = Unit {0}
+KeysApart (e ∷ es) = (fin.find nat_cmp e.0 es ≡ None) × KeysApart es
+
+-- such pairs make a map of as many
+pub len-apart : (es : List (ℕ × ℕ)) → KeysApart es → fin.len (fin.from_entries {R = nat_cmp} es) ≡ length es
+len-apart [] apart = fin.len-empty nat_cmp ℕ
+len-apart (e ∷ es) apart =
     let rest = fin.from_entries {R = nat_cmp} es in
-    let absent : is_some (fin.get rest e.0) ≡ false = ap is_some (fin.get-from_entries nat_cmp_total es e.0 ∙ below_none e.0 es sorted.0) in
+    let absent : is_some (fin.get rest e.0) ≡ false = ap is_some (fin.get-from_entries nat_cmp_total es e.0 ∙ apart.0) in
     fin.len-insert nat_cmp_total rest e.0 e.1
     ∙ ap (λ b. cond b (fin.len rest) (fin.len rest + 1)) absent
-    ∙ (let before = len-from_entries es sorted.1 in omega arith)
+    ∙ (let before = len-apart es apart.1 in omega arith)
+
+-- keys that rise are apart
+pub apart_sorted : (es : List (ℕ × ℕ)) → IsStrictlySortedBy nat_cmp (keys_of es) → KeysApart es
+unfolding IsStrictlySortedBy
+apart_sorted [] sorted = tt
+apart_sorted (e ∷ es) sorted = (below_none e.0 es sorted.0, apart_sorted es sorted.1)
 
 -- at the end of a list nothing is left to add
 pub capped-all : {X Y : Type 0} (f : Y → ℕ) (g : X → Y) (xs : List X) (i all total : ℕ) → length xs ≤ i → capped all ≡ all

@@ -18,6 +18,7 @@ pub use theory::StoreTheory;
 
 mod building;
 mod fields;
+mod living;
 mod reading;
 mod sizes;
 #[cfg(test)]
