@@ -1,12 +1,15 @@
 -- What a content that a step met tells for good: settled values, and the nodes of the heap in which it was.
 use Rattle.std.proofs.Common.{◌≡◌, ℕ, true, length, refl, sym, ap, ◌∙◌, subst, Some, None, is_some, IsTrue}
+use Rattle.std.proofs.lemmas.List.{length-map}
 use Rattle.md_words.specs.Content.{value_of}
 use Rattle.md_words.specs.Layout.{address, IsNode}
 use Rattle.md_words.specs.Place.{node_next}
 use Rattle.md_words.specs.PlaceAt.{IsCounted}
+use Rattle.md_machine.specs.declared.attempt.HistoryEntry.{HistoryEntry}
 use Rattle.md_machine.specs.declared.certificate.Fact.{Fact}
 use Rattle.md_machine.specs.declared.node.Structure.{Structure}
 use Rattle.md_machine.specs.declared.pass.PassView.{PassView}
+use Rattle.md_machine.specs.Legal.{IsMeant}
 use Rattle.md_machine.specs.LogicalHeap.{Holds, IsPlaced, LogicalHeap, is_settled}
 use Rattle.md_machine.specs.Machine.{IsAt, Machine, shape_of}
 use Rattle.md_machine.specs.Meaning.{Lawful, Meaning, NamesPlaced}
@@ -15,7 +18,6 @@ use Rattle.md_machine.specs.clauses.nodes.PlacedNodes.{NodesExist}
 use Rattle.md_machine.specs.clauses.words.WasIn.{MeetsEven, MetWereIn, SettledStay, WasIn}
 use Rattle.md_machine.specs.events.Exchange.{FoundNext}
 use Rattle.md_machine.proofs.chain.SameNodes.{next_counted}
-use Rattle.md_machine.proofs.lists.Options.{some_same}
 use Rattle.md_machine.proofs.replay.Nodes.{placed_exists}
 use Rattle.md_machine.proofs.replay.WasIn.{placed_fact}
 use Rattle.md_machine.proofs.resolutions.Placing.{least_resolves}
@@ -60,19 +62,30 @@ module _ (M : Meaning) (m : Machine) (word value : ℕ) (was : WasIn M m word va
     next = (ap (λ s. was.heap.words.value (address s (node_next node))) was.shape ∙ ap was.heap.words.value (sym there) ∙ was.is, settled);
   })
 
--- so it is by the structure that the node has now
+  -- a node that is placed now, in every resolution, was placed so where the word is its next word
+  pub was_placed : length m.fates ≡ length m.history → (node : ℕ) (structure : Structure) → IsNode (shape_of m) node
+      → word ≡ address (shape_of m) (node_next node) → InEveryResolution m (λ h. h.placed node ≡ Some structure)
+      → was.heap.placed node ≡ Some structure
+  was_placed fated node structure exists there now =
+      let of_least = least_resolves m.history m.fates fated in
+      let before = was.rooted node (subst (λ s. IsNode s node) (sym was.shape) exists)
+      (there ∙ ap (λ s. address s (node_next node)) (sym was.shape)) in
+      let kept = was.facts (least m.fates) of_least (placed_fact node before.0) (record { placed = before.1; key = tt; value = tt; next = tt }) in
+      before.1 ∙ sym kept.placed ∙ now (least m.fates) of_least
+
+-- so a settled value is there by the structure that the node has now
 module _ (M : Meaning) (m : Machine) (exist : NodesExist m) (fated : length m.fates ≡ length m.history) (was : MetWereIn M m) where
   pub settled : SettledStay m
   settled pass p at node structure placed segment c s i held meets is choice r =
       let word = address (shape_of m) (node_next node) in
       let w = was pass p at segment c s i word held meets in
-      let now = placed (least m.fates) (least_resolves m.history m.fates fated) in
-      let exists = placed_exists m (least m.fates) exist node (structure, now) in
-      let there = w.rooted node (subst (λ s. IsNode s node) (sym w.shape) exists) (ap (λ s. address s (node_next node)) (sym w.shape)) in
-      let kept = w.facts (least m.fates) (least_resolves m.history m.fates fated) (placed_fact node there.0)
-      (record { placed = there.1; key = tt; value = tt; next = tt }) in
-      let same = some_same there.0 structure (sym kept.placed ∙ now) in
-      (next_stays M m word (value_of held) w node structure (there.1 ∙ ap (λ (x : Structure). Some x) same) refl is choice r).next.0
+      let exists = placed_exists m choice exist node (structure, placed choice r) in
+      let before = was_placed M m word (value_of held) w fated node structure exists refl placed in
+      (next_stays M m word (value_of held) w node structure before refl is choice r).next.0
+
+-- each entry has a fate
+pub meant_fated : (M : Meaning) (m : Machine) → IsMeant M m → length m.fates ≡ length m.history
+meant_fated M m meant = meant.legal.fated ∙ length-map m.history (λ (e : HistoryEntry). e.entry)
 
 -- so where a pass found a settled value of a node's next word, as a tidy change's condition has it, the fact holds in
 -- every resolution
