@@ -3,7 +3,7 @@ pub mod events
 pub mod clauses
 pub mod fates
 mod Invariant
-mod Reached
+pub mod Reached
 pub mod resolutions
 mod Refusing
 pub mod chain
