@@ -10,6 +10,7 @@ pub mod Alone
 pub mod Ended
 pub mod EndedLast
 pub mod HandKnows
+pub mod Longer
 pub mod MineParts
 pub mod Mine
 pub mod OwnSerials

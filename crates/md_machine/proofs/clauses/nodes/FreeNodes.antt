@@ -2,22 +2,25 @@
 use Rattle.std.proofs.Common.{◌≡◌, ◌==◌, ℕ, ◌<◌, ◌≤◌, Bool, true, false, List, [], ◌∷◌, ◌++◌, length, refl, sym, ap, ◌∙◌, subst, ⊎_elim, arith, eqb-true, append_assoc, Option, Some, None, is_none, is_some}
 use Rattle.std.specs.List.{All, Contains}
 use Rattle.std.proofs.lemmas.Bool.{cases_Bool, cond_both, false≢true, true≢false}
+use Rattle.std.proofs.lemmas.List.{map-append}
 use Rattle.std.proofs.lemmas.List.Elements.{All-head, All-tail, Contains-append_left, Contains-append_right}
 use Rattle.md_words.specs.declared.shape.Shape.{Shape}
 use Rattle.md_words.specs.Lanes.{OwnsNode}
 use Rattle.md_words.proofs.Owners.{owner_of_node}
 use Rattle.md_history.specs.declared.entries.Fate.{Fate}
-use Rattle.md_history.specs.Front.{AllStay}
+use Rattle.md_history.specs.Front.{AllStay, IsPrefix}
+use Rattle.md_history.specs.FrontLaws.{all_stay-self, prefix-self}
 use Rattle.md_history.specs.History.{AllCommittedSound}
+use Rattle.md_history.specs.ResolutionLaws.{sound-earlier}
 use Rattle.md_machine.specs.declared.attempt.HistoryEntry.{HistoryEntry}
 use Rattle.md_machine.specs.declared.node.PlacedNode.{PlacedNode}
 use Rattle.md_machine.specs.declared.node.Structure.{Structure}
 use Rattle.md_machine.proofs.clauses.nodes.Flags.{structure_has}
-use Rattle.md_machine.proofs.lists.Splits.{splits}
 use Rattle.md_machine.proofs.clauses.nodes.PlacedOnce.{within_stay}
-use Rattle.md_machine.proofs.events.Attempts.{ready_in}
+use Rattle.md_machine.proofs.clauses.passes.MineParts.{not_again}
 use Rattle.md_machine.proofs.lists.Rising.{here, there}
-use Rattle.md_machine.specs.Machine.{Machine, shape_of}
+use Rattle.md_machine.specs.declared.pass.PassView.{PassView}
+use Rattle.md_machine.specs.Machine.{IsAt, Machine, shape_of}
 use Rattle.md_machine.specs.Own.{HasNode}
 use Rattle.md_machine.specs.Resolution.{entries_of, greatest, kept_structure, may_commit, never_placed, or_else, structure_in}
 use Rattle.md_machine.specs.clauses.nodes.FreeNodes.{FreeAreUnplaced}
@@ -98,23 +101,35 @@ none_on (e ∷ es) rest (f ∷ fs) (g ∷ gs) node l a s none h =
 none_is : (x y : Option Structure) → x ≡ None → y ≡ None → is_none (or_else x y) ≡ true
 none_is x y a b = ap is_none (both_none x y a b)
 
--- with what is known of entries, fates and fronts it is placed in no resolution
-pub free_nodes : (m : Machine) → OpeningIsBase (shape_of m) m.opening.placed → FrontsFit (shape_of m) m.history m.fates m.passes
-    → AreOfDistinctAttempts m.history
-    → AllCommittedSound (entries_of m.history) m.fates → OwnNodesSeen (shape_of m) m.history m.passes → FreeAreUnplaced m
-free_nodes m base fronts distinct sound seen pass p at node own h =
-    let front = fronts pass p at in
-    let rest = front.seen.rest in
-    let none : (e : HistoryEntry) → Contains rest e → structure_in e.placed node ≡ None = λ e c. none_or_some (structure_in e.placed node) (λ some.
-    let x = structure_has e.placed node some in
-    let inside : Contains p.seen e = seen pass p at e (subst (λ es. Contains es e) (sym front.seen.is) (Contains-append_right p.seen rest e c)) x.0 x.1 (subst (HasNode (shape_of m) p) (sym x.2) own) in
-    twice e inside c) in
-    none_is (structure_in m.opening.placed node) (kept_structure m.history (greatest m.history m.fates) node) (base own.0 node own.2)
-    (subst (λ es. kept_structure es (greatest es m.fates) node ≡ None) (sym front.seen.is)
-    (none_on p.seen rest p.known m.fates node front.fated front.known (subst (λ es. AllCommittedSound (entries_of es) m.fates) front.seen.is sound) none h))
-  where
-    -- no entry stands in both parts
-    twice : (e : HistoryEntry) → Contains p.seen e → Contains (fronts pass p at).seen.rest e → ⊥
-    twice e inside c = let cut = splits (fronts pass p at).seen.rest e c in
-        true≢false (sym (ready_in (p.seen ++ cut.0) e e.attempt (Contains-append_left p.seen cut.0 e inside) refl refl) ∙ distinct (p.seen ++ cut.0) cut.1 e
-        ((fronts pass p at).seen.is ∙ ap (λ l. p.seen ++ l) cut.2 ∙ sym (append_assoc p.seen cut.0 (e ∷ cut.1))))
+module _ (m : Machine) (fronts : FrontsFit (shape_of m) m.history m.fates m.passes) (distinct : AreOfDistinctAttempts m.history)
+    (sound : AllCommittedSound (entries_of m.history) m.fates) (own_seen : OwnNodesSeen (shape_of m) m.history m.passes) where
+  -- an entry that a pass hasn't seen places no node of its lanes
+  unseen_none : (pass : ℕ) (p : PassView) → IsAt m pass p → (node : ℕ) → HasNode (shape_of m) p node → (rest : List HistoryEntry)
+      → m.history ≡ p.seen ++ rest → (e : HistoryEntry) → Contains rest e → structure_in e.placed node ≡ None
+  unseen_none pass p at node own rest whole e c = none_or_some (structure_in e.placed node) (λ some.
+      let x = structure_has e.placed node some in
+      let there = subst (λ es. Contains es e) (sym whole) (Contains-append_right p.seen rest e c) in
+      let inside : Contains p.seen e = own_seen pass p at e there x.0 x.1 (subst (HasNode (shape_of m) p) (sym x.2) own) in
+      not_again m.history p.seen rest e distinct whole inside c)
+
+  -- so what the pass doesn't place is placed by no first part of the history that goes on from what it has seen, with
+  -- fates that go on from those that it knows
+  pub still_free : (pass : ℕ) (p : PassView) → IsAt m pass p → (node : ℕ) → HasNode (shape_of m) p node → (seen : List HistoryEntry) (known : List Fate)
+      → IsPrefix p.seen seen → IsPrefix seen m.history → AllStay p.known known → AllStay known m.fates
+      → kept_structure p.seen (greatest p.seen p.known) node ≡ None → kept_structure seen (greatest seen known) node ≡ None
+  still_free pass p at node own seen known begins within one two h =
+      let rest = begins.rest in
+      let whole : m.history ≡ p.seen ++ (rest ++ within.rest) = within.is ∙ ap (λ l. l ++ within.rest) begins.is ∙ append_assoc p.seen rest within.rest in
+      let none : (e : HistoryEntry) → Contains rest e → structure_in e.placed node ≡ None = λ e c.
+      unseen_none pass p at node own (rest ++ within.rest) whole e (Contains-append_left rest within.rest e c) in
+      let committed : AllCommittedSound (entries_of seen) known = sound-earlier (entries_of seen) (entries_of within.rest) known m.fates two
+      (subst (λ es. AllCommittedSound es m.fates) (ap entries_of within.is ∙ map-append (λ (e : HistoryEntry). e.entry) seen within.rest) sound) in
+      subst (λ es. kept_structure es (greatest es known) node ≡ None) (sym begins.is)
+      (none_on p.seen rest p.known known node (fronts pass p at).fated one (subst (λ es. AllCommittedSound (entries_of es) known) begins.is committed) none h)
+
+  -- with what is known of entries, fates and fronts it is placed in no resolution
+  pub free_nodes : OpeningIsBase (shape_of m) m.opening.placed → FreeAreUnplaced m
+  free_nodes base pass p at node own h =
+      let front = fronts pass p at in
+      none_is (structure_in m.opening.placed node) (kept_structure m.history (greatest m.history m.fates) node) (base own.0 node own.2)
+      (still_free pass p at node own m.history m.fates front.seen (prefix-self m.history) front.known (all_stay-self m.fates) h)

@@ -11,13 +11,13 @@ use Rattle.md_machine.specs.declared.step.Step.{Step}
 use Rattle.md_machine.proofs.events.Holders.{HasStepsOf, first_has, next_has, second_has}
 use Rattle.md_machine.proofs.events.Steps.{InSegments, IsBoth, IsNext}
 use Rattle.md_machine.proofs.lists.Rising.{in_none}
-use Rattle.md_machine.specs.Machine.{IsAt, Machine, shape_of}
-use Rattle.md_machine.specs.Own.{HasNode}
+use Rattle.md_machine.specs.Machine.{IsAt, Machine, present, shape_of}
+use Rattle.md_machine.specs.Own.{HasDesc, HasNode}
 use Rattle.md_machine.specs.Resolution.{always_placed}
 use Rattle.md_machine.specs.Theorem.{IsKept}
-use Rattle.md_machine.specs.Trail.{segments}
+use Rattle.md_machine.specs.Trail.{EveryStepOf, segments}
 use Rattle.md_machine.specs.clauses.nodes.EvenNexts.{AllTakenOut, MetHigher}
-use Rattle.md_machine.specs.events.Start.{WonInstall}
+use Rattle.md_machine.specs.events.Start.{IsClean, WonInstall}
 
 -- a pass with the steps of another met what that one met
 met_more : (p u : PassView) (word count : ℕ) → HasStepsOf p u → MetHigher p word count → MetHigher u word count
@@ -90,3 +90,15 @@ module _ (m : Machine) (k : IsKept m) (node : ℕ) (not : always_placed m node �
         mine)
         (λ theirs. out theirs.0 theirs.1 s theirs.2 a won is)
         (both_from x p q u both s (segment, c, i)))
+
+-- once the present attempt of an own descriptor is clean, all is taken out of a word in which the pass won no other install
+-- that it didn't meet again
+pub clean_taken_out : (m : Machine) → IsKept m → (pass : ℕ) (p : PassView) → IsAt m pass p → (desc : ℕ) → HasDesc (shape_of m) p desc
+    → IsClean p (present m desc) → (word : ℕ)
+    → EveryStepOf p (λ s. (a : AttemptId) → WonInstall a s → s.word ≡ word → (present m desc ≡ a) ⊎ MetHigher p word (count_of s.after))
+    → AllTakenOut p word
+clean_taken_out m k pass p at desc own clean word others segment c s i a won is = ⊎_elim
+    (λ mine. subst (λ w. MetHigher p w (count_of s.after)) is
+    (k.taken_out pass p at desc own clean segment c s i (subst (λ b. WonInstall b s) (sym mine) won)))
+    (λ met. met)
+    (others segment c s i a won is)

@@ -23,7 +23,8 @@ use Rattle.md_machine.proofs.clauses.passes.FrontsLegal.{all_agree}
 use Rattle.md_machine.proofs.clauses.passes.HandKnows.{in_joined}
 use Rattle.md_machine.proofs.clauses.passes.KnownPast.{one_learns}
 use Rattle.md_machine.proofs.clauses.passes.LanesApart.{At}
-use Rattle.md_machine.proofs.clauses.passes.MineParts.{begins_longer, begun_first, begun_in, begun_second, decided_both, not_again, part_mine, part_outside}
+use Rattle.md_machine.proofs.clauses.passes.Longer.{longer_begins, longer_from_first, longer_from_second}
+use Rattle.md_machine.proofs.clauses.passes.MineParts.{begun_first, begun_in, begun_second, decided_both, not_again, part_mine, part_outside}
 use Rattle.md_machine.proofs.events.MoveFacts.{MoveFacts, history_grows, new_entry}
 use Rattle.md_machine.proofs.events.Moves.{FrontGoes, HandGoes, PassesGo, goes_on, hand_begins, hand_changes, hand_ends, hand_leaves, hand_stays, is_joined, is_split, learns, sees_all}
 use Rattle.md_machine.proofs.lists.At.{at_append, at_one, at_set}
@@ -232,19 +233,13 @@ module _ (m n : Machine) (v : MoveFacts m n) (apart : LanesApart (shape_of m) m.
 
     -- what both have seen goes on from what each has, and is of the history
     one_begins : IsPrefix v.p.seen seen
-    one_begins = cond_both (nat_le (length v.p.seen) (length q.seen)) q.seen v.p.seen (IsPrefix v.p.seen)
-        (λ yes. begins_longer v.p.seen q.seen m.history (fronts v.pass v.p v.at).seen (fronts other q at).seen (leb-true _ _ yes))
-        (λ _. record { rest = []; is = sym (append-nil v.p.seen) })
+    one_begins = longer_from_first v.p.seen q.seen m.history (fronts v.pass v.p v.at).seen (fronts other q at).seen
 
     other_begins : IsPrefix q.seen seen
-    other_begins = cond_both (nat_le (length v.p.seen) (length q.seen)) q.seen v.p.seen (IsPrefix q.seen)
-        (λ _. record { rest = []; is = sym (append-nil q.seen) })
-        (λ no. let more = leb-false (length v.p.seen) (length q.seen) no in
-        begins_longer q.seen v.p.seen m.history (fronts other q at).seen (fronts v.pass v.p v.at).seen (omega (arith, more)))
+    other_begins = longer_from_second v.p.seen q.seen m.history (fronts v.pass v.p v.at).seen (fronts other q at).seen
 
     both_first : IsPrefix seen m.history
-    both_first = cond_both (nat_le (length v.p.seen) (length q.seen)) q.seen v.p.seen (λ es. IsPrefix es m.history) (λ _. (fronts other q at).seen)
-        (λ _. (fronts v.pass v.p v.at).seen)
+    both_first = longer_begins v.p.seen q.seen m.history (fronts v.pass v.p v.at).seen (fronts other q at).seen
 
     in_history : (e : HistoryEntry) → Contains seen e → Contains m.history e
     in_history e c = subst (λ h. Contains h e) (sym both_first.is) (Contains-append_left seen both_first.rest e c)

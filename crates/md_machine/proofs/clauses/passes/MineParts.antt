@@ -87,16 +87,3 @@ not_again history seen rest x distinct is c later =
     let r = splits rest x later in
     true≢false (sym (ready_in (seen ++ r.0) x x.attempt (Contains-append_left seen r.0 x c) refl refl)
     ∙ distinct (seen ++ r.0) r.1 x (is ∙ ap (λ l. seen ++ l) r.2 ∙ sym (append_assoc seen r.0 (x ∷ r.1))))
-
--- of two first parts of a list the shorter one begins the longer one
-pub begins_longer : {A : Type 0} (xs ys h : List A) → IsPrefix xs h → IsPrefix ys h → length xs ≤ length ys → IsPrefix xs ys
-begins_longer {A = A} xs ys h a b le = within xs ys a.rest b.rest (sym a.is ∙ b.is) le
-  where
-    within : (xs ys more rest : List A) → xs ++ more ≡ ys ++ rest → length xs ≤ length ys → IsPrefix xs ys
-    within [] ys more rest same le = record { rest = ys; is = refl }
-    within (x ∷ xs) [] more rest same le = absurd (omega (arith, le))
-    within (x ∷ xs) (y ∷ ys) more rest same le =
-        let first : x ≡ y = cc in
-        let later : xs ++ more ≡ ys ++ rest = cc in
-        let r = within xs ys more rest later (omega (arith, le)) in
-        record { rest = r.rest; is = ap (λ z. z ∷ ys) (sym first) ∙ ap (λ l. x ∷ l) r.is }
