@@ -1,5 +1,5 @@
 -- What an attempt does to the front of its pass.
-use Rattle.std.specs.Prelude.{◌≡◌, ◌==◌, ℕ, List, [], ◌∷◌, ◌++◌, length, if◌then◌else◌}
+use Rattle.std.specs.Prelude.{◌≡◌, ◌==◌, ◌≤◌, ◌+◌, ℕ, List, [], ◌∷◌, ◌++◌, length, if◌then◌else◌}
 use Rattle.md_history.specs.declared.acts.Act.{Act}
 use Rattle.md_history.specs.declared.entries.Entry.{Entry}
 use Rattle.md_history.specs.declared.entries.Fate.{Fate}
@@ -7,6 +7,7 @@ use Rattle.md_history.specs.declared.entries.Fate.TheVariants.{Committed, Aborte
 use Rattle.md_history.specs.declared.stops.Attempt.{Attempt}
 use Rattle.md_history.specs.declared.stops.Attempt.TheVariants.{Committed as Done, Stopped}
 use Rattle.md_history.specs.declared.stops.Stop.{Stop}
+use Rattle.md_history.specs.declared.stops.Stop.TheVariants.{Conflict, Limit, NoMemory}
 use Rattle.md_history.specs.History.{AllDecided}
 use Rattle.md_history.specs.Front.{Front, Begins, AllStay, committed_in, own_after, of_lane}
 
@@ -48,6 +49,18 @@ pub record Stops (tag : ℕ) (old new : Front) : Type 0 where
   pub pending : new.pending ≡ old.pending
   pub own : NoneOrAborted tag (own_after (length old.seen) new)
   pub mine : (lane : ℕ) → new.mine lane ≡ old.mine lane
+
+-- How many attempts were begun, before one that stopped and after it. It was begun if it met a conflict; else it may have
+-- stopped before that.
+abbrev pub IsStopCounted : Stop → ℕ → ℕ → Type 0
+IsStopCounted (Conflict shown) begun begun' = begun' ≡ begun + 1
+IsStopCounted (Limit limit) begun begun' = (begun ≤ begun') × (begun' ≤ begun + 1)
+IsStopCounted NoMemory begun begun' = (begun ≤ begun') × (begun' ≤ begun + 1)
+
+-- The same of any attempt: one that was committed was begun.
+abbrev pub IsCounted : {R : Type 0} → Attempt R → ℕ → ℕ → Type 0
+IsCounted (Done r) begun begun' = begun' ≡ begun + 1
+IsCounted (Stopped s) begun begun' = IsStopCounted s begun begun'
 
 -- a pass was closed: what it has seen and its own stay, and each fate is decided
 pub record Settles (old new : Front) : Type 0 where

@@ -61,7 +61,8 @@ MayReply _ _ = ⊥
 
 -- a part of a body broke off: the transaction has the stop, and whatever the refused operation would have
 -- answered, the acts that were added and this one are such as the part makes
-pub record BrokeOff (makes : List Act → Type 0) (why : Stop) (acts acts' : List Act) (stop' : Option Refusal) : Type 0 where
+pub record BrokeOff (makes : List Act → Type 0) (why : Stop) (acts acts' : List Act) (stop' : Option Refusal)
+    : Type 0 where
   pub refusal : Refusal
   pub stopped : stop' ≡ Some refusal
   pub same : refusal.stop ≡ why

@@ -39,7 +39,8 @@ abbrev pub dequeued : Op → Reply → Bool
 dequeued (Dequeue q) (Value (Some v)) = true
 dequeued op r = false
 
--- the words that a line reads at most, besides the two of any look at its queue: one for each value asked for, and one more
+-- the words that a line reads at most, besides the two of any look at its queue: one for each value asked for, and one
+-- more
 abbrev pub line_words : Op → ℕ
 line_words (Line q n) = n + 1
 line_words op = 0
@@ -53,7 +54,10 @@ added op r = false
 -- how many different elements there are that aren't among others
 abbrev pub different_beside : {A : Type 0} → (A → A → Bool) → List A → List A → ℕ
 different_beside eq [] others = 0
-different_beside eq (x ∷ xs) others = if list_any (eq x) others then different_beside eq xs others else 1 + different_beside eq xs (x ∷ others)
+different_beside eq (x ∷ xs) others =
+    if list_any (eq x) others
+    then different_beside eq xs others
+    else 1 + different_beside eq xs (x ∷ others)
 
 -- how many different elements there are
 abbrev pub different : {A : Type 0} → (A → A → Bool) → List A → ℕ

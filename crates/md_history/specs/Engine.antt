@@ -39,7 +39,8 @@ AreApart xs ys = (lane : ℕ) → Contains xs lane → Contains ys lane → ⊥
 
 -- each entry's number is how many of its lane stand before it
 abbrev pub AreNumberedByLane : List Entry → Type 0
-AreNumberedByLane es = (before after : List Entry) (e : Entry) → es ≡ before ++ e ∷ after → e.number ≡ length (of_lane e.lane before)
+AreNumberedByLane es =
+    (before after : List Entry) (e : Entry) → es ≡ before ++ e ∷ after → e.number ≡ length (of_lane e.lane before)
 
 -- The front of a pass of an engine that starts in a state and has these lanes: it is legal; the pass holds some of the
 -- lanes; every entry is of a lane of the engine, and numbered; and what was answered to the pass as committed is of its

@@ -1,4 +1,5 @@
 pub mod Act
+pub mod Kept
 pub mod State
 pub mod History
 pub mod Front

@@ -38,11 +38,16 @@ front_from es = record {
 pub front_from-none : front_from [] ≡ empty_front (0 ∷ [])
 front_from-none =
     let none : List Entry = [] in
-    ap (λ (mine : ℕ → List Entry). let f : Front = record { lanes = 0 ∷ []; seen = []; known = []; mine = mine; pending = [] } in f)
+    ap (λ (mine : ℕ → List Entry).
+    let f : Front = record { lanes = 0 ∷ []; seen = []; known = []; mine = mine; pending = [] } in f)
     (fun_ext (λ lane. elim (lane == 0) as (λ b. cond b none none ≡ none) [ true ↦ refl | false ↦ refl ]))
 
 abbrev pub front_of : Plain → Front
 front_of p = front_from p.entries
+
+-- each attempt that it began was committed, but for one that ran out of memory; after that one it begins none
+abbrev pub begun_by : Plain → ℕ
+begun_by p = length p.entries + (if p.broken then 1 else 0)
 
 -- the pass is of a store that began with this state
 pub record IsPassOf (start : State) (p : Plain) : Type 0 where
@@ -51,7 +56,13 @@ pub record IsPassOf (start : State) (p : Plain) : Type 0 where
 
 -- the store for one thread has no limits; these numbers are larger than any caller needs
 abbrev pub plain_limits : Limits
-plain_limits = record { reads = 2 ^ 64 - 1; writes = 2 ^ 64 - 1; nodes = 2 ^ 64 - 1; tries = 2 ^ 64 - 1; room = 2 ^ 64 - 1 }
+plain_limits = record {
+  reads = 2 ^ 64 - 1;
+  writes = 2 ^ 64 - 1;
+  nodes = 2 ^ 64 - 1;
+  tries = 2 ^ 64 - 1;
+  room = 2 ^ 64 - 1;
+}
 
 -- entries of lane 0, sound, with the numbers from n on
 abbrev pub AreNumbered : ℕ → List Entry → Type 0

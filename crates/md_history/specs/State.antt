@@ -26,7 +26,8 @@ table_code = fin.code coded_ℕ coded_ℕ
 -- a state is stored as the pair of its fields
 abbrev pub state_code : Coded State
 state_code =
-    code_by (List Table × List (List ℕ)) (coded× (coded_list table_code) (coded_list (coded_list coded_ℕ))) (λ s. (s.maps, s.queues)) (λ p. record { maps = p.0; queues = p.1 }) (λ _. refl)
+    code_by (List Table × List (List ℕ)) (coded× (coded_list table_code) (coded_list (coded_list coded_ℕ)))
+    (λ s. (s.maps, s.queues)) (λ p. record { maps = p.0; queues = p.1 }) (λ _. refl)
 
 -- so many maps and queues, with nothing in them
 abbrev pub empty_state : ℕ → ℕ → State

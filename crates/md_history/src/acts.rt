@@ -1,13 +1,14 @@
 //! Operations on maps and queues, their replies, and lists of both.
 
-ghost use Rattle.std.specs.Prelude.{◌≡◌, [], ◌∷◌, ◌++◌, OnOk, OnErr};
+ghost use Rattle.std.specs.Prelude.{◌≡◌, [], ◌∷◌, ◌++◌, length, slice_get, OnOk, OnErr};
 ghost use Rattle.md_history.specs.Act.{act_of};
 
+use crate::kept::KeptAct;
 use std::alloc::{AllocError, Global};
 use std::marker::Model;
 
-/// An operation on one map or one queue. Maps and queues are numbered from 0; keys and values are any
-/// `u64`.
+/// An operation on one map or one queue. Maps and queues are numbered from 0; keys and values are
+/// any `u64`.
 #[derive(Clone, Copy, Debug, PartialEq, Eq)]
 pub enum Op {
     /// Looks up a key.
@@ -32,7 +33,8 @@ pub const MAX_LINE: usize = 12;
 /// The first values of a queue, in order. It is copied whole: 104 bytes.
 #[derive(Clone, Copy, Debug, PartialEq, Eq)]
 pub struct Line {
-    /// How many values there are: at most the `n` of the operation, and fewer if the queue has fewer.
+    /// How many values there are: at most the `n` of the operation, and fewer if the queue has
+    /// fewer.
     pub count: u8,
     /// The values from the first on. Each place past `count` is 0.
     pub values: [u64; MAX_LINE],
@@ -41,8 +43,8 @@ pub struct Line {
 /// What an operation replies.
 #[derive(Clone, Copy, Debug, PartialEq, Eq)]
 pub enum Reply {
-    /// Of `Get` and `Remove`: the value of the key; of `Dequeue` and `Front`: the first value. `None` if
-    /// there is none.
+    /// Of `Get` and `Remove`: the value of the key; of `Dequeue` and `Front`: the first value.
+    /// `None` if there is none.
     Value(Option<u64>),
     /// Of `Insert`: whether the key was absent, so that it was added.
     Flag(bool),
@@ -59,19 +61,21 @@ pub struct Act {
     pub reply: Reply,
 }
 
-/// The acts of a transaction, in order. Contracts see a list.
+/// The acts of a transaction, in order. Contracts see a list. An act takes 40 bytes, and a line 104
+/// more.
 #[derive(Debug, Drop)]
 pub struct Acts {
-    items: Vec<Act>,
+    items: Vec<KeptAct>,
 }
 
 impl Model for Acts {
-    ghost use Rattle.std.specs.Prelude.{List};
+    ghost use Rattle.std.specs.Prelude.{List, map};
     ghost use Rattle.md_history.specs.declared.acts.Act.{Act};
+    ghost use Rattle.md_history.specs.Kept.{kept_as};
 
     ghost Value = { List Act };
 
-    ghost view = { λ a. a.items.items };
+    ghost view = { λ a. map kept_as a.items.items };
 }
 
 impl Acts {
@@ -89,14 +93,22 @@ impl Acts {
         ensures ok { OnOk result (self.new ≡ self.old ++ act_of op reply ∷ []) }
         ensures err { OnErr result (self.new ≡ self.old) }
     {
-        self.items.push(Act { op, reply })?;
+        let kept = KeptAct::of(*self.items.allocator(), op, reply)?;
+        self.items.push(kept)?;
         Ok(())
     }
 
-    /// The acts as a slice.
-    pub fn as_slice(&self) -> &[Act]
-        ensures { result.now ≡ self.now }
+    /// How many acts there are.
+    pub fn len(&self) -> usize
+        ensures { result ≡ length self.now }
     {
-        &self.items
+        self.items.len()
+    }
+
+    /// The act at a place, from 0. `None` exactly where there is none.
+    pub fn get(&self, place: usize) -> Option<Act>
+        ensures { result ≡ slice_get self.now place }
+    {
+        self.items.get(place).map(|kept| kept.act())
     }
 }

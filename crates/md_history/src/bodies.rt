@@ -22,17 +22,19 @@ pub trait Body {
     /// The numbers of maps and queues with which it may run.
     ghost fits: { Self → ℕ → ℕ → Type 0 };
 
-    /// Runs it once over a transaction without acts. `Ok` has its reply, if no call was refused. `Err` has
-    /// the stop of the call that was refused; the acts so far, followed by the refused operation with any
-    /// reply that it could have had, are a list that the body can make.
+    /// Runs it once over a transaction without acts. `Ok` has its reply, if no call was refused.
+    /// `Err` has the stop of the call that was refused; the acts so far, followed by the refused
+    /// operation with any reply that it could have had, are a list that the body can make.
     fn go<T: TxCalls>(&self, t: &mut T) -> Result<Self::Reply, Stop>
         requires none { T.acts t.old ≡ [] }
         requires going { T.stop t.old ≡ None }
         requires fits { fits self.now (T.maps (T.kept t.old)) (T.queues (T.kept t.old)) }
         ensures ok { IfOk result (λ r. (T.stop t.new ≡ None) × did self.now (T.acts t.new) r) }
-        ensures err { IfErr result (λ e. BrokeOff (makes self.now) e [] (T.acts t.new) (T.stop t.new)) }
+        ensures err { IfErr result (λ e.
+            BrokeOff (makes self.now) e [] (T.acts t.new) (T.stop t.new)) }
         ensures kept { T.kept t.new ≡ T.kept t.old };
 
     /// It can make what it did.
-    ghost did_makes: { (b : Self) (acts : List Act) (r : Self.Reply) → did b acts r → makes b acts };
+    ghost did_makes: { (b : Self) (acts : List Act) (r : Self.Reply)
+        → did b acts r → makes b acts };
 }

@@ -11,14 +11,15 @@ use crate::stops::Stop;
 
 /// A transaction under way.
 ///
-/// A call that returns `Ok` adds one act, its own operation with its reply. A call that returns `Err` adds
-/// none, and the transaction has stopped: from then on each call returns the same stop and does nothing.
-/// Each call needs its map or queue to exist.
+/// A call that returns `Ok` adds one act, its own operation with its reply. A call that returns
+/// `Err` adds none, and the transaction has stopped: from then on each call returns the same stop
+/// and does nothing. Each call needs its map or queue to exist.
 pub trait TxCalls {
     /// The acts so far.
     ghost acts: { Self → List Act };
 
-    /// Why the transaction stopped, with the operation that was refused first; `None` while it goes on.
+    /// Why the transaction stopped, with the operation that was refused first; `None` while it goes
+    /// on.
     ghost stop: { Self → Option Refusal };
 
     /// What no call changes. The numbers of maps and queues are part of it.
@@ -39,8 +40,8 @@ pub trait TxCalls {
             (acts self.old) (acts self.new) (stop self.old) (stop self.new)) }
         ensures kept { kept self.new ≡ kept self.old };
 
-    /// Adds a key with its value if the key is absent, and returns whether it was. It never replaces a
-    /// value.
+    /// Adds a key with its value if the key is absent, and returns whether it was. It never
+    /// replaces a value.
     fn insert(&mut self, map: u32, key: u64, value: u64) -> Result<bool, Stop>
         requires { map < maps (kept self.old) }
         ensures ok { IfOk result (λ b. Answered (Insert map key value) (Flag b)

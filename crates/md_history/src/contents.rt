@@ -14,8 +14,8 @@ use std::marker::Model;
 
 /// Ordered maps and queues, numbered from 0. Contracts see finite maps and lists.
 ///
-/// A call on a map of n keys takes time in the order of log n, one on a queue constant time. Each call needs
-/// its map or queue to exist.
+/// A call on a map of n keys takes time in the order of log n, one on a queue constant time. Each
+/// call needs its map or queue to exist.
 #[derive(Drop)]
 pub struct Contents {
     maps: Vec<BTreeMap<u64, u64>>,
@@ -52,12 +52,13 @@ impl Contents {
         })
     }
 
-    /// Sets the value of a key, and returns its old value, or `None` if the key was absent. `AllocError` if
-    /// memory runs out; then nothing changed.
+    /// Sets the value of a key, and returns its old value, or `None` if the key was absent.
+    /// `AllocError` if memory runs out; then nothing changed.
     pub fn put(&mut self, map: u32, key: u64, value: u64) -> Result<Option<u64>, AllocError>
         requires { map < length self.old.maps }
         ensures before { IfOk result (λ before. before ≡ fin.get (map_at self.old map) key) }
-        ensures ok { OnOk result (self.new ≡ with_map self.old map (fin.insert (map_at self.old map) key value)) }
+        ensures ok { OnOk result (self.new
+            ≡ with_map self.old map (fin.insert (map_at self.old map) key value)) }
         ensures err { OnErr result (self.new ≡ self.old) }
     {
         Ok(self.maps[map as usize].insert(key, value)?)
@@ -66,7 +67,8 @@ impl Contents {
     /// Appends a value to a queue. `AllocError` if memory runs out; then nothing changed.
     pub fn push(&mut self, queue: u32, value: u64) -> Result<(), AllocError>
         requires { queue < length self.old.queues }
-        ensures ok { OnOk result (self.new ≡ with_queue self.old queue (queue_at self.old queue ++ value ∷ [])) }
+        ensures ok { OnOk result (self.new
+            ≡ with_queue self.old queue (queue_at self.old queue ++ value ∷ [])) }
         ensures err { OnErr result (self.new ≡ self.old) }
     {
         self.queues[queue as usize].push_back(value)?;

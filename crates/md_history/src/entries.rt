@@ -13,7 +13,8 @@ pub enum Fate {
     Undecided,
 }
 
-/// A transaction that became ready, as a history holds it. Its place in the history is where it became ready.
+/// A transaction that became ready, as a history holds it. Its place in the history is where it
+/// became ready.
 #[derive(Debug, Drop)]
 pub struct Entry {
     /// The lane whose pass ran it.
@@ -24,6 +25,7 @@ pub struct Entry {
     pub tag: u64,
     /// What it did, in order.
     pub acts: Acts,
-    /// Whether all that it read still stood when it became ready. If it didn't, the transaction can't commit.
+    /// Whether all that it read still stood when it became ready. If it didn't, the transaction
+    /// can't commit.
     pub sound: bool,
 }

@@ -8,6 +8,7 @@ mod contents;
 mod engines;
 mod entries;
 mod fronts;
+mod kept;
 mod plain;
 mod plain_engine;
 mod plain_tx;

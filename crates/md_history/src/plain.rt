@@ -31,7 +31,8 @@ impl Model for PlainPass {
 
     ghost coded = { Prim.hlevel (codes, table_code) };
 
-    ghost view = { λ p. record { start = p.start.value; entries = p.entries.items; broken = p.broken } };
+    ghost view = { λ p.
+        record { start = p.start.value; entries = p.entries.items; broken = p.broken } };
 
     ghost invariant = { λ p. IsKept p.start.value p.contents p.entries.items p.broken };
 }
@@ -47,12 +48,12 @@ impl PlainPass {
 
 /// A store for one thread. Contracts see the state that it began with.
 ///
-/// Its attempts never stop for a conflict or a limit. They don't undo: once one ran out of memory, each
-/// later one stops with `NoMemory` too, and the contents are lost. An attempt costs what its body's calls
-/// cost on `Contents`, and keeps its acts in the history.
+/// Its attempts never stop for a conflict or a limit. They don't undo: once one ran out of memory,
+/// each later one stops with `NoMemory` too, and the contents are lost. An attempt costs what its
+/// body's calls cost on `Contents`, and keeps its acts in the history.
 ///
-/// A store has nothing of its own but the state that it began with. So a pass of another store that began
-/// with equal contents counts as one of its passes.
+/// A store has nothing of its own but the state that it began with. So a pass of another store that
+/// began with equal contents counts as one of its passes.
 #[derive(Drop)]
 pub struct PlainStore {
     start: Snapshot<Contents>,
@@ -68,10 +69,15 @@ impl Model for PlainStore {
     ghost view = { λ s. s.start.value };
 }
 
-// An attempt under way: the contents are moved out of the pass, which is broken until they are back.
+// An attempt under way: the contents are moved out of the pass, which is broken until they are
+// back.
 pub(crate) fn begin(pass: &mut PlainPass) -> PlainTx
     requires { pass.old.broken ≡ false }
-    ensures tx { result ≡ record { start = replay_of pass.old.start (front_of pass.old); acts = []; refused = None } }
+    ensures tx { result ≡ record {
+      start = replay_of pass.old.start (front_of pass.old);
+      acts = [];
+      refused = None;
+    } }
     ensures pass { pass.new ≡ record pass.old { broken = true } }
 {
     pass.broken = true;

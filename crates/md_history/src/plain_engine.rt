@@ -1,11 +1,11 @@
 //! The store for one thread as an engine.
 
-ghost use Rattle.std.specs.Prelude.{◌≡◌, ◌↔◌, [], length, true, false, IsNone, IsOk, IfOk};
+ghost use Rattle.std.specs.Prelude.{◌≡◌, ◌↔◌, ◌+◌, if◌then◌else◌, [], length, true, false, IsNone, IsOk, IfOk};
 ghost use Rattle.md_history.specs.State.{HaveSameNumbers};
 ghost use Rattle.md_history.specs.Front.{LegalFrom, replay_of};
-ghost use Rattle.md_history.specs.Attempt.{Commits, Stops, IfCommitted, IfStopped};
+ghost use Rattle.md_history.specs.Attempt.{Commits, Stops, IsCounted, IfCommitted, IfStopped};
 ghost use Rattle.md_history.specs.Engine.{AreApart, Joins, SettlesFrom};
-ghost use Rattle.md_history.specs.Plain.{front_of, IsPassOf, plain_limits};
+ghost use Rattle.md_history.specs.Plain.{front_of, begun_by, IsPassOf, plain_limits};
 
 use crate::bodies::Body;
 use crate::contents::Contents;
@@ -17,9 +17,9 @@ use crate::plain_tx::PlainTx;
 use crate::stops::{Attempt, Stop};
 use std::alloc::AllocError;
 
-/// An attempt stops only when it runs out of memory, and from then on each attempt stops with `NoMemory`, and
-/// `renew` and `contents` return `AllocError`. They do so in no other case. `split` and `join` do nothing: the
-/// pass holds the one lane.
+/// An attempt stops only when it runs out of memory, and from then on each attempt stops with
+/// `NoMemory`, and `renew` and `contents` return `AllocError`. They do so in no other case. `split`
+/// and `join` do nothing: the pass holds the one lane.
 impl Engine for PlainStore {
     ghost use Rattle.std.specs.Prelude.{[], ◌∷◌};
     ghost use Rattle.std.proofs.Common.{ap, ◌∙◌};
@@ -35,6 +35,8 @@ impl Engine for PlainStore {
     ghost limits = { λ s. plain_limits };
 
     ghost front = { λ p. front_of p };
+
+    ghost begun = { λ p. begun_by p };
 
     ghost of = { λ s p. IsPassOf s p };
 
@@ -56,12 +58,17 @@ impl Engine for PlainStore {
         requires fits { B.fits body.now (length self.now.maps) (length self.now.queues) }
         ensures committed { IfCommitted result (λ r.
             Commits (B.did body.now) tag r (front_of pass.old) (front_of pass.new)) }
-        ensures stopped { IfStopped result (λ _. Stops tag (front_of pass.old) (front_of pass.new)) }
+        ensures stopped { IfStopped result (λ _.
+            Stops tag (front_of pass.old) (front_of pass.new)) }
         ensures legal { LegalFrom self.now (front_of pass.new) }
         ensures of { IsPassOf self.now pass.new }
         ensures no_memory { IfStopped result (λ s. s ≡ Stop.NoMemory) }
         ensures breaks { IfStopped result (λ _. pass.new.broken ≡ true) }
-        ensures whole { IfCommitted result (λ _. (pass.old.broken ≡ false) × (pass.new.broken ≡ false)) }
+        ensures whole { IfCommitted result (λ _.
+            (pass.old.broken ≡ false) × (pass.new.broken ≡ false)) }
+        ensures begun { IsCounted result (begun_by pass.old) (begun_by pass.new) }
+        ensures exact { begun_by pass.new
+            ≡ begun_by pass.old + (if pass.old.broken then 0 else 1) }
     {
         if pass.broken {
             return Attempt::Stopped(Stop::NoMemory);
@@ -102,6 +109,8 @@ impl Engine for PlainStore {
         requires of_other { IsPassOf self.now other }
         ensures joined { AreApart (front_of pass.old).lanes (front_of other).lanes
             → Joins (front_of pass.old) (front_of other) (front_of pass.new) }
+        ensures begun { AreApart (front_of pass.old).lanes (front_of other).lanes
+            → begun_by pass.new ≡ begun_by pass.old + begun_by other }
         ensures unchanged { pass.new ≡ pass.old }
     {
         let _ = pass;
@@ -115,6 +124,7 @@ impl Engine for PlainStore {
         ensures start { IfOk result (λ r. r.0 ≡ replay_of self (front_of r.2)) }
         ensures of { IfOk result (λ r. IsPassOf r.0 r.1) }
         ensures fresh { IfOk result (λ r. r.1.entries ≡ []) }
+        ensures begun { IfOk result (λ r. begun_by r.1 ≡ 0) }
         ensures numbers { IfOk result (λ r. HaveSameNumbers r.0 self) }
     {
         let (contents, front) = self.contents(pass)?;

@@ -10,7 +10,8 @@ use crate::stops::Stop;
 use std::marker::Model;
 use std::snapshot::Snapshot;
 
-/// A transaction under way. It changes the contents in place: after a refusal they are of no more use.
+/// A transaction under way. It changes the contents in place: after a refusal they are of no more
+/// use.
 #[derive(Drop)]
 pub(crate) struct PlainTx {
     pub(crate) start: Snapshot<Contents>,

@@ -1,4 +1,5 @@
-//! What no clause says: that calls succeed, and that bodies run over the store through their bounds.
+//! What no clause says: that calls succeed, and that bodies run over the store through their
+//! bounds.
 
 ghost use Rattle.std.specs.Prelude.{◌≡◌, ◌∷◌, [], Some, None, true, false};
 ghost use Rattle.md_history.specs.declared.acts.Op.TheVariants as op;
@@ -10,9 +11,9 @@ ghost use Rattle.md_history.specs.Counts.{reads, writes, nodes};
 use super::*;
 use std::test::Fail;
 
-// What some acts count, by hand. They look for a key in vain, add another, take it out and fail to add the
-// first; they put a value into queue 0, take it out, and look at its first values twice; and they put a
-// value into queue 1.
+// What some acts count, by hand. They look for a key in vain, add another, take it out and fail to
+// add the first; they put a value into queue 0, take it out, and look at its first values twice;
+// and they put a value into queue 1.
 fn counts()
     ensures { let acts = act_of (op.Get 0 1) (reply.Value None)
         ∷ act_of (op.Insert 0 2 9) (reply.Flag true)
@@ -47,8 +48,8 @@ fn contents_take_values(rt: HostRuntime) -> Result<(), Fail> {
     Ok(())
 }
 
-// What a line has of a queue with the values from 1 on: how many there are, how many are asked for, and how
-// many the line has.
+// What a line has of a queue with the values from 1 on: how many there are, how many are asked for,
+// and how many the line has.
 #[test]
 fn lines_are_the_first_values(rt: HostRuntime) -> Result<(), Fail> {
     let table = [
@@ -95,9 +96,17 @@ impl Body for EachCall {
 
     type Reply = Option<u64>;
 
-    ghost did = { λ b acts r. Did (call (Insert 0 b.key b.value) (λ _. call (Get 0 b.key) (λ _. call (Remove 0 9) (λ _. call (Enqueue 0 b.value) (λ _. call (Front 0) (λ _. call (Dequeue 0) (λ r. done (elim r [ Value v ↦ v | Flag b ↦ None | Nothing ↦ None | Line l ↦ None ])))))))) acts r };
+    ghost did = { λ b acts r. Did
+        (call (Insert 0 b.key b.value) (λ _. call (Get 0 b.key) (λ _. call (Remove 0 9) (λ _.
+        call (Enqueue 0 b.value) (λ _. call (Front 0) (λ _. call (Dequeue 0) (λ r.
+        done (elim r [ Value v ↦ v | Flag b ↦ None | Nothing ↦ None | Line l ↦ None ]))))))))
+        acts r };
 
-    ghost makes = { λ b acts. Follows (call (Insert 0 b.key b.value) (λ _. call (Get 0 b.key) (λ _. call (Remove 0 9) (λ _. call (Enqueue 0 b.value) (λ _. call (Front 0) (λ _. call (Dequeue 0) (λ r. done (elim r [ Value v ↦ v | Flag b ↦ None | Nothing ↦ None | Line l ↦ None ])))))))) acts };
+    ghost makes = { λ b acts. Follows
+        (call (Insert 0 b.key b.value) (λ _. call (Get 0 b.key) (λ _. call (Remove 0 9) (λ _.
+        call (Enqueue 0 b.value) (λ _. call (Front 0) (λ _. call (Dequeue 0) (λ r.
+        done (elim r [ Value v ↦ v | Flag b ↦ None | Nothing ↦ None | Line l ↦ None ]))))))))
+        acts };
 
     ghost fits = { λ b maps queues. (0 < maps) × (0 < queues) };
 
@@ -149,7 +158,10 @@ fn a_body_runs_twice(rt: HostRuntime) -> Result<(), Fail> {
             (entry.lane, entry.number, entry.tag, entry.sound),
             (0, number, tag, true)
         );
-        assert_eq!(rt; entry.acts.as_slice(), acts.as_slice());
+        assert_eq!(rt; entry.acts.len(), acts.len());
+        for (place, act) in acts.iter().enumerate() {
+            assert_eq!(rt; entry.acts.get(place), Some(*act));
+        }
     }
 
     let (contents, _front) = store.contents(pass)?;
@@ -173,9 +185,15 @@ impl Body for TwoLines {
 
     type Reply = (Line, Line);
 
-    ghost did = { λ b acts r. Did {R = AnyReply × AnyReply} (call (Enqueue 0 1) (λ _. call (Enqueue 0 2) (λ _. call (LineOp 0 1) (λ one. call (LineOp 0 12) (λ two. done (one, two)))))) acts (LineReply r.0, LineReply r.1) };
+    ghost did = { λ b acts r. Did {R = AnyReply × AnyReply}
+        (call (Enqueue 0 1) (λ _. call (Enqueue 0 2) (λ _.
+        call (LineOp 0 1) (λ one. call (LineOp 0 12) (λ two. done (one, two))))))
+        acts (LineReply r.0, LineReply r.1) };
 
-    ghost makes = { λ b acts. Follows {R = AnyReply × AnyReply} (call (Enqueue 0 1) (λ _. call (Enqueue 0 2) (λ _. call (LineOp 0 1) (λ one. call (LineOp 0 12) (λ two. done (one, two)))))) acts };
+    ghost makes = { λ b acts. Follows {R = AnyReply × AnyReply}
+        (call (Enqueue 0 1) (λ _. call (Enqueue 0 2) (λ _.
+        call (LineOp 0 1) (λ one. call (LineOp 0 12) (λ two. done (one, two))))))
+        acts };
 
     ghost fits = { λ b maps queues. 0 < queues };
 
@@ -218,14 +236,38 @@ fn a_renewed_store_goes_on(rt: HostRuntime) -> Result<(), Fail> {
     Ok(())
 }
 
+// Each kind of reply is given back as it was kept.
 #[test]
-fn acts_are_pushed(rt: HostRuntime) -> Result<(), Fail> {
+fn acts_are_kept(rt: HostRuntime) -> Result<(), Fail> {
+    let mut values = [0; MAX_LINE];
+    values[0] = 5;
+    values[1] = 6;
+    let table = [
+        (Op::Get { map: 2, key: 3 }, Reply::Value(None)),
+        (Op::Remove { map: 2, key: 3 }, Reply::Value(Some(4))),
+        (
+            Op::Insert {
+                map: 2,
+                key: 3,
+                value: 4,
+            },
+            Reply::Flag(true),
+        ),
+        (Op::Enqueue { queue: 1, value: 4 }, Reply::Nothing),
+        (
+            Op::Line { queue: 1, n: 9 },
+            Reply::Line(Line { count: 2, values }),
+        ),
+        (Op::Front { queue: 1 }, Reply::Value(Some(0))),
+    ];
     let mut acts = Acts::new(rt.alloc());
-    acts.push(Op::Get { map: 2, key: 3 }, Reply::Value(None))?;
-    let want = Act {
-        op: Op::Get { map: 2, key: 3 },
-        reply: Reply::Value(None),
-    };
-    assert_eq!(rt; acts.as_slice(), [want].as_slice());
+    for (op, reply) in table {
+        acts.push(op, reply)?;
+    }
+    assert_eq!(rt; acts.len(), table.len());
+    for (place, (op, reply)) in table.into_iter().enumerate() {
+        assert_eq!(rt; acts.get(place), Some(Act { op, reply }));
+    }
+    assert_eq!(rt; acts.get(table.len()), None);
     Ok(())
 }

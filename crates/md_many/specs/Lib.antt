@@ -1,3 +1,4 @@
 pub mod Tags
 pub mod Joined
 pub mod Lines
+pub mod Turns

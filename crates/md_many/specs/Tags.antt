@@ -11,4 +11,5 @@ tags_after caller n (suc count) = tag_of caller (n + 1) ∷ tags_after caller (n
 
 -- of each caller the tags are its lines, as many as it has, each once and in order; and there are no others
 abbrev pub IsInterleaving : (ℕ → ℕ) → List ℕ → Type 0
-IsInterleaving line_count tags = (caller : ℕ) → filter (λ tag. tag / 2 ^ 32 == caller) tags ≡ tags_after caller 0 (line_count caller)
+IsInterleaving line_count tags =
+    (caller : ℕ) → filter (λ tag. tag / 2 ^ 32 == caller) tags ≡ tags_after caller 0 (line_count caller)

@@ -1,18 +1,19 @@
 //! Attempts at lines, over any store.
 
-ghost use Rattle.std.specs.Prelude.{◌≡◌, ◌<◌, ◌≤◌, ◌+◌, ◌-◌, ◌∷◌, ◌++◌, [], ℕ, length, min, vec_len, vec_capacity, OnOk, OnErr};
+ghost use Rattle.std.specs.Prelude.{◌≡◌, ◌<◌, ◌≤◌, ◌+◌, ◌∷◌, ◌++◌, [], ℕ, length, vec_len, vec_capacity, OnOk, OnErr, IfOk, IfSome, IfNone};
 ghost use Rattle.md_history.specs.Counts.{IsSmall};
 ghost use Rattle.md_history.specs.Front.{LegalFrom};
-ghost use Rattle.md_history.specs.Attempt.{Commits, Stops, IfCommitted, IfStopped};
+ghost use Rattle.md_history.specs.Attempt.{Commits, Stops, IsCounted, IfCommitted, IfStopped};
 ghost use Rattle.md_history.specs.Engine.{bounds_in, IsNoConflict};
 ghost use Rattle.md_many.specs.Tags.{tag_of};
 ghost use Rattle.md_many.specs.Joined.{entries_after};
 ghost use Rattle.md_many.specs.Lines.{AreFitting, IsSmallLine, PlaysLines, StopsForMemory};
+ghost use Rattle.md_many.specs.Turns.{most_lines, IsWithinTries, IsOver};
 
 use crate::callers::Lines;
 use crate::gates::Gate;
 use crate::tags::line_tag;
-use md_history::{Attempt, Body, Engine, Stop, pass_is_legal};
+use md_history::{Attempt, Body, Engine, Limit, Stop, pass_is_legal};
 use std::alloc::AllocError;
 
 /// One caller's part of a round.
@@ -25,8 +26,8 @@ pub struct Turn {
     pub tries: u32,
 }
 
-/// Attempts a body once, as a caller's line, with the line's tag. The gate is told before the attempt, and
-/// after it where it was committed.
+/// Attempts a body once, as a caller's line, with the line's tag. The gate is told before the
+/// attempt, and after it where it was committed.
 pub fn attempt_line<E: Engine, B: Body, G: Gate>(
     engine: &E,
     pass: &mut E::Pass,
@@ -36,14 +37,20 @@ pub fn attempt_line<E: Engine, B: Body, G: Gate>(
     gate: &G,
 ) -> Attempt<B::Reply>
     requires of { E.of engine.now pass.old }
-    requires fits { B.fits body.now (length (E.start engine.now).maps) (length (E.start engine.now).queues) }
-    ensures committed { IfCommitted result (λ r. Commits (B.did body.now) (tag_of caller line) r (E.front pass.old) (E.front pass.new)) }
-    ensures stopped { IfStopped result (λ _. Stops (tag_of caller line) (E.front pass.old) (E.front pass.new)) }
+    requires fits { B.fits body.now
+        (length (E.start engine.now).maps) (length (E.start engine.now).queues) }
+    ensures committed { IfCommitted result (λ r.
+        Commits (B.did body.now) (tag_of caller line) r (E.front pass.old) (E.front pass.new)) }
+    ensures stopped { IfStopped result (λ _.
+        Stops (tag_of caller line) (E.front pass.old) (E.front pass.new)) }
     ensures legal { LegalFrom (E.start engine.now) (E.front pass.new) }
     ensures of { E.of engine.now pass.new }
+    ensures begun { IsCounted result (E.begun pass.old) (E.begun pass.new) }
     ensures may_stop { IfStopped result (E.may_stop engine.now) }
     ensures alone { (E.front pass.old).lanes ≡ E.lanes engine.now → IfStopped result IsNoConflict }
-    ensures small { E.fresh engine.now pass.old → 1 ≤ (E.limits engine.now).tries → IsSmall (bounds_in (E.limits engine.now)) (B.makes body.now) (E.start engine.now) → IfStopped result (λ s. s ≡ Stop.NoMemory) }
+    ensures small { E.fresh engine.now pass.old → 1 ≤ (E.limits engine.now).tries
+        → IsSmall (bounds_in (E.limits engine.now)) (B.makes body.now) (E.start engine.now)
+        → IfStopped result (λ s. s ≡ Stop.NoMemory) }
 {
     gate.before(caller, line);
     let attempt = engine.attempt(pass, line_tag(caller, line), body);
@@ -65,13 +72,15 @@ fn put<R: Drop>(replies: &mut Vec<R>, reply: R)
     };
 }
 
-/// Attempts a caller's lines after those that were done, in order, each again after a conflict, until there is
-/// no line left, a limit comes, or the caller has made its attempts. The replies of the lines that it played go
-/// into a list that has room for them, so no memory is taken here.
+/// Attempts a caller's lines after those that were done, in order, each again after a conflict,
+/// until there is no line left, a limit comes, or the caller has made its attempts. `Ok` has the
+/// limit, if one came. The replies of the lines that it played go into a list that has room for
+/// them, so no memory is taken here.
 ///
-/// `Err` comes only where an attempt of the engine may want memory, and ends the attempts. Whatever comes, the
-/// pass goes on from what it had seen, and the lines that were played are what its lanes committed, each under
-/// its own tag, in the history's order. A fresh pass plays a line at least, where the line is small.
+/// `Err` comes only where an attempt of the engine may want memory, and ends the attempts. Whatever
+/// comes, the pass goes on from what it had seen, and the lines that were played are what its lanes
+/// committed, each under its own tag, in the history's order. A fresh pass plays a line at least,
+/// where the line is small.
 pub fn attempt_lines<E: Engine, L: Lines, G: Gate>(
     engine: &E,
     pass: &mut E::Pass,
@@ -79,30 +88,40 @@ pub fn attempt_lines<E: Engine, L: Lines, G: Gate>(
     turn: Turn,
     gate: &G,
     replies: &mut Vec<<L::B as Body>::Reply>,
-) -> Result<(), AllocError>
+) -> Result<Option<Limit>, AllocError>
     requires of { E.of engine.now pass.old }
     requires fits { AreFitting L.B.fits (L.body_at lines.now) (E.start engine.now) }
     requires done { turn.done ≤ L.line_count lines.now turn.caller }
     requires empty { replies.old.items ≡ [] }
-    requires room { min turn.tries (L.line_count lines.now turn.caller - turn.done) ≤ vec_capacity replies.old }
+    requires room { most_lines (L.line_count lines.now) turn ≤ vec_capacity replies.old }
     ensures of { E.of engine.now pass.new }
     ensures lanes { (E.front pass.new).lanes ≡ (E.front pass.old).lanes }
     ensures pending { (E.front pass.new).pending ≡ (E.front pass.old).pending }
-    ensures lines { PlaysLines L.B.did (L.body_at lines.now) turn.caller turn.done (E.front pass.old).lanes (E.front pass.old) (E.front pass.new) replies.new.items }
-    ensures tries { length (entries_after (length (E.front pass.old).seen) (E.front pass.old).lanes (E.front pass.new)) ≤ turn.tries }
+    ensures lines { PlaysLines L.B.did (L.body_at lines.now) turn.caller turn.done
+        (E.front pass.old).lanes (E.front pass.old) (E.front pass.new) replies.new.items }
+    ensures tries { length (entries_after
+        (length (E.front pass.old).seen) (E.front pass.old).lanes (E.front pass.new)) ≤ turn.tries }
+    ensures begun { IsWithinTries turn
+        (length replies.new.items) (E.begun pass.old) (E.begun pass.new) }
+    ensures over { IfOk result (λ met. IfNone met (IsOver (L.line_count lines.now) turn
+        (length replies.new.items) (E.begun pass.old) (E.begun pass.new))) }
+    ensures limit { IfOk result (λ met. IfSome met (λ l. E.may_stop engine.now (Stop.Limit l))) }
     ensures room { vec_capacity replies.old ≤ vec_capacity replies.new }
     ensures no_memory { OnErr result (E.may_stop engine.now Stop.NoMemory) }
     ensures first { E.fresh engine.now pass.old → 1 ≤ (E.limits engine.now).tries
-        → IsSmallLine (bounds_in (E.limits engine.now)) L.B.makes (L.body_at lines.now) turn.caller (turn.done + 1) (E.start engine.now)
-        → 1 ≤ turn.tries → turn.done < L.line_count lines.now turn.caller → OnOk result (1 ≤ length replies.new.items) }
-    ensures steady { StopsForMemory (E.may_stop engine.now) → OnOk result (length replies.new.items ≡ min turn.tries (L.line_count lines.now turn.caller - turn.done)) }
+        → IsSmallLine (bounds_in (E.limits engine.now)) L.B.makes (L.body_at lines.now)
+        turn.caller (turn.done + 1) (E.start engine.now)
+        → 1 ≤ most_lines (L.line_count lines.now) turn
+        → OnOk result (1 ≤ length replies.new.items) }
+    ensures steady { StopsForMemory (E.may_stop engine.now)
+        → OnOk result (length replies.new.items ≡ most_lines (L.line_count lines.now) turn) }
 {
     pass_is_legal(engine, pass);
     let count = lines.len(turn.caller);
     let mut played = turn.done;
     'attempts: for tried in 0..turn.tries {
         if played == count {
-            break;
+            return Ok(None);
         }
         let line = played + 1;
         let Some(body) = lines.body(turn.caller, line) else {
@@ -114,9 +133,9 @@ pub fn attempt_lines<E: Engine, L: Lines, G: Gate>(
                 played = line;
             }
             Attempt::Stopped(Stop::Conflict(_)) => {}
-            Attempt::Stopped(Stop::Limit(_)) => break,
+            Attempt::Stopped(Stop::Limit(limit)) => return Ok(Some(limit)),
             Attempt::Stopped(Stop::NoMemory) => return Err(AllocError),
         }
     }
-    Ok(())
+    Ok(None)
 }

@@ -4,8 +4,8 @@ ghost use Rattle.std.specs.Prelude.{◌≡◌, ◌<◌, ◌≤◌, ◌⊎◌, �
 
 use md_history::Body;
 
-/// The lines of some callers: bodies, each to be run once, those of each caller in order. Callers and lines are
-/// counted from 1.
+/// The lines of some callers: bodies, each to be run once, those of each caller in order. Callers
+/// and lines are counted from 1.
 pub trait Lines: Sync {
     /// What a line is.
     type B: Body + Drop;
@@ -32,8 +32,10 @@ pub trait Lines: Sync {
         ensures { result ≡ body_at self.now caller line };
 
     /// There is a body for each line, and for nothing else.
-    ghost has_body: { (l : Self) (caller line : ℕ) → IsSome (body_at l caller line) ↔ ((1 ≤ line) × (line ≤ line_count l caller)) };
+    ghost has_body: { (l : Self) (caller line : ℕ) → IsSome (body_at l caller line)
+        ↔ ((1 ≤ line) × (line ≤ line_count l caller)) };
 
     /// Lines are those of the callers.
-    ghost has_caller: { (l : Self) (caller : ℕ) → (caller ≡ 0) ⊎ (caller_count l < caller) → line_count l caller ≡ 0 };
+    ghost has_caller: { (l : Self) (caller : ℕ) → (caller ≡ 0) ⊎ (caller_count l < caller)
+        → line_count l caller ≡ 0 };
 }

@@ -13,23 +13,38 @@ use side_by_side::two_callers;
 use std::alloc::{AllocError, Global};
 use std::cell::Cell;
 use std::process::Abort;
+use std::sync::atomic::{AtomicU64, Ordering};
 use std::test::Fail;
 
-// A gate that counts its calls.
+// A gate that counts its calls, and sees whether they are right: each names the caller's next line,
+// and comes before an attempt, or after the one that committed the line.
 #[derive(Drop)]
-struct Counting {
-    before: Cell<u32>,
-    after: Cell<u32>,
+struct Counting<'a> {
+    attempts: &'a AtomicU64,
+    caller: u32,
+    before: Cell<u64>,
+    after: Cell<u64>,
+    right: Cell<bool>,
 }
 
-impl Gate for Counting {
+impl<'a> Counting<'a> {
+    // Sees whether the caller's next line is named, when so many attempts were made as are known
+    // of.
+    fn see(&self, caller: u32, line: u32) {
+        let named = caller == self.caller && line as u64 == self.after.get().saturating_add(1);
+        let timely = self.attempts.load(Ordering::SeqCst) == self.before.get();
+        self.right.set(self.right.get() && named && timely);
+    }
+}
+
+impl<'a> Gate for Counting<'a> {
     fn before(&self, caller: u32, line: u32) {
-        let _ = (caller, line);
+        self.see(caller, line);
         self.before.set(self.before.get().saturating_add(1));
     }
 
     fn after(&self, caller: u32, line: u32) {
-        let _ = (caller, line);
+        self.see(caller, line);
         self.after.set(self.after.get().saturating_add(1));
     }
 }
@@ -37,9 +52,9 @@ impl Gate for Counting {
 // How the attempts of a caller with three lines end over a store that refuses so.
 #[derive(Clone, Copy, Debug, PartialEq, Eq)]
 struct End {
-    ok: bool,
-    played: usize,
-    attempts: u32,
+    outcome: Result<Option<Limit>, AllocError>,
+    played: u64,
+    attempts: u64,
 }
 
 const CONFLICT: Option<Stop> = Some(Stop::Conflict(Shown {
@@ -60,22 +75,27 @@ fn play_three(
     tries: u32,
 ) -> Result<End, AllocError> {
     let (store, pass) = PlainStore::open(Contents::empty(alloc, 0, 1)?);
+    let attempts = AtomicU64::new(0);
     let engine = Refusing {
         store,
         shared: true,
+        attempts: &attempts,
     };
     let mut pass = RefusingPass {
         pass,
         stops,
-        attempts: 0,
+        begun: 0,
     };
     let lines = Numbers {
         callers: 2,
         lines: 3,
     };
     let gate = Counting {
+        attempts: &attempts,
+        caller: 2,
         before: Cell::new(0),
         after: Cell::new(0),
+        right: Cell::new(true),
     };
     let turn = Turn {
         caller: 2,
@@ -89,28 +109,30 @@ fn play_three(
     }
     let entries = pass.pass.entries();
     assert_eq!(rt; entries.len(), replies.len());
-    assert_eq!(rt; gate.after.get() as usize, replies.len());
+    assert!(rt; gate.right.get());
+    assert_eq!(rt; gate.before.get(), attempts.load(Ordering::SeqCst));
+    assert_eq!(rt; gate.after.get(), replies.len() as u64);
     Ok(End {
-        ok: outcome.is_ok(),
-        played: replies.len(),
+        outcome,
+        played: gate.after.get(),
         attempts: gate.before.get(),
     })
 }
 
 #[test]
 fn attempts_end(rt: HostRuntime) -> Result<(), Fail> {
-    for (stops, tries, ok, played, attempts) in [
-        ([None; 4], 9, true, 3, 3),
-        ([None; 4], 2, true, 2, 2),
-        ([CONFLICT, None, CONFLICT, None], 9, true, 3, 5),
-        ([CONFLICT; 4], 3, true, 0, 3),
-        ([CONFLICT; 4], 5, true, 1, 5),
-        ([None, LIMIT, None, None], 9, true, 1, 2),
-        ([None, CONFLICT, NO_MEMORY, None], 9, false, 1, 3),
-        ([NO_MEMORY, None, None, None], 9, false, 0, 1),
+    for (stops, tries, outcome, played, attempts) in [
+        ([None; 4], 9, Ok(None), 3, 3),
+        ([None; 4], 2, Ok(None), 2, 2),
+        ([CONFLICT, None, CONFLICT, None], 9, Ok(None), 3, 5),
+        ([CONFLICT; 4], 3, Ok(None), 0, 3),
+        ([CONFLICT; 4], 5, Ok(None), 1, 5),
+        ([None, LIMIT, None, None], 9, Ok(Some(Limit::Nodes)), 1, 2),
+        ([None, CONFLICT, NO_MEMORY, None], 9, Err(AllocError), 1, 3),
+        ([NO_MEMORY, None, None, None], 9, Err(AllocError), 0, 1),
     ] {
         let want = End {
-            ok,
+            outcome,
             played,
             attempts,
         };

@@ -49,9 +49,13 @@ impl Lines for Numbers {
 
     ghost caller_count = { λ n. n.callers };
 
-    ghost line_count = { λ n caller. if nat_le 1 caller && nat_le caller n.callers then n.lines else 0 };
+    ghost line_count = { λ n caller.
+        if nat_le 1 caller && nat_le caller n.callers then n.lines else 0 };
 
-    ghost body_at = { λ n caller line. if nat_le 1 line && nat_le line (if nat_le 1 caller && nat_le caller n.callers then n.lines else 0) then Some (record { number = tag_of caller line }) else None };
+    ghost body_at = { λ n caller line.
+        if nat_le 1 line
+        && nat_le line (if nat_le 1 caller && nat_le caller n.callers then n.lines else 0)
+        then Some (record { number = tag_of caller line }) else None };
 
     fn callers(&self) -> u32 {
         self.callers
@@ -73,7 +77,8 @@ impl Lines for Numbers {
         })
     }
 
-    ghost has_body = { λ n caller line. (Prim.grind (arith, nat_tests), Prim.grind (arith, nat_tests)) };
+    ghost has_body = { λ n caller line.
+        (Prim.grind (arith, nat_tests), Prim.grind (arith, nat_tests)) };
 
     ghost has_caller = { λ n caller other. Prim.grind (arith, nat_tests) };
 }

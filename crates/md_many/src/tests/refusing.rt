@@ -4,27 +4,29 @@ ghost use Rattle.std.specs.Prelude.{◌≡◌, [], IfOk};
 ghost use Rattle.md_history.specs.Plain.{front_of, plain_limits, IsPassOf};
 ghost use Rattle.md_history.specs.Engine.{IsFrontFrom};
 
-use md_history::{Attempt, Body, Contents, Engine, Front, PlainPass, PlainStore, Stop};
+use md_history::{Attempt, Body, Contents, Engine, Front, Limit, PlainPass, PlainStore, Stop};
 use std::alloc::AllocError;
+use std::sync::atomic::{AtomicU64, Ordering};
 
-// A store for one thread. If it is shared, it is seen as one of two lanes: its pass doesn't hold all lanes, and
-// conflicts are lawful.
+// A store for one thread, which counts its attempts where others see it. If it is shared, it is
+// seen as one of two lanes: its pass doesn't hold all lanes, and conflicts are lawful.
 #[derive(Drop)]
-pub(crate) struct Refusing {
+pub(crate) struct Refusing<'a> {
     pub(crate) store: PlainStore,
     pub(crate) shared: bool,
+    pub(crate) attempts: &'a AtomicU64,
 }
 
-// Its pass, with the stops that attempts of a shared store answer, one after another; `None` is an attempt of the
-// store.
+// Its pass, with the stops that attempts of a shared store answer, one after another; `None` is an
+// attempt of the store.
 #[derive(Drop)]
 pub(crate) struct RefusingPass {
     pub(crate) pass: PlainPass,
     pub(crate) stops: [Option<Stop>; 4],
-    pub(crate) attempts: usize,
+    pub(crate) begun: usize,
 }
 
-impl Engine for Refusing {
+impl<'a> Engine for Refusing<'a> {
     ghost use Rattle.std.specs.Prelude.{◌∷◌, if◌then◌else◌};
 
     type Pass = RefusingPass;
@@ -37,7 +39,10 @@ impl Engine for Refusing {
 
     ghost front = { λ p. front_of p.pass };
 
-    ghost of = { λ s p. IsPassOf s.store p.pass × IsFrontFrom s.store (if s.shared then 0 ∷ 1 ∷ [] else 0 ∷ []) (front_of p.pass) };
+    ghost begun = { λ p. p.begun };
+
+    ghost of = { λ s p. IsPassOf s.store p.pass
+        × IsFrontFrom s.store (if s.shared then 0 ∷ 1 ∷ [] else 0 ∷ []) (front_of p.pass) };
 
     ghost fresh = { λ s p. ⊥ };
 
@@ -49,8 +54,12 @@ impl Engine for Refusing {
     }
 
     fn attempt<B: Body>(&self, pass: &mut RefusingPass, tag: u64, body: &B) -> Attempt<B::Reply> {
-        let number = pass.attempts;
-        pass.attempts = number.saturating_add(1);
+        let number = pass.begun;
+        if number == usize::MAX {
+            return Attempt::Stopped(Stop::Limit(Limit::Tries));
+        }
+        pass.begun = number + 1;
+        self.attempts.fetch_add(1, Ordering::SeqCst);
         if self.shared && number < 4 {
             if let Some(stop) = pass.stops[number] {
                 return Attempt::Stopped(stop);
@@ -68,7 +77,7 @@ impl Engine for Refusing {
     fn renew(
         self,
         pass: RefusingPass,
-    ) -> Result<(Refusing, RefusingPass, Front<RefusingPass>), AllocError> {
+    ) -> Result<(Refusing<'a>, RefusingPass, Front<RefusingPass>), AllocError> {
         drop(pass);
         Err(AllocError)
     }

@@ -24,7 +24,9 @@ fn play_own<E: Engine, L: Lines>(
     requires fits { AreFitting L.B.fits (L.body_at lines.now) (E.start engine.now) }
     ensures of { IfOk result (λ p. E.of engine.now p) }
     ensures lanes { IfOk result (λ p. (E.front p).lanes ≡ (E.front pass).lanes) }
-    ensures lines { IfOk result (λ p. (rs : List L.B.Reply) × PlaysLines L.B.did (L.body_at lines.now) caller 0 (E.front pass).lanes (E.front pass) (E.front p) rs) }
+    ensures lines { IfOk result (λ p.
+        (rs : List L.B.Reply) × PlaysLines L.B.did (L.body_at lines.now) caller 0
+        (E.front pass).lanes (E.front pass) (E.front p) rs) }
 {
     let tries = lines.len(caller);
     let mut pass = pass;
@@ -38,9 +40,9 @@ fn play_own<E: Engine, L: Lines>(
     Ok(pass)
 }
 
-// Two callers play their lines side by side, each with half of the pass's lanes, where the pass can be split; else
-// the first plays alone. The pass that is left holds the lanes that the first pass held, and each half played the
-// lines of its caller.
+// Two callers play their lines side by side, each with half of the pass's lanes, where the pass can
+// be split; else the first plays alone. The pass that is left holds the lanes that the first pass
+// held, and each half played the lines of its caller.
 pub(crate) fn two_callers<R: Threads + Sync, E: Engine, L: Lines>(
     rt: &R,
     alloc: Global,
@@ -55,9 +57,15 @@ where
     requires fits { AreFitting L.B.fits (L.body_at lines.now) (E.start engine.now) }
     ensures of { IfOk result (λ p. E.of engine.now p) }
     ensures lanes { IfOk result (λ p. (E.front p).lanes ≡ (E.front pass).lanes) }
-    ensures alone { length (E.front pass).lanes ≡ 1 → IfOk result (λ p. (rs : List L.B.Reply) × PlaysLines L.B.did (L.body_at lines.now) 1 0 (E.front pass).lanes (E.front pass) (E.front p) rs) }
-    ensures first { ¬ (length (E.front pass).lanes ≡ 1) → IfOk result (λ p. (rs : List L.B.Reply) × PlaysLines L.B.did (L.body_at lines.now) 1 0 (lanes_kept (E.front pass).lanes) (E.front pass) (E.front p) rs) }
-    ensures second { ¬ (length (E.front pass).lanes ≡ 1) → IfOk result (λ p. (rs : List L.B.Reply) × PlaysLines L.B.did (L.body_at lines.now) 2 0 (lanes_given (E.front pass).lanes) (E.front pass) (E.front p) rs) }
+    ensures alone { length (E.front pass).lanes ≡ 1 → IfOk result (λ p.
+        (rs : List L.B.Reply) × PlaysLines L.B.did (L.body_at lines.now) 1 0
+        (E.front pass).lanes (E.front pass) (E.front p) rs) }
+    ensures first { ¬ (length (E.front pass).lanes ≡ 1) → IfOk result (λ p.
+        (rs : List L.B.Reply) × PlaysLines L.B.did (L.body_at lines.now) 1 0
+        (lanes_kept (E.front pass).lanes) (E.front pass) (E.front p) rs) }
+    ensures second { ¬ (length (E.front pass).lanes ≡ 1) → IfOk result (λ p.
+        (rs : List L.B.Reply) × PlaysLines L.B.did (L.body_at lines.now) 2 0
+        (lanes_given (E.front pass).lanes) (E.front pass) (E.front p) rs) }
 {
     pass_is_legal(engine, &pass);
     let mut pass = pass;
@@ -71,14 +79,18 @@ where
             requires fits { AreFitting L.B.fits (L.body_at lines.now) (E.start engine.now) }
             ensures of { IfOk result (λ p. E.of engine.entry.now p) }
             ensures lanes { IfOk result (λ p. (E.front p).lanes ≡ (E.front pass).lanes) }
-            ensures lines { IfOk result (λ p. (rs : List L.B.Reply) × PlaysLines L.B.did (L.body_at lines.entry.now) 1 0 (E.front pass).lanes (E.front pass) (E.front p) rs) }
+            ensures lines { IfOk result (λ p.
+                (rs : List L.B.Reply) × PlaysLines L.B.did (L.body_at lines.entry.now) 1 0
+                (E.front pass).lanes (E.front pass) (E.front p) rs) }
         { play_own(alloc, engine, pass, lines, 1) },
         move || -> Result<E::Pass, AllocError>
             requires of { E.of engine.now other }
             requires fits { AreFitting L.B.fits (L.body_at lines.now) (E.start engine.now) }
             ensures of { IfOk result (λ p. E.of engine.entry.now p) }
             ensures lanes { IfOk result (λ p. (E.front p).lanes ≡ (E.front other).lanes) }
-            ensures lines { IfOk result (λ p. (rs : List L.B.Reply) × PlaysLines L.B.did (L.body_at lines.entry.now) 2 0 (E.front other).lanes (E.front other) (E.front p) rs) }
+            ensures lines { IfOk result (λ p.
+                (rs : List L.B.Reply) × PlaysLines L.B.did (L.body_at lines.entry.now) 2 0
+                (E.front other).lanes (E.front other) (E.front p) rs) }
         { play_own(alloc, engine, other, lines, 2) },
     );
     let mut joined = first?;

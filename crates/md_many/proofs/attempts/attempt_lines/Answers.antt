@@ -1,15 +1,21 @@
-use Rattle.std.proofs.Common.{◌≡◌, ◌+◌, ◌∙◌, ◌++◌, ◌∷◌, [], Option, Some, Vec, Global, length, ap, sym, subst, refl, inl, inr, arith, vec_capacity}
+use Rattle.std.proofs.Common.{◌≡◌, ◌+◌, ℕ, ◌∙◌, ◌++◌, ◌∷◌, [], Option, Some, Vec, Global, length, ap, sym, subst, refl, inl, inr, arith, vec_capacity}
 use Rattle.std.specs.Prelude.{IfSome}
 use Rattle.std.proofs.lemmas.Bool.{cases_eq}
 use Rattle.std.proofs.lemmas.List.{length_push}
 use Rattle.md_history.specs.declared.stops.Shown.{Shown}
+use Rattle.md_history.specs.declared.stops.Stop.{Stop}
 use Rattle.md_history.specs.declared.stops.Stop.TheVariants.{Conflict, NoMemory}
+use Rattle.md_history.specs.Attempt.{IsStopCounted}
 use Rattle.md_many.proofs.Playing.{played-none, played-stopped, played-more, plays}
 use Rattle.md_many.proofs.attempts.attempt_lines.Goals as goal
 use Rattle.md_many.proofs.attempts.attempt_lines.Goals.{in-Committed, in-Stopped-Conflict}
 
 no_conflict : {shown : Shown} → Conflict shown ≡ NoMemory → ⊥
 no_conflict same = cc
+
+-- an attempt that met a conflict was begun
+conflict_counted : {shown : Shown} (s : Stop) (begun begun' : ℕ) → s ≡ Conflict shown → IsStopCounted s begun begun' → begun' ≡ begun + 1
+conflict_counted s begun begun' is counted = subst (λ t. IsStopCounted t begun begun') is counted
 
 -- what is said of a value that is there
 if_some : {A : Type 0} (o : Option A) (x : A) (P : A → Type 0) → o ≡ Some x → IfSome o P → P x
@@ -24,6 +30,7 @@ attempts-init g c = record {
   within = c.requires.done;
   few = omega (arith, ap length c.requires.empty);
   room = omega arith;
+  counted = omega arith;
   begun = λ none. refl;
   first = λ fresh tries small some. absurd (omega arith);
   steady = λ stops. ap length c.requires.empty;
@@ -45,6 +52,7 @@ attempts-preserved g c =
             within = omega (arith, w.played-is, inside, c.len-count.ensures, test);
             few = omega (arith, count, c.attempts.invariant.few);
             room = omega (arith, c.attempts.invariant.room, w.put.ensures.capacity, ap (λ (v : Vec _ Global). vec_capacity v) w.replies-is);
+            counted = omega (arith, w.in-Committed.ensures.begun, c.attempts.invariant.counted);
             begun = λ none. absurd (omega arith);
             first = λ fresh tries small some. omega (arith, count);
             steady = λ stops. omega (arith, count, c.attempts.invariant.steady stops);
@@ -57,6 +65,7 @@ attempts-preserved g c =
         within = rw w.played-is c.attempts.invariant.within;
         few = rw w.replies-is (omega (arith, c.attempts.invariant.few));
         room = rw w.replies-is c.attempts.invariant.room;
+        counted = omega (arith, conflict_counted _ _ _ w.in-Stopped-Conflict.field-0-is w.in-Stopped-Conflict.ensures.begun, c.attempts.invariant.counted);
         begun = λ none. absurd (omega arith);
         first = λ fresh tries small some. elim (cases_eq c.attempts.tried 0) [
           | inl none ↦

@@ -13,6 +13,7 @@ invariant-attempts g l = record {
   within : l.played ≤ g.L.Lines.line_count l.lines l.turn.caller;
   few : length l.replies.items ≤ l.tried;
   room : vec_capacity l.fn.replies ≤ vec_capacity l.replies;
+  counted : g.E.Engine.begun l.pass ≡ g.E.Engine.begun l.fn.pass + l.tried;
   begun : l.tried ≡ 0 → l.pass ≡ l.fn.pass;
   first : g.E.Engine.fresh l.engine l.fn.pass → 1 ≤ (g.E.Engine.limits l.engine).tries
       → IsSmallLine (bounds_in (g.E.Engine.limits l.engine)) g.L.B.Body.makes (g.L.Lines.body_at l.lines) l.turn.caller (l.turn.done + 1) (g.E.Engine.start l.engine) → 1 ≤ l.tried → 1 ≤ length l.replies.items;

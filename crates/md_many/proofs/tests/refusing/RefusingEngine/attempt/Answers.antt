@@ -62,3 +62,6 @@ returns-in-Some-clause-stopped g c = stops-none _ _ c.requires.of.1.legal.fated
 
 pub returns-clause-of : goal.returns-clause-of
 returns-clause-of g c = (c.attempt.ensures.of, maybe_wider _ _ _ c.attempt.ensures.of.front)
+
+pub returns-then-number-clause-stopped : goal.returns-then-number-clause-stopped
+returns-then-number-clause-stopped g c = stops-none _ _ c.requires.of.1.legal.fated
