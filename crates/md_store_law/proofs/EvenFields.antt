@@ -11,7 +11,7 @@ use Rattle.md_store_law.specs.Field.{logical_words}
 use Rattle.md_store_law.specs.EvenFields.{IsEvenMachine, EvenFieldsAreStores}
 use Rattle.md_store_law.specs.Laws.StoreLaws.{store_lawful}
 
-even_value : (m : Machine) (choice : List Bool) (word : ℕ) → IsEvenMachine m → IsCounted (shape_of m) word
+pub even_value : (m : Machine) (choice : List Bool) (word : ℕ) → IsEvenMachine m → IsCounted (shape_of m) word
     → value_of (content m word) ≡ logical_value m choice word
 even_value m choice word e counted =
     let held = content m word in

@@ -11,3 +11,7 @@ pub mod Growing
 pub mod Dummies
 pub mod PairCounts
 pub mod Prefixes
+pub mod Chains
+pub mod Stores
+pub mod Entries
+pub mod Opening

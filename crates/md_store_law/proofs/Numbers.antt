@@ -47,7 +47,7 @@ numbers_append k (x ∷ xs) ys s =
     let shift : numbers_from (k + 1 + length xs) ys s ≡ numbers_from (k + length (x ∷ xs)) ys s = ap (λ j. numbers_from j ys s) (omega arith) in
     let all = rest ∙ ap (λ ns. numbers_from (k + 1) xs s ++ ns) shift in
     elim (same_structure x.structure s) as (λ b. cond b (k ∷ numbers_from (k + 1) (xs ++ ys) s) (numbers_from (k + 1) (xs ++ ys) s)
-        ≡ cond b (k ∷ numbers_from (k + 1) xs s) (numbers_from (k + 1) xs s) ++ numbers_from (k + length (x ∷ xs)) ys s) [
+    ≡ cond b (k ∷ numbers_from (k + 1) xs s) (numbers_from (k + 1) xs s) ++ numbers_from (k + length (x ∷ xs)) ys s) [
       | true ↦ ap (λ ns. k ∷ ns) all
       | false ↦ all
     ]

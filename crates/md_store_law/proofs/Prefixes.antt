@@ -19,29 +19,29 @@ module _ (s : Structure) where
   numbers_none k (n ∷ nodes) none =
       cond-false (same_structure n.structure s) _ _ (same_structure-other n.structure s none.0) ∙ numbers_none (k + 1) nodes none.1
 
-  both_elsewhere : (xs ys : List LaidNode) → AreElsewhere s xs → AreElsewhere s ys → AreElsewhere s (xs ++ ys)
+  pub both_elsewhere : (xs ys : List LaidNode) → AreElsewhere s xs → AreElsewhere s ys → AreElsewhere s (xs ++ ys)
   both_elsewhere [] ys a b = b
   both_elsewhere (x ∷ xs) ys a b = (a.0, both_elsewhere xs ys a.1 b)
 
-  pieces_elsewhere : (f : ℕ → List LaidNode) (a n : ℕ) → ((b : ℕ) → a ≤ b → b < a + n → AreElsewhere s (f b))
+  pub pieces_elsewhere : (f : ℕ → List LaidNode) (a n : ℕ) → ((b : ℕ) → a ≤ b → b < a + n → AreElsewhere s (f b))
       → AreElsewhere s (flat_map f (range_with_len a n))
   pieces_elsewhere f a zero each = tt
   pieces_elsewhere f a (suc n) each = both_elsewhere (f a) (flat_map f (range_with_len (a + 1) n)) (each a (omega arith) (omega arith))
       (pieces_elsewhere f (a + 1) n (λ b low high. each b (omega (arith, low)) (omega (arith, high))))
 
-  pairs_elsewhere : (map bucket : ℕ) (pairs : List (ℕ × ℕ)) → Bucket map bucket ≢ s → AreElsewhere s (pair_nodes map bucket pairs)
+  pub pairs_elsewhere : (map bucket : ℕ) (pairs : List (ℕ × ℕ)) → Bucket map bucket ≢ s → AreElsewhere s (pair_nodes map bucket pairs)
   pairs_elsewhere map bucket [] ne = tt
   pairs_elsewhere map bucket (p ∷ ps) ne = (ne, pairs_elsewhere map bucket ps ne)
 
-  values_elsewhere : (queue rank : ℕ) (values : List ℕ) → Queue queue ≢ s → AreElsewhere s (value_nodes queue rank values)
+  pub values_elsewhere : (queue rank : ℕ) (values : List ℕ) → Queue queue ≢ s → AreElsewhere s (value_nodes queue rank values)
   values_elsewhere queue rank [] ne = tt
   values_elsewhere queue rank (v ∷ vs) ne = (ne, values_elsewhere queue (rank + 1) vs ne)
 
 -- the dummies from one queue on
-abbrev dummies_from : (a n : ℕ) → List LaidNode
+abbrev pub dummies_from : (a n : ℕ) → List LaidNode
 dummies_from a n = map_list (λ queue. record { structure = Queue queue; key = 0; value = 0 }) (range_with_len a n)
 
-dummies_elsewhere : (s : Structure) (a n : ℕ) → ((q : ℕ) → a ≤ q → q < a + n → Queue q ≢ s) → AreElsewhere s (dummies_from a n)
+pub dummies_elsewhere : (s : Structure) (a n : ℕ) → ((q : ℕ) → a ≤ q → q < a + n → Queue q ≢ s) → AreElsewhere s (dummies_from a n)
 dummies_elsewhere s a zero each = tt
 dummies_elsewhere s a (suc n) each = (
   each a (omega arith) (omega arith),
@@ -67,7 +67,7 @@ module _ (shape : Shape) (pairs : ℕ → ℕ → List (ℕ × ℕ)) where
   abbrev pub nodes_of_buckets : (map buckets : ℕ) → List LaidNode
   nodes_of_buckets map buckets = flat_map (λ b. pair_nodes map b (pairs map b)) (range_with_len 0 buckets)
 
-  maps_elsewhere : (s : Structure) (maps : ℕ) → ((map bucket : ℕ) → map < maps → Bucket map bucket ≢ s) → AreElsewhere s (nodes_of_maps shape pairs maps)
+  pub maps_elsewhere : (s : Structure) (maps : ℕ) → ((map bucket : ℕ) → map < maps → Bucket map bucket ≢ s) → AreElsewhere s (nodes_of_maps shape pairs maps)
   maps_elsewhere s maps each =
       pieces_elsewhere s (nodes_of_map shape pairs) 0 maps (λ map low high.
       pieces_elsewhere s (λ bucket. pair_nodes map bucket (pairs map bucket)) 0 shape.buckets (λ bucket above below.

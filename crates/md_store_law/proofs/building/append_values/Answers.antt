@@ -49,8 +49,8 @@ loop-value-preserved c =
     let tail = address shape (queue_tail c.args.queue) in
     let ranked = c.append.ensures.written ∙ ap (λ r. appended shape now c.loop-value.end node r v) inv.1 in
     let written = ap (λ ws. set ws c.queue_tail-tail.result c.naming.result) ranked
-        ∙ ap (λ w. set there w c.naming.result) c.queue_tail-tail.ensures.place
-        ∙ ap (set there tail) c.naming.ensures in (
+    ∙ ap (λ w. set there w c.naming.result) c.queue_tail-tail.ensures.place
+    ∙ ap (set there tail) c.naming.ensures in (
       omega arith,
       omega (arith, inv.1),
       subst (IsField shape) (sym written)

@@ -13,9 +13,9 @@ loop-queue-preserved c =
     let name = naming (queue + 1) in
     let head = address shape (queue_head queue) in
     let written =
-        ap (λ x. set (set words c.queue_head.result x) c.queue_tail.result x) c.naming-dummy.ensures
-        ∙ ap (λ w. set (set words w name) c.queue_tail.result name) c.queue_head.ensures.place
-        ∙ ap (λ w. set (set words head name) w name) c.queue_tail.ensures.place in
+    ap (λ x. set (set words c.queue_head.result x) c.queue_tail.result x) c.naming-dummy.ensures
+    ∙ ap (λ w. set (set words w name) c.queue_tail.result name) c.queue_head.ensures.place
+    ∙ ap (λ w. set (set words head name) w name) c.queue_tail.ensures.place in
     subst (λ ws. HasDummies shape ws (queue + 1)) (sym written) (dummies_on shape words queue (omega arith) c.loop-queue.invariant)
 
 pub returns : goal.returns
