@@ -11,6 +11,7 @@ pub mod Growing
 pub mod Dummies
 pub mod PairCounts
 pub mod Prefixes
+pub mod Below
 pub mod Chains
 pub mod Stores
 pub mod Entries

@@ -76,7 +76,7 @@ all_from_find P (e ∷ es) apart found = (
 
 -- pieces whose keys are apart, each key at home in one piece
 module _ (f : ℕ → List (ℕ × ℕ)) (home : ℕ → ℕ) where
-  apart-pieces : (a n : ℕ) → ((b : ℕ) → a ≤ b → b < a + n → KeysApart (f b))
+  pub apart-pieces : (a n : ℕ) → ((b : ℕ) → a ≤ b → b < a + n → KeysApart (f b))
       → ((b q v : ℕ) → a ≤ b → b < a + n → fin.find nat_cmp q (f b) ≡ Some v → home q ≡ b)
       → KeysApart (flat_map f (range_with_len a n))
   apart-pieces a zero apart at = tt

@@ -5,4 +5,5 @@ pub mod Row
 pub mod Needed
 pub mod Laid
 pub mod Opens
+pub mod Below
 pub mod Laws
