@@ -106,7 +106,8 @@ place_step b o = record { book = record b { orders = b.orders ++ o ∷ [] }; rep
 -- of an open order nothing is left
 abbrev pub cancel_step : Book → Option Order → Step
 cancel_step b None = record { book = b; reply = reply.Gone }
-cancel_step b (Some o) = record { book = record b { orders = lessened b.orders o.name o.left }; reply = reply.Cancelled o.left }
+cancel_step b (Some o) =
+    record { book = record b { orders = lessened b.orders o.name o.left }; reply = reply.Cancelled o.left }
 
 -- what looks at places come to: the book after them, what remains to be taken, and what was taken from which order
 pub record Looked : Type 0 where
@@ -136,14 +137,18 @@ look_at (Some o) level taker b rest more =
 -- looks at up to so many places of a level, as long as something remains
 unfoldable pub look : ℕ → ℕ → ℕ → Book → ℕ → Looked
 look level taker zero b rest = ended b rest
-look level taker (suc places) b rest = if rest == 0 then ended b rest else look_at (front_order b level) level taker b rest (look level taker places)
+look level taker (suc places) b rest =
+    if rest == 0 then ended b rest else look_at (front_order b level) level taker b rest (look level taker places)
 
 -- as many parts as a reply has room for, those past the ones that there are being zero
 abbrev pub padded : List Part → List Part
 padded parts = parts ++ replicate (MAX_PARTS - length parts) (record { name = 0; taken = 0 })
 
 abbrev pub looked_step : Looked → Step
-looked_step l = record { book = l.book; reply = reply.Filled (sum_by (λ p. p.taken) l.parts) l.rest (length l.parts) (padded l.parts) }
+looked_step l = record {
+  book = l.book;
+  reply = reply.Filled (sum_by (λ p. p.taken) l.parts) l.rest (length l.parts) (padded l.parts);
+}
 
 -- an account takes up to a quantity from so many places of a level at most
 abbrev pub fill_step : Book → ℕ → ℕ → ℕ → ℕ → Step
@@ -157,7 +162,8 @@ first_orders b level places = take places (drop (b.passed level) (orders_at b le
 abbrev pub left_within : Book → ℕ → ℕ → ℕ
 left_within b level places = sum_by (λ o. o.left) (first_orders b level places)
 
--- all or nothing: if those places have the whole quantity left, it is taken as a fill takes it; otherwise nothing changes
+-- all or nothing: if those places have the whole quantity left, it is taken as a fill takes it; otherwise nothing
+-- changes
 abbrev pub kill_step : Book → ℕ → ℕ → ℕ → ℕ → Step
 kill_step b account level quantity places =
     if nat_le quantity (left_within b level places)
@@ -165,7 +171,8 @@ kill_step b account level quantity places =
     else record { book = b; reply = reply.Killed }
 
 abbrev pub book_step : Book → Command → Step
-book_step b (Place name account side price quantity) = place_step b (record { name = name; account = account; side = side; price = price; left = quantity })
+book_step b (Place name account side price quantity) =
+    place_step b (record { name = name; account = account; side = side; price = price; left = quantity })
 book_step b (Cancel name) = cancel_step b (find_open b name)
 book_step b (Fill account side price quantity places) = fill_step b account (level_of side price) quantity places
 book_step b (Kill account side price quantity places) = kill_step b account (level_of side price) quantity places

@@ -29,13 +29,16 @@ taker_sums Sell = BOUGHT
 -- the order at the front leaves its queue if all that it has left is taken; otherwise it is put back with less
 abbrev pub put_back : ℕ → ℕ → ℕ → ℕ → Script (Unit {0})
 put_back level name order taken =
-    if left_in order == taken then call (Dequeue level) (λ _. done tt) else call (Insert OPEN_ORDERS name (order - taken)) (λ _. done tt)
+    if left_in order == taken
+    then call (Dequeue level) (λ _. done tt)
+    else call (Insert OPEN_ORDERS name (order - taken)) (λ _. done tt)
 
 -- so much is taken from the order at the front, and its account has bought or sold it
 abbrev pub take_from : Side → ℕ → ℕ → ℕ → ℕ → Script Look
 take_from side level name order taken =
     call (Remove OPEN_ORDERS name) (λ _. bind (put_back level name order taken) (λ _.
-    bind (raise (resting_sums side) (account_in order) taken) (λ _. done (Live (record { name = name; taken = taken })))))
+    bind (raise (resting_sums side) (account_in order) taken) (λ _.
+    done (Live (record { name = name; taken = taken })))))
 
 -- a look at the front place: nobody, or a dead place, which is passed, or an order from which is taken
 abbrev pub look_front : Side → ℕ → ℕ → Script Look
@@ -67,11 +70,15 @@ go_on (Live part) f more = more (with_part f part)
 -- looks at up to so many places, as long as something remains
 unfoldable pub take_parts : Side → ℕ → ℕ → Filling → Script Filling
 take_parts side level zero f = done f
-take_parts side level (suc places) f = if f.rest == 0 then done f else bind (look_front side level f.rest) (λ look. go_on look f (take_parts side level places))
+take_parts side level (suc places) f =
+    if f.rest == 0
+    then done f
+    else bind (look_front side level f.rest) (λ look. go_on look f (take_parts side level places))
 
 -- if something was taken, the taker has bought or sold it, and the depth falls by it
 abbrev pub book_taken : Side → ℕ → ℕ → ℕ → Script (Unit {0})
-book_taken side level account taken = if taken == 0 then done tt else bind (raise (taker_sums side) account taken) (λ _. lower DEPTHS level taken)
+book_taken side level account taken =
+    if taken == 0 then done tt else bind (raise (taker_sums side) account taken) (λ _. lower DEPTHS level taken)
 
 -- the reply
 abbrev pub filled : ℕ → Filling → BookReply
@@ -79,8 +86,10 @@ filled quantity f = reply.Filled (quantity - f.rest) f.rest f.count f.parts
 
 -- parts are taken from up to so many places, and then booked in all
 abbrev pub finish : ℕ → Side → ℕ → ℕ → Filling → Script BookReply
-finish account side level quantity f = bind (book_taken side level account (quantity - f.rest)) (λ _. done (filled quantity f))
+finish account side level quantity f =
+    bind (book_taken side level account (quantity - f.rest)) (λ _. done (filled quantity f))
 
 abbrev pub fill : ℕ → Side → ℕ → ℕ → ℕ → Script BookReply
 fill account side price quantity places =
-    bind (take_parts side (level_of side price) places (unfilled quantity)) (finish account side (level_of side price) quantity)
+    bind (take_parts side (level_of side price) places (unfilled quantity))
+    (finish account side (level_of side price) quantity)

@@ -38,4 +38,5 @@ CommandsMeetTheBook = (s : State) (b : Book) (c : Command) (acts : List Act) (r 
 
 -- whatever a command can make, when maps and queues stand for a book, is few acts
 abbrev pub CommandsAreSmall : Type 0
-CommandsAreSmall = (s : State) (b : Book) (c : Command) → StandsFor s b → IsCommand c → IsSmall command_bounds (Follows (script_of c)) s
+CommandsAreSmall = (s : State) (b : Book) (c : Command) → StandsFor s b → IsCommand c
+    → IsSmall command_bounds (Follows (script_of c)) s

@@ -31,6 +31,8 @@ bounds_for places = record { reads = 3 * places + 3; writes = 7 * places + 11; n
 
 -- a fill is few acts for the places that it looks at, and so for those that it may look at
 abbrev pub FillsAreFew : Type 0
-FillsAreFew = (s : State) (b : Book) (account : ℕ) (side : Side) (price quantity places : ℕ) (acts : List Act) (r : BookReply)
-    → StandsFor s b → IsFill account price quantity places → Did (fill account side price quantity places) acts r → IsRight s acts
+FillsAreFew = (s : State) (b : Book) (account : ℕ) (side : Side) (price quantity places : ℕ)
+    (acts : List Act) (r : BookReply)
+    → StandsFor s b → IsFill account price quantity places
+    → Did (fill account side price quantity places) acts r → IsRight s acts
     → AreFew (bounds_for (places_looked acts)) acts × AreFew (bounds_for places) acts

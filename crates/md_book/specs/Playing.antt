@@ -6,6 +6,7 @@ use Rattle.md_history.specs.Calls.{Refusal, BrokeOff}
 use Rattle.md_history.specs.Script.{Script, Follows, Adds}
 
 -- a part of a body is played as its script says: it is done whole, and no stop stands, or it broke off
-abbrev pub PlaysPart : {R X : Type 0} → Script R → Result R Stop → (X → List Act) → (X → Option Refusal) → X → X → Type 0
+abbrev pub PlaysPart : {R X : Type 0} → Script R → Result R Stop → (X → List Act) → (X → Option Refusal)
+    → X → X → Type 0
 PlaysPart s (Ok r) acts stop before after = (stop after ≡ None) × Adds s r (acts before) (acts after)
 PlaysPart s (Err why) acts stop before after = BrokeOff (Follows s) why (acts before) (acts after) (stop after)

@@ -49,12 +49,16 @@ lower m k by = call (Remove m k) (λ r. put m k (value_or_0 r - by))
 -- an order is added to the open ones, its name to its level's queue, and its quantity to the level's depth
 abbrev pub place : ℕ → ℕ → Side → ℕ → ℕ → Script BookReply
 place name account side price quantity =
-    call (Insert OPEN_ORDERS name (packed account side price quantity)) (λ _. call (Enqueue (level_of side price) name) (λ _.
+    call (Insert OPEN_ORDERS name (packed account side price quantity)) (λ _.
+    call (Enqueue (level_of side price) name) (λ _.
     bind (raise DEPTHS (level_of side price) quantity) (λ _. done reply.Placed)))
 
 -- an order is removed from the open ones, and what was left of it from its level's depth
 abbrev pub cancel : ℕ → Script BookReply
-cancel name = call (Remove OPEN_ORDERS name) (λ r. by_value r (done reply.Gone) (λ order. bind (lower DEPTHS (level_in order) (left_in order)) (λ _. done (reply.Cancelled (left_in order)))))
+cancel name =
+    call (Remove OPEN_ORDERS name) (λ r. by_value r (done reply.Gone) (λ order.
+    bind (lower DEPTHS (level_in order) (left_in order)) (λ _.
+    done (reply.Cancelled (left_in order)))))
 
 -- a level's depth is looked up
 abbrev pub look_depth : Side → ℕ → Script BookReply
@@ -62,4 +66,6 @@ look_depth side price = call (Get DEPTHS (level_of side price)) (λ r. done (rep
 
 -- an account's sums are looked up
 abbrev pub look_account : ℕ → Script BookReply
-look_account account = call (Get BOUGHT account) (λ r. call (Get SOLD account) (λ s. done (reply.Account (value_or_0 r) (value_or_0 s))))
+look_account account =
+    call (Get BOUGHT account) (λ r. call (Get SOLD account) (λ s.
+    done (reply.Account (value_or_0 r) (value_or_0 s))))

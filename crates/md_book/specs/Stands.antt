@@ -59,7 +59,8 @@ pub record Shows (s : State) (b : Book) : Type 0 where
   pub depths : (level : ℕ) → fin.get (map_at s DEPTHS) level ≡ unless_0 (depth b level)
   pub bought : (account : ℕ) → fin.get (map_at s BOUGHT) account ≡ unless_0 (bought b account)
   pub sold : (account : ℕ) → fin.get (map_at s SOLD) account ≡ unless_0 (sold b account)
-  pub names : (level : ℕ) → level < LEVELS → queue_at s level ≡ drop (b.passed level) (map (λ o. o.name) (orders_at b level))
+  pub names : (level : ℕ) → level < LEVELS
+      → queue_at s level ≡ drop (b.passed level) (map (λ o. o.name) (orders_at b level))
 
 -- there are the maps and queues of a book, and no others
 pub record IsBookSized (s : State) : Type 0 where

@@ -104,13 +104,17 @@ left_of of b = sum_by (λ o. if of o.name then o.left else 0) b.orders
 -- of whichever orders, what was placed is what was cancelled, was taken and is left
 abbrev pub OrdersAddUp : Type 0
 OrdersAddUp = (cs : List Command) (of : ℕ → Bool) → IsDay cs
-    → sum_by (placed of) (answered cs) ≡ sum_by (cancelled of) (answered cs) + sum_by (taken_from of) (answered cs) + left_of of (closing cs)
+    → sum_by (placed of) (answered cs)
+    ≡ sum_by (cancelled of) (answered cs) + sum_by (taken_from of) (answered cs) + left_of of (closing cs)
 
 -- of each order, what was taken from it in all, was cancelled of it and is left adds up to what was placed: it never
 -- gives more than its quantity
 abbrev pub EachOrderAddsUp : Type 0
-EachOrderAddsUp = (cs : List Command) (name account : ℕ) (side : Side) (price quantity : ℕ) → IsDay cs → Contains cs (Place name account side price quantity)
-    → quantity ≡ sum_by (cancelled (λ n. n == name)) (answered cs) + sum_by (taken_from (λ n. n == name)) (answered cs) + left_of (λ n. n == name) (closing cs)
+EachOrderAddsUp = (cs : List Command) (name account : ℕ) (side : Side) (price quantity : ℕ)
+    → IsDay cs → Contains cs (Place name account side price quantity)
+    → quantity
+    ≡ sum_by (cancelled (λ n. n == name)) (answered cs) + sum_by (taken_from (λ n. n == name)) (answered cs)
+    + left_of (λ n. n == name) (closing cs)
 
 -- whether a command places an order of the name, with a side, price and account that pass a test
 abbrev pub places : (Side → ℕ → ℕ → Bool) → ℕ → Command → Bool
@@ -150,17 +154,22 @@ filled_at level (Account account, r) = 0
 -- at each level, what was placed is what was cancelled, was filled and is open
 abbrev pub LevelsAddUp : Type 0
 LevelsAddUp = (cs : List Command) (level : ℕ) → IsDay cs
-    → sum_by (placed (is_placed_at cs level)) (answered cs) ≡ sum_by (cancelled (is_placed_at cs level)) (answered cs) + sum_by (filled_at level) (answered cs) + depth (closing cs) level
+    → sum_by (placed (is_placed_at cs level)) (answered cs)
+    ≡ sum_by (cancelled (is_placed_at cs level)) (answered cs) + sum_by (filled_at level) (answered cs)
+    + depth (closing cs) level
 
 -- in all, what was placed is what was cancelled, was filled and is open at the levels
 abbrev pub DayAddsUp : Type 0
 DayAddsUp = (cs : List Command) → IsDay cs
-    → sum_by (placed (λ _. true)) (answered cs) ≡ sum_by (cancelled (λ _. true)) (answered cs) + sum_by filled (answered cs) + sum_by (depth (closing cs)) (range_with_len 0 LEVELS)
+    → sum_by (placed (λ _. true)) (answered cs)
+    ≡ sum_by (cancelled (λ _. true)) (answered cs) + sum_by filled (answered cs)
+    + sum_by (depth (closing cs)) (range_with_len 0 LEVELS)
 
 -- what all accounts bought is what was filled, and so is what they sold
 abbrev pub AccountsAddUp : Type 0
 AccountsAddUp = (cs : List Command) → IsDay cs
-    → (sum_by (bought (closing cs)) (range_with_len 1 MAX_ACCOUNT) ≡ sum_by filled (answered cs)) × (sum_by (sold (closing cs)) (range_with_len 1 MAX_ACCOUNT) ≡ sum_by filled (answered cs))
+    → (sum_by (bought (closing cs)) (range_with_len 1 MAX_ACCOUNT) ≡ sum_by filled (answered cs))
+    × (sum_by (sold (closing cs)) (range_with_len 1 MAX_ACCOUNT) ≡ sum_by filled (answered cs))
 
 abbrev pub is_side : Side → Side → Bool
 is_side Buy Buy = true
@@ -171,7 +180,10 @@ is_side Sell Sell = true
 -- what an account deals in at a side when a taker takes from one: at that side it is what is taken from the
 -- account's orders, at the other what it takes itself
 abbrev pub told_share : Side → (ℕ → Bool) → ℕ → Side → ℕ → BookReply → ℕ
-told_share side of account at taker r = if is_side side at then parts_from of (told_parts r) else (if taker == account then told_taken r else 0)
+told_share side of account at taker r =
+    if is_side side at
+    then parts_from of (told_parts r)
+    else (if taker == account then told_taken r else 0)
 
 abbrev pub dealt : Side → (ℕ → Bool) → ℕ → Command × BookReply → ℕ
 dealt side of account (Place name own at price quantity, r) = 0
@@ -185,7 +197,8 @@ dealt side of account (Account own, r) = 0
 -- from its sell orders and what it took from buy orders
 abbrev pub EachAccountAddsUp : Type 0
 EachAccountAddsUp = (cs : List Command) (account : ℕ) → IsDay cs
-    → (bought (closing cs) account ≡ sum_by (dealt Buy (is_placed_for cs account) account) (answered cs)) × (sold (closing cs) account ≡ sum_by (dealt Sell (is_placed_for cs account) account) (answered cs))
+    → (bought (closing cs) account ≡ sum_by (dealt Buy (is_placed_for cs account) account) (answered cs))
+    × (sold (closing cs) account ≡ sum_by (dealt Sell (is_placed_for cs account) account) (answered cs))
 
 -- the reply is of what was taken: its parts add up to that, and with what remains to the quantity
 abbrev pub IsFilled : ℕ → BookReply → Type 0
@@ -193,7 +206,8 @@ IsFilled quantity reply.Placed = ⊥
 IsFilled quantity (reply.Cancelled left) = ⊥
 IsFilled quantity reply.Gone = ⊥
 IsFilled quantity reply.Killed = ⊥
-IsFilled quantity (reply.Filled taken rest count parts) = (sum_by (λ p. p.taken) parts ≡ taken) × (taken + rest ≡ quantity)
+IsFilled quantity (reply.Filled taken rest count parts) =
+    (sum_by (λ p. p.taken) parts ≡ taken) × (taken + rest ≡ quantity)
 IsFilled quantity (reply.Depth depth) = ⊥
 IsFilled quantity (reply.Account bought sold) = ⊥
 

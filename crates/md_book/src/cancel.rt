@@ -10,8 +10,8 @@ use crate::packing::{left_in, level_in};
 use crate::parts::lower;
 use md_history::{Stop, TxCalls};
 
-/// Removes an order from the open ones, and what was left of it from its level's depth. Its name stays in
-/// the queue.
+/// Removes an order from the open ones, and what was left of it from its level's depth. Its name
+/// stays in the queue.
 pub(crate) fn cancel<T: TxCalls>(t: &mut T, name: u64) -> Result<BookReply, Stop>
     requires going { T.stop t.old ≡ None }
     requires maps { MAPS ≤ T.maps (T.kept t.old) }

@@ -56,7 +56,8 @@ fn take_parts<T: TxCalls>(
     requires going { T.stop t.old ≡ None }
     requires maps { MAPS ≤ T.maps (T.kept t.old) }
     requires level { level < T.queues (T.kept t.old) }
-    ensures plays { PlaysPart (take_parts side level places (unfilled quantity)) result T.acts T.stop t.old t.new }
+    ensures plays { PlaysPart (take_parts side level places (unfilled quantity)) result
+        T.acts T.stop t.old t.new }
     ensures kept { T.kept t.new ≡ T.kept t.old }
     ensures rest { IfOk result (λ f. f.rest ≤ quantity) }
 {
@@ -84,7 +85,8 @@ fn book_taken<T: TxCalls>(
 ) -> Result<(), Stop>
     requires going { T.stop t.old ≡ None }
     requires maps { MAPS ≤ T.maps (T.kept t.old) }
-    ensures plays { PlaysPart (book_taken side level account taken) result T.acts T.stop t.old t.new }
+    ensures plays { PlaysPart (book_taken side level account taken) result
+        T.acts T.stop t.old t.new }
     ensures kept { T.kept t.new ≡ T.kept t.old }
 {
     if taken != 0 {
@@ -108,7 +110,8 @@ pub(crate) fn fill<T: TxCalls>(
     requires going { T.stop t.old ≡ None }
     requires maps { MAPS ≤ T.maps (T.kept t.old) }
     requires queues { LEVELS ≤ T.queues (T.kept t.old) }
-    ensures plays { PlaysPart (fill account side price quantity places) result T.acts T.stop t.old t.new }
+    ensures plays { PlaysPart (fill account side price quantity places) result
+        T.acts T.stop t.old t.new }
     ensures kept { T.kept t.new ≡ T.kept t.old }
 {
     let level = side.level(price);

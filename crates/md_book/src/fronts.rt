@@ -44,7 +44,8 @@ impl Side {
     }
 }
 
-/// Dequeues the order at the front if all that it has left is taken; otherwise puts it back with less.
+/// Dequeues the order at the front if all that it has left is taken; otherwise puts it back with
+/// less.
 fn put_back<T: TxCalls>(
     t: &mut T,
     level: u32,
@@ -80,7 +81,8 @@ fn take_from<T: TxCalls>(
     requires going { T.stop t.old ≡ None }
     requires maps { MAPS ≤ T.maps (T.kept t.old) }
     requires level { level < T.queues (T.kept t.old) }
-    ensures plays { PlaysPart (take_from side level name order taken) result T.acts T.stop t.old t.new }
+    ensures plays { PlaysPart (take_from side level name order taken) result
+        T.acts T.stop t.old t.new }
     ensures kept { T.kept t.new ≡ T.kept t.old }
     ensures taken { IfOk result (TakesAtMost taken) }
 {
@@ -90,7 +92,8 @@ fn take_from<T: TxCalls>(
     Ok(Look::Live(Part { name, taken }))
 }
 
-/// Looks at the front place: nobody, or a dead place, which is passed, or an order from which is taken.
+/// Looks at the front place: nobody, or a dead place, which is passed, or an order from which is
+/// taken.
 pub(crate) fn look_front<T: TxCalls>(
     t: &mut T,
     side: Side,

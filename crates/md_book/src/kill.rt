@@ -20,8 +20,8 @@ fn names_in(line: &Line) -> &[u64]
     &line.values[..count]
 }
 
-/// Whether the orders of these names have so much left in all. It looks one up after another, until they
-/// have.
+/// Whether the orders of these names have so much left in all. It looks one up after another, until
+/// they have.
 fn have_left<T: TxCalls>(t: &mut T, quantity: u32, names: &[u64]) -> Result<bool, Stop>
     requires going { T.stop t.old ≡ None }
     requires maps { MAPS ≤ T.maps (T.kept t.old) }
@@ -54,7 +54,8 @@ pub(crate) fn kill<T: TxCalls>(
     requires going { T.stop t.old ≡ None }
     requires maps { MAPS ≤ T.maps (T.kept t.old) }
     requires queues { LEVELS ≤ T.queues (T.kept t.old) }
-    ensures plays { PlaysPart (kill account side price quantity places) result T.acts T.stop t.old t.new }
+    ensures plays { PlaysPart (kill account side price quantity places) result
+        T.acts T.stop t.old t.new }
     ensures kept { T.kept t.new ≡ T.kept t.old }
 {
     let line = t.line(side.level(price), places)?;

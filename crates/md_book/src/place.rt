@@ -11,7 +11,8 @@ use crate::packing::packed;
 use crate::parts::raise;
 use md_history::{Stop, TxCalls};
 
-/// Adds an order to the open ones, its name to its level's queue, and its quantity to the level's depth.
+/// Adds an order to the open ones, its name to its level's queue, and its quantity to the level's
+/// depth.
 pub(crate) fn place<T: TxCalls>(
     t: &mut T,
     name: u64,
@@ -24,7 +25,8 @@ pub(crate) fn place<T: TxCalls>(
     requires price { IsPrice price }
     requires maps { MAPS ≤ T.maps (T.kept t.old) }
     requires queues { LEVELS ≤ T.queues (T.kept t.old) }
-    ensures plays { PlaysPart (place name account side price quantity) result T.acts T.stop t.old t.new }
+    ensures plays { PlaysPart (place name account side price quantity) result
+        T.acts T.stop t.old t.new }
     ensures kept { T.kept t.new ≡ T.kept t.old }
 {
     let level = side.level(price);

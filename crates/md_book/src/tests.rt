@@ -83,7 +83,8 @@ fn is_lawful(command: Command) -> bool
     }
 }
 
-/// Plays commands, and answers the place of the first whose reply is another than the one beside it.
+/// Plays commands, and answers the place of the first whose reply is another than the one beside
+/// it.
 fn first_other(
     store: &PlainStore,
     pass: &mut PlainPass,
@@ -104,8 +105,8 @@ fn first_other(
     Ok(None)
 }
 
-/// Plays commands on an empty book. It answers the place of the first whose reply is another than the one
-/// beside it, if there is one, and what the store contains then.
+/// Plays commands on an empty book. It answers the place of the first whose reply is another than
+/// the one beside it, if there is one, and what the store contains then.
 fn play(alloc: Global, day: &[(Command, BookReply)]) -> Result<(Option<usize>, Contents), Fail>
     ensures { IfOk result (λ r. IsBookSized r.1) }
 {

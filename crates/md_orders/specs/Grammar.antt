@@ -61,8 +61,10 @@ quantity_at row place = number_at row place 1 MAX_QUANTITY
 
 -- account, side, price and quantity, after the caller and the kind
 abbrev pub terms_of : Row → Option Terms
-terms_of row = option_and_then (λ account. option_and_then (λ side. option_and_then (λ price. option_map (λ quantity.
-    record { account = account; side = side; price = price; quantity = quantity }) (quantity_at row 5)) (price_at row 4)) (side_at row 3)) (account_at row 2)
+terms_of row =
+    option_and_then (λ account. option_and_then (λ side. option_and_then (λ price. option_map (λ quantity.
+    record { account = account; side = side; price = price; quantity = quantity })
+    (quantity_at row 5)) (price_at row 4)) (side_at row 3)) (account_at row 2)
 
 -- caller, P, account, side, price, quantity; the order gets the name
 abbrev pub place_of : ℕ → Row → Option Command
@@ -71,7 +73,8 @@ place_of name row = option_map (λ t. Place name t.account t.side t.price t.quan
 -- caller, C, caller of the order, line of the order
 abbrev pub cancel_of : Version → Row → Option Command
 cancel_of version row =
-    option_and_then (λ caller. option_map (λ line. Cancel (name_of caller line)) (number_at row 3 1 MAX_LINE)) (number_at row 2 1 (max_caller version))
+    option_and_then (λ caller. option_map (λ line. Cancel (name_of caller line))
+    (number_at row 3 1 MAX_LINE)) (number_at row 2 1 (max_caller version))
 
 -- caller, F, account, side, price, quantity
 abbrev pub fill_of : Version → Row → Option Command
@@ -89,7 +92,8 @@ depth_of row = option_and_then (λ side. option_map (λ price. Depth side price)
 abbrev pub account_of : Row → Option Command
 account_of row = option_map (λ account. Account account) (account_at row 2)
 
--- the command that a record writes, by its kind (P, C, F, K, D or A) and its number of fields; a placed order gets the name
+-- the command that a record writes, by its kind (P, C, F, K, D or A) and its number of fields; a placed order gets the
+-- name
 abbrev pub command_of_kind : Version → ℕ → Row → ℕ → Option Command
 command_of_kind version name row kind =
     if (kind == 80) && (length row == 6) then place_of name row
@@ -115,7 +119,8 @@ keeps version callers row = is_some (caller_of version callers row) && is_some (
 -- the number, counted from n, of the first line's record that breaks the grammar
 abbrev pub first_bad_line : Version → ℕ → ℕ → List Row → Option ℕ
 first_bad_line version callers n [] = None
-first_bad_line version callers n (row ∷ rows) = if keeps version callers row then first_bad_line version callers (n + 1) rows else Some n
+first_bad_line version callers n (row ∷ rows) =
+    if keeps version callers row then first_bad_line version callers (n + 1) rows else Some n
 
 -- the number, counted from 1, of a file's first record that breaks the grammar
 abbrev pub first_bad : ℕ → List Row → Option ℕ

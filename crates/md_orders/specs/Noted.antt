@@ -12,7 +12,8 @@ pub record AreScriptsOf (callers : ℕ) (file : OrderFile) (scripts : List (List
   pub good : first_bad_line file.version callers file.first file.lines ≡ None
   pub number : length scripts ≡ callers
   pub each : (caller : ℕ) → list_of scripts caller ≡ script_in file.version callers file.lines caller
-  pub lines : (caller : ℕ) → length (list_of scripts caller) ≡ length (filter (is_by file.version callers caller) file.lines)
+  pub lines : (caller : ℕ)
+      → length (list_of scripts caller) ≡ length (filter (is_by file.version callers caller) file.lines)
   pub few : count_of scripts ≤ length file.lines
 
 -- the scripts of the lines, or the first that broke the grammar
@@ -21,6 +22,7 @@ AreNoted callers file scripts None = AreScriptsOf callers file scripts
 AreNoted callers file scripts (Some n) = first_bad_line file.version callers file.first file.lines ≡ Some n
 
 -- the version that the records show, with what was noted of their lines
-pub record IsNoted (callers : ℕ) (rows : List Row) (version : Version) (scripts : List (List Command)) (bad : Option ℕ) : Type 0 where
+pub record IsNoted (callers : ℕ) (rows : List Row) (version : Version) (scripts : List (List Command))
+    (bad : Option ℕ) : Type 0 where
   pub version_is : version ≡ (file_of rows).version
   pub noted : AreNoted callers (file_of rows) scripts bad

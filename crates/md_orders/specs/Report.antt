@@ -58,7 +58,8 @@ script_text replies caller lines = texts_to lines (λ line. answer_text caller l
 
 -- each caller's, in order
 abbrev pub replies_text : List (List Command) → List (List (Option BookReply)) → List ℕ
-replies_text scripts replies = texts_to (length scripts) (λ caller. script_text replies caller (length (list_of scripts caller)))
+replies_text scripts replies =
+    texts_to (length scripts) (λ caller. script_text replies caller (length (list_of scripts caller)))
 
 -- B or S
 abbrev pub side_text : Side → List ℕ
@@ -67,7 +68,9 @@ side_text Sell = codes "S"
 
 -- SIDE PRICE DEPTH, of a level with a depth
 abbrev pub level_text : Side → ℕ → ℕ → List ℕ
-level_text side price depth = if depth == 0 then [] else side_text side ++ codes " " ++ decimal price ++ codes " " ++ decimal depth ++ codes "\n"
+level_text side price depth =
+    if depth == 0 then []
+    else side_text side ++ codes " " ++ decimal price ++ codes " " ++ decimal depth ++ codes "\n"
 
 -- the levels of a side, prices rising
 abbrev pub levels_text : Side → Book → List ℕ
@@ -77,7 +80,8 @@ levels_text side b = texts_to MAX_PRICE (λ price. level_text side price (depth 
 abbrev pub account_text : ℕ → ℕ → ℕ → List ℕ
 account_text account bought sold =
     if (bought == 0) && (sold == 0) then []
-    else codes "account " ++ decimal account ++ codes " bought " ++ decimal bought ++ codes " sold " ++ decimal sold ++ codes "\n"
+    else codes "account " ++ decimal account ++ codes " bought " ++ decimal bought
+    ++ codes " sold " ++ decimal sold ++ codes "\n"
 
 -- the accounts, rising
 abbrev pub accounts_text : Book → List ℕ
@@ -89,7 +93,9 @@ done_text count = codes "done " ++ decimal count ++ codes "\n"
 
 -- replies, buy levels, sell levels, accounts, and the number of commands
 abbrev pub report_text : List (List Command) → List (List (Option BookReply)) → Book → List ℕ
-report_text scripts replies b = replies_text scripts replies ++ levels_text Buy b ++ levels_text Sell b ++ accounts_text b ++ done_text (count_of scripts)
+report_text scripts replies b =
+    replies_text scripts replies ++ levels_text Buy b ++ levels_text Sell b ++ accounts_text b
+    ++ done_text (count_of scripts)
 
 -- the value of a key in a map of a state, or 0
 abbrev pub value_at : State → ℕ → ℕ → ℕ
@@ -100,4 +106,5 @@ abbrev pub levels_text_of : Side → State → List ℕ
 levels_text_of side s = texts_to MAX_PRICE (λ price. level_text side price (value_at s DEPTHS (level_of side price)))
 
 abbrev pub accounts_text_of : State → List ℕ
-accounts_text_of s = texts_to MAX_ACCOUNT (λ account. account_text account (value_at s BOUGHT account) (value_at s SOLD account))
+accounts_text_of s =
+    texts_to MAX_ACCOUNT (λ account. account_text account (value_at s BOUGHT account) (value_at s SOLD account))

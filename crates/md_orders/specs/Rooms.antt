@@ -56,7 +56,8 @@ reply_in (head.Cancelled left) room = Some (reply.Cancelled left)
 reply_in head.Gone room = Some reply.Gone
 reply_in head.Killed room = Some reply.Killed
 reply_in (head.Filled count) room =
-    let first = slice_index_or room 0 0 in Some (reply.Filled (first / 2 ^ 32) (first % 2 ^ 32) count (parts_in count room))
+    let first = slice_index_or room 0 0 in
+    Some (reply.Filled (first / 2 ^ 32) (first % 2 ^ 32) count (parts_in count room))
 reply_in head.Depth room = Some (reply.Depth (slice_index_or room 0 0))
 reply_in head.Account room = Some (reply.Account (slice_index_or room 0 0) (slice_index_or room 1 0))
 
@@ -71,7 +72,8 @@ pub record KeepsAt (old new : List ℕ) (start size : ℕ) (h : Head) (r : BookR
 abbrev pub replies_in : List ℕ → List Head → List ℕ → List (Option BookReply)
 replies_in [] heads numbers = []
 replies_in (size ∷ sizes) [] numbers = []
-replies_in (size ∷ sizes) (h ∷ heads) numbers = reply_in h (take size numbers) ∷ replies_in sizes heads (drop size numbers)
+replies_in (size ∷ sizes) (h ∷ heads) numbers =
+    reply_in h (take size numbers) ∷ replies_in sizes heads (drop size numbers)
 
 -- where such rooms begin
 abbrev pub starts_of : ℕ → List ℕ → List ℕ

@@ -37,13 +37,15 @@ is_by version callers caller row = option_map_or (λ c. c == caller) (caller_of 
 -- a caller's records, in order, and its script: their commands, where an order gets the name of its line
 abbrev pub script_in : Version → ℕ → List Row → ℕ → List Command
 script_in version callers rows caller =
-    filter_map (λ numbered. command_of version (name_of caller numbered.0) numbered.1) (enumerate_from 1 (filter (is_by version callers caller) rows))
+    filter_map (λ numbered. command_of version (name_of caller numbered.0) numbered.1)
+    (enumerate_from 1 (filter (is_by version callers caller) rows))
 
 -- the scripts that a file's records write, each of which keeps the grammar
 pub record AreScripts (callers : ℕ) (rows : List Row) (scripts : List (List Command)) : Type 0 where
   pub good : first_bad callers rows ≡ None
   pub number : length scripts ≡ callers
-  pub each : (caller : ℕ) → list_of scripts caller ≡ script_in (file_of rows).version callers (file_of rows).lines caller
+  pub each : (caller : ℕ)
+      → list_of scripts caller ≡ script_in (file_of rows).version callers (file_of rows).lines caller
 
 -- how many commands there are
 abbrev pub count_of : List (List Command) → ℕ
@@ -60,7 +62,8 @@ IsNamed name (Account account) = Unit {0}
 
 -- each command is in range, and each order has the name of its caller and line
 abbrev pub AreNamed : List (List Command) → Type 0
-AreNamed scripts = (caller line : ℕ) → IfSome (at_line scripts caller line) (λ c. IsCommand c × IsNamed (name_of caller line) c)
+AreNamed scripts = (caller line : ℕ)
+    → IfSome (at_line scripts caller line) (λ c. IsCommand c × IsNamed (name_of caller line) c)
 
 -- what scripts keep: each command is in range and named, and their number, which is that of records at most
 pub record AreKept (total : ℕ) (scripts : List (List Command)) : Type 0 where

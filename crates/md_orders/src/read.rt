@@ -41,8 +41,8 @@ fn want(error: &Error) -> OrderFault
     }
 }
 
-// What was noted of the records so far: the file's version, the scripts of its lines, and the number of the
-// first record that breaks the grammar. After such a record no scripts are kept.
+// What was noted of the records so far: the file's version, the scripts of its lines, and the
+// number of the first record that breaks the grammar. After such a record no scripts are kept.
 #[derive(Drop)]
 struct Notes {
     version: Version,
@@ -59,7 +59,8 @@ fn line_of(
 ) -> Option<(u32, Command)>
     requires room { count_of scripts.now < max_records }
     ensures none { IfNone result (keeps version callers (fields_of row.now) ≡ false) }
-    ensures some { IfSome result (λ line. IsLine version callers (fields_of row.now) scripts.now line.0 line.1) }
+    ensures some { IfSome result (λ line.
+        IsLine version callers (fields_of row.now) scripts.now line.0 line.1) }
 {
     let caller = caller_of(version, callers, row)?;
     let name = order_name(caller, scripts.len(caller) + 1);
@@ -70,8 +71,12 @@ fn line_of(
 // Notes the record of a number.
 fn note(notes: &mut Notes, callers: u32, number: u32, row: &ByteRecord) -> Result<(), AllocError>
     requires few { number ≤ max_records }
-    requires noted { (rows : List Row) × (length rows + 1 ≡ number) × IsNoted callers rows notes.old.version notes.old.scripts notes.old.bad }
-    ensures { OnOk result ((rows : List Row) → length rows + 1 ≡ number → IsNoted callers rows notes.old.version notes.old.scripts notes.old.bad → IsNoted callers (rows ++ fields_of row.now ∷ []) notes.new.version notes.new.scripts notes.new.bad) }
+    requires noted { (rows : List Row) × (length rows + 1 ≡ number)
+        × IsNoted callers rows notes.old.version notes.old.scripts notes.old.bad }
+    ensures { OnOk result ((rows : List Row) → length rows + 1 ≡ number
+        → IsNoted callers rows notes.old.version notes.old.scripts notes.old.bad
+        → IsNoted callers (rows ++ fields_of row.now ∷ [])
+        notes.new.version notes.new.scripts notes.new.bad) }
 {
     if begins_version_2(number, row) {
         notes.version = Version::Second;
@@ -84,15 +89,19 @@ fn note(notes: &mut Notes, callers: u32, number: u32, row: &ByteRecord) -> Resul
     Ok(())
 }
 
-/// Reads the scripts of an order file. `TooMany` comes exactly where there are more than 1,000,000 records,
-/// and `BadLine(n)` exactly where there aren't, and the n-th is the first that breaks the grammar of the file's
-/// version: it isn't a command of one of the callers with its numbers in range, nor the first record of a file
-/// of version 2. `NoMemory` is the other refusal.
+/// Reads the scripts of an order file. `TooMany` comes exactly where there are more than 1,000,000
+/// records, and `BadLine(n)` exactly where there aren't, and the n-th is the first that breaks the
+/// grammar of the file's version: it isn't a command of one of the callers with its numbers in
+/// range, nor the first record of a file of version 2. `NoMemory` is the other refusal.
 pub fn read_orders(alloc: Global, bytes: &[u8], callers: u32) -> Result<Scripts, OrderFault>
     requires { (1 ≤ callers) × (callers ≤ MAX_CALLER) }
-    ensures scripts { IfOk result (λ scripts. AreFewRecords (order_records bytes.now) × AreScripts callers (order_records bytes.now) scripts) }
-    ensures too_many { IsErrOf result OrderFault.TooMany → ¬ AreFewRecords (order_records bytes.now) }
-    ensures bad_line { (n : ℕ) → IsErrOf result (OrderFault.BadLine n) → AreFewRecords (order_records bytes.now) × (first_bad callers (order_records bytes.now) ≡ Some n) }
+    ensures scripts { IfOk result (λ scripts. AreFewRecords (order_records bytes.now)
+        × AreScripts callers (order_records bytes.now) scripts) }
+    ensures too_many { IsErrOf result OrderFault.TooMany
+        → ¬ AreFewRecords (order_records bytes.now) }
+    ensures bad_line { (n : ℕ) → IsErrOf result (OrderFault.BadLine n)
+        → AreFewRecords (order_records bytes.now)
+        × (first_bad callers (order_records bytes.now) ≡ Some n) }
 {
     let mut reader = ReaderBuilder::new()
         .has_headers(false)

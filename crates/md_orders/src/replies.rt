@@ -16,8 +16,9 @@ use std::snapshot::Snapshot;
 
 /// A place for the reply of each line of some scripts. Callers and lines are counted from 1.
 ///
-/// A line has as much memory as a reply to its command can need: eight bytes for each part of a fill or a kill
-/// and for each sum, and some fifteen bytes beside them. All of it is taken when the places are made.
+/// A line has as much memory as a reply to its command can need: eight bytes for each part of a
+/// fill or a kill and for each sum, and some fifteen bytes beside them. All of it is taken when the
+/// places are made.
 #[derive(Drop)]
 pub struct Replies {
     of: Snapshot<Scripts>,
@@ -35,7 +36,8 @@ impl Model for Replies {
     ghost view = { λ r. record { scripts = r.of.value; replies = replies_of r.callers.items } };
 
     // Each line's room is that of its command, which is in range.
-    ghost invariant = { λ r. (sizes_in r.callers.items ≡ sizes_of r.of.value) × AreNamed r.of.value };
+    ghost invariant = { λ r. (sizes_in r.callers.items ≡ sizes_of r.of.value)
+        × AreNamed r.of.value };
 }
 
 // The rooms of each script.
@@ -54,7 +56,8 @@ fn all_rooms(alloc: Global, scripts: &Scripts) -> Result<Vec<ReplyRooms>, AllocE
 impl Replies {
     /// The places of scripts, with no reply.
     pub fn empty(alloc: Global, scripts: &Scripts) -> Result<Replies, AllocError>
-        ensures { IfOk result (λ r. r ≡ record { scripts = scripts.now; replies = no_replies scripts.now }) }
+        ensures { IfOk result (λ r. r
+            ≡ record { scripts = scripts.now; replies = no_replies scripts.now }) }
     {
         let callers = all_rooms(alloc, scripts)?;
         commands_are_named(scripts);
@@ -66,8 +69,11 @@ impl Replies {
 
     /// Sets the reply of a line, which suits the line's command. It takes no memory.
     pub fn set(&mut self, caller: u32, line: u32, reply: BookReply)
-        requires { IsSomeAnd (at_line self.old.scripts caller line) (λ command. Suits (command, reply)) }
-        ensures { self.new ≡ record self.old { replies = with_reply self.old.replies caller line reply } }
+        requires { IsSomeAnd (at_line self.old.scripts caller line) (λ command.
+            Suits (command, reply)) }
+        ensures { self.new ≡ record self.old {
+          replies = with_reply self.old.replies caller line reply;
+        } }
     {
         self.callers[caller as usize - 1].set(line as usize - 1, &reply);
     }

@@ -37,7 +37,10 @@ impl Model for ReplyRooms {
 
     ghost Value = { RoomsState };
 
-    ghost view = { λ r. record { sizes = r.sizes.items; replies = replies_in r.sizes.items r.heads.items r.numbers.items } };
+    ghost view = { λ r. record {
+      sizes = r.sizes.items;
+      replies = replies_in r.sizes.items r.heads.items r.numbers.items;
+    } };
 
     ghost invariant = { λ r. AreRooms r.starts.items r.sizes.items r.heads.items r.numbers.items };
 }
@@ -176,7 +179,10 @@ impl ReplyRooms {
     /// The rooms of a script's lines, with no reply.
     pub(crate) fn empty(alloc: Global, script: &[Command]) -> Result<ReplyRooms, AllocError>
         requires { length script.now ≤ max_records }
-        ensures { IfOk result (λ r. r ≡ record { sizes = map room_of script.now; replies = replicate (length script.now) None }) }
+        ensures { IfOk result (λ r. r ≡ record {
+          sizes = map room_of script.now;
+          replies = replicate (length script.now) None;
+        }) }
     {
         let mut starts = Vec::with_capacity(alloc, script.len())?;
         let mut sizes = Vec::with_capacity(alloc, script.len())?;
@@ -220,7 +226,9 @@ impl ReplyRooms {
     pub(crate) fn set(&mut self, at: usize, reply: &BookReply)
         requires there { at < length self.old.sizes }
         requires room { HasRoom reply.now (slice_index_or self.old.sizes at 0) }
-        ensures { self.new ≡ record self.old { replies = slice_set self.old.replies at (Some reply.now) } }
+        ensures { self.new ≡ record self.old {
+          replies = slice_set self.old.replies at (Some reply.now);
+        } }
     {
         let start = self.starts[at] as usize;
         let size = usize::from(self.sizes[at]);

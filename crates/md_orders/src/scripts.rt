@@ -10,8 +10,8 @@ use md_book::Command;
 use std::alloc::{AllocError, Global};
 use std::marker::Model;
 
-/// The commands of each caller, in order. Callers and lines are counted from 1. Contracts see a list of
-/// lists.
+/// The commands of each caller, in order. Callers and lines are counted from 1. Contracts see a
+/// list of lists.
 #[derive(Drop)]
 pub struct Scripts {
     scripts: Vec<Vec<Command>>,
@@ -46,7 +46,9 @@ fn empty_lists(alloc: Global, count: u32) -> Result<Vec<Vec<Command>>, AllocErro
 fn push_to(lists: &mut Vec<Vec<Command>>, caller: u32, command: Command) -> Result<(), AllocError>
     requires from_1 { 1 ≤ caller }
     requires there { caller ≤ length lists.old.items }
-    ensures ok { OnOk result (lists_in lists.new.items ≡ with_list (lists_in lists.old.items) caller (list_of (lists_in lists.old.items) caller ++ command ∷ [])) }
+    ensures ok { OnOk result (lists_in lists.new.items
+        ≡ with_list (lists_in lists.old.items) caller
+        (list_of (lists_in lists.old.items) caller ++ command ∷ [])) }
     ensures err { OnErr result (lists_in lists.new.items ≡ lists_in lists.old.items) }
 {
     lists[caller as usize - 1].push(command)?;
@@ -67,8 +69,10 @@ impl Scripts {
         requires from_1 { 1 ≤ caller }
         requires there { caller ≤ length self.old }
         requires room { count_of self.old < max_records }
-        requires lawful { IsCommand command × IsNamed (name_of caller (length (list_of self.old caller) + 1)) command }
-        ensures ok { OnOk result (self.new ≡ with_list self.old caller (list_of self.old caller ++ command ∷ [])) }
+        requires lawful { IsCommand command
+            × IsNamed (name_of caller (length (list_of self.old caller) + 1)) command }
+        ensures ok { OnOk result (self.new
+            ≡ with_list self.old caller (list_of self.old caller ++ command ∷ [])) }
         ensures err { OnErr result (self.new ≡ self.old) }
     {
         push_to(&mut self.scripts, caller, command)?;
@@ -95,7 +99,8 @@ impl Scripts {
         self.scripts.len() as u32
     }
 
-    /// The number of lines of a caller, 0 for a caller that the scripts don't have, and at most 1,000,000.
+    /// The number of lines of a caller, 0 for a caller that the scripts don't have, and at most
+    /// 1,000,000.
     pub fn len(&self, caller: u32) -> u32
         ensures count { result ≡ length (list_of self.now caller) }
         ensures few { result ≤ max_records }
@@ -111,8 +116,8 @@ impl Scripts {
         self.total
     }
 
-    /// The command of a caller's line, in range, with the name of this line where it places an order. None
-    /// exactly where there is no such line.
+    /// The command of a caller's line, in range, with the name of this line where it places an
+    /// order. None exactly where there is no such line.
     pub fn command(&self, caller: u32, line: u32) -> Option<Command>
         ensures value { result ≡ at_line self.now caller line }
         ensures lawful { IfSome result (λ c. IsCommand c × IsNamed (name_of caller line) c) }
@@ -125,8 +130,8 @@ impl Scripts {
     }
 }
 
-/// What scripts keep of their commands, for a proof to use: each is in range, and an order that it places has
-/// the name of its line. Nothing is worked out.
+/// What scripts keep of their commands, for a proof to use: each is in range, and an order that it
+/// places has the name of its line. Nothing is worked out.
 pub fn commands_are_named(scripts: &Scripts)
     ensures { AreNamed scripts.now }
 {

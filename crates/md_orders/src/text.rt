@@ -54,7 +54,8 @@ fn filled(
     count: u8,
     took: &[Part],
 ) -> Result<(), AllocError>
-    ensures { OnOk result (out.new.items ≡ out.old.items ++ filled_text taken rest (take count took.now)) }
+    ensures { OnOk result (out.new.items
+        ≡ out.old.items ++ filled_text taken rest (take count took.now)) }
 {
     if taken == 0 {
         out.extend_from_slice(b"filled 0 rest ")?;
@@ -120,7 +121,8 @@ fn answer(
 }
 
 fn script(out: &mut Vec<u8>, replies: &Replies, caller: u32, lines: u32) -> Result<(), AllocError>
-    ensures { OnOk result (out.new.items ≡ out.old.items ++ script_text replies.now.replies caller lines) }
+    ensures { OnOk result (out.new.items
+        ≡ out.old.items ++ script_text replies.now.replies caller lines) }
 {
     for before in 0..lines {
         let line = before + 1;
@@ -130,7 +132,8 @@ fn script(out: &mut Vec<u8>, replies: &Replies, caller: u32, lines: u32) -> Resu
 }
 
 fn scripts(out: &mut Vec<u8>, scripts: &Scripts, replies: &Replies) -> Result<(), AllocError>
-    ensures { OnOk result (out.new.items ≡ out.old.items ++ replies_text scripts.now replies.now.replies) }
+    ensures { OnOk result (out.new.items
+        ≡ out.old.items ++ replies_text scripts.now replies.now.replies) }
 {
     for before in 0..scripts.callers() {
         let caller = before + 1;
@@ -213,8 +216,8 @@ fn done(out: &mut Vec<u8>, count: u32) -> Result<(), AllocError>
     out.extend_from_slice(b"\n")
 }
 
-/// The text of a report: each line's reply, the book that the contents stand for, and the number of lines. A
-/// line without a reply has no text. The contents have the maps of a book.
+/// The text of a report: each line's reply, the book that the contents stand for, and the number of
+/// lines. A line without a reply has no text. The contents have the maps of a book.
 pub fn report(
     alloc: Global,
     of: &Scripts,
@@ -222,7 +225,8 @@ pub fn report(
     contents: &Contents,
 ) -> Result<Vec<u8>, AllocError>
     requires { MAPS ≤ length contents.now.maps }
-    ensures { IfOk result (λ text. (book : Book) → StandsFor contents.now book → text.items ≡ report_text of.now replies.now.replies book) }
+    ensures { IfOk result (λ text. (book : Book) → StandsFor contents.now book
+        → text.items ≡ report_text of.now replies.now.replies book) }
 {
     let mut out = Vec::new(alloc);
     scripts(&mut out, of, replies)?;

@@ -15,4 +15,5 @@ with_replies replies caller n (r ∷ rs) = with_replies (with_reply replies call
 -- each reply suits the command of its line, of a caller's lines after its first n
 abbrev pub AllSuit : List (List Command) → ℕ → ℕ → List BookReply → Type 0
 AllSuit scripts caller n [] = Unit {0}
-AllSuit scripts caller n (r ∷ rs) = IsSomeAnd (at_line scripts caller (n + 1)) (λ c. Suits (c, r)) × AllSuit scripts caller (n + 1) rs
+AllSuit scripts caller n (r ∷ rs) =
+    IsSomeAnd (at_line scripts caller (n + 1)) (λ c. Suits (c, r)) × AllSuit scripts caller (n + 1) rs

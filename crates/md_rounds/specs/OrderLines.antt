@@ -20,15 +20,20 @@ abbrev pub line_count_of : List (List Command) → ℕ → ℕ
 line_count_of scripts caller = length (list_of scripts caller)
 
 -- there is a command at each line, and nowhere else
-pub has-line : (scripts : List (List Command)) (caller line : ℕ) → IsSome (at_line scripts caller line) ↔ ((1 ≤ line) × (line ≤ line_count_of scripts caller))
+pub has-line : (scripts : List (List Command)) (caller line : ℕ)
+    → IsSome (at_line scripts caller line) ↔ ((1 ≤ line) × (line ≤ line_count_of scripts caller))
 has-line scripts caller zero = ((λ some. absurd (false≢true some)), (λ within. absurd (omega (arith, within.0))))
 has-line scripts caller (suc l) = elim (slice_get_cases (list_of scripts caller) l).1 [
   | inl there ↦ ((λ some. (omega arith, let below = there.1 in omega arith)), (λ within. rw there.2 refl))
-  | inr past ↦ ((λ some. absurd (false≢true (rw past.1 at some))), (λ within. let low = past.0 in let high = within.1 in absurd (omega arith)))
+  | inr past ↦ (
+    (λ some. absurd (false≢true (rw past.1 at some))),
+    (λ within. let low = past.0 in let high = within.1 in absurd (omega arith)),
+  )
 ]
 
 -- who is no caller has no lines
-pub no-lines : (scripts : List (List Command)) (caller : ℕ) → (caller ≡ 0) ⊎ (length scripts < caller) → line_count_of scripts caller ≡ 0
+pub no-lines : (scripts : List (List Command)) (caller : ℕ)
+    → (caller ≡ 0) ⊎ (length scripts < caller) → line_count_of scripts caller ≡ 0
 no-lines scripts zero other = refl
 no-lines scripts (suc c) other = elim other [
   | inl none ↦ absurd (omega arith)

@@ -1,4 +1,5 @@
--- That replies and book are those of one thread which runs the committed commands in the order in which they became ready.
+-- That replies and book are those of one thread which runs the committed commands in the order in which they became
+-- ready.
 use Rattle.std.specs.Prelude.{◌≡◌, ℕ, ◌/◌, ◌%◌, ◌^◌, Option, Some, List, [], ◌∷◌, map, flat_map}
 use Rattle.std.specs.List.{filter_map}
 use Rattle.md_history.specs.declared.entries.Entry.{Entry}
@@ -46,14 +47,16 @@ DidEach _ _ _ = ⊥
 -- one by one, the line that a tag names has the reply
 abbrev pub RepliedEach : List (List (Option BookReply)) → List ℕ → List BookReply → Type 0
 RepliedEach replies [] [] = Unit {0}
-RepliedEach replies (tag ∷ tags) (r ∷ rs) = (reply_at replies (tag / 2 ^ 32) (tag % 2 ^ 32) ≡ Some r) × RepliedEach replies tags rs
+RepliedEach replies (tag ∷ tags) (r ∷ rs) =
+    (reply_at replies (tag / 2 ^ 32) (tag % 2 ^ 32) ≡ Some r) × RepliedEach replies tags rs
 RepliedEach replies _ _ = ⊥
 
 -- The committed entries of the fronts, in their order: they are the lines of the scripts, each once, each caller's in
--- order; their commands are a day of trading; each did its command with the reply that the book gives, where the commands
--- are folded over the empty book in that order; these are the replies and that is the book; and the fronts are legal from
--- the state without orders.
-pub record IsPlayed (scripts : List (List Command)) (fronts : List Front) (replies : List (List (Option BookReply))) (book : Book) : Type 0 where
+-- order; their commands are a day of trading; each did its command with the reply that the book gives, where the
+-- commands are folded over the empty book in that order; these are the replies and that is the book; and the fronts are
+-- legal from the state without orders.
+pub record IsPlayed (scripts : List (List Command)) (fronts : List Front)
+    (replies : List (List (Option BookReply))) (book : Book) : Type 0 where
   pub legal : AreDecidedAndLegal no_orders fronts
   pub each_once : IsInterleaving (line_count_of scripts) (tags_of (committed_of fronts))
   pub commands : List Command

@@ -18,7 +18,8 @@ use std::alloc::{AllocError, Global};
 /// How many lines are played before their replies are put where they are kept.
 const BATCH: u32 = 1_024;
 
-/// What the playing of scripts leaves: the replies of the lines, the contents, and the front of the round.
+/// What the playing of scripts leaves: the replies of the lines, the contents, and the front of the
+/// round.
 #[derive(Drop)]
 pub struct Played<P> {
     pub replies: Replies,
@@ -30,7 +31,9 @@ pub struct Played<P> {
 fn keep(replies: &mut Replies, done: u32, batch: &[BookReply])
     requires suit { AllSuit replies.old.scripts 1 done batch.now }
     requires few { done + length batch.now < 2 ^ 32 }
-    ensures { replies.new ≡ record replies.old { replies = with_replies replies.old.replies 1 done batch.now } }
+    ensures { replies.new ≡ record replies.old {
+      replies = with_replies replies.old.replies 1 done batch.now;
+    } }
 {
     let mut line = done;
     'replies: for reply in batch {
@@ -39,8 +42,9 @@ fn keep(replies: &mut Replies, done: u32, batch: &[BookReply])
     }
 }
 
-/// Plays the script of one caller over an engine without orders, in one round, and closes the engine. The pass
-/// holds all lanes, and the engine's attempts stop for want of memory alone. `AllocError` is that.
+/// Plays the script of one caller over an engine without orders, in one round, and closes the
+/// engine. The pass holds all lanes, and the engine's attempts stop for want of memory alone.
+/// `AllocError` is that.
 pub fn play_alone<E: Engine>(
     alloc: Global,
     engine: E,
@@ -52,7 +56,8 @@ pub fn play_alone<E: Engine>(
     requires front { E.front pass ≡ empty_front (E.lanes engine) }
     requires start { E.start engine ≡ no_orders }
     requires steady { StopsForMemory (E.may_stop engine) }
-    ensures { IfOk result (λ p. (book : Book) × StandsFor p.contents book × IsPlayed scripts.now (E.front p.front ∷ []) p.replies.replies book) }
+    ensures { IfOk result (λ p. (book : Book) × StandsFor p.contents book
+        × IsPlayed scripts.now (E.front p.front ∷ []) p.replies.replies book) }
 {
     commands_meet_the_book();
     empty_book_stands();

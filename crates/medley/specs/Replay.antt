@@ -9,7 +9,8 @@ use Rattle.md_orders.specs.Scripts.{AreScripts}
 use Rattle.md_orders.specs.Report.{report_text}
 use Rattle.md_rounds.specs.Replay.{IsPlayed}
 
--- the bytes are few records, read as scripts, which were played, and the text is the report of the replies and of the book
+-- the bytes are few records, read as scripts, which were played, and the text is the report of the replies and of the
+-- book
 pub record IsReplay (callers : ℕ) (bytes : List ℕ) (fronts : List Front) (text : List ℕ) : Type 0 where
   pub few : AreFewRecords (order_records bytes)
   pub scripts : List (List Command)

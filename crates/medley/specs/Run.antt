@@ -112,18 +112,31 @@ module _ {I : Type 0} (gives : Step I) (left : I → Option (List ℕ)) (faults 
   IsBadInput =
       IsOverlong gives left faults old new
       ⊎ ((bytes : List ℕ) × IsRead gives left faults old new bytes × (¬ AreFewRecords (order_records bytes)))
-      ⊎ ((bytes : List ℕ) × (n : ℕ) × IsRead gives left faults old new bytes × (first_bad 1 (order_records bytes) ≡ Some n))
+      ⊎ ((bytes : List ℕ) × (n : ℕ)
+      × IsRead gives left faults old new bytes × (first_bad 1 (order_records bytes) ≡ Some n))
 
   -- why a run stopped before its report
   abbrev pub StopsWith : Status → Type 0
   StopsWith Usage = new ≡ old
-  StopsWith (BadLine n) = (bytes : List ℕ) × IsRead gives left faults old new bytes × AreFewRecords (order_records bytes) × (first_bad 1 (order_records bytes) ≡ Some n)
+  StopsWith (BadLine n) = (bytes : List ℕ) × IsRead gives left faults old new bytes
+      × AreFewRecords (order_records bytes) × (first_bad 1 (order_records bytes) ≡ Some n)
   StopsWith ReadFault = HasReadFault gives left faults old new
   StopsWith TooLong = IsOverlong gives left faults old new
-  StopsWith TooMany = (bytes : List ℕ) × IsRead gives left faults old new bytes × (¬ AreFewRecords (order_records bytes))
-  StopsWith NoMemory = (bytes : List ℕ) × (IsReadInPart gives left faults old new bytes ⊎ IsRead gives left faults old new bytes)
+  StopsWith TooMany = (bytes : List ℕ) × IsRead gives left faults old new bytes
+      × (¬ AreFewRecords (order_records bytes))
+  StopsWith NoMemory = (bytes : List ℕ)
+      × (IsReadInPart gives left faults old new bytes ⊎ IsRead gives left faults old new bytes)
   StopsWith Done = ⊥
   StopsWith WriteFault = ⊥
+
+-- where the input isn't bad and no read or write failed, the run is done or found no memory
+abbrev pub EndsWell : {I O : Type 0} → Step I → (I → Option (List ℕ)) → (I → ℕ) → I → I → (O → ℕ) → O → O
+    → Status → Type 0
+EndsWell gives left read_faults input input' write_faults output output' status =
+    ¬ Rose (read_faults input) (read_faults input')
+    → ¬ Rose (write_faults output) (write_faults output')
+    → ¬ IsBadInput gives left read_faults input input'
+    → (status ≡ Done) ⊎ (status ≡ NoMemory)
 
 -- A run, by its source and its sink before and after, and by its fronts.
 module _ {I : Type 0} (gives : Step I) (left : I → Option (List ℕ)) (read_faults : I → ℕ) (input input' : I)
@@ -131,12 +144,15 @@ module _ {I : Type 0} (gives : Step I) (left : I → Option (List ℕ)) (read_fa
     (fronts : List Front) where
   -- it stopped before its report, without a round, and told why
   abbrev pub Stopped : Status → Type 0
-  Stopped status = StopsWith gives left read_faults input input' status × (fronts ≡ []) × Tells takes holds write_faults output output' (status_text status)
+  Stopped status = StopsWith gives left read_faults input input' status × (fronts ≡ [])
+      × Tells takes holds write_faults output output' (status_text status)
 
   -- what a run answers
   abbrev pub Answers : Status → Type 0
-  Answers Done = (text : List ℕ) × IsReplayed gives left read_faults input input' fronts text × IsWritten takes holds write_faults output output' text
-  Answers WriteFault = (text : List ℕ) × IsReplayed gives left read_faults input input' fronts text × HasWriteFault takes holds write_faults output output' text
+  Answers Done = (text : List ℕ) × IsReplayed gives left read_faults input input' fronts text
+      × IsWritten takes holds write_faults output output' text
+  Answers WriteFault = (text : List ℕ) × IsReplayed gives left read_faults input input' fronts text
+      × HasWriteFault takes holds write_faults output output' text
   Answers Usage = Stopped Usage
   Answers (BadLine n) = Stopped (BadLine n)
   Answers ReadFault = Stopped ReadFault

@@ -20,10 +20,14 @@ const MAX_BYTES: usize = 67_108_864;
 /// All the bytes of a source, to its end. One byte at most is read past what an input may have, and
 /// then no memory is asked for it.
 pub fn read_all<I: Source>(alloc: Global, input: &mut I) -> Result<Vec<u8>, InputFault>
-    ensures read { IfOk result (λ bytes. IsRead I.gives I.left I.faults input.old input.new bytes.items) }
-    ensures too_long { IsErrOf result InputFault.TooLong → IsOverlong I.gives I.left I.faults input.old input.new }
-    ensures read_fault { IsErrOf result InputFault.ReadFault → HasReadFault I.gives I.left I.faults input.old input.new }
-    ensures no_memory { IsErrOf result InputFault.NoMemory → (bytes : List ℕ) × IsReadInPart I.gives I.left I.faults input.old input.new bytes }
+    ensures read { IfOk result (λ bytes.
+        IsRead I.gives I.left I.faults input.old input.new bytes.items) }
+    ensures too_long { IsErrOf result InputFault.TooLong
+        → IsOverlong I.gives I.left I.faults input.old input.new }
+    ensures read_fault { IsErrOf result InputFault.ReadFault
+        → HasReadFault I.gives I.left I.faults input.old input.new }
+    ensures no_memory { IsErrOf result InputFault.NoMemory → (bytes : List ℕ)
+        × IsReadInPart I.gives I.left I.faults input.old input.new bytes }
 {
     let mut bytes = Vec::new(alloc);
     let mut piece = [0; 8192];

@@ -10,8 +10,10 @@ use md_outside::{Failed, Sink};
 
 /// Writes a text, and stops at the first write that fails.
 pub fn write_all<O: Sink>(output: &mut O, text: &[u8]) -> Result<(), Failed>
-    ensures whole { OnOk result (IsWritten O.takes O.holds O.faults output.old output.new text.now) }
-    ensures fault { OnErr result (HasWriteFault O.takes O.holds O.faults output.old output.new text.now) }
+    ensures whole { OnOk result
+        (IsWritten O.takes O.holds O.faults output.old output.new text.now) }
+    ensures fault { OnErr result
+        (HasWriteFault O.takes O.holds O.faults output.old output.new text.now) }
 {
     let mut at = 0;
     'writes: while at < text.len() {

@@ -15,7 +15,8 @@ use std::alloc::{AllocError, Global};
 /// Plays the script of one caller over an empty store.
 pub fn play(alloc: Global, scripts: &Scripts) -> Result<Played<PlainPass>, AllocError>
     requires { length scripts.now ≡ 1 }
-    ensures { IfOk result (λ p. (book : Book) × StandsFor p.contents book × IsPlayed scripts.now (front_of p.front ∷ []) p.replies.replies book) }
+    ensures { IfOk result (λ p. (book : Book) × StandsFor p.contents book
+        × IsPlayed scripts.now (front_of p.front ∷ []) p.replies.replies book) }
 {
     let contents = Contents::empty(alloc, MAPS, LEVELS)?;
     let (store, pass) = PlainStore::open(contents);

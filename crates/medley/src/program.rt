@@ -3,9 +3,8 @@
 ghost use Rattle.std.specs.Prelude.{◌≡◌, ◌⊎◌, Some, List, ℕ, map, drop, string_bytes, IfOk, IsErr};
 ghost use Rattle.std.specs.Vec.Iter.{into_iter_items};
 ghost use Rattle.md_history.specs.Plain.{front_of};
-ghost use Rattle.md_outside.specs.Causes.{Rose};
 ghost use Rattle.medley.specs.Words.{texts, words_in, HasAcceptedWords, WantsMemory};
-ghost use Rattle.medley.specs.Run.{Answers, IsBadInput, IsGood};
+ghost use Rattle.medley.specs.Run.{Answers, EndsWell, IsBadInput, IsGood};
 
 use crate::run::{run, stop};
 use crate::status::{Run, Status};
@@ -41,21 +40,29 @@ fn words(alloc: Global, args: Args) -> Result<Vec<String>, AllocError>
 
 /// Runs with the words that the system gave: its arguments but for the first, the program's name.
 ///
-/// Arguments of which one isn't text are no words that are accepted, so the answer is `Usage`. The answer
-/// is `NoMemory` where the system found no memory for them. In both cases nothing is read.
+/// Arguments of which one isn't text are no words that are accepted, so the answer is `Usage`. The
+/// answer is `NoMemory` where the system found no memory for them. In both cases nothing is read.
 pub fn run_program<I: Source, O: Sink>(
     alloc: Global,
     args: io::Result<Args>,
     input: &mut I,
     output: &mut O,
 ) -> Run
-    ensures answers { Answers I.gives I.left I.faults input.old input.new O.takes O.holds O.faults output.old output.new (map front_of result.fronts.items) result.status }
-    ensures usage { result.status ≡ Status.Usage → (¬ HasAcceptedWords args) × (¬ WantsMemory args) }
-    ensures refused { ¬ HasAcceptedWords args → ((result.status ≡ Status.Usage) ⊎ (result.status ≡ Status.NoMemory)) × (input.new ≡ input.old) }
+    ensures answers { Answers I.gives I.left I.faults input.old input.new
+        O.takes O.holds O.faults output.old output.new
+        (map front_of result.fronts.items) result.status }
+    ensures usage { result.status ≡ Status.Usage
+        → (¬ HasAcceptedWords args) × (¬ WantsMemory args) }
+    ensures refused { ¬ HasAcceptedWords args
+        → ((result.status ≡ Status.Usage) ⊎ (result.status ≡ Status.NoMemory))
+        × (input.new ≡ input.old) }
     ensures no_text { IsErr args → ¬ WantsMemory args → result.status ≡ Status.Usage }
     ensures no_memory { WantsMemory args → result.status ≡ Status.NoMemory }
-    ensures complete { HasAcceptedWords args → ¬ Rose (I.faults input.old) (I.faults input.new) → ¬ Rose (O.faults output.old) (O.faults output.new) → ¬ IsBadInput I.gives I.left I.faults input.old input.new → (result.status ≡ Status.Done) ⊎ (result.status ≡ Status.NoMemory) }
-    ensures told { (bytes : List ℕ) → I.left input.old ≡ Some bytes → IsGood bytes → ¬ IsBadInput I.gives I.left I.faults input.old input.new }
+    ensures complete { HasAcceptedWords args
+        → EndsWell I.gives I.left I.faults input.old input.new
+        O.faults output.old output.new result.status }
+    ensures told { (bytes : List ℕ) → I.left input.old ≡ Some bytes → IsGood bytes
+        → ¬ IsBadInput I.gives I.left I.faults input.old input.new }
 {
     let args = match args {
         Ok(args) => args,

@@ -1,10 +1,9 @@
 //! The top call: words and input in, report out.
 
-ghost use Rattle.std.specs.Prelude.{◌≡◌, ◌≢◌, ◌↔◌, ◌⊎◌, Some, List, ℕ, [], map, IfOk, IfErr};
+ghost use Rattle.std.specs.Prelude.{◌≡◌, ◌≢◌, ◌↔◌, Some, List, ℕ, [], map, IfOk, IfErr};
 ghost use Rattle.md_history.specs.Plain.{front_of};
-ghost use Rattle.md_outside.specs.Causes.{Rose};
 ghost use Rattle.medley.specs.Words.{texts, AreAccepted};
-ghost use Rattle.medley.specs.Run.{Answers, StopsWith, IsReplayed, IsBadInput, IsGood, Tells, status_text};
+ghost use Rattle.medley.specs.Run.{Answers, EndsWell, StopsWith, IsReplayed, IsBadInput, IsGood, Tells, status_text};
 
 use crate::input::read_all;
 use crate::output::{tell, write_all};
@@ -24,7 +23,8 @@ struct Replayed {
 
 // Reads the input, plays it with one caller, and builds the report.
 fn replay<I: Source>(alloc: Global, input: &mut I) -> Result<Replayed, Status>
-    ensures replayed { IfOk result (λ w. IsReplayed I.gives I.left I.faults input.old input.new (map front_of w.fronts.items) w.text.items) }
+    ensures replayed { IfOk result (λ w. IsReplayed I.gives I.left I.faults
+        input.old input.new (map front_of w.fronts.items) w.text.items) }
     ensures stops { IfErr result (StopsWith I.gives I.left I.faults input.old input.new) }
     ensures usage { IfErr result (λ status. status ≢ Status.Usage) }
 {
@@ -52,15 +52,21 @@ pub fn stop<O: Sink>(alloc: Global, output: &mut O, status: Status) -> Run
 
 /// Replays the input and writes the report.
 ///
-/// No words are accepted so far: with any, nothing is read and the answer is `Usage`. The input is read
-/// to its end, its records are played in order by one caller, and the report is written: each reply and
-/// then the book. Each other answer has its cause at the source, in the input, at the sink or in memory.
-/// Without words, where the input isn't bad and no read or write fails, the answer is `Done` or `NoMemory`.
+/// No words are accepted so far: with any, nothing is read and the answer is `Usage`. The input is
+/// read to its end, its records are played in order by one caller, and the report is written: each
+/// reply and then the book. Each other answer has its cause at the source, in the input, at the
+/// sink or in memory. Without words, where the input isn't bad and no read or write fails, the
+/// answer is `Done` or `NoMemory`.
 pub fn run<I: Source, O: Sink>(alloc: Global, words: &[&str], input: &mut I, output: &mut O) -> Run
-    ensures answers { Answers I.gives I.left I.faults input.old input.new O.takes O.holds O.faults output.old output.new (map front_of result.fronts.items) result.status }
+    ensures answers { Answers I.gives I.left I.faults input.old input.new
+        O.takes O.holds O.faults output.old output.new
+        (map front_of result.fronts.items) result.status }
     ensures usage { (result.status ≡ Status.Usage) ↔ (¬ AreAccepted (texts words.now)) }
-    ensures complete { AreAccepted (texts words.now) → ¬ Rose (I.faults input.old) (I.faults input.new) → ¬ Rose (O.faults output.old) (O.faults output.new) → ¬ IsBadInput I.gives I.left I.faults input.old input.new → (result.status ≡ Status.Done) ⊎ (result.status ≡ Status.NoMemory) }
-    ensures told { (bytes : List ℕ) → I.left input.old ≡ Some bytes → IsGood bytes → ¬ IsBadInput I.gives I.left I.faults input.old input.new }
+    ensures complete { AreAccepted (texts words.now)
+        → EndsWell I.gives I.left I.faults input.old input.new
+        O.faults output.old output.new result.status }
+    ensures told { (bytes : List ℕ) → I.left input.old ≡ Some bytes → IsGood bytes
+        → ¬ IsBadInput I.gives I.left I.faults input.old input.new }
 {
     if !words.is_empty() {
         return stop(alloc, output, Status::Usage);

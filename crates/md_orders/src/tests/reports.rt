@@ -114,8 +114,9 @@ fn set_all(replies: &mut Replies, scripts: &Scripts, count: u8)
 #[test]
 fn a_report_has_its_text(rt: HostRuntime) -> Result<(), Fail> {
     let alloc = rt.alloc();
-    let orders =
-        b"2,D,S,3\n1,P,7,S,100,5\n2,D,S,4\n2,P,7,S,100,5\n2,C,1,1\n2,F,8,S,100,1000000\n2,K,8,S,100,3\n2,A,7\n".as_slice();
+    let orders = b"2,D,S,3\n1,P,7,S,100,5\n2,D,S,4\n2,P,7,S,100,5\n2,C,1,1\n\
+        2,F,8,S,100,1000000\n2,K,8,S,100,3\n2,A,7\n"
+        .as_slice();
     let Ok(scripts) = read_orders(alloc, orders, 2) else {
         return Err(Fail::new("refused"));
     };
@@ -147,8 +148,11 @@ fn a_report_has_its_text(rt: HostRuntime) -> Result<(), Fail> {
     ];
     let contents = contents_of(alloc, &values)?;
     let text = report(alloc, &scripts, &replies, &contents)?;
-    let want =
-        b"2:2 depth 18446744073709551615\n2:3 placed\n2:4 cancelled 5\n2:5 filled 1000000 rest 0 from 64:1000000=1000000\n2:6 killed\n2:7 bought 5 sold 6\nB 1 4\nB 1000 5\nS 1 6\nS 1000 7\naccount 1 bought 0 sold 2\naccount 9999 bought 3 sold 0\ndone 8\n".as_slice();
+    let want = b"2:2 depth 18446744073709551615\n2:3 placed\n2:4 cancelled 5\n\
+        2:5 filled 1000000 rest 0 from 64:1000000=1000000\n2:6 killed\n2:7 bought 5 sold 6\n\
+        B 1 4\nB 1000 5\nS 1 6\nS 1000 7\n\
+        account 1 bought 0 sold 2\naccount 9999 bought 3 sold 0\ndone 8\n"
+        .as_slice();
     assert_eq!(rt; text.as_slice(), want);
     Ok(())
 }
@@ -168,19 +172,23 @@ fn each_line_has_its_text(rt: HostRuntime) -> Result<(), Fail> {
             b"1,F,8,S,100,2\n",
             2,
             &[(SOLD, 7, 2), (BOUGHT, 8, 2)],
-            b"1:1 filled 2 rest 0 from 1:1=1 1:2=1\naccount 7 bought 0 sold 2\naccount 8 bought 2 sold 0\ndone 1\n",
+            b"1:1 filled 2 rest 0 from 1:1=1 1:2=1\n\
+              account 7 bought 0 sold 2\naccount 8 bought 2 sold 0\ndone 1\n",
         ),
         (
             b"1,F,8,S,100,5\n",
             4,
             &[(DEPTHS, 1_099, 1), (SOLD, 7, 4), (BOUGHT, 8, 4)],
-            b"1:1 filled 4 rest 1 from 1:1=1 1:2=1 1:3=1 1:4=1\nS 100 1\naccount 7 bought 0 sold 4\naccount 8 bought 4 sold 0\ndone 1\n",
+            b"1:1 filled 4 rest 1 from 1:1=1 1:2=1 1:3=1 1:4=1\nS 100 1\n\
+              account 7 bought 0 sold 4\naccount 8 bought 4 sold 0\ndone 1\n",
         ),
         (
             b"medley,2\n64,F,8,S,100,12\n1,K,8,S,100,1\n",
             12,
             &[(SOLD, 7, 12), (BOUGHT, 8, 12)],
-            b"1:1 killed\n64:1 filled 12 rest 0 from 1:1=1 1:2=1 1:3=1 1:4=1 1:5=1 1:6=1 1:7=1 1:8=1 1:9=1 1:10=1 1:11=1 1:12=1\naccount 7 bought 0 sold 12\naccount 8 bought 12 sold 0\ndone 2\n",
+            b"1:1 killed\n64:1 filled 12 rest 0 from 1:1=1 1:2=1 1:3=1 1:4=1 1:5=1 1:6=1 \
+              1:7=1 1:8=1 1:9=1 1:10=1 1:11=1 1:12=1\n\
+              account 7 bought 0 sold 12\naccount 8 bought 12 sold 0\ndone 2\n",
         ),
     ];
     for (orders, count, values, want) in rows {

@@ -1,4 +1,5 @@
-//! The program from its arguments to its exit status, and streams of std that fail once or end early.
+//! The program from its arguments to its exit status, and streams of std that fail once or end
+//! early.
 
 use crate::program::run_program;
 use crate::run::run;
@@ -22,7 +23,8 @@ fn args_of(alloc: Global, texts: &[&str]) -> Result<Args, AllocError> {
     Ok(args.into_iter())
 }
 
-// Runs with arguments, and compares the answer, what was written, and how much of the input is left.
+// Runs with arguments, and compares the answer, what was written, and how much of the input is
+// left.
 fn expect(
     rt: &impl Abort,
     alloc: Global,
@@ -110,8 +112,8 @@ fn each_status_has_its_exit(rt: HostRuntime) -> Result<(), Fail> {
     Ok(())
 }
 
-// The one word of a test's process is the test's name. So this drives the program on its real words,
-// which it doesn't accept, and on its real output.
+// The one word of a test's process is the test's name. So this drives the program on its real
+// words, which it doesn't accept, and on its real output.
 #[test]
 fn the_program_is_given_its_words(rt: HostRuntime) -> Result<(), Fail> {
     assert_eq!(rt; env::args(&rt)?.len(), 2);

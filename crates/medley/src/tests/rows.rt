@@ -31,7 +31,8 @@ fn inputs(rt: HostRuntime) -> Result<(), Fail> {
         ),
         // A fill looks at four places: four orders, or four that were cancelled.
         (
-            "1,P,7,S,100,1\n1,P,7,S,100,1\n1,P,7,S,100,1\n1,P,7,S,100,1\n1,P,7,S,100,1\n1,F,8,S,100,5\n",
+            "1,P,7,S,100,1\n1,P,7,S,100,1\n1,P,7,S,100,1\n1,P,7,S,100,1\n1,P,7,S,100,1\n\
+             1,F,8,S,100,5\n",
             "1:1 placed\n1:2 placed\n1:3 placed\n1:4 placed\n1:5 placed\n\
              1:6 filled 4 rest 1 from 1:1=1 1:2=1 1:3=1 1:4=1\nS 100 1\n\
              account 7 bought 0 sold 4\naccount 8 bought 4 sold 0\ndone 6\n",
@@ -58,7 +59,8 @@ fn inputs(rt: HostRuntime) -> Result<(), Fail> {
             "1,P,7,S,100,5\n1,P,8,S,100,3\n1,P,9,S,100,2\n1,C,1,2\n1,F,4,S,100,5\n1,F,4,S,100,1\n",
             "1:1 placed\n1:2 placed\n1:3 placed\n1:4 cancelled 3\n\
              1:5 filled 5 rest 0 from 1:1=5\n1:6 filled 1 rest 0 from 1:3=1\nS 100 1\n\
-             account 4 bought 6 sold 0\naccount 7 bought 0 sold 5\naccount 9 bought 0 sold 1\ndone 6\n",
+             account 4 bought 6 sold 0\naccount 7 bought 0 sold 5\naccount 9 bought 0 sold 1\n\
+             done 6\n",
         ),
         // An order is passed when it is emptied, and one that comes later is found.
         (
@@ -79,17 +81,21 @@ fn inputs(rt: HostRuntime) -> Result<(), Fail> {
         ),
         (
             "1,P,7,S,10,5\n1,P,8,S,10,5\n1,F,7,S,10,7\n1,A,7\n",
-            "1:1 placed\n1:2 placed\n1:3 filled 7 rest 0 from 1:1=5 1:2=2\n1:4 bought 7 sold 5\nS 10 3\n\
-             account 7 bought 7 sold 5\naccount 8 bought 0 sold 2\ndone 4\n",
+            "1:1 placed\n1:2 placed\n1:3 filled 7 rest 0 from 1:1=5 1:2=2\n1:4 bought 7 sold 5\n\
+             S 10 3\naccount 7 bought 7 sold 5\naccount 8 bought 0 sold 2\ndone 4\n",
         ),
         // Both sides of one price.
         (
-            "1,P,1,B,500,10\n1,P,2,S,500,10\n1,F,3,B,500,4\n1,F,3,S,500,6\n1,A,3\n1,A,2\n1,D,B,500\n1,D,S,500\n",
-            "1:1 placed\n1:2 placed\n1:3 filled 4 rest 0 from 1:1=4\n1:4 filled 6 rest 0 from 1:2=6\n\
-             1:5 bought 6 sold 4\n1:6 bought 0 sold 6\n1:7 depth 6\n1:8 depth 4\nB 500 6\nS 500 4\n\
-             account 1 bought 4 sold 0\naccount 2 bought 0 sold 6\naccount 3 bought 6 sold 4\ndone 8\n",
+            "1,P,1,B,500,10\n1,P,2,S,500,10\n1,F,3,B,500,4\n1,F,3,S,500,6\n1,A,3\n1,A,2\n\
+             1,D,B,500\n1,D,S,500\n",
+            "1:1 placed\n1:2 placed\n1:3 filled 4 rest 0 from 1:1=4\n\
+             1:4 filled 6 rest 0 from 1:2=6\n1:5 bought 6 sold 4\n1:6 bought 0 sold 6\n\
+             1:7 depth 6\n1:8 depth 4\nB 500 6\nS 500 4\n\
+             account 1 bought 4 sold 0\naccount 2 bought 0 sold 6\naccount 3 bought 6 sold 4\n\
+             done 8\n",
         ),
-        // Cancels of what is no open order: its own line, a later one, other callers', a depth, a filled order.
+        // Cancels of what is no open order: its own line, a later one, other callers', a depth, a
+        // filled order.
         ("1,C,1,1\n", "1:1 gone\ndone 1\n"),
         (
             "1,C,1,2\n1,P,7,S,100,5\n1,C,2,1\n1,C,8,1000000\n1,D,S,1\n1,C,1,5\n",
@@ -118,7 +124,8 @@ fn inputs(rt: HostRuntime) -> Result<(), Fail> {
         ("1,D,B,1\n", "1:1 depth 0\ndone 1\n"),
         (
             "1,P,7,S,100,5\n1,A,7\n1,F,9,B,100,4\n1,A,9\n",
-            "1:1 placed\n1:2 bought 0 sold 0\n1:3 filled 0 rest 4\n1:4 bought 0 sold 0\nS 100 5\ndone 4\n",
+            "1:1 placed\n1:2 bought 0 sold 0\n1:3 filled 0 rest 4\n1:4 bought 0 sold 0\n\
+             S 100 5\ndone 4\n",
         ),
         // Levels and accounts are printed in their order, whatever that of the orders.
         (
@@ -148,12 +155,15 @@ fn inputs(rt: HostRuntime) -> Result<(), Fail> {
              account 7 bought 0 sold 5\naccount 8 bought 5 sold 0\ndone 3\n",
         ),
         (
-            "1,P,7,S,100,1\n1,P,7,S,100,1\n1,P,7,S,100,1\n1,P,7,S,100,1\n1,P,7,S,100,1\n1,K,8,S,100,5\n",
-            "1:1 placed\n1:2 placed\n1:3 placed\n1:4 placed\n1:5 placed\n1:6 killed\nS 100 5\ndone 6\n",
+            "1,P,7,S,100,1\n1,P,7,S,100,1\n1,P,7,S,100,1\n1,P,7,S,100,1\n1,P,7,S,100,1\n\
+             1,K,8,S,100,5\n",
+            "1:1 placed\n1:2 placed\n1:3 placed\n1:4 placed\n1:5 placed\n1:6 killed\n\
+             S 100 5\ndone 6\n",
         ),
         // Version 2: more places, and the version's record is no line.
         (
-            "medley,2\n1,P,7,S,100,1\n1,P,7,S,100,1\n1,P,7,S,100,1\n1,P,7,S,100,1\n1,P,7,S,100,1\n1,F,8,S,100,5\n",
+            "medley,2\n1,P,7,S,100,1\n1,P,7,S,100,1\n1,P,7,S,100,1\n1,P,7,S,100,1\n\
+             1,P,7,S,100,1\n1,F,8,S,100,5\n",
             "1:1 placed\n1:2 placed\n1:3 placed\n1:4 placed\n1:5 placed\n\
              1:6 filled 5 rest 0 from 1:1=1 1:2=1 1:3=1 1:4=1 1:5=1\n\
              account 7 bought 0 sold 5\naccount 8 bought 5 sold 0\ndone 6\n",
