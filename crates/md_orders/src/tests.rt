@@ -1,4 +1,5 @@
 //! What no clause says: that calls succeed, and bytes, commands and reports from outside.
 
+mod longest;
 mod reading;
 mod reports;

@@ -3,7 +3,7 @@
 ghost use Rattle.std.specs.Prelude.{◌≡◌, length, IfOk};
 
 use crate::alone::play_alone;
-use md_book::{BookReply, DEPTHS, LEVELS, MAPS};
+use md_book::{BookReply, DEPTHS, LEVELS, MAPS, MAX_PARTS, Part, order_name};
 use md_history::{Contents, PlainStore};
 use md_orders::{Scripts, read_orders};
 use std::alloc::{AllocError, Global};
@@ -31,27 +31,64 @@ fn one_caller_alone(rt: HostRuntime) -> Result<(), Fail> {
     Ok(())
 }
 
-// More lines than one batch has: each reply stands at its own line.
+// An order, a fill of a part, a kill that finds too little, one that finds enough, a cancel of what
+// is left, and two looks; so many times, one after another.
+fn cycles(alloc: Global, count: u32) -> Result<String, Fail> {
+    let mut text = String::new(alloc);
+    for cycle in 0..count {
+        let first = cycle.saturating_mul(7).saturating_add(1);
+        text.push_str("1,P,7,S,100,5\n1,F,8,S,100,3\n1,K,8,S,100,3\n1,K,8,S,100,1\n")?;
+        writeln!(text, "1,C,1,{first}\n1,D,S,100\n1,A,8")?;
+    }
+    Ok(text)
+}
+
+// The reply to a fill or a kill that took all that it asked for, from the order of one line.
+fn filled(line: u32, taken: u32) -> BookReply {
+    let mut parts = [Part { name: 0, taken: 0 }; MAX_PARTS];
+    parts[0] = Part {
+        name: order_name(1, line),
+        taken,
+    };
+    BookReply::Filled {
+        taken,
+        rest: 0,
+        count: 1,
+        parts,
+    }
+}
+
+// The replies of a cycle, which begins at a line.
+fn replies_of(first: u32, cycle: u32) -> [BookReply; 7] {
+    [
+        BookReply::Placed,
+        filled(first, 3),
+        BookReply::Killed,
+        filled(first, 1),
+        BookReply::Cancelled(1),
+        BookReply::Depth(0),
+        BookReply::Account {
+            bought: u64::from(cycle).saturating_add(1).saturating_mul(4),
+            sold: 0,
+        },
+    ]
+}
+
+// More lines than many batches have, and more than 16 bits count: each reply stands at its own line.
 #[test]
 fn batches_of_lines(rt: HostRuntime) -> Result<(), Fail> {
     let alloc = rt.alloc();
-    let mut text = String::new(alloc);
-    for _ in 0..1_500 {
-        text.push_str("1,P,7,S,100,1\n1,D,S,100\n")?;
-    }
+    let text = cycles(alloc, 10_000)?;
     let scripts = script_of(alloc, text.as_str())?;
     let (store, pass) = PlainStore::open(Contents::empty(alloc, MAPS, LEVELS)?);
     let played = play_alone(alloc, store, pass, &scripts)?;
-    for (line, want) in [
-        (1_023, BookReply::Placed),
-        (1_024, BookReply::Depth(512)),
-        (1_025, BookReply::Placed),
-        (1_026, BookReply::Depth(513)),
-        (2_999, BookReply::Placed),
-        (3_000, BookReply::Depth(1_500)),
-    ] {
-        assert_eq!(rt; played.replies.get(1, line), Some(want), "at {line}");
+    for cycle in 0..10_000_u32 {
+        let first = cycle.saturating_mul(7).saturating_add(1);
+        for (place, want) in replies_of(first, cycle).iter().enumerate() {
+            let line = first.saturating_add(place as u32);
+            assert_eq!(rt; played.replies.get(1, line), Some(*want), "at {line}");
+        }
     }
-    assert_eq!(rt; played.replies.get(1, 3_001), None);
+    assert_eq!(rt; played.replies.get(1, 70_001), None);
     Ok(())
 }

@@ -11,7 +11,7 @@ use std::alloc::Global;
 use std::test::Fail;
 
 // A book's maps with values in them: a map, a key and a value each.
-fn contents_of(alloc: Global, values: &[(u32, u64, u64)]) -> Result<Contents, Fail>
+pub(crate) fn contents_of(alloc: Global, values: &[(u32, u64, u64)]) -> Result<Contents, Fail>
     ensures { IfOk result (λ contents. MAPS ≤ length contents.maps) }
 {
     let mut contents = Contents::empty(alloc, MAPS, 0)?;
@@ -72,12 +72,42 @@ fn filled(quantity: u32, count: u8) -> BookReply
     }
 }
 
-// A reply that suits a command: of a fill so many parts, where it has the places and the quantity.
+// The fill of a million with the longest text: twelve parts from the last order that there can be,
+// where the parts, their sum and what remains have as many digits as they can.
+fn longest_fill() -> BookReply
+    ensures { IsTaken 1000000 12 result }
+{
+    let name = order_name(64, 1_000_000);
+    let large = Part {
+        name,
+        taken: 100_000,
+    };
+    let small = Part {
+        name,
+        taken: 25_000,
+    };
+    BookReply::Filled {
+        taken: 900_000,
+        rest: 100_000,
+        count: 12,
+        parts: [
+            large, large, large, large, large, large, large, large, small, small, small, small,
+        ],
+    }
+}
+
+// A reply that suits a command: of a fill so many parts, where it has the places and the quantity,
+// and the longest where it asks for a million of twelve places.
 fn reply_with(command: Command, count: u8) -> BookReply
     requires { IsCommand command }
     ensures { Suits (command, result) }
 {
     match command {
+        Command::Fill {
+            quantity: 1_000_000,
+            places: 12,
+            ..
+        } => longest_fill(),
         Command::Fill {
             quantity,
             places,
@@ -102,7 +132,7 @@ fn set_lines(replies: &mut Replies, scripts: &Scripts, caller: u32, first: u32, 
 }
 
 // Sets such a reply at each line of each caller.
-fn set_all(replies: &mut Replies, scripts: &Scripts, count: u8)
+pub(crate) fn set_all(replies: &mut Replies, scripts: &Scripts, count: u8)
     requires { replies.old.scripts ≡ scripts.now }
     ensures { replies.new.scripts ≡ scripts.now }
 {
