@@ -4,7 +4,8 @@ use Rattle.md_history.specs.Script.{Script}
 use Rattle.md_book.specs.declared.commands.Command.{Command}
 use Rattle.md_book.specs.declared.commands.Command.TheVariants.{Place, Cancel, Fill, Kill, Depth, Account}
 use Rattle.md_book.specs.declared.commands.BookReply.{BookReply}
-use Rattle.md_book.specs.declared.limits.TheConstants.{PLACES_IN_VERSION_1, PLACES_IN_VERSION_2, MAX_CALLER, MAX_LINE, MAX_QUANTITY}
+use Rattle.md_book.specs.declared.limits.TheConstants.{PLACES_IN_VERSION_1, PLACES_IN_VERSION_2, MAX_CALLER, MAX_LINE}
+use Rattle.md_book.specs.declared.limits.TheConstants.{MAX_QUANTITY}
 use Rattle.md_book.specs.declared.maps.TheConstants.{MAPS, LEVELS}
 use Rattle.md_book.specs.Book.{IsAccount, IsPrice}
 use Rattle.md_book.specs.Scripts.{place, cancel, look_depth, look_account}

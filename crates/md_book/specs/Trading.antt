@@ -1,5 +1,6 @@
 -- What a run of commands comes to, told by the commands and their replies.
-use Rattle.std.specs.Prelude.{◌≡◌, ◌⊎◌, ℕ, ◌+◌, ◌==◌, ◌&&◌, nat_eq, Bool, true, false, if◌then◌else◌, List, [], ◌∷◌, sum_by, All, Contains}
+use Rattle.std.specs.Prelude.{◌≡◌, ◌⊎◌, ℕ, ◌+◌, ◌==◌, ◌&&◌, nat_eq, Bool, true, false, if◌then◌else◌, List, [], ◌∷◌}
+use Rattle.std.specs.Prelude.{sum_by, All, Contains}
 use Rattle.std.specs.List.{IsDistinct, zip, list_any, range_with_len}
 use Rattle.md_book.specs.declared.commands.Side.{Side}
 use Rattle.md_book.specs.declared.commands.Side.TheVariants.{Buy, Sell}

@@ -1,5 +1,6 @@
 -- The text of a report: each command's reply, the book, and the number of commands. Each line ends with a line feed.
-use Rattle.std.specs.Prelude.{ℕ, zero, suc, ◌/◌, ◌%◌, ◌^◌, ◌==◌, ◌&&◌, if◌then◌else◌, Option, Some, None, List, [], ◌++◌, length, take, codes, decimal, flat_map, unwrap_or}
+use Rattle.std.specs.Prelude.{ℕ, zero, suc, ◌/◌, ◌%◌, ◌^◌, ◌==◌, ◌&&◌, if◌then◌else◌, Option, Some, None, List, []}
+use Rattle.std.specs.Prelude.{◌++◌, length, take, codes, decimal, flat_map, unwrap_or}
 use Rattle.std.specs.FinMap as fin
 use Rattle.md_history.specs.State.{State, map_at}
 use Rattle.md_book.specs.declared.commands.Side.{Side}
@@ -7,7 +8,8 @@ use Rattle.md_book.specs.declared.commands.Side.TheVariants.{Buy, Sell}
 use Rattle.md_book.specs.declared.commands.Part.{Part}
 use Rattle.md_book.specs.declared.commands.Command.{Command}
 use Rattle.md_book.specs.declared.commands.BookReply.{BookReply}
-use Rattle.md_book.specs.declared.commands.BookReply.TheVariants.{Placed, Cancelled, Gone, Killed, Filled, Depth, Account}
+use Rattle.md_book.specs.declared.commands.BookReply.TheVariants.{Placed, Cancelled, Gone, Killed, Filled, Depth}
+use Rattle.md_book.specs.declared.commands.BookReply.TheVariants.{Account}
 use Rattle.md_book.specs.declared.limits.TheConstants.{MAX_ACCOUNT, MAX_PRICE}
 use Rattle.md_book.specs.declared.maps.TheConstants.{DEPTHS, BOUGHT, SOLD}
 use Rattle.md_book.specs.Book.{Book, level_of, depth, bought, sold}
@@ -108,3 +110,9 @@ levels_text_of side s = texts_to MAX_PRICE (λ price. level_text side price (val
 abbrev pub accounts_text_of : State → List ℕ
 accounts_text_of s =
     texts_to MAX_ACCOUNT (λ account. account_text account (value_at s BOUGHT account) (value_at s SOLD account))
+
+-- the same report, from the maps
+abbrev pub report_text_of : List (List Command) → List (List (Option BookReply)) → State → List ℕ
+report_text_of scripts replies s =
+    replies_text scripts replies ++ levels_text_of Buy s ++ levels_text_of Sell s ++ accounts_text_of s
+    ++ done_text (count_of scripts)

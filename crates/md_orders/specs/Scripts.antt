@@ -1,5 +1,6 @@
 -- Scripts: the commands of each caller, in order.
-use Rattle.std.specs.Prelude.{◌≡◌, ℕ, zero, suc, ◌^◌, ◌<◌, ◌≤◌, ◌==◌, Bool, false, Option, None, List, [], length, filter, slice_get, slice_index_or, slice_set, sum_by, IfSome}
+use Rattle.std.specs.Prelude.{◌≡◌, ℕ, zero, suc, ◌^◌, ◌<◌, ◌≤◌, ◌==◌, Bool, false, Option, None, List, [], length}
+use Rattle.std.specs.Prelude.{filter, slice_get, slice_index_or, slice_set, sum_by, IfSome}
 use Rattle.std.specs.List.{filter_map, enumerate_from}
 use Rattle.std.specs.Option.{option_map_or}
 use Rattle.md_book.specs.declared.commands.Command.{Command}

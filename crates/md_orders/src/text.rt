@@ -4,7 +4,7 @@ ghost use Rattle.std.specs.Prelude.{◌≡◌, ◌++◌, ◌≤◌, ◌<◌, len
 ghost use Rattle.md_book.specs.Book.{Book};
 ghost use Rattle.md_book.specs.Stands.{StandsFor};
 ghost use Rattle.md_orders.specs.Scripts.{list_of};
-ghost use Rattle.md_orders.specs.Report.{name_text, part_text, filled_text, reply_text, line_text, answer_text, script_text, replies_text, level_text, account_text, texts_to, done_text, report_text, value_at, levels_text_of, accounts_text_of};
+ghost use Rattle.md_orders.specs.Report.{name_text, part_text, filled_text, reply_text, line_text, answer_text, script_text, replies_text, level_text, account_text, texts_to, done_text, report_text, value_at, levels_text_of, accounts_text_of, report_text_of};
 
 use crate::{Replies, Scripts};
 use itoa::Buffer;
@@ -217,7 +217,8 @@ fn done(out: &mut Vec<u8>, count: u32) -> Result<(), AllocError>
 }
 
 /// The text of a report: each line's reply, the book that the contents stand for, and the number of
-/// lines. A line without a reply has no text. The contents have the maps of a book.
+/// lines. A line without a reply has no text. The contents have the maps of a book; where they stand
+/// for none, the text has what the maps have at each level and account.
 pub fn report(
     alloc: Global,
     of: &Scripts,
@@ -225,7 +226,9 @@ pub fn report(
     contents: &Contents,
 ) -> Result<Vec<u8>, AllocError>
     requires { MAPS ≤ length contents.now.maps }
-    ensures { IfOk result (λ text. (book : Book) → StandsFor contents.now book
+    ensures text { IfOk result (λ text. text.items
+        ≡ report_text_of of.now replies.now.replies contents.now) }
+    ensures book { IfOk result (λ text. (book : Book) → StandsFor contents.now book
         → text.items ≡ report_text of.now replies.now.replies book) }
 {
     let mut out = Vec::new(alloc);

@@ -1,8 +1,11 @@
 -- The limits by their numbers, and which of them is within which.
 use Rattle.std.specs.Prelude.{◌≡◌, ◌≤◌}
-use Rattle.md_words.specs.declared.limits.TheConstants.{LANES, SET, MAX_NODES, MAX_BASE, MAX_TRIES, MAX_MAPS, MAX_BUCKETS, MAX_QUEUES, MAX_WORDS}
+use Rattle.md_words.specs.declared.limits.TheConstants.{LANES, SET, MAX_NODES, MAX_BASE, MAX_TRIES, MAX_MAPS}
+use Rattle.md_words.specs.declared.limits.TheConstants.{MAX_BUCKETS, MAX_QUEUES, MAX_WORDS}
 use Rattle.md_history.specs.declared.acts.TheConstants.{MAX_LINE}
-use Rattle.md_book.specs.declared.limits.TheConstants.{PLACES_IN_VERSION_1, PLACES_IN_VERSION_2, MAX_PARTS, MAX_CALLER, MAX_LINE as MAX_SCRIPT_LINE, MAX_ACCOUNT, MAX_PRICE, MAX_QUANTITY, COMMAND_READS, COMMAND_WRITES, COMMAND_NODES}
+use Rattle.md_book.specs.declared.limits.TheConstants.{PLACES_IN_VERSION_1, PLACES_IN_VERSION_2, MAX_PARTS, MAX_CALLER}
+use Rattle.md_book.specs.declared.limits.TheConstants.{MAX_LINE as MAX_SCRIPT_LINE, MAX_ACCOUNT, MAX_PRICE}
+use Rattle.md_book.specs.declared.limits.TheConstants.{MAX_QUANTITY, COMMAND_READS, COMMAND_WRITES, COMMAND_NODES}
 use Rattle.md_book.specs.declared.maps.TheConstants.{MAPS, LEVELS}
 
 -- of a field and its transactions

@@ -74,7 +74,7 @@ fn replies_of(first: u32, cycle: u32) -> [BookReply; 7] {
     ]
 }
 
-// More lines than many batches have, and more than 16 bits count: each reply stands at its own line.
+// More lines than many batches have, and than 16 bits count: each reply stands at its own line.
 #[test]
 fn batches_of_lines(rt: HostRuntime) -> Result<(), Fail> {
     let alloc = rt.alloc();

@@ -7,7 +7,8 @@ use Rattle.md_outside.specs.Steps.{Step, Reads, ReadsToEnd, ReadsThenFails, Writ
 use Rattle.md_orders.specs.Records.{order_records, AreFewRecords}
 use Rattle.md_orders.specs.Grammar.{first_bad}
 use Rattle.medley.specs.declared.status.Status.{Status}
-use Rattle.medley.specs.declared.status.Status.TheVariants.{Done, Usage, BadLine, ReadFault, WriteFault, NoMemory, TooLong, TooMany}
+use Rattle.medley.specs.declared.status.Status.TheVariants.{Done, Usage, BadLine, ReadFault, WriteFault, NoMemory}
+use Rattle.medley.specs.declared.status.Status.TheVariants.{TooLong, TooMany}
 use Rattle.medley.specs.Replay.{IsReplay}
 
 -- the most bytes that an input may have
