@@ -219,7 +219,7 @@ kept_by m k = record {
       (record { pass = pass; p = p; at = at; value = value; may = subst (λ c. MayUninstall m p word c value) (sym was) may }) choice r);
   clean = clean_out m k.stamp k.stamps k.installs k.order k.odd_words;
   present_entries = entries_by_status m k.read_counts k.ready_entries;
-  free_nodes = free_nodes m k.fronts k.numbered.distinct k.sound.sound k.own_nodes k.opening_base;
+  free_nodes = free_nodes m k.opening_base k.fronts k.numbered.distinct k.sound.sound k.own_nodes;
   entry_slots = k.entry_slots;
   in_hand = k.in_hand.alone;
   loads = λ pass p at earlier s later segment t c. pairs_of (LoadStands (shape_of m) m.words m.history) earlier s later t (k.loads pass p at (earlier ++ s ∷ later) segment) c;

@@ -7,5 +7,4 @@ pub mod FreeNodes
 pub mod OwnNexts
 pub mod EvenNexts
 pub mod InstalledValue
-pub mod StillTakenOut
-pub mod StillFree
+pub mod KnowsFree

@@ -1,9 +1,9 @@
 -- A node of a pass's lanes that its own view doesn't place is placed in no resolution.
-use Rattle.std.proofs.Common.{◌≡◌, ◌==◌, ℕ, ◌<◌, ◌≤◌, Bool, true, false, List, [], ◌∷◌, ◌++◌, length, refl, sym, ap, ◌∙◌, subst, ⊎_elim, arith, eqb-true, append_assoc, Option, Some, None, is_none, is_some}
+use Rattle.std.proofs.Common.{◌≡◌, ◌==◌, ℕ, ◌≤◌, Bool, true, false, List, [], ◌∷◌, ◌++◌, length, refl, sym, ap, ◌∙◌, subst, arith, eqb-true, Option, Some, None, is_none, is_some}
 use Rattle.std.specs.List.{All, Contains}
-use Rattle.std.proofs.lemmas.Bool.{cases_Bool, cond_both, false≢true, true≢false}
+use Rattle.std.proofs.lemmas.Bool.{cond_both, false≢true}
 use Rattle.std.proofs.lemmas.List.{map-append}
-use Rattle.std.proofs.lemmas.List.Elements.{All-head, All-tail, Contains-append_left, Contains-append_right}
+use Rattle.std.proofs.lemmas.List.Elements.{All-head, All-tail, Contains-append_right}
 use Rattle.md_words.specs.declared.shape.Shape.{Shape}
 use Rattle.md_words.specs.Lanes.{OwnsNode}
 use Rattle.md_words.proofs.Owners.{owner_of_node}
@@ -22,8 +22,8 @@ use Rattle.md_machine.proofs.lists.Rising.{here, there}
 use Rattle.md_machine.specs.declared.pass.PassView.{PassView}
 use Rattle.md_machine.specs.Machine.{IsAt, Machine, shape_of}
 use Rattle.md_machine.specs.Own.{HasNode}
-use Rattle.md_machine.specs.Resolution.{entries_of, greatest, kept_structure, may_commit, never_placed, or_else, structure_in}
-use Rattle.md_machine.specs.clauses.nodes.FreeNodes.{FreeAreUnplaced}
+use Rattle.md_machine.specs.Resolution.{entries_of, greatest, kept_structure, may_commit, or_else, structure_in}
+use Rattle.md_machine.specs.clauses.nodes.FreeNodes.{FreeAreUnplaced, IsFreeBy}
 use Rattle.md_machine.specs.clauses.passes.Fronts.{FrontsFit}
 use Rattle.md_machine.specs.clauses.entries.Numbered.{AreOfDistinctAttempts}
 use Rattle.md_machine.specs.clauses.nodes.OwnNodes.{OwnNodesSeen}
@@ -101,35 +101,33 @@ none_on (e ∷ es) rest (f ∷ fs) (g ∷ gs) node l a s none h =
 none_is : (x y : Option Structure) → x ≡ None → y ≡ None → is_none (or_else x y) ≡ true
 none_is x y a b = ap is_none (both_none x y a b)
 
-module _ (m : Machine) (fronts : FrontsFit (shape_of m) m.history m.fates m.passes) (distinct : AreOfDistinctAttempts m.history)
-    (sound : AllCommittedSound (entries_of m.history) m.fates) (own_seen : OwnNodesSeen (shape_of m) m.history m.passes) where
-  -- an entry that a pass hasn't seen places no node of its lanes
-  unseen_none : (pass : ℕ) (p : PassView) → IsAt m pass p → (node : ℕ) → HasNode (shape_of m) p node → (rest : List HistoryEntry)
-      → m.history ≡ p.seen ++ rest → (e : HistoryEntry) → Contains rest e → structure_in e.placed node ≡ None
-  unseen_none pass p at node own rest whole e c = none_or_some (structure_in e.placed node) (λ some.
-      let x = structure_has e.placed node some in
-      let there = subst (λ es. Contains es e) (sym whole) (Contains-append_right p.seen rest e c) in
-      let inside : Contains p.seen e = own_seen pass p at e there x.0 x.1 (subst (HasNode (shape_of m) p) (sym x.2) own) in
-      not_again m.history p.seen rest e distinct whole inside c)
+-- a view that goes on from another, by entries that don't place a node which that one knows to be free, knows it too
+pub still_free : (m : Machine) → FrontsFit (shape_of m) m.history m.fates m.passes → AllCommittedSound (entries_of m.history) m.fates
+    → (seen later : List HistoryEntry) (known more : List Fate) (begins : IsPrefix seen later) → IsPrefix later m.history → length known ≡ length seen
+    → AllStay known more → AllStay more m.fates → (node : ℕ) → ((e : HistoryEntry) → Contains begins.rest e → structure_in e.placed node ≡ None)
+    → IsFreeBy seen known node → IsFreeBy later more node
+still_free m fronts sound seen later known more begins within fated one two node none h =
+    let committed : AllCommittedSound (entries_of later) more = sound-earlier (entries_of later) (entries_of within.rest) more m.fates two
+    (subst (λ es. AllCommittedSound es m.fates) (ap entries_of within.is ∙ map-append (λ (e : HistoryEntry). e.entry) later within.rest) sound) in
+    subst (λ es. IsFreeBy es more node) (sym begins.is)
+    (none_on seen begins.rest known more node fated one (subst (λ es. AllCommittedSound (entries_of es) more) begins.is committed) none h)
 
-  -- so what the pass doesn't place is placed by no first part of the history that goes on from what it has seen, with
-  -- fates that go on from those that it knows
-  pub still_free : (pass : ℕ) (p : PassView) → IsAt m pass p → (node : ℕ) → HasNode (shape_of m) p node → (seen : List HistoryEntry) (known : List Fate)
-      → IsPrefix p.seen seen → IsPrefix seen m.history → AllStay p.known known → AllStay known m.fates
-      → kept_structure p.seen (greatest p.seen p.known) node ≡ None → kept_structure seen (greatest seen known) node ≡ None
-  still_free pass p at node own seen known begins within one two h =
-      let rest = begins.rest in
-      let whole : m.history ≡ p.seen ++ (rest ++ within.rest) = within.is ∙ ap (λ l. l ++ within.rest) begins.is ∙ append_assoc p.seen rest within.rest in
-      let none : (e : HistoryEntry) → Contains rest e → structure_in e.placed node ≡ None = λ e c.
-      unseen_none pass p at node own (rest ++ within.rest) whole e (Contains-append_left rest within.rest e c) in
-      let committed : AllCommittedSound (entries_of seen) known = sound-earlier (entries_of seen) (entries_of within.rest) known m.fates two
-      (subst (λ es. AllCommittedSound es m.fates) (ap entries_of within.is ∙ map-append (λ (e : HistoryEntry). e.entry) seen within.rest) sound) in
-      subst (λ es. kept_structure es (greatest es known) node ≡ None) (sym begins.is)
-      (none_on p.seen rest p.known known node (fronts pass p at).fated one (subst (λ es. AllCommittedSound (entries_of es) known) begins.is committed) none h)
+-- an entry of a machine that a pass hasn't seen places no node of its lanes
+pub unseen_none : (m : Machine) → OwnNodesSeen (shape_of m) m.history m.passes → (pass : ℕ) (p : PassView) → IsAt m pass p → (node : ℕ)
+    → HasNode (shape_of m) p node → (e : HistoryEntry) → Contains m.history e → (Contains p.seen e → ⊥) → structure_in e.placed node ≡ None
+unseen_none m own_seen pass p at node own e c unseen = none_or_some (structure_in e.placed node) (λ some.
+    let x = structure_has e.placed node some in
+    unseen (own_seen pass p at e c x.0 x.1 (subst (HasNode (shape_of m) p) (sym x.2) own)))
 
-  -- with what is known of entries, fates and fronts it is placed in no resolution
-  pub free_nodes : OpeningIsBase (shape_of m) m.opening.placed → FreeAreUnplaced m
-  free_nodes base pass p at node own h =
-      let front = fronts pass p at in
-      none_is (structure_in m.opening.placed node) (kept_structure m.history (greatest m.history m.fates) node) (base own.0 node own.2)
-      (still_free pass p at node own m.history m.fates front.seen (prefix-self m.history) front.known (all_stay-self m.fates) h)
+-- with what is known of entries, fates and fronts such a node is placed in no resolution
+pub free_nodes : (m : Machine) → OpeningIsBase (shape_of m) m.opening.placed → FrontsFit (shape_of m) m.history m.fates m.passes
+    → AreOfDistinctAttempts m.history
+    → AllCommittedSound (entries_of m.history) m.fates → OwnNodesSeen (shape_of m) m.history m.passes → FreeAreUnplaced m
+free_nodes m base fronts distinct sound own_seen pass p at node own h =
+    let front = fronts pass p at in
+    let rest = front.seen.rest in
+    let none : (e : HistoryEntry) → Contains rest e → structure_in e.placed node ≡ None = λ e c.
+    unseen_none m own_seen pass p at node own e (subst (λ es. Contains es e) (sym front.seen.is) (Contains-append_right p.seen rest e c))
+    (λ inside. not_again m.history p.seen rest e distinct front.seen.is inside c) in
+    none_is (structure_in m.opening.placed node) (kept_structure m.history (greatest m.history m.fates) node) (base own.0 node own.2)
+    (still_free m fronts sound p.seen m.history p.known m.fates front.seen (prefix-self m.history) front.fated front.known (all_stay-self m.fates) node none h)

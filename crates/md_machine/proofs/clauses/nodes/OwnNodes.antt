@@ -25,7 +25,7 @@ use Rattle.md_machine.specs.clauses.passes.Lanes.{LanesApart}
 use Rattle.md_machine.specs.clauses.nodes.OwnNodes.{OwnNodesSeen}
 
 -- fates of which more are decided are no fewer
-no_fewer : (fs gs : List Fate) → MoreDecided fs gs → length fs ≤ length gs
+pub no_fewer : (fs gs : List Fate) → MoreDecided fs gs → length fs ≤ length gs
 no_fewer [] gs m = omega arith
 no_fewer (f ∷ fs) [] m = absurd m
 no_fewer (f ∷ fs) (g ∷ gs) m = let h = no_fewer fs gs m.1 in omega (arith, h)
