@@ -16,3 +16,4 @@ pub mod Chains
 pub mod Stores
 pub mod Entries
 pub mod Opening
+pub mod Copying

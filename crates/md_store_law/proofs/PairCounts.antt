@@ -1,7 +1,6 @@
 -- The pairs of a store: along a bucket their keys rise, and a key is of its bucket alone. So a map has as many keys as its
 -- buckets have pairs.
 use Rattle.std.proofs.Common.{◌≡◌, ◌≢◌, ℕ, zero, suc, ◌+◌, ◌<◌, ◌≤◌, ◌++◌, List, [], ◌∷◌, length, length-append, map as map_list, take, Some, None, refl, sym, ap, ◌∙◌, subst, inl, inr, ⊎_elim, arith}
-use Rattle.std.specs.Prelude.{All}
 use Rattle.std.specs.List.{flat_map, range_with_len, sum_by, AllByRecursion}
 use Rattle.std.specs.List.Sorted.{IsStrictlySortedBy}
 use Rattle.std.specs.Ordering.{nat_cmp}
@@ -11,7 +10,6 @@ use Rattle.std.specs.Map.{keys_of}
 use Rattle.std.specs.FinMap as fin
 use Rattle.std.proofs.lemmas.Bool.{cases_eq, cases_Bool, cond-true, cond-false}
 use Rattle.std.proofs.lemmas.List.{map-id}
-use Rattle.std.proofs.lemmas.List.Elements.{All-from_recursion}
 use Rattle.std.proofs.lemmas.List.Folds.{length-flat_map-take}
 use Rattle.std.proofs.lemmas.List.FromFn.{take-map-range_with_len, length-range_with_len, get_or-range_with_len, sum_by-map-range_with_len_more}
 use Rattle.std.proofs.lemmas.List.Sums.{sum_by-take-le, sum_by-cons}
@@ -153,10 +151,10 @@ module _ (shape : Shape) (words : List ℕ) (f : IsStoreField shape words) (map 
       let p = found-pair h (Bucket map bucket) (head_word shape map bucket) is.list q v e in
       sym (ap (bucket_of shape) p.has_key) ∙ is.keys p.node p.is_in
 
-  pub keys_home : (bucket : ℕ) → bucket < shape.buckets
-      → All (λ p. bucket_of shape p.0 ≡ bucket) (pairs_from (logical_words shape words) (head_word shape map bucket))
-  keys_home bucket b = All-from_recursion (λ p. bucket_of shape p.0 ≡ bucket) _
-      (all_from_find (λ q. bucket_of shape q ≡ bucket) _ (apart_sorted _ (keys_rise bucket b)) (λ q v e. key_home bucket q v b e))
+  pub keys_home : (home : ℕ → ℕ) → ((q : ℕ) → home q ≡ bucket_of shape q) → (bucket : ℕ) → bucket < shape.buckets
+      → AllByRecursion (λ (p : ℕ × ℕ). home p.0 ≡ bucket) (pairs_from (logical_words shape words) (head_word shape map bucket))
+  keys_home home same bucket b = all_from_find (λ q. home q ≡ bucket) _ (apart_sorted _ (keys_rise bucket b))
+      (λ q v e. same q ∙ key_home bucket q v b e)
 
   -- a map has as many keys as there are pairs
   pub len-map : fin.len (map_of_pairs (pairs_of_map (logical_words shape words) map)) ≡ length (pairs_of_map (logical_words shape words) map)

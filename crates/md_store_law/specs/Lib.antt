@@ -6,4 +6,5 @@ pub mod Needed
 pub mod Laid
 pub mod Opens
 pub mod Below
+pub mod Compacted
 pub mod Laws

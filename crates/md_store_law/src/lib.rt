@@ -1,5 +1,6 @@
 //! The store as a theory of the machine: the hash tables of all maps together with all queues, over
-//! fields of any shape. `read_off` gives the contents of a field from its words.
+//! fields of any shape. `read_off` gives the contents of a field from its words, and `compact` lays them
+//! anew without the nodes that they don't need.
 //!
 //! What follows for a program whose transactions leave these certificates, by `all_schedules`:
 //!
@@ -11,12 +12,14 @@
 //! 5. Every counted word but a next word of an unplaced node names no node, or a placed one.
 #![tactic(auto)]
 
+pub use compacting::compact;
 pub use fields::even_fields_are_stores;
 pub use reading::read_off;
 pub use sizes::needed;
 pub use theory::StoreTheory;
 
 mod building;
+mod compacting;
 mod fields;
 mod living;
 mod reading;

@@ -1,0 +1,47 @@
+use Rattle.std.proofs.Common.{◌≡◌, ◌++◌, length, length-append, sym, ap, ◌∙◌, arith}
+use Rattle.std.proofs.lemmas.List.{append-nil, length-map}
+use Rattle.md_machine.specs.declared.node.Structure.TheVariants.{Bucket}
+use Rattle.md_store_law.specs.Laid.{LaidNode, pair_nodes}
+use Rattle.md_store_law.specs.Below.{maps_below, buckets_below}
+use Rattle.md_store_law.specs.Compacted.{pairs_in, values_in}
+use Rattle.md_store_law.proofs.Below.{read_anew, laid_as, buckets_more, maps_more, bucket_fits, bucket_none}
+use Rattle.md_store_law.proofs.compacting.copy_map.Goals as goal
+
+pub loop-bucket-init : goal.loop-bucket-init
+loop-bucket-init c =
+    let pairs = pairs_in c.args.shape.now c.args.words.now in
+    laid_as c.args.fresh.now c.args.row.now _ _ c.args.first (append-nil (maps_below c.args.shape.now pairs c.args.map)) c.requires.laid
+
+pub append_pairs-next-requires-clause-room : goal.append_pairs-next-requires-clause-room
+append_pairs-next-requires-clause-room c =
+    let shape = c.args.shape.now in
+    let pairs = pairs_in shape c.args.words.now in
+    let found = read_anew _ _ _ (pairs c.args.map c.loop-bucket.bucket) c.deref.ensures.value c.in_ok-append_pairs.ensures c.clear.ensures.items in
+    let fits = bucket_fits shape pairs (values_in shape c.args.words.now) c.args.map c.loop-bucket.bucket c.requires.map (omega arith) in
+    omega (arith, fits, ap length found, c.loop-bucket.invariant.first_free, c.requires.room)
+
+pub loop-bucket-preserved : goal.loop-bucket-preserved
+loop-bucket-preserved c =
+    let shape = c.args.shape.now in
+    let pairs = pairs_in shape c.args.words.now in
+    let values = values_in shape c.args.words.now in
+    let map = c.args.map in
+    let bucket = c.loop-bucket.bucket in
+    let nodes = buckets_below shape pairs map bucket in
+    let found = read_anew _ _ _ (pairs map bucket) c.deref.ensures.value c.in_ok-append_pairs.ensures c.clear.ensures.items in
+    let more = buckets_more shape pairs values map bucket ∙ ap (λ ps. nodes ++ pair_nodes map bucket ps) (sym found) in
+    let last = length-map {B = LaidNode} c.deref.result.now (λ p. record { structure = Bucket map bucket; key = p.0; value = p.1 }) in
+    let all = length-append nodes (pair_nodes map bucket c.deref.result.now) in
+    laid_as c.args.fresh.now c.append_pairs-next.new.words _ _ c.append_pairs-next.result more
+    (record {
+      laid = c.append_pairs-next.ensures.laid nodes c.loop-bucket.invariant.laid c.loop-bucket.invariant.first_free (bucket_none shape pairs values map bucket);
+      first_free = omega (arith, last, all, c.append_pairs-next.ensures.next, c.loop-bucket.invariant.first_free);
+    })
+
+pub returns : goal.returns
+returns c =
+    let shape = c.args.shape.now in
+    let pairs = pairs_in shape c.args.words.now in
+    let end : c.loop-bucket.bucket ≡ shape.buckets = omega arith in
+    laid_as c.args.fresh.now c.loop-bucket.row _ _ c.loop-bucket.next
+    (maps_more shape pairs (values_in shape c.args.words.now) c.args.map ∙ ap (buckets_below shape pairs c.args.map) (sym end)) c.loop-bucket.invariant
