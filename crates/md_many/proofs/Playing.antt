@@ -18,11 +18,19 @@ use Rattle.md_many.specs.Lines.{IsLine, AreLines, PlaysLines}
 use Rattle.md_many.proofs.Joining.{AreDecided, entries-more, entries-none, committed_pairs-append, decided-append}
 
 -- an entry more in its lane, and in no other
-mine-push : (own es : List Entry) (e : Entry) (lane : ℕ) → cond (lane == e.lane) ((own ++ of_lane lane es) ++ e ∷ []) (own ++ of_lane lane es) ≡ own ++ of_lane lane (es ++ e ∷ [])
+mine-push : (own es : List Entry) (e : Entry) (lane : ℕ)
+    → cond (lane == e.lane) ((own ++ of_lane lane es) ++ e ∷ []) (own ++ of_lane lane es)
+    ≡ own ++ of_lane lane (es ++ e ∷ [])
 mine-push own es e lane =
     elim (cases_Bool (lane == e.lane)) [
-      | inl same ↦ rw same (append_assoc own (of_lane lane es) (e ∷ []) ∙ ap (λ xs. own ++ xs) (sym (filter-append (λ (d : Entry). lane == d.lane) es (e ∷ []) ∙ ap (λ b. of_lane lane es ++ cond b (e ∷ []) []) same)))
-      | inr other ↦ rw other (ap (λ xs. own ++ xs) (sym (filter-append (λ (d : Entry). lane == d.lane) es (e ∷ []) ∙ ap (λ b. of_lane lane es ++ cond b (e ∷ []) []) other ∙ append-nil (of_lane lane es))))
+      | inl same ↦ rw same (append_assoc own (of_lane lane es) (e ∷ [])
+          ∙ ap (λ xs. own ++ xs)
+          (sym (filter-append (λ (d : Entry). lane == d.lane) es (e ∷ [])
+          ∙ ap (λ b. of_lane lane es ++ cond b (e ∷ []) []) same)))
+      | inr other ↦ rw other
+          (ap (λ xs. own ++ xs)
+          (sym (filter-append (λ (d : Entry). lane == d.lane) es (e ∷ [])
+          ∙ ap (λ b. of_lane lane es ++ cond b (e ∷ []) []) other ∙ append-nil (of_lane lane es))))
     ]
 
 -- what an attempt that stopped added is decided, and none of it is committed
@@ -68,59 +76,87 @@ attempted-none f = record {
 }
 
 -- what joined in one more attempt follows what had joined
-joined-more : (tried : ℕ) (es : List Entry) (f g h : Front) (ps : List (Entry × Fate)) → HasAttempted tried es f g → length g.known ≡ length g.seen → BeginsOn g.lanes g h
-    → entries_after (length g.seen) g.lanes h ≡ ps → entries_after (length f.seen) f.lanes h ≡ entries_after (length f.seen) f.lanes g ++ ps
+joined-more : (tried : ℕ) (es : List Entry) (f g h : Front) (ps : List (Entry × Fate)) → HasAttempted tried es f g
+    → length g.known ≡ length g.seen → BeginsOn g.lanes g h
+    → entries_after (length g.seen) g.lanes h ≡ ps
+    → entries_after (length f.seen) f.lanes h ≡ entries_after (length f.seen) f.lanes g ++ ps
 joined-more tried es f g h ps a fated begins is =
-    let before : length g.seen ≡ length f.seen + length a.commits.begins.seen.rest = ap length a.commits.begins.seen.is ∙ length-append f.seen a.commits.begins.seen.rest in
+    let before : length g.seen ≡ length f.seen + length a.commits.begins.seen.rest =
+    ap length a.commits.begins.seen.is ∙ length-append f.seen a.commits.begins.seen.rest in
     entries-more (length f.seen) f.lanes g h fated begins.seen begins.known (omega arith) a.commits.decided
-    ∙ ap (λ qs. entries_after (length f.seen) f.lanes g ++ qs) (ap (λ ls. entries_after (length g.seen) ls h) (sym a.lanes) ∙ is)
+    ∙ ap (λ qs. entries_after (length f.seen) f.lanes g ++ qs)
+    (ap (λ ls. entries_after (length g.seen) ls h) (sym a.lanes) ∙ is)
 
-module _ (tried : ℕ) (es : List Entry) (f g h : Front) (a : HasAttempted tried es f g) (fated : length g.known ≡ length g.seen) where
+module _ (tried : ℕ) (es : List Entry) (f g h : Front) (a : HasAttempted tried es f g)
+    (fated : length g.known ≡ length g.seen) where
   -- an attempt stopped
   pub attempted-stopped : (tag : ℕ) → Stops tag g h → HasAttempted (suc tried) es f h
   attempted-stopped tag s =
       let ps = entries_after (length g.seen) h.lanes h in
-      let is = joined-more tried es f g h ps a fated s.begins (ap (λ ls. entries_after (length g.seen) ls h) (sym s.lanes)) in
+      let is = joined-more tried es f g h ps a fated s.begins
+      (ap (λ ls. entries_after (length g.seen) ls h) (sym s.lanes)) in
       record {
         lanes = s.lanes ∙ a.lanes;
         pending = s.pending ∙ a.pending;
         commits = record {
           begins = begins-trans f g h a.commits.begins (subst (λ ls. BeginsOn ls g h) a.lanes s.begins);
-          joined = ap committed_pairs is ∙ committed_pairs-append (entries_after (length f.seen) f.lanes g) ps ∙ ap (λ qs. committed_pairs (entries_after (length f.seen) f.lanes g) ++ qs) (none-committed tag ps s.own) ∙ append-nil (committed_pairs (entries_after (length f.seen) f.lanes g)) ∙ a.commits.joined;
-          decided = subst AreDecided (sym is) (decided-append (entries_after (length f.seen) f.lanes g) ps a.commits.decided (aborted-decided tag ps s.own));
+          joined = ap committed_pairs is ∙ committed_pairs-append (entries_after (length f.seen) f.lanes g) ps
+              ∙ ap (λ qs. committed_pairs (entries_after (length f.seen) f.lanes g) ++ qs)
+              (none-committed tag ps s.own) ∙ append-nil (committed_pairs (entries_after (length f.seen) f.lanes g))
+              ∙ a.commits.joined;
+          decided = subst AreDecided (sym is)
+              (decided-append (entries_after (length f.seen) f.lanes g) ps a.commits.decided
+              (aborted-decided tag ps s.own));
           mine = λ lane in_lanes. s.mine lane ∙ a.commits.mine lane in_lanes;
         };
-        few = omega (arith, ap length is, length-append (entries_after (length f.seen) f.lanes g) ps, aborted-few tag ps s.own, a.few);
+        few = omega (
+          arith,
+          ap length is,
+          length-append (entries_after (length f.seen) f.lanes g) ps,
+          aborted-few tag ps s.own,
+          a.few,
+        );
       }
 
   -- an attempt was committed
-  pub attempted-more : {R : Type 0} (did : List Act → R → Type 0) (tag : ℕ) (r : R) (s : Commits did tag r g h) → HasAttempted (suc tried) (es ++ s.entry ∷ []) f h
+  pub attempted-more : {R : Type 0} (did : List Act → R → Type 0) (tag : ℕ) (r : R) (s : Commits did tag r g h)
+      → HasAttempted (suc tried) (es ++ s.entry ∷ []) f h
   unfolding committed_pairs
   attempted-more did tag r s =
       let ps : List (Entry × Fate) = (s.entry, Committed) ∷ [] in
-      let is = joined-more tried es f g h ps a fated s.begins (ap (λ ls. entries_after (length g.seen) ls h) (sym s.lanes) ∙ s.own) in
+      let is = joined-more tried es f g h ps a fated s.begins
+      (ap (λ ls. entries_after (length g.seen) ls h) (sym s.lanes) ∙ s.own) in
       record {
         lanes = s.lanes ∙ a.lanes;
         pending = s.pending ∙ a.pending;
         commits = record {
           begins = begins-trans f g h a.commits.begins (subst (λ ls. BeginsOn ls g h) a.lanes s.begins);
-          joined = ap committed_pairs is ∙ committed_pairs-append (entries_after (length f.seen) f.lanes g) ps ∙ ap (λ xs. xs ++ s.entry ∷ []) a.commits.joined;
-          decided = subst AreDecided (sym is) (decided-append (entries_after (length f.seen) f.lanes g) ps a.commits.decided ((λ e. cc e), tt));
-          mine = λ lane in_lanes. s.mine lane ∙ ap (λ xs. cond (lane == s.entry.lane) (xs ++ s.entry ∷ []) xs) (a.commits.mine lane in_lanes) ∙ mine-push (f.mine lane) es s.entry lane;
+          joined = ap committed_pairs is ∙ committed_pairs-append (entries_after (length f.seen) f.lanes g) ps
+              ∙ ap (λ xs. xs ++ s.entry ∷ []) a.commits.joined;
+          decided = subst AreDecided (sym is)
+              (decided-append (entries_after (length f.seen) f.lanes g) ps a.commits.decided ((λ e. cc e), tt));
+          mine = λ lane in_lanes. s.mine lane
+              ∙ ap (λ xs. cond (lane == s.entry.lane) (xs ++ s.entry ∷ []) xs) (a.commits.mine lane in_lanes)
+              ∙ mine-push (f.mine lane) es s.entry lane;
         };
         few = omega (arith, ap length is, length-append (entries_after (length f.seen) f.lanes g) ps, a.few);
       }
 
 -- one line more
-pub lines-push : {B R : Type 0} (did : B → List Act → R → Type 0) (body_at : ℕ → ℕ → Option B) (caller n m : ℕ) (es : List Entry) (rs : List R) (e : Entry) (r : R)
-    → AreLines did body_at caller es rs n → m ≡ n + length rs + 1 → IsLine did body_at caller m e r → AreLines did body_at caller (es ++ e ∷ []) (rs ++ r ∷ []) n
-lines-push did body_at caller n m [] [] e r lines at is = (subst (λ k. IsLine did body_at caller k e r) (at ∙ omega arith) is, tt)
+pub lines-push : {B R : Type 0} (did : B → List Act → R → Type 0)
+    (body_at : ℕ → ℕ → Option B) (caller n m : ℕ) (es : List Entry) (rs : List R) (e : Entry) (r : R)
+    → AreLines did body_at caller es rs n → m ≡ n + length rs + 1 → IsLine did body_at caller m e r
+    → AreLines did body_at caller (es ++ e ∷ []) (rs ++ r ∷ []) n
+lines-push did body_at caller n m [] [] e r lines at is =
+    (subst (λ k. IsLine did body_at caller k e r) (at ∙ omega arith) is, tt)
 lines-push did body_at caller n m [] (s ∷ rs) e r lines at is = absurd lines
 lines-push did body_at caller n m (d ∷ es) [] e r lines at is = absurd lines
-lines-push did body_at caller n m (d ∷ es) (s ∷ rs) e r lines at is = (lines.0, lines-push did body_at caller (n + 1) m es rs e r lines.1 (at ∙ omega arith) is)
+lines-push did body_at caller n m (d ∷ es) (s ∷ rs) e r lines at is =
+    (lines.0, lines-push did body_at caller (n + 1) m es rs e r lines.1 (at ∙ omega arith) is)
 
 -- a caller's lines after its first n were played, in so many attempts
-pub record HasPlayed {B R : Type 0} (did : B → List Act → R → Type 0) (body_at : ℕ → ℕ → Option B) (caller n tried : ℕ) (old new : Front) (replies : List R) : Type 0 where
+pub record HasPlayed {B R : Type 0} (did : B → List Act → R → Type 0)
+    (body_at : ℕ → ℕ → Option B) (caller n tried : ℕ) (old new : Front) (replies : List R) : Type 0 where
   pub entries : List Entry
   pub attempted : HasAttempted tried entries old new
   pub lines : AreLines did body_at caller entries replies n
@@ -129,18 +165,30 @@ module _ {B R : Type 0} (did : B → List Act → R → Type 0) (body_at : ℕ �
   pub played-none : HasPlayed did body_at caller n 0 f f []
   played-none = record { entries = []; attempted = attempted-none f; lines = tt }
 
-  pub played-stopped : (tried tag : ℕ) (g h : Front) (rs : List R) → HasPlayed did body_at caller n tried f g rs → length g.known ≡ length g.seen → Stops tag g h
+  pub played-stopped : (tried tag : ℕ) (g h : Front) (rs : List R) → HasPlayed did body_at caller n tried f g rs
+      → length g.known ≡ length g.seen → Stops tag g h
       → HasPlayed did body_at caller n (tried + 1) f h rs
   played-stopped tried tag g h rs p fated s =
-      record { entries = p.entries; attempted = subst (λ k. HasAttempted k p.entries f h) (omega arith) (attempted-stopped tried p.entries f g h p.attempted fated tag s); lines = p.lines }
+      record {
+        entries = p.entries;
+        attempted =
+            subst (λ k. HasAttempted k p.entries f h) (omega arith)
+            (attempted-stopped tried p.entries f g h p.attempted fated tag s);
+        lines = p.lines;
+      }
 
-  pub played-more : (tried line : ℕ) (b : B) (r : R) (g h : Front) (rs : List R) → HasPlayed did body_at caller n tried f g rs → length g.known ≡ length g.seen
-      → line ≡ n + length rs + 1 → body_at caller line ≡ Some b → Commits (did b) (tag_of caller line) r g h → HasPlayed did body_at caller n (tried + 1) f h (rs ++ r ∷ [])
+  pub played-more : (tried line : ℕ) (b : B) (r : R) (g h : Front) (rs : List R)
+      → HasPlayed did body_at caller n tried f g rs → length g.known ≡ length g.seen
+      → line ≡ n + length rs + 1 → body_at caller line ≡ Some b → Commits (did b) (tag_of caller line) r g h
+      → HasPlayed did body_at caller n (tried + 1) f h (rs ++ r ∷ [])
   played-more tried line b r g h rs p fated at there s = record {
     entries = p.entries ++ s.entry ∷ [];
-    attempted = subst (λ k. HasAttempted k (p.entries ++ s.entry ∷ []) f h) (omega arith) (attempted-more tried p.entries f g h p.attempted fated (did b) (tag_of caller line) r s);
-    lines = lines-push did body_at caller n line p.entries rs s.entry r p.lines at (record { tagged = s.tagged; body = b; there = there; did_it = s.did_it });
+    attempted = subst (λ k. HasAttempted k (p.entries ++ s.entry ∷ []) f h) (omega arith)
+        (attempted-more tried p.entries f g h p.attempted fated (did b) (tag_of caller line) r s);
+    lines = lines-push did body_at caller n line p.entries rs s.entry r p.lines at
+        (record { tagged = s.tagged; body = b; there = there; did_it = s.did_it });
   }
 
-  pub plays : (tried : ℕ) (g : Front) (rs : List R) → HasPlayed did body_at caller n tried f g rs → PlaysLines did body_at caller n f.lanes f g rs
+  pub plays : (tried : ℕ) (g : Front) (rs : List R) → HasPlayed did body_at caller n tried f g rs
+      → PlaysLines did body_at caller n f.lanes f g rs
   plays tried g rs p = record { entries = p.entries; commits = p.attempted.commits; lines = p.lines }

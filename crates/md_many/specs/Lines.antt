@@ -1,5 +1,5 @@
--- Lines of callers: any bodies, each with the replies that it can have. What did a body is told by `did`, and which body
--- is a caller's line by `body_at`.
+-- Lines of callers: any bodies, each with the replies that it can have. What did a body is told by `did`, and which
+-- body is a caller's line by `body_at`.
 use Rattle.std.specs.Prelude.{◌≡◌, ◌+◌, ℕ, Option, Some, IfSome, List, [], ◌∷◌, length}
 use Rattle.md_history.specs.declared.acts.Act.{Act}
 use Rattle.md_history.specs.declared.entries.Entry.{Entry}
@@ -27,8 +27,8 @@ AreLines did body_at caller (e ∷ es) (r ∷ rs) n =
     IsLine did body_at caller (n + 1) e r × AreLines did body_at caller es rs (n + 1)
 AreLines did body_at caller es rs n = ⊥
 
--- From one front to another these lanes played a caller's lines after its first n, as many as there are replies: the lines
--- are what the lanes committed.
+-- From one front to another these lanes played a caller's lines after its first n, as many as there are replies: the
+-- lines are what the lanes committed.
 pub record PlaysLines {B R : Type 0} (did : B → List Act → R → Type 0) (body_at : ℕ → ℕ → Option B)
     (caller n : ℕ) (lanes : List ℕ) (old new : Front) (replies : List R) : Type 0 where
   pub entries : List Entry

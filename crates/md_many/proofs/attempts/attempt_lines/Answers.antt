@@ -14,7 +14,8 @@ no_conflict : {shown : Shown} → Conflict shown ≡ NoMemory → ⊥
 no_conflict same = cc
 
 -- an attempt that met a conflict was begun
-conflict_counted : {shown : Shown} (s : Stop) (begun begun' : ℕ) → s ≡ Conflict shown → IsStopCounted s begun begun' → begun' ≡ begun + 1
+conflict_counted : {shown : Shown} (s : Stop) (begun begun' : ℕ) → s ≡ Conflict shown → IsStopCounted s begun begun'
+    → begun' ≡ begun + 1
 conflict_counted s begun begun' is counted = subst (λ t. IsStopCounted t begun begun') is counted
 
 -- what is said of a value that is there
@@ -40,18 +41,28 @@ pub attempts-preserved : goal.attempts-preserved
 attempts-preserved g c =
     elim c.match-attempt_line.branch [
       | in-Committed w ↦
-          let more : c.match-attempt_line.replies.items ≡ c.attempts.replies.items ++ w.in-Committed.reply ∷ [] = ap (λ (v : Vec _ Global). v.items) w.replies-is ∙ w.put.ensures.items in
-          let count : length c.match-attempt_line.replies.items ≡ length c.attempts.replies.items + 1 = ap length more ∙ length_push c.attempts.replies.items w.in-Committed.reply in
+          let more : c.match-attempt_line.replies.items ≡ c.attempts.replies.items ++ w.in-Committed.reply ∷ [] =
+          ap (λ (v : Vec _ Global). v.items) w.replies-is ∙ w.put.ensures.items in
+          let count : length c.match-attempt_line.replies.items ≡ length c.attempts.replies.items + 1 =
+          ap length more ∙ length_push c.attempts.replies.items w.in-Committed.reply in
           let inside = c.attempts.invariant.within in
           let test = c.if-played-count.false in
           record {
             of = c.attempt_line.ensures.of;
             fated = c.attempt_line.ensures.legal.fated;
-            lines = rw more (played-more _ _ _ _ _ c.attempts.tried (c.attempts.played + 1) c.in-Some.body w.in-Committed.reply _ _ c.attempts.replies.items c.attempts.invariant.lines c.attempts.invariant.fated (omega (arith, c.attempts.invariant.played)) (sym c.in-Some.ensures) w.in-Committed.ensures.committed);
+            lines = rw more (played-more _ _ _ _ _ c.attempts.tried (c.attempts.played + 1) c.in-Some.body
+                w.in-Committed.reply _ _ c.attempts.replies.items c.attempts.invariant.lines
+                c.attempts.invariant.fated (omega (arith, c.attempts.invariant.played)) (sym c.in-Some.ensures)
+                w.in-Committed.ensures.committed);
             played = omega (arith, w.played-is, count, c.attempts.invariant.played);
             within = omega (arith, w.played-is, inside, c.len-count.ensures, test);
             few = omega (arith, count, c.attempts.invariant.few);
-            room = omega (arith, c.attempts.invariant.room, w.put.ensures.capacity, ap (λ (v : Vec _ Global). vec_capacity v) w.replies-is);
+            room = omega (
+              arith,
+              c.attempts.invariant.room,
+              w.put.ensures.capacity,
+              ap (λ (v : Vec _ Global). vec_capacity v) w.replies-is,
+            );
             counted = omega (arith, w.in-Committed.ensures.begun, c.attempts.invariant.counted);
             begun = λ none. absurd (omega arith);
             first = λ fresh tries small some. omega (arith, count);
@@ -60,39 +71,61 @@ attempts-preserved g c =
       | in-Stopped-Conflict w ↦ record {
         of = c.attempt_line.ensures.of;
         fated = c.attempt_line.ensures.legal.fated;
-        lines = rw w.replies-is (played-stopped _ _ _ _ _ c.attempts.tried _ _ _ c.attempts.replies.items c.attempts.invariant.lines c.attempts.invariant.fated w.in-Stopped-Conflict.ensures.stopped);
+        lines = rw w.replies-is
+            (played-stopped _ _ _ _ _ c.attempts.tried _ _ _ c.attempts.replies.items c.attempts.invariant.lines
+            c.attempts.invariant.fated w.in-Stopped-Conflict.ensures.stopped);
         played = rw (w.replies-is, w.played-is) c.attempts.invariant.played;
         within = rw w.played-is c.attempts.invariant.within;
         few = rw w.replies-is (omega (arith, c.attempts.invariant.few));
         room = rw w.replies-is c.attempts.invariant.room;
-        counted = omega (arith, conflict_counted _ _ _ w.in-Stopped-Conflict.field-0-is w.in-Stopped-Conflict.ensures.begun, c.attempts.invariant.counted);
+        counted = omega (
+          arith,
+          conflict_counted _ _ _ w.in-Stopped-Conflict.field-0-is w.in-Stopped-Conflict.ensures.begun,
+          c.attempts.invariant.counted,
+        );
         begun = λ none. absurd (omega arith);
         first = λ fresh tries small some. elim (cases_eq c.attempts.tried 0) [
           | inl none ↦
-              let same : c.args.turn.done + 1 ≡ c.attempts.played + 1 = omega (arith, none, c.attempts.invariant.played, c.attempts.invariant.few) in
+              let same : c.args.turn.done + 1 ≡ c.attempts.played + 1 =
+              omega (arith, none, c.attempts.invariant.played, c.attempts.invariant.few) in
               let is_fresh = subst (g.E.Engine.fresh c.args.engine.now) (sym (c.attempts.invariant.begun none)) fresh in
-              let is_small = if_some _ c.in-Some.body _ (ap (g.L.Lines.body_at c.args.lines.now c.args.turn.caller) same ∙ sym c.in-Some.ensures) small in
-              absurd (no_conflict (sym w.in-Stopped-Conflict.field-0-is ∙ w.in-Stopped-Conflict.ensures.small is_fresh tries is_small))
+              let is_small = if_some _ c.in-Some.body _
+              (ap (g.L.Lines.body_at c.args.lines.now c.args.turn.caller) same ∙ sym c.in-Some.ensures) small in
+              absurd (no_conflict (sym w.in-Stopped-Conflict.field-0-is
+              ∙ w.in-Stopped-Conflict.ensures.small is_fresh tries is_small))
           | inr later ↦ rw w.replies-is (c.attempts.invariant.first fresh tries small (omega arith))
         ];
-        steady = λ stops. absurd (no_conflict (sym w.in-Stopped-Conflict.field-0-is ∙ stops _ w.in-Stopped-Conflict.ensures.may_stop));
+        steady = λ stops. absurd
+            (no_conflict (sym w.in-Stopped-Conflict.field-0-is ∙ stops _ w.in-Stopped-Conflict.ensures.may_stop));
       }
     ]
 
 pub returns-in-Stopped-NoMemory-clause-lines : goal.returns-in-Stopped-NoMemory-clause-lines
 returns-in-Stopped-NoMemory-clause-lines g c =
-    plays _ _ _ _ _ _ _ _ (played-stopped _ _ _ _ _ _ _ _ _ _ c.attempts.invariant.lines c.attempts.invariant.fated c.in-Stopped-NoMemory.ensures.stopped)
+    plays _ _ _ _ _ _ _ _
+    (played-stopped _ _ _ _ _ _ _ _ _ _ c.attempts.invariant.lines c.attempts.invariant.fated
+    c.in-Stopped-NoMemory.ensures.stopped)
 
 pub returns-in-Stopped-NoMemory-clause-tries : goal.returns-in-Stopped-NoMemory-clause-tries
 returns-in-Stopped-NoMemory-clause-tries g c =
     let test = c.attempts-test.true in
-    omega (arith, (played-stopped _ _ _ _ _ _ _ _ _ _ c.attempts.invariant.lines c.attempts.invariant.fated c.in-Stopped-NoMemory.ensures.stopped).attempted.few)
+    omega (
+      arith,
+      (played-stopped _ _ _ _ _ _ _ _ _ _ c.attempts.invariant.lines c.attempts.invariant.fated
+          c.in-Stopped-NoMemory.ensures.stopped).attempted.few,
+    )
 
 pub returns-in-Stopped-Limit-clause-lines : goal.returns-in-Stopped-Limit-clause-lines
 returns-in-Stopped-Limit-clause-lines g c =
-    plays _ _ _ _ _ _ _ _ (played-stopped _ _ _ _ _ _ _ _ _ _ c.attempts.invariant.lines c.attempts.invariant.fated c.in-Stopped-Limit.ensures.stopped)
+    plays _ _ _ _ _ _ _ _
+    (played-stopped _ _ _ _ _ _ _ _ _ _ c.attempts.invariant.lines c.attempts.invariant.fated
+    c.in-Stopped-Limit.ensures.stopped)
 
 pub returns-in-Stopped-Limit-clause-tries : goal.returns-in-Stopped-Limit-clause-tries
 returns-in-Stopped-Limit-clause-tries g c =
     let test = c.attempts-test.true in
-    omega (arith, (played-stopped _ _ _ _ _ _ _ _ _ _ c.attempts.invariant.lines c.attempts.invariant.fated c.in-Stopped-Limit.ensures.stopped).attempted.few)
+    omega (
+      arith,
+      (played-stopped _ _ _ _ _ _ _ _ _ _ c.attempts.invariant.lines c.attempts.invariant.fated
+          c.in-Stopped-Limit.ensures.stopped).attempted.few,
+    )

@@ -8,7 +8,8 @@ abbrev pub invariant-attempts : goal.invariant-attempts
 invariant-attempts g l = record {
   of : g.E.Engine.of l.engine l.pass;
   fated : length (g.E.Engine.front l.pass).known ≡ length (g.E.Engine.front l.pass).seen;
-  lines : HasPlayed g.L.B.Body.did (g.L.Lines.body_at l.lines) l.turn.caller l.turn.done l.tried (g.E.Engine.front l.fn.pass) (g.E.Engine.front l.pass) l.replies.items;
+  lines : HasPlayed g.L.B.Body.did (g.L.Lines.body_at l.lines) l.turn.caller l.turn.done l.tried
+      (g.E.Engine.front l.fn.pass) (g.E.Engine.front l.pass) l.replies.items;
   played : l.played ≡ l.turn.done + length l.replies.items;
   within : l.played ≤ g.L.Lines.line_count l.lines l.turn.caller;
   few : length l.replies.items ≤ l.tried;
@@ -16,6 +17,7 @@ invariant-attempts g l = record {
   counted : g.E.Engine.begun l.pass ≡ g.E.Engine.begun l.fn.pass + l.tried;
   begun : l.tried ≡ 0 → l.pass ≡ l.fn.pass;
   first : g.E.Engine.fresh l.engine l.fn.pass → 1 ≤ (g.E.Engine.limits l.engine).tries
-      → IsSmallLine (bounds_in (g.E.Engine.limits l.engine)) g.L.B.Body.makes (g.L.Lines.body_at l.lines) l.turn.caller (l.turn.done + 1) (g.E.Engine.start l.engine) → 1 ≤ l.tried → 1 ≤ length l.replies.items;
+      → IsSmallLine (bounds_in (g.E.Engine.limits l.engine)) g.L.B.Body.makes (g.L.Lines.body_at l.lines)
+      l.turn.caller (l.turn.done + 1) (g.E.Engine.start l.engine) → 1 ≤ l.tried → 1 ≤ length l.replies.items;
   steady : StopsForMemory (g.E.Engine.may_stop l.engine) → length l.replies.items ≡ l.tried;
 }

@@ -30,7 +30,8 @@ one-of-two lane at = elim (contains-either 0 [] lane at) [
   | inr there ↦ let below = there.1 in absurd (omega arith)
 ]
 
-all-wider : {A : Type 0} (P Q : A → Type 0) → ((x : A) → P x → Q x) → (xs : List A) → AllByRecursion P xs → AllByRecursion Q xs
+all-wider : {A : Type 0} (P Q : A → Type 0) → ((x : A) → P x → Q x) → (xs : List A) → AllByRecursion P xs
+    → AllByRecursion Q xs
 all-wider P Q wider [] all = tt
 all-wider P Q wider (x ∷ xs) all = (wider x all.0, all-wider P Q wider xs all.1)
 
@@ -43,8 +44,11 @@ wider start f is =
       legal = is.legal;
       some = is.some;
       rising = is.rising;
-      within = All-from_recursion (Contains (0 ∷ 1 ∷ [])) f.lanes (all-wider (Contains (0 ∷ [])) (Contains (0 ∷ 1 ∷ [])) one-of-two f.lanes (recursion_from_All (Contains (0 ∷ [])) f.lanes is.within));
-      entries = All-from_recursion of_two f.seen (all-wider of_one of_two (λ e. one-of-two e.lane) f.seen (recursion_from_All of_one f.seen is.entries));
+      within = All-from_recursion (Contains (0 ∷ 1 ∷ [])) f.lanes
+          (all-wider (Contains (0 ∷ [])) (Contains (0 ∷ 1 ∷ [])) one-of-two f.lanes
+          (recursion_from_All (Contains (0 ∷ [])) f.lanes is.within));
+      entries = All-from_recursion of_two f.seen
+          (all-wider of_one of_two (λ e. one-of-two e.lane) f.seen (recursion_from_All of_one f.seen is.entries));
       numbered = is.numbered;
       outside = is.outside;
       answered = is.answered;
@@ -53,7 +57,8 @@ wider start f is =
     }
 
 -- and of a store that may have a lane more
-maybe_wider : (shared : Bool) (start : State) (f : Front) → IsFrontFrom start (0 ∷ []) f → IsFrontFrom start (cond shared (0 ∷ 1 ∷ []) (0 ∷ [])) f
+maybe_wider : (shared : Bool) (start : State) (f : Front) → IsFrontFrom start (0 ∷ []) f
+    → IsFrontFrom start (cond shared (0 ∷ 1 ∷ []) (0 ∷ [])) f
 maybe_wider true start f is = wider start f is
 maybe_wider false start f is = is
 
