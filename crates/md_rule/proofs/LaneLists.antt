@@ -1,0 +1,79 @@
+-- Lists of lanes: which lanes they have.
+use Rattle.std.proofs.Common.{◌≡◌, ◌==◌, ◌||◌, ℕ, zero, suc, ◌+◌, ◌-◌, ◌/◌, ◌<◌, ◌≤◌, Bool, true, false, List, [], ◌∷◌, filter, take, drop, length, ne_eqb, eq-eqb, arith, refl, sym, ap, ◌∙◌, ⊎_elim}
+use Rattle.std.specs.List.{range_with_len}
+use Rattle.std.proofs.lemmas.Bool.{cases_lt, cond_both, false≢true}
+use Rattle.std.proofs.lemmas.List.{length-drop, length-take}
+use Rattle.std.proofs.lemmas.List.FromFn.{length-range_with_len}
+use Rattle.md_words.specs.declared.shape.Shape.{Shape}
+use Rattle.md_history.specs.Front.{is_lane_of}
+use Rattle.md_machine.specs.events.SplitJoin.{given_lanes, joined_lanes, kept_lanes}
+use Rattle.md_rule.proofs.LaneSets.{some_lanes, any_pass}
+use Rattle.md_rule.specs.Lanes.{AreLanes}
+
+-- a list without a lane, in its first element and its rest
+without : (x : ℕ) (xs : List ℕ) (l : ℕ) → is_lane_of (x ∷ xs) l ≡ false → ((x == l) ≡ false) × (is_lane_of xs l ≡ false)
+without x xs l = both (x == l) (is_lane_of xs l)
+  where
+    both : (b c : Bool) → (b || c) ≡ false → (b ≡ false) × (c ≡ false)
+    both true c e = absurd (false≢true (sym e))
+    both false c e = (refl, e)
+
+neither : (b c : Bool) → b ≡ false → c ≡ false → (b || c) ≡ false
+neither b c e f = ap (λ x. x || c) e ∙ f
+
+-- a range has no lane past its end, nor has what passes a test
+past_range : (a n l : ℕ) → a + n ≤ l → is_lane_of (range_with_len a n) l ≡ false
+past_range a zero l h = refl
+past_range a (suc n) l h = neither (a == l) (is_lane_of (range_with_len (a + 1) n) l) (ne_eqb a l (λ e. omega (arith, h, e))) (past_range (a + 1) n l (omega (arith, h)))
+
+without_filter : (p : ℕ → Bool) (xs : List ℕ) (l : ℕ) → is_lane_of xs l ≡ false → is_lane_of (filter p xs) l ≡ false
+without_filter p [] l e = refl
+without_filter p (x ∷ xs) l e = let r = without x xs l e in
+    cond_both (p x) (x ∷ filter p xs) (filter p xs) (λ ys. is_lane_of ys l ≡ false) (λ _. neither (x == l) (is_lane_of (filter p xs) l) r.0 (without_filter p xs l r.1)) (λ _. without_filter p xs l r.1)
+
+without_take : (k : ℕ) (xs : List ℕ) (l : ℕ) → is_lane_of xs l ≡ false → is_lane_of (take k xs) l ≡ false
+without_take zero xs l e = refl
+without_take (suc k) [] l e = refl
+without_take (suc k) (x ∷ xs) l e = let r = without x xs l e in neither (x == l) (is_lane_of (take k xs) l) r.0 (without_take k xs l r.1)
+
+without_drop : (k : ℕ) (xs : List ℕ) (l : ℕ) → is_lane_of xs l ≡ false → is_lane_of (drop k xs) l ≡ false
+without_drop zero xs l e = e
+without_drop (suc k) [] l e = refl
+without_drop (suc k) (x ∷ xs) l e = without_drop k xs l (without x xs l e).1
+
+-- the lanes of a field, of each part of a split, and of a join
+pub all_are_lanes : (shape : Shape) → AreLanes shape (range_with_len 0 shape.lanes)
+all_are_lanes shape = record {
+  live = let some = some_lanes shape in let count = length-range_with_len 0 shape.lanes in omega (arith, some, count);
+  below = λ lane h. past_range 0 shape.lanes lane (omega (arith, h));
+}
+
+pub kept_are_lanes : (shape : Shape) (lanes : List ℕ) → AreLanes shape lanes → 2 ≤ length lanes → AreLanes shape (kept_lanes lanes)
+kept_are_lanes shape lanes k two = record {
+  live = let count = length-take (length lanes - length lanes / 2) lanes in omega (arith, two, count);
+  below = λ lane h. without_take (length lanes - length lanes / 2) lanes lane (k.below lane h);
+}
+
+pub given_are_lanes : (shape : Shape) (lanes : List ℕ) → AreLanes shape lanes → 2 ≤ length lanes → AreLanes shape (given_lanes lanes)
+given_are_lanes shape lanes k two = record {
+  live = let count = length-drop (length lanes - length lanes / 2) lanes in omega (arith, two, count);
+  below = λ lane h. without_drop (length lanes - length lanes / 2) lanes lane (k.below lane h);
+}
+
+-- some lane of a list that isn't empty
+has_some : (xs : List ℕ) → 0 < length xs → (l : ℕ) × (is_lane_of xs l ≡ true)
+has_some [] some = absurd (omega (arith, some))
+has_some (x ∷ xs) some = (x, ap (λ b. b || is_lane_of xs x) (eq-eqb x x refl))
+
+some_if : (xs : List ℕ) (l : ℕ) → is_lane_of xs l ≡ true → 0 < length xs
+some_if [] l e = absurd (false≢true e)
+some_if (x ∷ xs) l e = omega arith
+
+pub joined_are_lanes : (shape : Shape) (lanes others : List ℕ) → AreLanes shape lanes → AreLanes shape (joined_lanes shape lanes others)
+joined_are_lanes shape lanes others k =
+    let p : ℕ → Bool = λ l. is_lane_of lanes l || is_lane_of others l in
+    let one = has_some lanes k.live in
+    let inside : one.0 < shape.lanes = ⊎_elim (λ h. h) (λ h. absurd (false≢true (sym (k.below one.0 h) ∙ one.1))) (cases_lt one.0 shape.lanes) in record {
+      live = some_if (joined_lanes shape lanes others) one.0 (any_pass p 0 shape.lanes one.0 (omega arith) (omega (arith, inside)) ∙ ap (λ b. b || is_lane_of others one.0) one.1);
+      below = λ lane h. without_filter p (range_with_len 0 shape.lanes) lane (past_range 0 shape.lanes lane (omega (arith, h)));
+    }

@@ -1,0 +1,4 @@
+pub mod LaneSets
+pub mod LaneLists
+pub mod Moves
+pub mod Events

@@ -1,0 +1,6 @@
+use Rattle.md_machine.specs.Event.{store}
+use Rattle.md_rule.specs.Steps.{Stepped}
+use Rattle.md_rule.proofs.pass.Pass.store.Given as goal
+
+abbrev pub ghosts-store_word : goal.ghosts-store_word
+ghosts-store_word g a = record { tells = λ _. Stepped g.T.Theory.meaning a.field.now.origin (λ pass. store pass a.about.value.0 a.about.value.1) }

@@ -1,0 +1,69 @@
+//! The field: the table and its shape.
+
+ghost use Rattle.std.specs.Prelude.{◌≡◌, List, IfOk, replicate};
+ghost use Rattle.md_machine.specs.declared.node.PlacedNode.{PlacedNode};
+ghost use Rattle.md_machine.specs.Event.{CanOpen, first_pass};
+ghost use Rattle.md_rule.specs.declared.shares.TheConstants.{UNUSED};
+ghost use Rattle.md_rule.specs.Views.{IsOf};
+
+use crate::pass::Pass;
+use crate::rule::{Key, Ruled};
+use atomic_table::Table;
+use md_machine::{PassView, Theory};
+use md_words::Shape;
+use std::alloc::{AllocError, Global};
+use std::marker::Model;
+use std::snapshot::Snapshot;
+
+/// A table of shared words under the rule.
+#[derive(Drop)]
+pub struct Field<T: Theory> {
+    pub(crate) table: Table<(), PassView, Key, Ruled<T>, Global>,
+    shape: Shape,
+}
+
+impl<T: Theory> Model for Field<T> {
+    ghost use Rattle.std.specs.Prelude.{◌≡◌};
+    ghost use Rattle.md_words.specs.Layout.{words_of};
+    ghost use Rattle.md_rule.specs.Views.{FieldView};
+
+    ghost Value = { FieldView };
+
+    ghost view = { λ f. record {
+      table = f.table.shared.table_id;
+      origin = record { shape = f.table.shared.key.shape; words = f.table.shared.key.words.value.items };
+    } };
+
+    ghost invariant = { λ f. (f.shape ≡ f.table.shared.key.shape)
+        × (f.table.shared.table_id.words ≡ words_of f.table.shared.key.shape)
+        × (f.table.shared.table_id.slots ≡ 0) };
+}
+
+impl<T: Theory> Field<T> {
+    /// Makes a field of these words, and the pass that holds all its lanes.
+    pub fn open(
+        alloc: Global,
+        shape: Shape,
+        words: Vec<u64>,
+    ) -> Result<(Field<T>, Pass<T>), AllocError>
+        requires { (placed : List PlacedNode)
+            × CanOpen T.meaning (record { shape = shape; words = words.items; placed = placed }) }
+        ensures field { IfOk result (λ r. r.0.origin ≡ record { shape = shape; words = words.items }) }
+        ensures pass { IfOk result (λ r. IsOf r.1 r.0 × (r.1.view ≡ first_pass shape)
+            × (r.1.shares ≡ replicate 64 UNUSED)) }
+    {
+        let key = Key {
+            shape,
+            words: Snapshot::of(&words),
+        };
+        let (table, seat) = Table::of_words(alloc, words.as_slice(), &key)?;
+        Ok((Field { table, shape }, Pass::of(seat, shape)))
+    }
+
+    /// The numbers of the field.
+    pub fn shape(&self) -> &Shape
+        ensures { result.now ≡ self.now.origin.shape }
+    {
+        &self.shape
+    }
+}

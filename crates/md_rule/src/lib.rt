@@ -1,0 +1,20 @@
+//! A field of shared words under the machine's theorem, and the passes that step on it.
+//!
+//! A `Field` owns a table of atomic words, a `Pass` is a thread's right to step on it. Each step is one
+//! atomic operation and one event of the machine, and its contract says which.
+#![tactic(auto)]
+
+pub use field::Field;
+pub use pass::Pass;
+pub use rule::{Key, Ruled, Telling};
+pub use shares::Share;
+
+mod field;
+mod lanes;
+mod marks;
+mod pass;
+mod rule;
+mod shares;
+mod statuses;
+mod steps;
+mod words;

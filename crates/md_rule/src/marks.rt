@@ -1,0 +1,73 @@
+//! The five marks: what is in hand changes. Each is one load of word 0.
+
+ghost use Rattle.std.specs.Prelude.{◌≡◌, Some};
+ghost use Rattle.md_machine.specs.declared.attempt.Hand.{Hand};
+ghost use Rattle.md_machine.specs.Event.{mark_begin, mark_start, mark_end, mark_leave};
+ghost use Rattle.md_machine.specs.events.Start.{IsClean};
+ghost use Rattle.md_rule.specs.Steps.{Acted, May, MayAct, Stepped};
+ghost use Rattle.md_rule.specs.Views.{IsOf};
+
+use crate::field::Field;
+use crate::pass::Pass;
+use crate::words::mark;
+use md_history::{Op, Reply};
+use md_machine::Theory;
+use std::marker::Brand;
+use std::snapshot::Snapshot;
+
+impl<T: Theory> Pass<T> {
+    /// Takes the present attempt of an own descriptor in hand, with a tag.
+    pub fn mark_begin(&mut self, field: &Field<T>, desc: u32, tag: u64)
+        requires field { IsOf self.old field.now }
+        requires may { May T.meaning field.now.origin (λ pass. mark_begin pass desc tag) self.old.view }
+        ensures same { self.new ≡ record self.old { view = self.new.view } }
+        ensures step { Stepped T.meaning field.now.origin (λ pass. mark_begin pass desc tag)
+            self.old.view self.new.view }
+    {
+        mark::<Brand, T, _>(self, field, Snapshot::of(&(desc, tag)));
+    }
+
+    /// Begins an operation of the transaction in hand.
+    pub fn mark_start(&mut self, field: &Field<T>)
+        requires field { IsOf self.old field.now }
+        requires may { May T.meaning field.now.origin (λ pass. mark_start pass) self.old.view }
+        ensures same { self.new ≡ record self.old { view = self.new.view } }
+        ensures step { Stepped T.meaning field.now.origin (λ pass. mark_start pass)
+            self.old.view self.new.view }
+    {
+        mark::<Brand, T, _>(self, field, Snapshot::of(&()));
+    }
+
+    /// Ends the operation that was begun: it has this reply, by some certificate.
+    pub fn mark_act(&mut self, field: &Field<T>, op: Op, reply: Reply)
+        requires field { IsOf self.old field.now }
+        requires may { MayAct T.meaning field.now.origin op reply self.old.view }
+        ensures same { self.new ≡ record self.old { view = self.new.view } }
+        ensures step { Acted T.meaning field.now.origin op reply self.old.view self.new.view }
+    {
+        mark::<Brand, T, _>(self, field, Snapshot::of(&(op, reply)));
+    }
+
+    /// Nothing is in hand afterwards: the transaction, whose attempt is decided and stands in no word,
+    /// is answered or stopped.
+    pub fn mark_end(&mut self, field: &Field<T>)
+        requires field { IsOf self.old field.now }
+        requires may { May T.meaning field.now.origin (λ pass. mark_end pass) self.old.view }
+        requires clean { (h : Hand) → self.old.view.hand ≡ Some h → IsClean self.old.view h.attempt }
+        ensures same { self.new ≡ record self.old { view = self.new.view } }
+        ensures step { Stepped T.meaning field.now.origin (λ pass. mark_end pass)
+            self.old.view self.new.view }
+    {
+        mark::<Brand, T, _>(self, field, Snapshot::of(&()));
+    }
+
+    /// Nothing is in hand afterwards. A transaction that was in hand is neither answered nor stopped.
+    pub fn mark_leave(&mut self, field: &Field<T>)
+        requires { IsOf self.old field.now }
+        ensures same { self.new ≡ record self.old { view = self.new.view } }
+        ensures step { Stepped T.meaning field.now.origin (λ pass. mark_leave pass)
+            self.old.view self.new.view }
+    {
+        mark::<Brand, T, _>(self, field, Snapshot::of(&()));
+    }
+}

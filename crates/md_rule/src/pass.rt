@@ -1,0 +1,77 @@
+//! A pass: a seat of the table, with its lanes.
+
+ghost use Rattle.std.specs.Prelude.{◌≡◌, ◌<◌, ◌↔◌, [], length, slice_index, replicate, IsTrue};
+ghost use Rattle.md_machine.specs.Event.{first_pass};
+ghost use Rattle.md_machine.specs.clauses.passes.Alone.{HoldsAll};
+ghost use Rattle.md_rule.specs.declared.shares.TheConstants.{UNUSED};
+ghost use Rattle.md_rule.specs.Views.{IsOf};
+
+use crate::field::Field;
+use crate::lanes::Lanes;
+use crate::shares::{Share, UNUSED};
+use atomic_table::Seat;
+use md_machine::{PassView, Theory};
+use md_words::Shape;
+use std::marker::{Model, PhantomData};
+
+/// A thread's token: what it steps with.
+#[derive(Drop)]
+pub struct Pass<T: Theory> {
+    pub(crate) seat: Seat<(), PassView>,
+    shape: Shape,
+    pub(crate) lanes: Lanes,
+    pub(crate) shares: [Share; 64],
+    theory: PhantomData<T>,
+}
+
+impl<T: Theory> Model for Pass<T> {
+    ghost use Rattle.std.specs.Prelude.{◌≡◌, ◌<◌, []};
+    ghost use Rattle.md_rule.specs.Views.{PassState};
+
+    ghost Value = { PassState };
+
+    ghost view = { λ p. record { table = p.seat.table_id; shape = p.shape; view = p.seat.me.0; shares = p.shares } };
+
+    ghost use Rattle.md_rule.specs.Lanes.{AreLanes};
+
+    ghost invariant = { λ p. (p.seat.me.0.lanes ≡ p.lanes) × AreLanes p.shape p.lanes × (p.seat.me.1 ≡ []) };
+}
+
+impl<T: Theory> Pass<T> {
+    pub(crate) fn of(seat: Seat<(), PassView>, shape: Shape) -> Pass<T>
+        requires { seat.me ≡ (first_pass shape, []) }
+        ensures { (result.table ≡ seat.table_id) × (result.shape ≡ shape) × (result.view ≡ seat.me.0)
+            × (result.shares ≡ replicate 64 UNUSED) }
+    {
+        Pass {
+            seat,
+            shape,
+            lanes: Lanes::all(shape.lanes),
+            shares: [UNUSED; 64],
+            theory: PhantomData,
+        }
+    }
+
+    /// The numbers of its field.
+    pub fn shape(&self) -> &Shape
+        ensures { result.now ≡ self.now.shape }
+    {
+        &self.shape
+    }
+
+    /// How many lanes it holds.
+    pub fn lanes(&self) -> u32
+        ensures { result ≡ length self.now.view.lanes }
+    {
+        self.lanes.count()
+    }
+
+    /// The lane at a place of its lanes, in rising order from 0.
+    pub fn lane(&self, place: u32) -> u32
+        requires { place < length self.now.view.lanes }
+        ensures lane { result ≡ slice_index self.now.view.lanes place }
+        ensures below { result < 64 }
+    {
+        self.lanes.at(place)
+    }
+}

@@ -1,0 +1,58 @@
+//! The rule of the table, and what a step tells.
+
+ghost use Rattle.std.specs.Prelude.{ℕ};
+ghost use Rattle.md_machine.specs.declared.pass.PassView.{PassView};
+ghost use Rattle.md_machine.specs.Event.{first_pass};
+ghost use Rattle.md_rule.specs.Rule.{Shows};
+
+use atomic_table::{Play, TableRule};
+use md_machine::{PassView, Theory};
+use md_words::Shape;
+use std::marker::{Brand, PhantomData};
+use std::snapshot::Snapshot;
+
+/// What the table is told when it is made: the shape, and the words of the opening. The words have no
+/// bytes here.
+#[derive(Drop)]
+pub struct Key {
+    pub shape: Shape,
+    pub words: Snapshot<Vec<u64>>,
+}
+
+/// The words and the views of all seats show a machine of the field.
+pub struct Ruled<T> {
+    theory: PhantomData<T>,
+}
+
+impl<T: Theory> TableRule<(), PassView, Key> for Ruled<T> {
+    ghost use Rattle.md_machine.specs.Event.{first_pass};
+    ghost use Rattle.md_rule.specs.Rule.{Shows};
+
+    ghost holds = { λ k. Shows T.meaning (record { shape = k.shape; words = k.words.value.items }) };
+
+    ghost first = { λ k. first_pass k.shape };
+}
+
+/// What a step tells of the content that it found, and of what the pass knew before and knows after.
+/// Each call picks it.
+pub trait Telling {
+    ghost use Rattle.std.specs.Prelude.{ℕ};
+    ghost use Rattle.md_machine.specs.declared.pass.PassView.{PassView};
+
+    ghost tells: { ℕ → PassView → PassView → Type 0 };
+}
+
+impl Telling for Brand {
+    ghost tells = { λ found before after. Unit {0} };
+}
+
+pub(crate) struct Tells<K> {
+    telling: PhantomData<K>,
+}
+
+impl<K: Telling> Play<(), PassView> for Tells<K> {
+    ghost use Rattle.std.specs.Prelude.{◌≡◌};
+
+    ghost then = { λ step me found now. K.tells found me.0 now.0 × (now.0.lanes ≡ me.0.lanes)
+        × (now.1 ≡ me.1) };
+}

@@ -1,0 +1,188 @@
+//! The nine steps.
+
+ghost use Rattle.std.specs.Prelude.{◌≡◌, ◌+◌, ◌^◌, ◌<◌, ◌≤◌};
+ghost use Rattle.md_words.specs.Content.{word_of};
+ghost use Rattle.md_words.specs.Layout.{address, desc_count, words_of};
+ghost use Rattle.md_words.specs.Place.{desc_status};
+ghost use Rattle.md_words.specs.Status.{serial_of};
+ghost use Rattle.md_machine.specs.declared.step.TheConstants.{LAST_COUNT};
+ghost use Rattle.md_machine.specs.Event.{load, store, install, exchange, ready, commit, abort, uninstall, start};
+ghost use Rattle.md_rule.specs.InHand.{HoldsUnready};
+ghost use Rattle.md_rule.specs.Steps.{Exchanged, May, Stepped, SteppedFrom};
+ghost use Rattle.md_rule.specs.Views.{IsOf};
+
+use crate::field::Field;
+use crate::pass::Pass;
+use crate::statuses;
+use crate::words::{exchange_word, load_word, store_word};
+use md_machine::Theory;
+use md_words::{Content, Spot, Status};
+use std::marker::Brand;
+use std::snapshot::Snapshot;
+
+impl<T: Theory> Pass<T> {
+    /// What a word holds.
+    pub fn load(&mut self, field: &Field<T>, word: u32) -> u64
+        requires { IsOf self.old field.now × (word < words_of field.now.origin.shape) }
+        ensures same { self.new ≡ record self.old { view = self.new.view } }
+        ensures step { SteppedFrom T.meaning field.now.origin (λ pass. load pass word) word result
+            self.old.view self.new.view }
+    {
+        load_word::<Brand, T, _>(self, field, word, Snapshot::of(&word))
+    }
+
+    /// Writes a word of an own node that isn't published, or of a read or a slot of the transaction in
+    /// hand.
+    pub fn store(&mut self, field: &Field<T>, word: u32, value: u64)
+        requires field { IsOf self.old field.now
+            × (word < words_of field.now.origin.shape) }
+        requires may { May T.meaning field.now.origin (λ pass. store pass word value) self.old.view }
+        ensures same { self.new ≡ record self.old { view = self.new.view } }
+        ensures step { Stepped T.meaning field.now.origin (λ pass. store pass word value)
+            self.old.view self.new.view }
+    {
+        let about = Snapshot::of(&(word, value));
+        store_word::<Brand, T, _>(self, field, word, value, about);
+    }
+
+    /// Puts the descriptor in hand, at one of its slots, into a word.
+    pub fn install(
+        &mut self,
+        field: &Field<T>,
+        word: u32,
+        from: Content,
+        to: Spot,
+    ) -> Result<(), u64>
+        requires field { IsOf self.old field.now
+            × (word < words_of field.now.origin.shape) }
+        requires fits { (from.count ≤ LAST_COUNT) × (to.desc < 2 ^ 24) }
+        requires may { May T.meaning field.now.origin (λ pass. install pass word (word_of from) to)
+            self.old.view }
+        ensures same { self.new ≡ record self.old { view = self.new.view } }
+        ensures step { Exchanged T.meaning field.now.origin
+            (λ pass. install pass word (word_of from) to) word (word_of from) result
+            self.old.view self.new.view }
+    {
+        let installed = Content {
+            value: to.value(),
+            count: from.count + 1,
+        };
+        let about = Snapshot::of(&(from, to));
+        exchange_word::<Brand, T, _>(self, field, word, from.word(), installed.word(), about)
+    }
+
+    /// Changes a word by a plain exchange, which leaves the state as it is.
+    pub fn exchange(
+        &mut self,
+        field: &Field<T>,
+        word: u32,
+        from: Content,
+        to: u32,
+    ) -> Result<(), u64>
+        requires field { IsOf self.old field.now
+            × (word < words_of field.now.origin.shape) }
+        requires fits { from.count ≤ LAST_COUNT }
+        requires may { May T.meaning field.now.origin (λ pass. exchange pass word (word_of from) to)
+            self.old.view }
+        ensures same { self.new ≡ record self.old { view = self.new.view } }
+        ensures step { Exchanged T.meaning field.now.origin
+            (λ pass. exchange pass word (word_of from) to) word (word_of from) result
+            self.old.view self.new.view }
+    {
+        let exchanged = Content {
+            value: to,
+            count: from.count + 2,
+        };
+        let about = Snapshot::of(&(from, to));
+        exchange_word::<Brand, T, _>(self, field, word, from.word(), exchanged.word(), about)
+    }
+
+    /// Makes the transaction in hand ready: it joins the history.
+    pub fn ready(&mut self, field: &Field<T>, desc: u32, from: u64, reads: u8) -> Result<(), u64>
+        requires field { IsOf self.old field.now
+            × (desc < desc_count field.now.origin.shape) }
+        requires hand { HoldsUnready self.old.view desc from }
+        requires may { May T.meaning field.now.origin (λ pass. ready pass reads) self.old.view }
+        ensures same { self.new ≡ record self.old { view = self.new.view } }
+        ensures step { Exchanged T.meaning field.now.origin (λ pass. ready pass reads)
+            (address field.now.origin.shape (desc_status desc)) from result
+            self.old.view self.new.view }
+    {
+        let word = field.shape().status(desc);
+        let about = Snapshot::of(&(desc, reads));
+        exchange_word::<Brand, T, _>(self, field, word, from, statuses::ready(from, reads), about)
+    }
+
+    /// Commits an attempt that is in progress, and whose reads all stand.
+    pub fn commit(&mut self, field: &Field<T>, desc: u32, from: u64) -> Result<(), u64>
+        requires field { IsOf self.old field.now
+            × (desc < desc_count field.now.origin.shape) }
+        requires may { May T.meaning field.now.origin (λ pass. commit pass desc from) self.old.view }
+        ensures same { self.new ≡ record self.old { view = self.new.view } }
+        ensures step { Exchanged T.meaning field.now.origin (λ pass. commit pass desc from)
+            (address field.now.origin.shape (desc_status desc)) from result
+            self.old.view self.new.view }
+    {
+        let word = field.shape().status(desc);
+        let committed = statuses::decided(Status::Committed, from);
+        let about = Snapshot::of(&(desc, from));
+        exchange_word::<Brand, T, _>(self, field, word, from, committed, about)
+    }
+
+    /// Aborts an attempt that isn't ready, or one with a read that doesn't stand.
+    pub fn abort(&mut self, field: &Field<T>, desc: u32, from: u64) -> Result<(), u64>
+        requires field { IsOf self.old field.now
+            × (desc < desc_count field.now.origin.shape) }
+        requires may { May T.meaning field.now.origin (λ pass. abort pass desc from) self.old.view }
+        ensures same { self.new ≡ record self.old { view = self.new.view } }
+        ensures step { Exchanged T.meaning field.now.origin (λ pass. abort pass desc from)
+            (address field.now.origin.shape (desc_status desc)) from result
+            self.old.view self.new.view }
+    {
+        let word = field.shape().status(desc);
+        let aborted = statuses::decided(Status::Aborted, from);
+        let about = Snapshot::of(&(desc, from));
+        exchange_word::<Brand, T, _>(self, field, word, from, aborted, about)
+    }
+
+    /// Takes a descriptor whose attempt is decided out of a word.
+    pub fn uninstall(
+        &mut self,
+        field: &Field<T>,
+        word: u32,
+        from: Content,
+        value: u32,
+    ) -> Result<(), u64>
+        requires field { IsOf self.old field.now
+            × (word < words_of field.now.origin.shape) }
+        requires fits { from.count ≤ LAST_COUNT + 1 }
+        requires may { May T.meaning field.now.origin
+            (λ pass. uninstall pass word (word_of from) value) self.old.view }
+        ensures same { self.new ≡ record self.old { view = self.new.view } }
+        ensures step { Exchanged T.meaning field.now.origin
+            (λ pass. uninstall pass word (word_of from) value) word (word_of from) result
+            self.old.view self.new.view }
+    {
+        let uninstalled = Content {
+            value,
+            count: from.count + 1,
+        };
+        let about = Snapshot::of(&(from, value));
+        exchange_word::<Brand, T, _>(self, field, word, from.word(), uninstalled.word(), about)
+    }
+
+    /// Begins the next attempt of an own descriptor, whose last one is decided and stands in no word.
+    pub fn start(&mut self, field: &Field<T>, desc: u32, from: u64)
+        requires field { IsOf self.old field.now
+            × (desc < desc_count field.now.origin.shape) }
+        requires fits { serial_of from + 1 < field.now.origin.shape.tries }
+        requires may { May T.meaning field.now.origin (λ pass. start pass desc from) self.old.view }
+        ensures same { self.new ≡ record self.old { view = self.new.view } }
+        ensures step { Stepped T.meaning field.now.origin (λ pass. start pass desc from)
+            self.old.view self.new.view }
+    {
+        let word = field.shape().status(desc);
+        let about = Snapshot::of(&(desc, from));
+        store_word::<Brand, T, _>(self, field, word, statuses::started(from), about);
+    }
+}
