@@ -8,3 +8,4 @@ pub mod OwnNexts
 pub mod EvenNexts
 pub mod InstalledValue
 pub mod KnowsFree
+pub mod InPreparation
