@@ -3,4 +3,5 @@
 pub mod Finds
 pub mod Maps
 pub mod Buckets
+pub mod Rising
 pub mod HashTableLaws

@@ -14,6 +14,9 @@ pub mod Inserting
 pub mod Tables
 pub mod Standing
 pub mod Framing
+pub mod RisingLinks
+pub mod RisingRows
+mod RisingAlong
 pub mod OneListLaws
 mod Shown
 pub mod RowsHold

@@ -15,7 +15,7 @@ use Rattle.md_machine.specs.LogicalHeap.{LogicalHeap, LogicalWords, IsPlaced, Is
 use Rattle.md_machine.specs.Meaning.{Stands, TidyStands, KeepsFacts, Follows, Lawful, NamesPlaced, after_certificate, after_tidy}
 use Rattle.md_list_law.specs.Walk.{pairs_from, map_of_pairs}
 use Rattle.md_list_law.specs.ListShape.{IsList}
-use Rattle.md_list_law.specs.OneList.{the_list, the_head, IsOneList, state_of_list, one_list}
+use Rattle.md_list_law.specs.OneList.{the_list, the_head, IsOneList, OneListRises, state_of_list, one_list}
 use Rattle.md_list_law.proofs.Links.{head_is_no_next}
 use Rattle.md_list_law.proofs.Chains.{names_above}
 use Rattle.md_list_law.proofs.Pairs.{rises_of}
@@ -24,6 +24,7 @@ use Rattle.md_list_law.proofs.Elsewhere.{IsNoNext, facts_kept}
 use Rattle.md_list_law.proofs.Tables.{does_as, same_table, acts}
 use Rattle.md_list_law.proofs.Standing.{ListAfter, found_in, row_after, unlink_after}
 use Rattle.md_list_law.proofs.Framing.{same_framed, names_placed}
+use Rattle.md_list_law.proofs.RisingRows.{row_rises, unlink_rises}
 
 -- every shape has the bucket
 first_bucket : (shape : Shape) → (0 < shape.maps) × (0 < shape.buckets)
@@ -110,3 +111,9 @@ link_law h word valid counted links free = ⊎_elim
 
 pub one_list_lawful : Lawful one_list
 one_list_lawful = record { certificate = certificate_law; tidy = tidy_law; frame = frame_law; link = link_law }
+
+pub one_list_rises : OneListRises
+one_list_rises = record {
+  certificates = λ own h c is st rise. row_rises own h the_list (the_head h.words.shape) (apart h) rise 0 is.0 c is.1.row st;
+  tidied = λ own h t is st rise. unlink_rises own h the_list (the_head h.words.shape) (apart h) rise t is st;
+}

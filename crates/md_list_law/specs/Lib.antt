@@ -1,5 +1,6 @@
 pub mod Walk
 pub mod ListShape
+pub mod Rising
 pub mod Gaps
 pub mod Certificates
 pub mod HasLists

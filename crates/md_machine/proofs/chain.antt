@@ -1,5 +1,6 @@
 pub mod Agree
 pub mod Follow
+pub mod Along
 pub mod Entry
 pub mod Values
 pub mod Ready

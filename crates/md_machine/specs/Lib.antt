@@ -1,4 +1,5 @@
 pub mod LogicalHeap
+pub mod SeesNodes
 pub mod Meaning
 pub mod Machine
 pub mod Resolution

@@ -13,4 +13,6 @@ pub mod Appending
 pub mod Looking
 pub mod Certifying
 pub mod Frames
+pub mod RisingRanks
+pub mod RisingCertificates
 pub mod QueueLaws

@@ -3,4 +3,6 @@
 pub mod Nodes
 pub mod ListChanges
 pub mod QueueChanges
+pub mod RisingBuckets
+pub mod RisingQueues
 pub mod StoreLaws

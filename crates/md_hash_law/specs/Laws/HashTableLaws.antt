@@ -21,6 +21,7 @@ use Rattle.md_list_law.proofs.Standing.{ListAfter, RowAfter, SameAfter, row_afte
 use Rattle.md_list_law.proofs.Framing.{same_framed, names_placed}
 use Rattle.md_hash_law.specs.HashTable.{AreBuckets, IsBucketOf, hash_table}
 use Rattle.md_hash_law.specs.Laws.Buckets.{head_apart, bucket_same, buckets_after, same_everywhere, acts_after, maps_same}
+use Rattle.md_hash_law.specs.Laws.Rising.{table_rises, table_tidied}
 
 -- maps as a state
 maps_state : (maps others : List Table) → maps ≡ others → ◌≡◌ {A = State} (record { maps = maps; queues = [] }) (record { maps = others; queues = [] })
@@ -128,8 +129,11 @@ link_law h word valid counted links free = ⊎_elim
 pub has_lists_law : HasListsOf hash_table
 has_lists_law = record {
   buckets = λ h map bucket valid m b. valid.buckets map bucket m b;
+  nodes = λ h node valid placed. node_of h valid.buckets valid.alone node placed;
   certifies = λ shape map key c m is. (map, key, m, is);
   unlinks = λ shape map bucket t m b is. (map, bucket, m, b, is);
   heads = λ shape map bucket m b. inl (map, bucket, m, b, refl);
   next_words = λ shape node is. inr (node, is, refl);
+  rising = table_rises;
+  rising_tidied = table_tidied;
 }

@@ -18,6 +18,7 @@ use Rattle.md_queue_law.specs.Laws.Lists.{queue_list}
 use Rattle.md_queue_law.specs.Laws.Agreement.{PlacedExist}
 use Rattle.md_queue_law.specs.Laws.Following.{QueueFollows}
 use Rattle.md_queue_law.specs.Laws.Certifying.{certificate_follows, move_follows}
+use Rattle.md_queue_law.specs.Laws.RisingCertificates.{certificate_rises, move_rises}
 use Rattle.md_queue_law.specs.Laws.Frames.{queues_framed, one_names_placed, next_names_placed}
 
 -- each placed node of a heap of queues is a node of the field
@@ -106,7 +107,10 @@ pub queue_has_queues : HasQueuesOf queue_meaning
 queue_has_queues = record {
   stand = λ h v. v.stand;
   values = λ h queue v within. queue_list h.words queue within;
+  nodes = λ h node v placed. placed_exist h v node placed.0 placed.1;
   certifies = λ shape c certifies. certifies;
   tidies = λ shape t tidies. tidies;
   links = λ shape p is link. subst (λ (q : Place). IsTrue (is_queue_link q)) (sym (place_at-address shape p is)) link;
+  rising = λ own h queue c within certifies stands rises. certificate_rises own h queue within rises c certifies stands;
+  rising_tidied = λ own h queue t within moves stands rises. move_rises own h queue within rises t moves stands;
 }

@@ -5,14 +5,14 @@ use Rattle.std.proofs.lemmas.Bool.{false≢true}
 use Rattle.md_words.specs.declared.shape.Shape.{Shape}
 use Rattle.md_words.specs.Place.{Place, is_counted, bucket_head, queue_head, queue_tail, node_next, base_word, node_key, node_value, desc_status, read_word, read_content, slot_word, slot_old, slot_new}
 use Rattle.md_words.specs.PlaceAt.{place_at}
-use Rattle.md_words.specs.Layout.{address, Exists, bucket_of}
+use Rattle.md_words.specs.Layout.{address, Exists, IsNode, bucket_of}
 use Rattle.md_words.proofs.Places.{address-place_at, counted_by_place, bucket_of_below}
 use Rattle.md_history.specs.State.{State, Table, answer, after}
 use Rattle.md_machine.specs.declared.node.Structure.{Structure}
 use Rattle.md_machine.specs.declared.node.Structure.TheVariants.{Bucket}
 use Rattle.md_machine.specs.declared.certificate.Certificate.{Certificate}
 use Rattle.md_machine.specs.declared.certificate.TidyChange.{TidyChange}
-use Rattle.md_machine.specs.LogicalHeap.{LogicalHeap, IsNoUnplacedNext, AgreeWherePlaced}
+use Rattle.md_machine.specs.LogicalHeap.{LogicalHeap, IsNoUnplacedNext, IsPlaced, AgreeWherePlaced}
 use Rattle.md_machine.specs.Meaning.{Lawful, Stands, TidyStands, Follows, NamesPlaced, after_certificate, after_tidy}
 use Rattle.md_list_law.specs.ListShape.{head_word}
 use Rattle.md_list_law.specs.HasLists.{HasListsOf}
@@ -24,16 +24,20 @@ use Rattle.md_list_law.proofs.Framing.{same_framed, names_placed}
 use Rattle.md_hash_law.specs.HashTable.{AreBuckets, IsBucketOf, IsTableCertificate, IsTableUnlink}
 use Rattle.md_hash_law.specs.Laws.Buckets.{head_apart, bucket_same, buckets_after, same_everywhere, acts_after, maps_same}
 use Rattle.md_hash_law.specs.Laws.HashTableLaws.{row_home, unlink_home}
+use Rattle.md_hash_law.specs.Laws.Rising.{table_rises, table_tidied}
 use Rattle.md_queue_law.specs.QueueValues.{queue_lists}
 use Rattle.md_queue_law.specs.QueueCertificates.{CertifiesQueue, MovesTail}
 use Rattle.md_queue_law.specs.QueueMeaning.{HasQueuesOf, is_queue_link}
 use Rattle.md_queue_law.specs.Laws.Lists.{queue_list}
 use Rattle.md_queue_law.specs.Laws.Certifying.{certificate_follows, move_follows}
+use Rattle.md_queue_law.specs.Laws.RisingCertificates.{certificate_rises, move_rises}
 use Rattle.md_queue_law.specs.Laws.Frames.{queues_framed, one_names_placed, next_names_placed}
 use Rattle.md_store_law.specs.Store.{IsStore, IsQueueOf, state_of_store, store}
-use Rattle.md_store_law.specs.Laws.Nodes.{placed_exist}
+use Rattle.md_store_law.specs.Laws.Nodes.{node_exists, placed_exist}
 use Rattle.md_store_law.specs.Laws.ListChanges.{queue_lists_stay, list_facts, list_store}
 use Rattle.md_store_law.specs.Laws.QueueChanges.{maps_stay, queue_store}
+use Rattle.md_store_law.specs.Laws.RisingBuckets.{queue_certificate_rises, move_rises as move_rises_bucket}
+use Rattle.md_store_law.specs.Laws.RisingQueues.{table_certificate_rises, table_unlink_rises}
 
 -- states of the same parts
 same_state : (maps others : List Table) (queues more : List (List ℕ)) → maps ≡ others → queues ≡ more
@@ -160,6 +164,10 @@ store_lawful = record {
       subst (λ w. NamesPlaced h (h.words.value w)) found.1 goal;
 }
 
+-- each placed node is one of the field
+node_of : (h : LogicalHeap) (node : ℕ) → IsStore h → IsPlaced h node → IsNode h.words.shape node
+node_of h node v placed = node_exists h v node placed
+
 -- a queue's links are counted words
 queue_link_counted : (p : Place) → IsTrue (is_queue_link p) → IsTrue (is_counted p)
 queue_link_counted (queue_head _) link = refl
@@ -180,17 +188,35 @@ queue_link_counted (slot_new _ _) link = absurd (false≢true link)
 pub store_has_lists : HasListsOf store
 store_has_lists = record {
   buckets = λ h map bucket v m b. v.buckets map bucket m b;
+  nodes = node_of;
   certifies = λ shape map key c m is. inl (map, key, m, is);
   unlinks = λ shape map bucket t m b is. inl (map, bucket, m, b, is);
   heads = λ shape map bucket m b. let e = counted_by_place shape (bucket_head map bucket) (m, b) in e.1 refl;
   next_words = λ shape node is. let e = counted_by_place shape (node_next node) is in e.1 refl;
+  rising = λ own h map bucket c m b is stands r. ⊎_elim
+      (λ table. table_rises own h map bucket c m b table stands r)
+      (λ queue. queue_certificate_rises own h map bucket m b r c queue stands)
+      is;
+  rising_tidied = λ own h map bucket t m b is stands r. ⊎_elim
+      (λ unlink. table_tidied own h map bucket t m b unlink stands r)
+      (λ move. move_rises_bucket own h map bucket m b r t move)
+      is;
 }
 
 pub store_has_queues : HasQueuesOf store
 store_has_queues = record {
   stand = λ h v. v.queues;
   values = λ h queue v within. queue_list h.words queue within;
+  nodes = node_of;
   certifies = λ shape c is. inr is;
   tidies = λ shape t is. inr is;
   links = λ shape p is link. let e = counted_by_place shape p is in e.1 (queue_link_counted p link);
+  rising = λ own h queue c within is stands r. ⊎_elim
+      (λ table. table_certificate_rises own h queue c within table stands r)
+      (λ of. certificate_rises own h queue within r c of stands)
+      is;
+  rising_tidied = λ own h queue t within is stands r. ⊎_elim
+      (λ unlink. table_unlink_rises own h queue t within unlink stands r)
+      (λ move. move_rises own h queue within r t move stands)
+      is;
 }
