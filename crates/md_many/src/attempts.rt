@@ -46,6 +46,8 @@ pub fn attempt_line<E: Engine, B: Body, G: Gate>(
     ensures legal { LegalFrom (E.start engine.now) (E.front pass.new) }
     ensures of { E.of engine.now pass.new }
     ensures begun { IsCounted result (E.begun pass.old) (E.begun pass.new) }
+    ensures before { G.before_called gate.now caller line }
+    ensures after { IfCommitted result (λ _. G.after_called gate.now caller line) }
     ensures may_stop { IfStopped result (E.may_stop engine.now) }
     ensures alone { (E.front pass.old).lanes ≡ E.lanes engine.now → IfStopped result IsNoConflict }
     ensures small { E.fresh engine.now pass.old → 1 ≤ (E.limits engine.now).tries
@@ -105,6 +107,8 @@ pub fn attempt_lines<E: Engine, L: Lines, G: Gate>(
         (length replies.new.items) (E.begun pass.old) (E.begun pass.new) }
     ensures over { IfOk result (λ met. IfNone met (IsOver (L.line_count lines.now) turn
         (length replies.new.items) (E.begun pass.old) (E.begun pass.new))) }
+    ensures gate { (line : ℕ) → turn.done < line → line ≤ turn.done + length replies.new.items
+        → G.after_called gate.now turn.caller line }
     ensures limit { IfOk result (λ met. IfSome met (λ l. E.may_stop engine.now (Stop.Limit l))) }
     ensures room { vec_capacity replies.old ≤ vec_capacity replies.new }
     ensures no_memory { OnErr result (E.may_stop engine.now Stop.NoMemory) }

@@ -38,6 +38,10 @@ impl<'a> Counting<'a> {
 }
 
 impl<'a> Gate for Counting<'a> {
+    ghost before_called = { λ gate caller line. Unit {0} };
+
+    ghost after_called = { λ gate caller line. Unit {0} };
+
     fn before(&self, caller: u32, line: u32) {
         self.see(caller, line);
         self.before.set(self.before.get().saturating_add(1));

@@ -1,4 +1,4 @@
-use Rattle.std.proofs.Common.{◌≡◌, ◌+◌, ℕ, ◌∙◌, ◌++◌, ◌∷◌, [], Option, Some, Vec, Global, length, ap, sym, subst, refl, inl, inr, arith, vec_capacity}
+use Rattle.std.proofs.Common.{◌≡◌, ◌<◌, ◌≤◌, ◌+◌, ℕ, ◌∙◌, ◌++◌, ◌∷◌, [], Option, Some, Vec, Global, length, ap, sym, subst, refl, inl, inr, arith, vec_capacity}
 use Rattle.std.specs.Prelude.{IfSome}
 use Rattle.std.proofs.lemmas.Bool.{cases_eq}
 use Rattle.std.proofs.lemmas.List.{length_push}
@@ -18,6 +18,14 @@ conflict_counted : {shown : Shown} (s : Stop) (begun begun' : ℕ) → s ≡ Con
     → begun' ≡ begun + 1
 conflict_counted s begun begun' is counted = subst (λ t. IsStopCounted t begun begun') is counted
 
+-- what is so of each line up to one, and of the next
+one_more : (P : ℕ → Type 0) (done played : ℕ) → ((line : ℕ) → done < line → line ≤ played → P line) → P (played + 1)
+    → (more : ℕ) → more ≡ played + 1 → (line : ℕ) → done < line → line ≤ more → P line
+one_more P done played each next more is line after before = elim (cases_eq line (played + 1)) [
+  | inl same ↦ subst P (sym same) next
+  | inr other ↦ each line after (omega arith)
+]
+
 -- what is said of a value that is there
 if_some : {A : Type 0} (o : Option A) (x : A) (P : A → Type 0) → o ≡ Some x → IfSome o P → P x
 if_some o x P is h = subst (λ t. IfSome t P) is h
@@ -32,6 +40,7 @@ attempts-init g c = record {
   few = omega (arith, ap length c.requires.empty);
   room = omega arith;
   counted = omega arith;
+  gate = λ line after before. absurd (omega arith);
   begun = λ none. refl;
   first = λ fresh tries small some. absurd (omega arith);
   steady = λ stops. ap length c.requires.empty;
@@ -64,6 +73,8 @@ attempts-preserved g c =
               ap (λ (v : Vec _ Global). vec_capacity v) w.replies-is,
             );
             counted = omega (arith, w.in-Committed.ensures.begun, c.attempts.invariant.counted);
+            gate = one_more (g.G.Gate.after_called c.args.gate.now c.args.turn.caller) _ _ c.attempts.invariant.gate
+                w.in-Committed.ensures.after _ w.played-is;
             begun = λ none. absurd (omega arith);
             first = λ fresh tries small some. omega (arith, count);
             steady = λ stops. omega (arith, count, c.attempts.invariant.steady stops);
@@ -83,6 +94,7 @@ attempts-preserved g c =
           conflict_counted _ _ _ w.in-Stopped-Conflict.field-0-is w.in-Stopped-Conflict.ensures.begun,
           c.attempts.invariant.counted,
         );
+        gate = λ line after before. c.attempts.invariant.gate line after (omega (arith, before, w.played-is));
         begun = λ none. absurd (omega arith);
         first = λ fresh tries small some. elim (cases_eq c.attempts.tried 0) [
           | inl none ↦

@@ -1,4 +1,4 @@
-use Rattle.std.proofs.Common.{◌≡◌, ◌≤◌, ◌+◌, length, vec_capacity}
+use Rattle.std.proofs.Common.{◌≡◌, ◌<◌, ◌≤◌, ◌+◌, ℕ, length, vec_capacity}
 use Rattle.md_history.specs.Engine.{bounds_in}
 use Rattle.md_many.specs.Lines.{IsSmallLine, StopsForMemory}
 use Rattle.md_many.proofs.Playing.{HasPlayed}
@@ -15,6 +15,7 @@ invariant-attempts g l = record {
   few : length l.replies.items ≤ l.tried;
   room : vec_capacity l.fn.replies ≤ vec_capacity l.replies;
   counted : g.E.Engine.begun l.pass ≡ g.E.Engine.begun l.fn.pass + l.tried;
+  gate : (line : ℕ) → l.turn.done < line → line ≤ l.played → g.G.Gate.after_called l.gate l.turn.caller line;
   begun : l.tried ≡ 0 → l.pass ≡ l.fn.pass;
   first : g.E.Engine.fresh l.engine l.fn.pass → 1 ≤ (g.E.Engine.limits l.engine).tries
       → IsSmallLine (bounds_in (g.E.Engine.limits l.engine)) g.L.B.Body.makes (g.L.Lines.body_at l.lines)
