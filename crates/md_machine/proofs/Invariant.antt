@@ -66,7 +66,7 @@ use Rattle.md_machine.proofs.lists.Rising.{here, there}
 use Rattle.md_machine.proofs.lists.Triples.{EachTriple, triples_of}
 use Rattle.md_machine.specs.Event.{Does, Event, Plays, Runs}
 use Rattle.md_machine.specs.GoesOn.{GoesOn, StatusGoesOn}
-use Rattle.md_machine.specs.Machine.{IsPresentIn, Machine, content, present, shape_of, status_at, word_at}
+use Rattle.md_machine.specs.Machine.{IsPresentIn, Machine, content, shape_of, status_at, word_at}
 use Rattle.md_machine.specs.Meaning.{Meaning}
 use Rattle.md_machine.specs.Theorem.{IsKept}
 use Rattle.md_machine.specs.clauses.passes.Alone.{HoldsAll, LastStand}
@@ -99,7 +99,6 @@ use Rattle.md_machine.specs.clauses.words.Stamps.{NotedByRead}
 use Rattle.md_machine.specs.clauses.words.Statuses.{StatusesCame}
 use Rattle.md_machine.specs.clauses.slots.Undecided.{UndecidedStand}
 use Rattle.md_machine.specs.clauses.slots.WonInstalls.{WonAreInstalls}
-use Rattle.md_machine.specs.events.SplitJoin.{moved}
 use Rattle.md_machine.specs.events.Uninstall.{MayUninstall}
 
 pub record Invariant (m : Machine) : Type 0 where

@@ -16,7 +16,6 @@ use Rattle.md_machine.specs.declared.attempt.Hand.{Hand}
 use Rattle.md_machine.specs.declared.node.PlacedNode.{PlacedNode}
 use Rattle.md_machine.proofs.Invariant.{Invariant, kept_by, plays_keep, runs_keep}
 use Rattle.md_machine.proofs.clauses.nodes.FreeNodes.{base_alone}
-use Rattle.md_machine.proofs.clauses.passes.FrontsFit.{fated}
 use Rattle.md_machine.proofs.clauses.passes.LanesApart.{At, lanes_first}
 use Rattle.md_machine.proofs.clauses.entries.Numbered.{none_numbered}
 use Rattle.md_machine.proofs.clauses.words.Order.{InOrder}

@@ -13,11 +13,10 @@ use Rattle.md_machine.specs.declared.certificate.TidyChange.{TidyChange}
 use Rattle.md_machine.specs.declared.node.PlacedNode.{PlacedNode}
 use Rattle.md_machine.specs.declared.pass.PassView.{PassView}
 use Rattle.md_machine.specs.LogicalHeap.{IsNoUnplacedNext, LogicalHeap, LogicalWords, next_of}
-use Rattle.md_machine.specs.Machine.{Machine, content, shape_of}
+use Rattle.md_machine.specs.Machine.{Machine, shape_of}
 use Rattle.md_machine.specs.Meaning.{Meaning, StandsBy, TidyStandsBy, after_certificate, after_tidy}
 use Rattle.md_machine.specs.Own.{IsOwnNode}
 use Rattle.md_machine.specs.Resolution.{InEveryResolution, or_else}
-use Rattle.md_machine.specs.Stepping.{replaced}
 
 -- the heap after tidy changes, after a certificate with its tidy changes, and after several
 abbrev pub after_tidies : LogicalHeap → List TidyChange → LogicalHeap

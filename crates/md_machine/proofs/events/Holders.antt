@@ -1,12 +1,12 @@
 -- Where the holder of a lane comes from: it has the steps of the pass that held the lane before.
-use Rattle.std.proofs.Common.{◌≡◌, ℕ, ◌⊎◌, List, [], ◌∷◌, ◌++◌, sym, subst, ⊎_elim}
+use Rattle.std.proofs.Common.{◌≡◌, ℕ, List, [], ◌∷◌, ◌++◌, sym, subst, ⊎_elim}
 use Rattle.std.specs.List.{Contains}
 use Rattle.std.proofs.lemmas.List.Elements.{Contains-append_left, Contains-append_right, Contains-push, Contains-push_cases}
 use Rattle.md_machine.specs.declared.step.Step.{Step}
 use Rattle.md_machine.specs.declared.pass.PassView.{PassView}
 use Rattle.md_machine.proofs.clauses.passes.LanesApart.{At}
 use Rattle.md_machine.proofs.events.Steps.{InSegments, IsBoth, IsNext, IsStill, PassesFrom}
-use Rattle.md_machine.proofs.lists.Rising.{in_none, there}
+use Rattle.md_machine.proofs.lists.Rising.{in_none}
 use Rattle.md_machine.specs.Trail.{segments}
 
 -- a pass has each step of another

@@ -16,8 +16,7 @@ use Rattle.md_machine.specs.declared.pass.PassView.{PassView}
 use Rattle.md_machine.proofs.clauses.passes.LanesApart.{At, one_owner}
 use Rattle.md_machine.proofs.events.Leaves.{install_odd}
 use Rattle.md_machine.proofs.lists.At.{at_set}
-use Rattle.md_machine.proofs.lists.Rising.{there}
-use Rattle.md_machine.specs.Machine.{Install, IsAt, IsPresentIn, Machine, content, is_ready, present, shape_of, word_at}
+use Rattle.md_machine.specs.Machine.{Install, IsAt, IsPresentIn, Machine, content, is_ready, shape_of, word_at}
 use Rattle.md_machine.specs.Own.{HasDesc}
 use Rattle.md_machine.specs.Stepping.{attempt_in_hand, step_of}
 use Rattle.md_machine.specs.clauses.passes.Hands.{HandsFit}

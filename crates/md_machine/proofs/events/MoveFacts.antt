@@ -26,7 +26,6 @@ use Rattle.md_machine.proofs.events.Moves.{HandGoes, PassesGo, WinsFate, goes_on
 use Rattle.md_machine.proofs.events.Steps.{HasStep, PassesFrom}
 use Rattle.md_machine.proofs.events.WordChanges.{MayLeave}
 use Rattle.md_machine.proofs.fates.Knowing.{TellsTruth}
-use Rattle.md_machine.proofs.lists.Rising.{there}
 use Rattle.md_machine.specs.Certified.{after_wholes, placed_by}
 use Rattle.md_machine.specs.Installs.{spot_of_install}
 use Rattle.md_machine.specs.Machine.{Install, IsAt, IsLive, Machine, content, is_ready, present, shape_of, was_begun}

@@ -11,7 +11,6 @@ use Rattle.md_machine.specs.declared.step.Kind.{Kind}
 use Rattle.md_machine.specs.declared.pass.PassView.{PassView}
 use Rattle.md_machine.proofs.clauses.entries.EntriesDecided.{status_new}
 use Rattle.md_machine.proofs.fates.Knowing.{IsTrue_of, TellsNothing, TellsTruth}
-use Rattle.md_machine.proofs.lists.Rising.{here}
 use Rattle.md_machine.specs.Machine.{Machine, content, shape_of, status_at, word_at}
 use Rattle.md_machine.specs.Stepping.{step_of}
 use Rattle.md_machine.specs.Trail.{is_store}

@@ -20,7 +20,7 @@ use Rattle.md_machine.specs.declared.attempt.AttemptId.{AttemptId}
 use Rattle.md_machine.specs.declared.attempt.HistoryEntry.{HistoryEntry}
 use Rattle.md_machine.specs.declared.pass.PassView.{PassView}
 use Rattle.md_machine.proofs.chain.Values.{installed_spot, value_odd}
-use Rattle.md_machine.proofs.clauses.words.Brackets.{MetStanding, TrailsBracket, stood}
+use Rattle.md_machine.proofs.clauses.words.Brackets.{MetStanding, TrailsBracket}
 use Rattle.md_machine.proofs.clauses.entries.EntriesFit.{EntriesFit}
 use Rattle.md_machine.proofs.clauses.slots.Installs.{InstallsKept}
 use Rattle.md_machine.proofs.lists.Splits.{splits}

@@ -15,8 +15,7 @@ use Rattle.md_machine.specs.declared.attempt.HistoryEntry.{HistoryEntry}
 use Rattle.md_machine.specs.declared.step.Step.{Step}
 use Rattle.md_machine.proofs.clauses.entries.EntriesFit.{EntriesFit, EntryFits}
 use Rattle.md_machine.proofs.events.Attempts.{same_parts}
-use Rattle.md_machine.proofs.lists.Rising.{here}
-use Rattle.md_machine.specs.Machine.{attempt_of, present, same_attempt, word_at}
+use Rattle.md_machine.specs.Machine.{attempt_of, same_attempt, word_at}
 use Rattle.md_machine.specs.Stepping.{fate_told, known_after, known_at, told_by, with_fate}
 use Rattle.md_machine.specs.Trail.{is_store}
 use Rattle.md_machine.specs.clauses.entries.Fates.{Tells}

@@ -5,9 +5,9 @@ use Rattle.std.proofs.lemmas.List.Elements.{Contains-append_right, Contains-push
 use Rattle.md_machine.specs.declared.step.Step.{Step}
 use Rattle.md_machine.specs.declared.pass.PassView.{PassView}
 use Rattle.md_machine.proofs.clauses.passes.LanesApart.{At}
-use Rattle.md_machine.proofs.events.Steps.{HasStep, PassesFrom, segment_from}
+use Rattle.md_machine.proofs.events.Steps.{PassesFrom, segment_from}
 use Rattle.md_machine.proofs.lists.Pairs.{InPairs, pairs_push, pairs_weaker}
-use Rattle.md_machine.proofs.lists.Rising.{here, in_cons, in_none, there}
+use Rattle.md_machine.proofs.lists.Rising.{here, in_cons, in_none}
 use Rattle.md_machine.specs.Trail.{segments}
 
 abbrev pub InTriples : (Step → Step → Step → Type 0) → List Step → Type 0

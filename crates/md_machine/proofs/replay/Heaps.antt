@@ -17,7 +17,6 @@ use Rattle.md_machine.specs.declared.attempt.AttemptId.{AttemptId}
 use Rattle.md_machine.specs.declared.certificate.Change.{Change}
 use Rattle.md_machine.specs.declared.certificate.NewNode.{NewNode}
 use Rattle.md_machine.proofs.chain.Values.{unready_kept, value_even, value_odd}
-use Rattle.md_machine.proofs.clauses.passes.FrontsFit.{fated}
 use Rattle.md_machine.proofs.events.Attempts.{attempt_same}
 use Rattle.md_machine.proofs.events.Leaves.{exchange_even, install_odd, uninstall_even}
 use Rattle.md_machine.proofs.events.MoveFacts.{MoveFacts}

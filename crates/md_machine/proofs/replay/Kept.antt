@@ -1,16 +1,14 @@
 -- In every resolution the logical heap is a replay of what is kept, and the history is legal: after every event.
-use Rattle.std.proofs.Common.{◌≡◌, ◌⊎◌, ℕ, Bool, List, [], ◌∷◌, ◌++◌, length, map, set, refl, sym, ap, ◌∙◌, subst, ⊎_elim}
+use Rattle.std.proofs.Common.{◌≡◌, Bool, List, [], ◌∷◌, ◌++◌, length, set, refl, sym, ap, ◌∙◌, subst, ⊎_elim}
 use Rattle.std.specs.List.{All, Contains}
 use Rattle.std.proofs.lemmas.List.{length-map}
 use Rattle.std.proofs.lemmas.List.Elements.{Contains-push_cases}
 use Rattle.md_words.specs.Content.{value_of}
 use Rattle.md_words.specs.Place.{desc_status}
 use Rattle.md_words.specs.Layout.{address, IsNode}
-use Rattle.md_history.specs.declared.entries.Entry.{Entry}
 use Rattle.md_history.specs.declared.entries.Fate.{Fate}
 use Rattle.md_history.specs.declared.entries.Fate.TheVariants.{Undecided}
-use Rattle.md_history.specs.State.{State, run}
-use Rattle.md_history.specs.History.{AllCommittedSound, IsLegal, IsResolution, kept_acts}
+use Rattle.md_history.specs.History.{AllCommittedSound, IsLegal, IsResolution}
 use Rattle.md_history.specs.ResolutionLaws.{narrows, legal-narrows}
 use Rattle.md_machine.specs.declared.attempt.HistoryEntry.{HistoryEntry}
 use Rattle.md_machine.specs.declared.opening.Opening.{Opening}

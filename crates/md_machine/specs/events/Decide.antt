@@ -16,7 +16,6 @@ use Rattle.md_machine.specs.Machine.{Machine, attempt_of, shape_of}
 use Rattle.md_machine.specs.Own.{HasDesc}
 use Rattle.md_machine.specs.Stepping.{exchanged, left_by, replaced, wins, with_fate}
 use Rattle.md_machine.specs.Trail.{Finds, LastStored, Loads, Meets, SomeStep, SomeStepOf, StepOf, holds_desc, read_stands}
-use Rattle.md_machine.specs.events.SplitJoin.{moved}
 
 -- the pass loaded this in the word since, or stored it there last for the attempt
 abbrev pub Knows : PassView → List Step → AttemptId → (word held : ℕ) → Type 0

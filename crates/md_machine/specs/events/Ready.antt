@@ -26,7 +26,7 @@ use Rattle.md_machine.specs.Machine.{Install, Machine, content, same_attempt, sh
 use Rattle.md_machine.specs.Meaning.{Meaning}
 use Rattle.md_machine.specs.Own.{HasDesc}
 use Rattle.md_machine.specs.Resolution.{entries_of}
-use Rattle.md_machine.specs.Stepping.{exchanged, left_by, replaced, stepped, wins}
+use Rattle.md_machine.specs.Stepping.{exchanged, left_by, replaced, wins}
 use Rattle.md_machine.specs.Trail.{LastStored, Leaves, Meets, SomeStepOf, read_stands}
 use Rattle.md_machine.specs.events.Install.{installed_word}
 

@@ -15,7 +15,6 @@ use Rattle.md_machine.specs.Machine.{Machine, attempt_of, is_ready, present, sam
 use Rattle.md_machine.specs.Own.{HasDesc}
 use Rattle.md_machine.specs.Stepping.{replaced, stepped}
 use Rattle.md_machine.specs.Trail.{Meets, SomeStep, SomeStepOf, holds_desc, is_store}
-use Rattle.md_machine.specs.events.Mark.{without}
 use Rattle.md_machine.specs.events.Uninstall.{IsDecided}
 
 -- the fate of an attempt's entry is known to be decided

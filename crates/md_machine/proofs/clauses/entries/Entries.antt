@@ -21,7 +21,6 @@ use Rattle.md_machine.proofs.clauses.entries.Past.{PastDecided, past_more, past_
 use Rattle.md_machine.proofs.events.MoveFacts.{Enters, MoveFacts}
 use Rattle.md_machine.proofs.events.Moves.{WinsFate}
 use Rattle.md_machine.proofs.events.WordChanges.{MayLeave}
-use Rattle.md_machine.proofs.lists.Rising.{there}
 use Rattle.md_machine.specs.Machine.{Machine, content, shape_of, status_at}
 use Rattle.md_machine.specs.clauses.words.Formats.{AreFormats}
 use Rattle.md_machine.specs.clauses.passes.Hands.{HandsFit}

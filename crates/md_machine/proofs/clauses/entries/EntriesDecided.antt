@@ -20,8 +20,8 @@ use Rattle.md_machine.specs.declared.attempt.HistoryEntry.{HistoryEntry}
 use Rattle.md_machine.proofs.clauses.entries.EntriesFit.{EntriesFit, EntryFits, PresentFits, ReadsCounted}
 use Rattle.md_machine.proofs.events.Attempts.{same_from, same_parts}
 use Rattle.md_machine.proofs.lists.At.{at_below}
-use Rattle.md_machine.proofs.lists.Rising.{here, there}
-use Rattle.md_machine.specs.Machine.{attempt_of, content, present, same_attempt, word_at}
+use Rattle.md_machine.proofs.lists.Rising.{there}
+use Rattle.md_machine.specs.Machine.{attempt_of, same_attempt, word_at}
 use Rattle.md_machine.specs.Stepping.{fate_told, with_fate}
 use Rattle.md_machine.specs.clauses.entries.Fates.{Tells}
 use Rattle.md_machine.specs.events.Decide.{decided_word}

@@ -21,8 +21,7 @@ use Rattle.md_machine.specs.declared.attempt.Read.{Read}
 use Rattle.md_machine.proofs.clauses.entries.EntriesDecided.{entry_other, entry_past, read_content_stays, read_word_stays, status_new, status_other}
 use Rattle.md_machine.proofs.clauses.entries.EntriesFit.{EntriesFit, EntryFits, ReadsCounted}
 use Rattle.md_machine.proofs.lists.At.{at_below}
-use Rattle.md_machine.proofs.lists.Rising.{there}
-use Rattle.md_machine.specs.Machine.{IsPresentIn, Machine, attempt_of, content, present, shape_of, status_at, word_at}
+use Rattle.md_machine.specs.Machine.{IsPresentIn, Machine, attempt_of, shape_of, status_at, word_at}
 use Rattle.md_machine.specs.clauses.entries.Fates.{Tells}
 use Rattle.md_machine.specs.events.Ready.{history_entry, read_now, reads_now, ready_word, unready_word}
 

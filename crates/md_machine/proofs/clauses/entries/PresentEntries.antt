@@ -1,5 +1,5 @@
 -- Which present attempts have entries, by their statuses.
-use Rattle.std.proofs.Common.{◌≡◌, ℕ, ◌⊎◌, refl, inl, inr, ⊎_elim}
+use Rattle.std.proofs.Common.{◌≡◌, ◌⊎◌, refl, inl, inr, ⊎_elim}
 use Rattle.md_words.specs.declared.status.Status.{Status}
 use Rattle.md_words.specs.declared.status.Status.TheVariants.{InPrep, InProg, Committed, Aborted}
 use Rattle.md_words.specs.Status.{status_of}

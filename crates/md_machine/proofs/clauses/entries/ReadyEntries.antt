@@ -17,7 +17,7 @@ use Rattle.md_machine.proofs.clauses.entries.EntriesFit.{status_stays}
 use Rattle.md_machine.proofs.clauses.entries.EntriesReady.{ready_present}
 use Rattle.md_machine.proofs.events.MoveFacts.{Enters, LeavesFates, MoveFacts}
 use Rattle.md_machine.proofs.events.Moves.{WinsFate, own_exists}
-use Rattle.md_machine.proofs.lists.Rising.{here, there}
+use Rattle.md_machine.proofs.lists.Rising.{there}
 use Rattle.md_machine.specs.Machine.{Machine, content, shape_of, status_at, word_at}
 use Rattle.md_machine.specs.clauses.passes.Hands.{HandsFit}
 use Rattle.md_machine.specs.events.Decide.{decided_word}

@@ -19,7 +19,6 @@ use Rattle.md_machine.specs.declared.pass.PassView.{PassView}
 use Rattle.md_machine.specs.declared.attempt.AttemptId.{AttemptId}
 use Rattle.md_machine.specs.declared.attempt.HistoryEntry.{HistoryEntry}
 use Rattle.md_machine.specs.declared.attempt.Read.{Read}
-use Rattle.md_machine.proofs.clauses.words.Brackets.{stood}
 use Rattle.md_machine.proofs.clauses.entries.EntriesFit.{EntriesFit, PresentFits, entry_fits}
 use Rattle.md_machine.proofs.clauses.passes.FrontsFit.{fated}
 use Rattle.md_machine.proofs.clauses.words.Stores.{StoresStand}
@@ -29,7 +28,7 @@ use Rattle.md_machine.proofs.events.Moves.{WinsFate}
 use Rattle.md_machine.proofs.lists.At.{at_below}
 use Rattle.md_machine.proofs.lists.Pairs.{EachPair, pairs_of}
 use Rattle.md_machine.proofs.lists.Rising.{cons_in, here, there}
-use Rattle.md_machine.specs.Machine.{IsAt, IsPresentIn, Machine, attempt_of, content, present, same_attempt, shape_of, status_at, word_at}
+use Rattle.md_machine.specs.Machine.{IsAt, IsPresentIn, Machine, attempt_of, content, same_attempt, shape_of, status_at, word_at}
 use Rattle.md_machine.specs.Resolution.{entries_of}
 use Rattle.md_machine.specs.Stepping.{fate_told, with_fate}
 use Rattle.md_machine.specs.Trail.{Meets, read_stands}

@@ -1,5 +1,5 @@
 -- A pass has seen each entry that places a node of its lanes, after every event.
-use Rattle.std.proofs.Common.{◌≡◌, ◌≢◌, ℕ, ◌≤◌, List, [], ◌∷◌, length, set, sym, ap, ◌∙◌, subst, ⊎_elim, arith}
+use Rattle.std.proofs.Common.{◌≡◌, ℕ, ◌≤◌, List, [], ◌∷◌, length, sym, ap, ◌∙◌, subst, ⊎_elim, arith}
 use Rattle.std.specs.List.{Contains}
 use Rattle.std.proofs.lemmas.List.Elements.{All-contains}
 use Rattle.md_words.specs.declared.shape.Shape.{Shape}
@@ -17,7 +17,6 @@ use Rattle.md_machine.proofs.events.MoveFacts.{MoveFacts, history_grows, new_ent
 use Rattle.md_machine.proofs.events.Moves.{FrontGoes, PassesGo, goes_on, is_joined, is_split, learns, sees_all}
 use Rattle.md_machine.proofs.fates.Decidedness.{MoreDecided}
 use Rattle.md_machine.proofs.lists.At.{at_set}
-use Rattle.md_machine.proofs.lists.Rising.{there}
 use Rattle.md_machine.specs.Machine.{Machine, shape_of}
 use Rattle.md_machine.specs.Own.{HasNode}
 use Rattle.md_machine.specs.clauses.passes.Fronts.{FrontsFit}

@@ -1,13 +1,13 @@
 -- No node is placed twice among the opening and the entries that may commit, so a node that was noted is placed with its
 -- structure in every resolution.
-use Rattle.std.proofs.Common.{◌≡◌, ◌≢◌, ℕ, suc, ◌⊎◌, Bool, List, [], ◌∷◌, ◌++◌, cond, length, refl, sym, ap, ◌∙◌, subst, inl, inr, ⊎_elim, eqb, eq-eqb, ne_eqb, true, false, append_assoc, append-nil, arith}
-use Rattle.std.specs.Prelude.{Option, Some, None, is_some, is_none}
-use Rattle.std.specs.List.{All, AllPairs, Contains}
-use Rattle.std.proofs.lemmas.Bool.{cond-true, cond-false, cond_both, true≢false, false≢true}
+use Rattle.std.proofs.Common.{◌≡◌, ◌≢◌, ℕ, Bool, List, [], ◌∷◌, ◌++◌, cond, length, refl, sym, ap, ◌∙◌, subst, ⊎_elim, eqb, eq-eqb, ne_eqb, true, false, append_assoc, append-nil, arith}
+use Rattle.std.specs.Prelude.{Option, Some, is_none}
+use Rattle.std.specs.List.{AllPairs, Contains}
+use Rattle.std.proofs.lemmas.Bool.{cond-true, cond-false, false≢true}
 use Rattle.std.proofs.lemmas.List.Elements.{All-contains, Contains-append_left, Contains-append_right, Contains-append_cases}
 use Rattle.md_history.specs.declared.entries.Fate.{Fate}
 use Rattle.md_history.specs.declared.entries.Fate.TheVariants.{Committed, Aborted, Undecided}
-use Rattle.md_history.specs.Front.{AllStay, IsPrefix, Stays}
+use Rattle.md_history.specs.Front.{AllStay}
 use Rattle.md_history.specs.History.{AllCommittedSound}
 use Rattle.md_machine.specs.declared.node.Structure.{Structure}
 use Rattle.md_machine.specs.declared.attempt.HistoryEntry.{HistoryEntry}
@@ -15,7 +15,7 @@ use Rattle.md_machine.specs.declared.node.PlacedNode.{PlacedNode}
 use Rattle.md_machine.proofs.clauses.passes.FrontsFit.{fated}
 use Rattle.md_machine.proofs.events.MoveFacts.{Enters, MoveFacts}
 use Rattle.md_machine.proofs.lists.Differ.{no_pairs, pairs_append, pairs_cross, pairs_head, pairs_left, pairs_right, pairs_tail}
-use Rattle.md_machine.proofs.lists.Rising.{in_cons, in_none, there}
+use Rattle.md_machine.proofs.lists.Rising.{in_cons, in_none}
 use Rattle.md_machine.proofs.resolutions.Placing.{Within, least_within, within_greatest}
 use Rattle.md_machine.specs.Certified.{placed_by}
 use Rattle.md_machine.specs.Machine.{Machine}

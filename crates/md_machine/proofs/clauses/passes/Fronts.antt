@@ -7,7 +7,7 @@ use Rattle.md_history.specs.Front.{IsPrefix}
 use Rattle.md_machine.specs.declared.attempt.HistoryEntry.{HistoryEntry}
 use Rattle.md_machine.specs.declared.pass.PassView.{PassView}
 use Rattle.md_machine.proofs.clauses.entries.Entries.{GoOn}
-use Rattle.md_machine.proofs.clauses.passes.FrontsFit.{fated, front_all, front_joined, front_kept, front_spent, front_stepped, fronts_more, fronts_other, fronts_set}
+use Rattle.md_machine.proofs.clauses.passes.FrontsFit.{front_all, front_joined, front_kept, front_spent, front_stepped, fronts_more, fronts_other, fronts_set}
 use Rattle.md_machine.proofs.clauses.passes.LanesApart.{At}
 use Rattle.md_machine.proofs.events.MoveFacts.{MoveFacts, history_grows, new_entry}
 use Rattle.md_machine.proofs.events.Moves.{FrontGoes, PassesGo, goes_on, is_joined, is_split, learns, sees_all}

@@ -18,7 +18,6 @@ use Rattle.md_machine.proofs.events.Moves.{HandGoes, PassesGo, goes_on, hand_beg
 use Rattle.md_machine.proofs.events.WordChanges.{serial_stays}
 use Rattle.md_machine.proofs.lists.At.{at_append, at_one, at_set}
 use Rattle.md_machine.proofs.lists.Options.{none_some, some_same}
-use Rattle.md_machine.proofs.lists.Rising.{here}
 use Rattle.md_machine.specs.Machine.{IsAt, IsPresentIn, Machine, content, present, shape_of, word_at}
 use Rattle.md_machine.specs.Own.{HasDesc}
 use Rattle.md_machine.specs.clauses.passes.Hands.{HandFits, HandsFit}

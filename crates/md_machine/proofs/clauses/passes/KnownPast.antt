@@ -14,7 +14,6 @@ use Rattle.md_machine.specs.declared.attempt.HistoryEntry.{HistoryEntry}
 use Rattle.md_machine.specs.declared.step.Step.{Step}
 use Rattle.md_machine.specs.declared.pass.PassView.{PassView}
 use Rattle.md_machine.proofs.clauses.entries.EntriesReady.{ready_present}
-use Rattle.md_machine.proofs.clauses.passes.FrontsFit.{fated}
 use Rattle.md_machine.proofs.clauses.passes.LanesApart.{At, at_once}
 use Rattle.md_machine.proofs.events.Attempts.{ready_in}
 use Rattle.md_machine.proofs.events.MoveFacts.{MoveFacts, history_grows, new_entry}
@@ -22,7 +21,7 @@ use Rattle.md_machine.proofs.events.Moves.{FrontGoes, PassesGo, goes_on, is_join
 use Rattle.md_machine.proofs.events.WordChanges.{serial_stays}
 use Rattle.md_machine.proofs.fates.Decidedness.{MoreDecided, knows_on, more_first, more_itself, more_known, more_second, more_stay}
 use Rattle.md_machine.proofs.lists.At.{at_append, at_one, at_set}
-use Rattle.md_machine.proofs.lists.Rising.{here, in_drop, in_filter, in_none, in_take, lane_in, there}
+use Rattle.md_machine.proofs.lists.Rising.{in_drop, in_filter, in_none, in_take, lane_in}
 use Rattle.md_machine.specs.Machine.{IsPresentIn, Machine, attempt_of, content, present, shape_of, status_at, word_at}
 use Rattle.md_machine.specs.Stepping.{known_after}
 use Rattle.md_machine.specs.clauses.entries.Fates.{PastKnown}

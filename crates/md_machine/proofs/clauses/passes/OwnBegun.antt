@@ -1,5 +1,5 @@
 -- A begun attempt of a pass's lanes is pending, or was in hand at a step of the pass, after every event.
-use Rattle.std.proofs.Common.{◌≡◌, ◌≢◌, ℕ, ◌⊎◌, ◌||◌, Bool, true, false, not, List, [], ◌∷◌, ◌++◌, filter, set, refl, sym, ap, ◌∙◌, subst, inl, inr, ⊎_elim, Some}
+use Rattle.std.proofs.Common.{◌≡◌, ◌≢◌, ℕ, ◌⊎◌, Bool, true, false, not, List, [], ◌∷◌, ◌++◌, filter, set, refl, sym, ap, ◌∙◌, subst, inl, inr, ⊎_elim, Some}
 use Rattle.std.specs.List.{Contains}
 use Rattle.std.proofs.lemmas.Bool.{cases_Bool, cond_both, false≢true, or_cases, or_left, or_right, true≢false}
 use Rattle.std.proofs.lemmas.List.Elements.{Contains-push}
@@ -7,7 +7,6 @@ use Rattle.md_words.specs.Lanes.{lane_of_desc}
 use Rattle.md_words.proofs.Owners.{owner_of_desc}
 use Rattle.md_history.specs.Front.{is_lane_of}
 use Rattle.md_machine.specs.declared.attempt.AttemptId.{AttemptId}
-use Rattle.md_machine.specs.declared.attempt.Hand.{Hand}
 use Rattle.md_machine.specs.declared.step.Step.{Step}
 use Rattle.md_machine.specs.declared.pass.PassView.{PassView}
 use Rattle.md_machine.proofs.clauses.passes.LanesApart.{At, one_owner}
@@ -18,7 +17,7 @@ use Rattle.md_machine.proofs.events.Moves.{HandGoes, PassesGo, goes_on, hand_beg
 use Rattle.md_machine.proofs.events.Steps.{IsBoth}
 use Rattle.md_machine.proofs.events.Tell.{joined_of}
 use Rattle.md_machine.proofs.lists.At.{at_append, at_one, at_set}
-use Rattle.md_machine.proofs.lists.Rising.{in_drop, in_lane, in_none, in_take, there}
+use Rattle.md_machine.proofs.lists.Rising.{in_drop, in_lane, in_none, in_take}
 use Rattle.md_machine.specs.Machine.{Machine, present, same_attempt, shape_of, was_begun}
 use Rattle.md_machine.specs.Own.{HasDesc}
 use Rattle.md_machine.specs.Stepping.{attempt_in_hand}

@@ -1,6 +1,5 @@
 -- The pass that holds a lane met the serial of its descriptor, after every event.
-use Rattle.std.proofs.Common.{◌≡◌, ℕ, ◌<◌, ◌⊎◌, List, ◌∷◌, set, get_or, length, sym, ap, ◌∙◌, subst, inl, inr, ⊎_elim, get_or-set_same, get_or-set_other, arith}
-use Rattle.std.specs.List.{Contains}
+use Rattle.std.proofs.Common.{◌≡◌, ℕ, ◌<◌, ◌⊎◌, List, set, get_or, length, sym, ap, ◌∙◌, subst, inl, inr, ⊎_elim, get_or-set_same, get_or-set_other, arith}
 use Rattle.std.proofs.lemmas.Bool.{cases_eq}
 use Rattle.std.proofs.lemmas.List.Elements.{Contains-push}
 use Rattle.md_words.specs.Status.{serial_of}
@@ -9,13 +8,11 @@ use Rattle.md_words.specs.Layout.{address}
 use Rattle.md_words.specs.LayoutLaws.{IsField}
 use Rattle.md_words.proofs.Owners.{own_desc_exists}
 use Rattle.md_words.proofs.Places.{address_below}
-use Rattle.md_machine.specs.declared.step.Step.{Step}
 use Rattle.md_machine.specs.declared.pass.PassView.{PassView}
 use Rattle.md_machine.proofs.clauses.passes.LanesApart.{At}
 use Rattle.md_machine.proofs.events.Holders.{held_before}
 use Rattle.md_machine.proofs.events.MoveFacts.{MoveFacts}
-use Rattle.md_machine.proofs.lists.Rising.{there}
-use Rattle.md_machine.specs.Machine.{Machine, content, shape_of, status_at, word_at}
+use Rattle.md_machine.specs.Machine.{Machine, content, shape_of, status_at}
 use Rattle.md_machine.specs.Own.{HasDesc}
 use Rattle.md_machine.specs.Trail.{SomeStepOf}
 use Rattle.md_machine.specs.clauses.passes.OwnSerials.{MeetsSerial, OwnSerialsMet}

@@ -1,5 +1,5 @@
 -- The descriptor of a clean attempt stands in no word.
-use Rattle.std.proofs.Common.{◌≡◌, ◌==◌, ℕ, Bool, true, false, not, refl, sym, ap, ◌∙◌, subst, ⊎_elim, eqb-true}
+use Rattle.std.proofs.Common.{◌≡◌, ◌==◌, Bool, true, false, not, refl, sym, ap, ◌∙◌, subst, ⊎_elim, eqb-true}
 use Rattle.std.proofs.lemmas.Bool.{and_parts, cases_Bool, true≢false}
 use Rattle.md_words.specs.Content.{count_of, is_even, spot_of, value_of}
 use Rattle.md_machine.proofs.clauses.slots.Installs.{InstallsKept}

@@ -18,7 +18,7 @@ use Rattle.md_machine.proofs.events.Attempts.{attempt_same, ready_in, same_from,
 use Rattle.md_machine.proofs.events.MoveFacts.{Enters, MoveFacts, new_entry}
 use Rattle.md_machine.proofs.events.Moves.{own_exists}
 use Rattle.md_machine.proofs.events.WordChanges.{Stores, at_left, at_place, statuses_go_on}
-use Rattle.md_machine.proofs.lists.Rising.{filter_in, in_filter, in_map, map_in, there}
+use Rattle.md_machine.proofs.lists.Rising.{filter_in, in_filter, in_map, map_in}
 use Rattle.md_machine.specs.Installs.{IsPresent}
 use Rattle.md_machine.specs.Machine.{Install, IsPresentIn, Machine, attempt_of, same_attempt, shape_of, status_at, word_at}
 use Rattle.md_machine.specs.clauses.slots.EntrySlots.{EntriesKeepSlots, SlotsAreInstalls}

@@ -24,7 +24,7 @@ use Rattle.md_machine.proofs.events.InstallSteps.{InstallStep, InstallsHere}
 use Rattle.md_machine.proofs.events.MoveFacts.{MoveFacts}
 use Rattle.md_machine.proofs.events.Steps.{IsBoth, IsNext, IsStill}
 use Rattle.md_machine.proofs.events.WordChanges.{StoresSlot, at_counted, at_left, at_place, statuses_go_on}
-use Rattle.md_machine.proofs.lists.Rising.{here, in_cons, in_none, there}
+use Rattle.md_machine.proofs.lists.Rising.{in_cons, in_none}
 use Rattle.md_machine.specs.GoesOn.{StatusGoesOn}
 use Rattle.md_machine.specs.Installs.{IsPresent, serial_now}
 use Rattle.md_machine.specs.Machine.{Install, Machine, content, is_installed, present, same_attempt, shape_of, status_at, word_at}

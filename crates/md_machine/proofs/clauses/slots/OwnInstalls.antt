@@ -1,13 +1,11 @@
 -- The installs of a present attempt are steps of the pass that holds its lane.
-use Rattle.std.proofs.Common.{ℕ, List, [], ◌∷◌, refl, sym, ⊎_elim}
-use Rattle.std.specs.List.{Contains}
+use Rattle.std.proofs.Common.{[], ◌∷◌, refl, sym, ⊎_elim}
 use Rattle.std.proofs.lemmas.List.Elements.{Contains-append_left, Contains-push}
 use Rattle.md_words.specs.declared.shape.Shape.{Shape}
 use Rattle.md_machine.specs.declared.step.Step.{Step}
 use Rattle.md_machine.specs.declared.pass.PassView.{PassView}
 use Rattle.md_machine.proofs.clauses.slots.Installs.{InTrail, InstallsKept}
 use Rattle.md_machine.proofs.events.InstallSteps.{InstallStep}
-use Rattle.md_machine.proofs.lists.Rising.{there}
 use Rattle.md_machine.specs.Machine.{Install, Machine, shape_of}
 use Rattle.md_machine.specs.Trail.{SomeStepOf}
 use Rattle.md_machine.specs.clauses.slots.OwnInstalls.{OwnInstallsShown, WonIt}

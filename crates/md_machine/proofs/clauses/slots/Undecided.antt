@@ -23,7 +23,7 @@ use Rattle.md_machine.proofs.events.Steps.{HasStep}
 use Rattle.md_machine.proofs.lists.Pairs.{pairs_of}
 use Rattle.md_machine.proofs.lists.Rising.{there}
 use Rattle.md_machine.specs.Installs.{IsPresent, IsUndecided, spot_of_install}
-use Rattle.md_machine.specs.Machine.{Install, IsAt, Machine, content, present, shape_of, status_at, word_at}
+use Rattle.md_machine.specs.Machine.{Install, IsAt, Machine, content, shape_of, status_at, word_at}
 use Rattle.md_machine.specs.Trail.{Finds, Meets, segments}
 use Rattle.md_machine.specs.clauses.words.Brackets.{NotesSerial, NotesStanding, serial_in}
 use Rattle.md_machine.specs.clauses.passes.Hands.{HandsFit}

@@ -19,7 +19,6 @@ use Rattle.md_machine.proofs.events.Moves.{own_exists}
 use Rattle.md_machine.proofs.events.Steps.{HasStep}
 use Rattle.md_machine.proofs.events.WordChanges.{statuses_go_on}
 use Rattle.md_machine.proofs.lists.Pairs.{EachPair, pairs-kept}
-use Rattle.md_machine.proofs.lists.Rising.{here, there}
 use Rattle.md_machine.specs.Machine.{IsPresentIn, Machine, content, present, shape_of, status_at}
 use Rattle.md_machine.specs.clauses.passes.Hands.{HandsFit}
 use Rattle.md_machine.specs.clauses.words.Loads.{LoadStands, MeetsReady}

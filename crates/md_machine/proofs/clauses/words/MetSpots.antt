@@ -1,9 +1,8 @@
 -- The descriptors that steps met in words exist, after every event.
-use Rattle.std.proofs.Common.{◌≡◌, ℕ, ◌<◌, false, List, set, get_or, length, sym, ap, ◌∙◌, subst, ⊎_elim, get_or-set_same, arith}
-use Rattle.std.specs.List.{Contains}
+use Rattle.std.proofs.Common.{◌≡◌, ℕ, ◌<◌, List, set, get_or, length, sym, ap, ◌∙◌, subst, ⊎_elim, get_or-set_same, arith}
 use Rattle.md_words.specs.declared.shape.Shape.{Shape}
 use Rattle.md_words.specs.declared.content.Spot.{Spot}
-use Rattle.md_words.specs.Content.{count_of, is_even, spot_of, value_of}
+use Rattle.md_words.specs.Content.{spot_of, value_of}
 use Rattle.md_words.specs.Layout.{IsInSet}
 use Rattle.md_words.specs.LayoutLaws.{IsField}
 use Rattle.md_words.specs.PlaceAt.{IsCounted}
@@ -13,7 +12,6 @@ use Rattle.md_machine.proofs.chain.Values.{installed_spot}
 use Rattle.md_machine.proofs.clauses.slots.Installs.{InstallsKept}
 use Rattle.md_machine.proofs.events.MoveFacts.{MoveFacts}
 use Rattle.md_machine.proofs.events.Steps.{adds_step}
-use Rattle.md_machine.proofs.lists.Rising.{there}
 use Rattle.md_machine.specs.Installs.{spot_of_install}
 use Rattle.md_machine.specs.Machine.{Install, Machine, content, shape_of}
 use Rattle.md_machine.specs.clauses.words.MetSpots.{MetSpotsExist, NamesSlot}

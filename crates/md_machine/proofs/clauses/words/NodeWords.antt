@@ -7,11 +7,9 @@ use Rattle.md_words.specs.Place.{Place, node_key, node_value, node_next}
 use Rattle.md_words.specs.PlaceAt.{place_at}
 use Rattle.md_machine.specs.declared.step.Step.{Step}
 use Rattle.md_machine.specs.declared.pass.PassView.{PassView}
-use Rattle.md_machine.proofs.clauses.passes.FrontsFit.{fated}
 use Rattle.md_machine.proofs.clauses.nodes.Placed.{NotedAlways, always_in}
 use Rattle.md_machine.proofs.events.MoveFacts.{MoveFacts}
 use Rattle.md_machine.proofs.events.Steps.{adds_step}
-use Rattle.md_machine.proofs.lists.Rising.{here, there}
 use Rattle.md_machine.proofs.resolutions.Placing.{always_not_never}
 use Rattle.md_machine.specs.Machine.{IsAt, Machine, content, shape_of}
 use Rattle.md_machine.specs.Own.{IsDataOf, IsWordOf}

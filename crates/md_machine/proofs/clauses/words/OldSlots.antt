@@ -1,9 +1,8 @@
 -- A load of a slot's old content, made after the descriptor was met in a word where it still stands, found what stands
 -- in the slot now.
 use Rattle.std.proofs.Common.{◌≡◌, ℕ, List, sym, ap, ◌∙◌, subst, set, get_or, false}
-use Rattle.md_words.specs.declared.shape.Shape.{Shape}
 use Rattle.md_words.specs.declared.content.Spot.{Spot}
-use Rattle.md_words.specs.Content.{value_of, spot_of, count_of, is_even}
+use Rattle.md_words.specs.Content.{count_of, is_even}
 use Rattle.md_words.specs.Place.{slot_old}
 use Rattle.md_words.specs.Layout.{address}
 use Rattle.md_words.specs.LayoutLaws.{IsField}
@@ -20,9 +19,8 @@ use Rattle.md_machine.proofs.clauses.words.Stamps.{Stamp, StampsKept}
 use Rattle.md_machine.proofs.events.MoveFacts.{MoveFacts}
 use Rattle.md_machine.proofs.events.Steps.{HasStep}
 use Rattle.md_machine.proofs.lists.Pairs.{EachPair, pairs-kept}
-use Rattle.md_machine.proofs.lists.Rising.{there}
 use Rattle.md_machine.specs.Installs.{spot_of_install}
-use Rattle.md_machine.specs.Machine.{Machine, content, present, shape_of, status_at, word_at}
+use Rattle.md_machine.specs.Machine.{Machine, content, shape_of, status_at, word_at}
 use Rattle.md_machine.specs.clauses.passes.Hands.{HandsFit}
 use Rattle.md_machine.specs.clauses.slots.OddWords.{OddStand}
 use Rattle.md_machine.specs.clauses.words.OldSlots.{OldSlotStands, old_place, spot_in_word}

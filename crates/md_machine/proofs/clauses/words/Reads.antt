@@ -8,7 +8,6 @@ use Rattle.md_words.specs.PlaceAt.{IsCounted}
 use Rattle.md_machine.specs.declared.step.Step.{Step}
 use Rattle.md_machine.specs.declared.attempt.HistoryEntry.{HistoryEntry}
 use Rattle.md_machine.specs.declared.attempt.Read.{Read}
-use Rattle.md_machine.proofs.clauses.words.Brackets.{stood}
 use Rattle.md_machine.proofs.clauses.words.Loads.{EntriesPast, not_ready_before, other_word}
 use Rattle.md_machine.proofs.clauses.words.Stamps.{Stamp, StampsKept, met_stamped, same_stamp}
 use Rattle.md_machine.proofs.clauses.words.Statuses.{StatusesNoted}
@@ -18,14 +17,13 @@ use Rattle.md_machine.proofs.events.Moves.{own_exists}
 use Rattle.md_machine.proofs.events.Steps.{HasStep}
 use Rattle.md_machine.proofs.events.WordChanges.{at_counted, at_left}
 use Rattle.md_machine.proofs.lists.Pairs.{EachPair, pairs-kept}
-use Rattle.md_machine.proofs.lists.Rising.{here, in_map, there}
+use Rattle.md_machine.proofs.lists.Rising.{in_map, there}
 use Rattle.md_machine.specs.Machine.{Machine, content, shape_of}
 use Rattle.md_machine.specs.Trail.{read_stands}
 use Rattle.md_machine.specs.clauses.passes.Hands.{HandsFit}
 use Rattle.md_machine.specs.clauses.words.Loads.{MeetsReady}
 use Rattle.md_machine.specs.clauses.words.Reads.{MovedReads, ReadFound, ReadMoved}
 use Rattle.md_machine.specs.events.Ready.{history_entry, read_now, reads_now}
-use Rattle.md_machine.specs.events.SplitJoin.{moved}
 
 false_unless : (b : Bool) → (b ≡ true → ⊥) → b ≡ false
 false_unless b not = ⊎_elim (λ t. absurd (not t)) (λ f. f) (cases_Bool b)

@@ -12,7 +12,6 @@ use Rattle.md_machine.specs.declared.step.Step.{Step}
 use Rattle.md_machine.proofs.events.MoveFacts.{MoveFacts, WasMet, reads_met}
 use Rattle.md_machine.proofs.events.Steps.{HasStep, adds_step}
 use Rattle.md_machine.proofs.events.WordChanges.{MayLeave, at_counted, counts_rise}
-use Rattle.md_machine.proofs.lists.Rising.{here, there}
 use Rattle.md_machine.specs.Machine.{Install, Machine, content, shape_of}
 use Rattle.md_machine.specs.clauses.words.Stamps.{IsNoted, NotedByRead, StampsHold}
 

@@ -1,5 +1,5 @@
 -- The statuses that steps met came to those that stand now.
-use Rattle.std.proofs.Common.{◌≡◌, ℕ, ◌<◌, ◌≤◌, ◌⊎◌, List, set, get_or, refl, sym, ap, ◌∙◌, subst, inl, inr, ⊎_elim, le_refl, length, get_or-set_same, arith, true}
+use Rattle.std.proofs.Common.{◌≡◌, ℕ, ◌<◌, ◌≤◌, ◌⊎◌, List, set, get_or, refl, sym, ap, ◌∙◌, subst, inl, inr, ⊎_elim, length, get_or-set_same, arith, true}
 use Rattle.std.proofs.lemmas.Bool.{false≢true}
 use Rattle.md_words.proofs.Places.{address_below}
 use Rattle.md_words.specs.declared.shape.Shape.{Shape}
@@ -14,11 +14,11 @@ use Rattle.md_machine.specs.declared.pass.PassView.{PassView}
 use Rattle.md_machine.proofs.events.MoveFacts.{MoveFacts}
 use Rattle.md_machine.proofs.events.Steps.{HasStep, adds_step}
 use Rattle.md_machine.proofs.events.WordChanges.{MayLeave, at_left, at_place, statuses_go_on}
-use Rattle.md_machine.proofs.lists.Rising.{here, there}
+use Rattle.md_machine.proofs.lists.Rising.{there}
 use Rattle.md_machine.specs.GoesOn.{AttemptGoesOn, StatusGoesOn, moves_to}
 use Rattle.md_machine.specs.Installs.{IsUndecided}
 use Rattle.md_machine.specs.Machine.{Machine, content, shape_of, status_at, word_at}
-use Rattle.md_machine.specs.clauses.words.Statuses.{AttemptCame, MetCame, StatusCame, StatusesCame, leads_to}
+use Rattle.md_machine.specs.clauses.words.Statuses.{AttemptCame, StatusCame, StatusesCame, leads_to}
 use Rattle.md_machine.specs.events.Uninstall.{IsDecided}
 
 -- a status that was noted while this one stands: of no later attempt; a decided one of the present attempt stands, and

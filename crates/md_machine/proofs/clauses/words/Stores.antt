@@ -22,8 +22,8 @@ use Rattle.md_machine.proofs.events.Steps.{HasStep, adds_step, segment_from}
 use Rattle.md_machine.proofs.events.WordChanges.{statuses_go_on}
 use Rattle.md_machine.proofs.lists.At.{at_set}
 use Rattle.md_machine.proofs.lists.Options.{some_same}
-use Rattle.md_machine.proofs.lists.Rising.{here, in_none, there}
-use Rattle.md_machine.specs.Machine.{IsPresentIn, Machine, content, present, shape_of, status_at, was_begun, word_at}
+use Rattle.md_machine.proofs.lists.Rising.{here, in_none}
+use Rattle.md_machine.specs.Machine.{IsPresentIn, Machine, content, shape_of, status_at, was_begun, word_at}
 use Rattle.md_machine.specs.Trail.{LastStored, StoresFor, segments}
 use Rattle.md_machine.specs.clauses.passes.Hands.{HandsFit}
 use Rattle.md_machine.specs.clauses.words.Stores.{IsEntryWord}

@@ -12,7 +12,7 @@ use Rattle.md_history.specs.declared.entries.Fate.{Fate}
 use Rattle.md_history.specs.declared.entries.Fate.TheVariants.{Committed, Aborted, Undecided}
 use Rattle.md_machine.specs.declared.attempt.HistoryEntry.{HistoryEntry}
 use Rattle.md_machine.specs.declared.pass.PassView.{PassView}
-use Rattle.md_machine.specs.Machine.{IsPresentIn, Machine, present, shape_of, word_at}
+use Rattle.md_machine.specs.Machine.{IsPresentIn, Machine, shape_of, word_at}
 use Rattle.md_machine.specs.events.Start.{is_decided, knows_decided}
 
 -- the fate that a status stands for; no attempt with an entry is InPrep

@@ -5,7 +5,7 @@ use mathlib.Core.Option.{some}
 use Rattle.md_words.specs.declared.shape.Shape.{Shape}
 use Rattle.md_machine.specs.declared.attempt.Hand.{Hand}
 use Rattle.md_machine.specs.declared.pass.PassView.{PassView}
-use Rattle.md_machine.specs.Machine.{IsPresentIn, present}
+use Rattle.md_machine.specs.Machine.{IsPresentIn}
 use Rattle.md_machine.specs.Own.{HasDesc}
 
 -- it is the present attempt of a descriptor of the pass's lanes

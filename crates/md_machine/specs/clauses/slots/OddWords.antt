@@ -4,7 +4,7 @@ use Rattle.md_words.specs.declared.shape.Shape.{Shape}
 use Rattle.md_words.specs.Content.{count_of, is_even}
 use Rattle.md_words.specs.PlaceAt.{IsCounted}
 use Rattle.md_machine.specs.Installs.{IsPresent, spot_of_install}
-use Rattle.md_machine.specs.Machine.{Install, present}
+use Rattle.md_machine.specs.Machine.{Install}
 use Rattle.md_machine.specs.events.Install.{installed_word}
 
 -- the install of a present attempt stands in the word

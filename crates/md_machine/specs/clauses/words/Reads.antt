@@ -6,10 +6,9 @@ use Rattle.md_machine.specs.declared.attempt.HistoryEntry.{HistoryEntry}
 use Rattle.md_machine.specs.declared.attempt.Read.{Read}
 use Rattle.md_machine.specs.declared.pass.PassView.{PassView}
 use Rattle.md_machine.specs.declared.step.Step.{Step}
-use Rattle.md_machine.specs.Machine.{IsAt, Machine, content, shape_of}
+use Rattle.md_machine.specs.Machine.{IsAt, Machine, shape_of}
 use Rattle.md_machine.specs.Trail.{is_store, read_stands, segments}
 use Rattle.md_machine.specs.clauses.words.Loads.{MeetsReady}
-use Rattle.md_machine.specs.events.SplitJoin.{moved}
 
 -- the read's word has a higher count, and holds neither what was recorded nor the read's descriptor at the next count
 pub record ReadMoved (words : List ℕ) (e : HistoryEntry) (r : Read) : Type 0 where
