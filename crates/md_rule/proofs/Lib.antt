@@ -1,4 +1,5 @@
 pub mod LaneSets
 pub mod LaneLists
+pub mod Sharing
 pub mod Moves
 pub mod Events

@@ -1,19 +1,23 @@
 -- A step of the table is one more event of the machine, and so keeps the rule.
-use Rattle.std.proofs.Common.{◌≡◌, ℕ, List, [], ◌∷◌, ◌++◌, slice_set, slice_index, refl, sym, ap, ◌∙◌, subst, inl}
+use Rattle.std.proofs.Common.{◌≡◌, ℕ, List, [], ◌∷◌, ◌++◌, slice_set, slice_index, refl, sym, ap, ◌∙◌, subst, inl, arith}
 use mathlib.Core.Option.{some}
 use lib.ListN.{get_elem?}
-use Rattle.atomic_table.specs.Table.{State, Me, Allows, keeps, opening as first_table}
+use Rattle.atomic_table.specs.Table.{State, Me, Allows, Splits, Joins, keeps, opening as first_table}
 use Rattle.md_machine.specs.declared.node.PlacedNode.{PlacedNode}
 use Rattle.md_machine.specs.declared.opening.Opening.{Opening}
 use Rattle.md_machine.specs.declared.pass.PassView.{PassView}
-use Rattle.md_machine.specs.Event.{CanOpen, Does, Event, Plays, Runs, first_pass, opened}
-use Rattle.md_machine.specs.Machine.{IsAt, IsLive, Machine, content}
+use Rattle.md_machine.specs.Event.{CanOpen, Does, Event, Plays, Runs, first_pass, join, opened, split}
+use Rattle.md_machine.specs.Machine.{IsAt, IsLive, Machine, content, shape_of}
 use Rattle.md_machine.specs.GoesOn.{GoesOn}
 use Rattle.md_machine.specs.Legal.{IsMeant}
 use Rattle.md_machine.specs.Meaning.{Lawful, Meaning}
 use Rattle.md_machine.specs.Theorem.{IsKept}
 use Rattle.md_machine.proofs.Reached.{always_goes_on, always_kept}
 use Rattle.md_machine.proofs.replay.Always.{always_meant}
+use Rattle.md_machine.specs.events.SplitJoin.{MaySplit, after_join, after_split, given_part, joined_part, kept_part, spent}
+use Rattle.md_machine.proofs.lists.At.{set_else}
+use Rattle.std.proofs.lemmas.List.{set-get_or}
+use Rattle.md_words.specs.declared.shape.Shape.{Shape}
 use Rattle.md_rule.specs.Admitted.{Admitted}
 use Rattle.md_rule.specs.Rule.{Shows}
 use Rattle.md_rule.specs.Steps.{EventOf, MayTell, Stepped}
@@ -87,3 +91,37 @@ module _ (M : Meaning) where
       words = refl;
       views = refl;
     }
+
+    -- a load writes back what it found
+    still : (m : Machine) → slice_set m.words 0 (content m 0) ≡ m.words
+    still m = set-get_or m.words 0 0
+
+    -- a split and a join keep the rule
+    pub may_split : (id : ℕ) (p : PassView) → MaySplit p → Splits {S = Unit {0}} (Shows M o) id p (kept_part o.shape p) (given_part o.shape p)
+    may_split id p two s h at =
+        let m = h.machine in
+        let stands : IsAt m id p = subst (λ (l : List PassView). get_elem? l id ≡ some p) (sym h.views) at in
+        let n = after_split m id p in
+        let does : Does M m (split id) n = (p, record { at = stands; live = omega (arith, two) }, two, refl) in
+        record {
+          machine = n;
+          admitted = one_more m n (split id) h.admitted does;
+          words = still m ∙ h.words;
+          views = ap (λ (l : List PassView). slice_set l id (kept_part (shape_of m) p) ++ given_part (shape_of m) p ∷ []) h.views
+              ∙ ap (λ (shape : Shape). slice_set s.views id (kept_part shape p) ++ given_part shape p ∷ []) h.admitted.shape;
+        }
+
+    pub may_join : (id other : ℕ) (p q : PassView) → IsLive p → IsLive q → Joins {S = Unit {0}} (Shows M o) id p other q (joined_part o.shape p q) spent
+    may_join id other p q live_p live_q s h at apart there =
+        let m = h.machine in
+        let stands : IsAt m id p = subst (λ (l : List PassView). get_elem? l id ≡ some p) (sym h.views) at in
+        let beside : IsAt m other q = subst (λ (l : List PassView). get_elem? l other ≡ some q) (sym h.views) (sym (set_else s.views id other (joined_part o.shape p q) apart) ∙ there) in
+        let n = after_join m id other p q in
+        let does : Does M m (join id other) n = (p, q, record { at = stands; live = live_p }, apart, record { at = beside; live = live_q }, refl) in
+        record {
+          machine = n;
+          admitted = one_more m n (join id other) h.admitted does;
+          words = still m ∙ h.words;
+          views = ap (λ (l : List PassView). slice_set (slice_set l id (joined_part (shape_of m) p q)) other spent) h.views
+              ∙ ap (λ (shape : Shape). slice_set (slice_set s.views id (joined_part shape p q)) other spent) h.admitted.shape;
+        }

@@ -5,3 +5,4 @@ pub mod Steps
 pub mod InHand
 pub mod LaneSet
 pub mod Lanes
+pub mod Shares

@@ -6,12 +6,13 @@
 
 pub use field::Field;
 pub use pass::Pass;
-pub use rule::{Key, Ruled, Telling};
+pub use rule::{Halving, Joining, Key, Ruled, Telling};
 pub use shares::Share;
 
 mod field;
 mod lanes;
 mod marks;
+mod parts;
 mod pass;
 mod rule;
 mod shares;

@@ -4,6 +4,7 @@ ghost use Rattle.std.specs.Prelude.{◌≡◌, ◌<◌, ◌↔◌, [], length, s
 ghost use Rattle.md_machine.specs.Event.{first_pass};
 ghost use Rattle.md_machine.specs.clauses.passes.Alone.{HoldsAll};
 ghost use Rattle.md_rule.specs.declared.shares.TheConstants.{UNUSED};
+ghost use Rattle.md_rule.specs.Lanes.{AreLanes};
 ghost use Rattle.md_rule.specs.Views.{IsOf};
 
 use crate::field::Field;
@@ -18,7 +19,7 @@ use std::marker::{Model, PhantomData};
 #[derive(Drop)]
 pub struct Pass<T: Theory> {
     pub(crate) seat: Seat<(), PassView>,
-    shape: Shape,
+    pub(crate) shape: Shape,
     pub(crate) lanes: Lanes,
     pub(crate) shares: [Share; 64],
     theory: PhantomData<T>,
@@ -73,5 +74,34 @@ impl<T: Theory> Pass<T> {
         ensures below { result < 64 }
     {
         self.lanes.at(place)
+    }
+
+    // Another pass of the same field with these lanes, and copies of the shares.
+    pub(crate) fn part(&self, seat: Seat<(), PassView>, lanes: Lanes) -> Pass<T>
+        requires { (seat.me.0.lanes ≡ lanes) × AreLanes self.now.shape lanes × (seat.me.1 ≡ []) }
+        ensures { result ≡ record self.now { table = seat.table_id; view = seat.me.0 } }
+    {
+        Pass {
+            seat,
+            shape: self.shape,
+            lanes,
+            shares: self.shares,
+            theory: PhantomData,
+        }
+    }
+
+    pub(crate) fn into_parts(self) -> (Seat<(), PassView>, Lanes, [Share; 64])
+        ensures seat { (result.0.table_id ≡ self.table) × (result.0.me ≡ (self.view, [])) }
+        ensures lanes { (result.1 ≡ self.view.lanes) × AreLanes self.shape result.1 }
+        ensures shares { result.2 ≡ self.shares }
+    {
+        let Pass {
+            seat,
+            shape: _,
+            lanes,
+            shares,
+            theory: _,
+        } = self;
+        (seat, lanes, shares)
     }
 }

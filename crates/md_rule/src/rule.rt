@@ -5,7 +5,7 @@ ghost use Rattle.md_machine.specs.declared.pass.PassView.{PassView};
 ghost use Rattle.md_machine.specs.Event.{first_pass};
 ghost use Rattle.md_rule.specs.Rule.{Shows};
 
-use atomic_table::{Play, TableRule};
+use atomic_table::{Join, Play, Split, TableRule};
 use md_machine::{PassView, Theory};
 use md_words::Shape;
 use std::marker::{Brand, PhantomData};
@@ -55,4 +55,51 @@ impl<K: Telling> Play<(), PassView> for Tells<K> {
 
     ghost then = { λ step me found now. K.tells found me.0 now.0 × (now.0.lanes ≡ me.0.lanes)
         × (now.1 ≡ me.1) };
+}
+
+/// How the view of a pass is split, and how two are joined. Each call picks it.
+pub trait Halving {
+    ghost use Rattle.md_machine.specs.declared.pass.PassView.{PassView};
+
+    ghost kept: { PassView → PassView };
+
+    ghost given: { PassView → PassView };
+}
+
+impl Halving for Brand {
+    ghost kept = { λ p. p };
+
+    ghost given = { λ p. p };
+}
+
+pub trait Joining {
+    ghost use Rattle.md_machine.specs.declared.pass.PassView.{PassView};
+
+    ghost joined: { PassView → PassView → PassView };
+}
+
+impl Joining for Brand {
+    ghost joined = { λ p q. p };
+}
+
+pub(crate) struct Halves<K> {
+    halving: PhantomData<K>,
+}
+
+impl<K: Halving> Split<PassView> for Halves<K> {
+    ghost left = { K.kept };
+
+    ghost right = { K.given };
+}
+
+pub(crate) struct Joins<K> {
+    joining: PhantomData<K>,
+}
+
+impl<K: Joining> Join<PassView> for Joins<K> {
+    ghost use Rattle.md_machine.specs.events.SplitJoin.{spent};
+
+    ghost both = { K.joined };
+
+    ghost spent = { spent };
 }

@@ -1,0 +1,30 @@
+use Rattle.std.proofs.Common.{◌≡◌, ◌≤◌, length, ap, sym, ◌∙◌, arith}
+use Rattle.md_machine.specs.events.SplitJoin.{given_lanes, kept_lanes}
+use Rattle.md_rule.proofs.LaneLists.{given_are_lanes, kept_are_lanes}
+use Rattle.md_rule.proofs.Moves.{may_split}
+use Rattle.md_rule.proofs.pass.Pass.split.Goals as goal
+
+pub split_seat-seat-requires-clause-may : goal.split_seat-seat-requires-clause-may
+split_seat-seat-requires-clause-may g c =
+    let count = c.count.ensures in
+    let some = c.if-count-lt2.false in
+    let same = ap length c.self.invariant.0 in
+    may_split g.T.Theory.meaning c.args.field.now.origin c.self.inside.seat.id c.self.inside.seat.me.0 (omega (arith, count, some, same))
+
+pub invariant_of-self : goal.invariant_of-self
+invariant_of-self g c =
+    let count = c.count.ensures in
+    let some = c.if-count-lt2.false in (
+      ap (λ me. me.0.lanes) c.split_seat-seat.ensures.kept ∙ ap kept_lanes c.self.invariant.0 ∙ sym c.split-lanes.ensures.kept,
+      rw c.split-lanes.ensures.kept (kept_are_lanes c.self.inside.shape c.self.inside.lanes c.self.invariant.1 (omega (arith, count, some))),
+      ap (λ me. me.1) c.split_seat-seat.ensures.kept ∙ c.self.invariant.2,
+    )
+
+pub part-requires : goal.part-requires
+part-requires g c =
+    let count = c.count.ensures in
+    let some = c.if-count-lt2.false in (
+      ap (λ me. me.0.lanes) c.split_seat-seat.ensures.given ∙ ap given_lanes c.self.invariant.0 ∙ sym c.split-lanes.ensures.given,
+      rw c.split-lanes.ensures.given (given_are_lanes c.self.inside.shape c.self.inside.lanes c.self.invariant.1 (omega (arith, count, some))),
+      ap (λ me. me.1) c.split_seat-seat.ensures.given,
+    )

@@ -1,0 +1,78 @@
+//! The moves of lanes: a pass is split, and passes are joined. Each is one load of word 0.
+
+ghost use Rattle.std.specs.Prelude.{◌≡◌, ◌≤◌, ◌<◌, [], length, IfSome, IfNone};
+ghost use Rattle.atomic_table.specs.Table.{Splits, Joins as JoinsViews};
+ghost use Rattle.md_machine.specs.events.SplitJoin.{kept_part, given_part, joined_part, spent};
+ghost use Rattle.md_rule.specs.Rule.{Shows};
+ghost use Rattle.md_rule.specs.Shares.{joined_shares};
+ghost use Rattle.md_rule.specs.Views.{IsOf};
+
+use crate::field::Field;
+use crate::pass::Pass;
+use crate::rule::{Halves, Halving, Joining, Joins};
+use crate::shares::take_shares;
+use atomic_table::Seat;
+use md_machine::{PassView, Theory};
+use std::marker::Brand;
+
+impl<T: Theory> Pass<T> {
+    /// Gives a new pass the last half of the lanes, that of fewer. None exactly where there is one.
+    pub fn split(&mut self, field: &Field<T>) -> Option<Pass<T>>
+        requires { IsOf self.old field.now }
+        ensures some { IfSome result (λ p. (2 ≤ length self.old.view.lanes)
+            × (self.new ≡ record self.old { view = kept_part self.old.shape self.old.view })
+            × (p ≡ record self.old { view = given_part self.old.shape self.old.view })) }
+        ensures none { IfNone result ((length self.old.view.lanes ≡ 1) × (self.new ≡ self.old)) }
+    {
+        if self.lanes.count() < 2 {
+            return None;
+        }
+        let seat = split_seat::<Brand, T>(field, &mut self.seat);
+        let lanes = self.lanes.split();
+        Some(self.part(seat, lanes))
+    }
+
+    /// Takes in another pass of the field.
+    pub fn join(&mut self, field: &Field<T>, other: Pass<T>)
+        requires mine { IsOf self.old field.now }
+        requires others { IsOf other field.now }
+        ensures { self.new ≡ record self.old {
+            view = joined_part self.old.shape self.old.view other.view;
+            shares = joined_shares other.view.lanes self.old.shares other.shares;
+        } }
+    {
+        let (seat, lanes, shares) = other.into_parts();
+        join_seat::<Brand, T>(field, &mut self.seat, seat);
+        take_shares(&mut self.shares, &lanes, &shares);
+        self.lanes.join(lanes, &self.shape);
+    }
+}
+
+fn split_seat<K: Halving, T: Theory>(
+    field: &Field<T>,
+    seat: &mut Seat<(), PassView>,
+) -> Seat<(), PassView>
+    requires field { seat.old.table_id ≡ field.now.table }
+    requires may { Splits {S = Unit {0}} (Shows T.meaning field.now.origin) seat.old.id seat.old.me.0
+        (K.kept seat.old.me.0) (K.given seat.old.me.0) }
+    ensures field { (seat.new.table_id ≡ seat.old.table_id) × (result.table_id ≡ seat.old.table_id) }
+    ensures kept { seat.new.me ≡ (K.kept seat.old.me.0, seat.old.me.1) }
+    ensures given { result.me ≡ (K.given seat.old.me.0, []) }
+{
+    field.table.shared.split_seat::<Halves<K>>(seat)
+}
+
+fn join_seat<K: Joining, T: Theory>(
+    field: &Field<T>,
+    seat: &mut Seat<(), PassView>,
+    other: Seat<(), PassView>,
+)
+    requires field { (seat.old.table_id ≡ field.now.table) × (other.table_id ≡ field.now.table) }
+    requires bare { other.me.1 ≡ [] }
+    requires may { JoinsViews {S = Unit {0}} (Shows T.meaning field.now.origin) seat.old.id seat.old.me.0
+        other.id other.me.0 (K.joined seat.old.me.0 other.me.0) spent }
+    ensures field { seat.new.table_id ≡ seat.old.table_id }
+    ensures joined { seat.new.me ≡ (K.joined seat.old.me.0 other.me.0, seat.old.me.1) }
+{
+    field.table.shared.join_seat::<Joins<K>>(seat, other);
+}
