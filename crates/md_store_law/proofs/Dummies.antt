@@ -1,9 +1,8 @@
 -- A field in which the queues have their dummies, and nothing else is laid.
-use Rattle.std.proofs.Common.{◌≡◌, ◌≢◌, ℕ, zero, suc, ◌+◌, ◌<◌, ◌≤◌, List, [], ◌∷◌, map as map_list, length, set, replicate, slice_index, refl, sym, ap, ◌∙◌, subst, ⊎_elim, arith}
-use Rattle.std.specs.List.{range_with_len}
-use Rattle.std.proofs.lemmas.Bool.{cases_eq, cond-true, cond-false}
-use Rattle.std.proofs.lemmas.List.{length-replicate, length-map}
-use Rattle.std.proofs.lemmas.List.FromFn.{length-range_with_len}
+use Rattle.std.proofs.Common.{◌≡◌, ◌≢◌, ℕ, zero, suc, ◌+◌, ◌<◌, ◌≤◌, List, [], ◌∷◌, set, replicate, slice_index, refl, sym, ap, ◌∙◌, subst, ⊎_elim, arith}
+use Rattle.std.proofs.lemmas.Bool.{cases_eq}
+use Rattle.std.proofs.lemmas.List.{length-replicate}
+use Rattle.std.proofs.lemmas.List.FromFn.{length-map-range_with_len}
 use Rattle.md_words.specs.declared.shape.Shape.{Shape}
 use Rattle.md_words.specs.Place.{Place, bucket_head, queue_head, queue_tail, node_key, node_value, node_next}
 use Rattle.md_words.specs.Layout.{Exists, address, words_of, node_count, first_desc}
@@ -11,40 +10,18 @@ use Rattle.md_words.specs.LayoutLaws.{IsField}
 use Rattle.md_machine.specs.declared.node.Structure.{Structure}
 use Rattle.md_machine.specs.declared.node.Structure.TheVariants.{Bucket, Queue}
 use Rattle.md_machine.specs.Machine.{word_at}
-use Rattle.md_store_law.specs.Laid.{LaidNode, IsLaid, Chained, HaveFields, head_place, numbers_of, numbers_from, last_of, naming, same_structure, dummies}
+use Rattle.md_store_law.specs.Laid.{LaidNode, IsLaid, Chained, HaveFields, head_place, numbers_of, last_of, naming, dummies}
 use Rattle.md_store_law.proofs.Filling.{get_or-same}
-use Rattle.md_store_law.proofs.Numbers.{same_structure-same, same_structure-other}
+use Rattle.md_store_law.proofs.Prefixes.{dummies_from, dummies_elsewhere, numbers_none, dummy_number}
 use Rattle.md_store_law.proofs.Writes.{writes}
 
-abbrev dummies_from : (first count : ℕ) → List LaidNode
-dummies_from first count = map_list (λ queue. record { structure = Queue queue; key = 0; value = 0 }) (range_with_len first count)
+-- a queue has one dummy, and a bucket none
+dummy-number : (queues queue : ℕ) → queue < queues → numbers_of (dummies queues) (Queue queue) ≡ (queue + 1) ∷ []
+dummy-number queues queue below = dummy_number 1 0 queues queue (omega arith) (omega arith) ∙ ap (λ k. k ∷ []) (omega arith)
 
--- they are of their queues, and each queue has one
-pub no_dummies : (k first count : ℕ) (s : Structure) → ((queue : ℕ) → first ≤ queue → queue < first + count → Queue queue ≢ s)
-    → numbers_from k (dummies_from first count) s ≡ []
-no_dummies k first zero s apart = refl
-no_dummies k first (suc count) s apart =
-    cond-false (same_structure (Queue first) s) _ _ (same_structure-other (Queue first) s (apart first (omega arith) (omega arith)))
-    ∙ no_dummies (k + 1) (first + 1) count s (λ queue low high. apart queue (omega arith) (omega arith))
-
-dummy_from : (first count queue : ℕ) → first ≤ queue → queue < first + count → numbers_from (first + 1) (dummies_from first count) (Queue queue) ≡ (queue + 1) ∷ []
-dummy_from first zero queue low high = absurd (omega arith)
-dummy_from first (suc count) queue low high = ⊎_elim
-    (λ e. cond-true (same_structure (Queue first) (Queue queue)) _ _ (ap (λ q. same_structure (Queue first) (Queue q)) (sym e) ∙ same_structure-same (Queue first))
-    ∙ ap (λ ns. (first + 1) ∷ ns) (no_dummies (first + 1 + 1) (first + 1) count (Queue queue) (λ q l h f. let same : q ≡ queue = cc f in omega arith))
-    ∙ ap (λ q. (q + 1) ∷ []) e)
-    (λ ne. cond-false (same_structure (Queue first) (Queue queue)) _ _ (same_structure-other (Queue first) (Queue queue) (λ f. ne (cc f)))
-    ∙ dummy_from (first + 1) count queue (omega arith) (omega arith))
-    (cases_eq first queue)
-
-pub dummy-number : (queues queue : ℕ) → queue < queues → numbers_of (dummies queues) (Queue queue) ≡ (queue + 1) ∷ []
-dummy-number queues queue below = dummy_from 0 queues queue (omega arith) (omega arith)
-
-pub no_dummy_in_bucket : (queues map bucket : ℕ) → numbers_of (dummies queues) (Bucket map bucket) ≡ []
-no_dummy_in_bucket queues map bucket = no_dummies 1 0 queues (Bucket map bucket) (λ queue low high e. cc)
-
-pub length-dummies : (queues : ℕ) → length (dummies queues) ≡ queues
-length-dummies queues = length-map (range_with_len 0 queues) _ ∙ length-range_with_len 0 queues
+no_dummy_in_bucket : (queues map bucket : ℕ) → numbers_of (dummies queues) (Bucket map bucket) ≡ []
+no_dummy_in_bucket queues map bucket =
+    numbers_none (Bucket map bucket) 1 (dummies queues) (dummies_elsewhere (Bucket map bucket) 0 queues (λ queue low high e. cc))
 
 module _ (shape : Shape) where
   -- the queues below a number have their dummies, and all else is 0
@@ -99,7 +76,7 @@ module _ (shape : Shape) where
   pub dummies_end : (words : List ℕ) → shape.queues ≤ shape.base → HasDummies words shape.queues → IsLaid shape words (dummies shape.queues)
   unfolding node_count
   dummies_end words room d =
-      let count = length-dummies shape.queues in
+      let count = length-map-range_with_len {X = LaidNode} (λ queue. record { structure = Queue queue; key = 0; value = 0 }) 0 shape.queues in
       record {
         field = d.field;
         fields = zero_fields words 1 0 shape.queues (λ x low high.

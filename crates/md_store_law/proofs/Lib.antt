@@ -17,3 +17,5 @@ pub mod Stores
 pub mod Entries
 pub mod Opening
 pub mod Copying
+pub mod Buckets
+pub mod LaidContents

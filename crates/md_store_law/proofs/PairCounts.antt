@@ -41,7 +41,7 @@ lacks-append q (x ∷ xs) ys none also = ⊎_elim
     some_none : (v : ℕ) → Some v ≡ None → ⊥
     some_none v e = cc e
 
-lacks-pieces : (f : ℕ → List (ℕ × ℕ)) (q a n : ℕ) → ((b : ℕ) → a ≤ b → b < a + n → fin.find nat_cmp q (f b) ≡ None)
+pub lacks-pieces : (f : ℕ → List (ℕ × ℕ)) (q a n : ℕ) → ((b : ℕ) → a ≤ b → b < a + n → fin.find nat_cmp q (f b) ≡ None)
     → fin.find nat_cmp q (flat_map f (range_with_len a n)) ≡ None
 lacks-pieces f q a zero none = refl
 lacks-pieces f q a (suc n) none = lacks-append q (f a) (flat_map f (range_with_len (a + 1) n)) (none a (omega arith) (omega arith))

@@ -14,7 +14,7 @@ abbrev pub AreElsewhere : Structure → List LaidNode → Type 0
 AreElsewhere s nodes = AllByRecursion (λ n. n.structure ≢ s) nodes
 
 module _ (s : Structure) where
-  numbers_none : (k : ℕ) (nodes : List LaidNode) → AreElsewhere s nodes → numbers_from k nodes s ≡ []
+  pub numbers_none : (k : ℕ) (nodes : List LaidNode) → AreElsewhere s nodes → numbers_from k nodes s ≡ []
   numbers_none k [] none = refl
   numbers_none k (n ∷ nodes) none =
       cond-false (same_structure n.structure s) _ _ (same_structure-other n.structure s none.0) ∙ numbers_none (k + 1) nodes none.1
@@ -49,7 +49,7 @@ dummies_elsewhere s a (suc n) each = (
 )
 
 -- a queue has one of them
-dummy_number : (k a n queue : ℕ) → a ≤ queue → queue < a + n → numbers_from k (dummies_from a n) (Queue queue) ≡ (k + (queue - a)) ∷ []
+pub dummy_number : (k a n queue : ℕ) → a ≤ queue → queue < a + n → numbers_from k (dummies_from a n) (Queue queue) ≡ (k + (queue - a)) ∷ []
 dummy_number k a zero queue low high = absurd (omega arith)
 dummy_number k a (suc n) queue low high = ⊎_elim
     (λ e. ap (λ q. numbers_from k (dummies_from a (suc n)) (Queue q)) (sym e)

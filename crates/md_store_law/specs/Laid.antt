@@ -112,9 +112,17 @@ nodes_by shape pairs values =
 abbrev pub bucket_pairs : Shape → Table → (bucket : ℕ) → List (ℕ × ℕ)
 bucket_pairs shape table bucket = filter (λ p. bucket_of shape p.0 == bucket) (fin.entries table)
 
+abbrev pub pairs_at : Shape → State → (map bucket : ℕ) → List (ℕ × ℕ)
+pairs_at shape s map bucket = bucket_pairs shape (map_at s map) bucket
+
 -- the nodes of contents
 abbrev pub laid_nodes : Shape → State → List LaidNode
-laid_nodes shape s = nodes_by shape (λ map bucket. bucket_pairs shape (map_at s map) bucket) (queue_at s)
+laid_nodes shape s = nodes_by shape (pairs_at shape s) (queue_at s)
+
+-- contents have as many maps and queues as a shape
+pub record HasMapsAndQueues (shape : Shape) (s : State) : Type 0 where
+  pub maps : length s.maps ≡ shape.maps
+  pub queues : length s.queues ≡ shape.queues
 
 -- the words after a node was written and named in a word
 abbrev pub appended : Shape → List ℕ → (end node key value : ℕ) → List ℕ

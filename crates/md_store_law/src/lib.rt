@@ -1,6 +1,6 @@
 //! The store as a theory of the machine: the hash tables of all maps together with all queues, over
-//! fields of any shape. `read_off` gives the contents of a field from its words, and `compact` lays them
-//! anew without the nodes that they don't need.
+//! fields of any shape. `lay` lays contents out as the words of a field, `read_off` gives them back
+//! from the words, and `compact` lays them anew without the nodes that they don't need.
 //!
 //! What follows for a program whose transactions leave these certificates, by `all_schedules`:
 //!
@@ -14,6 +14,7 @@
 
 pub use compacting::compact;
 pub use fields::even_fields_are_stores;
+pub use laying::lay;
 pub use reading::read_off;
 pub use sizes::needed;
 pub use theory::StoreTheory;
@@ -21,6 +22,7 @@ pub use theory::StoreTheory;
 mod building;
 mod compacting;
 mod fields;
+mod laying;
 mod living;
 mod reading;
 mod sizes;
