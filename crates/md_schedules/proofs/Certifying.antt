@@ -40,7 +40,7 @@ abbrev by_insert : ℕ → LogicalHeap → LogicalHeap
 by_insert node heap = as_found [] (insert_slot node ∷ []) heap
 
 -- the bucket's word is the next word of no node
-bucket_rooted : (heap : LogicalHeap) → heap.words.shape ≡ small_shape → IsNoUnplacedNext heap bucket
+pub bucket_rooted : (heap : LogicalHeap) → heap.words.shape ≡ small_shape → IsNoUnplacedNext heap bucket
 bucket_rooted heap shape n exists at = absurd (address_differs small_shape (bucket_head 0 1) (node_next n) (omega arith, omega arith)
     (subst (λ (s : Shape). IsNode s n) shape exists) (λ e. cc) (at ∙ ap (λ (s : Shape). address s (node_next n)) shape))
 

@@ -1,4 +1,5 @@
 mod Walking
 mod Certifying
+mod Unlinks
 mod walks
 mod RowsHold

@@ -9,7 +9,9 @@ use Rattle.md_machine.specs.Meaning.{Meaning}
 use Rattle.md_schedules.specs.Field.{small_shape}
 use Rattle.md_schedules.specs.Transactions.{beginning, finds, inserting, inserts, misses}
 use Rattle.md_schedules.specs.Schedules.{HelpedRow, MovedRow, StoppedRow, aborting, completing, finding, helping, losing, missing, moving, noting, overtaking, stopping, winning}
+use Rattle.md_schedules.specs.Unlinking.{UnlinkingRow, finding_first, giving_up, removing_first, unlinking, unlinking_first}
 use Rattle.md_schedules.specs.Clearing.{ClearingRow, clearing, installed, installing}
+use Rattle.md_schedules.proofs.Unlinks.{two_in_no_heap}
 use Rattle.md_schedules.proofs.Walking.{Walks, walk_on, walk_runs}
 use Rattle.md_schedules.proofs.walks.Beginning.{begins, m0, m5}
 use Rattle.md_schedules.proofs.walks.Inserting.{inserts_next, m13}
@@ -22,6 +24,10 @@ use Rattle.md_schedules.proofs.walks.Noting.{notes, r8}
 use Rattle.md_schedules.proofs.walks.Overtaking.{overtakes, r20}
 use Rattle.md_schedules.proofs.walks.Winning.{wins}
 use Rattle.md_schedules.proofs.walks.Losing.{loses}
+use Rattle.md_schedules.proofs.walks.FindingFirst.{finds_it, u0, u11}
+use Rattle.md_schedules.proofs.walks.RemovingFirst.{removes_it, u27}
+use Rattle.md_schedules.proofs.walks.UnlinkingFirst.{unlinks_it}
+use Rattle.md_schedules.proofs.walks.GivingUp.{gives_up}
 
 module _ (M : Meaning) where
   pub clearing_row : ClearingRow M
@@ -65,3 +71,18 @@ module _ (M : Meaning) where
   unfolding value_of count_of is_even counted_word spot_value spot_of
       status_word status_of reads_of serial_of words_of node_count desc_count address place_at
   moved_row late mis = record { runs = walk_runs M m0 moving (overtaken late mis); word = refl; status = refl; fates = refl; sound = refl }
+
+  pub unlinked_row : UnlinkingRow M
+  unfolding value_of count_of is_even counted_word spot_value spot_of
+      status_word status_of reads_of serial_of words_of node_count desc_count address place_at
+  unlinked_row fin rem mis unl = record {
+    runs = walk_runs M u0 unlinking
+        (walk_on M u0 finding_first (removing_first ++ unlinking_first ++ giving_up) (finds_it M fin)
+        (walk_on M u11 removing_first (unlinking_first ++ giving_up) (removes_it M rem)
+        (walk_on M u27 unlinking_first giving_up (unlinks_it M mis unl) (gives_up M fin mis unl))));
+    fates = refl;
+    sound = refl;
+    word = refl;
+    marked = refl;
+    one_heap = two_in_no_heap;
+  }

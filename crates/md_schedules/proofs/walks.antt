@@ -9,3 +9,7 @@ pub mod Overtaking
 pub mod Winning
 pub mod Losing
 pub mod Clearing
+pub mod FindingFirst
+pub mod RemovingFirst
+pub mod UnlinkingFirst
+pub mod GivingUp

@@ -3,3 +3,4 @@ pub mod Field
 pub mod Clearing
 pub mod Transactions
 pub mod Schedules
+pub mod Unlinking

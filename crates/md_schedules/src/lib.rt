@@ -2,6 +2,6 @@
 //! Nothing of it runs.
 #![tactic(auto)]
 
-pub use rows::{clearing_row, worked_rows};
+pub use rows::{clearing_row, unlinking_row, worked_rows};
 
 mod rows;

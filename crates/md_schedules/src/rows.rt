@@ -2,6 +2,7 @@
 
 ghost use Rattle.md_schedules.specs.Clearing.{ClearingRow};
 ghost use Rattle.md_schedules.specs.Schedules.{WorkedRows};
+ghost use Rattle.md_schedules.specs.Unlinking.{UnlinkingRow};
 
 use md_machine::Theory;
 
@@ -15,4 +16,11 @@ pub fn clearing_row<T: Theory>()
 /// aborted.
 pub fn worked_rows<T: Theory>()
     ensures { WorkedRows T.meaning }
+{}
+
+/// A key is found, removed by another transaction, and its node unlinked by the one that found it:
+/// that one is certified, becomes ready unsound, and is aborted. In one heap its certificates don't
+/// stand.
+pub fn unlinking_row<T: Theory>()
+    ensures { UnlinkingRow T.meaning }
 {}
