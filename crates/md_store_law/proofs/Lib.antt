@@ -2,7 +2,9 @@ pub mod Sums
 pub mod States
 pub mod Walking
 pub mod Filling
+pub mod RowPlaces
 pub mod RowHolds
+pub mod UsedRowHolds
 pub mod EvenFields
 pub mod Numbers
 pub mod Appending
@@ -19,3 +21,4 @@ pub mod Opening
 pub mod Copying
 pub mod Buckets
 pub mod LaidContents
+pub mod Bounds

@@ -1,16 +1,14 @@
 -- The small field is a store.
-use Rattle.std.proofs.Common.{◌≡◌, ◌≢◌, ◌⊎◌, ℕ, zero, suc, ◌+◌, ◌-◌, ◌*◌, ◌<◌, ◌≤◌, cond, true, false, List, slice_index, length, get_or, set, replicate, eqb, refl, sym, ap, ◌∙◌, subst, inl, inr, ⊎_elim, arith, Some, None, lit≤}
-use Rattle.std.specs.Prelude.{IsTrue}
+use Rattle.std.proofs.Common.{◌≡◌, ◌≢◌, ◌⊎◌, ℕ, suc, ◌+◌, ◌-◌, ◌*◌, ◌<◌, ◌≤◌, true, false, List, slice_index, length, set, replicate, eqb, refl, sym, ap, ◌∙◌, subst, inl, inr, ⊎_elim, arith, Some, None, lit≤}
 use Rattle.std.specs.List.{Contains}
-use Rattle.std.proofs.lemmas.Bool.{cases_eq, cond-true, cond-false, eq-eqb, ne_eqb, false≢true}
-use Rattle.std.proofs.lemmas.List.{get_or-set_same, get_or-set_other, length-set, length-replicate}
+use Rattle.std.proofs.lemmas.Bool.{cases_eq, cond-true, cond-false, eq-eqb, ne_eqb}
+use Rattle.std.proofs.lemmas.List.{length-set, length-replicate}
 use Rattle.md_words.specs.declared.shape.Shape.{Shape}
 use Rattle.md_words.specs.Content.{value_of, count_of, is_even}
 use Rattle.md_words.specs.Link.{linked_node, is_marked, link_value}
-use Rattle.md_words.specs.Place.{Place, is_counted, node_key, node_value}
-use Rattle.md_words.specs.PlaceAt.{place_at, IsCounted}
-use Rattle.md_words.specs.Layout.{HasNumbers, address, words_of, node_count, bucket_of, first_node, IsNode, Exists}
-use Rattle.md_words.proofs.Places.{place_at-address}
+use Rattle.md_words.specs.Place.{node_key, node_value}
+use Rattle.md_words.specs.PlaceAt.{IsCounted}
+use Rattle.md_words.specs.Layout.{HasNumbers, words_of, bucket_of}
 use Rattle.md_machine.specs.declared.node.Structure.{Structure}
 use Rattle.md_machine.specs.declared.node.Structure.TheVariants.{Bucket, Queue}
 use Rattle.md_machine.specs.LogicalHeap.{LogicalHeap, next_of}
@@ -20,6 +18,8 @@ use Rattle.md_list_law.proofs.Walks.{walk_first}
 use Rattle.md_queue_law.specs.QueueShape.{link, IsOf, head_of, tail_of, StandInLine, QueueShape}
 use Rattle.md_store_law.specs.Store.{IsStore}
 use Rattle.md_store_law.specs.Field.{logical_words, IsStoreField}
+use Rattle.md_store_law.proofs.RowPlaces.{after_set, all_zero, nodes_are, node_is, key_word, value_word, no_count}
+use Rattle.md_store_law.proofs.RowPlaces as places
 use Rattle.md_store_law.specs.Row.{row_word, row_words, row_placed}
 
 -- a placed node is one of the three
@@ -54,18 +54,6 @@ row_zero word a b c d e f g i =
     ∙ cond-false (eqb word 69) _ _ (ne_eqb word 69 d) ∙ cond-false (eqb word 70) _ _ (ne_eqb word 70 e) ∙ cond-false (eqb word 71) _ _ (ne_eqb word 71 f)
     ∙ cond-false (eqb word 73) _ _ (ne_eqb word 73 g) ∙ cond-false (eqb word 74) _ _ (ne_eqb word 74 i)
 
--- what a list holds after a write
-written : (xs : List ℕ) (place x word was : ℕ) → place < length xs → get_or xs word 0 ≡ was → get_or (set xs place x) word 0 ≡ cond (eqb word place) x was
-written xs place x word was below e = ⊎_elim
-    (λ same. ap (λ w. get_or (set xs place x) w 0) same ∙ get_or-set_same xs place x 0 below ∙ sym (cond-true (eqb word place) x was (eq-eqb word place same)))
-    (λ other. get_or-set_other xs place word x 0 other ∙ e ∙ sym (cond-false (eqb word place) x was (ne_eqb word place other)))
-    (cases_eq word place)
-
-nothing : (size word : ℕ) → get_or {A = ℕ} (replicate size 0) word 0 ≡ 0
-nothing zero word = refl
-nothing (suc size) zero = refl
-nothing (suc size) (suc word) = nothing size word
-
 pub row_length : (size : ℕ) → length (row_words size) ≡ size
 row_length size = simp (length-set, length-replicate)
 
@@ -88,35 +76,19 @@ row_written size fits word =
     let l6 : length f ≡ size = simp (length-set, length-replicate) in
     let g = set f 65 8589934592 in
     let l7 : length g ≡ size = simp (length-set, length-replicate) in
-    written g 6 17179869184 word _ (omega arith) (written f 65 8589934592 word _ (omega arith) (written e 66 25769803776 word _ (omega arith)
-    (written d 69 25769803776 word _ (omega arith) (written c 70 5 word _ (omega arith) (written b 71 6 word _ (omega arith)
-    (written a 73 1 word _ (omega arith) (written z 74 9 word 0 (omega arith) (nothing size word))))))))
-
-pub words_are : (shape : Shape) → HasNumbers shape 2 16 3 4 1 64 1 → words_of shape ≡ 1454
-unfolding words_of
-words_are shape n = rw (n.0, n.1, n.2, n.4, n.5, n.6) refl
+    after_set g 6 17179869184 word _ (omega arith) (after_set f 65 8589934592 word _ (omega arith) (after_set e 66 25769803776 word _ (omega arith)
+    (after_set d 69 25769803776 word _ (omega arith) (after_set c 70 5 word _ (omega arith) (after_set b 71 6 word _ (omega arith)
+    (after_set a 73 1 word _ (omega arith) (after_set z 74 9 word 0 (omega arith) (all_zero size word))))))))
 
 module _ (shape : Shape) (n : HasNumbers shape 2 16 3 4 1 64 1) (words : List ℕ) (at : (word : ℕ) → slice_index words word ≡ row_word word) where
   abbrev h : LogicalHeap
   h = record { words = logical_words shape words; placed = row_placed }
 
-  first_is : first_node shape ≡ 67
-  first_is = rw (n.4, n.5, n.6) refl
-
-  nodes_are : node_count shape ≡ 35
-  unfolding node_count
-  nodes_are = rw (n.0, n.1, n.2) refl
-
-  node_is : (node : ℕ) → 1 ≤ node → node ≤ 35 → IsNode shape node
-  node_is node low high = (low, omega (arith, nodes_are))
-
-  key_at : (node word : ℕ) → 67 + 3 * (node - 1) ≡ word → slice_index words (address shape (node_key node)) ≡ row_word word
-  unfolding address
-  key_at node word e = ap (λ w. slice_index words w) (ap (λ f. f + 3 * (node - 1)) first_is ∙ e) ∙ at word
+  key_at : (node word : ℕ) → 67 + 3 * (node - 1) ≡ word → h.words.key_of node ≡ row_word word
+  key_at = places.key_at shape n words row_word at
 
   next_at : (node word : ℕ) → 67 + 3 * (node - 1) + 2 ≡ word → next_of h.words node ≡ value_of (row_word word)
-  unfolding address
-  next_at node word e = ap value_of (ap (λ w. slice_index words w) (ap (λ f. f + 3 * (node - 1) + 2) first_is ∙ e) ∙ at word)
+  next_at = places.next_at shape n words row_word at
 
   -- the values that stand in the words
   values_are : (value_of 0 ≡ 0) × (value_of 17179869184 ≡ 4) × (value_of 8589934592 ≡ 2) × (value_of 25769803776 ≡ 6)
@@ -129,8 +101,7 @@ module _ (shape : Shape) (n : HasNumbers shape 2 16 3 4 1 64 1) (words : List �
 
   -- bucket 5 names node 2, and the others none
   head_at : (bucket : ℕ) → bucket < 64 → h.words.value (head_word shape 0 bucket) ≡ value_of (row_word (1 + bucket))
-  unfolding address
-  head_at bucket below = ap value_of (ap (λ w. slice_index words w) (omega arith) ∙ at (1 + bucket))
+  head_at = places.head_at shape n words row_word at
 
   other_head : (bucket : ℕ) → bucket < 64 → bucket ≢ 5 → row_word (1 + bucket) ≡ 0
   other_head bucket below ne =
@@ -161,7 +132,7 @@ module _ (shape : Shape) (n : HasNumbers shape 2 16 3 4 1 64 1) (words : List �
   unfolding bucket_of
   bucket_is bucket below = record {
     list = record {
-      nodes = λ node i. let is = in_bucket 0 bucket node i in let e = is.0 in node_is node (omega arith) (omega arith);
+      nodes = λ node i. let is = in_bucket 0 bucket node i in let e = is.0 in node_is shape n node (omega arith) (omega arith);
       unmarked = ⊎_elim
           (λ five. ap is_marked (head_at bucket below ∙ ap (λ b. value_of (row_word (1 + b))) five ∙ values_are.1) ∙ links_are.5)
           (λ ne. ap is_marked (head_at bucket below ∙ ap value_of (other_head bucket below ne) ∙ values_are.0) ∙ links_are.4)
@@ -175,7 +146,7 @@ module _ (shape : Shape) (n : HasNumbers shape 2 16 3 4 1 64 1) (words : List �
       reached = λ node i plain. let is = in_bucket 0 bucket node i in let e = is.0 in
           let named : linked_node (h.words.value (head_word shape 0 bucket)) ≡ node =
           ap linked_node (head_at bucket below ∙ ap (λ b. value_of (row_word (1 + b))) is.2 ∙ values_are.1) ∙ links_are.3 ∙ sym is.0 in
-          subst (λ most. Contains (walk h.words most (h.words.value (head_word shape 0 bucket))) node) (sym nodes_are)
+          subst (λ most. Contains (walk h.words most (h.words.value (head_word shape 0 bucket))) node) (sym (nodes_are shape n))
           (walk_first h.words 34 (h.words.value (head_word shape 0 bucket)) node named (omega arith));
     };
     keys = λ node i. let is = in_bucket 0 bucket node i in
@@ -190,7 +161,7 @@ module _ (shape : Shape) (n : HasNumbers shape 2 16 3 4 1 64 1) (words : List �
 
   line_is : StandInLine h 0 2 (λ rank. 1 + 2 * rank)
   line_is = record {
-    exist = λ node i. ⊎_elim (λ e. node_is node (omega arith) (omega arith)) (λ e. node_is node (omega arith) (omega arith)) (in_queue 0 node i).0;
+    exist = λ node i. ⊎_elim (λ e. node_is shape n node (omega arith) (omega arith)) (λ e. node_is shape n node (omega arith) (omega arith)) (in_queue 0 node i).0;
     ranked = λ node i. ⊎_elim
         (λ e. let k : h.words.key_of node ≡ 0 = ap h.words.key_of e ∙ key_1 in (omega (arith, k), omega (arith, k, e)))
         (λ e. let k : h.words.key_of node ≡ 1 = ap h.words.key_of e ∙ key_3 in (omega (arith, k), omega (arith, k, e)))
@@ -205,12 +176,10 @@ module _ (shape : Shape) (n : HasNumbers shape 2 16 3 4 1 64 1) (words : List �
   }
 
   head_is : head_of h.words 0 ≡ link 1
-  unfolding address
-  head_is = ap (λ w. value_of (slice_index words w)) (rw (n.4, n.5) refl) ∙ ap value_of (at 65) ∙ values_are.2 ∙ sym links_are.0
+  head_is = places.queue_head_at shape n words row_word at ∙ values_are.2 ∙ sym links_are.0
 
   tail_is : tail_of h.words 0 ≡ link 3
-  unfolding address
-  tail_is = ap (λ w. value_of (slice_index words w)) (rw (n.4, n.5) refl) ∙ ap value_of (at 66) ∙ values_are.3 ∙ sym links_are.1
+  tail_is = places.queue_tail_at shape n words row_word at ∙ values_are.3 ∙ sym links_are.1
 
   queue_is : QueueShape h 0
   queue_is = record { count = 2; node_of = λ rank. 1 + 2 * rank; line = line_is; head = (1, refl, head_is); tail = (3, refl, tail_is) }
@@ -226,19 +195,6 @@ module _ (shape : Shape) (n : HasNumbers shape 2 16 3 4 1 64 1) (words : List �
         (placed_cases node s e);
   }
 
-  -- the words of keys and values hold no counts
-  no_count : (p : Place) (word : ℕ) → Exists shape p → is_counted p ≡ false → address shape p ≡ word → IsCounted shape word → ⊥
-  no_count p word is un e counted = false≢true (sym un ∙ ap is_counted (sym (place_at-address shape p is))
-      ∙ subst (λ w. IsTrue (is_counted (place_at shape w))) (sym e) counted.1)
-
-  key_word : (node word : ℕ) → 67 + 3 * (node - 1) ≡ word → address shape (node_key node) ≡ word
-  unfolding address
-  key_word node word e = ap (λ f. f + 3 * (node - 1)) first_is ∙ e
-
-  value_word : (node word : ℕ) → 67 + 3 * (node - 1) + 1 ≡ word → address shape (node_value node) ≡ word
-  unfolding address
-  value_word node word e = ap (λ f. f + 3 * (node - 1) + 1) first_is ∙ e
-
   evens : (is_even (count_of 17179869184) ≡ true) × (is_even (count_of 8589934592) ≡ true)
       × (is_even (count_of 25769803776) ≡ true) × (is_even (count_of 0) ≡ true)
   unfolding is_even count_of
@@ -251,10 +207,10 @@ module _ (shape : Shape) (n : HasNumbers shape 2 16 3 4 1 64 1) (words : List �
       ⊎_elim (λ b. ap (λ w. is_even (counts w)) b ∙ evens.1) (λ b.
       ⊎_elim (λ c. ap (λ w. is_even (counts w)) c ∙ evens.2) (λ c.
       ⊎_elim (λ d. ap (λ w. is_even (counts w)) d ∙ evens.2) (λ d.
-      ⊎_elim (λ e. absurd (no_count (node_key 2) word (node_is 2 (lit≤ tt) (lit≤ tt)) refl (key_word 2 70 refl ∙ sym e) counted)) (λ e.
-      ⊎_elim (λ f. absurd (no_count (node_value 2) word (node_is 2 (lit≤ tt) (lit≤ tt)) refl (value_word 2 71 refl ∙ sym f) counted)) (λ f.
-      ⊎_elim (λ g. absurd (no_count (node_key 3) word (node_is 3 (lit≤ tt) (lit≤ tt)) refl (key_word 3 73 refl ∙ sym g) counted)) (λ g.
-      ⊎_elim (λ i. absurd (no_count (node_value 3) word (node_is 3 (lit≤ tt) (lit≤ tt)) refl (value_word 3 74 refl ∙ sym i) counted)) (λ i.
+      ⊎_elim (λ e. absurd (no_count shape n (node_key 2) word (node_is shape n 2 (lit≤ tt) (lit≤ tt)) refl (key_word shape n 2 70 refl ∙ sym e) counted)) (λ e.
+      ⊎_elim (λ f. absurd (no_count shape n (node_value 2) word (node_is shape n 2 (lit≤ tt) (lit≤ tt)) refl (value_word shape n 2 71 refl ∙ sym f) counted)) (λ f.
+      ⊎_elim (λ g. absurd (no_count shape n (node_key 3) word (node_is shape n 3 (lit≤ tt) (lit≤ tt)) refl (key_word shape n 3 73 refl ∙ sym g) counted)) (λ g.
+      ⊎_elim (λ i. absurd (no_count shape n (node_value 3) word (node_is shape n 3 (lit≤ tt) (lit≤ tt)) refl (value_word shape n 3 74 refl ∙ sym i) counted)) (λ i.
       ap (λ w. is_even (count_of w)) (row_zero word a b c d e f g i) ∙ evens.3)
       (cases_eq word 74)) (cases_eq word 73)) (cases_eq word 71)) (cases_eq word 70))
       (cases_eq word 69)) (cases_eq word 66)) (cases_eq word 65)) (cases_eq word 6)

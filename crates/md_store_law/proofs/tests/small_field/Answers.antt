@@ -2,7 +2,8 @@ use Rattle.std.proofs.Common.{◌≡◌, sym, ap, ◌∙◌, arith, subst}
 use Rattle.md_words.specs.Layout.{words_of}
 use Rattle.md_store_law.specs.Field.{IsStoreField}
 use Rattle.md_store_law.specs.Row.{row_words}
-use Rattle.md_store_law.proofs.RowHolds.{row_is, row_written, row_length, words_are}
+use Rattle.md_store_law.proofs.RowHolds.{row_is, row_written, row_length}
+use Rattle.md_store_law.proofs.RowPlaces.{words_are}
 use Rattle.md_store_law.proofs.tests.small_field.Goals as goal
 
 pub row_words-requires : goal.row_words-requires
