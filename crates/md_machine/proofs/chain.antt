@@ -7,3 +7,4 @@ pub mod Ready
 pub mod Sound
 pub mod SameNodes
 pub mod EntryFacts
+pub mod FactsAlong
