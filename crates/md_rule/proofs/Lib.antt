@@ -3,3 +3,4 @@ pub mod LaneLists
 pub mod Sharing
 pub mod Moves
 pub mod Events
+pub mod Closes

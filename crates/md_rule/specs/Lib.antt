@@ -6,3 +6,4 @@ pub mod InHand
 pub mod LaneSet
 pub mod Lanes
 pub mod Shares
+pub mod Closing

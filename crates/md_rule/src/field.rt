@@ -66,4 +66,13 @@ impl<T: Theory> Field<T> {
     {
         &self.shape
     }
+
+    pub(crate) fn into_table(self) -> Table<(), PassView, Key, Ruled<T>, Global>
+        ensures table { (result.shared.table_id ≡ self.table) × (result.shared.table_id.slots ≡ 0) }
+        ensures origin { record { shape = result.shared.key.shape; words = result.shared.key.words.value.items }
+            ≡ self.origin }
+    {
+        let Field { table, shape: _ } = self;
+        table
+    }
 }

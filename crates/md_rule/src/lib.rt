@@ -4,11 +4,13 @@
 //! atomic operation and one event of the machine, and its contract says which.
 #![tactic(auto)]
 
+pub use close::Closed;
 pub use field::Field;
 pub use pass::Pass;
 pub use rule::{Halving, Joining, Key, Ruled, Telling};
 pub use shares::Share;
 
+mod close;
 mod field;
 mod lanes;
 mod marks;

@@ -1,0 +1,25 @@
+use Rattle.std.proofs.Common.{◌≡◌, ◌<◌, length, ap, sym, subst, ◌∙◌}
+use Rattle.atomic_table.specs.Table.{Final, Seen}
+use Rattle.md_rule.specs.Closing.{IsLast, IsReplayed}
+use Rattle.md_rule.specs.Views.{Origin}
+use Rattle.md_machine.specs.declared.pass.PassView.{PassView}
+use Rattle.md_rule.proofs.Closes.{last_of, replayed_of}
+use Rattle.md_rule.proofs.field.Field.close.Goals as goal
+
+last : goal.returns-clause-last
+last g c =
+    let M = g.T.Theory.meaning in
+    let parts = c.into_parts-seat.ensures in
+    let seat = c.into_parts-seat.result.0 in
+    let me = ap (λ me. me.0) parts.seat.1 in
+    let live : 0 < length c.args.pass.view.lanes = rw (← parts.lanes.0) parts.lanes.1.live in
+    let l = last_of M _ seat.id seat.me.0 _ _ c.close_with-closed.ensures.values.2 (rw me live) in
+    subst (λ (o : Origin). IsLast M o c.args.pass.view c.in_ok-words.field-0.items) c.into_table-table.ensures.origin
+        (subst (λ (v : PassView). IsLast M (record { shape = c.into_table-table.result.shared.key.shape; words = c.into_table-table.result.shared.key.words.value.items }) v c.in_ok-words.field-0.items) me
+        (rw c.in_ok-words.ensures l))
+
+pub returns-clause-last : goal.returns-clause-last
+returns-clause-last g c = last g c
+
+pub returns-clause-replayed : goal.returns-clause-replayed
+returns-clause-replayed g c = replayed_of g.T.Theory.meaning c.args.self.origin g.T.Theory.lawful c.args.pass.view _ c.requires.may (last g c)

@@ -1,0 +1,60 @@
+//! The end of a field.
+
+ghost use Rattle.std.specs.Prelude.{◌≡◌, IfOk};
+ghost use Rattle.std.specs.Mem.Slots.{slots_items, slots_len, IsFull};
+ghost use Rattle.md_rule.specs.Closing.{IsLast, IsReplayed, MayClose};
+ghost use Rattle.md_rule.specs.Views.{IsOf};
+
+use crate::field::Field;
+use crate::pass::Pass;
+use atomic_table::Closed as TableClosed;
+use md_history::Front;
+use md_machine::Theory;
+use std::alloc::{AllocError, Global};
+
+/// What a field leaves: its words, and the last pass as it stood.
+#[derive(Drop)]
+pub struct Closed<T: Theory> {
+    pub words: Vec<u64>,
+    pub front: Front<Pass<T>>,
+}
+
+impl<T: Theory> Field<T> {
+    /// Ends the field, and gives its words. The pass holds all lanes and knows every fate, and no
+    /// descriptor stands in a word. `AllocError` ends the field and the pass too.
+    pub fn close(self, alloc: Global, pass: Pass<T>) -> Result<Closed<T>, AllocError>
+        requires field { IsOf pass self }
+        requires may { MayClose T.meaning self.origin pass.view }
+        ensures last { IfOk result (λ c. IsLast T.meaning self.origin pass.view c.words.items) }
+        ensures replayed { IfOk result (λ c.
+            IsReplayed T.meaning self.origin pass.view c.words.items) }
+        ensures front { IfOk result (λ c. c.front ≡ pass) }
+    {
+        let front = Front::of(&pass);
+        let (seat, _, _) = pass.into_parts();
+        let table = self.into_table();
+        let count = table.word_count();
+        let closed = table.close_with(seat);
+        let words = gather(alloc, &closed, count);
+        closed.free();
+        Ok(Closed {
+            words: words?,
+            front,
+        })
+    }
+}
+
+fn gather(
+    alloc: Global,
+    closed: &TableClosed<(), Global>,
+    count: usize,
+) -> Result<Vec<u64>, AllocError>
+    requires { IsFull closed.now.words × (slots_len closed.now.words ≡ count) }
+    ensures { IfOk result (λ v. v.items ≡ slots_items closed.now.words) }
+{
+    let mut words = Vec::with_capacity(alloc, count)?;
+    for i in 0..count {
+        words.push(closed.word(i))?;
+    }
+    Ok(words)
+}
