@@ -217,8 +217,8 @@ fn done(out: &mut Vec<u8>, count: u32) -> Result<(), AllocError>
 }
 
 /// The text of a report: each line's reply, the book that the contents stand for, and the number of
-/// lines. A line without a reply has no text. The contents have the maps of a book; where they stand
-/// for none, the text has what the maps have at each level and account.
+/// lines. A line without a reply has no text. The contents have the maps of a book; where they
+/// stand for none, the text has what the maps have at each level and account.
 pub fn report(
     alloc: Global,
     of: &Scripts,
