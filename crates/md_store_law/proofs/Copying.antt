@@ -21,7 +21,7 @@ use Rattle.md_store_law.proofs.Growing.{length-value_nodes}
 use Rattle.md_store_law.proofs.PairCounts.{length-pieces, len-map, keys_rise, keys_home}
 use Rattle.md_store_law.proofs.Stores.{StandFor, AreSorted, pairs_laid, values_laid}
 use Rattle.md_store_law.proofs.Entries.{nodes_stand}
-use Rattle.md_store_law.proofs.Opening.{laid_opens}
+use Rattle.md_store_law.proofs.Opening.{store_field, laid_opens}
 
 pub living_count : (shape : Shape) (words : List ℕ) → IsStoreField shape words → length (living_nodes shape words) ≡ node_number (contents_of shape words)
 living_count shape words f =
@@ -118,5 +118,6 @@ module _ (shape fresh : Shape) (words row : List ℕ) (f : IsStoreField shape wo
   compacted = record {
     numbers = is;
     laid = laid;
+    store = store_field fresh row (nodes_by fresh pairs values) pairs values anew for sorted;
     opens = laid_opens fresh row (nodes_by fresh pairs values) pairs values anew for sorted (contents_of shape words) same_state;
   }

@@ -1,4 +1,5 @@
--- How far a field is laid from the pairs of its buckets and the values of its queues: by map, then bucket, and then by queue.
+-- How far a field is laid from the pairs of its buckets and the values of its queues: by map, then bucket, and then by
+-- queue.
 use Rattle.std.specs.Prelude.{◌≡◌, ◌+◌, ◌++◌, ℕ, List, length}
 use Rattle.std.specs.List.{flat_map, range_with_len}
 use Rattle.md_words.specs.declared.shape.Shape.{Shape}
@@ -10,7 +11,8 @@ maps_below shape pairs map = dummies shape.queues ++ nodes_of_maps shape pairs m
 
 -- with those of the next map's buckets below a number
 abbrev pub buckets_below : Shape → (pairs : ℕ → ℕ → List (ℕ × ℕ)) → (map bucket : ℕ) → List LaidNode
-buckets_below shape pairs map bucket = maps_below shape pairs map ++ flat_map (λ b. pair_nodes map b (pairs map b)) (range_with_len 0 bucket)
+buckets_below shape pairs map bucket =
+    maps_below shape pairs map ++ flat_map (λ b. pair_nodes map b (pairs map b)) (range_with_len 0 bucket)
 
 -- the nodes of all maps, with those of the queues below a number
 abbrev pub queues_below : Shape → (pairs : ℕ → ℕ → List (ℕ × ℕ)) → (values : ℕ → List ℕ) → (queue : ℕ) → List LaidNode

@@ -1,6 +1,6 @@
--- A small field as use may leave it, of the same shape as the row that is laid. Its map has key 6 with 50 and key 134 with
--- 54. Between them key 70 was removed twice: one node of it is marked and still linked, the other is marked and unlinked. Its
--- queue has 16 and 18: the head has passed two nodes, and the tail names the last node but one.
+-- A small field as use may leave it, of the same shape as the row that is laid. Its map has key 6 with 50 and key 134
+-- with 54. Between them key 70 was removed twice: one node of it is marked and still linked, the other is marked and
+-- unlinked. Its queue has 16 and 18: the head has passed two nodes, and the tail names the last node but one.
 use Rattle.std.specs.Prelude.{◌==◌, ◌&&◌, Bool, true, ◌+◌, ◌*◌, ◌^◌, ℕ, List, [], ◌∷◌, nat_lt, replicate, slice_set, Option, Some, None, if◌then◌else◌}
 use Rattle.md_machine.specs.declared.node.Structure.{Structure}
 use Rattle.md_machine.specs.declared.node.Structure.TheVariants.{Bucket, Queue}
@@ -9,8 +9,9 @@ use Rattle.md_machine.specs.declared.node.Structure.TheVariants.{Bucket, Queue}
 abbrev holding : (value count : ℕ) → ℕ
 holding value count = value * 2 ^ 32 + count
 
--- Words, each with what is written there. The head of bucket 6 names node 6. Node 6 names node 7, nodes 7 and 9 name node
--- 8, with marks, and node 8 names none. The queue's head names node 3 and its tail node 4, and nodes 1 to 5 are its line.
+-- Words, each with what is written there. The head of bucket 6 names node 6. Node 6 names node 7, nodes 7 and 9 name
+-- node 8, with marks, and node 8 names none. The queue's head names node 3 and its tail node 4, and nodes 1 to 5 are its
+-- line.
 abbrev pub used_row : List (ℕ × ℕ)
 used_row =
     (7, holding 12 2) ∷ (65, holding 6 4) ∷ (66, holding 8 6) ∷ (69, holding 4 2)
@@ -46,4 +47,6 @@ used_words size = written used_row (replicate size 0)
 -- where each node is placed
 abbrev pub used_placed : ℕ → Option Structure
 used_placed node =
-    if node == 0 then None else (if nat_lt node 6 then Some (Queue 0) else (if nat_lt node 10 then Some (Bucket 0 6) else None))
+    if node == 0 then None
+    else (if nat_lt node 6 then Some (Queue 0)
+    else (if nat_lt node 10 then Some (Bucket 0 6) else None))

@@ -1,13 +1,14 @@
 //! A field laid anew without the nodes that its contents don't need.
 
-ghost use Rattle.std.specs.Prelude.{◌<◌, ◌≤◌, ◌+◌, length, IfOk, OnOk};
+ghost use Rattle.std.specs.Prelude.{◌<◌, ◌+◌, IfOk, OnOk};
 ghost use Rattle.md_store_law.specs.Field.{IsStoreField};
 ghost use Rattle.md_store_law.specs.Laid.{IsLaid, dummies};
 ghost use Rattle.md_store_law.specs.Needed.{node_number};
-ghost use Rattle.md_store_law.specs.Below.{LaidUpTo, maps_below};
-ghost use Rattle.md_store_law.specs.Compacted.{MayHaveBase, IsWithBase, IsCompacted, contents_of, pairs_in, living_nodes};
+ghost use Rattle.md_store_law.specs.Below.{LaidUpTo};
+ghost use Rattle.md_store_law.specs.Compacted.{MayHaveBase, IsWithBase, IsCompacted, contents_of};
+ghost use Rattle.md_store_law.specs.Compacted.{HasRoomFor, living_nodes, copied_maps};
 
-use crate::living::living_nodes;
+use crate::counting::count_living_nodes;
 use crate::{building, walks};
 use md_words::Shape;
 use std::alloc::{AllocError, Global};
@@ -29,7 +30,7 @@ pub fn compact(
     requires base { MayHaveBase shape.now (node_number (contents_of shape.now words.items)) }
     ensures { IfOk result (λ r. IsCompacted shape.now words.items r.0 r.1.items) }
 {
-    let base = living_nodes(alloc, shape, &words)?;
+    let base = count_living_nodes(alloc, shape, &words)?;
     let fresh = with_base(shape, base);
     let mut row = building::empty_field(alloc, &fresh)?;
     copy_contents(alloc, &mut row, &fresh, shape, &words)?;
@@ -60,9 +61,7 @@ fn copy_contents(
     shape: &Shape,
     words: &[u64],
 ) -> Result<(), AllocError>
-    requires store { IsStoreField shape.now words.now }
-    requires shape { IsWithBase shape.now fresh.now.base fresh.now }
-    requires room { length (living_nodes shape.now words.now) ≤ fresh.now.base }
+    requires room { HasRoomFor fresh.now shape.now words.now }
     requires laid { IsLaid fresh.now row.old (dummies shape.now.queues) }
     ensures { OnOk result (IsLaid fresh.now row.new (living_nodes shape.now words.now)) }
 {
@@ -83,13 +82,11 @@ fn copy_map(
     map: u32,
     first: u32,
 ) -> Result<u32, AllocError>
-    requires store { IsStoreField shape.now words.now }
-    requires shape { IsWithBase shape.now fresh.now.base fresh.now }
-    requires room { length (living_nodes shape.now words.now) ≤ fresh.now.base }
+    requires room { HasRoomFor fresh.now shape.now words.now }
     requires map { map < shape.now.maps }
-    requires laid { LaidUpTo fresh.now row.old (maps_below shape.now (pairs_in shape.now words.now) map) first }
-    ensures { IfOk result
-        (λ next. LaidUpTo fresh.now row.new (maps_below shape.now (pairs_in shape.now words.now) (map + 1)) next) }
+    requires laid { LaidUpTo fresh.now row.old (copied_maps shape.now words.now map) first }
+    ensures { IfOk result (λ next.
+        LaidUpTo fresh.now row.new (copied_maps shape.now words.now (map + 1)) next) }
 {
     let mut next = first;
     let mut pairs = Vec::new(alloc);
@@ -110,10 +107,9 @@ fn copy_queues(
     words: &[u64],
     first: u32,
 ) -> Result<(), AllocError>
-    requires store { IsStoreField shape.now words.now }
-    requires shape { IsWithBase shape.now fresh.now.base fresh.now }
-    requires room { length (living_nodes shape.now words.now) ≤ fresh.now.base }
-    requires laid { LaidUpTo fresh.now row.old (maps_below shape.now (pairs_in shape.now words.now) shape.now.maps) first }
+    requires room { HasRoomFor fresh.now shape.now words.now }
+    requires laid { LaidUpTo fresh.now row.old
+        (copied_maps shape.now words.now shape.now.maps) first }
     ensures { OnOk result (IsLaid fresh.now row.new (living_nodes shape.now words.now)) }
 {
     let mut next = first;

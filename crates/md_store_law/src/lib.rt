@@ -21,9 +21,9 @@ pub use theory::StoreTheory;
 
 mod building;
 mod compacting;
+mod counting;
 mod fields;
 mod laying;
-mod living;
 mod reading;
 mod sizes;
 #[cfg(test)]

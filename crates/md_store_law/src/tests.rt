@@ -180,5 +180,8 @@ fn a_used_field_is_compacted(rt: HostRuntime) -> Result<(), Fail> {
         (80, 18),
     ];
     assert_eq!(rt; row, written(rt.alloc(), 1460, &expected)?);
+    let contents = read_off(rt.alloc(), &fresh, &row)?;
+    assert_eq!(rt; needed(&contents), 5);
+    assert_eq!(rt; contents.get(0, 134), Some(54));
     Ok(())
 }

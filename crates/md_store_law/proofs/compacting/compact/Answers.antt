@@ -1,14 +1,14 @@
-use Rattle.std.proofs.Common.{◌≡◌, ℕ, ◌<◌, ◌^◌, List, length, refl, sym, ap, ◌∙◌, subst, arith}
+use Rattle.std.proofs.Common.{◌≡◌, ℕ, ◌<◌, ◌^◌, List, refl, sym, ap, ◌∙◌, subst, arith}
 use Rattle.std.proofs.lemmas.List.{with_items_is}
 use Rattle.std.proofs.lemmas.List.FromFn.{length-map-range_with_len}
 use Rattle.md_store_law.specs.Laid.{IsLaid, dummies}
 use Rattle.md_store_law.specs.Needed.{node_number}
-use Rattle.md_store_law.specs.Compacted.{MayHaveBase, IsWithBase, IsCompacted, contents_of, values_in, living_nodes}
+use Rattle.md_store_law.specs.Compacted.{MayHaveBase, IsWithBase, IsCompacted, HasRoomFor, contents_of, values_in, living_nodes}
 use Rattle.md_store_law.proofs.Copying.{living_count, compacted}
 use Rattle.md_store_law.proofs.compacting.compact.Goals as goal
 
-pub living_nodes-requires-clause-fits : goal.living_nodes-requires-clause-fits
-living_nodes-requires-clause-fits c =
+pub count_living_nodes-requires-clause-fits : goal.count_living_nodes-requires-clause-fits
+count_living_nodes-requires-clause-fits c =
     let base = c.requires.base.in_range.base_fits in
     let fits : node_number (contents_of c.args.shape.now c.args.words.items) < 2 ^ 32 = omega (arith, base) in
     subst (λ (words : List ℕ). node_number (contents_of c.args.shape.now words) < 2 ^ 32) (sym c.deref.ensures.value) fits
@@ -25,16 +25,19 @@ empty_field-requires c =
     let numbers = c.with_base-fresh.ensures in
     omega (arith, queues, numbers.2, numbers.6, c.in_ok-base.ensures)
 
-pub copy_contents-requires-clause-shape : goal.copy_contents-requires-clause-shape
-copy_contents-requires-clause-shape c = let is = c.with_base-fresh.ensures in (is.0, is.1, refl, is.3, is.4, is.5, is.6)
-
 pub copy_contents-requires-clause-room : goal.copy_contents-requires-clause-room
 copy_contents-requires-clause-room c =
-    let same : c.deref.result.now ≡ c.deref-2.result.now = c.deref.ensures.value ∙ sym c.deref-2.ensures.value in
-    let count = living_count c.args.shape.now c.args.words.items c.requires.store in
-    let base = c.in_ok-base.ensures ∙ ap (λ words. node_number (contents_of c.args.shape.now words)) c.deref.ensures.value in
-    let all = ap (λ words. length (living_nodes c.args.shape.now words)) c.deref-2.ensures.value in
-    omega (arith, all, count, base, c.with_base-fresh.ensures.2)
+    let shape = c.args.shape.now in
+    let fresh = c.with_base-fresh.result in
+    let is = c.with_base-fresh.ensures in
+    let count = living_count shape c.args.words.items c.requires.store in
+    let base = c.in_ok-base.ensures ∙ ap (λ words. node_number (contents_of shape words)) c.deref.ensures.value in
+    let room : HasRoomFor fresh shape c.args.words.items = record {
+      store = c.requires.store;
+      numbers = (is.0, is.1, refl, is.3, is.4, is.5, is.6);
+      fits = omega (arith, count, base, is.2);
+    } in
+    subst (HasRoomFor fresh shape) (sym c.deref-2.ensures.value) room
 
 pub copy_contents-requires-clause-laid : goal.copy_contents-requires-clause-laid
 copy_contents-requires-clause-laid c =

@@ -18,7 +18,7 @@ append_pairs-next-requires-clause-room c =
     let pairs = pairs_in shape c.args.words.now in
     let found = read_anew _ _ _ (pairs c.args.map c.loop-bucket.bucket) c.deref.ensures.value c.in_ok-append_pairs.ensures c.clear.ensures.items in
     let fits = bucket_fits shape pairs (values_in shape c.args.words.now) c.args.map c.loop-bucket.bucket c.requires.map (omega arith) in
-    omega (arith, fits, ap length found, c.loop-bucket.invariant.first_free, c.requires.room)
+    omega (arith, fits, ap length found, c.loop-bucket.invariant.first_free, c.requires.room.fits)
 
 pub loop-bucket-preserved : goal.loop-bucket-preserved
 loop-bucket-preserved c =

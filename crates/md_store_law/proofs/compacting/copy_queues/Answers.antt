@@ -16,7 +16,7 @@ pub append_values-next-requires-clause-dummies : goal.append_values-next-require
 append_values-next-requires-clause-dummies c =
     let shape = c.args.shape.now in
     let fits = dummies_fit shape (pairs_in shape c.args.words.now) (values_in shape c.args.words.now) c.loop-queue.queue in
-    omega (arith, fits, c.loop-queue.invariant.first_free, c.requires.shape.6)
+    omega (arith, fits, c.loop-queue.invariant.first_free, c.requires.room.numbers.6)
 
 pub append_values-next-requires-clause-room : goal.append_values-next-requires-clause-room
 append_values-next-requires-clause-room c =
@@ -24,7 +24,7 @@ append_values-next-requires-clause-room c =
     let values = values_in shape c.args.words.now in
     let found = read_anew _ _ _ (values c.loop-queue.queue) c.deref.ensures.value c.in_ok-append_values.ensures c.clear.ensures.items in
     let fits = queue_fits shape (pairs_in shape c.args.words.now) values c.loop-queue.queue (omega arith) in
-    omega (arith, fits, ap length found, c.loop-queue.invariant.first_free, c.requires.room)
+    omega (arith, fits, ap length found, c.loop-queue.invariant.first_free, c.requires.room.fits)
 
 pub loop-queue-preserved : goal.loop-queue-preserved
 loop-queue-preserved c =

@@ -4,7 +4,7 @@ use Rattle.std.specs.FinMap as fin
 use Rattle.md_list_law.specs.Walk.{map_of_pairs}
 use Rattle.md_hash_law.specs.HashTable.{pairs_of_map}
 use Rattle.md_store_law.specs.Field.{logical_words}
-use Rattle.md_store_law.proofs.living.living_pairs.Given as goal
+use Rattle.md_store_law.proofs.counting.count_pairs.Given as goal
 
 abbrev pub invariant-loop-map : goal.invariant-loop-map
 invariant-loop-map l =

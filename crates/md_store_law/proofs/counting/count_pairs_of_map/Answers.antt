@@ -5,7 +5,7 @@ use Rattle.md_list_law.specs.ListShape.{head_word}
 use Rattle.md_store_law.specs.Field.{logical_words}
 use Rattle.md_store_law.proofs.Filling.{flat_map_range_more}
 use Rattle.md_store_law.proofs.PairCounts.{pieces_fit, len-map}
-use Rattle.md_store_law.proofs.living.pairs_in.Goals as goal
+use Rattle.md_store_law.proofs.counting.count_pairs_of_map.Goals as goal
 
 -- the pairs that were found are those of the bucket
 found : (c : goal.After-len) → let read = λ (bucket : ℕ). pairs_from (logical_words c.args.shape.now c.args.words.now) (head_word c.args.shape.now c.args.map bucket) in

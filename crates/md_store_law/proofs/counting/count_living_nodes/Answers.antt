@@ -4,8 +4,8 @@ use Rattle.md_queue_law.specs.QueueValues.{queue_values}
 use Rattle.md_store_law.specs.Store.{state_of_store}
 use Rattle.md_store_law.specs.Field.{logical_words}
 use Rattle.md_store_law.specs.Needed.{node_number}
-use Rattle.md_store_law.proofs.living.living_nodes.Goals as goal
-use Rattle.md_store_law.proofs.living.living_nodes.Goals.{In_ok-values}
+use Rattle.md_store_law.proofs.counting.count_living_nodes.Goals as goal
+use Rattle.md_store_law.proofs.counting.count_living_nodes.Goals.{In_ok-values}
 
 -- all nodes that the state needs were counted
 counted : (c : In_ok-values) → c.args.shape.now.queues + c.in_ok-pairs.pairs + c.in_ok-values.values

@@ -4,7 +4,7 @@ use Rattle.std.proofs.lemmas.List.FromFn.{sum_by-map-range_with_len_more}
 use Rattle.md_queue_law.specs.QueueValues.{queue_values}
 use Rattle.md_store_law.specs.Field.{logical_words}
 use Rattle.md_store_law.proofs.PairCounts.{sums_fit}
-use Rattle.md_store_law.proofs.living.living_values.Goals as goal
+use Rattle.md_store_law.proofs.counting.count_values.Goals as goal
 
 -- the values that were found are those of the queue
 found : (c : goal.After-len) → c.len.result ≡ length (queue_values (logical_words c.args.shape.now c.args.words.now) c.loop-queue.queue)

@@ -16,19 +16,23 @@ use std::alloc::{AllocError, Global};
 
 /// The number of nodes that the state of a field needs: one for each queue, each pair and each
 /// queued value.
-pub(crate) fn living_nodes(alloc: Global, shape: &Shape, words: &[u64]) -> Result<u32, AllocError>
+pub(crate) fn count_living_nodes(
+    alloc: Global,
+    shape: &Shape,
+    words: &[u64],
+) -> Result<u32, AllocError>
     requires store { IsStoreField shape.now words.now }
     requires fits { node_number (state_of_store (logical_words shape.now words.now)) < 2 ^ 32 }
     ensures { IfOk result
         (λ count. count ≡ node_number (state_of_store (logical_words shape.now words.now))) }
 {
-    let pairs = living_pairs(alloc, shape, words)?;
-    let values = living_values(alloc, shape, words)?;
+    let pairs = count_pairs(alloc, shape, words)?;
+    let values = count_values(alloc, shape, words)?;
     Ok(shape.queues + pairs + values)
 }
 
 // The number of pairs of all maps.
-fn living_pairs(alloc: Global, shape: &Shape, words: &[u64]) -> Result<u32, AllocError>
+fn count_pairs(alloc: Global, shape: &Shape, words: &[u64]) -> Result<u32, AllocError>
     requires store { IsStoreField shape.now words.now }
     requires fits { sum_by fin.len (maps_of (logical_words shape.now words.now)) < 2 ^ 32 }
     ensures { IfOk result
@@ -36,13 +40,18 @@ fn living_pairs(alloc: Global, shape: &Shape, words: &[u64]) -> Result<u32, Allo
 {
     let mut count = 0;
     for map in 0..shape.maps {
-        count += pairs_in(alloc, shape, words, map)?;
+        count += count_pairs_of_map(alloc, shape, words, map)?;
     }
     Ok(count)
 }
 
 // The number of pairs of a map.
-fn pairs_in(alloc: Global, shape: &Shape, words: &[u64], map: u32) -> Result<u32, AllocError>
+fn count_pairs_of_map(
+    alloc: Global,
+    shape: &Shape,
+    words: &[u64],
+    map: u32,
+) -> Result<u32, AllocError>
     requires store { IsStoreField shape.now words.now }
     requires map { map < shape.now.maps }
     requires fits { let w = logical_words shape.now words.now in
@@ -61,7 +70,7 @@ fn pairs_in(alloc: Global, shape: &Shape, words: &[u64], map: u32) -> Result<u32
 }
 
 // The number of values of all queues.
-fn living_values(alloc: Global, shape: &Shape, words: &[u64]) -> Result<u32, AllocError>
+fn count_values(alloc: Global, shape: &Shape, words: &[u64]) -> Result<u32, AllocError>
     requires store { IsStoreField shape.now words.now }
     requires fits { sum_by length (queue_lists (logical_words shape.now words.now)) < 2 ^ 32 }
     ensures { IfOk result

@@ -7,10 +7,10 @@ use Rattle.md_list_law.specs.Walk.{map_of_pairs}
 use Rattle.md_hash_law.specs.HashTable.{pairs_of_map}
 use Rattle.md_store_law.specs.Field.{logical_words}
 use Rattle.md_store_law.proofs.PairCounts.{sums_fit}
-use Rattle.md_store_law.proofs.living.living_pairs.Goals as goal
+use Rattle.md_store_law.proofs.counting.count_pairs.Goals as goal
 
-pub pairs_in-requires-clause-fits : goal.pairs_in-requires-clause-fits
-pairs_in-requires-clause-fits c =
+pub count_pairs_of_map-requires-clause-fits : goal.count_pairs_of_map-requires-clause-fits
+count_pairs_of_map-requires-clause-fits c =
     let shape = c.args.shape.now in
     let table : ℕ → Table = λ m. map_of_pairs (pairs_of_map (logical_words shape c.args.words.now) m) in
     let few = sums_fit fin.len table c.loop-map.map shape.maps (omega arith) in
