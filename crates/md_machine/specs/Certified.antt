@@ -2,6 +2,8 @@
 use Rattle.std.specs.Prelude.{◌≡◌, ◌≢◌, ◌==◌, ◌++◌, ℕ, Bool, true, List, [], ◌∷◌, map, All, Option, Some, None, option_map, unwrap_or, is_some, if◌then◌else◌}
 use Rattle.std.specs.List.{list_any, flat_map, AllPairs}
 use Rattle.md_words.specs.Content.{value_of}
+use Rattle.md_words.specs.Layout.{address}
+use Rattle.md_words.specs.Place.{node_next}
 use Rattle.md_history.specs.Act.{act_of}
 use Rattle.md_machine.specs.declared.attempt.Hand.{Hand}
 use Rattle.md_machine.specs.declared.attempt.Read.{Read}
@@ -17,6 +19,7 @@ use Rattle.md_machine.specs.Machine.{Machine, shape_of}
 use Rattle.md_machine.specs.Meaning.{Meaning, StandsBy, TidyStandsBy, after_certificate, after_tidy}
 use Rattle.md_machine.specs.Own.{IsOwnNode}
 use Rattle.md_machine.specs.Resolution.{InEveryResolution, or_else}
+use Rattle.md_machine.specs.Trail.{SomeStepOf, StoresFor}
 
 -- the heap after tidy changes, after a certificate with its tidy changes, and after several
 abbrev pub after_tidies : LogicalHeap → List TidyChange → LogicalHeap
@@ -101,18 +104,19 @@ pub record CertifiedIn (reads : List Read) (writes : List Write) (cs : List Cert
   pub rooted : All (λ w. IsNoUnplacedNext (after_wholes h cs) w.word) writes
 
 module _ (M : Meaning) where
-  -- a transaction with these reads and slots is certified
-  pub record IsCertified (m : Machine) (p : PassView) (h : Hand) (reads : List Read) (writes : List Write) : Type 0 where
-    pub acts : h.acts ≡ map (λ c. act_of c.op c.reply) h.certificates
-    pub certifies : All (M.certifies (shape_of m)) h.certificates
-    pub tidies : All (λ c. All (M.tidies (shape_of m)) c.tidy) h.certificates
+  -- a transaction with these reads and slots is certified by these certificates, one for each of its acts
+  pub record IsCertified (m : Machine) (p : PassView) (h : Hand) (cs : List Certificate) (reads : List Read) (writes : List Write) : Type 0 where
+    pub acts : h.acts ≡ map (λ c. act_of c.op c.reply) cs
+    pub certifies : All (M.certifies (shape_of m)) cs
+    pub tidies : All (λ c. All (M.tidies (shape_of m)) c.tidy) cs
     -- its recorded contents and the old contents of its slots agree, where they are of one word
     pub read : All (λ r. first_content reads writes r.word ≡ Some r.content) reads
     pub replaced : All (λ w. first_content reads writes w.word ≡ Some w.old) writes
     -- each word that its certificates record is among them, and its slots are exactly the words that they change
-    pub recorded : All (RecordsFound reads writes) h.certificates
-    pub exactly : (word : ℕ) → is_written writes word ≡ list_any (λ c. c.word == word) (all_changes h.certificates)
-    -- its new nodes are own ones, and differ
-    pub nodes : All (λ n. IsOwnNode m p n.node) (all_nodes h.certificates)
-    pub differ : AllPairs (λ n k. n.node ≢ k.node) (all_nodes h.certificates)
-    pub chain : InEveryResolution m (CertifiedIn reads writes h.certificates)
+    pub recorded : All (RecordsFound reads writes) cs
+    pub exactly : (word : ℕ) → is_written writes word ≡ list_any (λ c. c.word == word) (all_changes cs)
+    -- its new nodes are own ones, were stored for it, and differ
+    pub nodes : All (λ n. IsOwnNode m p n.node) (all_nodes cs)
+    pub stored : All (λ n. SomeStepOf p (StoresFor h.attempt (address (shape_of m) (node_next n.node)))) (all_nodes cs)
+    pub differ : AllPairs (λ n k. n.node ≢ k.node) (all_nodes cs)
+    pub chain : InEveryResolution m (CertifiedIn reads writes cs)

@@ -18,8 +18,6 @@ pub struct Hand {
     pub attempt: AttemptId,
     pub tag: u64,
     pub acts: LinkedList<Act>,
-    /// One for each act.
-    pub certificates: LinkedList<Certificate>,
     /// An operation was begun and not ended.
     pub operating: bool,
     /// What its slots were changed by since the operation began, in order.

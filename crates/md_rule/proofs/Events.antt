@@ -147,20 +147,20 @@ module _ (M : Meaning) (o : Origin) where
 
   pub is_ready : (view : PassView) (desc from count : ℕ) → HoldsUnready view desc from → IsStepOn (λ pass. ready pass count) view (address o.shape (desc_status desc)) (traded from (status_word InProg count (serial_of from)))
   is_ready view desc from count k m n pass a acts does =
-      let held : view.hand ≡ Some does.1 = ap (λ (x : PassView). x.hand) (some-injective view does.0 (sym acts.at ∙ does.2.at)) ∙ does.3.held in
+      let held : view.hand ≡ Some does.1 = ap (λ (x : PassView). x.hand) (some-injective view does.0 (sym acts.at ∙ does.3.at)) ∙ does.4.held in
       let hand : k.hand ≡ does.1 = some_same k.hand does.1 (sym k.held ∙ held) in
       let desc_is : does.1.attempt.desc ≡ desc = ap (λ (h : Hand). h.attempt.desc) (sym hand) ∙ k.of in
       let from_is : unready_word does.1.attempt ≡ from = ap (λ (h : Hand). unready_word h.attempt) (sym hand) ∙ k.status in
       let to_is : ready_word does.1.attempt count ≡ status_word InProg count (serial_of from) = ready_made does.1.attempt count ∙ ap (λ w. status_word InProg count (serial_of w)) from_is in
       let words : n.words ≡ slice_set m.words (address (shape_of m) (desc_status desc)) (left_by m (address (shape_of m) (desc_status desc)) from (status_word InProg count (serial_of from))) =
-      words_in does.4
+      words_in does.5
       ∙ ap (λ d. slice_set m.words (address (shape_of m) (desc_status d)) (left_by m (address (shape_of m) (desc_status d)) (unready_word does.1.attempt) (ready_word does.1.attempt count))) desc_is
       ∙ ap (λ w. slice_set m.words (address (shape_of m) (desc_status desc)) (left_by m (address (shape_of m) (desc_status desc)) w (ready_word does.1.attempt count))) from_is
       ∙ ap (λ w. slice_set m.words (address (shape_of m) (desc_status desc)) (left_by m (address (shape_of m) (desc_status desc)) from w)) to_is in record {
         after = _;
-        lanes = ready_lanes _ _ _ _ ∙ one_view m pass does.0 view does.2 acts;
+        lanes = ready_lanes _ _ _ _ ∙ one_view m pass does.0 view does.3 acts;
         words = trades_in o.shape m n desc from (status_word InProg count (serial_of from)) a.shape words;
-        passes = passes_in does.4;
+        passes = passes_in does.5;
       }
 
   -- the five marks

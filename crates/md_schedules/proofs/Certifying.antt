@@ -24,13 +24,14 @@ use Rattle.md_machine.specs.Machine.{Machine, shape_of}
 use Rattle.md_machine.specs.Meaning.{Meaning}
 use Rattle.md_machine.specs.Own.{IsOwnNode}
 use Rattle.md_machine.specs.Resolution.{InEveryResolution}
+use Rattle.md_machine.specs.Trail.{SomeStepOf, StoresFor}
 use Rattle.md_schedules.specs.Field.{bucket, link_to, small_shape}
 use Rattle.md_schedules.specs.Transactions.{inserted_change, inserted_node, inserts, looks_up}
 use Rattle.md_schedules.proofs.Walking.{none_differ, one_differs, only_none, only_one}
 
 -- the hand of a transaction of one operation
 abbrev pub with_one : Hand → Certificate → Hand
-with_one h c = record h { acts = act_of c.op c.reply ∷ []; certificates = c ∷ [] }
+with_one h c = record h { acts = act_of c.op c.reply ∷ [] }
 
 -- the slot of an insert
 abbrev pub insert_slot : ℕ → Write
@@ -101,10 +102,11 @@ module _ (M : Meaning) (m : Machine) (p : PassView) (h : Hand) where
   TidiesOf c = All (M.tidies (shape_of m)) c.tidy
 
   pub insert_certified : (node : ℕ) → M.certifies (shape_of m) (inserts node) → IsOwnNode m p node
+      → SomeStepOf p (StoresFor h.attempt (address (shape_of m) (node_next node)))
       → InEveryResolution m (CertifiedIn [] (insert_slot node ∷ []) (inserts node ∷ []))
-      → IsCertified M m p (with_one h (inserts node)) [] (insert_slot node ∷ [])
+      → IsCertified M m p (with_one h (inserts node)) (inserts node ∷ []) [] (insert_slot node ∷ [])
   unfolding address
-  insert_certified node certifies own chain =
+  insert_certified node certifies own stored chain =
       let slots = insert_slot node ∷ [] in record {
         acts = refl;
         certifies = only_one (M.certifies (shape_of m)) (inserts node) certifies;
@@ -114,6 +116,7 @@ module _ (M : Meaning) (m : Machine) (p : PassView) (h : Hand) where
         recorded = only_one (RecordsFound [] slots) (inserts node) (insert_found node);
         exactly = λ word. refl;
         nodes = only_one (λ (n : NewNode). IsOwnNode m p n.node) (inserted_node node) own;
+        stored = only_one (λ (n : NewNode). SomeStepOf p (StoresFor h.attempt (address (shape_of m) (node_next n.node)))) (inserted_node node) stored;
         differ = one_differs (λ (n k : NewNode). n.node ≢ k.node) (inserted_node node);
         chain = chain;
       }
@@ -121,7 +124,7 @@ module _ (M : Meaning) (m : Machine) (p : PassView) (h : Hand) where
   pub look_up_certified : (reply : Reply) (facts : List Fact) (r : Read) → M.certifies (shape_of m) (looks_up reply r.word facts)
       → first_content (r ∷ []) [] r.word ≡ Some r.content
       → InEveryResolution m (CertifiedIn (r ∷ []) [] (looks_up reply r.word facts ∷ []))
-      → IsCertified M m p (with_one h (looks_up reply r.word facts)) (r ∷ []) []
+      → IsCertified M m p (with_one h (looks_up reply r.word facts)) (looks_up reply r.word facts ∷ []) (r ∷ []) []
   look_up_certified reply facts r certifies first chain =
       let reads = r ∷ [] in
       let c = looks_up reply r.word facts in record {
@@ -133,6 +136,7 @@ module _ (M : Meaning) (m : Machine) (p : PassView) (h : Hand) where
         recorded = only_one (RecordsFound reads []) c (look_up_found reply facts r first);
         exactly = λ word. refl;
         nodes = only_none (λ (n : NewNode). IsOwnNode m p n.node);
+        stored = only_none (λ (n : NewNode). SomeStepOf p (StoresFor h.attempt (address (shape_of m) (node_next n.node))));
         differ = none_differ (λ (n k : NewNode). n.node ≢ k.node);
         chain = chain;
       }

@@ -24,6 +24,7 @@ use Rattle.md_machine.specs.Machine.{Machine, shape_of}
 use Rattle.md_machine.specs.Meaning.{Meaning}
 use Rattle.md_machine.specs.Own.{IsOwnNode}
 use Rattle.md_machine.specs.Resolution.{InEveryResolution}
+use Rattle.md_machine.specs.Trail.{SomeStepOf, StoresFor}
 use Rattle.md_machine.proofs.chain.SameNodes.{next_alone}
 use Rattle.md_schedules.specs.Field.{bucket, small_shape}
 use Rattle.md_schedules.specs.Unlinking.{finds_first, first_link, first_marked, first_next, first_pair, misses_second, removes_first, unlinks_first}
@@ -58,7 +59,6 @@ second_found =
 abbrev pub with_both : Hand → Hand
 with_both h = record h {
   acts = act_of finds_first.op finds_first.reply ∷ act_of misses_second.op misses_second.reply ∷ [];
-  certificates = finds_first ∷ misses_second ∷ [];
 }
 
 -- the remove stands where the pair is in the node: its word is the next word of that node alone
@@ -146,7 +146,7 @@ module _ (M : Meaning) (m : Machine) (p : PassView) (h : Hand) where
 
   pub remove_certified : M.certifies (shape_of m) removes_first
       → InEveryResolution m (CertifiedIn [] (remove_slot ∷ []) (removes_first ∷ []))
-      → IsCertified M m p (with_one h removes_first) [] (remove_slot ∷ [])
+      → IsCertified M m p (with_one h removes_first) (removes_first ∷ []) [] (remove_slot ∷ [])
   unfolding address
   remove_certified certifies chain =
       let slots : List Write = remove_slot ∷ [] in record {
@@ -158,6 +158,7 @@ module _ (M : Meaning) (m : Machine) (p : PassView) (h : Hand) where
         recorded = only_one (RecordsFound [] slots) removes_first remove_found;
         exactly = λ word. refl;
         nodes = only_none (λ (n : NewNode). IsOwnNode m p n.node);
+        stored = only_none (λ (n : NewNode). SomeStepOf p (StoresFor h.attempt (address (shape_of m) (node_next n.node))));
         differ = none_differ (λ (n k : NewNode). n.node ≢ k.node);
         chain = chain;
       }
@@ -165,7 +166,7 @@ module _ (M : Meaning) (m : Machine) (p : PassView) (h : Hand) where
   pub unlink_certified : M.certifies (shape_of m) finds_first → M.certifies (shape_of m) misses_second
       → M.tidies (shape_of m) unlinks_first
       → InEveryResolution m (CertifiedIn (first_read false ∷ []) (unlink_slot ∷ []) (finds_first ∷ misses_second ∷ []))
-      → IsCertified M m p (with_both h) (first_read false ∷ []) (unlink_slot ∷ [])
+      → IsCertified M m p (with_both h) (finds_first ∷ misses_second ∷ []) (first_read false ∷ []) (unlink_slot ∷ [])
   unfolding address node_count
   unlink_certified fin mis unl chain =
       let reads : List Read = first_read false ∷ [] in
@@ -180,6 +181,7 @@ module _ (M : Meaning) (m : Machine) (p : PassView) (h : Hand) where
         recorded = two (RecordsFound reads slots) finds_first misses_second (first_found false slots) second_found;
         exactly = λ word. refl;
         nodes = only_none (λ (n : NewNode). IsOwnNode m p n.node);
+        stored = only_none (λ (n : NewNode). SomeStepOf p (StoresFor h.attempt (address (shape_of m) (node_next n.node))));
         differ = none_differ (λ (n k : NewNode). n.node ≢ k.node);
         chain = chain;
       }

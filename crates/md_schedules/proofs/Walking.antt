@@ -15,7 +15,7 @@ use Rattle.md_machine.specs.Machine.{Machine}
 use Rattle.md_machine.specs.Meaning.{Meaning}
 use Rattle.md_machine.specs.Trail.{Finds, LastStored, Loads, Meets, StepOf, StoresFor, is_store, segments}
 use Rattle.md_machine.specs.events.Uninstall.{FindsSerial, HelperSaw, slot_of_desc, status_of_desc}
-use Rattle.md_schedules.specs.Walk.{after_all, after_event}
+use Rattle.md_schedules.specs.Walk.{Certificates, after_all, after_event}
 
 pub only_none : {X : Type 0} (P : X → Type 0) → All P []
 only_none P = All-nil P
@@ -35,19 +35,20 @@ one_below P p zero h = p
 one_below P p (suc i) h = absurd (omega (arith, h))
 
 -- each event of a list does what the walk says
-abbrev pub Walks : Meaning → Machine → List Event → Type 0
-Walks M m [] = Unit {0}
-Walks M m (e ∷ es) = Does M m e (after_event m e) × Walks M (after_event m e) es
+abbrev pub Walks : Meaning → Certificates → Machine → List Event → Type 0
+Walks M by m [] = Unit {0}
+Walks M by m (e ∷ es) = Does M m e (after_event by m e) × Walks M by (after_event by m e) es
 
 -- such a list is a run
-pub walk_runs : (M : Meaning) (m : Machine) (es : List Event) → Walks M m es → Runs M m es (after_all m es)
-walk_runs M m [] w = refl
-walk_runs M m (e ∷ es) w = (after_event m e, inl w.0, walk_runs M (after_event m e) es w.1)
+pub walk_runs : (M : Meaning) (by : Certificates) (m : Machine) (es : List Event) → Walks M by m es → Runs M m es (after_all by m es)
+walk_runs M by m [] w = refl
+walk_runs M by m (e ∷ es) w = (after_event by m e, inl w.0, walk_runs M by (after_event by m e) es w.1)
 
 -- a walk goes on from where another one ends
-pub walk_on : (M : Meaning) (m : Machine) (es fs : List Event) → Walks M m es → Walks M (after_all m es) fs → Walks M m (es ++ fs)
-walk_on M m [] fs w v = v
-walk_on M m (e ∷ es) fs w v = (w.0, walk_on M (after_event m e) es fs w.1 v)
+pub walk_on : (M : Meaning) (by : Certificates) (m : Machine) (es fs : List Event) → Walks M by m es → Walks M by (after_all by m es) fs
+    → Walks M by m (es ++ fs)
+walk_on M by m [] fs w v = v
+walk_on M by m (e ∷ es) fs w v = (w.0, walk_on M by (after_event by m e) es fs w.1 v)
 
 -- step i of the last segment of a pass
 abbrev pub nth : PassView → ℕ → Step

@@ -5,7 +5,7 @@ use Rattle.md_machine.specs.Event.{Event, Runs, abort, install, load, mark_begin
 use Rattle.md_machine.specs.Machine.{Machine, content}
 use Rattle.md_machine.specs.Meaning.{Meaning}
 use Rattle.md_schedules.specs.Field.{bucket, first_slot, link_to, place_word, small_opening, standing}
-use Rattle.md_schedules.specs.Walk.{after_all}
+use Rattle.md_schedules.specs.Walk.{after_all, no_certificates}
 
 -- pass 0 begins, fills its first slot and installs it in the bucket
 abbrev pub installing : List Event
@@ -20,10 +20,10 @@ clearing =
     load 1 (place_word (slot_old 0 0)) ∷ uninstall 1 bucket (standing 0) 0 ∷ []
 
 abbrev pub installed : Machine
-installed = after_all (opened small_opening) installing
+installed = after_all no_certificates (opened small_opening) installing
 
 abbrev pub cleared : Machine
-cleared = after_all installed clearing
+cleared = after_all no_certificates installed clearing
 
 -- an undecided descriptor that stands in a word is aborted and taken out, and the word has its old value again
 pub record ClearingRow (M : Meaning) : Type 0 where

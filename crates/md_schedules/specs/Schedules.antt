@@ -7,7 +7,7 @@ use Rattle.md_machine.specs.Machine.{Machine, content}
 use Rattle.md_machine.specs.Meaning.{Meaning}
 use Rattle.md_schedules.specs.Field.{bucket, link_to, place_word, small_opening, small_shape, standing}
 use Rattle.md_schedules.specs.Transactions.{beginning, finds, inserting, inserts, misses, recording, starting}
-use Rattle.md_schedules.specs.Walk.{after_all}
+use Rattle.md_schedules.specs.Walk.{Certificates, after_all, first_and_second}
 
 -- pass 1 meets the descriptor of pass 0 in the bucket: it asks for its status, and looks again
 abbrev pub meeting : List Event
@@ -29,8 +29,12 @@ missing =
 abbrev pub stopping : List Event
 stopping = beginning ++ inserting 0 0 2 ++ aborting ++ missing
 
+-- the get alone becomes ready
+abbrev pub stopping_certificates : Certificates
+stopping_certificates = first_and_second [] (misses ∷ [])
+
 abbrev pub stopping_end : Machine
-stopping_end = after_all (opened small_opening) stopping
+stopping_end = after_all stopping_certificates (opened small_opening) stopping
 
 pub record StoppedRow (M : Meaning) : Type 0 where
   pub runs : Runs M (opened small_opening) stopping stopping_end
@@ -57,8 +61,11 @@ finding =
 abbrev pub helping : List Event
 helping = beginning ++ inserting 0 0 2 ++ completing ++ finding
 
+abbrev pub helping_certificates : Certificates
+helping_certificates = first_and_second (inserts 2 ∷ []) (finds ∷ [])
+
 abbrev pub helping_end : Machine
-helping_end = after_all (opened small_opening) helping
+helping_end = after_all helping_certificates (opened small_opening) helping
 
 pub record HelpedRow (M : Meaning) : Type 0 where
   pub runs : Runs M (opened small_opening) helping helping_end
@@ -86,8 +93,11 @@ losing = ready 0 1 ∷ load 0 bucket ∷ abort 0 0 5 ∷ mark_end 0 ∷ []
 abbrev pub moving : List Event
 moving = beginning ++ noting ++ overtaking ++ winning ++ losing
 
+abbrev pub moving_certificates : Certificates
+moving_certificates = first_and_second (misses ∷ []) (inserts 18 ∷ [])
+
 abbrev pub moving_end : Machine
-moving_end = after_all (opened small_opening) moving
+moving_end = after_all moving_certificates (opened small_opening) moving
 
 pub record MovedRow (M : Meaning) : Type 0 where
   pub runs : Runs M (opened small_opening) moving moving_end

@@ -19,7 +19,7 @@ use Rattle.md_machine.specs.Machine.{Machine, content}
 use Rattle.md_machine.specs.Meaning.{Meaning}
 use Rattle.md_schedules.specs.Field.{bucket, first_slot, link_to, place_word, small_shape, standing}
 use Rattle.md_schedules.specs.Transactions.{looks_up, recording, starting}
-use Rattle.md_schedules.specs.Walk.{after_all}
+use Rattle.md_schedules.specs.Walk.{Certificates, after_all, first_and_second}
 
 -- the opening has key 1 with 10, in the base node
 abbrev pub first_next : ℕ
@@ -113,8 +113,11 @@ giving_up =
 abbrev pub unlinking : List Event
 unlinking = finding_first ++ removing_first ++ unlinking_first ++ giving_up
 
+abbrev pub unlinking_certificates : Certificates
+unlinking_certificates = first_and_second (finds_first ∷ misses_second ∷ []) (removes_first ∷ [])
+
 abbrev pub unlinking_end : Machine
-unlinking_end = after_all (opened keyed_opening) unlinking
+unlinking_end = after_all unlinking_certificates (opened keyed_opening) unlinking
 
 pub record UnlinkedRow (M : Meaning) : Type 0 where
   pub runs : Runs M (opened keyed_opening) unlinking unlinking_end

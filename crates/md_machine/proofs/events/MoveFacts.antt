@@ -16,6 +16,7 @@ use Rattle.md_machine.specs.declared.attempt.AttemptId.{AttemptId}
 use Rattle.md_machine.specs.declared.attempt.Hand.{Hand}
 use Rattle.md_machine.specs.declared.attempt.HistoryEntry.{HistoryEntry}
 use Rattle.md_machine.specs.declared.attempt.Read.{Read}
+use Rattle.md_machine.specs.declared.certificate.Certificate.{Certificate}
 use Rattle.md_machine.specs.declared.step.Step.{Step}
 use Rattle.md_machine.specs.declared.step.Kind.{Kind}
 use Rattle.md_machine.specs.declared.pass.PassView.{PassView}
@@ -61,21 +62,22 @@ pub record Uninstalls (m : Machine) (word : ℕ) : Type 0 where
 -- the attempt that a pass has in hand becomes ready: its entry joins the history, and its status is changed
 pub record Enters (m n : Machine) (p : PassView) (word new : ℕ) : Type 0 where
   pub hand : Hand
+  pub certificates : List Certificate
   pub count : ℕ
   pub held : p.hand ≡ Some hand
   pub own : HasDesc (shape_of m) p hand.attempt.desc
   pub few : count ≤ SET
   pub recorded : All (MayRecord m p) (reads_now m hand.attempt.desc count)
-  pub own_nodes : All (λ x. HasNode (shape_of m) p x.node) (placed_by hand.certificates)
-  pub free : All (λ x. never_placed m x.node ≡ true) (placed_by hand.certificates)
-  pub differ : AllPairs (λ (x y : PlacedNode). x.node ≢ y.node) (placed_by hand.certificates)
+  pub own_nodes : All (λ x. HasNode (shape_of m) p x.node) (placed_by certificates)
+  pub free : All (λ x. never_placed m x.node ≡ true) (placed_by certificates)
+  pub differ : AllPairs (λ (x y : PlacedNode). x.node ≢ y.node) (placed_by certificates)
   pub there : word ≡ address (shape_of m) (desc_status hand.attempt.desc)
   pub was : content m word ≡ unready_word hand.attempt
   pub is : new ≡ ready_word hand.attempt count
-  pub history : n.history ≡ history_after_ready m hand count
+  pub history : n.history ≡ history_after_ready m hand certificates count
   pub fates : n.fates ≡ fates_after_ready m
   pub installs : n.installs ≡ m.installs
-  pub rooted : InEveryResolution m (λ heap. All (λ w. IsNoUnplacedNext (after_wholes heap hand.certificates) w.word) (writes_now m hand.attempt))
+  pub rooted : InEveryResolution m (λ heap. All (λ w. IsNoUnplacedNext (after_wholes heap certificates) w.word) (writes_now m hand.attempt))
 
 -- a step leaves its word as it may where no attempt goes on, and neither entries nor fates change
 pub record LeavesFates (m n : Machine) (word new : ℕ) : Type 0 where
@@ -173,17 +175,17 @@ pub history_grows : (m n : Machine) (v : MoveFacts m n) → IsPrefix m.history n
 history_grows m n v = ⊎_elim
     (λ stay. record { rest = []; is = stay.history ∙ sym (append-nil m.history) })
     (λ o. ⊎_elim
-    (λ e. record { rest = history_entry m e.hand e.count ∷ []; is = e.history })
+    (λ e. record { rest = history_entry m e.hand e.certificates e.count ∷ []; is = e.history })
     (λ d. record { rest = []; is = d.history ∙ sym (append-nil m.history) })
     o)
     v.fates
 
 -- a new entry is of the attempt that becomes ready
-pub new_entry : (m n : Machine) (v : MoveFacts m n) (x : HistoryEntry) → Contains n.history x → Contains m.history x ⊎ ((e : Enters m n v.p v.word v.new) × (history_entry m e.hand e.count ≡ x))
+pub new_entry : (m n : Machine) (v : MoveFacts m n) (x : HistoryEntry) → Contains n.history x → Contains m.history x ⊎ ((e : Enters m n v.p v.word v.new) × (history_entry m e.hand e.certificates e.count ≡ x))
 new_entry m n v x c = ⊎_elim
     (λ stay. inl (subst (λ es. Contains es x) stay.history c))
     (λ o. ⊎_elim
-    (λ e. ⊎_elim inl (λ same. inr (e, same)) (Contains-push_cases m.history (history_entry m e.hand e.count) x (subst (λ es. Contains es x) e.history c)))
+    (λ e. ⊎_elim inl (λ same. inr (e, same)) (Contains-push_cases m.history (history_entry m e.hand e.certificates e.count) x (subst (λ es. Contains es x) e.history c)))
     (λ d. inl (subst (λ es. Contains es x) d.history c))
     o)
     v.fates

@@ -1,6 +1,6 @@
 -- The one case split over the events: each is one step of one pass, with one of eight effects on the words and the
 -- history, and it replaces one view, splits one in two, or joins two in one.
-use Rattle.std.proofs.Common.{◌≡◌, ◌≢◌, ℕ, ◌<◌, ◌⊎◌, [], ◌∷◌, ◌++◌, set, refl, sym, subst, inl, inr, cond, Some, None, ap, false, ◌∙◌, ⊎_elim}
+use Rattle.std.proofs.Common.{◌≡◌, ◌≢◌, ℕ, ◌<◌, ◌⊎◌, List, [], ◌∷◌, ◌++◌, set, refl, sym, subst, inl, inr, cond, Some, None, ap, false, ◌∙◌, ⊎_elim}
 use Rattle.md_words.specs.declared.status.Status.{Status}
 use Rattle.md_words.specs.declared.status.Status.TheVariants.{Committed, Aborted}
 use Rattle.md_words.specs.Place.{desc_status}
@@ -8,6 +8,7 @@ use Rattle.md_words.specs.Layout.{address, words_of, desc_count}
 use Rattle.md_words.specs.declared.content.Spot.{Spot}
 use Rattle.md_words.specs.Status.{serial_of}
 use Rattle.md_machine.specs.declared.attempt.Hand.{Hand}
+use Rattle.md_machine.specs.declared.certificate.Certificate.{Certificate}
 use Rattle.md_machine.specs.declared.step.Step.{Step}
 use Rattle.md_machine.specs.declared.step.Kind.{Kind}
 use Rattle.md_machine.specs.declared.step.Kind.TheVariants.{Load, Store, Install as Installs, Exchange, Ready, Commit, Abort, Uninstall, Start}
@@ -151,12 +152,13 @@ module _ (M : Meaning) where
   pub record WinsReady (m n : Machine) (p : PassView) (kind : Kind) (word new : ℕ) : Type 0 where
     pub by : kind ≡ Ready
     pub hand : Hand
+    pub certificates : List Certificate
     pub count : ℕ
-    pub may : MayReady M m p hand count
+    pub may : MayReady M m p hand certificates count
     pub there : word ≡ address (shape_of m) (desc_status hand.attempt.desc)
     pub was : content m word ≡ unready_word hand.attempt
     pub is : new ≡ ready_word hand.attempt count
-    pub history : n.history ≡ history_after_ready m hand count
+    pub history : n.history ≡ history_after_ready m hand certificates count
     pub fates : n.fates ≡ fates_after_ready m
     pub installs : n.installs ≡ m.installs
 
@@ -271,16 +273,17 @@ module _ (M : Meaning) where
       (λ won. by_step M m pass p acts Uninstall word _ (by_uninstall (record { by = refl; from = from; value = value; may = may; was = won; is = refl; quiet = quiet m _ refl refl refl })))
       (λ _. by_look M m pass p acts Uninstall word refl may.counted.0)
 
-  enters_or_loses : (m : Machine) (pass : ℕ) (p : PassView) (h : Hand) (count : ℕ) → Acts m pass p → MayReady M m p h count → Moves M m (after_ready m pass p h count)
-  enters_or_loses m pass p h count acts may =
+  enters_or_loses : (m : Machine) (pass : ℕ) (p : PassView) (h : Hand) (cs : List Certificate) (count : ℕ) → Acts m pass p → MayReady M m p h cs count
+      → Moves M m (after_ready m pass p h cs count)
+  enters_or_loses m pass p h cs count acts may =
       let word = address (shape_of m) (desc_status h.attempt.desc) in
       let inside = address_below (shape_of m) (desc_status h.attempt.desc) (own_exists m p h.attempt.desc may.own) in
       exchanged_cases (content m word) (unready_word h.attempt)
       (λ b. let new = either b (ready_word h.attempt count) (content m word) in let plain = stepped m p Ready word new in
-      Moves M m (record (replaced m pass (cond b (record plain { seen = history_after_ready m h count; known = fates_after_ready m }) plain) word new) { history = cond b (history_after_ready m h count) m.history; fates = cond b (fates_after_ready m) m.fates }))
+      Moves M m (record (replaced m pass (cond b (record plain { seen = history_after_ready m h cs count; known = fates_after_ready m }) plain) word new) { history = cond b (history_after_ready m h cs count) m.history; fates = cond b (fates_after_ready m) m.fates }))
       (λ won. by_one M m pass p acts _ _ Ready word (ready_word h.attempt count) refl refl refl
       (record { lanes = refl; past = refl; trail = refl; placed = refl; front = sees_all refl refl refl refl; hand = hand_stays refl refl refl refl })
-      (by_ready (record { by = refl; hand = h; count = count; may = may; there = refl; was = won; is = refl; history = refl; fates = refl; installs = refl })))
+      (by_ready (record { by = refl; hand = h; certificates = cs; count = count; may = may; there = refl; was = won; is = refl; history = refl; fates = refl; installs = refl })))
       (λ _. by_look M m pass p acts Ready word refl inside)
 
   decides_or_loses : (m : Machine) (pass : ℕ) (p : PassView) (desc from : ℕ) (kind : Kind) (status : Status) → Acts m pass p → desc < desc_count (shape_of m) → (kind ≡ Commit) ⊎ (kind ≡ Abort)
@@ -301,7 +304,7 @@ module _ (M : Meaning) where
       (by_store (record { by = refl; hand = h; may = may; quiet = quiet m _ refl refl refl })))
   does_move m n (install pass word from to) base (p, h, acts, may, is) = subst (Moves M m) (sym is) (installs_or_loses m pass p h word from to acts may)
   does_move m n (exchange pass word from to) base (p, acts, may, is) = subst (Moves M m) (sym is) (exchanges_or_loses m pass p word from to acts may)
-  does_move m n (ready pass count) base (p, h, acts, may, is) = subst (Moves M m) (sym is) (enters_or_loses m pass p h count acts may)
+  does_move m n (ready pass count) base (p, h, cs, acts, may, is) = subst (Moves M m) (sym is) (enters_or_loses m pass p h cs count acts may)
   does_move m n (commit pass desc from) base (p, acts, may, is) = subst (Moves M m) (sym is) (decides_or_loses m pass p desc from Commit Committed acts may.exists (inl refl) (inl (refl, may)))
   does_move m n (abort pass desc from) base (p, acts, may, is) = subst (Moves M m) (sym is) (decides_or_loses m pass p desc from Abort Aborted acts may.exists (inr refl) (inr (refl, may)))
   does_move m n (uninstall pass word from value) base (p, acts, may, is) = subst (Moves M m) (sym is) (takes_or_loses m pass p word from value acts may)

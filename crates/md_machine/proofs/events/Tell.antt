@@ -142,16 +142,17 @@ module _ (M : Meaning) (m n : Machine) (f : AreFormats (shape_of m) m.words) (ap
   plainly D (by_ready x) = inr (inl (
       let c = x.may.certified (eq-eqb (content m (address (shape_of m) (desc_status x.hand.attempt.desc))) (unready_word x.hand.attempt) (ap (content m) (sym x.there) ∙ x.was)) in record {
         hand = x.hand;
+        certificates = x.certificates;
         count = x.count;
         held = x.may.held;
         own = x.may.own;
         few = x.may.few;
         recorded = x.may.recorded;
-        own_nodes = All-map (λ (y : PlacedNode). HasNode (shape_of m) v.p y.node) (λ (n : NewNode). record { node = n.node; structure = n.structure }) (all_nodes x.hand.certificates)
-            (All-weaker (λ (n : NewNode). IsOwnNode m v.p n.node) (λ n. HasNode (shape_of m) v.p n.node) (λ n own. own.0) (all_nodes x.hand.certificates) c.nodes);
-        free = All-map (λ (y : PlacedNode). never_placed m y.node ≡ true) (λ (n : NewNode). record { node = n.node; structure = n.structure }) (all_nodes x.hand.certificates)
-            (All-weaker (λ (n : NewNode). IsOwnNode m v.p n.node) (λ n. never_placed m n.node ≡ true) (λ n own. own.1) (all_nodes x.hand.certificates) c.nodes);
-        differ = placed_differ (all_nodes x.hand.certificates) c.differ;
+        own_nodes = All-map (λ (y : PlacedNode). HasNode (shape_of m) v.p y.node) (λ (n : NewNode). record { node = n.node; structure = n.structure }) (all_nodes x.certificates)
+            (All-weaker (λ (n : NewNode). IsOwnNode m v.p n.node) (λ n. HasNode (shape_of m) v.p n.node) (λ n own. own.0) (all_nodes x.certificates) c.nodes);
+        free = All-map (λ (y : PlacedNode). never_placed m y.node ≡ true) (λ (n : NewNode). record { node = n.node; structure = n.structure }) (all_nodes x.certificates)
+            (All-weaker (λ (n : NewNode). IsOwnNode m v.p n.node) (λ n. never_placed m n.node ≡ true) (λ n own. own.1) (all_nodes x.certificates) c.nodes);
+        differ = placed_differ (all_nodes x.certificates) c.differ;
         there = x.there;
         was = x.was;
         is = x.is;

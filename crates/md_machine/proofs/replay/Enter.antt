@@ -72,13 +72,13 @@ module _ (M : Meaning) (lawful : Lawful M) (m n : Machine) (w : Moves M m n) (s 
   a = s.hand.attempt
 
   abbrev e : HistoryEntry
-  e = history_entry m s.hand s.count
+  e = history_entry m s.hand s.certificates s.count
 
   abbrev reads : List Read
   reads = reads_now m a.desc s.count
 
   abbrev certificates : List Certificate
-  certificates = s.hand.certificates
+  certificates = s.certificates
 
   unready : status_at m a.desc ≡ unready_word a
   unready = ap (content m) (sym s.there) ∙ s.was
@@ -94,7 +94,7 @@ module _ (M : Meaning) (lawful : Lawful M) (m n : Machine) (w : Moves M m n) (s 
     idle = prep_idle m a unready m.history m.fates entries;
   }
 
-  pub certified : IsCertified M m w.p s.hand reads (writes_now m a)
+  pub certified : IsCertified M m w.p s.hand certificates reads (writes_now m a)
   certified = s.may.certified (eq-eqb (status_at m a.desc) (unready_word a) unready)
 
   -- its nodes are nodes of the field, and none of them is placed

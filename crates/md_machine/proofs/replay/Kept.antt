@@ -146,7 +146,7 @@ module _ (M : Meaning) where
     enter_on s =
         let g = grounds_of m k in
         let stamps = (kept_by m k).stamps in
-        let e = history_entry m s.hand s.count in
+        let e = history_entry m s.hand s.certificates s.count in
         let words : set m.words (address (shape_of m) (desc_status s.hand.attempt.desc)) (ready_word s.hand.attempt s.count) ≡ n.words = sym (w.words ∙ ap (λ x. set m.words x w.new) s.there ∙ ap (set m.words (address (shape_of m) (desc_status s.hand.attempt.desc))) s.is) in
         let old : (x : HistoryEntry) → Contains m.history x → All (λ y. IsNode (shape_of n) y.node) x.placed = λ x c. subst (λ (o : Opening). All (λ y. IsNode o.shape y.node) x.placed) (sym on.opening) (was.exist.entered x c) in
         record {

@@ -45,13 +45,13 @@ within_last (x ∷ js) (y ∷ ks) j k fits w = let rest = within_last js ks j k 
 module _ (M : Meaning) (lawful : Lawful M) (m n : Machine) (k : Invariant m) (kn : Invariant n) (on : GoesOn m n)
     (w : Moves M m n) (was : Means M m) (s : WinsReady M m n w.p w.kind w.word w.new) where
   abbrev e : HistoryEntry
-  e = history_entry m s.hand s.count
+  e = history_entry m s.hand s.certificates s.count
 
   abbrev writes : List Write
   writes = writes_now m s.hand.attempt
 
   abbrev placed : List PlacedNode
-  placed = placed_by s.hand.certificates
+  placed = placed_by s.certificates
 
   abbrev fate : length m.fates ≡ length m.history
   fate = fated_now M lawful m n k kn on w was
@@ -146,17 +146,17 @@ module _ (M : Meaning) (lawful : Lawful M) (m n : Machine) (k : Invariant m) (kn
 
     fresh : All (λ x. Fresh x.node) placed
     fresh = All-map (λ (x : PlacedNode). Fresh x.node)
-        (λ (c : NewNode). let x : PlacedNode = record { node = c.node; structure = c.structure } in x) (all_nodes s.hand.certificates)
+        (λ (c : NewNode). let x : PlacedNode = record { node = c.node; structure = c.structure } in x) (all_nodes s.certificates)
         (λ i d below. (none i d below, next many q i d below ∙ sym (next few r i d below)))
       where
-        certain : IsCertified M m w.p s.hand (reads_now m s.hand.attempt.desc s.count) writes
+        certain : IsCertified M m w.p s.hand s.certificates (reads_now m s.hand.attempt.desc s.count) writes
         certain = certified M lawful m n w s k.formats g k.entries stamps fate was.exist
 
-        none : All (λ (c : NewNode). h2.placed c.node ≡ None) (all_nodes s.hand.certificates)
+        none : All (λ (c : NewNode). h2.placed c.node ≡ None) (all_nodes s.certificates)
         none = nodes_fresh M lawful m n w s k.formats g k.entries stamps fate was.exist many q
 
         next : (choice : List Bool) → Resolves m choice
-            → All (λ (c : NewNode). next_of (logical_heap m choice).words c.node ≡ c.next) (all_nodes s.hand.certificates)
+            → All (λ (c : NewNode). next_of (logical_heap m choice).words c.node ≡ c.next) (all_nodes s.certificates)
         next choice t i d below = ((certain.chain choice t).words i d below).next
 
     with_rise : KeepsFacts (with_entry h1 writes placed) (with_entry h2 writes placed)

@@ -37,7 +37,7 @@ pub record MayMarkBegin (m : Machine) (p : PassView) (desc : ℕ) : Type 0 where
   pub first : was_begun m.begun (present m desc) ≡ false
 
 abbrev pub new_hand : AttemptId → (tag : ℕ) → Hand
-new_hand a tag = record { attempt = a; tag = tag; acts = []; certificates = []; operating = false; changes = []; stored = [] }
+new_hand a tag = record { attempt = a; tag = tag; acts = []; operating = false; changes = []; stored = [] }
 
 abbrev pub after_mark_begin : Machine → (pass : ℕ) → PassView → (desc tag : ℕ) → Machine
 after_mark_begin m pass p desc tag =
@@ -56,7 +56,6 @@ after_mark_start m pass p h = after_move m pass (record (marked m p) { hand = So
 abbrev pub hand_after_mark_act : Hand → Certificate → Hand
 hand_after_mark_act h c = record h {
   acts = h.acts ++ act_of c.op c.reply ∷ [];
-  certificates = h.certificates ++ c ∷ [];
   operating = false;
   changes = [];
   stored = [];
@@ -65,7 +64,8 @@ hand_after_mark_act h c = record h {
 module _ (M : Meaning) where
   -- act: the certificate is one of the theory, its changes and its new nodes are those that were made and stored since
   -- the operation began, and each word that it records is among the reads that the attempt has stored so far or its
-  -- slots. That the certificates of all acts stand one after another is asked at the ready step alone
+  -- slots. That the certificates of all acts stand one after another is asked at the ready step alone: it brings
+  -- certificates for these acts, and they need not be those of the marks
   pub record MayMarkAct (m : Machine) (p : PassView) (h : Hand) (c : Certificate) : Type 0 where
     pub held : p.hand ≡ Some h
     pub operates : h.operating ≡ true

@@ -18,6 +18,7 @@ use Rattle.md_machine.specs.declared.attempt.Hand.{Hand}
 use Rattle.md_machine.specs.declared.attempt.HistoryEntry.{HistoryEntry}
 use Rattle.md_machine.specs.declared.attempt.Read.{Read}
 use Rattle.md_machine.specs.declared.attempt.Write.{Write}
+use Rattle.md_machine.specs.declared.certificate.Certificate.{Certificate}
 use Rattle.md_machine.specs.declared.step.Step.{Step}
 use Rattle.md_machine.specs.declared.step.Kind.TheVariants.{Ready, Install as Installs}
 use Rattle.md_machine.specs.declared.pass.PassView.{PassView}
@@ -80,15 +81,15 @@ abbrev pub wins_ready : Machine → AttemptId → Bool
 wins_ready m a = wins m (address (shape_of m) (desc_status a.desc)) (unready_word a)
 
 module _ (M : Meaning) where
-  -- ready: a step that wins is of a certified transaction
-  pub record MayReady (m : Machine) (p : PassView) (h : Hand) (count : ℕ) : Type 0 where
+  -- ready: a step that wins is of a transaction that these certificates certify
+  pub record MayReady (m : Machine) (p : PassView) (h : Hand) (cs : List Certificate) (count : ℕ) : Type 0 where
     pub held : p.hand ≡ Some h
     pub own : HasDesc (shape_of m) p h.attempt.desc
     pub few : count ≤ SET
     pub stored : (i : ℕ) → i < count → IsStoredRead m p h.attempt i
     pub recorded : All (MayRecord m p) (reads_now m h.attempt.desc count)
     pub installed : All (λ w. SomeStepOf p (InstallsFor h.attempt w)) (writes_now m h.attempt)
-    pub certified : wins_ready m h.attempt ≡ true → IsCertified M m p h (reads_now m h.attempt.desc count) (writes_now m h.attempt)
+    pub certified : wins_ready m h.attempt ≡ true → IsCertified M m p h cs (reads_now m h.attempt.desc count) (writes_now m h.attempt)
 
 -- the entry of an attempt that becomes ready
 abbrev pub entry_now : Machine → Hand → (count : ℕ) → Entry
@@ -102,36 +103,36 @@ entry_now m h count =
       sound = list_all (λ r. r.stood) (reads_now m h.attempt.desc count);
     }
 
-abbrev pub history_entry : Machine → Hand → (count : ℕ) → HistoryEntry
-history_entry m h count = record {
+abbrev pub history_entry : Machine → Hand → List Certificate → (count : ℕ) → HistoryEntry
+history_entry m h cs count = record {
   entry = entry_now m h count;
   attempt = h.attempt;
   reads = reads_now m h.attempt.desc count;
   writes = writes_now m h.attempt;
-  certificates = h.certificates;
-  placed = placed_by h.certificates;
+  certificates = cs;
+  placed = placed_by cs;
 }
 
-abbrev pub history_after_ready : Machine → Hand → (count : ℕ) → List HistoryEntry
-history_after_ready m h count = m.history ++ history_entry m h count ∷ []
+abbrev pub history_after_ready : Machine → Hand → List Certificate → (count : ℕ) → List HistoryEntry
+history_after_ready m h cs count = m.history ++ history_entry m h cs count ∷ []
 
 abbrev pub fates_after_ready : Machine → List Fate
 fates_after_ready m = m.fates ++ Undecided ∷ []
 
 -- a pass whose ready step wins has seen the whole history, and knows its fates as they are
-abbrev pub view_after_ready : Machine → PassView → Hand → (count : ℕ) → PassView
-view_after_ready m p h count =
+abbrev pub view_after_ready : Machine → PassView → Hand → List Certificate → (count : ℕ) → PassView
+view_after_ready m p h cs count =
     let word = address (shape_of m) (desc_status h.attempt.desc) in
     let stepped = exchanged m p Ready word (unready_word h.attempt) (ready_word h.attempt count) in
     if wins m word (unready_word h.attempt)
-    then record stepped { seen = history_after_ready m h count; known = fates_after_ready m }
+    then record stepped { seen = history_after_ready m h cs count; known = fates_after_ready m }
     else stepped
 
-abbrev pub after_ready : Machine → (pass : ℕ) → PassView → Hand → (count : ℕ) → Machine
-after_ready m pass p h count =
+abbrev pub after_ready : Machine → (pass : ℕ) → PassView → Hand → List Certificate → (count : ℕ) → Machine
+after_ready m pass p h cs count =
     let word = address (shape_of m) (desc_status h.attempt.desc) in
     let won = wins m word (unready_word h.attempt) in
-    record (replaced m pass (view_after_ready m p h count) word (left_by m word (unready_word h.attempt) (ready_word h.attempt count))) {
-      history = if won then history_after_ready m h count else m.history;
+    record (replaced m pass (view_after_ready m p h cs count) word (left_by m word (unready_word h.attempt) (ready_word h.attempt count))) {
+      history = if won then history_after_ready m h cs count else m.history;
       fates = if won then fates_after_ready m else m.fates;
     }

@@ -10,37 +10,37 @@ use Rattle.md_machine.specs.Event.{Does, abort, load, mark_begin, mark_start, un
 use Rattle.md_machine.specs.Machine.{Machine}
 use Rattle.md_machine.specs.Meaning.{Meaning}
 use Rattle.md_schedules.specs.Field.{bucket, place_word, small_shape, standing}
-use Rattle.md_schedules.specs.Schedules.{aborting}
+use Rattle.md_schedules.specs.Schedules.{aborting, stopping_certificates}
 use Rattle.md_schedules.specs.Walk.{after_event, hand_at, view_at}
 use Rattle.md_schedules.proofs.Walking.{Walks, nth, saw_at}
 use Rattle.md_schedules.proofs.walks.Inserting.{m13}
 
 abbrev s14 : Machine
-s14 = after_event m13 (load 1 (place_word (desc_status 1)))
+s14 = after_event stopping_certificates m13 (load 1 (place_word (desc_status 1)))
 
 abbrev s15 : Machine
-s15 = after_event s14 (mark_begin 1 1 2)
+s15 = after_event stopping_certificates s14 (mark_begin 1 1 2)
 
 abbrev s16 : Machine
-s16 = after_event s15 (mark_start 1)
+s16 = after_event stopping_certificates s15 (mark_start 1)
 
 abbrev s17 : Machine
-s17 = after_event s16 (load 1 bucket)
+s17 = after_event stopping_certificates s16 (load 1 bucket)
 
 abbrev s18 : Machine
-s18 = after_event s17 (load 1 (place_word (desc_status 0)))
+s18 = after_event stopping_certificates s17 (load 1 (place_word (desc_status 0)))
 
 abbrev s19 : Machine
-s19 = after_event s18 (load 1 bucket)
+s19 = after_event stopping_certificates s18 (load 1 bucket)
 
 abbrev s20 : Machine
-s20 = after_event s19 (abort 1 0 0)
+s20 = after_event stopping_certificates s19 (abort 1 0 0)
 
 abbrev s21 : Machine
-s21 = after_event s20 (load 1 (place_word (slot_old 0 0)))
+s21 = after_event stopping_certificates s20 (load 1 (place_word (slot_old 0 0)))
 
 abbrev pub s22 : Machine
-s22 = after_event s21 (uninstall 1 bucket (standing 0) 0)
+s22 = after_event stopping_certificates s21 (uninstall 1 bucket (standing 0) 0)
 
 module _ (M : Meaning) where
   does_13 : Does M m13 (load 1 (place_word (desc_status 1))) s14
@@ -114,5 +114,5 @@ module _ (M : Meaning) where
   )
 
   -- from where the insert stalls
-  pub aborts : Walks M m13 aborting
+  pub aborts : Walks M stopping_certificates m13 aborting
   aborts = (does_13, (does_14, (does_15, (does_16, (does_17, (does_18, (does_19, (does_20, (does_21, tt)))))))))

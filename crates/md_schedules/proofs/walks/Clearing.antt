@@ -11,45 +11,45 @@ use Rattle.md_machine.specs.Machine.{Machine}
 use Rattle.md_machine.specs.Meaning.{Meaning}
 use Rattle.md_schedules.specs.Field.{bucket, first_slot, link_to, place_word, small_shape, standing}
 use Rattle.md_schedules.specs.Clearing.{clearing, installed, installing}
-use Rattle.md_schedules.specs.Walk.{after_event, hand_at, view_at}
+use Rattle.md_schedules.specs.Walk.{after_event, hand_at, no_certificates, view_at}
 use Rattle.md_schedules.proofs.Walking.{Walks, nth, saw_at}
 use Rattle.md_schedules.proofs.walks.Beginning.{m0}
 
 abbrev c1 : Machine
-c1 = after_event m0 (split 0)
+c1 = after_event no_certificates m0 (split 0)
 
 abbrev c2 : Machine
-c2 = after_event c1 (mark_begin 0 0 0)
+c2 = after_event no_certificates c1 (mark_begin 0 0 0)
 
 abbrev c3 : Machine
-c3 = after_event c2 (store 0 (place_word (slot_word 0 0)) bucket)
+c3 = after_event no_certificates c2 (store 0 (place_word (slot_word 0 0)) bucket)
 
 abbrev c4 : Machine
-c4 = after_event c3 (store 0 (place_word (slot_old 0 0)) 0)
+c4 = after_event no_certificates c3 (store 0 (place_word (slot_old 0 0)) 0)
 
 abbrev c5 : Machine
-c5 = after_event c4 (store 0 (place_word (slot_new 0 0)) (link_to 2))
+c5 = after_event no_certificates c4 (store 0 (place_word (slot_new 0 0)) (link_to 2))
 
 abbrev c6 : Machine
-c6 = after_event c5 (install 0 bucket 0 (first_slot 0))
+c6 = after_event no_certificates c5 (install 0 bucket 0 (first_slot 0))
 
 abbrev c7 : Machine
-c7 = after_event c6 (load 1 bucket)
+c7 = after_event no_certificates c6 (load 1 bucket)
 
 abbrev c8 : Machine
-c8 = after_event c7 (load 1 (place_word (desc_status 0)))
+c8 = after_event no_certificates c7 (load 1 (place_word (desc_status 0)))
 
 abbrev c9 : Machine
-c9 = after_event c8 (load 1 bucket)
+c9 = after_event no_certificates c8 (load 1 bucket)
 
 abbrev c10 : Machine
-c10 = after_event c9 (abort 1 0 0)
+c10 = after_event no_certificates c9 (abort 1 0 0)
 
 abbrev c11 : Machine
-c11 = after_event c10 (load 1 (place_word (slot_old 0 0)))
+c11 = after_event no_certificates c10 (load 1 (place_word (slot_old 0 0)))
 
 abbrev c12 : Machine
-c12 = after_event c11 (uninstall 1 bucket (standing 0) 0)
+c12 = after_event no_certificates c11 (uninstall 1 bucket (standing 0) 0)
 
 module _ (M : Meaning) where
   does_0 : Does M m0 (split 0) c1
@@ -169,9 +169,9 @@ module _ (M : Meaning) where
   )
 
   -- pass 0 installs the descriptor
-  pub installs : Walks M m0 installing
+  pub installs : Walks M no_certificates m0 installing
   installs = (does_0, (does_1, (does_2, (does_3, (does_4, (does_5, tt))))))
 
   -- pass 1 clears it
-  pub clears : Walks M installed clearing
+  pub clears : Walks M no_certificates installed clearing
   clears = (does_6, (does_7, (does_8, (does_9, (does_10, (does_11, tt))))))

@@ -16,41 +16,41 @@ use Rattle.md_machine.specs.Trail.{SomeStepOf}
 use Rattle.md_machine.specs.events.Ready.{InstallsFor, MayRecord}
 use Rattle.md_schedules.specs.Field.{bucket, link_to, place_word, small_shape, standing}
 use Rattle.md_schedules.specs.Transactions.{inserts}
-use Rattle.md_schedules.specs.Schedules.{completing}
+use Rattle.md_schedules.specs.Schedules.{completing, helping_certificates}
 use Rattle.md_schedules.specs.Walk.{after_event, hand_at, view_at}
 use Rattle.md_schedules.proofs.Walking.{Walks, nth, only_none, only_one, saw_at, step_at}
 use Rattle.md_schedules.proofs.Certifying.{insert_certified, insert_in, insert_slot}
 use Rattle.md_schedules.proofs.walks.Inserting.{m13}
 
 abbrev h14 : Machine
-h14 = after_event m13 (ready 0 0)
+h14 = after_event helping_certificates m13 (ready 0 0)
 
 abbrev h15 : Machine
-h15 = after_event h14 (load 1 (place_word (desc_status 1)))
+h15 = after_event helping_certificates h14 (load 1 (place_word (desc_status 1)))
 
 abbrev h16 : Machine
-h16 = after_event h15 (mark_begin 1 1 2)
+h16 = after_event helping_certificates h15 (mark_begin 1 1 2)
 
 abbrev h17 : Machine
-h17 = after_event h16 (mark_start 1)
+h17 = after_event helping_certificates h16 (mark_start 1)
 
 abbrev h18 : Machine
-h18 = after_event h17 (load 1 bucket)
+h18 = after_event helping_certificates h17 (load 1 bucket)
 
 abbrev h19 : Machine
-h19 = after_event h18 (load 1 (place_word (desc_status 0)))
+h19 = after_event helping_certificates h18 (load 1 (place_word (desc_status 0)))
 
 abbrev h20 : Machine
-h20 = after_event h19 (load 1 bucket)
+h20 = after_event helping_certificates h19 (load 1 bucket)
 
 abbrev h21 : Machine
-h21 = after_event h20 (commit 1 0 1)
+h21 = after_event helping_certificates h20 (commit 1 0 1)
 
 abbrev h22 : Machine
-h22 = after_event h21 (load 1 (place_word (slot_new 0 0)))
+h22 = after_event helping_certificates h21 (load 1 (place_word (slot_new 0 0)))
 
 abbrev pub h23 : Machine
-h23 = after_event h22 (uninstall 1 bucket (standing 0) (link_to 2))
+h23 = after_event helping_certificates h22 (uninstall 1 bucket (standing 0) (link_to 2))
 
 chain_13 : InEveryResolution m13 (CertifiedIn [] (insert_slot 2 ∷ []) (inserts 2 ∷ []))
 unfolding value_of count_of is_even counted_word spot_value spot_of
@@ -64,6 +64,7 @@ module _ (M : Meaning) (ins : M.certifies small_shape (inserts 2)) where
   does_13 = (
     view_at m13 0,
     hand_at m13 0,
+    inserts 2 ∷ [],
     record { at = refl; live = lit≤ tt },
     record {
       held = refl;
@@ -76,7 +77,8 @@ module _ (M : Meaning) (ins : M.certifies small_shape (inserts 2)) where
         (0, lit≤ tt, refl),
         (nth (view_at m13 0) 11, (11, lit≤ tt, refl), record { kind = refl; attempt = refl; won = λ e. omega (arith, e); left = record { there = refl; after = refl } }),
       );
-      certified = λ won. insert_certified M m13 (view_at m13 0) (hand_at m13 0) 2 ins ((0, (0, lit≤ tt, refl), (lit≤ tt, lit≤ tt, lit≤ tt)), refl) chain_13;
+      certified = λ won. insert_certified M m13 (view_at m13 0) (hand_at m13 0) 2 ins ((0, (0, lit≤ tt, refl), (lit≤ tt, lit≤ tt, lit≤ tt)), refl)
+          ((view_at m13 0).trail, (0, lit≤ tt, refl), (nth (view_at m13 0) 7, (7, lit≤ tt, refl), record { kind = refl; attempt = refl; there = refl })) chain_13;
     },
     refl,
   )
@@ -146,5 +148,5 @@ module _ (M : Meaning) (ins : M.certifies small_shape (inserts 2)) where
   )
 
   -- from where the insert becomes ready
-  pub completes : Walks M m13 completing
+  pub completes : Walks M helping_certificates m13 completing
   completes = (does_13, (does_14, (does_15, (does_16, (does_17, (does_18, (does_19, (does_20, (does_21, (does_22, tt))))))))))

@@ -20,41 +20,41 @@ use Rattle.md_machine.specs.events.Decide.{FoundRead}
 use Rattle.md_machine.specs.events.Ready.{InstallsFor, IsStoredRead, MayRecord, read_now}
 use Rattle.md_schedules.specs.Field.{place_word, small_shape}
 use Rattle.md_schedules.specs.Transactions.{finds, found_node}
-use Rattle.md_schedules.specs.Schedules.{finding}
+use Rattle.md_schedules.specs.Schedules.{finding, helping_certificates}
 use Rattle.md_schedules.specs.Walk.{after_event, hand_at, view_at}
 use Rattle.md_schedules.proofs.Walking.{Walks, nth, one_below, only_none, only_one, step_at, stored_at}
 use Rattle.md_schedules.proofs.Certifying.{look_up_certified, look_up_found, look_up_in}
 use Rattle.md_schedules.proofs.walks.Completing.{h23}
 
 abbrev h24 : Machine
-h24 = after_event h23 (load 1 (place_word (node_next 2)))
+h24 = after_event helping_certificates h23 (load 1 (place_word (node_next 2)))
 
 abbrev h25 : Machine
-h25 = after_event h24 (load 1 (place_word (node_key 2)))
+h25 = after_event helping_certificates h24 (load 1 (place_word (node_key 2)))
 
 abbrev h26 : Machine
-h26 = after_event h25 (store 1 (place_word (read_word 1 0)) (place_word (node_next 2)))
+h26 = after_event helping_certificates h25 (store 1 (place_word (read_word 1 0)) (place_word (node_next 2)))
 
 abbrev h27 : Machine
-h27 = after_event h26 (store 1 (place_word (read_content 1 0)) 2)
+h27 = after_event helping_certificates h26 (store 1 (place_word (read_content 1 0)) 2)
 
 abbrev h28 : Machine
-h28 = after_event h27 (load 1 (place_word (node_value 2)))
+h28 = after_event helping_certificates h27 (load 1 (place_word (node_value 2)))
 
 abbrev h29 : Machine
-h29 = after_event h28 (mark_act 1 finds)
+h29 = after_event helping_certificates h28 (mark_act 1 finds)
 
 abbrev h30 : Machine
-h30 = after_event h29 (ready 1 1)
+h30 = after_event helping_certificates h29 (ready 1 1)
 
 abbrev h31 : Machine
-h31 = after_event h30 (load 1 (place_word (node_next 2)))
+h31 = after_event helping_certificates h30 (load 1 (place_word (node_next 2)))
 
 abbrev h32 : Machine
-h32 = after_event h31 (commit 1 1 5)
+h32 = after_event helping_certificates h31 (commit 1 1 5)
 
 abbrev h33 : Machine
-h33 = after_event h32 (mark_end 1)
+h33 = after_event helping_certificates h32 (mark_end 1)
 
 chain_29 : InEveryResolution h29 (CertifiedIn (read_now h29 1 0 ∷ []) [] (finds ∷ []))
 unfolding value_of count_of is_even counted_word spot_value spot_of
@@ -131,6 +131,7 @@ module _ (M : Meaning) (fin : M.certifies small_shape finds) where
   does_29 = (
     view_at h29 1,
     hand_at h29 1,
+    finds ∷ [],
     record { at = refl; live = lit≤ tt },
     record {
       held = refl;
@@ -197,5 +198,5 @@ module _ (M : Meaning) (fin : M.certifies small_shape finds) where
   )
 
   -- to the end of the schedule
-  pub finds_next : Walks M h23 finding
+  pub finds_next : Walks M helping_certificates h23 finding
   finds_next = (does_23, (does_24, (does_25, (does_26, (does_27, (does_28, (does_29, (does_30, (does_31, (does_32, tt))))))))))

@@ -12,7 +12,7 @@ use Rattle.md_words.specs.Place.{desc_status, node_key, node_value, read_content
 use Rattle.md_machine.specs.Event.{Does, load, mark_act, mark_begin, mark_start, opened, split, store}
 use Rattle.md_machine.specs.events.Ready.{IsStoredRead}
 use Rattle.md_schedules.specs.Field.{bucket, place_word, small_shape}
-use Rattle.md_schedules.specs.Unlinking.{finding_first, finds_first, first_next, keyed_opening}
+use Rattle.md_schedules.specs.Unlinking.{finding_first, finds_first, first_next, keyed_opening, unlinking_certificates}
 use Rattle.md_schedules.proofs.Walking.{Walks, one_below, only_none, stored_at}
 use Rattle.md_schedules.proofs.Unlinks.{first_found}
 
@@ -20,37 +20,37 @@ abbrev pub u0 : Machine
 u0 = opened keyed_opening
 
 abbrev u1 : Machine
-u1 = after_event u0 (split 0)
+u1 = after_event unlinking_certificates u0 (split 0)
 
 abbrev u2 : Machine
-u2 = after_event u1 (load 0 (place_word (desc_status 0)))
+u2 = after_event unlinking_certificates u1 (load 0 (place_word (desc_status 0)))
 
 abbrev u3 : Machine
-u3 = after_event u2 (mark_begin 0 0 1)
+u3 = after_event unlinking_certificates u2 (mark_begin 0 0 1)
 
 abbrev u4 : Machine
-u4 = after_event u3 (mark_start 0)
+u4 = after_event unlinking_certificates u3 (mark_start 0)
 
 abbrev u5 : Machine
-u5 = after_event u4 (load 0 bucket)
+u5 = after_event unlinking_certificates u4 (load 0 bucket)
 
 abbrev u6 : Machine
-u6 = after_event u5 (load 0 first_next)
+u6 = after_event unlinking_certificates u5 (load 0 first_next)
 
 abbrev u7 : Machine
-u7 = after_event u6 (load 0 (place_word (node_key 1)))
+u7 = after_event unlinking_certificates u6 (load 0 (place_word (node_key 1)))
 
 abbrev u8 : Machine
-u8 = after_event u7 (load 0 (place_word (node_value 1)))
+u8 = after_event unlinking_certificates u7 (load 0 (place_word (node_value 1)))
 
 abbrev u9 : Machine
-u9 = after_event u8 (store 0 (place_word (read_word 0 0)) first_next)
+u9 = after_event unlinking_certificates u8 (store 0 (place_word (read_word 0 0)) first_next)
 
 abbrev u10 : Machine
-u10 = after_event u9 (store 0 (place_word (read_content 0 0)) 0)
+u10 = after_event unlinking_certificates u9 (store 0 (place_word (read_content 0 0)) 0)
 
 abbrev pub u11 : Machine
-u11 = after_event u10 (mark_act 0 finds_first)
+u11 = after_event unlinking_certificates u10 (mark_act 0 finds_first)
 
 module _ (M : Meaning) (fin : M.certifies small_shape finds_first) where
   does_0 : Does M u0 (split 0) u1
@@ -182,5 +182,5 @@ module _ (M : Meaning) (fin : M.certifies small_shape finds_first) where
   )
 
   -- up to the mark that notes the get
-  pub finds_it : Walks M u0 finding_first
+  pub finds_it : Walks M unlinking_certificates u0 finding_first
   finds_it = (does_0, (does_1, (does_2, (does_3, (does_4, (does_5, (does_6, (does_7, (does_8, (does_9, (does_10, tt)))))))))))

@@ -17,25 +17,25 @@ use Rattle.md_machine.specs.Resolution.{InEveryResolution, logical_heap}
 use Rattle.md_machine.specs.Trail.{SomeStepOf}
 use Rattle.md_machine.specs.events.Ready.{InstallsFor, IsStoredRead, MayRecord}
 use Rattle.md_schedules.specs.Field.{bucket, link_to, small_shape, standing}
-use Rattle.md_schedules.specs.Unlinking.{finds_first, first_link, first_next, giving_up, misses_second, unlinks_first}
+use Rattle.md_schedules.specs.Unlinking.{finds_first, first_link, first_next, giving_up, misses_second, unlinking_certificates, unlinks_first}
 use Rattle.md_schedules.proofs.Walking.{Walks, nth, one_below, only_one, step_at, stored_at}
 use Rattle.md_schedules.proofs.Unlinks.{first_read, unlink_certified, unlink_in, unlink_slot}
 use Rattle.md_schedules.proofs.walks.UnlinkingFirst.{u35}
 
 abbrev u36 : Machine
-u36 = after_event u35 (ready 0 1)
+u36 = after_event unlinking_certificates u35 (ready 0 1)
 
 abbrev u37 : Machine
-u37 = after_event u36 (load 0 first_next)
+u37 = after_event unlinking_certificates u36 (load 0 first_next)
 
 abbrev u38 : Machine
-u38 = after_event u37 (abort 0 0 5)
+u38 = after_event unlinking_certificates u37 (abort 0 0 5)
 
 abbrev u39 : Machine
-u39 = after_event u38 (uninstall 0 bucket (standing 0) (link_to 1))
+u39 = after_event unlinking_certificates u38 (uninstall 0 bucket (standing 0) (link_to 1))
 
 abbrev pub u40 : Machine
-u40 = after_event u39 (mark_end 0)
+u40 = after_event unlinking_certificates u39 (mark_end 0)
 
 chain_35 : InEveryResolution u35
     (CertifiedIn (first_read false ∷ []) (unlink_slot ∷ []) (finds_first ∷ misses_second ∷ []))
@@ -56,6 +56,7 @@ module _ (M : Meaning) (fin : M.certifies small_shape finds_first) (mis : M.cert
   does_35 = (
     view_at u35 0,
     hand_at u35 0,
+    finds_first ∷ misses_second ∷ [],
     record { at = refl; live = lit≤ tt },
     record {
       held = refl;
@@ -169,5 +170,5 @@ module _ (M : Meaning) (fin : M.certifies small_shape finds_first) (mis : M.cert
   )
 
   -- to the end of the schedule
-  pub gives_up : Walks M u35 giving_up
+  pub gives_up : Walks M unlinking_certificates u35 giving_up
   gives_up = (does_35, (does_36, (does_37, (does_38, (does_39, tt)))))

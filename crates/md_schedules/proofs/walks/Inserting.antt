@@ -11,34 +11,34 @@ use Rattle.md_machine.specs.Machine.{Machine}
 use Rattle.md_machine.specs.Meaning.{Meaning}
 use Rattle.md_schedules.specs.Field.{bucket, first_slot, link_to, place_word, small_shape}
 use Rattle.md_schedules.specs.Transactions.{inserting, inserts}
-use Rattle.md_schedules.specs.Walk.{after_event, hand_at, view_at}
+use Rattle.md_schedules.specs.Walk.{Certificates, after_event, hand_at, no_certificates, view_at}
 use Rattle.md_schedules.proofs.Walking.{Walks, only_none}
 use Rattle.md_schedules.proofs.Certifying.{insert_found}
 use Rattle.md_schedules.proofs.walks.Beginning.{m5}
 
 abbrev m6 : Machine
-m6 = after_event m5 (store 0 (place_word (node_key 2)) 1)
+m6 = after_event no_certificates m5 (store 0 (place_word (node_key 2)) 1)
 
 abbrev m7 : Machine
-m7 = after_event m6 (store 0 (place_word (node_value 2)) 10)
+m7 = after_event no_certificates m6 (store 0 (place_word (node_value 2)) 10)
 
 abbrev m8 : Machine
-m8 = after_event m7 (store 0 (place_word (node_next 2)) 2)
+m8 = after_event no_certificates m7 (store 0 (place_word (node_next 2)) 2)
 
 abbrev m9 : Machine
-m9 = after_event m8 (store 0 (place_word (slot_word 0 0)) bucket)
+m9 = after_event no_certificates m8 (store 0 (place_word (slot_word 0 0)) bucket)
 
 abbrev m10 : Machine
-m10 = after_event m9 (store 0 (place_word (slot_old 0 0)) 0)
+m10 = after_event no_certificates m9 (store 0 (place_word (slot_old 0 0)) 0)
 
 abbrev m11 : Machine
-m11 = after_event m10 (store 0 (place_word (slot_new 0 0)) (link_to 2))
+m11 = after_event no_certificates m10 (store 0 (place_word (slot_new 0 0)) (link_to 2))
 
 abbrev m12 : Machine
-m12 = after_event m11 (install 0 bucket 0 (first_slot 0))
+m12 = after_event no_certificates m11 (install 0 bucket 0 (first_slot 0))
 
 abbrev pub m13 : Machine
-m13 = after_event m12 (mark_act 0 (inserts 2))
+m13 = after_event no_certificates m12 (mark_act 0 (inserts 2))
 
 module _ (M : Meaning) (ins : M.certifies small_shape (inserts 2)) where
   does_5 : Does M m5 (store 0 (place_word (node_key 2)) 1) m6
@@ -144,5 +144,5 @@ module _ (M : Meaning) (ins : M.certifies small_shape (inserts 2)) where
   )
 
   -- up to the mark that notes the insert
-  pub inserts_next : Walks M m5 (inserting 0 0 2)
-  inserts_next = (does_5, (does_6, (does_7, (does_8, (does_9, (does_10, (does_11, (does_12, tt))))))))
+  pub inserts_next : (by : Certificates) → Walks M by m5 (inserting 0 0 2)
+  inserts_next by = (does_5, (does_6, (does_7, (does_8, (does_9, (does_10, (does_11, (does_12, tt))))))))

@@ -18,23 +18,23 @@ use Rattle.md_machine.specs.Trail.{SomeStepOf}
 use Rattle.md_machine.specs.events.Ready.{InstallsFor, IsStoredRead, MayRecord, read_now}
 use Rattle.md_schedules.specs.Field.{bucket, link_to, small_shape}
 use Rattle.md_schedules.specs.Transactions.{misses}
-use Rattle.md_schedules.specs.Schedules.{losing}
+use Rattle.md_schedules.specs.Schedules.{losing, moving_certificates}
 use Rattle.md_schedules.specs.Walk.{after_event, hand_at, view_at}
 use Rattle.md_schedules.proofs.Walking.{Walks, nth, one_below, only_none, only_one, step_at, stored_at}
 use Rattle.md_schedules.proofs.Certifying.{look_up_certified, look_up_in}
 use Rattle.md_schedules.proofs.walks.Winning.{r24}
 
 abbrev r25 : Machine
-r25 = after_event r24 (ready 0 1)
+r25 = after_event moving_certificates r24 (ready 0 1)
 
 abbrev r26 : Machine
-r26 = after_event r25 (load 0 bucket)
+r26 = after_event moving_certificates r25 (load 0 bucket)
 
 abbrev r27 : Machine
-r27 = after_event r26 (abort 0 0 5)
+r27 = after_event moving_certificates r26 (abort 0 0 5)
 
 abbrev r28 : Machine
-r28 = after_event r27 (mark_end 0)
+r28 = after_event moving_certificates r27 (mark_end 0)
 
 chain_24 : InEveryResolution r24 (CertifiedIn (read_now r24 0 0 ∷ []) [] (misses ∷ []))
 unfolding value_of count_of is_even counted_word spot_value spot_of
@@ -52,6 +52,7 @@ module _ (M : Meaning) (mis : M.certifies small_shape misses) where
   does_24 = (
     view_at r24 0,
     hand_at r24 0,
+    misses ∷ [],
     record { at = refl; live = lit≤ tt },
     record {
       held = refl;
@@ -124,5 +125,5 @@ module _ (M : Meaning) (mis : M.certifies small_shape misses) where
   )
 
   -- to the end of the schedule
-  pub loses : Walks M r24 losing
+  pub loses : Walks M moving_certificates r24 losing
   loses = (does_24, (does_25, (does_26, (does_27, tt))))

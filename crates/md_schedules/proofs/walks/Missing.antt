@@ -20,35 +20,35 @@ use Rattle.md_machine.specs.events.Decide.{FoundRead}
 use Rattle.md_machine.specs.events.Ready.{InstallsFor, IsStoredRead, MayRecord, read_now}
 use Rattle.md_schedules.specs.Field.{bucket, place_word, small_shape}
 use Rattle.md_schedules.specs.Transactions.{misses}
-use Rattle.md_schedules.specs.Schedules.{missing}
+use Rattle.md_schedules.specs.Schedules.{missing, stopping_certificates}
 use Rattle.md_schedules.specs.Walk.{after_event, hand_at, view_at}
 use Rattle.md_schedules.proofs.Walking.{Walks, nth, one_below, only_none, only_one, step_at, stored_at}
 use Rattle.md_schedules.proofs.Certifying.{insert_slot, look_up_certified, look_up_found, look_up_in}
 use Rattle.md_schedules.proofs.walks.Aborting.{s22}
 
 abbrev s23 : Machine
-s23 = after_event s22 (store 1 (place_word (read_word 1 0)) bucket)
+s23 = after_event stopping_certificates s22 (store 1 (place_word (read_word 1 0)) bucket)
 
 abbrev s24 : Machine
-s24 = after_event s23 (store 1 (place_word (read_content 1 0)) 2)
+s24 = after_event stopping_certificates s23 (store 1 (place_word (read_content 1 0)) 2)
 
 abbrev s25 : Machine
-s25 = after_event s24 (mark_act 1 misses)
+s25 = after_event stopping_certificates s24 (mark_act 1 misses)
 
 abbrev s26 : Machine
-s26 = after_event s25 (ready 1 1)
+s26 = after_event stopping_certificates s25 (ready 1 1)
 
 abbrev s27 : Machine
-s27 = after_event s26 (load 1 bucket)
+s27 = after_event stopping_certificates s26 (load 1 bucket)
 
 abbrev s28 : Machine
-s28 = after_event s27 (commit 1 1 5)
+s28 = after_event stopping_certificates s27 (commit 1 1 5)
 
 abbrev s29 : Machine
-s29 = after_event s28 (mark_end 1)
+s29 = after_event stopping_certificates s28 (mark_end 1)
 
 abbrev s30 : Machine
-s30 = after_event s29 (ready 0 0)
+s30 = after_event stopping_certificates s29 (ready 0 0)
 
 chain_25 : InEveryResolution s25 (CertifiedIn (read_now s25 1 0 ∷ []) [] (misses ∷ []))
 unfolding value_of count_of is_even counted_word spot_value spot_of
@@ -107,6 +107,7 @@ module _ (M : Meaning) (mis : M.certifies small_shape misses) where
   does_25 = (
     view_at s25 1,
     hand_at s25 1,
+    misses ∷ [],
     record { at = refl; live = lit≤ tt },
     record {
       held = refl;
@@ -179,6 +180,7 @@ module _ (M : Meaning) (mis : M.certifies small_shape misses) where
   does_29 = (
     view_at s29 0,
     hand_at s29 0,
+    [],
     record { at = refl; live = lit≤ tt },
     record {
       held = refl;
@@ -197,5 +199,5 @@ module _ (M : Meaning) (mis : M.certifies small_shape misses) where
   )
 
   -- to the end of the schedule
-  pub misses_next : Walks M s22 missing
+  pub misses_next : Walks M stopping_certificates s22 missing
   misses_next = (does_22, (does_23, (does_24, (does_25, (does_26, (does_27, (does_28, (does_29, tt))))))))

@@ -13,20 +13,20 @@ use Rattle.md_machine.specs.Meaning.{Meaning}
 use Rattle.md_machine.specs.events.Ready.{IsStoredRead, read_now}
 use Rattle.md_schedules.specs.Field.{bucket, place_word, small_shape}
 use Rattle.md_schedules.specs.Transactions.{misses}
-use Rattle.md_schedules.specs.Schedules.{noting}
+use Rattle.md_schedules.specs.Schedules.{moving_certificates, noting}
 use Rattle.md_schedules.specs.Walk.{after_event, hand_at, view_at}
 use Rattle.md_schedules.proofs.Walking.{Walks, one_below, only_none, stored_at}
 use Rattle.md_schedules.proofs.Certifying.{look_up_found}
 use Rattle.md_schedules.proofs.walks.Beginning.{m5}
 
 abbrev r6 : Machine
-r6 = after_event m5 (store 0 (place_word (read_word 0 0)) bucket)
+r6 = after_event moving_certificates m5 (store 0 (place_word (read_word 0 0)) bucket)
 
 abbrev r7 : Machine
-r7 = after_event r6 (store 0 (place_word (read_content 0 0)) 0)
+r7 = after_event moving_certificates r6 (store 0 (place_word (read_content 0 0)) 0)
 
 abbrev pub r8 : Machine
-r8 = after_event r7 (mark_act 0 misses)
+r8 = after_event moving_certificates r7 (mark_act 0 misses)
 
 module _ (M : Meaning) (mis : M.certifies small_shape misses) where
   does_5 : Does M m5 (store 0 (place_word (read_word 0 0)) bucket) r6
@@ -75,5 +75,5 @@ module _ (M : Meaning) (mis : M.certifies small_shape misses) where
   )
 
   -- up to the mark that notes the get
-  pub notes : Walks M m5 noting
+  pub notes : Walks M moving_certificates m5 noting
   notes = (does_5, (does_6, (does_7, tt)))

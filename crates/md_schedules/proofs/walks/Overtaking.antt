@@ -11,47 +11,47 @@ use Rattle.md_machine.specs.Machine.{Machine}
 use Rattle.md_machine.specs.Meaning.{Meaning}
 use Rattle.md_schedules.specs.Field.{bucket, first_slot, link_to, place_word, small_shape}
 use Rattle.md_schedules.specs.Transactions.{inserts}
-use Rattle.md_schedules.specs.Schedules.{overtaking}
+use Rattle.md_schedules.specs.Schedules.{moving_certificates, overtaking}
 use Rattle.md_schedules.specs.Walk.{after_event, hand_at, view_at}
 use Rattle.md_schedules.proofs.Walking.{Walks, only_none}
 use Rattle.md_schedules.proofs.Certifying.{insert_found}
 use Rattle.md_schedules.proofs.walks.Noting.{r8}
 
 abbrev r9 : Machine
-r9 = after_event r8 (load 1 (place_word (desc_status 1)))
+r9 = after_event moving_certificates r8 (load 1 (place_word (desc_status 1)))
 
 abbrev r10 : Machine
-r10 = after_event r9 (mark_begin 1 1 2)
+r10 = after_event moving_certificates r9 (mark_begin 1 1 2)
 
 abbrev r11 : Machine
-r11 = after_event r10 (mark_start 1)
+r11 = after_event moving_certificates r10 (mark_start 1)
 
 abbrev r12 : Machine
-r12 = after_event r11 (load 1 bucket)
+r12 = after_event moving_certificates r11 (load 1 bucket)
 
 abbrev r13 : Machine
-r13 = after_event r12 (store 1 (place_word (node_key 18)) 1)
+r13 = after_event moving_certificates r12 (store 1 (place_word (node_key 18)) 1)
 
 abbrev r14 : Machine
-r14 = after_event r13 (store 1 (place_word (node_value 18)) 10)
+r14 = after_event moving_certificates r13 (store 1 (place_word (node_value 18)) 10)
 
 abbrev r15 : Machine
-r15 = after_event r14 (store 1 (place_word (node_next 18)) 2)
+r15 = after_event moving_certificates r14 (store 1 (place_word (node_next 18)) 2)
 
 abbrev r16 : Machine
-r16 = after_event r15 (store 1 (place_word (slot_word 1 0)) bucket)
+r16 = after_event moving_certificates r15 (store 1 (place_word (slot_word 1 0)) bucket)
 
 abbrev r17 : Machine
-r17 = after_event r16 (store 1 (place_word (slot_old 1 0)) 0)
+r17 = after_event moving_certificates r16 (store 1 (place_word (slot_old 1 0)) 0)
 
 abbrev r18 : Machine
-r18 = after_event r17 (store 1 (place_word (slot_new 1 0)) (link_to 18))
+r18 = after_event moving_certificates r17 (store 1 (place_word (slot_new 1 0)) (link_to 18))
 
 abbrev r19 : Machine
-r19 = after_event r18 (install 1 bucket 0 (first_slot 1))
+r19 = after_event moving_certificates r18 (install 1 bucket 0 (first_slot 1))
 
 abbrev pub r20 : Machine
-r20 = after_event r19 (mark_act 1 (inserts 18))
+r20 = after_event moving_certificates r19 (mark_act 1 (inserts 18))
 
 module _ (M : Meaning) (ins : M.certifies small_shape (inserts 18)) where
   does_8 : Does M r8 (load 1 (place_word (desc_status 1))) r9
@@ -172,5 +172,5 @@ module _ (M : Meaning) (ins : M.certifies small_shape (inserts 18)) where
   )
 
   -- up to the mark that notes the insert
-  pub overtakes : Walks M r8 overtaking
+  pub overtakes : Walks M moving_certificates r8 overtaking
   overtakes = (does_8, (does_9, (does_10, (does_11, (does_12, (does_13, (does_14, (does_15, (does_16, (does_17, (does_18, (does_19, tt))))))))))))

@@ -16,58 +16,58 @@ use Rattle.md_machine.specs.Resolution.{InEveryResolution, logical_heap}
 use Rattle.md_machine.specs.Trail.{SomeStepOf}
 use Rattle.md_machine.specs.events.Ready.{InstallsFor, MayRecord}
 use Rattle.md_schedules.specs.Field.{bucket, first_slot, place_word, small_shape, standing}
-use Rattle.md_schedules.specs.Unlinking.{first_next, removes_first, removing_first}
+use Rattle.md_schedules.specs.Unlinking.{first_next, removes_first, removing_first, unlinking_certificates}
 use Rattle.md_schedules.proofs.Walking.{Walks, nth, only_none, only_one, step_at, stored_at}
 use Rattle.md_schedules.proofs.Unlinks.{remove_certified, remove_found, remove_in, remove_slot}
 use Rattle.md_schedules.proofs.walks.FindingFirst.{u11}
 
 abbrev u12 : Machine
-u12 = after_event u11 (load 1 (place_word (desc_status 1)))
+u12 = after_event unlinking_certificates u11 (load 1 (place_word (desc_status 1)))
 
 abbrev u13 : Machine
-u13 = after_event u12 (mark_begin 1 1 2)
+u13 = after_event unlinking_certificates u12 (mark_begin 1 1 2)
 
 abbrev u14 : Machine
-u14 = after_event u13 (mark_start 1)
+u14 = after_event unlinking_certificates u13 (mark_start 1)
 
 abbrev u15 : Machine
-u15 = after_event u14 (load 1 bucket)
+u15 = after_event unlinking_certificates u14 (load 1 bucket)
 
 abbrev u16 : Machine
-u16 = after_event u15 (load 1 first_next)
+u16 = after_event unlinking_certificates u15 (load 1 first_next)
 
 abbrev u17 : Machine
-u17 = after_event u16 (load 1 (place_word (node_key 1)))
+u17 = after_event unlinking_certificates u16 (load 1 (place_word (node_key 1)))
 
 abbrev u18 : Machine
-u18 = after_event u17 (load 1 (place_word (node_value 1)))
+u18 = after_event unlinking_certificates u17 (load 1 (place_word (node_value 1)))
 
 abbrev u19 : Machine
-u19 = after_event u18 (store 1 (place_word (slot_word 1 0)) first_next)
+u19 = after_event unlinking_certificates u18 (store 1 (place_word (slot_word 1 0)) first_next)
 
 abbrev u20 : Machine
-u20 = after_event u19 (store 1 (place_word (slot_old 1 0)) 0)
+u20 = after_event unlinking_certificates u19 (store 1 (place_word (slot_old 1 0)) 0)
 
 abbrev u21 : Machine
-u21 = after_event u20 (store 1 (place_word (slot_new 1 0)) 1)
+u21 = after_event unlinking_certificates u20 (store 1 (place_word (slot_new 1 0)) 1)
 
 abbrev u22 : Machine
-u22 = after_event u21 (install 1 first_next 0 (first_slot 1))
+u22 = after_event unlinking_certificates u21 (install 1 first_next 0 (first_slot 1))
 
 abbrev u23 : Machine
-u23 = after_event u22 (mark_act 1 removes_first)
+u23 = after_event unlinking_certificates u22 (mark_act 1 removes_first)
 
 abbrev u24 : Machine
-u24 = after_event u23 (ready 1 0)
+u24 = after_event unlinking_certificates u23 (ready 1 0)
 
 abbrev u25 : Machine
-u25 = after_event u24 (commit 1 1 1)
+u25 = after_event unlinking_certificates u24 (commit 1 1 1)
 
 abbrev u26 : Machine
-u26 = after_event u25 (uninstall 1 first_next (standing 1) 1)
+u26 = after_event unlinking_certificates u25 (uninstall 1 first_next (standing 1) 1)
 
 abbrev pub u27 : Machine
-u27 = after_event u26 (mark_end 1)
+u27 = after_event unlinking_certificates u26 (mark_end 1)
 
 chain_23 : InEveryResolution u23 (CertifiedIn [] (remove_slot ∷ []) (removes_first ∷ []))
 unfolding value_of count_of is_even counted_word spot_value spot_of
@@ -229,6 +229,7 @@ module _ (M : Meaning) (rem : M.certifies small_shape removes_first) where
   does_23 = (
     view_at u23 1,
     hand_at u23 1,
+    removes_first ∷ [],
     record { at = refl; live = lit≤ tt },
     record {
       held = refl;
@@ -306,5 +307,5 @@ module _ (M : Meaning) (rem : M.certifies small_shape removes_first) where
   )
 
   -- to the end of its transaction
-  pub removes_it : Walks M u11 removing_first
+  pub removes_it : Walks M unlinking_certificates u11 removing_first
   removes_it = (does_11, (does_12, (does_13, (does_14, (does_15, (does_16, (does_17, (does_18, (does_19, (does_20, (does_21, (does_22, (does_23, (does_24, (does_25, (does_26, tt))))))))))))))))

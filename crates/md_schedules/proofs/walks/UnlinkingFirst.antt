@@ -12,34 +12,34 @@ use Rattle.md_words.specs.Place.{slot_new, slot_old, slot_word}
 use Rattle.md_machine.specs.Event.{Does, install, load, mark_act, mark_start, store}
 use Rattle.md_machine.specs.events.Ready.{IsStoredRead}
 use Rattle.md_schedules.specs.Field.{bucket, first_slot, place_word, small_shape}
-use Rattle.md_schedules.specs.Unlinking.{first_link, first_next, misses_second, unlinking_first, unlinks_first}
+use Rattle.md_schedules.specs.Unlinking.{first_link, first_next, misses_second, unlinking_certificates, unlinking_first, unlinks_first}
 use Rattle.md_schedules.proofs.Walking.{Walks, one_below, only_one, stored_at}
 use Rattle.md_schedules.proofs.Unlinks.{second_found}
 use Rattle.md_schedules.proofs.walks.RemovingFirst.{u27}
 
 abbrev u28 : Machine
-u28 = after_event u27 (mark_start 0)
+u28 = after_event unlinking_certificates u27 (mark_start 0)
 
 abbrev u29 : Machine
-u29 = after_event u28 (load 0 bucket)
+u29 = after_event unlinking_certificates u28 (load 0 bucket)
 
 abbrev u30 : Machine
-u30 = after_event u29 (load 0 first_next)
+u30 = after_event unlinking_certificates u29 (load 0 first_next)
 
 abbrev u31 : Machine
-u31 = after_event u30 (store 0 (place_word (slot_word 0 0)) bucket)
+u31 = after_event unlinking_certificates u30 (store 0 (place_word (slot_word 0 0)) bucket)
 
 abbrev u32 : Machine
-u32 = after_event u31 (store 0 (place_word (slot_old 0 0)) first_link)
+u32 = after_event unlinking_certificates u31 (store 0 (place_word (slot_old 0 0)) first_link)
 
 abbrev u33 : Machine
-u33 = after_event u32 (store 0 (place_word (slot_new 0 0)) 0)
+u33 = after_event unlinking_certificates u32 (store 0 (place_word (slot_new 0 0)) 0)
 
 abbrev u34 : Machine
-u34 = after_event u33 (install 0 bucket first_link (first_slot 0))
+u34 = after_event unlinking_certificates u33 (install 0 bucket first_link (first_slot 0))
 
 abbrev pub u35 : Machine
-u35 = after_event u34 (mark_act 0 misses_second)
+u35 = after_event unlinking_certificates u34 (mark_act 0 misses_second)
 
 module _ (M : Meaning) (mis : M.certifies small_shape misses_second) (unl : M.tidies small_shape unlinks_first) where
   does_27 : Does M u27 (mark_start 0) u28
@@ -153,5 +153,5 @@ module _ (M : Meaning) (mis : M.certifies small_shape misses_second) (unl : M.ti
   )
 
   -- up to the mark that notes the second get
-  pub unlinks_it : Walks M u27 unlinking_first
+  pub unlinks_it : Walks M unlinking_certificates u27 unlinking_first
   unlinks_it = (does_27, (does_28, (does_29, (does_30, (does_31, (does_32, (does_33, (does_34, tt))))))))

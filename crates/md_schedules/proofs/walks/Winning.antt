@@ -15,23 +15,23 @@ use Rattle.md_machine.specs.Trail.{SomeStepOf}
 use Rattle.md_machine.specs.events.Ready.{InstallsFor, MayRecord}
 use Rattle.md_schedules.specs.Field.{bucket, link_to, small_shape, standing}
 use Rattle.md_schedules.specs.Transactions.{inserts}
-use Rattle.md_schedules.specs.Schedules.{winning}
+use Rattle.md_schedules.specs.Schedules.{moving_certificates, winning}
 use Rattle.md_schedules.specs.Walk.{after_event, hand_at, view_at}
 use Rattle.md_schedules.proofs.Walking.{Walks, nth, only_none, only_one, step_at, stored_at}
 use Rattle.md_schedules.proofs.Certifying.{insert_certified, insert_in, insert_slot}
 use Rattle.md_schedules.proofs.walks.Overtaking.{r20}
 
 abbrev r21 : Machine
-r21 = after_event r20 (ready 1 0)
+r21 = after_event moving_certificates r20 (ready 1 0)
 
 abbrev r22 : Machine
-r22 = after_event r21 (commit 1 1 1)
+r22 = after_event moving_certificates r21 (commit 1 1 1)
 
 abbrev r23 : Machine
-r23 = after_event r22 (uninstall 1 bucket (standing 1) (link_to 18))
+r23 = after_event moving_certificates r22 (uninstall 1 bucket (standing 1) (link_to 18))
 
 abbrev pub r24 : Machine
-r24 = after_event r23 (mark_end 1)
+r24 = after_event moving_certificates r23 (mark_end 1)
 
 chain_20 : InEveryResolution r20 (CertifiedIn [] (insert_slot 18 ∷ []) (inserts 18 ∷ []))
 unfolding value_of count_of is_even counted_word spot_value spot_of
@@ -45,6 +45,7 @@ module _ (M : Meaning) (ins : M.certifies small_shape (inserts 18)) where
   does_20 = (
     view_at r20 1,
     hand_at r20 1,
+    inserts 18 ∷ [],
     record { at = refl; live = lit≤ tt },
     record {
       held = refl;
@@ -57,7 +58,8 @@ module _ (M : Meaning) (ins : M.certifies small_shape (inserts 18)) where
         (0, lit≤ tt, refl),
         (nth (view_at r20 1) 11, (11, lit≤ tt, refl), record { kind = refl; attempt = refl; won = λ e. omega (arith, e); left = record { there = refl; after = refl } }),
       );
-      certified = λ won. insert_certified M r20 (view_at r20 1) (hand_at r20 1) 18 ins ((1, (0, lit≤ tt, refl), (lit≤ tt, lit≤ tt, lit≤ tt)), refl) chain_20;
+      certified = λ won. insert_certified M r20 (view_at r20 1) (hand_at r20 1) 18 ins ((1, (0, lit≤ tt, refl), (lit≤ tt, lit≤ tt, lit≤ tt)), refl)
+          ((view_at r20 1).trail, (0, lit≤ tt, refl), (nth (view_at r20 1) 7, (7, lit≤ tt, refl), record { kind = refl; attempt = refl; there = refl })) chain_20;
     },
     refl,
   )
@@ -116,5 +118,5 @@ module _ (M : Meaning) (ins : M.certifies small_shape (inserts 18)) where
   )
 
   -- from where its insert is noted
-  pub wins : Walks M r20 winning
+  pub wins : Walks M moving_certificates r20 winning
   wins = (does_20, (does_21, (does_22, (does_23, tt))))

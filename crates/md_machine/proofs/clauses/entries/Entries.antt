@@ -73,10 +73,10 @@ entered m n p word new k words x =
     let exists = own_desc_exists (shape_of m) x.own.0 x.hand.attempt.desc x.own.2 in
     let now : status_at m x.hand.attempt.desc ≡ unready_word x.hand.attempt = ap (content m) (sym x.there) ∙ x.was in
     move_to m n (words ∙ ap (λ w. set m.words w new) x.there ∙ ap (set m.words (address (shape_of m) (desc_status x.hand.attempt.desc))) x.is) x.history x.fates (record {
-      fit = entries_ready m k.formats.field x.hand x.count exists x.few now m.history m.fates k.fit;
-      counted = counted_ready m k.formats.field x.hand x.count exists x.few now k.counted;
+      fit = entries_ready m k.formats.field x.hand x.certificates x.count exists x.few now m.history m.fates k.fit;
+      counted = counted_ready m k.formats.field x.hand x.certificates x.count exists x.few now k.counted;
       stay = all_stay_more m.fates _;
-      past = past_more (shape_of m) _ m.history m.fates (history_entry m x.hand x.count) Undecided (ready_present m k.formats.field x.hand x.count exists x.few now) (fated (shape_of m) m.words m.history m.fates k.fit);
+      past = past_more (shape_of m) _ m.history m.fates (history_entry m x.hand x.certificates x.count) Undecided (ready_present m k.formats.field x.hand x.certificates x.count exists x.few now) (fated (shape_of m) m.words m.history m.fates k.fit);
     })
 
 pub entries-kept : (m n : Machine) → EntriesNow m → MoveFacts m n → GoOn m n

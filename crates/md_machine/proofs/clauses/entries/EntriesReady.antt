@@ -17,6 +17,7 @@ use Rattle.md_history.specs.declared.entries.Fate.{Fate}
 use Rattle.md_history.specs.declared.entries.Fate.TheVariants.{Undecided}
 use Rattle.md_machine.specs.declared.attempt.Hand.{Hand}
 use Rattle.md_machine.specs.declared.attempt.HistoryEntry.{HistoryEntry}
+use Rattle.md_machine.specs.declared.certificate.Certificate.{Certificate}
 use Rattle.md_machine.specs.declared.attempt.Read.{Read}
 use Rattle.md_machine.proofs.clauses.entries.EntriesDecided.{entry_other, entry_past, read_content_stays, read_word_stays, status_new, status_other}
 use Rattle.md_machine.proofs.clauses.entries.EntriesFit.{EntriesFit, EntryFits, ReadsCounted}
@@ -32,7 +33,7 @@ at_range f a (suc n) zero r e = let same : a + 0 ≡ a = omega arith in ap f sam
 at_range f a (suc n) (suc i) r e = let same : a + suc i ≡ a + 1 + i = omega arith in ap f same ∙ at_range f (a + 1) n i r e
 
 -- an attempt becomes ready
-module _ (m : Machine) (field : IsField (shape_of m) m.words) (h : Hand) (count : ℕ) (exists : h.attempt.desc < desc_count (shape_of m)) (few : count ≤ SET)
+module _ (m : Machine) (field : IsField (shape_of m) m.words) (h : Hand) (cs : List Certificate) (count : ℕ) (exists : h.attempt.desc < desc_count (shape_of m)) (few : count ≤ SET)
     (is : status_at m h.attempt.desc ≡ unready_word h.attempt) where
   abbrev ready_now : ℕ
   ready_now = ready_word h.attempt count
@@ -62,7 +63,7 @@ module _ (m : Machine) (field : IsField (shape_of m) m.words) (h : Hand) (count 
       (λ ne. entry_other (shape_of m) m.words field h.attempt.desc ready_now exists e f ne was)
       (cases_eq e.attempt.desc h.attempt.desc)
 
-  entry_new : EntryFits (shape_of m) after_ready (history_entry m h count) Undecided
+  entry_new : EntryFits (shape_of m) after_ready (history_entry m h cs count) Undecided
   entry_new =
       let long = length-map-range_with_len (read_now m h.attempt.desc) 0 count in record {
         exists = exists;
@@ -87,22 +88,22 @@ module _ (m : Machine) (field : IsField (shape_of m) m.words) (h : Hand) (count 
       same_content : (i : ℕ) (r : Read) → read_now m h.attempt.desc (0 + i) ≡ r → word_at (shape_of m) m.words (read_content h.attempt.desc i) ≡ r.content
       same_content i r e = ap (λ j. word_at (shape_of m) m.words (read_content h.attempt.desc j)) (sym (zero_more i)) ∙ ap (λ (x : Read). x.content) e
 
-  pub entries_ready : (es : List HistoryEntry) (fs : List Fate) → EntriesFit (shape_of m) m.words es fs → EntriesFit (shape_of m) after_ready (es ++ history_entry m h count ∷ []) (fs ++ Undecided ∷ [])
+  pub entries_ready : (es : List HistoryEntry) (fs : List Fate) → EntriesFit (shape_of m) m.words es fs → EntriesFit (shape_of m) after_ready (es ++ history_entry m h cs count ∷ []) (fs ++ Undecided ∷ [])
   entries_ready [] [] was = (entry_new, tt)
   entries_ready [] (f ∷ fs) was = absurd was
   entries_ready (e ∷ es) [] was = absurd was
   entries_ready (e ∷ es) (f ∷ fs) was = (entry_before e f was.0, entries_ready es fs was.1)
 
-  pub counted_ready : ReadsCounted (shape_of m) m.words m.history → ReadsCounted (shape_of m) after_ready (m.history ++ history_entry m h count ∷ [])
+  pub counted_ready : ReadsCounted (shape_of m) m.words m.history → ReadsCounted (shape_of m) after_ready (m.history ++ history_entry m h cs count ∷ [])
   counted_ready was = record {
     counted = λ d there. ⊎_elim
         (λ e. inr (
-          history_entry m h count,
-          Contains-push m.history (history_entry m h count),
+          history_entry m h cs count,
+          Contains-push m.history (history_entry m h cs count),
           ap (attempt_of h.attempt.desc) (sym ready_serial ∙ ap serial_of (sym ready_status)) ∙ ap (λ x. attempt_of x (serial_of (word_at (shape_of m) after_ready (desc_status x)))) (sym e),
         ))
         (λ ne. let same = status_other (shape_of m) m.words field h.attempt.desc ready_now exists d there ne in
-        subst (λ x. (reads_of x ≡ 0) ⊎ ((e : HistoryEntry) × Contains (m.history ++ history_entry m h count ∷ []) e × (e.attempt ≡ attempt_of d (serial_of x)))) (sym same)
-        (⊎_elim inl (λ x. inr (x.0, Contains-append_left m.history (history_entry m h count ∷ []) x.0 x.1, x.2)) (was.counted d there)))
+        subst (λ x. (reads_of x ≡ 0) ⊎ ((e : HistoryEntry) × Contains (m.history ++ history_entry m h cs count ∷ []) e × (e.attempt ≡ attempt_of d (serial_of x)))) (sym same)
+        (⊎_elim inl (λ x. inr (x.0, Contains-append_left m.history (history_entry m h cs count ∷ []) x.0 x.1, x.2)) (was.counted d there)))
         (cases_eq d h.attempt.desc);
   }

@@ -30,9 +30,9 @@ none_numbered shape = record {
 
 module _ (m n : Machine) (v : MoveFacts m n) (fit : EntriesFit (shape_of m) m.words m.history m.fates) (was : EntriesNumbered (shape_of m) m.history) where
   -- an attempt that becomes ready had no entry, and its entry has the next number of its lane
-  entered : (x : Enters m n v.p v.word v.new) → EntriesNumbered (shape_of m) (history_after_ready m x.hand x.count)
+  entered : (x : Enters m n v.p v.word v.new) → EntriesNumbered (shape_of m) (history_after_ready m x.hand x.certificates x.count)
   entered x =
-      let e = history_entry m x.hand x.count in
+      let e = history_entry m x.hand x.certificates x.count in
       let idle : is_ready m.history x.hand.attempt ≡ false = prep_idle m x.hand.attempt (ap (content m) (sym x.there) ∙ x.was) m.history m.fates fit in record {
         lanes = λ y c. ⊎_elim (was.lanes y)
             (λ same. subst (IsOfItsLane (shape_of m)) same (record { exists = own_exists m v.p x.hand.attempt.desc x.own; lane = refl }))

@@ -77,10 +77,10 @@ module _ (m n : Machine) (v : MoveFacts m n) (field : IsField (shape_of m) m.wor
       let here = own_exists m v.p mine x.own in
       subst (λ ws. Has desc (word_at (shape_of m) ws (desc_status desc))) (sym (status_is mine _ x.there x.is)) (⊎_elim
       (λ e ready. (
-        history_entry m x.hand x.count,
-        subst (λ es. Contains es (history_entry m x.hand x.count)) (sym x.history) (Contains-push m.history _),
+        history_entry m x.hand x.certificates x.count,
+        subst (λ es. Contains es (history_entry m x.hand x.certificates x.count)) (sym x.history) (Contains-push m.history _),
         sym e,
-        ready_present m field x.hand x.count here x.few (ap (content m) (sym x.there) ∙ x.was) ∙ ap (λ d. serial_of (word_at (shape_of m) (set m.words (address (shape_of m) (desc_status mine)) (ready_word x.hand.attempt x.count)) (desc_status d))) (sym e),
+        ready_present m field x.hand x.certificates x.count here x.few (ap (content m) (sym x.there) ∙ x.was) ∙ ap (λ d. serial_of (word_at (shape_of m) (set m.words (address (shape_of m) (desc_status mine)) (ready_word x.hand.attempt x.count)) (desc_status d))) (sym e),
       ))
       (λ ne ready.
       let same = status_other (shape_of m) m.words field mine (ready_word x.hand.attempt x.count) here desc exists ne in

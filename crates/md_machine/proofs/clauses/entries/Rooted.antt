@@ -110,7 +110,7 @@ module _ (m n : Machine) (v : MoveFacts m n) (fated : length m.fates ≡ length 
   -- an entry joins, with the nodes of its certificates
   entered_rooted : Enters m n v.p v.word v.new → EntriesRooted n
   entered_rooted x choice r =
-      let e = history_entry m x.hand x.count in
+      let e = history_entry m x.hand x.certificates x.count in
       let more = map-append (λ (y : HistoryEntry). y.entry) m.history (e ∷ []) in
       let r' : IsResolution (entries_of (m.history ++ e ∷ [])) (m.fates ++ Undecided ∷ []) choice =
       subst (λ es. IsResolution (entries_of es) (m.fates ++ Undecided ∷ []) choice) x.history
@@ -126,8 +126,8 @@ module _ (m n : Machine) (v : MoveFacts m n) (fated : length m.fates ≡ length 
       subst (λ es. EachKept (IsRooted (logical_heap n choice)) es choice) (sym x.history)
       (subst (EachKept (IsRooted (logical_heap n choice)) (m.history ++ e ∷ [])) (sym last.joined)
       (each_last (IsRooted (logical_heap n choice)) m.history first e last.kept long
-      (λ kept. rooted_more (after_wholes h x.hand.certificates) (logical_heap n choice) e (same_shape ∙ sym (wholes_shape h x.hand.certificates))
-      (λ node y. let p = puts_some h.placed (all_nodes x.hand.certificates) node y.0 (sym (ap (λ f. f node) (wholes_placed h x.hand.certificates)) ∙ y.1) in
+      (λ kept. rooted_more (after_wholes h x.certificates) (logical_heap n choice) e (same_shape ∙ sym (wholes_shape h x.certificates))
+      (λ node y. let p = puts_some h.placed (all_nodes x.certificates) node y.0 (sym (ap (λ f. f node) (wholes_placed h x.certificates)) ∙ y.1) in
       (p.0, now node ∙ ap (λ b. places (m.history ++ e ∷ []) (first ++ b ∷ []) node) kept ∙ with_entry e first long node ∙ p.1))
       (x.rooted first last.of_first))
       (each_kept (IsRooted h) (IsRooted (logical_heap n choice))

@@ -43,8 +43,8 @@ module _ (m n : Machine) (v : MoveFacts m n) (fit : EntriesFit (shape_of m) m.wo
       λ equal. true≢false (sym (ready_in m.history e a c (sym same) equal) ∙ prep_idle m a unready m.history m.fates fit) in
       omega (arith, past, now, here_now, other)
 
-  rises : (x : Enters m n v.p v.word v.new) → SerialsRise (history_after_ready m x.hand x.count)
-  rises x = rise_push m.history (history_entry m x.hand x.count) was.rise (is_later x)
+  rises : (x : Enters m n v.p v.word v.new) → SerialsRise (history_after_ready m x.hand x.certificates x.count)
+  rises x = rise_push m.history (history_entry m x.hand x.certificates x.count) was.rise (is_later x)
 
   pub serials-kept : EntriesInTurn n
   serials-kept = record {

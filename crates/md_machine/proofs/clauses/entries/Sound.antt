@@ -158,7 +158,7 @@ sound-kept m n v k fated = record {
   sound = ⊎_elim
       (λ x. subst (λ es. AllCommittedSound (entries_of es) n.fates) (sym x.history) (subst (AllCommittedSound (entries_of m.history)) (sym x.fates) k.sound.sound))
       (λ o. ⊎_elim
-      (λ x. subst (λ es. AllCommittedSound (entries_of es) n.fates) (sym x.history) (subst (AllCommittedSound (entries_of (history_after_ready m x.hand x.count))) (sym x.fates) (sound_push m.history m.fates (history_entry m x.hand x.count) fated k.sound.sound)))
+      (λ x. subst (λ es. AllCommittedSound (entries_of es) n.fates) (sym x.history) (subst (AllCommittedSound (entries_of (history_after_ready m x.hand x.certificates x.count))) (sym x.fates) (sound_push m.history m.fates (history_entry m x.hand x.certificates x.count) fated k.sound.sound)))
       (λ x. subst (λ es. AllCommittedSound (entries_of es) n.fates) (sym x.history) (subst (AllCommittedSound (entries_of m.history)) (sym x.fates) (decided_sound m n v k x)))
       o)
       v.fates;

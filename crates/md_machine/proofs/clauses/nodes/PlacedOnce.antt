@@ -136,14 +136,14 @@ placed_once-kept m n v fated stay sound once = subst (λ o. AllPairs Differ (o.p
     same e = subst (λ es. AllPairs Differ (m.opening.placed ++ kept_nodes es (greatest es n.fates))) (sym e)
         (fewer m.opening.placed m.history (greatest m.history n.fates) (greatest m.history m.fates) (within_stay m.history m.fates n.fates fated stay (subst (λ es. AllCommittedSound (entries_of es) n.fates) e sound)) once)
 
-    with_new : (x : Enters m n v.p v.word v.new) (b : Bool) → AllPairs Differ (nodes_under m (greatest m.history m.fates) ++ cond b (placed_by x.hand.certificates) [])
-    with_new x true = pairs_append Differ (nodes_under m (greatest m.history m.fates)) (placed_by x.hand.certificates) once x.differ
-        (λ y z c d. none_of_alive m once z y (All-contains (λ w. never_placed m w.node ≡ true) (placed_by x.hand.certificates) z x.free d) c)
+    with_new : (x : Enters m n v.p v.word v.new) (b : Bool) → AllPairs Differ (nodes_under m (greatest m.history m.fates) ++ cond b (placed_by x.certificates) [])
+    with_new x true = pairs_append Differ (nodes_under m (greatest m.history m.fates)) (placed_by x.certificates) once x.differ
+        (λ y z c d. none_of_alive m once z y (All-contains (λ w. never_placed m w.node ≡ true) (placed_by x.certificates) z x.free d) c)
     with_new x false = subst (AllPairs Differ) (sym (append-nil (nodes_under m (greatest m.history m.fates)))) once
 
     entered : Enters m n v.p v.word v.new → AllPairs Differ (m.opening.placed ++ kept_nodes n.history (greatest n.history n.fates))
     entered x =
-        let e = history_entry m x.hand x.count in
+        let e = history_entry m x.hand x.certificates x.count in
         subst (λ es. AllPairs Differ (m.opening.placed ++ kept_nodes es (greatest es n.fates))) (sym x.history)
         (subst (λ fs. AllPairs Differ (m.opening.placed ++ kept_nodes (m.history ++ e ∷ []) (greatest (m.history ++ e ∷ []) fs))) (sym x.fates)
         (subst (λ l. AllPairs Differ (m.opening.placed ++ l)) (sym (kept_push m.history m.fates e fated))

@@ -79,7 +79,7 @@ enters_present m n v field e c = ⊎_elim inl
     let word = address (shape_of m) (desc_status x.hand.attempt.desc) in
     inr (subst (λ (z : HistoryEntry). IsPresentIn (shape_of m) n.words z.attempt) y.1
     (subst (λ words. IsPresentIn (shape_of m) words x.hand.attempt) (sym (v.words ∙ ap (λ w. set m.words w v.new) x.there ∙ ap (set m.words word) x.is))
-    (ready_present m field x.hand x.count (own_desc_exists (shape_of m) x.own.0 x.hand.attempt.desc x.own.2) x.few (ap (content m) (sym x.there) ∙ x.was)))))
+    (ready_present m field x.hand x.certificates x.count (own_desc_exists (shape_of m) x.own.0 x.hand.attempt.desc x.own.2) x.few (ap (content m) (sym x.there) ∙ x.was)))))
     (new_entry m n v e c)
 
 -- what the passes of a machine learned before an event, they know after it

@@ -83,8 +83,8 @@ module _ (m n : Machine) (v : MoveFacts m n) (field : IsField (shape_of m) m.wor
       (λ h. absurd (true≢false (sym (ready_in m.history e i.attempt c (ap (λ (a : AttemptId). a.desc) (sym same)) (ap (λ (a : AttemptId). a.serial) (sym same))) ∙ h.unready)))
       (v.installs i made))
 
-  of_new : (x : Enters m n v.p v.word v.new) → IsPresentIn (shape_of m) later x.hand.attempt → SlotsAreInstalls n (history_entry m x.hand x.count)
-  of_new x now = slots_on (history_entry m x.hand x.count) (has_now m (history_entry m x.hand x.count) refl) now
+  of_new : (x : Enters m n v.p v.word v.new) → IsPresentIn (shape_of m) later x.hand.attempt → SlotsAreInstalls n (history_entry m x.hand x.certificates x.count)
+  of_new x now = slots_on (history_entry m x.hand x.certificates x.count) (has_now m (history_entry m x.hand x.certificates x.count) refl) now
       (λ i same exists s q. slot_no_status i.attempt.desc i.slot x.hand.attempt.desc (sym (place_at-address (shape_of m) (slot_new i.attempt.desc i.slot) exists) ∙ ap (place_at (shape_of m)) (q ∙ x.there)
       ∙ place_at-address (shape_of m) (desc_status x.hand.attempt.desc) (own_exists m v.p _ x.own)))
       (λ i made same. subst (λ is. Contains is i) x.installs made)

@@ -63,7 +63,7 @@ module _ (m n : Machine) (v : MoveFacts m n) (field : IsField (shape_of m) m.wor
       record { count = there.0; gone = there.1 }
 
   -- a read of a new entry
-  new_moved : (x : Enters m n v.p v.word v.new) (r : Read) → Contains (reads_now m x.hand.attempt.desc x.count) r → WasMet m r → r.stood ≡ false → ReadMoved n.words (history_entry m x.hand x.count) r
+  new_moved : (x : Enters m n v.p v.word v.new) (r : Read) → Contains (reads_now m x.hand.attempt.desc x.count) r → WasMet m r → r.stood ≡ false → ReadMoved n.words (history_entry m x.hand x.certificates x.count) r
   new_moved x r of met fell =
       let desc = x.hand.attempt.desc in
       let apart : r.word ≢ v.word = λ e. status_uncounted m desc (own_exists m v.p desc x.own) (subst (IsCounted (shape_of m)) (e ∙ x.there) met.counted) in
