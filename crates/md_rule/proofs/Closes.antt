@@ -1,18 +1,16 @@
 -- What a field leaves when it is closed.
-use Rattle.std.proofs.Common.{◌≡◌, ◌≢◌, ℕ, ◌+◌, Bool, true, false, List, [], ◌∷◌, ◌++◌, length, refl, sym, ap, ◌∙◌, subst, arith}
+use Rattle.std.proofs.Common.{◌≡◌, ◌≢◌, ℕ, Bool, List, [], ◌∷◌, ◌++◌, length, refl, sym, ap, ◌∙◌, subst, arith}
 use Rattle.std.proofs.lemmas.Bool.{cond-true}
 use Rattle.std.proofs.lemmas.List.{length-map}
 use Rattle.std.proofs.lemmas.List.Elements.{All-head, All-tail}
-use Rattle.std.specs.List.{All}
 use mathlib.Core.Option.{some}
 use lib.ListN.{get_elem?}
 use Rattle.atomic_table.specs.Table.{Final, Seen}
 use Rattle.md_words.specs.declared.shape.Shape.{Shape}
-use Rattle.md_words.specs.Content.{count_of, is_even, value_of}
+use Rattle.md_words.specs.Content.{count_of, is_even}
 use Rattle.md_words.specs.LayoutLaws.{IsField}
 use Rattle.md_words.specs.Place.{is_counted}
 use Rattle.md_words.specs.PlaceAt.{place_at, IsCounted}
-use Rattle.md_history.specs.declared.acts.Act.{Act}
 use Rattle.md_history.specs.declared.entries.Entry.{Entry}
 use Rattle.md_history.specs.declared.entries.Fate.{Fate}
 use Rattle.md_history.specs.declared.entries.Fate.TheVariants.{Committed, Aborted, Undecided}
@@ -20,17 +18,16 @@ use Rattle.md_history.specs.Front.{AllStay}
 use Rattle.md_history.specs.History.{AllDecided, acts_of, committed, kept_acts, replay}
 use Rattle.md_history.specs.State.{State, run}
 use Rattle.md_machine.specs.declared.attempt.HistoryEntry.{HistoryEntry}
-use Rattle.md_machine.specs.declared.opening.Opening.{Opening}
 use Rattle.md_machine.specs.declared.pass.PassView.{PassView}
 use Rattle.md_machine.specs.Event.{opened}
 use Rattle.md_machine.specs.clauses.passes.Alone.{HoldsAll}
 use Rattle.md_machine.specs.LogicalHeap.{AgreeWherePlaced, LogicalHeap}
-use Rattle.md_machine.specs.Machine.{IsAt, IsLive, Machine, content, shape_of}
+use Rattle.md_machine.specs.Machine.{IsLive, Machine, content, shape_of}
 use Rattle.md_machine.specs.Meaning.{Lawful, Meaning}
 use Rattle.md_machine.specs.Resolution.{entries_of, least, logical_heap, logical_value, placed_under, value_by_spot}
 use Rattle.md_machine.proofs.resolutions.Placing.{least_resolves}
 use Rattle.md_rule.proofs.Moves.{is_kept, is_meant}
-use Rattle.md_rule.specs.Closing.{AreEven, IsLast, IsReplayed, MayClose, plain_words}
+use Rattle.md_rule.specs.Closing.{AreEven, IsLast, LeavesReplay, MayClose, plain_words}
 use Rattle.md_rule.specs.Rule.{Shows}
 use Rattle.md_rule.specs.Views.{Origin}
 
@@ -72,7 +69,7 @@ module _ (M : Meaning) (o : Origin) where
     words = h.words ∙ f.2;
   }
 
-  pub replayed_of : Lawful M → (view : PassView) (ws : List ℕ) → MayClose M o view → IsLast M o view ws → IsReplayed M o view ws
+  pub replayed_of : Lawful M → (view : PassView) (ws : List ℕ) → MayClose M o view → IsLast M o view ws → LeavesReplay M o view ws
   replayed_of L view ws may l =
       let m = l.machine in
       let a = l.admitted in

@@ -1,13 +1,15 @@
 -- Lists of lanes: which lanes they have.
 use Rattle.std.proofs.Common.{◌≡◌, ◌==◌, ◌||◌, ℕ, zero, suc, ◌+◌, ◌-◌, ◌/◌, ◌<◌, ◌≤◌, Bool, true, false, List, [], ◌∷◌, filter, take, drop, length, ne_eqb, eq-eqb, arith, refl, sym, ap, ◌∙◌, ⊎_elim}
-use Rattle.std.specs.List.{range_with_len}
+use Rattle.std.specs.List.{Contains, range_with_len}
+use Rattle.md_words.specs.Layout.{desc_count}
+use Rattle.md_machine.proofs.lists.Rising.{in_lane}
 use Rattle.std.proofs.lemmas.Bool.{cases_lt, cond_both, false≢true}
 use Rattle.std.proofs.lemmas.List.{length-drop, length-take}
 use Rattle.std.proofs.lemmas.List.FromFn.{length-range_with_len}
 use Rattle.md_words.specs.declared.shape.Shape.{Shape}
 use Rattle.md_history.specs.Front.{is_lane_of}
 use Rattle.md_machine.specs.events.SplitJoin.{given_lanes, joined_lanes, kept_lanes}
-use Rattle.md_rule.proofs.LaneSets.{some_lanes, any_pass}
+use Rattle.md_rule.proofs.LaneSets.{few_lanes, some_lanes, any_pass}
 use Rattle.md_rule.specs.Lanes.{AreLanes}
 
 -- a list without a lane, in its first element and its rest
@@ -77,3 +79,13 @@ joined_are_lanes shape lanes others k =
       live = some_if (joined_lanes shape lanes others) one.0 (any_pass p 0 shape.lanes one.0 (omega arith) (omega (arith, inside)) ∙ ap (λ b. b || is_lane_of others one.0) one.1);
       below = λ lane h. without_filter p (range_with_len 0 shape.lanes) lane (past_range 0 shape.lanes lane (omega (arith, h)));
     }
+
+-- a lane that a pass may hold, and a descriptor of a field, is below 64
+pub lane_fits : (shape : Shape) (lanes : List ℕ) (lane : ℕ) → AreLanes shape lanes → Contains lanes lane → lane < 64
+lane_fits shape lanes lane k c =
+    let few = few_lanes shape in
+    ⊎_elim (λ (h : lane < shape.lanes). omega (arith, h, few)) (λ h. absurd (false≢true (sym (k.below lane h) ∙ in_lane lanes lane c))) (cases_lt lane shape.lanes)
+
+pub desc_fits : (shape : Shape) (desc : ℕ) → desc < desc_count shape → desc < 64
+unfolding desc_count
+desc_fits shape desc h = let few = few_lanes shape in omega (arith, h, few)

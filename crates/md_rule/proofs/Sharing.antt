@@ -1,5 +1,5 @@
 -- Shares of lanes that are joined.
-use Rattle.std.proofs.Common.{◌≡◌, ◌⊎◌, ℕ, ◌+◌, ◌<◌, ◌≤◌, List, length, set, get_or, if◌then◌else◌, get_or-set_same, get_or-set_other, length-set, arith, refl, sym, ap, ◌∙◌, subst, ⊎_elim}
+use Rattle.std.proofs.Common.{◌≡◌, ℕ, ◌+◌, ◌<◌, ◌≤◌, List, length, set, if◌then◌else◌, get_or-set_same, get_or-set_other, length-set, arith, refl, sym, ap, ◌∙◌, ⊎_elim}
 use Rattle.std.proofs.lemmas.Bool.{cases_eq}
 use Rattle.std.proofs.lemmas.List.FromFn.{fill_by_all}
 use Rattle.md_history.specs.Front.{is_lane_of}

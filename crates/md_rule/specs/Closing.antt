@@ -41,7 +41,7 @@ module _ (M : Meaning) (o : Origin) where
     pub words : machine.words ≡ last
 
   -- the words are a valid heap in which no descriptor stands, and their state is the replay of the committed entries
-  pub record IsReplayed (view : PassView) (words : List ℕ) : Type 0 where
+  pub record LeavesReplay (view : PassView) (words : List ℕ) : Type 0 where
     pub field : IsField o.shape words
     pub even : AreEven o.shape words
     pub placed : ℕ → Option Structure

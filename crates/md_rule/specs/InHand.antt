@@ -10,3 +10,7 @@ pub record HoldsUnready (view : PassView) (desc from : ℕ) : Type 0 where
   pub held : view.hand ≡ Some hand
   pub of : hand.attempt.desc ≡ desc
   pub status : unready_word hand.attempt ≡ from
+
+-- the attempt in hand is of this descriptor
+abbrev pub HoldsDesc : PassView → (desc : ℕ) → Type 0
+HoldsDesc view desc = (hand : Hand) × (view.hand ≡ Some hand) × (hand.attempt.desc ≡ desc)

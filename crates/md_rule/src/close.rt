@@ -2,7 +2,7 @@
 
 ghost use Rattle.std.specs.Prelude.{◌≡◌, IfOk};
 ghost use Rattle.std.specs.Mem.Slots.{slots_items, slots_len, IsFull};
-ghost use Rattle.md_rule.specs.Closing.{IsLast, IsReplayed, MayClose};
+ghost use Rattle.md_rule.specs.Closing.{IsLast, LeavesReplay, MayClose};
 ghost use Rattle.md_rule.specs.Views.{IsOf};
 
 use crate::field::Field;
@@ -27,7 +27,7 @@ impl<T: Theory> Field<T> {
         requires may { MayClose T.meaning self.origin pass.view }
         ensures last { IfOk result (λ c. IsLast T.meaning self.origin pass.view c.words.items) }
         ensures replayed { IfOk result (λ c.
-            IsReplayed T.meaning self.origin pass.view c.words.items) }
+            LeavesReplay T.meaning self.origin pass.view c.words.items) }
         ensures front { IfOk result (λ c. c.front ≡ pass) }
     {
         let front = Front::of(&pass);

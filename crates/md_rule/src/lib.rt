@@ -20,4 +20,5 @@ mod rule;
 mod shares;
 mod statuses;
 mod steps;
+mod taken;
 mod words;

@@ -1,14 +1,18 @@
 //! The five marks: what is in hand changes. Each is one load of word 0.
 
-ghost use Rattle.std.specs.Prelude.{◌≡◌, Some};
+ghost use Rattle.std.specs.Prelude.{◌≡◌, ◌<◌, Some};
+ghost use Rattle.md_words.specs.Layout.{desc_count};
 ghost use Rattle.md_machine.specs.declared.attempt.Hand.{Hand};
 ghost use Rattle.md_machine.specs.Event.{mark_begin, mark_start, mark_end, mark_leave};
 ghost use Rattle.md_machine.specs.events.Start.{IsClean};
+ghost use Rattle.md_rule.specs.InHand.{HoldsDesc};
+ghost use Rattle.md_rule.specs.Shares.{after_begin, after_end};
 ghost use Rattle.md_rule.specs.Steps.{Acted, May, MayAct, Stepped};
 ghost use Rattle.md_rule.specs.Views.{IsOf};
 
 use crate::field::Field;
 use crate::pass::Pass;
+use crate::shares::{begin_lane, end_lane};
 use crate::words::mark;
 use md_history::{Op, Reply};
 use md_machine::Theory;
@@ -18,6 +22,20 @@ use std::snapshot::Snapshot;
 impl<T: Theory> Pass<T> {
     /// Takes the present attempt of an own descriptor in hand, with a tag.
     pub fn mark_begin(&mut self, field: &Field<T>, desc: u32, tag: u64)
+        requires field { IsOf self.old field.now × (desc < desc_count field.now.origin.shape) }
+        requires may { May T.meaning field.now.origin (λ pass. mark_begin pass desc tag) self.old.view }
+        ensures same { self.new ≡ record self.old {
+            view = self.new.view;
+            shares = after_begin self.old.shares desc;
+        } }
+        ensures step { Stepped T.meaning field.now.origin (λ pass. mark_begin pass desc tag)
+            self.old.view self.new.view }
+    {
+        self.take_in_hand(field, desc, tag);
+        begin_lane(&mut self.shares, desc);
+    }
+
+    fn take_in_hand(&mut self, field: &Field<T>, desc: u32, tag: u64)
         requires field { IsOf self.old field.now }
         requires may { May T.meaning field.now.origin (λ pass. mark_begin pass desc tag) self.old.view }
         ensures same { self.new ≡ record self.old { view = self.new.view } }
@@ -48,12 +66,27 @@ impl<T: Theory> Pass<T> {
         mark::<Brand, T, _>(self, field, Snapshot::of(&(op, reply)));
     }
 
-    /// Nothing is in hand afterwards: the transaction, whose attempt is decided and stands in no word,
-    /// is answered or stopped.
-    pub fn mark_end(&mut self, field: &Field<T>)
-        requires field { IsOf self.old field.now }
+    /// Nothing is in hand afterwards: the transaction of this descriptor, whose attempt is decided and
+    /// stands in no word, is answered or stopped.
+    pub fn mark_end(&mut self, field: &Field<T>, desc: u32)
+        requires field { IsOf self.old field.now × (desc < desc_count field.now.origin.shape) }
+        requires hand { HoldsDesc self.old.view desc }
         requires may { May T.meaning field.now.origin (λ pass. mark_end pass) self.old.view }
         requires clean { (h : Hand) → self.old.view.hand ≡ Some h → IsClean self.old.view h.attempt }
+        ensures same { self.new ≡ record self.old {
+            view = self.new.view;
+            shares = after_end self.old.shares desc;
+        } }
+        ensures step { Stepped T.meaning field.now.origin (λ pass. mark_end pass)
+            self.old.view self.new.view }
+    {
+        self.put_down(field);
+        end_lane(&mut self.shares, desc);
+    }
+
+    fn put_down(&mut self, field: &Field<T>)
+        requires field { IsOf self.old field.now }
+        requires may { May T.meaning field.now.origin (λ pass. mark_end pass) self.old.view }
         ensures same { self.new ≡ record self.old { view = self.new.view } }
         ensures step { Stepped T.meaning field.now.origin (λ pass. mark_end pass)
             self.old.view self.new.view }

@@ -1,6 +1,7 @@
 //! A pass: a seat of the table, with its lanes.
 
-ghost use Rattle.std.specs.Prelude.{◌≡◌, ◌<◌, ◌↔◌, [], length, slice_index, replicate, IsTrue};
+ghost use Rattle.std.specs.Prelude.{◌≡◌, ◌<◌, ◌↔◌, ℕ, [], length, slice_index, replicate, IsTrue};
+ghost use Rattle.std.specs.List.{Contains};
 ghost use Rattle.md_machine.specs.Event.{first_pass};
 ghost use Rattle.md_machine.specs.clauses.passes.Alone.{HoldsAll};
 ghost use Rattle.md_rule.specs.declared.shares.TheConstants.{UNUSED};
@@ -76,6 +77,14 @@ impl<T: Theory> Pass<T> {
         self.lanes.at(place)
     }
 
+    /// Whether it holds all lanes of the field.
+    pub fn holds_all(&self, field: &Field<T>) -> bool
+        requires { IsOf self.now field.now }
+        ensures { IsTrue result ↔ HoldsAll field.now.origin.shape self.now.view }
+    {
+        has_all(&self.lanes, &self.shape)
+    }
+
     // Another pass of the same field with these lanes, and copies of the shares.
     pub(crate) fn part(&self, seat: Seat<(), PassView>, lanes: Lanes) -> Pass<T>
         requires { (seat.me.0.lanes ≡ lanes) × AreLanes self.now.shape lanes × (seat.me.1 ≡ []) }
@@ -104,4 +113,16 @@ impl<T: Theory> Pass<T> {
         } = self;
         (seat, lanes, shares)
     }
+}
+
+// Whether it has each lane of the shape.
+fn has_all(lanes: &Lanes, shape: &Shape) -> bool
+    ensures { IsTrue result ↔ ((lane : ℕ) → lane < shape.now.lanes → Contains lanes.now lane) }
+{
+    for lane in 0..shape.lanes {
+        if !lanes.has(lane) {
+            return false;
+        }
+    }
+    true
 }

@@ -1,9 +1,11 @@
 //! What a pass keeps of each of its lanes.
 
-ghost use Rattle.std.specs.Prelude.{◌≡◌, if◌then◌else◌};
-ghost use Rattle.md_rule.specs.Shares.{joined_shares};
+ghost use Rattle.std.specs.Prelude.{◌≡◌, ◌<◌, if◌then◌else◌};
+ghost use Rattle.md_words.specs.declared.limits.TheConstants.{SET};
+ghost use Rattle.md_rule.specs.Shares.{after_slot, after_begin, after_end, after_restart, joined_shares};
 
 use crate::lanes::Lanes;
+use md_words::Spot;
 
 /// What was used of a lane, and what its last transaction left.
 #[derive(Clone, Copy, Debug, PartialEq, Eq)]
@@ -39,4 +41,39 @@ fn one_of(first: bool, a: Share, b: Share) -> Share
     ensures { result ≡ (if first then a else b) }
 {
     if first { a } else { b }
+}
+
+// A slot of the lane's descriptor was installed.
+pub(crate) fn count_slot(shares: &mut [Share; 64], to: Spot)
+    requires { (to.desc < 64) × (to.slot < SET) }
+    ensures { shares.new ≡ after_slot shares.old to }
+{
+    let share = &mut shares[to.desc as usize];
+    share.slots_written = share.slots_written.max(to.slot + 1);
+}
+
+// The lane's attempt was put in hand.
+pub(crate) fn begin_lane(shares: &mut [Share; 64], lane: u32)
+    requires { lane < 64 }
+    ensures { shares.new ≡ after_begin shares.old lane }
+{
+    shares[lane as usize].left_open = true;
+}
+
+// It was answered or stopped.
+pub(crate) fn end_lane(shares: &mut [Share; 64], lane: u32)
+    requires { lane < 64 }
+    ensures { shares.new ≡ after_end shares.old lane }
+{
+    shares[lane as usize].left_open = false;
+}
+
+// The lane's descriptor began another attempt.
+pub(crate) fn restart_lane(shares: &mut [Share; 64], lane: u32)
+    requires { lane < 64 }
+    ensures { shares.new ≡ after_restart shares.old lane }
+{
+    let share = &mut shares[lane as usize];
+    share.slots_written = 0;
+    share.left_open = false;
 }

@@ -1,6 +1,7 @@
 //! The nine steps.
 
-ghost use Rattle.std.specs.Prelude.{◌≡◌, ◌+◌, ◌^◌, ◌<◌, ◌≤◌};
+ghost use Rattle.std.specs.Prelude.{◌≡◌, ◌+◌, ◌<◌, ◌≤◌, MatchResult};
+ghost use Rattle.md_words.specs.declared.limits.TheConstants.{SET};
 ghost use Rattle.md_words.specs.Content.{word_of};
 ghost use Rattle.md_words.specs.Layout.{address, desc_count, words_of};
 ghost use Rattle.md_words.specs.Place.{desc_status};
@@ -8,11 +9,13 @@ ghost use Rattle.md_words.specs.Status.{serial_of};
 ghost use Rattle.md_machine.specs.declared.step.TheConstants.{LAST_COUNT};
 ghost use Rattle.md_machine.specs.Event.{load, store, install, exchange, ready, commit, abort, uninstall, start};
 ghost use Rattle.md_rule.specs.InHand.{HoldsUnready};
+ghost use Rattle.md_rule.specs.Shares.{after_restart, after_slot};
 ghost use Rattle.md_rule.specs.Steps.{Exchanged, May, Stepped, SteppedFrom};
 ghost use Rattle.md_rule.specs.Views.{IsOf};
 
 use crate::field::Field;
 use crate::pass::Pass;
+use crate::shares::{count_slot, restart_lane};
 use crate::statuses;
 use crate::words::{exchange_word, load_word, store_word};
 use md_machine::Theory;
@@ -53,9 +56,27 @@ impl<T: Theory> Pass<T> {
         from: Content,
         to: Spot,
     ) -> Result<(), u64>
-        requires field { IsOf self.old field.now
-            × (word < words_of field.now.origin.shape) }
-        requires fits { (from.count ≤ LAST_COUNT) × (to.desc < 2 ^ 24) }
+        requires field { IsOf self.old field.now × (word < words_of field.now.origin.shape) }
+        requires fits { (from.count ≤ LAST_COUNT) × (to.desc < desc_count field.now.origin.shape)
+            × (to.slot < SET) }
+        requires may { May T.meaning field.now.origin (λ pass. install pass word (word_of from) to)
+            self.old.view }
+        ensures same { self.new ≡ record self.old { view = self.new.view; shares = self.new.shares } }
+        ensures shares { MatchResult result
+            (λ _. self.new.shares ≡ after_slot self.old.shares to)
+            (λ _. self.new.shares ≡ self.old.shares) }
+        ensures step { Exchanged T.meaning field.now.origin
+            (λ pass. install pass word (word_of from) to) word (word_of from) result
+            self.old.view self.new.view }
+    {
+        self.put(field, word, from, to)?;
+        count_slot(&mut self.shares, to);
+        Ok(())
+    }
+
+    fn put(&mut self, field: &Field<T>, word: u32, from: Content, to: Spot) -> Result<(), u64>
+        requires field { IsOf self.old field.now × (word < words_of field.now.origin.shape) }
+        requires fits { (from.count ≤ LAST_COUNT) × (to.desc < desc_count field.now.origin.shape) }
         requires may { May T.meaning field.now.origin (λ pass. install pass word (word_of from) to)
             self.old.view }
         ensures same { self.new ≡ record self.old { view = self.new.view } }
@@ -173,8 +194,22 @@ impl<T: Theory> Pass<T> {
 
     /// Begins the next attempt of an own descriptor, whose last one is decided and stands in no word.
     pub fn start(&mut self, field: &Field<T>, desc: u32, from: u64)
-        requires field { IsOf self.old field.now
-            × (desc < desc_count field.now.origin.shape) }
+        requires field { IsOf self.old field.now × (desc < desc_count field.now.origin.shape) }
+        requires fits { serial_of from + 1 < field.now.origin.shape.tries }
+        requires may { May T.meaning field.now.origin (λ pass. start pass desc from) self.old.view }
+        ensures same { self.new ≡ record self.old {
+            view = self.new.view;
+            shares = after_restart self.old.shares desc;
+        } }
+        ensures step { Stepped T.meaning field.now.origin (λ pass. start pass desc from)
+            self.old.view self.new.view }
+    {
+        self.begin_next(field, desc, from);
+        restart_lane(&mut self.shares, desc);
+    }
+
+    fn begin_next(&mut self, field: &Field<T>, desc: u32, from: u64)
+        requires field { IsOf self.old field.now × (desc < desc_count field.now.origin.shape) }
         requires fits { serial_of from + 1 < field.now.origin.shape.tries }
         requires may { May T.meaning field.now.origin (λ pass. start pass desc from) self.old.view }
         ensures same { self.new ≡ record self.old { view = self.new.view } }

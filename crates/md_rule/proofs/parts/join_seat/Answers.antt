@@ -1,4 +1,4 @@
-use Rattle.std.proofs.Common.{rules, ◌≡◌, ap}
+use Rattle.std.proofs.Common.{rules, ap}
 use Rattle.atomic_table.specs.Table.{Joins}
 use Rattle.md_machine.specs.events.SplitJoin.{spent}
 use Rattle.md_rule.specs.Rule.{Shows}

@@ -1,4 +1,4 @@
-use Rattle.std.proofs.Common.{rules, ◌≡◌, ap}
+use Rattle.std.proofs.Common.{rules, ap}
 use Rattle.atomic_table.specs.Table.{Splits}
 use Rattle.md_rule.specs.Rule.{Shows}
 use Rattle.md_rule.proofs.Events.{has_base}

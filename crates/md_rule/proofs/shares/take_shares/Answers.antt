@@ -1,4 +1,4 @@
-use Rattle.std.proofs.Common.{◌≡◌, ap, subst, ◌∙◌, if◌then◌else◌, le_refl, arith}
+use Rattle.std.proofs.Common.{ap, subst, ◌∙◌, if◌then◌else◌, le_refl, arith}
 use Rattle.md_history.specs.Front.{is_lane_of}
 use Rattle.md_rule.proofs.Sharing.{TakenBelow, taken_none, taken_more, taken_all}
 use Rattle.md_rule.specs.Shares.{share_at}

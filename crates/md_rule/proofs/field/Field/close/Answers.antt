@@ -1,6 +1,5 @@
-use Rattle.std.proofs.Common.{◌≡◌, ◌<◌, length, ap, sym, subst, ◌∙◌}
-use Rattle.atomic_table.specs.Table.{Final, Seen}
-use Rattle.md_rule.specs.Closing.{IsLast, IsReplayed}
+use Rattle.std.proofs.Common.{◌<◌, length, ap, subst}
+use Rattle.md_rule.specs.Closing.{IsLast}
 use Rattle.md_rule.specs.Views.{Origin}
 use Rattle.md_machine.specs.declared.pass.PassView.{PassView}
 use Rattle.md_rule.proofs.Closes.{last_of, replayed_of}

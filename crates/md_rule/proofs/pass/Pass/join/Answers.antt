@@ -1,4 +1,4 @@
-use Rattle.std.proofs.Common.{◌≡◌, ◌<◌, length, ap, sym, ◌∙◌, subst}
+use Rattle.std.proofs.Common.{◌<◌, length, ap, sym, ◌∙◌}
 use Rattle.md_machine.specs.events.SplitJoin.{joined_lanes}
 use Rattle.md_rule.proofs.LaneLists.{joined_are_lanes}
 use Rattle.md_rule.proofs.Moves.{may_join}

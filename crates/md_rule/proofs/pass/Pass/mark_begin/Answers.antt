@@ -1,17 +1,11 @@
 use Rattle.std.proofs.Common.{sym, subst}
 use Rattle.md_machine.specs.Event.{mark_begin}
-use Rattle.md_rule.specs.Steps.{MayTell, Stepped}
-use Rattle.md_rule.proofs.Events.{mark_tells, is_mark_begin}
+use Rattle.md_rule.specs.Steps.{Stepped}
+use Rattle.md_rule.proofs.LaneLists.{desc_fits}
 use Rattle.md_rule.proofs.pass.Pass.mark_begin.Goals as goal
 
-pub mark-requires-clause-may : goal.mark-requires-clause-may
-mark-requires-clause-may g c =
-    let M = g.T.Theory.meaning in
-    let o = c.args.field.now.origin in
-    let view = c.args.self.now.view in
-    subst (λ about. MayTell M o view 0 (λ found. found) (λ _. Stepped M o (λ pass. mark_begin pass about.0 about.1))) (sym c.of.ensures)
-    (mark_tells M o _ view c.requires.may (is_mark_begin M o view c.args.desc c.args.tag))
+pub begin_lane-requires : goal.begin_lane-requires
+begin_lane-requires g c = desc_fits c.args.field.now.origin.shape c.args.desc c.requires.field.1
 
 pub returns-clause-step : goal.returns-clause-step
-returns-clause-step g c =
-    subst (λ about. Stepped g.T.Theory.meaning c.args.field.now.origin (λ pass. mark_begin pass about.0 about.1) c.args.self.now.view c.mark.new.pass.view) c.of.ensures c.mark.ensures.told.1
+returns-clause-step g c = subst (λ p. Stepped g.T.Theory.meaning c.args.field.now.origin (λ pass. mark_begin pass c.args.desc c.args.tag) c.args.self.now.view p.view) (sym c.self.view_is) c.take_in_hand.ensures.step

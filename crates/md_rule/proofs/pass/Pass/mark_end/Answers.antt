@@ -1,9 +1,5 @@
-use Rattle.md_rule.proofs.Events.{mark_tells, is_mark_end}
+use Rattle.md_rule.proofs.LaneLists.{desc_fits}
 use Rattle.md_rule.proofs.pass.Pass.mark_end.Goals as goal
 
-pub mark-requires-clause-may : goal.mark-requires-clause-may
-mark-requires-clause-may g c =
-    let M = g.T.Theory.meaning in
-    let o = c.args.field.now.origin in
-    let view = c.args.self.now.view in
-    mark_tells M o _ view c.requires.may (is_mark_end M o view)
+pub end_lane-requires : goal.end_lane-requires
+end_lane-requires g c = desc_fits c.args.field.now.origin.shape c.args.desc c.requires.field.1

@@ -1,4 +1,4 @@
-use Rattle.std.proofs.Common.{◌≡◌, ◌≤◌, length, ap, sym, ◌∙◌, arith}
+use Rattle.std.proofs.Common.{length, ap, sym, ◌∙◌, arith}
 use Rattle.md_machine.specs.events.SplitJoin.{given_lanes, kept_lanes}
 use Rattle.md_rule.proofs.LaneLists.{given_are_lanes, kept_are_lanes}
 use Rattle.md_rule.proofs.Moves.{may_split}

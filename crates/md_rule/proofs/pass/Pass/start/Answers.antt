@@ -1,20 +1,11 @@
-use Rattle.std.proofs.Common.{◌≡◌, ap, sym, subst, ◌∙◌}
-use Rattle.md_words.specs.Layout.{address}
-use Rattle.md_words.specs.Place.{desc_status}
+use Rattle.std.proofs.Common.{sym, subst}
 use Rattle.md_machine.specs.Event.{start}
-use Rattle.md_machine.specs.events.Start.{started_word}
-use Rattle.md_rule.specs.Steps.{MayTell, Stepped}
-use Rattle.md_rule.proofs.Events.{is_start, store_tells}
+use Rattle.md_rule.specs.Steps.{Stepped}
+use Rattle.md_rule.proofs.LaneLists.{desc_fits}
 use Rattle.md_rule.proofs.pass.Pass.start.Goals as goal
 
-pub store_word-requires-clause-may : goal.store_word-requires-clause-may
-store_word-requires-clause-may g c =
-    let M = g.T.Theory.meaning in
-    let o = c.args.field.now.origin in
-    let view = c.args.self.now.view in
-    let at : c.status-word.result ≡ address o.shape (desc_status c.args.desc) = c.status-word.ensures.place ∙ ap (λ s. address s (desc_status c.args.desc)) c.shape.ensures in
-    subst (λ about. MayTell M o view c.status-word.result (λ _. c.started.result) (λ _. Stepped M o (λ pass. start pass about.0 about.1))) (sym c.of-about.ensures)
-    (rw (at, c.started.ensures) (store_tells M o _ view (address o.shape (desc_status c.args.desc)) (started_word c.args.from) c.requires.may (is_start M o view c.args.desc c.args.from)))
+pub restart_lane-requires : goal.restart_lane-requires
+restart_lane-requires g c = desc_fits c.args.field.now.origin.shape c.args.desc c.requires.field.1
 
 pub returns-clause-step : goal.returns-clause-step
-returns-clause-step g c = subst (λ about. Stepped g.T.Theory.meaning c.args.field.now.origin (λ pass. start pass about.0 about.1) c.args.self.now.view c.store_word.new.pass.view) c.of-about.ensures c.store_word.ensures.told
+returns-clause-step g c = subst (λ p. Stepped g.T.Theory.meaning c.args.field.now.origin (λ pass. start pass c.args.desc c.args.from) c.args.self.now.view p.view) (sym c.self.view_is) c.begin_next.ensures.step
