@@ -49,8 +49,7 @@ head_place (Bucket map bucket) = bucket_head map bucket
 head_place (Queue queue) = queue_head queue
 
 module _ (shape : Shape) (words : List ℕ) where
-  -- a place names the first of these nodes, the next word of each node names the one after it, and that of the last one
-  -- is 0
+  -- a place names the first of these nodes, the next word of each names the one after it, and that of the last one is 0
   abbrev pub Chained : Place → List ℕ → Type 0
   Chained place [] = word_at shape words place ≡ 0
   Chained place (n ∷ ns) = (word_at shape words place ≡ naming n) × Chained (node_next n) ns
@@ -59,7 +58,8 @@ module _ (shape : Shape) (words : List ℕ) where
   abbrev pub HaveFields : (first : ℕ) → List LaidNode → Type 0
   HaveFields first [] = Unit {0}
   HaveFields first (n ∷ nodes) =
-      (word_at shape words (node_key first) ≡ n.key) × (word_at shape words (node_value first) ≡ n.value) × HaveFields (first + 1) nodes
+      (word_at shape words (node_key first) ≡ n.key) × (word_at shape words (node_value first) ≡ n.value)
+      × HaveFields (first + 1) nodes
 
   -- the node of a number has a key, a value and a next word of 0
   pub record IsZero (node : ℕ) : Type 0 where
@@ -67,14 +67,15 @@ module _ (shape : Shape) (words : List ℕ) where
     pub value : word_at shape words (node_value node) ≡ 0
     pub next : word_at shape words (node_next node) ≡ 0
 
--- The words of a field whose nodes are these, and nothing else. It says what each word holds: those of the nodes, which
--- are chained in their order from the head of their bucket or queue; the tail of a queue, which names the last one; and 0
--- elsewhere.
+-- The words of a field whose nodes are these, and nothing else. It says what each word holds: keys and values of the
+-- nodes, which are chained in their order from the head of their bucket or queue; in the tail of a queue the name of its
+-- last node; and 0 elsewhere.
 pub record IsLaid (shape : Shape) (words : List ℕ) (nodes : List LaidNode) : Type 0 where
   pub field : IsField shape words
   pub fields : HaveFields shape words 1 nodes
   pub chains : (s : Structure) → Exists shape (head_place s) → Chained shape words (head_place s) (numbers_of nodes s)
-  pub tails : (queue : ℕ) → queue < shape.queues → word_at shape words (queue_tail queue) ≡ naming (last_of 0 (numbers_of nodes (Queue queue)))
+  pub tails : (queue : ℕ) → queue < shape.queues
+      → word_at shape words (queue_tail queue) ≡ naming (last_of 0 (numbers_of nodes (Queue queue)))
   pub unused : (node : ℕ) → length nodes < node → node ≤ node_count shape → IsZero shape words node
   pub base : slice_index words 0 ≡ 0
   pub descs : (word : ℕ) → first_desc shape ≤ word → slice_index words word ≡ 0
@@ -90,12 +91,15 @@ pair_nodes map bucket pairs = map_list (λ p. record { structure = Bucket map bu
 -- the nodes of a queue's values, with ranks from a first one
 abbrev pub value_nodes : (queue rank : ℕ) → List ℕ → List LaidNode
 value_nodes queue rank [] = []
-value_nodes queue rank (v ∷ vs) = record { structure = Queue queue; key = rank; value = v } ∷ value_nodes queue (rank + 1) vs
+value_nodes queue rank (v ∷ vs) =
+    record { structure = Queue queue; key = rank; value = v } ∷ value_nodes queue (rank + 1) vs
 
--- the nodes of the pairs of the maps below a number, by map and then by bucket
+-- the nodes of a map's pairs, by bucket
 abbrev pub nodes_of_map : Shape → (pairs : ℕ → ℕ → List (ℕ × ℕ)) → (map : ℕ) → List LaidNode
-nodes_of_map shape pairs map = flat_map (λ bucket. pair_nodes map bucket (pairs map bucket)) (range_with_len 0 shape.buckets)
+nodes_of_map shape pairs map =
+    flat_map (λ bucket. pair_nodes map bucket (pairs map bucket)) (range_with_len 0 shape.buckets)
 
+-- those of the maps below a number, by map
 abbrev pub nodes_of_maps : Shape → (pairs : ℕ → ℕ → List (ℕ × ℕ)) → (maps : ℕ) → List LaidNode
 nodes_of_maps shape pairs maps = flat_map (nodes_of_map shape pairs) (range_with_len 0 maps)
 
@@ -112,6 +116,7 @@ nodes_by shape pairs values =
 abbrev pub bucket_pairs : Shape → Table → (bucket : ℕ) → List (ℕ × ℕ)
 bucket_pairs shape table bucket = filter (λ p. bucket_of shape p.0 == bucket) (fin.entries table)
 
+-- the pairs of contents, by map and bucket
 abbrev pub pairs_at : Shape → State → (map bucket : ℕ) → List (ℕ × ℕ)
 pairs_at shape s map bucket = bucket_pairs shape (map_at s map) bucket
 
@@ -127,4 +132,5 @@ pub record HasMapsAndQueues (shape : Shape) (s : State) : Type 0 where
 -- the words after a node was written and named in a word
 abbrev pub appended : Shape → List ℕ → (end node key value : ℕ) → List ℕ
 appended shape words end node key value =
-    slice_set (slice_set (slice_set words (address shape (node_key node)) key) (address shape (node_value node)) value) end (naming node)
+    let keyed = slice_set words (address shape (node_key node)) key in
+    slice_set (slice_set keyed (address shape (node_value node)) value) end (naming node)

@@ -48,15 +48,16 @@ pub(crate) fn append_pairs(
 {
     let mut end = shape.map_head(map, bucket as u64);
     let mut node = first;
-    for pair in pairs {
-        append(words, shape, end, node, pair.0, pair.1);
+    for i in 0..pairs.len() {
+        let (key, value) = pairs[i];
+        append(words, shape, end, node, key, value);
         end = shape.node_next(node);
         node += 1;
     }
     node
 }
 
-/// Lays the values of a queue that has its dummy alone, in order: the first becomes the node `first`,
+/// Lays the values of a queue that has its dummy alone, in order: the first becomes the node `first`
 /// with the rank 1. Returns the number of the next node.
 pub(crate) fn append_values(
     words: &mut [u64],

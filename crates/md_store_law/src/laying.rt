@@ -18,8 +18,8 @@ use std::collections::{BTreeMap, VecDeque};
 /// The words of a field with these contents, which has as many maps and queues as the shape.
 /// `needed(contents)` is at most the shape's number of base nodes. `AllocError` if memory runs out.
 ///
-/// The dummy of each queue comes first, then the pairs by map, by bucket and by rising key, and then
-/// the queued values by queue. Nodes are chained in that order, and every count is 0.
+/// The dummies of the queues come first, then the pairs by map, bucket and rising key, and then the
+/// queued values by queue. Nodes are chained in that order, and every count is 0.
 ///
 /// Takes time linear in the words, the pairs and the values: a map gives its pairs in rising order
 /// of their keys, each is pushed behind those of its bucket, and then the buckets are laid in turn.

@@ -24,6 +24,8 @@ mod compacting;
 mod counting;
 mod fields;
 mod laying;
+#[cfg(test)]
+mod laying_tests;
 mod reading;
 mod sizes;
 #[cfg(test)]

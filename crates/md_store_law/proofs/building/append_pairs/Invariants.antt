@@ -6,9 +6,9 @@ use Rattle.md_store_law.specs.Laid.{pair_nodes}
 use Rattle.md_store_law.proofs.Growing.{LaidOn}
 use Rattle.md_store_law.proofs.building.append_pairs.Given as goal
 
-abbrev pub invariant-loop-pair : goal.invariant-loop-pair
-invariant-loop-pair l =
-    (l.node ≡ l.first + l.pair-index)
+abbrev pub invariant-loop-i : goal.invariant-loop-i
+invariant-loop-i l =
+    (l.node ≡ l.first + l.i)
     × IsField l.shape l.words
     × (l.end < words_of l.shape)
-    × LaidOn l.shape l.initial.words l.words (Bucket l.map l.bucket) [] l.first (pair_nodes l.map l.bucket (take l.pair-index l.pairs)) l.end
+    × LaidOn l.shape l.initial.words l.words (Bucket l.map l.bucket) [] l.first (pair_nodes l.map l.bucket (take l.i l.pairs)) l.end
