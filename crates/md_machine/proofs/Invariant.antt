@@ -24,7 +24,7 @@ use Rattle.md_machine.proofs.clauses.passes.FrontsFit.{fated}
 use Rattle.md_machine.proofs.clauses.passes.HandKnows.{hand_knows-kept}
 use Rattle.md_machine.proofs.clauses.passes.Hands.{hands-kept}
 use Rattle.md_machine.proofs.clauses.passes.InHand.{HandsAlone, StepsBegun, in_hand-kept}
-use Rattle.md_machine.proofs.clauses.slots.Installs.{InstallsKept, installs-kept, step_rises}
+use Rattle.md_machine.proofs.clauses.slots.Installs.{InstallsKept, installs-kept}
 use Rattle.md_machine.proofs.clauses.passes.KnownPast.{known_past-kept}
 use Rattle.md_machine.proofs.clauses.passes.Lanes.{lanes-kept}
 use Rattle.md_machine.proofs.clauses.words.Loads.{EntriesPast, loads-kept}
@@ -34,7 +34,6 @@ use Rattle.md_machine.proofs.clauses.words.NodeWords.{node_words-kept}
 use Rattle.md_machine.proofs.clauses.entries.Numbered.{numbered-kept}
 use Rattle.md_machine.proofs.clauses.slots.OddWords.{odd_words-kept}
 use Rattle.md_machine.proofs.clauses.words.OldSlots.{old_slots-kept}
-use Rattle.md_machine.proofs.clauses.words.Order.{TrailsInOrder, order-kept}
 use Rattle.md_machine.proofs.clauses.passes.OwnBegun.{own_begun-kept}
 use Rattle.md_machine.proofs.clauses.slots.OwnInstalls.{own_installs}
 use Rattle.md_machine.proofs.clauses.nodes.OwnNexts.{own_nexts-kept}
@@ -53,7 +52,6 @@ use Rattle.md_machine.proofs.clauses.entries.Sound.{sound-kept}
 use Rattle.md_machine.proofs.clauses.words.Stamps.{Stamp, Stamped, StampsKept, stamp_more, stamps-kept, stamps_hold}
 use Rattle.md_machine.proofs.clauses.words.Statuses.{statuses-kept, statuses_noted}
 use Rattle.md_machine.proofs.clauses.words.Stores.{StepsPast, StoresStand, steps_begun-kept, steps_past-kept, stores-kept}
-use Rattle.md_machine.proofs.clauses.slots.TakenOut.{taken_out}
 use Rattle.md_machine.proofs.clauses.slots.Undecided.{undecided-kept}
 use Rattle.md_machine.proofs.clauses.slots.WonInstalls.{won_installs-kept}
 use Rattle.md_machine.proofs.events.MoveFacts.{history_grows}
@@ -113,7 +111,6 @@ pub record Invariant (m : Machine) : Type 0 where
   pub placed : NotedAlways m
   pub placed_once : AliveOnce m
   pub installs : InstallsKept (shape_of m) m.words m.installs m.passes
-  pub order : TrailsInOrder (shape_of m) m.passes
   pub odd_words : OddStand (shape_of m) m.words m.installs
   pub statuses : StatusesCame (shape_of m) m.words m.passes
   pub brackets : TrailsBracket (shape_of m) m.words m.passes
@@ -216,7 +213,7 @@ kept_by m k = record {
   met_spots = k.met_spots;
   uninstalls = λ pass p at word from value may was choice r. sym (uninstall_value m (rests_of m k) word may.counted
       (record { pass = pass; p = p; at = at; value = value; may = subst (λ c. MayUninstall m p word c value) (sym was) may }) choice r);
-  clean = clean_out m k.stamp k.stamps k.installs k.order k.odd_words;
+  clean = clean_out m k.stamp k.stamps k.installs k.odd_words;
   present_entries = entries_by_status m k.read_counts k.ready_entries;
   free_nodes = free_nodes m k.opening_base k.fronts k.numbered.distinct k.sound.sound k.own_nodes;
   entry_slots = k.entry_slots;
@@ -232,7 +229,6 @@ kept_by m k = record {
   own_nexts = k.own_nexts;
   rooted = k.rooted;
   even_nexts = even_nexts m k.odd_words (stamps_hold m k.stamp k.stamps (reads_stamped m k)) k.own_nexts;
-  taken_out = taken_out m k.stamp k.stamps k.installs k.order k.won_installs;
   stores = λ pass p at a now. k.stores pass p at a (ap (λ (b : AttemptId). b.serial) now);
 }
 
@@ -253,8 +249,8 @@ module _ (M : Meaning) where
       let noted_now = statuses_noted (shape_of m) n.words n.passes statuses in
       let numbered = numbered-kept m n v k.entries k.numbered in
       let stamps = stamps-kept m n k.stamp k.formats.field k.stamps v v.words v.opening in
-      let installs = installs-kept m n v k.formats.field k.hands k.installs k.stamp k.stamps in
-      let odd_words = odd_words-kept m k.stamp k.stamps k.installs k.order n v k.formats.field k.hands k.odd_words in (
+      let installs = installs-kept m n v k.formats.field k.hands k.installs in
+      let odd_words = odd_words-kept m k.stamp k.stamps k.installs n v k.formats.field k.hands k.odd_words in (
         record {
           formats = move AreFormats (formats-kept (Unit {0}) m k.formats.field v.word v.new v.left k.formats);
           lanes = reshape (λ shape. LanesApart shape n.passes) (lanes-kept m n v k.lanes);
@@ -268,12 +264,11 @@ module _ (M : Meaning) where
           placed = placed-kept m n v entries.stay k.placed;
           placed_once = placed_once-kept m n v (fated (shape_of m) m.words m.history m.fates k.entries) entries.stay sound.sound k.placed_once;
           installs = move (λ shape words. InstallsKept shape words n.installs n.passes) installs;
-          order = reshape (λ shape. TrailsInOrder shape n.passes) (order-kept m k.stamp k.stamps v.step (step_rises m n v k.formats.field k.hands k.installs) n.passes v.from k.order);
           odd_words = move (λ shape words. OddStand shape words n.installs) odd_words;
           statuses = reshape (λ shape. StatusesCame shape n.words n.passes) statuses;
-          brackets = move (λ shape words. TrailsBracket shape words n.passes) (brackets-kept m k.stamp k.stamps k.installs k.order n v k.formats.field k.hands k.odd_words k.brackets);
+          brackets = move (λ shape words. TrailsBracket shape words n.passes) (brackets-kept m k.stamp k.stamps k.installs n v k.formats.field k.hands k.odd_words k.brackets);
           between = reshape (λ shape. EachTriple (NotesBetween shape n.installs) n.passes) (between-kept m n v k.formats.field k.installs k.odd_words installs odd_words k.brackets
-              (old_brackets m k.stamp k.stamps k.installs k.order n v k.formats.field k.hands k.odd_words) k.between);
+              (old_brackets m k.stamp k.stamps k.installs n v k.formats.field k.hands k.odd_words) k.between);
           undecided = move (λ shape words. UndecidedStand shape words n.installs) (undecided-kept m noted k.brackets k.stamp k.stamps k.installs n v k.formats.field k.hands k.undecided);
           flags = reshape (λ shape. Noting shape n.passes) (flags-kept m n v k.flags);
           node_words = λ pass p at. reshape (λ shape. DataStands shape n.words p) (node_words-kept m n v (fated (shape_of m) m.words m.history m.fates k.entries) k.placed k.flags k.node_words pass p at);
@@ -296,7 +291,7 @@ module _ (M : Meaning) where
           found_reads = reshape (λ shape. EachPair (ReadFound shape n.history) n.passes) (reads_found m n v k.formats.field k.hands noted past k.stamp k.stamps k.moved_reads k.found_reads);
           sound = sound;
           ready_entries = reshape (λ shape. ReadyHaveEntries shape n.words n.history) (ready_entries-kept m n v k.formats.field k.hands k.ready_entries);
-          old_slots = move (λ shape words. EachPair (OldSlotStands shape words) n.passes) (old_slots-kept m k.stamp k.stamps k.installs k.order n v k.formats.field k.hands k.odd_words k.old_slots);
+          old_slots = move (λ shape words. EachPair (OldSlotStands shape words) n.passes) (old_slots-kept m k.stamp k.stamps k.installs n v k.formats.field k.hands k.odd_words k.old_slots);
           numbered = reshape (λ shape. EntriesNumbered shape n.history) numbered;
           serials = serials-kept m n v k.entries k.in_hand k.serials;
           hand_knows = reshape (λ shape. HandsKnow shape n.passes) (hand_knows-kept m n v k.lanes k.hands k.serials k.fronts fronts noted_now (fates_told (shape_of m) n.words n.history n.fates entries.fit past_now) k.hand_knows);

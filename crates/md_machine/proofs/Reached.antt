@@ -18,7 +18,6 @@ use Rattle.md_machine.proofs.Invariant.{Invariant, kept_by, plays_keep, runs_kee
 use Rattle.md_machine.proofs.clauses.nodes.FreeNodes.{base_alone}
 use Rattle.md_machine.proofs.clauses.passes.LanesApart.{At, lanes_first}
 use Rattle.md_machine.proofs.clauses.entries.Numbered.{none_numbered}
-use Rattle.md_machine.proofs.clauses.words.Order.{InOrder}
 use Rattle.md_machine.proofs.clauses.entries.ReadyEntries.{prep_not_ready}
 use Rattle.md_machine.proofs.events.Steps.{HasStep}
 use Rattle.md_machine.proofs.lists.At.{at_one}
@@ -111,7 +110,6 @@ module _ (M : Meaning) where
     placed = λ pass p at x c. absurd (in_none x (subst (λ (v : PassView). Contains v.placed x) (sym (at_one (first_pass o.shape) p pass at).1) c));
     placed_once = λ i j d before inside. subst (AllPairs (λ (x y : PlacedNode). x.node ≢ y.node)) (sym (append-nil o.placed)) can.once i j d before inside;
     installs = record { fits = λ i c. absurd (in_none i c); held = λ i c. absurd (in_none i c) };
-    order = λ pass p at segment c. subst (InOrder o.shape) (first_segment o.shape p segment (at_one (first_pass o.shape) p pass at).1 c) tt;
     odd_words = λ word counted odd. absurd (true≢false (sym (can.even word counted) ∙ odd));
     statuses = λ pass p at segment c s i. absurd (no_steps o.shape s (pass, p, at, (segment, c, i)));
     brackets = λ pass p at segment c. subst (InPairs (NotesStanding o.shape o.words)) (first_segment o.shape p segment (at_one (first_pass o.shape) p pass at).1 c) tt;

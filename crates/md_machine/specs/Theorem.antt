@@ -38,7 +38,6 @@ use Rattle.md_machine.specs.clauses.words.Reads.{ReadsShow}
 use Rattle.md_machine.specs.clauses.entries.Serials.{EntriesInTurn}
 use Rattle.md_machine.specs.clauses.entries.Rooted.{EntriesRooted}
 use Rattle.md_machine.specs.clauses.slots.Slots.{SlotsStand}
-use Rattle.md_machine.specs.clauses.slots.TakenOut.{CleanAreTakenOut}
 use Rattle.md_machine.specs.clauses.entries.Sound.{CommittedAreSound}
 use Rattle.md_machine.specs.clauses.words.Stamps.{StampsHold}
 use Rattle.md_machine.specs.clauses.words.Statuses.{StatusesCame}
@@ -90,7 +89,6 @@ pub record IsKept (m : Machine) : Type 0 where
   pub rooted : EntriesRooted m
   pub own_nexts : OwnNextsShown m
   pub even_nexts : OwnNextsEven m
-  pub taken_out : CleanAreTakenOut m
 
 module _ (M : Meaning) where
   -- after every list of events from an opening

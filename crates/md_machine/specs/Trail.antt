@@ -1,5 +1,5 @@
 -- What the steps of a trail show.
-use Rattle.std.specs.Prelude.{◌≡◌, ◌==◌, ◌&&◌, ◌||◌, ◌+◌, not, ℕ, Bool, true, false, List, [], ◌∷◌, ◌++◌, All, Contains, Some, ◌⊎◌}
+use Rattle.std.specs.Prelude.{◌≡◌, ◌==◌, ◌&&◌, ◌||◌, ◌+◌, ◌<◌, not, ℕ, Bool, true, false, List, [], ◌∷◌, ◌++◌, All, Contains, Some, ◌⊎◌}
 use Rattle.md_words.specs.Content.{value_of, count_of, is_even, spot_of}
 use Rattle.md_machine.specs.declared.attempt.AttemptId.{AttemptId}
 use Rattle.md_machine.specs.declared.step.Step.{Step}
@@ -48,6 +48,10 @@ SomeStepOf p P = (segment : List Step) × Contains (segments p) segment × SomeS
 -- every step of a pass is such, in whatever segment
 abbrev pub EveryStepOf : PassView → (Step → Type 0) → Type 0
 EveryStepOf p P = (segment : List Step) → Contains (segments p) segment → (s : Step) → Contains segment s → P s
+
+-- a step of the pass found or left the word at a higher count, in whatever segment
+abbrev pub MetHigher : PassView → (word count : ℕ) → Type 0
+MetHigher p word count = (held : ℕ) × (count < count_of held) × SomeStepOf p (Meets word held)
 
 -- a step of the pass is such, with the earlier and the later steps of its segment
 pub record StepOf (p : PassView) (P : Step → Type 0) : Type 0 where

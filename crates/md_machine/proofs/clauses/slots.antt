@@ -1,10 +1,8 @@
 pub mod Installs
-pub mod LeftLater
 pub mod OddWords
 pub mod Undecided
 pub mod WonInstalls
 pub mod EntrySlots
 pub mod OwnInstalls
 pub mod Clean
-pub mod TakenOut
 pub mod UndecidedSlots

@@ -2,7 +2,6 @@ pub mod Statuses
 pub mod Brackets
 pub mod Stores
 pub mod Stamps
-pub mod Order
 pub mod NodeWords
 pub mod Loads
 pub mod Reads

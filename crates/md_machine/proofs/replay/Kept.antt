@@ -38,7 +38,6 @@ grounds_of m k = record {
   field = k.formats.field;
   hands = k.hands;
   installs = k.installs;
-  order = k.order;
   odd_words = k.odd_words;
   undecided = k.undecided;
   stamp = k.stamp;

@@ -11,7 +11,6 @@ use Rattle.md_words.specs.PlaceAt.{IsCounted}
 use Rattle.md_machine.proofs.chain.Values.{installed_spot, unready_kept, value_even, value_odd}
 use Rattle.md_machine.proofs.clauses.slots.Installs.{InstallsKept, installs-kept}
 use Rattle.md_machine.proofs.clauses.slots.OddWords.{standing_serial}
-use Rattle.md_machine.proofs.clauses.words.Order.{TrailsInOrder}
 use Rattle.md_machine.proofs.clauses.words.Stamps.{Stamp, StampsKept}
 use Rattle.md_machine.proofs.events.Attempts.{attempt_same}
 use Rattle.md_machine.proofs.events.MoveFacts.{MoveFacts}
@@ -28,7 +27,6 @@ pub record Grounds (m : Machine) : Type 0 where
   pub field : IsField (shape_of m) m.words
   pub hands : HandsFit (shape_of m) m.words m.passes
   pub installs : InstallsKept (shape_of m) m.words m.installs m.passes
-  pub order : TrailsInOrder (shape_of m) m.passes
   pub odd_words : OddStand (shape_of m) m.words m.installs
   pub undecided : UndecidedStand (shape_of m) m.words m.installs
   pub stamp : Stamp
@@ -63,9 +61,9 @@ module _ (m n : Machine) (v : MoveFacts m n) (g : Grounds m) (choice : List Bool
       let d = i.attempt.desc in
       let desc : (spot_of (value_of (content m word))).desc ≡ d = ap (λ (x : Spot). x.desc) (standing_spot m g word s) in
       let serial : serial_of (word_at (shape_of m) later (desc_status d)) ≡ serial_of (status_at m d) =
-      sym (subst (λ x. serial_of (status_at m x) ≡ serial_of (word_at (shape_of m) later (desc_status x))) desc (standing_serial m g.stamp g.stamps g.installs g.order n v g.field g.hands g.odd_words word counted odd).1) in
+      sym (subst (λ x. serial_of (status_at m x) ≡ serial_of (word_at (shape_of m) later (desc_status x))) desc (standing_serial m g.stamp g.stamps g.installs n v g.field g.hands g.odd_words word counted odd).1) in
       let before = (g.installs.fits i s.made).slot s.present in
-      let kept = installs-kept m n v g.field g.hands g.installs g.stamp g.stamps in
+      let kept = installs-kept m n v g.field g.hands g.installs in
       let after = (kept.fits i (v.installs_stay i s.made)).slot (s.present ∙ sym serial) in
       let is : present changed_machine d ≡ present m d = ap (attempt_of d) serial in
       let new : (word_at (shape_of m) later (slot_new d i.slot) ≡ word_at (shape_of m) m.words (slot_new d i.slot)) ⊎ (is_kept m.history choice (present m d) ≡ false) =

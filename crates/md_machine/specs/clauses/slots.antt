@@ -6,5 +6,4 @@ pub mod Undecided
 pub mod OwnInstalls
 pub mod Clean
 pub mod Uninstalls
-pub mod TakenOut
 pub mod UndecidedSlots

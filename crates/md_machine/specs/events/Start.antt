@@ -1,5 +1,6 @@
 -- The event start: a descriptor whose attempt is decided begins another one.
-use Rattle.std.specs.Prelude.{◌≡◌, ◌≢◌, ◌+◌, ◌<◌, ◌++◌, ◌&&◌, ◌||◌, ℕ, Bool, true, false, List, [], ◌∷◌, map, All, Some, None}
+use Rattle.std.specs.Prelude.{◌≡◌, ◌≢◌, ◌+◌, ◌<◌, ◌&&◌, ◌||◌, ℕ, Bool, true, false, List, ◌∷◌, Some, None}
+use Rattle.md_words.specs.Content.{count_of}
 use Rattle.md_words.specs.declared.status.Status.TheVariants.{InPrep}
 use Rattle.md_words.specs.Status.{status_word, status_of, serial_of}
 use Rattle.md_words.specs.Place.{desc_status}
@@ -14,7 +15,7 @@ use Rattle.md_machine.specs.declared.pass.PassView.{PassView}
 use Rattle.md_machine.specs.Machine.{Machine, attempt_of, is_ready, present, same_attempt, shape_of}
 use Rattle.md_machine.specs.Own.{HasDesc}
 use Rattle.md_machine.specs.Stepping.{replaced, stepped}
-use Rattle.md_machine.specs.Trail.{Meets, SomeStep, SomeStepOf, holds_desc, is_store}
+use Rattle.md_machine.specs.Trail.{EveryStepOf, Meets, MetHigher, SomeStepOf}
 use Rattle.md_machine.specs.events.Uninstall.{IsDecided}
 
 -- the fate of an attempt's entry is known to be decided
@@ -33,23 +34,9 @@ pub record WonInstall (a : AttemptId) (s : Step) : Type 0 where
   pub attempt : s.attempt ≡ Some a
   pub won : s.before ≢ s.after
 
--- a step left the word without the descriptor: it took it out, or found the word without it. A store tells nothing
-pub record LeavesWithout (word desc : ℕ) (s : Step) : Type 0 where
-  pub there : s.word ≡ word
-  pub no_store : is_store s.kind ≡ false
-  pub without : holds_desc desc s.after ≡ false
-
--- each install that the attempt won is followed by a step that left its word without the descriptor
-abbrev pub IsCleanIn : AttemptId → List Step → Type 0
-IsCleanIn a steps = (earlier : List Step) (s : Step) (later : List Step) → steps ≡ earlier ++ s ∷ later → WonInstall a s → SomeStep (LeavesWithout s.word a.desc) later
-
--- the last segment, alone and after each earlier one
-abbrev pub timelines : PassView → List (List Step)
-timelines p = map (λ segment. segment ++ p.trail) ([] ∷ p.past)
-
--- in no word that the attempt wrote may its descriptor still stand
+-- for each word that the attempt won, the pass met a higher count there: so the descriptor was taken out of it
 abbrev pub IsClean : PassView → AttemptId → Type 0
-IsClean p a = All (IsCleanIn a) (timelines p)
+IsClean p a = EveryStepOf p (λ s. WonInstall a s → MetHigher p s.word (count_of s.after))
 
 pub record MayStart (m : Machine) (p : PassView) (desc from : ℕ) : Type 0 where
   pub idle : p.hand ≡ None

@@ -33,14 +33,14 @@ use Rattle.md_machine.proofs.resolutions.Placing.{always_not_never}
 use Rattle.md_machine.specs.Event.{Does, Event, first_pass}
 use Rattle.md_machine.specs.FreeToReturn.{IsFreeToReturn, IsInPreparation, KnowsFree}
 use Rattle.md_machine.specs.GoesOn.{GoesOn}
-use Rattle.md_machine.specs.Machine.{Install, IsAt, Machine, content, present, shape_of}
+use Rattle.md_machine.specs.Machine.{Install, IsAt, Machine, content, shape_of}
 use Rattle.md_machine.specs.Meaning.{Meaning}
-use Rattle.md_machine.specs.Own.{HasDesc, HasNode, IsOwnNode}
+use Rattle.md_machine.specs.Own.{HasNode, IsOwnNode}
 use Rattle.md_machine.specs.Resolution.{always_placed, structure_in}
 use Rattle.md_machine.specs.Theorem.{IsKept}
-use Rattle.md_machine.specs.Trail.{EveryStepOf}
+use Rattle.md_machine.specs.Trail.{EveryStepOf, MetHigher}
 use Rattle.md_machine.specs.clauses.entries.Fates.{FatesTold}
-use Rattle.md_machine.specs.clauses.nodes.EvenNexts.{AllTakenOut, MetHigher}
+use Rattle.md_machine.specs.clauses.nodes.EvenNexts.{AllTakenOut}
 use Rattle.md_machine.specs.clauses.slots.UndecidedSlots.{NamesNode, UndecidedNamePlaced}
 use Rattle.md_machine.specs.events.Start.{IsClean, WonInstall, is_decided}
 
@@ -90,17 +90,14 @@ module _ (m : Machine) (k : IsKept m) (pass : ℕ) (p : PassView) (at : IsAt m p
       → IsFreeToReturn M m p node
   free_returns M slots hand = free_to_return M m p node slots (own_node_exists (shape_of m) knows.own.0 node knows.own.2).0 free_own.1 hand
 
--- once the present attempt of an own descriptor is clean, all is taken out of a word in which the pass won no other install
--- that it didn't meet again
-pub clean_taken_out : (m : Machine) → IsKept m → (pass : ℕ) (p : PassView) → IsAt m pass p → (desc : ℕ) → HasDesc (shape_of m) p desc
-    → IsClean p (present m desc) → (word : ℕ)
-    → EveryStepOf p (λ s. (a : AttemptId) → WonInstall a s → s.word ≡ word → (present m desc ≡ a) ⊎ MetHigher p word (count_of s.after))
-    → AllTakenOut p word
-clean_taken_out m k pass p at desc own clean word others segment c s i a won is = ⊎_elim
-    (λ mine. subst (λ w. MetHigher p w (count_of s.after)) is
-    (k.taken_out pass p at desc own clean segment c s i (subst (λ b. WonInstall b s) (sym mine) won)))
+-- once an attempt is clean, all is taken out of a word in which the pass won no install of another attempt that it didn't
+-- meet again
+pub clean_taken_out : (p : PassView) (a : AttemptId) → IsClean p a → (word : ℕ)
+    → EveryStepOf p (λ s. (b : AttemptId) → WonInstall b s → s.word ≡ word → (a ≡ b) ⊎ MetHigher p word (count_of s.after)) → AllTakenOut p word
+clean_taken_out p a clean word others segment c s i b won is = ⊎_elim
+    (λ mine. subst (λ w. MetHigher p w (count_of s.after)) is (clean segment c s i (subst (λ x. WonInstall x s) (sym mine) won)))
     (λ met. met)
-    (others segment c s i a won is)
+    (others segment c s i b won is)
 
 -- the pass of an opening knows all nodes of the lanes to be free
 pub opened_free : (shape : Shape) (lane node : ℕ) → OwnsNode shape lane node → KnowsFree shape (first_pass shape) node

@@ -4,7 +4,6 @@ use Rattle.std.proofs.lemmas.Bool.{and_parts, cases_Bool, true≢false}
 use Rattle.md_words.specs.Content.{count_of, is_even, spot_of, value_of}
 use Rattle.md_machine.proofs.clauses.slots.Installs.{InstallsKept}
 use Rattle.md_machine.proofs.clauses.slots.OddWords.{clean_is_out, installed_names}
-use Rattle.md_machine.proofs.clauses.words.Order.{TrailsInOrder}
 use Rattle.md_machine.proofs.clauses.words.Stamps.{Stamp, StampsKept}
 use Rattle.md_machine.specs.Machine.{Machine, content, present, shape_of}
 use Rattle.md_machine.specs.Own.{HasDesc}
@@ -14,9 +13,8 @@ use Rattle.md_machine.specs.clauses.slots.OddWords.{OddStand}
 use Rattle.md_machine.specs.events.Start.{IsClean}
 
 pub clean_out : (m : Machine) (stamp : Stamp) → StampsKept m stamp → InstallsKept (shape_of m) m.words m.installs m.passes
-    → TrailsInOrder (shape_of m) m.passes
     → OddStand (shape_of m) m.words m.installs → CleanAreOut m
-clean_out m stamp stamps k order odd_stand pass p at desc own clean word counted = ⊎_elim
+clean_out m stamp stamps k odd_stand pass p at desc own clean word counted = ⊎_elim
     (λ holds.
     let parts = and_parts (not (is_even (count_of (content m word)))) ((spot_of (value_of (content m word))).desc == desc) holds in
     let odd = odd_of (is_even (count_of (content m word))) parts.0 in
@@ -24,7 +22,7 @@ clean_out m stamp stamps k order odd_stand pass p at desc own clean word counted
     let i = s.install in
     let fits = k.fits i s.made in
     let is : desc ≡ i.attempt.desc = sym (eqb-true _ desc parts.1) ∙ ap (λ c. (spot_of (value_of c)).desc) s.holds ∙ installed_names i fits.room (fits.slot s.present).exists.1 in
-    absurd (clean_is_out m stamp stamps k order word i counted odd s.made s.present s.there s.holds pass p at (subst (HasDesc (shape_of m) p) is own) (subst (λ d. IsClean p (present m d)) is clean)))
+    absurd (clean_is_out m stamp stamps k word i counted s.made s.present s.there s.holds pass p at (subst (HasDesc (shape_of m) p) is own) (subst (λ d. IsClean p (present m d)) is clean)))
     (λ out. out)
     (cases_Bool (holds_desc desc (content m word)))
   where

@@ -15,7 +15,6 @@ use Rattle.md_machine.specs.declared.pass.PassView.{PassView}
 use Rattle.md_machine.proofs.chain.Values.{installed_spot}
 use Rattle.md_machine.proofs.clauses.slots.Installs.{InstallsKept}
 use Rattle.md_machine.proofs.clauses.slots.OddWords.{installed_names, standing_serial}
-use Rattle.md_machine.proofs.clauses.words.Order.{TrailsInOrder}
 use Rattle.md_machine.proofs.clauses.words.Stamps.{Stamp, StampsKept}
 use Rattle.md_machine.proofs.events.MoveFacts.{MoveFacts}
 use Rattle.md_machine.proofs.events.Steps.{HasStep}
@@ -37,7 +36,6 @@ abbrev pub MetStanding : Shape → List ℕ → Step → Type 0
 MetStanding shape words s = MeetsOdd shape s.word (get_or words s.word 0) s
 
 module _ (m : Machine) (stamp : Stamp) (stamps : StampsKept m stamp) (k : InstallsKept (shape_of m) m.words m.installs m.passes)
-    (order : TrailsInOrder (shape_of m) m.passes)
     (n : Machine) (v : MoveFacts m n) (field : IsField (shape_of m) m.words) (hands : HandsFit (shape_of m) m.words m.passes) (odd_stand : OddStand (shape_of m) m.words m.installs) where
   abbrev later : List ℕ
   later = set m.words v.word v.new
@@ -71,7 +69,7 @@ module _ (m : Machine) (stamp : Stamp) (stamps : StampsKept m stamp) (k : Instal
 
   same_serial : (s : Step) → HasStep m.passes s → (met : MetStanding (shape_of m) later s)
       → serial_of (status_at m (desc_in (content m s.word))) ≡ serial_of (word_at (shape_of m) later (desc_status (desc_in (content m s.word))))
-  same_serial s has met = let was = met_before s has met in (standing_serial m stamp stamps k order n v field hands odd_stand s.word was.counted was.odd).1
+  same_serial s has met = let was = met_before s has met in (standing_serial m stamp stamps k n v field hands odd_stand s.word was.counted was.odd).1
 
   pub old_brackets : (s t : Step) → HasStep m.passes s → NotesStanding (shape_of m) m.words s t → NotesStanding (shape_of m) later s t
   old_brackets s t has b met at =
@@ -86,7 +84,7 @@ module _ (m : Machine) (stamp : Stamp) (stamps : StampsKept m stamp) (k : Instal
       let d = desc_in (content m s.word) in
       let same = ap desc_in (stood s has met) in
       let was = met_before s has met in
-      let exists = (standing_serial m stamp stamps k order n v field hands odd_stand s.word was.counted was.odd).0 in
+      let exists = (standing_serial m stamp stamps k n v field hands odd_stand s.word was.counted was.odd).0 in
       let is : v.word ≡ address (shape_of m) (desc_status d) = sym v.there ∙ at ∙ ap (λ x. address (shape_of m) (desc_status x)) same in
       let left : word_at (shape_of m) later (desc_status d) ≡ v.new = ap (λ w. get_or later w 0) (sym is) ∙ get_or-set_same m.words v.word v.new 0 (let below = address_below (shape_of m) (desc_status d) exists in omega (arith, is, below, field)) in
       subst (λ x. NotesSerial (serial_of (word_at (shape_of m) later (desc_status x))) v.step) (sym same) (record {

@@ -14,7 +14,6 @@ use Rattle.md_machine.proofs.chain.Values.{installed_spot}
 use Rattle.md_machine.proofs.clauses.words.Brackets.{MetStanding, met_before, stood}
 use Rattle.md_machine.proofs.clauses.slots.Installs.{InstallsKept, installs-kept}
 use Rattle.md_machine.proofs.clauses.slots.OddWords.{standing_serial}
-use Rattle.md_machine.proofs.clauses.words.Order.{TrailsInOrder}
 use Rattle.md_machine.proofs.clauses.words.Stamps.{Stamp, StampsKept}
 use Rattle.md_machine.proofs.events.MoveFacts.{MoveFacts}
 use Rattle.md_machine.proofs.events.Steps.{HasStep}
@@ -26,7 +25,6 @@ use Rattle.md_machine.specs.clauses.slots.OddWords.{OddStand}
 use Rattle.md_machine.specs.clauses.words.OldSlots.{OldSlotStands, old_place, spot_in_word}
 
 module _ (m : Machine) (stamp : Stamp) (stamps : StampsKept m stamp) (k : InstallsKept (shape_of m) m.words m.installs m.passes)
-    (order : TrailsInOrder (shape_of m) m.passes)
     (n : Machine) (v : MoveFacts m n) (field : IsField (shape_of m) m.words) (hands : HandsFit (shape_of m) m.words m.passes) (odd_stand : OddStand (shape_of m) m.words m.installs) where
   abbrev later : List ℕ
   later = set m.words v.word v.new
@@ -41,9 +39,9 @@ module _ (m : Machine) (stamp : Stamp) (stamps : StampsKept m stamp) (k : Instal
       let before = fits.slot s.present in
       let spot : spot_in_word (content m w) ≡ spot_of_install i = ap spot_in_word s.holds ∙ installed_spot i fits.room before.exists.1 in
       let desc = ap (λ (x : Spot). x.desc) spot in
-      let serial = (standing_serial m stamp stamps k order n v field hands odd_stand w counted odd).1 in
+      let serial = (standing_serial m stamp stamps k n v field hands odd_stand w counted odd).1 in
       let same : serial_of (status_at m i.attempt.desc) ≡ serial_of (word_at (shape_of m) later (desc_status i.attempt.desc)) = subst (λ d. serial_of (status_at m d) ≡ serial_of (word_at (shape_of m) later (desc_status d))) desc serial in
-      let kept = installs-kept m n v field hands k stamp stamps in
+      let kept = installs-kept m n v field hands k in
       let after = (kept.fits i (v.installs_stay i s.made)).slot (s.present ∙ same) in
       subst (λ (x : Spot). get_or later (address (shape_of m) (slot_old x.desc x.slot)) 0 ≡ content m (address (shape_of m) (slot_old x.desc x.slot))) (sym spot) (after.old ∙ sym before.old)
 
@@ -52,15 +50,15 @@ module _ (m : Machine) (stamp : Stamp) (stamps : StampsKept m stamp) (k : Instal
       → t.word ≡ old_place (shape_of m) (get_or later s.word 0)
       → (t.word ≡ old_place (shape_of m) (content m s.word)) × (get_or later t.word 0 ≡ content m t.word)
   place_stays s has met t at =
-      let same = stood m stamp stamps k order n v field hands odd_stand s has met in
-      let was = met_before m stamp stamps k order n v field hands odd_stand s has met in
+      let same = stood m stamp stamps k n v field hands odd_stand s has met in
+      let was = met_before m stamp stamps k n v field hands odd_stand s has met in
       let there = at ∙ ap (old_place (shape_of m)) same in
       (there, ap (λ w. get_or later w 0) there ∙ old_stays s.word was.counted was.odd ∙ ap (content m) (sym there))
 
   old_pair : (s t : Step) → HasStep m.passes s → OldSlotStands (shape_of m) m.words s t → OldSlotStands (shape_of m) later s t
   old_pair s t has was met at =
       let same = place_stays s has met t at in
-      was (met_before m stamp stamps k order n v field hands odd_stand s has met) same.0 ∙ sym same.1
+      was (met_before m stamp stamps k n v field hands odd_stand s has met) same.0 ∙ sym same.1
 
   new_pair : (s : Step) → HasStep m.passes s → OldSlotStands (shape_of m) later s v.step
   new_pair s has met at = v.before ∙ ap (content m) (sym v.there) ∙ sym (place_stays s has met v.step at).1

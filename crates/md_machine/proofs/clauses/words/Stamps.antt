@@ -13,7 +13,7 @@ use Rattle.md_machine.proofs.events.MoveFacts.{MoveFacts, WasMet, reads_met}
 use Rattle.md_machine.proofs.events.Steps.{HasStep, adds_step}
 use Rattle.md_machine.proofs.events.WordChanges.{MayLeave, at_counted, counts_rise}
 use Rattle.md_machine.specs.Machine.{Install, Machine, content, shape_of}
-use Rattle.md_machine.specs.clauses.words.Stamps.{IsNoted, NotedByRead, StampsHold}
+use Rattle.md_machine.specs.clauses.words.Stamps.{IsNoted, NotedByRead, NotedByTrail, StampsHold}
 
 -- the content that a word had with a count
 abbrev pub Stamp : Type 0
@@ -113,17 +113,23 @@ stamps-kept m n stamp field k v words opening =
           (reads_met m n v e r c of);
     }
 
+-- what a trail has is stamped
+pub trail_stamped : (m : Machine) (stamp : Stamp) → StampsKept m stamp → (word held : ℕ) → IsCounted (shape_of m) word → NotedByTrail m word held
+    → Stamped m.words stamp word held
+trail_stamped m stamp k word held counted (pass, p, at, (segment, c, (s, i, meets))) =
+    let has : HasStep m.passes s = (pass, p, at, (segment, c, i)) in
+    ⊎_elim
+    (λ found. let there : IsCounted (shape_of m) s.word = subst (IsCounted (shape_of m)) (sym found.there) counted in
+    subst (λ w. Stamped m.words stamp w held) found.there (subst (Stamped m.words stamp s.word) found.before (k.before s has there)))
+    (λ left. let there : IsCounted (shape_of m) s.word = subst (IsCounted (shape_of m)) (sym left.there) counted in
+    subst (λ w. Stamped m.words stamp w held) left.there (subst (Stamped m.words stamp s.word) left.after (k.after s has there)))
+    meets
+
 -- what is noted is stamped, where that is so of what a status counts
 pub stamps_hold : (m : Machine) (stamp : Stamp) → StampsKept m stamp → ((word held : ℕ) → NotedByRead m word held → Stamped m.words stamp word held) → StampsHold m
 stamps_hold m stamp k reads =
     let noted : (word held : ℕ) → IsCounted (shape_of m) word → IsNoted m word held → Stamped m.words stamp word held = λ word held counted n. ⊎_elim
-    (λ t. let s = t.3 in let some = s.2 in let has : HasStep m.passes some.0 = (t.0, t.1, t.2, (s.0, s.1, some.1)) in
-    ⊎_elim
-    (λ found. let c : IsCounted (shape_of m) some.0.word = subst (IsCounted (shape_of m)) (sym found.there) counted in
-    subst (λ w. Stamped m.words stamp w held) found.there (subst (Stamped m.words stamp some.0.word) found.before (k.before some.0 has c)))
-    (λ left. let c : IsCounted (shape_of m) some.0.word = subst (IsCounted (shape_of m)) (sym left.there) counted in
-    subst (λ w. Stamped m.words stamp w held) left.there (subst (Stamped m.words stamp some.0.word) left.after (k.after some.0 has c)))
-    some.2)
+    (trail_stamped m stamp k word held counted)
     (λ o. ⊎_elim (reads word held) (λ i. subst (λ w. Stamped m.words stamp w held) i.3 (subst (Stamped m.words stamp i.0.word) i.4 (k.installs i.0 i.1).1)) o)
     n in record {
       bound = λ word held counted n. (noted word held counted n).bound;

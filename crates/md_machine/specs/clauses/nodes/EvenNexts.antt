@@ -1,5 +1,5 @@
 -- When no descriptor stands in the next word of a new node.
-use Rattle.std.specs.Prelude.{◌≡◌, ◌<◌, ℕ, true, false}
+use Rattle.std.specs.Prelude.{◌≡◌, ℕ, true, false}
 use Rattle.md_words.specs.Content.{count_of, is_even}
 use Rattle.md_words.specs.Layout.{address}
 use Rattle.md_words.specs.Place.{node_next}
@@ -8,14 +8,10 @@ use Rattle.md_machine.specs.declared.pass.PassView.{PassView}
 use Rattle.md_machine.specs.Machine.{IsAt, Machine, content, shape_of}
 use Rattle.md_machine.specs.Own.{HasNode}
 use Rattle.md_machine.specs.Resolution.{always_placed}
-use Rattle.md_machine.specs.Trail.{EveryStepOf, Meets, SomeStepOf}
+use Rattle.md_machine.specs.Trail.{EveryStepOf, MetHigher}
 use Rattle.md_machine.specs.events.Start.{WonInstall}
 
--- a step of the pass found or left the word at a higher count, in whatever segment
-abbrev pub MetHigher : PassView → (word count : ℕ) → Type 0
-MetHigher p word count = (held : ℕ) × (count < count_of held) × SomeStepOf p (Meets word held)
-
--- so it is of each install that the pass won in the word
+-- the pass met the word at a higher count than each install left that it won there
 abbrev pub AllTakenOut : PassView → (word : ℕ) → Type 0
 AllTakenOut p word = EveryStepOf p (λ s. (a : AttemptId) → WonInstall a s → s.word ≡ word
     → MetHigher p word (count_of s.after))
