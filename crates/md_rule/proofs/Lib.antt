@@ -4,3 +4,4 @@ pub mod Sharing
 pub mod Moves
 pub mod Events
 pub mod Closes
+pub mod Told
