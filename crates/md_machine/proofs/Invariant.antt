@@ -23,7 +23,7 @@ use Rattle.md_machine.proofs.clauses.passes.Fronts.{fronts-kept}
 use Rattle.md_machine.proofs.clauses.passes.FrontsFit.{fated}
 use Rattle.md_machine.proofs.clauses.passes.HandKnows.{hand_knows-kept}
 use Rattle.md_machine.proofs.clauses.passes.Hands.{hands-kept}
-use Rattle.md_machine.proofs.clauses.passes.InHand.{HandsAlone, StepsBegun, in_hand-kept}
+use Rattle.md_machine.proofs.clauses.passes.InHand.{HandsAlone, in_hand-kept}
 use Rattle.md_machine.proofs.clauses.slots.Installs.{InstallsKept, installs-kept}
 use Rattle.md_machine.proofs.clauses.passes.KnownPast.{known_past-kept}
 use Rattle.md_machine.proofs.clauses.passes.Lanes.{lanes-kept}
@@ -35,6 +35,9 @@ use Rattle.md_machine.proofs.clauses.entries.Numbered.{numbered-kept}
 use Rattle.md_machine.proofs.clauses.slots.OddWords.{odd_words-kept}
 use Rattle.md_machine.proofs.clauses.words.OldSlots.{old_slots-kept}
 use Rattle.md_machine.proofs.clauses.passes.OwnBegun.{own_begun-kept}
+use Rattle.md_machine.proofs.clauses.passes.BegunNoLater.{begun_no_later-kept, steps_no_later}
+use Rattle.md_machine.proofs.clauses.passes.StepsBegun.{steps_begun-kept}
+use Rattle.md_machine.proofs.clauses.passes.PendingBegun.{pending_begun-kept}
 use Rattle.md_machine.proofs.clauses.slots.OwnInstalls.{own_installs}
 use Rattle.md_machine.proofs.clauses.nodes.OwnNexts.{own_nexts-kept}
 use Rattle.md_machine.proofs.clauses.nodes.OwnNodes.{own_nodes-kept}
@@ -51,7 +54,7 @@ use Rattle.md_machine.proofs.clauses.entries.Serials.{serials-kept}
 use Rattle.md_machine.proofs.clauses.entries.Sound.{sound-kept}
 use Rattle.md_machine.proofs.clauses.words.Stamps.{Stamp, Stamped, StampsKept, stamp_more, stamps-kept, stamps_hold}
 use Rattle.md_machine.proofs.clauses.words.Statuses.{statuses-kept, statuses_noted}
-use Rattle.md_machine.proofs.clauses.words.Stores.{StepsPast, StoresStand, steps_begun-kept, steps_past-kept, stores-kept}
+use Rattle.md_machine.proofs.clauses.words.Stores.{StoresStand, stores-kept}
 use Rattle.md_machine.proofs.clauses.slots.Undecided.{undecided-kept}
 use Rattle.md_machine.proofs.clauses.slots.WonInstalls.{won_installs-kept}
 use Rattle.md_machine.proofs.events.MoveFacts.{history_grows}
@@ -85,6 +88,9 @@ use Rattle.md_machine.specs.clauses.entries.Numbered.{EntriesNumbered}
 use Rattle.md_machine.specs.clauses.slots.OddWords.{OddStand}
 use Rattle.md_machine.specs.clauses.words.OldSlots.{OldSlotStands}
 use Rattle.md_machine.specs.clauses.passes.OwnBegun.{OwnBegunShown}
+use Rattle.md_machine.specs.clauses.passes.BegunNoLater.{BegunAreNoLater}
+use Rattle.md_machine.specs.clauses.passes.StepsBegun.{StepsAreBegun}
+use Rattle.md_machine.specs.clauses.passes.PendingBegun.{PendingAreBegun}
 use Rattle.md_machine.specs.clauses.nodes.OwnNexts.{OwnNextsShown, ShowsOwnNext}
 use Rattle.md_machine.specs.clauses.nodes.OwnNodes.{OwnNodesSeen}
 use Rattle.md_machine.specs.clauses.passes.OwnSerials.{OwnSerialsMet}
@@ -127,8 +133,9 @@ pub record Invariant (m : Machine) : Type 0 where
   pub own_words : OwnWordsStand m
   pub entry_slots : EntriesKeepSlots m
   pub in_hand : HandsAlone m.begun m.passes
-  pub steps_begun : StepsBegun m.begun m.passes
-  pub steps_past : StepsPast (shape_of m) m.words m.passes
+  pub begun_no_later : BegunAreNoLater (shape_of m) m.words m.begun
+  pub steps_begun : StepsAreBegun m.begun m.passes
+  pub pending_begun : PendingAreBegun m.begun m.passes
   pub stores : StoresStand (shape_of m) m.words m.passes
   pub loads : EachPair (LoadStands (shape_of m) m.words m.history) m.passes
   pub moved_reads : MovedReads m.words m.history
@@ -208,6 +215,9 @@ kept_by m k = record {
   own_installs = own_installs m k.installs;
   own_serials = k.own_serials;
   own_begun = k.own_begun;
+  begun_no_later = k.begun_no_later;
+  steps_begun = k.steps_begun;
+  pending_begun = k.pending_begun;
   own_nodes = k.own_nodes;
   own_words = k.own_words;
   met_spots = k.met_spots;
@@ -280,9 +290,10 @@ module _ (M : Meaning) where
           own_begun = reshape (λ shape. OwnBegunShown shape n.begun n.passes) (own_begun-kept m n v k.lanes k.own_begun);
           own_serials = move (λ shape words. OwnSerialsMet shape words n.passes) (own_serials-kept m n v k.formats.field k.own_serials);
           in_hand = in_hand-kept m n v k.lanes k.hands k.in_hand k.steps_begun;
-          steps_begun = steps_begun-kept m n v k.formats.field k.hands k.in_hand k.steps_begun;
-          steps_past = move (λ shape words. StepsPast shape words n.passes) (steps_past-kept m n v k.formats.field k.hands k.in_hand k.steps_past);
-          stores = move (λ shape words. StoresStand shape words n.passes) (stores-kept m n v k.formats.field k.hands k.in_hand k.steps_past k.stores);
+          begun_no_later = move (λ shape words. BegunAreNoLater shape words n.begun) (begun_no_later-kept m n v k.formats.field k.begun_no_later);
+          steps_begun = steps_begun-kept m n v k.in_hand k.steps_begun;
+          pending_begun = pending_begun-kept m n v k.pending_begun;
+          stores = move (λ shape words. StoresStand shape words n.passes) (stores-kept m n v k.formats.field k.hands k.in_hand (steps_no_later m k.begun_no_later k.steps_begun) k.stores);
           entry_slots = λ x c now. entry_slots-kept m n v k.formats.field k.hands k.installs past k.entry_slots x c
               (subst (λ words. IsPresentIn (shape_of m) words x.attempt) v.words
               (subst (λ (o : Opening). IsPresentIn o.shape n.words x.attempt) v.opening (ap (λ (a : AttemptId). a.serial) now)));

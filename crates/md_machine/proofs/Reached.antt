@@ -1,5 +1,5 @@
 -- A field that may be opened meets the invariant, and so does every machine that events lead to.
-use Rattle.std.proofs.Common.{append-nil, ◌≡◌, ℕ, ◌≤◌, List, [], ◌∷◌, ◌++◌, Some, get_or, refl, sym, ap, ◌∙◌, subst, inl, ⊎_elim, le_refl, arith, ◌≢◌}
+use Rattle.std.proofs.Common.{true, append-nil, ◌≡◌, ℕ, ◌≤◌, List, [], ◌∷◌, ◌++◌, Some, get_or, refl, sym, ap, ◌∙◌, subst, inl, ⊎_elim, le_refl, arith, ◌≢◌}
 use Rattle.std.proofs.lemmas.Bool.{false≢true, true≢false}
 use Rattle.md_words.specs.declared.shape.Shape.{Shape}
 use Rattle.md_words.specs.declared.status.Status.TheVariants.{InPrep}
@@ -26,7 +26,7 @@ use Rattle.md_machine.proofs.lists.Pairs.{InPairs}
 use Rattle.md_machine.proofs.lists.Rising.{here, in_cons, in_none}
 use Rattle.md_machine.proofs.lists.Triples.{InTriples}
 use Rattle.md_machine.specs.Event.{CanOpen, Event, Runs, first_pass, opened}
-use Rattle.md_machine.specs.Machine.{Machine}
+use Rattle.md_machine.specs.Machine.{Machine, was_begun}
 use Rattle.md_machine.specs.Meaning.{Meaning}
 use Rattle.md_machine.specs.Theorem.{AlwaysGoesOn, AlwaysKept}
 use Rattle.md_machine.specs.Trail.{segments}
@@ -119,8 +119,9 @@ module _ (M : Meaning) where
     node_words = λ pass p at segment c s i. absurd (no_steps o.shape s (pass, p, at, (segment, c, i)));
     entry_slots = λ e c. absurd (in_none e c);
     in_hand = record { alone = λ pass p h at held. absurd (nothing_held o.shape pass p h at held); begins = λ pass p h at held. absurd (nothing_held o.shape pass p h at held) };
-    steps_begun = λ t has. absurd (no_steps o.shape t has);
-    steps_past = λ t has. absurd (no_steps o.shape t has);
+    begun_no_later = λ a begun. absurd (false≢true begun);
+    steps_begun = λ pass p at segment c s i. absurd (no_steps o.shape s (pass, p, at, (segment, c, i)));
+    pending_begun = λ pass p at a begun. absurd (false≢true (subst (λ (q : PassView). was_begun q.pending a ≡ true) (sym (at_one (first_pass o.shape) p pass at).1) begun));
     stores = λ pass p at a now word held entry l. absurd (no_steps o.shape l.store.step (pass, p, at, (l.store.earlier ++ l.store.step ∷ l.store.later, l.store.segment, Contains-append_right l.store.earlier (l.store.step ∷ l.store.later) l.store.step (here l.store.step l.store.later))));
     won_installs = λ pass p at segment c s i. absurd (no_steps o.shape s (pass, p, at, (segment, c, i)));
     own_serials = λ pass p at desc own. inl (ap serial_of (can.descs _ (status_late o.shape desc) ∙ zero_begins) ∙ serial_of-status_word InPrep 0 0 (omega arith));

@@ -6,6 +6,7 @@ use Rattle.md_machine.specs.GoesOn.{GoesOn}
 use Rattle.md_machine.specs.Machine.{Machine, shape_of}
 use Rattle.md_machine.specs.Meaning.{Meaning}
 use Rattle.md_machine.specs.clauses.passes.Alone.{HoldersAreAlone}
+use Rattle.md_machine.specs.clauses.passes.BegunNoLater.{BegunAreNoLater}
 use Rattle.md_machine.specs.clauses.words.Brackets.{StatusesBracketed}
 use Rattle.md_machine.specs.clauses.slots.Clean.{CleanAreOut}
 use Rattle.md_machine.specs.clauses.slots.EntrySlots.{EntriesKeepSlots}
@@ -32,6 +33,7 @@ use Rattle.md_machine.specs.clauses.nodes.EvenNexts.{OwnNextsEven}
 use Rattle.md_machine.specs.clauses.nodes.OwnNexts.{OwnNextsShown}
 use Rattle.md_machine.specs.clauses.passes.OwnSerials.{OwnSerialsMet}
 use Rattle.md_machine.specs.clauses.nodes.OwnWords.{OwnWordsStand}
+use Rattle.md_machine.specs.clauses.passes.PendingBegun.{PendingAreBegun}
 use Rattle.md_machine.specs.clauses.nodes.Placed.{NotedArePlaced, PlacedStay}
 use Rattle.md_machine.specs.clauses.entries.PresentEntries.{EntriesByStatus}
 use Rattle.md_machine.specs.clauses.words.Reads.{ReadsShow}
@@ -41,6 +43,7 @@ use Rattle.md_machine.specs.clauses.slots.Slots.{SlotsStand}
 use Rattle.md_machine.specs.clauses.entries.Sound.{CommittedAreSound}
 use Rattle.md_machine.specs.clauses.words.Stamps.{StampsHold}
 use Rattle.md_machine.specs.clauses.words.Statuses.{StatusesCame}
+use Rattle.md_machine.specs.clauses.passes.StepsBegun.{StepsAreBegun}
 use Rattle.md_machine.specs.clauses.words.Stores.{StoresAgree}
 use Rattle.md_machine.specs.clauses.slots.Undecided.{UndecidedStand}
 use Rattle.md_machine.specs.clauses.slots.Uninstalls.{UninstallsKeepValues}
@@ -72,6 +75,9 @@ pub record IsKept (m : Machine) : Type 0 where
   pub own_installs : OwnInstallsShown m
   pub own_serials : OwnSerialsMet (shape_of m) m.words m.passes
   pub own_begun : OwnBegunShown (shape_of m) m.begun m.passes
+  pub begun_no_later : BegunAreNoLater (shape_of m) m.words m.begun
+  pub steps_begun : StepsAreBegun m.begun m.passes
+  pub pending_begun : PendingAreBegun m.begun m.passes
   pub own_nodes : OwnNodesSeen (shape_of m) m.history m.passes
   pub free_nodes : FreeAreUnplaced m
   pub own_words : OwnWordsStand m

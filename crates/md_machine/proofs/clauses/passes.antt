@@ -15,3 +15,6 @@ pub mod MineParts
 pub mod Mine
 pub mod OwnSerials
 pub mod OwnBegun
+pub mod StepsBegun
+pub mod PendingBegun
+pub mod BegunNoLater

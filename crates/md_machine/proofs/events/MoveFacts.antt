@@ -21,7 +21,7 @@ use Rattle.md_machine.specs.declared.step.Step.{Step}
 use Rattle.md_machine.specs.declared.step.Kind.{Kind}
 use Rattle.md_machine.specs.declared.pass.PassView.{PassView}
 use Rattle.md_machine.specs.declared.node.PlacedNode.{PlacedNode}
-use Rattle.md_machine.proofs.events.Attempts.{begun_more, in_hand_some}
+use Rattle.md_machine.proofs.events.Attempts.{begun_cases, begun_more, in_hand_some}
 use Rattle.md_machine.proofs.events.InstallSteps.{InstallsHere}
 use Rattle.md_machine.proofs.events.Moves.{HandGoes, PassesGo, WinsFate, goes_on, hand_begins, hand_changes, hand_ends, hand_leaves, hand_stays, is_joined, is_split}
 use Rattle.md_machine.proofs.events.Steps.{HasStep, PassesFrom}
@@ -29,7 +29,7 @@ use Rattle.md_machine.proofs.events.WordChanges.{MayLeave}
 use Rattle.md_machine.proofs.fates.Knowing.{TellsTruth}
 use Rattle.md_machine.specs.Certified.{after_wholes, placed_by}
 use Rattle.md_machine.specs.Installs.{spot_of_install}
-use Rattle.md_machine.specs.Machine.{Install, IsAt, IsLive, Machine, content, is_ready, present, shape_of, was_begun}
+use Rattle.md_machine.specs.Machine.{Install, IsAt, IsLive, Machine, content, is_ready, present, same_attempt, shape_of, was_begun}
 use Rattle.md_machine.specs.Own.{HasDesc, HasNode, IsDataOf, IsWordOf}
 use Rattle.md_machine.specs.LogicalHeap.{IsNoUnplacedNext}
 use Rattle.md_machine.specs.Resolution.{InEveryResolution, always_placed, never_placed}
@@ -222,6 +222,29 @@ begun_stays m n v a h = go v.passes
     by_hand q (hand_leaves _ begun _ _) = same begun
 
     go : PassesGo m n v.pass v.p v.step → was_begun n.begun a ≡ true
+    go (goes_on q _ view) = by_hand q view.hand
+    go (is_split _ _ begun _ _) = same begun
+    go (is_joined _ _ _ _ _ begun _ _) = same begun
+
+-- and what was not begun before is the present attempt of a descriptor of the pass
+abbrev pub BegunBefore : (m n : Machine) → MoveFacts m n → AttemptId → Type 0
+BegunBefore m n v a = (was_begun m.begun a ≡ true) ⊎ ((desc : ℕ) × HasDesc (shape_of m) v.p desc × (same_attempt (present m desc) a ≡ true))
+
+pub new_begun : (m n : Machine) (v : MoveFacts m n) (a : AttemptId) → was_begun n.begun a ≡ true → BegunBefore m n v a
+new_begun m n v a h = go v.passes
+  where
+    same : n.begun ≡ m.begun → BegunBefore m n v a
+    same e = inl (subst (λ bs. was_begun bs a ≡ true) e h)
+
+    by_hand : (q : PassView) → HandGoes m n v.p q → BegunBefore m n v a
+    by_hand q (hand_stays _ begun _ _) = same begun
+    by_hand q (hand_changes _ _ _ _ _ begun _ _) = same begun
+    by_hand q (hand_begins desc _ may _ _ begun _ _) = ⊎_elim inl (λ new. inr (desc, may.own, new))
+        (begun_cases m.begun (present m desc) a (subst (λ bs. was_begun bs a ≡ true) begun h))
+    by_hand q (hand_ends _ _ _ begun _ _) = same begun
+    by_hand q (hand_leaves _ begun _ _) = same begun
+
+    go : PassesGo m n v.pass v.p v.step → BegunBefore m n v a
     go (goes_on q _ view) = by_hand q view.hand
     go (is_split _ _ begun _ _) = same begun
     go (is_joined _ _ _ _ _ begun _ _) = same begun

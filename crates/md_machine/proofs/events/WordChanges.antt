@@ -161,6 +161,14 @@ module _ (D : Type 0) (m : Machine) (field : IsField (shape_of m) m.words) (word
   statuses_go_on left desc exists = at_left (address (shape_of m) (desc_status desc)) (StatusGoesOn (status_at m desc)) left
       (λ c e. subst (λ v. StatusGoesOn (content m v) new) (sym e) (⊎_elim (λ r. inl r.1) (λ s. inr s.1) (at_place (desc_status desc) exists c e).on)) (stays_on _)
 
+-- a serial never falls
+pub serials_rise : (m : Machine) (field : IsField (shape_of m) m.words) (word new : ℕ) → MayLeave (Unit {0}) m word new → (desc : ℕ) → desc < desc_count (shape_of m)
+    → serial_of (status_at m desc) ≤ serial_of (word_at (shape_of m) (set m.words word new) (desc_status desc))
+serials_rise m field word new left desc exists = ⊎_elim
+    (λ more. omega (arith, more))
+    (λ same. let e = same.serial in omega (arith, e))
+    (statuses_go_on (Unit {0}) m field word new left desc exists)
+
 -- a serial stays, or the descriptor was started again
 pub serial_stays : (D : Type 0) (m : Machine) (field : IsField (shape_of m) m.words) (word new : ℕ) → MayLeave D m word new → (desc : ℕ) → desc < desc_count (shape_of m)
     → (serial_of (status_at m desc) ≡ serial_of (word_at (shape_of m) (set m.words word new) (desc_status desc))) ⊎ Restarts m desc

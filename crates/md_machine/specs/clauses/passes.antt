@@ -7,3 +7,6 @@ pub mod HandKnows
 pub mod Mine
 pub mod OwnSerials
 pub mod OwnBegun
+pub mod BegunNoLater
+pub mod StepsBegun
+pub mod PendingBegun

@@ -12,7 +12,6 @@ use Rattle.md_machine.proofs.clauses.passes.LanesApart.{At, one_owner}
 use Rattle.md_machine.proofs.events.Attempts.{begun_last, begun_more, in_hand_some}
 use Rattle.md_machine.proofs.events.MoveFacts.{MoveFacts}
 use Rattle.md_machine.proofs.events.Moves.{HandGoes, PassesGo, goes_on, hand_begins, hand_changes, hand_ends, hand_leaves, hand_stays, is_joined, is_split}
-use Rattle.md_machine.proofs.events.Steps.{HasStep}
 use Rattle.md_machine.proofs.lists.At.{at_append, at_one, at_set}
 use Rattle.md_machine.proofs.lists.Options.{none_some, some_same}
 use Rattle.md_machine.proofs.lists.Rising.{in_none, there}
@@ -23,6 +22,7 @@ use Rattle.md_machine.specs.Trail.{segments}
 use Rattle.md_machine.specs.clauses.passes.Hands.{HandsFit}
 use Rattle.md_machine.specs.clauses.passes.InHand.{FreeOf}
 use Rattle.md_machine.specs.clauses.passes.Lanes.{LanesApart}
+use Rattle.md_machine.specs.clauses.passes.StepsBegun.{StepsAreBegun}
 use Rattle.md_machine.specs.events.Mark.{new_hand}
 use Rattle.md_machine.specs.events.SplitJoin.{given_part, joined_part, kept_part, moved_step, spent}
 
@@ -33,10 +33,6 @@ AwayIn passes a pass = (j : ℕ) (q : PassView) → At passes j q → j ≢ pass
 pub record HandsAlone (begun : List AttemptId) (passes : List PassView) : Type 0 where
   pub alone : (pass : ℕ) (p : PassView) (h : Hand) → At passes pass p → p.hand ≡ Some h → FreeOf h.attempt p.past × AwayIn passes h.attempt pass
   pub begins : (pass : ℕ) (p : PassView) (h : Hand) → At passes pass p → p.hand ≡ Some h → was_begun begun h.attempt ≡ true
-
--- whatever a step was made for was begun
-abbrev pub StepsBegun : List AttemptId → List PassView → Type 0
-StepsBegun begun passes = (t : Step) → HasStep passes t → (a : AttemptId) → t.attempt ≡ Some a → was_begun begun a ≡ true
 
 free_both : (a : AttemptId) (xs ys : List (List Step)) → FreeOf a xs → FreeOf a ys → FreeOf a (xs ++ ys)
 free_both a xs ys f g segment c = ⊎_elim (λ l. f segment l) (λ r. g segment r) (Contains-append_cases xs ys segment c)
@@ -97,10 +93,10 @@ module _ (m : Machine) (apart : LanesApart (shape_of m) m.passes) (hands : Hands
         (at_set m.passes pass i q u u_at);
   }
 
-  alone_begin : StepsBegun m.begun m.passes → (pass : ℕ) (p q : PassView) (s : Step) (k : Hand) → At m.passes pass p → s.attempt ≡ attempt_in_hand p.hand → q.past ≡ p.past → q.trail ≡ p.trail ++ s ∷ [] → q.hand ≡ Some k → was_begun m.begun k.attempt ≡ false
+  alone_begin : StepsAreBegun m.begun m.passes → (pass : ℕ) (p q : PassView) (s : Step) (k : Hand) → At m.passes pass p → s.attempt ≡ attempt_in_hand p.hand → q.past ≡ p.past → q.trail ≡ p.trail ++ s ∷ [] → q.hand ≡ Some k → was_begun m.begun k.attempt ≡ false
       → HandsAlone (m.begun ++ k.attempt ∷ []) (set m.passes pass q)
   alone_begin steps pass p q s k at made past trail now first =
-      let fresh : (j : ℕ) (w : PassView) → At m.passes j w → FreeOf k.attempt (segments w) = λ j w w_at segment c t i e. true≢false (sym (steps t (j, w, w_at, (segment, c, i)) k.attempt e) ∙ first) in
+      let fresh : (j : ℕ) (w : PassView) → At m.passes j w → FreeOf k.attempt (segments w) = λ j w w_at segment c t i e. true≢false (sym (steps j w w_at segment c t i k.attempt e) ∙ first) in
       let is : (i : ℕ) (u : PassView) (h : Hand) → (i ≡ pass) × (q ≡ u) → u.hand ≡ Some h → k ≡ h = λ i u h e held. some_same k h (sym now ∙ ap (λ (v : PassView). v.hand) e.1 ∙ held) in
       record {
         alone = λ i u h u_at held. ⊎_elim
@@ -148,7 +144,7 @@ module _ (m : Machine) (apart : LanesApart (shape_of m) m.passes) (hands : Hands
         begins = λ i u h u_at held. let x = idle i u h u_at held in was.begins i u h x.2 held;
       }
 
-module _ (m n : Machine) (v : MoveFacts m n) (apart : LanesApart (shape_of m) m.passes) (hands : HandsFit (shape_of m) m.words m.passes) (was : HandsAlone m.begun m.passes) (steps : StepsBegun m.begun m.passes) where
+module _ (m n : Machine) (v : MoveFacts m n) (apart : LanesApart (shape_of m) m.passes) (hands : HandsFit (shape_of m) m.words m.passes) (was : HandsAlone m.begun m.passes) (steps : StepsAreBegun m.begun m.passes) where
   made : v.step.attempt ≡ attempt_in_hand v.p.hand
   made = ap (λ (s : Step). s.attempt) v.is_step
 

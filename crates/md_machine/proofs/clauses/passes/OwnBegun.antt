@@ -1,7 +1,7 @@
 -- A begun attempt of a pass's lanes is pending, or was in hand at a step of the pass, after every event.
-use Rattle.std.proofs.Common.{◌≡◌, ◌≢◌, ℕ, ◌⊎◌, Bool, true, false, not, List, [], ◌∷◌, ◌++◌, filter, set, refl, sym, ap, ◌∙◌, subst, inl, inr, ⊎_elim, Some}
+use Rattle.std.proofs.Common.{◌≡◌, ◌≢◌, ℕ, ◌⊎◌, true, false, not, List, [], ◌∷◌, ◌++◌, set, refl, sym, ap, ◌∙◌, subst, inl, inr, ⊎_elim, Some}
 use Rattle.std.specs.List.{Contains}
-use Rattle.std.proofs.lemmas.Bool.{cases_Bool, cond_both, false≢true, or_cases, or_left, or_right, true≢false}
+use Rattle.std.proofs.lemmas.Bool.{cases_Bool, or_left, true≢false}
 use Rattle.std.proofs.lemmas.List.Elements.{Contains-push}
 use Rattle.md_words.specs.Lanes.{lane_of_desc}
 use Rattle.md_words.proofs.Owners.{owner_of_desc}
@@ -10,9 +10,9 @@ use Rattle.md_machine.specs.declared.attempt.AttemptId.{AttemptId}
 use Rattle.md_machine.specs.declared.step.Step.{Step}
 use Rattle.md_machine.specs.declared.pass.PassView.{PassView}
 use Rattle.md_machine.proofs.clauses.passes.LanesApart.{At, one_owner}
-use Rattle.md_machine.proofs.events.Attempts.{attempt_same, begun_more, same_from, same_parts}
+use Rattle.md_machine.proofs.events.Attempts.{attempt_same, begun_cases, begun_filter, begun_more, begun_right, same_from, same_parts}
 use Rattle.md_machine.proofs.events.Holders.{HasStepsOf, first_has, next_has, second_has}
-use Rattle.md_machine.proofs.events.MoveFacts.{MoveFacts}
+use Rattle.md_machine.proofs.events.MoveFacts.{MoveFacts, new_begun}
 use Rattle.md_machine.proofs.events.Moves.{HandGoes, PassesGo, goes_on, hand_begins, hand_changes, hand_ends, hand_leaves, hand_stays, is_joined, is_split}
 use Rattle.md_machine.proofs.events.Steps.{IsBoth}
 use Rattle.md_machine.proofs.events.Tell.{joined_of}
@@ -25,28 +25,6 @@ use Rattle.md_machine.specs.Trail.{SomeStepOf}
 use Rattle.md_machine.specs.clauses.passes.Lanes.{LanesApart}
 use Rattle.md_machine.specs.clauses.passes.OwnBegun.{OwnBegunShown}
 use Rattle.md_machine.specs.events.SplitJoin.{given_lanes, given_part, joined_part, kept_lanes, kept_part, moved, spent, with_lanes}
-
--- an attempt of a list with one more is of the list, or that one
-begun_cases : (bs : List AttemptId) (x a : AttemptId) → was_begun (bs ++ x ∷ []) a ≡ true
-    → (was_begun bs a ≡ true) ⊎ (same_attempt x a ≡ true)
-begun_cases [] x a h = ⊎_elim inr (λ none. absurd (false≢true none)) (or_cases (same_attempt x a) false h)
-begun_cases (b ∷ bs) x a h = ⊎_elim
-    (λ this. inl (or_left (same_attempt b a) (was_begun bs a) this))
-    (λ later. ⊎_elim (λ old. inl (or_right (same_attempt b a) (was_begun bs a) old)) inr (begun_cases bs x a later))
-    (or_cases (same_attempt b a) (was_begun (bs ++ x ∷ []) a) h)
-
-begun_right : (bs cs : List AttemptId) (a : AttemptId) → was_begun cs a ≡ true → was_begun (bs ++ cs) a ≡ true
-begun_right [] cs a h = h
-begun_right (b ∷ bs) cs a h = or_right (same_attempt b a) (was_begun (bs ++ cs) a) (begun_right bs cs a h)
-
--- an attempt stays in a list of which it is kept
-begun_filter : (keep : AttemptId → Bool) (bs : List AttemptId) (a : AttemptId)
-    → ((b : AttemptId) → same_attempt b a ≡ true → keep b ≡ true) → was_begun bs a ≡ true → was_begun (filter keep bs) a ≡ true
-begun_filter keep [] a kept h = h
-begun_filter keep (b ∷ bs) a kept h = cond_both (keep b) (b ∷ filter keep bs) (filter keep bs) (λ l. was_begun l a ≡ true)
-    (λ _. ⊎_elim (λ this. or_left (same_attempt b a) (was_begun (filter keep bs) a) this) (λ later. or_right (same_attempt b a) (was_begun (filter keep bs) a) (begun_filter keep bs a kept later))
-    (or_cases (same_attempt b a) (was_begun bs a) h))
-    (λ left. ⊎_elim (λ this. absurd (true≢false (sym (kept b this) ∙ left))) (λ later. begun_filter keep bs a kept later) (or_cases (same_attempt b a) (was_begun bs a) h))
 
 module _ (m n : Machine) (v : MoveFacts m n) (apart : LanesApart (shape_of m) m.passes)
     (was : OwnBegunShown (shape_of m) m.begun m.passes) where
@@ -93,16 +71,12 @@ module _ (m n : Machine) (v : MoveFacts m n) (apart : LanesApart (shape_of m) m.
       (cases_Bool (same_attempt g.attempt a))
 
   -- an attempt of another pass's lanes was begun before
-  begun_before : (q : PassView) → HandGoes m n v.p q → (j : ℕ) (u : PassView) → j ≢ v.pass → At m.passes j u → (a : AttemptId)
-      → HasDesc (shape_of m) u a.desc → was_begun n.begun a ≡ true → was_begun m.begun a ≡ true
-  begun_before q (hand_stays _ begun _ _) j u ne at a own h = subst (λ bs. was_begun bs a ≡ true) begun h
-  begun_before q (hand_changes _ _ _ _ _ begun _ _) j u ne at a own h = subst (λ bs. was_begun bs a ≡ true) begun h
-  begun_before q (hand_ends _ _ _ begun _ _) j u ne at a own h = subst (λ bs. was_begun bs a ≡ true) begun h
-  begun_before q (hand_leaves _ begun _ _) j u ne at a own h = subst (λ bs. was_begun bs a ≡ true) begun h
-  begun_before q (hand_begins desc _ may _ _ begun _ _) j u ne at a own h = ⊎_elim
+  begun_before : (j : ℕ) (u : PassView) → j ≢ v.pass → At m.passes j u → (a : AttemptId) → HasDesc (shape_of m) u a.desc
+      → was_begun n.begun a ≡ true → was_begun m.begun a ≡ true
+  begun_before j u ne at a own h = ⊎_elim
       (λ old. old)
-      (λ new. absurd (ne (one_owner (shape_of m) m.passes j v.pass u v.p a.desc apart at v.at own (subst (HasDesc (shape_of m) v.p) (same_parts (present m desc) a new).0 may.own))))
-      (begun_cases m.begun (present m desc) a (subst (λ bs. was_begun bs a ≡ true) begun h))
+      (λ new. absurd (ne (one_owner (shape_of m) m.passes j v.pass u v.p a.desc apart at v.at own (subst (HasDesc (shape_of m) v.p) (same_parts (present m new.0) a new.2).0 new.1))))
+      (new_begun m n v a h)
 
   -- a part of the pass has what is pending of its lanes
   part_shown : (lanes : List ℕ) → ((lane : ℕ) → Contains lanes lane → Contains v.p.lanes lane)
@@ -124,7 +98,7 @@ module _ (m n : Machine) (v : MoveFacts m n) (apart : LanesApart (shape_of m) m.
   shown_on (goes_on q is view) j u at a h own = ⊎_elim
       (λ e. subst (λ w. IsShown w a) e.1 (one_shown q view.trail (next q view.past view.trail (λ lane c. subst (λ lanes. Contains lanes lane) view.lanes c)) view.hand a h
       (own.0, subst (λ lanes. Contains lanes own.0) (ap (λ (w : PassView). w.lanes) (sym e.1) ∙ view.lanes) own.1, own.2)))
-      (λ o. other_shown j u o.1 a (begun_before q view.hand j u o.0 o.1 a own h) own)
+      (λ o. other_shown j u o.1 a (begun_before j u o.0 o.1 a own h) own)
       (at_set m.passes v.pass j q u (subst (λ passes. At passes j u) is at))
   shown_on (is_split _ step begun _ is) j u at a h own =
       let before = subst (λ bs. was_begun bs a ≡ true) begun h in

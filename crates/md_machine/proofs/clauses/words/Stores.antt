@@ -1,5 +1,5 @@
 -- What was stored last for a present attempt stands, after every event.
-use Rattle.std.proofs.Common.{◌≡◌, ℕ, ◌≤◌, ◌<◌, ◌⊎◌, true, List, [], ◌∷◌, ◌++◌, get_or, set, sym, ap, ◌∙◌, subst, inl, inr, ⊎_elim, Some, get_or-set_same, get_or-set_other, arith}
+use Rattle.std.proofs.Common.{◌≡◌, ℕ, ◌⊎◌, List, [], ◌∷◌, ◌++◌, get_or, set, sym, ap, ◌∙◌, subst, inl, inr, ⊎_elim, Some, get_or-set_same, get_or-set_other, arith}
 use Rattle.std.specs.List.{Contains, All}
 use Rattle.std.proofs.lemmas.Bool.{cases_eq}
 use Rattle.std.proofs.lemmas.List.{set-get_or}
@@ -7,30 +7,29 @@ use Rattle.std.proofs.lemmas.List.Elements.{All-nil, All-cons, All-head, All-tai
 use Rattle.md_words.specs.declared.shape.Shape.{Shape}
 use Rattle.md_words.specs.Status.{serial_of}
 use Rattle.md_words.specs.Place.{desc_status}
-use Rattle.md_words.specs.Layout.{desc_count}
 use Rattle.md_words.specs.LayoutLaws.{IsField}
 use Rattle.md_words.specs.PlaceAt.{place_at}
-use Rattle.md_words.proofs.Owners.{own_desc_exists}
 use Rattle.md_machine.specs.declared.attempt.AttemptId.{AttemptId}
 use Rattle.md_machine.specs.declared.pass.PassView.{PassView}
 use Rattle.md_machine.specs.declared.step.Step.{Step}
-use Rattle.md_machine.proofs.clauses.passes.InHand.{HandsAlone, StepsBegun}
+use Rattle.md_machine.proofs.clauses.passes.InHand.{HandsAlone}
 use Rattle.md_machine.proofs.clauses.passes.LanesApart.{At}
 use Rattle.md_machine.proofs.events.Attempts.{attempt_same}
-use Rattle.md_machine.proofs.events.MoveFacts.{MoveFacts, StoredHere, actor, begun_stays}
+use Rattle.md_machine.proofs.events.MoveFacts.{MoveFacts, StoredHere}
 use Rattle.md_machine.proofs.events.Steps.{HasStep, adds_step, segment_from}
-use Rattle.md_machine.proofs.events.WordChanges.{statuses_go_on}
+use Rattle.md_machine.proofs.events.WordChanges.{serials_rise}
 use Rattle.md_machine.proofs.lists.At.{at_set}
 use Rattle.md_machine.proofs.lists.Options.{some_same}
 use Rattle.md_machine.proofs.lists.Rising.{here, in_none}
-use Rattle.md_machine.specs.Machine.{IsPresentIn, Machine, content, shape_of, status_at, was_begun, word_at}
+use Rattle.md_machine.specs.Machine.{IsPresentIn, Machine, content, shape_of, status_at, word_at}
 use Rattle.md_machine.specs.Trail.{LastStored, StoresFor, segments}
+use Rattle.md_machine.specs.clauses.passes.BegunNoLater.{IsNoLater}
 use Rattle.md_machine.specs.clauses.passes.Hands.{HandsFit}
 use Rattle.md_machine.specs.clauses.words.Stores.{IsEntryWord}
 
 -- whatever a step was made for is of no later attempt than the present one
-abbrev pub StepsPast : Shape → List ℕ → List PassView → Type 0
-StepsPast shape words passes = (t : Step) → HasStep passes t → (a : AttemptId) → t.attempt ≡ Some a → (a.desc < desc_count shape) × (a.serial ≤ serial_of (word_at shape words (desc_status a.desc)))
+abbrev pub StepsNoLater : Shape → List ℕ → List PassView → Type 0
+StepsNoLater shape words passes = (t : Step) → HasStep passes t → (a : AttemptId) → t.attempt ≡ Some a → IsNoLater shape words a
 
 -- what was stored last for a present attempt stands
 abbrev pub StoresStand : Shape → List ℕ → List PassView → Type 0
@@ -77,29 +76,9 @@ module _ (m n : Machine) (v : MoveFacts m n) (field : IsField (shape_of m) m.wor
   abbrev serial_later : ℕ → ℕ
   serial_later desc = serial_of (word_at (shape_of m) later (desc_status desc))
 
-  serial_rises : (desc : ℕ) → desc < desc_count (shape_of m) → serial_of (status_at m desc) ≤ serial_later desc
-  serial_rises desc exists = ⊎_elim (λ more. omega (arith, more)) (λ same. let e = same.serial in omega (arith, e)) (statuses_go_on (Unit {0}) m field v.word v.new v.left desc exists)
-
-  pub steps_begun-kept : StepsBegun m.begun m.passes → StepsBegun n.begun n.passes
-  steps_begun-kept was t has a e = ⊎_elim
-      (λ old. begun_stays m n v a (was t old a e))
-      (λ same. let x = actor m n v a (ap (λ (s : Step). s.attempt) same ∙ e) in begun_stays m n v a (subst (λ b. was_begun m.begun b ≡ true) x.same (alone.begins x.pass x.p x.h x.at x.held)))
-      (adds_step m.passes n.passes v.step v.from t has)
-
-  pub steps_past-kept : StepsPast (shape_of m) m.words m.passes → StepsPast (shape_of m) later n.passes
-  steps_past-kept was t has a e = ⊎_elim
-      (λ old. let p = was t old a e in let before = p.1 in let up = serial_rises a.desc p.0 in (p.0, omega (arith, before, up)))
-      (λ same.
-      let x = actor m n v a (ap (λ (s : Step). s.attempt) same ∙ e) in
-      let fits = hands.fits x.pass x.p x.h x.at x.held in
-      let exists = own_desc_exists (shape_of m) fits.own.0 x.h.attempt.desc fits.own.2 in
-      let up = serial_rises x.h.attempt.desc exists in let now = fits.present in
-      subst (λ (b : AttemptId). (b.desc < desc_count (shape_of m)) × (b.serial ≤ serial_later b.desc)) x.same (exists, omega (arith, up, now)))
-      (adds_step m.passes n.passes v.step v.from t has)
-
   -- a present attempt of a step was present
-  was_now : StepsPast (shape_of m) m.words m.passes → (t : Step) → HasStep m.passes t → (a : AttemptId) → t.attempt ≡ Some a → a.serial ≡ serial_later a.desc → IsPresentIn (shape_of m) m.words a
-  was_now past t has a e now = let p = past t has a e in let before = p.1 in let up = serial_rises a.desc p.0 in omega (arith, now, before, up)
+  was_now : StepsNoLater (shape_of m) m.words m.passes → (t : Step) → HasStep m.passes t → (a : AttemptId) → t.attempt ≡ Some a → a.serial ≡ serial_later a.desc → IsPresentIn (shape_of m) m.words a
+  was_now past t has a e now = let p = past t has a e in let before = p.1 in let up = serials_rise m field v.word v.new v.left a.desc p.0 in omega (arith, now, before, up)
 
   -- what the step left stands
   left_there : (word : ℕ) → word ≡ v.word → get_or later word 0 ≡ v.new
@@ -115,7 +94,7 @@ module _ (m n : Machine) (v : MoveFacts m n) (field : IsField (shape_of m) m.wor
       (λ ne. inl (get_or-set_other m.words v.word word v.new 0 ne))
       (cases_eq word v.word)
 
-  module _ (past : StepsPast (shape_of m) m.words m.passes) (was : StoresStand (shape_of m) m.words m.passes) where
+  module _ (past : StepsNoLater (shape_of m) m.words m.passes) (was : StoresStand (shape_of m) m.words m.passes) where
     -- the new step is the last store
     new_last : (a : AttemptId) (word held : ℕ) (s : Step) → StoresFor a word s → s.after ≡ held → s ≡ v.step → get_or later word 0 ≡ held
     new_last a word held s such left same = left_there word (sym such.there ∙ ap (λ (t : Step). t.word) same ∙ v.there) ∙ sym v.after ∙ ap (λ (t : Step). t.after) (sym same) ∙ left
