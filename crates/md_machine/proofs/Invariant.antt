@@ -21,6 +21,7 @@ use Rattle.md_machine.proofs.clauses.nodes.Flags.{Noting, flags-kept}
 use Rattle.md_machine.proofs.clauses.nodes.FreeNodes.{OpeningIsBase, free_nodes}
 use Rattle.md_machine.proofs.clauses.passes.Fronts.{fronts-kept}
 use Rattle.md_machine.proofs.clauses.passes.FrontsFit.{fated}
+use Rattle.md_machine.proofs.clauses.passes.FrontsGoOn.{fronts_go_on, fronts_rest}
 use Rattle.md_machine.proofs.clauses.passes.HandKnows.{hand_knows-kept}
 use Rattle.md_machine.proofs.clauses.passes.Hands.{hands-kept}
 use Rattle.md_machine.proofs.clauses.passes.InHand.{HandsAlone, in_hand-kept}
@@ -318,23 +319,25 @@ module _ (M : Meaning) where
           opening = v.opening;
           history = history_grows m n v;
           fates = entries.stay;
+          fronts = fronts_go_on m n v k.lanes k.mine entries.stay k.fronts fronts;
           status = λ desc exists. move (λ shape words. StatusGoesOn (status_at m desc) (word_at shape words (desc_status desc))) (statuses_go_on (Unit {0}) m k.formats.field v.word v.new v.left desc exists);
           count = λ word counted. move (λ shape words. count_of (content m word) ≤ count_of (get_or words word 0)) (counts_rise (Unit {0}) m k.formats.field v.word v.new v.left word counted);
         },
       )
 
   -- an event that doesn't happen changes nothing
-  rests : (m : Machine) → GoesOn m m
-  rests m = record {
+  rests : (m : Machine) → Invariant m → GoesOn m m
+  rests m k = record {
     opening = refl;
     history = record { rest = []; is = sym (append-nil m.history) };
     fates = all_stay-self m.fates;
+    fronts = fronts_rest m k.lanes;
     status = λ desc exists. stays_on (status_at m desc);
     count = λ word counted. le_refl _;
   }
 
   pub plays_keep : (m n : Machine) (e : Event) → Invariant m → Plays M m e n → Invariant n × GoesOn m n
-  plays_keep m n e k = ⊎_elim (does_keep m n e k) (λ still. subst (λ (x : Machine). Invariant x × GoesOn m x) (sym still.1) (k, rests m))
+  plays_keep m n e k = ⊎_elim (does_keep m n e k) (λ still. subst (λ (x : Machine). Invariant x × GoesOn m x) (sym still.1) (k, rests m k))
 
   pub runs_keep : (events : List Event) (m n : Machine) → Invariant m → Runs M m events n → Invariant n
   runs_keep [] m n k runs = subst Invariant (sym runs) k

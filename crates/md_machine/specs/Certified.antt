@@ -105,7 +105,8 @@ pub record CertifiedIn (reads : List Read) (writes : List Write) (cs : List Cert
 
 module _ (M : Meaning) where
   -- a transaction with these reads and slots is certified by these certificates, one for each of its acts
-  pub record IsCertified (m : Machine) (p : PassView) (h : Hand) (cs : List Certificate) (reads : List Read) (writes : List Write) : Type 0 where
+  pub record IsCertified (m : Machine) (p : PassView) (h : Hand) (cs : List Certificate)
+      (reads : List Read) (writes : List Write) : Type 0 where
     pub acts : h.acts ≡ map (λ c. act_of c.op c.reply) cs
     pub certifies : All (M.certifies (shape_of m)) cs
     pub tidies : All (λ c. All (M.tidies (shape_of m)) c.tidy) cs

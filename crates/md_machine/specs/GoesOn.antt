@@ -1,13 +1,15 @@
 -- How words and the history go on over an event.
-use Rattle.std.specs.Prelude.{◌≡◌, ◌<◌, ◌≤◌, ℕ, Bool, true, false, ◌⊎◌}
+use Rattle.std.specs.Prelude.{◌≡◌, ◌<◌, ◌≤◌, ℕ, Bool, true, false, [], ◌∷◌, Contains, ◌⊎◌}
 use Rattle.md_words.specs.declared.status.Status.{Status}
 use Rattle.md_words.specs.declared.status.Status.TheVariants.{InPrep, InProg, Committed, Aborted}
 use Rattle.md_words.specs.Content.{count_of}
 use Rattle.md_words.specs.Status.{status_of, reads_of, serial_of}
 use Rattle.md_words.specs.Layout.{desc_count}
 use Rattle.md_words.specs.PlaceAt.{IsCounted}
-use Rattle.md_history.specs.Front.{IsPrefix, AllStay}
-use Rattle.md_machine.specs.Machine.{Machine, content, shape_of, status_at}
+use Rattle.md_history.specs.Front.{AllStay, BeginsOn, IsPrefix}
+use Rattle.md_machine.specs.declared.pass.PassView.{PassView}
+use Rattle.md_machine.specs.Legal.{front_of}
+use Rattle.md_machine.specs.Machine.{IsAt, Machine, content, shape_of, status_at}
 
 -- a status moves from InPrep to InProg or Aborted, and from InProg to Committed or Aborted, or stays
 abbrev pub moves_to : Status → Status → Bool
@@ -35,10 +37,19 @@ pub record AttemptGoesOn (old new : ℕ) : Type 0 where
 abbrev pub StatusGoesOn : (old new : ℕ) → Type 0
 StatusGoesOn old new = (serial_of old < serial_of new) ⊎ AttemptGoesOn old new
 
--- over an event: the history grows at its end alone, a decided fate stays, statuses go on, and no count falls
+-- whoever holds a lane has seen and knows all that its holder before did, and its answers of the lane begin with that
+-- one's
+abbrev pub FrontsGoOn : (m n : Machine) → Type 0
+FrontsGoOn m n = (before after lane : ℕ) (p q : PassView) → IsAt m before p → IsAt n after q
+    → Contains p.lanes lane → Contains q.lanes lane
+    → BeginsOn (lane ∷ []) (front_of (shape_of m) p) (front_of (shape_of m) q)
+
+-- over an event: the history grows at its end alone, a decided fate stays, statuses and fronts go on, and no count
+-- falls
 pub record GoesOn (m n : Machine) : Type 0 where
   pub opening : n.opening ≡ m.opening
   pub history : IsPrefix m.history n.history
   pub fates : AllStay m.fates n.fates
   pub status : (desc : ℕ) → desc < desc_count (shape_of m) → StatusGoesOn (status_at m desc) (status_at n desc)
+  pub fronts : FrontsGoOn m n
   pub count : (word : ℕ) → IsCounted (shape_of m) word → count_of (content m word) ≤ count_of (content n word)

@@ -18,3 +18,4 @@ pub mod OwnBegun
 pub mod StepsBegun
 pub mod PendingBegun
 pub mod BegunNoLater
+pub mod FrontsGoOn

@@ -1,5 +1,5 @@
 -- What a pass knows to be decided is known to whoever knows more fates.
-use Rattle.std.proofs.Common.{◌≡◌, ◌≤◌, ◌&&◌, true, List, [], ◌∷◌, ◌++◌, length, sym, refl, subst, ⊎_elim, arith}
+use Rattle.std.proofs.Common.{◌≤◌, ◌&&◌, true, List, [], ◌∷◌, ◌++◌, length, sym, refl, ◌∙◌, ◌≡◌, subst, ⊎_elim, arith}
 use Rattle.std.proofs.lemmas.Bool.{cond_both, or_left, or_right, or_cases, and_parts, and_from, false≢true}
 use Rattle.md_words.specs.declared.shape.Shape.{Shape}
 use Rattle.md_words.specs.declared.status.Status.{Status}
@@ -9,7 +9,7 @@ use Rattle.md_words.specs.Place.{Place, desc_status}
 use Rattle.md_words.specs.PlaceAt.{place_at}
 use Rattle.md_history.specs.declared.entries.Fate.{Fate}
 use Rattle.md_history.specs.declared.entries.Fate.TheVariants.{Committed, Aborted, Undecided}
-use Rattle.md_history.specs.Front.{IsPrefix, AllStay, known_of_two, known_of_both}
+use Rattle.md_history.specs.Front.{IsPrefix, AllStay, Stays, known_of_two, known_of_both}
 use Rattle.md_machine.specs.declared.attempt.AttemptId.{AttemptId}
 use Rattle.md_machine.specs.declared.attempt.HistoryEntry.{HistoryEntry}
 use Rattle.md_machine.specs.declared.step.Step.{Step}
@@ -39,6 +39,22 @@ pub more_stay : (fs gs : List Fate) → AllStay fs gs → MoreDecided fs gs
 more_stay [] gs a = tt
 more_stay (f ∷ fs) [] a = absurd a
 more_stay (f ∷ fs) (g ∷ gs) a = (decided_stays f g a.0, more_stay fs gs a.1)
+
+-- a fate that is decided where another is, both being those of a machine, goes on from it
+stays_both : (f g h : Fate) → Stays f h → Stays g h → (is_decided f ≡ true → is_decided g ≡ true) → Stays f g
+stays_both Undecided g h a b more = tt
+stays_both Committed Committed h a b more = refl
+stays_both Committed Aborted h a b more = absurd (let e : Committed ≡ Aborted = sym a ∙ b in cc)
+stays_both Committed Undecided h a b more = absurd (false≢true (more refl))
+stays_both Aborted Committed h a b more = absurd (let e : Aborted ≡ Committed = sym a ∙ b in cc)
+stays_both Aborted Aborted h a b more = refl
+stays_both Aborted Undecided h a b more = absurd (false≢true (more refl))
+
+pub all_both : (fs gs hs : List Fate) → AllStay fs hs → AllStay gs hs → MoreDecided fs gs → AllStay fs gs
+all_both [] gs hs a b more = tt
+all_both (f ∷ fs) [] hs a b more = absurd more
+all_both (f ∷ fs) (g ∷ gs) [] a b more = absurd a
+all_both (f ∷ fs) (g ∷ gs) (h ∷ hs) a b more = (stays_both f g h a.0 b.0 more.0, all_both fs gs hs a.1 b.1 more.1)
 
 -- a step makes no fate undecided
 told_decided : (s : Status) (f : Fate) → is_decided f ≡ true → is_decided (fate_told s f) ≡ true

@@ -89,7 +89,8 @@ module _ (M : Meaning) where
     pub stored : (i : ℕ) → i < count → IsStoredRead m p h.attempt i
     pub recorded : All (MayRecord m p) (reads_now m h.attempt.desc count)
     pub installed : All (λ w. SomeStepOf p (InstallsFor h.attempt w)) (writes_now m h.attempt)
-    pub certified : wins_ready m h.attempt ≡ true → IsCertified M m p h cs (reads_now m h.attempt.desc count) (writes_now m h.attempt)
+    pub certified : wins_ready m h.attempt ≡ true
+        → IsCertified M m p h cs (reads_now m h.attempt.desc count) (writes_now m h.attempt)
 
 -- the entry of an attempt that becomes ready
 abbrev pub entry_now : Machine → Hand → (count : ℕ) → Entry

@@ -1,7 +1,7 @@
 -- What a pass knows of free nodes: it may store to them and give them back, and it knows so after further events.
 use Rattle.std.proofs.Common.{◌≡◌, ℕ, suc, true, false, ◌⊎◌, List, [], ◌∷◌, ◌++◌, length, refl, sym, ap, ◌∙◌, subst, ⊎_elim, append_assoc, arith, None}
 use Rattle.std.specs.List.{Contains}
-use Rattle.std.proofs.lemmas.Bool.{cases_Bool, false≢true}
+use Rattle.std.proofs.lemmas.Bool.{cases_Bool}
 use Rattle.std.proofs.lemmas.List.Elements.{Contains-append_left, Contains-append_right}
 use Rattle.md_words.specs.declared.shape.Shape.{Shape}
 use Rattle.md_words.specs.Content.{count_of, is_even}
@@ -10,8 +10,7 @@ use Rattle.md_words.specs.Lanes.{OwnsNode}
 use Rattle.md_words.specs.Place.{node_next}
 use Rattle.md_words.proofs.Owners.{own_node_exists}
 use Rattle.md_history.specs.declared.entries.Fate.{Fate}
-use Rattle.md_history.specs.declared.entries.Fate.TheVariants.{Committed, Aborted, Undecided}
-use Rattle.md_history.specs.Front.{AllStay, IsPrefix, Stays}
+use Rattle.md_history.specs.Front.{IsPrefix}
 use Rattle.md_history.specs.FrontLaws.{all_stay-trans, prefix-trans}
 use Rattle.md_machine.specs.declared.attempt.AttemptId.{AttemptId}
 use Rattle.md_machine.specs.declared.attempt.HistoryEntry.{HistoryEntry}
@@ -27,7 +26,7 @@ use Rattle.md_machine.proofs.clauses.slots.UndecidedSlots.{free_to_return}
 use Rattle.md_machine.proofs.events.Holders.{HasStepsOf, held_before}
 use Rattle.md_machine.proofs.events.Moves.{does_move}
 use Rattle.md_machine.proofs.events.Tell.{tell}
-use Rattle.md_machine.proofs.fates.Decidedness.{MoreDecided}
+use Rattle.md_machine.proofs.fates.Decidedness.{MoreDecided, all_both}
 use Rattle.md_machine.proofs.lists.Rising.{range_in}
 use Rattle.md_machine.proofs.resolutions.Placing.{always_not_never}
 use Rattle.md_machine.specs.Event.{Does, Event, first_pass}
@@ -42,29 +41,13 @@ use Rattle.md_machine.specs.Trail.{EveryStepOf, MetHigher}
 use Rattle.md_machine.specs.clauses.entries.Fates.{FatesTold}
 use Rattle.md_machine.specs.clauses.nodes.EvenNexts.{AllTakenOut}
 use Rattle.md_machine.specs.clauses.slots.UndecidedSlots.{NamesNode, UndecidedNamePlaced}
-use Rattle.md_machine.specs.events.Start.{IsClean, WonInstall, is_decided}
+use Rattle.md_machine.specs.events.Start.{IsClean, WonInstall}
 
 told_fated : (shape : Shape) (words : List ℕ) (es : List HistoryEntry) (fs : List Fate) → FatesTold shape words es fs → length fs ≡ length es
 told_fated shape words [] [] t = refl
 told_fated shape words [] (f ∷ fs) t = absurd t
 told_fated shape words (e ∷ es) [] t = absurd t
 told_fated shape words (e ∷ es) (f ∷ fs) t = ap suc (told_fated shape words es fs t.1)
-
--- a fate that is decided where another is, both being those of a machine, goes on from it
-stays_both : (f g h : Fate) → Stays f h → Stays g h → (is_decided f ≡ true → is_decided g ≡ true) → Stays f g
-stays_both Undecided g h a b more = tt
-stays_both Committed Committed h a b more = refl
-stays_both Committed Aborted h a b more = absurd (let e : Committed ≡ Aborted = sym a ∙ b in cc)
-stays_both Committed Undecided h a b more = absurd (false≢true (more refl))
-stays_both Aborted Committed h a b more = absurd (let e : Aborted ≡ Committed = sym a ∙ b in cc)
-stays_both Aborted Aborted h a b more = refl
-stays_both Aborted Undecided h a b more = absurd (false≢true (more refl))
-
-all_both : (fs gs hs : List Fate) → AllStay fs hs → AllStay gs hs → MoreDecided fs gs → AllStay fs gs
-all_both [] gs hs a b more = tt
-all_both (f ∷ fs) [] hs a b more = absurd more
-all_both (f ∷ fs) (g ∷ gs) [] a b more = absurd a
-all_both (f ∷ fs) (g ∷ gs) (h ∷ hs) a b more = (stays_both f g h a.0 b.0 more.0, all_both fs gs hs a.1 b.1 more.1)
 
 -- a pass with the steps of another met what that one met
 met_more : (p u : PassView) (word count : ℕ) → HasStepsOf p u → MetHigher p word count → MetHigher u word count

@@ -9,7 +9,8 @@ use Rattle.md_machine.specs.Machine.{was_begun, word_at}
 
 -- an attempt of a descriptor of the field is no later than the present one
 abbrev pub IsNoLater : Shape → List ℕ → AttemptId → Type 0
-IsNoLater shape words a = (a.desc < desc_count shape) × (a.serial ≤ serial_of (word_at shape words (desc_status a.desc)))
+IsNoLater shape words a =
+    (a.desc < desc_count shape) × (a.serial ≤ serial_of (word_at shape words (desc_status a.desc)))
 
 -- so it is of each attempt that was begun
 abbrev pub BegunAreNoLater : Shape → List ℕ → List AttemptId → Type 0
