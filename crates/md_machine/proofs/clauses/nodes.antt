@@ -9,3 +9,4 @@ pub mod EvenNexts
 pub mod InstalledValue
 pub mod KnowsFree
 pub mod InPreparation
+pub mod Unstored
