@@ -6,3 +6,4 @@ pub mod EntrySlots
 pub mod OwnInstalls
 pub mod Clean
 pub mod UndecidedSlots
+pub mod CleanAfter

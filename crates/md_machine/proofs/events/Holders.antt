@@ -7,11 +7,15 @@ use Rattle.md_machine.specs.declared.pass.PassView.{PassView}
 use Rattle.md_machine.proofs.clauses.passes.LanesApart.{At}
 use Rattle.md_machine.proofs.events.Steps.{InSegments, IsBoth, IsNext, IsStill, PassesFrom}
 use Rattle.md_machine.proofs.lists.Rising.{in_none}
-use Rattle.md_machine.specs.Trail.{segments}
+use Rattle.md_machine.specs.Trail.{MetHigher, segments}
 
 -- a pass has each step of another
 abbrev pub HasStepsOf : (p u : PassView) → Type 0
 HasStepsOf p u = (s : Step) → InSegments (segments p) s → InSegments (segments u) s
+
+-- a pass with the steps of another met what that one met
+pub met_more : (p u : PassView) (word count : ℕ) → HasStepsOf p u → MetHigher p word count → MetHigher u word count
+met_more p u word count more (held, higher, (segment, c, (s, i, meets))) = let r = more s (segment, c, i) in (held, higher, (r.0, r.1, (s, r.2, meets)))
 
 -- a pass that held the lane, whose steps this one has
 abbrev pub HeldBefore : List PassView → (lane : ℕ) → PassView → Type 0

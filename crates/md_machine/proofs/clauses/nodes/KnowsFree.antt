@@ -23,7 +23,7 @@ use Rattle.md_machine.proofs.clauses.passes.LanesApart.{at_once}
 use Rattle.md_machine.proofs.clauses.passes.Longer.{begins_longer}
 use Rattle.md_machine.proofs.clauses.passes.MineParts.{not_again}
 use Rattle.md_machine.proofs.clauses.slots.UndecidedSlots.{free_to_return}
-use Rattle.md_machine.proofs.events.Holders.{HasStepsOf, held_before}
+use Rattle.md_machine.proofs.events.Holders.{HasStepsOf, held_before, met_more}
 use Rattle.md_machine.proofs.events.Moves.{does_move}
 use Rattle.md_machine.proofs.events.Tell.{tell}
 use Rattle.md_machine.proofs.fates.Decidedness.{MoreDecided, all_both}
@@ -48,10 +48,6 @@ told_fated shape words [] [] t = refl
 told_fated shape words [] (f ∷ fs) t = absurd t
 told_fated shape words (e ∷ es) [] t = absurd t
 told_fated shape words (e ∷ es) (f ∷ fs) t = ap suc (told_fated shape words es fs t.1)
-
--- a pass with the steps of another met what that one met
-met_more : (p u : PassView) (word count : ℕ) → HasStepsOf p u → MetHigher p word count → MetHigher u word count
-met_more p u word count more (held, higher, (segment, c, (s, i, meets))) = let r = more s (segment, c, i) in (held, higher, (r.0, r.1, (s, r.2, meets)))
 
 module _ (m : Machine) (k : IsKept m) (pass : ℕ) (p : PassView) (at : IsAt m pass p) (node : ℕ) (knows : KnowsFree (shape_of m) p node) where
   -- it is an own node
