@@ -1,6 +1,6 @@
 -- What each step tells: the event's condition held of the machine before it, and the pass knows what the event leaves it.
 use Rattle.std.proofs.Common.{◌≡◌, ◌++◌, ℕ, List, [], ◌∷◌, Some, None, true, slice_set, sym, ap, ◌∙◌, subst}
-use mathlib.Core.Option.{some, some-injective}
+use mathlib.Core.Option.{some-injective}
 use lib.ListN.{get_elem?}
 use Rattle.md_words.specs.declared.content.Spot.{Spot}
 use Rattle.md_words.specs.Layout.{address}

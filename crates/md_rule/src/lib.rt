@@ -21,4 +21,6 @@ mod shares;
 mod statuses;
 mod steps;
 mod taken;
+#[cfg(test)]
+mod tests;
 mod words;
