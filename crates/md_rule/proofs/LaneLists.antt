@@ -2,7 +2,7 @@
 use Rattle.std.proofs.Common.{◌≡◌, ◌==◌, ◌||◌, ℕ, zero, suc, ◌+◌, ◌-◌, ◌/◌, ◌<◌, ◌≤◌, Bool, true, false, List, [], ◌∷◌, filter, take, drop, length, ne_eqb, eq-eqb, arith, refl, sym, ap, ◌∙◌, ⊎_elim}
 use Rattle.std.specs.List.{Contains, range_with_len}
 use Rattle.md_words.specs.Layout.{desc_count}
-use Rattle.md_machine.proofs.lists.Rising.{in_lane}
+use Rattle.md_machine.proofs.lists.Rising.{in_lane, rise_drop, rise_filter, rise_range, rise_take}
 use Rattle.std.proofs.lemmas.Bool.{cases_lt, cond_both, false≢true}
 use Rattle.std.proofs.lemmas.List.{length-drop, length-take}
 use Rattle.std.proofs.lemmas.List.FromFn.{length-range_with_len}
@@ -48,18 +48,21 @@ pub all_are_lanes : (shape : Shape) → AreLanes shape (range_with_len 0 shape.l
 all_are_lanes shape = record {
   live = let some = some_lanes shape in let count = length-range_with_len 0 shape.lanes in omega (arith, some, count);
   below = λ lane h. past_range 0 shape.lanes lane (omega (arith, h));
+  rising = rise_range 0 shape.lanes;
 }
 
 pub kept_are_lanes : (shape : Shape) (lanes : List ℕ) → AreLanes shape lanes → 2 ≤ length lanes → AreLanes shape (kept_lanes lanes)
 kept_are_lanes shape lanes k two = record {
   live = let count = length-take (length lanes - length lanes / 2) lanes in omega (arith, two, count);
   below = λ lane h. without_take (length lanes - length lanes / 2) lanes lane (k.below lane h);
+  rising = rise_take 0 (length lanes - length lanes / 2) lanes k.rising;
 }
 
 pub given_are_lanes : (shape : Shape) (lanes : List ℕ) → AreLanes shape lanes → 2 ≤ length lanes → AreLanes shape (given_lanes lanes)
 given_are_lanes shape lanes k two = record {
   live = let count = length-drop (length lanes - length lanes / 2) lanes in omega (arith, two, count);
   below = λ lane h. without_drop (length lanes - length lanes / 2) lanes lane (k.below lane h);
+  rising = rise_drop 0 (length lanes - length lanes / 2) lanes k.rising;
 }
 
 -- some lane of a list that isn't empty
@@ -78,6 +81,7 @@ joined_are_lanes shape lanes others k =
     let inside : one.0 < shape.lanes = ⊎_elim (λ h. h) (λ h. absurd (false≢true (sym (k.below one.0 h) ∙ one.1))) (cases_lt one.0 shape.lanes) in record {
       live = some_if (joined_lanes shape lanes others) one.0 (any_pass p 0 shape.lanes one.0 (omega arith) (omega (arith, inside)) ∙ ap (λ b. b || is_lane_of others one.0) one.1);
       below = λ lane h. without_filter p (range_with_len 0 shape.lanes) lane (past_range 0 shape.lanes lane (omega (arith, h)));
+      rising = rise_filter 0 p (range_with_len 0 shape.lanes) (rise_range 0 shape.lanes);
     }
 
 -- a lane that a pass may hold, and a descriptor of a field, is below 64

@@ -54,9 +54,10 @@ impl<T: Theory> Pass<T> {
         }
     }
 
-    /// The numbers of its field.
+    /// The numbers of its field. It holds one at least of the lanes that they say.
     pub fn shape(&self) -> &Shape
-        ensures { result.now ≡ self.now.shape }
+        ensures shape { result.now ≡ self.now.shape }
+        ensures lanes { AreLanes self.now.shape self.now.view.lanes }
     {
         &self.shape
     }
