@@ -10,7 +10,7 @@ ghost use Rattle.md_rule.specs.Views.{IsOf};
 
 use crate::field::Field;
 use crate::lanes::Lanes;
-use crate::shares::{Share, UNUSED};
+use crate::shares::{Share, UNUSED, count};
 use atomic_table::Seat;
 use md_machine::{PassView, Theory};
 use md_words::Shape;
@@ -58,7 +58,9 @@ impl<T: Theory> Pass<T> {
     pub fn shape(&self) -> &Shape
         ensures shape { result.now ≡ self.now.shape }
         ensures lanes { AreLanes self.now.shape self.now.view.lanes }
+        ensures shares { length self.now.shares ≡ 64 }
     {
+        count(&self.shares);
         &self.shape
     }
 

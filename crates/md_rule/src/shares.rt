@@ -1,6 +1,6 @@
 //! What a pass keeps of each of its lanes.
 
-ghost use Rattle.std.specs.Prelude.{◌≡◌, ◌<◌, if◌then◌else◌};
+ghost use Rattle.std.specs.Prelude.{◌≡◌, ◌<◌, if◌then◌else◌, length};
 ghost use Rattle.md_words.specs.declared.limits.TheConstants.{SET};
 ghost use Rattle.md_rule.specs.Shares.{after_slot, after_begin, after_end, after_restart, joined_shares};
 
@@ -26,6 +26,13 @@ pub(crate) const UNUSED: Share = Share {
     slots_written: 0,
     left_open: false,
 };
+
+// There is a share for each lane that there may be.
+pub(crate) fn count(shares: &[Share; 64])
+    ensures { length shares.now ≡ 64 }
+{
+    let _ = shares;
+}
 
 // The shares of another pass's lanes take the place of those here.
 pub(crate) fn take_shares(mine: &mut [Share; 64], lanes: &Lanes, others: &[Share; 64])
