@@ -15,7 +15,7 @@ use Rattle.md_list_law.specs.ListShape.{head_word}
 use Rattle.md_hash_law.specs.HashTable.{pairs_of_map}
 use Rattle.md_queue_law.specs.QueueValues.{values_after, node_after}
 use Rattle.md_queue_law.specs.QueueShape.{head_of}
-use Rattle.md_store_law.specs.Needed.{node_number}
+use Rattle.md_history.specs.Engine.{needed}
 use Rattle.md_store_law.specs.Field.{logical_words, IsStoreField}
 use Rattle.md_store_law.specs.Compacted.{MayHaveBase, contents_of, pairs_in, values_in}
 use Rattle.md_store_law.proofs.PairCounts.{length-pieces, len-map}
@@ -56,7 +56,7 @@ sum_short g t m a (suc n) each =
     omega (arith, sum, first, rest, more)
 
 pub few_nodes : (shape : Shape) (words : List ℕ) → IsStoreField shape words
-    → node_number (contents_of shape words) ≤ shape.queues + shape.maps * (shape.buckets * node_count shape) + shape.queues * node_count shape
+    → needed (contents_of shape words) ≤ shape.queues + shape.maps * (shape.buckets * node_count shape) + shape.queues * node_count shape
 few_nodes shape words f =
     let w = logical_words shape words in
     let table : ℕ → Table = λ map. map_of_pairs (pairs_of_map w map) in
@@ -86,9 +86,9 @@ size_with shape n base = rw (n.0, n.1, n.4, n.5, n.6) (omega arith)
 
 -- so a field of the small shape may be laid anew, whatever it holds
 pub may_have_few : (shape : Shape) (words : List ℕ) → HasNumbers shape 2 16 3 4 1 64 1 → IsStoreField shape words
-    → MayHaveBase shape (node_number (contents_of shape words))
+    → MayHaveBase shape (needed (contents_of shape words))
 may_have_few shape words n f =
-    let count = node_number (contents_of shape words) in
+    let count = needed (contents_of shape words) in
     let few = few_nodes shape words f in
     let most : shape.queues + shape.maps * (shape.buckets * node_count shape) + shape.queues * node_count shape ≡ 2276 =
     rw (nodes_are shape n, n.4, n.5, n.6) refl in

@@ -13,7 +13,7 @@ use Rattle.md_list_law.specs.ListShape.{head_word}
 use Rattle.md_hash_law.specs.HashTable.{pairs_of_map, maps_of}
 use Rattle.md_hash_law.specs.Laws.Maps.{map-same}
 use Rattle.md_queue_law.specs.QueueValues.{queue_values, queue_lists}
-use Rattle.md_store_law.specs.Needed.{node_number}
+use Rattle.md_history.specs.Engine.{needed}
 use Rattle.md_store_law.specs.Field.{logical_words, IsStoreField}
 use Rattle.md_store_law.specs.Laid.{LaidNode, IsLaid, dummies, pair_nodes, value_nodes, nodes_of_map, nodes_of_maps, nodes_of_queues, nodes_by}
 use Rattle.md_store_law.specs.Compacted.{IsWithBase, IsCompacted, contents_of, pairs_in, values_in, living_nodes}
@@ -23,7 +23,7 @@ use Rattle.md_store_law.proofs.Stores.{StandFor, AreSorted, pairs_laid, values_l
 use Rattle.md_store_law.proofs.Entries.{nodes_stand}
 use Rattle.md_store_law.proofs.Opening.{store_field, laid_opens}
 
-pub living_count : (shape : Shape) (words : List ℕ) → IsStoreField shape words → length (living_nodes shape words) ≡ node_number (contents_of shape words)
+pub living_count : (shape : Shape) (words : List ℕ) → IsStoreField shape words → length (living_nodes shape words) ≡ needed (contents_of shape words)
 living_count shape words f =
     let w = logical_words shape words in
     let table : ℕ → Table = λ map. map_of_pairs (pairs_of_map w map) in
@@ -63,7 +63,7 @@ nodes_same shape fresh pairs values e f g =
     ap (λ n. nodes_at pairs values n fresh.buckets fresh.queues) e
     ∙ ap (λ n. nodes_at pairs values shape.maps n fresh.queues) f ∙ ap (λ n. nodes_at pairs values shape.maps shape.buckets n) g
 
-module _ (shape fresh : Shape) (words row : List ℕ) (f : IsStoreField shape words) (is : IsWithBase shape (node_number (contents_of shape words)) fresh)
+module _ (shape fresh : Shape) (words row : List ℕ) (f : IsStoreField shape words) (is : IsWithBase shape (needed (contents_of shape words)) fresh)
     (laid : IsLaid fresh row (living_nodes shape words)) where
   abbrev pairs : ℕ → ℕ → List (ℕ × ℕ)
   pairs = pairs_in shape words

@@ -6,9 +6,9 @@ use Rattle.md_words.specs.Place.{is_counted}
 use Rattle.md_words.specs.PlaceAt.{place_at, IsCounted}
 use Rattle.md_machine.specs.LogicalHeap.{LogicalHeap, AgreeWherePlaced}
 use Rattle.md_machine.specs.Machine.{Machine, content, shape_of}
-use Rattle.md_machine.specs.Resolution.{logical_heap, logical_value, placed_under, value_by_spot}
+use Rattle.md_machine.specs.Resolution.{logical_value, value_by_spot}
 use Rattle.md_store_law.specs.Field.{logical_words}
-use Rattle.md_store_law.specs.EvenFields.{IsEvenMachine, EvenFieldsAreStores}
+use Rattle.md_store_law.specs.EvenFields.{IsEvenMachine, EvenFieldsAreStores, heap_with}
 use Rattle.md_store_law.specs.Laws.StoreLaws.{store_lawful}
 
 pub even_value : (m : Machine) (choice : List Bool) (word : ℕ) → IsEvenMachine m → IsCounted (shape_of m) word
@@ -19,9 +19,9 @@ even_value m choice word e counted =
     ∙ ap (value_by_spot m choice held) (cond-true (is_even (count_of held)) _ _ (e.even word counted)))
 
 pub even_fields_are_stores : EvenFieldsAreStores
-even_fields_are_stores m choice e valid =
-    let h = logical_heap m choice in
-    let k : LogicalHeap = record { words = logical_words (shape_of m) m.words; placed = placed_under m choice } in
+even_fields_are_stores m choice placed e valid =
+    let h = heap_with m choice placed in
+    let k : LogicalHeap = record { words = logical_words (shape_of m) m.words; placed = placed } in
     let agree : AgreeWherePlaced h k = record {
       shape = refl;
       placed = λ node. refl;
@@ -30,4 +30,4 @@ even_fields_are_stores m choice e valid =
       value_of_node = λ node placed. refl;
     } in
     let f = store_lawful.frame h k valid agree in
-    (record { field = e.field; even = e.even; placed = placed_under m choice; store = f.0 }, f.1)
+    (record { field = e.field; even = e.even; placed = placed; store = f.0 }, f.1)

@@ -24,7 +24,7 @@ use Rattle.md_hash_law.specs.HashTable.{pairs_of_map, maps_of}
 use Rattle.md_queue_law.specs.QueueValues.{queue_values, queue_lists}
 use Rattle.md_store_law.specs.Store.{state_of_store}
 use Rattle.md_store_law.specs.Field.{logical_words}
-use Rattle.md_store_law.specs.Needed.{node_number}
+use Rattle.md_history.specs.Engine.{needed}
 use Rattle.md_store_law.specs.Laid.{LaidNode, IsLaid, HasMapsAndQueues, dummies, pair_nodes, value_nodes, nodes_of_map, nodes_of_maps, nodes_of_queues, bucket_pairs, pairs_at, laid_nodes}
 use Rattle.md_store_law.proofs.Sums.{apart_sorted, len-apart}
 use Rattle.md_store_law.proofs.PairCounts.{apart-pieces, lacks-pieces, length-pieces}
@@ -138,7 +138,7 @@ module _ (shape : Shape) (s : State) (numbers : HasMapsAndQueues shape s) where
       ∙ sym (len-buckets shape (map_at s map))
 
   -- contents have as many nodes as they need
-  pub nodes_count : length (laid_nodes shape s) ≡ node_number s
+  pub nodes_count : length (laid_nodes shape s) ≡ needed s
   nodes_count =
       let maps = nodes_of_maps shape (pairs_at shape s) shape.maps in
       let queues = nodes_of_queues (queue_at s) shape.queues in

@@ -9,7 +9,7 @@ use Rattle.md_list_law.specs.Walk.{pairs_from}
 use Rattle.md_list_law.specs.ListShape.{head_word}
 use Rattle.md_queue_law.specs.QueueValues.{queue_values}
 use Rattle.md_store_law.specs.Store.{state_of_store}
-use Rattle.md_store_law.specs.Needed.{node_number}
+use Rattle.md_history.specs.Engine.{needed}
 use Rattle.md_store_law.specs.Field.{logical_words, IsStoreField}
 use Rattle.md_store_law.specs.Laid.{LaidNode, IsLaid, nodes_by}
 use Rattle.md_store_law.specs.Opens.{OpensWith}
@@ -43,7 +43,7 @@ living_nodes shape words = nodes_by shape (pairs_in shape words) (values_in shap
 -- A field of the same shape but for its base nodes, of which it has as many as the contents need. Its nodes are these,
 -- laid anew with every count 0; it may be opened, with the same contents.
 pub record IsCompacted (shape : Shape) (words : List ℕ) (fresh : Shape) (row : List ℕ) : Type 0 where
-  pub numbers : IsWithBase shape (node_number (contents_of shape words)) fresh
+  pub numbers : IsWithBase shape (needed (contents_of shape words)) fresh
   pub laid : IsLaid fresh row (living_nodes shape words)
   pub store : IsStoreField fresh row
   pub opens : OpensWith fresh row (contents_of shape words)

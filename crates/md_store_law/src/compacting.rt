@@ -3,7 +3,7 @@
 ghost use Rattle.std.specs.Prelude.{◌<◌, ◌+◌, IfOk, OnOk};
 ghost use Rattle.md_store_law.specs.Field.{IsStoreField};
 ghost use Rattle.md_store_law.specs.Laid.{IsLaid, dummies};
-ghost use Rattle.md_store_law.specs.Needed.{node_number};
+ghost use Rattle.md_history.specs.Engine.{needed};
 ghost use Rattle.md_store_law.specs.Below.{LaidUpTo};
 ghost use Rattle.md_store_law.specs.Compacted.{MayHaveBase, IsWithBase, IsCompacted, contents_of};
 ghost use Rattle.md_store_law.specs.Compacted.{HasRoomFor, living_nodes, copied_maps};
@@ -27,7 +27,7 @@ pub fn compact(
     words: Vec<u64>,
 ) -> Result<(Shape, Vec<u64>), AllocError>
     requires store { IsStoreField shape.now words.items }
-    requires base { MayHaveBase shape.now (node_number (contents_of shape.now words.items)) }
+    requires base { MayHaveBase shape.now (needed (contents_of shape.now words.items)) }
     ensures { IfOk result (λ r. IsCompacted shape.now words.items r.0 r.1.items) }
 {
     let base = count_living_nodes(alloc, shape, &words)?;

@@ -7,7 +7,7 @@ ghost use Rattle.md_list_law.specs.Walk.{map_of_pairs};
 ghost use Rattle.md_hash_law.specs.HashTable.{pairs_of_map, maps_of};
 ghost use Rattle.md_queue_law.specs.QueueValues.{queue_lists};
 ghost use Rattle.md_store_law.specs.Store.{state_of_store};
-ghost use Rattle.md_store_law.specs.Needed.{node_number};
+ghost use Rattle.md_history.specs.Engine.{needed};
 ghost use Rattle.md_store_law.specs.Field.{logical_words, IsStoreField};
 
 use crate::walks::{append_pairs, append_values};
@@ -22,9 +22,9 @@ pub(crate) fn count_living_nodes(
     words: &[u64],
 ) -> Result<u32, AllocError>
     requires store { IsStoreField shape.now words.now }
-    requires fits { node_number (state_of_store (logical_words shape.now words.now)) < 2 ^ 32 }
+    requires fits { needed (state_of_store (logical_words shape.now words.now)) < 2 ^ 32 }
     ensures { IfOk result
-        (λ count. count ≡ node_number (state_of_store (logical_words shape.now words.now))) }
+        (λ count. count ≡ needed (state_of_store (logical_words shape.now words.now))) }
 {
     let pairs = count_pairs(alloc, shape, words)?;
     let values = count_values(alloc, shape, words)?;

@@ -4,7 +4,7 @@ ghost use Rattle.std.specs.Prelude.{◌≡◌, ◌<◌, ◌≤◌, ◌+◌, ◌+
 ghost use Rattle.std.specs.List.{range_with_len};
 ghost use Rattle.md_history.specs.Contents.{table_of};
 ghost use Rattle.md_store_law.specs.Field.{IsStoreField};
-ghost use Rattle.md_store_law.specs.Needed.{node_number};
+ghost use Rattle.md_history.specs.Engine.{needed};
 ghost use Rattle.md_store_law.specs.Opens.{OpensWith};
 ghost use Rattle.md_store_law.specs.Below.{LaidUpTo, maps_below};
 ghost use Rattle.md_store_law.specs.Laid.{IsLaid, HasMapsAndQueues, dummies, bucket_pairs, pairs_at, laid_nodes};
@@ -25,7 +25,7 @@ use std::collections::{BTreeMap, VecDeque};
 /// of their keys, each is pushed behind those of its bucket, and then the buckets are laid in turn.
 pub fn lay(alloc: Global, shape: &Shape, contents: &Contents) -> Result<Vec<u64>, AllocError>
     requires numbers { HasMapsAndQueues shape.now contents.now }
-    requires room { node_number contents.now ≤ shape.now.base }
+    requires room { needed contents.now ≤ shape.now.base }
     ensures opens { IfOk result (λ words. OpensWith shape.now words.items contents.now) }
     ensures store { IfOk result (λ words. IsStoreField shape.now words.items) }
     ensures laid { IfOk result

@@ -4,7 +4,8 @@ ghost use Rattle.std.specs.Prelude.{◌≡◌, map, length};
 ghost use Rattle.std.specs.List.{sum_by};
 ghost use Rattle.std.specs.FinMap as fin;
 ghost use Rattle.md_history.specs.Contents.{table_of};
-ghost use Rattle.md_store_law.specs.Needed.{node_number, capped};
+ghost use Rattle.md_history.specs.Engine.{needed};
+ghost use Rattle.md_store_law.specs.Needed.{capped};
 
 use md_history::Contents;
 use std::collections::{BTreeMap, VecDeque};
@@ -12,7 +13,7 @@ use std::collections::{BTreeMap, VecDeque};
 /// The number of base nodes that a field needs for these contents: one for each queue, each pair
 /// and each queued value. It is 2^64 - 1 if they are more. It takes no memory.
 pub fn needed(contents: &Contents) -> u64
-    ensures { result ≡ capped (node_number contents.now) }
+    ensures { result ≡ capped (needed contents.now) }
 {
     let dummies = contents.queues().len() as u64;
     dummies
