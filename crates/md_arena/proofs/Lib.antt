@@ -1,0 +1,3 @@
+pub mod LowestLanes
+pub mod TakenNodes
+pub mod KeptNodes

@@ -1,0 +1,102 @@
+//! Nodes and attempts are taken until none is left.
+
+ghost use Rattle.std.specs.Prelude.{◌≡◌, IfOk, replicate};
+ghost use Rattle.md_machine.specs.Event.{first_pass};
+ghost use Rattle.md_rule.specs.Views.{IsOf};
+
+use crate::{give_back, no_node_twice, take_descriptor, take_node};
+use md_cell::{CellTheory, cell_rows};
+use md_history::Limit;
+use md_rule::{Field, Pass};
+use md_words::Shape;
+use std::alloc::{AllocError, Global};
+use std::test::Fail;
+
+fn zeros(alloc: Global, count: usize) -> Result<Vec<u64>, AllocError>
+    ensures { IfOk result (λ v. v.items ≡ replicate count 0) }
+{
+    vec![in alloc; 0; count]
+}
+
+// A field in which every word is 0, and the pass of all its lanes.
+fn blank(alloc: Global, shape: Shape) -> Result<(Field<CellTheory>, Pass<CellTheory>), AllocError>
+    ensures { IfOk result (λ r. IsOf r.1 r.0 × (r.1.view ≡ first_pass r.1.shape)) }
+{
+    cell_rows();
+    let words = zeros(alloc, shape.words() as usize)?;
+    Field::open(alloc, shape, words)
+}
+
+// Takes a node of a pass that has made no step.
+fn next(pass: &mut Pass<CellTheory>) -> Result<u32, Limit>
+    requires { pass.old.view ≡ first_pass pass.old.shape }
+    ensures { pass.new.view ≡ first_pass pass.new.shape }
+{
+    take_node(pass)
+}
+
+// Takes a node and gives it back.
+fn taken_and_given_back(pass: &mut Pass<CellTheory>) -> Result<u32, Limit>
+    requires { pass.old.view ≡ first_pass pass.old.shape }
+{
+    let node = take_node(pass)?;
+    give_back(pass, node);
+    Ok(node)
+}
+
+#[test]
+fn a_pass_takes_the_nodes_of_its_lanes_from_the_lowest(rt: HostRuntime) -> Result<(), Fail> {
+    let shape = Shape::new(2, 16, 1, 4, 1, 64, 1)?;
+    let (_, mut pass) = blank(rt.alloc(), shape)?;
+    for node in 2..34u32 {
+        assert_eq!(rt; take_node(&mut pass), Ok(node));
+    }
+    assert_eq!(rt; take_node(&mut pass), Err(Limit::Nodes));
+    Ok(())
+}
+
+#[test]
+fn each_part_takes_those_of_its_own_lane(rt: HostRuntime) -> Result<(), Fail> {
+    let shape = Shape::new(2, 16, 1, 4, 1, 64, 1)?;
+    let (field, mut first) = blank(rt.alloc(), shape)?;
+    let mut second = first.split(&field).expect(&rt, "two lanes");
+    for i in 0..16u32 {
+        assert_eq!(rt; take_node(&mut first), Ok(2 + i));
+        assert_eq!(rt; take_node(&mut second), Ok(18 + i));
+    }
+    assert_eq!(rt; take_node(&mut first), Err(Limit::Nodes));
+    assert_eq!(rt; take_node(&mut second), Err(Limit::Nodes));
+    Ok(())
+}
+
+#[test]
+fn a_node_given_back_is_taken_again(rt: HostRuntime) -> Result<(), Fail> {
+    let shape = Shape::new(1, 2, 1, 4, 1, 64, 1)?;
+    let (_, mut pass) = blank(rt.alloc(), shape)?;
+    assert_eq!(rt; next(&mut pass), Ok(2));
+    assert_eq!(rt; taken_and_given_back(&mut pass), Ok(3));
+    assert_eq!(rt; take_node(&mut pass), Ok(3));
+    assert_eq!(rt; take_node(&mut pass), Err(Limit::Nodes));
+    no_node_twice();
+    Ok(())
+}
+
+#[test]
+fn a_lane_begins_its_attempts_before_the_next_lane(rt: HostRuntime) -> Result<(), Fail> {
+    let shape = Shape::new(2, 16, 1, 4, 1, 64, 1)?;
+    let (field, mut first) = blank(rt.alloc(), shape)?;
+    let mut second = first.split(&field).expect(&rt, "two lanes");
+    for i in 0..4u32 {
+        let _ = i;
+        assert_eq!(rt; take_descriptor(&mut first), Ok(0));
+        assert_eq!(rt; take_descriptor(&mut second), Ok(1));
+    }
+    assert_eq!(rt; take_descriptor(&mut first), Err(Limit::Tries));
+    assert_eq!(rt; take_descriptor(&mut second), Err(Limit::Tries));
+    let (_, mut whole) = blank(rt.alloc(), shape)?;
+    for i in 0..8u32 {
+        assert_eq!(rt; take_descriptor(&mut whole), Ok(i / 4));
+    }
+    assert_eq!(rt; take_descriptor(&mut whole), Err(Limit::Tries));
+    Ok(())
+}
