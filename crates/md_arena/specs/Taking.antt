@@ -8,10 +8,12 @@ use Rattle.md_arena.specs.Left.{HasNodeLeft, HasTryLeft, IsLeft, IsLowest, next_
 
 -- the pass with so many nodes of a lane taken, or with so many of its attempts begun
 abbrev pub with_nodes : PassState → (lane taken : ℕ) → PassState
-with_nodes p lane taken = record p { shares = with_share p.shares lane (record (share_at p.shares lane) { nodes_taken = taken }) }
+with_nodes p lane taken =
+    record p { shares = with_share p.shares lane (record (share_at p.shares lane) { nodes_taken = taken }) }
 
 abbrev pub with_tries : PassState → (lane taken : ℕ) → PassState
-with_tries p lane taken = record p { shares = with_share p.shares lane (record (share_at p.shares lane) { tries_taken = taken }) }
+with_tries p lane taken =
+    record p { shares = with_share p.shares lane (record (share_at p.shares lane) { tries_taken = taken }) }
 
 -- the lowest lane that has a node left gives its next one
 pub record TakesNode (p : PassState) (node : ℕ) (q : PassState) : Type 0 where

@@ -30,10 +30,12 @@ Course p (c ∷ cs) r = (q : PassState) × Calls p c q × Course q cs r
 
 -- a pass that took a node takes another one the next time, unless it gave that one back
 abbrev pub NoNodeTwice : Type 0
-NoNodeTwice = (p q r s : PassState) (node again : ℕ) (calls : List Call) → TakesNode p node q → Course q calls r → ¬ Contains calls (gives node)
-    → TakesNode r again s → node ≢ again
+NoNodeTwice = (p q r s : PassState) (node again : ℕ) (calls : List Call) → TakesNode p node q
+    → Course q calls r → ¬ Contains calls (gives node) → TakesNode r again s → node ≢ again
 
 -- and two passes of a machine take no node both
 abbrev pub NoNodeOfTwo : Type 0
-NoNodeOfTwo = (m : Machine) → LanesApart (shape_of m) m.passes → (pass other : ℕ) (p q : PassState) → IsAt m pass p.view → IsAt m other q.view
-    → (p.shape ≡ shape_of m) → (q.shape ≡ shape_of m) → (p' q' : PassState) (node : ℕ) → TakesNode p node p' → TakesNode q node q' → pass ≡ other
+NoNodeOfTwo = (m : Machine) → LanesApart (shape_of m) m.passes → (pass other : ℕ) (p q : PassState)
+    → IsAt m pass p.view → IsAt m other q.view
+    → (p.shape ≡ shape_of m) → (q.shape ≡ shape_of m) → (p' q' : PassState) (node : ℕ)
+    → TakesNode p node p' → TakesNode q node q' → pass ≡ other
