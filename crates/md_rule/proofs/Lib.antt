@@ -5,3 +5,4 @@ pub mod Moves
 pub mod Events
 pub mod Closes
 pub mod Told
+pub mod Fronts
