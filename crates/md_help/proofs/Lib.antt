@@ -1,0 +1,6 @@
+pub mod Steps
+pub mod Reading
+pub mod Numbers
+pub mod Deciding
+pub mod Ends
+pub mod Taking

@@ -1,0 +1,79 @@
+use Rattle.std.proofs.Common.{◌≡◌, ◌≤◌, [], ◌∷◌, le_refl, true, refl, sym, ap, subst, ◌∙◌, inl, inr, arith}
+use Rattle.md_words.specs.declared.status.StatusWord.{StatusWord}
+use Rattle.md_words.specs.declared.status.Status.TheVariants.{Aborted as IsAborted}
+use Rattle.md_words.specs.Layout.{address}
+use Rattle.md_words.specs.Place.{desc_status}
+use Rattle.md_machine.specs.declared.step.Kind.TheVariants.{Abort}
+use Rattle.md_machine.specs.Event.{abort}
+use Rattle.md_machine.specs.events.Decide.{decided_word}
+use Rattle.md_help.specs.Settles.{MetStatus}
+use Rattle.md_help.proofs.Deciding.{abort_lost, abort_won, lost_ready, may_abort, met_made, newer_came, newer_few, reached_after}
+use Rattle.md_help.proofs.Ends.{settled_aborted, settled_more, settled_newer}
+use Rattle.md_help.proofs.Reading.{validated_none}
+use Rattle.md_help.proofs.Steps.{stands_made}
+use Rattle.md_help.proofs.settling.abort_unready.Goals as goal
+
+pub abort-requires-clause-may : goal.abort-requires-clause-may
+abort-requires-clause-may g c =
+    may_abort g.T.Theory.meaning c.args.field.now.origin c.args.pass.now.view c.args.desc c.args.status (record { exists = c.requires.exists; reached = c.requires.reached; undecided = inl c.requires.unready })
+
+pub settle_newer-requires-clause-stands : goal.settle_newer-requires-clause-stands
+settle_newer-requires-clause-stands g c =
+    let M = g.T.Theory.meaning in
+    let o = c.args.field.now.origin in
+    let p = c.args.pass.now.view in
+    let q = c.abort.new.self.view in
+    let step = c.in-Err.ensures.step in
+    stands_made M o (λ pass. abort pass c.args.desc c.args.status) Abort (address o.shape (desc_status c.args.desc)) c.in-Err.newer c.in-Err.newer p q step.1.0 (abort_lost M o c.args.desc c.args.status c.in-Err.newer p q step.0 step.1)
+
+pub settle_newer-requires-clause-reached : goal.settle_newer-requires-clause-reached
+settle_newer-requires-clause-reached g c =
+    let o = c.args.field.now.origin in
+    let p = c.args.pass.now.view in
+    let q = c.abort.new.self.view in
+    let step = c.in-Err.ensures.step in
+    let m = abort_lost g.T.Theory.meaning o c.args.desc c.args.status c.in-Err.newer p q step.0 step.1 in
+    reached_after o.shape (m.step ∷ []) p q c.args.desc m.goes c.requires.reached
+
+pub settle_newer-requires-clause-met : goal.settle_newer-requires-clause-met
+settle_newer-requires-clause-met g c =
+    let o = c.args.field.now.origin in
+    let p = c.args.pass.now.view in
+    let q = c.abort.new.self.view in
+    let step = c.in-Err.ensures.step in
+    met_made o.shape c.args.desc c.in-Err.newer c.in-Err.newer Abort p q refl (abort_lost g.T.Theory.meaning o c.args.desc c.args.status c.in-Err.newer p q step.0 step.1)
+
+pub settle_newer-requires-clause-few : goal.settle_newer-requires-clause-few
+settle_newer-requires-clause-few g c =
+    newer_few g.T.Theory.meaning c.args.field.now.origin (λ pass. abort pass c.args.desc c.args.status) c.args.pass.now.view c.abort.new.self.view c.args.desc c.in-Err.newer c.requires.exists c.in-Err.ensures.step.1
+
+pub settle_newer-requires-clause-ready : goal.settle_newer-requires-clause-ready
+settle_newer-requires-clause-ready g c =
+    let step = c.in-Err.ensures.step in
+    lost_ready c.args.status c.in-Err.newer
+        (newer_came g.T.Theory.meaning c.args.field.now.origin (λ pass. abort pass c.args.desc c.args.status) c.args.pass.now.view c.abort.new.self.view c.args.desc c.args.status c.in-Err.newer c.requires.exists c.requires.met step.1)
+        c.requires.unready step.0
+
+pub returns-in-Ok-clause-stands : goal.returns-in-Ok-clause-stands
+returns-in-Ok-clause-stands g c =
+    let M = g.T.Theory.meaning in
+    let o = c.args.field.now.origin in
+    let p = c.args.pass.now.view in
+    let q = c.abort.new.self.view in
+    stands_made M o (λ pass. abort pass c.args.desc c.args.status) Abort (address o.shape (desc_status c.args.desc)) c.args.status (decided_word IsAborted c.args.status) p q c.in-Ok.ensures.step.0 (abort_won M o c.args.desc c.args.status p q c.in-Ok.ensures.step)
+
+pub returns-in-Ok-clause-settled : goal.returns-in-Ok-clause-settled
+returns-in-Ok-clause-settled g c =
+    let o = c.args.field.now.origin in
+    let p = c.args.pass.now.view in
+    let q = c.abort.new.self.view in
+    let m = abort_won g.T.Theory.meaning o c.args.desc c.args.status p q c.in-Ok.ensures.step in
+    settled_aborted o.shape c.args.desc c.args.status 0 2 true Abort c.args.status (decided_word IsAborted c.args.status) p p q (validated_none o.shape c.args.desc p) m refl (omega arith) (omega arith) refl refl (inl c.requires.unready)
+
+pub returns-in-Err-clause-settled : goal.returns-in-Err-clause-settled
+returns-in-Err-clause-settled g c =
+    let o = c.args.field.now.origin in
+    let p = c.args.pass.now.view in
+    let q = c.abort.new.self.view in
+    let step = c.in-Err.ensures.step in
+    settled_newer o.shape c.args.desc c.args.status c.in-Err.newer p q c.settle_newer.new.pass.view (abort_lost g.T.Theory.meaning o c.args.desc c.args.status c.in-Err.newer p q step.0 step.1) c.settle_newer.result c.settle_newer.ensures.settled

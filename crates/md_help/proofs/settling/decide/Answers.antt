@@ -1,0 +1,133 @@
+use Rattle.std.proofs.Common.{◌≡◌, ◌≤◌, [], ◌∷◌, le_refl, true, false, refl, sym, ap, subst, ◌∙◌, inl, inr, arith}
+use Rattle.md_words.specs.declared.status.StatusWord.{StatusWord}
+use Rattle.md_words.specs.declared.status.Status.TheVariants.{Committed as IsCommitted, Aborted as IsAborted}
+use Rattle.md_words.specs.Layout.{address}
+use Rattle.md_words.specs.Place.{desc_status}
+use Rattle.md_machine.specs.declared.step.Kind.TheVariants.{Abort, Commit}
+use Rattle.md_machine.specs.Event.{abort, commit}
+use Rattle.md_machine.specs.events.Decide.{decided_word}
+use Rattle.md_help.specs.Reads.{Validated}
+use Rattle.md_help.proofs.Deciding.{abort_lost, abort_won, commit_lost, commit_won, lost_decided, may_abort, may_commit, may_commit_by, met_after, moved_by, newer_came, reached_after, validated_at}
+use Rattle.md_help.proofs.Ends.{moved_read, settled_aborted, settled_committed, settled_lost}
+use Rattle.md_help.proofs.Steps.{stands_made}
+use Rattle.md_help.proofs.settling.decide.Goals as goal
+
+pub commit-requires-clause-may : goal.commit-requires-clause-may
+commit-requires-clause-may g c =
+    let o = c.args.field.now.origin in
+    let p = c.args.pass.now.view in
+    let q = c.validate.new.pass.view in
+    let v = validated_at o.shape c.args.desc c.of.result c.args.status c.validate.result true p q c.of.ensures.parts c.if-validate.true c.validate.ensures.validated in
+    may_commit g.T.Theory.meaning o q c.args.desc c.args.status (may_commit_by o.shape p q c.args.desc c.args.status c.requires.exists c.requires.in_progress c.requires.met v)
+
+pub end_of-requires : goal.end_of-requires
+end_of-requires g c =
+    let o = c.args.field.now.origin in
+    let p = c.args.pass.now.view in
+    let q = c.validate.new.pass.view in
+    let v = c.validate.ensures.validated in
+    let step = c.in-Err.ensures.step in
+    lost_decided c.args.status c.in-Err.newer
+        (newer_came g.T.Theory.meaning o (λ pass. commit pass c.args.desc c.args.status) q c.commit.new.self.view c.args.desc c.args.status c.in-Err.newer c.requires.exists (met_after o.shape v.steps p q c.args.desc c.args.status v.goes c.requires.met) step.1)
+        c.requires.in_progress step.0
+
+pub returns-in-Ok-clause-stands : goal.returns-in-Ok-clause-stands
+returns-in-Ok-clause-stands g c =
+    let M = g.T.Theory.meaning in
+    let o = c.args.field.now.origin in
+    let q = c.validate.new.pass.view in
+    let r = c.commit.new.self.view in
+    let m = commit_won M o c.args.desc c.args.status q r c.in-Ok.ensures.step in
+    stands_made M o (λ pass. commit pass c.args.desc c.args.status) Commit (address o.shape (desc_status c.args.desc)) c.args.status (decided_word IsCommitted c.args.status) q r c.in-Ok.ensures.step.0 m
+
+pub returns-in-Ok-clause-settled : goal.returns-in-Ok-clause-settled
+returns-in-Ok-clause-settled g c =
+    let o = c.args.field.now.origin in
+    let p = c.args.pass.now.view in
+    let q = c.validate.new.pass.view in
+    let r = c.commit.new.self.view in
+    let v = validated_at o.shape c.args.desc c.of.result c.args.status c.validate.result true p q c.of.ensures.parts c.if-validate.true c.validate.ensures.validated in
+    settled_committed o.shape c.args.desc c.args.status _ 1 true Commit c.args.status (decided_word IsCommitted c.args.status) p q r v (commit_won g.T.Theory.meaning o c.args.desc c.args.status q r c.in-Ok.ensures.step) refl (le_refl _) (le_refl 1) refl refl
+
+pub returns-in-Err-clause-stands : goal.returns-in-Err-clause-stands
+returns-in-Err-clause-stands g c =
+    let M = g.T.Theory.meaning in
+    let o = c.args.field.now.origin in
+    let q = c.validate.new.pass.view in
+    let r = c.commit.new.self.view in
+    let step = c.in-Err.ensures.step in
+    let m = commit_lost M o c.args.desc c.args.status c.in-Err.newer q r step.0 step.1 in
+    stands_made M o (λ pass. commit pass c.args.desc c.args.status) Commit (address o.shape (desc_status c.args.desc)) c.in-Err.newer c.in-Err.newer q r step.1.0 m
+
+pub returns-in-Err-clause-settled : goal.returns-in-Err-clause-settled
+returns-in-Err-clause-settled g c =
+    let o = c.args.field.now.origin in
+    let p = c.args.pass.now.view in
+    let q = c.validate.new.pass.view in
+    let r = c.commit.new.self.view in
+    let step = c.in-Err.ensures.step in
+    let v = validated_at o.shape c.args.desc c.of.result c.args.status c.validate.result true p q c.of.ensures.parts c.if-validate.true c.validate.ensures.validated in
+    settled_lost o.shape c.args.desc c.args.status _ 1 true Commit c.in-Err.newer c.in-Err.newer p q r v (commit_lost g.T.Theory.meaning o c.args.desc c.args.status c.in-Err.newer q r step.0 step.1) refl (le_refl _) (le_refl 1) c.end_of.result c.end_of.ensures
+
+pub abort-requires-clause-may : goal.abort-requires-clause-may
+abort-requires-clause-may g c =
+    let o = c.args.field.now.origin in
+    let p = c.args.pass.now.view in
+    let q = c.validate.new.pass.view in
+    let v = validated_at o.shape c.args.desc c.of.result c.args.status c.validate.result false p q c.of.ensures.parts c.if-validate.false c.validate.ensures.validated in
+    may_abort g.T.Theory.meaning o q c.args.desc c.args.status (record {
+      exists = c.requires.exists;
+      reached = reached_after o.shape v.steps p q c.args.desc v.goes c.requires.reached;
+      undecided = inr (moved_by o.shape p q c.args.desc c.args.status c.requires.in_progress c.requires.met v);
+    })
+
+pub end_of-requires-in-Err-abort : goal.end_of-requires-in-Err-abort
+end_of-requires-in-Err-abort g c =
+    let o = c.args.field.now.origin in
+    let p = c.args.pass.now.view in
+    let q = c.validate.new.pass.view in
+    let v = c.validate.ensures.validated in
+    let step = c.in-Err-abort.ensures.step in
+    lost_decided c.args.status c.in-Err-abort.newer
+        (newer_came g.T.Theory.meaning o (λ pass. abort pass c.args.desc c.args.status) q c.abort.new.self.view c.args.desc c.args.status c.in-Err-abort.newer c.requires.exists (met_after o.shape v.steps p q c.args.desc c.args.status v.goes c.requires.met) step.1)
+        c.requires.in_progress step.0
+
+pub returns-in-Ok-abort-clause-stands : goal.returns-in-Ok-abort-clause-stands
+returns-in-Ok-abort-clause-stands g c =
+    let M = g.T.Theory.meaning in
+    let o = c.args.field.now.origin in
+    let q = c.validate.new.pass.view in
+    let r = c.abort.new.self.view in
+    let m = abort_won M o c.args.desc c.args.status q r c.in-Ok-abort.ensures.step in
+    stands_made M o (λ pass. abort pass c.args.desc c.args.status) Abort (address o.shape (desc_status c.args.desc)) c.args.status (decided_word IsAborted c.args.status) q r c.in-Ok-abort.ensures.step.0 m
+
+pub returns-in-Ok-abort-clause-settled : goal.returns-in-Ok-abort-clause-settled
+returns-in-Ok-abort-clause-settled g c =
+    let o = c.args.field.now.origin in
+    let p = c.args.pass.now.view in
+    let q = c.validate.new.pass.view in
+    let r = c.abort.new.self.view in
+    let v = validated_at o.shape c.args.desc c.of.result c.args.status c.validate.result false p q c.of.ensures.parts c.if-validate.false c.validate.ensures.validated in
+    let m = abort_won g.T.Theory.meaning o c.args.desc c.args.status q r c.in-Ok-abort.ensures.step in
+    settled_aborted o.shape c.args.desc c.args.status _ 1 false Abort c.args.status (decided_word IsAborted c.args.status) p q r v m refl (le_refl _) (le_refl 1) refl refl
+        (inr (moved_read o.shape c.args.desc c.args.status p q v (m.step ∷ []) c.requires.in_progress))
+
+pub returns-in-Err-abort-clause-stands : goal.returns-in-Err-abort-clause-stands
+returns-in-Err-abort-clause-stands g c =
+    let M = g.T.Theory.meaning in
+    let o = c.args.field.now.origin in
+    let q = c.validate.new.pass.view in
+    let r = c.abort.new.self.view in
+    let step = c.in-Err-abort.ensures.step in
+    let m = abort_lost M o c.args.desc c.args.status c.in-Err-abort.newer q r step.0 step.1 in
+    stands_made M o (λ pass. abort pass c.args.desc c.args.status) Abort (address o.shape (desc_status c.args.desc)) c.in-Err-abort.newer c.in-Err-abort.newer q r step.1.0 m
+
+pub returns-in-Err-abort-clause-settled : goal.returns-in-Err-abort-clause-settled
+returns-in-Err-abort-clause-settled g c =
+    let o = c.args.field.now.origin in
+    let p = c.args.pass.now.view in
+    let q = c.validate.new.pass.view in
+    let r = c.abort.new.self.view in
+    let step = c.in-Err-abort.ensures.step in
+    let v = validated_at o.shape c.args.desc c.of.result c.args.status c.validate.result false p q c.of.ensures.parts c.if-validate.false c.validate.ensures.validated in
+    settled_lost o.shape c.args.desc c.args.status _ 1 false Abort c.in-Err-abort.newer c.in-Err-abort.newer p q r v (abort_lost g.T.Theory.meaning o c.args.desc c.args.status c.in-Err-abort.newer q r step.0 step.1) refl (le_refl _) (le_refl 1) c.end_of-in-Err-abort.result c.end_of-in-Err-abort.ensures

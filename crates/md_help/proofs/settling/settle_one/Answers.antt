@@ -1,0 +1,66 @@
+use Rattle.std.proofs.Common.{◌≡◌, [], ◌∷◌, refl, ap, subst, ◌∙◌}
+use Rattle.md_words.specs.Layout.{address}
+use Rattle.md_words.specs.Place.{desc_status}
+use Rattle.md_machine.specs.declared.step.Kind.TheVariants.{Load}
+use Rattle.md_machine.specs.Event.{load}
+use Rattle.md_rule.specs.Steps.{SteppedFrom}
+use Rattle.md_help.proofs.Deciding.{met_made, newer_few, reached_after}
+use Rattle.md_help.proofs.Steps.{both_after, load_finds, made_load, stands_made}
+use Rattle.md_help.proofs.settling.settle_one.Goals as goal
+
+pub settle-requires-clause-stands : goal.settle-requires-clause-stands
+settle-requires-clause-stands g c =
+    let M = g.T.Theory.meaning in
+    let o = c.args.field.now.origin in
+    let p = c.args.pass.now.view in
+    let q = c.load-status.new.self.view in
+    let step = c.load-status.ensures.step in
+    stands_made M o (λ pass. load pass c.status.result) Load c.status.result c.load-status.result c.load-status.result p q step.0 (made_load M o c.status.result c.load-status.result p q step)
+
+pub settle-requires-clause-reached : goal.settle-requires-clause-reached
+settle-requires-clause-reached g c =
+    let o = c.args.field.now.origin in
+    let p = c.args.pass.now.view in
+    let q = c.load-status.new.self.view in
+    let m = made_load g.T.Theory.meaning o c.status.result c.load-status.result p q c.load-status.ensures.step in
+    reached_after o.shape (m.step ∷ []) p q c.args.desc m.goes c.requires.reached
+
+pub settle-requires-clause-met : goal.settle-requires-clause-met
+settle-requires-clause-met g c =
+    let M = g.T.Theory.meaning in
+    let o = c.args.field.now.origin in
+    let p = c.args.pass.now.view in
+    let q = c.load-status.new.self.view in
+    let at = c.status.ensures.place ∙ ap (λ s. address s (desc_status c.args.desc)) c.shape.ensures in
+    let step = subst (λ w. SteppedFrom M o (λ pass. load pass w) w c.load-status.result p q) at c.load-status.ensures.step in
+    met_made o.shape c.args.desc c.load-status.result c.load-status.result Load p q refl (made_load M o _ c.load-status.result p q step)
+
+pub settle-requires-clause-few : goal.settle-requires-clause-few
+settle-requires-clause-few g c =
+    let M = g.T.Theory.meaning in
+    let o = c.args.field.now.origin in
+    let p = c.args.pass.now.view in
+    let q = c.load-status.new.self.view in
+    let at = c.status.ensures.place ∙ ap (λ s. address s (desc_status c.args.desc)) c.shape.ensures in
+    let step = subst (λ w. SteppedFrom M o (λ pass. load pass w) w c.load-status.result p q) at c.load-status.ensures.step in
+    newer_few M o (λ pass. load pass (address o.shape (desc_status c.args.desc))) p q c.args.desc c.load-status.result c.requires.exists step
+
+pub returns-clause-settles : goal.returns-clause-settles
+returns-clause-settles g c =
+    let M = g.T.Theory.meaning in
+    let o = c.args.field.now.origin in
+    let p = c.args.pass.now.view in
+    let q = c.load-status.new.self.view in
+    let at = c.status.ensures.place ∙ ap (λ s. address s (desc_status c.args.desc)) c.shape.ensures in
+    let step = subst (λ w. SteppedFrom M o (λ pass. load pass w) w c.load-status.result p q) at c.load-status.ensures.step in
+    let m = made_load M o (address o.shape (desc_status c.args.desc)) c.load-status.result p q step in
+    let s = c.settle.ensures.settled in record {
+      status = c.load-status.result;
+      ask = m.step;
+      steps = s.steps;
+      goes = both_after o.shape (m.step ∷ []) s.steps p q c.settle.new.pass.view m.goes s.goes;
+      asks = load_finds o.shape (address o.shape (desc_status c.args.desc)) c.load-status.result c.load-status.result p q m;
+      few = s.few;
+      changes = s.changes;
+      ends = s.ends;
+    }

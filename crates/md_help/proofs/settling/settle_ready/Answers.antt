@@ -1,0 +1,16 @@
+use Rattle.std.proofs.Common.{◌≡◌, refl, sym, ap, ◌∙◌}
+use Rattle.md_words.specs.declared.status.StatusWord.{StatusWord}
+use Rattle.md_help.specs.declared.settling.End.TheVariants.{Committed, Aborted}
+use Rattle.md_help.proofs.Ends.{is_aborted, settled_already}
+use Rattle.md_help.proofs.settling.settle_ready.Goals as goal
+
+pub returns-in-Committed-clause-settled : goal.returns-in-Committed-clause-settled
+returns-in-Committed-clause-settled g c =
+    let is = ap (λ (w : StatusWord). w.status) c.of.ensures.parts in
+    settled_already c.args.field.now.origin.shape c.args.desc c.args.status Committed c.args.pass.now.view (refl, sym is ∙ c.in-Committed.is)
+
+pub returns-in_default-clause-settled : goal.returns-in_default-clause-settled
+returns-in_default-clause-settled g c =
+    let is = ap (λ (w : StatusWord). w.status) c.of.ensures.parts in
+    settled_already c.args.field.now.origin.shape c.args.desc c.args.status Aborted c.args.pass.now.view
+        (refl, is_aborted _ c.requires.ready (λ e. c.in_default.not-InProg (is ∙ e)) (λ e. c.in_default.not-Committed (is ∙ e)))

@@ -1,0 +1,35 @@
+-- A pass after more steps.
+use Rattle.std.specs.Prelude.{◌≡◌, ◌<◌, ℕ, List, [], ◌∷◌, ◌++◌}
+use Rattle.md_words.specs.declared.shape.Shape.{Shape}
+use Rattle.md_history.specs.declared.entries.Fate.{Fate}
+use Rattle.md_machine.specs.declared.attempt.HistoryEntry.{HistoryEntry}
+use Rattle.md_machine.specs.declared.node.PlacedNode.{PlacedNode}
+use Rattle.md_machine.specs.declared.pass.PassView.{PassView}
+use Rattle.md_machine.specs.declared.step.Step.{Step}
+use Rattle.md_machine.specs.Event.{Acts}
+use Rattle.md_machine.specs.Machine.{Machine}
+use Rattle.md_machine.specs.Meaning.{Meaning}
+use Rattle.md_machine.specs.Stepping.{known_after}
+use Rattle.md_rule.specs.Admitted.{Admitted}
+use Rattle.md_rule.specs.Views.{Origin}
+
+-- the fates that are known after steps
+abbrev pub known_over : Shape → List HistoryEntry → List Step → List Fate → List Fate
+known_over shape seen [] known = known
+known_over shape seen (s ∷ steps) known = known_over shape seen steps (known_after shape seen s known)
+
+-- a pass made these steps, and nothing else of it changed: they stand last in its trail, it knows the fates that they
+-- told, and it noted nodes
+abbrev pub IsAfter : Shape → List Step → (before after : PassView) → Type 0
+IsAfter shape steps before after = (noted : List PlacedNode) × (after ≡ record before {
+  trail = before.trail ++ steps;
+  known = known_over shape before.seen steps before.known;
+  placed = before.placed ++ noted;
+})
+
+-- a pass stands so in some machine of the field
+pub record Stands (M : Meaning) (o : Origin) (view : PassView) : Type 0 where
+  pub machine : Machine
+  pub admitted : Admitted M o machine
+  pub pass : ℕ
+  pub acts : Acts machine pass view

@@ -1,0 +1,133 @@
+-- How a descriptor is cleared out of a word.
+use Rattle.std.specs.Prelude.{◌≡◌, ◌≢◌, ◌+◌, ◌<◌, ℕ, List, [], ◌∷◌, ◌++◌, All, ◌⊎◌}
+use Rattle.md_words.specs.declared.shape.Shape.{Shape}
+use Rattle.md_words.specs.declared.status.Status.{Status}
+use Rattle.md_words.specs.declared.status.Status.TheVariants.{Committed as IsCommitted, Aborted as IsAborted}
+use Rattle.md_words.specs.Content.{spot_of, value_of}
+use Rattle.md_words.specs.Layout.{address}
+use Rattle.md_words.specs.Place.{desc_status}
+use Rattle.md_words.specs.Status.{serial_of, status_of}
+use Rattle.md_machine.specs.declared.pass.PassView.{PassView}
+use Rattle.md_machine.specs.declared.step.Step.{Step}
+use Rattle.md_machine.specs.declared.step.Kind.TheVariants.{Uninstall}
+use Rattle.md_machine.specs.Trail.{Finds, Loads, Meets, SomeStep}
+use Rattle.md_machine.specs.events.Uninstall.{IsDecided, desc_in, slot_by_fate, status_of_desc, uninstalled_word, value_by_fate}
+use Rattle.md_help.specs.declared.settling.End.{End}
+use Rattle.md_help.specs.declared.settling.End.TheVariants.{Committed, Aborted, Gone}
+use Rattle.md_help.specs.declared.clearing.Cleared.{Cleared}
+use Rattle.md_help.specs.After.{IsAfter}
+use Rattle.md_help.specs.Settles.{AreFew, Decides, Ends, FindsOther}
+
+-- a pass settled an attempt of a descriptor: the first step asked for its status, and the later ones settled what it found
+pub record SettlesOne (shape : Shape) (desc : ℕ) (end : End) (before after : PassView) : Type 0 where
+  pub status : ℕ
+  pub ask : Step
+  pub steps : List Step
+  pub goes : IsAfter shape (ask ∷ steps) before after
+  pub asks : Loads (address shape (desc_status desc)) status ask
+  pub few : AreFew shape desc status 2 steps
+  pub changes : All (Decides shape desc) steps
+  pub ends : Ends shape desc status steps end
+
+-- what a pass saw in this order: the content in the word, the status of the descriptor there, the content again
+pub record SawTwice (shape : Shape) (view : PassView) (word from status : ℕ) : Type 0 where
+  pub earlier : List Step
+  pub found : Step
+  pub first : List Step
+  pub ask : Step
+  pub look : Step
+  pub trail : view.trail ≡ earlier ++ found ∷ (first ++ ask ∷ look ∷ [])
+  pub finds : Finds word from found
+  pub asks : Loads (status_of_desc shape from) status ask
+  pub looks : Loads word from look
+
+-- and then a decided status of the same serial
+pub record SawDecided (shape : Shape) (view : PassView) (word from : ℕ) (fate : Status) : Type 0 where
+  pub earlier : List Step
+  pub found : Step
+  pub first : List Step
+  pub again : Step
+  pub second : List Step
+  pub trail : view.trail ≡ earlier ++ found ∷ (first ++ again ∷ second)
+  pub finds : Finds word from found
+  pub finds_again : Finds word from again
+  pub status : ℕ
+  pub fate_is : status_of status ≡ fate
+  pub asked : SomeStep (λ s. (held : ℕ) × Finds (status_of_desc shape from) held s × (serial_of held ≡ serial_of status)) first
+  pub decided : SomeStep (Meets (status_of_desc shape from) status) (first ++ again ∷ second)
+
+-- the status of an attempt that ended so
+abbrev pub fate_of : End → Status
+fate_of Committed = IsCommitted
+fate_of _ = IsAborted
+
+-- a step takes the content out of the word by an uninstall that leaves this value, or finds another content there
+pub record TakesOut (word from value left : ℕ) (s : Step) : Type 0 where
+  pub kind : s.kind ≡ Uninstall
+  pub there : s.word ≡ word
+  pub leaves : s.after ≡ left
+  pub won : ((s.before ≡ from) × (left ≡ uninstalled_word from value)) ⊎ ((s.before ≢ from) × (left ≡ s.before))
+
+-- two steps took the content out: one loaded the slot's word that the fate takes the value from
+pub record TakenOut (shape : Shape) (word from : ℕ) (fate : Status) (left : ℕ) (before after : PassView) : Type 0 where
+  pub slot : Step
+  pub take : Step
+  pub goes : IsAfter shape (slot ∷ take ∷ []) before after
+  pub held : ℕ
+  pub loads : Loads (address shape (slot_by_fate fate (spot_of (value_of from)))) held slot
+  pub takes : TakesOut word from (value_by_fate fate held) left take
+  pub empty : left ≢ from
+
+-- the word of a slot was loaded, and the fate's value taken from it
+pub record SlotLoaded (shape : Shape) (from : ℕ) (fate : Status) (value : ℕ) (before after : PassView) : Type 0 where
+  pub slot : Step
+  pub goes : IsAfter shape (slot ∷ []) before after
+  pub held : ℕ
+  pub loads : Loads (address shape (slot_by_fate fate (spot_of (value_of from)))) held slot
+  pub is : value_by_fate fate held ≡ value
+
+-- how the later steps of a clearing end. Gone: they found a later attempt's status, and the last one looked at the word.
+-- Else they settled the attempt, and the last two took it out of the word
+pub record GoneLater (shape : Shape) (word from status left : ℕ) (steps : List Step) : Type 0 where
+  pub settling : List Step
+  pub last : Step
+  pub order : steps ≡ settling ++ last ∷ []
+  pub changes : All (Decides shape (desc_in from)) settling
+  pub other : FindsOther shape (desc_in from) status settling
+  pub looks : Loads word left last
+
+pub record TakenLater (shape : Shape) (word from status : ℕ) (end : End) (left : ℕ) (steps : List Step) : Type 0 where
+  pub settling : List Step
+  pub slot : Step
+  pub take : Step
+  pub order : steps ≡ settling ++ slot ∷ take ∷ []
+  pub changes : All (Decides shape (desc_in from)) settling
+  pub ends : Ends shape (desc_in from) status settling end
+  pub held : ℕ
+  pub loads : Loads (address shape (slot_by_fate (fate_of end) (spot_of (value_of from)))) held slot
+  pub takes : TakesOut word from (value_by_fate (fate_of end) held) left take
+
+abbrev pub EndsLater : Shape → (word from status : ℕ) → End → (left : ℕ) → List Step → Type 0
+EndsLater shape word from status Gone left steps = GoneLater shape word from status left steps
+EndsLater shape word from status end left steps = TakenLater shape word from status end left steps
+
+-- a clearing went on after it had seen the content twice
+pub record Finishes (shape : Shape) (word from status : ℕ) (c : Cleared) (before after : PassView) : Type 0 where
+  pub steps : List Step
+  pub goes : IsAfter shape steps before after
+  pub few : AreFew shape (desc_in from) status 4 steps
+  pub empty : c.left ≢ from
+  pub ends : EndsLater shape word from status c.end c.left steps
+
+-- a clearing: the first step asked for the status of the descriptor, the second looked at the word again. Where another
+-- content was there, that was all, and the attempt is gone
+pub record Clears (shape : Shape) (word from : ℕ) (c : Cleared) (before after : PassView) : Type 0 where
+  pub status : ℕ
+  pub ask : Step
+  pub look : Step
+  pub steps : List Step
+  pub goes : IsAfter shape (ask ∷ look ∷ steps) before after
+  pub asks : Loads (status_of_desc shape from) status ask
+  pub few : AreFew shape (desc_in from) status 4 steps
+  pub empty : c.left ≢ from
+  pub ends : (Loads word c.left look × (c.end ≡ Gone) × (steps ≡ [])) ⊎ (Loads word from look × EndsLater shape word from status c.end c.left steps)

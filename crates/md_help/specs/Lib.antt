@@ -1,0 +1,4 @@
+pub mod After
+pub mod Reads
+pub mod Settles
+pub mod Clears

@@ -1,0 +1,97 @@
+-- How an attempt of a descriptor is settled.
+use Rattle.std.specs.Prelude.{◌≡◌, ◌≢◌, ◌+◌, ◌*◌, ◌<◌, ◌≤◌, ℕ, false, List, ◌∷◌, ◌++◌, All, length, ◌⊎◌}
+use Rattle.md_words.specs.declared.shape.Shape.{Shape}
+use Rattle.md_words.specs.declared.status.Status.{Status}
+use Rattle.md_words.specs.declared.status.Status.TheVariants.{InPrep, InProg, Committed as IsCommitted, Aborted as IsAborted}
+use Rattle.md_words.specs.Layout.{address}
+use Rattle.md_words.specs.Place.{desc_status}
+use Rattle.md_words.specs.Status.{reads_of, serial_of, status_of}
+use Rattle.md_machine.specs.declared.pass.PassView.{PassView}
+use Rattle.md_machine.specs.declared.step.Step.{Step}
+use Rattle.md_machine.specs.Own.{HasDesc}
+use Rattle.md_machine.specs.Trail.{Finds, Meets, SomeStep}
+use Rattle.md_machine.specs.events.Decide.{HasMet}
+use Rattle.md_help.specs.declared.settling.End.{End}
+use Rattle.md_help.specs.declared.settling.End.TheVariants.{Committed, Aborted, Gone}
+use Rattle.md_help.specs.After.{IsAfter}
+use Rattle.md_help.specs.Reads.{FindsRead}
+
+-- the descriptor is of one of the pass's lanes, or a step of the pass found it standing in a counted word
+abbrev pub IsReached : Shape → PassView → (desc : ℕ) → Type 0
+IsReached shape view desc = HasDesc shape view desc ⊎ HasMet shape view desc
+
+-- a step of the last segment found or left this status
+pub record MetStatus (shape : Shape) (view : PassView) (desc status : ℕ) : Type 0 where
+  pub earlier : List Step
+  pub step : Step
+  pub later : List Step
+  pub trail : view.trail ≡ earlier ++ step ∷ later
+  pub meets : Meets (address shape (desc_status desc)) status step
+
+-- the status is the first one, or some step met it, or found it
+abbrev pub IsMet : Shape → (desc first held : ℕ) → List Step → Type 0
+IsMet shape desc first held steps = (held ≡ first) ⊎ SomeStep (Meets (address shape (desc_status desc)) held) steps
+
+abbrev pub IsFound : Shape → (desc first held : ℕ) → List Step → Type 0
+IsFound shape desc first held steps = (held ≡ first) ⊎ SomeStep (Finds (address shape (desc_status desc)) held) steps
+
+-- the attempt of the first status was met with this fate, and no step found a later attempt's status
+pub record IsDecidedAs (shape : Shape) (desc first : ℕ) (fate : Status) (steps : List Step) : Type 0 where
+  pub held : ℕ
+  pub serial : serial_of held ≡ serial_of first
+  pub decided : status_of held ≡ fate
+  pub met : IsMet shape desc first held steps
+  pub same : All (λ s. s.word ≡ address shape (desc_status desc) → serial_of s.before ≡ serial_of first) steps
+
+-- after a status in progress was met, the steps found that one of its reads doesn't stand
+pub record FindsMoved (shape : Shape) (desc first held : ℕ) (steps : List Step) : Type 0 where
+  pub in_progress : status_of held ≡ InProg
+  pub before : List Step
+  pub since : List Step
+  pub order : steps ≡ before ++ since
+  pub met : IsFound shape desc first held before
+  pub read : ℕ
+  pub counts : read < reads_of held
+  pub moved : FindsRead shape desc read false since
+
+-- why it is aborted: it was found before it was ready, or aborted, or a read of it was found that doesn't stand
+abbrev pub IsLost : Shape → (desc first : ℕ) → List Step → Type 0
+IsLost shape desc first steps = (held : ℕ) × (serial_of held ≡ serial_of first)
+    × ((IsFound shape desc first held steps × ((status_of held ≡ InPrep) ⊎ (status_of held ≡ IsAborted))) ⊎ FindsMoved shape desc first held steps)
+
+-- a step found a later attempt's status
+abbrev pub FindsOther : Shape → (desc first : ℕ) → List Step → Type 0
+FindsOther shape desc first steps = (held : ℕ) × (serial_of held ≢ serial_of first) × SomeStep (Finds (address shape (desc_status desc)) held) steps
+
+-- what the answer says of the attempt of the first status
+abbrev pub Ends : Shape → (desc first : ℕ) → List Step → End → Type 0
+Ends shape desc first steps Committed = IsDecidedAs shape desc first IsCommitted steps
+Ends shape desc first steps Aborted = IsDecidedAs shape desc first IsAborted steps × IsLost shape desc first steps
+Ends shape desc first steps Gone = FindsOther shape desc first steps
+
+-- so many steps at most: three for each read that some status of the attempt counts, and so many more
+abbrev pub AreFew : Shape → (desc first more : ℕ) → List Step → Type 0
+AreFew shape desc first more steps = (held : ℕ) × (serial_of held ≡ serial_of first) × IsFound shape desc first held steps × (length steps ≤ 3 * reads_of held + more)
+
+-- the step changes nothing, or is on the descriptor's status
+abbrev pub Decides : Shape → (desc : ℕ) → Step → Type 0
+Decides shape desc s = (s.before ≡ s.after) ⊎ (s.word ≡ address shape (desc_status desc))
+
+-- a pass settled the attempt of a status that it had met
+pub record Settled (shape : Shape) (desc first more : ℕ) (end : End) (before after : PassView) : Type 0 where
+  pub steps : List Step
+  pub goes : IsAfter shape steps before after
+  pub few : AreFew shape desc first more steps
+  pub changes : All (Decides shape desc) steps
+  pub ends : Ends shape desc first steps end
+
+-- which end a later status of a descriptor tells
+abbrev pub EndIs : (old new : ℕ) → End → Type 0
+EndIs old new Committed = (serial_of new ≡ serial_of old) × (status_of new ≡ IsCommitted)
+EndIs old new Aborted = (serial_of new ≡ serial_of old) × (status_of new ≡ IsAborted)
+EndIs old new Gone = serial_of new ≢ serial_of old
+
+-- the same from a later status, which may be another attempt's
+abbrev pub SettledNewer : Shape → (desc old new : ℕ) → End → (before after : PassView) → Type 0
+SettledNewer shape desc old new Gone before after = ((serial_of new ≢ serial_of old) × (after ≡ before)) ⊎ ((serial_of new ≡ serial_of old) × Settled shape desc new 1 Gone before after)
+SettledNewer shape desc old new end before after = (serial_of new ≡ serial_of old) × Settled shape desc new 1 end before after
