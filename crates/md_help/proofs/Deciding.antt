@@ -1,5 +1,5 @@
 -- Commits and aborts: when a pass may make them, and what they leave.
-use Rattle.std.proofs.Common.{◌≡◌, ◌≢◌, ◌==◌, ◌<◌, ◌≤◌, ◌⊎◌, ℕ, Bool, true, false, List, [], ◌∷◌, ◌++◌, refl, sym, ap, ◌∙◌, subst, inl, inr, ⊎_elim, arith, eq-eqb, ne_eqb, append_assoc}
+use Rattle.std.proofs.Common.{◌≡◌, ◌≢◌, ◌<◌, ◌≤◌, ℕ, Bool, true, false, List, [], ◌∷◌, ◌++◌, refl, sym, ap, ◌∙◌, subst, inl, inr, ⊎_elim, arith, eq-eqb, ne_eqb, append_assoc}
 use Rattle.std.specs.List.{Contains}
 use Rattle.std.proofs.lemmas.List.Elements.{Contains-append_left, Contains-append_right, Contains-push, Contains-push_cases}
 use Rattle.std.proofs.lemmas.Bool.{false≢true}
@@ -16,15 +16,14 @@ use Rattle.md_machine.specs.declared.pass.PassView.{PassView}
 use Rattle.md_machine.specs.declared.step.Kind.{Kind}
 use Rattle.md_machine.specs.declared.step.Kind.TheVariants.{Abort, Commit}
 use Rattle.md_machine.specs.declared.step.Step.{Step}
-use Rattle.md_machine.specs.Event.{Acts, abort, commit}
+use Rattle.md_machine.specs.Event.{abort, commit}
 use Rattle.md_machine.specs.Machine.{Machine, attempt_of, content, shape_of}
 use Rattle.md_machine.specs.Meaning.{Meaning}
 use Rattle.md_machine.specs.Stepping.{exchanged, stepped}
-use Rattle.md_machine.specs.Trail.{Finds, Loads, Meets, SomeStep, SomeStepOf, is_store, segments}
+use Rattle.md_machine.specs.Trail.{Finds, SomeStepOf, is_store, segments}
 use Rattle.md_machine.specs.clauses.words.Statuses.{AttemptCame, StatusCame, StatusesCame, leads_to}
 use Rattle.md_machine.specs.events.Decide.{FoundMoved, FoundRead, MayAbort, MayCommit, SinceStatus, after_abort, after_commit, decided_word}
 use Rattle.md_machine.specs.events.Uninstall.{IsDecided}
-use Rattle.md_rule.specs.Admitted.{Admitted}
 use Rattle.md_rule.specs.Steps.{EventOf, May, SteppedFrom}
 use Rattle.md_rule.specs.Views.{Origin}
 use Rattle.md_rule.proofs.Moves.{is_kept}
@@ -33,7 +32,7 @@ use Rattle.md_help.specs.After.{IsAfter}
 use Rattle.md_help.specs.Reads.{FindsRead, Validated}
 use Rattle.md_help.specs.Settles.{IsReached, MetStatus}
 use Rattle.md_help.proofs.Numbers.{formats_of}
-use Rattle.md_help.proofs.Reading.{finds_right, some_right}
+use Rattle.md_help.proofs.Reading.{finds_right}
 use Rattle.md_help.proofs.Steps.{Made, made, trail_after}
 
 -- what was met is still met after more steps

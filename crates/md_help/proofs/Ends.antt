@@ -1,5 +1,5 @@
 -- How the settling of an attempt ends, put together from its steps.
-use Rattle.std.proofs.Common.{◌≡◌, ◌≢◌, ◌+◌, ◌*◌, ◌<◌, ◌≤◌, ◌⊎◌, ℕ, Bool, true, false, List, [], ◌∷◌, ◌++◌, All, length, refl, sym, ap, ◌∙◌, subst, inl, inr, ⊎_elim, arith, length-append}
+use Rattle.std.proofs.Common.{◌≡◌, ◌≢◌, ◌≤◌, ◌⊎◌, ℕ, Bool, false, List, [], ◌∷◌, ◌++◌, All, refl, sym, ap, ◌∙◌, subst, inl, inr, ⊎_elim, arith, length-append}
 use Rattle.std.specs.List.{Contains}
 use Rattle.std.proofs.lemmas.List.Elements.{All-append, All-cons, All-nil, All-weaker, Contains-push}
 use Rattle.md_words.specs.declared.shape.Shape.{Shape}
@@ -11,7 +11,7 @@ use Rattle.md_words.specs.Status.{reads_of, serial_of, status_of}
 use Rattle.md_words.proofs.Words.{reads_of_below, serial_of-status_word, status_of-status_word}
 use Rattle.md_machine.specs.declared.pass.PassView.{PassView}
 use Rattle.md_machine.specs.declared.step.Kind.{Kind}
-use Rattle.md_machine.specs.declared.step.Kind.TheVariants.{Abort, Commit}
+use Rattle.md_machine.specs.declared.step.Kind.TheVariants.{Abort}
 use Rattle.md_machine.specs.declared.step.Step.{Step}
 use Rattle.md_machine.specs.Trail.{Finds, Meets, SomeStep, is_store}
 use Rattle.md_machine.specs.events.Decide.{decided_word}
@@ -19,8 +19,8 @@ use Rattle.md_help.specs.declared.settling.End.{End}
 use Rattle.md_help.specs.declared.settling.End.TheVariants.{Committed, Aborted, Gone}
 use Rattle.md_help.specs.After.{IsAfter}
 use Rattle.md_help.specs.Reads.{LooksOn, Validated}
-use Rattle.md_help.specs.Settles.{AreFew, Decides, EndIs, Ends, FindsMoved, FindsOther, IsDecidedAs, IsFound, IsLost, IsMet, Settled, SettledNewer}
-use Rattle.md_help.proofs.Reading.{finds_left, some_left, some_right, validated_none}
+use Rattle.md_help.specs.Settles.{Decides, EndIs, Ends, FindsMoved, IsDecidedAs, IsFound, IsLost, IsMet, Settled, SettledNewer}
+use Rattle.md_help.proofs.Reading.{finds_left, some_right}
 use Rattle.md_help.proofs.Steps.{Made, both_after, none_after}
 
 module _ (shape : Shape) (desc : ℕ) where

@@ -4,3 +4,4 @@ pub mod Numbers
 pub mod Deciding
 pub mod Ends
 pub mod Taking
+pub mod Finishing

@@ -1,6 +1,5 @@
 -- The numbers that a helper loads are in range.
-use Rattle.std.proofs.Common.{◌≡◌, ◌≢◌, ◌<◌, ◌≤◌, ◌^◌, ℕ, true, false, List, slice_index, sym, ap, ◌∙◌, subst, ⊎_elim, arith}
-use Rattle.md_words.specs.declared.limits.TheConstants.{MAX_WORDS}
+use Rattle.std.proofs.Common.{◌≡◌, ◌≢◌, ◌<◌, ◌^◌, ℕ, true, slice_index, sym, ap, ◌∙◌, subst, ⊎_elim, arith}
 use Rattle.md_words.specs.declared.shape.Shape.{Shape}
 use Rattle.md_words.specs.Layout.{Exists, IsInSet, address, desc_count, words_of}
 use Rattle.md_words.specs.Place.{Place, base_word, desc_status, is_counted, read_content, read_word}
@@ -11,7 +10,6 @@ use Rattle.md_machine.specs.declared.pass.PassView.{PassView}
 use Rattle.md_machine.specs.Event.{load}
 use Rattle.md_machine.specs.Machine.{Machine}
 use Rattle.md_machine.specs.Meaning.{Meaning}
-use Rattle.md_machine.specs.Theorem.{IsKept}
 use Rattle.md_machine.specs.clauses.words.Formats.{AreFormats, NamesWord}
 use Rattle.md_rule.specs.Admitted.{Admitted}
 use Rattle.md_rule.specs.Steps.{SteppedFrom}

@@ -1,7 +1,6 @@
 -- What a step leaves of a pass, and how the steps of two calls join.
-use Rattle.std.proofs.Common.{◌≡◌, ◌≢◌, ◌==◌, ◌<◌, ℕ, Bool, true, false, List, [], ◌∷◌, ◌++◌, length, refl, sym, ap, ◌∙◌, subst, arith, eq-eqb, ne_eqb, append_assoc}
+use Rattle.std.proofs.Common.{◌≡◌, ℕ, List, [], ◌∷◌, ◌++◌, refl, sym, ap, ◌∙◌, subst, append_assoc}
 use Rattle.std.proofs.lemmas.List.{append-nil}
-use prog.Atomic.{either}
 use Rattle.md_words.specs.declared.shape.Shape.{Shape}
 use Rattle.md_history.specs.declared.entries.Fate.{Fate}
 use Rattle.md_machine.specs.declared.attempt.HistoryEntry.{HistoryEntry}
@@ -15,8 +14,7 @@ use Rattle.md_machine.specs.Machine.{Machine, content, shape_of}
 use Rattle.md_machine.specs.Meaning.{Meaning}
 use Rattle.md_machine.specs.Resolution.{always_nodes}
 use Rattle.md_machine.specs.Stepping.{known_after, step_of, stepped}
-use Rattle.md_machine.specs.Trail.{Finds, Loads}
-use Rattle.md_rule.specs.Admitted.{Admitted}
+use Rattle.md_machine.specs.Trail.{Loads}
 use Rattle.md_rule.specs.Steps.{EventOf, Stepped, SteppedFrom}
 use Rattle.md_rule.specs.Views.{Origin}
 use Rattle.md_rule.proofs.Moves.{next_admitted}

@@ -1,28 +1,26 @@
 -- Taking a descriptor out of a word.
-use Rattle.std.proofs.Common.{◌≡◌, ◌≢◌, ◌+◌, ◌<◌, ◌≤◌, ◌^◌, ◌⊎◌, ℕ, false, List, [], ◌∷◌, ◌++◌, All, length, slice_index, refl, sym, ap, ◌∙◌, subst, inl, inr, ⊎_elim, arith, append_assoc, length-append}
+use Rattle.std.proofs.Common.{◌≡◌, ◌≢◌, ◌+◌, ◌<◌, ◌≤◌, ◌^◌, ◌⊎◌, ℕ, false, List, [], ◌∷◌, ◌++◌, slice_index, refl, sym, ap, ◌∙◌, subst, inl, inr, ⊎_elim, arith, append_assoc}
 use Rattle.std.specs.List.{Contains}
 use Rattle.std.proofs.lemmas.List.Elements.{Contains-append_left, Contains-append_right, Contains-push}
 use Rattle.md_words.specs.declared.shape.Shape.{Shape}
 use Rattle.md_words.specs.declared.content.Spot.{Spot}
 use Rattle.md_words.specs.declared.status.Status.{Status}
-use Rattle.md_words.specs.declared.status.Status.TheVariants.{Committed as IsCommitted, Aborted as IsAborted}
-use Rattle.md_words.specs.Content.{count_of, counted_word, is_even, spot_of, value_of}
-use Rattle.md_words.specs.Layout.{IsInSet, address, desc_count}
-use Rattle.md_words.specs.Place.{desc_status, slot_new}
+use Rattle.md_words.specs.declared.status.Status.TheVariants.{Aborted as IsAborted}
+use Rattle.md_words.specs.Content.{count_of, is_even, spot_of, value_of}
+use Rattle.md_words.specs.Layout.{IsInSet, address}
+use Rattle.md_words.specs.Place.{slot_new}
 use Rattle.md_words.specs.PlaceAt.{IsCounted}
-use Rattle.md_words.specs.Status.{reads_of, serial_of, status_of}
+use Rattle.md_words.specs.Status.{serial_of}
 use Rattle.md_words.proofs.Words.{count_of-counted_word}
 use Rattle.md_machine.specs.declared.pass.PassView.{PassView}
 use Rattle.md_machine.specs.declared.step.Kind.TheVariants.{Load, Uninstall}
 use Rattle.md_machine.specs.declared.step.Step.{Step}
 use Rattle.md_machine.specs.declared.step.TheConstants.{LAST_COUNT}
 use Rattle.md_machine.specs.Event.{load, uninstall}
-use Rattle.md_machine.specs.Machine.{Machine, content, shape_of}
 use Rattle.md_machine.specs.Meaning.{Meaning}
-use Rattle.md_machine.specs.Stepping.{exchanged}
-use Rattle.md_machine.specs.Trail.{Finds, Loads, Meets, SomeStep, segments}
-use Rattle.md_machine.specs.clauses.words.Brackets.{MeetsOdd, NotesSerial, NotesStanding, serial_in}
-use Rattle.md_machine.specs.events.Uninstall.{HelperSaw, IsDecided, MayUninstall, after_uninstall, desc_in, slot_by_fate, status_of_desc, uninstalled_word, value_by_fate}
+use Rattle.md_machine.specs.Trail.{Loads, segments}
+use Rattle.md_machine.specs.clauses.words.Brackets.{MeetsOdd, NotesStanding}
+use Rattle.md_machine.specs.events.Uninstall.{HelperSaw, IsDecided, after_uninstall, desc_in, slot_by_fate, status_of_desc, uninstalled_word, value_by_fate}
 use Rattle.md_rule.specs.Steps.{May, SteppedFrom}
 use Rattle.md_rule.specs.Views.{Origin}
 use Rattle.md_rule.proofs.Moves.{is_kept}
@@ -31,10 +29,9 @@ use Rattle.md_help.specs.declared.settling.End.{End}
 use Rattle.md_help.specs.declared.settling.End.TheVariants.{Committed, Aborted, Gone}
 use Rattle.md_help.specs.After.{IsAfter}
 use Rattle.md_help.specs.Clears.{SawDecided, SawTwice, SlotLoaded, TakenOut, fate_of}
-use Rattle.md_help.specs.Settles.{FindsOther, IsDecidedAs}
+use Rattle.md_help.specs.Settles.{FindsOther}
 use Rattle.md_help.proofs.Deciding.{lost_exchange, won_exchange}
 use Rattle.md_help.proofs.Numbers.{formats_of}
-use Rattle.md_help.proofs.Reading.{some_left, some_right}
 use Rattle.md_help.proofs.Steps.{Made, both_after, load_finds, trail_after}
 
 -- the fate of an end that isn't Committed, and that of each is decided

@@ -1,5 +1,5 @@
 -- A pass after more steps.
-use Rattle.std.specs.Prelude.{◌≡◌, ◌<◌, ℕ, List, [], ◌∷◌, ◌++◌}
+use Rattle.std.specs.Prelude.{◌≡◌, ℕ, List, [], ◌∷◌, ◌++◌}
 use Rattle.md_words.specs.declared.shape.Shape.{Shape}
 use Rattle.md_history.specs.declared.entries.Fate.{Fate}
 use Rattle.md_machine.specs.declared.attempt.HistoryEntry.{HistoryEntry}

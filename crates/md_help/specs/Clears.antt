@@ -1,5 +1,5 @@
 -- How a descriptor is cleared out of a word.
-use Rattle.std.specs.Prelude.{◌≡◌, ◌≢◌, ◌+◌, ◌<◌, ℕ, List, [], ◌∷◌, ◌++◌, All, ◌⊎◌}
+use Rattle.std.specs.Prelude.{◌≡◌, ◌≢◌, ℕ, List, [], ◌∷◌, ◌++◌, All, ◌⊎◌}
 use Rattle.md_words.specs.declared.shape.Shape.{Shape}
 use Rattle.md_words.specs.declared.status.Status.{Status}
 use Rattle.md_words.specs.declared.status.Status.TheVariants.{Committed as IsCommitted, Aborted as IsAborted}
@@ -11,9 +11,9 @@ use Rattle.md_machine.specs.declared.pass.PassView.{PassView}
 use Rattle.md_machine.specs.declared.step.Step.{Step}
 use Rattle.md_machine.specs.declared.step.Kind.TheVariants.{Uninstall}
 use Rattle.md_machine.specs.Trail.{Finds, Loads, Meets, SomeStep}
-use Rattle.md_machine.specs.events.Uninstall.{IsDecided, desc_in, slot_by_fate, status_of_desc, uninstalled_word, value_by_fate}
+use Rattle.md_machine.specs.events.Uninstall.{desc_in, slot_by_fate, status_of_desc, uninstalled_word, value_by_fate}
 use Rattle.md_help.specs.declared.settling.End.{End}
-use Rattle.md_help.specs.declared.settling.End.TheVariants.{Committed, Aborted, Gone}
+use Rattle.md_help.specs.declared.settling.End.TheVariants.{Committed, Gone}
 use Rattle.md_help.specs.declared.clearing.Cleared.{Cleared}
 use Rattle.md_help.specs.After.{IsAfter}
 use Rattle.md_help.specs.Settles.{AreFew, Decides, Ends, FindsOther}

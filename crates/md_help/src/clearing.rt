@@ -27,6 +27,80 @@ pub struct Cleared {
     pub left: u64,
 }
 
+/// Takes a descriptor out of a word in which it was found, and settles its attempt first, in at most
+/// `3r + 6` steps of this pass, whatever others do; `r` is the number of the attempt's reads. An attempt
+/// that isn't ready is aborted. One that is ready is committed where all its reads stand, and else
+/// aborted. It is Gone exactly where the word didn't hold `found` when it was looked at again, before
+/// the settling, or after it found another attempt's status. In each case the word doesn't hold `found`
+/// afterwards.
+///
+/// The word is a counted word, and `found` has an odd count; a step of this pass found it there since
+/// the last join. The descriptor that stands there isn't that of the transaction in hand. It takes no
+/// memory.
+pub fn clear<T: Theory>(field: &Field<T>, pass: &mut Pass<T>, word: u32, found: Content) -> Cleared
+    requires field { IsOf pass.old field.now }
+    requires counted { IsCounted field.now.origin.shape word }
+    requires odd { is_even (count_of (word_of found)) ≡ false }
+    requires exists { desc_in (word_of found) < desc_count field.now.origin.shape }
+    requires met { SomeStep (Finds word (word_of found)) pass.old.view.trail }
+    requires other { ¬ HoldsDesc pass.old.view (desc_in (word_of found)) }
+    ensures same { pass.new ≡ record pass.old { view = pass.new.view } }
+    ensures stands { Stands T.meaning field.now.origin pass.new.view }
+    ensures clears { Clears field.now.origin.shape word (word_of found) result pass.old.view
+        pass.new.view }
+{
+    let desc = spot_in(found).desc;
+    let status = pass.load(field, field.shape().status(desc));
+    let left = pass.load(field, word);
+    if left != found.word() {
+        return Cleared {
+            end: End::Gone,
+            left,
+        };
+    }
+    finish(field, pass, word, found, status)
+}
+
+// After the content was seen twice: settles the attempt of the status that was found between, and takes
+// it out, unless a later attempt was met.
+fn finish<T: Theory>(
+    field: &Field<T>,
+    pass: &mut Pass<T>,
+    word: u32,
+    found: Content,
+    status: u64,
+) -> Cleared
+    requires field { IsOf pass.old field.now }
+    requires stands { Stands T.meaning field.now.origin pass.old.view }
+    requires counted { IsCounted field.now.origin.shape word }
+    requires odd { is_even (count_of (word_of found)) ≡ false }
+    requires fits { found.count ≤ LAST_COUNT + 1 }
+    requires exists { IsInSet field.now.origin.shape (desc_in (word_of found))
+        (spot_of (value_of (word_of found))).slot }
+    requires few { reads_of status ≤ SET }
+    requires saw { SawTwice field.now.origin.shape pass.old.view word (word_of found) status }
+    ensures same { pass.new ≡ record pass.old { view = pass.new.view } }
+    ensures stands { Stands T.meaning field.now.origin pass.new.view }
+    ensures finishes { Finishes field.now.origin.shape word (word_of found) status result pass.old.view
+        pass.new.view }
+{
+    let desc = spot_in(found).desc;
+    let end = settle(field, pass, desc, status);
+    match end {
+        End::Gone => {
+            let left = pass.load(field, word);
+            Cleared {
+                end: End::Gone,
+                left,
+            }
+        }
+        _ => {
+            let left = take_out(field, pass, word, found, end);
+            Cleared { end, left }
+        }
+    }
+}
+
 // Takes the descriptor out of the word, by the fate of its attempt. What stands there afterwards.
 fn take_out<T: Theory>(
     field: &Field<T>,

@@ -1,5 +1,5 @@
 use Rattle.std.proofs.Common.{◌≡◌, ◌+◌, ◌≤◌, refl, sym, ap, subst, ◌∙◌, inl, inr}
-use Rattle.md_words.specs.Content.{count_of, counted_word, word_of}
+use Rattle.md_words.specs.Content.{counted_word, word_of}
 use Rattle.md_machine.specs.declared.step.Kind.TheVariants.{Uninstall}
 use Rattle.md_machine.specs.declared.step.TheConstants.{LAST_COUNT}
 use Rattle.md_machine.specs.Event.{uninstall}

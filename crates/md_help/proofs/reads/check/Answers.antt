@@ -1,4 +1,4 @@
-use Rattle.std.proofs.Common.{◌≡◌, ap, sym, subst, ◌∙◌, arith}
+use Rattle.std.proofs.Common.{ap, subst, ◌∙◌, arith}
 use Rattle.md_words.specs.Layout.{address}
 use Rattle.md_words.specs.Place.{read_content, read_word}
 use Rattle.md_machine.specs.Event.{load}

@@ -1,4 +1,4 @@
-use Rattle.std.proofs.Common.{◌≡◌, true, false, ap, subst, ◌∙◌}
+use Rattle.std.proofs.Common.{ap, subst, ◌∙◌}
 use Rattle.md_rule.specs.Views.{PassState}
 use Rattle.md_help.specs.Reads.{Checked}
 use Rattle.md_help.proofs.Reading.{validated_end, validated_more}

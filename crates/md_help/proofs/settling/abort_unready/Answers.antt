@@ -1,14 +1,12 @@
-use Rattle.std.proofs.Common.{◌≡◌, ◌≤◌, [], ◌∷◌, le_refl, true, refl, sym, ap, subst, ◌∙◌, inl, inr, arith}
-use Rattle.md_words.specs.declared.status.StatusWord.{StatusWord}
+use Rattle.std.proofs.Common.{[], ◌∷◌, true, refl, inl, arith}
 use Rattle.md_words.specs.declared.status.Status.TheVariants.{Aborted as IsAborted}
 use Rattle.md_words.specs.Layout.{address}
 use Rattle.md_words.specs.Place.{desc_status}
 use Rattle.md_machine.specs.declared.step.Kind.TheVariants.{Abort}
 use Rattle.md_machine.specs.Event.{abort}
 use Rattle.md_machine.specs.events.Decide.{decided_word}
-use Rattle.md_help.specs.Settles.{MetStatus}
 use Rattle.md_help.proofs.Deciding.{abort_lost, abort_won, lost_ready, may_abort, met_made, newer_came, newer_few, reached_after}
-use Rattle.md_help.proofs.Ends.{settled_aborted, settled_more, settled_newer}
+use Rattle.md_help.proofs.Ends.{settled_aborted, settled_newer}
 use Rattle.md_help.proofs.Reading.{validated_none}
 use Rattle.md_help.proofs.Steps.{stands_made}
 use Rattle.md_help.proofs.settling.abort_unready.Goals as goal

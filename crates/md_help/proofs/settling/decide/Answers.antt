@@ -1,12 +1,10 @@
-use Rattle.std.proofs.Common.{◌≡◌, ◌≤◌, [], ◌∷◌, le_refl, true, false, refl, sym, ap, subst, ◌∙◌, inl, inr, arith}
-use Rattle.md_words.specs.declared.status.StatusWord.{StatusWord}
+use Rattle.std.proofs.Common.{[], ◌∷◌, le_refl, true, false, refl, inr}
 use Rattle.md_words.specs.declared.status.Status.TheVariants.{Committed as IsCommitted, Aborted as IsAborted}
 use Rattle.md_words.specs.Layout.{address}
 use Rattle.md_words.specs.Place.{desc_status}
 use Rattle.md_machine.specs.declared.step.Kind.TheVariants.{Abort, Commit}
 use Rattle.md_machine.specs.Event.{abort, commit}
 use Rattle.md_machine.specs.events.Decide.{decided_word}
-use Rattle.md_help.specs.Reads.{Validated}
 use Rattle.md_help.proofs.Deciding.{abort_lost, abort_won, commit_lost, commit_won, lost_decided, may_abort, may_commit, may_commit_by, met_after, moved_by, newer_came, reached_after, validated_at}
 use Rattle.md_help.proofs.Ends.{moved_read, settled_aborted, settled_committed, settled_lost}
 use Rattle.md_help.proofs.Steps.{stands_made}

@@ -1,5 +1,3 @@
-use Rattle.std.proofs.Common.{◌≡◌, ap, sym, ◌∙◌}
-use Rattle.md_words.specs.declared.status.StatusWord.{StatusWord}
 use Rattle.md_help.proofs.Ends.{settled_more}
 use Rattle.md_help.proofs.settling.settle.Goals as goal
 

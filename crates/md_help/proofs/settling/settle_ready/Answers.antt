@@ -1,4 +1,4 @@
-use Rattle.std.proofs.Common.{◌≡◌, refl, sym, ap, ◌∙◌}
+use Rattle.std.proofs.Common.{refl, sym, ap, ◌∙◌}
 use Rattle.md_words.specs.declared.status.StatusWord.{StatusWord}
 use Rattle.md_help.specs.declared.settling.End.TheVariants.{Committed, Aborted}
 use Rattle.md_help.proofs.Ends.{is_aborted, settled_already}

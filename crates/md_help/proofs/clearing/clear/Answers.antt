@@ -1,0 +1,97 @@
+use Rattle.std.proofs.Common.{◌+◌, ◌≤◌, sym, ap, subst, ◌∙◌}
+use Rattle.md_words.specs.declared.content.Content.{Content}
+use Rattle.md_words.specs.declared.content.Spot.{Spot}
+use Rattle.md_words.specs.Content.{count_of, word_of}
+use Rattle.md_words.specs.Layout.{address}
+use Rattle.md_words.specs.Place.{desc_status}
+use Rattle.md_machine.specs.declared.step.Kind.TheVariants.{Load}
+use Rattle.md_machine.specs.declared.step.TheConstants.{LAST_COUNT}
+use Rattle.md_machine.specs.Event.{load}
+use Rattle.md_machine.specs.events.Uninstall.{desc_in, status_of_desc}
+use Rattle.md_rule.specs.Steps.{SteppedFrom}
+use Rattle.md_help.proofs.Deciding.{newer_few}
+use Rattle.md_help.proofs.Finishing.{clears_gone, clears_later, found_fits, saw_twice, spot_exists}
+use Rattle.md_help.proofs.Steps.{made_load, stands_made}
+use Rattle.md_help.proofs.clearing.clear.Goals as goal
+
+pub returns-then-left-word-clause-stands : goal.returns-then-left-word-clause-stands
+returns-then-left-word-clause-stands g c =
+    let M = g.T.Theory.meaning in
+    let o = c.args.field.now.origin in
+    let q = c.load-status.new.self.view in
+    let r = c.load-left.new.self.view in
+    stands_made M o (λ pass. load pass c.args.word) Load c.args.word c.load-left.result c.load-left.result q r c.load-left.ensures.step.0 (made_load M o c.args.word c.load-left.result q r c.load-left.ensures.step)
+
+pub returns-then-left-word-clause-clears : goal.returns-then-left-word-clause-clears
+returns-then-left-word-clause-clears g c =
+    let M = g.T.Theory.meaning in
+    let o = c.args.field.now.origin in
+    let from = word_of c.args.found in
+    let p = c.args.pass.now.view in
+    let q = c.load-status.new.self.view in
+    let r = c.load-left.new.self.view in
+    let at = c.status.ensures.place ∙ ap (λ s. address s (desc_status c.spot_in-desc.result.desc)) c.shape.ensures ∙ ap (λ (s : Spot). address o.shape (desc_status s.desc)) c.spot_in-desc.ensures in
+    let step = subst (λ w. SteppedFrom M o (λ pass. load pass w) w c.load-status.result p q) at c.load-status.ensures.step in
+    clears_gone o.shape c.args.word from c.load-status.result c.load-left.result p q r (made_load M o (status_of_desc o.shape from) c.load-status.result p q step) (made_load M o c.args.word c.load-left.result q r c.load-left.ensures.step)
+        (λ e. c.if-left-word.true (e ∙ sym c.word.ensures.whole))
+
+pub finish-requires-clause-stands : goal.finish-requires-clause-stands
+finish-requires-clause-stands g c =
+    let M = g.T.Theory.meaning in
+    let o = c.args.field.now.origin in
+    let q = c.load-status.new.self.view in
+    let r = c.load-left.new.self.view in
+    stands_made M o (λ pass. load pass c.args.word) Load c.args.word c.load-left.result c.load-left.result q r c.load-left.ensures.step.0 (made_load M o c.args.word c.load-left.result q r c.load-left.ensures.step)
+
+pub finish-requires-clause-fits : goal.finish-requires-clause-fits
+finish-requires-clause-fits g c =
+    let M = g.T.Theory.meaning in
+    let o = c.args.field.now.origin in
+    let q = c.load-status.new.self.view in
+    let r = c.load-left.new.self.view in
+    let again = subst (λ x. SteppedFrom M o (λ pass. load pass c.args.word) c.args.word x q r) (c.if-left-word.false ∙ c.word.ensures.whole) c.load-left.ensures.step in
+    let count = ap (λ x. count_of x) (sym c.word.ensures.whole) ∙ ap (λ (x : Content). x.count) c.word.ensures.inverse in
+    subst (λ n. n ≤ LAST_COUNT + 1) count (found_fits M o c.args.word (word_of c.args.found) q r c.requires.counted c.requires.odd again)
+
+pub finish-requires-clause-exists : goal.finish-requires-clause-exists
+finish-requires-clause-exists g c =
+    let M = g.T.Theory.meaning in
+    let o = c.args.field.now.origin in
+    spot_exists M o c.status.result c.args.word (word_of c.args.found) c.load-status.result c.args.pass.now.view c.load-status.new.self.view c.requires.counted c.requires.odd c.requires.met c.load-status.ensures.step
+
+pub finish-requires-clause-few : goal.finish-requires-clause-few
+finish-requires-clause-few g c =
+    let M = g.T.Theory.meaning in
+    let o = c.args.field.now.origin in
+    let from = word_of c.args.found in
+    let p = c.args.pass.now.view in
+    let q = c.load-status.new.self.view in
+    let at = c.status.ensures.place ∙ ap (λ s. address s (desc_status c.spot_in-desc.result.desc)) c.shape.ensures ∙ ap (λ (s : Spot). address o.shape (desc_status s.desc)) c.spot_in-desc.ensures in
+    let step = subst (λ w. SteppedFrom M o (λ pass. load pass w) w c.load-status.result p q) at c.load-status.ensures.step in
+    newer_few M o (λ pass. load pass (status_of_desc o.shape from)) p q (desc_in from) c.load-status.result c.requires.exists step
+
+pub finish-requires-clause-saw : goal.finish-requires-clause-saw
+finish-requires-clause-saw g c =
+    let M = g.T.Theory.meaning in
+    let o = c.args.field.now.origin in
+    let from = word_of c.args.found in
+    let p = c.args.pass.now.view in
+    let q = c.load-status.new.self.view in
+    let r = c.load-left.new.self.view in
+    let at = c.status.ensures.place ∙ ap (λ s. address s (desc_status c.spot_in-desc.result.desc)) c.shape.ensures ∙ ap (λ (s : Spot). address o.shape (desc_status s.desc)) c.spot_in-desc.ensures in
+    let step = subst (λ w. SteppedFrom M o (λ pass. load pass w) w c.load-status.result p q) at c.load-status.ensures.step in
+    let again = subst (λ x. SteppedFrom M o (λ pass. load pass c.args.word) c.args.word x q r) (c.if-left-word.false ∙ c.word.ensures.whole) c.load-left.ensures.step in
+    saw_twice o.shape c.args.word from c.load-status.result p q r c.requires.met (made_load M o (status_of_desc o.shape from) c.load-status.result p q step) (made_load M o c.args.word from q r again)
+
+pub returns-clause-clears : goal.returns-clause-clears
+returns-clause-clears g c =
+    let M = g.T.Theory.meaning in
+    let o = c.args.field.now.origin in
+    let from = word_of c.args.found in
+    let p = c.args.pass.now.view in
+    let q = c.load-status.new.self.view in
+    let r = c.load-left.new.self.view in
+    let at = c.status.ensures.place ∙ ap (λ s. address s (desc_status c.spot_in-desc.result.desc)) c.shape.ensures ∙ ap (λ (s : Spot). address o.shape (desc_status s.desc)) c.spot_in-desc.ensures in
+    let step = subst (λ w. SteppedFrom M o (λ pass. load pass w) w c.load-status.result p q) at c.load-status.ensures.step in
+    let again = subst (λ x. SteppedFrom M o (λ pass. load pass c.args.word) c.args.word x q r) (c.if-left-word.false ∙ c.word.ensures.whole) c.load-left.ensures.step in
+    clears_later o.shape c.args.word from c.load-status.result c.finish.result p q r c.finish.new.pass.view (made_load M o (status_of_desc o.shape from) c.load-status.result p q step) (made_load M o c.args.word from q r again) c.finish.ensures.finishes

@@ -1,0 +1,64 @@
+use Rattle.std.proofs.Common.{◌<◌, sym, subst}
+use Rattle.md_words.specs.declared.content.Spot.{Spot}
+use Rattle.md_words.specs.Content.{word_of}
+use Rattle.md_words.specs.Layout.{desc_count}
+use Rattle.md_machine.specs.declared.step.Kind.TheVariants.{Load}
+use Rattle.md_machine.specs.Event.{load}
+use Rattle.md_help.specs.declared.settling.End.TheVariants.{Gone}
+use Rattle.md_help.specs.Settles.{IsReached, MetStatus, Settled}
+use Rattle.md_help.proofs.Finishing.{finishes_gone, finishes_taken, saw_decided, saw_reached, saw_status}
+use Rattle.md_help.proofs.Steps.{made_load, stands_made}
+use Rattle.md_help.proofs.Taking.{gone_apart}
+use Rattle.md_help.proofs.clearing.finish.Goals as goal
+
+pub settle-end-requires-clause-exists : goal.settle-end-requires-clause-exists
+settle-end-requires-clause-exists g c = subst (λ (s : Spot). s.desc < desc_count c.args.field.now.origin.shape) (sym c.spot_in-desc.ensures) c.requires.exists.0
+
+pub settle-end-requires-clause-reached : goal.settle-end-requires-clause-reached
+settle-end-requires-clause-reached g c =
+    let shape = c.args.field.now.origin.shape in
+    let p = c.args.pass.now.view in
+    subst (λ (s : Spot). IsReached shape p s.desc) (sym c.spot_in-desc.ensures) (saw_reached shape c.args.word (word_of c.args.found) c.args.status p c.requires.counted c.requires.odd c.requires.saw)
+
+pub settle-end-requires-clause-met : goal.settle-end-requires-clause-met
+settle-end-requires-clause-met g c =
+    let shape = c.args.field.now.origin.shape in
+    let p = c.args.pass.now.view in
+    subst (λ (s : Spot). MetStatus shape p s.desc c.args.status) (sym c.spot_in-desc.ensures) (saw_status shape c.args.word (word_of c.args.found) c.args.status p c.requires.saw)
+
+pub take_out-left-requires-clause-saw : goal.take_out-left-requires-clause-saw
+take_out-left-requires-clause-saw g c =
+    let shape = c.args.field.now.origin.shape in
+    let p = c.args.pass.now.view in
+    let q = c.settle-end.new.pass.view in
+    saw_decided shape c.args.word (word_of c.args.found) c.args.status c.settle-end.result p q c.in_default.not-Gone c.requires.saw
+        (subst (λ (s : Spot). Settled shape s.desc c.args.status 2 c.settle-end.result p q) c.spot_in-desc.ensures c.settle-end.ensures.settled)
+
+pub returns-in-Gone-clause-stands : goal.returns-in-Gone-clause-stands
+returns-in-Gone-clause-stands g c =
+    let M = g.T.Theory.meaning in
+    let o = c.args.field.now.origin in
+    let q = c.settle-end.new.pass.view in
+    let r = c.load-left.new.self.view in
+    stands_made M o (λ pass. load pass c.args.word) Load c.args.word c.load-left.result c.load-left.result q r c.load-left.ensures.step.0 (made_load M o c.args.word c.load-left.result q r c.load-left.ensures.step)
+
+pub returns-in-Gone-clause-finishes : goal.returns-in-Gone-clause-finishes
+returns-in-Gone-clause-finishes g c =
+    let M = g.T.Theory.meaning in
+    let o = c.args.field.now.origin in
+    let from = word_of c.args.found in
+    let p = c.args.pass.now.view in
+    let q = c.settle-end.new.pass.view in
+    let r = c.load-left.new.self.view in
+    let t = subst (λ e. Settled o.shape (c.spot_in-desc.result).desc c.args.status 2 e p q) c.in-Gone.is c.settle-end.ensures.settled in
+    let s = subst (λ (s : Spot). Settled o.shape s.desc c.args.status 2 Gone p q) c.spot_in-desc.ensures t in
+    finishes_gone o.shape c.args.word from c.args.status c.load-left.result p q r s (made_load M o c.args.word c.load-left.result q r c.load-left.ensures.step)
+        (gone_apart M o c.args.word from c.args.status c.load-left.result s.steps p q r c.requires.counted c.requires.odd c.requires.saw s.goes s.ends c.load-left.ensures.step)
+
+pub returns-in_default-clause-finishes : goal.returns-in_default-clause-finishes
+returns-in_default-clause-finishes g c =
+    let shape = c.args.field.now.origin.shape in
+    let p = c.args.pass.now.view in
+    let q = c.settle-end.new.pass.view in
+    finishes_taken shape c.args.word (word_of c.args.found) c.args.status c.take_out-left.result c.settle-end.result p q c.take_out-left.new.pass.view c.in_default.not-Gone
+        (subst (λ (s : Spot). Settled shape s.desc c.args.status 2 c.settle-end.result p q) c.spot_in-desc.ensures c.settle-end.ensures.settled) c.take_out-left.ensures.taken
