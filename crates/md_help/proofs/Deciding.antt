@@ -70,14 +70,17 @@ since_met shape p desc status m = record {
 }
 
 found_read : (shape : Shape) (p : PassView) (since : List Step) (desc serial i : ℕ) (stood : Bool) → FindsRead shape desc i stood since → FoundRead stood shape p since (attempt_of desc serial) i
-found_read shape p since desc serial i stood f = (record {
-  word = f.word;
-  recorded = f.recorded;
-  found = f.found;
-  knows_word = inl f.loads_word;
-  knows_content = inl f.loads_content;
-  loads = f.loads;
-}, f.stands)
+found_read shape p since desc serial i stood f = (
+  record {
+    word = f.word;
+    recorded = f.recorded;
+    found = f.found;
+    knows_word = inl f.loads_word;
+    knows_content = inl f.loads_content;
+    loads = f.loads;
+  },
+  f.stands,
+)
 
 -- the reads and the answer of a validation, in the words of the status
 pub validated_at : (shape : Shape) (desc : ℕ) (w : StatusWord) (status : ℕ) (stood b : Bool) (p q : PassView) → w ≡ status_parts status → stood ≡ b → Validated shape desc w.reads stood p q → Validated shape desc (reads_of status) b p q

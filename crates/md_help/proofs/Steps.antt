@@ -35,11 +35,14 @@ pub made : (shape : Shape) (m : Machine) (kind : Kind) (word held left : ℕ) (b
 made shape m kind word held left before after same is e =
     let s : Step = step_of m before kind word left in record {
       step = s;
-      goes = (always_nodes m, e ∙ ap (λ (sh : Shape). record before {
-        trail = before.trail ++ s ∷ [];
-        known = known_after sh before.seen s before.known;
-        placed = before.placed ++ always_nodes m;
-      }) same);
+      goes = (
+        always_nodes m,
+        e ∙ ap (λ (sh : Shape). record before {
+          trail = before.trail ++ s ∷ [];
+          known = known_after sh before.seen s before.known;
+          placed = before.placed ++ always_nodes m;
+        }) same,
+      );
       is_kind = refl;
       there = refl;
       found = is;
@@ -56,9 +59,9 @@ both_after shape a b p q r (n, e) (k, f) =
     let v : List Step → List Fate → List PlacedNode → PassView = λ trail known placed. record p { trail = trail; known = known; placed = placed } in (
       n ++ k,
       f ∙ ap (λ (x : PassView). record x { trail = x.trail ++ b; known = known_over shape x.seen b x.known; placed = x.placed ++ k }) e
-      ∙ ap (λ t. v t (known_over shape p.seen b (known_over shape p.seen a p.known)) ((p.placed ++ n) ++ k)) (append_assoc p.trail a b)
-      ∙ ap (λ t. v (p.trail ++ (a ++ b)) t ((p.placed ++ n) ++ k)) (known_over-append shape p.seen a b p.known)
-      ∙ ap (λ t. v (p.trail ++ (a ++ b)) (known_over shape p.seen (a ++ b) p.known) t) (append_assoc p.placed n k),
+          ∙ ap (λ t. v t (known_over shape p.seen b (known_over shape p.seen a p.known)) ((p.placed ++ n) ++ k)) (append_assoc p.trail a b)
+          ∙ ap (λ t. v (p.trail ++ (a ++ b)) t ((p.placed ++ n) ++ k)) (known_over-append shape p.seen a b p.known)
+          ∙ ap (λ t. v (p.trail ++ (a ++ b)) (known_over shape p.seen (a ++ b) p.known) t) (append_assoc p.placed n k),
     )
 
 pub none_after : (shape : Shape) (p : PassView) → IsAfter shape [] p p

@@ -81,15 +81,23 @@ helper_saw shape word from value fate p q s l = record {
 module _ (M : Meaning) (o : Origin) where
   pub may_uninstall : (p q : PassView) (word from value : ℕ) (fate : Status) → IsCounted o.shape word → is_even (count_of from) ≡ false → IsDecided fate → SawDecided o.shape p word from fate → SlotLoaded o.shape from fate value p q
       → May M o (λ pass. uninstall pass word from value) q
-  may_uninstall p q word from value fate counted odd decided s l m a pass acts = (after_uninstall m pass q word from value, (q, acts, record {
-    counted = subst (λ (h : Shape). IsCounted h word) (sym a.shape) counted;
-    odd = odd;
-    status = s.status;
-    decided = subst IsDecided (sym s.fate_is) decided;
-    held = l.held;
-    knows = inr (subst (λ (h : Shape). HelperSaw h q word from s.status l.held) (sym a.shape) (helper_saw o.shape word from value fate p q s l));
-    is = ap (λ f. value_by_fate f l.held) s.fate_is ∙ l.is;
-  }, refl))
+  may_uninstall p q word from value fate counted odd decided s l m a pass acts = (
+    after_uninstall m pass q word from value,
+    (
+      q,
+      acts,
+      record {
+        counted = subst (λ (h : Shape). IsCounted h word) (sym a.shape) counted;
+        odd = odd;
+        status = s.status;
+        decided = subst IsDecided (sym s.fate_is) decided;
+        held = l.held;
+        knows = inr (subst (λ (h : Shape). HelperSaw h q word from s.status l.held) (sym a.shape) (helper_saw o.shape word from value fate p q s l));
+        is = ap (λ f. value_by_fate f l.held) s.fate_is ∙ l.is;
+      },
+      refl,
+    ),
+  )
 
   pub uninstall_won : (word from value : ℕ) (p q : PassView) → SteppedFrom M o (λ pass. uninstall pass word from value) word from p q → Made o.shape Uninstall word from (uninstalled_word from value) p q
   uninstall_won word from value p q (s, is) = won_exchange M o s.machine Uninstall word from (uninstalled_word from value) p q s.admitted.shape is (told_uninstall M o p q word from value s).1
@@ -111,8 +119,8 @@ module _ (M : Meaning) (o : Origin) where
       let m = s.machine in
       let later : List Step = (saw.first ++ saw.ask ∷ saw.look ∷ []) ++ steps in
       let segment : Contains (segments q) (saw.earlier ++ saw.found ∷ later) = subst (Contains (segments q))
-          (trail_after o.shape steps p q goes ∙ ap (λ t. t ++ steps) saw.trail ∙ append_assoc saw.earlier (saw.found ∷ (saw.first ++ saw.ask ∷ saw.look ∷ [])) steps)
-          (Contains-push q.past q.trail) in
+      (trail_after o.shape steps p q goes ∙ ap (λ t. t ++ steps) saw.trail ∙ append_assoc saw.earlier (saw.found ∷ (saw.first ++ saw.ask ∷ saw.look ∷ [])) steps)
+      (Contains-push q.past q.trail) in
       let stands : (t : Step) → Contains later t → NotesStanding o.shape m.words saw.found t = λ t c. subst (λ (h : Shape). NotesStanding h m.words saw.found t) s.admitted.shape ((is_kept M o m s.admitted).brackets.standing s.pass q s.acts.at saw.earlier saw.found later segment t c) in
       let here' : slice_index m.words saw.found.word ≡ from = ap (slice_index m.words) saw.finds.there ∙ is ∙ e in
       let met : MeetsOdd o.shape saw.found.word (slice_index m.words saw.found.word) saw.found = record {

@@ -11,14 +11,14 @@ use Rattle.md_machine.specs.declared.pass.PassView.{PassView}
 use Rattle.md_machine.specs.declared.step.Step.{Step}
 use Rattle.md_machine.specs.declared.step.Kind.TheVariants.{Uninstall}
 use Rattle.md_machine.specs.Trail.{Finds, Loads, Meets, SomeStep}
-use Rattle.md_machine.specs.events.Uninstall.{desc_in, slot_by_fate, status_of_desc, uninstalled_word, value_by_fate}
+use Rattle.md_machine.specs.events.Uninstall.{FindsSerial, desc_in, slot_by_fate, status_of_desc, uninstalled_word, value_by_fate}
 use Rattle.md_help.specs.declared.settling.End.{End}
 use Rattle.md_help.specs.declared.settling.End.TheVariants.{Committed, Gone}
 use Rattle.md_help.specs.declared.clearing.Cleared.{Cleared}
 use Rattle.md_help.specs.After.{IsAfter}
 use Rattle.md_help.specs.Settles.{AreFew, Decides, Ends, FindsOther}
 
--- a pass settled an attempt of a descriptor: the first step asked for its status, and the later ones settled what it found
+-- a pass settled an attempt of a descriptor: the first step asked for its status, the later ones settled what it found
 pub record SettlesOne (shape : Shape) (desc : ℕ) (end : End) (before after : PassView) : Type 0 where
   pub status : ℕ
   pub ask : Step
@@ -53,7 +53,7 @@ pub record SawDecided (shape : Shape) (view : PassView) (word from : ℕ) (fate 
   pub finds_again : Finds word from again
   pub status : ℕ
   pub fate_is : status_of status ≡ fate
-  pub asked : SomeStep (λ s. (held : ℕ) × Finds (status_of_desc shape from) held s × (serial_of held ≡ serial_of status)) first
+  pub asked : SomeStep (FindsSerial (status_of_desc shape from) (serial_of status)) first
   pub decided : SomeStep (Meets (status_of_desc shape from) status) (first ++ again ∷ second)
 
 -- the status of an attempt that ended so
@@ -86,7 +86,7 @@ pub record SlotLoaded (shape : Shape) (from : ℕ) (fate : Status) (value : ℕ)
   pub loads : Loads (address shape (slot_by_fate fate (spot_of (value_of from)))) held slot
   pub is : value_by_fate fate held ≡ value
 
--- how the later steps of a clearing end. Gone: they found a later attempt's status, and the last one looked at the word.
+-- how the later steps of a clearing end. Gone: they found a later attempt's status, the last one looked at the word.
 -- Else they settled the attempt, and the last two took it out of the word
 pub record GoneLater (shape : Shape) (word from status left : ℕ) (steps : List Step) : Type 0 where
   pub settling : List Step
@@ -130,4 +130,5 @@ pub record Clears (shape : Shape) (word from : ℕ) (c : Cleared) (before after 
   pub asks : Loads (status_of_desc shape from) status ask
   pub few : AreFew shape (desc_in from) status 4 steps
   pub empty : c.left ≢ from
-  pub ends : (Loads word c.left look × (c.end ≡ Gone) × (steps ≡ [])) ⊎ (Loads word from look × EndsLater shape word from status c.end c.left steps)
+  pub ends : (Loads word c.left look × (c.end ≡ Gone) × (steps ≡ []))
+      ⊎ (Loads word from look × EndsLater shape word from status c.end c.left steps)

@@ -2,7 +2,8 @@
 use Rattle.std.specs.Prelude.{◌≡◌, ◌≢◌, ◌+◌, ◌*◌, ◌<◌, ◌≤◌, ℕ, false, List, ◌∷◌, ◌++◌, All, length, ◌⊎◌}
 use Rattle.md_words.specs.declared.shape.Shape.{Shape}
 use Rattle.md_words.specs.declared.status.Status.{Status}
-use Rattle.md_words.specs.declared.status.Status.TheVariants.{InPrep, InProg, Committed as IsCommitted, Aborted as IsAborted}
+use Rattle.md_words.specs.declared.status.Status.TheVariants.{InPrep, InProg}
+use Rattle.md_words.specs.declared.status.Status.TheVariants.{Committed as IsCommitted, Aborted as IsAborted}
 use Rattle.md_words.specs.Layout.{address}
 use Rattle.md_words.specs.Place.{desc_status}
 use Rattle.md_words.specs.Status.{reads_of, serial_of, status_of}
@@ -57,11 +58,13 @@ pub record FindsMoved (shape : Shape) (desc first held : ℕ) (steps : List Step
 -- why it is aborted: it was found before it was ready, or aborted, or a read of it was found that doesn't stand
 abbrev pub IsLost : Shape → (desc first : ℕ) → List Step → Type 0
 IsLost shape desc first steps = (held : ℕ) × (serial_of held ≡ serial_of first)
-    × ((IsFound shape desc first held steps × ((status_of held ≡ InPrep) ⊎ (status_of held ≡ IsAborted))) ⊎ FindsMoved shape desc first held steps)
+    × ((IsFound shape desc first held steps × ((status_of held ≡ InPrep) ⊎ (status_of held ≡ IsAborted)))
+    ⊎ FindsMoved shape desc first held steps)
 
 -- a step found a later attempt's status
 abbrev pub FindsOther : Shape → (desc first : ℕ) → List Step → Type 0
-FindsOther shape desc first steps = (held : ℕ) × (serial_of held ≢ serial_of first) × SomeStep (Finds (address shape (desc_status desc)) held) steps
+FindsOther shape desc first steps = (held : ℕ) × (serial_of held ≢ serial_of first)
+    × SomeStep (Finds (address shape (desc_status desc)) held) steps
 
 -- what the answer says of the attempt of the first status
 abbrev pub Ends : Shape → (desc first : ℕ) → List Step → End → Type 0
@@ -71,7 +74,8 @@ Ends shape desc first steps Gone = FindsOther shape desc first steps
 
 -- so many steps at most: three for each read that some status of the attempt counts, and so many more
 abbrev pub AreFew : Shape → (desc first more : ℕ) → List Step → Type 0
-AreFew shape desc first more steps = (held : ℕ) × (serial_of held ≡ serial_of first) × IsFound shape desc first held steps × (length steps ≤ 3 * reads_of held + more)
+AreFew shape desc first more steps = (held : ℕ) × (serial_of held ≡ serial_of first)
+    × IsFound shape desc first held steps × (length steps ≤ 3 * reads_of held + more)
 
 -- the step changes nothing, or is on the descriptor's status
 abbrev pub Decides : Shape → (desc : ℕ) → Step → Type 0
@@ -93,5 +97,8 @@ EndIs old new Gone = serial_of new ≢ serial_of old
 
 -- the same from a later status, which may be another attempt's
 abbrev pub SettledNewer : Shape → (desc old new : ℕ) → End → (before after : PassView) → Type 0
-SettledNewer shape desc old new Gone before after = ((serial_of new ≢ serial_of old) × (after ≡ before)) ⊎ ((serial_of new ≡ serial_of old) × Settled shape desc new 1 Gone before after)
-SettledNewer shape desc old new end before after = (serial_of new ≡ serial_of old) × Settled shape desc new 1 end before after
+SettledNewer shape desc old new Gone before after =
+    ((serial_of new ≢ serial_of old) × (after ≡ before))
+    ⊎ ((serial_of new ≡ serial_of old) × Settled shape desc new 1 Gone before after)
+SettledNewer shape desc old new end before after =
+    (serial_of new ≡ serial_of old) × Settled shape desc new 1 end before after

@@ -12,7 +12,8 @@ ghost use Rattle.md_machine.specs.events.Uninstall.{IsDecided, desc_in};
 ghost use Rattle.md_rule.specs.InHand.{HoldsDesc};
 ghost use Rattle.md_rule.specs.Views.{IsOf};
 ghost use Rattle.md_help.specs.After.{Stands};
-ghost use Rattle.md_help.specs.Clears.{Clears, Finishes, SawDecided, SawTwice, SlotLoaded, TakenOut, fate_of};
+ghost use Rattle.md_help.specs.Clears.{Clears, Finishes, SawDecided, SawTwice, SlotLoaded};
+ghost use Rattle.md_help.specs.Clears.{TakenOut, fate_of};
 ghost use Rattle.md_help.specs.declared.settling.End.TheVariants.{Gone};
 
 use crate::settling::{End, settle};
@@ -27,16 +28,16 @@ pub struct Cleared {
     pub left: u64,
 }
 
-/// Takes a descriptor out of a word in which it was found, and settles its attempt first, in at most
-/// `3r + 6` steps of this pass, whatever others do; `r` is the number of the attempt's reads. An attempt
-/// that isn't ready is aborted. One that is ready is committed where all its reads stand, and else
-/// aborted. It is Gone exactly where the word didn't hold `found` when it was looked at again, before
-/// the settling, or after it found another attempt's status. In each case the word doesn't hold `found`
-/// afterwards.
+/// Takes a descriptor out of a word in which it was found, and settles its attempt first, in at
+/// most `3r + 6` steps of this pass, whatever others do; `r` is the number of the attempt's reads.
+/// An attempt that isn't ready is aborted. One that is ready is committed where all its reads
+/// stand, and else aborted. It is Gone exactly where the word didn't hold `found` when it was looked
+/// at again, before the settling, or after it found another attempt's status. In each case the word
+/// doesn't hold `found` afterwards.
 ///
-/// The word is a counted word, and `found` has an odd count; a step of this pass found it there since
-/// the last join. The descriptor that stands there isn't that of the transaction in hand. It takes no
-/// memory.
+/// The word is a counted word, and `found` has an odd count; a step of this pass found it there
+/// since the last join. The descriptor that stands there exists, and isn't that of the transaction
+/// in hand. It takes no memory.
 pub fn clear<T: Theory>(field: &Field<T>, pass: &mut Pass<T>, word: u32, found: Content) -> Cleared
     requires field { IsOf pass.old field.now }
     requires counted { IsCounted field.now.origin.shape word }
@@ -61,8 +62,8 @@ pub fn clear<T: Theory>(field: &Field<T>, pass: &mut Pass<T>, word: u32, found: 
     finish(field, pass, word, found, status)
 }
 
-// After the content was seen twice: settles the attempt of the status that was found between, and takes
-// it out, unless a later attempt was met.
+// After the content was seen twice: settles the attempt of the status that was found between, and
+// takes it out, unless a later attempt was met.
 fn finish<T: Theory>(
     field: &Field<T>,
     pass: &mut Pass<T>,
@@ -81,8 +82,8 @@ fn finish<T: Theory>(
     requires saw { SawTwice field.now.origin.shape pass.old.view word (word_of found) status }
     ensures same { pass.new ≡ record pass.old { view = pass.new.view } }
     ensures stands { Stands T.meaning field.now.origin pass.new.view }
-    ensures finishes { Finishes field.now.origin.shape word (word_of found) status result pass.old.view
-        pass.new.view }
+    ensures finishes { Finishes field.now.origin.shape word (word_of found) status result
+        pass.old.view pass.new.view }
 {
     let desc = spot_in(found).desc;
     let end = settle(field, pass, desc, status);
@@ -115,7 +116,8 @@ fn take_out<T: Theory>(
     requires fits { found.count ≤ LAST_COUNT + 1 }
     requires exists { IsInSet field.now.origin.shape (desc_in (word_of found))
         (spot_of (value_of (word_of found))).slot }
-    requires saw { SawDecided field.now.origin.shape pass.old.view word (word_of found) (fate_of end) }
+    requires saw { SawDecided field.now.origin.shape pass.old.view word (word_of found)
+        (fate_of end) }
     ensures same { pass.new ≡ record pass.old { view = pass.new.view } }
     ensures stands { Stands T.meaning field.now.origin pass.new.view }
     ensures taken { TakenOut field.now.origin.shape word (word_of found) (fate_of end) result
@@ -132,7 +134,8 @@ fn take_out<T: Theory>(
     }
 }
 
-// The value that the fate takes from the slot: the new one after a commit, the old one after an abort.
+// The value that the fate takes from the slot: the new one after a commit, the old one after an
+// abort.
 fn slot_value<T: Theory>(field: &Field<T>, pass: &mut Pass<T>, found: Content, end: End) -> u32
     requires field { IsOf pass.old field.now }
     requires odd { is_even (count_of (word_of found)) ≡ false }

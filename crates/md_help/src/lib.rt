@@ -1,4 +1,5 @@
-//! Clearing: what a thread does for a stalled transaction that stands in its way.
+//! Clearing: what a thread does about another's descriptor that stands in its way. It settles the
+//! attempt, and takes the descriptor out of the word; it waits for nobody.
 #![tactic(auto)]
 
 pub use clearing::{Cleared, clear};

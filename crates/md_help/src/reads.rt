@@ -13,14 +13,20 @@ use md_rule::{Field, Pass};
 use md_words::Content;
 
 // Whether each of so many reads stands. The first that doesn't ends it.
-pub(crate) fn validate<T: Theory>(field: &Field<T>, pass: &mut Pass<T>, desc: u32, reads: u8) -> bool
+pub(crate) fn validate<T: Theory>(
+    field: &Field<T>,
+    pass: &mut Pass<T>,
+    desc: u32,
+    reads: u8,
+) -> bool
     requires field { IsOf pass.old field.now }
     requires stands { Stands T.meaning field.now.origin pass.old.view }
     requires desc { desc < desc_count field.now.origin.shape }
     requires reads { reads ≤ SET }
     ensures same { pass.new ≡ record pass.old { view = pass.new.view } }
     ensures stands { Stands T.meaning field.now.origin pass.new.view }
-    ensures validated { Validated field.now.origin.shape desc reads result pass.old.view pass.new.view }
+    ensures validated { Validated field.now.origin.shape desc reads result pass.old.view
+        pass.new.view }
 {
     for i in 0..reads {
         if !check(field, pass, desc, i) {
@@ -44,7 +50,8 @@ fn check<T: Theory>(field: &Field<T>, pass: &mut Pass<T>, desc: u32, i: u8) -> b
     stands(desc, recorded, found)
 }
 
-// A read stands where its word holds what was recorded, or the read's own descriptor one count later.
+// A read stands where its word holds what was recorded, or the read's own descriptor one count
+// later.
 fn stands(desc: u32, recorded: u64, found: u64) -> bool
     ensures { result ≡ read_stands desc recorded found }
 {

@@ -26,12 +26,12 @@ pub enum End {
 }
 
 /// Decides the attempt whose status the first step finds, in at most `3r + 3` steps of this pass,
-/// whatever others do; `r` is the number of its reads. An attempt that isn't ready is aborted. One that
-/// is ready is committed where all its reads stand, and else aborted. It is Gone exactly where a later
-/// step finds another attempt's status.
+/// whatever others do; `r` is the number of its reads. An attempt that isn't ready is aborted. One
+/// that is ready is committed where all its reads stand, and else aborted. It is Gone exactly where
+/// a later step finds another attempt's status.
 ///
-/// The descriptor exists, and is of one of the pass's lanes or was found standing in a counted word. It
-/// isn't that of the transaction in hand. It takes no memory.
+/// The descriptor exists, and is of one of the pass's lanes or was found standing in a counted
+/// word. It isn't that of the transaction in hand. It takes no memory.
 pub fn settle_one<T: Theory>(field: &Field<T>, pass: &mut Pass<T>, desc: u32) -> End
     requires field { IsOf pass.old field.now }
     requires exists { desc < desc_count field.now.origin.shape }
@@ -39,13 +39,15 @@ pub fn settle_one<T: Theory>(field: &Field<T>, pass: &mut Pass<T>, desc: u32) ->
     requires other { ¬ HoldsDesc pass.old.view desc }
     ensures same { pass.new ≡ record pass.old { view = pass.new.view } }
     ensures stands { Stands T.meaning field.now.origin pass.new.view }
-    ensures settles { SettlesOne field.now.origin.shape desc result pass.old.view pass.new.view }
+    ensures settles { SettlesOne field.now.origin.shape desc result pass.old.view
+        pass.new.view }
 {
     let status = pass.load(field, field.shape().status(desc));
     settle(field, pass, desc, status)
 }
 
-// From a status that was met: aborts the attempt if it isn't ready, and else decides it by its reads.
+// From a status that was met: aborts the attempt if it isn't ready, and else decides it by its
+// reads.
 pub(crate) fn settle<T: Theory>(field: &Field<T>, pass: &mut Pass<T>, desc: u32, status: u64) -> End
     requires field { IsOf pass.old field.now }
     requires stands { Stands T.meaning field.now.origin pass.old.view }
@@ -55,7 +57,8 @@ pub(crate) fn settle<T: Theory>(field: &Field<T>, pass: &mut Pass<T>, desc: u32,
     requires few { reads_of status ≤ SET }
     ensures same { pass.new ≡ record pass.old { view = pass.new.view } }
     ensures stands { Stands T.meaning field.now.origin pass.new.view }
-    ensures settled { Settled field.now.origin.shape desc status 2 result pass.old.view pass.new.view }
+    ensures settled { Settled field.now.origin.shape desc status 2 result pass.old.view
+        pass.new.view }
 {
     match StatusWord::of(status).status {
         Status::InPrep => abort_unready(field, pass, desc, status),
@@ -72,7 +75,8 @@ fn abort_unready<T: Theory>(field: &Field<T>, pass: &mut Pass<T>, desc: u32, sta
     requires unready { status_of status ≡ InPrep }
     ensures same { pass.new ≡ record pass.old { view = pass.new.view } }
     ensures stands { Stands T.meaning field.now.origin pass.new.view }
-    ensures settled { Settled field.now.origin.shape desc status 2 result pass.old.view pass.new.view }
+    ensures settled { Settled field.now.origin.shape desc status 2 result pass.old.view
+        pass.new.view }
 {
     match pass.abort(field, desc, status) {
         Ok(()) => End::Aborted,
@@ -117,7 +121,8 @@ fn settle_ready<T: Theory>(field: &Field<T>, pass: &mut Pass<T>, desc: u32, stat
     requires ready { status_of status ≢ InPrep }
     ensures same { pass.new ≡ record pass.old { view = pass.new.view } }
     ensures stands { Stands T.meaning field.now.origin pass.new.view }
-    ensures settled { Settled field.now.origin.shape desc status 1 result pass.old.view pass.new.view }
+    ensures settled { Settled field.now.origin.shape desc status 1 result pass.old.view
+        pass.new.view }
 {
     match StatusWord::of(status).status {
         Status::InProg => decide(field, pass, desc, status),
@@ -137,7 +142,8 @@ fn decide<T: Theory>(field: &Field<T>, pass: &mut Pass<T>, desc: u32, status: u6
     requires in_progress { status_of status ≡ InProg }
     ensures same { pass.new ≡ record pass.old { view = pass.new.view } }
     ensures stands { Stands T.meaning field.now.origin pass.new.view }
-    ensures settled { Settled field.now.origin.shape desc status 1 result pass.old.view pass.new.view }
+    ensures settled { Settled field.now.origin.shape desc status 1 result pass.old.view
+        pass.new.view }
 {
     if validate(field, pass, desc, StatusWord::of(status).reads) {
         return match pass.commit(field, desc, status) {

@@ -33,7 +33,7 @@ returns-then-left-word-clause-clears g c =
     let at = c.status.ensures.place ∙ ap (λ s. address s (desc_status c.spot_in-desc.result.desc)) c.shape.ensures ∙ ap (λ (s : Spot). address o.shape (desc_status s.desc)) c.spot_in-desc.ensures in
     let step = subst (λ w. SteppedFrom M o (λ pass. load pass w) w c.load-status.result p q) at c.load-status.ensures.step in
     clears_gone o.shape c.args.word from c.load-status.result c.load-left.result p q r (made_load M o (status_of_desc o.shape from) c.load-status.result p q step) (made_load M o c.args.word c.load-left.result q r c.load-left.ensures.step)
-        (λ e. c.if-left-word.true (e ∙ sym c.word.ensures.whole))
+    (λ e. c.if-left-word.true (e ∙ sym c.word.ensures.whole))
 
 pub finish-requires-clause-stands : goal.finish-requires-clause-stands
 finish-requires-clause-stands g c =

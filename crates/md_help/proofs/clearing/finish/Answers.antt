@@ -32,7 +32,7 @@ take_out-left-requires-clause-saw g c =
     let p = c.args.pass.now.view in
     let q = c.settle-end.new.pass.view in
     saw_decided shape c.args.word (word_of c.args.found) c.args.status c.settle-end.result p q c.in_default.not-Gone c.requires.saw
-        (subst (λ (s : Spot). Settled shape s.desc c.args.status 2 c.settle-end.result p q) c.spot_in-desc.ensures c.settle-end.ensures.settled)
+    (subst (λ (s : Spot). Settled shape s.desc c.args.status 2 c.settle-end.result p q) c.spot_in-desc.ensures c.settle-end.ensures.settled)
 
 pub returns-in-Gone-clause-stands : goal.returns-in-Gone-clause-stands
 returns-in-Gone-clause-stands g c =
@@ -53,7 +53,7 @@ returns-in-Gone-clause-finishes g c =
     let t = subst (λ e. Settled o.shape (c.spot_in-desc.result).desc c.args.status 2 e p q) c.in-Gone.is c.settle-end.ensures.settled in
     let s = subst (λ (s : Spot). Settled o.shape s.desc c.args.status 2 Gone p q) c.spot_in-desc.ensures t in
     finishes_gone o.shape c.args.word from c.args.status c.load-left.result p q r s (made_load M o c.args.word c.load-left.result q r c.load-left.ensures.step)
-        (gone_apart M o c.args.word from c.args.status c.load-left.result s.steps p q r c.requires.counted c.requires.odd c.requires.saw s.goes s.ends c.load-left.ensures.step)
+    (gone_apart M o c.args.word from c.args.status c.load-left.result s.steps p q r c.requires.counted c.requires.odd c.requires.saw s.goes s.ends c.load-left.ensures.step)
 
 pub returns-in_default-clause-finishes : goal.returns-in_default-clause-finishes
 returns-in_default-clause-finishes g c =
@@ -61,4 +61,4 @@ returns-in_default-clause-finishes g c =
     let p = c.args.pass.now.view in
     let q = c.settle-end.new.pass.view in
     finishes_taken shape c.args.word (word_of c.args.found) c.args.status c.take_out-left.result c.settle-end.result p q c.take_out-left.new.pass.view c.in_default.not-Gone
-        (subst (λ (s : Spot). Settled shape s.desc c.args.status 2 c.settle-end.result p q) c.spot_in-desc.ensures c.settle-end.ensures.settled) c.take_out-left.ensures.taken
+    (subst (λ (s : Spot). Settled shape s.desc c.args.status 2 c.settle-end.result p q) c.spot_in-desc.ensures c.settle-end.ensures.settled) c.take_out-left.ensures.taken

@@ -29,7 +29,7 @@ returns-in-Committed-clause-loaded g c =
     let spot = c.spot_in-spot.result in
     let at = c.slot_new.ensures.place ∙ ap (λ s. address s (slot_new spot.desc spot.slot)) c.shape.ensures in
     slot_loaded o.shape (word_of c.args.found) IsCommitted (fate_of c.args.end) spot c.load.result c.load.result p q (ap fate_of c.in-Committed.is) c.spot_in-spot.ensures
-        (made_load M o _ c.load.result p q (subst (λ w. SteppedFrom M o (λ pass. load pass w) w c.load.result p q) at c.load.ensures.step)) refl
+    (made_load M o _ c.load.result p q (subst (λ w. SteppedFrom M o (λ pass. load pass w) w c.load.result p q) at c.load.ensures.step)) refl
 
 pub returns-in_default : goal.returns-in_default
 returns-in_default g c =

@@ -10,7 +10,7 @@ returns-then-not-check-clause-validated g c =
     let p = c.loop-i.pass.view in
     let q = c.check.new.pass.view in
     validated_end shape c.args.desc c.loop-i.i c.args.reads c.args.pass.now.view p q c.loop-i-test.true c.loop-i.invariant.so_far
-        (subst (λ b. Checked shape c.args.desc c.loop-i.i b p q) c.if-not-check.true c.check.ensures.checked)
+    (subst (λ b. Checked shape c.args.desc c.loop-i.i b p q) c.if-not-check.true c.check.ensures.checked)
 
 pub loop-i-preserved : goal.loop-i-preserved
 loop-i-preserved g c =

@@ -49,8 +49,8 @@ pub settle_newer-requires-clause-ready : goal.settle_newer-requires-clause-ready
 settle_newer-requires-clause-ready g c =
     let step = c.in-Err.ensures.step in
     lost_ready c.args.status c.in-Err.newer
-        (newer_came g.T.Theory.meaning c.args.field.now.origin (λ pass. abort pass c.args.desc c.args.status) c.args.pass.now.view c.abort.new.self.view c.args.desc c.args.status c.in-Err.newer c.requires.exists c.requires.met step.1)
-        c.requires.unready step.0
+    (newer_came g.T.Theory.meaning c.args.field.now.origin (λ pass. abort pass c.args.desc c.args.status) c.args.pass.now.view c.abort.new.self.view c.args.desc c.args.status c.in-Err.newer c.requires.exists c.requires.met step.1)
+    c.requires.unready step.0
 
 pub returns-in-Ok-clause-stands : goal.returns-in-Ok-clause-stands
 returns-in-Ok-clause-stands g c =

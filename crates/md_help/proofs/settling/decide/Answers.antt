@@ -26,8 +26,8 @@ end_of-requires g c =
     let v = c.validate.ensures.validated in
     let step = c.in-Err.ensures.step in
     lost_decided c.args.status c.in-Err.newer
-        (newer_came g.T.Theory.meaning o (λ pass. commit pass c.args.desc c.args.status) q c.commit.new.self.view c.args.desc c.args.status c.in-Err.newer c.requires.exists (met_after o.shape v.steps p q c.args.desc c.args.status v.goes c.requires.met) step.1)
-        c.requires.in_progress step.0
+    (newer_came g.T.Theory.meaning o (λ pass. commit pass c.args.desc c.args.status) q c.commit.new.self.view c.args.desc c.args.status c.in-Err.newer c.requires.exists (met_after o.shape v.steps p q c.args.desc c.args.status v.goes c.requires.met) step.1)
+    c.requires.in_progress step.0
 
 pub returns-in-Ok-clause-stands : goal.returns-in-Ok-clause-stands
 returns-in-Ok-clause-stands g c =
@@ -87,8 +87,8 @@ end_of-requires-in-Err-abort g c =
     let v = c.validate.ensures.validated in
     let step = c.in-Err-abort.ensures.step in
     lost_decided c.args.status c.in-Err-abort.newer
-        (newer_came g.T.Theory.meaning o (λ pass. abort pass c.args.desc c.args.status) q c.abort.new.self.view c.args.desc c.args.status c.in-Err-abort.newer c.requires.exists (met_after o.shape v.steps p q c.args.desc c.args.status v.goes c.requires.met) step.1)
-        c.requires.in_progress step.0
+    (newer_came g.T.Theory.meaning o (λ pass. abort pass c.args.desc c.args.status) q c.abort.new.self.view c.args.desc c.args.status c.in-Err-abort.newer c.requires.exists (met_after o.shape v.steps p q c.args.desc c.args.status v.goes c.requires.met) step.1)
+    c.requires.in_progress step.0
 
 pub returns-in-Ok-abort-clause-stands : goal.returns-in-Ok-abort-clause-stands
 returns-in-Ok-abort-clause-stands g c =
@@ -108,7 +108,7 @@ returns-in-Ok-abort-clause-settled g c =
     let v = validated_at o.shape c.args.desc c.of.result c.args.status c.validate.result false p q c.of.ensures.parts c.if-validate.false c.validate.ensures.validated in
     let m = abort_won g.T.Theory.meaning o c.args.desc c.args.status q r c.in-Ok-abort.ensures.step in
     settled_aborted o.shape c.args.desc c.args.status _ 1 false Abort c.args.status (decided_word IsAborted c.args.status) p q r v m refl (le_refl _) (le_refl 1) refl refl
-        (inr (moved_read o.shape c.args.desc c.args.status p q v (m.step ∷ []) c.requires.in_progress))
+    (inr (moved_read o.shape c.args.desc c.args.status p q v (m.step ∷ []) c.requires.in_progress))
 
 pub returns-in-Err-abort-clause-stands : goal.returns-in-Err-abort-clause-stands
 returns-in-Err-abort-clause-stands g c =

@@ -13,4 +13,4 @@ pub returns-in_default-clause-settled : goal.returns-in_default-clause-settled
 returns-in_default-clause-settled g c =
     let is = ap (λ (w : StatusWord). w.status) c.of.ensures.parts in
     settled_already c.args.field.now.origin.shape c.args.desc c.args.status Aborted c.args.pass.now.view
-        (refl, is_aborted _ c.requires.ready (λ e. c.in_default.not-InProg (is ∙ e)) (λ e. c.in_default.not-Committed (is ∙ e)))
+    (refl, is_aborted _ c.requires.ready (λ e. c.in_default.not-InProg (is ∙ e)) (λ e. c.in_default.not-Committed (is ∙ e)))
