@@ -8,3 +8,5 @@ pub use settling::{End, settle_one};
 mod clearing;
 mod reads;
 mod settling;
+#[cfg(test)]
+mod tests;
