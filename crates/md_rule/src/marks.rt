@@ -25,8 +25,8 @@ impl<T: Theory> Pass<T> {
         requires field { IsOf self.old field.now × (desc < desc_count field.now.origin.shape) }
         requires may { May T.meaning field.now.origin (λ pass. mark_begin pass desc tag) self.old.view }
         ensures same { self.new ≡ record self.old {
-            view = self.new.view;
-            shares = after_begin self.old.shares desc;
+          view = self.new.view;
+          shares = after_begin self.old.shares desc;
         } }
         ensures step { Stepped T.meaning field.now.origin (λ pass. mark_begin pass desc tag)
             self.old.view self.new.view }
@@ -74,8 +74,8 @@ impl<T: Theory> Pass<T> {
         requires may { May T.meaning field.now.origin (λ pass. mark_end pass) self.old.view }
         requires clean { (h : Hand) → self.old.view.hand ≡ Some h → IsClean self.old.view h.attempt }
         ensures same { self.new ≡ record self.old {
-            view = self.new.view;
-            shares = after_end self.old.shares desc;
+          view = self.new.view;
+          shares = after_end self.old.shares desc;
         } }
         ensures step { Stepped T.meaning field.now.origin (λ pass. mark_end pass)
             self.old.view self.new.view }

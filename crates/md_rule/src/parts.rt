@@ -37,8 +37,8 @@ impl<T: Theory> Pass<T> {
         requires mine { IsOf self.old field.now }
         requires others { IsOf other field.now }
         ensures { self.new ≡ record self.old {
-            view = joined_part self.old.shape self.old.view other.view;
-            shares = joined_shares other.view.lanes self.old.shares other.shares;
+          view = joined_part self.old.shape self.old.view other.view;
+          shares = joined_shares other.view.lanes self.old.shares other.shares;
         } }
     {
         let (seat, lanes, shares) = other.into_parts();

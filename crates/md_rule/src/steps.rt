@@ -198,8 +198,8 @@ impl<T: Theory> Pass<T> {
         requires fits { serial_of from + 1 < field.now.origin.shape.tries }
         requires may { May T.meaning field.now.origin (λ pass. start pass desc from) self.old.view }
         ensures same { self.new ≡ record self.old {
-            view = self.new.view;
-            shares = after_restart self.old.shares desc;
+          view = self.new.view;
+          shares = after_restart self.old.shares desc;
         } }
         ensures step { Stepped T.meaning field.now.origin (λ pass. start pass desc from)
             self.old.view self.new.view }

@@ -46,8 +46,10 @@ impl<T: Theory> Pass<T> {
         requires fits { taken ≤ self.old.shape.nodes }
         requires free { MayReturn self.old.shape self.old.view lane taken
             (share_at self.old.shares lane).nodes_taken }
-        ensures { self.new ≡ record self.old { shares = with_share self.old.shares lane
-            (record (share_at self.old.shares lane) { nodes_taken = taken }) } }
+        ensures { self.new ≡ record self.old {
+          shares = with_share self.old.shares lane
+              (record (share_at self.old.shares lane) { nodes_taken = taken });
+        } }
     {
         self.shares[lane as usize].nodes_taken = taken;
     }
@@ -57,8 +59,10 @@ impl<T: Theory> Pass<T> {
         requires lane { Contains self.old.view.lanes lane }
         requires fits { taken ≤ self.old.shape.tries }
         requires rises { (share_at self.old.shares lane).tries_taken ≤ taken }
-        ensures { self.new ≡ record self.old { shares = with_share self.old.shares lane
-            (record (share_at self.old.shares lane) { tries_taken = taken }) } }
+        ensures { self.new ≡ record self.old {
+          shares = with_share self.old.shares lane
+              (record (share_at self.old.shares lane) { tries_taken = taken });
+        } }
     {
         self.shares[lane as usize].tries_taken = taken;
     }

@@ -18,10 +18,7 @@ fn zeros(alloc: Global, count: usize) -> Result<Vec<u64>, AllocError>
 }
 
 // A field in which every word is 0, and the pass of all its lanes.
-fn blank(
-    alloc: Global,
-    shape: Shape,
-) -> Result<(Field<CellTheory>, Pass<CellTheory>), AllocError>
+fn blank(alloc: Global, shape: Shape) -> Result<(Field<CellTheory>, Pass<CellTheory>), AllocError>
     ensures { IfOk result (λ r. IsOf r.1 r.0) }
 {
     cell_rows();

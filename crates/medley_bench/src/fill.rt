@@ -7,7 +7,9 @@ use md_history::Contents;
 use std::alloc::{AllocError, Global};
 
 pub(crate) const MAPS: u32 = 4;
+
 pub(crate) const LEVELS: u32 = 2_000;
+
 const ACCOUNTS: u64 = 9_999;
 
 /// Each order has a pair in the first map and a value in the queue of its level; each level and each

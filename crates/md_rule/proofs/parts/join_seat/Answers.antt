@@ -10,5 +10,5 @@ join_seat-requires g c =
     let key = c.field.inside.table.shared.key in
     let me = c.args.seat.now.me.0 in
     let may : Joins {S = Unit {0}} (Shows g.T.Theory.meaning (record { shape = key.shape; words = key.words.value.items })) c.args.seat.now.id me c.args.other.id c.args.other.me.0 (g.K.Joining.joined me c.args.other.me.0) spent
-            = rw (ap (λ f. f.origin) c.field.view_is) c.requires.may in
+    = rw (ap (λ f. f.origin) c.field.view_is) c.requires.may in
     (search rules, search rules, c.requires.bare, rw c.field.invariant.1 (has_base key.shape), may)

@@ -9,5 +9,5 @@ split_seat-requires g c =
     let key = c.field.inside.table.shared.key in
     let me = c.args.seat.now.me.0 in
     let may : Splits {S = Unit {0}} (Shows g.T.Theory.meaning (record { shape = key.shape; words = key.words.value.items })) c.args.seat.now.id me (g.K.Halving.kept me) (g.K.Halving.given me)
-            = rw (ap (λ f. f.origin) c.field.view_is) c.requires.may in
+    = rw (ap (λ f. f.origin) c.field.view_is) c.requires.may in
     (search rules, rw c.field.invariant.1 (has_base key.shape), may)

@@ -74,4 +74,4 @@ exchange-requires-clause-may c =
     let at : c.map_head-word.result ≡ cell_word o.shape = c.map_head-word.ensures.place ∙ ap (λ s. address s (bucket_head 0 (bucket_of s 0))) c.shape.ensures ∙ ap (λ b. address o.shape (bucket_head 0 b)) (first_bucket o.shape) in
     let fits : found.value < 2 ^ 32 = subst (λ (x : Content). x.value < 2 ^ 32) (sym c.of-found.ensures.parts) (value_of_below c.load.result c.load.type_inv) in
     subst (λ w. May cell_meaning o (λ pass. exchange pass w (word_of found) found.value) c.load.new.self.view) (sym at)
-        (may o c.load.new.self.view found (even_count found.count c.if-found-eq0.true) c.if-found-le-LAST_COUNT.true fits)
+    (may o c.load.new.self.view found (even_count found.count c.if-found-eq0.true) c.if-found-le-LAST_COUNT.true fits)

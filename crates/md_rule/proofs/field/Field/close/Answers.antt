@@ -14,8 +14,8 @@ last g c =
     let live : 0 < length c.args.pass.view.lanes = rw (← parts.lanes.0) parts.lanes.1.live in
     let l = last_of M _ seat.id seat.me.0 _ _ c.close_with-closed.ensures.values.2 (rw me live) in
     subst (λ (o : Origin). IsLast M o c.args.pass.view c.in_ok-words.field-0.items) c.into_table-table.ensures.origin
-        (subst (λ (v : PassView). IsLast M (record { shape = c.into_table-table.result.shared.key.shape; words = c.into_table-table.result.shared.key.words.value.items }) v c.in_ok-words.field-0.items) me
-        (rw c.in_ok-words.ensures l))
+    (subst (λ (v : PassView). IsLast M (record { shape = c.into_table-table.result.shared.key.shape; words = c.into_table-table.result.shared.key.words.value.items }) v c.in_ok-words.field-0.items) me
+    (rw c.in_ok-words.ensures l))
 
 pub returns-clause-last : goal.returns-clause-last
 returns-clause-last g c = last g c

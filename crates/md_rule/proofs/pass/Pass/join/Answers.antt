@@ -19,7 +19,7 @@ invariant_of-self g c =
     let lanes = c.self.inside.lanes in
     let shape = ap (λ p. p.shape) c.self.view_is ∙ c.requires.mine.shape in (
       ap (λ me. me.0.lanes) c.join_seat.ensures.joined ∙ ap (λ s. joined_lanes s c.self.inside.seat.me.0.lanes seat.me.0.lanes) (sym shape) ∙ ap (λ l. joined_lanes c.self.inside.shape l seat.me.0.lanes) c.self.invariant.0
-      ∙ ap (joined_lanes c.self.inside.shape lanes) (ap (λ me. me.0.lanes) parts.seat.1 ∙ sym parts.lanes.0) ∙ sym c.join.ensures,
+          ∙ ap (joined_lanes c.self.inside.shape lanes) (ap (λ me. me.0.lanes) parts.seat.1 ∙ sym parts.lanes.0) ∙ sym c.join.ensures,
       rw c.join.ensures (joined_are_lanes c.self.inside.shape lanes c.into_parts-seat.result.1 c.self.invariant.1),
       ap (λ me. me.1) c.join_seat.ensures.joined ∙ c.self.invariant.2,
     )

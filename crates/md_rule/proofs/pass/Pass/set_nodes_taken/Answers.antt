@@ -7,4 +7,4 @@ pub bounds-self-inside-lane : goal.bounds-self-inside-lane
 bounds-self-inside-lane g c =
     let inside = c.self.inside in
     lane_fits inside.shape inside.lanes c.args.lane c.self.invariant.1
-        (subst (λ l. Contains l c.args.lane) (ap (λ p. p.view.lanes) (sym c.self.view_is) ∙ c.self.invariant.0) c.requires.lane)
+    (subst (λ l. Contains l c.args.lane) (ap (λ p. p.view.lanes) (sym c.self.view_is) ∙ c.self.invariant.0) c.requires.lane)
