@@ -3,7 +3,6 @@ use Rattle.std.proofs.Common.{◌≡◌, ◌≢◌, ℕ, Bool, List, [], ◌∷�
 use Rattle.std.proofs.lemmas.Bool.{cond-true}
 use Rattle.std.proofs.lemmas.List.{length-map}
 use Rattle.std.proofs.lemmas.List.Elements.{All-head, All-tail}
-use mathlib.Core.Option.{some}
 use lib.ListN.{get_elem?}
 use Rattle.atomic_table.specs.Table.{Final, Seen}
 use Rattle.md_words.specs.declared.shape.Shape.{Shape}
@@ -30,6 +29,8 @@ use Rattle.md_rule.proofs.Moves.{is_kept, is_meant}
 use Rattle.md_rule.specs.Closing.{AreEven, IsLast, LeavesReplay, MayClose, plain_words}
 use Rattle.md_rule.specs.Rule.{Shows}
 use Rattle.md_rule.specs.Views.{Origin}
+use Rattle.md_rule.specs.declared.known.Known.{Known}
+use Rattle.atomic_table.proofs.Lists.{at_map}
 
 -- where every count is even, a word stands for the value in it
 even_value : (m : Machine) (choice : List Bool) (word : ℕ) → AreEven (shape_of m) m.words → IsCounted (shape_of m) word
@@ -60,12 +61,12 @@ least_committed (x ∷ es) (Aborted ∷ fs) = least_committed es fs
 least_committed (x ∷ es) (Undecided ∷ fs) = least_committed es fs
 
 module _ (M : Meaning) (o : Origin) where
-  pub last_of : (id : ℕ) (view : PassView) (ws : List ℕ) (xs : List (Unit {0})) → Final (Seen (Shows M o) id view) ws xs → IsLive view → IsLast M o view ws
-  last_of id view ws xs f live = let h = f.1.0 in record {
+  pub last_of : (id : ℕ) (k : Known) (ws : List ℕ) (xs : List (Unit {0})) → Final (Seen (Shows M o) id k) ws xs → IsLive k.view → IsLast M o k.view ws
+  last_of id k ws xs f live = let h = f.1.0 in record {
     machine = h.machine;
     admitted = h.admitted;
     pass = id;
-    acts = record { at = subst (λ (l : List PassView). get_elem? l id ≡ some view) (sym h.views) f.1.1; live = live };
+    acts = record { at = ap (λ (x : List PassView). get_elem? x id) h.views ∙ at_map (λ (x : Known). x.view) f.0.views id k f.1.1; live = live };
     words = h.words ∙ f.2;
   }
 

@@ -1,13 +1,17 @@
 -- A step of the table is one more event of the machine, and so keeps the rule.
-use Rattle.std.proofs.Common.{◌≡◌, ℕ, List, [], ◌∷◌, ◌++◌, slice_set, slice_index, refl, sym, ap, ◌∙◌, subst, inl, arith}
-use mathlib.Core.Option.{some}
+use Rattle.std.proofs.Common.{◌≡◌, ℕ, zero, suc, List, [], ◌∷◌, ◌++◌, Some, None, map, slice_set, slice_index, refl, sym, ap, ◌∙◌, subst, inl, ⊎_elim, arith}
+use Rattle.atomic_table.proofs.Lists.{at_map}
+use Rattle.md_machine.proofs.lists.Options.{none_some, some_same}
+use Rattle.md_rule.specs.declared.known.Known.{Known}
+use Rattle.md_rule.specs.declared.known.Parts.{Parts}
+use mathlib.Core.Option.{some, some-injective}
 use lib.ListN.{get_elem?}
 use Rattle.atomic_table.specs.Table.{State, Me, Allows, Splits, Joins, keeps, opening as first_table}
 use Rattle.md_machine.specs.declared.node.PlacedNode.{PlacedNode}
 use Rattle.md_machine.specs.declared.opening.Opening.{Opening}
 use Rattle.md_machine.specs.declared.pass.PassView.{PassView}
-use Rattle.md_machine.specs.Event.{CanOpen, Does, Event, Plays, Runs, first_pass, join, opened, split}
-use Rattle.md_machine.specs.Machine.{IsAt, IsLive, Machine, content, shape_of}
+use Rattle.md_machine.specs.Event.{Acts, CanOpen, Does, Event, Plays, Runs, first_pass, join, opened, split}
+use Rattle.md_machine.specs.Machine.{IsAt, IsLive, Machine, content}
 use Rattle.md_machine.specs.GoesOn.{GoesOn}
 use Rattle.md_machine.specs.Legal.{IsMeant}
 use Rattle.md_machine.specs.Meaning.{Lawful, Meaning}
@@ -15,19 +19,25 @@ use Rattle.md_machine.specs.Theorem.{IsKept}
 use Rattle.md_machine.proofs.Reached.{always_goes_on, always_kept}
 use Rattle.md_machine.proofs.replay.Always.{always_meant}
 use Rattle.md_machine.specs.events.SplitJoin.{MaySplit, after_join, after_split, given_part, joined_part, kept_part, spent}
-use Rattle.md_machine.proofs.lists.At.{set_else}
-use Rattle.std.proofs.lemmas.List.{set-get_or}
+use Rattle.md_machine.proofs.lists.At.{at_append, at_one, at_set, set_else}
+use Rattle.std.proofs.lemmas.List.{map-append, map-set, set-get_or}
 use Rattle.md_words.specs.declared.shape.Shape.{Shape}
 use Rattle.md_rule.specs.Admitted.{Admitted}
-use Rattle.md_rule.specs.Rule.{Shows}
+use Rattle.md_rule.specs.Rule.{ActTogether, Shows}
 use Rattle.md_rule.specs.Steps.{EventOf, MayTell, Stepped}
 use Rattle.md_rule.specs.Views.{Origin}
 
+-- an element put where it stands
+set_same : {A : Type 0} (l : List A) (i : ℕ) (a : A) → get_elem? l i ≡ some a → slice_set l i a ≡ l
+set_same [] i a at = refl
+set_same (x ∷ l) zero a at = ap (λ y. y ∷ l) (sym (some-injective x a at))
+set_same (x ∷ l) (suc i) a at = ap (λ m. x ∷ m) (set_same l i a at)
+
 abbrev Table : Type 0
-Table = State (Unit {0}) PassView
+Table = State (Unit {0}) Known
 
 abbrev Mine : Type 0
-Mine = Me (Unit {0}) PassView
+Mine = Me (Unit {0}) Known
 
 module _ (M : Meaning) where
   -- a list of events, and one more
@@ -36,6 +46,13 @@ module _ (M : Meaning) where
   runs_more m (d ∷ events) n e k runs plays = (runs.0, runs.1, runs_more runs.0 events n e k runs.2 plays)
 
   module _ (o : Origin) where
+    -- what is known of a seat that was joined, and of all seats
+    abbrev pub Together : Known → Type 0
+    Together k = (parts : Parts) → k.joined ≡ Some parts → ActTogether M o parts.one parts.other
+
+    abbrev pub AllTogether : List Known → Type 0
+    AllTogether l = (seat : ℕ) (k : Known) (parts : Parts) → get_elem? l seat ≡ some k → k.joined ≡ Some parts → ActTogether M o parts.one parts.other
+
     -- one more event leads to a machine of the field again
     pub one_more : (m n : Machine) (e : Event) → Admitted M o m → Does M m e n → Admitted M o n
     one_more m n e a does =
@@ -62,34 +79,79 @@ module _ (M : Meaning) where
     pub next_admitted : (event : EventOf) (before after : PassView) (s : Stepped M o event before after) → Admitted M o s.next
     next_admitted event before after s = one_more s.machine s.next (event s.pass) s.admitted s.does
 
+    -- what is kept of seats that were joined, when one seat changes and when one comes
+    joined_set : (l : List Known) (id : ℕ) (w : Known) → AllTogether l → Together w → AllTogether (slice_set l id w)
+    joined_set l id w all one seat k parts at is = ⊎_elim
+        (λ c. one parts (ap (λ (x : Known). x.joined) c.1 ∙ is))
+        (λ c. all seat k parts c.1 is)
+        (at_set l id seat w k at)
+
+    joined_append : (l : List Known) (w : Known) → AllTogether l → Together w → AllTogether (l ++ w ∷ [])
+    joined_append l w all one seat k parts at is = ⊎_elim
+        (λ c. all seat k parts c is)
+        (λ c. one parts (ap (λ (x : Known). x.joined) (at_one w k c.0 c.2).1 ∙ is))
+        (at_append l (w ∷ []) seat k at)
+
+    none_together : (w : Known) → w.joined ≡ None → Together w
+    none_together w none parts is = absurd (none_some w.joined parts none is)
+
+    -- the machine's passes are the views of the seats
+    stands_at : (l : List Known) (passes : List PassView) (id : ℕ) (k : Known) → passes ≡ map (λ (x : Known). x.view) l → get_elem? l id ≡ some k → get_elem? passes id ≡ some k.view
+    stands_at l passes id k is at = ap (λ (x : List PassView). get_elem? x id) is ∙ at_map (λ (x : Known). x.view) l id k at
+
+    sets_view : (l : List Known) (passes : List PassView) (id : ℕ) (w : Known) → passes ≡ map (λ (x : Known). x.view) l → slice_set passes id w.view ≡ map (λ (x : Known). x.view) (slice_set l id w)
+    sets_view l passes id w is = ap (λ (x : List PassView). slice_set x id w.view) is ∙ sym (map-set (λ (x : Known). x.view) l id w)
+
     -- so a step of the table that is an event keeps the rule, and tells what the event tells
-    pub may_step : (slots id : ℕ) (me : Mine) (word : ℕ) (left : ℕ → ℕ) (tells : ℕ → PassView → PassView → Type 0) → IsLive me.0 → MayTell M o me.0 word left tells
-        → Allows (Shows M o) slots id me word left (λ found now. tells found me.0 now.0 × (now.0.lanes ≡ me.0.lanes) × (now.1 ≡ me.1))
+    pub may_step : (slots id : ℕ) (me : Mine) (word : ℕ) (left : ℕ → ℕ) (tells : ℕ → PassView → PassView → Type 0) → IsLive me.0.view → MayTell M o me.0.view word left tells
+        → Allows (Shows M o) slots id me word left (λ found now. tells found me.0.view now.0.view × (now.0.view.lanes ≡ me.0.view.lanes) × (now.1 ≡ me.1))
     may_step slots id me word left tells live may s h _ at _ =
         let m = h.machine in
-        let stands : IsAt m id me.0 = subst (λ (l : List PassView). get_elem? l id ≡ some me.0) (sym h.views) at in
+        let stands : IsAt m id me.0.view = stands_at s.views m.passes id me.0 h.views at in
         let told = may m h.admitted id (record { at = stands; live = live }) in
+        let w : Known = record me.0 { view = told.2 } in
         let found : content m word ≡ slice_index s.words word = ap (λ (l : List ℕ). slice_index l word) h.words in (
-          told.2,
+          w,
           keeps,
           tt,
           record {
             machine = told.1;
             admitted = one_more m told.1 told.0 h.admitted told.3;
             words = told.4 ∙ ap (λ (l : List ℕ). slice_set l word (left (slice_index l word))) h.words;
-            views = told.5 ∙ ap (λ (l : List PassView). slice_set l id told.2) h.views;
+            views = told.5 ∙ sets_view s.views m.passes id w h.views;
+            joined = joined_set s.views id w h.joined (λ parts is. h.joined id me.0 parts at is);
           },
-          (subst (λ n. tells n me.0 told.2) found told.7, told.6, refl),
+          (subst (λ n. tells n me.0.view told.2) found told.7, told.6, refl),
+        )
+
+    -- a load of word 0 that changes nothing tells what is known of the two that were joined
+    pub may_look : (slots id : ℕ) (me : Mine) (tells : PassView → PassView → Type 0) → ((one other : PassView) → ActTogether M o one other → tells one other)
+        → Allows (Shows M o) slots id me 0 (λ found. found) (λ found now. (now ≡ me) × ((parts : Parts) → me.0.joined ≡ Some parts → tells parts.one parts.other))
+    may_look slots id me tells tell s h _ at _ =
+        let m = h.machine in
+        let same : slice_set s.views id me.0 ≡ s.views = set_same s.views id me.0 at in (
+          me.0,
+          keeps,
+          tt,
+          record {
+            machine = m;
+            admitted = h.admitted;
+            words = h.words ∙ sym (set-get_or s.words 0 0);
+            views = h.views ∙ ap (map (λ (x : Known). x.view)) (sym same);
+            joined = subst AllTogether (sym same) h.joined;
+          },
+          (refl, λ parts is. tell parts.one parts.other (h.joined id me.0 parts at is)),
         )
 
     -- the field as it is opened
     pub opens_so : (placed : List PlacedNode) → let opening : Opening = record { shape = o.shape; words = o.words; placed = placed } in CanOpen M opening
-        → Shows {S = Unit {0}} M o (first_table o.words [] (first_pass o.shape))
+        → Shows {S = Unit {0}} M o (first_table o.words [] (record { view = first_pass o.shape; joined = None }))
     opens_so placed can = record {
       machine = opened (record { shape = o.shape; words = o.words; placed = placed });
       admitted = record { shape = refl; words = refl; opens = can; events = []; runs = refl };
       words = refl;
       views = refl;
+      joined = λ seat k parts at is. none_together (record { view = first_pass o.shape; joined = None }) refl parts (ap (λ (x : Known). x.joined) (at_one _ k seat at).1 ∙ is);
     }
 
     -- a load writes back what it found
@@ -97,31 +159,44 @@ module _ (M : Meaning) where
     still m = set-get_or m.words 0 0
 
     -- a split and a join keep the rule
-    pub may_split : (id : ℕ) (p : PassView) → MaySplit p → Splits {S = Unit {0}} (Shows M o) id p (kept_part o.shape p) (given_part o.shape p)
+    pub may_split : (id : ℕ) (p : Known) → MaySplit p.view
+        → Splits {S = Unit {0}} (Shows M o) id p (record p { view = kept_part o.shape p.view }) (record { view = given_part o.shape p.view; joined = None })
     may_split id p two s h at =
         let m = h.machine in
-        let stands : IsAt m id p = subst (λ (l : List PassView). get_elem? l id ≡ some p) (sym h.views) at in
-        let n = after_split m id p in
-        let does : Does M m (split id) n = (p, record { at = stands; live = omega (arith, two) }, two, refl) in
+        let stands : IsAt m id p.view = stands_at s.views m.passes id p h.views at in
+        let n = after_split m id p.view in
+        let does : Does M m (split id) n = (p.view, record { at = stands; live = omega (arith, two) }, two, refl) in
+        let kept : Known = record p { view = kept_part o.shape p.view } in
+        let given : Known = record { view = given_part o.shape p.view; joined = None } in
         record {
           machine = n;
           admitted = one_more m n (split id) h.admitted does;
           words = still m ∙ h.words;
-          views = ap (λ (l : List PassView). slice_set l id (kept_part (shape_of m) p) ++ given_part (shape_of m) p ∷ []) h.views
-              ∙ ap (λ (shape : Shape). slice_set s.views id (kept_part shape p) ++ given_part shape p ∷ []) h.admitted.shape;
+          views = ap (λ (shape : Shape). slice_set m.passes id (kept_part shape p.view) ++ given_part shape p.view ∷ []) h.admitted.shape
+              ∙ ap (λ (l : List PassView). l ++ given.view ∷ []) (sets_view s.views m.passes id kept h.views)
+              ∙ sym (map-append (λ (x : Known). x.view) (slice_set s.views id kept) (given ∷ []));
+          joined = joined_append (slice_set s.views id kept) given (joined_set s.views id kept h.joined (λ parts is. h.joined id p parts at is)) (none_together given refl);
         }
 
-    pub may_join : (id other : ℕ) (p q : PassView) → IsLive p → IsLive q → Joins {S = Unit {0}} (Shows M o) id p other q (joined_part o.shape p q) spent
+    pub may_join : (id other : ℕ) (p q : Known) → IsLive p.view → IsLive q.view
+        → Joins {S = Unit {0}} (Shows M o) id p other q (record { view = joined_part o.shape p.view q.view; joined = Some (record { one = p.view; other = q.view }) }) (record { view = spent; joined = None })
     may_join id other p q live_p live_q s h at apart there =
         let m = h.machine in
-        let stands : IsAt m id p = subst (λ (l : List PassView). get_elem? l id ≡ some p) (sym h.views) at in
-        let beside : IsAt m other q = subst (λ (l : List PassView). get_elem? l other ≡ some q) (sym h.views) (sym (set_else s.views id other (joined_part o.shape p q) apart) ∙ there) in
-        let n = after_join m id other p q in
-        let does : Does M m (join id other) n = (p, q, record { at = stands; live = live_p }, apart, record { at = beside; live = live_q }, refl) in
+        let both : Known = record { view = joined_part o.shape p.view q.view; joined = Some (record { one = p.view; other = q.view }) } in
+        let gone : Known = record { view = spent; joined = None } in
+        let stands : IsAt m id p.view = stands_at s.views m.passes id p h.views at in
+        let beside : IsAt m other q.view = stands_at s.views m.passes other q h.views (sym (set_else s.views id other both apart) ∙ there) in
+        let n = after_join m id other p.view q.view in
+        let acts : Acts m id p.view = record { at = stands; live = live_p } in
+        let others : Acts m other q.view = record { at = beside; live = live_q } in
+        let does : Does M m (join id other) n = (p.view, q.view, acts, apart, others, refl) in
+        let together : Together both = λ parts is. subst (λ (x : Parts). ActTogether M o x.one x.other) (some_same _ parts is)
+        (record { machine = m; admitted = h.admitted; pass = id; seat = other; distinct = apart; acts = acts; beside = others }) in
         record {
           machine = n;
           admitted = one_more m n (join id other) h.admitted does;
           words = still m ∙ h.words;
-          views = ap (λ (l : List PassView). slice_set (slice_set l id (joined_part (shape_of m) p q)) other spent) h.views
-              ∙ ap (λ (shape : Shape). slice_set (slice_set s.views id (joined_part shape p q)) other spent) h.admitted.shape;
+          views = ap (λ (shape : Shape). slice_set (slice_set m.passes id (joined_part shape p.view q.view)) other spent) h.admitted.shape
+              ∙ sets_view (slice_set s.views id both) _ other gone (sets_view s.views m.passes id both h.views);
+          joined = joined_set (slice_set s.views id both) other gone (joined_set s.views id both h.joined together) (none_together gone refl);
         }

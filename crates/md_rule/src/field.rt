@@ -6,10 +6,11 @@ ghost use Rattle.md_machine.specs.Event.{CanOpen, first_pass};
 ghost use Rattle.md_rule.specs.declared.shares.TheConstants.{UNUSED};
 ghost use Rattle.md_rule.specs.Views.{IsOf};
 
+use crate::known::Known;
 use crate::pass::Pass;
 use crate::rule::{Key, Ruled};
 use atomic_table::Table;
-use md_machine::{PassView, Theory};
+use md_machine::Theory;
 use md_words::Shape;
 use std::alloc::{AllocError, Global};
 use std::marker::Model;
@@ -18,7 +19,7 @@ use std::snapshot::Snapshot;
 /// A table of shared words under the rule.
 #[derive(Drop)]
 pub struct Field<T: Theory> {
-    pub(crate) table: Table<(), PassView, Key, Ruled<T>, Global>,
+    pub(crate) table: Table<(), Known, Key, Ruled<T>, Global>,
     shape: Shape,
 }
 
@@ -67,7 +68,7 @@ impl<T: Theory> Field<T> {
         &self.shape
     }
 
-    pub(crate) fn into_table(self) -> Table<(), PassView, Key, Ruled<T>, Global>
+    pub(crate) fn into_table(self) -> Table<(), Known, Key, Ruled<T>, Global>
         ensures table { (result.shared.table_id ≡ self.table) × (result.shared.table_id.slots ≡ 0) }
         ensures origin { record { shape = result.shared.key.shape; words = result.shared.key.words.value.items }
             ≡ self.origin }

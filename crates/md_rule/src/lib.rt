@@ -6,12 +6,14 @@
 
 pub use close::Closed;
 pub use field::Field;
+pub use known::{Known, Parts};
 pub use pass::Pass;
-pub use rule::{Halving, Joining, Key, Ruled, Telling};
+pub use rule::{Halving, JoinTelling, Joining, Key, Ruled, Telling};
 pub use shares::Share;
 
 mod close;
 mod field;
+mod known;
 mod lanes;
 mod marks;
 mod parts;

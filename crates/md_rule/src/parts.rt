@@ -1,18 +1,21 @@
-//! The moves of lanes: a pass is split, and passes are joined. Each is one load of word 0.
+//! The moves of lanes: a pass is split by one load of word 0, and passes are joined by two.
 
-ghost use Rattle.std.specs.Prelude.{◌≡◌, ◌≤◌, ◌<◌, [], length, IfSome, IfNone};
+ghost use Rattle.std.specs.Prelude.{◌≡◌, ◌≤◌, ◌<◌, [], length, Some, None, IfSome, IfNone};
 ghost use Rattle.atomic_table.specs.Table.{Splits, Joins as JoinsViews};
+ghost use Rattle.md_machine.specs.declared.pass.PassView.{PassView};
+ghost use Rattle.md_rule.specs.declared.known.Parts.{Parts};
 ghost use Rattle.md_machine.specs.events.SplitJoin.{kept_part, given_part, joined_part, spent};
-ghost use Rattle.md_rule.specs.Rule.{Shows};
+ghost use Rattle.md_rule.specs.Rule.{ActTogether, Shows};
 ghost use Rattle.md_rule.specs.Shares.{joined_shares};
 ghost use Rattle.md_rule.specs.Views.{IsOf};
 
 use crate::field::Field;
+use crate::known::Known;
 use crate::pass::Pass;
-use crate::rule::{Halves, Halving, Joining, Joins};
+use crate::rule::{Halves, Halving, JoinTelling, Joining, Joins, TellsJoin};
 use crate::shares::take_shares;
 use atomic_table::Seat;
-use md_machine::{PassView, Theory};
+use md_machine::Theory;
 use std::marker::Brand;
 
 impl<T: Theory> Pass<T> {
@@ -32,17 +35,19 @@ impl<T: Theory> Pass<T> {
         Some(self.part(seat, lanes))
     }
 
-    /// Takes in another pass of the field.
+    /// Takes in another pass of the field. Both acted in one machine of it before.
     pub fn join(&mut self, field: &Field<T>, other: Pass<T>)
         requires mine { IsOf self.old field.now }
         requires others { IsOf other field.now }
-        ensures { self.new ≡ record self.old {
+        ensures together { ActTogether T.meaning field.now.origin self.old.view other.view }
+        ensures joined { self.new ≡ record self.old {
           view = joined_part self.old.shape self.old.view other.view;
           shares = joined_shares other.view.lanes self.old.shares other.shares;
         } }
     {
         let (seat, lanes, shares) = other.into_parts();
         join_seat::<Brand, T>(field, &mut self.seat, seat);
+        recall::<Brand, T>(field, &mut self.seat);
         take_shares(&mut self.shares, &lanes, &shares);
         self.lanes.join(lanes, &self.shape);
     }
@@ -50,29 +55,52 @@ impl<T: Theory> Pass<T> {
 
 fn split_seat<K: Halving, T: Theory>(
     field: &Field<T>,
-    seat: &mut Seat<(), PassView>,
-) -> Seat<(), PassView>
+    seat: &mut Seat<(), Known>,
+) -> Seat<(), Known>
     requires field { seat.old.table_id ≡ field.now.table }
     requires may { Splits {S = Unit {0}} (Shows T.meaning field.now.origin) seat.old.id seat.old.me.0
-        (K.kept seat.old.me.0) (K.given seat.old.me.0) }
+        (record seat.old.me.0 { view = K.kept seat.old.me.0.view })
+        (record { view = K.given seat.old.me.0.view; joined = None }) }
     ensures field { (seat.new.table_id ≡ seat.old.table_id) × (result.table_id ≡ seat.old.table_id) }
-    ensures kept { seat.new.me ≡ (K.kept seat.old.me.0, seat.old.me.1) }
-    ensures given { result.me ≡ (K.given seat.old.me.0, []) }
+    ensures kept { (seat.new.me.0.view ≡ K.kept seat.old.me.0.view) × (seat.new.me.1 ≡ seat.old.me.1) }
+    ensures given { (result.me.0.view ≡ K.given seat.old.me.0.view) × (result.me.1 ≡ []) }
 {
     field.table.shared.split_seat::<Halves<K>>(seat)
 }
 
 fn join_seat<K: Joining, T: Theory>(
     field: &Field<T>,
-    seat: &mut Seat<(), PassView>,
-    other: Seat<(), PassView>,
+    seat: &mut Seat<(), Known>,
+    other: Seat<(), Known>,
 )
     requires field { (seat.old.table_id ≡ field.now.table) × (other.table_id ≡ field.now.table) }
     requires bare { other.me.1 ≡ [] }
     requires may { JoinsViews {S = Unit {0}} (Shows T.meaning field.now.origin) seat.old.id seat.old.me.0
-        other.id other.me.0 (K.joined seat.old.me.0 other.me.0) spent }
+        other.id other.me.0 (record {
+          view = K.joined seat.old.me.0.view other.me.0.view;
+          joined = Some (record { one = seat.old.me.0.view; other = other.me.0.view });
+        }) (record { view = spent; joined = None }) }
     ensures field { seat.new.table_id ≡ seat.old.table_id }
-    ensures joined { seat.new.me ≡ (K.joined seat.old.me.0 other.me.0, seat.old.me.1) }
+    ensures joined { seat.new.me ≡ (
+      record {
+        view = K.joined seat.old.me.0.view other.me.0.view;
+        joined = Some (record { one = seat.old.me.0.view; other = other.me.0.view });
+      },
+      seat.old.me.1,
+    ) }
 {
     field.table.shared.join_seat::<Joins<K>>(seat, other);
+}
+
+// A load of word 0, which tells of the two passes that were joined.
+fn recall<K: JoinTelling, T: Theory>(field: &Field<T>, seat: &mut Seat<(), Known>)
+    requires field { seat.old.table_id ≡ field.now.table }
+    requires tells { (one other : PassView) → ActTogether T.meaning field.now.origin one other
+        → K.tells one other }
+    ensures field { seat.new.table_id ≡ seat.old.table_id }
+    ensures same { seat.new.me ≡ seat.old.me }
+    ensures told { (parts : Parts) → seat.old.me.0.joined ≡ Some parts
+        → K.tells parts.one parts.other }
+{
+    field.table.shared.load::<TellsJoin<K>>(seat, 0);
 }

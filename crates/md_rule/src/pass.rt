@@ -9,17 +9,18 @@ ghost use Rattle.md_rule.specs.Lanes.{AreLanes};
 ghost use Rattle.md_rule.specs.Views.{IsOf};
 
 use crate::field::Field;
+use crate::known::Known;
 use crate::lanes::Lanes;
 use crate::shares::{Share, UNUSED, count};
 use atomic_table::Seat;
-use md_machine::{PassView, Theory};
+use md_machine::Theory;
 use md_words::Shape;
 use std::marker::{Model, PhantomData};
 
 /// A thread's token: what it steps with.
 #[derive(Drop)]
 pub struct Pass<T: Theory> {
-    pub(crate) seat: Seat<(), PassView>,
+    pub(crate) seat: Seat<(), Known>,
     pub(crate) shape: Shape,
     pub(crate) lanes: Lanes,
     pub(crate) shares: [Share; 64],
@@ -32,17 +33,17 @@ impl<T: Theory> Model for Pass<T> {
 
     ghost Value = { PassState };
 
-    ghost view = { λ p. record { table = p.seat.table_id; shape = p.shape; view = p.seat.me.0; shares = p.shares } };
+    ghost view = { λ p. record { table = p.seat.table_id; shape = p.shape; view = p.seat.me.0.view; shares = p.shares } };
 
     ghost use Rattle.md_rule.specs.Lanes.{AreLanes};
 
-    ghost invariant = { λ p. (p.seat.me.0.lanes ≡ p.lanes) × AreLanes p.shape p.lanes × (p.seat.me.1 ≡ []) };
+    ghost invariant = { λ p. (p.seat.me.0.view.lanes ≡ p.lanes) × AreLanes p.shape p.lanes × (p.seat.me.1 ≡ []) };
 }
 
 impl<T: Theory> Pass<T> {
-    pub(crate) fn of(seat: Seat<(), PassView>, shape: Shape) -> Pass<T>
-        requires { seat.me ≡ (first_pass shape, []) }
-        ensures { (result.table ≡ seat.table_id) × (result.shape ≡ shape) × (result.view ≡ seat.me.0)
+    pub(crate) fn of(seat: Seat<(), Known>, shape: Shape) -> Pass<T>
+        requires { (seat.me.0.view ≡ first_pass shape) × (seat.me.1 ≡ []) }
+        ensures { (result.table ≡ seat.table_id) × (result.shape ≡ shape) × (result.view ≡ seat.me.0.view)
             × (result.shares ≡ replicate 64 UNUSED) }
     {
         Pass {
@@ -89,9 +90,9 @@ impl<T: Theory> Pass<T> {
     }
 
     // Another pass of the same field with these lanes, and copies of the shares.
-    pub(crate) fn part(&self, seat: Seat<(), PassView>, lanes: Lanes) -> Pass<T>
-        requires { (seat.me.0.lanes ≡ lanes) × AreLanes self.now.shape lanes × (seat.me.1 ≡ []) }
-        ensures { result ≡ record self.now { table = seat.table_id; view = seat.me.0 } }
+    pub(crate) fn part(&self, seat: Seat<(), Known>, lanes: Lanes) -> Pass<T>
+        requires { (seat.me.0.view.lanes ≡ lanes) × AreLanes self.now.shape lanes × (seat.me.1 ≡ []) }
+        ensures { result ≡ record self.now { table = seat.table_id; view = seat.me.0.view } }
     {
         Pass {
             seat,
@@ -102,8 +103,8 @@ impl<T: Theory> Pass<T> {
         }
     }
 
-    pub(crate) fn into_parts(self) -> (Seat<(), PassView>, Lanes, [Share; 64])
-        ensures seat { (result.0.table_id ≡ self.table) × (result.0.me ≡ (self.view, [])) }
+    pub(crate) fn into_parts(self) -> (Seat<(), Known>, Lanes, [Share; 64])
+        ensures seat { (result.0.table_id ≡ self.table) × (result.0.me.0.view ≡ self.view) × (result.0.me.1 ≡ []) }
         ensures lanes { (result.1 ≡ self.view.lanes) × AreLanes self.shape result.1 }
         ensures shares { result.2 ≡ self.shares }
     {

@@ -5,8 +5,9 @@ ghost use Rattle.md_machine.specs.declared.pass.PassView.{PassView};
 ghost use Rattle.md_machine.specs.Event.{first_pass};
 ghost use Rattle.md_rule.specs.Rule.{Shows};
 
+use crate::known::Known;
 use atomic_table::{Join, Play, Split, TableRule};
-use md_machine::{PassView, Theory};
+use md_machine::Theory;
 use md_words::Shape;
 use std::marker::{Brand, PhantomData};
 use std::snapshot::Snapshot;
@@ -24,13 +25,14 @@ pub struct Ruled<T> {
     theory: PhantomData<T>,
 }
 
-impl<T: Theory> TableRule<(), PassView, Key> for Ruled<T> {
+impl<T: Theory> TableRule<(), Known, Key> for Ruled<T> {
+    ghost use Rattle.std.specs.Prelude.{None};
     ghost use Rattle.md_machine.specs.Event.{first_pass};
     ghost use Rattle.md_rule.specs.Rule.{Shows};
 
     ghost holds = { λ k. Shows T.meaning (record { shape = k.shape; words = k.words.value.items }) };
 
-    ghost first = { λ k. first_pass k.shape };
+    ghost first = { λ k. record { view = first_pass k.shape; joined = None } };
 }
 
 /// What a step tells of the content that it found, and of what the pass knew before and knows after.
@@ -50,10 +52,10 @@ pub(crate) struct Tells<K> {
     telling: PhantomData<K>,
 }
 
-impl<K: Telling> Play<(), PassView> for Tells<K> {
+impl<K: Telling> Play<(), Known> for Tells<K> {
     ghost use Rattle.std.specs.Prelude.{◌≡◌};
 
-    ghost then = { λ step me found now. K.tells found me.0 now.0 × (now.0.lanes ≡ me.0.lanes)
+    ghost then = { λ step me found now. K.tells found me.0.view now.0.view × (now.0.view.lanes ≡ me.0.view.lanes)
         × (now.1 ≡ me.1) };
 }
 
@@ -86,20 +88,49 @@ pub(crate) struct Halves<K> {
     halving: PhantomData<K>,
 }
 
-impl<K: Halving> Split<PassView> for Halves<K> {
-    ghost left = { K.kept };
+impl<K: Halving> Split<Known> for Halves<K> {
+    ghost use Rattle.std.specs.Prelude.{None};
 
-    ghost right = { K.given };
+    ghost left = { λ k. record k { view = K.kept k.view } };
+
+    ghost right = { λ k. record { view = K.given k.view; joined = None } };
 }
 
 pub(crate) struct Joins<K> {
     joining: PhantomData<K>,
 }
 
-impl<K: Joining> Join<PassView> for Joins<K> {
+impl<K: Joining> Join<Known> for Joins<K> {
+    ghost use Rattle.std.specs.Prelude.{None, Some};
     ghost use Rattle.md_machine.specs.events.SplitJoin.{spent};
 
-    ghost both = { K.joined };
+    ghost both = { λ p q. record {
+      view = K.joined p.view q.view;
+      joined = Some (record { one = p.view; other = q.view });
+    } };
 
-    ghost spent = { spent };
+    ghost spent = { record { view = spent; joined = None } };
+}
+
+/// What is told of the two passes that were joined. Each call picks it.
+pub trait JoinTelling {
+    ghost use Rattle.md_machine.specs.declared.pass.PassView.{PassView};
+
+    ghost tells: { PassView → PassView → Type 0 };
+}
+
+impl JoinTelling for Brand {
+    ghost tells = { λ one other. Unit {0} };
+}
+
+pub(crate) struct TellsJoin<K> {
+    telling: PhantomData<K>,
+}
+
+impl<K: JoinTelling> Play<(), Known> for TellsJoin<K> {
+    ghost use Rattle.std.specs.Prelude.{◌≡◌, Some};
+    ghost use Rattle.md_rule.specs.declared.known.Parts.{Parts};
+
+    ghost then = { λ step me found now. (now ≡ me)
+        × ((parts : Parts) → me.0.joined ≡ Some parts → K.tells parts.one parts.other) };
 }

@@ -1,4 +1,4 @@
-use Rattle.std.proofs.Common.{◌<◌, length, ap, subst}
+use Rattle.std.proofs.Common.{◌<◌, length, subst}
 use Rattle.md_rule.specs.Closing.{IsLast}
 use Rattle.md_rule.specs.Views.{Origin}
 use Rattle.md_machine.specs.declared.pass.PassView.{PassView}
@@ -10,7 +10,7 @@ last g c =
     let M = g.T.Theory.meaning in
     let parts = c.into_parts-seat.ensures in
     let seat = c.into_parts-seat.result.0 in
-    let me = ap (λ me. me.0) parts.seat.1 in
+    let me = parts.seat.1 in
     let live : 0 < length c.args.pass.view.lanes = rw (← parts.lanes.0) parts.lanes.1.live in
     let l = last_of M _ seat.id seat.me.0 _ _ c.close_with-closed.ensures.values.2 (rw me live) in
     subst (λ (o : Origin). IsLast M o c.args.pass.view c.in_ok-words.field-0.items) c.into_table-table.ensures.origin

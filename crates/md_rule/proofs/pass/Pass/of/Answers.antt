@@ -4,7 +4,7 @@ use Rattle.md_rule.proofs.pass.Pass.of.Goals as goal
 
 pub invariant_of-result : goal.invariant_of-result
 invariant_of-result g c = (
-  ap (λ me. me.0.lanes) c.requires ∙ sym c.all.ensures,
+  ap (λ v. v.lanes) c.requires.0 ∙ sym c.all.ensures,
   rw c.all.ensures (all_are_lanes c.args.shape),
-  ap (λ me. me.1) c.requires,
+  c.requires.1,
 )

@@ -15,16 +15,16 @@ pub invariant_of-self : goal.invariant_of-self
 invariant_of-self g c =
     let count = c.count.ensures in
     let some = c.if-count-lt2.false in (
-      ap (λ me. me.0.lanes) c.split_seat-seat.ensures.kept ∙ ap kept_lanes c.self.invariant.0 ∙ sym c.split-lanes.ensures.kept,
+      ap (λ v. v.lanes) c.split_seat-seat.ensures.kept.0 ∙ ap kept_lanes c.self.invariant.0 ∙ sym c.split-lanes.ensures.kept,
       rw c.split-lanes.ensures.kept (kept_are_lanes c.self.inside.shape c.self.inside.lanes c.self.invariant.1 (omega (arith, count, some))),
-      ap (λ me. me.1) c.split_seat-seat.ensures.kept ∙ c.self.invariant.2,
+      c.split_seat-seat.ensures.kept.1 ∙ c.self.invariant.2,
     )
 
 pub part-requires : goal.part-requires
 part-requires g c =
     let count = c.count.ensures in
     let some = c.if-count-lt2.false in (
-      ap (λ me. me.0.lanes) c.split_seat-seat.ensures.given ∙ ap given_lanes c.self.invariant.0 ∙ sym c.split-lanes.ensures.given,
+      ap (λ v. v.lanes) c.split_seat-seat.ensures.given.0 ∙ ap given_lanes c.self.invariant.0 ∙ sym c.split-lanes.ensures.given,
       rw c.split-lanes.ensures.given (given_are_lanes c.self.inside.shape c.self.inside.lanes c.self.invariant.1 (omega (arith, count, some))),
-      ap (λ me. me.1) c.split_seat-seat.ensures.given,
+      c.split_seat-seat.ensures.given.1,
     )
