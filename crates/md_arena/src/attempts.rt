@@ -10,9 +10,9 @@ use md_history::Limit;
 use md_machine::Theory;
 use md_rule::Pass;
 
-/// Takes the descriptor of the pass's lowest lane that has begun fewer attempts than it may: that lane
-/// has then begun one more. The answer is `Limit::Tries` exactly if each lane has begun all of its
-/// attempts. Nothing but that lane's share is changed.
+/// Takes the descriptor of the pass's lowest lane that has begun fewer attempts than it may: that
+/// lane has then begun one more. The answer is `Limit::Tries` exactly if each lane has begun all
+/// of its attempts. Nothing but that lane's share is changed.
 ///
 /// It takes constant time where the lowest lane has an attempt left, and else time by the lanes.
 pub fn take_descriptor<T: Theory>(pass: &mut Pass<T>) -> Result<u32, Limit>

@@ -11,8 +11,9 @@ use md_history::Limit;
 use md_machine::Theory;
 use md_rule::Pass;
 
-/// Takes the lowest node that is left of the pass's lanes: the next one of its lowest lane that has one
-/// left. The answer is `Limit::Nodes` exactly if none has. Nothing but that lane's share is changed.
+/// Takes the lowest node that is left of the pass's lanes: the next one of its lowest lane that
+/// has one left. The answer is `Limit::Nodes` exactly if none has. Nothing but that lane's share
+/// is changed.
 ///
 /// It takes constant time where the lowest lane has a node left, and else time by the lanes.
 pub fn take_node<T: Theory>(pass: &mut Pass<T>) -> Result<u32, Limit>
@@ -32,8 +33,8 @@ pub fn take_node<T: Theory>(pass: &mut Pass<T>) -> Result<u32, Limit>
     Ok(node)
 }
 
-/// Gives a node back that the pass took and doesn't use: the highest taken of its lane, which is left
-/// again. The pass must know that it is free. Its words stay. It takes constant time.
+/// Gives a node back that the pass took and doesn't use: the highest taken of its lane, which is
+/// left again. The pass must know that it is free. Its words stay. It takes constant time.
 pub fn give_back<T: Theory>(pass: &mut Pass<T>, node: u32)
     requires highest { IsHighestTaken pass.old node }
     requires free { KnowsFree pass.old.shape pass.old.view node }

@@ -8,8 +8,9 @@ ghost use Rattle.md_queue_law.specs.Rising.{SeenRanksFit};
 
 use md_machine::Theory;
 
-/// A theory that contains queues: in its valid heaps each queue has its shape and its values, it has
-/// the certificates of queues and the moves of their tails, and none that breaks the rise of ranks.
+/// A theory that contains queues: in its valid heaps each queue has its shape and its values, it
+/// has the certificates of queues and the moves of their tails, and none that breaks the rise of
+/// ranks.
 pub trait HasQueues: Theory {
     ghost use Rattle.md_queue_law.specs.QueueMeaning.{HasQueuesOf};
 

@@ -2,8 +2,8 @@
 
 use md_machine::PassView;
 
-/// The view of its pass, and the views of the two passes that were joined into it last. No value of it is
-/// made.
+/// The view of its pass, and the views of the two passes that were joined into it last. No value
+/// of it is made.
 #[derive(Drop)]
 pub struct Known {
     pub view: PassView,

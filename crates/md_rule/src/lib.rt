@@ -1,7 +1,7 @@
 //! A field of shared words under the machine's theorem, and the passes that step on it.
 //!
-//! A `Field` owns a table of atomic words, a `Pass` is a thread's right to step on it. Each step is one
-//! atomic operation and one event of the machine, and its contract says which.
+//! A `Field` owns a table of atomic words, a `Pass` is a thread's right to step on it. Each step
+//! is one atomic operation and one event of the machine, and its contract says which.
 #![tactic(auto)]
 
 pub use close::Closed;

@@ -66,8 +66,8 @@ impl<T: Theory> Pass<T> {
         mark::<Brand, T, _>(self, field, Snapshot::of(&(op, reply)));
     }
 
-    /// Nothing is in hand afterwards: the transaction of this descriptor, whose attempt is decided and
-    /// stands in no word, is answered or stopped.
+    /// Nothing is in hand afterwards: the transaction of this descriptor, whose attempt is decided
+    /// and stands in no word, is answered or stopped.
     pub fn mark_end(&mut self, field: &Field<T>, desc: u32)
         requires field { IsOf self.old field.now × (desc < desc_count field.now.origin.shape) }
         requires hand { HoldsDesc self.old.view desc }
@@ -94,7 +94,8 @@ impl<T: Theory> Pass<T> {
         mark::<Brand, T, _>(self, field, Snapshot::of(&()));
     }
 
-    /// Nothing is in hand afterwards. A transaction that was in hand is neither answered nor stopped.
+    /// Nothing is in hand afterwards. A transaction that was in hand is neither answered nor
+    /// stopped.
     pub fn mark_leave(&mut self, field: &Field<T>)
         requires { IsOf self.old field.now }
         ensures same { self.new ≡ record self.old { view = self.new.view } }

@@ -12,8 +12,8 @@ use md_words::Shape;
 use std::marker::{Brand, PhantomData};
 use std::snapshot::Snapshot;
 
-/// What the table is told when it is made: the shape, and the words of the opening. The words have no
-/// bytes here.
+/// What the table is told when it is made: the shape, and the words of the opening. The words have
+/// no bytes here.
 #[derive(Drop)]
 pub struct Key {
     pub shape: Shape,
@@ -35,8 +35,8 @@ impl<T: Theory> TableRule<(), Known, Key> for Ruled<T> {
     ghost first = { λ k. record { view = first_pass k.shape; joined = None } };
 }
 
-/// What a step tells of the content that it found, and of what the pass knew before and knows after.
-/// Each call picks it.
+/// What a step tells of the content that it found, and of what the pass knew before and knows
+/// after. Each call picks it.
 pub trait Telling {
     ghost use Rattle.std.specs.Prelude.{ℕ};
     ghost use Rattle.md_machine.specs.declared.pass.PassView.{PassView};

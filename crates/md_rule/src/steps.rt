@@ -34,8 +34,8 @@ impl<T: Theory> Pass<T> {
         load_word::<Brand, T, _>(self, field, word, Snapshot::of(&word))
     }
 
-    /// Writes a word of an own node that isn't published, or of a read or a slot of the transaction in
-    /// hand.
+    /// Writes a word of an own node that isn't published, or of a read or a slot of the
+    /// transaction in hand.
     pub fn store(&mut self, field: &Field<T>, word: u32, value: u64)
         requires field { IsOf self.old field.now
             × (word < words_of field.now.origin.shape) }
@@ -192,7 +192,8 @@ impl<T: Theory> Pass<T> {
         exchange_word::<Brand, T, _>(self, field, word, from.word(), uninstalled.word(), about)
     }
 
-    /// Begins the next attempt of an own descriptor, whose last one is decided and stands in no word.
+    /// Begins the next attempt of an own descriptor, whose last one is decided and stands in no
+    /// word.
     pub fn start(&mut self, field: &Field<T>, desc: u32, from: u64)
         requires field { IsOf self.old field.now × (desc < desc_count field.now.origin.shape) }
         requires fits { serial_of from + 1 < field.now.origin.shape.tries }

@@ -1,5 +1,5 @@
-//! The three ways in which a step reaches the table. Each call picks what it tells, from what it is about,
-//! which has no bytes.
+//! The three ways in which a step reaches the table. Each call picks what it tells, from what it
+//! is about, which has no bytes.
 
 ghost use Rattle.std.specs.Prelude.{◌≡◌, ◌≢◌, ◌==◌, ◌<◌, ℕ, MatchResult};
 ghost use prog.Atomic.{either};

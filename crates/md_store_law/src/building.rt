@@ -57,8 +57,8 @@ pub(crate) fn append_pairs(
     node
 }
 
-/// Lays the values of a queue that has its dummy alone, in order: the first becomes the node `first`
-/// with the rank 1. Returns the number of the next node.
+/// Lays the values of a queue that has its dummy alone, in order: the first becomes the node
+/// `first` with the rank 1. Returns the number of the next node.
 pub(crate) fn append_values(
     words: &mut [u64],
     shape: &Shape,

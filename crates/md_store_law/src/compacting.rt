@@ -14,13 +14,13 @@ use md_words::Shape;
 use std::alloc::{AllocError, Global};
 
 /// A field with the same contents whose nodes are all needed: removed nodes, and those that the
-/// heads of queues have passed, are left out, and every count is 0. Its shape is the old one with as
-/// many base nodes as the contents need, which must be in range. All lanes have their nodes again.
-/// `AllocError` if memory runs out.
+/// heads of queues have passed, are left out, and every count is 0. Its shape is the old one with
+/// as many base nodes as the contents need, which must be in range. All lanes have their nodes
+/// again. `AllocError` if memory runs out.
 ///
-/// Takes time linear in the words and the nodes. It goes from words to words, a bucket or a queue at
-/// a time: beside the old words and the new ones it keeps the pairs of one bucket or the values of
-/// one queue.
+/// Takes time linear in the words and the nodes. It goes from words to words, a bucket or a queue
+/// at a time: beside the old words and the new ones it keeps the pairs of one bucket or the values
+/// of one queue.
 pub fn compact(
     alloc: Global,
     shape: &Shape,

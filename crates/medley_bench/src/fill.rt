@@ -12,8 +12,8 @@ pub(crate) const LEVELS: u32 = 2_000;
 
 const ACCOUNTS: u64 = 9_999;
 
-/// Each order has a pair in the first map and a value in the queue of its level; each level and each
-/// account has a pair in the others.
+/// Each order has a pair in the first map and a value in the queue of its level; each level and
+/// each account has a pair in the others.
 pub(crate) fn filled(alloc: Global, orders: u32) -> Result<Contents, AllocError>
     ensures { IfOk result HasBookNumbers }
 {
