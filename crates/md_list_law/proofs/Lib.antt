@@ -20,3 +20,4 @@ mod RisingAlong
 pub mod OneListLaws
 mod Shown
 pub mod RowsHold
+pub mod MetLists
