@@ -1,5 +1,5 @@
 -- What a pass has seen, knows and has answered goes on over each event of its own.
-use Rattle.std.proofs.Common.{◌≡◌, ◌||◌, ℕ, Bool, true, false, List, Contains, slice_set, refl, sym, ap, ◌∙◌, subst}
+use Rattle.std.proofs.Common.{◌≡◌, ◌||◌, ◌<◌, ℕ, Bool, true, false, List, Contains, refl, sym, ap, ◌∙◌, subst}
 use mathlib.Core.Option.{some-injective}
 use lib.ListN.{get_elem?}
 use Rattle.md_words.specs.declared.shape.Shape.{Shape}
@@ -8,13 +8,13 @@ use Rattle.md_machine.specs.Legal.{front_of}
 use Rattle.md_machine.specs.declared.pass.PassView.{PassView}
 use Rattle.md_machine.specs.Meaning.{Meaning}
 use Rattle.md_machine.proofs.clauses.passes.FrontsGoOn.{front_begins}
-use Rattle.md_machine.proofs.lists.At.{set_else, set_there}
+use Rattle.md_machine.proofs.lists.At.{set_there}
 use Rattle.md_machine.proofs.lists.Rising.{in_lane}
 use Rattle.md_machine.proofs.clauses.passes.HandKnows.{in_joined}
-use Rattle.md_machine.specs.Event.{Does, join}
-use Rattle.md_machine.specs.Machine.{IsAt, shape_of}
-use Rattle.md_machine.specs.events.SplitJoin.{after_join, joined_part, spent}
-use Rattle.md_rule.specs.Rule.{ActTogether}
+use Rattle.md_machine.specs.Event.{join}
+use Rattle.md_machine.specs.Machine.{IsAt}
+use Rattle.md_machine.specs.events.SplitJoin.{joined_part}
+use Rattle.md_rule.specs.Rule.{JoinedInto}
 use Rattle.md_rule.specs.Steps.{EventOf, Stepped}
 use Rattle.md_rule.specs.Views.{Origin}
 use Rattle.md_rule.proofs.Events.{IsStepOn}
@@ -54,22 +54,21 @@ module _ (M : Meaning) (o : Origin) where
       (λ lane c. subst (λ (l : List ℕ). Contains l lane) (sym (told_lanes event before after word left is s)) c)
 
   -- the fronts of two passes that are joined go on in the joined one
-  pub told_joined : (one other : PassView) → ActTogether M o one other → let both = joined_part o.shape one other in
-      Begins (front_of o.shape one) (front_of o.shape both) × Begins (front_of o.shape other) (front_of o.shape both)
+  pub told_joined : (one other : PassView) → let both = joined_part o.shape one other in JoinedInto M o one other both
+      → Begins (front_of o.shape one) (front_of o.shape both) × Begins (front_of o.shape other) (front_of o.shape both)
   told_joined one other t =
-      let m = t.machine in
-      let shape = shape_of m in
-      let both = joined_part shape one other in
-      let n = after_join m t.pass t.seat one other in
-      let does : Does M m (join t.pass t.seat) n = (one, other, t.acts, t.distinct, t.beside, refl) in
-      let on = goes_on M o m n (join t.pass t.seat) t.admitted does in
-      let lanes = (is_kept M o m t.admitted).lanes in
-      let stands : IsAt n t.pass both = set_else (slice_set m.passes t.pass both) t.seat t.pass spent (λ e. t.distinct (sym e)) ∙ set_there m.passes t.pass both one t.acts.at in
+      let s = t.step in
+      let m = s.machine in
+      let both = joined_part o.shape one other in
+      let on = goes_on M o m s.next (join s.pass t.seat) s.admitted s.does in
+      let lanes = (is_kept M o m s.admitted).lanes in
+      let exists : (pass lane : ℕ) (p : PassView) → IsAt m pass p → Contains p.lanes lane → lane < o.shape.lanes = λ pass lane p at c.
+      subst (λ (x : Shape). lane < x.lanes) s.admitted.shape (lanes.exists pass lane (p, at, c)) in
       let mine : (lane : ℕ) → Contains one.lanes lane → Contains both.lanes lane = λ lane c.
-      in_joined shape lane one.lanes other.lanes (lanes.exists t.pass lane (one, t.acts.at, c)) (or_first _ _ (in_lane one.lanes lane c)) in
+      in_joined o.shape lane one.lanes other.lanes (exists s.pass lane one s.acts.at c) (or_first _ _ (in_lane one.lanes lane c)) in
       let others : (lane : ℕ) → Contains other.lanes lane → Contains both.lanes lane = λ lane c.
-      in_joined shape lane one.lanes other.lanes (lanes.exists t.seat lane (other, t.beside.at, c)) (or_second _ _ (in_lane other.lanes lane c)) in
-      subst (λ (s : Shape). Begins (front_of s one) (front_of s (joined_part s one other)) × Begins (front_of s other) (front_of s (joined_part s one other))) t.admitted.shape (
-        front_begins m n on t.pass t.pass one both t.acts.at stands t.acts.live mine,
-        front_begins m n on t.seat t.pass other both t.beside.at stands t.beside.live others,
+      in_joined o.shape lane one.lanes other.lanes (exists t.seat lane other t.beside.at c) (or_second _ _ (in_lane other.lanes lane c)) in
+      subst (λ (x : Shape). Begins (front_of x one) (front_of x both) × Begins (front_of x other) (front_of x both)) s.admitted.shape (
+        front_begins m s.next on s.pass s.pass one both s.acts.at s.knows s.acts.live mine,
+        front_begins m s.next on t.seat s.pass other both t.beside.at s.knows t.beside.live others,
       )

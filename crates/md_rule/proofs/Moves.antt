@@ -1,17 +1,17 @@
 -- A step of the table is one more event of the machine, and so keeps the rule.
-use Rattle.std.proofs.Common.{◌≡◌, ℕ, zero, suc, List, [], ◌∷◌, ◌++◌, Some, None, map, slice_set, slice_index, refl, sym, ap, ◌∙◌, subst, inl, ⊎_elim, arith}
+use Rattle.std.proofs.Common.{◌≡◌, ◌≢◌, ℕ, length, zero, suc, List, [], ◌∷◌, ◌++◌, Some, None, map, slice_set, slice_index, refl, sym, ap, ◌∙◌, subst, inl, ⊎_elim, arith}
 use Rattle.atomic_table.proofs.Lists.{at_map}
 use Rattle.md_machine.proofs.lists.Options.{none_some, some_same}
 use Rattle.md_rule.specs.declared.known.Known.{Known}
 use Rattle.md_rule.specs.declared.known.Parts.{Parts}
 use mathlib.Core.Option.{some, some-injective}
 use lib.ListN.{get_elem?}
-use Rattle.atomic_table.specs.Table.{State, Me, Allows, Splits, Joins, keeps, opening as first_table}
+use Rattle.atomic_table.specs.Table.{State, Me, Allows, Seen, Splits, Joins, keeps, opening as first_table}
 use Rattle.md_machine.specs.declared.node.PlacedNode.{PlacedNode}
 use Rattle.md_machine.specs.declared.opening.Opening.{Opening}
 use Rattle.md_machine.specs.declared.pass.PassView.{PassView}
 use Rattle.md_machine.specs.Event.{Acts, CanOpen, Does, Event, Plays, Runs, first_pass, join, opened, split}
-use Rattle.md_machine.specs.Machine.{IsAt, IsLive, Machine, content}
+use Rattle.md_machine.specs.Machine.{IsAt, IsLive, Machine, content, shape_of}
 use Rattle.md_machine.specs.GoesOn.{GoesOn}
 use Rattle.md_machine.specs.Legal.{IsMeant}
 use Rattle.md_machine.specs.Meaning.{Lawful, Meaning}
@@ -19,11 +19,11 @@ use Rattle.md_machine.specs.Theorem.{IsKept}
 use Rattle.md_machine.proofs.Reached.{always_goes_on, always_kept}
 use Rattle.md_machine.proofs.replay.Always.{always_meant}
 use Rattle.md_machine.specs.events.SplitJoin.{MaySplit, after_join, after_split, given_part, joined_part, kept_part, spent}
-use Rattle.md_machine.proofs.lists.At.{at_append, at_one, at_set, set_else}
-use Rattle.std.proofs.lemmas.List.{map-append, map-set, set-get_or}
+use Rattle.md_machine.proofs.lists.At.{append_end, append_there, at_append, at_one, at_set, set_else, set_there}
+use Rattle.std.proofs.lemmas.List.{length-set, map-append, map-set, set-get_or}
 use Rattle.md_words.specs.declared.shape.Shape.{Shape}
 use Rattle.md_rule.specs.Admitted.{Admitted}
-use Rattle.md_rule.specs.Rule.{ActTogether, Shows}
+use Rattle.md_rule.specs.Rule.{JoinedInto, Shows, SplitInto}
 use Rattle.md_rule.specs.Steps.{EventOf, MayTell, Stepped}
 use Rattle.md_rule.specs.Views.{Origin}
 
@@ -48,10 +48,10 @@ module _ (M : Meaning) where
   module _ (o : Origin) where
     -- what is known of a seat that was joined, and of all seats
     abbrev pub Together : Known → Type 0
-    Together k = (parts : Parts) → k.joined ≡ Some parts → ActTogether M o parts.one parts.other
+    Together k = (parts : Parts) → k.joined ≡ Some parts → JoinedInto M o parts.one parts.other (joined_part o.shape parts.one parts.other)
 
     abbrev pub AllTogether : List Known → Type 0
-    AllTogether l = (seat : ℕ) (k : Known) (parts : Parts) → get_elem? l seat ≡ some k → k.joined ≡ Some parts → ActTogether M o parts.one parts.other
+    AllTogether l = (seat : ℕ) (k : Known) (parts : Parts) → get_elem? l seat ≡ some k → k.joined ≡ Some parts → JoinedInto M o parts.one parts.other (joined_part o.shape parts.one parts.other)
 
     -- one more event leads to a machine of the field again
     pub one_more : (m n : Machine) (e : Event) → Admitted M o m → Does M m e n → Admitted M o n
@@ -124,23 +124,22 @@ module _ (M : Meaning) where
           (subst (λ n. tells n me.0.view told.2) found told.7, told.6, refl),
         )
 
-    -- a load of word 0 that changes nothing tells what is known of the two that were joined
-    pub may_look : (slots id : ℕ) (me : Mine) (tells : PassView → PassView → Type 0) → ((one other : PassView) → ActTogether M o one other → tells one other)
-        → Allows (Shows M o) slots id me 0 (λ found. found) (λ found now. (now ≡ me) × ((parts : Parts) → me.0.joined ≡ Some parts → tells parts.one parts.other))
+    -- a load of word 0 that changes nothing tells what follows from the rule
+    pub may_look : (slots id : ℕ) (me : Mine) (tells : Known → Type 0) → ((s : Table) → Seen (Shows M o) id me.0 s → tells me.0)
+        → Allows (Shows M o) slots id me 0 (λ found. found) (λ found now. (now ≡ me) × tells me.0)
     may_look slots id me tells tell s h _ at _ =
-        let m = h.machine in
         let same : slice_set s.views id me.0 ≡ s.views = set_same s.views id me.0 at in (
           me.0,
           keeps,
           tt,
           record {
-            machine = m;
+            machine = h.machine;
             admitted = h.admitted;
             words = h.words ∙ sym (set-get_or s.words 0 0);
             views = h.views ∙ ap (map (λ (x : Known). x.view)) (sym same);
             joined = subst AllTogether (sym same) h.joined;
           },
-          (refl, λ parts is. tell parts.one parts.other (h.joined id me.0 parts at is)),
+          (refl, tell s (h, at)),
         )
 
     -- the field as it is opened
@@ -157,6 +156,48 @@ module _ (M : Meaning) where
     -- a load writes back what it found
     still : (m : Machine) → slice_set m.words 0 (content m 0) ≡ m.words
     still m = set-get_or m.words 0 0
+
+    -- in a machine that the rule shows, a pass of two lanes may be split
+    pub splits_into : (id : ℕ) (p : Known) → MaySplit p.view → (s : Table) → Seen (Shows M o) id p s
+        → SplitInto M o p.view (kept_part o.shape p.view) (given_part o.shape p.view)
+    splits_into id p two s (h, at) =
+        let m = h.machine in
+        let shape = shape_of m in
+        let kept = kept_part shape p.view in
+        let given = given_part shape p.view in
+        let acts : Acts m id p.view = record { at = stands_at s.views m.passes id p h.views at; live = omega (arith, two) } in
+        let long : length (slice_set m.passes id kept) ≡ length m.passes = length-set m.passes id kept in
+        subst (λ (x : Shape). SplitInto M o p.view (kept_part x p.view) (given_part x p.view)) h.admitted.shape (record {
+          step = record {
+            machine = m;
+            admitted = h.admitted;
+            pass = id;
+            acts = acts;
+            next = after_split m id p.view;
+            does = (p.view, acts, two, refl);
+            knows = append_there (slice_set m.passes id kept) (given ∷ []) id kept (set_there m.passes id kept p.view acts.at);
+          };
+          beside = subst (λ n. get_elem? (slice_set m.passes id kept ++ given ∷ []) n ≡ some given) long (append_end (slice_set m.passes id kept) given);
+        })
+
+    -- two passes of a machine may be joined
+    joins_into : (m : Machine) → Admitted M o m → (pass seat : ℕ) (p q : PassView) → Acts m pass p → seat ≢ pass → Acts m seat q
+        → JoinedInto M o p q (joined_part o.shape p q)
+    joins_into m a pass seat p q acts apart beside =
+        let both = joined_part (shape_of m) p q in
+        subst (λ (x : Shape). JoinedInto M o p q (joined_part x p q)) a.shape (record {
+          seat = seat;
+          step = record {
+            machine = m;
+            admitted = a;
+            pass = pass;
+            acts = acts;
+            next = after_join m pass seat p q;
+            does = (p, q, acts, apart, beside, refl);
+            knows = set_else (slice_set m.passes pass both) seat pass spent (λ e. apart (sym e)) ∙ set_there m.passes pass both p acts.at;
+          };
+          beside = beside;
+        })
 
     -- a split and a join keep the rule
     pub may_split : (id : ℕ) (p : Known) → MaySplit p.view
@@ -190,8 +231,8 @@ module _ (M : Meaning) where
         let acts : Acts m id p.view = record { at = stands; live = live_p } in
         let others : Acts m other q.view = record { at = beside; live = live_q } in
         let does : Does M m (join id other) n = (p.view, q.view, acts, apart, others, refl) in
-        let together : Together both = λ parts is. subst (λ (x : Parts). ActTogether M o x.one x.other) (some_same _ parts is)
-        (record { machine = m; admitted = h.admitted; pass = id; seat = other; distinct = apart; acts = acts; beside = others }) in
+        let together : Together both = λ parts is. subst (λ (x : Parts). JoinedInto M o x.one x.other (joined_part o.shape x.one x.other)) (some_same _ parts is)
+        (joins_into m h.admitted id other p.view q.view acts apart others) in
         record {
           machine = n;
           admitted = one_more m n (join id other) h.admitted does;

@@ -8,7 +8,7 @@ pub use close::Closed;
 pub use field::Field;
 pub use known::{Known, Parts};
 pub use pass::Pass;
-pub use rule::{Halving, JoinTelling, Joining, Key, Ruled, Telling};
+pub use rule::{Halving, Joining, Key, Looking, Ruled, Telling};
 pub use shares::Share;
 
 mod close;

@@ -1,18 +1,18 @@
-//! The moves of lanes: a pass is split by one load of word 0, and passes are joined by two.
+//! The moves of lanes, a split and a join: two loads of word 0 each. One is the move, and one tells
+//! of a machine of the field in which the move can be made.
 
 ghost use Rattle.std.specs.Prelude.{◌≡◌, ◌≤◌, ◌<◌, [], length, Some, None, IfSome, IfNone};
-ghost use Rattle.atomic_table.specs.Table.{Splits, Joins as JoinsViews};
-ghost use Rattle.md_machine.specs.declared.pass.PassView.{PassView};
-ghost use Rattle.md_rule.specs.declared.known.Parts.{Parts};
+ghost use Rattle.atomic_table.specs.Table.{State, Seen, Splits, Joins as JoinsViews};
 ghost use Rattle.md_machine.specs.events.SplitJoin.{kept_part, given_part, joined_part, spent};
-ghost use Rattle.md_rule.specs.Rule.{ActTogether, Shows};
+ghost use Rattle.md_rule.specs.declared.known.Known.{Known};
+ghost use Rattle.md_rule.specs.Rule.{JoinedInto, Shows, SplitInto};
 ghost use Rattle.md_rule.specs.Shares.{joined_shares};
 ghost use Rattle.md_rule.specs.Views.{IsOf};
 
 use crate::field::Field;
 use crate::known::Known;
 use crate::pass::Pass;
-use crate::rule::{Halves, Halving, JoinTelling, Joining, Joins, TellsJoin};
+use crate::rule::{Halves, Halving, Joining, Joins, Looking, Looks};
 use crate::shares::take_shares;
 use atomic_table::Seat;
 use md_machine::Theory;
@@ -25,29 +25,32 @@ impl<T: Theory> Pass<T> {
         ensures some { IfSome result (λ p. (2 ≤ length self.old.view.lanes)
             × (self.new ≡ record self.old { view = kept_part self.old.shape self.old.view })
             × (p ≡ record self.old { view = given_part self.old.shape self.old.view })) }
+        ensures step { IfSome result (λ p.
+            SplitInto T.meaning field.now.origin self.old.view self.new.view p.view) }
         ensures none { IfNone result ((length self.old.view.lanes ≡ 1) × (self.new ≡ self.old)) }
     {
         if self.lanes.count() < 2 {
             return None;
         }
+        look::<Brand, T>(field, &mut self.seat);
         let seat = split_seat::<Brand, T>(field, &mut self.seat);
         let lanes = self.lanes.split();
         Some(self.part(seat, lanes))
     }
 
-    /// Takes in another pass of the field. Both acted in one machine of it before.
+    /// Takes in another pass of the field.
     pub fn join(&mut self, field: &Field<T>, other: Pass<T>)
         requires mine { IsOf self.old field.now }
         requires others { IsOf other field.now }
-        ensures together { ActTogether T.meaning field.now.origin self.old.view other.view }
         ensures joined { self.new ≡ record self.old {
           view = joined_part self.old.shape self.old.view other.view;
           shares = joined_shares other.view.lanes self.old.shares other.shares;
         } }
+        ensures step { JoinedInto T.meaning field.now.origin self.old.view other.view self.new.view }
     {
         let (seat, lanes, shares) = other.into_parts();
         join_seat::<Brand, T>(field, &mut self.seat, seat);
-        recall::<Brand, T>(field, &mut self.seat);
+        look::<Brand, T>(field, &mut self.seat);
         take_shares(&mut self.shares, &lanes, &shares);
         self.lanes.join(lanes, &self.shape);
     }
@@ -92,15 +95,14 @@ fn join_seat<K: Joining, T: Theory>(
     field.table.shared.join_seat::<Joins<K>>(seat, other);
 }
 
-// A load of word 0, which tells of the two passes that were joined.
-fn recall<K: JoinTelling, T: Theory>(field: &Field<T>, seat: &mut Seat<(), Known>)
+// A load of word 0 that changes nothing. It tells what follows from the rule of the table.
+fn look<K: Looking, T: Theory>(field: &Field<T>, seat: &mut Seat<(), Known>)
     requires field { seat.old.table_id ≡ field.now.table }
-    requires tells { (one other : PassView) → ActTogether T.meaning field.now.origin one other
-        → K.tells one other }
+    requires tells { (s : State (Unit {0}) Known)
+        → Seen (Shows T.meaning field.now.origin) seat.old.id seat.old.me.0 s → K.tells seat.old.me.0 }
     ensures field { seat.new.table_id ≡ seat.old.table_id }
     ensures same { seat.new.me ≡ seat.old.me }
-    ensures told { (parts : Parts) → seat.old.me.0.joined ≡ Some parts
-        → K.tells parts.one parts.other }
+    ensures told { K.tells seat.old.me.0 }
 {
-    field.table.shared.load::<TellsJoin<K>>(seat, 0);
+    field.table.shared.load::<Looks<K>>(seat, 0);
 }

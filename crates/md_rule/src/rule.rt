@@ -112,25 +112,23 @@ impl<K: Joining> Join<Known> for Joins<K> {
     ghost spent = { record { view = spent; joined = None } };
 }
 
-/// What is told of the two passes that were joined. Each call picks it.
-pub trait JoinTelling {
-    ghost use Rattle.md_machine.specs.declared.pass.PassView.{PassView};
+/// What a load that changes nothing tells of its seat. Each call picks it.
+pub trait Looking {
+    ghost use Rattle.md_rule.specs.declared.known.Known.{Known};
 
-    ghost tells: { PassView → PassView → Type 0 };
+    ghost tells: { Known → Type 0 };
 }
 
-impl JoinTelling for Brand {
-    ghost tells = { λ one other. Unit {0} };
+impl Looking for Brand {
+    ghost tells = { λ k. Unit {0} };
 }
 
-pub(crate) struct TellsJoin<K> {
-    telling: PhantomData<K>,
+pub(crate) struct Looks<K> {
+    looking: PhantomData<K>,
 }
 
-impl<K: JoinTelling> Play<(), Known> for TellsJoin<K> {
-    ghost use Rattle.std.specs.Prelude.{◌≡◌, Some};
-    ghost use Rattle.md_rule.specs.declared.known.Parts.{Parts};
+impl<K: Looking> Play<(), Known> for Looks<K> {
+    ghost use Rattle.std.specs.Prelude.{◌≡◌};
 
-    ghost then = { λ step me found now. (now ≡ me)
-        × ((parts : Parts) → me.0.joined ≡ Some parts → K.tells parts.one parts.other) };
+    ghost then = { λ step me found now. (now ≡ me) × K.tells me.0 };
 }

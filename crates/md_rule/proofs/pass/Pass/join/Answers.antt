@@ -1,7 +1,8 @@
 use Rattle.std.proofs.Common.{◌<◌, length, ap, sym, subst, ◌∙◌}
-use Rattle.md_machine.specs.events.SplitJoin.{joined_lanes}
+use Rattle.md_machine.specs.declared.pass.PassView.{PassView}
+use Rattle.md_machine.specs.events.SplitJoin.{joined_lanes, joined_part}
+use Rattle.md_rule.specs.Rule.{JoinedInto}
 use Rattle.md_rule.proofs.LaneLists.{joined_are_lanes}
-use Rattle.md_rule.specs.Rule.{ActTogether}
 use Rattle.md_rule.proofs.Moves.{may_join}
 use Rattle.md_rule.proofs.pass.Pass.join.Goals as goal
 
@@ -19,20 +20,23 @@ invariant_of-self g c =
     let seat = c.into_parts-seat.result.0 in
     let lanes = c.self.inside.lanes in
     let shape = ap (λ p. p.shape) c.self.view_is ∙ c.requires.mine.shape in (
-      ap (λ me. me.0.view.lanes) (c.recall.ensures.same ∙ c.join_seat.ensures.joined) ∙ ap (λ s. joined_lanes s c.self.inside.seat.me.0.view.lanes seat.me.0.view.lanes) (sym shape) ∙ ap (λ l. joined_lanes c.self.inside.shape l seat.me.0.view.lanes) c.self.invariant.0
+      ap (λ me. me.0.view.lanes) (c.look.ensures.same ∙ c.join_seat.ensures.joined) ∙ ap (λ s. joined_lanes s c.self.inside.seat.me.0.view.lanes seat.me.0.view.lanes) (sym shape) ∙ ap (λ l. joined_lanes c.self.inside.shape l seat.me.0.view.lanes) c.self.invariant.0
           ∙ ap (joined_lanes c.self.inside.shape lanes) (ap (λ v. v.lanes) parts.seat.1 ∙ sym parts.lanes.0) ∙ sym c.join.ensures,
       rw c.join.ensures (joined_are_lanes c.self.inside.shape lanes c.into_parts-seat.result.1 c.self.invariant.1),
-      ap (λ me. me.1) (c.recall.ensures.same ∙ c.join_seat.ensures.joined) ∙ c.self.invariant.2,
+      ap (λ me. me.1) (c.look.ensures.same ∙ c.join_seat.ensures.joined) ∙ c.self.invariant.2,
     )
 
-pub recall-requires-clause-tells : goal.recall-requires-clause-tells
-recall-requires-clause-tells g c = λ one other t. t
+pub look-requires-clause-tells : goal.look-requires-clause-tells
+look-requires-clause-tells g c = λ s seen parts is. seen.0.joined c.join_seat.new.seat.id c.join_seat.new.seat.me.0 parts seen.1 is
 
-pub returns-clause-together : goal.returns-clause-together
-returns-clause-together g c =
+pub returns-clause-step : goal.returns-clause-step
+returns-clause-step g c =
     let parts = c.into_parts-seat.ensures in
-    let seat = c.into_parts-seat.result.0 in
-    let M = g.T.Theory.meaning in
+    let mine = c.self.inside.seat.me.0.view in
+    let others = c.into_parts-seat.result.0.me.0.view in
     let o = c.args.field.now.origin in
-    let told = c.recall.ensures.told (record { one = c.self.inside.seat.me.0.view; other = seat.me.0.view }) (ap (λ me. me.0.joined) c.join_seat.ensures.joined) in
-    subst (λ v. ActTogether M o v c.args.other.view) (ap (λ p. p.view) c.self.view_is) (subst (ActTogether M o c.self.inside.seat.me.0.view) parts.seat.1 told)
+    let into : PassView → PassView → PassView → Type 0 = JoinedInto g.T.Theory.meaning o in
+    let told : into mine others (joined_part o.shape mine others) = c.look.ensures.told (record { one = mine; other = others }) (ap (λ me. me.0.joined) c.join_seat.ensures.joined) in
+    let both = ap (λ me. me.0.view) (c.look.ensures.same ∙ c.join_seat.ensures.joined) in
+    subst (λ v. into v c.args.other.view c.look.new.seat.me.0.view) (ap (λ p. p.view) c.self.view_is)
+    (subst (λ v. into mine v c.look.new.seat.me.0.view) parts.seat.1 (subst (into mine others) (sym both) told))
