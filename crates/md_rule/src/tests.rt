@@ -1,6 +1,6 @@
 //! Passes that step on a field of the cell: every change writes the value that stands there.
 
-ghost use Rattle.std.specs.Prelude.{◌≡◌, ◌≤◌, IfOk, replicate};
+ghost use Rattle.std.specs.Prelude.{◌≡◌, ◌≤◌, All, IfOk, IfSome, OnOk, replicate};
 ghost use Rattle.md_rule.specs.Views.{IsOf};
 
 use crate::{Field, Pass};
@@ -50,6 +50,66 @@ fn churn(
     (won, pass)
 }
 
+// Splits a pass in two that are put behind those left; a pass of one lane is put behind the singles.
+fn split_one(
+    field: &Field<CellTheory>,
+    mut pass: Pass<CellTheory>,
+    left: &mut Vec<Pass<CellTheory>>,
+    singles: &mut Vec<Pass<CellTheory>>,
+) -> Result<(), AllocError>
+    requires of { IsOf pass field.now }
+    requires lists { All (λ p. IsOf p field.now) left.old.items
+        × All (λ p. IsOf p field.now) singles.old.items }
+    ensures left { OnOk result (All (λ p. IsOf p field.now) left.new.items) }
+    ensures singles { OnOk result (All (λ p. IsOf p field.now) singles.new.items) }
+{
+    let Some(other) = pass.split(field) else {
+        singles.push(pass)?;
+        return Ok(());
+    };
+    left.push(pass)?;
+    left.push(other)?;
+    Ok(())
+}
+
+// Splits a pass until none of 64 lanes can be split: passes of one lane each.
+fn split_all(
+    alloc: Global,
+    field: &Field<CellTheory>,
+    pass: Pass<CellTheory>,
+) -> Result<Vec<Pass<CellTheory>>, AllocError>
+    requires { IsOf pass field.now }
+    ensures { IfOk result (λ v. All (λ p. IsOf p field.now) v.items) }
+{
+    let mut left = Vec::new(alloc);
+    left.push(pass)?;
+    let mut singles = Vec::new(alloc);
+    for i in 0..127 {
+        let _ = i;
+        let Some(pass) = left.pop() else {
+            return Ok(singles);
+        };
+        split_one(field, pass, &mut left, &mut singles)?;
+    }
+    Ok(singles)
+}
+
+// Joins passes into one, each time the one in the middle of those that are left.
+fn join_all(
+    field: &Field<CellTheory>,
+    mut others: Vec<Pass<CellTheory>>,
+) -> Option<Pass<CellTheory>>
+    requires { All (λ p. IsOf p field.now) others.items }
+    ensures { IfSome result (λ p. IsOf p field.now) }
+{
+    let mut pass = others.pop()?;
+    while !others.is_empty() {
+        let other = others.swap_remove(others.len() / 2);
+        pass.join(field, other);
+    }
+    Some(pass)
+}
+
 #[test]
 fn two_passes_change_one_word_at_once(rt: HostRuntime) -> Result<(), Fail> {
     let shape = Shape::new(2, 1, 0, 1, 1, 1, 0)?;
@@ -88,5 +148,17 @@ fn eight_lanes_are_split_and_joined(rt: HostRuntime) -> Result<(), Fail> {
     b.join(&field, c);
     assert!(rt; b.holds_all(&field));
     assert_eq!(rt; b.lanes(), 8);
+    Ok(())
+}
+
+#[test]
+fn sixty_four_lanes_are_joined_in_another_order(rt: HostRuntime) -> Result<(), Fail> {
+    let shape = Shape::new(64, 1, 0, 1, 1, 1, 0)?;
+    let (field, first) = blank(rt.alloc(), shape)?;
+    let passes = split_all(rt.alloc(), &field, first)?;
+    assert_eq!(rt; passes.len(), 64);
+    let whole = join_all(&field, passes).expect(&rt, "64 passes");
+    assert!(rt; whole.holds_all(&field));
+    assert_eq!(rt; whole.lanes(), 64);
     Ok(())
 }

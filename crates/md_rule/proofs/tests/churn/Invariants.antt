@@ -1,4 +1,4 @@
-use Rattle.std.proofs.Common.{◌≤◌, length}
+use Rattle.std.proofs.Common.{◌≤◌}
 use Rattle.md_rule.specs.Views.{IsOf}
 use Rattle.md_rule.proofs.tests.churn.Given as goal
 
