@@ -1,5 +1,8 @@
 #!/usr/bin/env python3
-"""Times a field of the order book's largest shape: 4 maps of 65,536 buckets, 2,000 queues, 1,000,000 open orders.
+"""Times fields of the order book's numbers: 4 maps of 65,536 buckets and 2,000 queues.
+
+The last row is the largest field of the program: 1,000,000 open orders, and 64 lanes with 262,144 nodes each. The rows
+before it have one lane with one node, so that they show how time grows with the orders alone.
 
 The program fills contents, lays them out as words, reads them off again, and lays the field anew. Each line tells
 seconds and peak memory, the least of three runs. The load of the machine is told first.
@@ -9,12 +12,20 @@ import os
 import subprocess
 import time
 
+ROWS = [
+    (1_000, 1, 1),
+    (10_000, 1, 1),
+    (100_000, 1, 1),
+    (1_000_000, 1, 1),
+    (1_000_000, 64, 262_144),
+]
+
 PROGRAM = os.path.join(os.path.dirname(__file__), "..", "crates", "medley_bench", "out", "medley_bench")
 
 
-def run(orders):
+def run(row):
     began = time.monotonic()
-    child = subprocess.Popen([PROGRAM, "store", str(orders)], stdout=subprocess.PIPE)
+    child = subprocess.Popen([PROGRAM, "store", *map(str, row)], stdout=subprocess.PIPE)
     printed = child.stdout.read().decode().strip()
     _, status, usage = os.wait4(child.pid, 0)
     if status != 0:
@@ -24,10 +35,11 @@ def run(orders):
 
 def main():
     print("load", *os.getloadavg())
-    for orders in (1_000, 10_000, 100_000, 1_000_000):
-        runs = [run(orders) for _ in range(3)]
+    for row in ROWS:
+        orders, lanes, nodes = row
+        runs = [run(row) for _ in range(3)]
         seconds, memory = min(r[0] for r in runs), min(r[1] for r in runs)
-        print(f"{orders:>9} orders: {seconds:.2f} s, {memory} MiB, {runs[0][2]}")
+        print(f"{orders:>9} orders, {lanes} lanes of {nodes} nodes: {seconds:.2f} s, {memory} MiB, {runs[0][2]}")
 
 
 main()

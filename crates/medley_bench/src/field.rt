@@ -7,6 +7,14 @@ use std::alloc::{AllocError, Global};
 
 const BUCKETS: u32 = 65_536;
 
+/// How many orders a field holds, and for how many lanes it is laid, with how many nodes each.
+#[derive(Clone, Copy)]
+pub(crate) struct Sizing {
+    pub orders: u32,
+    pub lanes: u32,
+    pub nodes: u32,
+}
+
 /// How many words a field has, and how many nodes its contents need.
 #[derive(Clone, Copy)]
 pub(crate) struct Sizes {
@@ -14,15 +22,15 @@ pub(crate) struct Sizes {
     pub nodes: u64,
 }
 
-/// Fills contents with so many orders, lays them, reads them off and lays them anew. `None` if the
-/// field would be too large, or if what is read off needs another number of nodes.
-pub(crate) fn measured(alloc: Global, orders: u32) -> Result<Option<Sizes>, AllocError> {
-    let contents = filled(alloc, orders)?;
+/// Fills contents with so many orders, lays them, reads them off and lays them anew. `None` if
+/// there is no such field, or if what is read off needs another number of nodes.
+pub(crate) fn measured(alloc: Global, sizing: Sizing) -> Result<Option<Sizes>, AllocError> {
+    let contents = filled(alloc, sizing.orders)?;
     let nodes = needed(&contents);
     let Ok(base) = u32::try_from(nodes) else {
         return Ok(None);
     };
-    let Ok(shape) = Shape::new(1, 1, base, 1, MAPS, BUCKETS, LEVELS) else {
+    let Ok(shape) = Shape::new(sizing.lanes, sizing.nodes, base, 1, MAPS, BUCKETS, LEVELS) else {
         return Ok(None);
     };
     let words = lay(alloc, &shape, &contents)?;
