@@ -1,19 +1,18 @@
 -- The worked hash tables are some.
-use Rattle.std.proofs.Common.{◌≡◌, ℕ, List, [], ◌∷◌, None, refl, lit≤, inl, inr}
-use Rattle.std.specs.List.{AllByRecursion}
-use Rattle.std.proofs.lemmas.List.Elements.{All-nil, All-from_recursion}
+use Rattle.std.proofs.Common.{[], refl, lit≤, inl, inr}
+use Rattle.std.proofs.lemmas.List.Elements.{All-nil}
 use Rattle.md_words.specs.Link.{link_value, linked_node, is_marked}
 use Rattle.md_words.specs.Layout.{node_count, address, bucket_of}
 use Rattle.md_machine.specs.declared.certificate.Certificate.{Certificate}
 use Rattle.md_machine.specs.declared.node.Structure.TheVariants.{Bucket}
 use Rattle.md_machine.specs.LogicalHeap.{LogicalHeap}
 use Rattle.md_machine.specs.Meaning.{after_certificate}
+use Rattle.md_machine.proofs.lists.Rising.{here}
 use Rattle.md_list_law.specs.Certificates.{IsUnlink, insert_true}
 use Rattle.md_list_law.specs.ListShape.{head_word}
-use Rattle.md_list_law.proofs.Elements.{here}
 use Rattle.md_list_law.proofs.RowsHold.{stands_each}
 use Rattle.md_hash_law.specs.HashTable.{IsHashTable}
-use Rattle.md_hash_law.specs.Rows.{table_shape, empty_tables, insert_3, insert_1, insert_2, with_3, with_1, with_2, Applies, WorkedTables}
+use Rattle.md_hash_law.specs.Rows.{table_shape, empty_tables, insert_3, insert_1, insert_2, with_3, with_1, Applies, WorkedTables}
 use Rattle.md_hash_law.specs.Laws.HashTableLaws.{certificate_law}
 
 empty_are : IsHashTable empty_tables
@@ -105,14 +104,22 @@ inserts_2 = record {
 tables_after : (h : LogicalHeap) (c : Certificate) → IsHashTable h → Applies h c → IsHashTable (after_certificate h c)
 tables_after h c valid a = let r = certificate_law h c valid a.certifies a.stands in r.1.valid
 
+valid_3 : IsHashTable with_3
+valid_3 = tables_after empty_tables insert_3 empty_are inserts_3
+
+valid_1 : IsHashTable with_1
+valid_1 = tables_after with_3 insert_1 valid_3 inserts_1
+
 pub worked_tables : WorkedTables
 unfolding is_marked linked_node link_value address node_count bucket_of
 worked_tables = record {
   empty = empty_are;
+  valid_one = valid_3;
+  valid_two = valid_1;
+  valid_last = tables_after with_1 insert_2 valid_1 inserts_2;
   inserts = inserts_3;
   inserts_before = inserts_1;
   inserts_beside = inserts_2;
-  valid = tables_after with_1 insert_2 (tables_after with_3 insert_1 (tables_after empty_tables insert_3 empty_are inserts_3) inserts_1) inserts_2;
   first_map = refl;
   second_map = refl;
 }

@@ -1,5 +1,5 @@
 -- Worked hash tables: three inserts into two maps of two buckets, and what the maps stand for.
-use Rattle.std.specs.Prelude.{◌≡◌, ℕ, List, [], ◌∷◌, None, true}
+use Rattle.std.specs.Prelude.{◌≡◌, [], ◌∷◌, None, true}
 use Rattle.std.proofs.Common.{lit≤}
 use Rattle.md_words.specs.declared.shape.Shape.{Shape}
 use Rattle.md_history.specs.declared.acts.Op.TheVariants.{Insert}
@@ -91,9 +91,11 @@ pub record Applies (h : LogicalHeap) (c : Certificate) : Type 0 where
 
 pub record WorkedTables : Type 0 where
   pub empty : IsHashTable empty_tables
+  pub valid_one : IsHashTable with_3
+  pub valid_two : IsHashTable with_1
+  pub valid_last : IsHashTable with_2
   pub inserts : Applies empty_tables insert_3
   pub inserts_before : Applies with_3 insert_1
   pub inserts_beside : Applies with_1 insert_2
-  pub valid : IsHashTable with_2
   pub first_map : pairs_of_map with_2.words 0 ≡ (1, 10) ∷ (3, 30) ∷ []
   pub second_map : pairs_of_map with_2.words 1 ≡ (2, 20) ∷ []

@@ -10,9 +10,9 @@ use Rattle.md_words.specs.Link.{linked_node}
 use Rattle.md_words.specs.Layout.{IsNode, node_count}
 use Rattle.md_machine.specs.declared.node.Structure.{Structure}
 use Rattle.md_machine.specs.LogicalHeap.{LogicalHeap, next_of}
+use Rattle.md_machine.proofs.lists.Rising.{in_none, in_cons}
 use Rattle.md_list_law.specs.Walk.{walk}
 use Rattle.md_list_law.specs.ListShape.{IsIn, Names, NamesAbove}
-use Rattle.md_list_law.proofs.Elements.{in_none, in_cons}
 use Rattle.md_list_law.proofs.Walks.{Reaches, walk-none, walk-some, passes, walk_first, walk_later}
 
 -- what holds of each element

@@ -1,10 +1,11 @@
 -- A change of an unmarked word of a list touches nothing else.
-use Rattle.std.proofs.Common.{◌≡◌, ℕ, ◌⊎◌, true, false, refl, sym, ap, ◌∙◌, inl, inr, ⊎_elim}
+use Rattle.std.proofs.Common.{◌≡◌, ℕ, ◌⊎◌, List, true, false, refl, sym, ap, ◌∙◌, inl, inr, ⊎_elim}
 use Rattle.std.proofs.lemmas.Bool.{both_ways}
 use Rattle.md_words.specs.Link.{is_marked}
 use Rattle.md_machine.specs.declared.node.Structure.{Structure}
 use Rattle.md_machine.specs.declared.certificate.Change.{Change}
-use Rattle.md_machine.specs.LogicalHeap.{LogicalHeap, changed}
+use Rattle.md_machine.specs.declared.certificate.NewNode.{NewNode}
+use Rattle.md_machine.specs.LogicalHeap.{LogicalHeap, after_nodes, changed, changed_all}
 use Rattle.md_list_law.specs.ListShape.{next_word, IsIn, IsList}
 use Rattle.md_list_law.proofs.Puts.{changed_or_same}
 use Rattle.md_list_law.proofs.Elsewhere.{ChangesOnly}
@@ -15,6 +16,10 @@ IsListWord h list head word = (word ≡ head) ⊎ ((node : ℕ) × IsIn h list n
 
 abbrev pub after_change : LogicalHeap → Change → LogicalHeap
 after_change h c = record { words = changed h.words c; placed = h.placed }
+
+-- the heap after changes and nodes
+abbrev pub heap_after : LogicalHeap → List Change → List NewNode → LogicalHeap
+heap_after h cs ns = after_nodes (record { words = changed_all h.words cs; placed = h.placed }) ns
 
 module _ (h : LogicalHeap) (list : Structure) (head : ℕ) (is : IsList h list head) (c : Change) (stands : h.words.value c.word ≡ c.old)
     (plain : is_marked c.old ≡ false) (word : IsListWord h list head c.word) where

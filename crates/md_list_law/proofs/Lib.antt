@@ -1,4 +1,3 @@
-pub mod Elements
 pub mod Links
 pub mod Walks
 pub mod Keys

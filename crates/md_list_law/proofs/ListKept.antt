@@ -8,9 +8,9 @@ use Rattle.md_words.specs.Link.{linked_node, is_marked}
 use Rattle.md_words.specs.Layout.{IsNode, node_count}
 use Rattle.md_machine.specs.declared.node.Structure.{Structure}
 use Rattle.md_machine.specs.LogicalHeap.{LogicalWords, LogicalHeap, next_of}
+use Rattle.md_machine.proofs.lists.Rising.{in_none}
 use Rattle.md_list_law.specs.Walk.{walk, pairs_from}
 use Rattle.md_list_law.specs.ListShape.{IsIn, IsList, Names, NamesAbove}
-use Rattle.md_list_law.proofs.Elements.{in_none}
 use Rattle.md_list_law.proofs.Keys.{same_option}
 use Rattle.md_list_law.proofs.Walks.{Reaches, passes, reaches_first, reaches_later}
 use Rattle.md_list_law.proofs.Chains.{Rises, not_null, names_above, reached_at_all}

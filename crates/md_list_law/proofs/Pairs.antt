@@ -8,10 +8,10 @@ use Rattle.md_words.specs.Link.{is_marked}
 use Rattle.md_words.specs.Layout.{node_count}
 use Rattle.md_machine.specs.declared.node.Structure.{Structure}
 use Rattle.md_machine.specs.LogicalHeap.{LogicalWords, LogicalHeap, next_of}
+use Rattle.md_machine.proofs.lists.Rising.{in_none, in_cons, here, there}
 use Rattle.md_list_law.specs.Walk.{walk, reached_nodes, unmarked_pairs, pairs_from}
 use Rattle.md_list_law.specs.ListShape.{IsIn, IsList, NamesAbove}
 use Rattle.md_list_law.specs.Gaps.{IsGap}
-use Rattle.md_list_law.proofs.Elements.{in_none, in_cons, here, there}
 use Rattle.md_list_law.proofs.Keys.{find-here, find-further, none_unless}
 use Rattle.md_list_law.proofs.Chains.{Rises, walked, walked_above, same_key, reached_from}
 

@@ -12,7 +12,7 @@ use Rattle.md_machine.specs.declared.certificate.Certificate.{Certificate}
 use Rattle.md_machine.specs.declared.certificate.Change.{Change}
 use Rattle.md_machine.specs.declared.certificate.NewNode.{NewNode}
 use Rattle.md_machine.specs.declared.certificate.TidyChange.{TidyChange}
-use Rattle.md_machine.specs.LogicalHeap.{LogicalHeap, Holds, next_of, after_node, after_nodes, changed_all}
+use Rattle.md_machine.specs.LogicalHeap.{LogicalHeap, Holds, next_of, after_node, after_nodes}
 use Rattle.md_machine.specs.Meaning.{StandsBy, TidyStandsBy, after_certificate, after_tidy}
 use Rattle.md_list_law.specs.ListShape.{next_word, IsIn, NamesAbove}
 use Rattle.md_list_law.specs.Certificates.{key_fact, pair_fact, node_fact, next_fact, PlacesNode, MarksNode, IsRow, IsUnlink, get_some, get_none, insert_false, insert_true, remove_none, remove_some}
@@ -21,12 +21,8 @@ use Rattle.md_list_law.proofs.Links.{linked_node-marked, next_words_differ}
 use Rattle.md_list_law.proofs.ListKept.{above_link, above_less}
 use Rattle.md_list_law.proofs.Puts.{put_same}
 use Rattle.md_list_law.proofs.Elsewhere.{IsNoNext}
-use Rattle.md_list_law.proofs.Changing.{IsListWord, after_change}
+use Rattle.md_list_law.proofs.Changing.{IsListWord, after_change, heap_after}
 use Rattle.md_list_law.proofs.RisingLinks.{MayGet, IsAway, above_there, away_may, both_changed, both_placed}
-
--- the heap after changes and nodes
-abbrev heap_after : LogicalHeap → List Change → List NewNode → LogicalHeap
-heap_after h cs ns = after_nodes (record { words = changed_all h.words cs; placed = h.placed }) ns
 
 abbrev IsOld : LogicalHeap → Change → Type 0
 IsOld h change = h.words.value change.word ≡ change.old

@@ -10,10 +10,10 @@ use Rattle.md_machine.specs.declared.certificate.NewNode.{NewNode}
 use Rattle.md_machine.specs.declared.certificate.WordValue.{WordValue}
 use Rattle.md_machine.specs.LogicalHeap.{LogicalHeap, Holds}
 use Rattle.md_machine.specs.Meaning.{Stands, TidyStands, after_certificate}
+use Rattle.md_machine.proofs.lists.Rising.{here, there}
 use Rattle.md_list_law.specs.Certificates.{key_fact, IsUnlink, get_some, get_none, insert_true, remove_some}
 use Rattle.md_list_law.specs.OneList.{the_list, the_head, IsOneList}
 use Rattle.md_list_law.specs.Rows.{list_shape, empty_list, insert_5, insert_3, get_4, get_5, remove_3, unlink_3, insert_4, with_5, with_3, without_3, unlinked_3, Applies, WorkedList}
-use Rattle.md_list_law.proofs.Elements.{here, there}
 use Rattle.md_list_law.proofs.OneListLaws.{one_list_lawful}
 
 empty_is : IsOneList empty_list
@@ -173,10 +173,27 @@ inserts_4 = record {
 list_after : (h : LogicalHeap) (c : Certificate) → IsOneList h → Applies h c → IsOneList (after_certificate h c)
 list_after h c valid a = let r = one_list_lawful.certificate h c valid a.certifies a.stands in r.1.valid
 
+valid_5 : IsOneList with_5
+valid_5 = list_after empty_list insert_5 empty_is inserts_5
+
+valid_3 : IsOneList with_3
+valid_3 = list_after with_5 insert_3 valid_5 inserts_3
+
+valid_without : IsOneList without_3
+valid_without = list_after with_3 remove_3 valid_3 removes_3
+
+valid_unlinked : IsOneList unlinked_3
+valid_unlinked = let r = one_list_lawful.tidy without_3 unlink_3 valid_without unlink_is unlink_stands in r.valid
+
 pub worked_list : WorkedList
 unfolding is_marked linked_node link_value address node_count
 worked_list = record {
   empty = empty_is;
+  valid_one = valid_5;
+  valid_two = valid_3;
+  valid_removed = valid_without;
+  valid_unlinked = valid_unlinked;
+  valid_last = list_after unlinked_3 insert_4 valid_unlinked inserts_4;
   inserts = inserts_5;
   inserts_before = inserts_3;
   misses = misses_4;
@@ -184,9 +201,6 @@ worked_list = record {
   removes = removes_3;
   unlinks = (unlink_is, unlink_stands);
   inserts_again = inserts_4;
-  valid = list_after unlinked_3 insert_4 (let r = one_list_lawful.tidy without_3 unlink_3
-      (list_after with_3 remove_3 (list_after with_5 insert_3
-      (list_after empty_list insert_5 empty_is inserts_5) inserts_3) removes_3) unlink_is unlink_stands in r.valid) inserts_4;
   one = refl;
   two = refl;
   removed = refl;

@@ -15,11 +15,11 @@ use Rattle.md_machine.specs.declared.certificate.NewNode.{NewNode}
 use Rattle.md_machine.specs.declared.certificate.WordValue.{WordValue}
 use Rattle.md_machine.specs.LogicalHeap.{LogicalHeap, Holds}
 use Rattle.md_machine.specs.Meaning.{Meaning, Stands, Lawful}
+use Rattle.md_machine.proofs.lists.Rising.{here}
 use Rattle.md_list_law.specs.ListShape.{next_word, head_word, IsIn, NamesNone}
 use Rattle.md_list_law.specs.Certificates.{key_fact, pair_fact, IsPlaceOf, IsUnlink, get_some, get_none}
 use Rattle.md_list_law.specs.HasLists.{HasListsOf}
 use Rattle.md_list_law.specs.Gaps.{IsGap, KeysRise, GapShowsAbsent, NodeShowsPresent}
-use Rattle.md_list_law.proofs.Elements.{here}
 
 -- the certificate of a look-up that recorded a word
 look_up : (map key : ℕ) (reply : Option ℕ) (word value : ℕ) (facts : List Fact) → Certificate

@@ -7,6 +7,8 @@ use Rattle.std.specs.FinMap as fin
 use Rattle.std.proofs.lemmas.Bool.{cases_eq}
 use Rattle.std.proofs.lemmas.List.Elements.{All-contains, All-head}
 use Rattle.md_words.specs.Link.{link_value, linked_node, is_marked}
+use Rattle.md_history.specs.declared.acts.Op.{Op}
+use Rattle.md_history.specs.declared.acts.Reply.{Reply}
 use Rattle.md_history.specs.declared.acts.Reply.TheVariants.{Value, Flag}
 use Rattle.md_history.specs.declared.acts.Op.TheVariants.{Insert, Remove}
 use Rattle.md_machine.specs.declared.node.Structure.{Structure}
@@ -15,7 +17,7 @@ use Rattle.md_machine.specs.declared.certificate.Change.{Change}
 use Rattle.md_machine.specs.declared.certificate.Fact.{Fact}
 use Rattle.md_machine.specs.declared.certificate.NewNode.{NewNode}
 use Rattle.md_machine.specs.declared.certificate.TidyChange.{TidyChange}
-use Rattle.md_machine.specs.LogicalHeap.{LogicalHeap, Holds, next_of, changed_all, after_nodes}
+use Rattle.md_machine.specs.LogicalHeap.{LogicalHeap, Holds, next_of, after_nodes}
 use Rattle.md_machine.specs.Meaning.{Stands, TidyStands, after_certificate, after_tidy}
 use Rattle.md_list_law.specs.Walk.{pairs_from}
 use Rattle.md_list_law.specs.ListShape.{next_word, IsIn, IsList, NamesAbove}
@@ -24,7 +26,7 @@ use Rattle.md_list_law.specs.Gaps.{IsGap}
 use Rattle.md_list_law.proofs.Keys.{same_ties, apart_ties}
 use Rattle.md_list_law.proofs.Pairs.{gap_empty, node_found}
 use Rattle.md_list_law.proofs.Elsewhere.{ChangesOnly, IsNoNext}
-use Rattle.md_list_law.proofs.Changing.{IsListWord, after_change}
+use Rattle.md_list_law.proofs.Changing.{IsListWord, after_change, heap_after}
 use Rattle.md_list_law.proofs.Unlinking.{unlinked, unlinked_same, unlink_only}
 use Rattle.md_list_law.proofs.MarkingNodes.{marked_list, marked_finds, mark_only}
 use Rattle.md_list_law.proofs.Inserting.{inserted, inserted_finds, insert_only, inserted_nodes}
@@ -51,6 +53,18 @@ pub record SameAfter (h k : LogicalHeap) (list : Structure) (head : ℕ) : Type 
   pub nodes : (node : ℕ) → IsIn k list node → IsIn h list node
   pub same : (q : ℕ) → found_in k head q ≡ found_in h head q
 
+-- a certificate for another operation
+abbrev pub with_order : Certificate → Op → Reply → Certificate
+with_order c op reply = record {
+  op = op;
+  reply = reply;
+  tidy = c.tidy;
+  recorded = c.recorded;
+  changes = c.changes;
+  nodes = c.nodes;
+  facts = c.facts;
+}
+
 nothing_changed : (h : LogicalHeap) (list : Structure) (head : ℕ) → IsList h list head → ListAfter h h list head
 nothing_changed h list head is = record {
   again = is;
@@ -63,10 +77,6 @@ nothing_changed h list head is = record {
     value_of_node = λ node i. refl;
   };
 }
-
--- the heap after changes and nodes
-abbrev heap_after : LogicalHeap → List Change → List NewNode → LogicalHeap
-heap_after h cs ns = after_nodes (record { words = changed_all h.words cs; placed = h.placed }) ns
 
 heap_is : (h : LogicalHeap) (cs ds : List Change) (ns ms : List NewNode) → cs ≡ ds → ns ≡ ms → heap_after h cs ns ≡ heap_after h ds ms
 heap_is h cs ds ns ms e f = ap (λ (x : List Change). heap_after h x ns) e ∙ ap (heap_after h ds) f
@@ -201,6 +211,13 @@ module _ (h : LogicalHeap) (list : Structure) (head : ℕ) (is : IsList h list h
     row_after (remove_none op reply none r) = unchanged none (removes op (reply ∙ ap Value (sym (recorded_absent r)))
         (absent_taken (found_in h head) key (recorded_absent r)))
     row_after (remove_some value op reply m) = marked_node value m reply op
+
+  -- what stands and what it leaves don't look at the operation and the reply: so a row may be of an order number in place
+  -- of the operation's key, as in a table that is one list in split order
+  pub order_row_after : (map order : ℕ) (c : Certificate) (op : Op) (reply : Reply) → Stands h c → let row : Certificate = with_order c op reply in
+      IsRow h.words.shape list head map order row → RowAfter h (after_certificate h c) list head map order row
+  order_row_after map order c op reply st row = row_after map order (with_order c op reply)
+      (record { recorded = st.recorded; old = st.old; facts = st.facts; fresh = st.fresh }) row
 
   -- and an unlink
   pub unlink_after : (t : TidyChange) → IsUnlink h.words.shape list head t → TidyStands h t → SameAfter h (after_tidy h t) list head

@@ -4,7 +4,7 @@ use Rattle.std.specs.List.{Contains}
 use Rattle.std.proofs.lemmas.Bool.{cases_eq, cond-true, cond-false}
 use Rattle.md_words.specs.Link.{linked_node}
 use Rattle.md_machine.specs.LogicalHeap.{LogicalWords, next_of}
-use Rattle.md_list_law.proofs.Elements.{in_none, in_cons, here, there}
+use Rattle.md_machine.proofs.lists.Rising.{in_none, in_cons, here, there}
 use Rattle.md_list_law.specs.Walk.{walk}
 
 -- some walk from a value passes the node

@@ -135,6 +135,11 @@ pub record Applies (h : LogicalHeap) (c : Certificate) : Type 0 where
 
 pub record WorkedList : Type 0 where
   pub empty : IsOneList empty_list
+  pub valid_one : IsOneList with_5
+  pub valid_two : IsOneList with_3
+  pub valid_removed : IsOneList without_3
+  pub valid_unlinked : IsOneList unlinked_3
+  pub valid_last : IsOneList with_4
   pub inserts : Applies empty_list insert_5
   pub inserts_before : Applies with_5 insert_3
   pub misses : Applies with_3 get_4
@@ -142,7 +147,6 @@ pub record WorkedList : Type 0 where
   pub removes : Applies with_3 remove_3
   pub unlinks : one_list.tidies list_shape unlink_3 × TidyStands without_3 unlink_3
   pub inserts_again : Applies unlinked_3 insert_4
-  pub valid : IsOneList with_4
   pub one : pairs_from with_5.words 1 ≡ (5, 50) ∷ []
   pub two : pairs_from with_3.words 1 ≡ (3, 30) ∷ (5, 50) ∷ []
   pub removed : pairs_from without_3.words 1 ≡ (5, 50) ∷ []

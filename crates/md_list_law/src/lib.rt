@@ -6,7 +6,7 @@
 //!
 //! - A certificate that stands in a heap with the list has the reply that the operation has on the
 //!   list's map, and leaves a heap whose list has the operation's map.
-//! - An unlink leaves the list with the same map, and anybody may make it at any time.
+//! - An unlink that stands leaves the list with the same map, and needs no transaction.
 //! - Neither takes away a fact on a placed node; words of nodes that aren't placed don't matter.
 //! - So one list is a theory of the machine: [`one_list_laws`].
 //! - In every theory that [`HasLists`], [`list_facts`] tells what a walk along a bucket shows.

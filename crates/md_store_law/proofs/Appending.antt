@@ -24,7 +24,8 @@ abbrev pub node_at : Place → ℕ
 node_at (node_next node) = node
 node_at _ = 0
 
-head_is_link : (s : Structure) → is_link (head_place s) ≡ true
+-- the place of a head is one
+pub head_is_link : (s : Structure) → is_link (head_place s) ≡ true
 head_is_link (Bucket map bucket) = refl
 head_is_link (Queue queue) = refl
 

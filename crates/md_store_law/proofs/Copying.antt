@@ -1,5 +1,5 @@
 -- A field laid anew from the contents of another one: its nodes are as many as the contents need, and it has those contents.
-use Rattle.std.proofs.Common.{◌≡◌, ℕ, zero, suc, ◌+◌, ◌<◌, ◌≤◌, ◌%◌, ◌++◌, List, length, map as map_list, length-append, refl, sym, ap, ap₂, ◌∙◌, subst, arith}
+use Rattle.std.proofs.Common.{◌≡◌, ℕ, ◌<◌, ◌%◌, ◌++◌, List, length, map as map_list, length-append, refl, sym, ap, ◌∙◌, subst, arith}
 use Rattle.std.specs.List.{flat_map, range_with_len}
 use Rattle.std.specs.FinMap as fin
 use Rattle.std.proofs.lemmas.List.{length-map}
@@ -18,6 +18,7 @@ use Rattle.md_store_law.specs.Field.{logical_words, IsStoreField}
 use Rattle.md_store_law.specs.Laid.{LaidNode, IsLaid, dummies, pair_nodes, value_nodes, nodes_of_map, nodes_of_maps, nodes_of_queues, nodes_by}
 use Rattle.md_store_law.specs.Compacted.{IsWithBase, IsCompacted, contents_of, pairs_in, values_in, living_nodes}
 use Rattle.md_store_law.proofs.Growing.{length-value_nodes}
+use Rattle.md_store_law.proofs.LaidContents.{flat_map_same}
 use Rattle.md_store_law.proofs.PairCounts.{length-pieces, len-map, keys_rise, keys_home}
 use Rattle.md_store_law.proofs.Stores.{StandFor, AreSorted, pairs_laid, values_laid}
 use Rattle.md_store_law.proofs.Entries.{nodes_stand}
@@ -44,12 +45,6 @@ living_count shape words f =
         (λ b low high. length-map {B = LaidNode} (pairs_in shape words map b) (λ p. record { structure = Bucket map b; key = p.0; value = p.1 }))
         ∙ sym (length-pieces (pairs_in shape words map) length (pairs_in shape words map) 0 shape.buckets (λ b low high. refl))
         ∙ sym (len-map shape words f map m)
-
--- pieces that agree at each place
-pieces_same : {X : Type 0} (f g : ℕ → List X) (a n : ℕ) → ((b : ℕ) → a ≤ b → b < a + n → f b ≡ g b) → flat_map f (range_with_len a n) ≡ flat_map g (range_with_len a n)
-pieces_same f g a zero same = refl
-pieces_same f g a (suc n) same = ap₂ (λ xs ys. xs ++ ys) (same a (omega arith) (omega arith))
-    (pieces_same f g (a + 1) n (λ b low high. same b (omega (arith, low)) (omega (arith, high))))
 
 -- nodes depend on the numbers of a shape alone
 abbrev nodes_at : (pairs : ℕ → ℕ → List (ℕ × ℕ)) (values : ℕ → List ℕ) → (maps buckets queues : ℕ) → List LaidNode
@@ -93,7 +88,7 @@ module _ (shape fresh : Shape) (words row : List ℕ) (f : IsStoreField shape wo
   same_map : (map : ℕ) → map < shape.maps → pairs_of_map (logical_words fresh row) map ≡ pairs_of_map (logical_words shape words) map
   same_map map m =
       ap (λ n. flat_map (λ b. pairs_from (logical_words fresh row) (head_word fresh map b)) (range_with_len 0 n)) is.5
-      ∙ pieces_same (λ b. pairs_from (logical_words fresh row) (head_word fresh map b)) (pairs map) 0 shape.buckets (λ b low high.
+      ∙ flat_map_same (λ b. pairs_from (logical_words fresh row) (head_word fresh map b)) (pairs map) 0 shape.buckets (λ b low high.
       pairs_laid fresh row (nodes_by fresh pairs values) pairs values anew for sorted map b (omega (arith, m, is.4)) (omega (arith, high, is.5)))
 
   same_maps : maps_of (logical_words fresh row) ≡ maps_of (logical_words shape words)

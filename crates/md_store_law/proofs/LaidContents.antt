@@ -2,7 +2,7 @@
 use Rattle.std.proofs.Common.{◌≡◌, ◌≢◌, ℕ, zero, suc, ◌+◌, ◌<◌, ◌≤◌, ◌==◌, ◌++◌, ◌&&◌, Bool, T, cond, true, false, eqb, List, [], ◌∷◌, length, length-append, Some, None, refl, sym, ap, ◌∙◌, subst, ⊎_elim, arith}
 use Rattle.std.specs.List.{AllByRecursion, filter, flat_map, range_with_len, sum_by}
 use Rattle.std.specs.List.Sorted.{IsStrictlySortedBy}
-use Rattle.std.specs.Ordering.{nat_cmp, eq_by_cmp, is_lt}
+use Rattle.std.specs.Ordering.{nat_cmp, is_lt}
 use Rattle.std.specs.declared.cmp.Ordering.{Ordering}
 use Rattle.std.specs.declared.cmp.Ordering.TheVariants.{Less, Equal, Greater}
 use Rattle.std.specs.Cmp.{nat_cmp_total}
@@ -21,6 +21,7 @@ use Rattle.md_list_law.specs.Walk.{pairs_from, map_of_pairs}
 use Rattle.md_list_law.specs.ListShape.{head_word}
 use Rattle.md_list_law.proofs.Tables.{same_table}
 use Rattle.md_hash_law.specs.HashTable.{pairs_of_map, maps_of}
+use Rattle.md_hash_law.specs.Laws.Finds.{find-append_last, find-append_none}
 use Rattle.md_queue_law.specs.QueueValues.{queue_values, queue_lists}
 use Rattle.md_store_law.specs.Store.{state_of_store}
 use Rattle.md_store_law.specs.Field.{logical_words}
@@ -49,20 +50,6 @@ sorted_keys : (es : List (ℕ × ℕ)) → T (fin.is_sorted nat_cmp es) → IsSt
 unfolding IsStrictlySortedBy
 sorted_keys [] h = tt
 sorted_keys (e ∷ es) h = let t = both (below_all nat_cmp e.0 es) (fin.is_sorted nat_cmp es) h in (all_above e.0 es t.0, sorted_keys es t.1)
-
--- a look-up in two lists, one of which lacks the key
-found_first : (q : ℕ) (xs ys : List (ℕ × ℕ)) → fin.find nat_cmp q ys ≡ None → fin.find nat_cmp q (xs ++ ys) ≡ fin.find nat_cmp q xs
-found_first q [] ys none = none
-found_first q (x ∷ xs) ys none =
-    ap (λ r. cond (eq_by_cmp nat_cmp q x.0) (Some x.1) r) (found_first q xs ys none)
-
-found_later : (q : ℕ) (xs ys : List (ℕ × ℕ)) → fin.find nat_cmp q xs ≡ None → fin.find nat_cmp q (xs ++ ys) ≡ fin.find nat_cmp q ys
-found_later q [] ys none = refl
-found_later q (x ∷ xs) ys none =
-    elim (eq_by_cmp nat_cmp q x.0) as (λ b. cond b (Some x.1) (fin.find nat_cmp q xs) ≡ None → cond b (Some x.1) (fin.find nat_cmp q (xs ++ ys)) ≡ fin.find nat_cmp q ys) [
-      | true ↦ λ e. absurd (cc e)
-      | false ↦ λ e. found_later q xs ys e
-    ] none
 
 module _ (shape : Shape) (t : Table) where
   -- the keys of a bucket's pairs rise, and are of the bucket
@@ -98,10 +85,10 @@ module _ (shape : Shape) (t : Table) where
       → fin.find nat_cmp q (flat_map (bucket_pairs shape t) (range_with_len a n)) ≡ fin.find nat_cmp q (fin.entries t)
   find-buckets q a zero low high = absurd (omega arith)
   find-buckets q a (suc n) low high = ⊎_elim
-      (λ is. found_first q (bucket_pairs shape t a) (flat_map (bucket_pairs shape t) (range_with_len (a + 1) n))
+      (λ is. find-append_last q (bucket_pairs shape t a) (flat_map (bucket_pairs shape t) (range_with_len (a + 1) n))
       (lacks-pieces (bucket_pairs shape t) q (a + 1) n (λ b above below. lacks-other q b (λ e. omega arith)))
       ∙ find-bucket q a ∙ cond-true (eqb (bucket_of shape q) a) _ None (eq-eqb (bucket_of shape q) a is))
-      (λ ne. found_later q (bucket_pairs shape t a) (flat_map (bucket_pairs shape t) (range_with_len (a + 1) n)) (lacks-other q a ne)
+      (λ ne. find-append_none q (bucket_pairs shape t a) (flat_map (bucket_pairs shape t) (range_with_len (a + 1) n)) (lacks-other q a ne)
       ∙ find-buckets q (a + 1) n (omega arith) (omega arith))
       (cases_eq (bucket_of shape q) a)
 
@@ -117,7 +104,7 @@ module _ (shape : Shape) (t : Table) where
       (λ b low high. apart_sorted _ (pairs_rise b)) (λ b q v low high e. found-home q b v e))
 
 -- pieces that are the same
-flat_map_same : {X : Type 0} (f g : ℕ → List X) (a n : ℕ) → ((b : ℕ) → a ≤ b → b < a + n → f b ≡ g b) → flat_map f (range_with_len a n) ≡ flat_map g (range_with_len a n)
+pub flat_map_same : {X : Type 0} (f g : ℕ → List X) (a n : ℕ) → ((b : ℕ) → a ≤ b → b < a + n → f b ≡ g b) → flat_map f (range_with_len a n) ≡ flat_map g (range_with_len a n)
 flat_map_same f g a zero same = refl
 flat_map_same f g a (suc n) same =
     ap (λ xs. xs ++ flat_map f (range_with_len (a + 1) n)) (same a (omega arith) (omega arith))

@@ -22,3 +22,4 @@ pub mod Copying
 pub mod Buckets
 pub mod LaidContents
 pub mod Bounds
+mod Scheduled

@@ -7,7 +7,7 @@ use Rattle.md_machine.specs.declared.node.PlacedNode.{PlacedNode}
 use Rattle.md_machine.specs.declared.node.Structure.{Structure}
 use Rattle.md_machine.specs.declared.node.Structure.TheVariants.{Bucket, Queue}
 use Rattle.md_machine.specs.Resolution.{structure_in}
-use Rattle.md_list_law.proofs.Elements.{in_none, in_cons, here, there}
+use Rattle.md_machine.proofs.lists.Rising.{in_none, in_cons, here, there}
 use Rattle.md_store_law.specs.Laid.{LaidNode, same_structure, numbers_from, numbers_of, last_of}
 
 -- structures are the same if they are equal, and then only

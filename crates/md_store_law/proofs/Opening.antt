@@ -21,7 +21,7 @@ use Rattle.md_machine.specs.Event.{CanOpen, opened}
 use Rattle.md_machine.specs.LogicalHeap.{AgreeWherePlaced}
 use Rattle.md_machine.specs.Machine.{word_at}
 use Rattle.md_machine.specs.Resolution.{logical_heap, structure_in, or_else}
-use Rattle.md_list_law.proofs.Elements.{in_none, in_cons}
+use Rattle.md_machine.proofs.lists.Rising.{in_none, in_cons}
 use Rattle.md_store_law.specs.Store.{store, state_of_store}
 use Rattle.md_store_law.specs.Field.{logical_words, IsStoreField}
 use Rattle.md_store_law.specs.EvenFields.{IsEvenMachine}

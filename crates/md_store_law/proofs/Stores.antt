@@ -15,9 +15,9 @@ use Rattle.md_machine.specs.declared.node.Structure.{Structure}
 use Rattle.md_machine.specs.declared.node.Structure.TheVariants.{Bucket, Queue}
 use Rattle.md_machine.specs.LogicalHeap.{LogicalWords, LogicalHeap, next_of}
 use Rattle.md_machine.specs.Resolution.{structure_in}
+use Rattle.md_machine.proofs.lists.Rising.{in_none, in_cons, here, there}
 use Rattle.md_list_law.specs.Walk.{pairs_from, unmarked_pairs}
 use Rattle.md_list_law.specs.ListShape.{head_word, IsIn, Names, NamesAbove, IsBucket}
-use Rattle.md_list_law.proofs.Elements.{in_none, in_cons, here, there}
 use Rattle.md_hash_law.specs.HashTable.{IsBucketOf}
 use Rattle.md_queue_law.specs.QueueShape.{head_of, IsOf, NamesOneOf, StandInLine, QueueShape}
 use Rattle.md_queue_law.specs.QueueValues.{values_after, queue_values}

@@ -12,7 +12,7 @@ use Rattle.md_machine.specs.declared.node.Structure.{Structure}
 use Rattle.md_machine.specs.declared.node.Structure.TheVariants.{Bucket, Queue}
 use Rattle.md_machine.specs.Machine.{word_at}
 use Rattle.md_store_law.specs.Laid.{LaidNode, IsLaid, head_place, numbers_of, naming, appended}
-use Rattle.md_store_law.proofs.Appending.{is_link, end_of, Appends, end_cases_of, laid_more}
+use Rattle.md_store_law.proofs.Appending.{is_link, head_is_link, end_of, Appends, end_cases_of, laid_more}
 
 -- places before the descriptors
 abbrev pub is_front : Place → Bool
@@ -95,13 +95,9 @@ module _ (shape : Shape) (words : List ℕ) (nodes : List LaidNode) (n : LaidNod
   abbrev end : Place
   end = end_of (head_place n.structure) (numbers_of nodes n.structure)
 
-  head_link : (s : Structure) → is_link (head_place s) ≡ true
-  head_link (Bucket map bucket) = refl
-  head_link (Queue queue) = refl
-
   end_there : Exists shape end × (is_link end ≡ true)
   end_there = ⊎_elim
-      (λ e. subst (λ p. Exists shape p × (is_link p ≡ true)) (sym e) (inside, head_link n.structure))
+      (λ e. subst (λ p. Exists shape p × (is_link p ≡ true)) (sym e) (inside, head_is_link n.structure))
       (λ t. let low = t.1.low in let high = t.1.high in let top = is.1 in
       subst (λ p. Exists shape p × (is_link p ≡ true)) (sym t.2) ((omega arith, omega arith), refl))
       (end_cases_of nodes n.structure)

@@ -5,7 +5,8 @@ ghost use Rattle.std.specs.Prelude.{◌≡◌, ◌<◌, ◌≤◌, ◌+◌, ◌^
 ghost use Rattle.md_words.specs.Layout.{words_of, IsNode};
 ghost use Rattle.md_words.specs.LayoutLaws.{IsField};
 ghost use Rattle.md_machine.specs.declared.node.Structure.TheVariants.{Bucket, Queue};
-ghost use Rattle.md_store_law.specs.Laid.{LaidNode, IsLaid, numbers_of, naming, dummies, pair_nodes, value_nodes, appended};
+ghost use Rattle.md_store_law.specs.Laid.{LaidNode, IsLaid, numbers_of, naming};
+ghost use Rattle.md_store_law.specs.Laid.{dummies, pair_nodes, value_nodes, appended};
 
 use md_words::{Content, Shape};
 use std::alloc::{AllocError, Global};

@@ -1,13 +1,15 @@
 //! Contents, laid out as the words of a field.
 
-ghost use Rattle.std.specs.Prelude.{◌≡◌, ◌<◌, ◌≤◌, ◌+◌, ◌++◌, [], map, length, replicate, IfOk, OnOk};
+ghost use Rattle.std.specs.Prelude.{◌≡◌, ◌<◌, ◌≤◌, ◌+◌, ◌++◌, [], IfOk, OnOk};
+ghost use Rattle.std.specs.Prelude.{map, length, replicate};
 ghost use Rattle.std.specs.List.{range_with_len};
 ghost use Rattle.md_history.specs.Contents.{table_of};
 ghost use Rattle.md_store_law.specs.Field.{IsStoreField};
 ghost use Rattle.md_history.specs.Engine.{needed};
 ghost use Rattle.md_store_law.specs.Opens.{OpensWith};
 ghost use Rattle.md_store_law.specs.Below.{LaidUpTo, maps_below};
-ghost use Rattle.md_store_law.specs.Laid.{IsLaid, HasMapsAndQueues, dummies, bucket_pairs, pairs_at, laid_nodes};
+ghost use Rattle.md_store_law.specs.Laid.{IsLaid, HasMapsAndQueues, laid_nodes};
+ghost use Rattle.md_store_law.specs.Laid.{dummies, bucket_pairs, pairs_at};
 
 use crate::building::{append_pairs, append_values, empty_field};
 use md_history::Contents;

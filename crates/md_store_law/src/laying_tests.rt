@@ -1,7 +1,5 @@
 //! Contents that are laid: word for word, and read off again.
 
-ghost use Rattle.std.specs.Prelude.{◌≡◌, length, IfOk};
-
 use super::*;
 use md_history::Contents;
 use md_words::Shape;

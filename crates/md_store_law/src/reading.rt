@@ -2,7 +2,7 @@
 
 ghost use Rattle.std.specs.Prelude.{◌≡◌, ◌<◌, [], length, IfOk, OnOk};
 ghost use Rattle.std.specs.FinMap as fin;
-ghost use Rattle.md_history.specs.State.{State, map_at, queue_at, with_map, with_queue};
+ghost use Rattle.md_history.specs.State.{map_at, queue_at, with_map, with_queue};
 ghost use Rattle.md_store_law.specs.Store.{state_of_store};
 ghost use Rattle.md_store_law.specs.Field.{logical_words, IsStoreField};
 ghost use Rattle.md_list_law.specs.Walk.{map_of_pairs};

@@ -4,6 +4,8 @@ ghost use Rattle.md_machine.specs.Legal.{AlwaysMeant};
 ghost use Rattle.md_machine.specs.Theorem.{AlwaysKept, AlwaysGoesOn};
 ghost use Rattle.std.specs.Prelude.{◌≡◌, ◌≤◌, IsTrue, replicate, IfOk};
 ghost use Rattle.md_words.specs.Layout.{HasNumbers};
+ghost use Rattle.md_schedules.specs.Schedules.{StoppedRow, HelpedRow, MovedRow};
+ghost use Rattle.md_schedules.specs.Unlinking.{UnlinkedRow};
 ghost use Rattle.md_store_law.specs.Store.{store};
 ghost use Rattle.md_store_law.specs.Field.{IsStoreField};
 ghost use Rattle.md_store_law.specs.Row.{row_words};
@@ -14,6 +16,7 @@ use md_history::Contents;
 use md_list_law::list_facts;
 use md_machine::all_schedules;
 use md_queue_law::queue_facts;
+use md_schedules::{unlinking_row, worked_rows};
 use md_words::Shape;
 use std::alloc::{AllocError, Global};
 use std::test::Fail;
@@ -30,9 +33,21 @@ fn schedules_of_stores()
     all_schedules::<StoreTheory>();
 }
 
+// the worked schedules of the machine are runs of stores: they have their certificates
+fn schedules_with_certificates()
+    ensures stopped { StoppedRow store }
+    ensures helped { HelpedRow store }
+    ensures moved { MovedRow store }
+    ensures unlinked { UnlinkedRow store }
+{
+    worked_rows::<StoreTheory>();
+    unlinking_row::<StoreTheory>();
+}
+
 #[test]
 fn stores_are_a_theory(_rt: HostRuntime) -> Result<(), Fail> {
     schedules_of_stores();
+    schedules_with_certificates();
     list_facts::<StoreTheory>();
     queue_facts::<StoreTheory>();
     even_fields_are_stores();

@@ -7,7 +7,7 @@ use Rattle.std.proofs.lemmas.Bool.{cases_eq}
 use Rattle.md_list_law.proofs.Keys.{find-here, find-further}
 
 -- pairs that lack the key are passed over, and others are looked at alone
-find-append_none : (q : ℕ) (xs ys : List (ℕ × ℕ)) → fin.find nat_cmp q xs ≡ None → fin.find nat_cmp q (xs ++ ys) ≡ fin.find nat_cmp q ys
+pub find-append_none : (q : ℕ) (xs ys : List (ℕ × ℕ)) → fin.find nat_cmp q xs ≡ None → fin.find nat_cmp q (xs ++ ys) ≡ fin.find nat_cmp q ys
 find-append_none q [] ys none = refl
 find-append_none q (x ∷ xs) ys none = ⊎_elim
     (λ e. absurd (some_none x.1 (sym (find-here q x.0 x.1 xs e) ∙ none)))
@@ -18,7 +18,7 @@ find-append_none q (x ∷ xs) ys none = ⊎_elim
     some_none v e = cc e
 
 -- pairs after which none has the key
-find-append_last : (q : ℕ) (xs ys : List (ℕ × ℕ)) → fin.find nat_cmp q ys ≡ None → fin.find nat_cmp q (xs ++ ys) ≡ fin.find nat_cmp q xs
+pub find-append_last : (q : ℕ) (xs ys : List (ℕ × ℕ)) → fin.find nat_cmp q ys ≡ None → fin.find nat_cmp q (xs ++ ys) ≡ fin.find nat_cmp q xs
 find-append_last q [] ys none = none
 find-append_last q (x ∷ xs) ys none = ap (cond (eq_by_cmp nat_cmp q x.0) (Some x.1)) (find-append_last q xs ys none)
 

@@ -12,7 +12,7 @@ use Rattle.md_machine.specs.declared.certificate.Certificate.{Certificate}
 use Rattle.md_machine.specs.declared.certificate.Change.{Change}
 use Rattle.md_machine.specs.declared.certificate.NewNode.{NewNode}
 use Rattle.md_machine.specs.declared.certificate.TidyChange.{TidyChange}
-use Rattle.md_machine.specs.LogicalHeap.{LogicalHeap, Holds, changed_all, after_nodes}
+use Rattle.md_machine.specs.LogicalHeap.{LogicalHeap, Holds, after_nodes}
 use Rattle.md_machine.specs.Meaning.{Stands, TidyStands, after_certificate, after_tidy}
 use Rattle.md_queue_law.specs.QueueShape.{link, IsOf, QueuesStand}
 use Rattle.md_queue_law.specs.QueueValues.{queue_values, queue_lists}
@@ -22,7 +22,7 @@ use Rattle.md_queue_law.specs.Laws.Agreement.{PlacedExist, agree_itself}
 use Rattle.md_queue_law.specs.Laws.Lists.{queue_list}
 use Rattle.md_queue_law.specs.Laws.Named.{goes_to_next}
 use Rattle.md_queue_law.specs.Laws.Following.{QueueFollows}
-use Rattle.md_queue_law.specs.Laws.RootChanges.{after_change, head_follows, tail_follows}
+use Rattle.md_queue_law.specs.Laws.RootChanges.{after_change, after_lists, head_follows, tail_follows}
 use Rattle.md_queue_law.specs.Laws.Heads.{values_none, first_of}
 use Rattle.md_queue_law.specs.Laws.Appending.{append_follows}
 use Rattle.md_queue_law.specs.Laws.Looking.{IsThere, first_values}
@@ -54,10 +54,6 @@ pub record OpFollows (h : LogicalHeap) (s : State) (op : Op) (c : Certificate) :
   pub values : List ℕ
   pub follows : QueueFollows h queue values (after_certificate h c)
   pub state : after s op ≡ record { maps = s.maps; queues = set (queue_lists h.words) queue values }
-
--- the heap after changes and new nodes
-abbrev after_lists : LogicalHeap → List Change → List NewNode → LogicalHeap
-after_lists h changes nodes = after_nodes (record { words = changed_all h.words changes; placed = h.placed }) nodes
 
 module _ (h : LogicalHeap) (exist : PlacedExist h) (stand : QueuesStand h) (queue : ℕ) (within : queue < h.words.shape.queues) where
   follows_at : (c : Certificate) (changes : List Change) (nodes : List NewNode) (values : List ℕ) → c.changes ≡ changes → c.nodes ≡ nodes

@@ -12,19 +12,15 @@ use Rattle.md_machine.specs.declared.certificate.Certificate.{Certificate}
 use Rattle.md_machine.specs.declared.certificate.Change.{Change}
 use Rattle.md_machine.specs.declared.certificate.NewNode.{NewNode}
 use Rattle.md_machine.specs.declared.certificate.TidyChange.{TidyChange}
-use Rattle.md_machine.specs.LogicalHeap.{LogicalHeap, Holds, changed_all, after_node, after_nodes}
+use Rattle.md_machine.specs.LogicalHeap.{LogicalHeap, Holds, after_node, after_nodes}
 use Rattle.md_machine.specs.Meaning.{StandsBy, TidyStandsBy, after_certificate, after_tidy}
 use Rattle.md_queue_law.specs.QueueShape.{link, IsOf}
 use Rattle.md_queue_law.specs.QueueCertificates.{head_change, tail_change, next_change, new_node, has_key, has_value, has_next, Enqueues, Dequeues, CertifiesOp, CertifiesQueue, MovesTail}
 use Rattle.md_queue_law.specs.Rising.{QueueRises}
 use Rattle.md_queue_law.specs.Laws.Words.{next_same, head_same, tail_same, head_not_next, tail_not_next, head_not_tail}
 use Rattle.md_queue_law.specs.Laws.Following.{put_same}
-use Rattle.md_queue_law.specs.Laws.RootChanges.{after_change}
+use Rattle.md_queue_law.specs.Laws.RootChanges.{after_change, after_lists}
 use Rattle.md_queue_law.specs.Laws.RisingRanks.{IsAway, away_may, both_changed, both_placed}
-
--- the heap after changes and nodes
-abbrev after_lists : LogicalHeap → List Change → List NewNode → LogicalHeap
-after_lists h changes nodes = after_nodes (record { words = changed_all h.words changes; placed = h.placed }) nodes
 
 module _ (own h : LogicalHeap) (queue : ℕ) where
   -- a certificate with these changes and nodes

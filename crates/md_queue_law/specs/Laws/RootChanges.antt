@@ -1,11 +1,12 @@
 -- A change of a queue's head or tail to another node of the queue.
-use Rattle.std.proofs.Common.{◌≡◌, ℕ, suc, ◌+◌, ◌<◌, refl, sym, ◌∙◌}
+use Rattle.std.proofs.Common.{◌≡◌, ℕ, suc, ◌+◌, ◌<◌, List, refl, sym, ◌∙◌}
 use Rattle.md_words.specs.Place.{node_next}
 use Rattle.md_words.specs.Layout.{address}
 use Rattle.md_machine.specs.declared.certificate.Change.{Change}
+use Rattle.md_machine.specs.declared.certificate.NewNode.{NewNode}
 use Rattle.md_machine.specs.declared.node.Structure.{Structure}
 use Rattle.md_machine.specs.declared.node.Structure.TheVariants.{Queue}
-use Rattle.md_machine.specs.LogicalHeap.{LogicalHeap, changed}
+use Rattle.md_machine.specs.LogicalHeap.{LogicalHeap, after_nodes, changed, changed_all}
 use Rattle.md_machine.specs.Meaning.{KeepsFacts}
 use Rattle.md_queue_law.specs.QueueShape.{link, head_of, IsOf, QueueShape, QueuesStand}
 use Rattle.md_queue_law.specs.QueueValues.{queue_values}
@@ -18,6 +19,10 @@ use Rattle.md_queue_law.specs.Laws.Following.{put_same, put_other, IsNoNext, Que
 -- the heap after a change of one word
 abbrev pub after_change : LogicalHeap → Change → LogicalHeap
 after_change h c = record { words = changed h.words c; placed = h.placed }
+
+-- the heap after changes and new nodes
+abbrev pub after_lists : LogicalHeap → List Change → List NewNode → LogicalHeap
+after_lists h changes nodes = after_nodes (record { words = changed_all h.words changes; placed = h.placed }) nodes
 
 module _ (h : LogicalHeap) (c : Change) (exist : PlacedExist h) (root : IsNoNext h.words.shape c.word) where
   pub root_facts : KeepsFacts h (after_change h c)
