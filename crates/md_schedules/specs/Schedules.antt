@@ -1,5 +1,6 @@
 -- Worked schedules of two transactions on the small field: pass 0 and pass 1 hold a lane each.
 use Rattle.std.specs.Prelude.{◌≡◌, true, false, List, [], ◌∷◌, ◌++◌, map}
+use Rattle.md_words.specs.Content.{counted_word}
 use Rattle.md_words.specs.Place.{desc_status, node_key, node_next, node_value, slot_new, slot_old}
 use Rattle.md_history.specs.declared.entries.Fate.TheVariants.{Committed, Aborted}
 use Rattle.md_machine.specs.Event.{Event, Runs, abort, commit, load, mark_act, mark_end, opened, ready, uninstall}
@@ -69,7 +70,7 @@ helping_end = after_all helping_certificates (opened small_opening) helping
 
 pub record HelpedRow (M : Meaning) : Type 0 where
   pub runs : Runs M (opened small_opening) helping helping_end
-  pub word : content helping_end bucket ≡ 17179869186
+  pub word : content helping_end bucket ≡ counted_word (link_to 2) 2
   pub fates : helping_end.fates ≡ Committed ∷ Committed ∷ []
   pub tags : map (λ e. e.entry.tag) helping_end.history ≡ 1 ∷ 2 ∷ []
 
@@ -101,7 +102,7 @@ moving_end = after_all moving_certificates (opened small_opening) moving
 
 pub record MovedRow (M : Meaning) : Type 0 where
   pub runs : Runs M (opened small_opening) moving moving_end
-  pub word : content moving_end bucket ≡ 154618822658
+  pub word : content moving_end bucket ≡ counted_word (link_to 18) 2
   pub status : content moving_end (place_word (desc_status 0)) ≡ 7
   pub fates : moving_end.fates ≡ Committed ∷ Aborted ∷ []
   pub sound : map (λ e. e.entry.sound) moving_end.history ≡ true ∷ false ∷ []

@@ -123,8 +123,8 @@ pub record UnlinkedRow (M : Meaning) : Type 0 where
   pub runs : Runs M (opened keyed_opening) unlinking unlinking_end
   pub fates : unlinking_end.fates ≡ Committed ∷ Aborted ∷ []
   pub sound : map (λ e. e.entry.sound) unlinking_end.history ≡ true ∷ false ∷ []
-  pub word : content unlinking_end bucket ≡ 8589934594
-  pub marked : content unlinking_end first_next ≡ 4294967298
+  pub word : content unlinking_end bucket ≡ counted_word (link_to 1) 2
+  pub marked : content unlinking_end first_next ≡ counted_word 1 2
   -- in one heap its certificates don't stand one after another: the first recorded the next word unmarked, and the
   -- second rests on its mark. So recorded words are of what a transaction sees, and facts of the heap as it is
   pub one_heap : (h : LogicalHeap) → h.words.shape ≡ small_shape → ¬ AllStandBy h h (finds_first ∷ misses_second ∷ [])

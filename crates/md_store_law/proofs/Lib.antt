@@ -23,3 +23,4 @@ pub mod Buckets
 pub mod LaidContents
 pub mod Bounds
 mod Scheduled
+mod EmptyOpens

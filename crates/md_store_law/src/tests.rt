@@ -1,9 +1,11 @@
 //! The theorem over all schedules, and what walks show, at the store; and sizes of small contents.
 
+ghost use Rattle.md_machine.specs.Event.{CanOpen};
 ghost use Rattle.md_machine.specs.Legal.{AlwaysMeant};
 ghost use Rattle.md_machine.specs.Theorem.{AlwaysKept, AlwaysGoesOn};
 ghost use Rattle.std.specs.Prelude.{◌≡◌, ◌≤◌, IsTrue, replicate, IfOk};
 ghost use Rattle.md_words.specs.Layout.{HasNumbers};
+ghost use Rattle.md_schedules.specs.Field.{small_opening};
 ghost use Rattle.md_schedules.specs.Schedules.{StoppedRow, HelpedRow, MovedRow};
 ghost use Rattle.md_schedules.specs.Unlinking.{UnlinkedRow};
 ghost use Rattle.md_store_law.specs.Store.{store};
@@ -33,8 +35,10 @@ fn schedules_of_stores()
     all_schedules::<StoreTheory>();
 }
 
-// the worked schedules of the machine are runs of stores: they have their certificates
+// the worked schedules of the machine are runs of stores: they have their certificates, and the
+// empty field on which they run may be opened
 fn schedules_with_certificates()
+    ensures opens { CanOpen store small_opening }
     ensures stopped { StoppedRow store }
     ensures helped { HelpedRow store }
     ensures moved { MovedRow store }

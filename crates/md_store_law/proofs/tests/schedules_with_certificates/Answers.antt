@@ -1,5 +1,9 @@
+use Rattle.md_store_law.proofs.EmptyOpens.{small_opens}
 use Rattle.md_store_law.proofs.Scheduled.{finds_1, finds_2, inserts_18, inserts_2, misses_1, misses_65, removes_1, unlinks_1}
 use Rattle.md_store_law.proofs.tests.schedules_with_certificates.Goals as goal
+
+pub returns-clause-opens : goal.returns-clause-opens
+returns-clause-opens c = small_opens
 
 pub returns-clause-stopped : goal.returns-clause-stopped
 returns-clause-stopped c = (c.worked_rows.ensures inserts_2 inserts_18 finds_2 misses_1).0
