@@ -4,7 +4,7 @@ use Rattle.md_history.specs.Script.{Script}
 use Rattle.md_book.specs.declared.commands.Command.{Command}
 use Rattle.md_book.specs.declared.commands.Command.TheVariants.{Place, Cancel, Fill, Kill, Depth, Account}
 use Rattle.md_book.specs.declared.commands.BookReply.{BookReply}
-use Rattle.md_book.specs.declared.limits.TheConstants.{PLACES_IN_VERSION_1, PLACES_IN_VERSION_2, MAX_CALLER, MAX_LINE}
+use Rattle.md_book.specs.declared.limits.TheConstants.{PLACES_IN_VERSION_1, PLACES_IN_VERSION_2, MAX_CALLER, MAX_SCRIPT_LINE}
 use Rattle.md_book.specs.declared.limits.TheConstants.{MAX_QUANTITY}
 use Rattle.md_book.specs.declared.maps.TheConstants.{MAPS, LEVELS}
 use Rattle.md_book.specs.Book.{IsAccount, IsPrice}
@@ -29,7 +29,7 @@ pub record IsName (name : ℕ) : Type 0 where
   pub caller_low : 1 ≤ name / 2 ^ 32
   pub caller_high : name / 2 ^ 32 ≤ MAX_CALLER
   pub line_low : 1 ≤ name % 2 ^ 32
-  pub line_high : name % 2 ^ 32 ≤ MAX_LINE
+  pub line_high : name % 2 ^ 32 ≤ MAX_SCRIPT_LINE
 
 -- an account, a price and a quantity are in their ranges
 pub record IsOffer (account price quantity : ℕ) : Type 0 where

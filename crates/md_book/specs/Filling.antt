@@ -81,13 +81,13 @@ book_taken side level account taken =
     if taken == 0 then done tt else bind (raise (taker_sums side) account taken) (λ _. lower DEPTHS level taken)
 
 -- the reply
-abbrev pub filled : ℕ → Filling → BookReply
-filled quantity f = reply.Filled (quantity - f.rest) f.rest f.count f.parts
+abbrev pub filled_reply : ℕ → Filling → BookReply
+filled_reply quantity f = reply.Filled (quantity - f.rest) f.rest f.count f.parts
 
 -- parts are taken from up to so many places, and then booked in all
 abbrev pub finish : ℕ → Side → ℕ → ℕ → Filling → Script BookReply
 finish account side level quantity f =
-    bind (book_taken side level account (quantity - f.rest)) (λ _. done (filled quantity f))
+    bind (book_taken side level account (quantity - f.rest)) (λ _. done (filled_reply quantity f))
 
 abbrev pub fill : ℕ → Side → ℕ → ℕ → ℕ → Script BookReply
 fill account side price quantity places =

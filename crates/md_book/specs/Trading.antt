@@ -118,21 +118,21 @@ EachOrderAddsUp = (cs : List Command) (name account : ℕ) (side : Side) (price 
     + left_of (λ n. n == name) (closing cs)
 
 -- whether a command places an order of the name, with a side, price and account that pass a test
-abbrev pub places : (Side → ℕ → ℕ → Bool) → ℕ → Command → Bool
-places test name (Place own account side price quantity) = (own == name) && test side price account
-places test name (Cancel own) = false
-places test name (Fill account side price quantity looked) = false
-places test name (Kill account side price quantity looked) = false
-places test name (Depth side price) = false
-places test name (Account account) = false
+abbrev pub places_order : (Side → ℕ → ℕ → Bool) → ℕ → Command → Bool
+places_order test name (Place own account side price quantity) = (own == name) && test side price account
+places_order test name (Cancel own) = false
+places_order test name (Fill account side price quantity places) = false
+places_order test name (Kill account side price quantity places) = false
+places_order test name (Depth side price) = false
+places_order test name (Account account) = false
 
 -- whether one of the commands places an order of the name at the level
 abbrev pub is_placed_at : List Command → ℕ → ℕ → Bool
-is_placed_at cs level name = list_any (places (λ side price account. level_of side price == level) name) cs
+is_placed_at cs level name = list_any (places_order (λ side price account. level_of side price == level) name) cs
 
 -- whether one of the commands places an order of the name for the account
 abbrev pub is_placed_for : List Command → ℕ → ℕ → Bool
-is_placed_for cs account name = list_any (places (λ side price own. own == account) name) cs
+is_placed_for cs account name = list_any (places_order (λ side price own. own == account) name) cs
 
 -- what a command fills
 abbrev pub filled : Command × BookReply → ℕ
@@ -202,22 +202,22 @@ EachAccountAddsUp = (cs : List Command) (account : ℕ) → IsDay cs
     × (sold (closing cs) account ≡ sum_by (dealt Sell (is_placed_for cs account) account) (answered cs))
 
 -- the reply is of what was taken: its parts add up to that, and with what remains to the quantity
-abbrev pub IsFilled : ℕ → BookReply → Type 0
-IsFilled quantity reply.Placed = ⊥
-IsFilled quantity (reply.Cancelled left) = ⊥
-IsFilled quantity reply.Gone = ⊥
-IsFilled quantity reply.Killed = ⊥
-IsFilled quantity (reply.Filled taken rest count parts) =
+abbrev pub AddsUpTo : ℕ → BookReply → Type 0
+AddsUpTo quantity reply.Placed = ⊥
+AddsUpTo quantity (reply.Cancelled left) = ⊥
+AddsUpTo quantity reply.Gone = ⊥
+AddsUpTo quantity reply.Killed = ⊥
+AddsUpTo quantity (reply.Filled taken rest count parts) =
     (sum_by (λ p. p.taken) parts ≡ taken) × (taken + rest ≡ quantity)
-IsFilled quantity (reply.Depth depth) = ⊥
-IsFilled quantity (reply.Account bought sold) = ⊥
+AddsUpTo quantity (reply.Depth depth) = ⊥
+AddsUpTo quantity (reply.Account bought sold) = ⊥
 
 -- the sums that a fill or a kill and its reply tell agree
 abbrev pub AddsUp : Command × BookReply → Type 0
 AddsUp (Place name account side price quantity, r) = Unit {0}
 AddsUp (Cancel name, r) = Unit {0}
-AddsUp (Fill account side price quantity places, r) = IsFilled quantity r
-AddsUp (Kill account side price quantity places, r) = (r ≡ reply.Killed) ⊎ IsFilled quantity r
+AddsUp (Fill account side price quantity places, r) = AddsUpTo quantity r
+AddsUp (Kill account side price quantity places, r) = (r ≡ reply.Killed) ⊎ AddsUpTo quantity r
 AddsUp (Depth side price, r) = Unit {0}
 AddsUp (Account account, r) = Unit {0}
 

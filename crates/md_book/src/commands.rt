@@ -11,8 +11,8 @@ pub enum Side {
 
 /// A command. An account is from 1 to `MAX_ACCOUNT`, a price from 1 to `MAX_PRICE` (in ticks), and
 /// a quantity from 1 to `MAX_QUANTITY`. An order's name is `caller * 2^32 + line`, with a caller
-/// from 1 to `MAX_CALLER` and the line from 1 to `MAX_LINE` at which that caller placed it. A fill
-/// or a kill looks at the places of a version of the order file, `PLACES_IN_VERSION_1` or
+/// from 1 to `MAX_CALLER` and the line from 1 to `MAX_SCRIPT_LINE` at which that caller placed it.
+/// A fill or a kill looks at the places of a version of the order file, `PLACES_IN_VERSION_1` or
 /// `PLACES_IN_VERSION_2`.
 #[derive(Clone, Copy, Debug, PartialEq, Eq)]
 pub enum Command {

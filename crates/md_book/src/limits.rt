@@ -13,7 +13,7 @@ pub const MAX_PARTS: usize = PLACES_IN_VERSION_2 as usize;
 pub const MAX_CALLER: u32 = 64;
 
 /// The greatest line of a caller. Lines are numbered from 1.
-pub const MAX_LINE: u32 = 1_000_000;
+pub const MAX_SCRIPT_LINE: u32 = 1_000_000;
 
 /// The greatest account. Accounts are numbered from 1.
 pub const MAX_ACCOUNT: u32 = 9_999;

@@ -12,8 +12,8 @@ mod limits;
 
 use crate::commands::{BookReply, Command, Part, Side};
 use crate::limits::{
-    MAX_ACCOUNT, MAX_CALLER, MAX_LINE, MAX_PARTS, MAX_PRICE, MAX_QUANTITY, PLACES_IN_VERSION_1,
-    PLACES_IN_VERSION_2,
+    MAX_ACCOUNT, MAX_CALLER, MAX_PARTS, MAX_PRICE, MAX_QUANTITY, MAX_SCRIPT_LINE,
+    PLACES_IN_VERSION_1, PLACES_IN_VERSION_2,
 };
 use crate::maps::{LEVELS, MAPS};
 use crate::names::order_name;
@@ -32,7 +32,7 @@ fn is_name(name: u64) -> bool
 {
     let caller = name / 0x1_0000_0000;
     let line = name % 0x1_0000_0000;
-    1 <= caller && caller <= MAX_CALLER as u64 && 1 <= line && line <= MAX_LINE as u64
+    1 <= caller && caller <= MAX_CALLER as u64 && 1 <= line && line <= MAX_SCRIPT_LINE as u64
 }
 
 fn is_offer(account: u32, price: u32, quantity: u32) -> bool

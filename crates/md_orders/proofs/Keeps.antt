@@ -7,7 +7,7 @@ use Rattle.std.proofs.lemmas.Bool.Decides.{nat_tests}
 use Rattle.md_book.specs.declared.commands.Command.{Command}
 use Rattle.md_book.specs.Commands.{IsCommand, IsName, IsOffer, IsPlaces, name_of}
 use Rattle.md_orders.specs.declared.grammar.Terms.{Terms}
-use Rattle.md_book.specs.declared.limits.TheConstants.{MAX_CALLER, MAX_LINE, MAX_ACCOUNT, MAX_PRICE, MAX_QUANTITY}
+use Rattle.md_book.specs.declared.limits.TheConstants.{MAX_CALLER, MAX_SCRIPT_LINE, MAX_ACCOUNT, MAX_PRICE, MAX_QUANTITY}
 use Rattle.md_orders.specs.declared.version.Version.{Version}
 use Rattle.md_orders.specs.declared.version.Version.TheVariants.{First, Second}
 use Rattle.md_orders.specs.Records.{Row}
@@ -69,7 +69,7 @@ abbrev pub IsLawful : ℕ → Command → Type 0
 IsLawful name c = IsCommand c × IsNamed name c
 
 -- the name of a caller's line
-pub is_name : (caller line : ℕ) → 1 ≤ caller → caller ≤ MAX_CALLER → 1 ≤ line → line ≤ MAX_LINE → IsName (name_of caller line)
+pub is_name : (caller line : ℕ) → 1 ≤ caller → caller ≤ MAX_CALLER → 1 ≤ line → line ≤ MAX_SCRIPT_LINE → IsName (name_of caller line)
 is_name caller line low high one small = record { caller_low = omega arith; caller_high = omega arith; line_low = omega arith; line_high = omega arith }
 
 -- a version's callers are among those that there can be
@@ -108,9 +108,9 @@ place-lawful name row c named e =
 cancel-lawful : (version : Version) (name : ℕ) (row : Row) (c : Command) → cancel_of version row ≡ Some c → IsLawful name c
 cancel-lawful version name row c e =
     let (caller, caller_is, e1) = and_then-inv _ (number_at row 2 1 (max_caller version)) c e in
-    let (line, line_is, is) = map-inv _ (number_at row 3 1 MAX_LINE) c e1 in
+    let (line, line_is, is) = map-inv _ (number_at row 3 1 MAX_SCRIPT_LINE) c e1 in
     let (low, high) = number_at-inv row 2 1 (max_caller version) caller caller_is in
-    let (line_low, line_high) = number_at-inv row 3 1 MAX_LINE line line_is in
+    let (line_low, line_high) = number_at-inv row 3 1 MAX_SCRIPT_LINE line line_is in
     let most = max_caller-high version in
     subst (IsLawful name) is (is_name caller line low (omega arith) line_low line_high, tt)
 

@@ -8,7 +8,7 @@ use Rattle.md_book.specs.declared.commands.Side.{Side}
 use Rattle.md_book.specs.declared.commands.Side.TheVariants.{Buy, Sell}
 use Rattle.md_book.specs.declared.commands.Command.{Command}
 use Rattle.md_book.specs.declared.commands.Command.TheVariants.{Place, Cancel, Fill, Kill, Depth, Account}
-use Rattle.md_book.specs.declared.limits.TheConstants.{MAX_LINE, MAX_ACCOUNT, MAX_PRICE, MAX_QUANTITY}
+use Rattle.md_book.specs.declared.limits.TheConstants.{MAX_SCRIPT_LINE, MAX_ACCOUNT, MAX_PRICE, MAX_QUANTITY}
 use Rattle.md_book.specs.Commands.{name_of}
 use Rattle.md_orders.specs.declared.grammar.Terms.{Terms}
 use Rattle.md_orders.specs.declared.version.Version.{Version}
@@ -75,7 +75,7 @@ place_of name row = option_map (λ t. Place name t.account t.side t.price t.quan
 abbrev pub cancel_of : Version → Row → Option Command
 cancel_of version row =
     option_and_then (λ caller. option_map (λ line. Cancel (name_of caller line))
-    (number_at row 3 1 MAX_LINE)) (number_at row 2 1 (max_caller version))
+    (number_at row 3 1 MAX_SCRIPT_LINE)) (number_at row 2 1 (max_caller version))
 
 -- caller, F, account, side, price, quantity
 abbrev pub fill_of : Version → Row → Option Command

@@ -13,9 +13,13 @@ abbrev pub places_of : Version → ℕ
 places_of First = PLACES_IN_VERSION_1
 places_of Second = PLACES_IN_VERSION_2
 
+-- the greatest caller of a file of version 1
+abbrev pub max_caller_in_version_1 : ℕ
+max_caller_in_version_1 = 8
+
 -- the greatest caller
 abbrev pub max_caller : Version → ℕ
-max_caller First = 8
+max_caller First = max_caller_in_version_1
 max_caller Second = MAX_CALLER
 
 -- a record has this text in a field

@@ -7,7 +7,7 @@ ghost use Rattle.md_orders.specs.Grammar.{account_at, price_at, quantity_at, ter
 use crate::fields::{byte_at, number_at, side_at};
 use crate::version::Version;
 use csv::ByteRecord;
-use md_book::{Command, MAX_ACCOUNT, MAX_LINE, MAX_PRICE, MAX_QUANTITY, Side, order_name};
+use md_book::{Command, MAX_ACCOUNT, MAX_PRICE, MAX_QUANTITY, MAX_SCRIPT_LINE, Side, order_name};
 
 // What an order, a fill and a kill write alike.
 #[derive(Clone, Copy)]
@@ -68,7 +68,7 @@ fn cancel_of(version: Version, row: &ByteRecord) -> Option<Command>
     ensures { result ≡ cancel_of version (fields_of row.now) }
 {
     let caller = number_at(row, 2, 1, version.max_caller())?;
-    let line = number_at(row, 3, 1, MAX_LINE)?;
+    let line = number_at(row, 3, 1, MAX_SCRIPT_LINE)?;
     Some(Command::Cancel {
         name: order_name(caller, line),
     })

@@ -23,14 +23,14 @@ pub enum OrderFault {
     TooMany,
     /// The record of this number, from 1, is the first that breaks the grammar.
     BadLine(u32),
-    /// Memory was wanting.
+    /// The program is out of memory.
     NoMemory,
 }
 
 // How many records an order file has at most.
 const MAX_RECORDS: u32 = 1_000_000;
 
-// A read of a slice by a flexible reader fails for want of memory alone.
+// A read of a slice by a flexible reader fails only when it is out of memory.
 fn want(error: &Error) -> OrderFault
     requires { stops_reader (error_kind error.now) ≡ true }
     ensures { result ≡ OrderFault.NoMemory }

@@ -39,7 +39,7 @@ impl Model for MemSink {
 
 impl MemSink {
     /// An empty sink with room for `room` bytes, which it reserves. The calls whose numbers, from
-    /// 1, are in `failing` fail. The error is want of memory.
+    /// 1, are in `failing` fail. The error is that memory ran out.
     pub fn new(alloc: Global, room: usize, failing: Vec<u32>) -> Result<MemSink, AllocError>
         ensures { IfOk result (λ s. s ≡ record {
           held = [];

@@ -4,9 +4,11 @@ use Rattle.md_words.specs.declared.limits.TheConstants.{LANES, SET, MAX_NODES, M
 use Rattle.md_words.specs.declared.limits.TheConstants.{MAX_BUCKETS, MAX_QUEUES, MAX_WORDS}
 use Rattle.md_history.specs.declared.acts.TheConstants.{MAX_LINE}
 use Rattle.md_book.specs.declared.limits.TheConstants.{PLACES_IN_VERSION_1, PLACES_IN_VERSION_2, MAX_PARTS, MAX_CALLER}
-use Rattle.md_book.specs.declared.limits.TheConstants.{MAX_LINE as MAX_SCRIPT_LINE, MAX_ACCOUNT, MAX_PRICE}
+use Rattle.md_book.specs.declared.limits.TheConstants.{MAX_SCRIPT_LINE, MAX_ACCOUNT, MAX_PRICE}
 use Rattle.md_book.specs.declared.limits.TheConstants.{MAX_QUANTITY, COMMAND_READS, COMMAND_WRITES, COMMAND_NODES}
 use Rattle.md_book.specs.declared.maps.TheConstants.{MAPS, LEVELS}
+use Rattle.md_orders.specs.Records.{max_records}
+use Rattle.md_orders.specs.Version.{max_caller_in_version_1}
 
 -- of a field and its transactions
 pub record LimitsOfWords : Type 0 where
@@ -21,8 +23,10 @@ pub record LimitsOfWords : Type 0 where
   pub words : MAX_WORDS ≡ 134217728
   pub line : MAX_LINE ≡ 12
 
--- of a book and its commands
+-- of an order file, a book and its commands
 pub record LimitsOfBooks : Type 0 where
+  pub records : max_records ≡ 1000000
+  pub callers_1 : max_caller_in_version_1 ≡ 8
   pub places_1 : PLACES_IN_VERSION_1 ≡ 4
   pub places_2 : PLACES_IN_VERSION_2 ≡ 12
   pub parts : MAX_PARTS ≡ 12

@@ -6,6 +6,7 @@ use crate::alone::play_alone;
 use md_book::{BookReply, DEPTHS, LEVELS, MAPS, MAX_PARTS, Part, order_name};
 use md_history::{Contents, PlainStore};
 use md_orders::{Scripts, read_orders};
+use md_words::limits::{MAX_MAPS, MAX_QUEUES};
 use std::alloc::{AllocError, Global};
 use std::test::Fail;
 
@@ -90,5 +91,14 @@ fn batches_of_lines(rt: HostRuntime) -> Result<(), Fail> {
         }
     }
     assert_eq!(rt; played.replies.get(1, 70_001), None);
+    Ok(())
+}
+
+// As many maps and queues as a field can have.
+#[test]
+fn the_largest_contents(rt: HostRuntime) -> Result<(), Fail> {
+    let contents = Contents::empty(rt.alloc(), MAX_MAPS, MAX_QUEUES)?;
+    assert_eq!(rt; contents.maps().len(), 16);
+    assert_eq!(rt; contents.queues().len(), 4_096);
     Ok(())
 }

@@ -1,4 +1,4 @@
--- Where the input isn't bad and no read failed, a run stops for want of memory alone.
+-- Where the input isn't bad and no read failed, a run stops only because it is out of memory.
 use Rattle.std.proofs.Common.{◌≡◌, ◌≢◌, ◌≤◌, ◌⊎◌, ◌∙◌, ℕ, List, Option, Some, None, length, inl, inr, refl, sym, subst, arith, rules}
 use Rattle.std.specs.Io.KnownBytes.{Consumes, IsAtEnd}
 use Rattle.std.proofs.lemmas.Grind.{common_steps}

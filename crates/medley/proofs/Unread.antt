@@ -1,11 +1,14 @@
--- Where nothing was read, memory may have been wanting.
-use Rattle.std.proofs.Common.{◌≡◌, ◌≤◌, ℕ, List, [], length, Option, inl, refl, arith, rules}
+-- Where nothing was read, the run may be out of memory.
+use Rattle.std.proofs.Common.{◌≡◌, ◌≤◌, ◌∙◌, ℕ, List, [], length, Option, inl, inr, refl, sym, arith, rules}
+use Rattle.std.specs.Prelude.{IsErr}
 use Rattle.std.specs.Io.KnownBytes.{Consumes}
 use Rattle.std.proofs.lemmas.Grind.{common_steps}
 use Rattle.md_history.specs.Front.{Front}
 use Rattle.md_outside.specs.Steps.{Step}
 use Rattle.medley.specs.declared.status.Status.{Status}
-use Rattle.medley.specs.declared.status.Status.TheVariants.{NoMemory}
+use Rattle.medley.specs.declared.status.Status.TheVariants.{Usage, NoMemory}
+use Rattle.medley.specs.Words.{Args, IsOutOfMemory}
+use Rattle.medley.specs.Program.{HasRun}
 use Rattle.medley.specs.Run.{max_bytes, status_text, HasRead, IsReadInPart, Tells, Answers}
 
 -- a source from which nothing was read
@@ -15,10 +18,25 @@ unread gives left faults input = record {
   short = omega arith;
 }
 
--- a run that told want of memory, and read nothing
+-- a run that told that it is out of memory, and read nothing
 pub answers-unread : {I : Type 0} (gives : Step I) (left : I → Option (List ℕ)) (read_faults : I → ℕ) (input : I)
     {O : Type 0} (takes : Step O) (holds : O → Option (List ℕ)) (write_faults : O → ℕ) (output output' : O) (fronts : List Front) (status : Status)
     → status ≡ NoMemory → fronts ≡ [] → Tells takes holds write_faults output output' (status_text NoMemory)
     → Answers gives left read_faults input input takes holds write_faults output output' fronts status
 answers-unread gives left read_faults input takes holds write_faults output output' fronts status is none told =
     rw is (([], inl (unread gives left read_faults input)), none, told)
+
+-- a run of the program that told that it is out of memory, and read nothing: there are arguments, or the system ran out
+-- of memory for them
+pub run-unread : {I : Type 0} (gives : Step I) (left : I → Option (List ℕ)) (read_faults : I → ℕ) (args : Args) (input : I)
+    {O : Type 0} (takes : Step O) (holds : O → Option (List ℕ)) (write_faults : O → ℕ) (output output' : O) (fronts : List Front) (status : Status)
+    → (IsErr args → IsOutOfMemory args) → status ≡ NoMemory → fronts ≡ [] → Tells takes holds write_faults output output' (status_text NoMemory)
+    → HasRun gives left read_faults args input input takes holds write_faults output output' fronts status
+run-unread gives left read_faults args input takes holds write_faults output output' fronts status out is none told = record {
+  answers = answers-unread gives left read_faults input takes holds write_faults output output' fronts status is none told;
+  usage = λ e. let both : Usage ≡ NoMemory = sym e ∙ is in cc both;
+  refused = λ _. (inr is, refl);
+  no_text = λ err other. absurd (other (out err));
+  no_memory = λ _. is;
+  complete = λ _ _ _ _. inr is;
+}

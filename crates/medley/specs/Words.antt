@@ -30,7 +30,7 @@ abbrev pub HasAcceptedWords : Args → Type 0
 HasAcceptedWords (Ok args) = AreAccepted (words_in args)
 HasAcceptedWords (Err error) = ⊥
 
--- there are none, since memory was wanting for them
-abbrev pub WantsMemory : Args → Type 0
-WantsMemory (Ok args) = ⊥
-WantsMemory (Err error) = error_kind error ≡ OutOfMemory
+-- there are none, since the system ran out of memory for them
+abbrev pub IsOutOfMemory : Args → Type 0
+IsOutOfMemory (Ok args) = ⊥
+IsOutOfMemory (Err error) = error_kind error ≡ OutOfMemory

@@ -11,16 +11,15 @@ mod status;
 mod tests;
 
 use md_outside::{StdSink, StdSource};
-use program::run_program;
+use program::exit_of_program;
 use std::env;
 use std::process::ExitCode;
 
-// Runs with the real words and streams.
+// Runs with the real words and streams, and exits as that run says.
 fn start(rt: &HostRuntime) -> ExitCode {
     let mut input = StdSource::new(rt.stdin());
     let mut output = StdSink::new(rt.stdout());
-    let run = run_program(rt.alloc(), env::args(rt), &mut input, &mut output);
-    ExitCode::from(run.status)
+    exit_of_program(rt.alloc(), env::args(rt), &mut input, &mut output)
 }
 
 fn main(rt: HostRuntime) -> ExitCode {

@@ -1,10 +1,12 @@
 //! The program over any source and sink, from its arguments on.
 
-ghost use Rattle.std.specs.Prelude.{◌≡◌, ◌⊎◌, Some, List, ℕ, map, drop, string_bytes, IfOk, IsErr};
+ghost use Rattle.std.specs.Prelude.{◌≡◌, Some, List, ℕ, map, drop, string_bytes, IfOk};
 ghost use Rattle.std.specs.Vec.Iter.{into_iter_items};
 ghost use Rattle.md_history.specs.Plain.{front_of};
-ghost use Rattle.medley.specs.Words.{texts, words_in, HasAcceptedWords, WantsMemory};
-ghost use Rattle.medley.specs.Run.{Answers, EndsWell, IsBadInput, IsGood};
+ghost use Rattle.std.specs.Process.{exit_status};
+ghost use Rattle.medley.specs.Words.{texts};
+ghost use Rattle.medley.specs.Program.{HasRun, HasExit};
+ghost use Rattle.medley.specs.Run.{IsBadInput, IsGood};
 
 use crate::run::{run, stop};
 use crate::status::{Run, Status};
@@ -13,6 +15,7 @@ use std::alloc::{AllocError, Global};
 use std::env::Args;
 use std::io;
 use std::io::ErrorKind;
+use std::process::ExitCode;
 
 // Strings as slices.
 fn slices<'a>(alloc: Global, strings: &'a [String]) -> Result<Vec<&'a str>, AllocError>
@@ -48,19 +51,9 @@ pub fn run_program<I: Source, O: Sink>(
     input: &mut I,
     output: &mut O,
 ) -> Run
-    ensures answers { Answers I.gives I.left I.faults input.old input.new
+    ensures run { HasRun I.gives I.left I.faults args input.old input.new
         O.takes O.holds O.faults output.old output.new
         (map front_of result.fronts.items) result.status }
-    ensures usage { result.status ≡ Status.Usage
-        → (¬ HasAcceptedWords args) × (¬ WantsMemory args) }
-    ensures refused { ¬ HasAcceptedWords args
-        → ((result.status ≡ Status.Usage) ⊎ (result.status ≡ Status.NoMemory))
-        × (input.new ≡ input.old) }
-    ensures no_text { IsErr args → ¬ WantsMemory args → result.status ≡ Status.Usage }
-    ensures no_memory { WantsMemory args → result.status ≡ Status.NoMemory }
-    ensures complete { HasAcceptedWords args
-        → EndsWell I.gives I.left I.faults input.old input.new
-        O.faults output.old output.new result.status }
     ensures told { (bytes : List ℕ) → I.left input.old ≡ Some bytes → IsGood bytes
         → ¬ IsBadInput I.gives I.left I.faults input.old input.new }
 {
@@ -78,4 +71,20 @@ pub fn run_program<I: Source, O: Sink>(
         return stop(alloc, output, Status::NoMemory);
     };
     run(alloc, &slices, input, output)
+}
+
+/// Runs once, and returns the exit status that is the number of the run's status.
+pub fn exit_of_program<I: Source, O: Sink>(
+    alloc: Global,
+    args: io::Result<Args>,
+    input: &mut I,
+    output: &mut O,
+) -> ExitCode
+    ensures run { HasExit I.gives I.left I.faults args input.old input.new
+        O.takes O.holds O.faults output.old output.new (exit_status result) }
+    ensures told { (bytes : List ℕ) → I.left input.old ≡ Some bytes → IsGood bytes
+        → ¬ IsBadInput I.gives I.left I.faults input.old input.new }
+{
+    let run = run_program(alloc, args, input, output);
+    ExitCode::from(run.status)
 }

@@ -91,7 +91,7 @@ impl From<OrderFault> for Status {
     }
 }
 
-/// Want of memory.
+/// Out of memory.
 impl From<AllocError> for Status {
     ghost use Rattle.medley.specs.declared.status.Status.TheVariants.{NoMemory};
 

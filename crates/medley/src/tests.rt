@@ -182,6 +182,21 @@ fn the_largest_inputs(rt: HostRuntime) -> Result<(), Fail> {
     Ok(())
 }
 
+// Replays lines that have a long report.
+fn replays(
+    rt: &impl Abort,
+    alloc: Global,
+    orders: Vec<u8>,
+    report: &String,
+) -> Result<(), AllocError> {
+    let mut source = MemSource::new(orders, 65_536, Vec::new(alloc));
+    let mut sink = MemSink::new(alloc, report.len(), Vec::new(alloc))?;
+    let run = run(alloc, &[], &mut source, &mut sink);
+    assert_eq!(rt; run.status, Status::Done);
+    assert!(rt; sink.bytes() == report.as_bytes());
+    Ok(())
+}
+
 // Half a million orders, each with a fill that empties it: as many lines as an input may have.
 #[test]
 fn a_million_lines(rt: HostRuntime) -> Result<(), Fail> {
@@ -196,10 +211,21 @@ fn a_million_lines(rt: HostRuntime) -> Result<(), Fail> {
     }
     report.push_str("account 7 bought 0 sold 500000\naccount 8 bought 500000 sold 0\n")?;
     report.push_str("done 1000000\n")?;
-    let mut source = MemSource::new(orders, 65_536, Vec::new(alloc));
-    let mut sink = MemSink::new(alloc, report.len(), Vec::new(alloc))?;
-    let run = run(alloc, &[], &mut source, &mut sink);
-    assert_eq!(rt; run.status, Status::Done);
-    assert!(rt; sink.bytes() == report.as_bytes());
+    replays(&rt, alloc, orders, &report)?;
+    Ok(())
+}
+
+// As many open orders as there can be, all at one level: a map has a million keys, and a queue a
+// million values.
+#[test]
+fn a_million_open_orders(rt: HostRuntime) -> Result<(), Fail> {
+    let alloc = rt.alloc();
+    let orders = repeated(alloc, b"1,P,7,S,100,1\n", 1_000_000, b"")?;
+    let mut report = String::new(alloc);
+    for line in 1..=1_000_000_u32 {
+        writeln!(report, "1:{line} placed")?;
+    }
+    report.push_str("S 100 1000000\ndone 1000000\n")?;
+    replays(&rt, alloc, orders, &report)?;
     Ok(())
 }

@@ -1,6 +1,7 @@
 //! A field of the order book's shape that is laid, read off and compacted.
 
-use crate::fill::{LEVELS, MAPS, filled};
+use crate::fill::filled;
+use md_book::{LEVELS, MAPS};
 use md_store_law::{compact, lay, needed, read_off};
 use md_words::Shape;
 use std::alloc::{AllocError, Global};

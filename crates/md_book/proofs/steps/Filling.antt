@@ -16,7 +16,7 @@ use Rattle.md_book.specs.declared.maps.TheConstants.{DEPTHS}
 use Rattle.md_book.specs.Book.{Book, level_of, depth, Looked, look, looked_step}
 use Rattle.md_book.specs.Stands.{unless_0, Shows}
 use Rattle.md_book.specs.Scripts.{value_or_0, raise, lower}
-use Rattle.md_book.specs.Filling.{taker_sums, unfilled, take_parts, book_taken, filled, finish, fill}
+use Rattle.md_book.specs.Filling.{taker_sums, unfilled, take_parts, book_taken, filled_reply, finish, fill}
 use Rattle.md_book.specs.Commands.{IsOffer, IsPlaces}
 use Rattle.md_book.specs.Places.{places_looked, bounds_for, FillsAreFew}
 use Rattle.md_book.proofs.books.Sizes.{HasRoom, sized-room}
@@ -133,7 +133,7 @@ module _ (s : State) (b : Book) (room : HasRoom s) (shows : Shows s b) (account 
     taken_is : quantity - f.rest ≡ taken_in looked.parts
     taken_is = omega (arith, took_it.amid.remains)
 
-    replies : filled quantity f ≡ (looked_step looked).reply
+    replies : filled_reply quantity f ≡ (looked_step looked).reply
     replies =
         ap (λ n. reply.Filled n f.rest f.count f.parts) taken_is
         ∙ ap (λ n. reply.Filled (taken_in looked.parts) n f.count f.parts) took_it.rest
@@ -143,7 +143,7 @@ module _ (s : State) (b : Book) (room : HasRoom s) (shows : Shows s b) (account 
     finishes : IsFilled level places looked (played (finish account side level quantity f) t) (outcome (finish account side level quantity f) t) (acts ++ made (finish account side level quantity f) t)
     finishes =
         let books = booked side level account took_it.amid.reflects (quantity - f.rest) (subst (Lags side level account (depth b) (taker_sum side b) looked.book) (sym taken_is) took_it.amid.lags) in
-        ends-bind (book_taken side level account (quantity - f.rest)) (λ _. done (filled quantity f)) t (λ u r xs. IsFilled level places looked u r (acts ++ xs))
+        ends-bind (book_taken side level account (quantity - f.rest)) (λ _. done (filled_reply quantity f)) t (λ u r xs. IsFilled level places looked u r (acts ++ xs))
         (record {
           replied = replies;
           shows = books.shows;

@@ -11,7 +11,7 @@ use Rattle.md_book.specs.declared.commands.BookReply.TheVariants as reply
 use Rattle.md_book.specs.declared.commands.Part.{Part}
 use Rattle.md_book.specs.declared.limits.TheConstants.{MAX_PARTS}
 use Rattle.md_book.specs.Book.{Book, empty_book, level_of, padded, look, fill_step, book_step, replies_to}
-use Rattle.md_book.specs.Trading.{IsFilled, AddsUp, FillsAddUp}
+use Rattle.md_book.specs.Trading.{AddsUpTo, AddsUp, FillsAddUp}
 use Rattle.md_book.proofs.steps.Kills.{kill-either}
 use Rattle.md_book.proofs.sums.LookSums.{look-rest}
 
@@ -23,7 +23,7 @@ sum-padded f none parts =
     omega (arith, zeros, sum_by-append f parts (replicate (MAX_PARTS - length parts) zero_part), sum_by-replicate f (MAX_PARTS - length parts) zero_part)
 
 -- the parts of a fill and what remains
-fill-adds : (b : Book) (account level quantity places : ℕ) → IsFilled quantity (fill_step b account level quantity places).reply
+fill-adds : (b : Book) (account level quantity places : ℕ) → AddsUpTo quantity (fill_step b account level quantity places).reply
 fill-adds b account level quantity places = (sum-padded (λ p. p.taken) (omega arith) (look level account places b quantity).parts, look-rest level account places b quantity)
 
 step-adds : (b : Book) (c : Command) → AddsUp (c, (book_step b c).reply)
@@ -31,7 +31,7 @@ step-adds b (Place name account side price quantity) = tt
 step-adds b (Cancel name) = tt
 step-adds b (Fill account side price quantity places) = fill-adds b account (level_of side price) quantity places
 step-adds b (Kill account side price quantity places) =
-    kill-either b account (level_of side price) quantity places (λ step. (step.reply ≡ reply.Killed) ⊎ IsFilled quantity step.reply) (inr (fill-adds b account (level_of side price) quantity places)) (inl refl)
+    kill-either b account (level_of side price) quantity places (λ step. (step.reply ≡ reply.Killed) ⊎ AddsUpTo quantity step.reply) (inr (fill-adds b account (level_of side price) quantity places)) (inl refl)
 step-adds b (Depth side price) = tt
 step-adds b (Account account) = tt
 

@@ -2,7 +2,7 @@
 
 use super::{account, cancel, depth, filled, place, play, sums};
 use crate::commands::{BookReply, Command, Side};
-use crate::limits::{MAX_CALLER, MAX_LINE, PLACES_IN_VERSION_1, PLACES_IN_VERSION_2};
+use crate::limits::{MAX_CALLER, MAX_SCRIPT_LINE, PLACES_IN_VERSION_1, PLACES_IN_VERSION_2};
 use crate::maps::{DEPTHS, OPEN_ORDERS};
 use crate::names::order_name;
 use Side::{Buy, Sell};
@@ -149,7 +149,7 @@ fn a_fill_looks_at_twelve_places(rt: HostRuntime) -> Result<(), Fail> {
     let placed = BookReply::Placed;
     let one = BookReply::Cancelled(1);
     let last = Command::Place {
-        name: order_name(MAX_CALLER, MAX_LINE),
+        name: order_name(MAX_CALLER, MAX_SCRIPT_LINE),
         account: 27,
         side: Sell,
         price: 300,
@@ -212,7 +212,7 @@ fn a_fill_looks_at_twelve_places(rt: HostRuntime) -> Result<(), Fail> {
         (depth(Sell, 300), BookReply::Depth(7)),
         (
             Command::Cancel {
-                name: order_name(MAX_CALLER, MAX_LINE),
+                name: order_name(MAX_CALLER, MAX_SCRIPT_LINE),
             },
             BookReply::Cancelled(7),
         ),

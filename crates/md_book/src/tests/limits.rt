@@ -1,8 +1,8 @@
 //! The limits, as the order file writes them.
 
 use crate::limits::{
-    COMMAND_NODES, COMMAND_READS, COMMAND_WRITES, MAX_ACCOUNT, MAX_CALLER, MAX_LINE, MAX_PARTS,
-    MAX_PRICE, MAX_QUANTITY, PLACES_IN_VERSION_1, PLACES_IN_VERSION_2,
+    COMMAND_NODES, COMMAND_READS, COMMAND_WRITES, MAX_ACCOUNT, MAX_CALLER, MAX_PARTS, MAX_PRICE,
+    MAX_QUANTITY, MAX_SCRIPT_LINE, PLACES_IN_VERSION_1, PLACES_IN_VERSION_2,
 };
 use crate::maps::{BOUGHT, DEPTHS, LEVELS, MAPS, OPEN_ORDERS, SOLD};
 use std::test::Fail;
@@ -12,7 +12,7 @@ use std::test::Fail;
 fn limits_are_those_of_the_order_file(rt: HostRuntime) -> Result<(), Fail> {
     assert_eq!(rt; [PLACES_IN_VERSION_1, PLACES_IN_VERSION_2], [4, 12]);
     assert_eq!(rt; MAX_PARTS, 12);
-    assert_eq!(rt; [MAX_CALLER, MAX_LINE], [64, 1_000_000]);
+    assert_eq!(rt; [MAX_CALLER, MAX_SCRIPT_LINE], [64, 1_000_000]);
     assert_eq!(rt;
         [MAX_ACCOUNT, MAX_PRICE, MAX_QUANTITY],
         [9_999, 1_000, 1_000_000]

@@ -216,6 +216,11 @@ fn callers_are_within_the_version(rt: HostRuntime) -> Result<(), Fail> {
         (b"medley,2\n65,D,B,1\n", 64, Err(OrderFault::BadLine(2))),
         (b"medley,2\n64,D,B,1\n", 63, Err(OrderFault::BadLine(2))),
         (b"medley,2\n9,D,B,1\n", 1, Err(OrderFault::BadLine(2))),
+        (
+            b"medley,2\n1,D,B,1\n64,D,B,1\n",
+            1,
+            Err(OrderFault::BadLine(3)),
+        ),
     ];
     for (text, callers, want) in rows {
         let total = match read_orders(alloc, text, callers) {

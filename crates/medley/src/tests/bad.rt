@@ -83,6 +83,7 @@ fn later_bad_inputs(rt: HostRuntime) -> Result<(), Fail> {
         ("medley,2\nmedley,2\n", 2, "fault line 2\n"),
         ("1,A,7\nmedley,2\n", 2, "fault line 2\n"),
         ("medley,2\n2,A,7\n", 2, "fault line 2\n"),
+        ("medley,2\n1,A,7\n64,A,7\n", 3, "fault line 3\n"),
     ] {
         expect(
             &rt,

@@ -1,7 +1,7 @@
 //! The program from its arguments to its exit status, and streams of std that fail once or end
 //! early.
 
-use crate::program::run_program;
+use crate::program::{exit_of_program, run_program};
 use crate::run::run;
 use crate::start;
 use crate::status::Status;
@@ -76,6 +76,18 @@ fn arguments_are_words_after_the_first(rt: HostRuntime) -> Result<(), Fail> {
     )
 }
 
+// More arguments than two bytes can count.
+#[test]
+fn the_most_arguments(rt: HostRuntime) -> Result<(), Fail> {
+    let alloc = rt.alloc();
+    let mut args = Vec::new(alloc);
+    for _ in 0..65_537 {
+        args.push(String::from_str(alloc, "medley")?)?;
+    }
+    let all = ORDER.len();
+    expect(&rt, alloc, Ok(args.into_iter()), Status::Usage, USAGE, all)
+}
+
 #[test]
 fn arguments_that_are_not_there(rt: HostRuntime) -> Result<(), Fail> {
     let alloc = rt.alloc();
@@ -110,6 +122,33 @@ fn each_status_has_its_exit(rt: HostRuntime) -> Result<(), Fail> {
         assert_eq!(rt; ExitCode::from(status), ExitCode::from(number));
     }
     Ok(())
+}
+
+// Runs with one argument and these streams, and compares the exit.
+fn expect_exit(
+    rt: &impl Abort,
+    alloc: Global,
+    input: &[u8],
+    failing_reads: &[u32],
+    room: usize,
+    exit: u8,
+) -> Result<(), Fail> {
+    let args = args_of(alloc, &["medley"])?;
+    let bytes = Vec::from_slice(alloc, input)?;
+    let mut source = MemSource::new(bytes, 8192, Vec::from_slice(alloc, failing_reads)?);
+    let mut sink = MemSink::new(alloc, room, Vec::new(alloc))?;
+    let code = exit_of_program(alloc, Ok(args), &mut source, &mut sink);
+    assert_eq!(rt; code, ExitCode::from(exit), "of {input:?}");
+    Ok(())
+}
+
+#[test]
+fn the_exit_is_that_of_the_run(rt: HostRuntime) -> Result<(), Fail> {
+    let alloc = rt.alloc();
+    expect_exit(&rt, alloc, ORDER, &[], 1024, 0)?;
+    expect_exit(&rt, alloc, b"1,A,0\n", &[], 1024, 3)?;
+    expect_exit(&rt, alloc, ORDER, &[1], 1024, 4)?;
+    expect_exit(&rt, alloc, ORDER, &[], 5, 5)
 }
 
 // The one word of a test's process is the test's name. So this drives the program on its real

@@ -1,5 +1,5 @@
-use Rattle.medley_bench.specs.Numbers.{HasBookNumbers}
+use Rattle.md_book.specs.Stands.{IsBookSized}
 use Rattle.medley_bench.proofs.fill.add_orders.Given as goal
 
 abbrev pub invariant-loop-order : goal.invariant-loop-order
-invariant-loop-order l = HasBookNumbers l.contents
+invariant-loop-order l = IsBookSized l.contents
