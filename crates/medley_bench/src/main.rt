@@ -1,27 +1,43 @@
 //! Parts of the library at a size that the words give, for the benchmarks:
-//! `store ORDERS LANES NODES`.
+//! `store ORDERS LANES NODES`, `loads STEPS` or `exchanges STEPS`.
 #![tactic(auto)]
 
 mod field;
 mod fill;
+mod steps;
+#[cfg(test)]
+mod tests;
 
 use field::{Sizing, measured};
+use md_words::Shape;
 use std::alloc::AllocError;
 use std::env;
 use std::process::ExitCode;
+use steps::{MOST, exchanges, loads};
 
-// The numbers in the words `store ORDERS LANES NODES`.
-fn sizing(rt: &HostRuntime) -> Option<Sizing> {
+#[derive(Clone, Copy)]
+enum Work {
+    Store(Sizing),
+    Loads(u32),
+    Exchanges(u32),
+}
+
+// What the words ask for.
+fn work(rt: &HostRuntime) -> Option<Work> {
     let mut words = env::args(rt).ok()?;
     let _name = words.next();
-    if words.next()?.as_str() != "store" {
-        return None;
+    let kind = words.next()?;
+    let size = words.next()?.as_str().parse::<u32>().ok()?;
+    match kind.as_str() {
+        "loads" => Some(Work::Loads(size)),
+        "exchanges" => Some(Work::Exchanges(size)),
+        "store" => Some(Work::Store(Sizing {
+            orders: size,
+            lanes: words.next()?.as_str().parse::<u32>().ok()?,
+            nodes: words.next()?.as_str().parse::<u32>().ok()?,
+        })),
+        _ => None,
     }
-    Some(Sizing {
-        orders: words.next()?.as_str().parse::<u32>().ok()?,
-        lanes: words.next()?.as_str().parse::<u32>().ok()?,
-        nodes: words.next()?.as_str().parse::<u32>().ok()?,
-    })
 }
 
 // Fills, lays, reads and compacts a field, and prints how many words and nodes it has.
@@ -35,9 +51,39 @@ fn measure(rt: &HostRuntime, sizing: Sizing) -> ExitCode {
     }
 }
 
+// Loads a word so many times, and prints the bits that were found.
+fn load(rt: &HostRuntime, steps: u32) -> ExitCode {
+    let Ok(shape) = Shape::new(1, 1, 0, 1, 1, 1, 0) else {
+        return ExitCode::FAILURE;
+    };
+    match loads(rt.alloc(), shape, steps) {
+        Ok(found) => {
+            let _printed = println!(rt; "found {}", found);
+            ExitCode::SUCCESS
+        }
+        Err(AllocError) => ExitCode::FAILURE,
+    }
+}
+
+// Exchanges a word so many times, and prints how many exchanges won.
+fn exchange(rt: &HostRuntime, steps: u32) -> ExitCode {
+    let Ok(shape) = Shape::new(1, 1, 0, 1, 1, 1, 0) else {
+        return ExitCode::FAILURE;
+    };
+    match exchanges(rt.alloc(), shape, steps.min(MOST)) {
+        Ok(won) => {
+            let _printed = println!(rt; "won {}", won);
+            ExitCode::SUCCESS
+        }
+        Err(AllocError) => ExitCode::FAILURE,
+    }
+}
+
 fn main(rt: HostRuntime) -> ExitCode {
-    match sizing(&rt) {
-        Some(sizing) => measure(&rt, sizing),
+    match work(&rt) {
+        Some(Work::Store(sizing)) => measure(&rt, sizing),
+        Some(Work::Loads(steps)) => load(&rt, steps),
+        Some(Work::Exchanges(steps)) => exchange(&rt, steps),
         None => ExitCode::from(2),
     }
 }

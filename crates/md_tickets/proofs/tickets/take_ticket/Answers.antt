@@ -1,0 +1,50 @@
+use Rattle.std.proofs.Common.{◌≡◌, ◌+◌, ◌%◌, ◌≤◌, ℕ, true, nat_eq, sym, ap, subst, arith}
+use Rattle.md_words.specs.declared.content.Content.{Content}
+use Rattle.md_words.specs.Content.{count_of, is_even, word_of}
+use Rattle.md_words.proofs.Words.{count_of-counted_word}
+use Rattle.md_machine.specs.declared.step.TheConstants.{LAST_COUNT}
+use Rattle.md_cell.specs.CellMeaning.{cell_word}
+use Rattle.md_tickets.specs.Taken.{TakenBelow}
+use Rattle.md_tickets.proofs.Meeting.{exchange_keeps, exchange_takes, load_above, load_keeps}
+use Rattle.md_tickets.proofs.tickets.take_ticket.Goals as goal
+
+even_count : (count : ℕ) → count % 2 ≡ 0 → is_even count ≡ true
+unfolding is_even
+even_count count e = ap (λ n. nat_eq n 0) e
+
+count_held : (found : Content) → found.count ≤ LAST_COUNT → count_of (word_of found) ≡ found.count
+count_held found few = count_of-counted_word found.value found.count (omega (arith, few))
+
+pub renew-requires-clause-even : goal.renew-requires-clause-even
+renew-requires-clause-even c = even_count c.of-found.result.count c.if-found-ne0.false
+
+pub returns-then-found-ne0-clause-keeps : goal.returns-then-found-ne0-clause-keeps
+returns-then-found-ne0-clause-keeps c =
+    load_keeps c.args.field.now.origin c.ticket_word-word.result c.load.result c.args.pass.now.view c.load.new.self.view c.load.ensures.step
+
+pub returns-in-Ok-clause-keeps : goal.returns-in-Ok-clause-keeps
+returns-in-Ok-clause-keeps c n below =
+    let o = c.args.field.now.origin in
+    exchange_keeps o (cell_word o.shape) (word_of c.of-found.result) c.of-found.result.value c.renew.result c.load.new.self.view c.renew.new.pass.view c.renew.ensures.step n
+    (load_keeps o c.ticket_word-word.result c.load.result c.args.pass.now.view c.load.new.self.view c.load.ensures.step n below)
+
+pub returns-in-Err-clause-keeps : goal.returns-in-Err-clause-keeps
+returns-in-Err-clause-keeps c n below =
+    let o = c.args.field.now.origin in
+    exchange_keeps o (cell_word o.shape) (word_of c.of-found.result) c.of-found.result.value c.renew.result c.load.new.self.view c.renew.new.pass.view c.renew.ensures.step n
+    (load_keeps o c.ticket_word-word.result c.load.result c.args.pass.now.view c.load.new.self.view c.load.ensures.step n below)
+
+pub returns-in-Ok-clause-above : goal.returns-in-Ok-clause-above
+returns-in-Ok-clause-above c n below =
+    subst (λ k. n ≤ k) (sym (ap (λ (x : Content). x.count) c.of-found.ensures.parts))
+    (load_above c.args.field.now.origin c.ticket_word-word.result c.load.result c.args.pass.now.view c.load.new.self.view c.ticket_word-word.ensures.place c.load.ensures.step n below)
+
+pub returns-in-Ok-clause-taken : goal.returns-in-Ok-clause-taken
+returns-in-Ok-clause-taken c =
+    let o = c.args.field.now.origin in
+    let found = c.of-found.result in
+    let few : found.count ≤ LAST_COUNT = c.if-found-gt-LAST_COUNT.false in
+    let held = count_held found few in (
+      subst (λ n. TakenBelow o.shape c.renew.new.pass.view (n + 2)) held (exchange_takes o (word_of found) found.value c.load.new.self.view c.renew.new.pass.view c.in-Ok.ensures.step (subst (λ n. n ≤ LAST_COUNT) (sym held) few)),
+      few,
+    )

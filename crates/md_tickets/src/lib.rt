@@ -1,0 +1,16 @@
+//! Tickets: a small lock-free algorithm over the rule, from its steps to its contract. Any number
+//! of threads take tickets of one dispenser at once, and each pass gets higher ones from turn to
+//! turn.
+//!
+//! The dispenser is a field of the cell, and the count of the cell's word is the next ticket. To
+//! take it, a pass exchanges what it found for the same value: a tidy change of the cell, which
+//! raises the count by 2.
+#![tactic(auto)]
+
+pub use opening::dispenser;
+pub use tickets::{renew, take_ticket, take_tickets, ticket_word};
+
+mod opening;
+#[cfg(test)]
+mod tests;
+mod tickets;
