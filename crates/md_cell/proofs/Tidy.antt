@@ -1,5 +1,5 @@
 -- A change of the cell to the value that it has is tidy.
-use Rattle.std.proofs.Common.{◌≡◌, ◌≤◌, ℕ, true, [], refl, sym, ap, subst, ◌∙◌, arith}
+use Rattle.std.proofs.Common.{◌≡◌, ◌≤◌, true, [], refl, sym, ap, subst, ◌∙◌, arith}
 use Rattle.std.proofs.lemmas.List.Elements.{All-nil}
 use Rattle.md_words.specs.declared.content.Content.{Content}
 use Rattle.md_words.specs.declared.shape.Shape.{Shape}

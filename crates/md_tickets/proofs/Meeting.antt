@@ -1,5 +1,5 @@
 -- What the steps of a dispenser tell of tickets.
-use Rattle.std.proofs.Common.{◌≡◌, ◌==◌, ◌+◌, ◌<◌, ◌≤◌, ◌^◌, ℕ, List, [], ◌∷◌, ◌++◌, Result, Ok, Err, refl, sym, ap, subst, ◌∙◌, arith, inl, inr, ⊎_elim, eq-eqb}
+use Rattle.std.proofs.Common.{◌≡◌, ◌+◌, ◌≤◌, ℕ, [], ◌∷◌, ◌++◌, Result, Ok, Err, refl, sym, ap, subst, arith, inl, inr, ⊎_elim, eq-eqb}
 use Rattle.std.specs.List.{Contains}
 use Rattle.std.proofs.lemmas.List.Elements.{Contains-append_left, Contains-push, Contains-push_cases}
 use prog.Atomic.{either}
@@ -12,7 +12,7 @@ use Rattle.md_machine.specs.declared.step.Kind.TheVariants.{Exchange, Load}
 use Rattle.md_machine.specs.declared.step.Step.{Step}
 use Rattle.md_machine.specs.declared.step.TheConstants.{LAST_COUNT}
 use Rattle.md_machine.specs.Event.{exchange, load}
-use Rattle.md_machine.specs.Machine.{Machine, content, shape_of}
+use Rattle.md_machine.specs.Machine.{content, shape_of}
 use Rattle.md_machine.specs.Stepping.{left_by, step_of}
 use Rattle.md_machine.specs.clauses.words.Stamps.{IsNoted}
 use Rattle.md_machine.specs.Trail.{Meets, SomeStepOf}

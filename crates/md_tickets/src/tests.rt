@@ -34,7 +34,11 @@ fn taken_by_two<R: Threads + Sync>(
     ensures pass { IsOf result.1 field.now }
     ensures few { result.0 ≤ 2000 }
 {
-    let ((first, mut pass), (second, rest)) = join(rt, || taken(field, one), || taken(field, other));
+    let ((first, mut pass), (second, rest)) = join(
+        rt,
+        || taken(field, one),
+        || taken(field, other),
+    );
     pass.join(field, rest);
     (first + second, pass)
 }

@@ -5,7 +5,6 @@ use Rattle.md_words.specs.Content.{is_even, word_of}
 use Rattle.md_machine.specs.declared.pass.PassView.{PassView}
 use Rattle.md_machine.specs.declared.step.TheConstants.{LAST_COUNT}
 use Rattle.md_machine.specs.Event.{exchange}
-use Rattle.md_machine.specs.Machine.{shape_of}
 use Rattle.md_machine.specs.events.Exchange.{MayExchange, after_exchange}
 use Rattle.md_cell.specs.CellMeaning.{cell_meaning, cell_word}
 use Rattle.md_cell.proofs.Tidy.{may_renew}
