@@ -23,7 +23,7 @@ enum Work {
 }
 
 // What the words ask for.
-fn work(rt: &HostRuntime) -> Option<Work> {
+fn asked(rt: &HostRuntime) -> Option<Work> {
     let mut words = env::args(rt).ok()?;
     let _name = words.next();
     let kind = words.next()?;
@@ -80,7 +80,7 @@ fn exchange(rt: &HostRuntime, steps: u32) -> ExitCode {
 }
 
 fn main(rt: HostRuntime) -> ExitCode {
-    match work(&rt) {
+    match asked(&rt) {
         Some(Work::Store(sizing)) => measure(&rt, sizing),
         Some(Work::Loads(steps)) => load(&rt, steps),
         Some(Work::Exchanges(steps)) => exchange(&rt, steps),
