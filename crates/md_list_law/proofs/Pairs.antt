@@ -9,6 +9,7 @@ use Rattle.md_words.specs.Layout.{node_count}
 use Rattle.md_machine.specs.declared.node.Structure.{Structure}
 use Rattle.md_machine.specs.LogicalHeap.{LogicalWords, LogicalHeap, next_of}
 use Rattle.md_machine.proofs.lists.Rising.{in_none, in_cons, here, there}
+use Rattle.md_machine.proofs.lists.Options.{some_same}
 use Rattle.md_list_law.specs.Walk.{walk, reached_nodes, unmarked_pairs, pairs_from}
 use Rattle.md_list_law.specs.ListShape.{IsIn, IsList, NamesAbove}
 use Rattle.md_list_law.specs.Gaps.{IsGap}
@@ -73,9 +74,6 @@ pairs-find w (x ∷ xs) q v e = ⊎_elim
     (λ other. pair_later w x xs q v (pairs-find w xs q v (sym (find-further q (w.key_of x) (w.value_of_node x) (unmarked_pairs w xs) other) ∙ f)))
     (cases_eq q (w.key_of x)))
     (cases_Bool (is_marked (next_of w x)))
-  where
-    some_same : (a b : ℕ) → Some a ≡ Some b → a ≡ b
-    some_same a b e = cc
 
 -- an unmarked node of a list
 pub record HasPair (h : LogicalHeap) (list : Structure) (key value : ℕ) : Type 0 where

@@ -8,6 +8,7 @@ use Rattle.md_words.specs.Layout.{Exists}
 use Rattle.md_machine.specs.declared.node.Structure.{Structure}
 use Rattle.md_machine.specs.declared.node.Structure.TheVariants.{Bucket, Queue}
 use Rattle.md_machine.specs.Resolution.{structure_in}
+use Rattle.md_machine.proofs.lists.Options.{some_same}
 use Rattle.md_store_law.specs.Laid.{LaidNode, head_place, same_structure, dummies, pair_nodes, value_nodes, nodes_of_map, nodes_of_maps, nodes_of_queues, nodes_by}
 use Rattle.md_store_law.proofs.Numbers.{same_structure-same, same_structure-other, placed_from}
 use Rattle.md_store_law.proofs.Chains.{entries_of}
@@ -23,9 +24,6 @@ all_placed P k (n ∷ nodes) all node s e = ⊎_elim
     (λ ne. all_placed P (k + 1) nodes all.1 node s
     (sym (cond-false (eqb k node) (Some n.structure) (structure_in (placed_from (k + 1) nodes) node) (ne_eqb k node ne)) ∙ e))
     (cases_eq k node)
-  where
-    some_same : (a b : Structure) → Some a ≡ Some b → a ≡ b
-    some_same a b e = cc
 
 module _ (P : LaidNode → Type 0) where
   all_both : (xs ys : List LaidNode) → AllByRecursion P xs → AllByRecursion P ys → AllByRecursion P (xs ++ ys)

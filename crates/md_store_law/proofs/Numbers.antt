@@ -8,6 +8,7 @@ use Rattle.md_machine.specs.declared.node.Structure.{Structure}
 use Rattle.md_machine.specs.declared.node.Structure.TheVariants.{Bucket, Queue}
 use Rattle.md_machine.specs.Resolution.{structure_in}
 use Rattle.md_machine.proofs.lists.Rising.{in_none, in_cons, here, there}
+use Rattle.md_machine.proofs.lists.Options.{some_same}
 use Rattle.md_store_law.specs.Laid.{LaidNode, same_structure, numbers_from, numbers_of, last_of}
 
 -- structures are the same if they are equal, and then only
@@ -141,16 +142,10 @@ placed_numbers k (n ∷ nodes) s x e = ⊎_elim
       | false ↦ rest
     ])
     (cases_eq k x)
-  where
-    some_same : (a b : Structure) → Some a ≡ Some b → a ≡ b
-    some_same a b e = cc
 
 -- a node has one structure
 pub structures_apart : (nodes : List LaidNode) (s t : Structure) (x : ℕ) → IsNumberOf 1 nodes s x → IsNumberOf 1 nodes t x → s ≡ t
 structures_apart nodes s t x i j = some_same _ _ (sym i.placed ∙ j.placed)
-  where
-    some_same : (a b : Structure) → Some a ≡ Some b → a ≡ b
-    some_same a b e = cc
 
 -- the last of a list with one more
 pub last-more : (before : ℕ) (xs : List ℕ) (x : ℕ) → last_of before (xs ++ x ∷ []) ≡ x

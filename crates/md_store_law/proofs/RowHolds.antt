@@ -12,6 +12,7 @@ use Rattle.md_words.specs.Layout.{HasNumbers, words_of, bucket_of}
 use Rattle.md_machine.specs.declared.node.Structure.{Structure}
 use Rattle.md_machine.specs.declared.node.Structure.TheVariants.{Bucket, Queue}
 use Rattle.md_machine.specs.LogicalHeap.{LogicalHeap, next_of}
+use Rattle.md_machine.proofs.lists.Options.{some_same}
 use Rattle.md_list_law.specs.Walk.{walk}
 use Rattle.md_list_law.specs.ListShape.{head_word, IsIn, IsBucket}
 use Rattle.md_list_law.proofs.Walks.{walk_first}
@@ -41,9 +42,6 @@ placed_cases node s e = ⊎_elim
     (cases_eq node 2))
     (cases_eq node 1)
   where
-    some_same : (a b : Structure) → Some a ≡ Some b → a ≡ b
-    some_same a b e = cc
-
     none_some : None ≡ Some s → ⊥
     none_some e = cc
 
