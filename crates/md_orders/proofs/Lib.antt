@@ -7,5 +7,8 @@ pub mod Rows
 pub mod Packed
 pub mod Ones
 pub mod Placed
+pub mod Numbered
 pub mod Noted
+pub mod Made
 pub mod Texts
+pub mod Totals

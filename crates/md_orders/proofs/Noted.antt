@@ -20,30 +20,23 @@ use Rattle.md_orders.specs.Grammar.{caller_of, command_of, keeps}
 use Rattle.md_orders.specs.Scripts.{list_of, with_list, count_of, is_by, script_in, AreScripts}
 use Rattle.md_orders.specs.Noted.{AreScriptsOf, AreNoted, IsNoted}
 use Rattle.md_orders.specs.Line.{IsLine}
+use Rattle.md_orders.proofs.Numbered.{numbered-more, numbered-same}
 use Rattle.md_orders.proofs.ByCaller.{list_of-with_list-same, list_of-with_list-other, length-with_list, count_of-add}
 use Rattle.md_orders.proofs.Keeps.{first_bad_line-good, first_bad_line-bad, first_bad_line-still, caller_of-inv}
-
--- one element more has the next number
-enumerate-append : {A : Type 0} (n m : ℕ) (xs : List A) (x : A) → m ≡ n + length xs → enumerate_from n (xs ++ x ∷ []) ≡ enumerate_from n xs ++ (m, x) ∷ []
-enumerate-append n m [] x at = let same : n ≡ m = omega arith in ap (λ k. (k, x) ∷ []) same
-enumerate-append n m (y ∷ xs) x at = ap (λ ys. (n, y) ∷ ys) (enumerate-append (n + 1) m xs x (omega arith))
 
 -- the next command of a caller
 script-more : (version : Version) (callers : ℕ) (rows : List Row) (row : Row) (caller n : ℕ) (x : Command) → is_by version callers caller row ≡ true → n ≡ 1 + length (filter (is_by version callers caller) rows)
     → command_of version (name_of caller n) row ≡ Some x → script_in version callers (rows ++ row ∷ []) caller ≡ script_in version callers rows caller ++ x ∷ []
 script-more version callers rows row caller n x mine at is =
     let f : ℕ × Row → Option Command = λ p. command_of version (name_of caller p.0) p.1 in
-    let own_more : filter (is_by version callers caller) (rows ++ row ∷ []) ≡ filter (is_by version callers caller) rows ++ row ∷ [] = filter-append (is_by version callers caller) rows (row ∷ []) ∙ ap (λ b. filter (is_by version callers caller) rows ++ cond b (row ∷ []) []) mine in
-    ap (λ rs. filter_map f (enumerate_from 1 rs)) own_more
-    ∙ ap (filter_map f) (enumerate-append 1 n (filter (is_by version callers caller) rows) row at)
+    ap (filter_map f) (numbered-more (is_by version callers caller) n rows row mine at)
     ∙ filter_map-append f (enumerate_from 1 (filter (is_by version callers caller) rows)) ((n, row) ∷ [])
     ∙ ap (λ o. script_in version callers rows caller ++ cons_option o []) is
 
 -- a record of another caller leaves a script as it was
 script-same : (version : Version) (callers : ℕ) (rows : List Row) (row : Row) (caller : ℕ) → is_by version callers caller row ≡ false → script_in version callers (rows ++ row ∷ []) caller ≡ script_in version callers rows caller
 script-same version callers rows row caller other =
-    ap (λ rs. filter_map (λ (p : ℕ × Row). command_of version (name_of caller p.0) p.1) (enumerate_from 1 rs))
-    (filter-append (is_by version callers caller) rows (row ∷ []) ∙ ap (λ b. filter (is_by version callers caller) rows ++ cond b (row ∷ []) []) other ∙ append-nil _)
+    ap (filter_map (λ (p : ℕ × Row). command_of version (name_of caller p.0) p.1)) (numbered-same (is_by version callers caller) rows row other)
 
 -- a record is of its caller
 by-is : (version : Version) (callers caller k : ℕ) (row : Row) → caller_of version callers row ≡ Some k → is_by version callers caller row ≡ (k == caller)
@@ -93,12 +86,16 @@ scripts-more callers file row scripts caller x so_far line =
     }
 
 -- of lists that are all empty every caller has an empty one
-list_of-replicate : (n caller : ℕ) → list_of (replicate n (let none : List Command = [] in none)) caller ≡ []
+pub list_of-replicate : (n caller : ℕ) → list_of (replicate n (let none : List Command = [] in none)) caller ≡ []
 list_of-replicate n zero = refl
 list_of-replicate n (suc c) = elim (cases_Bool (nat_lt c n)) [
   | inl inside ↦ get_or-replicate n c [] [] (ltb-true c n inside)
   | inr past ↦ get_or_past (replicate n []) c [] (let size = length-replicate n (let none : List Command = [] in none) in let low = ltb-false c n past in omega arith)
 ]
+
+-- and there is no command
+pub count_of-none : (callers : ℕ) (scripts : List (List Command)) → scripts ≡ replicate callers [] → count_of scripts ≡ 0
+count_of-none callers scripts is = ap count_of is ∙ sum_by-replicate length callers (let none : List Command = [] in none) ∙ mul-zero callers
 
 -- of no line
 scripts-none : (callers first : ℕ) (version : Version) (scripts : List (List Command)) → length scripts ≡ callers → ((caller : ℕ) → list_of scripts caller ≡ []) → count_of scripts ≡ 0
@@ -111,7 +108,7 @@ noted-none callers scripts is = record {
   version_is = refl;
   noted = scripts-none callers 1 First scripts (ap length is ∙ length-replicate callers [])
       (λ caller. ap (λ (ls : List (List Command)). list_of ls caller) is ∙ list_of-replicate callers caller)
-      (ap count_of is ∙ sum_by-replicate length callers (let none : List Command = [] in none) ∙ mul-zero callers);
+      (count_of-none callers scripts is);
 }
 
 -- the number of a file's next record, by its lines

@@ -8,3 +8,5 @@ pub mod Replies
 pub mod Rooms
 pub mod Report
 pub mod Line
+pub mod Generator
+pub mod Summary

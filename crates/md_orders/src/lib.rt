@@ -2,18 +2,21 @@
 #![tactic(auto)]
 
 mod fields;
+mod generator;
 mod grammar;
 mod parts;
 mod read;
 mod replies;
 mod rooms;
 mod scripts;
+mod sums;
 #[cfg(test)]
 mod tests;
 mod text;
 mod version;
 
+pub use generator::{MAX_MADE_CALLERS, make};
 pub use read::{OrderFault, read_orders};
 pub use replies::Replies;
 pub use scripts::{Scripts, commands_are_named};
-pub use text::report;
+pub use text::{report, summary};

@@ -1,22 +1,31 @@
-//! The text of a report, to its last byte.
+//! The texts of a report and of a summary, to their last byte.
 
-ghost use Rattle.std.specs.Prelude.{◌≡◌, ◌++◌, ◌≤◌, ◌<◌, length, take, flat_map, decimal, OnOk, IfOk};
+ghost use Rattle.std.specs.Prelude.{◌≡◌, ◌++◌, ◌≤◌, ◌<◌, length, take, flat_map, OnOk, IfOk};
 ghost use Rattle.md_book.specs.Book.{Book};
 ghost use Rattle.md_book.specs.Stands.{StandsFor};
 ghost use Rattle.md_orders.specs.Scripts.{list_of};
-ghost use Rattle.md_orders.specs.Report.{name_text, part_text, filled_text, reply_text, line_text, answer_text, script_text, replies_text, level_text, account_text, texts_to, done_text, report_text, value_at, levels_text_of, accounts_text_of, report_text_of};
+ghost use Rattle.md_orders.specs.Summary.{summary_text, summary_text_of};
+ghost use Rattle.md_orders.specs.Report.{name_text, part_text, filled_text, reply_text, line_text, answer_text, script_text, replies_text, level_text, account_text, done_text, report_text, levels_text_of, accounts_text_of, report_text_of};
 
+use crate::sums::{all_totals, open_at, sum_at};
 use crate::{Replies, Scripts};
-use itoa::Buffer;
+use itoa::{Buffer, Integer};
 use md_book::{BOUGHT, BookReply, DEPTHS, MAPS, MAX_ACCOUNT, MAX_PRICE, Part, SOLD, Side};
 use md_history::Contents;
 use std::alloc::{AllocError, Global};
 
-fn number(out: &mut Vec<u8>, n: u64) -> Result<(), AllocError>
-    ensures { OnOk result (out.new.items ≡ out.old.items ++ decimal n) }
+fn number<I: Integer>(out: &mut Vec<u8>, n: I) -> Result<(), AllocError>
+    ensures { OnOk result (out.new.items ≡ out.old.items ++ I.text n) }
 {
     let mut buffer = Buffer::new();
     out.extend_from_slice(buffer.format(n).as_bytes())
+}
+
+fn labelled<I: Integer>(out: &mut Vec<u8>, label: &[u8], n: I) -> Result<(), AllocError>
+    ensures { OnOk result (out.new.items ≡ out.old.items ++ label.now ++ I.text n) }
+{
+    out.extend_from_slice(label)?;
+    number(out, n)
 }
 
 // CALLER:LINE of an order's name.
@@ -24,8 +33,7 @@ fn name(out: &mut Vec<u8>, name: u64) -> Result<(), AllocError>
     ensures { OnOk result (out.new.items ≡ out.old.items ++ name_text name) }
 {
     number(out, name / 0x1_0000_0000)?;
-    out.extend_from_slice(b":")?;
-    number(out, name % 0x1_0000_0000)
+    labelled(out, b":", name % 0x1_0000_0000)
 }
 
 fn part(out: &mut Vec<u8>, part: &Part) -> Result<(), AllocError>
@@ -33,8 +41,7 @@ fn part(out: &mut Vec<u8>, part: &Part) -> Result<(), AllocError>
 {
     out.extend_from_slice(b" ")?;
     name(out, part.name)?;
-    out.extend_from_slice(b"=")?;
-    number(out, u64::from(part.taken))
+    labelled(out, b"=", part.taken)
 }
 
 fn parts(out: &mut Vec<u8>, parts: &[Part]) -> Result<(), AllocError>
@@ -58,13 +65,10 @@ fn filled(
         ≡ out.old.items ++ filled_text taken rest (take count took.now)) }
 {
     if taken == 0 {
-        out.extend_from_slice(b"filled 0 rest ")?;
-        return number(out, u64::from(rest));
+        return labelled(out, b"filled 0 rest ", rest);
     }
-    out.extend_from_slice(b"filled ")?;
-    number(out, u64::from(taken))?;
-    out.extend_from_slice(b" rest ")?;
-    number(out, u64::from(rest))?;
+    labelled(out, b"filled ", taken)?;
+    labelled(out, b" rest ", rest)?;
     out.extend_from_slice(b" from")?;
     let told = took.len().min(count as usize);
     parts(out, &took[..told])
@@ -75,10 +79,7 @@ fn reply(out: &mut Vec<u8>, reply: &BookReply) -> Result<(), AllocError>
 {
     match reply {
         BookReply::Placed => out.extend_from_slice(b"placed"),
-        BookReply::Cancelled(left) => {
-            out.extend_from_slice(b"cancelled ")?;
-            number(out, u64::from(*left))
-        }
+        BookReply::Cancelled(left) => labelled(out, b"cancelled ", *left),
         BookReply::Gone => out.extend_from_slice(b"gone"),
         BookReply::Killed => out.extend_from_slice(b"killed"),
         BookReply::Filled {
@@ -87,15 +88,10 @@ fn reply(out: &mut Vec<u8>, reply: &BookReply) -> Result<(), AllocError>
             count,
             parts,
         } => filled(out, *taken, *rest, *count, parts),
-        BookReply::Depth(depth) => {
-            out.extend_from_slice(b"depth ")?;
-            number(out, *depth)
-        }
+        BookReply::Depth(depth) => labelled(out, b"depth ", *depth),
         BookReply::Account { bought, sold } => {
-            out.extend_from_slice(b"bought ")?;
-            number(out, *bought)?;
-            out.extend_from_slice(b" sold ")?;
-            number(out, *sold)
+            labelled(out, b"bought ", *bought)?;
+            labelled(out, b" sold ", *sold)
         }
     }
 }
@@ -112,9 +108,8 @@ fn answer(
     let Some(answer) = answer else {
         return Ok(());
     };
-    number(out, u64::from(caller))?;
-    out.extend_from_slice(b":")?;
-    number(out, u64::from(line))?;
+    number(out, caller)?;
+    labelled(out, b":", line)?;
     out.extend_from_slice(b" ")?;
     reply(out, &answer)?;
     out.extend_from_slice(b"\n")
@@ -142,13 +137,6 @@ fn scripts(out: &mut Vec<u8>, scripts: &Scripts, replies: &Replies) -> Result<()
     Ok(())
 }
 
-fn sum_at(contents: &Contents, map: u32, key: u64) -> u64
-    requires { map < length contents.now.maps }
-    ensures { result ≡ value_at contents.now map key }
-{
-    contents.get(map, key).unwrap_or(0)
-}
-
 // SIDE PRICE DEPTH, where there is a depth.
 fn level(out: &mut Vec<u8>, side: Side, price: u32, depth: u64) -> Result<(), AllocError>
     ensures { OnOk result (out.new.items ≡ out.old.items ++ level_text side price depth) }
@@ -160,10 +148,8 @@ fn level(out: &mut Vec<u8>, side: Side, price: u32, depth: u64) -> Result<(), Al
         Side::Buy => out.extend_from_slice(b"B")?,
         Side::Sell => out.extend_from_slice(b"S")?,
     }
-    out.extend_from_slice(b" ")?;
-    number(out, u64::from(price))?;
-    out.extend_from_slice(b" ")?;
-    number(out, depth)?;
+    labelled(out, b" ", price)?;
+    labelled(out, b" ", depth)?;
     out.extend_from_slice(b"\n")
 }
 
@@ -186,12 +172,9 @@ fn account(out: &mut Vec<u8>, account: u32, bought: u64, sold: u64) -> Result<()
     if bought == 0 && sold == 0 {
         return Ok(());
     }
-    out.extend_from_slice(b"account ")?;
-    number(out, u64::from(account))?;
-    out.extend_from_slice(b" bought ")?;
-    number(out, bought)?;
-    out.extend_from_slice(b" sold ")?;
-    number(out, sold)?;
+    labelled(out, b"account ", account)?;
+    labelled(out, b" bought ", bought)?;
+    labelled(out, b" sold ", sold)?;
     out.extend_from_slice(b"\n")
 }
 
@@ -211,8 +194,7 @@ fn accounts(out: &mut Vec<u8>, contents: &Contents) -> Result<(), AllocError>
 fn done(out: &mut Vec<u8>, count: u32) -> Result<(), AllocError>
     ensures { OnOk result (out.new.items ≡ out.old.items ++ done_text count) }
 {
-    out.extend_from_slice(b"done ")?;
-    number(out, u64::from(count))?;
+    labelled(out, b"done ", count)?;
     out.extend_from_slice(b"\n")
 }
 
@@ -237,5 +219,32 @@ pub fn report(
     levels(&mut out, contents, Side::Sell)?;
     accounts(&mut out, contents)?;
     done(&mut out, of.total())?;
+    Ok(out)
+}
+
+/// The line that sums a report up: how many commands there were, the quantities that were placed,
+/// cancelled and filled in all, and what is left open in the book. The contents have the maps of a
+/// book; where they stand for none, what is left open is what the map of depths has.
+pub fn summary(
+    alloc: Global,
+    of: &Scripts,
+    replies: &Replies,
+    contents: &Contents,
+) -> Result<Vec<u8>, AllocError>
+    requires { MAPS ≤ length contents.now.maps }
+    ensures text { IfOk result (λ text. text.items
+        ≡ summary_text_of of.now replies.now.replies contents.now) }
+    ensures book { IfOk result (λ text. (book : Book) → StandsFor contents.now book
+        → text.items ≡ summary_text of.now replies.now.replies book) }
+{
+    let totals = all_totals(of, replies);
+    let left = open_at(contents, Side::Buy) + open_at(contents, Side::Sell);
+    let mut out = Vec::new(alloc);
+    labelled(&mut out, b"made ", of.total())?;
+    labelled(&mut out, b" placed ", totals.placed)?;
+    labelled(&mut out, b" cancelled ", totals.cancelled)?;
+    labelled(&mut out, b" filled ", totals.filled)?;
+    labelled(&mut out, b" open ", left)?;
+    out.extend_from_slice(b"\n")?;
     Ok(out)
 }
