@@ -4,6 +4,7 @@ use Rattle.std.specs.Prelude.{◌&&◌, ◌==◌, nat_le, min, option_and_then}
 use Rattle.std.specs.Option.{option_map}
 use Rattle.std.proofs.lemmas.Bool.{cases_Bool}
 use Rattle.std.proofs.lemmas.Bool.Decides.{nat_tests}
+use Rattle.csv.specs.Records.{field_at}
 use Rattle.md_book.specs.declared.commands.Command.{Command}
 use Rattle.md_book.specs.Commands.{IsCommand, IsName, IsOffer, IsPlaces, name_of}
 use Rattle.md_orders.specs.declared.grammar.Terms.{Terms}
@@ -12,7 +13,7 @@ use Rattle.md_orders.specs.declared.version.Version.{Version}
 use Rattle.md_orders.specs.declared.version.Version.TheVariants.{First, Second}
 use Rattle.md_orders.specs.Records.{Row}
 use Rattle.md_orders.specs.Version.{max_caller, places_of}
-use Rattle.md_orders.specs.Grammar.{within, number_at, byte_at, side_at, account_at, price_at, quantity_at, terms_of, place_of, cancel_of, fill_of, kill_of, depth_of, account_of, command_of_kind, command_of, caller_of, keeps, first_bad_line}
+use Rattle.md_orders.specs.Grammar.{number, within, number_within, number_at, byte_at, side_at, account_at, price_at, quantity_at, terms_of, place_of, cancel_of, fill_of, kill_of, depth_of, account_of, command_of_kind, command_of, caller_of, keeps, first_bad_line}
 use Rattle.md_orders.specs.Scripts.{IsNamed}
 
 -- a chain that gave a value had one at each step
@@ -38,7 +39,10 @@ within-inv low high n m e = elim (cases_Bool (nat_le low n && nat_le n high)) [
 
 -- and so is the number of a field
 number_at-inv : (row : Row) (place low high m : ℕ) → number_at row place low high ≡ Some m → (low ≤ m) × (m ≤ high)
-number_at-inv row place low high m e = let (n, is, found) = and_then-inv (within low high) _ m e in within-inv low high n m found
+number_at-inv row place low high m e =
+    let (text, at, e1) = and_then-inv (number_within low high) (field_at row place) m e in
+    let (n, is, found) = and_then-inv (within low high) (number text) m e1 in
+    within-inv low high n m found
 
 -- a chain has a value where its next steps have
 same_some : {A B : Type 0} (f g : A → Option B) (o : Option A) → ((x : A) → is_some (f x) ≡ is_some (g x)) → is_some (option_and_then f o) ≡ is_some (option_and_then g o)

@@ -28,9 +28,13 @@ number field = if nat_le 1 (length field) && nat_le (length field) 10 then digit
 abbrev pub within : ℕ → ℕ → ℕ → Option ℕ
 within low high n = if nat_le low n && nat_le n high then Some n else None
 
+-- the number that a text writes, within a range
+abbrev pub number_within : ℕ → ℕ → List ℕ → Option ℕ
+number_within low high text = option_and_then (within low high) (number text)
+
 -- the number in a record's field, within a range
 abbrev pub number_at : Row → ℕ → ℕ → ℕ → Option ℕ
-number_at row place low high = option_and_then (within low high) (option_and_then number (field_at row place))
+number_at row place low high = option_and_then (number_within low high) (field_at row place)
 
 -- a field of one byte
 abbrev pub one_byte : List ℕ → Option ℕ

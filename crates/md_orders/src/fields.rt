@@ -1,8 +1,8 @@
-//! The fields of a record.
+//! The fields of a record, and the numbers that texts write.
 
 ghost use Rattle.std.specs.Prelude.{◌≡◌, ◌<◌, ◌^◌};
 ghost use Rattle.csv.specs.Records.{fields_of};
-ghost use Rattle.md_orders.specs.Grammar.{number, number_at, byte_at, side_at};
+ghost use Rattle.md_orders.specs.Grammar.{number, number_within, number_at, byte_at, side_at};
 ghost use Rattle.md_orders.specs.Version.{is_field};
 
 use csv::ByteRecord;
@@ -25,15 +25,23 @@ fn number(field: &[u8]) -> Option<u64>
     Some(value)
 }
 
-/// The number in a field, within a range.
-pub(crate) fn number_at(row: &ByteRecord, place: usize, low: u32, high: u32) -> Option<u32>
-    ensures { result ≡ number_at (fields_of row.now) place low high }
+/// The number that a text writes in one to ten ASCII digits, if it is from `low` to `high`. Zeros in
+/// front count for nothing.
+pub fn number_within(text: &[u8], low: u32, high: u32) -> Option<u32>
+    ensures { result ≡ number_within low high text.now }
 {
-    let value = number(row.get(place)?)?;
+    let value = number(text)?;
     if value < u64::from(low) || value > u64::from(high) {
         return None;
     }
     Some(value as u32)
+}
+
+/// The number in a field, within a range.
+pub(crate) fn number_at(row: &ByteRecord, place: usize, low: u32, high: u32) -> Option<u32>
+    ensures { result ≡ number_at (fields_of row.now) place low high }
+{
+    number_within(row.get(place)?, low, high)
 }
 
 /// The byte of a field that has one.

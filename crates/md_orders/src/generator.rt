@@ -20,8 +20,8 @@ const MODULUS: u64 = 0x8000_0000;
 // A linear congruential generator, whose draws are the high bits of its states. It is the example
 // of `rand` in the C standard (ISO/IEC 9899:1990, 7.10.2.2).
 #[derive(Clone, Copy)]
-struct Generator {
-    state: u32,
+pub(crate) struct Generator {
+    pub(crate) state: u32,
 }
 
 // The draws of a command: for its kind, its account or the order that it cancels, its side, its
@@ -36,7 +36,7 @@ pub(crate) struct Draws {
 }
 
 impl Generator {
-    fn draw(&mut self) -> u32
+    pub(crate) fn draw(&mut self) -> u32
         ensures state { self.new.state ≡ next_state self.old.state }
         ensures draw { result ≡ next_state self.old.state / 2 ^ 16 }
     {

@@ -15,6 +15,7 @@ mod tests;
 mod text;
 mod version;
 
+pub use fields::number_within;
 pub use generator::{MAX_MADE_CALLERS, make};
 pub use read::{OrderFault, read_orders};
 pub use replies::Replies;

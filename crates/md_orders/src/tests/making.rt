@@ -1,5 +1,6 @@
 //! Made scripts.
 
+use crate::generator::Generator;
 use crate::{make, read_orders};
 use std::test::Fail;
 
@@ -17,6 +18,18 @@ fn made_scripts_are_those_of_a_file(rt: HostRuntime) -> Result<(), Fail> {
     assert_eq!(rt; made.total(), 3);
     for line in 0..5 {
         assert_eq!(rt; made.command(1, line), read.command(1, line), "at {line}");
+    }
+    Ok(())
+}
+
+#[test]
+fn draws_are_those_of_the_standard(rt: HostRuntime) -> Result<(), Fail> {
+    let mut generator = Generator { state: 1 };
+    for want in [
+        16838, 5758, 10113, 17515, 31051, 5627, 23010, 7419, 16212, 4086, 2749, 12767, 9084, 12060,
+        32225,
+    ] {
+        assert_eq!(rt; generator.draw(), want);
     }
     Ok(())
 }

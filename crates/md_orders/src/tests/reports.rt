@@ -4,7 +4,7 @@ ghost use Rattle.std.specs.Prelude.{◌≡◌, ◌≤◌, length, IfOk, IfSome};
 ghost use Rattle.md_book.specs.Suits.{IsTaken, Suits};
 ghost use Rattle.md_book.specs.Commands.{IsCommand};
 
-use crate::{Replies, Scripts, read_orders, report};
+use crate::{Replies, Scripts, read_orders, report, summary};
 use md_book::{BOUGHT, BookReply, Command, DEPTHS, MAPS, MAX_PARTS, Part, SOLD, order_name};
 use md_history::Contents;
 use std::alloc::Global;
@@ -184,6 +184,9 @@ fn a_report_has_its_text(rt: HostRuntime) -> Result<(), Fail> {
         account 1 bought 0 sold 2\naccount 9999 bought 3 sold 0\ndone 8\n"
         .as_slice();
     assert_eq!(rt; text.as_slice(), want);
+    let line = summary(alloc, &scripts, &replies, &contents)?;
+    let want = b"made 8 placed 10 cancelled 5 filled 1000000 open 22\n".as_slice();
+    assert_eq!(rt; line.as_slice(), want);
     Ok(())
 }
 
