@@ -1,3 +1,4 @@
 pub mod Pieces
 pub mod Complete
 pub mod Unread
+pub mod Settings

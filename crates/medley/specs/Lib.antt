@@ -3,3 +3,5 @@ pub mod Words
 pub mod Replay
 pub mod Run
 pub mod Program
+pub mod Options
+pub mod Reading

@@ -9,6 +9,7 @@ mod run;
 mod status;
 #[cfg(test)]
 mod tests;
+mod words;
 
 use md_outside::{StdSink, StdSource};
 use program::exit_of_program;

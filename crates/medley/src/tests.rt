@@ -3,6 +3,7 @@
 mod bad;
 mod edge;
 mod rows;
+mod words;
 
 use crate::run::run;
 use crate::status::Status;
