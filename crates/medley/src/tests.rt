@@ -2,6 +2,7 @@
 
 mod bad;
 mod edge;
+mod making;
 mod rows;
 mod words;
 
