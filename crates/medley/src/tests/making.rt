@@ -15,8 +15,8 @@ fn line_of(alloc: Global, scripts: &Scripts, replies: &Replies) -> Result<String
             placed = placed.saturating_add(u64::from(quantity));
         }
         match replies.get(1, before + 1) {
-            Some(BookReply::Cancelled(left)) => {
-                cancelled = cancelled.saturating_add(u64::from(left));
+            Some(BookReply::Cancelled(gone)) => {
+                cancelled = cancelled.saturating_add(u64::from(gone));
             }
             Some(BookReply::Filled { taken, .. }) => {
                 filled = filled.saturating_add(u64::from(taken));
@@ -24,9 +24,11 @@ fn line_of(alloc: Global, scripts: &Scripts, replies: &Replies) -> Result<String
             _ => {}
         }
     }
-    let open = placed.saturating_sub(cancelled).saturating_sub(filled);
-    let count = scripts.total();
-    format!(in alloc; "made {count} placed {placed} cancelled {cancelled} filled {filled} open {open}\n")
+    let left = placed.saturating_sub(cancelled).saturating_sub(filled);
+    let made = scripts.total();
+    format!(in alloc;
+        "made {made} placed {placed} cancelled {cancelled} filled {filled} open {left}\n"
+    )
 }
 
 #[test]

@@ -79,7 +79,14 @@ fn words_write_options(rt: HostRuntime) -> Result<(), Fail> {
         ),
         (
             &[
-                "--tries", "64", "--make=7", "--callers", "4", "--lines=20000", "--nodes", "99",
+                "--tries",
+                "64",
+                "--make=7",
+                "--callers",
+                "4",
+                "--lines=20000",
+                "--nodes",
+                "99",
             ],
             Options {
                 callers: 4,
