@@ -5,7 +5,7 @@ ghost use Rattle.md_orders.specs.Records.{max_records};
 ghost use Rattle.md_orders.specs.Generator.{next_state, state_after, draws_from, made_command, AreMade};
 
 use crate::scripts::Scripts;
-use md_book::{Command, MAX_LINE, PLACES_IN_VERSION_1, Side, order_name};
+use md_book::{Command, MAX_SCRIPT_LINE, PLACES_IN_VERSION_1, Side, order_name};
 use std::alloc::{AllocError, Global};
 
 /// The most callers for which scripts are made.
@@ -62,7 +62,7 @@ impl Generator {
 // The command that draws give at a caller's line.
 fn made_command(caller: u32, line: u32, draws: &Draws) -> Command
     requires caller { (1 ≤ caller) × (caller ≤ MAX_MADE_CALLERS) }
-    requires line { (1 ≤ line) × (line ≤ MAX_LINE) }
+    requires line { (1 ≤ line) × (line ≤ MAX_SCRIPT_LINE) }
     ensures { result ≡ made_command caller line draws.now }
 {
     let account = 1000 * caller + draws.account % 1000;

@@ -2,7 +2,7 @@
 use Rattle.std.specs.Prelude.{◌≡◌, ℕ, nat_le, Bool, true, false, if◌then◌else◌, Option, Some, None, List, [], ◌∷◌, ◌++◌}
 use Rattle.std.specs.Prelude.{map, filter, flat_map, codes, unwrap_or}
 use Rattle.std.specs.Option.{option_map}
-use Rattle.md_book.specs.declared.limits.TheConstants.{MAX_CALLER, MAX_LINE}
+use Rattle.md_book.specs.declared.limits.TheConstants.{MAX_CALLER, MAX_SCRIPT_LINE}
 use Rattle.md_orders.specs.declared.generator.TheConstants.{MAX_MADE_CALLERS}
 use Rattle.md_orders.specs.Grammar.{number_within}
 use Rattle.medley.specs.declared.words.Name.{Name}
@@ -32,7 +32,7 @@ highest Callers = MAX_CALLER
 highest Nodes = 262144
 highest Tries = 16384
 highest Make = 2147483647
-highest Lines = MAX_LINE
+highest Lines = MAX_SCRIPT_LINE
 
 -- an option as it is written: a name, a value, and whether they stand in one word
 pub record Setting : Type 0 where

@@ -8,7 +8,7 @@ ghost use Rattle.medley.specs.declared.words.Given.{Given};
 ghost use Rattle.medley.specs.declared.words.Options.{Options};
 ghost use Rattle.medley.specs.Reading.{name_in, with_value, value_read, next_reading};
 
-use md_book::{MAX_CALLER, MAX_LINE};
+use md_book::{MAX_CALLER, MAX_SCRIPT_LINE};
 use md_orders::{MAX_MADE_CALLERS, number_within};
 
 /// What the words of a command line ask for.
@@ -54,7 +54,7 @@ impl Name {
             Name::Nodes => (16, 262_144),
             Name::Tries => (1, 16_384),
             Name::Make => (0, 2_147_483_647),
-            Name::Lines => (1, MAX_LINE),
+            Name::Lines => (1, MAX_SCRIPT_LINE),
         }
     }
 }
