@@ -1,15 +1,13 @@
 -- Where nothing was read, the run may be out of memory.
-use Rattle.std.proofs.Common.{◌≡◌, ◌≤◌, ◌∙◌, ℕ, List, [], length, Option, inl, inr, refl, sym, arith, rules}
+use Rattle.std.proofs.Common.{◌≡◌, ◌∙◌, ℕ, List, [], Option, inl, inr, refl, sym, arith, rules}
 use Rattle.std.specs.Prelude.{IsErr}
-use Rattle.std.specs.Io.KnownBytes.{Consumes}
-use Rattle.std.proofs.lemmas.Grind.{common_steps}
 use Rattle.md_history.specs.Front.{Front}
 use Rattle.md_outside.specs.Steps.{Step}
 use Rattle.medley.specs.declared.status.Status.{Status}
 use Rattle.medley.specs.declared.status.Status.TheVariants.{Usage, NoMemory}
 use Rattle.medley.specs.Words.{Args, IsOutOfMemory}
 use Rattle.medley.specs.Program.{HasRun}
-use Rattle.medley.specs.Run.{max_bytes, status_text, HasRead, IsReadInPart, Tells, Answers}
+use Rattle.medley.specs.Run.{status_text, IsReadInPart, Tells, Answers}
 
 -- a source from which nothing was read
 pub unread : {I : Type 0} (gives : Step I) (left : I → Option (List ℕ)) (faults : I → ℕ) (input : I) → IsReadInPart gives left faults input input []

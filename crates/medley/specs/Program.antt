@@ -1,5 +1,5 @@
 -- What the program comes to, by its arguments, its streams and its exit.
-use Rattle.std.specs.Prelude.{◌≡◌, ◌⊎◌, ℕ, List, Option, Result, Ok, Err, IsErr}
+use Rattle.std.specs.Prelude.{◌≡◌, ◌⊎◌, ℕ, List, Option, IsErr}
 use Rattle.md_history.specs.Front.{Front}
 use Rattle.md_outside.specs.Steps.{Step}
 use Rattle.medley.specs.declared.status.Status.{Status}
