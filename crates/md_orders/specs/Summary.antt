@@ -1,15 +1,16 @@
 -- The summary: how many commands there were, and what they placed, cancelled, filled and left open.
 use Rattle.std.specs.Prelude.{ℕ, zero, suc, ◌+◌, ◌≤◌, Option, Some, List, ◌++◌, length, codes, decimal}
+use Rattle.std.specs.Option.{option_map_or}
 use Rattle.md_history.specs.State.{State}
 use Rattle.md_book.specs.declared.commands.Side.{Side}
 use Rattle.md_book.specs.declared.commands.Side.TheVariants.{Buy, Sell}
 use Rattle.md_book.specs.declared.commands.Command.{Command}
 use Rattle.md_book.specs.declared.commands.Command.TheVariants.{Place}
 use Rattle.md_book.specs.declared.commands.BookReply.{BookReply}
-use Rattle.md_book.specs.declared.commands.BookReply.TheVariants.{Cancelled, Filled}
 use Rattle.md_book.specs.declared.limits.TheConstants.{MAX_PRICE}
 use Rattle.md_book.specs.declared.maps.TheConstants.{DEPTHS}
 use Rattle.md_book.specs.Book.{Book, level_of, depth}
+use Rattle.md_book.specs.Trading.{told_cancelled, told_taken}
 use Rattle.md_orders.specs.declared.sums.Totals.{Totals}
 use Rattle.md_orders.specs.Scripts.{list_of, at_line, count_of}
 use Rattle.md_orders.specs.Replies.{reply_at}
@@ -20,15 +21,13 @@ abbrev pub placed : Option Command → ℕ
 placed (Some (Place name account side price quantity)) = quantity
 placed _ = 0
 
--- the quantity that a reply cancelled
+-- the quantity that a reply tells as cancelled
 abbrev pub cancelled : Option BookReply → ℕ
-cancelled (Some (Cancelled left)) = left
-cancelled _ = 0
+cancelled r = option_map_or told_cancelled r 0
 
--- the quantity that a reply filled
+-- the quantity that a reply tells as filled
 abbrev pub filled : Option BookReply → ℕ
-filled (Some (Filled taken rest count parts)) = taken
-filled _ = 0
+filled r = option_map_or told_taken r 0
 
 -- what a line placed, cancelled and filled
 abbrev pub line_totals : List (List Command) → List (List (Option BookReply)) → ℕ → ℕ → Totals
