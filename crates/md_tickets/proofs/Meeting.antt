@@ -1,10 +1,10 @@
 -- What the steps of a dispenser tell of tickets.
-use Rattle.std.proofs.Common.{◌≡◌, ◌+◌, ◌≤◌, ℕ, [], ◌∷◌, ◌++◌, Result, Ok, Err, refl, sym, ap, subst, arith, inl, inr, ⊎_elim, eq-eqb}
+use Rattle.std.proofs.Common.{◌≡◌, ◌≢◌, ◌⊎◌, ◌<◌, ◌∙◌, false, append_assoc, ne_eqb, ◌+◌, ◌≤◌, ℕ, [], ◌∷◌, ◌++◌, Result, Ok, Err, refl, sym, ap, subst, arith, inl, inr, ⊎_elim, eq-eqb}
 use Rattle.std.specs.List.{Contains}
 use Rattle.std.proofs.lemmas.List.Elements.{Contains-append_left, Contains-push, Contains-push_cases}
 use prog.Atomic.{either}
 use Rattle.md_words.specs.declared.shape.Shape.{Shape}
-use Rattle.md_words.specs.Content.{count_of}
+use Rattle.md_words.specs.Content.{count_of, is_even}
 use Rattle.md_words.specs.PlaceAt.{IsCounted}
 use Rattle.md_words.proofs.Words.{count_of-counted_word}
 use Rattle.md_machine.specs.declared.pass.PassView.{PassView}
@@ -23,7 +23,7 @@ use Rattle.md_rule.specs.Steps.{Exchanged, SteppedFrom}
 use Rattle.md_rule.specs.Views.{Origin}
 use Rattle.md_rule.proofs.Moves.{is_kept}
 use Rattle.md_rule.proofs.Told.{told_exchange, told_load}
-use Rattle.md_tickets.specs.Taken.{TakenBelow}
+use Rattle.md_tickets.specs.Taken.{FoundNone, TakenBelow}
 
 -- a pass made one more step
 record OneMore (p q : PassView) : Type 0 where
@@ -95,3 +95,33 @@ module _ (o : Origin) where
         count_of-counted_word to (count_of from + 2) (omega (arith, few)),
         (q.trail, Contains-push q.past q.trail, (step, subst (λ l. Contains l step) (sym trail) (Contains-push p.trail step), inr (record { there = refl; after = left }))),
       )
+
+  -- and where there is no ticket, the last step shows why
+  pub load_none : (word held : ℕ) (p q : PassView) → word ≡ cell_word o.shape → SteppedFrom cell_meaning o (λ pass. load pass word) word held p q
+      → (is_even (count_of held) ≡ false) ⊎ (LAST_COUNT < count_of held) → FoundNone o.shape p q
+  load_none word held p q at step why =
+      let m = step.0.machine in record {
+        earlier = [];
+        step = step_of m p Load word (content m word);
+        made = ap (λ (x : PassView). x.trail) (told_load cell_meaning o p q word step.0);
+        there = at;
+        why = subst (λ h. (is_even (count_of h) ≡ false) ⊎ ((LAST_COUNT < count_of h) ⊎ ((Load ≡ Exchange) × (h ≡ h)))) (sym step.1) (⊎_elim (λ odd. inl odd) (λ worn. inr (inl worn)) why);
+      }
+
+  pub exchange_none : (word held from to found : ℕ) (p q r : PassView) → SteppedFrom cell_meaning o (λ pass. load pass word) word held p q
+      → found ≢ from → SteppedFrom cell_meaning o (λ pass. exchange pass (cell_word o.shape) from to) (cell_word o.shape) found q r → FoundNone o.shape p r
+  exchange_none word held from to found p q r loaded lost step =
+      let m = loaded.0.machine in
+      let n = step.0.machine in
+      let cell = cell_word o.shape in
+      let new = exchanged_word from to in
+      let first = step_of m p Load word (content m word) in
+      let differs : content n cell ≢ from = λ e. lost (sym step.1 ∙ e) in record {
+        earlier = first ∷ [];
+        step = step_of n q Exchange cell (left_by n cell from new);
+        made = ap (λ (x : PassView). x.trail) (told_exchange cell_meaning o q r cell from to step.0).1
+            ∙ ap (λ l. l ++ step_of n q Exchange cell (left_by n cell from new) ∷ []) (ap (λ (x : PassView). x.trail) (told_load cell_meaning o p q word loaded.0))
+            ∙ append_assoc p.trail (first ∷ []) (step_of n q Exchange cell (left_by n cell from new) ∷ []);
+        there = refl;
+        why = inr (inr (refl, ap (λ b. either b new (content n cell)) (ne_eqb (content n cell) from differs)));
+      }

@@ -8,7 +8,7 @@
 #![tactic(auto)]
 
 pub use opening::dispenser;
-pub use tickets::{renew, take_ticket, take_tickets, ticket_word};
+pub use tickets::{renew, take_ticket, ticket_word};
 
 mod opening;
 #[cfg(test)]

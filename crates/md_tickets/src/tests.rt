@@ -3,7 +3,7 @@
 ghost use Rattle.std.specs.Prelude.{◌≡◌, ◌≤◌};
 ghost use Rattle.md_rule.specs.Views.{IsOf};
 
-use crate::{dispenser, take_tickets, ticket_word};
+use crate::{dispenser, take_ticket, ticket_word};
 use md_cell::CellTheory;
 use md_rule::{Field, Pass};
 use md_words::{Content, Shape};
@@ -12,13 +12,27 @@ use std::thread::{Threads, join};
 
 const TURNS: u32 = 1000;
 
-// What a thread does with a pass of its own: how many tickets it took.
-fn taken(field: &Field<CellTheory>, mut pass: Pass<CellTheory>) -> (u32, Pass<CellTheory>)
+// What a thread does with a pass of its own: how many tickets it took. Each is higher than the one
+// before.
+fn taken(
+    field: &Field<CellTheory>,
+    mut pass: Pass<CellTheory>,
+    turns: u32,
+) -> (u32, Pass<CellTheory>)
     requires { IsOf pass field.now }
     ensures pass { IsOf result.1 field.now }
-    ensures few { result.0 ≤ 1000 }
+    ensures few { result.0 ≤ turns }
 {
-    let taken = take_tickets(field, &mut pass, TURNS);
+    let mut taken = 0;
+    let mut next = 0;
+    for turn in 0..turns {
+        let _ = turn;
+        if let Some(ticket) = take_ticket(field, &mut pass) {
+            prove!(next <= ticket);
+            next = ticket + 2;
+            taken += 1;
+        }
+    }
     (taken, pass)
 }
 
@@ -36,8 +50,8 @@ fn taken_by_two<R: Threads + Sync>(
 {
     let ((first, mut pass), (second, rest)) = join(
         rt,
-        || taken(field, one),
-        || taken(field, other),
+        || taken(field, one, TURNS),
+        || taken(field, other, TURNS),
     );
     pass.join(field, rest);
     (first + second, pass)
@@ -46,8 +60,9 @@ fn taken_by_two<R: Threads + Sync>(
 #[test]
 fn a_pass_alone_takes_a_ticket_at_each_turn(rt: HostRuntime) -> Result<(), Fail> {
     let shape = Shape::new(1, 1, 0, 1, 1, 1, 0)?;
-    let (field, mut pass) = dispenser(rt.alloc(), shape)?;
-    assert_eq!(rt; take_tickets(&field, &mut pass, TURNS), TURNS);
+    let (field, pass) = dispenser(rt.alloc(), shape)?;
+    let (taken, mut pass) = taken(&field, pass, TURNS);
+    assert_eq!(rt; taken, TURNS);
     let last = pass.load(&field, ticket_word(&field));
     assert_eq!(rt; Content::of(last).count, 2 * TURNS);
     Ok(())

@@ -1,6 +1,6 @@
 //! A ticket is taken by a load and an exchange.
 
-ghost use Rattle.std.specs.Prelude.{◌≡◌, ◌+◌, ◌≤◌, ◌<◌, ℕ, IfSome, true};
+ghost use Rattle.std.specs.Prelude.{◌≡◌, ◌+◌, ◌≤◌, ◌<◌, ℕ, IfNone, IfSome, true};
 ghost use Rattle.md_words.specs.Content.{is_even, word_of};
 ghost use Rattle.md_words.specs.Layout.{words_of};
 ghost use Rattle.md_machine.specs.declared.step.TheConstants.{LAST_COUNT};
@@ -8,7 +8,7 @@ ghost use Rattle.md_machine.specs.Event.{exchange};
 ghost use Rattle.md_cell.specs.CellMeaning.{cell_meaning, cell_word};
 ghost use Rattle.md_rule.specs.Steps.{Exchanged};
 ghost use Rattle.md_rule.specs.Views.{IsOf};
-ghost use Rattle.md_tickets.specs.Taken.{TakenBelow};
+ghost use Rattle.md_tickets.specs.Taken.{FoundNone, TakenBelow};
 
 use md_cell::CellTheory;
 use md_machine::step::LAST_COUNT;
@@ -27,7 +27,8 @@ pub fn ticket_word(field: &Field<CellTheory>) -> u32
 /// number of at most `LAST_COUNT`. If the pass knew all tickets below a number to be taken, it gets
 /// none of them; and it knows so of its ticket and all below it afterwards.
 ///
-/// The answer is `None` if another thread took the ticket that was found, or if none is left.
+/// The answer is `None` only if another thread took the ticket that was found, if none is left, or
+/// if a descriptor stands in the word.
 pub fn take_ticket(field: &Field<CellTheory>, pass: &mut Pass<CellTheory>) -> Option<u32>
     requires { IsOf pass.old field.now }
     ensures same { pass.new ≡ record pass.old { view = pass.new.view } }
@@ -37,6 +38,7 @@ pub fn take_ticket(field: &Field<CellTheory>, pass: &mut Pass<CellTheory>) -> Op
         → TakenBelow field.now.origin.shape pass.old.view n → n ≤ ticket) }
     ensures taken { IfSome result (λ ticket.
         TakenBelow field.now.origin.shape pass.new.view (ticket + 2) × (ticket ≤ LAST_COUNT)) }
+    ensures none { IfNone result (FoundNone field.now.origin.shape pass.old.view pass.new.view) }
 {
     let word = ticket_word(field);
     let found = Content::of(pass.load(field, word));
@@ -66,22 +68,4 @@ pub fn renew(
         (cell_word field.now.origin.shape) (word_of from) result pass.old.view pass.new.view }
 {
     pass.exchange(field, ticket_word(field), from, from.value)
-}
-
-/// Tries so many times to take a ticket: how many were taken. Each is higher than the one before.
-pub fn take_tickets(field: &Field<CellTheory>, pass: &mut Pass<CellTheory>, turns: u32) -> u32
-    requires { IsOf pass.old field.now }
-    ensures same { pass.new ≡ record pass.old { view = pass.new.view } }
-    ensures few { result ≤ turns }
-{
-    let mut taken = 0;
-    let mut next = 0;
-    for _turn in 0..turns {
-        if let Some(ticket) = take_ticket(field, pass) {
-            prove!(next <= ticket);
-            next = ticket + 2;
-            taken += 1;
-        }
-    }
-    taken
 }

@@ -1,16 +1,22 @@
-use Rattle.std.proofs.Common.{◌≡◌, ◌+◌, ◌%◌, ◌≤◌, ℕ, true, nat_eq, sym, ap, subst, arith}
+use Rattle.std.proofs.Common.{◌≡◌, ◌+◌, ◌%◌, ◌≤◌, ◌<◌, ℕ, true, false, nat_eq, inl, inr, sym, ap, subst, arith}
+use Rattle.std.proofs.lemmas.Bool.Decides.{nat_tests}
 use Rattle.md_words.specs.declared.content.Content.{Content}
 use Rattle.md_words.specs.Content.{count_of, is_even, word_of}
 use Rattle.md_words.proofs.Words.{count_of-counted_word}
 use Rattle.md_machine.specs.declared.step.TheConstants.{LAST_COUNT}
 use Rattle.md_cell.specs.CellMeaning.{cell_word}
 use Rattle.md_tickets.specs.Taken.{TakenBelow}
-use Rattle.md_tickets.proofs.Meeting.{exchange_keeps, exchange_takes, load_above, load_keeps}
+use Rattle.md_tickets.proofs.Meeting.{exchange_keeps, exchange_takes, exchange_none, load_above, load_keeps, load_none}
+use Rattle.md_tickets.proofs.tickets.take_ticket.Goals.{then-found-ne0-via-then-found-ne0, then-found-ne0-via-else-found-ne0+then-found-gt-LAST_COUNT}
 use Rattle.md_tickets.proofs.tickets.take_ticket.Goals as goal
 
 even_count : (count : ℕ) → count % 2 ≡ 0 → is_even count ≡ true
 unfolding is_even
 even_count count e = ap (λ n. nat_eq n 0) e
+
+odd_count : (count : ℕ) → (count % 2 ≡ 0 → ⊥) → is_even count ≡ false
+unfolding is_even
+odd_count count odd = grind (arith, nat_tests, odd)
 
 count_held : (found : Content) → found.count ≤ LAST_COUNT → count_of (word_of found) ≡ found.count
 count_held found few = count_of-counted_word found.value found.count (omega (arith, few))
@@ -21,6 +27,20 @@ renew-requires-clause-even c = even_count c.of-found.result.count c.if-found-ne0
 pub returns-then-found-ne0-clause-keeps : goal.returns-then-found-ne0-clause-keeps
 returns-then-found-ne0-clause-keeps c =
     load_keeps c.args.field.now.origin c.ticket_word-word.result c.load.result c.args.pass.now.view c.load.new.self.view c.load.ensures.step
+
+pub returns-then-found-ne0-clause-none : goal.returns-then-found-ne0-clause-none
+returns-then-found-ne0-clause-none c =
+    let count = ap (λ (x : Content). x.count) c.of-found.ensures.parts in
+    load_none c.args.field.now.origin c.ticket_word-word.result c.load.result c.args.pass.now.view c.load.new.self.view c.ticket_word-word.ensures.place c.load.ensures.step
+    (elim c.then-found-ne0.branch [
+      | then-found-ne0-via-then-found-ne0 w ↦ inl (subst (λ n. is_even n ≡ false) count (odd_count c.of-found.result.count w.if-found-ne0.true))
+      | then-found-ne0-via-else-found-ne0+then-found-gt-LAST_COUNT w ↦ inr (subst (λ n. LAST_COUNT < n) count w.if-found-gt-LAST_COUNT.true)
+    ])
+
+pub returns-in-Err-clause-none : goal.returns-in-Err-clause-none
+returns-in-Err-clause-none c =
+    exchange_none c.args.field.now.origin c.ticket_word-word.result c.load.result (word_of c.of-found.result) c.of-found.result.value c.in-Err.field-0 c.args.pass.now.view c.load.new.self.view c.renew.new.pass.view
+    c.load.ensures.step c.in-Err.ensures.step.0 c.in-Err.ensures.step.1
 
 pub returns-in-Ok-clause-keeps : goal.returns-in-Ok-clause-keeps
 returns-in-Ok-clause-keeps c n below =

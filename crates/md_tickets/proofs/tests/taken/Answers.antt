@@ -1,8 +1,8 @@
 use Rattle.std.proofs.Common.{◌+◌, ◌≤◌, ap, subst, sym, ◌∙◌, arith}
 use Rattle.md_rule.specs.Views.{PassState}
 use Rattle.md_tickets.specs.Taken.{TakenBelow}
-use Rattle.md_tickets.proofs.tickets.take_tickets.Goals.{in-Some+else-prove, in_default}
-use Rattle.md_tickets.proofs.tickets.take_tickets.Goals as goal
+use Rattle.md_tickets.proofs.tests.taken.Goals.{in-Some+else-prove, in_default}
+use Rattle.md_tickets.proofs.tests.taken.Goals as goal
 
 -- the ticket is above what the pass knew
 pub prove-unreachable-requires : goal.prove-unreachable-requires
@@ -19,8 +19,8 @@ loop-turn-preserved c =
       field = record { table = ap (λ (x : PassState). x.table) same ∙ was.field.table; shape = ap (λ (x : PassState). x.shape) same ∙ was.field.shape };
       same = same ∙ ap (λ (x : PassState). record x { view = view }) was.same;
       few = elim c.match-take_ticket.branch [
-        | in-Some+else-prove w ↦ subst (λ n. n ≤ c.loop-turn._turn + 1) (sym w.taken-is) (omega (arith, was.few))
-        | in_default w ↦ subst (λ n. n ≤ c.loop-turn._turn + 1) (sym w.taken-is) (omega (arith, was.few))
+        | in-Some+else-prove w ↦ subst (λ n. n ≤ c.loop-turn.turn + 1) (sym w.taken-is) (omega (arith, was.few))
+        | in_default w ↦ subst (λ n. n ≤ c.loop-turn.turn + 1) (sym w.taken-is) (omega (arith, was.few))
       ];
       below = elim c.match-take_ticket.branch [
         | in-Some+else-prove w ↦ subst (TakenBelow shape view) (sym w.next-is) w.in-Some.ensures.taken.0
