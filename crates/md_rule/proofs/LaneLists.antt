@@ -84,11 +84,20 @@ joined_are_lanes shape lanes others k =
       rising = rise_filter 0 p (range_with_len 0 shape.lanes) (rise_range 0 shape.lanes);
     }
 
--- a lane that a pass may hold, and a descriptor of a field, is below 64
+-- a lane that a pass may hold is one of its field
+pub lane_exists : (shape : Shape) (lanes : List ℕ) (lane : ℕ) → AreLanes shape lanes → Contains lanes lane → lane < shape.lanes
+lane_exists shape lanes lane k c = ⊎_elim
+    (λ h. h)
+    (λ h. absurd (false≢true (sym (k.below lane h) ∙ in_lane lanes lane c)))
+    (cases_lt lane shape.lanes)
+
+-- so it is below 64, and so is a descriptor of a field
 pub lane_fits : (shape : Shape) (lanes : List ℕ) (lane : ℕ) → AreLanes shape lanes → Contains lanes lane → lane < 64
-lane_fits shape lanes lane k c =
-    let few = few_lanes shape in
-    ⊎_elim (λ (h : lane < shape.lanes). omega (arith, h, few)) (λ h. absurd (false≢true (sym (k.below lane h) ∙ in_lane lanes lane c))) (cases_lt lane shape.lanes)
+lane_fits shape lanes lane k c = let few = few_lanes shape in let exists = lane_exists shape lanes lane k c in omega (arith, exists, few)
+
+pub desc_exists : (shape : Shape) (lanes : List ℕ) (desc : ℕ) → AreLanes shape lanes → Contains lanes desc → desc < desc_count shape
+unfolding desc_count
+desc_exists shape lanes desc k c = lane_exists shape lanes desc k c
 
 pub desc_fits : (shape : Shape) (desc : ℕ) → desc < desc_count shape → desc < 64
 unfolding desc_count

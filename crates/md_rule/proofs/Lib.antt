@@ -6,3 +6,8 @@ pub mod Events
 pub mod Closes
 pub mod Told
 pub mod Fronts
+pub mod Kept
+pub mod LaneEvents
+pub mod LaneSteps
+pub mod LaneShares
+pub mod LaneMoves

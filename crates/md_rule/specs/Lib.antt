@@ -6,4 +6,5 @@ pub mod InHand
 pub mod LaneSet
 pub mod Lanes
 pub mod Shares
+pub mod Kept
 pub mod Closing

@@ -1,12 +1,13 @@
 //! The five marks: what is in hand changes. Each is one load of word 0.
 
-ghost use Rattle.std.specs.Prelude.{◌≡◌, ◌<◌, Some};
+ghost use Rattle.std.specs.Prelude.{◌≡◌, ◌<◌, ◌≤◌, Some};
+ghost use Rattle.std.specs.List.{Contains};
 ghost use Rattle.md_words.specs.Layout.{desc_count};
 ghost use Rattle.md_machine.specs.declared.attempt.Hand.{Hand};
 ghost use Rattle.md_machine.specs.Event.{mark_begin, mark_start, mark_end, mark_leave};
 ghost use Rattle.md_machine.specs.events.Start.{IsClean};
 ghost use Rattle.md_rule.specs.InHand.{HoldsDesc};
-ghost use Rattle.md_rule.specs.Shares.{after_begin, after_end};
+ghost use Rattle.md_rule.specs.Shares.{after_begin, after_end, share_at};
 ghost use Rattle.md_rule.specs.Steps.{Acted, May, MayAct, Stepped};
 ghost use Rattle.md_rule.specs.Views.{IsOf};
 
@@ -20,9 +21,12 @@ use std::marker::Brand;
 use std::snapshot::Snapshot;
 
 impl<T: Theory> Pass<T> {
-    /// Takes the present attempt of an own descriptor in hand, with a tag.
+    /// Takes the present attempt of an own descriptor in hand, with a tag. That attempt was taken
+    /// (`set_tries_taken`).
     pub fn mark_begin(&mut self, field: &Field<T>, desc: u32, tag: u64)
-        requires field { IsOf self.old field.now × (desc < desc_count field.now.origin.shape) }
+        requires field { IsOf self.old field.now }
+        requires own { Contains self.old.view.lanes desc }
+        requires taken { 1 ≤ (share_at self.old.shares desc).tries_taken }
         requires may { May T.meaning field.now.origin (λ pass. mark_begin pass desc tag) self.old.view }
         ensures same { self.new ≡ record self.old {
           view = self.new.view;
@@ -31,18 +35,8 @@ impl<T: Theory> Pass<T> {
         ensures step { Stepped T.meaning field.now.origin (λ pass. mark_begin pass desc tag)
             self.old.view self.new.view }
     {
-        self.take_in_hand(field, desc, tag);
+        mark::<Brand, T, _>(&mut self.seat, field, Snapshot::of(&(desc, tag)));
         begin_lane(&mut self.shares, desc);
-    }
-
-    fn take_in_hand(&mut self, field: &Field<T>, desc: u32, tag: u64)
-        requires field { IsOf self.old field.now }
-        requires may { May T.meaning field.now.origin (λ pass. mark_begin pass desc tag) self.old.view }
-        ensures same { self.new ≡ record self.old { view = self.new.view } }
-        ensures step { Stepped T.meaning field.now.origin (λ pass. mark_begin pass desc tag)
-            self.old.view self.new.view }
-    {
-        mark::<Brand, T, _>(self, field, Snapshot::of(&(desc, tag)));
     }
 
     /// Begins an operation of the transaction in hand.
@@ -53,7 +47,7 @@ impl<T: Theory> Pass<T> {
         ensures step { Stepped T.meaning field.now.origin (λ pass. mark_start pass)
             self.old.view self.new.view }
     {
-        mark::<Brand, T, _>(self, field, Snapshot::of(&()));
+        mark::<Brand, T, _>(&mut self.seat, field, Snapshot::of(&()));
     }
 
     /// Ends the operation that was begun: it has this reply, by some certificate.
@@ -63,7 +57,7 @@ impl<T: Theory> Pass<T> {
         ensures same { self.new ≡ record self.old { view = self.new.view } }
         ensures step { Acted T.meaning field.now.origin op reply self.old.view self.new.view }
     {
-        mark::<Brand, T, _>(self, field, Snapshot::of(&(op, reply)));
+        mark::<Brand, T, _>(&mut self.seat, field, Snapshot::of(&(op, reply)));
     }
 
     /// Nothing is in hand afterwards: the transaction of this descriptor, whose attempt is decided
@@ -80,18 +74,8 @@ impl<T: Theory> Pass<T> {
         ensures step { Stepped T.meaning field.now.origin (λ pass. mark_end pass)
             self.old.view self.new.view }
     {
-        self.put_down(field);
+        mark::<Brand, T, _>(&mut self.seat, field, Snapshot::of(&()));
         end_lane(&mut self.shares, desc);
-    }
-
-    fn put_down(&mut self, field: &Field<T>)
-        requires field { IsOf self.old field.now }
-        requires may { May T.meaning field.now.origin (λ pass. mark_end pass) self.old.view }
-        ensures same { self.new ≡ record self.old { view = self.new.view } }
-        ensures step { Stepped T.meaning field.now.origin (λ pass. mark_end pass)
-            self.old.view self.new.view }
-    {
-        mark::<Brand, T, _>(self, field, Snapshot::of(&()));
     }
 
     /// Nothing is in hand afterwards. A transaction that was in hand is neither answered nor
@@ -102,6 +86,6 @@ impl<T: Theory> Pass<T> {
         ensures step { Stepped T.meaning field.now.origin (λ pass. mark_leave pass)
             self.old.view self.new.view }
     {
-        mark::<Brand, T, _>(self, field, Snapshot::of(&()));
+        mark::<Brand, T, _>(&mut self.seat, field, Snapshot::of(&()));
     }
 }

@@ -5,6 +5,7 @@ ghost use Rattle.std.specs.List.{Contains};
 ghost use Rattle.md_machine.specs.Event.{first_pass};
 ghost use Rattle.md_machine.specs.clauses.passes.Alone.{HoldsAll};
 ghost use Rattle.md_rule.specs.declared.shares.TheConstants.{UNUSED};
+ghost use Rattle.md_rule.specs.Kept.{KeepsLanes};
 ghost use Rattle.md_rule.specs.Lanes.{AreLanes};
 ghost use Rattle.md_rule.specs.Views.{IsOf};
 
@@ -35,9 +36,11 @@ impl<T: Theory> Model for Pass<T> {
 
     ghost view = { λ p. record { table = p.seat.table_id; shape = p.shape; view = p.seat.me.0.view; shares = p.shares } };
 
+    ghost use Rattle.md_rule.specs.Kept.{KeepsLanes};
     ghost use Rattle.md_rule.specs.Lanes.{AreLanes};
 
-    ghost invariant = { λ p. (p.seat.me.0.view.lanes ≡ p.lanes) × AreLanes p.shape p.lanes × (p.seat.me.1 ≡ []) };
+    ghost invariant = { λ p. (p.seat.me.0.view.lanes ≡ p.lanes) × AreLanes p.shape p.lanes × (p.seat.me.1 ≡ [])
+        × KeepsLanes p.shape p.seat.me.0.view p.shares };
 }
 
 impl<T: Theory> Pass<T> {
@@ -55,11 +58,13 @@ impl<T: Theory> Pass<T> {
         }
     }
 
-    /// The numbers of its field. It holds one at least of the lanes that they say.
+    /// The numbers of its field. It holds one at least of the lanes that they say, and keeps what
+    /// `KeepsLanes` says of each.
     pub fn shape(&self) -> &Shape
         ensures shape { result.now ≡ self.now.shape }
         ensures lanes { AreLanes self.now.shape self.now.view.lanes }
         ensures shares { length self.now.shares ≡ 64 }
+        ensures kept { KeepsLanes self.now.shape self.now.view self.now.shares }
     {
         count(&self.shares);
         &self.shape
@@ -91,7 +96,8 @@ impl<T: Theory> Pass<T> {
 
     // Another pass of the same field with these lanes, and copies of the shares.
     pub(crate) fn part(&self, seat: Seat<(), Known>, lanes: Lanes) -> Pass<T>
-        requires { (seat.me.0.view.lanes ≡ lanes) × AreLanes self.now.shape lanes × (seat.me.1 ≡ []) }
+        requires lanes { (seat.me.0.view.lanes ≡ lanes) × AreLanes self.now.shape lanes × (seat.me.1 ≡ []) }
+        requires kept { KeepsLanes self.now.shape seat.me.0.view self.now.shares }
         ensures { result ≡ record self.now { table = seat.table_id; view = seat.me.0.view } }
     {
         Pass {
@@ -106,7 +112,7 @@ impl<T: Theory> Pass<T> {
     pub(crate) fn into_parts(self) -> (Seat<(), Known>, Lanes, [Share; 64])
         ensures seat { (result.0.table_id ≡ self.table) × (result.0.me.0.view ≡ self.view) × (result.0.me.1 ≡ []) }
         ensures lanes { (result.1 ≡ self.view.lanes) × AreLanes self.shape result.1 }
-        ensures shares { result.2 ≡ self.shares }
+        ensures shares { (result.2 ≡ self.shares) × KeepsLanes self.shape self.view self.shares }
     {
         let Pass {
             seat,

@@ -2,7 +2,8 @@
 
 ghost use Rattle.std.specs.Prelude.{◌≡◌, ◌<◌, if◌then◌else◌, length};
 ghost use Rattle.md_words.specs.declared.limits.TheConstants.{SET};
-ghost use Rattle.md_rule.specs.Shares.{after_slot, after_begin, after_end, after_restart, joined_shares};
+ghost use Rattle.md_rule.specs.Shares.{after_slot, after_begin, after_end, after_restart};
+ghost use Rattle.md_rule.specs.Shares.{joined_shares, share_at, with_share};
 
 use crate::lanes::Lanes;
 use md_words::Spot;
@@ -50,10 +51,31 @@ fn one_of(first: bool, a: Share, b: Share) -> Share
     if first { a } else { b }
 }
 
+// So many nodes of the lane are taken.
+pub(crate) fn set_nodes(shares: &mut [Share; 64], lane: u32, taken: u32)
+    requires { lane < 64 }
+    ensures size { length shares.old ≡ 64 }
+    ensures shares { shares.new
+        ≡ with_share shares.old lane (record (share_at shares.old lane) { nodes_taken = taken }) }
+{
+    shares[lane as usize].nodes_taken = taken;
+}
+
+// So many of its attempts are begun.
+pub(crate) fn set_tries(shares: &mut [Share; 64], lane: u32, taken: u32)
+    requires { lane < 64 }
+    ensures size { length shares.old ≡ 64 }
+    ensures shares { shares.new
+        ≡ with_share shares.old lane (record (share_at shares.old lane) { tries_taken = taken }) }
+{
+    shares[lane as usize].tries_taken = taken;
+}
+
 // A slot of the lane's descriptor was installed.
 pub(crate) fn count_slot(shares: &mut [Share; 64], to: Spot)
     requires { (to.desc < 64) × (to.slot < SET) }
-    ensures { shares.new ≡ after_slot shares.old to }
+    ensures size { length shares.old ≡ 64 }
+    ensures shares { shares.new ≡ after_slot shares.old to }
 {
     let share = &mut shares[to.desc as usize];
     share.slots_written = share.slots_written.max(to.slot + 1);
@@ -62,7 +84,8 @@ pub(crate) fn count_slot(shares: &mut [Share; 64], to: Spot)
 // The lane's attempt was put in hand.
 pub(crate) fn begin_lane(shares: &mut [Share; 64], lane: u32)
     requires { lane < 64 }
-    ensures { shares.new ≡ after_begin shares.old lane }
+    ensures size { length shares.old ≡ 64 }
+    ensures shares { shares.new ≡ after_begin shares.old lane }
 {
     shares[lane as usize].left_open = true;
 }
@@ -70,7 +93,8 @@ pub(crate) fn begin_lane(shares: &mut [Share; 64], lane: u32)
 // It was answered or stopped.
 pub(crate) fn end_lane(shares: &mut [Share; 64], lane: u32)
     requires { lane < 64 }
-    ensures { shares.new ≡ after_end shares.old lane }
+    ensures size { length shares.old ≡ 64 }
+    ensures shares { shares.new ≡ after_end shares.old lane }
 {
     shares[lane as usize].left_open = false;
 }
@@ -78,7 +102,8 @@ pub(crate) fn end_lane(shares: &mut [Share; 64], lane: u32)
 // The lane's descriptor began another attempt.
 pub(crate) fn restart_lane(shares: &mut [Share; 64], lane: u32)
     requires { lane < 64 }
-    ensures { shares.new ≡ after_restart shares.old lane }
+    ensures size { length shares.old ≡ 64 }
+    ensures shares { shares.new ≡ after_restart shares.old lane }
 {
     let share = &mut shares[lane as usize];
     share.slots_written = 0;

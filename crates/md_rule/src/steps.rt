@@ -1,23 +1,28 @@
 //! The nine steps.
 
 ghost use Rattle.std.specs.Prelude.{◌≡◌, ◌+◌, ◌<◌, ◌≤◌, MatchResult};
+ghost use Rattle.std.specs.List.{Contains};
 ghost use Rattle.md_words.specs.declared.limits.TheConstants.{SET};
 ghost use Rattle.md_words.specs.Content.{word_of};
 ghost use Rattle.md_words.specs.Layout.{address, desc_count, words_of};
 ghost use Rattle.md_words.specs.Place.{desc_status};
 ghost use Rattle.md_words.specs.Status.{serial_of};
 ghost use Rattle.md_machine.specs.declared.step.TheConstants.{LAST_COUNT};
+ghost use Rattle.md_machine.specs.Machine.{IsLive};
 ghost use Rattle.md_machine.specs.Event.{load, store, install, exchange, ready, commit, abort, uninstall, start};
 ghost use Rattle.md_rule.specs.InHand.{HoldsUnready};
-ghost use Rattle.md_rule.specs.Shares.{after_restart, after_slot};
+ghost use Rattle.md_rule.specs.Kept.{IsNoNextLeft, StoredNoneLeft};
+ghost use Rattle.md_rule.specs.Shares.{after_restart, after_slot, share_at};
 ghost use Rattle.md_rule.specs.Steps.{Exchanged, May, Stepped, SteppedFrom};
 ghost use Rattle.md_rule.specs.Views.{IsOf};
 
 use crate::field::Field;
+use crate::known::Known;
 use crate::pass::Pass;
 use crate::shares::{count_slot, restart_lane};
 use crate::statuses;
 use crate::words::{exchange_word, load_word, store_word};
+use atomic_table::Seat;
 use md_machine::Theory;
 use md_words::{Content, Spot, Status};
 use std::marker::Brand;
@@ -31,7 +36,7 @@ impl<T: Theory> Pass<T> {
         ensures step { SteppedFrom T.meaning field.now.origin (λ pass. load pass word) word result
             self.old.view self.new.view }
     {
-        load_word::<Brand, T, _>(self, field, word, Snapshot::of(&word))
+        load_word::<Brand, T, _>(&mut self.seat, field, word, Snapshot::of(&word))
     }
 
     /// Writes a word of an own node that isn't published, or of a read or a slot of the
@@ -45,10 +50,11 @@ impl<T: Theory> Pass<T> {
             self.old.view self.new.view }
     {
         let about = Snapshot::of(&(word, value));
-        store_word::<Brand, T, _>(self, field, word, value, about);
+        store_word::<Brand, T, _>(&mut self.seat, field, word, value, about);
     }
 
-    /// Puts the descriptor in hand, at one of its slots, into a word.
+    /// Puts the descriptor in hand, at one of its slots, into a word. That isn't the next word of
+    /// a node that wasn't taken.
     pub fn install(
         &mut self,
         field: &Field<T>,
@@ -59,6 +65,7 @@ impl<T: Theory> Pass<T> {
         requires field { IsOf self.old field.now × (word < words_of field.now.origin.shape) }
         requires fits { (from.count ≤ LAST_COUNT) × (to.desc < desc_count field.now.origin.shape)
             × (to.slot < SET) }
+        requires taken { IsNoNextLeft self.old word }
         requires may { May T.meaning field.now.origin (λ pass. install pass word (word_of from) to)
             self.old.view }
         ensures same { self.new ≡ record self.old { view = self.new.view; shares = self.new.shares } }
@@ -69,27 +76,9 @@ impl<T: Theory> Pass<T> {
             (λ pass. install pass word (word_of from) to) word (word_of from) result
             self.old.view self.new.view }
     {
-        self.put(field, word, from, to)?;
+        put::<T>(&mut self.seat, field, word, from, to)?;
         count_slot(&mut self.shares, to);
         Ok(())
-    }
-
-    fn put(&mut self, field: &Field<T>, word: u32, from: Content, to: Spot) -> Result<(), u64>
-        requires field { IsOf self.old field.now × (word < words_of field.now.origin.shape) }
-        requires fits { (from.count ≤ LAST_COUNT) × (to.desc < desc_count field.now.origin.shape) }
-        requires may { May T.meaning field.now.origin (λ pass. install pass word (word_of from) to)
-            self.old.view }
-        ensures same { self.new ≡ record self.old { view = self.new.view } }
-        ensures step { Exchanged T.meaning field.now.origin
-            (λ pass. install pass word (word_of from) to) word (word_of from) result
-            self.old.view self.new.view }
-    {
-        let installed = Content {
-            value: to.value(),
-            count: from.count + 1,
-        };
-        let about = Snapshot::of(&(from, to));
-        exchange_word::<Brand, T, _>(self, field, word, from.word(), installed.word(), about)
     }
 
     /// Changes a word by a plain exchange, which leaves the state as it is.
@@ -115,14 +104,23 @@ impl<T: Theory> Pass<T> {
             count: from.count + 2,
         };
         let about = Snapshot::of(&(from, to));
-        exchange_word::<Brand, T, _>(self, field, word, from.word(), exchanged.word(), about)
+        exchange_word::<Brand, T, _>(
+            &mut self.seat,
+            field,
+            word,
+            from.word(),
+            exchanged.word(),
+            about,
+        )
     }
 
-    /// Makes the transaction in hand ready: it joins the history.
+    /// Makes the transaction in hand ready: it joins the history. It stored to no node that wasn't
+    /// taken, or was given back.
     pub fn ready(&mut self, field: &Field<T>, desc: u32, from: u64, reads: u8) -> Result<(), u64>
         requires field { IsOf self.old field.now
             × (desc < desc_count field.now.origin.shape) }
         requires hand { HoldsUnready self.old.view desc from }
+        requires taken { StoredNoneLeft self.old }
         requires may { May T.meaning field.now.origin (λ pass. ready pass reads) self.old.view }
         ensures same { self.new ≡ record self.old { view = self.new.view } }
         ensures step { Exchanged T.meaning field.now.origin (λ pass. ready pass reads)
@@ -131,7 +129,14 @@ impl<T: Theory> Pass<T> {
     {
         let word = field.shape().status(desc);
         let about = Snapshot::of(&(desc, reads));
-        exchange_word::<Brand, T, _>(self, field, word, from, statuses::ready(from, reads), about)
+        exchange_word::<Brand, T, _>(
+            &mut self.seat,
+            field,
+            word,
+            from,
+            statuses::ready(from, reads),
+            about,
+        )
     }
 
     /// Commits an attempt that is in progress, and whose reads all stand.
@@ -147,7 +152,7 @@ impl<T: Theory> Pass<T> {
         let word = field.shape().status(desc);
         let committed = statuses::decided(Status::Committed, from);
         let about = Snapshot::of(&(desc, from));
-        exchange_word::<Brand, T, _>(self, field, word, from, committed, about)
+        exchange_word::<Brand, T, _>(&mut self.seat, field, word, from, committed, about)
     }
 
     /// Aborts an attempt that isn't ready, or one with a read that doesn't stand.
@@ -163,7 +168,7 @@ impl<T: Theory> Pass<T> {
         let word = field.shape().status(desc);
         let aborted = statuses::decided(Status::Aborted, from);
         let about = Snapshot::of(&(desc, from));
-        exchange_word::<Brand, T, _>(self, field, word, from, aborted, about)
+        exchange_word::<Brand, T, _>(&mut self.seat, field, word, from, aborted, about)
     }
 
     /// Takes a descriptor whose attempt is decided out of a word.
@@ -189,14 +194,22 @@ impl<T: Theory> Pass<T> {
             count: from.count + 1,
         };
         let about = Snapshot::of(&(from, value));
-        exchange_word::<Brand, T, _>(self, field, word, from.word(), uninstalled.word(), about)
+        exchange_word::<Brand, T, _>(
+            &mut self.seat,
+            field,
+            word,
+            from.word(),
+            uninstalled.word(),
+            about,
+        )
     }
 
     /// Begins the next attempt of an own descriptor, whose last one is decided and stands in no
-    /// word.
+    /// word. The new one was taken (`set_tries_taken`).
     pub fn start(&mut self, field: &Field<T>, desc: u32, from: u64)
-        requires field { IsOf self.old field.now × (desc < desc_count field.now.origin.shape) }
-        requires fits { serial_of from + 1 < field.now.origin.shape.tries }
+        requires field { IsOf self.old field.now }
+        requires own { Contains self.old.view.lanes desc }
+        requires taken { serial_of from + 1 < (share_at self.old.shares desc).tries_taken }
         requires may { May T.meaning field.now.origin (λ pass. start pass desc from) self.old.view }
         ensures same { self.new ≡ record self.old {
           view = self.new.view;
@@ -205,20 +218,39 @@ impl<T: Theory> Pass<T> {
         ensures step { Stepped T.meaning field.now.origin (λ pass. start pass desc from)
             self.old.view self.new.view }
     {
-        self.begin_next(field, desc, from);
+        let word = self.shape().status(desc);
+        let about = Snapshot::of(&(desc, from));
+        let started = statuses::started(from);
+        store_word::<Brand, T, _>(&mut self.seat, field, word, started, about);
         restart_lane(&mut self.shares, desc);
     }
+}
 
-    fn begin_next(&mut self, field: &Field<T>, desc: u32, from: u64)
-        requires field { IsOf self.old field.now × (desc < desc_count field.now.origin.shape) }
-        requires fits { serial_of from + 1 < field.now.origin.shape.tries }
-        requires may { May T.meaning field.now.origin (λ pass. start pass desc from) self.old.view }
-        ensures same { self.new ≡ record self.old { view = self.new.view } }
-        ensures step { Stepped T.meaning field.now.origin (λ pass. start pass desc from)
-            self.old.view self.new.view }
-    {
-        let word = field.shape().status(desc);
-        let about = Snapshot::of(&(desc, from));
-        store_word::<Brand, T, _>(self, field, word, statuses::started(from), about);
-    }
+// Puts a slot of the descriptor in hand into a word.
+fn put<T: Theory>(
+    seat: &mut Seat<(), Known>,
+    field: &Field<T>,
+    word: u32,
+    from: Content,
+    to: Spot,
+) -> Result<(), u64>
+    requires field { (seat.old.table_id ≡ field.now.table)
+        × (word < words_of field.now.origin.shape) }
+    requires live { IsLive seat.old.me.0.view }
+    requires fits { (from.count ≤ LAST_COUNT) × (to.desc < desc_count field.now.origin.shape) }
+    requires may { May T.meaning field.now.origin (λ pass. install pass word (word_of from) to)
+        seat.old.me.0.view }
+    ensures field { seat.new.table_id ≡ seat.old.table_id }
+    ensures same { (seat.new.me.0.view.lanes ≡ seat.old.me.0.view.lanes)
+        × (seat.new.me.1 ≡ seat.old.me.1) }
+    ensures step { Exchanged T.meaning field.now.origin
+        (λ pass. install pass word (word_of from) to) word (word_of from) result
+        seat.old.me.0.view seat.new.me.0.view }
+{
+    let installed = Content {
+        value: to.value(),
+        count: from.count + 1,
+    };
+    let about = Snapshot::of(&(from, to));
+    exchange_word::<Brand, T, _>(seat, field, word, from.word(), installed.word(), about)
 }

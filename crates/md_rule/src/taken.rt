@@ -5,6 +5,7 @@ ghost use Rattle.std.specs.List.{Contains};
 ghost use Rattle.md_rule.specs.Shares.{MayReturn, share_at, with_share};
 
 use crate::pass::Pass;
+use crate::shares::{set_nodes, set_tries};
 use md_machine::Theory;
 
 impl<T: Theory> Pass<T> {
@@ -51,7 +52,7 @@ impl<T: Theory> Pass<T> {
               (record (share_at self.old.shares lane) { nodes_taken = taken });
         } }
     {
-        self.shares[lane as usize].nodes_taken = taken;
+        set_nodes(&mut self.shares, lane, taken);
     }
 
     /// Sets how many attempts a lane has begun. It never falls.
@@ -64,6 +65,6 @@ impl<T: Theory> Pass<T> {
               (record (share_at self.old.shares lane) { tries_taken = taken });
         } }
     {
-        self.shares[lane as usize].tries_taken = taken;
+        set_tries(&mut self.shares, lane, taken);
     }
 }

@@ -1,24 +1,45 @@
 use Rattle.std.proofs.Common.{◌≡◌, ap, refl, sym, subst, ◌∙◌}
 use Rattle.md_words.specs.Layout.{address}
 use Rattle.md_words.specs.Place.{desc_status}
-use Rattle.md_rule.specs.Steps.{Exchanged, MayTell, SteppedFrom}
 use Rattle.md_machine.specs.Event.{ready}
+use Rattle.md_rule.specs.InHand.{HoldsUnready}
+use Rattle.md_rule.specs.Kept.{StoredNoneLeft}
+use Rattle.md_rule.specs.Steps.{Exchanged, May, MayTell, SteppedFrom}
 use Rattle.md_rule.proofs.Events.{exchange_tells, is_ready, traded}
+use Rattle.md_rule.proofs.LaneSteps.{kept_ready, stepped_of}
 use Rattle.md_rule.proofs.pass.Pass.ready.Goals as goal
 
 pub exchange_word-requires-clause-may : goal.exchange_word-requires-clause-may
 exchange_word-requires-clause-may g c =
     let M = g.T.Theory.meaning in
     let o = c.args.field.now.origin in
-    let view = c.args.self.now.view in
+    let view = c.self.inside.seat.me.0.view in
     let at : c.status-word.result ≡ address o.shape (desc_status c.args.desc) = c.status-word.ensures.place ∙ ap (λ s. address s (desc_status c.args.desc)) c.shape.ensures in
     let to = c.ready.result in
+    let may : May M o (λ pass. ready pass c.args.reads) view = rw (ap (λ p. p.view) c.self.view_is) c.requires.may in
+    let hand : HoldsUnready view c.args.desc c.args.from = rw (ap (λ p. p.view) c.self.view_is) c.requires.hand in
     subst (λ about. MayTell M o view c.status-word.result (traded c.args.from to) (SteppedFrom M o (λ pass. ready pass about.1) (address o.shape (desc_status about.0)))) (sym c.of-about.ensures)
     (subst (λ word. MayTell M o view word (traded c.args.from to) (SteppedFrom M o (λ pass. ready pass c.args.reads) (address o.shape (desc_status c.args.desc)))) (sym at)
-    (exchange_tells M o _ view (address o.shape (desc_status c.args.desc)) c.args.from _ c.args.from to c.requires.may (is_ready M o view c.args.desc c.args.from c.args.reads c.requires.hand) refl c.ready.ensures))
+    (exchange_tells M o _ view (address o.shape (desc_status c.args.desc)) c.args.from _ c.args.from to may (is_ready M o view c.args.desc c.args.from c.args.reads hand) refl c.ready.ensures))
+
+pub invariant_of-self : goal.invariant_of-self
+invariant_of-self g c =
+    let M = g.T.Theory.meaning in
+    let o = c.args.field.now.origin in
+    let told = stepped_of M o _ (address o.shape (desc_status c.args.desc)) c.args.from c.exchange_word.result _ _
+    (subst (λ about. Exchanged M o (λ pass. ready pass about.1) (address o.shape (desc_status about.0)) c.args.from c.exchange_word.result c.self.inside.seat.me.0.view c.exchange_word.new.seat.me.0.view) c.of-about.ensures c.exchange_word.ensures.told) in
+    let same = c.exchange_word.ensures.same in
+    let shape = ap (λ p. p.shape) c.self.view_is ∙ c.requires.field.0.shape in (
+      same.0 ∙ c.self.invariant.0,
+      c.self.invariant.1,
+      same.1 ∙ c.self.invariant.2,
+      kept_ready M o _ _ c.args.reads told same.0 c.self.inside.shape shape c.self.inside.shares
+          (λ lane node held left. subst StoredNoneLeft (sym c.self.view_is) c.requires.taken node (lane, held, left.0, left.1)) c.self.invariant.3,
+    )
 
 pub returns-clause-step : goal.returns-clause-step
 returns-clause-step g c =
     let M = g.T.Theory.meaning in
     let o = c.args.field.now.origin in
-    subst (λ about. Exchanged M o (λ pass. ready pass about.1) (address o.shape (desc_status about.0)) c.args.from c.exchange_word.result c.args.self.now.view c.exchange_word.new.pass.view) c.of-about.ensures c.exchange_word.ensures.told
+    subst (λ v. Exchanged M o (λ pass. ready pass c.args.reads) (address o.shape (desc_status c.args.desc)) c.args.from c.exchange_word.result v c.exchange_word.new.seat.me.0.view) (ap (λ p. p.view) c.self.view_is)
+    (subst (λ about. Exchanged M o (λ pass. ready pass about.1) (address o.shape (desc_status about.0)) c.args.from c.exchange_word.result c.self.inside.seat.me.0.view c.exchange_word.new.seat.me.0.view) c.of-about.ensures c.exchange_word.ensures.told)

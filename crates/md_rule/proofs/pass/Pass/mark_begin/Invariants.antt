@@ -1,6 +1,6 @@
 use Rattle.md_machine.specs.Event.{mark_begin}
 use Rattle.md_rule.specs.Steps.{Stepped}
-use Rattle.md_rule.proofs.pass.Pass.take_in_hand.Given as goal
+use Rattle.md_rule.proofs.pass.Pass.mark_begin.Given as goal
 
 abbrev pub ghosts-mark : goal.ghosts-mark
 ghosts-mark g a = record { tells = λ _. Stepped g.T.Theory.meaning a.field.now.origin (λ pass. mark_begin pass a.about.value.0 a.about.value.1) }
