@@ -1,27 +1,20 @@
 -- Nodes that are taken and nodes that are left.
 use Rattle.std.proofs.Common.{◌≡◌, ◌≢◌, ℕ, ◌+◌, ◌-◌, ◌/◌, ◌<◌, ◌≤◌, List, length, set, get_or-set_same, get_or-set_other, sym, ap, ◌∙◌, subst, ⊎_elim, arith}
 use Rattle.std.specs.List.{Contains}
-use Rattle.std.proofs.lemmas.Bool.{cases_lt, cases_order, false≢true}
+use Rattle.std.proofs.lemmas.Bool.{cases_order}
 use Rattle.std.proofs.lemmas.Nat.{rows}
 use Rattle.md_words.specs.declared.shape.Shape.{Shape}
 use Rattle.md_words.specs.Lanes.{OwnsNode, lane_of_node, node_of}
 use Rattle.md_words.proofs.Owners.{owner_of_node}
-use Rattle.md_machine.proofs.lists.Rising.{in_lane}
 use Rattle.md_machine.specs.FreeToReturn.{KnowsFree}
 use Rattle.md_rule.specs.Lanes.{AreLanes}
 use Rattle.md_rule.proofs.LaneLists.{lane_fits}
 use Rattle.md_rule.specs.Shares.{MayReturn, share_at}
 use Rattle.md_rule.specs.Views.{PassState}
 use Rattle.md_rule.specs.declared.shares.Share.{Share}
-use Rattle.md_arena.specs.Left.{HasNodeLeft, IsLeft, IsLowest, IsTaken, next_of}
+use Rattle.md_rule.specs.Kept.{IsLeft, next_of}
+use Rattle.md_arena.specs.Left.{HasNodeLeft, IsLowest, IsTaken}
 use Rattle.md_arena.specs.Taking.{GivesNode, IsHighestTaken, IsLowestLeft, TakesNode, with_nodes}
-
--- a lane of a pass is one of its field
-pub lane_exists : (shape : Shape) (lanes : List ℕ) (lane : ℕ) → AreLanes shape lanes → Contains lanes lane → lane < shape.lanes
-lane_exists shape lanes lane are c = ⊎_elim
-    (λ h. h)
-    (λ h. absurd (false≢true (sym (are.below lane h) ∙ in_lane lanes lane c)))
-    (cases_lt lane shape.lanes)
 
 -- the number of a node in its lane
 pub number_of : (shape : Shape) (lane taken node : ℕ) → OwnsNode shape lane node → node ≡ node_of shape lane taken → taken < shape.nodes

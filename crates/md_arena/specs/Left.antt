@@ -1,20 +1,14 @@
 -- What a pass has left of its lanes.
-use Rattle.std.specs.Prelude.{◌<◌, ◌≤◌, ℕ}
+use Rattle.std.specs.Prelude.{◌<◌, ℕ}
 use Rattle.std.specs.List.{Contains}
-use Rattle.md_words.specs.Lanes.{OwnsNode, node_of}
+use Rattle.md_words.specs.Lanes.{OwnsNode}
+use Rattle.md_rule.specs.Kept.{next_of}
 use Rattle.md_rule.specs.Shares.{share_at}
 use Rattle.md_rule.specs.Views.{PassState}
 
--- of the lane this node is the next: those below it were taken, and it and those above it weren't
-abbrev pub next_of : PassState → (lane : ℕ) → ℕ
-next_of p lane = node_of p.shape lane (share_at p.shares lane).nodes_taken
-
--- a node of the pass that was taken, and one that is left
+-- a node of the pass that was taken
 abbrev pub IsTaken : PassState → (node : ℕ) → Type 0
 IsTaken p node = (lane : ℕ) × Contains p.view.lanes lane × OwnsNode p.shape lane node × (node < next_of p lane)
-
-abbrev pub IsLeft : PassState → (node : ℕ) → Type 0
-IsLeft p node = (lane : ℕ) × Contains p.view.lanes lane × OwnsNode p.shape lane node × (next_of p lane ≤ node)
 
 -- the lane has a node left, or an attempt
 abbrev pub HasNodeLeft : PassState → (lane : ℕ) → Type 0

@@ -4,7 +4,8 @@ use Rattle.std.specs.List.{Contains}
 use Rattle.md_words.specs.Lanes.{OwnsNode}
 use Rattle.md_rule.specs.Shares.{share_at, with_share}
 use Rattle.md_rule.specs.Views.{PassState}
-use Rattle.md_arena.specs.Left.{HasNodeLeft, HasTryLeft, IsLeft, IsLowest, next_of}
+use Rattle.md_rule.specs.Kept.{IsLeft, next_of}
+use Rattle.md_arena.specs.Left.{HasNodeLeft, HasTryLeft, IsLowest}
 
 -- the pass with so many nodes of a lane taken, or with so many of its attempts begun
 abbrev pub with_nodes : PassState → (lane taken : ℕ) → PassState

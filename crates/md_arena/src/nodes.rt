@@ -3,7 +3,8 @@
 ghost use Rattle.std.specs.Prelude.{◌≡◌, ◌↔◌, IfOk, IfErr};
 ghost use Rattle.md_machine.specs.FreeToReturn.{KnowsFree};
 ghost use Rattle.md_machine.specs.Own.{HasNode};
-ghost use Rattle.md_arena.specs.Left.{HasNodeLeft, IsLeft, IsTaken, NoLane};
+ghost use Rattle.md_rule.specs.Kept.{IsLeft};
+ghost use Rattle.md_arena.specs.Left.{HasNodeLeft, IsTaken, NoLane};
 ghost use Rattle.md_arena.specs.Taking.{GivesNode, IsHighestTaken, IsLowestLeft, TakesNode};
 
 use crate::lowest::lane_with_node;
@@ -12,8 +13,8 @@ use md_machine::Theory;
 use md_rule::Pass;
 
 /// Takes the lowest node that is left of the pass's lanes: the next one of its lowest lane that
-/// has one left. The answer is `Limit::Nodes` exactly if none has. Nothing but that lane's share
-/// is changed.
+/// has one left. The pass knows that it is free. The answer is `Limit::Nodes` exactly if none has
+/// one left. Nothing but that lane's share is changed.
 ///
 /// It takes constant time where the lowest lane has a node left, and else time by the lanes.
 pub fn take_node<T: Theory>(pass: &mut Pass<T>) -> Result<u32, Limit>
@@ -21,6 +22,7 @@ pub fn take_node<T: Theory>(pass: &mut Pass<T>) -> Result<u32, Limit>
     ensures own { IfOk result (HasNode pass.old.shape pass.old.view) }
     ensures lowest { IfOk result (IsLowestLeft pass.old) }
     ensures taken { IfOk result (IsTaken pass.new) }
+    ensures free { IfOk result (KnowsFree pass.old.shape pass.old.view) }
     ensures none { (result ≡ Err Limit.Nodes) ↔ NoLane pass.old (HasNodeLeft pass.old) }
     ensures limit { IfErr result (λ limit. (limit ≡ Limit.Nodes) × (pass.new ≡ pass.old)) }
 {

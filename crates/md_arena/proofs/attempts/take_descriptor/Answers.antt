@@ -1,5 +1,5 @@
 use Rattle.std.proofs.Common.{ap, arith}
-use Rattle.md_arena.proofs.TakenNodes.{lane_exists}
+use Rattle.md_rule.proofs.LaneLists.{lane_exists}
 use Rattle.md_arena.proofs.attempts.take_descriptor.Goals as goal
 
 pub desc_of-desc-requires : goal.desc_of-desc-requires

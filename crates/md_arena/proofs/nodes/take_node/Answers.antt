@@ -1,7 +1,7 @@
-use Rattle.std.proofs.Common.{ap, ◌∙◌, subst, arith, ◌+◌}
+use Rattle.std.proofs.Common.{ap, ◌∙◌, sym, subst, le_of_eq, arith, ◌+◌}
 use Rattle.md_words.specs.Lanes.{OwnsNode, node_of}
-use Rattle.md_rule.proofs.LaneLists.{lane_fits}
-use Rattle.md_arena.proofs.TakenNodes.{lane_exists, lowest_left, taken_by}
+use Rattle.md_rule.proofs.LaneLists.{lane_exists, lane_fits}
+use Rattle.md_arena.proofs.TakenNodes.{lowest_left, taken_by}
 use Rattle.md_arena.specs.Taking.{with_nodes}
 use Rattle.md_arena.proofs.nodes.take_node.Goals as goal
 
@@ -28,3 +28,9 @@ returns-clause-lowest g c = let t = returns-clause-takes g c in lowest_left c.ar
 
 pub returns-clause-taken : goal.returns-clause-taken
 returns-clause-taken g c = taken_by c.args.pass.now c.node_of-node.result c.set_nodes_taken.new.self (returns-clause-takes g c)
+
+pub returns-clause-free : goal.returns-clause-free
+returns-clause-free g c =
+    let t = returns-clause-takes g c in
+    let p = c.args.pass.now in
+    (c.shape.ensures.kept t.lane t.lowest.held).free c.node_of-node.result t.owns (le_of_eq (sym t.next))
