@@ -76,12 +76,12 @@ fn arguments_are_words_after_the_first(rt: HostRuntime) -> Result<(), Fail> {
     )
 }
 
-// More arguments than two bytes can count.
+// More words after the name than two bytes can count.
 #[test]
-fn the_most_arguments(rt: HostRuntime) -> Result<(), Fail> {
+fn many_words(rt: HostRuntime) -> Result<(), Fail> {
     let alloc = rt.alloc();
     let mut args = Vec::new(alloc);
-    for _ in 0..65_537 {
+    for _ in 0..65_538 {
         args.push(String::from_str(alloc, "medley")?)?;
     }
     let all = ORDER.len();
