@@ -43,7 +43,7 @@ committed-then lanes es ds f g h p q fated =
     }
 
 module _ {B R : Type 0} (did : B → List Act → R → Type 0) (body_at : ℕ → ℕ → Option B) (caller : ℕ) where
-  lines-then : (es ds : List Entry) (rs ss : List R) (n m : ℕ) → AreLines did body_at caller es rs n
+  pub lines-then : (es ds : List Entry) (rs ss : List R) (n m : ℕ) → AreLines did body_at caller es rs n
       → m ≡ n + length rs → AreLines did body_at caller ds ss m → AreLines did body_at caller (es ++ ds) (rs ++ ss) n
   lines-then [] ds [] ss n m lines at more = subst (AreLines did body_at caller ds ss) (at ∙ omega arith) more
   lines-then (e ∷ es) ds (r ∷ rs) ss n m lines at more =

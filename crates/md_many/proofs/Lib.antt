@@ -3,3 +3,14 @@ pub mod Playing
 pub mod Following
 pub mod TagLaws
 pub mod Parting
+pub mod Turning
+pub mod Joined
+pub mod Merging
+pub mod Standing
+pub mod Committed
+pub mod Coursing
+pub mod Handing
+pub mod First
+pub mod Sides
+pub mod Lists
+pub mod Looking

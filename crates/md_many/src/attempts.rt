@@ -1,6 +1,6 @@
 //! Attempts at lines, over any store.
 
-ghost use Rattle.std.specs.Prelude.{◌≡◌, ◌<◌, ◌≤◌, ◌+◌, ◌∷◌, ◌++◌, [], ℕ, length, vec_len, vec_capacity, OnOk, OnErr, IfOk, IfSome, IfNone};
+ghost use Rattle.std.specs.Prelude.{◌≡◌, ◌<◌, ◌≤◌, ◌+◌, ◌^◌, ◌∷◌, ◌++◌, [], ℕ, length, vec_len, vec_capacity, OnOk, OnErr, IfOk};
 ghost use Rattle.md_history.specs.Counts.{IsSmall};
 ghost use Rattle.md_history.specs.Front.{LegalFrom};
 ghost use Rattle.md_history.specs.Attempt.{Commits, Stops, IsCounted, IfCommitted, IfStopped};
@@ -8,10 +8,11 @@ ghost use Rattle.md_history.specs.Engine.{bounds_in, IsNoConflict};
 ghost use Rattle.md_many.specs.Tags.{tag_of};
 ghost use Rattle.md_many.specs.Joined.{entries_after};
 ghost use Rattle.md_many.specs.Lines.{AreFitting, IsSmallLine, PlaysLines, StopsForMemory};
-ghost use Rattle.md_many.specs.Turns.{most_lines, IsWithinTries, IsOver};
+ghost use Rattle.md_many.specs.Turns.{most_lines, IsWithinTries, EndsBy};
 
 use crate::callers::Lines;
 use crate::gates::Gate;
+use crate::pauses::pause;
 use crate::tags::line_tag;
 use md_history::{Attempt, Body, Engine, Limit, Stop, pass_is_legal};
 use std::alloc::AllocError;
@@ -25,6 +26,22 @@ pub struct Turn {
     /// How many attempts the caller may make.
     pub tries: u32,
 }
+
+/// Why a turn ended.
+#[derive(Clone, Copy, Debug, PartialEq, Eq)]
+pub enum End {
+    /// The caller has no line left.
+    Lines,
+    /// The caller made as many attempts as the turn has tries.
+    Tries,
+    /// An attempt met a limit.
+    Limit(Limit),
+    /// `MOST_CONFLICTS` attempts, one after another, met a conflict.
+    Conflicts,
+}
+
+/// How many conflicts in a row end a turn.
+pub const MOST_CONFLICTS: u32 = 256;
 
 /// Attempts a body once, as a caller's line, with the line's tag. The gate is told before the
 /// attempt, and after it where it was committed.
@@ -75,9 +92,11 @@ fn put<R: Drop>(replies: &mut Vec<R>, reply: R)
 }
 
 /// Attempts a caller's lines after those that were done, in order, each again after a conflict,
-/// until there is no line left, a limit comes, or the caller has made its attempts. `Ok` has the
-/// limit, if one came. The replies of the lines that it played go into a list that has room for
-/// them, so no memory is taken here.
+/// until there is no line left, a limit comes, the caller has made its attempts, or it met
+/// `MOST_CONFLICTS` conflicts in a row. `Ok` says which of these it was. After a conflict it pauses
+/// for a short random time, which doubles with each conflict in a row; no clause speaks of time.
+/// The replies of the lines that it played go into a list that has room for them, so no memory is
+/// taken here.
 ///
 /// `Err` comes only where an attempt of the engine may want memory, and ends the attempts. Whatever
 /// comes, the pass goes on from what it had seen, and the lines that were played are what its lanes
@@ -90,7 +109,7 @@ pub fn attempt_lines<E: Engine, L: Lines, G: Gate>(
     turn: Turn,
     gate: &G,
     replies: &mut Vec<<L::B as Body>::Reply>,
-) -> Result<Option<Limit>, AllocError>
+) -> Result<End, AllocError>
     requires of { E.of engine.now pass.old }
     requires fits { AreFitting L.B.fits (L.body_at lines.now) (E.start engine.now) }
     requires done { turn.done ≤ L.line_count lines.now turn.caller }
@@ -101,15 +120,17 @@ pub fn attempt_lines<E: Engine, L: Lines, G: Gate>(
     ensures pending { (E.front pass.new).pending ≡ (E.front pass.old).pending }
     ensures lines { PlaysLines L.B.did (L.body_at lines.now) turn.caller turn.done
         (E.front pass.old).lanes (E.front pass.old) (E.front pass.new) replies.new.items }
+    ensures within { turn.done + length replies.new.items
+        ≤ L.line_count lines.now turn.caller }
+    ensures few { turn.done + length replies.new.items < 2 ^ 32 }
     ensures tries { length (entries_after
         (length (E.front pass.old).seen) (E.front pass.old).lanes (E.front pass.new)) ≤ turn.tries }
     ensures begun { IsWithinTries turn
         (length replies.new.items) (E.begun pass.old) (E.begun pass.new) }
-    ensures over { IfOk result (λ met. IfNone met (IsOver (L.line_count lines.now) turn
-        (length replies.new.items) (E.begun pass.old) (E.begun pass.new))) }
+    ensures end { IfOk result (EndsBy (L.line_count lines.now) (E.may_stop engine.now) turn
+        (length replies.new.items) (E.begun pass.old) (E.begun pass.new)) }
     ensures gate { (line : ℕ) → turn.done < line → line ≤ turn.done + length replies.new.items
         → G.after_called gate.now turn.caller line }
-    ensures limit { IfOk result (λ met. IfSome met (λ l. E.may_stop engine.now (Stop.Limit l))) }
     ensures room { vec_capacity replies.old ≤ vec_capacity replies.new }
     ensures no_memory { OnErr result (E.may_stop engine.now Stop.NoMemory) }
     ensures first { E.fresh engine.now pass.old → 1 ≤ (E.limits engine.now).tries
@@ -123,9 +144,11 @@ pub fn attempt_lines<E: Engine, L: Lines, G: Gate>(
     pass_is_legal(engine, pass);
     let count = lines.len(turn.caller);
     let mut played = turn.done;
+    let mut conflicts = 0;
+    let mut random = line_tag(turn.caller, turn.done);
     'attempts: for tried in 0..turn.tries {
         if played == count {
-            return Ok(None);
+            return Ok(End::Lines);
         }
         let line = played + 1;
         let Some(body) = lines.body(turn.caller, line) else {
@@ -135,11 +158,18 @@ pub fn attempt_lines<E: Engine, L: Lines, G: Gate>(
             Attempt::Committed(reply) => {
                 put(replies, reply);
                 played = line;
+                conflicts = 0;
             }
-            Attempt::Stopped(Stop::Conflict(_)) => {}
-            Attempt::Stopped(Stop::Limit(limit)) => return Ok(Some(limit)),
+            Attempt::Stopped(Stop::Conflict(_)) => {
+                conflicts += 1;
+                if conflicts == MOST_CONFLICTS {
+                    return Ok(End::Conflicts);
+                }
+                random = pause(random, conflicts);
+            }
+            Attempt::Stopped(Stop::Limit(limit)) => return Ok(End::Limit(limit)),
             Attempt::Stopped(Stop::NoMemory) => return Err(AllocError),
         }
     }
-    Ok(None)
+    Ok(End::Tries)
 }

@@ -4,11 +4,22 @@
 mod attempts;
 mod callers;
 mod gates;
+mod keepers;
+mod keeping;
+mod laws;
+mod many;
+mod pauses;
+mod rounds;
 mod tags;
 #[cfg(test)]
 mod tests;
+mod turns;
 
-pub use attempts::{Turn, attempt_line, attempt_lines};
+pub use attempts::{End, MOST_CONFLICTS, Turn, attempt_line, attempt_lines};
 pub use callers::Lines;
 pub use gates::{FreeGate, Gate};
+pub use keepers::Keeper;
+pub use laws::LawfulLines;
+pub use many::{Many, run_many};
+pub use rounds::{Rounds, play_rounds};
 pub use tags::line_tag;

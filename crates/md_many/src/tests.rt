@@ -1,11 +1,14 @@
 //! Attempts at lines over a store that refuses as a list says, and two callers in threads.
 
+mod looks;
 mod numbers;
 mod refusing;
 mod side_by_side;
 
-use crate::attempts::{Turn, attempt_lines};
-use crate::gates::Gate;
+use crate::attempts::{End as TurnEnd, Turn, attempt_lines};
+use crate::gates::{FreeGate, Gate};
+use crate::many::run_many;
+use looks::Looks;
 use md_history::{Contents, Engine, Limit, PlainStore, Shown, Stop};
 use numbers::Numbers;
 use refusing::{Refusing, RefusingPass};
@@ -56,7 +59,7 @@ impl<'a> Gate for Counting<'a> {
 // How the attempts of a caller with three lines end over a store that refuses so.
 #[derive(Clone, Copy, Debug, PartialEq, Eq)]
 struct End {
-    outcome: Result<Option<Limit>, AllocError>,
+    outcome: Result<TurnEnd, AllocError>,
     played: u64,
     attempts: u64,
 }
@@ -126,12 +129,24 @@ fn play_three(
 #[test]
 fn attempts_end(rt: HostRuntime) -> Result<(), Fail> {
     for (stops, tries, outcome, played, attempts) in [
-        ([None; 4], 9, Ok(None), 3, 3),
-        ([None; 4], 2, Ok(None), 2, 2),
-        ([CONFLICT, None, CONFLICT, None], 9, Ok(None), 3, 5),
-        ([CONFLICT; 4], 3, Ok(None), 0, 3),
-        ([CONFLICT; 4], 5, Ok(None), 1, 5),
-        ([None, LIMIT, None, None], 9, Ok(Some(Limit::Nodes)), 1, 2),
+        ([None; 4], 9, Ok(TurnEnd::Lines), 3, 3),
+        ([None; 4], 2, Ok(TurnEnd::Tries), 2, 2),
+        (
+            [CONFLICT, None, CONFLICT, None],
+            9,
+            Ok(TurnEnd::Lines),
+            3,
+            5,
+        ),
+        ([CONFLICT; 4], 3, Ok(TurnEnd::Tries), 0, 3),
+        ([CONFLICT; 4], 5, Ok(TurnEnd::Tries), 1, 5),
+        (
+            [None, LIMIT, None, None],
+            9,
+            Ok(TurnEnd::Limit(Limit::Nodes)),
+            1,
+            2,
+        ),
         ([None, CONFLICT, NO_MEMORY, None], 9, Err(AllocError), 1, 3),
         ([NO_MEMORY, None, None, None], 9, Err(AllocError), 0, 1),
     ] {
@@ -157,5 +172,28 @@ fn callers_in_threads(rt: HostRuntime) -> Result<(), Fail> {
     assert_eq!(rt; pass.entries().len(), 3);
     let (contents, _) = store.contents(pass)?;
     assert_eq!(rt; contents.queue(0).front().copied(), Some(4_294_967_297));
+    Ok(())
+}
+
+// One caller over a store with one lane: many rounds, since a turn has room for 1,024 replies, and
+// no renewal. Each reply stands at its line. A caller without lines leaves the store as it was.
+#[test]
+fn one_caller_in_rounds(rt: HostRuntime) -> Result<(), Fail> {
+    let alloc = rt.alloc();
+    for count in [0, 1, 2, 3_000] {
+        let (store, pass) = PlainStore::open(Contents::empty(alloc, 0, 1)?);
+        let lines = Looks {
+            callers: 1,
+            lines: count,
+        };
+        let many = run_many(&rt, alloc, store, pass, &lines, 1_000_000, &FreeGate)?;
+        for line in 1..=count {
+            let tag = 4_294_967_296 + u64::from(line);
+            assert_eq!(rt; many.reply(1, line).copied(), Some(tag));
+        }
+        assert_eq!(rt; many.reply(1, count + 1).copied(), None);
+        assert_eq!(rt; many.reply(2, 1).copied(), None);
+        assert_eq!(rt; many.fronts.len(), 1);
+    }
     Ok(())
 }

@@ -8,7 +8,7 @@ use Rattle.md_history.specs.declared.stops.Stop.TheVariants.{Conflict, NoMemory}
 use Rattle.md_history.specs.Attempt.{IsStopCounted}
 use Rattle.md_many.proofs.Playing.{played-none, played-stopped, played-more, plays}
 use Rattle.md_many.proofs.attempts.attempt_lines.Goals as goal
-use Rattle.md_many.proofs.attempts.attempt_lines.Goals.{in-Committed, in-Stopped-Conflict}
+use Rattle.md_many.proofs.attempts.attempt_lines.Goals.{in-Committed, in-Stopped-Conflict+else-conflicts-eq-MOST_CONFLICTS}
 
 no_conflict : {shown : Shown} → Conflict shown ≡ NoMemory → ⊥
 no_conflict same = cc
@@ -38,6 +38,7 @@ attempts-init g c = record {
   played = omega (arith, ap length c.requires.empty);
   within = c.requires.done;
   few = omega (arith, ap length c.requires.empty);
+  calm = omega arith;
   room = omega arith;
   counted = omega arith;
   gate = λ line after before. absurd (omega arith);
@@ -65,7 +66,8 @@ attempts-preserved g c =
                 w.in-Committed.ensures.committed);
             played = omega (arith, w.played-is, count, c.attempts.invariant.played);
             within = omega (arith, w.played-is, inside, c.len-count.ensures, test);
-            few = omega (arith, count, c.attempts.invariant.few);
+            few = omega (arith, count, w.conflicts-is, c.attempts.invariant.few);
+            calm = rw w.conflicts-is (omega arith);
             room = omega (
               arith,
               c.attempts.invariant.room,
@@ -79,7 +81,7 @@ attempts-preserved g c =
             first = λ fresh tries small some. omega (arith, count);
             steady = λ stops. omega (arith, count, c.attempts.invariant.steady stops);
           }
-      | in-Stopped-Conflict w ↦ record {
+      | in-Stopped-Conflict+else-conflicts-eq-MOST_CONFLICTS w ↦ record {
         of = c.attempt_line.ensures.of;
         fated = c.attempt_line.ensures.legal.fated;
         lines = rw w.replies-is
@@ -87,7 +89,8 @@ attempts-preserved g c =
             c.attempts.invariant.fated w.in-Stopped-Conflict.ensures.stopped);
         played = rw (w.replies-is, w.played-is) c.attempts.invariant.played;
         within = rw w.played-is c.attempts.invariant.within;
-        few = rw w.replies-is (omega (arith, c.attempts.invariant.few));
+        few = rw w.replies-is (omega (arith, w.conflicts-is, c.attempts.invariant.few));
+        calm = omega (arith, w.conflicts-is, c.attempts.invariant.calm, w.if-conflicts-eq-MOST_CONFLICTS.false);
         room = rw w.replies-is c.attempts.invariant.room;
         counted = omega (
           arith,
@@ -140,4 +143,19 @@ returns-in-Stopped-Limit-clause-tries g c =
       arith,
       (played-stopped _ _ _ _ _ _ _ _ _ _ c.attempts.invariant.lines c.attempts.invariant.fated
           c.in-Stopped-Limit.ensures.stopped).attempted.few,
+    )
+
+pub returns-then-conflicts-eq-MOST_CONFLICTS-clause-lines : goal.returns-then-conflicts-eq-MOST_CONFLICTS-clause-lines
+returns-then-conflicts-eq-MOST_CONFLICTS-clause-lines g c =
+    plays _ _ _ _ _ _ _ _
+    (played-stopped _ _ _ _ _ _ _ _ _ _ c.attempts.invariant.lines c.attempts.invariant.fated
+    c.in-Stopped-Conflict.ensures.stopped)
+
+pub returns-then-conflicts-eq-MOST_CONFLICTS-clause-tries : goal.returns-then-conflicts-eq-MOST_CONFLICTS-clause-tries
+returns-then-conflicts-eq-MOST_CONFLICTS-clause-tries g c =
+    let test = c.attempts-test.true in
+    omega (
+      arith,
+      (played-stopped _ _ _ _ _ _ _ _ _ _ c.attempts.invariant.lines c.attempts.invariant.fated
+          c.in-Stopped-Conflict.ensures.stopped).attempted.few,
     )

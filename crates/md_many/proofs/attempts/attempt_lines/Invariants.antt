@@ -1,6 +1,7 @@
 use Rattle.std.proofs.Common.{◌≡◌, ◌<◌, ◌≤◌, ◌+◌, ℕ, length, vec_capacity}
 use Rattle.md_history.specs.Engine.{bounds_in}
 use Rattle.md_many.specs.Lines.{IsSmallLine, StopsForMemory}
+use Rattle.md_many.specs.declared.attempts.TheConstants.{MOST_CONFLICTS}
 use Rattle.md_many.proofs.Playing.{HasPlayed}
 use Rattle.md_many.proofs.attempts.attempt_lines.Given as goal
 
@@ -12,7 +13,8 @@ invariant-attempts g l = record {
       (g.E.Engine.front l.fn.pass) (g.E.Engine.front l.pass) l.replies.items;
   played : l.played ≡ l.turn.done + length l.replies.items;
   within : l.played ≤ g.L.Lines.line_count l.lines l.turn.caller;
-  few : length l.replies.items ≤ l.tried;
+  few : length l.replies.items + l.conflicts ≤ l.tried;
+  calm : l.conflicts < MOST_CONFLICTS;
   room : vec_capacity l.fn.replies ≤ vec_capacity l.replies;
   counted : g.E.Engine.begun l.pass ≡ g.E.Engine.begun l.fn.pass + l.tried;
   gate : (line : ℕ) → l.turn.done < line → line ≤ l.played → g.G.Gate.after_called l.gate l.turn.caller line;

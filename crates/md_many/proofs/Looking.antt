@@ -1,0 +1,45 @@
+-- Bodies that look at a queue and leave the store as it is.
+use Rattle.std.specs.Prelude.{◌≡◌, ◌≤◌, ℕ, Option, Some, None, IsSome, IfSome, List, [], ◌∷◌, refl}
+use Rattle.std.proofs.Common.{sym, ap, subst, ◌∙◌, arith}
+use Rattle.md_history.specs.declared.acts.Op.TheVariants.{Front}
+use Rattle.md_history.specs.declared.acts.Act.{Act}
+use Rattle.md_history.specs.State.{State, run, after, empty_state, IsRight}
+use Rattle.md_history.specs.Counts.{Bounds, AreFew, IsSmall}
+use Rattle.md_history.specs.Script.{Script, Did, Follows, call, done}
+use Rattle.md_many.specs.Laws.{AreLawful}
+
+-- a look reads two words
+abbrev pub looking : Bounds
+looking = record { reads = 2; writes = 0; nodes = 0 }
+
+abbrev pub look : ℕ → Script ℕ
+look n = call (Front 0) (λ _. done n)
+
+look-leaves : (n : ℕ) (acts : List Act) (s : State) → Follows (look n) acts → run s acts ≡ s
+look-leaves n [] s follows = refl
+look-leaves n (a ∷ []) s follows = ap (after s) follows.0
+look-leaves n (a ∷ b ∷ acts) s follows = absurd follows.1
+
+look-few : (n : ℕ) (acts : List Act) → Follows (look n) acts → AreFew looking acts
+look-few n [] follows = record { reads = omega arith; writes = omega arith; nodes = omega arith }
+look-few n (a ∷ []) follows =
+    subst (λ op. AreFew looking (record { op = op; reply = a.reply } ∷ [])) (sym follows.0)
+    (record { reads = omega arith; writes = omega arith; nodes = omega arith })
+look-few n (a ∷ b ∷ acts) follows = absurd follows.1
+
+-- their laws
+pub look-laws : {B : Type 0} (number : B → ℕ) (body_at : ℕ → ℕ → Option B)
+    → AreLawful (λ b acts r. Did (look (number b)) acts r) (λ b acts. Follows (look (number b)) acts) body_at
+    (λ s tags. s ≡ empty_state 0 1) (λ caller line r. IsSome (body_at caller line)) (empty_state 0 1) looking 1
+look-laws number body_at = record {
+  opens = refl;
+  keeps = λ s tags caller line b acts r is there fresh did right.
+      (look-leaves (number b) acts s did.follows ∙ is, rw there refl);
+  lines = λ caller line r some. some;
+  small = λ s tags caller line is. each s (body_at caller line);
+  room = λ s tags is. rw is (omega arith);
+}
+  where
+    each : (s : State) (o : Option _) → IfSome o (λ b. IsSmall looking (λ acts. Follows (look (number b)) acts) s)
+    each s None = tt
+    each s (Some b) = λ acts made right. look-few (number b) acts made

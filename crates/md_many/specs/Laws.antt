@@ -1,0 +1,35 @@
+-- What is known of lines, whatever order they are played in.
+use Rattle.std.specs.Prelude.{◌≡◌, ◌≢◌, ◌≤◌, ◌+◌, ℕ, Option, Some, IsSome, List, [], ◌∷◌, ◌++◌, All}
+use Rattle.md_history.specs.declared.acts.Act.{Act}
+use Rattle.md_history.specs.State.{State, run, IsRight}
+use Rattle.md_history.specs.Counts.{Bounds}
+use Rattle.md_history.specs.Engine.{needed}
+use Rattle.md_many.specs.Tags.{tag_of}
+use Rattle.md_many.specs.Lines.{IsSmallLine}
+
+-- each reply suits its line, of a caller's lines after its first n
+abbrev pub AllSuit : {R : Type 0} → (ℕ → R → Type 0) → ℕ → List R → Type 0
+AllSuit suits n [] = Unit {0}
+AllSuit suits n (r ∷ rs) = suits (n + 1) r × AllSuit suits (n + 1) rs
+
+-- a line that wasn't played yet, done with a reply, right there, leaves a good state, and the reply suits it
+abbrev pub LineKeepsGood : {B R : Type 0} → (B → List Act → R → Type 0) → (ℕ → ℕ → Option B)
+    → (State → List ℕ → Type 0) → (ℕ → ℕ → R → Type 0) → Type 0
+LineKeepsGood {B} {R} did body_at good suits =
+    (s : State) (tags : List ℕ) (caller line : ℕ) (body : B) (acts : List Act) (r : R)
+    → good s tags → body_at caller line ≡ Some body → All (λ t. t ≢ tag_of caller line) tags
+    → did body acts r → IsRight s acts
+    → good (run s acts) (tags ++ tag_of caller line ∷ []) × suits caller line r
+
+-- The laws of lines. A state is good for the tags of the lines that were played. The opening state is good for no tags;
+-- each line keeps states good; what suits a line suits one that there is; what a line can do in a good state is within the bounds; and the contents of a good
+-- state need so many nodes at most.
+pub record AreLawful {B R : Type 0} (did : B → List Act → R → Type 0) (makes : B → List Act → Type 0)
+    (body_at : ℕ → ℕ → Option B) (good : State → List ℕ → Type 0) (suits : ℕ → ℕ → R → Type 0)
+    (opening : State) (cost : Bounds) (most : ℕ) : Type 0 where
+  pub opens : good opening []
+  pub keeps : LineKeepsGood did body_at good suits
+  pub lines : (caller line : ℕ) (r : R) → suits caller line r → IsSome (body_at caller line)
+  pub small : (s : State) (tags : List ℕ) (caller line : ℕ) → good s tags
+      → IsSmallLine cost makes body_at caller line s
+  pub room : (s : State) (tags : List ℕ) → good s tags → needed s ≤ most

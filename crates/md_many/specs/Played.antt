@@ -1,0 +1,66 @@
+-- What the rounds of callers come to: each line once.
+use Rattle.std.specs.Prelude.{◌≡◌, ◌+◌, ◌-◌, ◌*◌, ℕ, zero, suc, Bool, if◌then◌else◌, Option, None, List, [], ◌∷◌, length, map, flat_map, slice_get}
+use Rattle.std.specs.Prelude.{Vec}
+use Rattle.std.specs.declared.alloc.Global.{Global}
+use Rattle.md_history.specs.declared.acts.Act.{Act}
+use Rattle.md_history.specs.declared.entries.Entry.{Entry}
+use Rattle.md_history.specs.State.{State}
+use Rattle.md_history.specs.History.{AllDecided}
+use Rattle.md_history.specs.Front.{Front, LegalFrom, committed_in, replay_of}
+use Rattle.md_many.specs.Lines.{AreLines}
+use Rattle.md_many.specs.Rounds.{at_caller, of_caller}
+
+-- the lists that vectors have
+abbrev pub lists_in : {A : Type 0} → List (Vec A Global) → List (List A)
+lists_in vectors = map (λ v. v.items) vectors
+
+-- what a caller's list has at a line, both counted from 1
+abbrev pub line_at : {A : Type 0} → List (List A) → ℕ → ℕ → Option A
+line_at lists caller zero = None
+line_at lists caller (suc line) = slice_get (at_caller [] lists caller) line
+
+-- the committed entries of fronts, one front after another
+abbrev pub committed_of : List Front → List Entry
+committed_of fronts = flat_map committed_in fronts
+
+-- the state that fronts leave, one after another
+abbrev pub state_after : State → List Front → State
+state_after start [] = start
+state_after start (f ∷ fs) = state_after (replay_of start f) fs
+
+-- each front is decided, and legal from the state that those before it leave
+abbrev pub AreDecidedAndLegal : State → List Front → Type 0
+AreDecidedAndLegal start [] = Unit {0}
+AreDecidedAndLegal start (f ∷ fs) = LegalFrom start f × AllDecided f.known × AreDecidedAndLegal (replay_of start f) fs
+
+abbrev pub tags_of : List Entry → List ℕ
+tags_of es = map (λ (e : Entry). e.tag) es
+
+-- The entries with a caller's tags are its first n lines, each once and in order, and with the replies that are kept of
+-- it.
+pub record HasPlayedAll {B R : Type 0} (did : B → List Act → R → Type 0) (body_at : ℕ → ℕ → Option B)
+    (keeps : ℕ → List R → Type 0) (caller n : ℕ) (es : List Entry) : Type 0 where
+  pub replies : List R
+  pub kept : keeps caller replies
+  pub count : length replies ≡ n
+  pub lines : AreLines did body_at caller (of_caller caller es) replies 0
+
+-- The committed entries of the fronts are the callers' lines, each once, each caller's in order, with the replies that
+-- are kept; each front is decided, and legal from the state that those before it leave; the contents are what they
+-- leave, and are good for the tags of the entries.
+pub record EachLineOnce {B R : Type 0} (did : B → List Act → R → Type 0) (body_at : ℕ → ℕ → Option B)
+    (line_count : ℕ → ℕ) (keeps : ℕ → List R → Type 0) (good : State → List ℕ → Type 0)
+    (opening : State) (fronts : List Front) (contents : State) : Type 0 where
+  pub legal : AreDecidedAndLegal opening fronts
+  pub each : (caller : ℕ) → HasPlayedAll did body_at keeps caller (line_count caller) (committed_of fronts)
+  pub replay : contents ≡ state_after opening fronts
+  pub stands : good contents (tags_of (committed_of fronts))
+
+-- how many lines are left, of the callers after the first so many, who have played so many lines each
+abbrev pub left_after : (ℕ → ℕ) → ℕ → List ℕ → ℕ
+left_after line_count before [] = 0
+left_after line_count before (n ∷ done) = (line_count (before + 1) - n) + left_after line_count (before + 1) done
+
+-- a number that falls with each round, which leaves fewer lines, or as many and a worn engine
+abbrev pub rounds_left : (ℕ → ℕ) → List ℕ → Bool → ℕ
+rounds_left line_count done worn = 2 * left_after line_count 0 done + (if worn then 0 else 1)

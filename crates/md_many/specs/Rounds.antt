@@ -1,0 +1,54 @@
+-- Rounds: each caller plays a turn on a lane of its own, side by side.
+use Rattle.std.specs.Prelude.{◌≡◌, ◌<◌, ◌≤◌, ◌+◌, ◌^◌, ◌/◌, ◌==◌, ℕ, zero, suc, Option, List, [], ◌∷◌, ◌++◌, length, map, filter, slice_index_or}
+use Rattle.md_history.specs.declared.acts.Act.{Act}
+use Rattle.md_history.specs.declared.entries.Entry.{Entry}
+use Rattle.md_history.specs.Front.{Front, IsPrefix, AllStay}
+use Rattle.md_many.specs.declared.turns.Played.{Played}
+use Rattle.md_many.specs.Lines.{AreLines}
+
+-- what a list has for a caller, counted from 1; for who is no caller, another thing
+abbrev pub at_caller : {A : Type 0} → A → List A → ℕ → A
+at_caller other xs zero = other
+at_caller other xs (suc caller) = slice_index_or xs caller other
+
+-- the entries with a caller's tags
+abbrev pub of_caller : ℕ → List Entry → List Entry
+of_caller caller es = filter (λ e. e.tag / 2 ^ 32 == caller) es
+
+-- From one front to another a lane committed a caller's lines after its first n, as many as there are replies, and the
+-- gate was told of each. Lines are numbered by 32 bits.
+pub record TakesTurn {B R : Type 0} (did : B → List Act → R → Type 0) (body_at : ℕ → ℕ → Option B)
+    (told : ℕ → ℕ → Type 0) (caller n lane : ℕ) (old new : Front) (replies : List R) : Type 0 where
+  pub entries : List Entry
+  pub mine : new.mine lane ≡ old.mine lane ++ entries
+  pub lines : AreLines did body_at caller entries replies n
+  pub few : n + length replies < 2 ^ 32
+  pub gate : (line : ℕ) → n < line → line ≤ n + length replies → told caller line
+
+-- one by one, the callers after the first so many took a turn on their lanes
+abbrev pub AreTurns : {B R : Type 0} → (B → List Act → R → Type 0) → (ℕ → ℕ → Option B) → (ℕ → ℕ → Type 0)
+    → Front → Front → ℕ → List ℕ → List ℕ → List (List R) → Type 0
+AreTurns did body_at told old new before [] [] [] = Unit {0}
+AreTurns did body_at told old new before (n ∷ done) (lane ∷ lanes) (rs ∷ replies) =
+    TakesTurn did body_at told (before + 1) n lane old new rs
+    × AreTurns did body_at told old new (before + 1) done lanes replies
+AreTurns did body_at told old new before done lanes replies = ⊥
+
+-- the replies of turns
+abbrev pub replies_in : {R : Type 0} → List (Played R) → List (List R)
+replies_in played = map (λ p. p.replies.items) played
+
+-- From one front to another the callers after the first so many, who had played so many lines each, took a turn each on
+-- the pass's lanes.
+pub record PlaysTurns {B R : Type 0} (did : B → List Act → R → Type 0) (body_at : ℕ → ℕ → Option B)
+    (told : ℕ → ℕ → Type 0) (before : ℕ) (done : List ℕ) (old new : Front) (replies : List (List R)) : Type 0 where
+  pub lanes : new.lanes ≡ old.lanes
+  pub idle : old.pending ≡ [] → new.pending ≡ []
+  pub seen : IsPrefix old.seen new.seen
+  pub known : AllStay old.known new.known
+  pub turns : AreTurns did body_at told old new before done old.lanes replies
+
+-- each of these callers has so many lines at least
+abbrev pub AreWithin : (ℕ → ℕ) → ℕ → List ℕ → Type 0
+AreWithin line_count before [] = Unit {0}
+AreWithin line_count before (n ∷ done) = (n ≤ line_count (before + 1)) × AreWithin line_count (before + 1) done

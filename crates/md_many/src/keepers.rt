@@ -1,0 +1,27 @@
+//! Who keeps the replies of lines.
+
+ghost use Rattle.std.specs.Prelude.{◌≡◌, ◌≢◌, ◌+◌, ◌^◌, ◌<◌, ◌++◌, ℕ, List, length, OnOk};
+ghost use Rattle.md_many.specs.Laws.{AllSuit};
+
+use std::alloc::AllocError;
+
+/// Keeps the replies of callers' lines. They come caller by caller, each caller's in order.
+pub trait Keeper<R> {
+    /// It can keep this reply of a caller's line.
+    ghost can_keep: { Self → ℕ → ℕ → R → Type 0 };
+
+    /// It keeps these replies of a caller's first lines.
+    ghost keeps: { Self → ℕ → List R → Type 0 };
+
+    /// Keeps the replies of a caller's lines after its first `done`. `AllocError` if memory runs
+    /// out.
+    fn keep(&mut self, caller: u32, done: u32, replies: Vec<R>) -> Result<(), AllocError>
+        requires suit { AllSuit (can_keep self.old caller) done replies.items }
+        requires few { done + length replies.items < 2 ^ 32 }
+        ensures can_keep { (other line : ℕ) (r : R) → can_keep self.old other line r
+            → can_keep self.new other line r }
+        ensures kept { (rs : List R) → keeps self.old caller rs → length rs ≡ done
+            → OnOk result (keeps self.new caller (rs ++ replies.items)) }
+        ensures others { (other : ℕ) (rs : List R) → other ≢ caller → keeps self.old other rs
+            → OnOk result (keeps self.new other rs) };
+}

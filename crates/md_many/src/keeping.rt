@@ -1,0 +1,58 @@
+//! Handing replies to whoever keeps them.
+
+ghost use Rattle.std.specs.Prelude.{◌≡◌, ◌<◌, ◌≤◌, ◌+◌, ◌^◌, [], ℕ, length, OnOk};
+ghost use Rattle.md_many.specs.Laws.{AllSuit};
+ghost use Rattle.md_many.specs.Rounds.{at_caller, replies_in};
+ghost use Rattle.md_many.specs.Course.{KeepsMore, of_one};
+
+use crate::keepers::Keeper;
+use crate::turns::Played;
+use std::alloc::AllocError;
+
+/// Hands a caller's replies over, and counts them.
+pub(crate) fn keep_lines<R: Drop, K: Keeper<R>>(
+    keeper: &mut K,
+    done: &mut [u32],
+    caller: u32,
+    replies: Vec<R>,
+) -> Result<(), AllocError>
+    requires from_1 { 1 ≤ caller }
+    requires there { caller ≤ length done.old }
+    requires suit { AllSuit (K.can_keep keeper.old caller)
+        (at_caller 0 done.old caller) replies.items }
+    requires few { at_caller 0 done.old caller + length replies.items < 2 ^ 32 }
+    ensures can_keep { (other line : ℕ) (r : R) → K.can_keep keeper.old other line r
+        → K.can_keep keeper.new other line r }
+    ensures kept { OnOk result (KeepsMore (of_one caller replies.items)
+        (K.keeps keeper.old) (K.keeps keeper.new) done.old done.new) }
+{
+    let index = caller as usize - 1;
+    let before = done[index];
+    done[index] = before + replies.len() as u32;
+    keeper.keep(caller, before, replies)
+}
+
+/// Hands over the replies of turns, caller by caller, and counts them.
+pub(crate) fn keep_turns<R: Drop, K: Keeper<R>>(
+    keeper: &mut K,
+    done: &mut [u32],
+    turns: Vec<Played<R>>,
+) -> Result<(), AllocError>
+    requires callers { length turns.items ≡ length done.old }
+    requires few_callers { length done.old < 2 ^ 32 }
+    requires suit { (caller : ℕ) → AllSuit (K.can_keep keeper.old caller)
+        (at_caller 0 done.old caller) (at_caller [] (replies_in turns.items) caller) }
+    requires few { (caller : ℕ) → at_caller 0 done.old caller
+        + length (at_caller [] (replies_in turns.items) caller) < 2 ^ 32 }
+    ensures can_keep { (other line : ℕ) (r : R) → K.can_keep keeper.old other line r
+        → K.can_keep keeper.new other line r }
+    ensures kept { OnOk result (KeepsMore (at_caller [] (replies_in turns.items))
+        (K.keeps keeper.old) (K.keeps keeper.new) done.old done.new) }
+{
+    let mut caller = 0;
+    'turns: for turn in turns {
+        caller += 1;
+        keep_lines(keeper, done, caller, turn.replies)?;
+    }
+    Ok(())
+}

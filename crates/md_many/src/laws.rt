@@ -1,0 +1,27 @@
+//! Lines of which it is known what they leave.
+
+ghost use Rattle.std.specs.Prelude.{ℕ, List};
+ghost use Rattle.md_history.specs.State.{State};
+ghost use Rattle.md_history.specs.Counts.{Bounds};
+
+use crate::callers::Lines;
+use md_history::Body;
+
+/// Lines, with the words in which their laws are told: whatever order they are played in, they leave
+/// good states. The calls that play them ask for the laws themselves, `AreLawful`.
+pub trait LawfulLines: Lines {
+    /// The state from which they are played.
+    ghost opening: { Self → State };
+
+    /// The states that they can leave, by the tags of the lines that were played.
+    ghost good: { Self → State → List ℕ → Type 0 };
+
+    /// The replies that a caller's line can have.
+    ghost suits: { Self → ℕ → ℕ → Self.B.Reply → Type 0 };
+
+    /// What a line can read, write and take at most.
+    ghost cost: { Self → Bounds };
+
+    /// How many nodes the contents of a good state need at most.
+    ghost most: { Self → ℕ };
+}

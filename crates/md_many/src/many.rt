@@ -1,0 +1,126 @@
+//! Rounds whose replies are kept in lists, by caller and line.
+
+ghost use Rattle.std.specs.Prelude.{◌≡◌, ◌≢◌, ◌≤◌, ◌++◌, ℕ, [], length, map, replicate, option_map, IfOk, OnOk};
+ghost use Rattle.md_many.specs.Tags.{IsInterleaving};
+ghost use Rattle.md_many.specs.Laws.{AllSuit, AreLawful};
+ghost use Rattle.md_many.specs.Rounds.{at_caller};
+ghost use Rattle.md_many.specs.Course.{CanRun};
+ghost use Rattle.md_many.specs.Played.{EachLineOnce, committed_of, tags_of, lists_in, line_at};
+
+use crate::gates::Gate;
+use crate::keepers::Keeper;
+use crate::laws::LawfulLines;
+use crate::rounds::play_rounds;
+use md_history::{Body, Contents, Engine, Front};
+use std::alloc::{AllocError, Global};
+use std::thread::Threads;
+
+/// What the rounds of callers leave: the replies by caller and line, the contents, and the fronts
+/// of the engines in order, one for each renewal and one for the end.
+#[derive(Drop)]
+pub struct Many<R, P> {
+    pub replies: Vec<Vec<R>>,
+    pub contents: Contents,
+    pub fronts: Vec<Front<P>>,
+}
+
+impl<R, P> Many<R, P> {
+    /// The reply of a caller's line, both counted from 1. `None` exactly where there is no such
+    /// line.
+    pub fn reply(&self, caller: u32, line: u32) -> Option<&R>
+        ensures { option_map (λ r. r.now) result
+            ≡ line_at (lists_in self.now.replies.items) caller line }
+    {
+        if caller == 0 || caller as usize > self.replies.len() || line == 0 {
+            return None;
+        }
+        self.replies[caller as usize - 1].get(line as usize - 1)
+    }
+}
+
+// Replies in a list for each caller.
+#[derive(Drop)]
+struct ByCaller<R> {
+    lists: Vec<Vec<R>>,
+}
+
+impl<R: Drop> Keeper<R> for ByCaller<R> {
+    ghost can_keep = { λ k caller line r. (1 ≤ caller) × (caller ≤ length k.lists.items) };
+
+    ghost keeps = { λ k caller rs. at_caller [] (lists_in k.lists.items) caller ≡ rs };
+
+    fn keep(&mut self, caller: u32, done: u32, replies: Vec<R>) -> Result<(), AllocError>
+        requires { AllSuit (λ line r. (1 ≤ caller) × (caller ≤ length self.old.lists.items))
+            done replies.items }
+        ensures callers { length self.new.lists.items ≡ length self.old.lists.items }
+        ensures kept { OnOk result (at_caller [] (lists_in self.new.lists.items) caller
+            ≡ at_caller [] (lists_in self.old.lists.items) caller ++ replies.items) }
+        ensures others { (other : ℕ) → other ≢ caller
+            → at_caller [] (lists_in self.new.lists.items) other
+            ≡ at_caller [] (lists_in self.old.lists.items) other }
+    {
+        let _ = done;
+        if replies.is_empty() {
+            return Ok(());
+        }
+        let mut replies = replies;
+        self.lists[caller as usize - 1].append(&mut replies)
+    }
+}
+
+// Empty lists, one for each caller.
+fn empty_lists<R: Drop>(alloc: Global, callers: u32) -> Result<Vec<Vec<R>>, AllocError>
+    ensures { IfOk result (λ lists. lists_in lists.items ≡ replicate callers []) }
+{
+    let mut lists = Vec::with_capacity(alloc, callers as usize)?;
+    'callers: for made in 0..callers {
+        lists.push(Vec::new(alloc))?;
+    }
+    Ok(lists)
+}
+
+/// Plays all lines of all callers over an engine, in rounds, as `play_rounds` does, and keeps the
+/// replies by caller and line. The pass holds all lanes, one for each caller. `AllocError` if
+/// memory runs out; then the engine has ended.
+pub fn run_many<R, E, L, G>(
+    rt: &R,
+    alloc: Global,
+    engine: E,
+    pass: E::Pass,
+    lines: &L,
+    tries: u32,
+    gate: &G,
+) -> Result<Many<<L::B as Body>::Reply, E::Pass>, AllocError>
+where
+    R: Threads + Sync,
+    E: Engine,
+    L: LawfulLines,
+    L::B: Send,
+    <L::B as Body>::Reply: Send,
+    G: Gate + Sync,
+    requires of { E.of engine pass }
+    requires fresh { E.fresh engine pass }
+    requires lanes { length (E.lanes engine) ≡ L.caller_count lines.now }
+    requires opening { E.start engine ≡ L.opening lines.now }
+    requires laws { AreLawful L.B.did L.B.makes (L.body_at lines.now) (L.good lines.now)
+        (L.suits lines.now) (L.opening lines.now) (L.cost lines.now) (L.most lines.now) }
+    requires runs { CanRun L.B.fits (L.body_at lines.now) (L.cost lines.now) (L.most lines.now)
+        (E.start engine) (E.limits engine) }
+    ensures each_line_once { IfOk result (λ m. EachLineOnce L.B.did (L.body_at lines.now)
+        (L.line_count lines.now) (λ caller rs. at_caller [] (lists_in m.replies.items) caller ≡ rs)
+        (L.good lines.now) (L.opening lines.now) (map E.front m.fronts.items) m.contents) }
+    ensures gate { OnOk result ((caller line : ℕ) → 1 ≤ line
+        → line ≤ L.line_count lines.now caller → G.after_called gate.now caller line) }
+    ensures interleaving { IfOk result (λ m. IsInterleaving (L.line_count lines.now)
+        (tags_of (committed_of (map E.front m.fronts.items)))) }
+{
+    let mut keeper = ByCaller {
+        lists: empty_lists(alloc, lines.callers())?,
+    };
+    let rounds = play_rounds(rt, alloc, engine, pass, lines, tries, gate, &mut keeper)?;
+    Ok(Many {
+        replies: keeper.lists,
+        contents: rounds.contents,
+        fronts: rounds.fronts,
+    })
+}

@@ -1,0 +1,418 @@
+//! Rounds of callers, over any engine and any lines.
+
+ghost use Rattle.std.specs.Prelude.{◌≡◌, ◌<◌, ◌≤◌, ◌+◌, ◌^◌, [], ℕ, List, length, map, replicate, true, false, IfOk, IfSome, IfNone, OnOk};
+ghost use Rattle.md_history.specs.Engine.{empty_front};
+ghost use Rattle.md_many.specs.Tags.{IsInterleaving};
+ghost use Rattle.md_many.specs.Laws.{AreLawful};
+ghost use Rattle.md_many.specs.Rounds.{at_caller, AreWithin};
+ghost use Rattle.md_many.specs.Course.{CanRun, Stands};
+ghost use Rattle.md_many.specs.Played.{EachLineOnce, committed_of, tags_of, left_after, rounds_left};
+
+use crate::attempts::{End, Turn, attempt_lines};
+use crate::callers::Lines;
+use crate::gates::Gate;
+use crate::keepers::Keeper;
+use crate::keeping::{keep_lines, keep_turns};
+use crate::laws::LawfulLines;
+use crate::turns::{Played, Turns, play_turns};
+use md_history::{Body, Contents, Engine, Front, fresh_is_empty, pass_is_legal};
+use std::alloc::{AllocError, Global};
+use std::thread::Threads;
+
+// How many replies the turns of a round have room for, of all callers.
+const ROUND_REPLIES: u32 = 65_536;
+
+// How many replies the turn of a single caller has room for.
+const TURN_REPLIES: u32 = 1_024;
+
+/// What rounds leave, beside the replies: the contents, and the fronts of the engines in order,
+/// one for each renewal and one for the end.
+#[derive(Drop)]
+pub struct Rounds<P> {
+    pub contents: Contents,
+    pub fronts: Vec<Front<P>>,
+}
+
+// A run of callers in its course: the engine with the pass of all its lanes, the fronts of the
+// engines before it, and how many lines each caller has played.
+#[derive(Drop)]
+struct Course<E: Engine> {
+    engine: E,
+    pass: E::Pass,
+    fronts: Vec<Front<E::Pass>>,
+    done: Vec<u32>,
+    // The engine is to be renewed before the next round.
+    worn: bool,
+}
+
+// How many replies the turn of each of so many callers has room for.
+fn turn_room(callers: u32) -> u32 {
+    if callers <= 1 {
+        return TURN_REPLIES;
+    }
+    (ROUND_REPLIES / callers).max(1)
+}
+
+// The lowest caller that has a line left.
+fn next_caller<L: Lines>(lines: &L, done: &[u32]) -> Option<u32>
+    requires few { length done.now < 2 ^ 32 }
+    requires within { AreWithin (L.line_count lines.now) 0 done.now }
+    ensures from_1 { IfSome result (λ caller. 1 ≤ caller) }
+    ensures there { IfSome result (λ caller. caller ≤ length done.now) }
+    ensures left { IfSome result (λ caller.
+        at_caller 0 done.now caller < L.line_count lines.now caller) }
+    ensures none { IfNone result ((caller : ℕ) → 1 ≤ caller → caller ≤ length done.now
+        → at_caller 0 done.now caller ≡ L.line_count lines.now caller) }
+{
+    let mut caller = 0;
+    'callers: for played in done {
+        caller += 1;
+        if *played < lines.len(caller) {
+            return Some(caller);
+        }
+    }
+    None
+}
+
+// Renews the engine, if it is worn.
+fn renewed<E: Engine, L: LawfulLines, K: Keeper<<L::B as Body>::Reply>, G: Gate>(
+    course: Course<E>,
+    lines: &L,
+    keeper: &K,
+    gate: &G,
+) -> Result<Course<E>, AllocError>
+    requires of { E.of course.engine course.pass }
+    requires laws { AreLawful L.B.did L.B.makes (L.body_at lines.now) (L.good lines.now)
+        (L.suits lines.now) (L.opening lines.now) (L.cost lines.now) (L.most lines.now) }
+    requires runs { CanRun L.B.fits (L.body_at lines.now) (L.cost lines.now) (L.most lines.now)
+        (E.start course.engine) (E.limits course.engine) }
+    requires stands { Stands L.B.did (L.body_at lines.now) (L.line_count lines.now)
+        (G.after_called gate.now) (K.keeps keeper.now) (L.good lines.now) (L.opening lines.now)
+        (E.start course.engine) (E.lanes course.engine) (map E.front course.fronts.items)
+        (E.front course.pass) course.done.items }
+    ensures of { IfOk result (λ c. E.of c.engine c.pass) }
+    ensures runs { IfOk result (λ c. CanRun L.B.fits (L.body_at lines.now)
+        (L.cost lines.now) (L.most lines.now) (E.start c.engine) (E.limits c.engine)) }
+    ensures stands { IfOk result (λ c. Stands L.B.did (L.body_at lines.now)
+        (L.line_count lines.now) (G.after_called gate.now) (K.keeps keeper.now)
+        (L.good lines.now) (L.opening lines.now) (E.start c.engine) (E.lanes c.engine)
+        (map E.front c.fronts.items) (E.front c.pass) c.done.items) }
+    ensures done { IfOk result (λ c. c.done ≡ course.done) }
+    ensures fresh { course.worn ≡ true → IfOk result (λ c. E.fresh c.engine c.pass) }
+    ensures empty { course.worn ≡ true → IfOk result (λ c.
+        E.front c.pass ≡ empty_front (E.lanes c.engine)) }
+{
+    let _ = lines;
+    let _ = keeper;
+    let _ = gate;
+    if !course.worn {
+        return Ok(course);
+    }
+    let Course {
+        engine,
+        pass,
+        mut fronts,
+        done,
+        worn: _,
+    } = course;
+    pass_is_legal(&engine, &pass);
+    let (engine, pass, front) = engine.renew(pass)?;
+    fresh_is_empty(&engine, &pass);
+    fronts.push(front)?;
+    Ok(Course {
+        engine,
+        pass,
+        fronts,
+        done,
+        worn: false,
+    })
+}
+
+// The lowest caller's next line is played by the pass of all lanes, which meets no conflict.
+fn play_first<E: Engine, L: LawfulLines, G: Gate, K: Keeper<<L::B as Body>::Reply>>(
+    alloc: Global,
+    course: Course<E>,
+    lines: &L,
+    gate: &G,
+    caller: u32,
+    keeper: &mut K,
+) -> Result<Course<E>, AllocError>
+    requires of { E.of course.engine course.pass }
+    requires laws { AreLawful L.B.did L.B.makes (L.body_at lines.now) (L.good lines.now)
+        (L.suits lines.now) (L.opening lines.now) (L.cost lines.now) (L.most lines.now) }
+    requires runs { CanRun L.B.fits (L.body_at lines.now) (L.cost lines.now) (L.most lines.now)
+        (E.start course.engine) (E.limits course.engine) }
+    requires stands { Stands L.B.did (L.body_at lines.now) (L.line_count lines.now)
+        (G.after_called gate.now) (K.keeps keeper.old) (L.good lines.now) (L.opening lines.now)
+        (E.start course.engine) (E.lanes course.engine) (map E.front course.fronts.items)
+        (E.front course.pass) course.done.items }
+    requires keeper { (c line : ℕ) (r : L.B.Reply) → L.suits lines.now c line r
+        → K.can_keep keeper.old c line r }
+    requires from_1 { 1 ≤ caller }
+    requires there { caller ≤ length course.done.items }
+    requires left { at_caller 0 course.done.items caller < L.line_count lines.now caller }
+    ensures engine { IfOk result (λ c. c.engine ≡ course.engine) }
+    ensures of { IfOk result (λ c. E.of c.engine c.pass) }
+    ensures stands { IfOk result (λ c. Stands L.B.did (L.body_at lines.now)
+        (L.line_count lines.now) (G.after_called gate.now) (K.keeps keeper.new)
+        (L.good lines.now) (L.opening lines.now) (E.start c.engine) (E.lanes c.engine)
+        (map E.front c.fronts.items) (E.front c.pass) c.done.items) }
+    ensures keeper { (c line : ℕ) (r : L.B.Reply) → L.suits lines.now c line r
+        → K.can_keep keeper.new c line r }
+    ensures callers { IfOk result (λ c. length c.done.items ≡ length course.done.items) }
+    ensures kept { IfOk result (λ c. left_after (L.line_count lines.now) 0 c.done.items
+        ≤ left_after (L.line_count lines.now) 0 course.done.items) }
+    ensures played { IfOk result (λ c. c.worn ≡ false
+        → left_after (L.line_count lines.now) 0 c.done.items
+        < left_after (L.line_count lines.now) 0 course.done.items) }
+    ensures fresh { E.fresh course.engine course.pass
+        → E.front course.pass ≡ empty_front (E.lanes course.engine)
+        → IfOk result (λ c. c.worn ≡ false) }
+{
+    let mut course = course;
+    let turn = Turn {
+        caller,
+        done: course.done[caller as usize - 1],
+        tries: 1,
+    };
+    let mut replies = Vec::with_capacity(alloc, 1)?;
+    pass_is_legal(&course.engine, &course.pass);
+    attempt_lines(
+        &course.engine,
+        &mut course.pass,
+        lines,
+        turn,
+        gate,
+        &mut replies,
+    )?;
+    pass_is_legal(&course.engine, &course.pass);
+    course.worn = replies.is_empty();
+    keep_lines(keeper, &mut course.done, caller, replies)?;
+    Ok(course)
+}
+
+// Whether a turn ended by something that the engine has no more of, or by conflicts.
+fn wears<R>(turns: &[Played<R>], last_tries: bool) -> bool {
+    turns.iter().any(|turn| match turn.end {
+        End::Lines => false,
+        End::Tries => last_tries,
+        End::Limit(_) | End::Conflicts => true,
+    })
+}
+
+// All callers play a turn side by side, each on a lane of its own.
+fn play_sides<R, E, L, G, K>(
+    rt: &R,
+    alloc: Global,
+    course: Course<E>,
+    lines: &L,
+    tries: u32,
+    gate: &G,
+    keeper: &mut K,
+) -> Result<Course<E>, AllocError>
+where
+    R: Threads + Sync,
+    E: Engine,
+    L: LawfulLines,
+    L::B: Send,
+    <L::B as Body>::Reply: Send,
+    G: Gate + Sync,
+    K: Keeper<<L::B as Body>::Reply>,
+    requires of { E.of course.engine course.pass }
+    requires laws { AreLawful L.B.did L.B.makes (L.body_at lines.now) (L.good lines.now)
+        (L.suits lines.now) (L.opening lines.now) (L.cost lines.now) (L.most lines.now) }
+    requires runs { CanRun L.B.fits (L.body_at lines.now) (L.cost lines.now) (L.most lines.now)
+        (E.start course.engine) (E.limits course.engine) }
+    requires stands { Stands L.B.did (L.body_at lines.now) (L.line_count lines.now)
+        (G.after_called gate.now) (K.keeps keeper.old) (L.good lines.now) (L.opening lines.now)
+        (E.start course.engine) (E.lanes course.engine) (map E.front course.fronts.items)
+        (E.front course.pass) course.done.items }
+    requires keeper { (c line : ℕ) (r : L.B.Reply) → L.suits lines.now c line r
+        → K.can_keep keeper.old c line r }
+    requires callers { length course.done.items < 2 ^ 32 }
+    ensures engine { IfOk result (λ c. c.engine ≡ course.engine) }
+    ensures of { IfOk result (λ c. E.of c.engine c.pass) }
+    ensures stands { IfOk result (λ c. Stands L.B.did (L.body_at lines.now)
+        (L.line_count lines.now) (G.after_called gate.now) (K.keeps keeper.new)
+        (L.good lines.now) (L.opening lines.now) (E.start c.engine) (E.lanes c.engine)
+        (map E.front c.fronts.items) (E.front c.pass) c.done.items) }
+    ensures keeper { (c line : ℕ) (r : L.B.Reply) → L.suits lines.now c line r
+        → K.can_keep keeper.new c line r }
+    ensures callers { IfOk result (λ c. length c.done.items ≡ length course.done.items) }
+    ensures kept { IfOk result (λ c. left_after (L.line_count lines.now) 0 c.done.items
+        ≤ left_after (L.line_count lines.now) 0 course.done.items) }
+{
+    let Course {
+        engine,
+        pass,
+        fronts,
+        mut done,
+        worn: _,
+    } = course;
+    pass_is_legal(&engine, &pass);
+    let room = turn_room(done.len() as u32);
+    let turns = play_turns(
+        rt,
+        alloc,
+        &engine,
+        pass,
+        lines,
+        gate,
+        0,
+        tries.min(room),
+        &done,
+    )?;
+    let Turns { pass, played } = turns;
+    pass_is_legal(&engine, &pass);
+    let worn = wears(&played, tries <= room);
+    keep_turns(keeper, &mut done, played)?;
+    Ok(Course {
+        engine,
+        pass,
+        fronts,
+        done,
+        worn,
+    })
+}
+
+// A round: the engine is renewed if it is worn, the lowest caller's next line is played first, and
+// then all callers play a turn side by side. It leaves fewer lines, or as many and a worn engine.
+fn play_round<R, E, L, G, K>(
+    rt: &R,
+    alloc: Global,
+    course: Course<E>,
+    lines: &L,
+    tries: u32,
+    gate: &G,
+    caller: u32,
+    keeper: &mut K,
+) -> Result<Course<E>, AllocError>
+where
+    R: Threads + Sync,
+    E: Engine,
+    L: LawfulLines,
+    L::B: Send,
+    <L::B as Body>::Reply: Send,
+    G: Gate + Sync,
+    K: Keeper<<L::B as Body>::Reply>,
+    requires of { E.of course.engine course.pass }
+    requires laws { AreLawful L.B.did L.B.makes (L.body_at lines.now) (L.good lines.now)
+        (L.suits lines.now) (L.opening lines.now) (L.cost lines.now) (L.most lines.now) }
+    requires runs { CanRun L.B.fits (L.body_at lines.now) (L.cost lines.now) (L.most lines.now)
+        (E.start course.engine) (E.limits course.engine) }
+    requires stands { Stands L.B.did (L.body_at lines.now) (L.line_count lines.now)
+        (G.after_called gate.now) (K.keeps keeper.old) (L.good lines.now) (L.opening lines.now)
+        (E.start course.engine) (E.lanes course.engine) (map E.front course.fronts.items)
+        (E.front course.pass) course.done.items }
+    requires keeper { (c line : ℕ) (r : L.B.Reply) → L.suits lines.now c line r
+        → K.can_keep keeper.old c line r }
+    requires callers { length course.done.items < 2 ^ 32 }
+    requires from_1 { 1 ≤ caller }
+    requires there { caller ≤ length course.done.items }
+    requires left { at_caller 0 course.done.items caller < L.line_count lines.now caller }
+    ensures of { IfOk result (λ c. E.of c.engine c.pass) }
+    ensures runs { IfOk result (λ c. CanRun L.B.fits (L.body_at lines.now)
+        (L.cost lines.now) (L.most lines.now) (E.start c.engine) (E.limits c.engine)) }
+    ensures stands { IfOk result (λ c. Stands L.B.did (L.body_at lines.now)
+        (L.line_count lines.now) (G.after_called gate.now) (K.keeps keeper.new)
+        (L.good lines.now) (L.opening lines.now) (E.start c.engine) (E.lanes c.engine)
+        (map E.front c.fronts.items) (E.front c.pass) c.done.items) }
+    ensures keeper { (c line : ℕ) (r : L.B.Reply) → L.suits lines.now c line r
+        → K.can_keep keeper.new c line r }
+    ensures callers { IfOk result (λ c. length c.done.items ≡ length course.done.items) }
+    ensures less { IfOk result (λ c.
+        rounds_left (L.line_count lines.now) c.done.items c.worn
+        < rounds_left (L.line_count lines.now) course.done.items course.worn) }
+{
+    let course = renewed(course, lines, keeper, gate)?;
+    let course = play_first(alloc, course, lines, gate, caller, keeper)?;
+    if course.worn {
+        return Ok(course);
+    }
+    play_sides(rt, alloc, course, lines, tries, gate, keeper)
+}
+
+// As many zeros as there are callers.
+fn none_done(alloc: Global, callers: u32) -> Result<Vec<u32>, AllocError>
+    ensures { IfOk result (λ done. done.items ≡ replicate callers 0) }
+{
+    let mut done = Vec::with_capacity(alloc, callers as usize)?;
+    'callers: for made in 0..callers {
+        done.push(0)?;
+    }
+    Ok(done)
+}
+
+/// Plays all lines of all callers over an engine, in rounds, and closes the engine. The pass holds
+/// all lanes, one for each caller.
+///
+/// In a round the next line of the lowest caller that has one is played alone, by the pass of all
+/// lanes. Then the pass is split, the callers play a turn each, side by side in threads, with at
+/// most `tries` attempts, and the pass is joined again. After that the keeper gets the replies of
+/// the round. Before a round the engine is renewed if the one before met a limit, as many conflicts
+/// in a row as end a turn, or the end of its tries. A turn is also as short as the room for its
+/// replies, 65,536 in a round (1,024 if there is one caller), and that alone renews nothing. Each
+/// renewed round plays a line at least, so there are at most as many renewals as lines.
+///
+/// `AllocError` if memory runs out, here, at the keeper or in an attempt of the engine; then the
+/// engine has ended.
+pub fn play_rounds<R, E, L, G, K>(
+    rt: &R,
+    alloc: Global,
+    engine: E,
+    pass: E::Pass,
+    lines: &L,
+    tries: u32,
+    gate: &G,
+    keeper: &mut K,
+) -> Result<Rounds<E::Pass>, AllocError>
+where
+    R: Threads + Sync,
+    E: Engine,
+    L: LawfulLines,
+    L::B: Send,
+    <L::B as Body>::Reply: Send,
+    G: Gate + Sync,
+    K: Keeper<<L::B as Body>::Reply>,
+    requires of { E.of engine pass }
+    requires fresh { E.fresh engine pass }
+    requires lanes { length (E.lanes engine) ≡ L.caller_count lines.now }
+    requires opening { E.start engine ≡ L.opening lines.now }
+    requires laws { AreLawful L.B.did L.B.makes (L.body_at lines.now) (L.good lines.now)
+        (L.suits lines.now) (L.opening lines.now) (L.cost lines.now) (L.most lines.now) }
+    requires runs { CanRun L.B.fits (L.body_at lines.now) (L.cost lines.now) (L.most lines.now)
+        (E.start engine) (E.limits engine) }
+    requires keeper { (c line : ℕ) (r : L.B.Reply) → L.suits lines.now c line r
+        → K.can_keep keeper.old c line r }
+    requires empty { (caller : ℕ) → K.keeps keeper.old caller [] }
+    ensures each_line_once { IfOk result (λ r. EachLineOnce L.B.did (L.body_at lines.now)
+        (L.line_count lines.now) (K.keeps keeper.new) (L.good lines.now) (L.opening lines.now)
+        (map E.front r.fronts.items) r.contents) }
+    ensures gate { OnOk result ((caller line : ℕ) → 1 ≤ line
+        → line ≤ L.line_count lines.now caller → G.after_called gate.now caller line) }
+    ensures interleaving { IfOk result (λ r. IsInterleaving (L.line_count lines.now)
+        (tags_of (committed_of (map E.front r.fronts.items)))) }
+{
+    fresh_is_empty(&engine, &pass);
+    let mut course = Course {
+        engine,
+        pass,
+        fronts: Vec::new(alloc),
+        done: none_done(alloc, lines.callers())?,
+        worn: false,
+    };
+    'rounds: while let Some(caller) = next_caller(lines, &course.done) {
+        course = play_round(rt, alloc, course, lines, tries, gate, caller, keeper)?;
+    }
+    let Course {
+        engine,
+        pass,
+        mut fronts,
+        done: _,
+        worn: _,
+    } = course;
+    pass_is_legal(&engine, &pass);
+    let (contents, front) = engine.contents(pass)?;
+    fronts.push(front)?;
+    Ok(Rounds { contents, fronts })
+}
