@@ -1,4 +1,4 @@
--- What a pass keeps of its lanes stays kept over each event, of which these files say what it may do to a lane.
+-- What a pass keeps of a lane is kept over each event that does no more to the lane than `LaneGoes` says.
 use Rattle.std.proofs.Common.{◌≡◌, ◌≢◌, ◌⊎◌, ℕ, ◌<◌, ◌≤◌, true, false, Some, None, refl, sym, ap, ◌∙◌, subst, inl, inr, ⊎_elim, arith}
 use Rattle.std.specs.List.{Contains}
 use Rattle.std.proofs.lemmas.Bool.{cases_Bool, cases_lt, false≢true}
@@ -64,7 +64,7 @@ module _ (m : Machine) (k : IsKept m) (pass : ℕ) (p : PassView) (at : IsAt m p
       (λ l. subst (λ h. serial_of h ≤ now) l.after (came_no_later s.after (k.statuses pass p at segment c s i lane inside l.there).after))
       meets
 
-  no_less : (serial : ℕ) → MetNoLater (shape_of m) p lane serial → now ≤ serial
+  pub no_less : (serial : ℕ) → MetNoLater (shape_of m) p lane serial → now ≤ serial
   no_less serial met = ⊎_elim
       (λ zero. omega (arith, zero))
       (λ some. let it = some.2.2 in let less = met some.0 some.1 some.2.0 some.2.1 it.0 it.1 in let is = it.2 in omega (arith, less, is))
