@@ -27,7 +27,8 @@ impl<T: Theory> Pass<T> {
         requires field { IsOf self.old field.now }
         requires own { Contains self.old.view.lanes desc }
         requires taken { 1 ≤ (share_at self.old.shares desc).tries_taken }
-        requires may { May T.meaning field.now.origin (λ pass. mark_begin pass desc tag) self.old.view }
+        requires may { May T.meaning field.now.origin (λ pass. mark_begin pass desc tag)
+            self.old.view }
         ensures same { self.new ≡ record self.old {
           view = self.new.view;
           shares = after_begin self.old.shares desc;
@@ -66,7 +67,8 @@ impl<T: Theory> Pass<T> {
         requires field { IsOf self.old field.now × (desc < desc_count field.now.origin.shape) }
         requires hand { HoldsDesc self.old.view desc }
         requires may { May T.meaning field.now.origin (λ pass. mark_end pass) self.old.view }
-        requires clean { (h : Hand) → self.old.view.hand ≡ Some h → IsClean self.old.view h.attempt }
+        requires clean { (h : Hand) → self.old.view.hand ≡ Some h
+            → IsClean self.old.view h.attempt }
         ensures same { self.new ≡ record self.old {
           view = self.new.view;
           shares = after_end self.old.shares desc;

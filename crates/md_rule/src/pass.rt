@@ -34,20 +34,25 @@ impl<T: Theory> Model for Pass<T> {
 
     ghost Value = { PassState };
 
-    ghost view = { λ p. record { table = p.seat.table_id; shape = p.shape; view = p.seat.me.0.view; shares = p.shares } };
+    ghost view = { λ p. record {
+      table = p.seat.table_id;
+      shape = p.shape;
+      view = p.seat.me.0.view;
+      shares = p.shares;
+    } };
 
     ghost use Rattle.md_rule.specs.Kept.{KeepsLanes};
     ghost use Rattle.md_rule.specs.Lanes.{AreLanes};
 
-    ghost invariant = { λ p. (p.seat.me.0.view.lanes ≡ p.lanes) × AreLanes p.shape p.lanes × (p.seat.me.1 ≡ [])
-        × KeepsLanes p.shape p.seat.me.0.view p.shares };
+    ghost invariant = { λ p. (p.seat.me.0.view.lanes ≡ p.lanes) × AreLanes p.shape p.lanes
+        × (p.seat.me.1 ≡ []) × KeepsLanes p.shape p.seat.me.0.view p.shares };
 }
 
 impl<T: Theory> Pass<T> {
     pub(crate) fn of(seat: Seat<(), Known>, shape: Shape) -> Pass<T>
         requires { (seat.me.0.view ≡ first_pass shape) × (seat.me.1 ≡ []) }
-        ensures { (result.table ≡ seat.table_id) × (result.shape ≡ shape) × (result.view ≡ seat.me.0.view)
-            × (result.shares ≡ replicate 64 UNUSED) }
+        ensures { (result.table ≡ seat.table_id) × (result.shape ≡ shape)
+            × (result.view ≡ seat.me.0.view) × (result.shares ≡ replicate 64 UNUSED) }
     {
         Pass {
             seat,
@@ -96,7 +101,8 @@ impl<T: Theory> Pass<T> {
 
     // Another pass of the same field with these lanes, and copies of the shares.
     pub(crate) fn part(&self, seat: Seat<(), Known>, lanes: Lanes) -> Pass<T>
-        requires lanes { (seat.me.0.view.lanes ≡ lanes) × AreLanes self.now.shape lanes × (seat.me.1 ≡ []) }
+        requires lanes { (seat.me.0.view.lanes ≡ lanes) × AreLanes self.now.shape lanes
+            × (seat.me.1 ≡ []) }
         requires kept { KeepsLanes self.now.shape seat.me.0.view self.now.shares }
         ensures { result ≡ record self.now { table = seat.table_id; view = seat.me.0.view } }
     {
@@ -110,7 +116,8 @@ impl<T: Theory> Pass<T> {
     }
 
     pub(crate) fn into_parts(self) -> (Seat<(), Known>, Lanes, [Share; 64])
-        ensures seat { (result.0.table_id ≡ self.table) × (result.0.me.0.view ≡ self.view) × (result.0.me.1 ≡ []) }
+        ensures seat { (result.0.table_id ≡ self.table) × (result.0.me.0.view ≡ self.view)
+            × (result.0.me.1 ≡ []) }
         ensures lanes { (result.1 ≡ self.view.lanes) × AreLanes self.shape result.1 }
         ensures shares { (result.2 ≡ self.shares) × KeepsLanes self.shape self.view self.shares }
     {

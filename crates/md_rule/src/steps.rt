@@ -9,7 +9,8 @@ ghost use Rattle.md_words.specs.Place.{desc_status};
 ghost use Rattle.md_words.specs.Status.{serial_of};
 ghost use Rattle.md_machine.specs.declared.step.TheConstants.{LAST_COUNT};
 ghost use Rattle.md_machine.specs.Machine.{IsLive};
-ghost use Rattle.md_machine.specs.Event.{load, store, install, exchange, ready, commit, abort, uninstall, start};
+ghost use Rattle.md_machine.specs.Event.{load, store, install, exchange, ready};
+ghost use Rattle.md_machine.specs.Event.{commit, abort, uninstall, start};
 ghost use Rattle.md_rule.specs.InHand.{HoldsUnready};
 ghost use Rattle.md_rule.specs.Kept.{IsNoNextLeft, StoredNoneLeft};
 ghost use Rattle.md_rule.specs.Shares.{after_restart, after_slot, share_at};
@@ -44,7 +45,8 @@ impl<T: Theory> Pass<T> {
     pub fn store(&mut self, field: &Field<T>, word: u32, value: u64)
         requires field { IsOf self.old field.now
             × (word < words_of field.now.origin.shape) }
-        requires may { May T.meaning field.now.origin (λ pass. store pass word value) self.old.view }
+        requires may { May T.meaning field.now.origin (λ pass. store pass word value)
+            self.old.view }
         ensures same { self.new ≡ record self.old { view = self.new.view } }
         ensures step { Stepped T.meaning field.now.origin (λ pass. store pass word value)
             self.old.view self.new.view }
@@ -68,7 +70,8 @@ impl<T: Theory> Pass<T> {
         requires taken { IsNoNextLeft self.old word }
         requires may { May T.meaning field.now.origin (λ pass. install pass word (word_of from) to)
             self.old.view }
-        ensures same { self.new ≡ record self.old { view = self.new.view; shares = self.new.shares } }
+        ensures same { self.new
+            ≡ record self.old { view = self.new.view; shares = self.new.shares } }
         ensures shares { MatchResult result
             (λ _. self.new.shares ≡ after_slot self.old.shares to)
             (λ _. self.new.shares ≡ self.old.shares) }
@@ -143,7 +146,8 @@ impl<T: Theory> Pass<T> {
     pub fn commit(&mut self, field: &Field<T>, desc: u32, from: u64) -> Result<(), u64>
         requires field { IsOf self.old field.now
             × (desc < desc_count field.now.origin.shape) }
-        requires may { May T.meaning field.now.origin (λ pass. commit pass desc from) self.old.view }
+        requires may { May T.meaning field.now.origin (λ pass. commit pass desc from)
+            self.old.view }
         ensures same { self.new ≡ record self.old { view = self.new.view } }
         ensures step { Exchanged T.meaning field.now.origin (λ pass. commit pass desc from)
             (address field.now.origin.shape (desc_status desc)) from result

@@ -24,7 +24,8 @@ pub(crate) fn load_word<K: Telling, T: Theory, A>(
     requires field { (seat.old.table_id ≡ field.now.table)
         × (word < words_of field.now.origin.shape) }
     requires live { IsLive seat.old.me.0.view }
-    requires may { MayTell T.meaning field.now.origin seat.old.me.0.view word (λ held. held) K.tells }
+    requires may { MayTell T.meaning field.now.origin seat.old.me.0.view word (λ held. held)
+        K.tells }
     ensures field { seat.new.table_id ≡ seat.old.table_id }
     ensures same { (seat.new.me.0.view.lanes ≡ seat.old.me.0.view.lanes)
         × (seat.new.me.1 ≡ seat.old.me.1) }
