@@ -36,9 +36,7 @@ fn next(pass: &mut Pass<CellTheory>) -> Result<u32, Limit>
 }
 
 // Takes a node and gives it back.
-fn taken_and_given_back(pass: &mut Pass<CellTheory>) -> Result<u32, Limit>
-    requires { pass.old.view ≡ first_pass pass.old.shape }
-{
+fn taken_and_given_back(pass: &mut Pass<CellTheory>) -> Result<u32, Limit> {
     let node = take_node(pass)?;
     give_back(pass, node);
     Ok(node)
@@ -78,6 +76,20 @@ fn a_node_given_back_is_taken_again(rt: HostRuntime) -> Result<(), Fail> {
     assert_eq!(rt; take_node(&mut pass), Ok(3));
     assert_eq!(rt; take_node(&mut pass), Err(Limit::Nodes));
     no_node_twice();
+    Ok(())
+}
+
+#[test]
+fn the_last_node_of_a_lane_is_taken_again(rt: HostRuntime) -> Result<(), Fail> {
+    let shape = Shape::new(2, 16, 1, 4, 1, 64, 1)?;
+    let (field, mut first) = blank(rt.alloc(), shape)?;
+    let _second = first.split(&field).expect(&rt, "two lanes");
+    for node in 2..17u32 {
+        assert_eq!(rt; take_node(&mut first), Ok(node));
+    }
+    assert_eq!(rt; taken_and_given_back(&mut first), Ok(17));
+    assert_eq!(rt; take_node(&mut first), Ok(17));
+    assert_eq!(rt; take_node(&mut first), Err(Limit::Nodes));
     Ok(())
 }
 
