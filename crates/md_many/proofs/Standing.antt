@@ -21,11 +21,11 @@ use Rattle.md_many.proofs.Playing.{lines-push}
 use Rattle.md_many.proofs.Merging.{all-of, all-weaker, all-pass}
 
 -- a caller's entries of a list that begins with an entry
-caller-own : (caller : ℕ) (e : Entry) (es : List Entry) → (e.tag / 2 ^ 32 == caller) ≡ true
+pub caller-own : (caller : ℕ) (e : Entry) (es : List Entry) → (e.tag / 2 ^ 32 == caller) ≡ true
     → of_caller caller (e ∷ es) ≡ e ∷ of_caller caller es
 caller-own caller e es own = ap (λ b. cond b (e ∷ of_caller caller es) (of_caller caller es)) own
 
-caller-other : (caller : ℕ) (e : Entry) (es : List Entry) → (e.tag / 2 ^ 32 == caller) ≡ false
+pub caller-other : (caller : ℕ) (e : Entry) (es : List Entry) → (e.tag / 2 ^ 32 == caller) ≡ false
     → of_caller caller (e ∷ es) ≡ of_caller caller es
 caller-other caller e es other = ap (λ b. cond b (e ∷ of_caller caller es) (of_caller caller es)) other
 
@@ -50,14 +50,14 @@ all-tags P [] all = tt
 all-tags P (e ∷ es) all = (all.0, all-tags P es all.1)
 
 module _ {B R : Type 0} (did : B → List Act → R → Type 0) (body_at : ℕ → ℕ → Option B) where
-  record Head (caller n : ℕ) (e : Entry) (es : List Entry) (ss : List R) : Type 0 where
+  pub record Head (caller n : ℕ) (e : Entry) (es : List Entry) (ss : List R) : Type 0 where
     pub reply : R
     pub rest : List R
     pub is : ss ≡ reply ∷ rest
     pub line : IsLine did body_at caller (n + 1) e reply
     pub more : AreLines did body_at caller es rest (n + 1)
 
-  lines-head : (caller n : ℕ) (e : Entry) (es : List Entry) (ss : List R)
+  pub lines-head : (caller n : ℕ) (e : Entry) (es : List Entry) (ss : List R)
       → AreLines did body_at caller (e ∷ es) ss n → Head caller n e es ss
   lines-head caller n e es [] lines = absurd lines
   lines-head caller n e es (r ∷ rs) lines =

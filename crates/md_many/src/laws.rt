@@ -7,8 +7,8 @@ ghost use Rattle.md_history.specs.Counts.{Bounds};
 use crate::callers::Lines;
 use md_history::Body;
 
-/// Lines, with the words in which their laws are told: whatever order they are played in, they leave
-/// good states. The calls that play them ask for the laws themselves, `AreLawful`.
+/// Lines, with the words in which their laws are told: whatever order they are played in, they
+/// leave good states. The calls that play them ask for the laws themselves, `AreLawful`.
 pub trait LawfulLines: Lines {
     /// The state from which they are played.
     ghost opening: { Self → State };

@@ -1,6 +1,7 @@
 //! Rounds whose replies are kept in lists, by caller and line.
 
-ghost use Rattle.std.specs.Prelude.{◌≡◌, ◌≢◌, ◌≤◌, ◌++◌, ℕ, [], length, map, replicate, option_map, IfOk, OnOk};
+ghost use Rattle.std.specs.Prelude.{◌≡◌, ◌≢◌, ◌≤◌, ◌++◌, ℕ, [], length, map, replicate, option_map};
+ghost use Rattle.std.specs.Prelude.{IfOk, OnOk};
 ghost use Rattle.md_many.specs.Tags.{IsInterleaving};
 ghost use Rattle.md_many.specs.Laws.{AllSuit, AreLawful};
 ghost use Rattle.md_many.specs.Rounds.{at_caller};

@@ -1,12 +1,14 @@
 //! Rounds of callers, over any engine and any lines.
 
-ghost use Rattle.std.specs.Prelude.{◌≡◌, ◌<◌, ◌≤◌, ◌+◌, ◌^◌, [], ℕ, List, length, map, replicate, true, false, IfOk, IfSome, IfNone, OnOk};
+ghost use Rattle.std.specs.Prelude.{◌≡◌, ◌<◌, ◌≤◌, ◌+◌, ◌^◌, [], ℕ, List, length, map, replicate, true};
+ghost use Rattle.std.specs.Prelude.{false, IfOk, IfSome, IfNone, OnOk};
 ghost use Rattle.md_history.specs.Engine.{empty_front};
 ghost use Rattle.md_many.specs.Tags.{IsInterleaving};
 ghost use Rattle.md_many.specs.Laws.{AreLawful};
 ghost use Rattle.md_many.specs.Rounds.{at_caller, AreWithin};
 ghost use Rattle.md_many.specs.Course.{CanRun, Stands};
-ghost use Rattle.md_many.specs.Played.{EachLineOnce, committed_of, tags_of, left_after, rounds_left};
+ghost use Rattle.md_many.specs.Played.{EachLineOnce, committed_of, tags_of};
+ghost use Rattle.md_many.specs.Played.{left_after, rounds_left};
 
 use crate::attempts::{End, Turn, attempt_lines};
 use crate::callers::Lines;

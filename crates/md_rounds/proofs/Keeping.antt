@@ -13,7 +13,7 @@ use Rattle.md_many.proofs.TagLaws.{caller_of_tag, line_of_tag, tags_after-append
 use Rattle.md_rounds.specs.Kept.{with_replies}
 use Rattle.md_rounds.specs.Replay.{RepliedEach}
 
-length-with_line : {A : Type 0} (xs : List A) (line : ℕ) (x : A) → length (with_line xs line x) ≡ length xs
+pub length-with_line : {A : Type 0} (xs : List A) (line : ℕ) (x : A) → length (with_line xs line x) ≡ length xs
 length-with_line xs zero x = refl
 length-with_line xs (suc l) x = length-set xs l x
 
@@ -23,10 +23,10 @@ length-with_reply replies line r = length-with_list replies 1 _
 lines-with_reply : (replies : List (List (Option BookReply))) (line : ℕ) (r : BookReply) → length replies ≡ 1 → length (list_of (with_reply replies 1 line r) 1) ≡ length (list_of replies 1)
 lines-with_reply replies line r one = ap length (list_of-with_list-same replies 1 _ (omega arith) (omega arith)) ∙ length-with_line (list_of replies 1) line (Some r)
 
-slice_get-set-same : {A : Type 0} (xs : List A) (i : ℕ) (x : A) → i < length xs → slice_get (set xs i x) i ≡ Some x
+pub slice_get-set-same : {A : Type 0} (xs : List A) (i : ℕ) (x : A) → i < length xs → slice_get (set xs i x) i ≡ Some x
 slice_get-set-same xs i x inside = slice_get-get_or (set xs i x) i x (rw (length-set xs i x) inside) ∙ ap Some (get_or-set_same xs i x x inside)
 
-slice_get-set-other : {A : Type 0} (xs : List A) (i j : ℕ) (x : A) → j ≢ i → slice_get (set xs i x) j ≡ slice_get xs j
+pub slice_get-set-other : {A : Type 0} (xs : List A) (i j : ℕ) (x : A) → j ≢ i → slice_get (set xs i x) j ≡ slice_get xs j
 slice_get-set-other [] i j x other = refl
 slice_get-set-other (y ∷ xs) zero zero x other = absurd (other refl)
 slice_get-set-other (y ∷ xs) zero (suc j) x other = refl
@@ -115,14 +115,20 @@ kept-more scripts (r ∷ batch) n list replies kept at inside small =
     (kept-more scripts batch (n + 1) (list ++ r ∷ []) (with_reply replies 1 (n + 1) r) (kept-one scripts n list replies r kept at (omega arith) (omega arith)) (sym (length_push list r ∙ ap (λ k. k + 1) (sym at))) (omega arith) (omega arith))
 
 -- one reply after a batch
-pub with_replies-push : (replies : List (List (Option BookReply))) (batch : List BookReply) (n m : ℕ) (r : BookReply) → m ≡ n + length batch + 1
-    → with_replies replies 1 n (batch ++ r ∷ []) ≡ with_reply (with_replies replies 1 n batch) 1 m r
-with_replies-push replies [] n m r at = ap (λ k. with_reply replies 1 k r) (let same : n + 1 ≡ m = omega arith in same)
-with_replies-push replies (s ∷ batch) n m r at = with_replies-push (with_reply replies 1 (n + 1) s) batch (n + 1) m r (at ∙ omega arith)
+pub with_replies-push : (replies : List (List (Option BookReply))) (caller : ℕ) (batch : List BookReply) (n m : ℕ)
+    (r : BookReply) → m ≡ n + length batch + 1
+    → with_replies replies caller n (batch ++ r ∷ []) ≡ with_reply (with_replies replies caller n batch) caller m r
+with_replies-push replies caller [] n m r at =
+    ap (λ k. with_reply replies caller k r) (let same : n + 1 ≡ m = omega arith in same)
+with_replies-push replies caller (s ∷ batch) n m r at =
+    with_replies-push (with_reply replies caller (n + 1) s) caller batch (n + 1) m r (at ∙ omega arith)
 
 -- the next reply of a batch was set
-pub batch-more : (before replies new : List (List (Option BookReply))) (batch : List BookReply) (n i m : ℕ) (d : BookReply)
-    → new ≡ with_reply replies 1 m (get_or batch i d) → replies ≡ with_replies before 1 n (take i batch) → i < length batch → m ≡ n + i + 1 → new ≡ with_replies before 1 n (take (i + 1) batch)
-batch-more before replies new batch n i m d is kept inside at =
-    is ∙ ap (λ rs. with_reply rs 1 m (get_or batch i d)) kept
-    ∙ sym (ap (with_replies before 1 n) (take_more batch i d inside) ∙ with_replies-push before (take i batch) n m (get_or batch i d) (omega (arith, length-take i batch)))
+pub batch-more : (before replies new : List (List (Option BookReply))) (caller : ℕ) (batch : List BookReply) (n i m : ℕ)
+    (d : BookReply) → new ≡ with_reply replies caller m (get_or batch i d)
+    → replies ≡ with_replies before caller n (take i batch) → i < length batch → m ≡ n + i + 1
+    → new ≡ with_replies before caller n (take (i + 1) batch)
+batch-more before replies new caller batch n i m d is kept inside at =
+    is ∙ ap (λ rs. with_reply rs caller m (get_or batch i d)) kept
+    ∙ sym (ap (with_replies before caller n) (take_more batch i d inside)
+    ∙ with_replies-push before caller (take i batch) n m (get_or batch i d) (omega (arith, length-take i batch)))

@@ -5,3 +5,9 @@ mod CallerLines
 mod Suiting
 mod Keeping
 pub mod OneCaller
+pub mod Few
+pub mod Pigeons
+pub mod Room
+pub mod BookLaws
+mod Holding
+mod Walking

@@ -13,6 +13,7 @@ use Rattle.md_book.specs.Meets.{MayTake}
 use Rattle.md_book.proofs.books.Lessened.{lessened-map}
 use Rattle.md_book.proofs.sums.LookSums.{look-map}
 use Rattle.md_orders.specs.Scripts.{IsNamed}
+pub use Rattle.md_rounds.specs.Traded.{HasNone, AreDifferent}
 
 abbrev pub names_in : Book → List ℕ
 names_in b = map (λ (o : Order). o.name) b.orders
@@ -37,20 +38,10 @@ names-step b (Kill account side price quantity places) = kill-names b account (l
 names-step b (Depth side price) = sym (append-nil (names_in b))
 names-step b (Account account) = sym (append-nil (names_in b))
 
--- no name is this tag
-abbrev pub HasNone : ℕ → List ℕ → Type 0
-HasNone t [] = Unit {0}
-HasNone t (n ∷ ns) = (n ≢ t) × HasNone t ns
-
 -- no name is one of these tags
 abbrev pub AreApart : List ℕ → List ℕ → Type 0
 AreApart [] ns = Unit {0}
 AreApart (t ∷ ts) ns = HasNone t ns × AreApart ts ns
-
--- no tag stands twice
-abbrev pub AreDifferent : List ℕ → Type 0
-AreDifferent [] = Unit {0}
-AreDifferent (t ∷ ts) = HasNone t ts × AreDifferent ts
 
 none-push : (t : ℕ) (ns : List ℕ) (n : ℕ) → HasNone t ns → n ≢ t → HasNone t (ns ++ n ∷ [])
 none-push t [] n h other = (other, tt)

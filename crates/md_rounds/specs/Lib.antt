@@ -1,4 +1,5 @@
 pub mod OrderLines
 pub mod Kept
+pub mod Traded
 pub mod Replay
 pub mod Limits

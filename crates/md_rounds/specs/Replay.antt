@@ -16,23 +16,12 @@ use Rattle.md_book.specs.Trading.{IsDay}
 use Rattle.md_orders.specs.Scripts.{at_line}
 use Rattle.md_orders.specs.Replies.{reply_at}
 use Rattle.md_many.specs.Tags.{IsInterleaving}
+pub use Rattle.md_many.specs.Played.{committed_of, AreDecidedAndLegal, tags_of}
 use Rattle.md_rounds.specs.OrderLines.{line_count_of}
 
 -- the state without orders
 abbrev pub no_orders : State
 no_orders = empty_state MAPS LEVELS
-
--- the committed entries of fronts, one front after another
-abbrev pub committed_of : List Front → List Entry
-committed_of fronts = flat_map committed_in fronts
-
--- each front is decided, and legal from the state that those before it leave
-abbrev pub AreDecidedAndLegal : State → List Front → Type 0
-AreDecidedAndLegal start [] = Unit {0}
-AreDecidedAndLegal start (f ∷ fs) = LegalFrom start f × AllDecided f.known × AreDecidedAndLegal (replay_of start f) fs
-
-abbrev pub tags_of : List Entry → List ℕ
-tags_of es = map (λ (e : Entry). e.tag) es
 
 -- the commands that tags name
 abbrev pub commands_of : List (List Command) → List ℕ → List Command

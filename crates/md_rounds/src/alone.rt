@@ -1,15 +1,15 @@
 //! The whole script of one caller, in one round.
 
-ghost use Rattle.std.specs.Prelude.{◌≡◌, ◌<◌, ◌+◌, ◌^◌, ◌∷◌, [], length, IfOk};
+ghost use Rattle.std.specs.Prelude.{◌≡◌, ◌∷◌, [], length, IfOk};
 ghost use Rattle.md_history.specs.Engine.{empty_front};
 ghost use Rattle.md_book.specs.Book.{Book};
 ghost use Rattle.md_book.specs.Stands.{StandsFor};
 ghost use Rattle.md_many.specs.Lines.{StopsForMemory};
-ghost use Rattle.md_rounds.specs.Kept.{AllSuit, with_replies};
 ghost use Rattle.md_rounds.specs.Replay.{IsPlayed, no_orders};
 
+use crate::kept::keep;
 use crate::order_lines::OrderLines;
-use md_book::{BookReply, commands_meet_the_book, empty_book_stands, replies_suit};
+use md_book::{commands_meet_the_book, empty_book_stands, replies_suit};
 use md_history::{Contents, Engine, Front, pass_is_legal};
 use md_many::{FreeGate, Turn, attempt_lines};
 use md_orders::{Replies, Scripts, commands_are_named};
@@ -25,21 +25,6 @@ pub struct Played<P> {
     pub replies: Replies,
     pub contents: Contents,
     pub front: Front<P>,
-}
-
-// Keeps the replies of the one caller's lines that come after the first `done`.
-fn keep(replies: &mut Replies, done: u32, batch: &[BookReply])
-    requires suit { AllSuit replies.old.scripts 1 done batch.now }
-    requires few { done + length batch.now < 2 ^ 32 }
-    ensures { replies.new ≡ record replies.old {
-      replies = with_replies replies.old.replies 1 done batch.now;
-    } }
-{
-    let mut line = done;
-    'replies: for reply in batch {
-        line += 1;
-        replies.set(1, line, *reply);
-    }
 }
 
 /// Plays the script of one caller over an engine without orders, in one round, and closes the
@@ -79,7 +64,7 @@ pub fn play_alone<E: Engine>(
         };
         attempt_lines(&engine, &mut pass, &lines, turn, &FreeGate, &mut batch)?;
         pass_is_legal(&engine, &pass);
-        keep(&mut replies, done, &batch);
+        keep(&mut replies, 1, done, &batch);
         done += batch.len() as u32;
         batch.clear();
     }

@@ -1,12 +1,15 @@
 //! Callers that play order commands over any store, and what their rounds come to.
 #![tactic(auto)]
 
+mod all;
 mod alone;
+mod kept;
 mod limits;
 mod order_lines;
 #[cfg(test)]
 mod tests;
 
+pub use all::{Outcome, run_all};
 pub use alone::{Played, play_alone};
 pub use limits::limits_hold;
 pub use md_many::{FreeGate, Gate};

@@ -1,11 +1,16 @@
 //! The commands of scripts as the lines of callers.
 
 ghost use Rattle.std.specs.Prelude.{length};
+ghost use Rattle.std.specs.Option.{IsSomeAnd};
+ghost use Rattle.md_book.specs.Suits.{Suits};
+ghost use Rattle.md_book.specs.Meets.{command_bounds};
 ghost use Rattle.md_orders.specs.Scripts.{at_line};
 ghost use Rattle.md_rounds.specs.OrderLines.{line_count_of, has-line, no-lines};
+ghost use Rattle.md_rounds.specs.Replay.{no_orders};
+ghost use Rattle.md_rounds.specs.Traded.{HasTraded, MOST_NODES};
 
 use md_book::Command;
-use md_many::Lines;
+use md_many::{LawfulLines, Lines};
 use md_orders::Scripts;
 
 /// The commands of scripts, each a caller's line.
@@ -38,4 +43,17 @@ impl Lines for OrderLines<'_> {
     ghost has_body = { λ l caller line. has-line l.scripts.now caller line };
 
     ghost has_caller = { λ l caller other. no-lines l.scripts.now caller other };
+}
+
+impl LawfulLines for OrderLines<'_> {
+    ghost opening = { λ l. no_orders };
+
+    ghost good = { λ l s tags. HasTraded l.scripts.now s tags };
+
+    ghost suits = { λ l caller line r.
+        IsSomeAnd (at_line l.scripts.now caller line) (λ c. Suits (c, r)) };
+
+    ghost cost = { λ l. command_bounds };
+
+    ghost most = { λ l. MOST_NODES };
 }

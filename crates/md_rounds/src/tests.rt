@@ -2,9 +2,11 @@
 
 ghost use Rattle.std.specs.Prelude.{◌≡◌, length, IfOk};
 
+use crate::all::run_all;
 use crate::alone::play_alone;
 use md_book::{BookReply, DEPTHS, LEVELS, MAPS, MAX_PARTS, Part, order_name};
 use md_history::{Contents, PlainStore};
+use md_many::FreeGate;
 use md_orders::{Scripts, read_orders};
 use md_words::limits::{MAX_MAPS, MAX_QUEUES};
 use std::alloc::{AllocError, Global};
@@ -100,5 +102,25 @@ fn the_largest_contents(rt: HostRuntime) -> Result<(), Fail> {
     let contents = Contents::empty(rt.alloc(), MAX_MAPS, MAX_QUEUES)?;
     assert_eq!(rt; contents.maps().len(), 16);
     assert_eq!(rt; contents.queues().len(), 4_096);
+    Ok(())
+}
+
+// The rounds of one caller, over many more lines than a round has room for, give the replies that
+// playing alone gives.
+#[test]
+fn one_caller_in_rounds(rt: HostRuntime) -> Result<(), Fail> {
+    let alloc = rt.alloc();
+    let text = cycles(alloc, 1_000)?;
+    let scripts = script_of(alloc, text.as_str())?;
+    let (store, pass) = PlainStore::open(Contents::empty(alloc, MAPS, LEVELS)?);
+    let played = run_all(&rt, alloc, store, pass, &scripts, 1_000_000, &FreeGate)?;
+    for cycle in 0..1_000_u32 {
+        let first = cycle.saturating_mul(7).saturating_add(1);
+        for (place, want) in replies_of(first, cycle).iter().enumerate() {
+            let line = first.saturating_add(place as u32);
+            assert_eq!(rt; played.replies.get(1, line), Some(*want), "at {line}");
+        }
+    }
+    assert_eq!(rt; played.fronts.len(), 1);
     Ok(())
 }

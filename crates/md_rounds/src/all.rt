@@ -1,0 +1,77 @@
+//! The scripts of all callers, in rounds.
+
+ghost use Rattle.std.specs.Prelude.{◌≡◌, ◌≤◌, ◌<◌, ℕ, length, map, IfOk, OnOk};
+ghost use Rattle.md_history.specs.Counts.{AllowAll};
+ghost use Rattle.md_history.specs.Engine.{bounds_in};
+ghost use Rattle.md_book.specs.Book.{Book};
+ghost use Rattle.md_book.specs.Meets.{command_bounds};
+ghost use Rattle.md_book.specs.Stands.{StandsFor};
+ghost use Rattle.md_rounds.specs.OrderLines.{line_count_of};
+ghost use Rattle.md_rounds.specs.Replay.{IsPlayed, no_orders};
+ghost use Rattle.md_rounds.specs.Traded.{MOST_NODES};
+
+use crate::kept::KeptReplies;
+use crate::order_lines::OrderLines;
+use md_book::{commands_are_small, commands_meet_the_book, empty_book_stands, replies_suit};
+use md_history::{Contents, Engine, Front};
+use md_many::{Gate, play_rounds};
+use md_orders::{Replies, Scripts, commands_are_named};
+use std::alloc::{AllocError, Global};
+use std::thread::Threads;
+
+/// What the playing of all scripts leaves: the replies of the lines, the contents, and the fronts
+/// of the engines in order, one for each renewal and one for the end.
+#[derive(Drop)]
+pub struct Outcome<P> {
+    pub replies: Replies,
+    pub contents: Contents,
+    pub fronts: Vec<Front<P>>,
+}
+
+/// Plays the scripts of all callers over an engine without orders, in rounds, and closes the
+/// engine. The pass is fresh, and holds all lanes, one for each caller. A caller makes at most
+/// `tries` attempts in a turn. `play_rounds` of md_many says what a round is.
+///
+/// `AllocError` if memory runs out, here or in an attempt of the engine; then the engine has ended.
+pub fn run_all<R, E, G>(
+    rt: &R,
+    alloc: Global,
+    engine: E,
+    pass: E::Pass,
+    scripts: &Scripts,
+    tries: u32,
+    gate: &G,
+) -> Result<Outcome<E::Pass>, AllocError>
+where
+    R: Threads + Sync,
+    E: Engine,
+    G: Gate + Sync,
+    requires of { E.of engine pass }
+    requires fresh { E.fresh engine pass }
+    requires lanes { length (E.lanes engine) ≡ length scripts.now }
+    requires start { E.start engine ≡ no_orders }
+    requires bounds { AllowAll command_bounds (bounds_in (E.limits engine)) }
+    requires tries { 1 ≤ (E.limits engine).tries }
+    requires room { MOST_NODES ≤ (E.limits engine).room }
+    ensures played { IfOk result (λ o. (book : Book) × StandsFor o.contents book
+        × IsPlayed scripts.now (map E.front o.fronts.items) o.replies.replies book) }
+    ensures gate { OnOk result ((caller line : ℕ) → 1 ≤ line
+        → line ≤ line_count_of scripts.now caller → G.after_called gate.now caller line) }
+{
+    commands_meet_the_book();
+    commands_are_small();
+    empty_book_stands();
+    replies_suit();
+    commands_are_named(scripts);
+    let _ = scripts.total();
+    let lines = OrderLines { scripts };
+    let mut keeper = KeptReplies {
+        replies: Replies::empty(alloc, scripts)?,
+    };
+    let rounds = play_rounds(rt, alloc, engine, pass, &lines, tries, gate, &mut keeper)?;
+    Ok(Outcome {
+        replies: keeper.replies,
+        contents: rounds.contents,
+        fronts: rounds.fronts,
+    })
+}

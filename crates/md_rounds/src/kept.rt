@@ -1,0 +1,60 @@
+//! Replies that are put where they are kept.
+
+ghost use Rattle.std.specs.Prelude.{◌≡◌, ◌≢◌, ◌<◌, ◌+◌, ◌++◌, ◌^◌, ℕ, List, length, OnOk};
+ghost use Rattle.std.specs.Option.{IsSomeAnd};
+ghost use Rattle.md_book.specs.declared.commands.BookReply.{BookReply};
+ghost use Rattle.md_book.specs.Suits.{Suits};
+ghost use Rattle.md_orders.specs.Scripts.{at_line};
+ghost use Rattle.md_rounds.specs.Kept.{AllSuit, HasReplies, with_replies};
+
+use md_book::BookReply;
+use md_many::Keeper;
+use md_orders::Replies;
+use std::alloc::AllocError;
+
+// Keeps the replies of a caller's lines that come after its first `done`. It takes no memory.
+pub(crate) fn keep(replies: &mut Replies, caller: u32, done: u32, batch: &[BookReply])
+    requires suit { AllSuit replies.old.scripts caller done batch.now }
+    requires few { done + length batch.now < 2 ^ 32 }
+    ensures { replies.new ≡ record replies.old {
+      replies = with_replies replies.old.replies caller done batch.now;
+    } }
+{
+    let mut line = done;
+    'replies: for reply in batch {
+        line += 1;
+        replies.set(caller, line, *reply);
+    }
+}
+
+// The places of replies, as the keeper of rounds. It takes no memory.
+#[derive(Drop)]
+pub(crate) struct KeptReplies {
+    pub(crate) replies: Replies,
+}
+
+impl Keeper<BookReply> for KeptReplies {
+    ghost can_keep = { λ k caller line r.
+        IsSomeAnd (at_line k.replies.scripts caller line) (λ c. Suits (c, r)) };
+
+    ghost keeps = { λ k caller rs. HasReplies k.replies.scripts k.replies.replies caller rs };
+
+    fn keep(&mut self, caller: u32, done: u32, replies: Vec<BookReply>) -> Result<(), AllocError>
+        requires suit { AllSuit self.old.replies.scripts caller done replies.items }
+        requires few { done + length replies.items < 2 ^ 32 }
+        ensures can_keep { (other line : ℕ) (r : BookReply)
+            → IsSomeAnd (at_line self.old.replies.scripts other line) (λ c. Suits (c, r))
+            → IsSomeAnd (at_line self.new.replies.scripts other line) (λ c. Suits (c, r)) }
+        ensures kept { (rs : List BookReply)
+            → HasReplies self.old.replies.scripts self.old.replies.replies caller rs
+            → length rs ≡ done
+            → OnOk result (HasReplies self.new.replies.scripts self.new.replies.replies caller
+            (rs ++ replies.items)) }
+        ensures others { (other : ℕ) (rs : List BookReply) → other ≢ caller
+            → HasReplies self.old.replies.scripts self.old.replies.replies other rs
+            → OnOk result (HasReplies self.new.replies.scripts self.new.replies.replies other rs) }
+    {
+        keep(&mut self.replies, caller, done, &replies);
+        Ok(())
+    }
+}
