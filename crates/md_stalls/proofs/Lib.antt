@@ -1,0 +1,4 @@
+mod First
+mod Trails
+mod Slots
+mod Looking

@@ -1,0 +1,205 @@
+//! Transactions stall in the cell's word, and others go on: alone, and on two and four threads.
+
+ghost use Rattle.std.specs.Prelude.{◌≡◌, ◌+◌, ◌<◌, ◌≤◌, None};
+ghost use Rattle.md_rule.specs.Views.{IsOf};
+
+use crate::{Met, meet, stall};
+use md_cell::CellTheory;
+use md_help::{Cleared, End};
+use md_machine::step::LAST_COUNT;
+use md_rule::{Field, Pass};
+use md_tickets::{dispenser, renew, ticket_word};
+use md_words::{Content, Shape};
+use std::test::Fail;
+use std::thread::{Threads, join};
+
+const TURNS: u32 = 20000;
+
+// Of how many turns a transaction stalls at one, as long as a lane has its first attempt.
+const STALLS: u32 = 500;
+
+// How many installs and how many plain exchanges won.
+#[derive(Clone, Copy)]
+struct Won {
+    installs: u32,
+    exchanges: u32,
+}
+
+// One turn: a descriptor that stands in the word is cleared. Else a transaction stalls there, or
+// the word is exchanged.
+fn turn(field: &Field<CellTheory>, pass: &mut Pass<CellTheory>, turn: u32, won: &mut Won)
+    requires field { IsOf pass.old field.now }
+    requires idle { pass.old.view.hand ≡ None }
+    requires room { (won.old.installs ≤ turn) × (won.old.exchanges ≤ turn) }
+    requires few { turn < 20000 }
+    ensures field { IsOf pass.new field.now }
+    ensures idle { pass.new.view.hand ≡ None }
+    ensures room { (won.new.installs ≤ turn + 1) × (won.new.exchanges ≤ turn + 1) }
+{
+    let Met::Plain(found) = meet(field, pass) else {
+        return;
+    };
+    if found.count > LAST_COUNT {
+        return;
+    }
+    if turn % STALLS == 0 {
+        if let Some(true) = stall(field, pass, found, turn) {
+            won.installs += 1;
+        }
+    } else if renew(field, pass, found).is_ok() {
+        won.exchanges += 1;
+    }
+}
+
+// What a thread does with a pass of its own.
+fn turns(
+    field: &Field<CellTheory>,
+    mut pass: Pass<CellTheory>,
+    count: u32,
+) -> (Won, Pass<CellTheory>)
+    requires field { IsOf pass field.now }
+    requires idle { pass.view.hand ≡ None }
+    requires few { count ≤ 20000 }
+    ensures field { IsOf result.1 field.now }
+    ensures idle { result.1.view.hand ≡ None }
+    ensures few { (result.0.installs ≤ 20000) × (result.0.exchanges ≤ 20000) }
+{
+    let mut won = Won {
+        installs: 0,
+        exchanges: 0,
+    };
+    for i in 0..count {
+        turn(field, &mut pass, i, &mut won);
+    }
+    (won, pass)
+}
+
+// Two threads take their turns, and their passes are joined.
+fn turns_of_two<R: Threads + Sync>(
+    rt: &R,
+    field: &Field<CellTheory>,
+    one: Pass<CellTheory>,
+    other: Pass<CellTheory>,
+) -> (Won, Pass<CellTheory>)
+    requires one { IsOf one field.now × (one.view.hand ≡ None) }
+    requires other { IsOf other field.now × (other.view.hand ≡ None) }
+    ensures field { IsOf result.1 field.now }
+    ensures idle { result.1.view.hand ≡ None }
+    ensures few { (result.0.installs ≤ 40000) × (result.0.exchanges ≤ 40000) }
+{
+    let ((first, mut pass), (second, rest)) = join(
+        rt,
+        || turns(field, one, TURNS),
+        || turns(field, other, TURNS),
+    );
+    pass.join(field, rest);
+    let won = Won {
+        installs: first.installs + second.installs,
+        exchanges: first.exchanges + second.exchanges,
+    };
+    (won, pass)
+}
+
+// What stands in the word after whatever stood there was cleared.
+fn left(field: &Field<CellTheory>, pass: &mut Pass<CellTheory>) -> Met
+    requires field { IsOf pass.old field.now }
+    requires idle { pass.old.view.hand ≡ None }
+    ensures field { IsOf pass.new field.now }
+{
+    match meet(field, pass) {
+        Met::Plain(found) => Met::Plain(found),
+        Met::Cleared(_) => meet(field, pass),
+    }
+}
+
+// How many descriptors have an aborted attempt. The others' were never met by anybody.
+fn aborted(field: &Field<CellTheory>, pass: &mut Pass<CellTheory>) -> Option<u32>
+    requires field { IsOf pass.old field.now }
+    ensures field { IsOf pass.new field.now }
+{
+    let mut aborted = 0;
+    for lane in 0..field.shape().lanes {
+        match pass.load(field, field.shape().status(lane)) {
+            0 => {}
+            3 => aborted += 1,
+            _ => return None,
+        }
+    }
+    Some(aborted)
+}
+
+#[test]
+fn a_transaction_that_stalls_is_aborted_and_taken_out(rt: HostRuntime) -> Result<(), Fail> {
+    let shape = Shape::new(2, 16, 1, 4, 1, 64, 1)?;
+    let (field, mut a) = dispenser(rt.alloc(), shape)?;
+    let mut b = a.split(&field).expect(&rt, "two lanes");
+    let word = ticket_word(&field);
+    assert_eq!(rt; word, 1);
+    let found = Content { value: 0, count: 0 };
+    assert_eq!(rt; stall(&field, &mut a, found, 7), Some(true));
+    assert_eq!(rt; a.load(&field, 423), 1);
+    assert_eq!(rt; a.load(&field, 424), 0);
+    assert_eq!(rt; a.load(&field, 425), 7);
+    assert_eq!(rt; a.load(&field, word), 1);
+    let cleared = Cleared {
+        end: End::Aborted,
+        left: 2,
+    };
+    assert_eq!(rt; meet(&field, &mut b), Met::Cleared(cleared));
+    assert_eq!(rt; b.load(&field, 166), 3);
+    assert_eq!(rt; b.load(&field, word), 2);
+    Ok(())
+}
+
+#[test]
+fn a_pass_alone_clears_each_stalled_transaction(rt: HostRuntime) -> Result<(), Fail> {
+    let shape = Shape::new(4, 1, 0, 1, 1, 1, 0)?;
+    let (field, pass) = dispenser(rt.alloc(), shape)?;
+    let (won, mut pass) = turns(&field, pass, TURNS);
+    assert_eq!(rt; won.installs, 4);
+    assert_eq!(rt; aborted(&field, &mut pass), Some(4));
+    let count = 2 * (won.installs + won.exchanges);
+    assert_eq!(rt;
+        left(&field, &mut pass),
+        Met::Plain(Content { value: 0, count })
+    );
+    Ok(())
+}
+
+#[test]
+fn two_threads_clear_stalled_transactions(rt: HostRuntime) -> Result<(), Fail> {
+    let shape = Shape::new(64, 1, 0, 1, 1, 1, 0)?;
+    let (field, mut one) = dispenser(rt.alloc(), shape)?;
+    let other = one.split(&field).expect(&rt, "64 lanes");
+    let (won, mut pass) = turns_of_two(&rt, &field, one, other);
+    let count = 2 * (won.installs + won.exchanges);
+    assert_eq!(rt;
+        left(&field, &mut pass),
+        Met::Plain(Content { value: 0, count })
+    );
+    assert_eq!(rt; aborted(&field, &mut pass), Some(won.installs));
+    Ok(())
+}
+
+#[test]
+fn four_threads_clear_stalled_transactions(rt: HostRuntime) -> Result<(), Fail> {
+    let shape = Shape::new(64, 1, 0, 1, 1, 1, 0)?;
+    let (field, mut a) = dispenser(rt.alloc(), shape)?;
+    let mut c = a.split(&field).expect(&rt, "64 lanes");
+    let b = a.split(&field).expect(&rt, "32 lanes");
+    let d = c.split(&field).expect(&rt, "32 lanes");
+    let ((first, mut pass), (second, rest)) = join(
+        &rt,
+        || turns_of_two(&rt, &field, a, b),
+        || turns_of_two(&rt, &field, c, d),
+    );
+    pass.join(&field, rest);
+    let installs = first.installs + second.installs;
+    let count = 2 * (installs + first.exchanges + second.exchanges);
+    assert_eq!(rt;
+        left(&field, &mut pass),
+        Met::Plain(Content { value: 0, count })
+    );
+    assert_eq!(rt; aborted(&field, &mut pass), Some(installs));
+    Ok(())
+}
