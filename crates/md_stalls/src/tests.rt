@@ -1,6 +1,8 @@
 //! Transactions stall in the cell's word, and others go on: alone, and on two and four threads.
 
-ghost use Rattle.std.specs.Prelude.{◌≡◌, ◌+◌, ◌<◌, ◌≤◌, None};
+ghost use Rattle.std.specs.Prelude.{◌≡◌, ◌+◌, ◌<◌, ◌≤◌, IfSome, None, true};
+ghost use Rattle.md_words.specs.Content.{is_even};
+ghost use Rattle.md_machine.specs.declared.step.TheConstants.{LAST_COUNT};
 ghost use Rattle.md_rule.specs.Views.{IsOf};
 
 use crate::{Met, meet, stall};
@@ -25,6 +27,37 @@ struct Won {
     exchanges: u32,
 }
 
+// The content of the word, unless a descriptor stood there, which is cleared then, or it may not be
+// changed any more.
+fn plain(field: &Field<CellTheory>, pass: &mut Pass<CellTheory>) -> Option<Content>
+    requires field { IsOf pass.old field.now }
+    requires idle { pass.old.view.hand ≡ None }
+    ensures field { IsOf pass.new field.now }
+    ensures idle { pass.new.view.hand ≡ None }
+    ensures some { IfSome result (λ found. (is_even found.count ≡ true)
+        × (found.count ≤ LAST_COUNT)) }
+{
+    let Met::Plain(found) = meet(field, pass) else {
+        return None;
+    };
+    if found.count > LAST_COUNT {
+        return None;
+    }
+    Some(found)
+}
+
+// Whether a plain exchange of the content won.
+fn renewed(field: &Field<CellTheory>, pass: &mut Pass<CellTheory>, found: Content) -> bool
+    requires field { IsOf pass.old field.now }
+    requires idle { pass.old.view.hand ≡ None }
+    requires even { is_even found.count ≡ true }
+    requires room { found.count ≤ LAST_COUNT }
+    ensures field { IsOf pass.new field.now }
+    ensures idle { pass.new.view.hand ≡ None }
+{
+    renew(field, pass, found).is_ok()
+}
+
 // One turn: a descriptor that stands in the word is cleared. Else a transaction stalls there, or
 // the word is exchanged.
 fn turn(field: &Field<CellTheory>, pass: &mut Pass<CellTheory>, turn: u32, won: &mut Won)
@@ -36,17 +69,14 @@ fn turn(field: &Field<CellTheory>, pass: &mut Pass<CellTheory>, turn: u32, won: 
     ensures idle { pass.new.view.hand ≡ None }
     ensures room { (won.new.installs ≤ turn + 1) × (won.new.exchanges ≤ turn + 1) }
 {
-    let Met::Plain(found) = meet(field, pass) else {
+    let Some(found) = plain(field, pass) else {
         return;
     };
-    if found.count > LAST_COUNT {
-        return;
-    }
     if turn % STALLS == 0 {
         if let Some(true) = stall(field, pass, found, turn) {
             won.installs += 1;
         }
-    } else if renew(field, pass, found).is_ok() {
+    } else if renewed(field, pass, found) {
         won.exchanges += 1;
     }
 }
@@ -119,7 +149,8 @@ fn aborted(field: &Field<CellTheory>, pass: &mut Pass<CellTheory>) -> Option<u32
 {
     let mut aborted = 0;
     for lane in 0..field.shape().lanes {
-        match pass.load(field, field.shape().status(lane)) {
+        let desc = field.shape().desc_of(lane);
+        match pass.load(field, field.shape().status(desc)) {
             0 => {}
             3 => aborted += 1,
             _ => return None,
@@ -128,25 +159,39 @@ fn aborted(field: &Field<CellTheory>, pass: &mut Pass<CellTheory>) -> Option<u32
     Some(aborted)
 }
 
+// The words of the slot 0 of the descriptor 0, and what they hold.
+fn slot(field: &Field<CellTheory>, pass: &mut Pass<CellTheory>) -> [(u32, u64); 3]
+    requires field { IsOf pass.old field.now }
+    ensures same { pass.new ≡ record pass.old { view = pass.new.view } }
+{
+    let desc = field.shape().desc_of(0);
+    let word = field.shape().slot_word(desc, 0);
+    let old = field.shape().slot_old(desc, 0);
+    let new = field.shape().slot_new(desc, 0);
+    [
+        (word, pass.load(field, word)),
+        (old, pass.load(field, old)),
+        (new, pass.load(field, new)),
+    ]
+}
+
 #[test]
 fn a_transaction_that_stalls_is_aborted_and_taken_out(rt: HostRuntime) -> Result<(), Fail> {
     let shape = Shape::new(2, 16, 1, 4, 1, 64, 1)?;
     let (field, mut a) = dispenser(rt.alloc(), shape)?;
     let mut b = a.split(&field).expect(&rt, "two lanes");
-    let word = ticket_word(&field);
-    assert_eq!(rt; word, 1);
-    let found = Content { value: 0, count: 0 };
+    let found = plain(&field, &mut a).expect(&rt, "no descriptor");
     assert_eq!(rt; stall(&field, &mut a, found, 7), Some(true));
-    assert_eq!(rt; a.load(&field, 423), 1);
-    assert_eq!(rt; a.load(&field, 424), 0);
-    assert_eq!(rt; a.load(&field, 425), 7);
-    assert_eq!(rt; a.load(&field, word), 1);
+    assert_eq!(rt; slot(&field, &mut a), [(423, 1), (424, 0), (425, 7)]);
+    let word = ticket_word(&field);
+    assert_eq!(rt; (word, a.load(&field, word)), (1, 1));
     let cleared = Cleared {
         end: End::Aborted,
         left: 2,
     };
     assert_eq!(rt; meet(&field, &mut b), Met::Cleared(cleared));
-    assert_eq!(rt; b.load(&field, 166), 3);
+    let status = field.shape().status(field.shape().desc_of(0));
+    assert_eq!(rt; (status, b.load(&field, status)), (166, 3));
     assert_eq!(rt; b.load(&field, word), 2);
     Ok(())
 }
@@ -157,12 +202,12 @@ fn a_pass_alone_clears_each_stalled_transaction(rt: HostRuntime) -> Result<(), F
     let (field, pass) = dispenser(rt.alloc(), shape)?;
     let (won, mut pass) = turns(&field, pass, TURNS);
     assert_eq!(rt; won.installs, 4);
-    assert_eq!(rt; aborted(&field, &mut pass), Some(4));
     let count = 2 * (won.installs + won.exchanges);
     assert_eq!(rt;
         left(&field, &mut pass),
         Met::Plain(Content { value: 0, count })
     );
+    assert_eq!(rt; aborted(&field, &mut pass), Some(4));
     Ok(())
 }
 
