@@ -12,6 +12,7 @@ use Rattle.md_words.specs.Layout.{address, desc_count}
 use Rattle.md_words.specs.Place.{desc_status}
 use Rattle.md_words.specs.declared.status.StatusWord.{StatusWord}
 use Rattle.md_words.specs.Status.{reads_of, serial_of, status_of, status_parts}
+use Rattle.md_history.specs.Front.{AllStay}
 use Rattle.md_machine.specs.declared.pass.PassView.{PassView}
 use Rattle.md_machine.specs.declared.step.Kind.{Kind}
 use Rattle.md_machine.specs.declared.step.Kind.TheVariants.{Abort, Commit}
@@ -33,7 +34,7 @@ use Rattle.md_help.specs.Reads.{FindsRead, Validated}
 use Rattle.md_help.specs.Settles.{IsReached, MetStatus}
 use Rattle.md_help.proofs.Numbers.{formats_of}
 use Rattle.md_help.proofs.Reading.{finds_right}
-use Rattle.md_help.proofs.Steps.{Made, made, trail_after}
+use Rattle.md_help.proofs.Steps.{Made, known_stays, made, trail_after}
 
 -- what was met is still met after more steps
 abbrev pub met_after : (shape : Shape) (steps : List Step) (p q : PassView) (desc status : ℕ) → IsAfter shape steps p q → MetStatus shape p desc status → MetStatus shape q desc status
@@ -121,29 +122,31 @@ module _ (M : Meaning) (o : Origin) where
   pub may_abort : (view : PassView) (desc from : ℕ) → MayAbort o.shape view desc from → May M o (λ pass. abort pass desc from) view
   may_abort view desc from may m a pass acts = (after_abort m pass view desc from, (view, acts, subst (λ (s : Shape). MayAbort s view desc from) (sym a.shape) may, refl))
 
-  pub won_exchange : (m : Machine) (kind : Kind) (word from to : ℕ) (p q : PassView) → shape_of m ≡ o.shape → content m word ≡ from → q ≡ exchanged m p kind word from to → Made o.shape kind word from to p q
-  won_exchange m kind word from to p q same is e =
-      made o.shape m kind word from to p q same is (e ∙ ap (λ b. stepped m p kind word (either b to (content m word))) (eq-eqb (content m word) from is))
+  pub won_exchange : (m : Machine) (kind : Kind) (word from to : ℕ) (p q : PassView) → shape_of m ≡ o.shape → content m word ≡ from → q ≡ exchanged m p kind word from to
+      → (q.lanes ≡ p.lanes → AllStay p.known q.known) → Made o.shape kind word from to p q
+  won_exchange m kind word from to p q same is e stays =
+      made o.shape m kind word from to p q same is (e ∙ ap (λ b. stepped m p kind word (either b to (content m word))) (eq-eqb (content m word) from is)) stays
 
-  pub lost_exchange : (m : Machine) (kind : Kind) (word from to held : ℕ) (p q : PassView) → shape_of m ≡ o.shape → content m word ≡ held → held ≢ from → q ≡ exchanged m p kind word from to → Made o.shape kind word held held p q
-  lost_exchange m kind word from to held p q same is apart e =
-      made o.shape m kind word held held p q same is (e ∙ ap (λ b. stepped m p kind word (either b to (content m word))) (ne_eqb (content m word) from (λ f. apart (sym is ∙ f))) ∙ ap (stepped m p kind word) is)
+  pub lost_exchange : (m : Machine) (kind : Kind) (word from to held : ℕ) (p q : PassView) → shape_of m ≡ o.shape → content m word ≡ held → held ≢ from → q ≡ exchanged m p kind word from to
+      → (q.lanes ≡ p.lanes → AllStay p.known q.known) → Made o.shape kind word held held p q
+  lost_exchange m kind word from to held p q same is apart e stays =
+      made o.shape m kind word held held p q same is (e ∙ ap (λ b. stepped m p kind word (either b to (content m word))) (ne_eqb (content m word) from (λ f. apart (sym is ∙ f))) ∙ ap (stepped m p kind word) is) stays
 
   pub commit_won : (desc from : ℕ) (p q : PassView) → let word = address o.shape (desc_status desc) in SteppedFrom M o (λ pass. commit pass desc from) word from p q → Made o.shape Commit word from (decided_word Committed from) p q
   commit_won desc from p q (s, is) = won_exchange s.machine Commit (address o.shape (desc_status desc)) from (decided_word Committed from) p q s.admitted.shape is
-      (subst (λ (h : Shape). q ≡ exchanged s.machine p Commit (address h (desc_status desc)) from (decided_word Committed from)) s.admitted.shape (told_commit M o p q desc from s).1)
+      (subst (λ (h : Shape). q ≡ exchanged s.machine p Commit (address h (desc_status desc)) from (decided_word Committed from)) s.admitted.shape (told_commit M o p q desc from s).1) (known_stays M o (λ pass. commit pass desc from) p q s)
 
   pub commit_lost : (desc from held : ℕ) (p q : PassView) → let word = address o.shape (desc_status desc) in held ≢ from → SteppedFrom M o (λ pass. commit pass desc from) word held p q → Made o.shape Commit word held held p q
   commit_lost desc from held p q apart (s, is) = lost_exchange s.machine Commit (address o.shape (desc_status desc)) from (decided_word Committed from) held p q s.admitted.shape is apart
-      (subst (λ (h : Shape). q ≡ exchanged s.machine p Commit (address h (desc_status desc)) from (decided_word Committed from)) s.admitted.shape (told_commit M o p q desc from s).1)
+      (subst (λ (h : Shape). q ≡ exchanged s.machine p Commit (address h (desc_status desc)) from (decided_word Committed from)) s.admitted.shape (told_commit M o p q desc from s).1) (known_stays M o (λ pass. commit pass desc from) p q s)
 
   pub abort_won : (desc from : ℕ) (p q : PassView) → let word = address o.shape (desc_status desc) in SteppedFrom M o (λ pass. abort pass desc from) word from p q → Made o.shape Abort word from (decided_word Aborted from) p q
   abort_won desc from p q (s, is) = won_exchange s.machine Abort (address o.shape (desc_status desc)) from (decided_word Aborted from) p q s.admitted.shape is
-      (subst (λ (h : Shape). q ≡ exchanged s.machine p Abort (address h (desc_status desc)) from (decided_word Aborted from)) s.admitted.shape (told_abort M o p q desc from s).1)
+      (subst (λ (h : Shape). q ≡ exchanged s.machine p Abort (address h (desc_status desc)) from (decided_word Aborted from)) s.admitted.shape (told_abort M o p q desc from s).1) (known_stays M o (λ pass. abort pass desc from) p q s)
 
   pub abort_lost : (desc from held : ℕ) (p q : PassView) → let word = address o.shape (desc_status desc) in held ≢ from → SteppedFrom M o (λ pass. abort pass desc from) word held p q → Made o.shape Abort word held held p q
   abort_lost desc from held p q apart (s, is) = lost_exchange s.machine Abort (address o.shape (desc_status desc)) from (decided_word Aborted from) held p q s.admitted.shape is apart
-      (subst (λ (h : Shape). q ≡ exchanged s.machine p Abort (address h (desc_status desc)) from (decided_word Aborted from)) s.admitted.shape (told_abort M o p q desc from s).1)
+      (subst (λ (h : Shape). q ≡ exchanged s.machine p Abort (address h (desc_status desc)) from (decided_word Aborted from)) s.admitted.shape (told_abort M o p q desc from s).1) (known_stays M o (λ pass. abort pass desc from) p q s)
 
   -- what a step on the status of a descriptor found came from what was met there before
   pub newer_came : (event : EventOf) (p q : PassView) (desc status newer : ℕ) → desc < desc_count o.shape → MetStatus o.shape p desc status → SteppedFrom M o event (address o.shape (desc_status desc)) newer p q → StatusCame status newer

@@ -11,7 +11,7 @@ use Rattle.md_words.specs.Status.{reads_of, serial_of, status_of}
 use Rattle.md_words.proofs.Words.{reads_of_below, serial_of-status_word, status_of-status_word}
 use Rattle.md_machine.specs.declared.pass.PassView.{PassView}
 use Rattle.md_machine.specs.declared.step.Kind.{Kind}
-use Rattle.md_machine.specs.declared.step.Kind.TheVariants.{Abort}
+use Rattle.md_machine.specs.declared.step.Kind.TheVariants.{Abort, Commit}
 use Rattle.md_machine.specs.declared.step.Step.{Step}
 use Rattle.md_machine.specs.Trail.{Finds, Meets, SomeStep, is_store}
 use Rattle.md_machine.specs.events.Decide.{decided_word}
@@ -52,7 +52,10 @@ module _ (shape : Shape) (desc : ℕ) where
       (All-cons (Same first) s [] (λ _. e) (All-nil (Same first)))
 
   -- reads were validated, and one exchange of the status was made
-  module _ (first reads more : ℕ) (stood : Bool) (kind : Kind) (held left : ℕ) (p q r : PassView) (v : Validated shape desc reads stood p q) (m : Made shape kind word held left q r) (none : is_store kind ≡ false) (fits : reads ≤ reads_of first) (some : 1 ≤ more) where
+  module _ (first reads more : ℕ) (stood : Bool) (kind : Kind) (held left : ℕ) (p q r : PassView) (v : Validated shape desc reads stood p q) (m : Made shape kind word held left q r) (decides : (kind ≡ Commit) ⊎ (kind ≡ Abort)) (fits : reads ≤ reads_of first) (some : 1 ≤ more) where
+    none : is_store kind ≡ false
+    none = ⊎_elim (ap is_store) (ap is_store) decides
+
     settled_by : (end : End) → Ends shape desc first (v.steps ++ m.step ∷ []) end → Settled shape desc first more end p r
     settled_by end ends = record {
       steps = v.steps ++ m.step ∷ [];
@@ -60,7 +63,7 @@ module _ (shape : Shape) (desc : ℕ) where
       few = (first, refl, inl refl, (let a = v.few in let l = length-append v.steps (m.step ∷ []) in omega (arith, a, l, fits, some)));
       changes = All-append (Decides shape desc) v.steps (m.step ∷ [])
           (All-weaker (LooksOn shape desc) (Decides shape desc) (λ x l. inl l.0) v.steps v.still)
-          (All-cons (Decides shape desc) m.step [] (inr m.there) (All-nil (Decides shape desc)));
+          (All-cons (Decides shape desc) m.step [] (inr (m.there, ⊎_elim (λ e. inl (m.is_kind ∙ e)) (λ e. inr (m.is_kind ∙ e)) decides)) (All-nil (Decides shape desc)));
       ends = ends;
     }
 
@@ -180,7 +183,7 @@ module _ (shape : Shape) (desc : ℕ) where
       steps = m.step ∷ s.steps;
       goes = both_after shape (m.step ∷ []) s.steps p q r m.goes s.goes;
       few = (s.few.0, s.few.1 ∙ same, found_before s.few.0 s.steps s.few.2, (let h = s.few.3 in omega (arith, h)));
-      changes = All-cons (Decides shape desc) m.step s.steps (inr m.there) s.changes;
+      changes = All-cons (Decides shape desc) m.step s.steps (inr (m.there, inr m.is_kind)) s.changes;
       ends = ends_before end s.steps same s.ends;
     }
 
@@ -189,7 +192,7 @@ module _ (shape : Shape) (desc : ℕ) where
       steps = m.step ∷ [];
       goes = subst (λ v. IsAfter shape (m.step ∷ []) p v) (sym e) m.goes;
       few = (old, refl, inl refl, omega arith);
-      changes = All-cons (Decides shape desc) m.step [] (inr m.there) (All-nil (Decides shape desc));
+      changes = All-cons (Decides shape desc) m.step [] (inr (m.there, inr m.is_kind)) (All-nil (Decides shape desc));
       ends = (new, other, (m.step, (0, omega arith, refl), found_new));
     }
 

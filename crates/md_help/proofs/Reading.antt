@@ -44,7 +44,7 @@ finds_right shape desc i stood a b f = record {
 }
 
 looks_on : (shape : Shape) (desc word held : ℕ) (p q : PassView) (m : Made shape Load word held held p q) → word ≢ address shape (desc_status desc) → LooksOn shape desc m.step
-looks_on shape desc word held p q m apart = (m.found ∙ sym m.left_it, λ e. apart (sym m.there ∙ e))
+looks_on shape desc word held p q m apart = ((m.is_kind, m.found ∙ sym m.left_it), λ e. apart (sym m.there ∙ e))
 
 -- three loads: of a read, of its content and of its word
 pub checked : (shape : Shape) (desc i word recorded found : ℕ) (stood : Bool) (p q r t : PassView)

@@ -1,8 +1,12 @@
 -- What a step leaves of a pass, and how the steps of two calls join.
 use Rattle.std.proofs.Common.{◌≡◌, ℕ, List, [], ◌∷◌, ◌++◌, refl, sym, ap, ◌∙◌, subst, append_assoc}
 use Rattle.std.proofs.lemmas.List.{append-nil}
+use Rattle.std.proofs.lemmas.List.Elements.{All-append, All-cons, All-nil, All-weaker}
 use Rattle.md_words.specs.declared.shape.Shape.{Shape}
+use Rattle.std.specs.List.{Contains}
 use Rattle.md_history.specs.declared.entries.Fate.{Fate}
+use Rattle.md_history.specs.Front.{AllStay}
+use Rattle.md_history.specs.FrontLaws.{all_stay-self, all_stay-trans}
 use Rattle.md_machine.specs.declared.attempt.HistoryEntry.{HistoryEntry}
 use Rattle.md_machine.specs.declared.node.PlacedNode.{PlacedNode}
 use Rattle.md_machine.specs.declared.pass.PassView.{PassView}
@@ -13,13 +17,18 @@ use Rattle.md_machine.specs.Event.{load}
 use Rattle.md_machine.specs.Machine.{Machine, content, shape_of}
 use Rattle.md_machine.specs.Meaning.{Meaning}
 use Rattle.md_machine.specs.Resolution.{always_nodes}
-use Rattle.md_machine.specs.Stepping.{known_after, step_of, stepped}
+use Rattle.md_machine.specs.Stepping.{attempt_in_hand, known_after, step_of, stepped}
 use Rattle.md_machine.specs.Trail.{Loads}
 use Rattle.md_rule.specs.Steps.{EventOf, Stepped, SteppedFrom}
 use Rattle.md_rule.specs.Views.{Origin}
 use Rattle.md_rule.proofs.Moves.{next_admitted}
+use Rattle.md_rule.proofs.Fronts.{told_front}
 use Rattle.md_rule.proofs.Told.{told_load}
 use Rattle.md_help.specs.After.{IsAfter, Stands, known_over}
+
+-- a step was made for what a pass has in hand
+abbrev pub IsFor : PassView → Step → Type 0
+IsFor p s = s.attempt ≡ attempt_in_hand p.hand
 
 -- a pass made one step of this kind on the word, which held one content before it and another after it
 pub record Made (shape : Shape) (kind : Kind) (word held left : ℕ) (before after : PassView) : Type 0 where
@@ -31,8 +40,8 @@ pub record Made (shape : Shape) (kind : Kind) (word held left : ℕ) (before aft
   pub left_it : step.after ≡ left
 
 pub made : (shape : Shape) (m : Machine) (kind : Kind) (word held left : ℕ) (before after : PassView) → shape_of m ≡ shape → content m word ≡ held → after ≡ stepped m before kind word left
-    → Made shape kind word held left before after
-made shape m kind word held left before after same is e =
+    → (after.lanes ≡ before.lanes → AllStay before.known after.known) → Made shape kind word held left before after
+made shape m kind word held left before after same is e stays =
     let s : Step = step_of m before kind word left in record {
       step = s;
       goes = (
@@ -42,6 +51,8 @@ made shape m kind word held left before after same is e =
           known = known_after sh before.seen s before.known;
           placed = before.placed ++ always_nodes m;
         }) same,
+        stays (ap (λ (x : PassView). x.lanes) e),
+        All-cons (IsFor before) s [] refl (All-nil (IsFor before)),
       );
       is_kind = refl;
       there = refl;
@@ -55,17 +66,19 @@ known_over-append shape seen (s ∷ a) b known = known_over-append shape seen a 
 
 -- the steps of two calls, one after another
 pub both_after : (shape : Shape) (a b : List Step) (p q r : PassView) → IsAfter shape a p q → IsAfter shape b q r → IsAfter shape (a ++ b) p r
-both_after shape a b p q r (n, e) (k, f) =
+both_after shape a b p q r (n, e, x, g) (k, f, y, h) =
     let v : List Step → List Fate → List PlacedNode → PassView = λ trail known placed. record p { trail = trail; known = known; placed = placed } in (
       n ++ k,
       f ∙ ap (λ (x : PassView). record x { trail = x.trail ++ b; known = known_over shape x.seen b x.known; placed = x.placed ++ k }) e
           ∙ ap (λ t. v t (known_over shape p.seen b (known_over shape p.seen a p.known)) ((p.placed ++ n) ++ k)) (append_assoc p.trail a b)
           ∙ ap (λ t. v (p.trail ++ (a ++ b)) t ((p.placed ++ n) ++ k)) (known_over-append shape p.seen a b p.known)
           ∙ ap (λ t. v (p.trail ++ (a ++ b)) (known_over shape p.seen (a ++ b) p.known) t) (append_assoc p.placed n k),
+      all_stay-trans p.known q.known r.known x y,
+      All-append (IsFor p) a b g (All-weaker (IsFor q) (IsFor p) (λ s is. is ∙ ap attempt_in_hand (ap (λ (x : PassView). x.hand) e)) b h),
     )
 
 pub none_after : (shape : Shape) (p : PassView) → IsAfter shape [] p p
-none_after shape p = ([], ap (λ t. record p { placed = t }) (sym (append-nil p.placed)) ∙ ap (λ t. record p { trail = t; placed = p.placed ++ [] }) (sym (append-nil p.trail)))
+none_after shape p = ([], ap (λ t. record p { placed = t }) (sym (append-nil p.placed)) ∙ ap (λ t. record p { trail = t; placed = p.placed ++ [] }) (sym (append-nil p.trail)), all_stay-self p.known, All-nil (IsFor p))
 
 pub trail_after : (shape : Shape) (steps : List Step) (p q : PassView) → IsAfter shape steps p q → q.trail ≡ p.trail ++ steps
 trail_after shape steps p q a = ap (λ (x : PassView). x.trail) a.1
@@ -74,6 +87,10 @@ pub load_finds : (shape : Shape) (word held left : ℕ) (p q : PassView) (m : Ma
 load_finds shape word held left p q m = record { kind = m.is_kind; finds = record { there = m.there; before = m.found; found = rw m.is_kind refl } }
 
 module _ (M : Meaning) (o : Origin) where
+  -- the fates that a pass knew stay over a step that leaves it its lanes
+  pub known_stays : (event : EventOf) (before after : PassView) → Stepped M o event before after → after.lanes ≡ before.lanes → AllStay before.known after.known
+  known_stays event before after s lanes = (told_front M o event before after s (λ lane c. subst (λ (l : List ℕ). Contains l lane) (sym lanes) c)).known
+
   -- a pass stands somewhere after a step
   pub stands_after : (event : EventOf) (before after : PassView) (s : Stepped M o event before after) → after.lanes ≡ before.lanes → Stands M o after
   stands_after event before after s lanes = record {
@@ -91,3 +108,4 @@ module _ (M : Meaning) (o : Origin) where
 
   pub made_load : (word held : ℕ) (before after : PassView) → SteppedFrom M o (λ pass. load pass word) word held before after → Made o.shape Load word held held before after
   made_load word held before after (s, is) = made o.shape s.machine Load word held held before after s.admitted.shape is (subst (λ n. after ≡ stepped s.machine before Load word n) is (told_load M o before after word s))
+      (known_stays (λ pass. load pass word) before after s)

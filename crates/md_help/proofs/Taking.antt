@@ -32,7 +32,7 @@ use Rattle.md_help.specs.Clears.{SawDecided, SawTwice, SlotLoaded, TakenOut, fat
 use Rattle.md_help.specs.Settles.{FindsOther}
 use Rattle.md_help.proofs.Deciding.{lost_exchange, won_exchange}
 use Rattle.md_help.proofs.Numbers.{formats_of}
-use Rattle.md_help.proofs.Steps.{Made, both_after, load_finds, trail_after}
+use Rattle.md_help.proofs.Steps.{Made, both_after, known_stays, load_finds, trail_after}
 
 -- the fate of an end that isn't Committed, and that of each is decided
 pub fate_else : (e : End) → e ≢ Committed → fate_of e ≡ IsAborted
@@ -100,10 +100,10 @@ module _ (M : Meaning) (o : Origin) where
   )
 
   pub uninstall_won : (word from value : ℕ) (p q : PassView) → SteppedFrom M o (λ pass. uninstall pass word from value) word from p q → Made o.shape Uninstall word from (uninstalled_word from value) p q
-  uninstall_won word from value p q (s, is) = won_exchange M o s.machine Uninstall word from (uninstalled_word from value) p q s.admitted.shape is (told_uninstall M o p q word from value s).1
+  uninstall_won word from value p q (s, is) = won_exchange M o s.machine Uninstall word from (uninstalled_word from value) p q s.admitted.shape is (told_uninstall M o p q word from value s).1 (known_stays M o (λ pass. uninstall pass word from value) p q s)
 
   pub uninstall_lost : (word from value held : ℕ) (p q : PassView) → held ≢ from → SteppedFrom M o (λ pass. uninstall pass word from value) word held p q → Made o.shape Uninstall word held held p q
-  uninstall_lost word from value held p q apart (s, is) = lost_exchange M o s.machine Uninstall word from (uninstalled_word from value) held p q s.admitted.shape is apart (told_uninstall M o p q word from value s).1
+  uninstall_lost word from value held p q apart (s, is) = lost_exchange M o s.machine Uninstall word from (uninstalled_word from value) held p q s.admitted.shape is apart (told_uninstall M o p q word from value s).1 (known_stays M o (λ pass. uninstall pass word from value) p q s)
 
   pub slot_fits : (word held desc j : ℕ) (p q : PassView) → IsInSet o.shape desc j → word ≡ address o.shape (slot_new desc j) → SteppedFrom M o (λ pass. load pass word) word held p q → held < 2 ^ 32
   slot_fits word held desc j p q inside at (s, is) =

@@ -1,7 +1,8 @@
 -- A pass after more steps.
-use Rattle.std.specs.Prelude.{◌≡◌, ℕ, List, [], ◌∷◌, ◌++◌}
+use Rattle.std.specs.Prelude.{◌≡◌, ℕ, List, [], ◌∷◌, ◌++◌, All}
 use Rattle.md_words.specs.declared.shape.Shape.{Shape}
 use Rattle.md_history.specs.declared.entries.Fate.{Fate}
+use Rattle.md_history.specs.Front.{AllStay}
 use Rattle.md_machine.specs.declared.attempt.HistoryEntry.{HistoryEntry}
 use Rattle.md_machine.specs.declared.node.PlacedNode.{PlacedNode}
 use Rattle.md_machine.specs.declared.pass.PassView.{PassView}
@@ -9,7 +10,7 @@ use Rattle.md_machine.specs.declared.step.Step.{Step}
 use Rattle.md_machine.specs.Event.{Acts}
 use Rattle.md_machine.specs.Machine.{Machine}
 use Rattle.md_machine.specs.Meaning.{Meaning}
-use Rattle.md_machine.specs.Stepping.{known_after}
+use Rattle.md_machine.specs.Stepping.{attempt_in_hand, known_after}
 use Rattle.md_rule.specs.Admitted.{Admitted}
 use Rattle.md_rule.specs.Views.{Origin}
 
@@ -18,14 +19,14 @@ abbrev pub known_over : Shape → List HistoryEntry → List Step → List Fate 
 known_over shape seen [] known = known
 known_over shape seen (s ∷ steps) known = known_over shape seen steps (known_after shape seen s known)
 
--- a pass made these steps, and nothing else of it changed: they stand last in its trail, it knows the fates that they
--- told, and it noted nodes
+-- a pass made these steps, and nothing else of it changed: they stand last in its trail and were made for what it has in
+-- hand, it knows the fates that they told beside those that it knew, and it noted nodes
 abbrev pub IsAfter : Shape → List Step → (before after : PassView) → Type 0
 IsAfter shape steps before after = (noted : List PlacedNode) × (after ≡ record before {
   trail = before.trail ++ steps;
   known = known_over shape before.seen steps before.known;
   placed = before.placed ++ noted;
-})
+}) × AllStay before.known after.known × All (λ s. s.attempt ≡ attempt_in_hand before.hand) steps
 
 -- a pass stands so in some machine of the field
 pub record Stands (M : Meaning) (o : Origin) (view : PassView) : Type 0 where

@@ -2,3 +2,4 @@ pub mod After
 pub mod Reads
 pub mod Settles
 pub mod Clears
+pub mod Owns

@@ -5,6 +5,7 @@ use Rattle.md_words.specs.Layout.{address}
 use Rattle.md_words.specs.Place.{desc_status, read_word, read_content}
 use Rattle.md_machine.specs.declared.pass.PassView.{PassView}
 use Rattle.md_machine.specs.declared.step.Step.{Step}
+use Rattle.md_machine.specs.declared.step.Kind.TheVariants.{Load}
 use Rattle.md_machine.specs.Trail.{Loads, SomeStep, read_stands}
 use Rattle.md_help.specs.After.{IsAfter}
 
@@ -23,9 +24,9 @@ abbrev pub FindsReads : Shape → (desc reads : ℕ) → Bool → List Step → 
 FindsReads shape desc reads true steps = (i : ℕ) → i < reads → FindsRead shape desc i true steps
 FindsReads shape desc reads false steps = (i : ℕ) × (i < reads) × FindsRead shape desc i false steps
 
--- the step changed nothing, and isn't on the descriptor's status
+-- the step is a load, changed nothing, and isn't on the descriptor's status
 abbrev pub LooksOn : Shape → (desc : ℕ) → Step → Type 0
-LooksOn shape desc s = (s.before ≡ s.after) × (s.word ≢ address shape (desc_status desc))
+LooksOn shape desc s = ((s.kind ≡ Load) × (s.before ≡ s.after)) × (s.word ≢ address shape (desc_status desc))
 
 -- a pass validated so many reads: three loads each at most
 pub record Validated (shape : Shape) (desc reads : ℕ) (stood : Bool) (before after : PassView) : Type 0 where

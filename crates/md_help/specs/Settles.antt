@@ -9,6 +9,7 @@ use Rattle.md_words.specs.Place.{desc_status}
 use Rattle.md_words.specs.Status.{reads_of, serial_of, status_of}
 use Rattle.md_machine.specs.declared.pass.PassView.{PassView}
 use Rattle.md_machine.specs.declared.step.Step.{Step}
+use Rattle.md_machine.specs.declared.step.Kind.TheVariants.{Abort, Commit, Load}
 use Rattle.md_machine.specs.Own.{HasDesc}
 use Rattle.md_machine.specs.Trail.{Finds, Meets, SomeStep}
 use Rattle.md_machine.specs.events.Decide.{HasMet}
@@ -77,9 +78,10 @@ abbrev pub AreFew : Shape → (desc first more : ℕ) → List Step → Type 0
 AreFew shape desc first more steps = (held : ℕ) × (serial_of held ≡ serial_of first)
     × IsFound shape desc first held steps × (length steps ≤ 3 * reads_of held + more)
 
--- the step changes nothing, or is on the descriptor's status
+-- the step is a load and changes nothing, or it is a load, a commit or an abort of the descriptor's status
 abbrev pub Decides : Shape → (desc : ℕ) → Step → Type 0
-Decides shape desc s = (s.before ≡ s.after) ⊎ (s.word ≡ address shape (desc_status desc))
+Decides shape desc s = ((s.kind ≡ Load) × (s.before ≡ s.after))
+    ⊎ ((s.word ≡ address shape (desc_status desc)) × ((s.kind ≡ Commit) ⊎ (s.kind ≡ Abort)))
 
 -- a pass settled the attempt of a status that it had met
 pub record Settled (shape : Shape) (desc first more : ℕ) (end : End) (before after : PassView) : Type 0 where

@@ -134,9 +134,10 @@ fn take_out<T: Theory>(
     }
 }
 
-// The value that the fate takes from the slot: the new one after a commit, the old one after an
-// abort.
-fn slot_value<T: Theory>(field: &Field<T>, pass: &mut Pass<T>, found: Content, end: End) -> u32
+/// The value that the fate of an attempt takes from its slot that stands in a word of this content:
+/// the new one after a commit, that of the old content after an abort. One load, of the slot's
+/// word.
+pub fn slot_value<T: Theory>(field: &Field<T>, pass: &mut Pass<T>, found: Content, end: End) -> u32
     requires field { IsOf pass.old field.now }
     requires odd { is_even (count_of (word_of found)) ≡ false }
     requires exists { IsInSet field.now.origin.shape (desc_in (word_of found))

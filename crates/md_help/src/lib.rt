@@ -2,7 +2,7 @@
 //! attempt, and takes the descriptor out of the word; it waits for nobody.
 #![tactic(auto)]
 
-pub use clearing::{Cleared, clear};
+pub use clearing::{Cleared, clear, slot_value};
 pub use settling::{End, settle_one};
 
 mod clearing;

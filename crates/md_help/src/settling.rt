@@ -5,11 +5,13 @@ ghost use Rattle.md_words.specs.declared.limits.TheConstants.{SET};
 ghost use Rattle.md_words.specs.declared.status.Status.TheVariants.{InPrep, InProg};
 ghost use Rattle.md_words.specs.Layout.{desc_count};
 ghost use Rattle.md_words.specs.Status.{reads_of, serial_of, status_of};
+ghost use Rattle.md_machine.specs.Own.{HasDesc};
 ghost use Rattle.md_machine.specs.events.Uninstall.{IsDecided};
 ghost use Rattle.md_rule.specs.InHand.{HoldsDesc};
 ghost use Rattle.md_rule.specs.Views.{IsOf};
 ghost use Rattle.md_help.specs.Clears.{SettlesOne};
 ghost use Rattle.md_help.specs.After.{Stands};
+ghost use Rattle.md_help.specs.Owns.{EndsOwn, IsOwnLast, KnowsEnd};
 ghost use Rattle.md_help.specs.Settles.{EndIs, IsReached, MetStatus, Settled, SettledNewer};
 
 use crate::reads::validate;
@@ -28,7 +30,8 @@ pub enum End {
 /// Decides the attempt whose status the first step finds, in at most `3r + 3` steps of this pass,
 /// whatever others do; `r` is the number of its reads. An attempt that isn't ready is aborted. One
 /// that is ready is committed where all its reads stand, and else aborted. It is Gone exactly where
-/// a later step finds another attempt's status.
+/// a later step finds another attempt's status: never if the descriptor is of one of the pass's
+/// lanes, since nobody else begins its attempts.
 ///
 /// The descriptor exists, and is of one of the pass's lanes or was found standing in a counted
 /// word. It isn't that of the transaction in hand. It takes no memory.
@@ -41,6 +44,8 @@ pub fn settle_one<T: Theory>(field: &Field<T>, pass: &mut Pass<T>, desc: u32) ->
     ensures stands { Stands T.meaning field.now.origin pass.new.view }
     ensures settles { SettlesOne field.now.origin.shape desc result pass.old.view
         pass.new.view }
+    ensures own { HasDesc field.now.origin.shape pass.old.view desc
+        → EndsOwn field.now.origin.shape desc result pass.old.view pass.new.view }
 {
     let status = pass.load(field, field.shape().status(desc));
     settle(field, pass, desc, status)
@@ -59,6 +64,8 @@ pub(crate) fn settle<T: Theory>(field: &Field<T>, pass: &mut Pass<T>, desc: u32,
     ensures stands { Stands T.meaning field.now.origin pass.new.view }
     ensures settled { Settled field.now.origin.shape desc status 2 result pass.old.view
         pass.new.view }
+    ensures own { IsOwnLast field.now.origin.shape pass.old.view desc status
+        → KnowsEnd field.now.origin.shape pass.new.view desc (serial_of status) result }
 {
     match StatusWord::of(status).status {
         Status::InPrep => abort_unready(field, pass, desc, status),
@@ -77,6 +84,8 @@ fn abort_unready<T: Theory>(field: &Field<T>, pass: &mut Pass<T>, desc: u32, sta
     ensures stands { Stands T.meaning field.now.origin pass.new.view }
     ensures settled { Settled field.now.origin.shape desc status 2 result pass.old.view
         pass.new.view }
+    ensures own { IsOwnLast field.now.origin.shape pass.old.view desc status
+        → KnowsEnd field.now.origin.shape pass.new.view desc (serial_of status) result }
 {
     match pass.abort(field, desc, status) {
         Ok(()) => End::Aborted,
@@ -103,6 +112,9 @@ fn settle_newer<T: Theory>(
     ensures stands { Stands T.meaning field.now.origin pass.new.view }
     ensures settled { SettledNewer field.now.origin.shape desc old newer result pass.old.view
         pass.new.view }
+    ensures own { serial_of newer ≡ serial_of old
+        → IsOwnLast field.now.origin.shape pass.old.view desc newer
+        → KnowsEnd field.now.origin.shape pass.new.view desc (serial_of newer) result }
 {
     if StatusWord::of(newer).serial != StatusWord::of(old).serial {
         return End::Gone;
@@ -123,6 +135,8 @@ fn settle_ready<T: Theory>(field: &Field<T>, pass: &mut Pass<T>, desc: u32, stat
     ensures stands { Stands T.meaning field.now.origin pass.new.view }
     ensures settled { Settled field.now.origin.shape desc status 1 result pass.old.view
         pass.new.view }
+    ensures own { IsOwnLast field.now.origin.shape pass.old.view desc status
+        → KnowsEnd field.now.origin.shape pass.new.view desc (serial_of status) result }
 {
     match StatusWord::of(status).status {
         Status::InProg => decide(field, pass, desc, status),
@@ -144,6 +158,8 @@ fn decide<T: Theory>(field: &Field<T>, pass: &mut Pass<T>, desc: u32, status: u6
     ensures stands { Stands T.meaning field.now.origin pass.new.view }
     ensures settled { Settled field.now.origin.shape desc status 1 result pass.old.view
         pass.new.view }
+    ensures own { IsOwnLast field.now.origin.shape pass.old.view desc status
+        → KnowsEnd field.now.origin.shape pass.new.view desc (serial_of status) result }
 {
     if validate(field, pass, desc, StatusWord::of(status).reads) {
         return match pass.commit(field, desc, status) {

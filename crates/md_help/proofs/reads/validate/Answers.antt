@@ -1,7 +1,7 @@
-use Rattle.std.proofs.Common.{ap, subst, ◌∙◌}
+use Rattle.std.proofs.Common.{ap, refl, subst, ◌∙◌}
 use Rattle.md_rule.specs.Views.{PassState}
 use Rattle.md_help.specs.Reads.{Checked}
-use Rattle.md_help.proofs.Reading.{validated_end, validated_more}
+use Rattle.md_help.proofs.Reading.{validated_end, validated_more, validated_none}
 use Rattle.md_help.proofs.reads.validate.Goals as goal
 
 pub returns-then-not-check-clause-validated : goal.returns-then-not-check-clause-validated
@@ -25,3 +25,11 @@ loop-i-preserved g c =
       so_far = validated_more shape c.args.desc c.loop-i.i c.args.pass.now.view p q was.so_far
           (subst (λ b. Checked shape c.args.desc c.loop-i.i b p q) c.if-not-check.false c.check.ensures.checked);
     }
+
+pub loop-i-init : goal.loop-i-init
+loop-i-init g c = record {
+  field = c.requires.field;
+  same = refl;
+  stands = c.requires.stands;
+  so_far = validated_none c.args.field.now.origin.shape c.args.desc c.args.pass.now.view;
+}

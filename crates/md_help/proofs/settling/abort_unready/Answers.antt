@@ -1,4 +1,5 @@
-use Rattle.std.proofs.Common.{[], ◌∷◌, true, refl, inl, arith}
+use Rattle.std.proofs.Common.{inr, [], ◌∷◌, true, refl, inl, arith, subst}
+use Rattle.md_help.specs.Owns.{KnowsEnd}
 use Rattle.md_words.specs.declared.status.Status.TheVariants.{Aborted as IsAborted}
 use Rattle.md_words.specs.Layout.{address}
 use Rattle.md_words.specs.Place.{desc_status}
@@ -9,6 +10,9 @@ use Rattle.md_help.proofs.Deciding.{abort_lost, abort_won, lost_ready, may_abort
 use Rattle.md_help.proofs.Ends.{settled_aborted, settled_newer}
 use Rattle.md_help.proofs.Reading.{validated_none}
 use Rattle.md_help.proofs.Steps.{stands_made}
+use Rattle.md_help.proofs.Ends.{decided_serial, decided_status}
+use Rattle.md_help.proofs.Owns.{end_won, last_lost, own_same}
+use Rattle.md_help.specs.declared.settling.End.TheVariants.{Aborted}
 use Rattle.md_help.proofs.settling.abort_unready.Goals as goal
 
 pub abort-requires-clause-may : goal.abort-requires-clause-may
@@ -66,7 +70,7 @@ returns-in-Ok-clause-settled g c =
     let p = c.args.pass.now.view in
     let q = c.abort.new.self.view in
     let m = abort_won g.T.Theory.meaning o c.args.desc c.args.status p q c.in-Ok.ensures.step in
-    settled_aborted o.shape c.args.desc c.args.status 0 2 true Abort c.args.status (decided_word IsAborted c.args.status) p p q (validated_none o.shape c.args.desc p) m refl (omega arith) (omega arith) refl refl (inl c.requires.unready)
+    settled_aborted o.shape c.args.desc c.args.status 0 2 true Abort c.args.status (decided_word IsAborted c.args.status) p p q (validated_none o.shape c.args.desc p) m (inr refl) (omega arith) (omega arith) refl refl (inl c.requires.unready)
 
 pub returns-in-Err-clause-settled : goal.returns-in-Err-clause-settled
 returns-in-Err-clause-settled g c =
@@ -75,3 +79,21 @@ returns-in-Err-clause-settled g c =
     let q = c.abort.new.self.view in
     let step = c.in-Err.ensures.step in
     settled_newer o.shape c.args.desc c.args.status c.in-Err.newer p q c.settle_newer.new.pass.view (abort_lost g.T.Theory.meaning o c.args.desc c.args.status c.in-Err.newer p q step.0 step.1) c.settle_newer.result c.settle_newer.ensures.settled
+
+pub returns-in-Ok-clause-own : goal.returns-in-Ok-clause-own
+returns-in-Ok-clause-own g c own =
+    let o = c.args.field.now.origin in
+    let p = c.args.pass.now.view in
+    let q = c.abort.new.self.view in
+    end_won o.shape c.args.desc c.args.status (decided_word IsAborted c.args.status) Abort Aborted p q (abort_won g.T.Theory.meaning o c.args.desc c.args.status p q c.in-Ok.ensures.step)
+    (decided_serial o.shape c.args.desc IsAborted c.args.status) (decided_status o.shape c.args.desc IsAborted c.args.status) own
+
+pub returns-in-Err-clause-own : goal.returns-in-Err-clause-own
+returns-in-Err-clause-own g c own =
+    let M = g.T.Theory.meaning in
+    let o = c.args.field.now.origin in
+    let p = c.args.pass.now.view in
+    let q = c.abort.new.self.view in
+    let step = c.in-Err.ensures.step in
+    let same = own_same M o (λ pass. abort pass c.args.desc c.args.status) p q c.args.desc c.args.status c.in-Err.newer c.requires.exists c.requires.met own step.1 in
+    subst (λ n. KnowsEnd o.shape c.settle_newer.new.pass.view c.args.desc n c.settle_newer.result) same (c.settle_newer.ensures.own same (last_lost o.shape c.args.desc c.args.status c.in-Err.newer Abort p q (abort_lost M o c.args.desc c.args.status c.in-Err.newer p q step.0 step.1) same own))

@@ -1,4 +1,4 @@
-use Rattle.std.proofs.Common.{[], ◌∷◌, le_refl, true, false, refl, inr}
+use Rattle.std.proofs.Common.{inl, [], ◌∷◌, le_refl, true, false, refl, inr}
 use Rattle.md_words.specs.declared.status.Status.TheVariants.{Committed as IsCommitted, Aborted as IsAborted}
 use Rattle.md_words.specs.Layout.{address}
 use Rattle.md_words.specs.Place.{desc_status}
@@ -8,6 +8,9 @@ use Rattle.md_machine.specs.events.Decide.{decided_word}
 use Rattle.md_help.proofs.Deciding.{abort_lost, abort_won, commit_lost, commit_won, lost_decided, may_abort, may_commit, may_commit_by, met_after, moved_by, newer_came, reached_after, validated_at}
 use Rattle.md_help.proofs.Ends.{moved_read, settled_aborted, settled_committed, settled_lost}
 use Rattle.md_help.proofs.Steps.{stands_made}
+use Rattle.md_help.specs.declared.settling.End.TheVariants.{Committed, Aborted}
+use Rattle.md_help.proofs.Ends.{decided_serial, decided_status}
+use Rattle.md_help.proofs.Owns.{end_lost, end_won, last_validated, own_same}
 use Rattle.md_help.proofs.settling.decide.Goals as goal
 
 pub commit-requires-clause-may : goal.commit-requires-clause-may
@@ -45,7 +48,7 @@ returns-in-Ok-clause-settled g c =
     let q = c.validate.new.pass.view in
     let r = c.commit.new.self.view in
     let v = validated_at o.shape c.args.desc c.of.result c.args.status c.validate.result true p q c.of.ensures.parts c.if-validate.true c.validate.ensures.validated in
-    settled_committed o.shape c.args.desc c.args.status _ 1 true Commit c.args.status (decided_word IsCommitted c.args.status) p q r v (commit_won g.T.Theory.meaning o c.args.desc c.args.status q r c.in-Ok.ensures.step) refl (le_refl _) (le_refl 1) refl refl
+    settled_committed o.shape c.args.desc c.args.status _ 1 true Commit c.args.status (decided_word IsCommitted c.args.status) p q r v (commit_won g.T.Theory.meaning o c.args.desc c.args.status q r c.in-Ok.ensures.step) (inl refl) (le_refl _) (le_refl 1) refl refl
 
 pub returns-in-Err-clause-stands : goal.returns-in-Err-clause-stands
 returns-in-Err-clause-stands g c =
@@ -65,7 +68,7 @@ returns-in-Err-clause-settled g c =
     let r = c.commit.new.self.view in
     let step = c.in-Err.ensures.step in
     let v = validated_at o.shape c.args.desc c.of.result c.args.status c.validate.result true p q c.of.ensures.parts c.if-validate.true c.validate.ensures.validated in
-    settled_lost o.shape c.args.desc c.args.status _ 1 true Commit c.in-Err.newer c.in-Err.newer p q r v (commit_lost g.T.Theory.meaning o c.args.desc c.args.status c.in-Err.newer q r step.0 step.1) refl (le_refl _) (le_refl 1) c.end_of.result c.end_of.ensures
+    settled_lost o.shape c.args.desc c.args.status _ 1 true Commit c.in-Err.newer c.in-Err.newer p q r v (commit_lost g.T.Theory.meaning o c.args.desc c.args.status c.in-Err.newer q r step.0 step.1) (inl refl) (le_refl _) (le_refl 1) c.end_of.result c.end_of.ensures
 
 pub abort-requires-clause-may : goal.abort-requires-clause-may
 abort-requires-clause-may g c =
@@ -107,7 +110,7 @@ returns-in-Ok-abort-clause-settled g c =
     let r = c.abort.new.self.view in
     let v = validated_at o.shape c.args.desc c.of.result c.args.status c.validate.result false p q c.of.ensures.parts c.if-validate.false c.validate.ensures.validated in
     let m = abort_won g.T.Theory.meaning o c.args.desc c.args.status q r c.in-Ok-abort.ensures.step in
-    settled_aborted o.shape c.args.desc c.args.status _ 1 false Abort c.args.status (decided_word IsAborted c.args.status) p q r v m refl (le_refl _) (le_refl 1) refl refl
+    settled_aborted o.shape c.args.desc c.args.status _ 1 false Abort c.args.status (decided_word IsAborted c.args.status) p q r v m (inr refl) (le_refl _) (le_refl 1) refl refl
     (inr (moved_read o.shape c.args.desc c.args.status p q v (m.step ∷ []) c.requires.in_progress))
 
 pub returns-in-Err-abort-clause-stands : goal.returns-in-Err-abort-clause-stands
@@ -128,4 +131,58 @@ returns-in-Err-abort-clause-settled g c =
     let r = c.abort.new.self.view in
     let step = c.in-Err-abort.ensures.step in
     let v = validated_at o.shape c.args.desc c.of.result c.args.status c.validate.result false p q c.of.ensures.parts c.if-validate.false c.validate.ensures.validated in
-    settled_lost o.shape c.args.desc c.args.status _ 1 false Abort c.in-Err-abort.newer c.in-Err-abort.newer p q r v (abort_lost g.T.Theory.meaning o c.args.desc c.args.status c.in-Err-abort.newer q r step.0 step.1) refl (le_refl _) (le_refl 1) c.end_of-in-Err-abort.result c.end_of-in-Err-abort.ensures
+    settled_lost o.shape c.args.desc c.args.status _ 1 false Abort c.in-Err-abort.newer c.in-Err-abort.newer p q r v (abort_lost g.T.Theory.meaning o c.args.desc c.args.status c.in-Err-abort.newer q r step.0 step.1) (inr refl) (le_refl _) (le_refl 1) c.end_of-in-Err-abort.result c.end_of-in-Err-abort.ensures
+
+pub returns-in-Ok-clause-own : goal.returns-in-Ok-clause-own
+returns-in-Ok-clause-own g c own =
+    let M = g.T.Theory.meaning in
+    let o = c.args.field.now.origin in
+    let p = c.args.pass.now.view in
+    let q = c.validate.new.pass.view in
+    let r = c.commit.new.self.view in
+    let v = c.validate.ensures.validated in
+    let after = last_validated o.shape c.args.desc c.args.status _ _ p q v own in
+    end_won o.shape c.args.desc c.args.status (decided_word IsCommitted c.args.status) Commit Committed q r (commit_won M o c.args.desc c.args.status q r c.in-Ok.ensures.step)
+    (decided_serial o.shape c.args.desc IsCommitted c.args.status) (decided_status o.shape c.args.desc IsCommitted c.args.status) after
+
+pub returns-in-Err-clause-own : goal.returns-in-Err-clause-own
+returns-in-Err-clause-own g c own =
+    let M = g.T.Theory.meaning in
+    let o = c.args.field.now.origin in
+    let p = c.args.pass.now.view in
+    let q = c.validate.new.pass.view in
+    let r = c.commit.new.self.view in
+    let v = c.validate.ensures.validated in
+    let after = last_validated o.shape c.args.desc c.args.status _ _ p q v own in
+    let step = c.in-Err.ensures.step in
+    let newer = c.in-Err.newer in
+    let same = own_same M o (λ pass. commit pass c.args.desc c.args.status) q r c.args.desc c.args.status newer c.requires.exists
+    (met_after o.shape v.steps p q c.args.desc c.args.status v.goes c.requires.met) after step.1 in
+    end_lost o.shape c.args.desc c.args.status newer Commit _ q r (commit_lost M o c.args.desc c.args.status newer q r step.0 step.1) same c.end_of.ensures after
+
+pub returns-in-Ok-abort-clause-own : goal.returns-in-Ok-abort-clause-own
+returns-in-Ok-abort-clause-own g c own =
+    let M = g.T.Theory.meaning in
+    let o = c.args.field.now.origin in
+    let p = c.args.pass.now.view in
+    let q = c.validate.new.pass.view in
+    let r = c.abort.new.self.view in
+    let v = c.validate.ensures.validated in
+    let after = last_validated o.shape c.args.desc c.args.status _ _ p q v own in
+    end_won o.shape c.args.desc c.args.status (decided_word IsAborted c.args.status) Abort Aborted q r (abort_won M o c.args.desc c.args.status q r c.in-Ok-abort.ensures.step)
+    (decided_serial o.shape c.args.desc IsAborted c.args.status) (decided_status o.shape c.args.desc IsAborted c.args.status) after
+
+pub returns-in-Err-abort-clause-own : goal.returns-in-Err-abort-clause-own
+returns-in-Err-abort-clause-own g c own =
+    let M = g.T.Theory.meaning in
+    let o = c.args.field.now.origin in
+    let p = c.args.pass.now.view in
+    let q = c.validate.new.pass.view in
+    let r = c.abort.new.self.view in
+    let v = c.validate.ensures.validated in
+    let after = last_validated o.shape c.args.desc c.args.status _ _ p q v own in
+    let step = c.in-Err-abort.ensures.step in
+    let newer = c.in-Err-abort.newer in
+    let same = own_same M o (λ pass. abort pass c.args.desc c.args.status) q r c.args.desc c.args.status newer c.requires.exists
+    (met_after o.shape v.steps p q c.args.desc c.args.status v.goes c.requires.met) after step.1 in
+    end_lost o.shape c.args.desc c.args.status newer Abort _ q r (abort_lost M o c.args.desc c.args.status newer q r step.0 step.1) same c.end_of-in-Err-abort.ensures after

@@ -1,11 +1,13 @@
 use Rattle.std.proofs.Common.{[], ◌∷◌, refl, ap, subst, ◌∙◌}
 use Rattle.md_words.specs.Layout.{address}
 use Rattle.md_words.specs.Place.{desc_status}
+use Rattle.md_words.specs.Status.{serial_of}
 use Rattle.md_machine.specs.declared.step.Kind.TheVariants.{Load}
 use Rattle.md_machine.specs.Event.{load}
-use Rattle.md_rule.specs.Steps.{SteppedFrom}
+use Rattle.md_rule.specs.Steps.{EventOf, SteppedFrom}
 use Rattle.md_help.proofs.Deciding.{met_made, newer_few, reached_after}
 use Rattle.md_help.proofs.Steps.{both_after, load_finds, made_load, stands_made}
+use Rattle.md_help.proofs.Owns.{last_loaded, own_no_later}
 use Rattle.md_help.proofs.settling.settle_one.Goals as goal
 
 pub settle-requires-clause-stands : goal.settle-requires-clause-stands
@@ -63,4 +65,19 @@ returns-clause-settles g c =
       few = s.few;
       changes = s.changes;
       ends = s.ends;
+    }
+
+pub returns-clause-own : goal.returns-clause-own
+returns-clause-own g c own =
+    let M = g.T.Theory.meaning in
+    let o = c.args.field.now.origin in
+    let p = c.args.pass.now.view in
+    let q = c.load-status.new.self.view in
+    let at = c.status.ensures.place ∙ ap (λ s. address s (desc_status c.args.desc)) c.shape.ensures in
+    let step = subst (λ w. SteppedFrom M o (λ pass. load pass w) w c.load-status.result p q) at c.load-status.ensures.step in
+    let event : EventOf = λ pass. load pass (address o.shape (desc_status c.args.desc)) in record {
+      serial = serial_of c.load-status.result;
+      knows = c.settle.ensures.own (last_loaded M o event p q c.args.desc c.load-status.result c.requires.exists own Load step
+          (made_load M o (address o.shape (desc_status c.args.desc)) c.load-status.result p q step));
+      no_later = own_no_later M o event p q c.args.desc c.load-status.result own step;
     }
