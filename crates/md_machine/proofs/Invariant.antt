@@ -12,13 +12,15 @@ use Rattle.md_machine.specs.declared.attempt.AttemptId.{AttemptId}
 use Rattle.md_machine.specs.declared.opening.Opening.{Opening}
 use Rattle.md_machine.proofs.clauses.passes.Alone.{HoldersFind, alone-kept, holders_alone}
 use Rattle.md_machine.proofs.clauses.words.Brackets.{TrailsBracket, between-kept, brackets-kept, old_brackets}
-use Rattle.md_machine.proofs.clauses.slots.Clean.{clean_out}
+use Rattle.md_machine.proofs.clauses.slots.Clean.{clean-kept}
 use Rattle.md_machine.proofs.clauses.entries.Entries.{entries-kept}
 use Rattle.md_machine.proofs.clauses.entries.EntriesFit.{EntriesFit, ReadsCounted, entry_fits}
 use Rattle.md_machine.proofs.clauses.slots.EntrySlots.{entry_slots-kept}
-use Rattle.md_machine.proofs.clauses.nodes.EvenNexts.{even_nexts}
+use Rattle.md_machine.proofs.clauses.nodes.EvenNexts.{even_nexts-kept}
+use Rattle.md_machine.proofs.clauses.entries.Fates.{fates-kept}
 use Rattle.md_machine.proofs.clauses.nodes.Flags.{Noting, flags-kept}
-use Rattle.md_machine.proofs.clauses.nodes.FreeNodes.{OpeningIsBase, free_nodes}
+use Rattle.md_machine.proofs.clauses.nodes.FreeNodes.{OpeningIsBase, free_nodes-kept}
+use Rattle.md_machine.proofs.clauses.words.Formats.{formats-kept}
 use Rattle.md_machine.proofs.clauses.passes.Fronts.{fronts-kept}
 use Rattle.md_machine.proofs.clauses.passes.FrontsFit.{fated}
 use Rattle.md_machine.proofs.clauses.passes.FrontsGoOn.{fronts_go_on, fronts_rest}
@@ -39,16 +41,17 @@ use Rattle.md_machine.proofs.clauses.passes.OwnBegun.{own_begun-kept}
 use Rattle.md_machine.proofs.clauses.passes.BegunNoLater.{begun_no_later-kept, steps_no_later}
 use Rattle.md_machine.proofs.clauses.passes.StepsBegun.{steps_begun-kept}
 use Rattle.md_machine.proofs.clauses.passes.PendingBegun.{pending_begun-kept}
-use Rattle.md_machine.proofs.clauses.slots.OwnInstalls.{own_installs}
+use Rattle.md_machine.proofs.clauses.slots.OwnInstalls.{own_installs-kept}
 use Rattle.md_machine.proofs.clauses.nodes.OwnNexts.{own_nexts-kept}
 use Rattle.md_machine.proofs.clauses.nodes.OwnNodes.{own_nodes-kept}
 use Rattle.md_machine.proofs.clauses.passes.OwnSerials.{own_serials-kept}
 use Rattle.md_machine.proofs.clauses.nodes.OwnWords.{own_words-kept}
 use Rattle.md_machine.proofs.clauses.entries.Past.{PastDecided, fates_told, past-kept}
-use Rattle.md_machine.proofs.clauses.nodes.Placed.{NotedAlways, always_in, placed-kept}
+use Rattle.md_machine.proofs.clauses.nodes.Noted.{noted-kept}
+use Rattle.md_machine.proofs.clauses.nodes.Placed.{NotedAlways, placed-kept}
 use Rattle.md_machine.proofs.clauses.nodes.PlacedOnce.{AliveOnce, noted_structure, placed_once-kept}
-use Rattle.md_machine.proofs.clauses.entries.PresentEntries.{entries_by_status}
-use Rattle.md_machine.proofs.clauses.words.Reads.{reads_found, reads_moved}
+use Rattle.md_machine.proofs.clauses.entries.PresentEntries.{present_entries-kept}
+use Rattle.md_machine.proofs.clauses.words.Reads.{reads-kept}
 use Rattle.md_machine.proofs.clauses.entries.ReadyEntries.{ReadyHaveEntries, ready_entries-kept}
 use Rattle.md_machine.proofs.clauses.entries.Rooted.{rooted-kept}
 use Rattle.md_machine.proofs.clauses.entries.Serials.{serials-kept}
@@ -56,13 +59,15 @@ use Rattle.md_machine.proofs.clauses.entries.Sound.{sound-kept}
 use Rattle.md_machine.proofs.clauses.words.Stamps.{Stamp, Stamped, StampsKept, stamp_more, stamps-kept, stamps_hold}
 use Rattle.md_machine.proofs.clauses.words.Statuses.{statuses-kept, statuses_noted}
 use Rattle.md_machine.proofs.clauses.words.Stores.{StoresStand, stores-kept}
+use Rattle.md_machine.proofs.clauses.slots.Slots.{slots-kept}
 use Rattle.md_machine.proofs.clauses.slots.Undecided.{undecided-kept}
+use Rattle.md_machine.proofs.clauses.slots.Uninstalls.{uninstalls-kept}
 use Rattle.md_machine.proofs.clauses.slots.WonInstalls.{won_installs-kept}
 use Rattle.md_machine.proofs.events.MoveFacts.{history_grows}
 use Rattle.md_machine.proofs.events.Moves.{does_move}
 use Rattle.md_machine.proofs.events.Tell.{tell}
-use Rattle.md_machine.proofs.events.UninstallValue.{UninstallRests, uninstall_value}
-use Rattle.md_machine.proofs.events.WordChanges.{counts_rise, formats-kept, statuses_go_on, stays_on}
+use Rattle.md_machine.proofs.events.UninstallValue.{UninstallRests}
+use Rattle.md_machine.proofs.events.WordChanges.{counts_rise, statuses_go_on, stays_on}
 use Rattle.md_machine.proofs.lists.Pairs.{EachPair, pairs_of}
 use Rattle.md_machine.proofs.lists.Rising.{here, there}
 use Rattle.md_machine.proofs.lists.Triples.{EachTriple, triples_of}
@@ -104,7 +109,6 @@ use Rattle.md_machine.specs.clauses.words.Stamps.{NotedByRead}
 use Rattle.md_machine.specs.clauses.words.Statuses.{StatusesCame}
 use Rattle.md_machine.specs.clauses.slots.Undecided.{UndecidedStand}
 use Rattle.md_machine.specs.clauses.slots.WonInstalls.{WonAreInstalls}
-use Rattle.md_machine.specs.events.Uninstall.{MayUninstall}
 
 pub record Invariant (m : Machine) : Type 0 where
   pub formats : AreFormats (shape_of m) m.words
@@ -205,15 +209,15 @@ kept_by m k = record {
     between = λ pass p at earlier s middle u later segment t c. triples_of (NotesBetween (shape_of m) m.installs) earlier s middle u later t (k.between pass p at (earlier ++ s ∷ (middle ++ u ∷ later)) segment) c;
   };
   old_slots = λ pass p at earlier s later segment t c. pairs_of (OldSlotStands (shape_of m) m.words) earlier s later t (k.old_slots pass p at (earlier ++ s ∷ later) segment) c;
-  slots = λ i c. (k.installs.fits i c).slot;
-  fates = record { told = fates_told (shape_of m) m.words m.history m.fates k.entries k.past; past = k.known_past };
+  slots = slots-kept m k.installs;
+  fates = fates-kept m k.entries k.past k.known_past;
   fronts = k.fronts;
   placed = λ pass p at x c. noted_structure m k.placed_once x (k.placed pass p at x c);
-  noted = λ pass p at x c. always_in m x (k.placed pass p at x c);
+  noted = noted-kept m k.placed;
   flags = k.flags;
   node_words = k.node_words;
   won_installs = k.won_installs;
-  own_installs = own_installs m k.installs;
+  own_installs = own_installs-kept m k.installs;
   own_serials = k.own_serials;
   own_begun = k.own_begun;
   begun_no_later = k.begun_no_later;
@@ -222,11 +226,10 @@ kept_by m k = record {
   own_nodes = k.own_nodes;
   own_words = k.own_words;
   met_spots = k.met_spots;
-  uninstalls = λ pass p at word from value may was choice r. sym (uninstall_value m (rests_of m k) word may.counted
-      (record { pass = pass; p = p; at = at; value = value; may = subst (λ c. MayUninstall m p word c value) (sym was) may }) choice r);
-  clean = clean_out m k.stamp k.stamps k.installs k.odd_words;
-  present_entries = entries_by_status m k.read_counts k.ready_entries;
-  free_nodes = free_nodes m k.opening_base k.fronts k.numbered.distinct k.sound.sound k.own_nodes;
+  uninstalls = uninstalls-kept m (rests_of m k);
+  clean = clean-kept m k.stamp k.stamps k.installs k.odd_words;
+  present_entries = present_entries-kept m k.read_counts k.ready_entries;
+  free_nodes = free_nodes-kept m k.opening_base k.fronts k.numbered.distinct k.sound.sound k.own_nodes;
   entry_slots = k.entry_slots;
   in_hand = k.in_hand.alone;
   loads = λ pass p at earlier s later segment t c. pairs_of (LoadStands (shape_of m) m.words m.history) earlier s later t (k.loads pass p at (earlier ++ s ∷ later) segment) c;
@@ -239,8 +242,8 @@ kept_by m k = record {
   alone = holders_alone m k.lanes k.fronts k.known_past k.numbered k.alone;
   own_nexts = k.own_nexts;
   rooted = k.rooted;
-  even_nexts = even_nexts m k.odd_words (stamps_hold m k.stamp k.stamps (reads_stamped m k)) k.own_nexts;
-  stores = λ pass p at a now. k.stores pass p at a (ap (λ (b : AttemptId). b.serial) now);
+  even_nexts = even_nexts-kept m k.odd_words (stamps_hold m k.stamp k.stamps (reads_stamped m k)) k.own_nexts;
+  stores = k.stores;
 }
 
 module _ (M : Meaning) where
@@ -259,6 +262,7 @@ module _ (M : Meaning) where
       let statuses = subst (λ words. StatusesCame (shape_of m) words n.passes) (sym v.words) (statuses-kept m n v k.formats.field k.statuses) in
       let noted_now = statuses_noted (shape_of m) n.words n.passes statuses in
       let numbered = numbered-kept m n v k.entries k.numbered in
+      let reads = reads-kept m n v k.formats.field k.hands noted past k.stamp k.stamps k.moved_reads k.found_reads in
       let stamps = stamps-kept m n k.stamp k.formats.field k.stamps v v.words v.opening in
       let installs = installs-kept m n v k.formats.field k.hands k.installs in
       let odd_words = odd_words-kept m k.stamp k.stamps k.installs n v k.formats.field k.hands k.odd_words in (
@@ -297,10 +301,10 @@ module _ (M : Meaning) where
           stores = move (λ shape words. StoresStand shape words n.passes) (stores-kept m n v k.formats.field k.hands k.in_hand (steps_no_later m k.begun_no_later k.steps_begun) k.stores);
           entry_slots = λ x c now. entry_slots-kept m n v k.formats.field k.hands k.installs past k.entry_slots x c
               (subst (λ words. IsPresentIn (shape_of m) words x.attempt) v.words
-              (subst (λ (o : Opening). IsPresentIn o.shape n.words x.attempt) v.opening (ap (λ (a : AttemptId). a.serial) now)));
+              (subst (λ (o : Opening). IsPresentIn o.shape n.words x.attempt) v.opening now));
           loads = reshape (λ shape. EachPair (LoadStands shape n.words n.history) n.passes) (loads-kept m n v k.formats.field k.hands noted past k.loads);
-          moved_reads = reads_moved m n v k.formats.field k.hands noted past k.stamp k.stamps k.moved_reads;
-          found_reads = reshape (λ shape. EachPair (ReadFound shape n.history) n.passes) (reads_found m n v k.formats.field k.hands noted past k.stamp k.stamps k.moved_reads k.found_reads);
+          moved_reads = reads.0;
+          found_reads = reshape (λ shape. EachPair (ReadFound shape n.history) n.passes) reads.1;
           sound = sound;
           ready_entries = reshape (λ shape. ReadyHaveEntries shape n.words n.history) (ready_entries-kept m n v k.formats.field k.hands k.ready_entries);
           old_slots = move (λ shape words. EachPair (OldSlotStands shape words) n.passes) (old_slots-kept m k.stamp k.stamps k.installs n v k.formats.field k.hands k.odd_words k.old_slots);

@@ -10,3 +10,4 @@ pub mod WasIn
 pub mod Settled
 pub mod FrontsFrom
 pub mod Always
+pub mod LeastFacts

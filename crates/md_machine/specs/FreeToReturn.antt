@@ -16,7 +16,8 @@ use Rattle.md_machine.specs.clauses.nodes.EvenNexts.{AllTakenOut}
 use Rattle.md_machine.specs.clauses.nodes.FreeNodes.{IsFreeBy}
 use Rattle.md_machine.specs.clauses.slots.UndecidedSlots.{NamesNode, may_still_commit}
 
--- a pass knows that a node of its lanes is free: no entry places it, and no install of its own stands in its next word
+-- a pass knows that a node of its lanes is free: no entry that it has seen places it, but for those that can't commit by
+-- the fates that it knows, and no install of its own stands in its next word
 pub record KnowsFree (shape : Shape) (p : PassView) (node : ℕ) : Type 0 where
   pub own : HasNode shape p node
   pub unplaced : IsFreeBy p.seen p.known node

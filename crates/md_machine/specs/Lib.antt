@@ -18,3 +18,4 @@ pub mod GoesOn
 pub mod Installs
 pub mod Serial
 pub mod FreeToReturn
+pub mod PlacedNodes

@@ -34,7 +34,8 @@ use Rattle.md_machine.specs.clauses.nodes.OwnNexts.{OwnNextsShown}
 use Rattle.md_machine.specs.clauses.passes.OwnSerials.{OwnSerialsMet}
 use Rattle.md_machine.specs.clauses.nodes.OwnWords.{OwnWordsStand}
 use Rattle.md_machine.specs.clauses.passes.PendingBegun.{PendingAreBegun}
-use Rattle.md_machine.specs.clauses.nodes.Placed.{NotedArePlaced, PlacedStay}
+use Rattle.md_machine.specs.clauses.nodes.Noted.{NotedArePlaced}
+use Rattle.md_machine.specs.clauses.nodes.Placed.{PlacedStay}
 use Rattle.md_machine.specs.clauses.entries.PresentEntries.{EntriesByStatus}
 use Rattle.md_machine.specs.clauses.words.Reads.{ReadsShow}
 use Rattle.md_machine.specs.clauses.entries.Serials.{EntriesInTurn}

@@ -1,8 +1,9 @@
 -- Heaps that agree, and what changes and new nodes leave in a heap.
-use Rattle.std.proofs.Common.{◌≡◌, ◌==◌, ◌++◌, ℕ, List, [], ◌∷◌, refl, ap, ◌∙◌, eqb-true, if◌then◌else◌, Some, IfSome, Option, None}
+use Rattle.std.proofs.Common.{◌≡◌, ◌==◌, ◌++◌, ℕ, List, [], ◌∷◌, refl, ap, ◌∙◌, eqb-true, if◌then◌else◌}
 use Rattle.std.proofs.lemmas.Bool.{cond_both}
 use Rattle.std.proofs.lemmas.List.Elements.{All-head, All-tail, All-contains, Contains-append_left, Contains-append_right, Contains-get_or}
 use Rattle.std.specs.List.{All, flat_map}
+use Rattle.std.proofs.lemmas.Option.{IfSome_then}
 use Rattle.md_words.specs.declared.shape.Shape.{Shape}
 use Rattle.md_words.specs.Place.{node_next}
 use Rattle.md_words.specs.Layout.{address}
@@ -144,15 +145,11 @@ same_agrees h k same = record {
   value_of_node = λ node _. same.value_of_node node;
 }
 
-if_same : (o : Option ℕ) (P Q : ℕ → Type 0) → ((x : ℕ) → P x → Q x) → IfSome o P → IfSome o Q
-if_same None P Q f h = tt
-if_same (Some x) P Q f h = f x h
-
 -- and in each fact
 pub same_facts : (h k : LogicalHeap) → SameHeap h k → KeepsFacts h k
 same_facts h k same f holds = record {
   placed = same.placed f.node ∙ holds.placed;
-  key = if_same f.key _ _ (λ x e. same.key_of f.node ∙ e) holds.key;
-  value = if_same f.value _ _ (λ x e. same.value_of_node f.node ∙ e) holds.value;
-  next = if_same f.next _ _ (λ x e. (ap (λ (s : Shape). k.words.value (address s (node_next f.node))) same.shape ∙ same.value (address h.words.shape (node_next f.node)) ∙ e.0, e.1)) holds.next;
+  key = IfSome_then f.key holds.key (λ x e. same.key_of f.node ∙ e);
+  value = IfSome_then f.value holds.value (λ x e. same.value_of_node f.node ∙ e);
+  next = IfSome_then f.next holds.next (λ x e. (ap (λ (s : Shape). k.words.value (address s (node_next f.node))) same.shape ∙ same.value (address h.words.shape (node_next f.node)) ∙ e.0, e.1));
 }

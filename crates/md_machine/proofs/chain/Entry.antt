@@ -23,6 +23,7 @@ use Rattle.md_machine.specs.Resolution.{or_else, structure_in}
 use Rattle.md_machine.specs.Certified.{CertifiedIn, HasWords, as_found, first_content, is_written, after_tidies, after_whole, after_wholes, whole_nodes, all_changes, all_nodes, placed_by}
 use Rattle.md_machine.proofs.chain.Agree.{SameValues, SameHeap, put_stays, same_wholes, wholes_shape, wholes_keep}
 use Rattle.md_machine.proofs.chain.Follow.{FollowsActs, wholes_follow, same_follows}
+use Rattle.md_machine.proofs.chain.Values.{else_none}
 
 -- the new value that slots give a word
 abbrev pub new_value : List Write → ℕ → Option ℕ
@@ -112,14 +113,10 @@ wholes_placed h [] = refl
 wholes_placed h (c ∷ cs) =
     wholes_placed (after_whole h c) cs ∙ ap (λ f. puts f (all_nodes cs)) (whole_placed h c) ∙ sym (puts_append h.placed (whole_nodes c) (all_nodes cs))
 
-or_none : (o : Option Structure) → or_else o None ≡ o
-or_none None = refl
-or_none (Some s) = refl
-
 -- where new nodes differ and none was placed, each is placed as it says
 puts_is : (f : ℕ → Option Structure) (ns : List NewNode) (node : ℕ) → All (λ n. f n.node ≡ None) ns → AllPairs (λ n k. n.node ≢ k.node) ns
     → puts f ns node ≡ or_else (f node) (structure_in (map (λ n. record { node = n.node; structure = n.structure }) ns) node)
-puts_is f [] node fresh differ = sym (or_none (f node))
+puts_is f [] node fresh differ = sym (else_none (f node))
 puts_is f (n ∷ ns) node fresh differ =
     puts_is (put f n.node (Some n.structure)) ns node
     (λ i d below. put_stays f n.node (Some n.structure) (get_or ns i d).node None (fresh (suc i) d (omega arith)) (λ e. absurd (differ 0 (suc i) d (omega arith) (omega arith) (sym e))))

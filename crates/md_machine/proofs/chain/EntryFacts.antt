@@ -3,6 +3,7 @@ use Rattle.std.proofs.Common.{◌≡◌, ◌==◌, ◌⊎◌, ℕ, List, [], ◌
 use Rattle.std.specs.Prelude.{unwrap_or}
 use Rattle.std.specs.List.{All}
 use Rattle.std.proofs.lemmas.Bool.{cases_eq, cond-true, cond-false}
+use Rattle.std.proofs.lemmas.Option.{IfSome_then}
 use Rattle.md_words.specs.declared.shape.Shape.{Shape}
 use Rattle.md_words.specs.Place.{node_next}
 use Rattle.md_words.specs.Layout.{address}
@@ -16,6 +17,7 @@ use Rattle.md_machine.specs.Meaning.{KeepsFacts}
 use Rattle.md_machine.specs.Resolution.{or_else, structure_in}
 use Rattle.md_machine.proofs.chain.Entry.{new_value, with_entry}
 use Rattle.md_machine.proofs.chain.SameNodes.{SameNodes}
+use Rattle.md_machine.proofs.chain.Values.{else_none}
 use Rattle.md_machine.proofs.replay.Nodes.{else_some, structure_at}
 
 -- a word that is given a value has it in both; of another one what is a fact rises
@@ -52,8 +54,8 @@ module _ (h k : LogicalHeap) (shape : k.words.shape ≡ h.words.shape)
         (λ old. first_some (k.placed f.node) (structure_in placed f.node) f.structure (risen old).placed)
         (λ new. second_some (k.placed f.node) (structure_in placed f.node) f.structure (is_fresh new).0 new)
         cases;
-    key = if_same f.key (λ x e. keys f.node ∙ e) holds.key;
-    value = if_same f.value (λ x e. values f.node ∙ e) holds.value;
+    key = IfSome_then f.key holds.key (λ x e. keys f.node ∙ e);
+    value = IfSome_then f.value holds.value (λ x e. values f.node ∙ e);
     next = given (given_next (new_value writes word) f.next (h.words.value word) (k.words.value word) f.structure
         (λ v is e settled. ⊎_elim
         (λ old. sym (next_same f.node) ∙ settled_rises old v e settled)
@@ -81,16 +83,12 @@ module _ (h k : LogicalHeap) (shape : k.words.shape ≡ h.words.shape)
           → next_of k.words f.node ≡ v
       settled_rises old v e settled = (rise (bare (Some v)) (record { placed = old; key = tt; value = tt; next = (e, settled) })).next.0
 
-      if_same : (o : Option ℕ) {P Q : ℕ → Type 0} → ((x : ℕ) → P x → Q x) → IfSome o P → IfSome o Q
-      if_same None f h = tt
-      if_same (Some x) f h = f x h
-
       value_by : LogicalHeap → Shape → ℕ
       value_by l s = unwrap_or (new_value writes (address s (node_next f.node))) (l.words.value (address s (node_next f.node)))
 
       given : IfSome f.next (λ v. (unwrap_or (new_value writes word) (k.words.value word) ≡ v) × IsTrue (is_settled f.structure v))
           → IfSome f.next (λ v. (next_of (with_entry k writes placed).words f.node ≡ v) × IsTrue (is_settled f.structure v))
-      given = if_same f.next (λ x e. (ap (value_by k) shape ∙ e.0, e.1))
+      given found = IfSome_then f.next found (λ x e. (ap (value_by k) shape ∙ e.0, e.1))
 
 -- the slot of a change
 abbrev pub slot_of_change : Change → Write
@@ -100,16 +98,12 @@ slot_of_change c = record { slot = 0; word = c.word; old = c.old; new = c.new }
 pub changed_nodes : (h : LogicalHeap) (c : Change)
     → SameNodes (with_entry h (slot_of_change c ∷ []) []) (record { words = changed h.words c; placed = h.placed })
 changed_nodes h c = record {
-  placed = λ node. none_else (h.placed node);
+  placed = λ node. sym (else_none (h.placed node));
   key_of = λ node _. refl;
   value_of_node = λ node _. refl;
   next = λ node _. sym (one (address h.words.shape (node_next node)));
 }
   where
-    none_else : (o : Option Structure) → o ≡ or_else o None
-    none_else None = refl
-    none_else (Some s) = refl
-
     one : (word : ℕ) → unwrap_or (new_value (slot_of_change c ∷ []) word) (h.words.value word) ≡ (if word == c.word then c.new else h.words.value word)
     one word = ⊎_elim
         (λ e. ap (λ o. unwrap_or o (h.words.value word)) (cond-true (c.word == word) (Some c.new) None (eq-eqb c.word word e))

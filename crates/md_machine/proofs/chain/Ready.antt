@@ -15,9 +15,9 @@ use Rattle.md_words.proofs.Places.{place_at-address, address_differs}
 use Rattle.md_words.proofs.Words.{status_of-status_word, serial_of-status_word}
 use Rattle.md_machine.specs.declared.attempt.AttemptId.{AttemptId}
 use Rattle.md_machine.specs.declared.attempt.HistoryEntry.{HistoryEntry}
-use Rattle.md_machine.specs.Machine.{Machine, Install, shape_of, content, status_at, word_at, present, same_attempt, attempt_of, is_ready}
+use Rattle.md_machine.specs.Machine.{Machine, Install, shape_of, content, status_at, word_at, present, same_attempt, attempt_of, is_ready, IsPresentIn}
 use Rattle.md_machine.specs.Resolution.{is_kept, logical_value, value_under}
-use Rattle.md_machine.specs.Installs.{IsPresent, spot_of_install}
+use Rattle.md_machine.specs.Installs.{spot_of_install}
 use Rattle.md_machine.specs.clauses.slots.OddWords.{OddStand}
 use Rattle.md_machine.specs.clauses.slots.Undecided.{UndecidedStand}
 use Rattle.md_machine.specs.events.Install.{installed_word}
@@ -46,7 +46,7 @@ module _ (m : Machine) (a : AttemptId) (u : BeforeReady m a) where
   serial_is = ap serial_of u.unready ∙ serial_of-status_word InPrep 0 a.serial (omega arith)
 
   -- its installs are present ones, and stand in their words
-  pub own_present : (i : Install) → i.attempt ≡ a → IsPresent (shape_of m) m.words i
+  pub own_present : (i : Install) → i.attempt ≡ a → IsPresentIn (shape_of m) m.words i.attempt
   own_present i mine = subst (λ (b : AttemptId). b.serial ≡ serial_of (status_at m b.desc)) (sym mine) (sym serial_is)
 
   pub own_stands : (i : Install) → Contains m.installs i → i.attempt ≡ a → content m i.word ≡ installed_word i.old (spot_of_install i)
@@ -57,7 +57,7 @@ module _ (m : Machine) (a : AttemptId) (u : BeforeReady m a) where
   own_odd i c mine = ap (λ x. is_even (count_of x)) (own_stands i c mine) ∙ install_odd i.old (spot_of_install i) (record { even = (u.installs.fits i c).even; room = (u.installs.fits i c).room })
 
   -- what stands in a word names the slot of its install
-  pub spot_at : (i : Install) → Contains m.installs i → IsPresent (shape_of m) m.words i → (word : ℕ) → content m word ≡ installed_word i.old (spot_of_install i) → spot_of (value_of (content m word)) ≡ spot_of_install i
+  pub spot_at : (i : Install) → Contains m.installs i → IsPresentIn (shape_of m) m.words i.attempt → (word : ℕ) → content m word ≡ installed_word i.old (spot_of_install i) → spot_of (value_of (content m word)) ≡ spot_of_install i
   spot_at i c now word is = ap (λ x. spot_of (value_of x)) is ∙ installed_spot i (u.installs.fits i c).room ((u.installs.fits i c).slot now).exists.1
 
   -- its slots, and the new value that they give a word: none, or that of an install of the word
@@ -116,12 +116,12 @@ module _ (m : Machine) (a : AttemptId) (u : BeforeReady m a) where
         (cases_eq d a.desc)
 
     -- the value under the slot of a present install
-    under_before : (i : Install) → IsPresent (shape_of m) m.words i
+    under_before : (i : Install) → IsPresentIn (shape_of m) m.words i.attempt
         → value_under m choice (spot_of_install i) ≡ cond (is_kept m.history choice i.attempt) (word_at (shape_of m) m.words (slot_new i.attempt.desc i.slot)) (value_of (word_at (shape_of m) m.words (slot_old i.attempt.desc i.slot)))
     under_before i now = ap (λ b. cond (is_kept m.history choice b) (word_at (shape_of m) m.words (slot_new i.attempt.desc i.slot)) (value_of (word_at (shape_of m) m.words (slot_old i.attempt.desc i.slot))))
         (sym (ap (attempt_of i.attempt.desc) now))
 
-    under_after : (i : Install) → Contains m.installs i → IsPresent (shape_of m) m.words i
+    under_after : (i : Install) → Contains m.installs i → IsPresentIn (shape_of m) m.words i.attempt
         → value_under readied chosen (spot_of_install i) ≡ cond (is_kept m.history choice i.attempt || (kept && same_attempt a i.attempt)) (word_at (shape_of m) m.words (slot_new i.attempt.desc i.slot)) (value_of (word_at (shape_of m) m.words (slot_old i.attempt.desc i.slot)))
     under_after i c now =
         let d = i.attempt.desc in
@@ -141,7 +141,7 @@ module _ (m : Machine) (a : AttemptId) (u : BeforeReady m a) where
         no_old d j q = cc
 
     -- an own install and a present one that stand in one word are of one slot
-    spot_same : (i j : Install) → Contains m.installs i → IsPresent (shape_of m) m.words i → Contains m.installs j → j.attempt ≡ a → j.word ≡ i.word → content m i.word ≡ installed_word i.old (spot_of_install i) → spot_of_install j ≡ spot_of_install i
+    spot_same : (i j : Install) → Contains m.installs i → IsPresentIn (shape_of m) m.words i.attempt → Contains m.installs j → j.attempt ≡ a → j.word ≡ i.word → content m i.word ≡ installed_word i.old (spot_of_install i) → spot_of_install j ≡ spot_of_install i
     spot_same i j c now made mine at is = sym (spot_at j made (own_present j mine) i.word (ap (content m) (sym at) ∙ own_stands j made mine)) ∙ spot_at i c now i.word is
 
     -- what the word stands for, by the value that the slots give it
@@ -165,7 +165,7 @@ module _ (m : Machine) (a : AttemptId) (u : BeforeReady m a) where
         (value_of_writes (installs_by m.installs a) own_installs word)))
 
     -- under another attempt
-    given_other : (i : Install) → Contains m.installs i → IsPresent (shape_of m) m.words i → content m i.word ≡ installed_word i.old (spot_of_install i) → same_attempt a i.attempt ≡ false
+    given_other : (i : Install) → Contains m.installs i → IsPresentIn (shape_of m) m.words i.attempt → content m i.word ≡ installed_word i.old (spot_of_install i) → same_attempt a i.attempt ≡ false
         → (value_under readied chosen (spot_of_install i) ≡ value_under m choice (spot_of_install i)) × (new_value (writes_now m a) i.word ≡ None)
     given_other i c now is other = (
       under_after i c now ∙ ap (λ b. cond b (word_at (shape_of m) m.words (slot_new i.attempt.desc i.slot)) (value_of (word_at (shape_of m) m.words (slot_old i.attempt.desc i.slot))))

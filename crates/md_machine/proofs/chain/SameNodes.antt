@@ -1,5 +1,6 @@
 -- Heaps that have the same nodes have the same facts. And what the same changes and new nodes leave of two heaps.
-use Rattle.std.proofs.Common.{◌≡◌, ℕ, refl, sym, ap, ◌∙◌, subst, Option, Some, None, IfSome}
+use Rattle.std.proofs.Common.{◌≡◌, ℕ, refl, sym, ap, ◌∙◌, subst}
+use Rattle.std.proofs.lemmas.Option.{IfSome_then}
 use Rattle.md_words.specs.declared.shape.Shape.{Shape}
 use Rattle.md_words.specs.Place.{node_next}
 use Rattle.md_words.specs.Layout.{address, IsNode}
@@ -15,19 +16,15 @@ pub record SameNodes (h k : LogicalHeap) : Type 0 where
   pub value_of_node : (node : ℕ) → IsPlaced h node → k.words.value_of_node node ≡ h.words.value_of_node node
   pub next : (node : ℕ) → IsPlaced h node → next_of k.words node ≡ next_of h.words node
 
-if_more : (o : Option ℕ) (P Q : ℕ → Type 0) → ((x : ℕ) → P x → Q x) → IfSome o P → IfSome o Q
-if_more None P Q f h = tt
-if_more (Some x) P Q f h = f x h
-
 -- so they have the same facts
 pub same_nodes_facts : (h k : LogicalHeap) → SameNodes h k → KeepsFacts h k
 same_nodes_facts h k same f holds =
     let there : IsPlaced h f.node = (f.structure, holds.placed) in
     record {
       placed = same.placed f.node ∙ holds.placed;
-      key = if_more f.key _ _ (λ x e. same.key_of f.node there ∙ e) holds.key;
-      value = if_more f.value _ _ (λ x e. same.value_of_node f.node there ∙ e) holds.value;
-      next = if_more f.next _ _ (λ x e. (same.next f.node there ∙ e.0, e.1)) holds.next;
+      key = IfSome_then f.key holds.key (λ x e. same.key_of f.node there ∙ e);
+      value = IfSome_then f.value holds.value (λ x e. same.value_of_node f.node there ∙ e);
+      next = IfSome_then f.next holds.next (λ x e. (same.next f.node there ∙ e.0, e.1));
     }
 
 pub same_nodes_back : (h k : LogicalHeap) → SameNodes h k → SameNodes k h

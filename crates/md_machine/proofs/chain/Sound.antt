@@ -20,6 +20,7 @@ use Rattle.md_machine.specs.clauses.words.Formats.{AreFormats}
 use Rattle.md_machine.specs.clauses.words.Stamps.{StampsHold, NotedByTrail}
 use Rattle.md_machine.specs.events.Ready.{MayRecord, read_now, reads_now, write_now, writes_now, installs_by}
 use Rattle.md_machine.specs.Certified.{content_read, content_replaced}
+use Rattle.md_machine.proofs.lists.Options.{some_same}
 use Rattle.md_machine.proofs.lists.Rising.{here, there}
 use Rattle.md_machine.proofs.events.Attempts.{attempt_same}
 use Rattle.md_machine.proofs.chain.Entry.{FoundStands}
@@ -47,9 +48,6 @@ reads_hold m pass p at desc (i ∷ numbers) may stood =
 pub sound_reads : (m : Machine) (pass : ℕ) (p : PassView) → IsAt m pass p → (desc count : ℕ) → All (MayRecord m p) (reads_now m desc count) → list_all (λ r. r.stood) (reads_now m desc count) ≡ true → All (ReadHolds m desc) (reads_now m desc count)
 sound_reads m pass p at desc count = reads_hold m pass p at desc (range_with_len 0 count)
 
-some_is : {A : Type 0} (x y : A) → (let o : Option A = Some x in o) ≡ Some y → x ≡ y
-some_is x y e = cc
-
 no_content : (held : ℕ) → (let o : Option ℕ = None in o) ≡ Some held → ⊥
 no_content held e = cc
 
@@ -57,14 +55,14 @@ no_content held e = cc
 read_in : (reads : List Read) (word held : ℕ) → content_read reads word ≡ Some held → (r : Read) × Contains reads r × (r.word ≡ word) × (r.content ≡ held)
 read_in [] word held e = absurd (no_content held e)
 read_in (r ∷ reads) word held e = cond_both (r.word == word) (Some r.content) (content_read reads word) (λ o. o ≡ Some held → (x : Read) × Contains (r ∷ reads) x × (x.word ≡ word) × (x.content ≡ held))
-    (λ t is. (r, here r reads, eqb-true r.word word t, some_is r.content held is))
+    (λ t is. (r, here r reads, eqb-true r.word word t, some_same r.content held is))
     (λ _ is. let x = read_in reads word held is in (x.0, there r reads x.0 x.1, x.2, x.3))
     e
 
 replaced_in : (m : Machine) (is : List Install) (word held : ℕ) → content_replaced (map (write_now m) is) word ≡ Some held → (i : Install) × Contains is i × (i.word ≡ word) × (i.old ≡ held)
 replaced_in m [] word held e = absurd (no_content held e)
 replaced_in m (i ∷ is) word held e = cond_both (i.word == word) (Some i.old) (content_replaced (map (write_now m) is) word) (λ o. o ≡ Some held → (x : Install) × Contains (i ∷ is) x × (x.word ≡ word) × (x.old ≡ held))
-    (λ t same. (i, here i is, eqb-true i.word word t, some_is i.old held same))
+    (λ t same. (i, here i is, eqb-true i.word word t, some_same i.old held same))
     (λ _ same. let x = replaced_in m is word held same in (x.0, there i is x.0 x.1, x.2, x.3))
     e
 
@@ -114,7 +112,7 @@ module _ (m : Machine) (a : AttemptId) (u : BeforeReady m a) (formats : AreForma
       let room = fits.room in
       let left = ap count_of s.holds ∙ count_of-counted_word (spot_value (spot_of_install i)) (count_of i.old + 1) (omega (arith, room)) in
       let old : i.old ≡ r.content = stamps.same r.word i.old r.content h.counted
-      (inr (inr (i, s.made, ap (attempt_of i.attempt.desc) s.present, s.there, refl))) (inl h.met) (omega (arith, left, more)) in
+      (inr (inr (i, s.made, s.present, s.there, refl))) (inl h.met) (omega (arith, left, more)) in
       ap value_of (sym old) ∙ sym (own_value i s.made mine (subst (IsCounted (shape_of m)) (sym s.there) h.counted)) ∙ ap (logical_value m choice) s.there)
       (or_cases _ _ h.stands)
 

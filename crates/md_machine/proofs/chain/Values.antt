@@ -65,7 +65,7 @@ kept_last (x ∷ es) (k ∷ ks) e kept a fits =
     ap (λ b. (k && same_attempt x.attempt a) || b) (kept_last es ks e kept a (omega arith))
     ∙ sym (or_assoc (k && same_attempt x.attempt a) (is_kept es ks a) (kept && same_attempt e.attempt a))
 
-else_none : (o : Option Structure) → or_else o None ≡ o
+pub else_none : (o : Option Structure) → or_else o None ≡ o
 else_none None = refl
 else_none (Some s) = refl
 

@@ -9,3 +9,4 @@ pub mod Numbered
 pub mod Serials
 pub mod PresentEntries
 pub mod Rooted
+pub mod Fates

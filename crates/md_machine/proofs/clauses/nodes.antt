@@ -10,3 +10,4 @@ pub mod InstalledValue
 pub mod KnowsFree
 pub mod InPreparation
 pub mod Unstored
+pub mod Noted

@@ -7,3 +7,5 @@ pub mod OwnInstalls
 pub mod Clean
 pub mod UndecidedSlots
 pub mod CleanAfter
+pub mod Slots
+pub mod Uninstalls

@@ -7,3 +7,4 @@ pub mod Loads
 pub mod Reads
 pub mod OldSlots
 pub mod MetSpots
+pub mod Formats

@@ -1,6 +1,7 @@
 -- What every move tells, whatever its effect: how its word is left, which steps passes have, and what is new.
 use Rattle.std.proofs.Common.{◌≢◌, ◌≡◌, ℕ, ◌<◌, ◌≤◌, ◌⊎◌, false, List, [], ◌∷◌, ◌++◌, set, sym, ap, ◌∙◌, subst, inl, inr, ⊎_elim, append-nil, true, Some}
 use Rattle.std.specs.List.{Contains, AllPairs}
+use Rattle.std.proofs.lemmas.List.{set-get_or}
 use Rattle.std.proofs.lemmas.List.Elements.{Contains-push_cases, All-contains}
 use Rattle.std.specs.Prelude.{All}
 use mathlib.Core.Option.{some}
@@ -163,6 +164,10 @@ pub record MoveFacts (m n : Machine) : Type 0 where
   -- a serial changes by a step of the pass that holds the lane
   pub serial : (desc : ℕ) → desc < desc_count (shape_of m) → word ≡ address (shape_of m) (desc_status desc) → (serial_of new ≡ serial_of (content m word)) ⊎ IsWithHolder m n.passes desc step
   pub fates : FatesGo m n p kind word new
+
+-- where the step leaves its word as it was, all words stay
+pub words_same : (m n : Machine) (v : MoveFacts m n) → v.new ≡ content m v.word → n.words ≡ m.words
+words_same m n v same = v.words ∙ ap (set m.words v.word) same ∙ set-get_or m.words v.word 0
 
 -- whatever it was made for is in hand
 pub actor : (m n : Machine) (v : MoveFacts m n) (a : AttemptId) → v.step.attempt ≡ Some a → InHandOf m a

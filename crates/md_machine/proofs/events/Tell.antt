@@ -19,6 +19,7 @@ use Rattle.md_words.specs.PlaceAt.{place_at, IsCounted}
 use Rattle.md_words.proofs.Places.{place_at-address}
 use Rattle.md_words.proofs.Words.{reads_of_below, serial_of-status_word, status_of-status_word}
 use Rattle.md_history.specs.Front.{is_lane_of}
+use Rattle.md_history.specs.FrontLaws.{lane_is_of}
 use Rattle.md_machine.specs.declared.attempt.AttemptId.{AttemptId}
 use Rattle.md_machine.specs.declared.step.Step.{Step}
 use Rattle.md_machine.specs.declared.step.Kind.{Kind}
@@ -39,7 +40,7 @@ use Rattle.md_machine.proofs.events.WordChanges.{Changes, MayLeave}
 use Rattle.md_machine.proofs.fates.Knowing.{TellsTruth}
 use Rattle.md_machine.proofs.lists.Differ.{no_pairs, pairs_head, pairs_tail}
 use Rattle.md_machine.proofs.lists.Options.{some_same}
-use Rattle.md_machine.proofs.lists.Rising.{in_drop, in_filter, in_take, lane_in, there}
+use Rattle.md_machine.proofs.lists.Rising.{in_drop, in_filter, in_take, there}
 use Rattle.md_machine.specs.Certified.{all_nodes}
 use Rattle.md_machine.specs.GoesOn.{moves_to}
 use Rattle.md_machine.specs.Installs.{IsUndecided, spot_of_install}
@@ -98,7 +99,7 @@ own_word m p a old value d (slot_new _ _) e may = sym may.0 ∙ e
 
 -- a lane of both is a lane of one
 pub joined_of : (shape : Shape) (p q : PassView) (lane : ℕ) → Contains (joined_lanes shape p.lanes q.lanes) lane → Contains p.lanes lane ⊎ Contains q.lanes lane
-joined_of shape p q lane c = ⊎_elim (λ l. inl (lane_in p.lanes lane l)) (λ l. inr (lane_in q.lanes lane l))
+joined_of shape p q lane c = ⊎_elim (λ l. inl (lane_is_of p.lanes lane l)) (λ l. inr (lane_is_of q.lanes lane l))
     (or_cases (is_lane_of p.lanes lane) (is_lane_of q.lanes lane) (in_filter (λ l. is_lane_of p.lanes l || is_lane_of q.lanes l) (range_with_len 0 shape.lanes) lane c).1)
 
 same_lanes : (p q : PassView) → q.lanes ≡ p.lanes → (lane : ℕ) → Contains q.lanes lane → Contains p.lanes lane

@@ -2,11 +2,11 @@
 use Rattle.std.proofs.Common.{◌≡◌, ℕ, ◌<◌, true, set, sym, ap, ◌∙◌, subst, inl, inr, IsTrue}
 use Rattle.std.proofs.lemmas.List.{set-get_or}
 use Rattle.std.proofs.lemmas.Bool.{true≢false, false≢true}
-use Rattle.md_words.specs.Place.{base_word, desc_status, is_counted}
+use Rattle.md_words.specs.Place.{desc_status, is_counted}
 use Rattle.md_words.specs.Layout.{words_of, desc_count, address}
 use Rattle.md_words.specs.LayoutLaws.{IsField}
 use Rattle.md_words.specs.PlaceAt.{place_at, IsCounted}
-use Rattle.md_words.proofs.Places.{place_at-address, address-place_at, address-base_word}
+use Rattle.md_words.proofs.Places.{place_at-address, address-place_at}
 use Rattle.md_machine.specs.declared.step.Kind.{Kind}
 use Rattle.md_machine.specs.declared.pass.PassView.{PassView}
 use Rattle.md_machine.proofs.clauses.entries.EntriesDecided.{status_new}
@@ -19,9 +19,6 @@ use Rattle.md_machine.specs.Trail.{is_store}
 abbrev pub Truth : Machine → PassView → Kind → (word new : ℕ) → Type 0
 Truth m p kind word new = TellsTruth (shape_of m) (set m.words word new) (step_of m p kind word new)
 
-base_is_no_status : (desc : ℕ) → base_word ≡ desc_status desc → ⊥
-base_is_no_status desc e = cc
-
 pub same_desc : (a b : ℕ) → desc_status a ≡ desc_status b → a ≡ b
 same_desc a b e = cc
 
@@ -32,13 +29,6 @@ load_truth m p kind word inside =
     let here = ap (address (shape_of m)) (sym e) ∙ (address-place_at (shape_of m) word inside).1 in
     inl (sym (ap (λ words. word_at (shape_of m) words (desc_status desc)) (set-get_or m.words word 0) ∙ ap (content m) here)) in
     record { before = λ desc e _. now desc e; after = λ desc e _. now desc e }
-
--- a load of word 0
-pub base_truth : (m : Machine) (p : PassView) (kind : Kind) (new : ℕ) → Truth m p kind 0 new
-base_truth m p kind new =
-    let never : (desc : ℕ) → place_at (shape_of m) 0 ≡ desc_status desc → ⊥ = λ desc e.
-    base_is_no_status desc (sym (ap (place_at (shape_of m)) (sym (address-base_word (shape_of m))) ∙ place_at-address (shape_of m) base_word tt) ∙ e) in
-    record { before = λ desc e _. absurd (never desc e); after = λ desc e _. absurd (never desc e) }
 
 -- a step on a counted word
 pub counted_truth : (m : Machine) (p : PassView) (kind : Kind) (word new : ℕ) → IsCounted (shape_of m) word → Truth m p kind word new

@@ -1,5 +1,5 @@
--- How a step may change one word, and that formats are kept by it.
-use Rattle.std.proofs.Common.{◌≡◌, ℕ, ◌+◌, ◌<◌, ◌≤◌, ◌⊎◌, true, false, List, get_or, set, refl, sym, ap, ◌∙◌, subst, inl, inr, ⊎_elim, le_refl, IsTrue, Some, None, length-set, arith}
+-- How a step may change one word, and what it keeps of each word.
+use Rattle.std.proofs.Common.{◌≡◌, ℕ, ◌+◌, ◌<◌, ◌≤◌, ◌⊎◌, true, false, List, get_or, set, refl, sym, ap, ◌∙◌, subst, inl, inr, ⊎_elim, le_refl, IsTrue, Some, None, arith}
 use Rattle.std.proofs.lemmas.List.{set-get_or}
 use Rattle.std.proofs.lemmas.Bool.{false≢true}
 use Rattle.md_words.specs.Content.{count_of, is_even}
@@ -10,7 +10,7 @@ use Rattle.md_words.specs.Place.{Place, base_word, bucket_head, queue_head, queu
 use Rattle.md_words.specs.Layout.{words_of, desc_count, Exists, address}
 use Rattle.md_words.specs.LayoutLaws.{IsField}
 use Rattle.md_words.specs.PlaceAt.{place_at, IsCounted}
-use Rattle.md_words.proofs.Places.{place_at-address, address-base_word}
+use Rattle.md_words.proofs.Places.{place_at-address}
 use Rattle.md_machine.specs.declared.step.TheConstants.{LAST_COUNT, VALUES}
 use Rattle.md_machine.specs.declared.attempt.Hand.{Hand}
 use Rattle.md_machine.specs.declared.pass.PassView.{PassView}
@@ -19,7 +19,7 @@ use Rattle.md_machine.specs.GoesOn.{AttemptGoesOn, StatusGoesOn, moves_to}
 use Rattle.md_machine.specs.Installs.{IsUndecided}
 use Rattle.md_machine.specs.Machine.{IsAt, Machine, content, is_installed, is_ready, present, shape_of, status_at, word_at}
 use Rattle.md_machine.specs.Own.{HasDesc}
-use Rattle.md_machine.specs.clauses.words.Formats.{AreFormats, NamesWord, StatusFits}
+use Rattle.md_machine.specs.clauses.words.Formats.{StatusFits}
 use Rattle.md_machine.specs.events.Start.{IsClean, knows_decided}
 
 -- the count rises, and an odd one leaves room
@@ -138,18 +138,6 @@ module _ (D : Type 0) (m : Machine) (field : IsField (shape_of m) m.words) (word
 
   pub at_counted : (w : ℕ) → IsCounted (shape_of m) w → Changes D m word new → w ≡ word → Rises (content m word) new
   at_counted w counted c e = rises_at D m _ new (place_at (shape_of m) word) (subst (λ v. IsTrue (is_counted (place_at (shape_of m) v))) e counted.1) c.at
-
-  -- formats are kept
-  pub formats-kept : MayLeave D m word new → AreFormats (shape_of m) m.words → AreFormats (shape_of m) later
-  formats-kept left f = record {
-    field = length-set m.words word new ∙ field;
-    base = at_left 0 (λ x. x ≡ 0) left (λ c e. absurd (at_place base_word tt c (address-base_word (shape_of m) ∙ e))) f.base;
-    room = λ w counted. at_left w (λ x. is_even (count_of x) ≡ false → count_of x ≤ LAST_COUNT + 1) left (λ c e. (at_counted w counted c e).room) (f.room w counted);
-    status = λ desc exists. at_left _ (StatusFits (shape_of m)) left (λ c e. (at_place (desc_status desc) exists c e).fits) (f.status desc exists);
-    reads = λ desc i exists. at_left _ (NamesWord (shape_of m)) left (λ c e. inr (at_place (read_word desc i) exists c e).0) (f.reads desc i exists);
-    values = λ desc j exists. at_left _ (λ x. x < VALUES) left (λ c e. (at_place (slot_new desc j) exists c e).0) (f.values desc j exists);
-    slots = λ desc j exists. at_left _ (NamesWord (shape_of m)) left (λ c e. inr (at_place (slot_word desc j) exists c e).0) (f.slots desc j exists);
-  }
 
   -- no count falls
   pub counts_rise : MayLeave D m word new → (w : ℕ) → IsCounted (shape_of m) w → count_of (content m w) ≤ count_of (get_or later w 0)

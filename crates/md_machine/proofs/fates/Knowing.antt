@@ -8,8 +8,7 @@ use Rattle.md_words.specs.Status.{status_of, serial_of}
 use Rattle.md_words.specs.Place.{Place, base_word, bucket_head, queue_head, queue_tail, node_key, node_value, node_next, desc_status, read_word, read_content, slot_word, slot_old, slot_new}
 use Rattle.md_words.specs.PlaceAt.{place_at}
 use Rattle.md_history.specs.declared.entries.Fate.{Fate}
-use Rattle.md_history.specs.declared.entries.Fate.TheVariants.{Committed, Aborted, Undecided}
-use Rattle.md_history.specs.Front.{Stays, AllStay, known_of_two, known_of_both}
+use Rattle.md_history.specs.Front.{Stays, AllStay, known_of_both}
 use Rattle.md_machine.specs.declared.attempt.AttemptId.{AttemptId}
 use Rattle.md_machine.specs.declared.attempt.HistoryEntry.{HistoryEntry}
 use Rattle.md_machine.specs.declared.step.Step.{Step}
@@ -96,18 +95,7 @@ module _ (shape : Shape) (words : List ℕ) where
       (λ store. (k, refl))
       (λ plain. known_at_fits seen rest s (place_at shape s.word) known fates refl plain truth fits k)
 
--- the decided fates of two passes agree with the fates where those of each do, and are as many as the longer ones
-first_stays : (f g h : Fate) → Stays f h → Stays g h → Stays (known_of_two f g) h
-first_stays Undecided g h a b = b
-first_stays Committed g h a b = a
-first_stays Aborted g h a b = a
-
-pub joined_stay : (fs gs hs : List Fate) → AllStay fs hs → AllStay gs hs → AllStay (known_of_both fs gs) hs
-joined_stay [] gs hs a b = b
-joined_stay (f ∷ fs) [] hs a b = a
-joined_stay (f ∷ fs) (g ∷ gs) [] a b = absurd a
-joined_stay (f ∷ fs) (g ∷ gs) (h ∷ hs) a b = (first_stays f g h a.0 b.0, joined_stay fs gs hs a.1 b.1)
-
+-- what two passes know of fates is as long as the longer of the two
 pub joined_length : (fs gs : List Fate) (n k : ℕ) → length fs ≡ n → length gs ≡ k → length (known_of_both fs gs) ≡ cond (nat_le n k) k n
 joined_length fs gs n k a b = cond_both (nat_le n k) k n (λ x. length (known_of_both fs gs) ≡ x)
     (λ le. let l = leb-true n k le in long fs gs (omega (arith, a, b, l)) ∙ b)

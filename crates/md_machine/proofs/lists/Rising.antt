@@ -1,10 +1,11 @@
--- Lists of numbers that rise, and their elements.
-use Rattle.std.proofs.Common.{◌≡◌, ℕ, zero, suc, ◌+◌, ◌<◌, ◌≤◌, ◌⊎◌, Bool, true, eqb, List, [], ◌∷◌, map, take, drop, refl, sym, ap, ◌∙◌, subst, inl, inr, ⊎_elim, eq-eqb, arith}
+-- Lists of numbers that rise, and their elements. That a lane is one of some lanes is md_history's; crates above have it
+-- from here too.
+use Rattle.std.proofs.Common.{◌≡◌, ℕ, zero, suc, ◌+◌, ◌<◌, ◌≤◌, ◌⊎◌, Bool, true, List, [], ◌∷◌, map, take, drop, refl, sym, ap, ◌∙◌, subst, inl, inr, ⊎_elim, arith}
 use Rattle.std.specs.List.{Contains, filter, range_with_len}
-use Rattle.std.proofs.lemmas.Bool.{cond_both, cond-true, or_cases, or_left, or_right, eqb-true, false≢true, cases_order}
+use Rattle.std.proofs.lemmas.Bool.{cond_both, cond-true, cases_order}
 use Rattle.std.proofs.lemmas.List.{take-append-drop}
 use Rattle.std.proofs.lemmas.List.Elements.{Contains-append_cases}
-use Rattle.md_history.specs.Front.{is_lane_of}
+pub use Rattle.md_history.specs.FrontLaws.{lane_passes as in_lane, lane_is_of as lane_in}
 use Rattle.md_machine.specs.clauses.passes.Lanes.{RiseFrom}
 
 module _ {A : Type 0} where
@@ -106,11 +107,3 @@ range_in a (suc n) y l h = cons_in a (range_with_len (a + 1) n) y (⊎_elim inl 
   where
     first_or : (a y : ℕ) → a ≤ y → (a ≡ y) ⊎ (a + 1 ≤ y)
     first_or a y l = ⊎_elim inl (λ o. ⊎_elim (λ b. inr (omega (arith, b))) (λ b. absurd (omega (arith, b, l))) o) (cases_order a y)
-
-pub lane_in : (lanes : List ℕ) (lane : ℕ) → is_lane_of lanes lane ≡ true → Contains lanes lane
-lane_in [] lane h = absurd (false≢true h)
-lane_in (x ∷ xs) lane h = ⊎_elim (λ e. cons_in x xs lane (inl (eqb-true x lane e))) (λ r. there x xs lane (lane_in xs lane r)) (or_cases (eqb x lane) (is_lane_of xs lane) h)
-
-pub in_lane : (lanes : List ℕ) (lane : ℕ) → Contains lanes lane → is_lane_of lanes lane ≡ true
-in_lane [] lane c = absurd (in_none lane c)
-in_lane (x ∷ xs) lane c = ⊎_elim (λ e. or_left (eqb x lane) (is_lane_of xs lane) (eq-eqb x lane e)) (λ i. or_right (eqb x lane) (is_lane_of xs lane) (in_lane xs lane i)) (in_cons x xs lane c)

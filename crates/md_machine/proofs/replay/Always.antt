@@ -17,7 +17,7 @@ use Rattle.md_machine.specs.clauses.words.WasIn.{MetWereIn}
 use Rattle.md_machine.proofs.Reached.{no_steps, opens}
 use Rattle.md_machine.proofs.clauses.passes.FrontsFit.{fated}
 use Rattle.md_machine.proofs.clauses.passes.FrontsLegal.{fronts_legal-kept, none_legal}
-use Rattle.md_machine.proofs.clauses.slots.UndecidedSlots.{undecided_slots}
+use Rattle.md_machine.proofs.clauses.slots.UndecidedSlots.{undecided_slots-kept}
 use Rattle.md_machine.proofs.events.Moves.{does_move}
 use Rattle.md_machine.proofs.events.Tell.{tell}
 use Rattle.md_machine.proofs.lists.At.{at_one}
@@ -26,8 +26,9 @@ use Rattle.md_machine.proofs.replay.FrontsFrom.{fronts_from}
 use Rattle.md_machine.proofs.replay.FactsRise.{facts_rise-kept, facts_stay}
 use Rattle.md_machine.proofs.replay.Kept.{Means, means-kept}
 use Rattle.md_machine.proofs.replay.Rise.{FactsRise}
-use Rattle.md_machine.proofs.replay.Settled.{settled}
-use Rattle.md_machine.proofs.replay.WasIn.{least_facts, was_in-kept}
+use Rattle.md_machine.proofs.replay.Settled.{settled-kept}
+use Rattle.md_machine.proofs.replay.LeastFacts.{least_facts-kept}
+use Rattle.md_machine.proofs.replay.WasIn.{was_in-kept}
 
 module _ (M : Meaning) (lawful : Lawful M) where
   -- an opening means what its heap means
@@ -116,8 +117,8 @@ module _ (M : Meaning) (lawful : Lawful M) where
         legal = so_far.means.legal;
         fronts_legal = so_far.fronts_legal;
         fronts = fronts_from M m kept so_far.fronts_legal;
-        least_facts = least_facts m fated so_far.facts_rise;
+        least_facts = least_facts-kept m fated so_far.facts_rise;
         was_in = so_far.was_in;
-        settled = settled M m so_far.means.exist fated so_far.was_in;
-        undecided_slots = undecided_slots M lawful m k.stamp k.stamps k.installs k.undecided kept.fates.told k.entry_slots k.rooted fated so_far.means.every;
+        settled = settled-kept M m so_far.means.exist fated so_far.was_in;
+        undecided_slots = undecided_slots-kept M lawful m k.stamp k.stamps k.installs k.undecided kept.fates.told k.entry_slots k.rooted fated so_far.means.every;
       }

@@ -33,7 +33,7 @@ use Rattle.md_machine.specs.Certified.{IsCertified, all_nodes, placed_by}
 use Rattle.md_machine.specs.Legal.{IsReplay, HistoryIsLegal, EveryHeapIsReplay, opening_state}
 use Rattle.md_machine.specs.clauses.entries.Fates.{Tells}
 use Rattle.md_machine.specs.clauses.words.Formats.{AreFormats}
-use Rattle.md_machine.specs.clauses.nodes.PlacedNodes.{NodesExist}
+use Rattle.md_machine.specs.PlacedNodes.{NodesExist}
 use Rattle.md_machine.specs.clauses.words.Stamps.{StampsHold}
 use Rattle.md_machine.specs.events.Ready.{history_entry, reads_now, ready_word, unready_word, writes_now}
 use Rattle.md_machine.proofs.chain.Entry.{entry_follows, with_entry}

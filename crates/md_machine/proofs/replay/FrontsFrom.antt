@@ -12,12 +12,13 @@ use Rattle.md_history.specs.Engine.{AreNumberedByLane, IsRising}
 use Rattle.md_history.specs.Front.{AllDecidedOn, Begun, is_lane_of, of_lane}
 use Rattle.md_history.specs.History.{committed}
 use Rattle.md_history.specs.LaneLaws.{numbered-prefix}
+use Rattle.md_history.specs.FrontLaws.{lane_is_of, lane_passes}
 use Rattle.md_machine.specs.declared.attempt.AttemptId.{AttemptId}
 use Rattle.md_machine.specs.declared.attempt.HistoryEntry.{HistoryEntry}
 use Rattle.md_machine.specs.declared.pass.PassView.{PassView}
 use Rattle.md_machine.proofs.clauses.passes.Alone.{lane_exists}
 use Rattle.md_machine.proofs.clauses.passes.Ended.{cond_cons}
-use Rattle.md_machine.proofs.lists.Rising.{here, in_cons, in_lane, lane_in, range_in, there}
+use Rattle.md_machine.proofs.lists.Rising.{here, in_cons, range_in, there}
 use Rattle.md_machine.specs.Legal.{FrontsAreFrom, FrontsLegal, begun_of}
 use Rattle.md_machine.specs.Machine.{IsAt, Machine, shape_of, was_begun}
 use Rattle.md_machine.specs.Meaning.{Meaning}
@@ -89,7 +90,7 @@ decided_on : (lanes : List ℕ) (es : List HistoryEntry) (fs : List Fate) → Al
 decided_on lanes [] fs was = tt
 decided_on lanes (e ∷ es) [] was = tt
 decided_on lanes (e ∷ es) (f ∷ fs) was = (
-  (λ own open_fate. true≢false (sym (was.0 (lane_in lanes e.entry.lane own) refl) ∙ ap is_decided open_fate)),
+  (λ own open_fate. true≢false (sym (was.0 (lane_is_of lanes e.entry.lane own) refl) ∙ ap is_decided open_fate)),
   decided_on lanes es fs was.1,
 )
 
@@ -118,10 +119,10 @@ module _ (M : Meaning) (m : Machine) (k : IsKept m) (legal : FrontsLegal M m) wh
   ended_answers : (lane : ℕ) (p : PassView) → MineIsEnded p.lanes p.seen p.known p.mine p.pending
       → All (Contains (of_lane lane (committed (entries_of p.seen) p.known))) (of_lane lane p.mine)
   ended_answers lane p ended = ⊎_elim
-      (λ own. subst (All (Contains (of_lane lane (committed (entries_of p.seen) p.known)))) (sym (ended.mine lane (lane_in p.lanes lane own)))
+      (λ own. subst (All (Contains (of_lane lane (committed (entries_of p.seen) p.known)))) (sym (ended.mine lane (lane_is_of p.lanes lane own)))
       (all_of _ (ended_of lane p.pending p.seen p.known) (λ y c. ended_in lane p.pending p.seen p.known y c)))
       (λ other. subst (All (Contains (of_lane lane (committed (entries_of p.seen) p.known))))
-      (sym (ended.outside lane (λ c. true≢false (sym (in_lane p.lanes lane c) ∙ other))))
+      (sym (ended.outside lane (λ c. true≢false (sym (lane_passes p.lanes lane c) ∙ other))))
       (All-nil (Contains (of_lane lane (committed (entries_of p.seen) p.known)))))
       (cases_Bool (is_lane_of p.lanes lane))
 

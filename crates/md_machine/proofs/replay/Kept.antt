@@ -18,15 +18,14 @@ use Rattle.md_machine.specs.GoesOn.{GoesOn}
 use Rattle.md_machine.specs.Machine.{Machine, shape_of}
 use Rattle.md_machine.specs.Resolution.{Resolves, entries_of, logical_heap}
 use Rattle.md_machine.specs.Legal.{EveryHeapIsReplay, HistoryIsLegal, IsReplay, opening_state}
-use Rattle.md_machine.specs.clauses.nodes.PlacedNodes.{NodesExist}
+use Rattle.md_machine.specs.PlacedNodes.{NodesExist}
 use Rattle.md_machine.specs.events.Ready.{history_entry, ready_word}
-use Rattle.md_machine.proofs.Invariant.{Invariant, kept_by}
+use Rattle.md_machine.proofs.Invariant.{Invariant, kept_by, rests_of}
 use Rattle.md_machine.proofs.clauses.passes.FrontsFit.{fated}
-use Rattle.md_machine.proofs.clauses.words.Statuses.{statuses_noted}
 use Rattle.md_machine.proofs.events.MoveFacts.{MoveFacts}
 use Rattle.md_machine.proofs.events.Moves.{Effect, Moves, WinsExchange, WinsReady, by_exchange, by_fate, by_install, by_ready, by_start, by_stay, by_store, by_uninstall}
 use Rattle.md_machine.proofs.events.Tell.{tell}
-use Rattle.md_machine.proofs.events.UninstallValue.{UninstallRests, wins_uninstall_value}
+use Rattle.md_machine.proofs.events.UninstallValue.{wins_uninstall_value}
 use Rattle.md_machine.proofs.replay.Enter.{entered, entered_legal, entered_replay, entry_nodes_exist}
 use Rattle.md_machine.proofs.replay.Heaps.{IsPlain, LeavesValue, exchange_agrees, exchange_leaves, exchange_stands, onward, plain_agrees}
 use Rattle.md_machine.proofs.replay.Nodes.{placed_exists}
@@ -42,20 +41,6 @@ grounds_of m k = record {
   undecided = k.undecided;
   stamp = k.stamp;
   stamps = k.stamps;
-}
-
--- and those that an uninstall rests on
-uninstall_rests : (m : Machine) → Invariant m → UninstallRests m
-uninstall_rests m k = record {
-  entries = k.entries;
-  ready_entries = k.ready_entries;
-  statuses = statuses_noted (shape_of m) m.words m.passes k.statuses;
-  brackets = k.brackets;
-  installs = k.installs;
-  odd_words = k.odd_words;
-  loads = k.loads;
-  old_slots = k.old_slots;
-  stores = k.stores;
 }
 
 module _ (M : Meaning) where
@@ -168,7 +153,7 @@ module _ (M : Meaning) where
 
     -- an uninstall leaves the value that its word stands for
     pub leaves : (choice : List Bool) (r : Resolves m choice) → LeavesValue M m n w choice r fated_now facts k.formats (grounds_of m k)
-    leaves choice r s = wins_uninstall_value m n (uninstall_rests m k) w.pass w.p w.acts.at w.kind w.word w.new s choice r
+    leaves choice r s = wins_uninstall_value m n (rests_of m k) w.pass w.p w.acts.at w.kind w.word w.new s choice r
 
     -- whatever the move does
     pub means-kept : Means n

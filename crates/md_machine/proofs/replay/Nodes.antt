@@ -10,7 +10,7 @@ use Rattle.md_machine.specs.declared.node.Structure.{Structure}
 use Rattle.md_machine.specs.LogicalHeap.{IsPlaced}
 use Rattle.md_machine.specs.Machine.{Machine, shape_of}
 use Rattle.md_machine.specs.Resolution.{kept_structure, logical_heap, or_else, structure_in}
-use Rattle.md_machine.specs.clauses.nodes.PlacedNodes.{NodesExist}
+use Rattle.md_machine.specs.PlacedNodes.{NodesExist}
 use Rattle.md_machine.proofs.lists.Rising.{here, there}
 
 no_structure : {s : Structure} → (let o : Option Structure = None in o) ≡ Some s → ⊥

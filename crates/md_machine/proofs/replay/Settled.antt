@@ -14,7 +14,7 @@ use Rattle.md_machine.specs.LogicalHeap.{Holds, IsPlaced, LogicalHeap, is_settle
 use Rattle.md_machine.specs.Machine.{IsAt, Machine, shape_of}
 use Rattle.md_machine.specs.Meaning.{Lawful, Meaning, NamesPlaced}
 use Rattle.md_machine.specs.Resolution.{InEveryResolution, always_placed, least}
-use Rattle.md_machine.specs.clauses.nodes.PlacedNodes.{NodesExist}
+use Rattle.md_machine.specs.PlacedNodes.{NodesExist}
 use Rattle.md_machine.specs.clauses.words.WasIn.{MeetsEven, MetWereIn, SettledStay, WasIn}
 use Rattle.md_machine.specs.events.Exchange.{FoundNext}
 use Rattle.md_machine.proofs.chain.SameNodes.{next_counted}
@@ -75,8 +75,8 @@ module _ (M : Meaning) (m : Machine) (word value : ℕ) (was : WasIn M m word va
 
 -- so a settled value is there by the structure that the node has now
 module _ (M : Meaning) (m : Machine) (exist : NodesExist m) (fated : length m.fates ≡ length m.history) (was : MetWereIn M m) where
-  pub settled : SettledStay m
-  settled pass p at node structure placed segment c s i held meets is choice r =
+  pub settled-kept : SettledStay m
+  settled-kept pass p at node structure placed segment c s i held meets is choice r =
       let word = address (shape_of m) (node_next node) in
       let w = was pass p at segment c s i word held meets in
       let exists = placed_exists m choice exist node (structure, placed choice r) in

@@ -21,12 +21,9 @@ use Rattle.md_machine.specs.clauses.words.WasIn.{LeastFactsHold, MeetsEven, MetW
 use Rattle.md_machine.proofs.chain.Values.{value_even}
 use Rattle.md_machine.proofs.events.MoveFacts.{MoveFacts}
 use Rattle.md_machine.proofs.events.Steps.{adds_step}
+use Rattle.md_machine.proofs.replay.LeastFacts.{least_facts-kept}
 use Rattle.md_machine.proofs.replay.Rise.{FactsRise, FactsStay}
-use Rattle.md_machine.proofs.resolutions.Placing.{least_resolves, least_within}
-
--- where facts rise, those of the least resolution hold in every one
-pub least_facts : (m : Machine) → length m.fates ≡ length m.history → FactsRise m → LeastFactsHold m
-least_facts m fated rise choice r = rise (least m.fates) choice (least_resolves m.history m.fates fated) r (least_within m.history m.fates choice r)
+use Rattle.md_machine.proofs.resolutions.Placing.{least_resolves}
 
 -- where facts stay, what kept those of a heap keeps them
 pub facts_kept : (m n : Machine) (h : LogicalHeap) → FactsStay m n → InEveryResolution m (KeepsFacts h) → InEveryResolution n (KeepsFacts h)
@@ -82,14 +79,14 @@ module _ (M : Meaning) where
       -- the content that it found
       found_was_in : word ≡ v.word → content m word ≡ held → WasIn M n word (value_of held)
       found_was_in here is = was_in_on m n word (value_of held) v.opening stay (subst (λ c. WasIn M m word (value_of c)) is
-          (standing_was_in m fated every (least_facts m fated rise) word meets.counted (ap (λ c. is_even (count_of c)) is ∙ meets.even) (rooted here)))
+          (standing_was_in m fated every (least_facts-kept m fated rise) word meets.counted (ap (λ c. is_even (count_of c)) is ∙ meets.even) (rooted here)))
 
       -- a node that was placed in the least resolution is so afterwards
       rooted_later : word ≡ v.word → IsNoUnplacedNext (logical_heap n (least n.fates)) word
       rooted_later here node exists e =
           let was_shape : shape_of n ≡ shape_of m = ap (λ (o : Opening). o.shape) v.opening in
           let before = rooted here node (subst (λ s. IsNode s node) was_shape exists) (e ∙ ap (λ s. address s (node_next node)) was_shape) in
-          let kept = facts_kept m n (logical_heap m (least m.fates)) stay (least_facts m fated rise) (least n.fates)
+          let kept = facts_kept m n (logical_heap m (least m.fates)) stay (least_facts-kept m fated rise) (least n.fates)
           (least_resolves n.history n.fates fated_later) in
           (before.0, (kept (placed_fact node before.0) (record { placed = before.1; key = tt; value = tt; next = tt })).placed)
 
@@ -100,7 +97,7 @@ module _ (M : Meaning) where
           let now : content n word ≡ held = ap (λ ws. get_or ws word 0) v.words ∙ ap (λ x. get_or (set m.words v.word v.new) x 0) here
           ∙ get_or-set_same m.words v.word v.new 0 (omega (arith, here, inside, field)) ∙ is in
           subst (λ c. WasIn M n word (value_of c)) now
-          (standing_was_in n fated_later every_later (least_facts n fated_later rise_later) word
+          (standing_was_in n fated_later every_later (least_facts-kept n fated_later rise_later) word
           (subst (λ (o : Opening). IsCounted o.shape word) (sym v.opening) meets.counted)
           (ap (λ c. is_even (count_of c)) now ∙ meets.even) (rooted_later here))
 

@@ -1,8 +1,8 @@
 pub mod Placed
-pub mod PlacedNodes
 pub mod Flags
 pub mod OwnNodes
 pub mod OwnWords
 pub mod FreeNodes
 pub mod OwnNexts
 pub mod EvenNexts
+pub mod Noted

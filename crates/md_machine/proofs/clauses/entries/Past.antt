@@ -1,5 +1,5 @@
 -- The fate of an entry whose attempt is past is decided.
-use Rattle.std.proofs.Common.{◌≡◌, ◌≢◌, ℕ, ◌&&◌, true, List, [], ◌∷◌, ◌++◌, length, set, refl, sym, ap, ◌∙◌, subst, ⊎_elim, arith}
+use Rattle.std.proofs.Common.{◌≡◌, ℕ, ◌&&◌, true, List, [], ◌∷◌, ◌++◌, length, set, refl, sym, ap, ◌∙◌, subst, ⊎_elim, arith}
 use Rattle.std.specs.List.{Contains}
 use Rattle.std.proofs.lemmas.Bool.{cases_eq, and_parts, or_cases, false≢true}
 use Rattle.md_words.specs.declared.shape.Shape.{Shape}
@@ -26,7 +26,7 @@ use Rattle.md_machine.specs.events.Start.{is_decided, knows_decided}
 abbrev pub PastDecided : Shape → List ℕ → List HistoryEntry → List Fate → Type 0
 PastDecided shape words [] fs = Unit {0}
 PastDecided shape words (e ∷ es) [] = Unit {0}
-PastDecided shape words (e ∷ es) (f ∷ fs) = (e.attempt.serial ≢ serial_of (word_at shape words (desc_status e.attempt.desc)) → is_decided f ≡ true) × PastDecided shape words es fs
+PastDecided shape words (e ∷ es) (f ∷ fs) = (¬ IsPresentIn shape words e.attempt → is_decided f ≡ true) × PastDecided shape words es fs
 
 -- a status that tells one decided fate tells no other
 tells_decided : (s : Status) (f g : Fate) → Tells s g → is_decided g ≡ true → Tells s f → is_decided f ≡ true
@@ -68,8 +68,8 @@ module _ (m : Machine) (field : IsField (shape_of m) m.words) (word new : ℕ) (
       (r.fate (ready_in m.history e a c refl now)) in
       tells_decided (status_of (status_at m e.attempt.desc)) f told.0 told.1 told.2 (fits.present now).fate
 
-  past_one : (e : HistoryEntry) (f : Fate) → Contains m.history e → EntryFits (shape_of m) m.words e f → (e.attempt.serial ≢ serial_of (status_at m e.attempt.desc) → is_decided f ≡ true)
-      → e.attempt.serial ≢ serial_of (word_at (shape_of m) later (desc_status e.attempt.desc)) → is_decided f ≡ true
+  past_one : (e : HistoryEntry) (f : Fate) → Contains m.history e → EntryFits (shape_of m) m.words e f → (¬ IsPresentIn (shape_of m) m.words e.attempt → is_decided f ≡ true)
+      → ¬ IsPresentIn (shape_of m) later e.attempt → is_decided f ≡ true
   past_one e f c fits was ne = ⊎_elim
       (λ same. was (λ eq. ne (eq ∙ same)))
       (λ r. ⊎_elim (λ now. restarted e f c fits now r) was (cases_eq e.attempt.serial (serial_of (status_at m e.attempt.desc))))

@@ -16,8 +16,8 @@ ready_or_not InProg = inl (inl refl)
 ready_or_not Committed = inl (inr refl)
 ready_or_not Aborted = inr (inr refl)
 
-pub entries_by_status : (m : Machine) → ReadsCounted (shape_of m) m.words m.history → ReadyHaveEntries (shape_of m) m.words m.history → EntriesByStatus m
-entries_by_status m reads ready desc exists = ⊎_elim
+pub present_entries-kept : (m : Machine) → ReadsCounted (shape_of m) m.words m.history → ReadyHaveEntries (shape_of m) m.words m.history → EntriesByStatus m
+present_entries-kept m reads ready desc exists = ⊎_elim
     (λ none. ⊎_elim
     (λ is. let x = ready desc exists is in inl (x.0, x.1, attempt_same x.0.attempt (present m desc) x.2 x.3))
     (λ not. inr (none, not))

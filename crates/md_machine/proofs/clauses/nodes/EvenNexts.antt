@@ -13,8 +13,8 @@ use Rattle.md_machine.specs.clauses.nodes.OwnNexts.{OwnNextsShown}
 use Rattle.md_machine.specs.clauses.slots.OddWords.{OddStand}
 use Rattle.md_machine.specs.clauses.words.Stamps.{StampsHold}
 
-pub even_nexts : (m : Machine) → OddStand (shape_of m) m.words m.installs → StampsHold m → OwnNextsShown m → OwnNextsEven m
-even_nexts m odd_stand stamps shown pass p at node own not out =
+pub even_nexts-kept : (m : Machine) → OddStand (shape_of m) m.words m.installs → StampsHold m → OwnNextsShown m → OwnNextsEven m
+even_nexts-kept m odd_stand stamps shown pass p at node own not out =
     let word = address (shape_of m) (node_next node) in
     let exists = own_node_exists (shape_of m) own.0 node own.2 in
     let counted : IsCounted (shape_of m) word = (

@@ -120,10 +120,10 @@ unseen_none m own_seen pass p at node own e c unseen = none_or_some (structure_i
     unseen (own_seen pass p at e c x.0 x.1 (subst (HasNode (shape_of m) p) (sym x.2) own)))
 
 -- with what is known of entries, fates and fronts such a node is placed in no resolution
-pub free_nodes : (m : Machine) → OpeningIsBase (shape_of m) m.opening.placed → FrontsFit (shape_of m) m.history m.fates m.passes
+pub free_nodes-kept : (m : Machine) → OpeningIsBase (shape_of m) m.opening.placed → FrontsFit (shape_of m) m.history m.fates m.passes
     → AreOfDistinctAttempts m.history
     → AllCommittedSound (entries_of m.history) m.fates → OwnNodesSeen (shape_of m) m.history m.passes → FreeAreUnplaced m
-free_nodes m base fronts distinct sound own_seen pass p at node own h =
+free_nodes-kept m base fronts distinct sound own_seen pass p at node own h =
     let front = fronts pass p at in
     let rest = front.seen.rest in
     let none : (e : HistoryEntry) → Contains rest e → structure_in e.placed node ≡ None = λ e c.

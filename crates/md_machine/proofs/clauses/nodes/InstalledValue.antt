@@ -14,7 +14,7 @@ use Rattle.md_machine.specs.declared.pass.PassView.{PassView}
 use Rattle.md_machine.proofs.chain.Values.{installed_spot, unready_kept, value_odd}
 use Rattle.md_machine.proofs.events.Attempts.{same_parts}
 use Rattle.md_machine.proofs.events.Leaves.{install_odd}
-use Rattle.md_machine.specs.Installs.{IsPresent, IsUndecided, spot_of_install}
+use Rattle.md_machine.specs.Installs.{IsUndecided, spot_of_install}
 use Rattle.md_machine.specs.Machine.{IsAt, IsPresentIn, Machine, attempt_of, content, is_ready, present, same_attempt, shape_of, status_at, word_at}
 use Rattle.md_machine.specs.Resolution.{is_kept, logical_value, value_under}
 use Rattle.md_machine.specs.Theorem.{IsKept}
@@ -48,7 +48,7 @@ installed_value m k pass p at a here prep segment inside s c won counted may cho
     let i = made.0 in let is = made.2 in
     let d = i.attempt.desc in
     let of : (P : AttemptId → Type 0) → P a → P i.attempt = λ P h. subst P (sym is.attempt) h in
-    let now : IsPresent (shape_of m) m.words i = of (IsPresentIn (shape_of m) m.words) (ap (λ (b : AttemptId). b.serial) here) in
+    let now : IsPresentIn (shape_of m) m.words i.attempt = of (IsPresentIn (shape_of m) m.words) (ap (λ (b : AttemptId). b.serial) here) in
     let waits : status_of (status_at m d) ≡ InPrep = of (λ (b : AttemptId). status_of (status_at m b.desc) ≡ InPrep) prep in
     let from = subst MayBeChanged (sym is.old) may in
     let slot = k.slots i made.1 now in

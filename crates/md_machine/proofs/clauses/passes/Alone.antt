@@ -13,13 +13,13 @@ use Rattle.md_machine.specs.declared.attempt.HistoryEntry.{HistoryEntry}
 use Rattle.md_machine.specs.declared.step.Step.{Step}
 use Rattle.md_machine.specs.declared.pass.PassView.{PassView}
 use Rattle.md_machine.proofs.clauses.passes.LanesApart.{At}
-use Rattle.md_machine.proofs.events.Attempts.{attempt_same, ready_in}
+use Rattle.md_machine.proofs.events.Attempts.{ready_in}
 use Rattle.md_machine.proofs.events.MoveFacts.{MoveFacts}
 use Rattle.md_machine.proofs.events.Moves.{PassesGo, goes_on, is_joined, is_split}
 use Rattle.md_machine.proofs.events.WordChanges.{at_left}
 use Rattle.md_machine.proofs.lists.At.{at_append, at_one, at_set}
 use Rattle.md_machine.proofs.lists.Rising.{here, in_drop, in_take}
-use Rattle.md_machine.specs.Machine.{IsLive, Machine, content, present, shape_of, status_at}
+use Rattle.md_machine.specs.Machine.{IsLive, Machine, content, shape_of, status_at}
 use Rattle.md_machine.specs.clauses.passes.Alone.{HoldersAreAlone, HoldsAll, LastStand}
 use Rattle.md_machine.specs.clauses.entries.Fates.{PastKnown}
 use Rattle.md_machine.specs.clauses.passes.Fronts.{FrontsFit}
@@ -122,7 +122,7 @@ holders_alone m apart fronts past numbered finds pass p at all =
       words = finds pass p at all;
       seen = whole (shape_of m) m.history p.seen front.seen.rest numbered front.seen.is (λ e c. front.own e c (own e c));
       undecided = λ e c unknown. ⊎_elim
-          (λ now. attempt_same e.attempt (present m e.attempt.desc) refl now)
+          (λ now. now)
           (λ ne. absurd (true≢false (sym (past e c ne pass p at (own e c)) ∙ unknown)))
           (cases_eq e.attempt.serial (serial_of (status_at m e.attempt.desc)));
     }

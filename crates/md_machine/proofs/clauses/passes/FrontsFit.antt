@@ -7,15 +7,15 @@ use Rattle.md_words.specs.declared.shape.Shape.{Shape}
 use Rattle.md_words.specs.Lanes.{lane_of_desc}
 use Rattle.md_history.specs.declared.entries.Fate.{Fate}
 use Rattle.md_history.specs.Front.{IsPrefix, AllStay, known_of_both, is_lane_of}
-use Rattle.md_history.specs.FrontLaws.{all_stay-self, all_stay-trans, prefix-trans}
+use Rattle.md_history.specs.FrontLaws.{all_stay-self, all_stay-trans, prefix-trans, lane_is_of, both-stay}
 use Rattle.md_machine.specs.declared.attempt.HistoryEntry.{HistoryEntry}
 use Rattle.md_machine.specs.declared.step.Step.{Step}
 use Rattle.md_machine.specs.declared.pass.PassView.{PassView}
 use Rattle.md_machine.proofs.clauses.entries.EntriesFit.{EntriesFit}
 use Rattle.md_machine.proofs.clauses.passes.LanesApart.{At}
-use Rattle.md_machine.proofs.fates.Knowing.{TellsTruth, joined_length, joined_stay, known_fits}
+use Rattle.md_machine.proofs.fates.Knowing.{TellsTruth, joined_length, known_fits}
 use Rattle.md_machine.proofs.lists.At.{at_append, at_one, at_set}
-use Rattle.md_machine.proofs.lists.Rising.{in_filter, in_none, lane_in}
+use Rattle.md_machine.proofs.lists.Rising.{in_filter, in_none}
 use Rattle.md_machine.specs.Machine.{Machine, shape_of}
 use Rattle.md_machine.specs.Stepping.{known_after}
 use Rattle.md_machine.specs.clauses.passes.Fronts.{FrontFits, FrontsFit}
@@ -83,11 +83,11 @@ module _ (m : Machine) (words : List ℕ) (history : List HistoryEntry) (fates :
     fated = ap length known ∙ joined_length p.known q.known (length p.seen) (length q.seen) a.fated b.fated
         ∙ cond_both (nat_le (length p.seen) (length q.seen)) q.seen p.seen (λ x. cond (nat_le (length p.seen) (length q.seen)) (length q.seen) (length p.seen) ≡ length x) (λ yes. cond-true _ _ _ yes) (λ no. cond-false _ _ _ no)
         ∙ ap length (sym seen);
-    known = subst (λ x. AllStay x fates) (sym known) (joined_stay p.known q.known fates a.known b.known);
+    known = subst (λ x. AllStay x fates) (sym known) (both-stay p.known q.known fates a.known b.known);
     own = λ e c l.
         let lane = lane_of_desc (shape_of m) e.attempt.desc in
         let either_lane = (in_filter (λ x. is_lane_of p.lanes x || is_lane_of q.lanes x) (range_with_len 0 (shape_of m).lanes) lane (subst (λ x. Contains x lane) lanes l)).1 in
-        let one : Contains p.seen e ⊎ Contains q.seen e = ⊎_elim (λ y. inl (a.own e c (lane_in p.lanes lane y))) (λ y. inr (b.own e c (lane_in q.lanes lane y))) (or_cases (is_lane_of p.lanes lane) (is_lane_of q.lanes lane) either_lane) in
+        let one : Contains p.seen e ⊎ Contains q.seen e = ⊎_elim (λ y. inl (a.own e c (lane_is_of p.lanes lane y))) (λ y. inr (b.own e c (lane_is_of q.lanes lane y))) (or_cases (is_lane_of p.lanes lane) (is_lane_of q.lanes lane) either_lane) in
         subst (λ x. Contains x e) (sym seen) (cond_both (nat_le (length p.seen) (length q.seen)) q.seen p.seen (λ x. Contains x e)
         (λ yes. ⊎_elim (λ y. within_longer p.seen q.seen history e a.seen b.seen (leb-true _ _ yes) y) (λ y. y) one)
         (λ no. let more = leb-false (length p.seen) (length q.seen) no in ⊎_elim (λ y. y) (λ y. within_longer q.seen p.seen history e b.seen a.seen (omega (arith, more)) y) one));

@@ -1,11 +1,10 @@
 -- What passes have seen is legal by what they know, after every event.
-use Rattle.std.proofs.Common.{◌≡◌, ℕ, ◌⊎◌, Bool, true, ◌∷◌, List, [], length, set, refl, sym, ap, ◌∙◌, subst, inl, inr, ⊎_elim, nat_le}
-use Rattle.std.proofs.lemmas.Bool.{cond_both, false≢true}
+use Rattle.std.proofs.Common.{◌≡◌, ℕ, ◌⊎◌, Bool, ◌∷◌, List, [], length, set, refl, sym, ap, ◌∙◌, subst, inl, inr, ⊎_elim, nat_le}
+use Rattle.std.proofs.lemmas.Bool.{cond_both}
 use Rattle.std.proofs.lemmas.List.{length-map, map-append}
 use Rattle.md_history.specs.declared.entries.Fate.{Fate}
-use Rattle.md_history.specs.declared.entries.Fate.TheVariants.{Committed, Aborted, Undecided}
 use Rattle.md_history.specs.FrontLaws.{all_stay-trans}
-use Rattle.md_history.specs.Front.{AllStay, Stays, known_of_both}
+use Rattle.md_history.specs.Front.{AllStay, known_of_both}
 use Rattle.md_history.specs.History.{AllCommittedSound, IsLegal, IsResolution, kept_acts}
 use Rattle.md_history.specs.ResolutionLaws.{legal-narrows, sound-earlier}
 use Rattle.md_history.specs.State.{IsRight, State}
@@ -14,7 +13,7 @@ use Rattle.md_machine.specs.declared.pass.PassView.{PassView}
 use Rattle.md_machine.proofs.clauses.passes.LanesApart.{At}
 use Rattle.md_machine.proofs.events.MoveFacts.{MoveFacts}
 use Rattle.md_machine.proofs.events.Moves.{FrontGoes, PassesGo, goes_on, is_joined, is_split, learns, sees_all}
-use Rattle.md_machine.proofs.fates.Decidedness.{MoreDecided, more_first, more_itself, more_known, more_second}
+use Rattle.md_machine.proofs.fates.Decidedness.{MoreDecided, more_first, more_itself, more_known, more_second, all_both}
 use Rattle.md_machine.proofs.lists.At.{at_append, at_one, at_set}
 use Rattle.md_machine.specs.Legal.{FrontsLegal, HistoryIsLegal, opening_state}
 use Rattle.md_machine.specs.Machine.{Machine, shape_of}
@@ -23,7 +22,6 @@ use Rattle.md_machine.specs.Resolution.{entries_of}
 use Rattle.md_machine.specs.clauses.passes.Fronts.{FrontFits, FrontsFit}
 use Rattle.md_machine.specs.clauses.entries.Sound.{CommittedAreSound}
 use Rattle.md_machine.specs.events.SplitJoin.{longer}
-use Rattle.md_machine.specs.events.Start.{is_decided}
 
 -- nothing seen is legal
 pub none_legal : (start : State) → IsLegal start [] []
@@ -32,22 +30,6 @@ none_legal start = record { fated = refl; sound = tt; right = right }
     right : (choice : List Bool) → IsResolution [] [] choice → IsRight start (kept_acts [] choice)
     right [] r = tt
     right (k ∷ choice) r = absurd r
-
--- of two fates that agree with a third, the one that is decided where the other is goes on from it
-agree : (f g h : Fate) → Stays f h → Stays g h → (is_decided f ≡ true → is_decided g ≡ true) → Stays f g
-agree Undecided g h a b more = tt
-agree Committed Committed h a b more = refl
-agree Committed Aborted h a b more = sym b ∙ a
-agree Committed Undecided h a b more = absurd (false≢true (more refl))
-agree Aborted Committed h a b more = sym b ∙ a
-agree Aborted Aborted h a b more = refl
-agree Aborted Undecided h a b more = absurd (false≢true (more refl))
-
-pub all_agree : (fs gs hs : List Fate) → AllStay fs hs → AllStay gs hs → MoreDecided fs gs → AllStay fs gs
-all_agree [] gs hs a b more = tt
-all_agree (f ∷ fs) [] hs a b more = absurd more
-all_agree (f ∷ fs) (g ∷ gs) [] a b more = absurd a
-all_agree (f ∷ fs) (g ∷ gs) (h ∷ hs) a b more = (agree f g h a.0 b.0 more.0, all_agree fs gs hs a.1 b.1 more.1)
 
 -- what a pass has seen and knows comes from a pass that knew no more of the same, is the whole history with its fates,
 -- or is nothing
@@ -102,7 +84,7 @@ module _ (M : Meaning) (m n : Machine) (v : MoveFacts m n) (before : FrontsFit (
       subst (λ es. Legal es p.known) (sym seen)
       (subst (λ o. IsLegal (opening_state M o) (entries_of p.seen) p.known) (sym v.opening) (was i p at)) in
       legal-narrows (opening_state M n.opening) (entries_of u.seen) p.known u.known old
-      (all_agree p.known u.known n.fates (all_stay-trans p.known m.fates n.fates (before i p at).known stay) fits.known more)
+      (all_both p.known u.known n.fates (all_stay-trans p.known m.fates n.fates (before i p at).known stay) fits.known more)
       (fits.fated ∙ sym (length-map u.seen (λ (e : HistoryEntry). e.entry)))
       (sound-earlier (entries_of u.seen) (entries_of rest) u.known n.fates fits.known
       (subst (λ es. AllCommittedSound es n.fates) (ap entries_of fits.seen.is ∙ map-append (λ (e : HistoryEntry). e.entry) u.seen rest) sound.sound))

@@ -15,6 +15,7 @@ use Rattle.md_words.proofs.Owners.{owner_of_desc}
 use Rattle.md_words.proofs.Places.{place_at-address}
 use Rattle.md_history.specs.declared.entries.Fate.{Fate}
 use Rattle.md_history.specs.Front.{is_lane_of}
+use Rattle.md_history.specs.FrontLaws.{lane_is_of, lane_passes}
 use Rattle.md_machine.specs.declared.attempt.AttemptId.{AttemptId}
 use Rattle.md_machine.specs.declared.attempt.Hand.{Hand}
 use Rattle.md_machine.specs.declared.attempt.HistoryEntry.{HistoryEntry}
@@ -30,7 +31,7 @@ use Rattle.md_machine.proofs.clauses.passes.EndedLast.{same_as}
 use Rattle.md_machine.proofs.fates.Knowing.{length_told}
 use Rattle.md_machine.proofs.lists.At.{at_append, at_one, at_set}
 use Rattle.md_machine.proofs.lists.Options.{none_some, some_same}
-use Rattle.md_machine.proofs.lists.Rising.{filter_in, here, in_filter, in_lane, in_none, lane_in, range_in, there}
+use Rattle.md_machine.proofs.lists.Rising.{filter_in, here, in_filter, in_none, range_in, there}
 use Rattle.md_machine.specs.Machine.{Machine, attempt_of, present, same_attempt, shape_of, was_begun, word_at}
 use Rattle.md_machine.specs.Stepping.{fate_told, known_after, known_at, told_by, with_fate}
 use Rattle.md_machine.specs.Trail.{Meets, SomeStepOf, is_store}
@@ -256,7 +257,7 @@ module _ (m n : Machine) (v : MoveFacts m n) (apart : LanesApart (shape_of m) m.
   hand_own q (hand_leaves _ _ pending _) a c = was_own v.pass v.p v.at a (subst (λ ps. Contains ps a) pending c)
 
   part_own : (lanes : List ℕ) → IsOwn (with_lanes (shape_of m) lanes (moved v.p))
-  part_own lanes a c = lane_in lanes (lane_of_desc (shape_of m) a.desc)
+  part_own lanes a c = lane_is_of lanes (lane_of_desc (shape_of m) a.desc)
       (in_filter (λ (b : AttemptId). is_lane_of lanes (lane_of_desc (shape_of m) b.desc)) v.p.pending a c).1
 
   joined_own : (other : ℕ) (q : PassView) → At m.passes other q → IsOwn (joined_part (shape_of m) v.p q)
@@ -265,10 +266,10 @@ module _ (m n : Machine) (v : MoveFacts m n) (apart : LanesApart (shape_of m) m.
       ⊎_elim
       (λ one. let l = was_own v.pass v.p v.at a one in
       in_joined (shape_of m) lane v.p.lanes q.lanes (apart.exists v.pass lane (v.p, v.at, l))
-      (or_left (is_lane_of v.p.lanes lane) (is_lane_of q.lanes lane) (in_lane v.p.lanes lane l)))
+      (or_left (is_lane_of v.p.lanes lane) (is_lane_of q.lanes lane) (lane_passes v.p.lanes lane l)))
       (λ two. let l = was_own other q at a two in
       in_joined (shape_of m) lane v.p.lanes q.lanes (apart.exists other lane (q, at, l))
-      (or_right (is_lane_of v.p.lanes lane) (is_lane_of q.lanes lane) (in_lane q.lanes lane l)))
+      (or_right (is_lane_of v.p.lanes lane) (is_lane_of q.lanes lane) (lane_passes q.lanes lane l)))
       (Contains-append_cases v.p.pending q.pending a c)
 
   own_go : PassesGo m n v.pass v.p s → (j : ℕ) (u : PassView) → At n.passes j u → IsOwn u

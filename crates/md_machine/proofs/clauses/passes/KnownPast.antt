@@ -1,5 +1,5 @@
 -- The pass that holds a lane knows its past entries to be decided, after every event.
-use Rattle.std.proofs.Common.{◌≡◌, ◌≢◌, ℕ, true, ◌<◌, ◌⊎◌, ◌||◌, List, [], ◌∷◌, ◌++◌, set, refl, sym, ap, ◌∙◌, subst, inl, inr, ⊎_elim}
+use Rattle.std.proofs.Common.{◌≡◌, ℕ, true, ◌<◌, ◌⊎◌, ◌||◌, List, [], ◌∷◌, ◌++◌, set, refl, sym, ap, ◌∙◌, subst, inl, inr, ⊎_elim}
 use Rattle.std.specs.List.{Contains, range_with_len}
 use Rattle.std.proofs.lemmas.Bool.{cases_eq, or_cases}
 use Rattle.md_words.specs.Status.{serial_of}
@@ -9,7 +9,7 @@ use Rattle.md_words.specs.Lanes.{lane_of_desc}
 use Rattle.md_words.specs.LayoutLaws.{IsField}
 use Rattle.md_words.proofs.Owners.{owner_of_desc, own_desc_exists}
 use Rattle.md_history.specs.Front.{AllStay, is_lane_of}
-use Rattle.md_history.specs.FrontLaws.{all_stay-trans, prefix-trans}
+use Rattle.md_history.specs.FrontLaws.{all_stay-trans, prefix-trans, lane_is_of}
 use Rattle.md_machine.specs.declared.attempt.HistoryEntry.{HistoryEntry}
 use Rattle.md_machine.specs.declared.step.Step.{Step}
 use Rattle.md_machine.specs.declared.pass.PassView.{PassView}
@@ -21,8 +21,8 @@ use Rattle.md_machine.proofs.events.Moves.{FrontGoes, PassesGo, goes_on, is_join
 use Rattle.md_machine.proofs.events.WordChanges.{serial_stays}
 use Rattle.md_machine.proofs.fates.Decidedness.{MoreDecided, knows_on, more_first, more_itself, more_known, more_second, more_stay}
 use Rattle.md_machine.proofs.lists.At.{at_append, at_one, at_set}
-use Rattle.md_machine.proofs.lists.Rising.{in_drop, in_filter, in_none, in_take, lane_in}
-use Rattle.md_machine.specs.Machine.{IsPresentIn, Machine, attempt_of, content, present, shape_of, status_at, word_at}
+use Rattle.md_machine.proofs.lists.Rising.{in_drop, in_filter, in_none, in_take}
+use Rattle.md_machine.specs.Machine.{IsPresentIn, Machine, attempt_of, content, present, shape_of, status_at}
 use Rattle.md_machine.specs.Stepping.{known_after}
 use Rattle.md_machine.specs.clauses.entries.Fates.{PastKnown}
 use Rattle.md_machine.specs.clauses.passes.Fronts.{FrontsFit}
@@ -65,8 +65,8 @@ module _ (m n : Machine) (v : MoveFacts m n) (fronts : FrontsFit (shape_of m) m.
       (λ e. let known = v.p.known in
       let mine = (in_filter (λ x. is_lane_of v.p.lanes x || is_lane_of q.lanes x) (range_with_len 0 (shape_of m).lanes) lane (subst (λ (w : PassView). Contains w.lanes lane) (sym e.1) c)).1 in
       ⊎_elim
-      (λ l. (v.pass, v.p, v.at, lane_in v.p.lanes lane l, subst (λ (w : PassView). MoreDecided v.p.known w.known) e.1 (more_first known q.known)))
-      (λ l. (other, q, acts.at, lane_in q.lanes lane l, subst (λ (w : PassView). MoreDecided q.known w.known) e.1 (more_second known q.known)))
+      (λ l. (v.pass, v.p, v.at, lane_is_of v.p.lanes lane l, subst (λ (w : PassView). MoreDecided v.p.known w.known) e.1 (more_first known q.known)))
+      (λ l. (other, q, acts.at, lane_is_of q.lanes lane l, subst (λ (w : PassView). MoreDecided q.known w.known) e.1 (more_second known q.known)))
       (or_cases (is_lane_of v.p.lanes lane) (is_lane_of q.lanes lane) mine))
       (λ x. (j, u, x.1, c, more_itself u.known))
       (at_set m.passes v.pass j _ u o.1))
@@ -87,7 +87,7 @@ module _ (m n : Machine) (v : MoveFacts m n) (field : IsField (shape_of m) m.wor
     (exists : (e : HistoryEntry) → Contains m.history e → e.attempt.desc < desc_count (shape_of m))
     (stay : AllStay m.fates n.fates) (fronts : FrontsFit (shape_of m) m.history m.fates m.passes) (later : FrontsFit (shape_of m) n.history n.fates n.passes) where
   -- the pass that held the lane knew it: before, or when it started the descriptor again
-  knew : PastKnown (shape_of m) m.words m.history m.passes → (e : HistoryEntry) → Contains m.history e → e.attempt.serial ≢ serial_of (word_at (shape_of m) (set m.words v.word v.new) (desc_status e.attempt.desc))
+  knew : PastKnown (shape_of m) m.words m.history m.passes → (e : HistoryEntry) → Contains m.history e → ¬ IsPresentIn (shape_of m) (set m.words v.word v.new) e.attempt
       → (i : ℕ) (p : PassView) → At m.passes i p → Contains p.lanes (lane_of_desc (shape_of m) e.attempt.desc) → knows_decided p.seen p.known e.attempt ≡ true
   knew was e c ne i p at mine = ⊎_elim
       (λ now. ⊎_elim
@@ -108,6 +108,6 @@ module _ (m n : Machine) (v : MoveFacts m n) (field : IsField (shape_of m) m.wor
       let from = learns_from m n v fronts stay v.passes j u u_at (lane_of_desc (shape_of m) e.attempt.desc) mine in
       let p = from.1 in let front = later j u u_at in
       knows_on n.history p.seen u.seen p.known u.known e.attempt (prefix-trans (fronts from.0 p from.2).seen (history_grows m n v)) front.seen front.fated from.4
-      (knew was e old (subst (λ ws. e.attempt.serial ≢ serial_of (word_at (shape_of m) ws (desc_status e.attempt.desc))) v.words ne) from.0 p from.2 from.3))
+      (knew was e old (subst (λ ws. ¬ IsPresentIn (shape_of m) ws e.attempt) v.words ne) from.0 p from.2 from.3))
       (λ now. absurd (ne now))
       (enters_present m n v field e c)

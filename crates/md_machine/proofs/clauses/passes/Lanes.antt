@@ -1,4 +1,4 @@
--- Every event keeps the lanes apart.
+-- Each lane is held by exactly one pass, after every event: by what a step, a split and a join do with lists of lanes.
 use Rattle.std.proofs.Common.{ℕ, refl, sym, subst}
 use Rattle.md_machine.specs.declared.step.Step.{Step}
 use Rattle.md_machine.specs.declared.pass.PassView.{PassView}

@@ -1,4 +1,4 @@
--- Every event keeps the lanes apart.
+-- Lists of passes whose lanes are apart: with one view set, one split in two, and two joined in one.
 use Rattle.std.proofs.Common.{◌≡◌, ◌≢◌, ℕ, ◌-◌, ◌/◌, ◌<◌, ◌⊎◌, ◌||◌, Bool, List, [], ◌∷◌, ◌++◌, length, take, drop, set, refl, sym, ap, ◌∙◌, subst, inl, inr, ⊎_elim, arith}
 use Rattle.std.specs.List.{Contains, range_with_len}
 use Rattle.std.proofs.lemmas.Bool.{or_cases, or_left, or_right, cases_eq}
@@ -7,9 +7,10 @@ use mathlib.Core.Option.{some, some-injective}
 use Rattle.md_words.specs.declared.shape.Shape.{Shape}
 use Rattle.md_words.proofs.Owners.{owner_of_desc}
 use Rattle.md_history.specs.Front.{is_lane_of}
+use Rattle.md_history.specs.FrontLaws.{lane_is_of, lane_passes}
 use Rattle.md_machine.specs.declared.pass.PassView.{PassView}
 use Rattle.md_machine.proofs.lists.At.{append_end, append_there, at_append, at_one, at_set, set_else, set_there}
-use Rattle.md_machine.proofs.lists.Rising.{filter_in, in_drop, in_filter, in_lane, in_none, in_range, in_take, lane_in, range_in, rise_drop, rise_filter, rise_range, rise_take, take_below_drop, take_or_drop, there}
+use Rattle.md_machine.proofs.lists.Rising.{filter_in, in_drop, in_filter, in_none, in_range, in_take, range_in, rise_drop, rise_filter, rise_range, rise_take, take_below_drop, take_or_drop, there}
 use Rattle.md_machine.specs.Event.{first_pass}
 use Rattle.md_machine.specs.Own.{HasDesc}
 use Rattle.md_machine.specs.clauses.passes.Lanes.{HoldsLane, LanesApart, RiseFrom}
@@ -107,7 +108,7 @@ lanes_join shape passes pass other p q both at there apart same a =
     (λ e. absurd (in_none lane (subst (λ lanes. Contains lanes lane) (ap (λ (v : PassView). v.lanes) (sym e.1)) h.2)))
     (λ o. ⊎_elim
     (λ e. let f = in_filter test (range_with_len 0 shape.lanes) lane (subst (λ lanes. Contains lanes lane) (ap (λ (v : PassView). v.lanes) (sym e.1) ∙ same) h.2) in
-    inl (e.0, ⊎_elim (λ l. inl (lane_in p.lanes lane l)) (λ l. inr (lane_in q.lanes lane l)) (or_cases (is_lane_of p.lanes lane) (is_lane_of q.lanes lane) f.1)))
+    inl (e.0, ⊎_elim (λ l. inl (lane_is_of p.lanes lane l)) (λ l. inr (lane_is_of q.lanes lane l)) (or_cases (is_lane_of p.lanes lane) (is_lane_of q.lanes lane) f.1)))
     (λ x. inr (x.0, o.0, (h.0, x.1, h.2)))
     (at_set passes pass j both h.0 o.1))
     (at_set (set passes pass both) other j spent h.0 h.1) in
@@ -117,7 +118,7 @@ lanes_join shape passes pass other p q both at there apart same a =
       both,
       set_else (set passes pass both) other pass spent (λ e. apart (sym e)) ∙ set_there passes pass both p at,
       subst (λ lanes. Contains lanes lane) (sym same) (filter_in test (range_with_len 0 shape.lanes) lane (let small = exists lane c in range_in 0 shape.lanes lane (omega arith) (omega (arith, small)))
-          (⊎_elim (λ l. or_left (is_lane_of p.lanes lane) (is_lane_of q.lanes lane) (in_lane p.lanes lane l)) (λ l. or_right (is_lane_of p.lanes lane) (is_lane_of q.lanes lane) (in_lane q.lanes lane l)) c)),
+          (⊎_elim (λ l. or_left (is_lane_of p.lanes lane) (is_lane_of q.lanes lane) (lane_passes p.lanes lane l)) (λ l. or_right (is_lane_of p.lanes lane) (is_lane_of q.lanes lane) (lane_passes q.lanes lane l)) c)),
     ) in
     let held_by : (i lane : ℕ) (u v : PassView) → At passes i u → At passes i v → Contains u.lanes lane → Contains v.lanes lane =
     λ i lane u v x y c. subst (λ lanes. Contains lanes lane) (ap (λ (w : PassView). w.lanes) (at_once passes i u v x y)) c in

@@ -11,7 +11,7 @@ use Rattle.md_words.proofs.Owners.{owner_of_desc}
 use Rattle.md_history.specs.declared.entries.Entry.{Entry}
 use Rattle.md_history.specs.declared.entries.Fate.{Fate}
 use Rattle.md_history.specs.Front.{AllStay, IsPrefix, is_lane_of, known_of_both, of_lane}
-use Rattle.md_history.specs.FrontLaws.{all_stay-trans, first-in_both, other-in_both, prefix-trans}
+use Rattle.md_history.specs.FrontLaws.{all_stay-trans, first-in_both, other-in_both, prefix-trans, lane_is_of, lane_passes}
 use Rattle.md_machine.specs.declared.attempt.AttemptId.{AttemptId}
 use Rattle.md_machine.specs.declared.attempt.Hand.{Hand}
 use Rattle.md_machine.specs.declared.attempt.HistoryEntry.{HistoryEntry}
@@ -19,7 +19,6 @@ use Rattle.md_machine.specs.declared.pass.PassView.{PassView}
 use Rattle.md_machine.proofs.clauses.passes.Ended.{decided_fewer, decided_longer, ended_longer, ended_pending}
 use Rattle.md_machine.proofs.clauses.passes.EndedLast.{IsBy, decided_without, ended_last, same_as}
 use Rattle.md_machine.proofs.clauses.entries.EntriesFit.{EntriesFit, entry_fits}
-use Rattle.md_machine.proofs.clauses.passes.FrontsLegal.{all_agree}
 use Rattle.md_machine.proofs.clauses.passes.HandKnows.{in_joined}
 use Rattle.md_machine.proofs.clauses.passes.KnownPast.{one_learns}
 use Rattle.md_machine.proofs.clauses.passes.LanesApart.{At}
@@ -28,7 +27,7 @@ use Rattle.md_machine.proofs.clauses.passes.MineParts.{begun_first, begun_in, be
 use Rattle.md_machine.proofs.events.MoveFacts.{MoveFacts, history_grows, new_entry}
 use Rattle.md_machine.proofs.events.Moves.{FrontGoes, HandGoes, PassesGo, goes_on, hand_begins, hand_changes, hand_ends, hand_leaves, hand_stays, is_joined, is_split, learns, sees_all}
 use Rattle.md_machine.proofs.lists.At.{at_append, at_one, at_set}
-use Rattle.md_machine.proofs.lists.Rising.{here, in_drop, in_filter, in_lane, in_none, in_take, lane_in, there}
+use Rattle.md_machine.proofs.lists.Rising.{here, in_drop, in_filter, in_none, in_take, there}
 use Rattle.md_machine.specs.Machine.{Machine, present, same_attempt, shape_of, was_begun, word_at}
 use Rattle.md_machine.specs.Resolution.{is_committed}
 use Rattle.md_machine.specs.clauses.passes.Fronts.{FrontsFit}
@@ -40,6 +39,7 @@ use Rattle.md_machine.specs.clauses.entries.Numbered.{EntriesNumbered}
 use Rattle.md_machine.specs.clauses.entries.Serials.{EntriesInTurn, SerialsRise}
 use Rattle.md_machine.specs.events.Mark.{MayMarkBegin, MayMarkEnd, answered, without}
 use Rattle.md_machine.specs.events.SplitJoin.{given_lanes, given_part, joined_lanes, joined_part, kept_lanes, kept_part, longer, spent}
+use Rattle.md_machine.proofs.fates.Decidedness.{all_both}
 
 rise_first : (es rest : List HistoryEntry) → SerialsRise (es ++ rest) → SerialsRise es
 rise_first [] rest rise = tt
@@ -188,7 +188,7 @@ module _ (m n : Machine) (v : MoveFacts m n) (apart : LanesApart (shape_of m) m.
   one_mine j q at lanes front hand = subst (λ ls. MineIsEnded ls q.seen q.known q.mine q.pending) (sym lanes) (by_front front)
     where
       known_stay : AllStay v.p.known q.known
-      known_stay = all_agree v.p.known q.known n.fates (all_stay-trans v.p.known m.fates n.fates (fronts v.pass v.p v.at).known stay)
+      known_stay = all_both v.p.known q.known n.fates (all_stay-trans v.p.known m.fates n.fates (fronts v.pass v.p v.at).known stay)
           (after j q at).known (one_learns m n v fronts stay q front)
 
       by_front : FrontGoes m n v.step v.p q → MineIsEnded v.p.lanes q.seen q.known q.mine q.pending
@@ -211,7 +211,7 @@ module _ (m n : Machine) (v : MoveFacts m n) (apart : LanesApart (shape_of m) m.
       let Q = filter (λ (a : AttemptId). is_lane_of lanes (lane_of_desc (shape_of m) a.desc)) v.p.pending in
       let same : (e : HistoryEntry) → Contains v.p.seen e → Contains lanes e.entry.lane → was_begun Q e.attempt ≡ was_begun v.p.pending e.attempt = λ e c own.
       any-filter_same (λ b. same_attempt b e.attempt) (λ (a : AttemptId). is_lane_of lanes (lane_of_desc (shape_of m) a.desc)) true
-      (λ b is. in_lane lanes (lane_of_desc (shape_of m) b.desc) (subst (Contains lanes) ((numbered.lanes e (of_history v.pass v.p v.at e c)).lane
+      (λ b is. lane_passes lanes (lane_of_desc (shape_of m) b.desc) (subst (Contains lanes) ((numbered.lanes e (of_history v.pass v.p v.at e c)).lane
       ∙ ap (λ (a : AttemptId). lane_of_desc (shape_of m) a.desc) (sym (same_as b e.attempt is))) own)) v.p.pending in record {
         mine = λ lane c. part_mine lanes lane c v.p.mine ∙ old.mine lane (fewer lane c)
             ∙ ended_pending lane v.p.pending Q v.p.seen v.p.known (λ e i at. sym (same e i (subst (Contains lanes) at c)));
@@ -283,7 +283,7 @@ module _ (m n : Machine) (v : MoveFacts m n) (apart : LanesApart (shape_of m) m.
         (λ x c own. absurd (none_new other q at other_begins x c own)) (was other q at))
 
     either_lane : (lane : ℕ) → Contains (joined_lanes (shape_of m) v.p.lanes q.lanes) lane → Contains v.p.lanes lane ⊎ Contains q.lanes lane
-    either_lane lane c = ⊎_elim (λ l. inl (lane_in v.p.lanes lane l)) (λ l. inr (lane_in q.lanes lane l))
+    either_lane lane c = ⊎_elim (λ l. inl (lane_is_of v.p.lanes lane l)) (λ l. inr (lane_is_of q.lanes lane l))
         (or_cases (is_lane_of v.p.lanes lane) (is_lane_of q.lanes lane)
         (in_filter (λ l. is_lane_of v.p.lanes l || is_lane_of q.lanes l) (range_with_len 0 (shape_of m).lanes) lane c).1)
 
@@ -304,10 +304,10 @@ module _ (m n : Machine) (v : MoveFacts m n) (apart : LanesApart (shape_of m) m.
           ∙ ap (λ l. l ++ of_lane lane q.mine)
           (grown_one.outside lane (λ c. out
           (in_joined (shape_of m) lane v.p.lanes q.lanes (apart.exists v.pass lane (v.p, v.at, c))
-          (or_left (is_lane_of v.p.lanes lane) (is_lane_of q.lanes lane) (in_lane v.p.lanes lane c)))))
+          (or_left (is_lane_of v.p.lanes lane) (is_lane_of q.lanes lane) (lane_passes v.p.lanes lane c)))))
           ∙ grown_other.outside lane (λ c. out
           (in_joined (shape_of m) lane v.p.lanes q.lanes (apart.exists other lane (q, at, c))
-          (or_right (is_lane_of v.p.lanes lane) (is_lane_of q.lanes lane) (in_lane q.lanes lane c))));
+          (or_right (is_lane_of v.p.lanes lane) (is_lane_of q.lanes lane) (lane_passes q.lanes lane c))));
       decided = decided_both v.p.lanes q.lanes
           (joined_lanes (shape_of m) v.p.lanes q.lanes) pending seen known either_lane grown_one.decided grown_other.decided;
     }

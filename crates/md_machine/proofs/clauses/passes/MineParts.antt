@@ -6,12 +6,12 @@ use Rattle.std.proofs.lemmas.List.Elements.{Contains-append_left}
 use Rattle.md_history.specs.declared.entries.Entry.{Entry}
 use Rattle.md_history.specs.declared.entries.Fate.{Fate}
 use Rattle.md_history.specs.Front.{is_lane_of, of_lane}
+use Rattle.md_history.specs.FrontLaws.{lane_is_of, lane_passes}
 use Rattle.md_machine.specs.declared.attempt.AttemptId.{AttemptId}
 use Rattle.md_machine.specs.declared.attempt.HistoryEntry.{HistoryEntry}
 use Rattle.md_machine.proofs.clauses.passes.Ended.{cond_cons}
 use Rattle.md_machine.proofs.lists.Splits.{splits}
 use Rattle.md_machine.proofs.events.Attempts.{ready_in}
-use Rattle.md_machine.proofs.lists.Rising.{in_lane, lane_in}
 use Rattle.md_machine.specs.Machine.{same_attempt, was_begun}
 use Rattle.md_machine.specs.clauses.passes.Mine.{AllEndedDecided}
 use Rattle.md_machine.specs.clauses.entries.Numbered.{AreOfDistinctAttempts}
@@ -30,7 +30,7 @@ part_mine lanes lane c (x ∷ xs) =
   where
     other : is_lane_of lanes x.lane ≡ false → eqb lane x.lane ≡ false
     other outside = ⊎_elim (λ same. absurd
-        (true≢false (sym (in_lane lanes x.lane (subst (Contains lanes) (eqb-true lane x.lane same) c)) ∙ outside))) (λ ne. ne)
+        (true≢false (sym (lane_passes lanes x.lane (subst (Contains lanes) (eqb-true lane x.lane same) c)) ∙ outside))) (λ ne. ne)
         (cases_Bool (eqb lane x.lane))
 
 -- and nothing of others
@@ -44,7 +44,7 @@ part_outside lanes lane out (x ∷ xs) =
     (cases_Bool (is_lane_of lanes x.lane))
   where
     other : is_lane_of lanes x.lane ≡ true → eqb lane x.lane ≡ false
-    other inside = ⊎_elim (λ same. absurd (out (subst (Contains lanes) (sym (eqb-true lane x.lane same)) (lane_in lanes x.lane inside)))) (λ ne. ne)
+    other inside = ⊎_elim (λ same. absurd (out (subst (Contains lanes) (sym (eqb-true lane x.lane same)) (lane_is_of lanes x.lane inside)))) (λ ne. ne)
         (cases_Bool (eqb lane x.lane))
 
 -- an attempt is among two lists where it is among either

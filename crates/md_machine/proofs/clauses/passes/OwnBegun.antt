@@ -6,6 +6,7 @@ use Rattle.std.proofs.lemmas.List.Elements.{Contains-push}
 use Rattle.md_words.specs.Lanes.{lane_of_desc}
 use Rattle.md_words.proofs.Owners.{owner_of_desc}
 use Rattle.md_history.specs.Front.{is_lane_of}
+use Rattle.md_history.specs.FrontLaws.{lane_passes}
 use Rattle.md_machine.specs.declared.attempt.AttemptId.{AttemptId}
 use Rattle.md_machine.specs.declared.step.Step.{Step}
 use Rattle.md_machine.specs.declared.pass.PassView.{PassView}
@@ -17,7 +18,7 @@ use Rattle.md_machine.proofs.events.Moves.{HandGoes, PassesGo, goes_on, hand_beg
 use Rattle.md_machine.proofs.events.Steps.{IsBoth}
 use Rattle.md_machine.proofs.events.Tell.{joined_of}
 use Rattle.md_machine.proofs.lists.At.{at_append, at_one, at_set}
-use Rattle.md_machine.proofs.lists.Rising.{in_drop, in_lane, in_none, in_take}
+use Rattle.md_machine.proofs.lists.Rising.{in_drop, in_none, in_take}
 use Rattle.md_machine.specs.Machine.{Machine, present, same_attempt, shape_of, was_begun}
 use Rattle.md_machine.specs.Own.{HasDesc}
 use Rattle.md_machine.specs.Stepping.{attempt_in_hand}
@@ -86,7 +87,7 @@ module _ (m n : Machine) (v : MoveFacts m n) (apart : LanesApart (shape_of m) m.
       let lane : lane_of_desc (shape_of m) a.desc ≡ own.0 = ((owner_of_desc (shape_of m) own.0 a.desc).0 own.2).1 in
       shown_still v.pass v.p (with_lanes (shape_of m) lanes (moved v.p)) v.at keeps a
       (begun_filter (λ b. is_lane_of lanes (lane_of_desc (shape_of m) b.desc)) v.p.pending a
-      (λ b same. ap (λ d. is_lane_of lanes (lane_of_desc (shape_of m) d)) (same_parts b a same).0 ∙ ap (is_lane_of lanes) lane ∙ in_lane lanes own.0 own.1))
+      (λ b same. ap (λ d. is_lane_of lanes (lane_of_desc (shape_of m) d)) (same_parts b a same).0 ∙ ap (is_lane_of lanes) lane ∙ lane_passes lanes own.0 own.1))
       h (own.0, fewer own.0 own.1, own.2)
 
   other_shown : (j : ℕ) (u : PassView) → At m.passes j u → (a : AttemptId) → was_begun m.begun a ≡ true → HasDesc (shape_of m) u a.desc

@@ -12,9 +12,9 @@ use Rattle.md_machine.specs.clauses.slots.Clean.{CleanAreOut}
 use Rattle.md_machine.specs.clauses.slots.OddWords.{OddStand}
 use Rattle.md_machine.specs.events.Start.{IsClean}
 
-pub clean_out : (m : Machine) (stamp : Stamp) → StampsKept m stamp → InstallsKept (shape_of m) m.words m.installs m.passes
+pub clean-kept : (m : Machine) (stamp : Stamp) → StampsKept m stamp → InstallsKept (shape_of m) m.words m.installs m.passes
     → OddStand (shape_of m) m.words m.installs → CleanAreOut m
-clean_out m stamp stamps k odd_stand pass p at desc own clean word counted = ⊎_elim
+clean-kept m stamp stamps k odd_stand pass p at desc own clean word counted = ⊎_elim
     (λ holds.
     let parts = and_parts (not (is_even (count_of (content m word)))) ((spot_of (value_of (content m word))).desc == desc) holds in
     let odd = odd_of (is_even (count_of (content m word))) parts.0 in

@@ -10,8 +10,7 @@ use Rattle.md_machine.proofs.events.Holders.{held_before, met_more}
 use Rattle.md_machine.proofs.events.Moves.{does_move}
 use Rattle.md_machine.proofs.events.Tell.{tell}
 use Rattle.md_machine.specs.Event.{Does, Event}
-use Rattle.md_machine.specs.Installs.{IsPresent}
-use Rattle.md_machine.specs.Machine.{Install, IsAt, Machine, present, shape_of, status_at}
+use Rattle.md_machine.specs.Machine.{Install, IsAt, Machine, present, shape_of, status_at, IsPresentIn}
 use Rattle.md_machine.specs.Meaning.{Meaning}
 use Rattle.md_machine.specs.Own.{HasDesc}
 use Rattle.md_machine.specs.Theorem.{IsKept}
@@ -32,7 +31,7 @@ module _ (M : Meaning) (m n : Machine) (e : Event) (km : IsKept m) (kn : IsKept 
       let made = kn.won_installs j u u_at segment c s inside a won in
       let i = made.0 in let is = made.2 in
       let same = ap (λ (x : AttemptId). x.desc) is.attempt in
-      let now : IsPresent (shape_of m) m.words i = ap (λ (x : AttemptId). x.serial) is.attempt ∙ ap (λ d. serial_of (status_at m d)) (sym same) in
+      let now : IsPresentIn (shape_of m) m.words i.attempt = ap (λ (x : AttemptId). x.serial) is.attempt ∙ ap (λ d. serial_of (status_at m d)) (sym same) in
       let shown = km.own_installs i (installs i made.1 is.attempt) now from.0 from.1 from.2 (subst (HasDesc (shape_of m) from.1) (sym same) held) in
       let t = shown.2.0 in let it = shown.2.2 in
       let met = clean from.0 from.1 from.2 held shown.0 shown.1 t shown.2.1 (subst (λ b. WonInstall b t) is.attempt it.0) in

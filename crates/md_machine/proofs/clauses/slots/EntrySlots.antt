@@ -19,8 +19,7 @@ use Rattle.md_machine.proofs.events.MoveFacts.{Enters, MoveFacts, new_entry}
 use Rattle.md_machine.proofs.events.Moves.{own_exists}
 use Rattle.md_machine.proofs.events.WordChanges.{Stores, at_left, at_place, statuses_go_on}
 use Rattle.md_machine.proofs.lists.Rising.{filter_in, in_filter, in_map, map_in}
-use Rattle.md_machine.specs.Installs.{IsPresent}
-use Rattle.md_machine.specs.Machine.{Install, IsPresentIn, Machine, attempt_of, same_attempt, shape_of, status_at, word_at}
+use Rattle.md_machine.specs.Machine.{Install, IsPresentIn, Machine, same_attempt, shape_of, status_at, word_at}
 use Rattle.md_machine.specs.clauses.slots.EntrySlots.{EntriesKeepSlots, SlotsAreInstalls}
 use Rattle.md_machine.specs.clauses.passes.Hands.{HandsFit}
 use Rattle.md_machine.specs.events.Ready.{history_entry, installs_by, write_now, writes_now}
@@ -51,7 +50,7 @@ module _ (m n : Machine) (v : MoveFacts m n) (field : IsField (shape_of m) m.wor
   abbrev Untouched : Install → Type 0
   Untouched i = Exists (shape_of m) (slot_new i.attempt.desc i.slot) → Stores m i.attempt.desc → address (shape_of m) (slot_new i.attempt.desc i.slot) ≡ v.word → ⊥
 
-  value_stays : (i : Install) → Contains m.installs i → IsPresent (shape_of m) later i → Untouched i
+  value_stays : (i : Install) → Contains m.installs i → IsPresentIn (shape_of m) later i.attempt → Untouched i
       → word_at (shape_of m) later (slot_new i.attempt.desc i.slot) ≡ word_at (shape_of m) m.words (slot_new i.attempt.desc i.slot)
   value_stays i c now untouched =
       let place = slot_new i.attempt.desc i.slot in
@@ -59,7 +58,7 @@ module _ (m n : Machine) (v : MoveFacts m n) (field : IsField (shape_of m) m.wor
       at_left (Unit {0}) m field v.word v.new (address (shape_of m) place) (λ x. x ≡ word_at (shape_of m) m.words place) v.left
       (λ ch q. absurd (untouched s.exists (at_place (Unit {0}) m field v.word v.new place s.exists ch q).1 q)) refl
 
-  write_stays : (i : Install) → Contains m.installs i → IsPresent (shape_of m) later i → Untouched i → write_now n i ≡ write_now m i
+  write_stays : (i : Install) → Contains m.installs i → IsPresentIn (shape_of m) later i.attempt → Untouched i → write_now n i ≡ write_now m i
   write_stays i c now untouched =
       let place = slot_new i.attempt.desc i.slot in
       let old = word_at (shape_of m) m.words place in
@@ -69,7 +68,7 @@ module _ (m n : Machine) (v : MoveFacts m n) (field : IsField (shape_of m) m.wor
   slots_on : (e : HistoryEntry) → SlotsAreInstalls m e → IsPresentIn (shape_of m) later e.attempt
       → ((i : Install) → i.attempt ≡ e.attempt → Untouched i) → ((i : Install) → Contains n.installs i → i.attempt ≡ e.attempt → Contains m.installs i) → SlotsAreInstalls n e
   slots_on e was now untouched none =
-      let present_now : (i : Install) → i.attempt ≡ e.attempt → IsPresent (shape_of m) later i = λ i same. subst (λ (a : AttemptId). IsPresentIn (shape_of m) later a) (sym same) now in
+      let present_now : (i : Install) → i.attempt ≡ e.attempt → IsPresentIn (shape_of m) later i.attempt = λ i same. subst (λ (a : AttemptId). IsPresentIn (shape_of m) later a) (sym same) now in
       record {
         made = λ w c. let x = was.made w c in (x.0, v.installs_stay x.0 x.1, x.2, write_stays x.0 x.1 (present_now x.0 x.2) (untouched x.0 x.2) ∙ x.3);
         all = λ i c same. let old = none i c same in subst (Contains e.writes) (sym (write_stays i old (present_now i same) (untouched i same))) (was.all i old same);
@@ -96,6 +95,6 @@ module _ (m n : Machine) (v : MoveFacts m n) (field : IsField (shape_of m) m.wor
       (λ old.
       let past = (fits e old).1 in
       let before : IsPresentIn (shape_of m) m.words e.attempt = ⊎_elim (λ more. absurd (omega (arith, more, past, now))) (λ same. now ∙ sym same.serial) (statuses_go_on (Unit {0}) m field v.word v.new v.left e.attempt.desc (fits e old).0) in
-      old_entry e old before (was e old (ap (attempt_of e.attempt.desc) before)) now)
+      old_entry e old before (was e old before) now)
       (λ y. subst (SlotsAreInstalls n) y.1 (of_new y.0 (subst (λ (z : HistoryEntry). IsPresentIn (shape_of m) later z.attempt) (sym y.1) now)))
       (new_entry m n v e c)

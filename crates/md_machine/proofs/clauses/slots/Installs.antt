@@ -23,8 +23,7 @@ use Rattle.md_machine.proofs.events.Holders.{held_before}
 use Rattle.md_machine.proofs.events.WordChanges.{StoresSlot, at_left, at_place, statuses_go_on}
 use Rattle.md_machine.proofs.lists.Rising.{in_cons, in_none}
 use Rattle.md_machine.specs.GoesOn.{StatusGoesOn}
-use Rattle.md_machine.specs.Installs.{IsPresent, serial_now}
-use Rattle.md_machine.specs.Machine.{Install, Machine, is_installed, present, same_attempt, shape_of, status_at, word_at}
+use Rattle.md_machine.specs.Machine.{Install, Machine, is_installed, present, same_attempt, shape_of, status_at, word_at, IsPresentIn}
 use Rattle.md_machine.specs.Own.{HasDesc}
 use Rattle.md_machine.specs.Trail.{SomeStepOf}
 use Rattle.md_machine.specs.clauses.passes.Hands.{HandsFit}
@@ -33,14 +32,14 @@ use Rattle.md_machine.specs.clauses.slots.Slots.{SlotStands}
 -- no install is of an attempt that is still to come, and those of present ones have their slots
 pub record InstallFits (shape : Shape) (words : List ℕ) (i : Install) : Type 0 where
   pub exists : i.attempt.desc < desc_count shape
-  pub past : i.attempt.serial ≤ serial_now shape words i
+  pub past : i.attempt.serial ≤ serial_of (word_at shape words (desc_status i.attempt.desc))
   pub room : count_of i.old ≤ LAST_COUNT
   pub even : is_even (count_of i.old) ≡ true
-  pub slot : IsPresent shape words i → SlotStands shape words i
+  pub slot : IsPresentIn shape words i.attempt → SlotStands shape words i
 
 pub record InstallsKept (shape : Shape) (words : List ℕ) (installs : List Install) (passes : List PassView) : Type 0 where
   pub fits : (i : Install) → Contains installs i → InstallFits shape words i
-  pub held : (i : Install) → Contains installs i → IsPresent shape words i → (pass : ℕ) (p : PassView) → At passes pass p → HasDesc shape p i.attempt.desc → SomeStepOf p (InstallStep i)
+  pub held : (i : Install) → Contains installs i → IsPresentIn shape words i.attempt → (pass : ℕ) (p : PassView) → At passes pass p → HasDesc shape p i.attempt.desc → SomeStepOf p (InstallStep i)
 
 -- an installed slot is one
 installed_in : (is : List Install) (i : Install) (a : AttemptId) → Contains is i → i.attempt.desc ≡ a.desc → i.attempt.serial ≡ a.serial → is_installed is a i.slot ≡ true
@@ -59,11 +58,11 @@ module _ (m n : Machine) (v : MoveFacts m n) (field : IsField (shape_of m) m.wor
   goes_on : (i : Install) → i.attempt.desc < desc_count (shape_of m) → StatusGoesOn (status_at m i.attempt.desc) (word_at (shape_of m) later (desc_status i.attempt.desc))
   goes_on i exists = statuses_go_on (Unit {0}) m field v.word v.new v.left i.attempt.desc exists
 
-  pub was_present : (i : Install) → InstallFits (shape_of m) m.words i → IsPresent (shape_of m) later i → IsPresent (shape_of m) m.words i
+  pub was_present : (i : Install) → InstallFits (shape_of m) m.words i → IsPresentIn (shape_of m) later i.attempt → IsPresentIn (shape_of m) m.words i.attempt
   was_present i fits now = let past = fits.past in ⊎_elim (λ more. absurd (omega (arith, more, past, now))) (λ same. now ∙ sym same.serial) (goes_on i fits.exists)
 
   -- nobody stores to the slot of a present install
-  slot_kept : (i : Install) → Contains m.installs i → IsPresent (shape_of m) m.words i → StoresSlot m i.attempt.desc i.slot → ⊥
+  slot_kept : (i : Install) → Contains m.installs i → IsPresentIn (shape_of m) m.words i.attempt → StoresSlot m i.attempt.desc i.slot → ⊥
   slot_kept i c present s =
       let h = s.stores.h in
       let fits = hands.fits s.stores.pass s.stores.p h s.stores.at s.stores.held in
@@ -89,7 +88,7 @@ module _ (m n : Machine) (v : MoveFacts m n) (field : IsField (shape_of m) m.wor
   aside counted q exists plain = get_or-set_other m.words v.word (address (shape_of m) q) v.new 0
       (λ e. false≢true (sym plain ∙ ap is_counted (sym (place_at-address (shape_of m) q exists) ∙ ap (place_at (shape_of m)) e) ∙ counted.1))
 
-  pub new_present : (i : Install) → InstallsHere m v.step n.passes v.word i → IsPresent (shape_of m) later i
+  pub new_present : (i : Install) → InstallsHere m v.step n.passes v.word i → IsPresentIn (shape_of m) later i.attempt
   new_present i h = h.present ∙ ap serial_of (sym (aside (subst (IsCounted (shape_of m)) h.there h.counted) (desc_status i.attempt.desc) h.slot.exists.0 refl))
 
   new_fits : (i : Install) → InstallsHere m v.step n.passes v.word i → InstallFits (shape_of m) later i
@@ -107,7 +106,7 @@ module _ (m n : Machine) (v : MoveFacts m n) (field : IsField (shape_of m) m.wor
       }
 
   -- whoever holds the lane afterwards has the steps of whoever held it
-  old_held : (i : Install) → Contains m.installs i → IsPresent (shape_of m) later i → (j : ℕ) (u : PassView) → At n.passes j u → HasDesc (shape_of m) u i.attempt.desc
+  old_held : (i : Install) → Contains m.installs i → IsPresentIn (shape_of m) later i.attempt → (j : ℕ) (u : PassView) → At n.passes j u → HasDesc (shape_of m) u i.attempt.desc
       → SomeStepOf u (InstallStep i)
   old_held i c now j u at own =
       let from = held_before m.passes n.passes v.step v.from j u at own.0 own.1 in

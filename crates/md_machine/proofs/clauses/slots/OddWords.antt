@@ -17,8 +17,8 @@ use Rattle.md_machine.proofs.clauses.slots.Installs.{InstallsKept, new_present}
 use Rattle.md_machine.proofs.clauses.words.Stamps.{Stamp, StampsKept, trail_stamped}
 use Rattle.md_machine.proofs.events.MoveFacts.{MoveFacts}
 use Rattle.md_machine.proofs.events.WordChanges.{Restarts, serial_stays}
-use Rattle.md_machine.specs.Installs.{IsPresent, spot_of_install}
-use Rattle.md_machine.specs.Machine.{Install, IsAt, Machine, attempt_of, content, present, shape_of, status_at, word_at}
+use Rattle.md_machine.specs.Installs.{spot_of_install}
+use Rattle.md_machine.specs.Machine.{Install, IsAt, Machine, attempt_of, content, present, shape_of, status_at, word_at, IsPresentIn}
 use Rattle.md_machine.specs.Trail.{Meets, SomeStepOf}
 use Rattle.md_machine.specs.clauses.passes.Hands.{HandsFit}
 use Rattle.md_machine.specs.clauses.slots.OddWords.{OddStand, StandsIn}
@@ -35,7 +35,7 @@ installed_names i room small =
 
 module _ (m : Machine) (stamp : Stamp) (stamps : StampsKept m stamp) (k : InstallsKept (shape_of m) m.words m.installs m.passes) where
   -- the descriptor of a clean attempt stands in no word: the pass met a higher count in each word that the attempt won
-  pub clean_is_out : (w : ℕ) (i : Install) → IsCounted (shape_of m) w → Contains m.installs i → IsPresent (shape_of m) m.words i → i.word ≡ w
+  pub clean_is_out : (w : ℕ) (i : Install) → IsCounted (shape_of m) w → Contains m.installs i → IsPresentIn (shape_of m) m.words i.attempt → i.word ≡ w
       → content m w ≡ installed_word i.old (spot_of_install i) → (pass : ℕ) (p : PassView) → IsAt m pass p → HasDesc (shape_of m) p i.attempt.desc
       → IsClean p (present m i.attempt.desc) → ⊥
   clean_is_out w i counted c now lies is pass p at own clean =
@@ -49,7 +49,7 @@ module _ (m : Machine) (stamp : Stamp) (stamps : StampsKept m stamp) (k : Instal
       omega (arith, bound, left, higher)
 
   -- and it isn't started again
-  not_restarted : (w : ℕ) (i : Install) → IsCounted (shape_of m) w → Contains m.installs i → IsPresent (shape_of m) m.words i → i.word ≡ w
+  not_restarted : (w : ℕ) (i : Install) → IsCounted (shape_of m) w → Contains m.installs i → IsPresentIn (shape_of m) m.words i.attempt → i.word ≡ w
       → content m w ≡ installed_word i.old (spot_of_install i) → Restarts m i.attempt.desc → ⊥
   not_restarted w i counted c now lies is r = clean_is_out w i counted c now lies is r.pass r.p r.at r.own r.clean
 

@@ -13,7 +13,7 @@ step_won i s step = (
   record { attempt = refl; there = sym step.there; old = sym step.before; left = step.after },
 )
 
-pub own_installs : (m : Machine) → InstallsKept (shape_of m) m.words m.installs m.passes → OwnInstallsShown m
-own_installs m k i c now pass p at own =
+pub own_installs-kept : (m : Machine) → InstallsKept (shape_of m) m.words m.installs m.passes → OwnInstallsShown m
+own_installs-kept m k i c now pass p at own =
     let made = k.held i c now pass p at own in
     (made.0, made.1, (made.2.0, made.2.1, step_won i made.2.0 made.2.2))

@@ -22,8 +22,8 @@ use Rattle.md_machine.proofs.events.MoveFacts.{MoveFacts, Uninstalls}
 use Rattle.md_machine.proofs.events.Steps.{HasStep}
 use Rattle.md_machine.proofs.lists.Pairs.{pairs_of}
 use Rattle.md_machine.proofs.lists.Rising.{there}
-use Rattle.md_machine.specs.Installs.{IsPresent, IsUndecided, spot_of_install}
-use Rattle.md_machine.specs.Machine.{Install, IsAt, Machine, content, shape_of, status_at, word_at}
+use Rattle.md_machine.specs.Installs.{IsUndecided, spot_of_install}
+use Rattle.md_machine.specs.Machine.{Install, IsAt, Machine, content, shape_of, status_at, word_at, IsPresentIn}
 use Rattle.md_machine.specs.Trail.{Finds, Meets, segments}
 use Rattle.md_machine.specs.clauses.words.Brackets.{NotesSerial, NotesStanding, serial_in}
 use Rattle.md_machine.specs.clauses.passes.Hands.{HandsFit}
@@ -88,13 +88,13 @@ module _ (m : Machine) (noted : StatusesNoted (shape_of m) m.words m.passes) (br
     later = set m.words v.word v.new
 
     -- an attempt that is undecided afterwards was undecided
-    was_undecided : (i : Install) → InstallFits (shape_of m) m.words i → IsPresent (shape_of m) later i → IsUndecided (word_at (shape_of m) later (desc_status i.attempt.desc)) → IsUndecided (status_at m i.attempt.desc)
+    was_undecided : (i : Install) → InstallFits (shape_of m) m.words i → IsPresentIn (shape_of m) later i.attempt → IsUndecided (word_at (shape_of m) later (desc_status i.attempt.desc)) → IsUndecided (status_at m i.attempt.desc)
     was_undecided i fits now undecided = let past = fits.past in ⊎_elim
         (λ same. subst IsUndecided same undecided)
         (λ o. ⊎_elim (λ goes. goes.1) (λ more. absurd (omega (arith, now, past, more))) o)
         (status_step m field v.word v.new v.left i.attempt.desc fits.exists)
 
-    old_stands : (i : Install) → Contains m.installs i → IsPresent (shape_of m) later i → IsUndecided (word_at (shape_of m) later (desc_status i.attempt.desc)) → get_or later i.word 0 ≡ installed_word i.old (spot_of_install i)
+    old_stands : (i : Install) → Contains m.installs i → IsPresentIn (shape_of m) later i.attempt → IsUndecided (word_at (shape_of m) later (desc_status i.attempt.desc)) → get_or later i.word 0 ≡ installed_word i.old (spot_of_install i)
     old_stands i c now undecided =
         let fits = k.fits i c in
         let present = was_present m n v field hands k i fits now in

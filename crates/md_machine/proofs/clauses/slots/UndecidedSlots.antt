@@ -24,7 +24,7 @@ use Rattle.md_machine.proofs.events.Leaves.{install_odd}
 use Rattle.md_machine.proofs.lists.Rising.{here, there}
 use Rattle.md_machine.proofs.resolutions.Placing.{greatest_resolves}
 use Rattle.md_machine.specs.FreeToReturn.{IsFreeToReturn, IsInPreparation}
-use Rattle.md_machine.specs.Installs.{IsPresent, IsUndecided, spot_of_install}
+use Rattle.md_machine.specs.Installs.{IsUndecided, spot_of_install}
 use Rattle.md_machine.specs.Legal.{EveryHeapIsReplay}
 use Rattle.md_machine.specs.LogicalHeap.{IsNoUnplacedNext}
 use Rattle.md_machine.specs.Machine.{Install, IsPresentIn, Machine, attempt_of, present, same_attempt, shape_of, word_at}
@@ -113,12 +113,12 @@ module _ (M : Meaning) (lawful : Lawful M) (m : Machine) (stamp : Stamp) (stamps
   abbrev most : List Bool
   most = greatest m.history m.fates
 
-  pub undecided_slots : UndecidedNamePlaced M m
-  undecided_slots i slot may =
+  pub undecided_slots-kept : UndecidedNamePlaced M m
+  undecided_slots-kept i slot may =
       let resolves = greatest_resolves m.history m.fates fated in
       let h = logical_heap m most in
       let u = still_commits (IsRooted h) (shape_of m) m.words m.history m.fates i.attempt told (rooted most resolves) may in
-      let now : IsPresent (shape_of m) m.words i = subst (IsPresentIn (shape_of m) m.words) u.same u.present in
+      let now : IsPresentIn (shape_of m) m.words i.attempt = subst (IsPresentIn (shape_of m) m.words) u.same u.present in
       let status : IsUndecided (word_at (shape_of m) m.words (desc_status i.attempt.desc)) = inr
       (subst (λ (a : AttemptId). status_of (word_at (shape_of m) m.words (desc_status a.desc)) ≡ InProg) u.same u.status) in
       let stands = undecided i slot.made now status in
@@ -132,7 +132,7 @@ module _ (M : Meaning) (lawful : Lawful M) (m : Machine) (stamp : Stamp) (stamps
       ∙ cond-true (is_kept m.history most (present m i.attempt.desc)) (new_value_of m i)
       (value_of (word_at (shape_of m) m.words (slot_old i.attempt.desc i.slot))) kept in
       let placed : IsNoUnplacedNext h i.word = All-contains (λ (w : Write). IsNoUnplacedNext h w.word) u.entry.writes (write_now m i) u.such
-      ((entry_slots u.entry u.among (ap (attempt_of u.entry.attempt.desc) u.present)).all i slot.made (sym u.same)) in
+      ((entry_slots u.entry u.among u.present).all i slot.made (sym u.same)) in
       subst (NamesPlaced h) value (lawful.link h i.word (every most resolves).valid counted slot.link placed)
 
 -- so a node that such a slot names is placed in the greatest resolution

@@ -1,4 +1,4 @@
--- What the steps of passes show is kept by every event.
+-- Each install that a pass won is one of the machine's, after every event.
 use Rattle.std.proofs.Common.{subst, ⊎_elim}
 use Rattle.md_machine.specs.declared.attempt.AttemptId.{AttemptId}
 use Rattle.md_machine.proofs.events.MoveFacts.{MoveFacts}

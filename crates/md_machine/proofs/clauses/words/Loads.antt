@@ -1,7 +1,6 @@
 -- Loads of a ready attempt's reads and slots agree with what stands there, after every event.
 use Rattle.std.proofs.Common.{◌≡◌, ◌≢◌, ℕ, ◌<◌, ◌≤◌, sym, ap, ◌∙◌, subst, ⊎_elim, set, get_or, get_or-set_other, arith}
 use Rattle.std.specs.List.{Contains}
-use Rattle.std.proofs.lemmas.List.{set-get_or}
 use Rattle.std.proofs.lemmas.Bool.{cases_eq, true≢false}
 use Rattle.md_words.specs.declared.status.Status.TheVariants.{InPrep}
 use Rattle.md_words.specs.Status.{status_of, serial_of}
@@ -14,7 +13,7 @@ use Rattle.md_machine.specs.declared.step.Step.{Step}
 use Rattle.md_machine.specs.declared.attempt.HistoryEntry.{HistoryEntry}
 use Rattle.md_machine.proofs.clauses.words.Statuses.{NotedStatus, StatusesNoted}
 use Rattle.md_machine.proofs.events.Attempts.{ready_in}
-use Rattle.md_machine.proofs.events.MoveFacts.{Enters, MoveFacts, new_entry}
+use Rattle.md_machine.proofs.events.MoveFacts.{Enters, MoveFacts, new_entry, words_same}
 use Rattle.md_machine.proofs.events.Moves.{own_exists}
 use Rattle.md_machine.proofs.events.Steps.{HasStep}
 use Rattle.md_machine.proofs.events.WordChanges.{statuses_go_on}
@@ -37,10 +36,6 @@ module _ (m n : Machine) (v : MoveFacts m n) (field : IsField (shape_of m) m.wor
       let now_set : IsPresentIn (shape_of m) (set m.words v.word v.new) e.attempt = subst (λ ws. IsPresentIn (shape_of m) ws e.attempt) v.words now in
       ⊎_elim (λ more. absurd (omega (arith, more, before, now_set))) (λ same. now_set ∙ sym same.serial) (statuses_go_on (Unit {0}) m field v.word v.new v.left e.attempt.desc fits.0)
 
-  -- where the word stays, all do
-  pub all_stay_words : v.new ≡ content m v.word → n.words ≡ m.words
-  all_stay_words same = v.words ∙ ap (set m.words v.word) same ∙ set-get_or m.words v.word 0
-
   pub other_word : (w : ℕ) → w ≢ v.word → get_or n.words w 0 ≡ content m w
   other_word w ne = ap (λ ws. get_or ws w 0) v.words ∙ get_or-set_other m.words v.word w v.new 0 ne
 
@@ -48,7 +43,7 @@ module _ (m n : Machine) (v : MoveFacts m n) (field : IsField (shape_of m) m.wor
   pub entry_word_stays : (e : HistoryEntry) → Contains m.history e → IsPresentIn (shape_of m) m.words e.attempt → (w : ℕ) → IsEntryWord e.attempt.desc (place_at (shape_of m) w) → get_or n.words w 0 ≡ content m w
   entry_word_stays e c present w is = ⊎_elim
       (λ here. ⊎_elim
-      (λ same. ap (λ ws. get_or ws w 0) (all_stay_words same))
+      (λ same. ap (λ ws. get_or ws w 0) (words_same m n v same))
       (λ s.
       let fits = hands.fits s.pass s.p s.h s.at s.held in
       absurd (true≢false (sym (ready_in m.history e s.h.attempt c (sym s.of) (present ∙ ap (λ d. serial_of (status_at m d)) (sym s.of) ∙ sym fits.present)) ∙ s.unready)))

@@ -1,14 +1,13 @@
 -- The key and the value of a placed node stand as flagged steps found them, after every event.
-use Rattle.std.proofs.Common.{get_or-set_other, ◌≡◌, ℕ, List, length, sym, ap, ◌∙◌, subst, ⊎_elim, true, set, get_or}
+use Rattle.std.proofs.Common.{get_or-set_other, ◌≡◌, ℕ, List, length, sym, ap, ◌∙◌, subst, ⊎_elim, true, get_or}
 use Rattle.std.specs.List.{Contains}
-use Rattle.std.proofs.lemmas.List.{set-get_or}
 use Rattle.std.proofs.lemmas.Bool.{cases_eq}
 use Rattle.md_words.specs.Place.{Place, node_key, node_value, node_next}
 use Rattle.md_words.specs.PlaceAt.{place_at}
 use Rattle.md_machine.specs.declared.step.Step.{Step}
 use Rattle.md_machine.specs.declared.pass.PassView.{PassView}
 use Rattle.md_machine.proofs.clauses.nodes.Placed.{NotedAlways, always_in}
-use Rattle.md_machine.proofs.events.MoveFacts.{MoveFacts}
+use Rattle.md_machine.proofs.events.MoveFacts.{MoveFacts, words_same}
 use Rattle.md_machine.proofs.events.Steps.{adds_step}
 use Rattle.md_machine.proofs.resolutions.Placing.{always_not_never}
 use Rattle.md_machine.specs.Machine.{IsAt, Machine, content, shape_of}
@@ -30,10 +29,6 @@ data_of x k place is d = ⊎_elim (λ y. y) (λ next. absurd (⊎_elim (λ e. ne
     next_value e = cc
 
 module _ (m n : Machine) (v : MoveFacts m n) (fated : length m.fates ≡ length m.history) (placed : NotedAlways m) (flags : FlaggedAreNoted m) (was : NodeWordsStand m) where
-  -- where a word stays, all do
-  words_same : v.new ≡ content m v.word → n.words ≡ m.words
-  words_same same = v.words ∙ ap (set m.words v.word) same ∙ set-get_or m.words v.word 0
-
   -- nobody changes the key or the value of a node that every resolution places
   data_stays : (k : ℕ) → always_placed m k ≡ true → IsDataOf k (place_at (shape_of m) v.word) → v.new ≡ content m v.word
   data_stays k always d = ⊎_elim (λ same. same) (λ never. absurd (always_not_never m k fated always never)) (v.data_word k d)
@@ -44,7 +39,7 @@ module _ (m n : Machine) (v : MoveFacts m n) (fated : length m.fates ≡ length 
       let note = flags pass p at segment c s i flag in
       let always = always_in m note.node (placed pass p at note.node note.among) in
       let stays : get_or n.words s.word 0 ≡ content m s.word = ⊎_elim
-      (λ e. ap (λ ws. get_or ws s.word 0) (words_same (data_stays note.node.node always (subst (λ w. IsDataOf note.node.node (place_at (shape_of m) w)) e (data_of note.node.node k _ note.is d)))))
+      (λ e. ap (λ ws. get_or ws s.word 0) (words_same m n v (data_stays note.node.node always (subst (λ w. IsDataOf note.node.node (place_at (shape_of m) w)) e (data_of note.node.node k _ note.is d)))))
       (λ ne. ap (λ ws. get_or ws s.word 0) v.words ∙ get_or-set_other m.words v.word s.word v.new 0 ne)
       (cases_eq s.word v.word) in
       record { before = f.before ∙ sym stays; after = f.after ∙ sym stays }
@@ -59,7 +54,7 @@ module _ (m n : Machine) (v : MoveFacts m n) (fated : length m.fates ≡ length 
   new_stands flag k d =
       let here = subst (λ w. IsDataOf k (place_at (shape_of m) w)) v.there d in
       let same = data_stays k (flag_placed flag k here) here in
-      let stands : content m v.word ≡ get_or n.words v.step.word 0 = ap (content m) (sym v.there) ∙ ap (λ ws. get_or ws v.step.word 0) (sym (words_same same)) in
+      let stands : content m v.word ≡ get_or n.words v.step.word 0 = ap (content m) (sym v.there) ∙ ap (λ ws. get_or ws v.step.word 0) (sym (words_same m n v same)) in
       record { before = v.before ∙ stands; after = v.after ∙ same ∙ stands }
 
   pub node_words-kept : (pass : ℕ) (p : PassView) → IsAt n pass p → DataStands (shape_of m) n.words p

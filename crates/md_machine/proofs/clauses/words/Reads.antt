@@ -83,7 +83,7 @@ module _ (m n : Machine) (v : MoveFacts m n) (field : IsField (shape_of m) m.wor
           split : (a b : ℕ) → a ≤ b → (a ≡ b) ⊎ (a < b)
           split a b le = ⊎_elim inl (λ d. inr (omega (arith, d, le))) (cases_eq a b)
 
-  pub reads_moved : MovedReads n.words n.history
+  reads_moved : MovedReads n.words n.history
   reads_moved e c r of fell = ⊎_elim
       (λ old. old_moved e old r of fell)
       (λ y. let mine = subst (λ (z : HistoryEntry). Contains z.reads r) (sym y.1) of in subst (λ z. ReadMoved n.words z r) y.1 (new_moved y.0 r mine (enters_met m n v y.0 r mine) fell))
@@ -104,5 +104,9 @@ module _ (m n : Machine) (v : MoveFacts m n) (field : IsField (shape_of m) m.wor
       (λ new. absurd (not_ready_before m n v field hands statuses past new.0 s has (subst (λ (x : HistoryEntry). MeetsReady (shape_of m) x.attempt s) (sym new.1) meets)))
       (new_entry m n v e c)
 
-  pub reads_found : EachPair (ReadFound (shape_of m) m.history) m.passes → EachPair (ReadFound (shape_of m) n.history) n.passes
+  reads_found : EachPair (ReadFound (shape_of m) m.history) m.passes → EachPair (ReadFound (shape_of m) n.history) n.passes
   reads_found = pairs-kept m.passes n.passes v.step (ReadFound (shape_of m) m.history) (ReadFound (shape_of m) n.history) v.from found_old found_new
+
+  -- both
+  pub reads-kept : EachPair (ReadFound (shape_of m) m.history) m.passes → MovedReads n.words n.history × EachPair (ReadFound (shape_of m) n.history) n.passes
+  reads-kept found = (reads_moved, reads_found found)

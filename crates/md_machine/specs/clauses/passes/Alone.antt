@@ -4,7 +4,7 @@ use Rattle.md_words.specs.declared.shape.Shape.{Shape}
 use Rattle.md_machine.specs.declared.attempt.HistoryEntry.{HistoryEntry}
 use Rattle.md_machine.specs.declared.step.Step.{Step}
 use Rattle.md_machine.specs.declared.pass.PassView.{PassView}
-use Rattle.md_machine.specs.Machine.{IsAt, IsLive, Machine, content, present, shape_of}
+use Rattle.md_machine.specs.Machine.{IsAt, IsLive, Machine, content, shape_of, IsPresentIn}
 use Rattle.md_machine.specs.events.Start.{knows_decided}
 
 -- the pass holds every lane of the field
@@ -22,7 +22,7 @@ pub record IsAlone (m : Machine) (pass : ℕ) (p : PassView) : Type 0 where
   pub no_other : (other : ℕ) (q : PassView) → IsAt m other q → IsLive q → other ≡ pass
   pub words : LastStand m p.trail
   pub seen : p.seen ≡ m.history
-  pub undecided : (e : HistoryEntry) → Contains m.history e → knows_decided p.seen p.known e.attempt ≡ false → e.attempt ≡ present m e.attempt.desc
+  pub undecided : (e : HistoryEntry) → Contains m.history e → knows_decided p.seen p.known e.attempt ≡ false → IsPresentIn (shape_of m) m.words e.attempt
 
 -- so it is of each pass that holds all lanes
 abbrev pub HoldersAreAlone : Machine → Type 0

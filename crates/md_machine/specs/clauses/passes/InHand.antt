@@ -1,4 +1,4 @@
--- Where the steps lie that were made for an attempt in hand, and what it stored.
+-- Where the steps lie that were made for an attempt in hand.
 use Rattle.std.specs.Prelude.{◌≡◌, ◌≢◌, ℕ, List, Contains, Some}
 use Rattle.md_machine.specs.declared.attempt.AttemptId.{AttemptId}
 use Rattle.md_machine.specs.declared.attempt.Hand.{Hand}

@@ -2,7 +2,7 @@
 use Rattle.std.specs.Prelude.{◌≡◌, Contains}
 use Rattle.md_machine.specs.declared.attempt.HistoryEntry.{HistoryEntry}
 use Rattle.md_machine.specs.declared.attempt.Write.{Write}
-use Rattle.md_machine.specs.Machine.{Install, Machine, present}
+use Rattle.md_machine.specs.Machine.{Install, Machine, IsPresentIn, shape_of}
 use Rattle.md_machine.specs.events.Ready.{write_now}
 
 -- the slots of an entry are those that its attempt installed, each with its word, its old content, and the new value
@@ -13,4 +13,4 @@ pub record SlotsAreInstalls (m : Machine) (e : HistoryEntry) : Type 0 where
 
 -- so it is of every entry whose attempt is the present one of its descriptor
 abbrev pub EntriesKeepSlots : Machine → Type 0
-EntriesKeepSlots m = (e : HistoryEntry) → Contains m.history e → e.attempt ≡ present m e.attempt.desc → SlotsAreInstalls m e
+EntriesKeepSlots m = (e : HistoryEntry) → Contains m.history e → IsPresentIn (shape_of m) m.words e.attempt → SlotsAreInstalls m e

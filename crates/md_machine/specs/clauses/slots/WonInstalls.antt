@@ -1,4 +1,4 @@
--- What the steps of passes show of what stands now.
+-- Which installs the steps of passes show.
 use Rattle.std.specs.Prelude.{◌≡◌, ℕ, List, Contains}
 use Rattle.md_machine.specs.declared.attempt.AttemptId.{AttemptId}
 use Rattle.md_machine.specs.declared.pass.PassView.{PassView}

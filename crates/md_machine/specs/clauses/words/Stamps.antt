@@ -6,7 +6,7 @@ use Rattle.md_words.specs.Place.{read_word, read_content}
 use Rattle.md_words.specs.Layout.{desc_count}
 use Rattle.md_words.specs.PlaceAt.{IsCounted}
 use Rattle.md_machine.specs.declared.pass.PassView.{PassView}
-use Rattle.md_machine.specs.Machine.{Install, IsAt, Machine, content, present, shape_of, status_at, word_at}
+use Rattle.md_machine.specs.Machine.{Install, IsAt, Machine, content, shape_of, status_at, word_at, IsPresentIn}
 use Rattle.md_machine.specs.Trail.{Meets, SomeStepOf}
 
 -- a trail has the content as found or left in the word
@@ -20,7 +20,7 @@ NotedByRead m word held = (desc : ℕ) × (i : ℕ) × (desc < desc_count (shape
 
 -- it is the old content of a slot that the present attempt of a descriptor installed in the word
 abbrev pub NotedBySlot : Machine → (word held : ℕ) → Type 0
-NotedBySlot m word held = (i : Install) × Contains m.installs i × (i.attempt ≡ present m i.attempt.desc) × (i.word ≡ word) × (i.old ≡ held)
+NotedBySlot m word held = (i : Install) × Contains m.installs i × IsPresentIn (shape_of m) m.words i.attempt × (i.word ≡ word) × (i.old ≡ held)
 
 -- it is noted for the word
 abbrev pub IsNoted : Machine → (word held : ℕ) → Type 0
