@@ -1,6 +1,6 @@
 -- The store for one thread: what contracts see of its passes and its transactions.
 use Rattle.std.specs.Prelude.{◌≡◌, ◌==◌, ◌+◌, ◌-◌, ◌^◌, ℕ, Bool, true, false, List, [], ◌∷◌, length, map, Option, Some, None, if◌then◌else◌, cond, refl}
-use Rattle.std.proofs.Common.{ap}
+use Rattle.std.proofs.Common.{ap, ◌∙◌}
 use Rattle.std.proofs.Math.Path.{fun_ext}
 use Rattle.md_history.specs.declared.acts.Op.{Op}
 use Rattle.md_history.specs.declared.acts.Act.{Act}
@@ -48,6 +48,10 @@ front_of p = front_from p.entries
 -- each attempt that it began was committed, but for one that ran out of memory; after that one it begins none
 abbrev pub begun_by : Plain → ℕ
 begun_by p = length p.entries + (if p.broken then 1 else 0)
+
+pub begun_by-fresh : (p : Plain) → p.entries ≡ [] → p.broken ≡ false → begun_by p ≡ 0
+begun_by-fresh p none whole =
+    ap (λ (es : List Entry). length es + (if p.broken then 1 else 0)) none ∙ ap (λ (b : Bool). 0 + (if b then 1 else 0)) whole
 
 -- the pass is of a store that began with this state
 pub record IsPassOf (start : State) (p : Plain) : Type 0 where

@@ -2,7 +2,8 @@
 
 ghost use Rattle.std.specs.Prelude.{◌≡◌, ◌<◌, ℕ, List, Option, IfOk, IfErr};
 ghost use Rattle.md_history.specs.declared.acts.Act.{Act};
-ghost use Rattle.md_history.specs.declared.acts.Op.TheVariants.{Get, Insert, Remove, Enqueue, Dequeue, Front};
+ghost use Rattle.md_history.specs.declared.acts.Op.TheVariants.{Get, Insert, Remove, Enqueue};
+ghost use Rattle.md_history.specs.declared.acts.Op.TheVariants.{Dequeue, Front};
 ghost use Rattle.md_history.specs.declared.acts.Reply.TheVariants.{Value, Flag, Nothing};
 ghost use Rattle.md_history.specs.Calls.{Refusal, Answered, Refused, IsLineLength};
 

@@ -1,9 +1,11 @@
 //! What the maps and the queues contain, in one place.
 
-ghost use Rattle.std.specs.Prelude.{◌≡◌, ◌<◌, ◌≤◌, [], ◌∷◌, ◌++◌, map, length, take, drop, slice_get, is_none, IfOk, OnOk, OnErr};
+ghost use Rattle.std.specs.Prelude.{◌≡◌, ◌<◌, ◌≤◌, [], ◌∷◌, ◌++◌, map, length, take, drop};
+ghost use Rattle.std.specs.Prelude.{slice_get, is_none, IfOk, OnOk, OnErr};
 ghost use Rattle.std.specs.FinMap as fin;
 ghost use Rattle.std.specs.Ordering.{nat_cmp};
-ghost use Rattle.md_history.specs.State.{State, empty_state, map_at, queue_at, with_map, with_queue, line_of, after};
+ghost use Rattle.md_history.specs.State.{State, empty_state, map_at, queue_at, with_map};
+ghost use Rattle.md_history.specs.State.{with_queue, line_of, after};
 ghost use Rattle.md_history.specs.Contents.{table_of};
 ghost use Rattle.md_history.specs.declared.acts.Op.TheVariants.{Insert};
 

@@ -1,12 +1,14 @@
 //! What every store offers.
 
-ghost use Rattle.std.specs.Prelude.{◌≡◌, ◌≤◌, ◌↔◌, ◌+◌, ℕ, List, length, IsNone, IfSome, IfNone, IfOk, unwrap_or, option_map};
+ghost use Rattle.std.specs.Prelude.{◌≡◌, ◌≤◌, ◌↔◌, ◌+◌, ℕ, List, length, IsNone, IfSome, IfNone};
+ghost use Rattle.std.specs.Prelude.{IfOk, unwrap_or, option_map};
 ghost use Rattle.md_history.specs.declared.stops.Stop.{Stop};
 ghost use Rattle.md_history.specs.State.{State, HaveSameNumbers};
 ghost use Rattle.md_history.specs.Counts.{IsSmall};
 ghost use Rattle.md_history.specs.Front.{Front as View, LegalFrom, replay_of};
 ghost use Rattle.md_history.specs.Attempt.{Commits, Stops, IsCounted, IfCommitted, IfStopped};
-ghost use Rattle.md_history.specs.Engine.{Limits, bounds_in, IsFrontFrom, empty_front, AreApart, Splits, Joins, SettlesFrom, HasRoom, IsNoConflict};
+ghost use Rattle.md_history.specs.Engine.{Limits, bounds_in, IsFrontFrom, empty_front, AreApart};
+ghost use Rattle.md_history.specs.Engine.{Splits, Joins, SettlesFrom, HasRoom, IsNoConflict};
 
 use crate::bodies::Body;
 use crate::contents::Contents;
@@ -41,8 +43,8 @@ pub trait Engine: Sized + Sync + Drop {
     /// The pass is of this engine.
     ghost of: { Self → Self.Pass → Type 0 };
 
-    /// The pass holds all lanes, and nothing joined the history since the engine was opened or
-    /// renewed.
+    /// The pass holds all lanes. Since the engine was opened or renewed, no attempt was begun and no
+    /// lane given away.
     ghost fresh: { Self → Self.Pass → Type 0 };
 
     /// The stops with which its attempts may end.
@@ -125,9 +127,9 @@ pub trait Engine: Sized + Sync + Drop {
     ghost of_is: { (e : Self) (p : Self.Pass) → of e p
         → IsFrontFrom (start e) (lanes e) (front p) };
 
-    /// A fresh pass holds all lanes, and has seen nothing.
+    /// A fresh pass holds all lanes, has seen nothing, and has begun no attempt.
     ghost fresh_is: { (e : Self) (p : Self.Pass) → of e p → fresh e p
-        → front p ≡ empty_front (lanes e) };
+        → (front p ≡ empty_front (lanes e)) × (begun p ≡ 0) };
 }
 
 /// Lends the engine's law on its passes to a proof. It does nothing when it runs.
@@ -136,10 +138,11 @@ pub fn pass_is_legal<E: Engine>(engine: &E, pass: &E::Pass)
     ensures { IsFrontFrom (E.start engine.now) (E.lanes engine.now) (E.front pass.now) }
 {}
 
-/// Lends the engine's law on fresh passes to a proof: such a pass has seen nothing, and holds all
-/// lanes. It does nothing when it runs.
+/// Lends the engine's law on fresh passes to a proof: such a pass has seen nothing, holds all
+/// lanes, and has begun no attempt. It does nothing when it runs.
 pub fn fresh_is_empty<E: Engine>(engine: &E, pass: &E::Pass)
     requires of { E.of engine.now pass.now }
     requires fresh { E.fresh engine.now pass.now }
-    ensures { E.front pass.now ≡ empty_front (E.lanes engine.now) }
+    ensures front { E.front pass.now ≡ empty_front (E.lanes engine.now) }
+    ensures begun { E.begun pass.now ≡ 0 }
 {}

@@ -1,6 +1,7 @@
 //! The store for one thread as an engine.
 
-ghost use Rattle.std.specs.Prelude.{◌≡◌, ◌↔◌, ◌+◌, if◌then◌else◌, [], length, true, false, IsNone, IsOk, IfOk};
+ghost use Rattle.std.specs.Prelude.{◌≡◌, ◌↔◌, ◌+◌, if◌then◌else◌, [], length, true, false, IsNone};
+ghost use Rattle.std.specs.Prelude.{IsOk, IfOk};
 ghost use Rattle.md_history.specs.State.{HaveSameNumbers};
 ghost use Rattle.md_history.specs.Front.{LegalFrom, replay_of};
 ghost use Rattle.md_history.specs.Attempt.{Commits, Stops, IsCounted, IfCommitted, IfStopped};
@@ -23,7 +24,7 @@ use std::alloc::AllocError;
 impl Engine for PlainStore {
     ghost use Rattle.std.specs.Prelude.{[], ◌∷◌};
     ghost use Rattle.std.proofs.Common.{ap, ◌∙◌};
-    ghost use Rattle.md_history.specs.Plain.{front_from, front_from-none};
+    ghost use Rattle.md_history.specs.Plain.{front_from, front_from-none, begun_by-fresh};
     ghost use Rattle.md_history.specs.declared.stops.Stop.TheVariants.{NoMemory};
 
     type Pass = PlainPass;
@@ -40,7 +41,7 @@ impl Engine for PlainStore {
 
     ghost of = { λ s p. IsPassOf s p };
 
-    ghost fresh = { λ s p. p.entries ≡ [] };
+    ghost fresh = { λ s p. (p.entries ≡ []) × (p.broken ≡ false) };
 
     ghost may_stop = { λ s stop. stop ≡ NoMemory };
 
@@ -123,7 +124,7 @@ impl Engine for PlainStore {
         ensures settled { IfOk result (λ r. SettlesFrom self (front_of pass) (front_of r.2)) }
         ensures start { IfOk result (λ r. r.0 ≡ replay_of self (front_of r.2)) }
         ensures of { IfOk result (λ r. IsPassOf r.0 r.1) }
-        ensures fresh { IfOk result (λ r. r.1.entries ≡ []) }
+        ensures fresh { IfOk result (λ r. (r.1.entries ≡ []) × (r.1.broken ≡ false)) }
         ensures begun { IfOk result (λ r. begun_by r.1 ≡ 0) }
         ensures numbers { IfOk result (λ r. HaveSameNumbers r.0 self) }
     {
@@ -154,5 +155,8 @@ impl Engine for PlainStore {
 
     ghost of_is = { λ s p of. of.front };
 
-    ghost fresh_is = { λ s p of fresh. ap front_from fresh ∙ front_from-none };
+    ghost fresh_is = { λ s p of fresh. (
+      ap front_from fresh.0 ∙ front_from-none,
+      begun_by-fresh p fresh.0 fresh.1,
+    ) };
 }

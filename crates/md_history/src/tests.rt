@@ -90,7 +90,8 @@ struct EachCall {
 
 impl Body for EachCall {
     ghost use Rattle.std.specs.Prelude.{◌<◌, None};
-    ghost use Rattle.md_history.specs.declared.acts.Op.TheVariants.{Get, Insert, Remove, Enqueue, Dequeue, Front};
+    ghost use Rattle.md_history.specs.declared.acts.Op.TheVariants.{Get, Insert, Remove, Enqueue};
+    ghost use Rattle.md_history.specs.declared.acts.Op.TheVariants.{Dequeue, Front};
     ghost use Rattle.md_history.specs.declared.acts.Reply.TheVariants.{Value, Flag, Nothing, Line};
     ghost use Rattle.md_history.specs.Script.{Did, Follows, call, done};
 

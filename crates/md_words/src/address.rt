@@ -1,14 +1,17 @@
 //! The word of each place of a field.
 
 ghost use Rattle.std.specs.Prelude.{◌≡◌, ◌<◌, ◌↔◌, IsTrue};
-ghost use Rattle.md_words.specs.Place.{bucket_head, queue_head, queue_tail, node_key, node_value, node_next, desc_status, read_word, read_content, slot_word, slot_old, slot_new};
+ghost use Rattle.md_words.specs.Place.{bucket_head, queue_head, queue_tail, node_key, node_value};
+ghost use Rattle.md_words.specs.Place.{node_next, desc_status, read_word, read_content, slot_word};
+ghost use Rattle.md_words.specs.Place.{slot_old, slot_new};
 
 use crate::limits::{DESC_WORDS, SET};
 use crate::shape::Shape;
 
 #[tactic(auto, unfolding(crate::specs::Layout::address, crate::specs::Layout::words_of, crate::specs::Layout::node_count, crate::specs::Layout::desc_count, crate::specs::Layout::bucket_of))]
 impl Shape {
-    ghost use Rattle.md_words.specs.Layout.{Exists, address, bucket_of, words_of, first_queue, first_node, first_desc, slots_start};
+    ghost use Rattle.md_words.specs.Layout.{Exists, address, bucket_of, words_of, first_queue};
+    ghost use Rattle.md_words.specs.Layout.{first_node, first_desc, slots_start};
     ghost use Rattle.md_words.specs.PlaceAt.{IsCounted};
 
     /// The number of words of the field.

@@ -1,8 +1,18 @@
 //! The laws of words, places and lanes. Each function does nothing: its contract is the law, for
 //! every word and every shape.
 
-ghost use Rattle.md_words.specs.WordLaws.{ValueFound, CountFound, PartsMakeWord, CountFits, ValueFits, CountedWordFits, ZeroIsEmpty, ZeroIsEven, EvenTurns, SpotFound, SpotMakesValue, SpotStands, StandingSpot, NodeFound, MarkFound, LinkMakesValue, StatusFound, ReadsFound, SerialFound, PartsMakeStatus, ReadsFit, StatusWordFits, StatusAdds, BeginsAt};
-ghost use Rattle.md_words.specs.LayoutLaws.{AddressIsWord, AddressesDiffer, PlaceFound, WordIsPlace, BaseIsZero, BucketExists, WriteLands, WriteLeaves, WordLeaves, CountedByPlace, WordsFit, NodesFitValues, DescsFitValues, BaseNodesExist, NodeHasLane, DescHasLane, OwnNodeExists, OwnDescExists, NodeInLane, NodeNumber, NodesRise, OneDesc};
+ghost use Rattle.md_words.specs.WordLaws.{ValueFound, CountFound, PartsMakeWord, CountFits};
+ghost use Rattle.md_words.specs.WordLaws.{ValueFits, CountedWordFits, ZeroIsEmpty, ZeroIsEven};
+ghost use Rattle.md_words.specs.WordLaws.{EvenTurns, SpotFound, SpotMakesValue, SpotStands};
+ghost use Rattle.md_words.specs.WordLaws.{StandingSpot, NodeFound, MarkFound, LinkMakesValue};
+ghost use Rattle.md_words.specs.WordLaws.{StatusFound, ReadsFound, SerialFound, PartsMakeStatus};
+ghost use Rattle.md_words.specs.WordLaws.{ReadsFit, StatusWordFits, StatusAdds, BeginsAt};
+ghost use Rattle.md_words.specs.LayoutLaws.{AddressIsWord, AddressesDiffer, PlaceFound};
+ghost use Rattle.md_words.specs.LayoutLaws.{WordIsPlace, BaseIsZero, BucketExists, WriteLands};
+ghost use Rattle.md_words.specs.LayoutLaws.{WriteLeaves, WordLeaves, CountedByPlace, WordsFit};
+ghost use Rattle.md_words.specs.LayoutLaws.{NodesFitValues, DescsFitValues, BaseNodesExist};
+ghost use Rattle.md_words.specs.LayoutLaws.{NodeHasLane, DescHasLane, OwnNodeExists, OwnDescExists};
+ghost use Rattle.md_words.specs.LayoutLaws.{NodeInLane, NodeNumber, NodesRise, OneDesc};
 
 /// A word is made of its parts, and has the parts that it was made of.
 pub fn word_laws()

@@ -2,7 +2,8 @@
 
 ghost use Rattle.std.specs.Prelude.{◌≡◌, ◌<◌, ◌≤◌, ◌↔◌, ℕ, IsOk, IfOk};
 ghost use Rattle.md_words.specs.declared.limits.TheConstants.{MAX_WORDS};
-ghost use Rattle.md_words.specs.Limits.{LanesFit, NodesFit, BaseFits, TriesFit, MapsFit, BucketsFit, QueuesFit, InRange, count_of_words};
+ghost use Rattle.md_words.specs.Limits.{LanesFit, NodesFit, BaseFits, TriesFit, MapsFit};
+ghost use Rattle.md_words.specs.Limits.{BucketsFit, QueuesFit, InRange, count_of_words};
 
 use crate::limits::{
     DESC_WORDS, LANES, MAX_BASE, MAX_BUCKETS, MAX_MAPS, MAX_NODES, MAX_QUEUES, MAX_WORDS,

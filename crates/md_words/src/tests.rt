@@ -1,3 +1,5 @@
+//! The numbers of worked fields, and words taken apart and put together.
+
 use crate::{Content, Shape, ShapeFault, Spot, Status, StatusWord};
 use std::test::Fail;
 
