@@ -15,8 +15,8 @@ use Rattle.md_machine.specs.declared.pass.PassView.{PassView}
 use Rattle.md_machine.specs.Event.{Does, Event}
 use Rattle.md_machine.specs.FreeToReturn.{KnowsFree}
 use Rattle.md_machine.specs.GoesOn.{GoesOn}
-use Rattle.md_machine.specs.Installs.{IsPresent, spot_of_install}
-use Rattle.md_machine.specs.Machine.{Install, IsAt, Machine, attempt_of, present, shape_of, status_at, was_begun}
+use Rattle.md_machine.specs.Installs.{spot_of_install}
+use Rattle.md_machine.specs.Machine.{Install, IsAt, IsPresentIn, Machine, attempt_of, present, shape_of, status_at, was_begun}
 use Rattle.md_machine.specs.Meaning.{Meaning}
 use Rattle.md_machine.specs.Own.{HasDesc}
 use Rattle.md_machine.specs.Resolution.{structure_in}
@@ -201,7 +201,7 @@ module _ (M : Meaning) (m n : Machine) (e : Event) (km : IsKept m) (kn : IsKept 
         (λ new. subst (λ w. (spot_of (value_of w)).slot < after.slots_written) (sym is.left) (new.counted desc))
         (goes.installs i made.1)
       where
-        now_present : (i : Install) → i.attempt ≡ present n lane → IsPresent (shape_of m) m.words i
+        now_present : (i : Install) → i.attempt ≡ present n lane → IsPresentIn (shape_of m) m.words i.attempt
         now_present i is = ap (λ (a : AttemptId). a.serial) is ∙ c.serial ∙ ap (λ d. serial_of (status_at m d)) (sym (ap (λ (a : AttemptId). a.desc) is))
 
   still_fits : FitsLane n u after lane
