@@ -15,8 +15,7 @@ use Rattle.md_machine.specs.declared.pass.PassView.{PassView}
 use Rattle.md_machine.specs.declared.step.Kind.TheVariants.{Load}
 use Rattle.md_machine.specs.declared.step.Step.{Step}
 use Rattle.md_machine.specs.Event.{Acts, mark_begin}
-use Rattle.md_machine.specs.Installs.{IsPresent}
-use Rattle.md_machine.specs.Machine.{Install, Machine, attempt_of, content, is_installed, is_ready, present, same_attempt, shape_of, status_at, was_begun}
+use Rattle.md_machine.specs.Machine.{Install, IsPresentIn, Machine, attempt_of, content, is_installed, is_ready, present, same_attempt, shape_of, status_at, was_begun}
 use Rattle.md_machine.specs.Meaning.{Meaning}
 use Rattle.md_machine.specs.Own.{HasDesc}
 use Rattle.md_machine.specs.Stepping.{step_of}
@@ -124,7 +123,7 @@ module _ (M : Meaning) (o : Origin) (desc : ℕ) where
     pub free : (slot : ℕ) → is_installed m.installs f.hand.attempt slot ≡ false
     free slot = ⊎_elim
         (λ made. let i = installed_out m.installs f.hand.attempt slot made in
-        let present : IsPresent (shape_of m) m.words i.0 = subst (λ (x : AttemptId). x.serial ≡ serial_of (status_at m x.desc)) (sym i.2) fits.present in
+        let present : IsPresentIn (shape_of m) m.words i.0.attempt = subst (λ (x : AttemptId). x.serial ≡ serial_of (status_at m x.desc)) (sym i.2) fits.present in
         let some = (is_kept M o m a).own_installs i.0 i.1 present pass p acts.at (subst (λ (x : AttemptId). HasDesc (shape_of m) p x.desc) (sym i.2) fits.own) in
         absurd (f.uninstalled some.0 some.1 some.2.0 some.2.1 (subst (λ x. WonInstall x some.2.0) (i.2 ∙ f.of) some.2.2.0)))
         (λ no. no)

@@ -128,7 +128,7 @@ module _ (M : Meaning) (o : Origin) (desc : ℕ) (p : PassView) (f : HasFirst o.
         let word = address o.shape place in
         let there : place_at (shape_of m) word ≡ place = ap (λ (h : Shape). place_at h word) a.shape ∙ place_at-address o.shape place exists in
         ap (λ (h : Shape). content m (address h place)) a.shape
-        ∙ (is_kept M o m a).stores pass p acts.at f.hand.attempt (is_present M o desc p f m a pass acts) word held
+        ∙ (is_kept M o m a).stores pass p acts.at f.hand.attempt (ap (λ (x : AttemptId). x.serial) (is_present M o desc p f m a pass acts)) word held
         (subst (IsEntryWord f.hand.attempt.desc) (sym there) entry) (subst (λ x. LastStored p x word held) (sym f.of) last)
 
     pub may_install : May M o (λ pass. install pass (cell_word o.shape) (word_of from) spot) p
