@@ -1,7 +1,7 @@
 -- The first attempt of a descriptor: it may be put in hand, and what is known of it then.
-use Rattle.std.proofs.Common.{◌≡◌, ◌≢◌, ◌&&◌, ◌==◌, ◌<◌, ◌≤◌, ℕ, true, false, List, [], ◌∷◌, ◌++◌, Some, None, refl, sym, ap, ◌∙◌, subst, inl, inr, ⊎_elim, arith}
+use Rattle.std.proofs.Common.{◌≡◌, ◌&&◌, ◌==◌, ◌<◌, ℕ, true, false, List, [], ◌∷◌, None, refl, sym, ap, ◌∙◌, subst, ⊎_elim, arith}
 use Rattle.std.specs.List.{Contains}
-use Rattle.std.proofs.lemmas.Bool.{and_parts, cases_Bool, eqb-true, false≢true, or_cases, true≢false}
+use Rattle.std.proofs.lemmas.Bool.{and_parts, cases_Bool, false≢true, or_cases}
 use Rattle.std.proofs.lemmas.List.Elements.{Contains-append_left}
 use Rattle.md_words.specs.declared.shape.Shape.{Shape}
 use Rattle.md_words.specs.Lanes.{lane_of_desc}
@@ -9,7 +9,6 @@ use Rattle.md_words.specs.Layout.{desc_count}
 use Rattle.md_words.specs.Status.{serial_of}
 use Rattle.md_words.proofs.Owners.{owner_of_desc}
 use Rattle.md_machine.specs.declared.attempt.AttemptId.{AttemptId}
-use Rattle.md_machine.specs.declared.attempt.Hand.{Hand}
 use Rattle.md_machine.specs.declared.attempt.HistoryEntry.{HistoryEntry}
 use Rattle.md_machine.specs.declared.pass.PassView.{PassView}
 use Rattle.md_machine.specs.declared.step.Kind.TheVariants.{Load}
@@ -19,7 +18,6 @@ use Rattle.md_machine.specs.Machine.{Install, IsPresentIn, Machine, attempt_of, 
 use Rattle.md_machine.specs.Meaning.{Meaning}
 use Rattle.md_machine.specs.Own.{HasDesc}
 use Rattle.md_machine.specs.Stepping.{step_of}
-use Rattle.md_machine.specs.Trail.{EveryStepOf}
 use Rattle.md_machine.specs.clauses.passes.Hands.{HandFits}
 use Rattle.md_machine.specs.events.Mark.{after_mark_begin, new_hand}
 use Rattle.md_machine.specs.events.Start.{WonInstall}

@@ -1,12 +1,11 @@
 -- The slot of an attempt in hand: it may be stored, and installed in the cell's word.
-use Rattle.std.proofs.Common.{◌≡◌, ◌≢◌, ◌++◌, ◌<◌, ◌≤◌, ◌^◌, ℕ, true, false, [], ◌∷◌, Some, Result, Ok, Err, refl, sym, ap, ◌∙◌, subst, inl, ⊎_elim, arith, eq-eqb, ne_eqb, append_assoc}
-use Rattle.std.specs.List.{All, Contains}
+use Rattle.std.proofs.Common.{◌≡◌, ◌≢◌, ◌++◌, ◌<◌, ◌≤◌, ℕ, true, false, [], ◌∷◌, Some, refl, sym, ap, ◌∙◌, subst, arith, eq-eqb, ne_eqb, append_assoc}
+use Rattle.std.specs.List.{Contains}
 use Rattle.std.proofs.lemmas.List.Elements.{All-cons, All-nil, Contains-push}
 use prog.Atomic.{either}
 use Rattle.md_words.specs.declared.content.Content.{Content}
 use Rattle.md_words.specs.declared.content.Spot.{Spot}
 use Rattle.md_words.specs.declared.shape.Shape.{Shape}
-use Rattle.md_words.specs.declared.limits.TheConstants.{SET}
 use Rattle.md_words.specs.Content.{count_of, is_even, word_of}
 use Rattle.md_words.specs.Layout.{Exists, IsInSet, address, words_of}
 use Rattle.md_words.specs.Place.{Place, bucket_head, node_next, slot_new, slot_old, slot_word}
@@ -35,11 +34,11 @@ use Rattle.md_cell.specs.CellMeaning.{cell_word}
 use Rattle.md_cell.proofs.Tidy.{at_head, cell_counted}
 use Rattle.md_rule.specs.Admitted.{Admitted}
 use Rattle.md_rule.specs.Kept.{IsNoNextLeft}
-use Rattle.md_rule.specs.Steps.{Exchanged, May, Stepped, SteppedFrom}
+use Rattle.md_rule.specs.Steps.{May, Stepped, SteppedFrom}
 use Rattle.md_rule.specs.Views.{Origin, PassState}
 use Rattle.md_rule.proofs.Moves.{is_kept}
 use Rattle.md_rule.proofs.Told.{told_install, told_store}
-use Rattle.md_stalls.specs.Stalled.{HasFirst, HoldsSlot, IsPut, MakesStep, PutsIn, StoresAt, StoresSlot, WinsOrNot}
+use Rattle.md_stalls.specs.Stalled.{HasFirst, HoldsSlot, MakesStep, PutsIn, StoresAt, StoresSlot}
 use Rattle.md_stalls.proofs.First.{first, free, is_present, unready}
 use Rattle.md_stalls.proofs.Trails.{every_more}
 

@@ -1,10 +1,10 @@
 -- Trails with one more step.
-use Rattle.std.proofs.Common.{◌≡◌, ◌++◌, ◌∷◌, List, [], refl, sym, ap, subst, ⊎_elim, ◌∙◌, append_assoc}
+use Rattle.std.proofs.Common.{◌≡◌, ◌++◌, ◌∷◌, [], sym, ap, subst, ⊎_elim, ◌∙◌, append_assoc}
 use Rattle.std.specs.List.{Contains}
 use Rattle.std.proofs.lemmas.List.Elements.{Contains-append_left, Contains-push, Contains-push_cases}
 use Rattle.md_machine.specs.declared.pass.PassView.{PassView}
 use Rattle.md_machine.specs.declared.step.Step.{Step}
-use Rattle.md_machine.specs.Trail.{EveryStepOf, segments}
+use Rattle.md_machine.specs.Trail.{EveryStepOf}
 use Rattle.md_stalls.specs.Stalled.{MakesStep}
 
 -- what holds of each step of a pass, and of one more, holds of each step after it

@@ -1,5 +1,5 @@
 -- What a pass met in the cell's word.
-use Rattle.std.specs.Prelude.{◌≡◌, ◌++◌, ◌∷◌, ℕ, true, false, []}
+use Rattle.std.specs.Prelude.{◌≡◌, ◌∷◌, ℕ, true, false, []}
 use Rattle.md_words.specs.declared.shape.Shape.{Shape}
 use Rattle.md_words.specs.Content.{count_of, is_even, word_of}
 use Rattle.md_machine.specs.declared.pass.PassView.{PassView}

@@ -1,16 +1,14 @@
-use Rattle.std.proofs.Common.{◌≡◌, ◌%◌, ◌<◌, ◌^◌, ℕ, true, false, None, nat_eq, sym, ap, subst, ◌∙◌, arith}
+use Rattle.std.proofs.Common.{◌≡◌, ◌%◌, ◌<◌, ℕ, true, false, nat_eq, sym, ap, subst, ◌∙◌, arith}
 use Rattle.std.proofs.lemmas.Bool.Decides.{nat_tests}
 use Rattle.md_words.specs.declared.content.Content.{Content}
-use Rattle.md_words.specs.declared.shape.Shape.{Shape}
 use Rattle.md_words.specs.Content.{content_of, count_of, is_even, word_of}
 use Rattle.md_words.specs.Layout.{desc_count}
 use Rattle.md_words.specs.PlaceAt.{IsCounted}
-use Rattle.md_machine.specs.declared.attempt.Hand.{Hand}
 use Rattle.md_machine.specs.declared.pass.PassView.{PassView}
 use Rattle.md_machine.specs.Trail.{Finds, SomeStep}
 use Rattle.md_machine.specs.events.Uninstall.{desc_in}
 use Rattle.md_machine.proofs.lists.Options.{none_some}
-use Rattle.md_cell.specs.CellMeaning.{cell_meaning, cell_word}
+use Rattle.md_cell.specs.CellMeaning.{cell_meaning}
 use Rattle.md_cell.proofs.Tidy.{cell_counted}
 use Rattle.md_help.specs.Clears.{Clears}
 use Rattle.md_stalls.specs.Meeting.{Looks}

@@ -1,11 +1,9 @@
-use Rattle.std.proofs.Common.{◌≡◌, ℕ, sym, ap, subst, ◌∙◌, None}
-use Rattle.std.specs.List.{Contains}
+use Rattle.std.proofs.Common.{◌≡◌, sym, ap, subst}
 use Rattle.md_words.specs.declared.shape.Shape.{Shape}
 use Rattle.md_machine.specs.declared.pass.PassView.{PassView}
 use Rattle.md_machine.specs.Event.{mark_begin}
-use Rattle.md_machine.specs.Machine.{attempt_of}
 use Rattle.md_cell.specs.CellMeaning.{cell_meaning}
-use Rattle.md_rule.specs.Kept.{IsNew, MetNoLater}
+use Rattle.md_rule.specs.Kept.{MetNoLater}
 use Rattle.md_rule.specs.Steps.{May, Stepped}
 use Rattle.md_rule.specs.Views.{PassState}
 use Rattle.md_stalls.proofs.First.{begins, may_begin}

@@ -1,7 +1,6 @@
-use Rattle.std.proofs.Common.{◌≡◌, ◌+◌, ◌<◌, ℕ, length, get_or-set_same, set, sym, ap, ◌∙◌, subst, ⊎_elim, arith}
-use Rattle.std.proofs.lemmas.Bool.{cases_eq, cases_lt}
-use Rattle.md_rule.specs.Kept.{MetNoLater}
-use Rattle.md_rule.specs.Shares.{share_at, with_share}
+use Rattle.std.proofs.Common.{◌≡◌, ◌+◌, ℕ, length, get_or-set_same, sym, ap, ◌∙◌, subst, ⊎_elim, arith}
+use Rattle.std.proofs.lemmas.Bool.{cases_lt}
+use Rattle.md_rule.specs.Shares.{share_at}
 use Rattle.md_rule.specs.Views.{PassState}
 use Rattle.md_rule.specs.declared.shares.Share.{Share}
 use Rattle.md_rule.specs.Lanes.{AreLanes}

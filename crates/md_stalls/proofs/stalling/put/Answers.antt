@@ -1,6 +1,4 @@
-use Rattle.std.proofs.Common.{◌≡◌, ◌≢◌, ℕ, Ok, Err, sym, ap, subst, ◌∙◌}
-use Rattle.md_words.specs.declared.content.Spot.{Spot}
-use Rattle.md_words.specs.declared.shape.Shape.{Shape}
+use Rattle.std.proofs.Common.{sym, ap, subst, ◌∙◌}
 use Rattle.md_words.specs.Content.{word_of}
 use Rattle.md_machine.specs.Event.{install}
 use Rattle.md_cell.specs.CellMeaning.{cell_meaning, cell_word}

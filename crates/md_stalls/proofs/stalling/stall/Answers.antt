@@ -1,11 +1,10 @@
-use Rattle.std.proofs.Common.{◌≡◌, ◌++◌, ◌∷◌, ℕ, List, [], None, sym, ap, subst, ◌∙◌, arith, append_assoc}
+use Rattle.std.proofs.Common.{◌++◌, ◌∷◌, [], ap, ◌∙◌, arith, append_assoc}
 use Rattle.md_words.specs.Content.{word_of}
 use Rattle.md_machine.specs.declared.pass.PassView.{PassView}
 use Rattle.md_machine.specs.declared.step.Kind.TheVariants.{Load}
 use Rattle.md_machine.specs.Machine.{content}
 use Rattle.md_machine.specs.Stepping.{step_of}
 use Rattle.md_cell.specs.CellMeaning.{cell_meaning}
-use Rattle.md_rule.specs.Views.{PassState}
 use Rattle.md_rule.proofs.Told.{told_leave}
 use Rattle.md_stalls.proofs.Slots.{holds_slot}
 use Rattle.md_stalls.proofs.stalling.stall.Goals as goal
