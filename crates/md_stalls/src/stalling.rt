@@ -20,9 +20,9 @@ use md_words::{Content, Spot};
 /// `LAST_COUNT`. `value` is what the word would stand for if the transaction were committed. The
 /// pass has nothing in hand, before and afterwards.
 ///
-/// The answer says whether the install won, that is, whether the word held `found`. It is `None`
-/// exactly if the lowest lane that has an attempt left has begun one before, or if none has; an
-/// attempt of that lane is taken then, and nothing else is changed. Six steps, whatever others do.
+/// The answer says whether the install won, that is, whether the word held `found`. It is `None`,
+/// without a step, only if the lowest lane that has an attempt left has begun one before, or if no
+/// lane has one left. Otherwise it takes six steps, whatever others do.
 pub fn stall(
     field: &Field<CellTheory>,
     pass: &mut Pass<CellTheory>,
