@@ -1,0 +1,58 @@
+-- How the sets are searched: the first of a word among the ones looked at so far.
+use Rattle.std.proofs.Common.{◌≡◌, ◌==◌, ◌<◌, ◌+◌, ℕ, zero, suc, Bool, true, false, List, [], ◌∷◌, Option, Some, None, length, take, get_or, refl, ap, ◌∙◌, subst, if◌then◌else◌, arith}
+use Rattle.std.proofs.lemmas.Bool.{cond-true, cond-false}
+use Rattle.md_machine.specs.declared.attempt.Read.{Read}
+use Rattle.md_machine.specs.Certified.{content_read}
+use Rattle.md_machine.proofs.lists.Options.{none_some}
+use Rattle.md_nbtc.specs.declared.sets.Slot.{Slot}
+use Rattle.md_nbtc.specs.Sets.{place_of}
+
+none_of : (b : Bool) (x : ℕ) (o : Option ℕ) → (if b then Some x else o) ≡ None → (b ≡ false) × (o ≡ None)
+none_of true x o e = absurd (none_some (Some x) x e refl)
+none_of false x o e = (refl, e)
+
+read_one : (items : List Read) (d : Read) (i word : ℕ) → content_read (take i items) word ≡ None → ((get_or items i d).word == word) ≡ false → content_read (take (suc i) items) word ≡ None
+read_one [] d i word none other = refl
+read_one (r ∷ rs) d zero word none other = cond-false (r.word == word) (Some r.content) None other
+read_one (r ∷ rs) d (suc i) word none other =
+    let n = none_of (r.word == word) r.content (content_read (take i rs) word) none in
+    cond-false (r.word == word) (Some r.content) (content_read (take (suc i) rs) word) n.0 ∙ read_one rs d i word n.1 other
+
+-- one more that isn't the word's
+pub read_more : (items : List Read) (d : Read) (i word : ℕ) → content_read (take i items) word ≡ None → ((get_or items i d).word == word) ≡ false → content_read (take (i + 1) items) word ≡ None
+read_more items d i word none other = let e : suc i ≡ i + 1 = omega arith in subst (λ n. content_read (take n items) word ≡ None) e (read_one items d i word none other)
+
+-- the first that is
+pub read_found : (items : List Read) (d : Read) (i n word : ℕ) → i < n → i < length items → content_read (take i items) word ≡ None → ((get_or items i d).word == word) ≡ true
+    → content_read (take n items) word ≡ Some (get_or items i d).content
+read_found items d i zero word below inside none there = absurd (omega (arith, below))
+read_found [] d i (suc n) word below inside none there = absurd (omega (arith, inside))
+read_found (r ∷ rs) d zero (suc n) word below inside none there = cond-true (r.word == word) (Some r.content) (content_read (take n rs) word) there
+read_found (r ∷ rs) d (suc i) (suc n) word below inside none there =
+    let e = none_of (r.word == word) r.content (content_read (take i rs) word) none in
+    cond-false (r.word == word) (Some r.content) (content_read (take n rs) word) e.0
+    ∙ read_found rs d i n word (omega (arith, below)) (omega (arith, inside)) e.1 there
+
+slot_one : (items : List Slot) (d : Slot) (i word from : ℕ) → place_of (take i items) word from ≡ None → ((get_or items i d).write.word == word) ≡ false → place_of (take (suc i) items) word from ≡ None
+slot_one [] d i word from none other = refl
+slot_one (s ∷ ss) d zero word from none other = cond-false (s.write.word == word) (Some from) None other
+slot_one (s ∷ ss) d (suc i) word from none other =
+    let n = none_of (s.write.word == word) from (place_of (take i ss) word (from + 1)) none in
+    cond-false (s.write.word == word) (Some from) (place_of (take (suc i) ss) word (from + 1)) n.0 ∙ slot_one ss d i word (from + 1) n.1 other
+
+pub slot_more : (items : List Slot) (d : Slot) (i word : ℕ) → place_of (take i items) word 0 ≡ None → ((get_or items i d).write.word == word) ≡ false → place_of (take (i + 1) items) word 0 ≡ None
+slot_more items d i word none other = let e : suc i ≡ i + 1 = omega arith in subst (λ n. place_of (take n items) word 0 ≡ None) e (slot_one items d i word 0 none other)
+
+slot_found : (items : List Slot) (d : Slot) (i n word from : ℕ) → i < n → i < length items → place_of (take i items) word from ≡ None → ((get_or items i d).write.word == word) ≡ true
+    → place_of (take n items) word from ≡ Some (from + i)
+slot_found items d i zero word from below inside none there = absurd (omega (arith, below))
+slot_found [] d i (suc n) word from below inside none there = absurd (omega (arith, inside))
+slot_found (s ∷ ss) d zero (suc n) word from below inside none there = cond-true (s.write.word == word) (Some from) (place_of (take n ss) word (from + 1)) there ∙ ap (λ x. Some x) (omega arith)
+slot_found (s ∷ ss) d (suc i) (suc n) word from below inside none there =
+    let e = none_of (s.write.word == word) from (place_of (take i ss) word (from + 1)) none in
+    cond-false (s.write.word == word) (Some from) (place_of (take n ss) word (from + 1)) e.0
+    ∙ slot_found ss d i n word (from + 1) (omega (arith, below)) (omega (arith, inside)) e.1 there ∙ ap (λ x. Some x) (omega arith)
+
+pub slot_first : (items : List Slot) (d : Slot) (i n word : ℕ) → i < n → i < length items → place_of (take i items) word 0 ≡ None → ((get_or items i d).write.word == word) ≡ true
+    → place_of (take n items) word 0 ≡ Some i
+slot_first items d i n word below inside none there = let e : 0 + i ≡ i = omega arith in slot_found items d i n word 0 below inside none there ∙ ap (λ x. Some x) e

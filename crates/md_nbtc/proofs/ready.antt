@@ -1,0 +1,10 @@
+pub mod Lookups
+pub mod Bridge
+pub mod Nodes
+pub mod Standing
+pub mod Certified
+pub mod MayBeReady
+pub mod Lost
+pub mod Telling
+pub mod Won
+pub mod Cleanups

@@ -1,0 +1,56 @@
+-- A transaction under way, between two calls.
+use Rattle.std.specs.Prelude.{◌≡◌, ◌⊎◌, ℕ, List, All, Contains, Some, None, IfSome}
+use Rattle.md_words.specs.Content.{value_of}
+use Rattle.md_words.specs.Layout.{IsNode}
+use Rattle.md_history.specs.declared.stops.Shown.{Shown}
+use Rattle.md_history.specs.declared.stops.Stop.{Stop}
+use Rattle.md_history.specs.declared.stops.Stop.TheVariants.{Conflict}
+use Rattle.md_machine.specs.declared.attempt.Write.{Write}
+use Rattle.md_machine.specs.declared.certificate.Certificate.{Certificate}
+use Rattle.md_machine.specs.Certified.{first_content}
+use Rattle.md_machine.specs.Meaning.{Meaning}
+use Rattle.md_machine.specs.Moved.{Moved}
+use Rattle.md_machine.specs.clauses.passes.Alone.{HoldsAll}
+use Rattle.md_nbtc.specs.declared.sets.Slot.{Slot}
+use Rattle.md_nbtc.specs.Cleaning.{IsKeptCleanup}
+use Rattle.md_help.specs.After.{Stands}
+use Rattle.md_nbtc.specs.Course.{IsCourse}
+use Rattle.md_nbtc.specs.Known.{Known, Met}
+use Rattle.md_nbtc.specs.Prepared.{IsPrepared}
+use Rattle.md_nbtc.specs.Seeing.{IsNextOf, MayChange}
+use Rattle.md_nbtc.specs.State.{OwnNode, TxnState, attempt_in, own_steps, shape_in, writes_in}
+
+-- an own node is placed in no heap of the field yet, and has its words there
+pub record IsUnplaced (M : Meaning) (t : TxnState) (n : OwnNode) : Type 0 where
+  pub exists : IsNode (shape_in t) n.node
+  pub unplaced : Known M t (λ u h. h.placed n.node ≡ None)
+  pub key : Known M t (λ u h. h.words.key_of n.node ≡ n.key)
+  pub value : Known M t (λ u h. h.words.value_of_node n.node ≡ n.value)
+
+-- what was found first in a word that the transaction recorded or changes: what an own node's next word holds since it
+-- was stored, or what was met
+abbrev pub IsFoundFirst : Meaning → TxnState → (word value : ℕ) → Type 0
+IsFoundFirst M t word value = ((n : OwnNode) × Contains t.nodes n × IsNextOf t word n.node × (value ≡ n.next)) ⊎ Met M t word value
+
+-- a stop has its cause: a conflict shows a word that moved in the transaction's own steps, and comes only if another
+-- pass is live
+pub record HasCause (t : TxnState) (s : Stop) : Type 0 where
+  pub moved : (shown : Shown) → s ≡ Conflict shown → Moved (shape_in t) (attempt_in t) (own_steps t) shown
+  pub others : (shown : Shown) → s ≡ Conflict shown → ¬ HoldsAll (shape_in t) t.pass.view
+
+module _ (M : Meaning) where
+  -- a transaction with these certificates of its ended operations: its pass stands so in some machine of the field, and
+  -- what it keeps is so
+  pub record IsGoing (t : TxnState) (cs : List Certificate) : Type 0 where
+    pub stands : Stands M t.field.origin t.pass.view
+    pub prepared : IsPrepared t
+    pub nodes : All (IsUnplaced M t) t.nodes
+    pub first : (word content : ℕ) → first_content t.reads (writes_in t) word ≡ Some content → IsFoundFirst M t word (value_of content)
+    pub places : All (λ (w : Write). MayChange M t w.word) (writes_in t)
+    pub course : IsCourse M t cs
+    pub cleanups : All (λ (s : Slot). IfSome s.cleanup (IsKeptCleanup M t cs s.write)) t.slots
+    pub stop : (s : Stop) → t.stop ≡ Some s → HasCause t s
+
+  -- whatever these are
+  abbrev pub IsUnderWay : TxnState → Type 0
+  IsUnderWay t = (cs : List Certificate) × IsGoing t cs

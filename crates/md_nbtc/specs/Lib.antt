@@ -1,0 +1,10 @@
+pub mod Sets
+pub mod State
+pub mod Prepared
+pub mod Known
+pub mod Seeing
+pub mod Course
+pub mod Cleaning
+pub mod Going
+pub mod Calls
+pub mod Ending

@@ -1,0 +1,76 @@
+//! A transaction under way: its operations, and the nodes that it takes.
+
+ghost use Rattle.std.specs.Prelude.{◌≡◌, ℕ, false, true};
+ghost use Rattle.md_words.specs.PlaceAt.{place_at};
+ghost use Rattle.md_nbtc.specs.Calls.{Ends, GoesOn, IsData, MayAnswer};
+ghost use Rattle.md_nbtc.specs.Calls.{data_at, with_act, with_operation};
+ghost use Rattle.md_nbtc.specs.Going.{IsUnderWay};
+ghost use Rattle.md_nbtc.specs.Known.{Known};
+ghost use Rattle.md_nbtc.specs.Seeing.{KeepsGiven};
+ghost use Rattle.md_nbtc.specs.State.{shape_in, state};
+
+use crate::sets::{Lots, Reads, Slots};
+use md_history::{Op, Reply, Stop};
+use md_machine::Theory;
+use md_rule::{Field, Pass};
+use std::snapshot::Snapshot;
+
+/// A transaction under way.
+#[derive(Drop)]
+pub struct Txn<'a, T: Theory> {
+    pub(crate) pass: &'a mut Pass<T>,
+    pub(crate) field: &'a Field<T>,
+    /// The pass as it stood when the attempt was put in hand. It has no bytes.
+    pub(crate) began: Snapshot<Pass<T>>,
+    pub(crate) desc: u32,
+    pub(crate) serial: u64,
+    pub(crate) reads: Reads,
+    pub(crate) slots: Slots,
+    pub(crate) lots: Lots,
+    pub(crate) stop: Option<Stop>,
+}
+
+impl<'a, T: Theory> Txn<'a, T> {
+    /// Begins an operation. None is begun yet. One step.
+    pub fn start_op(&mut self)
+        requires going { IsUnderWay T.meaning (state self.old) }
+        requires between { (state self.old).hand.operating ≡ false }
+        ensures pass { self.new.pass.ghost_name ≡ self.old.pass.ghost_name }
+        ensures on { GoesOn T.meaning (state self.old) (state self.new) }
+        ensures begun { state self.new ≡ record (state self.old) {
+          pass = (state self.new).pass;
+          hand = with_operation (state self.old).hand;
+        } }
+    {
+        self.pass.mark_start(self.field);
+    }
+
+    /// Ends the operation that was begun, with its reply. Some certificate of the theory says why:
+    /// its changes and new nodes are those made since, and its words were recorded. One step.
+    pub fn end_op(&mut self, op: Op, reply: Reply)
+        requires operates { (state self.old).hand.operating ≡ true }
+        requires may { MayAnswer T.meaning (state self.old) op reply }
+        ensures pass { self.new.pass.ghost_name ≡ self.old.pass.ghost_name }
+        ensures on { Ends T.meaning (state self.old) (state self.new) op reply }
+        ensures ended { state self.new ≡ record (state self.old) {
+          pass = (state self.new).pass;
+          hand = with_act (state self.old).hand op reply;
+        } }
+    {
+        self.pass.mark_act(self.field, op, reply);
+    }
+
+    /// The key or the value of a node that is known to be placed, or of an own one. One step.
+    pub fn field_of(&mut self, word: u32) -> u64
+        requires going { IsUnderWay T.meaning (state self.old) }
+        requires data { IsData T.meaning (state self.old) word }
+        ensures pass { self.new.pass.ghost_name ≡ self.old.pass.ghost_name }
+        ensures on { GoesOn T.meaning (state self.old) (state self.new) }
+        ensures same { state self.new ≡ record (state self.old) { pass = (state self.new).pass } }
+        ensures known { Known T.meaning (state self.new)
+            (λ u h. data_at h (place_at (shape_in (state self.old)) word) ≡ result) }
+        ensures given { (other : ℕ) → KeepsGiven (state self.old) (state self.new) other }
+    {
+        self.pass.load(self.field, word)
+    }
+}
