@@ -8,6 +8,14 @@ pub mod SameState
 pub mod Heaps
 pub mod StaysPrepared
 pub mod StatusApart
+pub mod Starting
+pub mod TakingOut
+pub mod SlotsOut
+pub mod SlotLooks
+pub mod PutInHand
+pub mod Begun
+pub mod Leaving
+pub mod Beginnings
 pub mod Given
 pub mod Loaded
 pub mod Fields

@@ -8,3 +8,4 @@ pub mod Cleaning
 pub mod Going
 pub mod Calls
 pub mod Ending
+pub mod Beginning

@@ -3,8 +3,9 @@
 //! that it changes, becomes ready, and is then committed or aborted by whoever comes by.
 //!
 //! The crate says what contracts see of a transaction and what its calls may do. Of the calls it
-//! has those that begin an operation, end it, and read a node's key or value. No call begins a
-//! transaction yet, so no program can use one.
+//! has those that begin an operation, end it, and read a node's key or value. The call that begins
+//! a transaction isn't public yet, since its two premises on the status of a lane's first attempt
+//! can't be shown by a caller. So no program can use a transaction.
 #![tactic(auto)]
 
 pub use ending::{Ready, Receipt, Refused};
@@ -12,6 +13,7 @@ pub use seen::{Cleanup, Kind, Seen};
 pub use sets::Slot;
 pub use txn::Txn;
 
+mod begin;
 mod ending;
 mod seen;
 mod sets;

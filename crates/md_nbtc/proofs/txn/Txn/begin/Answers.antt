@@ -1,0 +1,120 @@
+use mathlib.Core.Option.{some}
+use Rattle.std.proofs.Common.{Err, None, [], ◌<◌, List, ℕ, refl, sym, ap, subst, ◌∙◌}
+use Rattle.std.specs.List.{Contains}
+use Rattle.md_machine.specs.declared.pass.PassView.{PassView}
+use Rattle.md_machine.specs.Event.{mark_leave}
+use Rattle.md_words.specs.declared.shape.Shape.{Shape}
+use Rattle.md_rule.specs.Shares.{share_at}
+use Rattle.md_rule.specs.Views.{PassState}
+use Rattle.md_arena.specs.Left.{HasTryLeft}
+use Rattle.md_words.proofs.Owners.{own_desc_exists}
+use Rattle.md_machine.specs.Own.{HasDesc}
+use Rattle.md_rule.specs.Views.{IsOf}
+use Rattle.md_rule.proofs.LaneLists.{desc_fits}
+use Rattle.md_nbtc.specs.Ending.{Begins, BeginsNot}
+use Rattle.md_nbtc.specs.Going.{IsGoing}
+use Rattle.md_nbtc.specs.State.{state_of}
+use Rattle.md_rule.proofs.Told.{told_leave}
+use Rattle.md_help.specs.After.{Stands}
+use Rattle.md_help.proofs.Steps.{stands_after}
+use Rattle.md_nbtc.specs.Beginning.{LeavesStatus}
+use Rattle.md_nbtc.proofs.Begun.{is_going}
+use Rattle.md_nbtc.proofs.Beginnings.{begins, lowest, ok_not_err}
+use Rattle.md_nbtc.proofs.Leaving.{begins_not, lanes_left, leaves_left, taken_last}
+use Rattle.md_nbtc.proofs.txn.Txn.begin.Goals as goal
+
+pub put_in_hand-serial-requires-clause-stands : goal.put_in_hand-serial-requires-clause-stands
+put_in_hand-serial-requires-clause-stands g c =
+    let M = g.T.Theory.meaning in
+    let o = c.args.field.now.origin in
+    let p = c.args.pass.now.view in
+    let q = c.mark_leave.new.self.view in
+    let step = c.mark_leave.ensures.step in
+    let told = told_leave M o p q step in
+    subst (λ (x : PassState). Stands M o x.view) (sym c.in-Ok.ensures.takes.1)
+    (stands_after M o (λ pass. mark_leave pass) p q step (ap (λ (x : PassView). x.lanes) told))
+
+pub put_in_hand-serial-requires-clause-idle : goal.put_in_hand-serial-requires-clause-idle
+put_in_hand-serial-requires-clause-idle g c =
+    let told = told_leave g.T.Theory.meaning c.args.field.now.origin c.args.pass.now.view c.mark_leave.new.self.view c.mark_leave.ensures.step in
+    ap (λ (x : PassState). x.view.hand) c.in-Ok.ensures.takes.1 ∙ ap (λ (x : PassView). x.hand) told
+
+pub put_in_hand-serial-requires-clause-taken : goal.put_in_hand-serial-requires-clause-taken
+put_in_hand-serial-requires-clause-taken g c =
+    let M = g.T.Theory.meaning in
+    let o = c.args.field.now.origin in
+    let p = c.args.pass.now.view in
+    let q = c.mark_leave.new.self.view in
+    let step = c.mark_leave.ensures.step in
+    let same = c.mark_leave.ensures.same in
+    let takes = c.in-Ok.ensures.takes in
+    let desc = c.in-Ok.desc in
+    taken_last c.mark_leave.new.self c.take_descriptor.new.pass desc c.in-Ok.ensures.own c.kept.ensures.lanes c.kept.ensures.shares takes
+    (λ none. subst (λ (h : Shape). LeavesStatus h q desc) (sym (ap (λ (x : PassState). x.shape) same))
+    (leaves_left M o p q step c.args.pass.now.shape desc (c.requires.first desc (subst (λ (l : List ℕ). Contains l desc) (lanes_left M o p q step) takes.0.held)
+    (ap (λ (x : PassState). (share_at x.shares desc).tries_taken) (sym same) ∙ none))))
+
+pub returns-in-Err : goal.returns-in-Err
+returns-in-Err g c =
+    let M = g.T.Theory.meaning in
+    let o = c.args.field.now.origin in
+    let p = c.args.pass.now in
+    let q = c.mark_leave.new.self in
+    let same = c.mark_leave.ensures.same in
+    let step = c.mark_leave.ensures.step in
+    let limit = c.in-Err.ensures.limit in (
+      (refl, (λ w. tt), subst (BeginsNot M p o) (sym limit.1) (begins_not M o p.view q.view step p q refl same)),
+      record {
+        refused = tt;
+        pass = tt;
+        begun = tt;
+        going = tt;
+        none = (
+          (λ e lane held has. c.in-Err.ensures.none.0 (ap Err limit.0) lane
+              (subst (λ (l : List ℕ). Contains l lane) (sym (lanes_left M o p.view q.view step)) held)
+              (subst (λ (x : PassState). HasTryLeft x lane) (sym same) has)),
+          (λ none. ap Err limit.0),
+        );
+        limit = limit.0;
+      },
+    )
+
+pub returns : goal.returns
+returns g c =
+    let M = g.T.Theory.meaning in
+    let field = c.args.field.now in
+    let p = c.args.pass.now in
+    let q = c.mark_leave.new.self in
+    let r = c.take_descriptor.new.pass in
+    let s = c.put_in_hand-serial.new.pass in
+    let desc = c.in-Ok.desc in
+    let tag = c.args.tag in
+    let serial = c.put_in_hand-serial.result in
+    let leave = c.mark_leave.ensures.same in
+    let step = c.mark_leave.ensures.step in
+    let takes = c.in-Ok.ensures.takes in
+    let own_q = c.in-Ok.ensures.own in
+    let fits = subst (λ n. desc < n) (sym c.kept.ensures.shares) (desc_fits q.shape desc (own_desc_exists q.shape own_q.0 desc own_q.2)) in
+    let rest = c.put_in_hand-serial.ensures.same in
+    let counts = c.put_in_hand-serial.ensures.counts in
+    let h = c.put_in_hand-serial.ensures.hand in
+    let of : IsOf s field = record {
+      table = ap (λ (x : PassState). x.table) rest ∙ ap (λ (x : PassState). x.table) takes.1 ∙ ap (λ (x : PassState). x.table) leave ∙ c.requires.of.table;
+      shape = ap (λ (x : PassState). x.shape) rest ∙ ap (λ (x : PassState). x.shape) takes.1 ∙ ap (λ (x : PassState). x.shape) leave ∙ c.requires.of.shape;
+    } in
+    let own : HasDesc field.origin.shape r.view desc = subst (λ (x : PassState). HasDesc field.origin.shape x.view desc) (sym takes.1)
+    (subst (λ shape. HasDesc shape q.view desc) (ap (λ (x : PassState). x.shape) leave ∙ c.requires.of.shape) own_q) in
+    let is = c.over.ensures.state ∙ ap (λ b. state_of field s b [] [] None desc serial []) c.of-began.ensures in (
+      (ap some (sym c.over.ensures.pass), (λ w. refl), tt),
+      record {
+        refused = tt;
+        pass = c.over.ensures.pass;
+        begun = subst (Begins p tag) (sym is) (begins M field p q r s desc tag serial leave step takes fits rest counts h of own);
+        going = subst (λ t. IsGoing M t []) (sym is) (is_going M field r s desc tag serial of own (λ lane. (counts lane).0) h);
+        none = (
+          (λ e. absurd (ok_not_err _ _ e)),
+          (λ none. let l = lowest M field p q r s desc tag serial leave step takes fits rest counts h of own in absurd (none desc l.held l.has)),
+        );
+        limit = tt;
+      },
+    )

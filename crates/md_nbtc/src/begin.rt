@@ -1,0 +1,289 @@
+//! How a transaction begins: what the lane's last transaction left standing is taken out, and the
+//! lane's descriptor begins another attempt.
+
+ghost use Rattle.std.specs.Prelude.{◌≡◌, ◌+◌, ◌<◌, ◌≤◌, ◌↔◌, ℕ, [], None, false, length};
+ghost use Rattle.std.specs.Prelude.{IfOk, IfErr, IsTrue};
+ghost use Rattle.std.specs.Borrow.{sem, RestsIfErr};
+ghost use Rattle.std.specs.List.{Contains};
+ghost use Rattle.md_words.specs.Content.{is_even, spot_of, word_of};
+ghost use Rattle.md_words.specs.declared.limits.TheConstants.{SET};
+ghost use Rattle.md_words.specs.Layout.{IsInSet, desc_count};
+ghost use Rattle.md_machine.specs.declared.step.TheConstants.{LAST_COUNT};
+ghost use Rattle.md_machine.specs.Own.{HasDesc};
+ghost use Rattle.md_arena.specs.Left.{HasTryLeft, NoLane};
+ghost use Rattle.md_help.specs.After.{Stands};
+ghost use Rattle.md_help.specs.Owns.{KnowsEnd};
+ghost use Rattle.md_rule.specs.Kept.{KeepsLanes};
+ghost use Rattle.md_rule.specs.Shares.{share_at};
+ghost use Rattle.md_rule.specs.Views.{IsOf};
+ghost use Rattle.md_rule.specs.contracts.pass.Pass.{the_row};
+ghost use Rattle.md_nbtc.specs.Beginning.{Empties, FindsDecided, FindsNew, IsEmptied};
+ghost use Rattle.md_nbtc.specs.Beginning.{FirstIsUnready, PassesCount, PutsInHand, StandsOwn};
+ghost use Rattle.md_nbtc.specs.Beginning.{IsTakenLast, KeepsCounts, LeavesFirst, TakesSlot};
+ghost use Rattle.md_nbtc.specs.Ending.{Begins, BeginsNot};
+ghost use Rattle.md_nbtc.specs.Going.{IsGoing};
+ghost use Rattle.md_nbtc.specs.State.{state, state_of};
+
+use crate::sets::{Lots, Reads, Slots};
+use crate::txn::Txn;
+use md_arena::take_descriptor;
+use md_help::{End, settle_one, slot_value};
+use md_history::Limit;
+use md_machine::Theory;
+use md_rule::{Field, Pass};
+use md_words::{Content, SET, Status, StatusWord};
+use std::snapshot::Snapshot;
+
+// What a pass keeps of its lanes.
+fn kept<T: Theory>(pass: &Pass<T>)
+    ensures lanes { KeepsLanes pass.now.shape pass.now.view pass.now.shares }
+    ensures shares { length pass.now.shares ≡ 64 }
+{
+    let _ = pass.shape();
+}
+
+fn settled_status<T: Theory>(pass: &mut Pass<T>, field: &Field<T>, desc: u32) -> u64
+    requires of { IsOf pass.old field.now }
+    requires idle { pass.old.view.hand ≡ None }
+    requires exists { desc < desc_count field.now.origin.shape }
+    requires own { HasDesc field.now.origin.shape pass.old.view desc }
+    ensures same { pass.new ≡ record pass.old { view = pass.new.view } }
+    ensures finds { FindsDecided field.now.origin.shape desc result pass.old.view pass.new.view }
+{
+    settle_one(field, pass, desc);
+    pass.load(field, field.shape().status(desc))
+}
+
+// The status of an own descriptor whose attempt is decided. It is settled first if need be: if it
+// was taken and never put in hand. One step, or four.
+fn decided_status<T: Theory>(pass: &mut Pass<T>, field: &Field<T>, desc: u32) -> u64
+    requires of { IsOf pass.old field.now }
+    requires idle { pass.old.view.hand ≡ None }
+    requires exists { desc < desc_count field.now.origin.shape }
+    requires own { HasDesc field.now.origin.shape pass.old.view desc }
+    ensures same { pass.new ≡ record pass.old { view = pass.new.view } }
+    ensures finds { FindsDecided field.now.origin.shape desc result pass.old.view pass.new.view }
+{
+    let found = pass.load(field, field.shape().status(desc));
+    match StatusWord::of(found).status {
+        Status::Committed => found,
+        Status::Aborted => found,
+        _ => settled_status(pass, field, desc),
+    }
+}
+
+// Starts the descriptor again. The serial of the attempt that begins. Two steps, or five.
+fn restart<T: Theory>(pass: &mut Pass<T>, field: &Field<T>, desc: u32) -> u64
+    requires of { IsOf pass.old field.now }
+    requires idle { pass.old.view.hand ≡ None }
+    requires exists { desc < desc_count field.now.origin.shape }
+    requires lane { Contains pass.old.view.lanes desc }
+    requires own { HasDesc field.now.origin.shape pass.old.view desc }
+    requires empty { (before : ℕ) × ((share_at pass.old.shares desc).tries_taken ≡ before + 1)
+        × IsEmptied field.now.origin.shape pass.old.view desc before }
+    ensures same { pass.new ≡ record pass.old { view = pass.new.view; shares = pass.new.shares } }
+    ensures counts { KeepsCounts pass.old.shares pass.new.shares }
+    ensures new { FindsNew T.meaning field.now.origin desc result pass.old.view pass.new.view }
+{
+    kept(pass);
+    let found = decided_status(pass, field, desc);
+    pass.start(field, desc, found);
+    StatusWord::of(found).serial + 1
+}
+
+// At the lane's first attempt: its descriptor serves it from the beginning. One step.
+fn first_serial<T: Theory>(pass: &mut Pass<T>, field: &Field<T>, desc: u32) -> u64
+    requires lent { FirstIsUnready T.meaning field.now.origin }
+    requires of { IsOf pass.old field.now }
+    requires idle { pass.old.view.hand ≡ None }
+    requires taken { IsTakenLast pass.old desc }
+    requires first { (share_at pass.old.shares desc).tries_taken ≡ 1 }
+    ensures same { pass.new ≡ record pass.old { view = pass.new.view } }
+    ensures new { FindsNew T.meaning field.now.origin desc result pass.old.view pass.new.view }
+{
+    let found = pass.load(field, field.shape().status(desc));
+    StatusWord::of(found).serial
+}
+
+// Takes a descriptor out of a word, whose attempt ended so. Two steps.
+fn take_out<T: Theory>(pass: &mut Pass<T>, field: &Field<T>, word: u32, found: Content, end: End)
+    requires of { IsOf pass.old field.now }
+    requires stands { Stands T.meaning field.now.origin pass.old.view }
+    requires spot { StandsOwn field.now.origin.shape pass.old.view word (word_of found) end }
+    requires fits { found.count ≤ LAST_COUNT + 1 }
+    ensures same { pass.new ≡ record pass.old { view = pass.new.view } }
+    ensures higher { PassesCount field.now.origin.shape word (word_of found) pass.old.view
+        pass.new.view }
+{
+    let value = slot_value(field, pass, found, end);
+    let _ = pass.uninstall(field, word, found, value);
+}
+
+// Whether the descriptor stands in a word of this content, in this slot.
+fn stands_at(found: Content, desc: u32, slot: u8) -> bool
+    ensures { IsTrue result ↔ ((is_even found.count ≡ false)
+        × (spot_of found.value ≡ record { desc = desc; slot = slot })) }
+{
+    match found.stands() {
+        Some(spot) => spot.desc == desc && spot.slot == slot,
+        None => false,
+    }
+}
+
+// Takes the descriptor out of the word of a slot, if it stands there. Two steps, or four.
+fn take_slot_out<T: Theory>(pass: &mut Pass<T>, field: &Field<T>, desc: u32, slot: u8, end: End)
+    requires of { IsOf pass.old field.now }
+    requires idle { pass.old.view.hand ≡ None }
+    requires exists { IsInSet field.now.origin.shape desc slot }
+    requires knows { (serial : ℕ) × KnowsEnd field.now.origin.shape pass.old.view desc serial end }
+    ensures same { pass.new ≡ record pass.old { view = pass.new.view } }
+    ensures out { (serial : ℕ) → KnowsEnd field.now.origin.shape pass.old.view desc serial end
+        → TakesSlot field.now.origin.shape desc serial slot end pass.old.view pass.new.view }
+{
+    let word = pass.load(field, field.shape().slot_word(desc, slot)) as u32;
+    let found = Content::of(pass.load(field, word));
+    if stands_at(found, desc, slot) {
+        take_out(pass, field, word, found, end);
+    }
+}
+
+// How many slots of the lane's descriptor are to be looked at.
+fn slots_of<T: Theory>(pass: &Pass<T>, lane: u32) -> u8
+    requires { Contains pass.now.view.lanes lane }
+    ensures fits { result ≤ SET }
+    ensures all { (slot : ℕ) → slot < (share_at pass.now.shares lane).slots_written → slot < SET
+        → slot < result }
+{
+    let slots = pass.slots_written(lane);
+    if slots < SET { slots } else { SET }
+}
+
+// Settles the last transaction of the lane, which was dropped, and takes its descriptor out of the
+// words that it wrote.
+fn take_slots_out<T: Theory>(pass: &mut Pass<T>, field: &Field<T>, desc: u32)
+    requires of { IsOf pass.old field.now }
+    requires idle { pass.old.view.hand ≡ None }
+    requires taken { IsTakenLast pass.old desc }
+    ensures same { pass.new ≡ record pass.old { view = pass.new.view } }
+    ensures empty { Empties field.now.origin.shape desc pass.old.view pass.new.view }
+{
+    let end = settle_one(field, pass, desc);
+    let slots = slots_of(pass, desc);
+    for slot in 0..slots {
+        take_slot_out(pass, field, desc, slot, end);
+    }
+}
+
+// If the lane's last transaction was dropped.
+fn take_left_out<T: Theory>(pass: &mut Pass<T>, field: &Field<T>, desc: u32)
+    requires of { IsOf pass.old field.now }
+    requires idle { pass.old.view.hand ≡ None }
+    requires taken { IsTakenLast pass.old desc }
+    ensures same { pass.new ≡ record pass.old { view = pass.new.view } }
+    ensures empty { Empties field.now.origin.shape desc pass.old.view pass.new.view }
+{
+    if pass.left_open(desc) {
+        take_slots_out(pass, field, desc);
+    }
+}
+
+// The serial of the lane's next attempt, which its descriptor serves then.
+fn next_serial<T: Theory>(pass: &mut Pass<T>, field: &Field<T>, desc: u32) -> u64
+    requires lent { FirstIsUnready T.meaning field.now.origin }
+    requires of { IsOf pass.old field.now }
+    requires stands { Stands T.meaning field.now.origin pass.old.view }
+    requires idle { pass.old.view.hand ≡ None }
+    requires taken { IsTakenLast pass.old desc }
+    ensures same { pass.new ≡ record pass.old { view = pass.new.view; shares = pass.new.shares } }
+    ensures counts { KeepsCounts pass.old.shares pass.new.shares }
+    ensures new { FindsNew T.meaning field.now.origin desc result pass.old.view pass.new.view }
+{
+    if pass.tries_taken(desc) == 1 {
+        return first_serial(pass, field, desc);
+    }
+    take_left_out(pass, field, desc);
+    restart(pass, field, desc)
+}
+
+// Puts the lane's next attempt in hand. Its serial.
+fn put_in_hand<T: Theory>(pass: &mut Pass<T>, field: &Field<T>, desc: u32, tag: u64) -> u64
+    requires lent { FirstIsUnready T.meaning field.now.origin }
+    requires of { IsOf pass.old field.now }
+    requires stands { Stands T.meaning field.now.origin pass.old.view }
+    requires idle { pass.old.view.hand ≡ None }
+    requires taken { IsTakenLast pass.old desc }
+    ensures same { pass.new ≡ record pass.old { view = pass.new.view; shares = pass.new.shares } }
+    ensures counts { KeepsCounts pass.old.shares pass.new.shares }
+    ensures hand { PutsInHand T.meaning field.now.origin desc tag result pass.old.view
+        pass.new.view }
+{
+    let serial = next_serial(pass, field, desc);
+    kept(pass);
+    pass.mark_begin(field, desc, tag);
+    serial
+}
+
+impl<'a, T: Theory> Txn<'a, T> {
+    /// Begins a transaction with a tag: the attempt of the pass's lowest lane that has one left.
+    /// What was in hand is left. If the lane's last transaction was dropped, it is settled and
+    /// taken out of the words that it wrote; its nodes stay taken. The answer is `Limit::Tries`
+    /// exactly if each lane has begun all of its attempts. It takes no memory.
+    ///
+    /// Callers would have to know that the status of a lane's first attempt is as it was opened
+    /// (`lent`), and that the pass left it so (`first`).
+    ///
+    /// Three steps at a lane's first attempt, and four later ones. After a dropped transaction, at
+    /// most `3r + 3` more, `r` being its reads, and at most four for each word that it wrote; three
+    /// more if an attempt was taken and never put in hand.
+    pub(crate) fn begin(
+        pass: &'a mut Pass<T>,
+        field: &'a Field<T>,
+        tag: u64,
+    ) -> Result<Txn<'a, T>, Limit>
+        requires lent { FirstIsUnready T.meaning field.now.origin }
+        requires of { IsOf pass.old field.now }
+        requires first { LeavesFirst pass.old }
+        ensures* refused { sem 𝓛 (RestsIfErr (the_row T.row T.Theory) pass.entry
+            (λ t. t.pass.ghost_name) result
+            (λ q. BeginsNot T.meaning pass.old field.now.origin q)) }
+        ensures pass { IfOk result (λ t. t.pass.ghost_name ≡ pass.entry.ghost_name) }
+        ensures begun { IfOk result (λ t. Begins pass.old tag (state t)) }
+        ensures going { IfOk result (λ t. IsGoing T.meaning (state t) []) }
+        ensures none { (result ≡ Err Limit.Tries) ↔ NoLane pass.old (HasTryLeft pass.old) }
+        ensures limit { IfErr result (λ limit. limit ≡ Limit.Tries) }
+    {
+        pass.mark_leave(field);
+        kept(pass);
+        let desc = match take_descriptor(pass) {
+            Ok(desc) => desc,
+            Err(limit) => return Err(limit),
+        };
+        let began = Snapshot::of(&*pass);
+        let serial = put_in_hand(pass, field, desc, tag);
+        Ok(Txn::over(pass, field, began, desc, serial))
+    }
+
+    fn over(
+        pass: &'a mut Pass<T>,
+        field: &'a Field<T>,
+        began: Snapshot<Pass<T>>,
+        desc: u32,
+        serial: u64,
+    ) -> Txn<'a, T>
+        ensures pass { result.pass.ghost_name ≡ pass.entry.ghost_name }
+        ensures state { state result
+            ≡ state_of field.now pass.old began.value [] [] None desc serial [] }
+    {
+        Txn {
+            pass,
+            field,
+            began,
+            desc,
+            serial,
+            reads: Reads::new(),
+            slots: Slots::new(),
+            lots: Lots::new(),
+            stop: None,
+        }
+    }
+}
