@@ -18,8 +18,8 @@ use Rattle.md_machine.specs.declared.pass.PassView.{PassView}
 use Rattle.md_machine.specs.declared.step.Kind.TheVariants.{Load}
 use Rattle.md_machine.specs.declared.step.Step.{Step}
 use Rattle.md_machine.specs.Event.{Acts, load}
-use Rattle.md_machine.specs.Installs.{IsPresent, spot_of_install}
-use Rattle.md_machine.specs.Machine.{Install, Machine, attempt_of, content, shape_of, status_at}
+use Rattle.md_machine.specs.Installs.{spot_of_install}
+use Rattle.md_machine.specs.Machine.{Install, IsPresentIn, Machine, attempt_of, content, shape_of, status_at}
 use Rattle.md_machine.specs.Meaning.{Meaning}
 use Rattle.md_machine.specs.Trail.{EveryStepOf, Meets, MetHigher, SomeStepOf, segments}
 use Rattle.md_machine.specs.clauses.slots.Slots.{SlotStands}
@@ -70,7 +70,7 @@ won_spot M o desc serial end p exists k m adm pass acts segment c s i won =
     let x = made.0 in
     let is = made.2 in
     let fits = (reached M m.opening adm.events m adm.opens adm.runs).installs.fits x made.1 in
-    let now : IsPresent (shape_of m) m.words x = ap (λ (b : AttemptId). b.serial) is.attempt
+    let now : IsPresentIn (shape_of m) m.words x.attempt = ap (λ (b : AttemptId). b.serial) is.attempt
     ∙ sym (present_is M o desc exists p k.held serial k.last.0 k.met k.is (subst (MetNoLater o.shape p desc) k.is k.last.1) m adm pass acts)
     ∙ ap (λ (h : Shape). serial_of (content m (address h (desc_status desc)))) (sym adm.shape)
     ∙ ap (λ b. serial_of (status_at m b)) (sym (ap (λ (b : AttemptId). b.desc) is.attempt)) in
