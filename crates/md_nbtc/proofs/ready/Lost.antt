@@ -41,7 +41,7 @@ use Rattle.md_help.proofs.Steps.{known_stays, Made, trail_after}
 use Rattle.md_nbtc.specs.Ending.{IsShown, shown_unready}
 use Rattle.md_nbtc.specs.Prepared.{IsPrepared}
 use Rattle.md_nbtc.specs.State.{TxnState, attempt_in, own_steps, shape_in}
-use Rattle.md_nbtc.proofs.GoingOn.{own_grows}
+use Rattle.md_nbtc.proofs.preparing.GoingOn.{own_grows}
 use Rattle.md_nbtc.proofs.ready.Bridge.{is_present, own_desc}
 
 -- a status word with no reads, by its parts

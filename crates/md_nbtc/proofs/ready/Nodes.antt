@@ -38,7 +38,7 @@ use Rattle.md_nbtc.specs.Going.{IsFoundFirst, IsGoing, IsUnplaced}
 use Rattle.md_nbtc.specs.Known.{Known, WasThere}
 use Rattle.md_nbtc.specs.Prepared.{InstallsFrom, IsPreparedNode}
 use Rattle.md_nbtc.specs.State.{OwnNode, TxnState, attempt_in, shape_in, writes_in}
-use Rattle.md_nbtc.proofs.Heaps.{later_self}
+use Rattle.md_nbtc.proofs.preparing.Heaps.{later_self}
 use Rattle.md_nbtc.proofs.ready.Bridge.{is_present, own_step, slot_at}
 use Rattle.md_nbtc.proofs.ready.Lookups.{one_of, written_found}
 

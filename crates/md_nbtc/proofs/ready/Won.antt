@@ -50,11 +50,11 @@ use Rattle.md_nbtc.specs.Ending.{HasEntry, IsReady, IsReadyCleanup, Readies}
 use Rattle.md_nbtc.specs.Going.{IsGoing}
 use Rattle.md_nbtc.specs.Prepared.{IsHeld, IsRecorded, IsWritten, LastOn}
 use Rattle.md_nbtc.specs.State.{OwnNode, TxnState, attempt_in, own_steps, shape_in, state_of, writes_in}
-use Rattle.md_nbtc.proofs.GoingOn.{own_grows}
-use Rattle.md_nbtc.proofs.Quiet.{IsQuiet, IsStill}
-use Rattle.md_nbtc.proofs.SameState.{same_state}
-use Rattle.md_nbtc.proofs.StatusApart.{counted_apart}
-use Rattle.md_nbtc.proofs.StaysPrepared.{each_weaker, held_then}
+use Rattle.md_nbtc.proofs.preparing.GoingOn.{own_grows}
+use Rattle.md_nbtc.proofs.preparing.Quiet.{IsQuiet, IsStill}
+use Rattle.md_nbtc.proofs.preparing.SameState.{same_state}
+use Rattle.md_nbtc.proofs.preparing.StatusApart.{counted_apart}
+use Rattle.md_nbtc.proofs.preparing.StaysPrepared.{each_weaker, held_then}
 use Rattle.md_nbtc.proofs.ready.Lookups.{all_of}
 use Rattle.md_nbtc.proofs.ready.Nodes.{own_node}
 use Rattle.md_nbtc.proofs.ready.Telling.{known_same}

@@ -9,7 +9,7 @@ use Rattle.md_rule.specs.Kept.{KeepsLane}
 use Rattle.md_rule.specs.Shares.{share_at}
 use Rattle.md_rule.specs.Steps.{SteppedFrom}
 use Rattle.md_nbtc.specs.Beginning.{FindsNew, LeavesStatus}
-use Rattle.md_nbtc.proofs.PutInHand.{first_new}
+use Rattle.md_nbtc.proofs.beginning.PutInHand.{first_new}
 use Rattle.md_nbtc.proofs.begin.first_serial.Goals as goal
 
 pub returns-clause-new : goal.returns-clause-new

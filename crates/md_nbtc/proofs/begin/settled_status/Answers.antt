@@ -3,7 +3,7 @@ use Rattle.md_words.specs.Layout.{address}
 use Rattle.md_words.specs.Place.{desc_status}
 use Rattle.md_machine.specs.Event.{load}
 use Rattle.md_rule.specs.Steps.{SteppedFrom}
-use Rattle.md_nbtc.proofs.Starting.{finds_settled}
+use Rattle.md_nbtc.proofs.beginning.Starting.{finds_settled}
 use Rattle.md_nbtc.proofs.begin.settled_status.Goals as goal
 
 pub returns-clause-finds : goal.returns-clause-finds

@@ -18,9 +18,9 @@ use Rattle.md_rule.proofs.Told.{told_leave}
 use Rattle.md_help.specs.After.{Stands}
 use Rattle.md_help.proofs.Steps.{stands_after}
 use Rattle.md_nbtc.specs.Beginning.{LeavesStatus}
-use Rattle.md_nbtc.proofs.Begun.{is_going}
-use Rattle.md_nbtc.proofs.Beginnings.{begins, lowest, ok_not_err}
-use Rattle.md_nbtc.proofs.Leaving.{begins_not, lanes_left, leaves_left, taken_last}
+use Rattle.md_nbtc.proofs.beginning.Begun.{is_going}
+use Rattle.md_nbtc.proofs.beginning.Beginnings.{begins, lowest, ok_not_err}
+use Rattle.md_nbtc.proofs.beginning.Leaving.{begins_not, lanes_left, leaves_left, taken_last}
 use Rattle.md_nbtc.proofs.txn.Txn.begin.Goals as goal
 
 pub put_in_hand-serial-requires-clause-stands : goal.put_in_hand-serial-requires-clause-stands

@@ -4,9 +4,9 @@ use Rattle.md_nbtc.specs.Known.{Known}
 use Rattle.md_nbtc.specs.Seeing.{Gave}
 use Rattle.md_nbtc.specs.State.{state}
 use Rattle.md_words.specs.PlaceAt.{place_at}
-use Rattle.md_nbtc.proofs.Fields.{field_known}
-use Rattle.md_nbtc.proofs.Loaded.{loaded_given, loaded_going, loaded_is, loaded_later, loaded_so}
-use Rattle.md_nbtc.proofs.StatusApart.{data_apart}
+use Rattle.md_nbtc.proofs.looks.Fields.{field_known}
+use Rattle.md_nbtc.proofs.looks.Loaded.{loaded_given, loaded_going, loaded_is, loaded_later, loaded_so}
+use Rattle.md_nbtc.proofs.preparing.StatusApart.{data_apart}
 use Rattle.md_nbtc.proofs.txn.Txn.field_of.Goals as goal
 
 pub returns-clause-on : goal.returns-clause-on

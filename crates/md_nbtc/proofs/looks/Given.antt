@@ -8,8 +8,8 @@ use Rattle.md_nbtc.specs.declared.seen.Seen.{Seen}
 use Rattle.md_nbtc.specs.Prepared.{LeftThere}
 use Rattle.md_nbtc.specs.Seeing.{Gave, SeesContent, SeesSlot}
 use Rattle.md_nbtc.specs.State.{TxnState, attempt_in, own_steps, seen_content, shape_in}
-use Rattle.md_nbtc.proofs.GoingOn.{moved_more}
-use Rattle.md_nbtc.proofs.Quiet.{left_same}
+use Rattle.md_nbtc.proofs.preparing.GoingOn.{moved_more}
+use Rattle.md_nbtc.proofs.preparing.Quiet.{left_same}
 
 module _ (t : TxnState) (pass : PassState) (steps : List Step) (own : own_steps (record t { pass = pass }) ≡ own_steps t ++ steps) (lanes : pass.view.lanes ≡ t.pass.view.lanes) where
   abbrev pub stepped : TxnState

@@ -17,8 +17,8 @@ use Rattle.md_nbtc.specs.Course.{ChangesAreWrites, IsCourse, IsStoredNode}
 use Rattle.md_nbtc.specs.Known.{IsLater}
 use Rattle.md_nbtc.specs.Prepared.{IsPrepared}
 use Rattle.md_nbtc.specs.State.{TxnState}
-use Rattle.md_nbtc.proofs.Later.{known_later}
-use Rattle.md_nbtc.proofs.OnMark.{after_mark, mark_going, mark_later}
+use Rattle.md_nbtc.proofs.preparing.Later.{known_later}
+use Rattle.md_nbtc.proofs.operations.OnMark.{after_mark, mark_going, mark_later}
 
 module _ (M : Meaning) (t : TxnState) (prepared : IsPrepared t) (between : t.hand.operating ≡ false) where
   -- the mark may be made

@@ -40,7 +40,7 @@ use Rattle.md_help.proofs.Owns.{IsNoLaterStep, no_later_after}
 use Rattle.md_help.proofs.Steps.{Made, both_after, trail_after}
 use Rattle.md_help.proofs.Taking.{fate_decided, uninstall_lost, uninstall_won}
 use Rattle.md_nbtc.specs.Beginning.{PassesCount, StandsOwn}
-use Rattle.md_nbtc.proofs.Starting.{present_is}
+use Rattle.md_nbtc.proofs.beginning.Starting.{present_is}
 
 -- a counted word, and a word of a slot, isn't a status
 pub counted_apart : (shape : Shape) (desc x : ℕ) → desc < desc_count shape → IsCounted shape x → x ≢ address shape (desc_status desc)

@@ -30,8 +30,8 @@ use Rattle.md_rule.proofs.Moves.{is_kept, is_meant}
 use Rattle.md_nbtc.specs.Going.{IsFoundFirst, IsGoing}
 use Rattle.md_nbtc.specs.Known.{IsHeapOf, WasThere}
 use Rattle.md_nbtc.specs.State.{OwnNode, TxnState, shape_in, writes_in}
-use Rattle.md_nbtc.proofs.GrownPrepared.{IsOnNode}
-use Rattle.md_nbtc.proofs.Heaps.{known_now}
+use Rattle.md_nbtc.proofs.nodes.GrownPrepared.{IsOnNode}
+use Rattle.md_nbtc.proofs.preparing.Heaps.{known_now}
 use Rattle.md_nbtc.proofs.ready.Lookups.{all_of}
 
 module _ (M : Meaning) (lawful : Lawful M) (t : TxnState) (cs : List Certificate) (going : IsGoing M t cs) (node : ℕ) (free : KnowsFree (shape_in t) t.pass.view node)

@@ -33,10 +33,10 @@ use Rattle.md_nbtc.specs.declared.sets.Lot.{Lot}
 use Rattle.md_nbtc.specs.declared.sets.Slot.{Slot}
 use Rattle.md_nbtc.specs.Prepared.{EachFrom, InstallsFrom, IsHeld, IsPrepared, IsPreparedNode, IsRecorded, IsWritten, LastOn, LeftLast, LeftThere, TakenInTurn}
 use Rattle.md_nbtc.specs.State.{OwnNode, TxnState, attempt_in, lots_since, own_steps, shape_in, writes_in}
-use Rattle.md_nbtc.proofs.GoingOn.{own_grows}
+use Rattle.md_nbtc.proofs.preparing.GoingOn.{own_grows}
 use Rattle.md_nbtc.proofs.ready.Lookups.{all_of}
-use Rattle.md_nbtc.proofs.Loaded.{IsLook}
-use Rattle.md_nbtc.proofs.Quiet.{earlier_still, every_still, last_longer, last_on, last_still, left_same, some_was}
+use Rattle.md_nbtc.proofs.looks.Loaded.{IsLook}
+use Rattle.md_nbtc.proofs.preparing.Quiet.{earlier_still, every_still, last_longer, last_on, last_still, left_same, some_was}
 
 -- each of a list with its place has one thing where it has another, by its place and by being one of them
 pub each_on : {A : Type 0} (P Q : ℕ → A → Type 0) (from : ℕ) (xs : List A) → ((i : ℕ) (x : A) → i < from + length xs → Contains xs x → P i x → Q i x)

@@ -17,7 +17,7 @@ use Rattle.md_help.specs.After.{IsAfter}
 use Rattle.md_nbtc.specs.declared.sets.Lot.{Lot}
 use Rattle.md_nbtc.specs.declared.sets.Slot.{Slot}
 use Rattle.md_nbtc.specs.State.{last_stored, no_hand, own_node, state_of, stored_in, taken_of_lane, taken_since}
-use Rattle.md_nbtc.proofs.Quiet.{IsQuiet}
+use Rattle.md_nbtc.proofs.preparing.Quiet.{IsQuiet}
 
 -- two functions that agree give the same list
 pub map_agree : {A B : Type 0} (f g : A → B) → ((x : A) → f x ≡ g x) → (xs : List A) → map f xs ≡ map g xs

@@ -30,14 +30,14 @@ use Rattle.md_nbtc.specs.Going.{IsGoing}
 use Rattle.md_nbtc.specs.Known.{IsLater}
 use Rattle.md_nbtc.specs.Prepared.{IsPrepared}
 use Rattle.md_nbtc.specs.State.{TxnState, attempt_in, shape_in, state_of}
-use Rattle.md_nbtc.proofs.GoingOn.{Rest, going_of, rest_of, rest_on}
-use Rattle.md_nbtc.proofs.Later.{later_over}
-use Rattle.md_nbtc.proofs.Loaded.{IsLook, free_over, look_quiet}
-use Rattle.md_nbtc.proofs.Quiet.{IsQuiet, IsStill}
-use Rattle.md_nbtc.proofs.SameState.{same_nodes}
-use Rattle.md_nbtc.proofs.StatusApart.{base_apart}
-use Rattle.md_nbtc.proofs.StaysPrepared.{stays_prepared}
-use Rattle.md_nbtc.proofs.Turned.{turned, turned_hand, turned_later, turned_rest}
+use Rattle.md_nbtc.proofs.preparing.GoingOn.{Rest, going_of, rest_of, rest_on}
+use Rattle.md_nbtc.proofs.preparing.Later.{later_over}
+use Rattle.md_nbtc.proofs.looks.Loaded.{IsLook, free_over, look_quiet}
+use Rattle.md_nbtc.proofs.preparing.Quiet.{IsQuiet, IsStill}
+use Rattle.md_nbtc.proofs.preparing.SameState.{same_nodes}
+use Rattle.md_nbtc.proofs.preparing.StatusApart.{base_apart}
+use Rattle.md_nbtc.proofs.preparing.StaysPrepared.{stays_prepared}
+use Rattle.md_nbtc.proofs.operations.Turned.{turned, turned_hand, turned_later, turned_rest}
 
 module _ (M : Meaning) (t : TxnState) (prepared : IsPrepared t) (acts : List Act) (operating : Bool) (event : EventOf) (q : PassView)
     (step : Stepped M t.field.origin event t.pass.view q)

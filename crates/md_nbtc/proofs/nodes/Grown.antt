@@ -26,11 +26,11 @@ use Rattle.md_nbtc.specs.Known.{IsLater, KnowsPlaced}
 use Rattle.md_nbtc.specs.Prepared.{IsPrepared}
 use Rattle.md_nbtc.specs.Seeing.{IsOwnPlaced, MayChange}
 use Rattle.md_nbtc.specs.State.{OwnNode, TxnState, attempt_in, own_steps, shape_in}
-use Rattle.md_nbtc.proofs.Later.{known_later}
+use Rattle.md_nbtc.proofs.preparing.Later.{known_later}
 use Rattle.md_machine.specs.declared.attempt.Hand.{Hand}
 use Rattle.md_machine.proofs.lists.Rising.{in_cons, in_none}
 use Rattle.md_nbtc.specs.declared.sets.Lot.{Lot}
-use Rattle.md_nbtc.proofs.GoingOn.{moved_more, own_grows}
+use Rattle.md_nbtc.proofs.preparing.GoingOn.{moved_more, own_grows}
 
 module _ (M : Meaning) (t : TxnState) (pass : PassState) (lots : List Lot) (n : OwnNode) (differs : (k : OwnNode) → Contains t.nodes k → k.node ≢ n.node) where
   abbrev pub grown_hand : Hand

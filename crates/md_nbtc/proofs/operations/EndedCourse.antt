@@ -25,8 +25,8 @@ use Rattle.md_nbtc.specs.Calls.{with_act}
 use Rattle.md_nbtc.specs.Course.{ChangesAreWrites, ChangesLast, IsCourse, IsStoredNode, MayEnd, last_new}
 use Rattle.md_nbtc.specs.Known.{IsLater, found_by}
 use Rattle.md_nbtc.specs.State.{TxnState, shape_in, writes_in}
-use Rattle.md_nbtc.proofs.Courses.{all_push, changes_push, nodes_push, stand_push, wholes_push}
-use Rattle.md_nbtc.proofs.Later.{later_over}
+use Rattle.md_nbtc.proofs.operations.Courses.{all_push, changes_push, nodes_push, stand_push, wholes_push}
+use Rattle.md_nbtc.proofs.preparing.Later.{later_over}
 use Rattle.md_nbtc.proofs.Values.{IsApart, last_append, whole_value}
 
 -- a word that has a last change is changed

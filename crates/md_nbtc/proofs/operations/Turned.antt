@@ -12,7 +12,7 @@ use Rattle.md_machine.specs.declared.pass.PassView.{PassView}
 use Rattle.md_machine.specs.Trail.{LastStored}
 use Rattle.md_nbtc.specs.Prepared.{IsPrepared, IsPreparedNode, IsRecorded, IsWritten}
 use Rattle.md_nbtc.specs.State.{OwnNode, TxnState, attempt_in, writes_in}
-use Rattle.md_nbtc.proofs.StaysPrepared.{each_weaker}
+use Rattle.md_nbtc.proofs.preparing.StaysPrepared.{each_weaker}
 use Rattle.std.proofs.lemmas.Option.{IfSome_then}
 use Rattle.md_machine.specs.declared.certificate.Certificate.{Certificate}
 use Rattle.md_machine.specs.declared.certificate.Fact.{Fact}
@@ -28,8 +28,8 @@ use Rattle.md_nbtc.specs.Course.{IsCourse}
 use Rattle.md_nbtc.specs.Going.{IsUnplaced}
 use Rattle.md_nbtc.specs.Known.{IsLater, KnowsPlaced}
 use Rattle.md_nbtc.specs.Seeing.{MayChange}
-use Rattle.md_nbtc.proofs.GoingOn.{Rest}
-use Rattle.md_nbtc.proofs.Later.{known_later}
+use Rattle.md_nbtc.proofs.preparing.GoingOn.{Rest}
+use Rattle.md_nbtc.proofs.preparing.Later.{known_later}
 
 -- what is in hand with these acts, and nothing changed or stored since
 abbrev pub turned_hand : Hand → List Act → Bool → Hand

@@ -23,8 +23,8 @@ use Rattle.md_help.specs.After.{IsAfter}
 use Rattle.md_help.proofs.Deciding.{some_after}
 use Rattle.md_nbtc.specs.Prepared.{EachFrom, IsHeld, IsPrepared, IsPreparedNode, IsRecorded, InstallsFrom, IsWritten, LastOn, LeftLast, LeftThere}
 use Rattle.md_nbtc.specs.State.{OwnNode, TxnState, attempt_in, lot_of_lane, own_steps, shape_in, writes_in}
-use Rattle.md_nbtc.proofs.GoingOn.{own_grows}
-use Rattle.md_nbtc.proofs.Quiet.{IsQuiet, IsStill, every_still, last_on, last_still, left_still, quiet_store, some_was, stored_still}
+use Rattle.md_nbtc.proofs.preparing.GoingOn.{own_grows}
+use Rattle.md_nbtc.proofs.preparing.Quiet.{IsQuiet, IsStill, every_still, last_on, last_still, left_still, quiet_store, some_was, stored_still}
 
 -- each of a list has one thing where it has another
 pub each_weaker : {A : Type 0} (P Q : ℕ → A → Type 0) → ((i : ℕ) (x : A) → P i x → Q i x) → (from : ℕ) (xs : List A) → EachFrom P from xs → EachFrom Q from xs

@@ -41,7 +41,7 @@ use Rattle.md_help.proofs.Numbers.{formats_of}
 use Rattle.md_help.proofs.Owns.{last_loaded}
 use Rattle.md_help.proofs.Steps.{both_after, made_load, stands_after, stands_made, trail_after}
 use Rattle.md_nbtc.specs.Beginning.{FindsNew, FirstIsUnready, IsBehind, KeepsCounts, LeavesStatus, PutsInHand}
-use Rattle.md_nbtc.proofs.Starting.{present_is, ready_out}
+use Rattle.md_nbtc.proofs.beginning.Starting.{present_is, ready_out}
 
 -- putting in hand changes no number of a share
 pub begin_counts : (shares : List Share) (desc : ℕ) → desc < length shares → KeepsCounts shares (after_begin shares desc)

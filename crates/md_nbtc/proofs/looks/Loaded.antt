@@ -21,17 +21,17 @@ use Rattle.md_nbtc.specs.declared.seen.Seen.{Seen}
 use Rattle.md_nbtc.specs.declared.sets.Lot.{Lot}
 use Rattle.md_nbtc.specs.declared.sets.Slot.{Slot}
 use Rattle.md_nbtc.specs.Seeing.{Gave}
-use Rattle.md_nbtc.proofs.Given.{gave_same}
-use Rattle.md_nbtc.proofs.SameState.{same_state}
+use Rattle.md_nbtc.proofs.looks.Given.{gave_same}
+use Rattle.md_nbtc.proofs.preparing.SameState.{same_state}
 use Rattle.md_rule.proofs.Moves.{goes_on, is_kept, next_admitted}
 use Rattle.md_help.proofs.Steps.{Made, made_load, stands_made}
 use Rattle.md_nbtc.specs.Going.{IsGoing}
 use Rattle.md_nbtc.specs.Known.{IsLater}
 use Rattle.md_nbtc.specs.Prepared.{IsPrepared}
 use Rattle.md_nbtc.specs.State.{TxnState, attempt_in, shape_in, state_of}
-use Rattle.md_nbtc.proofs.GoingOn.{going_on, own_grows}
-use Rattle.md_nbtc.proofs.Quiet.{IsQuiet, IsStill}
-use Rattle.md_nbtc.proofs.StaysPrepared.{stays_prepared}
+use Rattle.md_nbtc.proofs.preparing.GoingOn.{going_on, own_grows}
+use Rattle.md_nbtc.proofs.preparing.Quiet.{IsQuiet, IsStill}
+use Rattle.md_nbtc.proofs.preparing.StaysPrepared.{stays_prepared}
 
 -- a step that found and left the same
 pub record IsLook (s : Step) : Type 0 where

@@ -32,7 +32,7 @@ use Rattle.md_nbtc.specs.Known.{IsLater, KnowsPlaced}
 use Rattle.md_nbtc.specs.Prepared.{IsPrepared}
 use Rattle.md_nbtc.specs.Seeing.{MayChange}
 use Rattle.md_nbtc.specs.State.{OwnNode, TxnState, attempt_in, own_steps, shape_in, writes_in}
-use Rattle.md_nbtc.proofs.Later.{known_later}
+use Rattle.md_nbtc.proofs.preparing.Later.{known_later}
 
 -- some step of a list is one of a longer one
 some_more : (P : Step → Type 0) (steps more : List Step) → SomeStep P steps → SomeStep P (steps ++ more)

@@ -32,7 +32,7 @@ use Rattle.md_nbtc.specs.Course.{ChangesAreWrites, IsCourse, IsStoredNode, last_
 use Rattle.md_nbtc.specs.Going.{IsGoing, IsUnplaced}
 use Rattle.md_nbtc.specs.Prepared.{IsHeld, IsPrepared, IsPreparedNode, LastOn}
 use Rattle.md_nbtc.specs.Seeing.{MayChange}
-use Rattle.md_nbtc.proofs.StatusApart.{base_apart}
+use Rattle.md_nbtc.proofs.preparing.StatusApart.{base_apart}
 use Rattle.md_nbtc.specs.State.{OwnNode, SameNodes, TxnState, attempt_in, lot_of_lane, lots_since, no_hand, own_node, own_steps, state_of, taken_of_lane, taken_since}
 
 -- lists of nothing

@@ -6,7 +6,7 @@ use Rattle.md_machine.specs.declared.attempt.Read.{Read}
 use Rattle.md_machine.specs.declared.attempt.Write.{Write}
 use Rattle.md_nbtc.specs.Prepared.{IsPrepared, IsPreparedNode, IsRecorded, IsWritten}
 use Rattle.md_nbtc.specs.State.{OwnNode, TxnState, writes_in}
-use Rattle.md_nbtc.proofs.StaysPrepared.{each_weaker}
+use Rattle.md_nbtc.proofs.preparing.StaysPrepared.{each_weaker}
 use Rattle.std.proofs.lemmas.Option.{IfSome_then}
 use Rattle.md_history.specs.declared.stops.Stop.{Stop}
 use Rattle.md_machine.specs.declared.certificate.Certificate.{Certificate}
@@ -22,7 +22,7 @@ use Rattle.md_nbtc.specs.Course.{IsCourse, IsStoredNode}
 use Rattle.md_nbtc.specs.Going.{HasCause, IsGoing, IsUnplaced}
 use Rattle.md_nbtc.specs.Known.{IsLater, KnowsPlaced}
 use Rattle.md_nbtc.specs.Seeing.{MayChange}
-use Rattle.md_nbtc.proofs.Later.{known_later}
+use Rattle.md_nbtc.proofs.preparing.Later.{known_later}
 
 module _ (t : TxnState) (prepared : IsPrepared t) (kept_stop : Stop) where
   -- the transaction with a stop kept

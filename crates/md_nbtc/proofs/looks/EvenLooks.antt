@@ -32,8 +32,8 @@ use Rattle.md_nbtc.specs.Known.{Met}
 use Rattle.md_nbtc.specs.Prepared.{IsPreparedNode, LeftLast}
 use Rattle.md_nbtc.specs.Seeing.{Gave, IsInPlace, IsNextOf, Looks}
 use Rattle.md_nbtc.specs.State.{OwnNode, TxnState, shape_in, writes_in}
-use Rattle.md_nbtc.proofs.Causes.{after_load, drop_first, made, seen_there, sees_content, whole}
-use Rattle.md_nbtc.proofs.Heaps.{heap_there, later_self}
+use Rattle.md_nbtc.proofs.looks.Causes.{after_load, drop_first, made, seen_there, sees_content, whole}
+use Rattle.md_nbtc.proofs.preparing.Heaps.{heap_there, later_self}
 use Rattle.md_nbtc.proofs.ready.Nodes.{last_left, node_own, not_placed}
 
 abbrev first_or : Step → List Step → Step

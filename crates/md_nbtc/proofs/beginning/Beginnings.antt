@@ -23,9 +23,9 @@ use Rattle.md_nbtc.specs.Beginning.{KeepsCounts, PutsInHand}
 use Rattle.md_nbtc.specs.Ending.{Begins, BeginsLane, BeginsNot, IsSamePass}
 use Rattle.md_nbtc.specs.Prepared.{IsHeld}
 use Rattle.md_nbtc.specs.State.{SameNodes, TxnState, attempt_in}
-use Rattle.md_nbtc.proofs.Begun.{begun, is_hand, is_held, no_nodes}
-use Rattle.md_nbtc.proofs.Later.{prefix_over}
-use Rattle.md_nbtc.proofs.Leaving.{begins_not, share_taken}
+use Rattle.md_nbtc.proofs.beginning.Begun.{begun, is_hand, is_held, no_nodes}
+use Rattle.md_nbtc.proofs.preparing.Later.{prefix_over}
+use Rattle.md_nbtc.proofs.beginning.Leaving.{begins_not, share_taken}
 
 -- an answer isn't a refusal
 pub ok_not_err : {A B : Type 0} (x : A) (y : B) → Ok x ≡ Err y → ⊥

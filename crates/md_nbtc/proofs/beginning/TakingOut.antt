@@ -24,7 +24,7 @@ use Rattle.md_help.specs.Owns.{EndsOwn}
 use Rattle.md_help.proofs.Deciding.{some_after}
 use Rattle.md_help.proofs.Steps.{both_after, none_after}
 use Rattle.md_nbtc.specs.Beginning.{Empties, TakesOut, TakesSlot}
-use Rattle.md_nbtc.proofs.Quiet.{every_still}
+use Rattle.md_nbtc.proofs.preparing.Quiet.{every_still}
 
 -- nothing in hand is no attempt
 is_none : (h : Option Hand) (a : AttemptId) → h ≡ None → attempt_in_hand h ≡ Some a → ⊥

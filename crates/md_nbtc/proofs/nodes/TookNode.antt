@@ -16,7 +16,7 @@ use Rattle.md_rule.specs.Shares.{share_at}
 use Rattle.md_rule.specs.Views.{PassState}
 use Rattle.md_nbtc.specs.Prepared.{IsPrepared, IsPreparedNode, TakenInTurn}
 use Rattle.md_nbtc.specs.State.{OwnNode, TxnState, attempt_in, shape_in}
-use Rattle.md_nbtc.proofs.Taken.{TookOne}
+use Rattle.md_nbtc.proofs.nodes.Taken.{TookOne}
 
 module _ (t : TxnState) (prepared : IsPrepared t) (node : ℕ) (p : PassState) (takes : TakesNode t.pass node p) (v : PassView) (lanes : v.lanes ≡ t.pass.view.lanes) where
   -- the pass after it, with steps

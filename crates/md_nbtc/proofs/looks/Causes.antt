@@ -29,8 +29,8 @@ use Rattle.md_nbtc.specs.declared.seen.Seen.{Seen}
 use Rattle.md_nbtc.specs.Prepared.{IsPrepared, IsRecorded, IsWritten, LeftLast, LeftThere}
 use Rattle.md_nbtc.specs.Seeing.{SeesContent}
 use Rattle.md_nbtc.specs.State.{TxnState, attempt_in, own_steps, shape_in, writes_in}
-use Rattle.md_nbtc.proofs.AloneChain.{ChainsFrom, chain_later, chained, last_at, stays_held}
-use Rattle.md_nbtc.proofs.GoingOn.{own_grows}
+use Rattle.md_nbtc.proofs.looks.AloneChain.{ChainsFrom, chain_later, chained, last_at, stays_held}
+use Rattle.md_nbtc.proofs.preparing.GoingOn.{own_grows}
 use Rattle.md_nbtc.proofs.ready.Lookups.{each_in, replaced_there, written_replaced}
 use Rattle.std.specs.Prelude.{◌==◌, ◌&&◌, is_some, not}
 use Rattle.md_words.specs.declared.content.Spot.{Spot}

@@ -26,10 +26,10 @@ use Rattle.md_nbtc.specs.Calls.{Ends, MayAnswer, with_act}
 use Rattle.md_nbtc.specs.Course.{MayEnd}
 use Rattle.md_nbtc.specs.Prepared.{IsPrepared}
 use Rattle.md_nbtc.specs.State.{TxnState}
-use Rattle.md_nbtc.proofs.Courses.{nodes_push}
-use Rattle.md_nbtc.proofs.EndedCourse.{ended_course}
-use Rattle.md_nbtc.proofs.OnMark.{after_mark, mark_going, mark_later}
-use Rattle.md_nbtc.proofs.Turned.{turned_hand}
+use Rattle.md_nbtc.proofs.operations.Courses.{nodes_push}
+use Rattle.md_nbtc.proofs.operations.EndedCourse.{ended_course}
+use Rattle.md_nbtc.proofs.operations.OnMark.{after_mark, mark_going, mark_later}
+use Rattle.md_nbtc.proofs.operations.Turned.{turned_hand}
 use Rattle.md_nbtc.proofs.ready.Bridge.{reads_stored, same_first}
 
 abbrev as_placed : NewNode → PlacedNode

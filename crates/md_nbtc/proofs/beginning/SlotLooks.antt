@@ -42,9 +42,9 @@ use Rattle.md_help.proofs.Deciding.{some_after}
 use Rattle.md_help.proofs.Numbers.{formats_of}
 use Rattle.md_help.proofs.Steps.{Made, both_after, load_finds, made_load, trail_after}
 use Rattle.md_nbtc.specs.Beginning.{PassesCount, StandsOwn, TakesSlot}
-use Rattle.md_nbtc.proofs.SlotsOut.{all_counted, counted_apart, knows_still, slot_word_apart}
-use Rattle.md_nbtc.proofs.Starting.{present_is}
-use Rattle.md_nbtc.proofs.TakingOut.{out_from}
+use Rattle.md_nbtc.proofs.beginning.SlotsOut.{all_counted, counted_apart, knows_still, slot_word_apart}
+use Rattle.md_nbtc.proofs.beginning.Starting.{present_is}
+use Rattle.md_nbtc.proofs.beginning.TakingOut.{out_from}
 
 -- a won install of the slot: it was in the word, and left the slot there
 pub record WonThere (shape : Shape) (word desc slot : ℕ) (s : Step) : Type 0 where

@@ -29,9 +29,9 @@ use Rattle.md_rule.proofs.Moves.{is_kept, is_meant}
 use Rattle.md_help.specs.After.{IsAfter, known_over}
 use Rattle.md_help.proofs.Steps.{IsFor, both_after}
 use Rattle.md_nbtc.specs.Prepared.{LeftLast}
-use Rattle.md_nbtc.proofs.GrownPrepared.{IsOnNode}
-use Rattle.md_nbtc.proofs.Loaded.{free_over}
-use Rattle.md_nbtc.proofs.Stores.{stored_one}
+use Rattle.md_nbtc.proofs.nodes.GrownPrepared.{IsOnNode}
+use Rattle.md_nbtc.proofs.looks.Loaded.{free_over}
+use Rattle.md_nbtc.proofs.nodes.Stores.{stored_one}
 use Rattle.md_nbtc.proofs.ready.Nodes.{last_left}
 
 -- a pass with this in hand may store the words of the node

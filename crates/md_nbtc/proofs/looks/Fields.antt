@@ -27,8 +27,8 @@ use Rattle.md_nbtc.specs.Calls.{IsData, data_at}
 use Rattle.md_nbtc.specs.Going.{IsGoing, IsUnplaced}
 use Rattle.md_nbtc.specs.Known.{IsHeapOf, IsLater, Known, KnowsPlaced}
 use Rattle.md_nbtc.specs.State.{OwnNode, TxnState, shape_in}
-use Rattle.md_nbtc.proofs.Heaps.{heap_there, later_self}
-use Rattle.md_nbtc.proofs.Later.{later_over}
+use Rattle.md_nbtc.proofs.preparing.Heaps.{heap_there, later_self}
+use Rattle.md_nbtc.proofs.preparing.Later.{later_over}
 
 -- what a heap of a machine has as the key or the value of a node is what stands in its word
 data_is : (m : Machine) (h : LogicalHeap) (node : ℕ) (place : Place) → IsDataOf node place → ((p : Place) → (h.words.key_of node ≡ word_at (shape_of m) m.words (node_key node)) × (h.words.value_of_node node ≡ word_at (shape_of m) m.words (node_value node)))
