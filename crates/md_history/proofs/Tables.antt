@@ -1,17 +1,17 @@
 -- A `BTreeMap`'s entries as a finite map.
-use Rattle.std.proofs.Common.{◌≡◌, ℕ, cond, List, [], ◌∷◌, refl, sym, ap, ◌∙◌, Some, None, map, length, slice_index_or, slice_set, ◌<◌}
-use Rattle.std.specs.Ordering.{nat_cmp}
+use Rattle.std.proofs.Common.{◌≡◌, ℕ, cond, List, [], ◌∷◌, refl, sym, ap, ◌∙◌, Some, None, map, length, ◌++◌, reverse, slice_index_or, slice_set, ◌<◌}
+use Rattle.std.specs.Ordering.{nat_cmp, eq_by_cmp}
 use Rattle.std.specs.Cmp.{nat_cmp_total, eq_by_cmp_equiv}
-use Rattle.std.specs.Map.{lookup}
+use Rattle.std.specs.Map.{lookup, update_all}
 use Rattle.std.specs.BTreeMap.{is_at}
 use Rattle.std.specs.FinMap as fin
 use Rattle.std.specs.BTreeMap.{BTreeMap}
 use Rattle.std.specs.declared.collections.VecDeque.{VecDeque}
 use Rattle.std.proofs.Common.{Global, arith}
-use Rattle.std.proofs.lemmas.List.{map-set, get_or-map, length-map}
+use Rattle.std.proofs.lemmas.List.{map-set, get_or-map, length-map, reverse-append, append_assoc, append-nil}
 use Rattle.std.proofs.lemmas.List.{set-get_or}
 use Rattle.md_history.specs.State.{State, Table, map_at, queue_at, with_map, with_queue}
-use Rattle.md_history.specs.Contents.{table_of, state_of}
+use Rattle.md_history.specs.Contents.{table_of, table_of_pairs, state_of}
 
 -- the finite map of entries
 abbrev pub table : List (ℕ × ℕ) → Table
@@ -39,6 +39,22 @@ pub table-remove : (es fs : List (ℕ × ℕ)) (k : ℕ)
 table-remove es fs k h = fin.same_map nat_cmp_total fin.nat_cmp-IsAntisymmetric _ _ (λ q.
     get-table fs q ∙ h q ∙ ap (λ b. cond b None (lookup (is_at (nat_cmp q)) es)) ((eq_by_cmp_equiv nat_cmp_total).symm k q)
     ∙ sym (fin.get-remove nat_cmp_total (table es) k q ∙ ap (cond (is_at (nat_cmp q) k) None) (get-table es q)))
+
+-- pairs that are inserted in turn after others: the last one with a key counts
+inserted_after : (pairs done : List (ℕ × ℕ)) (q : ℕ)
+    → update_all (eq_by_cmp nat_cmp) (λ k. fin.find nat_cmp k done) pairs q ≡ fin.find nat_cmp q (reverse pairs ++ done)
+inserted_after [] done q = refl
+inserted_after (p ∷ pairs) done q =
+    (λ i. update_all (eq_by_cmp nat_cmp) (λ k. cond ((eq_by_cmp_equiv nat_cmp_total).symm p.0 k i) (Some p.1) (fin.find nat_cmp k done)) pairs q)
+    ∙ inserted_after pairs (p ∷ done) q
+    ∙ ap (fin.find nat_cmp q) (sym (append_assoc (reverse pairs) (p ∷ []) done) ∙ ap (λ es. es ++ done) (sym (reverse-append (p ∷ []) pairs)))
+
+-- so they make one finite map
+pub table-made : (es pairs : List (ℕ × ℕ))
+    → ((q : ℕ) → lookup (is_at (nat_cmp q)) es ≡ update_all (eq_by_cmp nat_cmp) (λ _. None) pairs q) → table es ≡ table_of_pairs pairs
+table-made es pairs h = fin.same_map nat_cmp_total fin.nat_cmp-IsAntisymmetric _ _ (λ q.
+    get-table es q ∙ h q ∙ inserted_after pairs [] q ∙ ap (fin.find nat_cmp q) (append-nil (reverse pairs))
+    ∙ sym (fin.get-from_entries nat_cmp_total (reverse pairs) q))
 
 module _ {X Y : Type 0} (f : X → Y) (xs : List X) (i : ℕ) (x : X) (is : x ≡ slice_index_or xs i x) where
   read_map : (d : Y) → i < length xs → f x ≡ slice_index_or (map f xs) i d

@@ -6,7 +6,7 @@ ghost use Rattle.std.specs.FinMap as fin;
 ghost use Rattle.std.specs.Ordering.{nat_cmp};
 ghost use Rattle.md_history.specs.State.{State, empty_state, map_at, queue_at, with_map};
 ghost use Rattle.md_history.specs.State.{with_queue, line_of, after};
-ghost use Rattle.md_history.specs.Contents.{table_of};
+ghost use Rattle.md_history.specs.Contents.{table_of, table_of_pairs};
 ghost use Rattle.md_history.specs.declared.acts.Op.TheVariants.{Insert};
 
 use crate::acts::{Line, MAX_LINE};
@@ -64,6 +64,19 @@ impl Contents {
         ensures err { OnErr result (self.new ≡ self.old) }
     {
         Ok(self.maps[map as usize].insert(key, value)?)
+    }
+
+    /// Sets a whole map: it has these pairs, and nothing of what it had. Of several pairs with one key
+    /// the last one counts. `AllocError` if memory runs out; then nothing changed.
+    ///
+    /// std builds the map: it sorts the pairs once, and no pair is searched for.
+    pub fn set_map(&mut self, map: u32, pairs: Vec<(u64, u64)>) -> Result<(), AllocError>
+        requires { map < length self.old.maps }
+        ensures ok { OnOk result (self.new ≡ with_map self.old map (table_of_pairs pairs.items)) }
+        ensures err { OnErr result (self.new ≡ self.old) }
+    {
+        self.maps[map as usize] = pairs.into_iter().collect(self.alloc())?;
+        Ok(())
     }
 
     /// Appends a value to a queue. `AllocError` if memory runs out; then nothing changed.

@@ -48,6 +48,22 @@ fn contents_take_values(rt: HostRuntime) -> Result<(), Fail> {
     Ok(())
 }
 
+#[test]
+fn a_map_is_set_whole(rt: HostRuntime) -> Result<(), Fail> {
+    let mut contents = Contents::empty(rt.alloc(), 2, 0)?;
+    contents.put(0, 5, 6)?;
+    contents.put(1, 4, 1)?;
+    contents.set_map(1, vec![in rt.alloc(); (9, 2), (7, 3), (9, 4)]?)?;
+    assert_eq!(rt; contents.get(0, 5), Some(6));
+    assert_eq!(rt; contents.get(1, 4), None);
+    assert_eq!(rt; contents.get(1, 7), Some(3));
+    assert_eq!(rt; contents.get(1, 9), Some(4));
+    assert_eq!(rt; contents.map(1).len(), 2);
+    contents.set_map(1, Vec::new(rt.alloc()))?;
+    assert_eq!(rt; contents.map(1).len(), 0);
+    Ok(())
+}
+
 // What a line has of a queue with the values from 1 on: how many there are, how many are asked for,
 // and how many the line has.
 #[test]

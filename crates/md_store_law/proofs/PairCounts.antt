@@ -19,6 +19,7 @@ use Rattle.md_words.specs.Layout.{bucket_of, node_count}
 use Rattle.md_machine.specs.declared.node.Structure.{Structure}
 use Rattle.md_machine.specs.declared.node.Structure.TheVariants.{Bucket}
 use Rattle.md_machine.specs.LogicalHeap.{LogicalHeap, next_of}
+use Rattle.md_history.specs.Contents.{table_of_pairs}
 use Rattle.md_list_law.specs.Walk.{walk, unmarked_pairs, pairs_from, map_of_pairs}
 use Rattle.md_list_law.specs.ListShape.{head_word, IsIn, Names, NamesAbove}
 use Rattle.md_list_law.proofs.Walks.{walk-none, walk-some}
@@ -28,7 +29,7 @@ use Rattle.md_list_law.proofs.ListKept.{above_less}
 use Rattle.md_list_law.proofs.Pairs.{rises_of, found-pair}
 use Rattle.md_hash_law.specs.HashTable.{pairs_of_map}
 use Rattle.md_store_law.specs.Field.{logical_words, IsStoreField}
-use Rattle.md_store_law.proofs.Sums.{KeysApart, apart_sorted, len-apart}
+use Rattle.md_store_law.proofs.Sums.{KeysApart, apart_sorted, len-apart, from_entries-reverse}
 
 -- a key that two lists lack, their joint list lacks
 lacks-append : (q : ℕ) (xs ys : List (ℕ × ℕ)) → fin.find nat_cmp q xs ≡ None → fin.find nat_cmp q ys ≡ None → fin.find nat_cmp q (xs ++ ys) ≡ None
@@ -156,11 +157,19 @@ module _ (shape : Shape) (words : List ℕ) (f : IsStoreField shape words) (map 
   keys_home home same bucket b = all_from_find (λ q. home q ≡ bucket) _ (apart_sorted _ (keys_rise bucket b))
       (λ q v e. same q ∙ key_home bucket q v b e)
 
+  -- the keys of a map differ
+  keys_apart : KeysApart (pairs_of_map (logical_words shape words) map)
+  keys_apart = apart-pieces (λ bucket. pairs_from (logical_words shape words) (head_word shape map bucket)) (bucket_of shape) 0 shape.buckets
+      (λ b low high. apart_sorted _ (keys_rise b (omega (arith, high))))
+      (λ b q v low high e. key_home b q v (omega (arith, high)) e)
+
   -- a map has as many keys as there are pairs
   pub len-map : fin.len (map_of_pairs (pairs_of_map (logical_words shape words) map)) ≡ length (pairs_of_map (logical_words shape words) map)
-  len-map = len-apart _ (apart-pieces (λ bucket. pairs_from (logical_words shape words) (head_word shape map bucket)) (bucket_of shape) 0 shape.buckets
-      (λ b low high. apart_sorted _ (keys_rise b (omega (arith, high))))
-      (λ b q v low high e. key_home b q v (omega (arith, high)) e))
+  len-map = len-apart _ keys_apart
+
+  -- and its pairs make it in either order
+  pub table-pairs : table_of_pairs (pairs_of_map (logical_words shape words) map) ≡ map_of_pairs (pairs_of_map (logical_words shape words) map)
+  table-pairs = from_entries-reverse _ keys_apart
 
 -- the first numbers of a range
 take-range : (k n : ℕ) → k ≤ n → take k (range_with_len 0 n) ≡ range_with_len 0 k

@@ -1,8 +1,7 @@
 -- States with another map or another queue.
-use Rattle.std.proofs.Common.{◌≡◌, ℕ, ◌+◌, ◌<◌, ◌++◌, List, [], ◌∷◌, length, set, get_or, take, drop, sym, ap, ◌∙◌}
+use Rattle.std.proofs.Common.{◌≡◌, ℕ, ◌+◌, ◌<◌, ◌++◌, List, [], ◌∷◌, length, set, get_or, take, sym, ap, ◌∙◌}
 use Rattle.std.specs.FinMap as fin
-use Rattle.std.proofs.lemmas.List.{set-set, set-get_or, get_or-set_same, drop_more, take_more}
-use Rattle.md_list_law.specs.Walk.{map_of_pairs}
+use Rattle.std.proofs.lemmas.List.{set-set, set-get_or, get_or-set_same, take_more}
 use Rattle.md_history.specs.State.{State, Table, map_at, queue_at, with_map, with_queue}
 
 abbrev of_maps : State → List Table → State
@@ -30,19 +29,6 @@ with_map_same s map t e = ap (of_maps s) (ap (set s.maps map) (sym e) ∙ set-ge
 
 pub with_queue_same : (s : State) (queue : ℕ) (xs : List ℕ) → queue_at s queue ≡ xs → with_queue s queue xs ≡ s
 with_queue_same s queue xs e = ap (of_queues s) (ap (set s.queues queue) (sym e) ∙ set-get_or s.queues queue _)
-
--- pairs are put from the last one on: before the pair at `j` those from `i` on, the one after it, were put
-pub pairs_put : (s before later : State) (map : ℕ) (pairs : List (ℕ × ℕ)) (i j : ℕ) → map < length s.maps → j + 1 ≡ i → j < length pairs
-    → before ≡ with_map s map (map_of_pairs (drop i pairs))
-    → later ≡ with_map before map (fin.insert (map_at before map) (get_or pairs j (0, 0)).0 (get_or pairs j (0, 0)).1)
-    → later ≡ with_map s map (map_of_pairs (drop j pairs))
-pairs_put s before later map pairs i j below next inside e f =
-    let p = get_or pairs j (0, 0) in
-    let t = map_of_pairs (drop i pairs) in
-    f ∙ ap (λ b. with_map b map (fin.insert (map_at b map) p.0 p.1)) e
-    ∙ with_map-with_map s map t _
-    ∙ ap (λ u. with_map s map (fin.insert u p.0 p.1)) (map_at-with_map s map t below)
-    ∙ ap (λ ps. with_map s map (map_of_pairs ps)) (ap (λ n. p ∷ drop n pairs) (sym next) ∙ sym (drop_more pairs j (0, 0) inside))
 
 -- values are pushed from the first one on
 pub values_pushed : (s before later : State) (queue : ℕ) (values : List ℕ) (i : ℕ) → queue < length s.queues → i < length values

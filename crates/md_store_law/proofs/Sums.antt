@@ -1,5 +1,5 @@
 -- The size of a map made of pairs with keys apart, and a capped sum over a whole list.
-use Rattle.std.proofs.Common.{◌≡◌, ℕ, ◌+◌, ◌≤◌, false, cond, List, [], ◌∷◌, map, length, drop, refl, sym, ap, ◌∙◌, Some, None, is_some, arith}
+use Rattle.std.proofs.Common.{◌≡◌, ℕ, ◌+◌, ◌≤◌, false, cond, List, [], ◌∷◌, map, length, drop, reverse, refl, sym, ap, ◌∙◌, Some, None, is_some, arith}
 use Rattle.std.specs.List.{sum_by, AllByRecursion}
 use Rattle.std.specs.List.Sorted.{IsStrictlySortedBy}
 use Rattle.std.specs.Ordering.{nat_cmp, is_eq}
@@ -7,7 +7,7 @@ use Rattle.std.specs.declared.cmp.Ordering.TheVariants.{Less}
 use Rattle.std.specs.Cmp.{nat_cmp_total}
 use Rattle.std.specs.FinMap as fin
 use Rattle.std.specs.Map.{keys_of}
-use Rattle.std.proofs.lemmas.List.{at_drop_all}
+use Rattle.std.proofs.lemmas.List.{at_drop_all, reverse-append}
 use Rattle.md_store_law.specs.Needed.{capped}
 
 -- a key that is below all others isn't found
@@ -29,6 +29,16 @@ len-apart (e ∷ es) apart =
     fin.len-insert nat_cmp_total rest e.0 e.1
     ∙ ap (λ b. cond b (fin.len rest) (fin.len rest + 1)) absent
     ∙ (let before = len-apart es apart.1 in omega arith)
+
+-- and the same map from the last one on
+pub from_entries-reverse : (es : List (ℕ × ℕ)) → KeysApart es → fin.from_entries {R = nat_cmp} (reverse es) ≡ fin.from_entries es
+from_entries-reverse [] apart = refl
+from_entries-reverse (e ∷ es) apart =
+    let same = from_entries-reverse es apart.1 in
+    let absent : fin.find nat_cmp e.0 (reverse es) ≡ None =
+    sym (fin.get-from_entries nat_cmp_total (reverse es) e.0) ∙ ap (λ t. fin.get t e.0) same ∙ fin.get-from_entries nat_cmp_total es e.0 ∙ apart.0 in
+    ap fin.from_entries (reverse-append (e ∷ []) es) ∙ fin.from_entries_push nat_cmp_total fin.nat_cmp-IsAntisymmetric (reverse es) e.0 e.1 absent
+    ∙ ap (λ t. fin.insert t e.0 e.1) same
 
 -- keys that rise are apart
 pub apart_sorted : (es : List (ℕ × ℕ)) → IsStrictlySortedBy nat_cmp (keys_of es) → KeysApart es

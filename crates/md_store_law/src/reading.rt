@@ -1,11 +1,9 @@
 //! The contents of a field, read off from its words.
 
 ghost use Rattle.std.specs.Prelude.{◌≡◌, ◌<◌, [], length, IfOk, OnOk};
-ghost use Rattle.std.specs.FinMap as fin;
-ghost use Rattle.md_history.specs.State.{map_at, queue_at, with_map, with_queue};
+ghost use Rattle.md_history.specs.State.{queue_at, with_queue};
 ghost use Rattle.md_store_law.specs.Store.{state_of_store};
 ghost use Rattle.md_store_law.specs.Field.{logical_words, IsStoreField};
-ghost use Rattle.md_list_law.specs.Walk.{map_of_pairs};
 ghost use Rattle.md_hash_law.specs.HashTable.{pairs_of_map};
 ghost use Rattle.md_queue_law.specs.QueueValues.{queue_values};
 
@@ -18,7 +16,7 @@ use std::alloc::{AllocError, Global};
 /// reach, without the removed ones, and the values behind the heads of its queues. `AllocError` if
 /// memory runs out.
 ///
-/// Takes time linear in the heads and the nodes, and that of putting each pair into its map.
+/// Takes time linear in the heads and the nodes, and one sort by std of each map's pairs.
 pub fn read_off(alloc: Global, shape: &Shape, words: &[u64]) -> Result<Contents, AllocError>
     requires { IsStoreField shape.now words.now }
     ensures { IfOk result (λ c. c ≡ state_of_store (logical_words shape.now words.now)) }
@@ -26,7 +24,7 @@ pub fn read_off(alloc: Global, shape: &Shape, words: &[u64]) -> Result<Contents,
     let mut contents = Contents::empty(alloc, shape.maps, shape.queues)?;
     for map in 0..shape.maps {
         let pairs = pairs_of(alloc, shape, words, map)?;
-        put_pairs(&mut contents, map, &pairs)?;
+        contents.set_map(map, pairs)?;
     }
     for queue in 0..shape.queues {
         let values = values_of(alloc, shape, words, queue)?;
@@ -69,21 +67,6 @@ fn values_of(
     let mut values = Vec::new(alloc);
     append_values(&mut values, shape, words, queue)?;
     Ok(values)
-}
-
-// Fills an empty map with pairs. It begins with the last one: of a list of pairs, a finite map has
-// the first that has a key.
-fn put_pairs(contents: &mut Contents, map: u32, pairs: &[(u64, u64)]) -> Result<(), AllocError>
-    requires map { map < length contents.old.maps }
-    requires empty { map_at contents.old map ≡ fin.empty }
-    ensures { OnOk result
-        (contents.new ≡ with_map contents.old map (map_of_pairs pairs.now)) }
-{
-    for i in (0..pairs.len()).rev() {
-        let (key, value) = pairs[i];
-        contents.put(map, key, value)?;
-    }
-    Ok(())
 }
 
 // Fills an empty queue with values.
