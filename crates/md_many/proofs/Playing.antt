@@ -54,93 +54,88 @@ aborted-few tag [] h = omega arith
 aborted-few tag (p ∷ []) h = omega arith
 aborted-few tag (p ∷ q ∷ ps) h = absurd h
 
--- the pass has made so many attempts since a front: it holds what it held, and committed these entries
-pub record HasAttempted (tried : ℕ) (entries : List Entry) (old new : Front) : Type 0 where
+-- the pass has made so many attempts since a front, and holds what it held
+pub record HasAttempted (tried : ℕ) (old new : Front) : Type 0 where
   pub lanes : new.lanes ≡ old.lanes
   pub pending : new.pending ≡ old.pending
-  pub commits : HasCommitted old.lanes entries old new
   pub few : length (entries_after (length old.seen) old.lanes new) ≤ tried
 
-pub attempted-none : (f : Front) → HasAttempted 0 [] f f
+attempted-none : (f : Front) → HasAttempted 0 f f
+attempted-none f = record { lanes = refl; pending = refl; few = omega (arith, ap length (entries-none f.lanes f.seen f.known)) }
+
+-- nothing is committed yet
+committed-none : (f : Front) → HasCommitted f.lanes [] f f
 unfolding committed_pairs
-attempted-none f = record {
-  lanes = refl;
-  pending = refl;
-  commits = record {
-    begins = begins-self f;
-    joined = ap committed_pairs (entries-none f.lanes f.seen f.known);
-    decided = subst AreDecided (sym (entries-none f.lanes f.seen f.known)) tt;
-    mine = λ lane in_lanes. sym (append-nil (f.mine lane));
-  };
-  few = omega (arith, ap length (entries-none f.lanes f.seen f.known));
+committed-none f = record {
+  begins = begins-self f;
+  joined = ap committed_pairs (entries-none f.lanes f.seen f.known);
+  decided = subst AreDecided (sym (entries-none f.lanes f.seen f.known)) tt;
+  mine = λ lane in_lanes. sym (append-nil (f.mine lane));
 }
 
--- what joined in one more attempt follows what had joined
-joined-more : (tried : ℕ) (es : List Entry) (f g h : Front) (ps : List (Entry × Fate)) → HasAttempted tried es f g
-    → length g.known ≡ length g.seen → BeginsOn g.lanes g h
-    → entries_after (length g.seen) g.lanes h ≡ ps
-    → entries_after (length f.seen) f.lanes h ≡ entries_after (length f.seen) f.lanes g ++ ps
-joined-more tried es f g h ps a fated begins is =
-    let before : length g.seen ≡ length f.seen + length a.commits.begins.seen.rest =
-    ap length a.commits.begins.seen.is ∙ length-append f.seen a.commits.begins.seen.rest in
-    entries-more (length f.seen) f.lanes g h fated begins.seen begins.known (omega arith) a.commits.decided
-    ∙ ap (λ qs. entries_after (length f.seen) f.lanes g ++ qs)
-    (ap (λ ls. entries_after (length g.seen) ls h) (sym a.lanes) ∙ is)
-
-module _ (tried : ℕ) (es : List Entry) (f g h : Front) (a : HasAttempted tried es f g)
+module _ (tried : ℕ) (es : List Entry) (f g h : Front) (a : HasAttempted tried f g) (o : HasCommitted f.lanes es f g)
     (fated : length g.known ≡ length g.seen) where
+  -- what joined in one more attempt follows what had joined
+  joined-more : (ps : List (Entry × Fate)) → BeginsOn g.lanes g h → entries_after (length g.seen) g.lanes h ≡ ps
+      → entries_after (length f.seen) f.lanes h ≡ entries_after (length f.seen) f.lanes g ++ ps
+  joined-more ps begins is =
+      let before : length g.seen ≡ length f.seen + length o.begins.seen.rest =
+      ap length o.begins.seen.is ∙ length-append f.seen o.begins.seen.rest in
+      entries-more (length f.seen) f.lanes g h fated begins.seen begins.known (omega arith) o.decided
+      ∙ ap (λ qs. entries_after (length f.seen) f.lanes g ++ qs)
+      (ap (λ ls. entries_after (length g.seen) ls h) (sym a.lanes) ∙ is)
+
   -- an attempt stopped
-  pub attempted-stopped : (tag : ℕ) → Stops tag g h → HasAttempted (suc tried) es f h
+  attempted-stopped : (tag : ℕ) → Stops tag g h → HasAttempted (suc tried) f h × HasCommitted f.lanes es f h
   attempted-stopped tag s =
       let ps = entries_after (length g.seen) h.lanes h in
-      let is = joined-more tried es f g h ps a fated s.begins
-      (ap (λ ls. entries_after (length g.seen) ls h) (sym s.lanes)) in
-      record {
-        lanes = s.lanes ∙ a.lanes;
-        pending = s.pending ∙ a.pending;
-        commits = record {
-          begins = begins-trans f g h a.commits.begins (subst (λ ls. BeginsOn ls g h) a.lanes s.begins);
+      let is = joined-more ps s.begins (ap (λ ls. entries_after (length g.seen) ls h) (sym s.lanes)) in (
+        record {
+          lanes = s.lanes ∙ a.lanes;
+          pending = s.pending ∙ a.pending;
+          few = omega (
+            arith,
+            ap length is,
+            length-append (entries_after (length f.seen) f.lanes g) ps,
+            aborted-few tag ps s.own,
+            a.few,
+          );
+        },
+        record {
+          begins = begins-trans f g h o.begins (subst (λ ls. BeginsOn ls g h) a.lanes s.begins);
           joined = ap committed_pairs is ∙ committed_pairs-append (entries_after (length f.seen) f.lanes g) ps
               ∙ ap (λ qs. committed_pairs (entries_after (length f.seen) f.lanes g) ++ qs)
               (none-committed tag ps s.own) ∙ append-nil (committed_pairs (entries_after (length f.seen) f.lanes g))
-              ∙ a.commits.joined;
+              ∙ o.joined;
           decided = subst AreDecided (sym is)
-              (decided-append (entries_after (length f.seen) f.lanes g) ps a.commits.decided
-              (aborted-decided tag ps s.own));
-          mine = λ lane in_lanes. s.mine lane ∙ a.commits.mine lane in_lanes;
-        };
-        few = omega (
-          arith,
-          ap length is,
-          length-append (entries_after (length f.seen) f.lanes g) ps,
-          aborted-few tag ps s.own,
-          a.few,
-        );
-      }
+              (decided-append (entries_after (length f.seen) f.lanes g) ps o.decided (aborted-decided tag ps s.own));
+          mine = λ lane in_lanes. s.mine lane ∙ o.mine lane in_lanes;
+        },
+      )
 
   -- an attempt was committed
-  pub attempted-more : {R : Type 0} (did : List Act → R → Type 0) (tag : ℕ) (r : R) (s : Commits did tag r g h)
-      → HasAttempted (suc tried) (es ++ s.entry ∷ []) f h
+  attempted-more : {R : Type 0} (did : List Act → R → Type 0) (tag : ℕ) (r : R) (s : Commits did tag r g h)
+      → HasAttempted (suc tried) f h × HasCommitted f.lanes (es ++ s.entry ∷ []) f h
   unfolding committed_pairs
   attempted-more did tag r s =
       let ps : List (Entry × Fate) = (s.entry, Committed) ∷ [] in
-      let is = joined-more tried es f g h ps a fated s.begins
-      (ap (λ ls. entries_after (length g.seen) ls h) (sym s.lanes) ∙ s.own) in
-      record {
-        lanes = s.lanes ∙ a.lanes;
-        pending = s.pending ∙ a.pending;
-        commits = record {
-          begins = begins-trans f g h a.commits.begins (subst (λ ls. BeginsOn ls g h) a.lanes s.begins);
+      let is = joined-more ps s.begins (ap (λ ls. entries_after (length g.seen) ls h) (sym s.lanes) ∙ s.own) in (
+        record {
+          lanes = s.lanes ∙ a.lanes;
+          pending = s.pending ∙ a.pending;
+          few = omega (arith, ap length is, length-append (entries_after (length f.seen) f.lanes g) ps, a.few);
+        },
+        record {
+          begins = begins-trans f g h o.begins (subst (λ ls. BeginsOn ls g h) a.lanes s.begins);
           joined = ap committed_pairs is ∙ committed_pairs-append (entries_after (length f.seen) f.lanes g) ps
-              ∙ ap (λ xs. xs ++ s.entry ∷ []) a.commits.joined;
+              ∙ ap (λ xs. xs ++ s.entry ∷ []) o.joined;
           decided = subst AreDecided (sym is)
-              (decided-append (entries_after (length f.seen) f.lanes g) ps a.commits.decided ((λ e. cc e), tt));
+              (decided-append (entries_after (length f.seen) f.lanes g) ps o.decided ((λ e. cc e), tt));
           mine = λ lane in_lanes. s.mine lane
-              ∙ ap (λ xs. cond (lane == s.entry.lane) (xs ++ s.entry ∷ []) xs) (a.commits.mine lane in_lanes)
+              ∙ ap (λ xs. cond (lane == s.entry.lane) (xs ++ s.entry ∷ []) xs) (o.mine lane in_lanes)
               ∙ mine-push (f.mine lane) es s.entry lane;
-        };
-        few = omega (arith, ap length is, length-append (entries_after (length f.seen) f.lanes g) ps, a.few);
-      }
+        },
+      )
 
 -- one line more
 pub lines-push : {B R : Type 0} (did : B → List Act → R → Type 0)
@@ -157,38 +152,38 @@ lines-push did body_at caller n m (d ∷ es) (s ∷ rs) e r lines at is =
 -- a caller's lines after its first n were played, in so many attempts
 pub record HasPlayed {B R : Type 0} (did : B → List Act → R → Type 0)
     (body_at : ℕ → ℕ → Option B) (caller n tried : ℕ) (old new : Front) (replies : List R) : Type 0 where
-  pub entries : List Entry
-  pub attempted : HasAttempted tried entries old new
-  pub lines : AreLines did body_at caller entries replies n
+  pub plays : PlaysLines did body_at caller n old.lanes old new replies
+  pub attempted : HasAttempted tried old new
 
 module _ {B R : Type 0} (did : B → List Act → R → Type 0) (body_at : ℕ → ℕ → Option B) (caller n : ℕ) (f : Front) where
   pub played-none : HasPlayed did body_at caller n 0 f f []
-  played-none = record { entries = []; attempted = attempted-none f; lines = tt }
+  played-none = record {
+    plays = record { entries = []; commits = committed-none f; lines = tt };
+    attempted = attempted-none f;
+  }
 
   pub played-stopped : (tried tag : ℕ) (g h : Front) (rs : List R) → HasPlayed did body_at caller n tried f g rs
       → length g.known ≡ length g.seen → Stops tag g h
       → HasPlayed did body_at caller n (tried + 1) f h rs
   played-stopped tried tag g h rs p fated s =
+      let more = attempted-stopped tried p.plays.entries f g h p.attempted p.plays.commits fated tag s in
       record {
-        entries = p.entries;
-        attempted =
-            subst (λ k. HasAttempted k p.entries f h) (omega arith)
-            (attempted-stopped tried p.entries f g h p.attempted fated tag s);
-        lines = p.lines;
+        plays = record { entries = p.plays.entries; commits = more.1; lines = p.plays.lines };
+        attempted = subst (λ k. HasAttempted k f h) (omega arith) more.0;
       }
 
   pub played-more : (tried line : ℕ) (b : B) (r : R) (g h : Front) (rs : List R)
       → HasPlayed did body_at caller n tried f g rs → length g.known ≡ length g.seen
       → line ≡ n + length rs + 1 → body_at caller line ≡ Some b → Commits (did b) (tag_of caller line) r g h
       → HasPlayed did body_at caller n (tried + 1) f h (rs ++ r ∷ [])
-  played-more tried line b r g h rs p fated at there s = record {
-    entries = p.entries ++ s.entry ∷ [];
-    attempted = subst (λ k. HasAttempted k (p.entries ++ s.entry ∷ []) f h) (omega arith)
-        (attempted-more tried p.entries f g h p.attempted fated (did b) (tag_of caller line) r s);
-    lines = lines-push did body_at caller n line p.entries rs s.entry r p.lines at
-        (record { tagged = s.tagged; body = b; there = there; did_it = s.did_it });
-  }
-
-  pub plays : (tried : ℕ) (g : Front) (rs : List R) → HasPlayed did body_at caller n tried f g rs
-      → PlaysLines did body_at caller n f.lanes f g rs
-  plays tried g rs p = record { entries = p.entries; commits = p.attempted.commits; lines = p.lines }
+  played-more tried line b r g h rs p fated at there s =
+      let more = attempted-more tried p.plays.entries f g h p.attempted p.plays.commits fated (did b) (tag_of caller line) r s in
+      record {
+        plays = record {
+          entries = p.plays.entries ++ s.entry ∷ [];
+          commits = more.1;
+          lines = lines-push did body_at caller n line p.plays.entries rs s.entry r p.plays.lines at
+              (record { tagged = s.tagged; body = b; there = there; did_it = s.did_it });
+        };
+        attempted = subst (λ k. HasAttempted k f h) (omega arith) more.0;
+      }

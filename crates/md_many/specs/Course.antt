@@ -6,6 +6,7 @@ use Rattle.md_history.specs.Counts.{Bounds, AllowAll}
 use Rattle.md_history.specs.Front.{Front, committed_in, replay_of}
 use Rattle.md_history.specs.Engine.{Limits, bounds_in}
 use Rattle.md_many.specs.Lines.{AreFitting}
+use Rattle.md_many.specs.Laws.{AreLawful}
 use Rattle.md_many.specs.Rounds.{at_caller, AreWithin}
 use Rattle.md_many.specs.Played.{committed_of, state_after, AreDecidedAndLegal, tags_of, HasPlayedAll}
 
@@ -46,3 +47,14 @@ pub record Stands {B R : Type 0} (did : B → List Act → R → Type 0) (body_a
       (committed_of fronts ++ committed_in f)
   pub gate : (caller line : ℕ) → 1 ≤ line → line ≤ at_caller 0 done caller → told caller line
   pub leaves : good (replay_of start f) (tags_of (committed_of fronts ++ committed_in f))
+
+-- What each step of a run asks for and leaves: the lines are lawful, the engine can run them, and what holds between two
+-- rounds.
+pub record IsInCourse {B R : Type 0} (did : B → List Act → R → Type 0) (makes : B → List Act → Type 0)
+    (fits_body : B → ℕ → ℕ → Type 0) (body_at : ℕ → ℕ → Option B) (line_count : ℕ → ℕ) (told : ℕ → ℕ → Type 0)
+    (keeps : ℕ → List R → Type 0) (good : State → List ℕ → Type 0) (suits : ℕ → ℕ → R → Type 0)
+    (opening : State) (cost : Bounds) (most : ℕ) (start : State) (limits : Limits) (lanes : List ℕ)
+    (fronts : List Front) (f : Front) (done : List ℕ) : Type 0 where
+  pub laws : AreLawful did makes body_at good suits opening cost most
+  pub runs : CanRun fits_body body_at cost most start limits
+  pub stands : Stands did body_at line_count told keeps good opening start lanes fronts f done

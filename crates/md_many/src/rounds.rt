@@ -6,7 +6,7 @@ ghost use Rattle.md_history.specs.Engine.{empty_front};
 ghost use Rattle.md_many.specs.Tags.{IsInterleaving};
 ghost use Rattle.md_many.specs.Laws.{AreLawful};
 ghost use Rattle.md_many.specs.Rounds.{at_caller, AreWithin};
-ghost use Rattle.md_many.specs.Course.{CanRun, Stands};
+ghost use Rattle.md_many.specs.Course.{CanRun, IsInCourse};
 ghost use Rattle.md_many.specs.Played.{EachLineOnce, committed_of, tags_of};
 ghost use Rattle.md_many.specs.Played.{left_after, rounds_left};
 
@@ -84,20 +84,16 @@ fn renewed<E: Engine, L: LawfulLines, K: Keeper<<L::B as Body>::Reply>, G: Gate>
     gate: &G,
 ) -> Result<Course<E>, AllocError>
     requires of { E.of course.engine course.pass }
-    requires laws { AreLawful L.B.did L.B.makes (L.body_at lines.now) (L.good lines.now)
-        (L.suits lines.now) (L.opening lines.now) (L.cost lines.now) (L.most lines.now) }
-    requires runs { CanRun L.B.fits (L.body_at lines.now) (L.cost lines.now) (L.most lines.now)
-        (E.start course.engine) (E.limits course.engine) }
-    requires stands { Stands L.B.did (L.body_at lines.now) (L.line_count lines.now)
-        (G.after_called gate.now) (K.keeps keeper.now) (L.good lines.now) (L.opening lines.now)
-        (E.start course.engine) (E.lanes course.engine) (map E.front course.fronts.items)
-        (E.front course.pass) course.done.items }
-    ensures of { IfOk result (λ c. E.of c.engine c.pass) }
-    ensures runs { IfOk result (λ c. CanRun L.B.fits (L.body_at lines.now)
-        (L.cost lines.now) (L.most lines.now) (E.start c.engine) (E.limits c.engine)) }
-    ensures stands { IfOk result (λ c. Stands L.B.did (L.body_at lines.now)
+    requires course { IsInCourse L.B.did L.B.makes L.B.fits (L.body_at lines.now)
         (L.line_count lines.now) (G.after_called gate.now) (K.keeps keeper.now)
-        (L.good lines.now) (L.opening lines.now) (E.start c.engine) (E.lanes c.engine)
+        (L.good lines.now) (L.suits lines.now) (L.opening lines.now) (L.cost lines.now)
+        (L.most lines.now) (E.start course.engine) (E.limits course.engine) (E.lanes course.engine)
+        (map E.front course.fronts.items) (E.front course.pass) course.done.items }
+    ensures of { IfOk result (λ c. E.of c.engine c.pass) }
+    ensures course { IfOk result (λ c. IsInCourse L.B.did L.B.makes L.B.fits (L.body_at lines.now)
+        (L.line_count lines.now) (G.after_called gate.now) (K.keeps keeper.now)
+        (L.good lines.now) (L.suits lines.now) (L.opening lines.now) (L.cost lines.now)
+        (L.most lines.now) (E.start c.engine) (E.limits c.engine) (E.lanes c.engine)
         (map E.front c.fronts.items) (E.front c.pass) c.done.items) }
     ensures done { IfOk result (λ c. c.done ≡ course.done) }
     ensures fresh { course.worn ≡ true → IfOk result (λ c. E.fresh c.engine c.pass) }
@@ -140,24 +136,21 @@ fn play_first<E: Engine, L: LawfulLines, G: Gate, K: Keeper<<L::B as Body>::Repl
     keeper: &mut K,
 ) -> Result<Course<E>, AllocError>
     requires of { E.of course.engine course.pass }
-    requires laws { AreLawful L.B.did L.B.makes (L.body_at lines.now) (L.good lines.now)
-        (L.suits lines.now) (L.opening lines.now) (L.cost lines.now) (L.most lines.now) }
-    requires runs { CanRun L.B.fits (L.body_at lines.now) (L.cost lines.now) (L.most lines.now)
-        (E.start course.engine) (E.limits course.engine) }
-    requires stands { Stands L.B.did (L.body_at lines.now) (L.line_count lines.now)
-        (G.after_called gate.now) (K.keeps keeper.old) (L.good lines.now) (L.opening lines.now)
-        (E.start course.engine) (E.lanes course.engine) (map E.front course.fronts.items)
-        (E.front course.pass) course.done.items }
+    requires course { IsInCourse L.B.did L.B.makes L.B.fits (L.body_at lines.now)
+        (L.line_count lines.now) (G.after_called gate.now) (K.keeps keeper.old)
+        (L.good lines.now) (L.suits lines.now) (L.opening lines.now) (L.cost lines.now)
+        (L.most lines.now) (E.start course.engine) (E.limits course.engine) (E.lanes course.engine)
+        (map E.front course.fronts.items) (E.front course.pass) course.done.items }
     requires keeper { (c line : ℕ) (r : L.B.Reply) → L.suits lines.now c line r
         → K.can_keep keeper.old c line r }
     requires from_1 { 1 ≤ caller }
     requires there { caller ≤ length course.done.items }
     requires left { at_caller 0 course.done.items caller < L.line_count lines.now caller }
-    ensures engine { IfOk result (λ c. c.engine ≡ course.engine) }
     ensures of { IfOk result (λ c. E.of c.engine c.pass) }
-    ensures stands { IfOk result (λ c. Stands L.B.did (L.body_at lines.now)
+    ensures course { IfOk result (λ c. IsInCourse L.B.did L.B.makes L.B.fits (L.body_at lines.now)
         (L.line_count lines.now) (G.after_called gate.now) (K.keeps keeper.new)
-        (L.good lines.now) (L.opening lines.now) (E.start c.engine) (E.lanes c.engine)
+        (L.good lines.now) (L.suits lines.now) (L.opening lines.now) (L.cost lines.now)
+        (L.most lines.now) (E.start c.engine) (E.limits c.engine) (E.lanes c.engine)
         (map E.front c.fronts.items) (E.front c.pass) c.done.items) }
     ensures keeper { (c line : ℕ) (r : L.B.Reply) → L.suits lines.now c line r
         → K.can_keep keeper.new c line r }
@@ -221,22 +214,19 @@ where
     G: Gate + Sync,
     K: Keeper<<L::B as Body>::Reply>,
     requires of { E.of course.engine course.pass }
-    requires laws { AreLawful L.B.did L.B.makes (L.body_at lines.now) (L.good lines.now)
-        (L.suits lines.now) (L.opening lines.now) (L.cost lines.now) (L.most lines.now) }
-    requires runs { CanRun L.B.fits (L.body_at lines.now) (L.cost lines.now) (L.most lines.now)
-        (E.start course.engine) (E.limits course.engine) }
-    requires stands { Stands L.B.did (L.body_at lines.now) (L.line_count lines.now)
-        (G.after_called gate.now) (K.keeps keeper.old) (L.good lines.now) (L.opening lines.now)
-        (E.start course.engine) (E.lanes course.engine) (map E.front course.fronts.items)
-        (E.front course.pass) course.done.items }
+    requires course { IsInCourse L.B.did L.B.makes L.B.fits (L.body_at lines.now)
+        (L.line_count lines.now) (G.after_called gate.now) (K.keeps keeper.old)
+        (L.good lines.now) (L.suits lines.now) (L.opening lines.now) (L.cost lines.now)
+        (L.most lines.now) (E.start course.engine) (E.limits course.engine) (E.lanes course.engine)
+        (map E.front course.fronts.items) (E.front course.pass) course.done.items }
     requires keeper { (c line : ℕ) (r : L.B.Reply) → L.suits lines.now c line r
         → K.can_keep keeper.old c line r }
     requires callers { length course.done.items < 2 ^ 32 }
-    ensures engine { IfOk result (λ c. c.engine ≡ course.engine) }
     ensures of { IfOk result (λ c. E.of c.engine c.pass) }
-    ensures stands { IfOk result (λ c. Stands L.B.did (L.body_at lines.now)
+    ensures course { IfOk result (λ c. IsInCourse L.B.did L.B.makes L.B.fits (L.body_at lines.now)
         (L.line_count lines.now) (G.after_called gate.now) (K.keeps keeper.new)
-        (L.good lines.now) (L.opening lines.now) (E.start c.engine) (E.lanes c.engine)
+        (L.good lines.now) (L.suits lines.now) (L.opening lines.now) (L.cost lines.now)
+        (L.most lines.now) (E.start c.engine) (E.limits c.engine) (E.lanes c.engine)
         (map E.front c.fronts.items) (E.front c.pass) c.done.items) }
     ensures keeper { (c line : ℕ) (r : L.B.Reply) → L.suits lines.now c line r
         → K.can_keep keeper.new c line r }
@@ -298,14 +288,11 @@ where
     G: Gate + Sync,
     K: Keeper<<L::B as Body>::Reply>,
     requires of { E.of course.engine course.pass }
-    requires laws { AreLawful L.B.did L.B.makes (L.body_at lines.now) (L.good lines.now)
-        (L.suits lines.now) (L.opening lines.now) (L.cost lines.now) (L.most lines.now) }
-    requires runs { CanRun L.B.fits (L.body_at lines.now) (L.cost lines.now) (L.most lines.now)
-        (E.start course.engine) (E.limits course.engine) }
-    requires stands { Stands L.B.did (L.body_at lines.now) (L.line_count lines.now)
-        (G.after_called gate.now) (K.keeps keeper.old) (L.good lines.now) (L.opening lines.now)
-        (E.start course.engine) (E.lanes course.engine) (map E.front course.fronts.items)
-        (E.front course.pass) course.done.items }
+    requires course { IsInCourse L.B.did L.B.makes L.B.fits (L.body_at lines.now)
+        (L.line_count lines.now) (G.after_called gate.now) (K.keeps keeper.old)
+        (L.good lines.now) (L.suits lines.now) (L.opening lines.now) (L.cost lines.now)
+        (L.most lines.now) (E.start course.engine) (E.limits course.engine) (E.lanes course.engine)
+        (map E.front course.fronts.items) (E.front course.pass) course.done.items }
     requires keeper { (c line : ℕ) (r : L.B.Reply) → L.suits lines.now c line r
         → K.can_keep keeper.old c line r }
     requires callers { length course.done.items < 2 ^ 32 }
@@ -313,11 +300,10 @@ where
     requires there { caller ≤ length course.done.items }
     requires left { at_caller 0 course.done.items caller < L.line_count lines.now caller }
     ensures of { IfOk result (λ c. E.of c.engine c.pass) }
-    ensures runs { IfOk result (λ c. CanRun L.B.fits (L.body_at lines.now)
-        (L.cost lines.now) (L.most lines.now) (E.start c.engine) (E.limits c.engine)) }
-    ensures stands { IfOk result (λ c. Stands L.B.did (L.body_at lines.now)
+    ensures course { IfOk result (λ c. IsInCourse L.B.did L.B.makes L.B.fits (L.body_at lines.now)
         (L.line_count lines.now) (G.after_called gate.now) (K.keeps keeper.new)
-        (L.good lines.now) (L.opening lines.now) (E.start c.engine) (E.lanes c.engine)
+        (L.good lines.now) (L.suits lines.now) (L.opening lines.now) (L.cost lines.now)
+        (L.most lines.now) (E.start c.engine) (E.limits c.engine) (E.lanes c.engine)
         (map E.front c.fronts.items) (E.front c.pass) c.done.items) }
     ensures keeper { (c line : ℕ) (r : L.B.Reply) → L.suits lines.now c line r
         → K.can_keep keeper.new c line r }

@@ -1,16 +1,18 @@
 //! Attempts at lines over a store that refuses as a list says, and two callers in threads.
 
+mod lines;
 mod looks;
-mod numbers;
+mod puts;
 mod refusing;
 mod side_by_side;
 
 use crate::attempts::{End as TurnEnd, Turn, attempt_lines};
 use crate::gates::{FreeGate, Gate};
 use crate::many::run_many;
-use looks::Looks;
+use lines::EachLine;
+use looks::Look;
 use md_history::{Contents, Engine, Limit, PlainStore, Shown, Stop};
-use numbers::Numbers;
+use puts::Put;
 use refusing::{Refusing, RefusingPass};
 use side_by_side::two_callers;
 use std::alloc::{AllocError, Global};
@@ -93,9 +95,10 @@ fn play_three(
         stops,
         begun: 0,
     };
-    let lines = Numbers {
+    let lines = EachLine {
         callers: 2,
         lines: 3,
+        like: Put { number: 0 },
     };
     let gate = Counting {
         attempts: &attempts,
@@ -164,9 +167,10 @@ fn attempts_end(rt: HostRuntime) -> Result<(), Fail> {
 fn callers_in_threads(rt: HostRuntime) -> Result<(), Fail> {
     let alloc = rt.alloc();
     let (store, pass) = PlainStore::open(Contents::empty(alloc, 0, 1)?);
-    let lines = Numbers {
+    let lines = EachLine {
         callers: 2,
         lines: 3,
+        like: Put { number: 0 },
     };
     let pass = two_callers(&rt, alloc, &store, pass, &lines)?;
     assert_eq!(rt; pass.entries().len(), 3);
@@ -182,9 +186,10 @@ fn one_caller_in_rounds(rt: HostRuntime) -> Result<(), Fail> {
     let alloc = rt.alloc();
     for count in [0, 1, 2, 3_000] {
         let (store, pass) = PlainStore::open(Contents::empty(alloc, 0, 1)?);
-        let lines = Looks {
+        let lines = EachLine {
             callers: 1,
             lines: count,
+            like: Look { number: 0 },
         };
         let many = run_many(&rt, alloc, store, pass, &lines, 1_000_000, &FreeGate)?;
         for line in 1..=count {

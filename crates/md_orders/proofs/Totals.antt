@@ -1,7 +1,10 @@
 -- Sums, one value after another.
-use Rattle.std.proofs.Common.{◌≡◌, ◌≤◌, ◌+◌, ◌∙◌, ℕ, refl, sym, ap, arith, add-one}
+use Rattle.std.proofs.Common.{◌≡◌, ◌≤◌, ◌+◌, ◌∙◌, ℕ, zero, suc, Option, List, length, refl, sym, ap, arith, add-one}
 use Rattle.md_orders.specs.declared.sums.Totals.{Totals}
-use Rattle.md_orders.specs.Summary.{no_totals, added, AreAtMost, totals_to, sum_to}
+use Rattle.md_book.specs.declared.commands.Command.{Command}
+use Rattle.md_book.specs.declared.commands.BookReply.{BookReply}
+use Rattle.md_orders.specs.Scripts.{list_of}
+use Rattle.md_orders.specs.Summary.{no_totals, added, AreAtMost, line_totals, script_totals, all_totals, totals_to, sum_to}
 
 -- nothing yet
 pub totals_none : (of : ℕ → Totals) → no_totals ≡ totals_to 0 of
@@ -34,3 +37,18 @@ pub sum_more : (before after n : ℕ) (value : ℕ → ℕ) → before ≡ sum_t
 unfolding sum_to
 sum_more before after n value so_far more =
     more ∙ ap (λ s. s + value (n + 1)) so_far ∙ ap (λ k. sum_to n value + value k) (add-one n) ∙ ap (λ k. sum_to k value) (sym (add-one n))
+
+-- one of the totals, as a sum
+module _ (part : Totals → ℕ) (none : part no_totals ≡ 0) (more : (t u : Totals) → part (added t u) ≡ part t + part u) where
+  totals-sum : (n : ℕ) (of : ℕ → Totals) → part (totals_to n of) ≡ sum_to n (λ k. part (of k))
+  unfolding totals_to sum_to
+  totals-sum zero of = none
+  totals-sum (suc n) of = more (totals_to n of) (of (suc n)) ∙ ap (λ k. k + part (of (suc n))) (totals-sum n of)
+
+  -- over all lines of all callers
+  pub all-totals-sum : (scripts : List (List Command)) (replies : List (List (Option BookReply)))
+      → part (all_totals scripts replies)
+      ≡ sum_to (length scripts) (λ caller. sum_to (length (list_of scripts caller)) (λ line. part (line_totals scripts replies caller line)))
+  all-totals-sum scripts replies =
+      totals-sum (length scripts) (script_totals scripts replies)
+      ∙ (λ i. sum_to (length scripts) (λ caller. totals-sum (length (list_of scripts caller)) (line_totals scripts replies caller) i))

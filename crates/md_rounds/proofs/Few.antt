@@ -1,6 +1,6 @@
 -- How many entries finite maps and lists of lists have at most.
 use Rattle.std.proofs.Common.{◌≡◌, ◌≢◌, ◌+◌, ◌<◌, ◌≤◌, ℕ, zero, suc, cond, Bool, true, false, List, [], ◌∷◌, length, refl, sym, ap, subst, ◌∙◌, arith, inl, inr}
-use Rattle.std.specs.Prelude.{◌-◌, ◌==◌, ◌||◌, ◌⊎◌, Option, Some, None, is_some, slice_index_or, sum_by, filter}
+use Rattle.std.specs.Prelude.{◌-◌, ◌==◌, ◌||◌, Option, Some, None, is_some, slice_index_or, sum_by, filter}
 use Rattle.std.specs.List.{list_any}
 use Rattle.std.specs.Ordering.{nat_cmp, eq_by_cmp}
 use Rattle.std.specs.FinMap as fin

@@ -11,3 +11,5 @@ pub mod Room
 pub mod BookLaws
 mod Holding
 mod Walking
+mod Sums
+mod Summaries

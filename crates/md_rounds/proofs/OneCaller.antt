@@ -27,7 +27,7 @@ use Rattle.md_orders.specs.Replies.{RepliesState}
 use Rattle.md_many.specs.Tags.{tags_after, IsInterleaving}
 use Rattle.md_many.specs.Lines.{PlaysLines}
 use Rattle.md_many.proofs.TagLaws.{filter-tags_after, lines-tags, lines-length}
-use Rattle.md_many.proofs.Playing.{played-none, plays}
+use Rattle.md_many.proofs.Playing.{played-none}
 use Rattle.md_many.proofs.Joining.{committed_on-more}
 use Rattle.md_many.proofs.Following.{plays-then}
 use Rattle.md_rounds.specs.OrderLines.{did_command, line_count_of}
@@ -81,7 +81,7 @@ pub record ArePlayed (scripts : List (List Command)) (lanes : List ℕ) (f : Fro
   pub kept : AreKept scripts list replies.replies
 
 pub plays-none : (scripts : List (List Command)) (lanes : List ℕ) → PlaysLines did_command (at_line scripts) 1 0 lanes (empty_front lanes) (empty_front lanes) []
-plays-none scripts lanes = plays did_command (at_line scripts) 1 0 (empty_front lanes) 0 (empty_front lanes) [] (played-none did_command (at_line scripts) 1 0 (empty_front lanes))
+plays-none scripts lanes = (played-none did_command (at_line scripts) 1 0 (empty_front lanes)).plays
 
 -- the lines that were played, with those of a batch
 pub plays-more : (scripts : List (List Command)) (lanes : List ℕ) (start : State) (f g : Front) (done : ℕ) (replies : RepliesState) (was : ArePlayed scripts lanes f done replies) (batch : List BookReply)

@@ -1,18 +1,18 @@
 -- How many nodes the contents of a book need.
-use Rattle.std.proofs.Common.{◌≡◌, ◌≢◌, ◌+◌, ◌*◌, ◌-◌, ◌<◌, ◌≤◌, ℕ, zero, suc, cond, Bool, true, false, List, [], ◌∷◌, length, map, drop, refl, sym, ap, subst, ◌∙◌, arith, inl, inr}
-use Rattle.std.specs.Prelude.{◌==◌, ◌&&◌, ◌||◌, Option, Some, None, is_some, slice_index_or, sum_by, filter, find, All, nat_lt}
+use Rattle.std.proofs.Common.{◌≡◌, ◌≢◌, ◌+◌, ◌*◌, ◌<◌, ◌≤◌, ℕ, cond, true, List, [], ◌∷◌, length, map, drop, refl, sym, ap, ◌∙◌, arith, inl, inr}
+use Rattle.std.specs.Prelude.{◌==◌, ◌&&◌, ◌||◌, Option, Some, None, is_some, slice_index_or, sum_by, filter, find, nat_lt}
 use Rattle.std.specs.List.{list_any, AllByRecursion}
 use Rattle.std.specs.Option.{option_map}
 use Rattle.std.specs.FinMap as fin
 use Rattle.std.proofs.lemmas.Bool.{cases_Bool, eq-eqb, eqb-true, ne_eqb, false≢true}
 use Rattle.std.proofs.lemmas.List.{length-map, length-drop}
 use Rattle.std.proofs.lemmas.List.Elements.{recursion_from_All}
-use Rattle.md_history.specs.State.{State, Table, map_at, queue_at}
+use Rattle.md_history.specs.State.{State, Table, map_at}
 use Rattle.md_history.specs.Engine.{needed}
 use Rattle.md_book.specs.declared.commands.Side.{Side}
 use Rattle.md_book.specs.declared.commands.Side.TheVariants.{Buy, Sell}
 use Rattle.md_book.specs.Book.{Order, Trade, Book, level_of, orders_at, depth, find_open, bought, sold, buyer, seller, IsAccount}
-use Rattle.md_book.specs.Stands.{StandsFor, IsInRange, open_order, unless_0}
+use Rattle.md_book.specs.Stands.{StandsFor, IsInRange, unless_0}
 use Rattle.md_rounds.proofs.Few.{few-below, few-in, lists-by-key}
 
 -- a sum that isn't there is 0

@@ -1,5 +1,5 @@
 -- What the lines of all callers come to, in the order of the history.
-use Rattle.std.proofs.Common.{◌≡◌, ◌+◌, ◌<◌, ◌≤◌, ◌^◌, ℕ, zero, suc, cond, Bool, true, false, Option, Some, List, [], ◌∷◌, ◌++◌, length, refl, sym, ap, subst, ◌∙◌, arith, inl, inr}
+use Rattle.std.proofs.Common.{◌≡◌, ◌+◌, ◌<◌, ◌≤◌, ◌^◌, ℕ, suc, cond, true, Option, Some, List, [], ◌∷◌, length, refl, sym, ap, subst, ◌∙◌, arith, inl, inr}
 use Rattle.std.specs.Prelude.{◌==◌, ◌/◌, ◌%◌, slice_get}
 use Rattle.std.specs.List.{cons_option}
 use Rattle.std.proofs.lemmas.Bool.{cases_Bool, eq-eqb, eqb-true}
@@ -12,15 +12,15 @@ use Rattle.md_history.specs.Front.{Front, committed_in, replay_of}
 use Rattle.md_history.proofs.PlainFronts.{acts_of-append}
 use Rattle.md_book.specs.declared.commands.Command.{Command}
 use Rattle.md_book.specs.declared.commands.BookReply.{BookReply}
-use Rattle.md_book.specs.Book.{Book, empty_book, book_after, replies_to}
+use Rattle.md_book.specs.Book.{Book, empty_book, book_after}
 use Rattle.md_book.specs.Stands.{StandsFor}
 use Rattle.md_book.specs.Meets.{CommandsMeetTheBook}
 use Rattle.md_orders.specs.Records.{max_records}
 use Rattle.md_orders.specs.Scripts.{at_line, count_of, AreNamed}
 use Rattle.md_orders.specs.Replies.{reply_at}
 use Rattle.md_orders.proofs.ByCaller.{length-list_of-le}
-use Rattle.md_many.specs.Tags.{tag_of, IsInterleaving}
-use Rattle.md_many.specs.Lines.{IsLine, AreLines}
+use Rattle.md_many.specs.Tags.{IsInterleaving}
+use Rattle.md_many.specs.Lines.{AreLines}
 use Rattle.md_many.specs.Rounds.{of_caller}
 use Rattle.md_many.specs.Played.{committed_of, tags_of, AreDecidedAndLegal, EachLineOnce}
 use Rattle.md_many.proofs.TagLaws.{line_of_tag}
@@ -28,7 +28,7 @@ use Rattle.md_many.proofs.Standing.{Head, lines-head, caller-own, caller-other}
 use Rattle.md_rounds.specs.Kept.{HasReplies}
 use Rattle.md_rounds.specs.OrderLines.{did_command, line_count_of}
 use Rattle.md_rounds.specs.Replay.{commands_of, DidEach, RepliedEach, IsPlayed, no_orders}
-use Rattle.md_rounds.specs.Traded.{AreDifferent, AreOfLines, HasTraded}
+use Rattle.md_rounds.specs.Traded.{AreOfLines, HasTraded}
 use Rattle.md_rounds.proofs.Names.{apart-none}
 use Rattle.md_rounds.proofs.Folding.{AreNamedBy, Folds, folds}
 use Rattle.md_rounds.proofs.TradingDay.{are-a-day}

@@ -1,11 +1,10 @@
 -- That replies and book are those of one thread which runs the committed commands in the order in which they became
 -- ready.
-use Rattle.std.specs.Prelude.{◌≡◌, ℕ, ◌/◌, ◌%◌, ◌^◌, Option, Some, List, [], ◌∷◌, map, flat_map}
+use Rattle.std.specs.Prelude.{◌≡◌, ℕ, ◌/◌, ◌%◌, ◌^◌, Option, Some, List, [], ◌∷◌}
 use Rattle.std.specs.List.{filter_map}
 use Rattle.md_history.specs.declared.entries.Entry.{Entry}
 use Rattle.md_history.specs.State.{State, empty_state}
-use Rattle.md_history.specs.History.{AllDecided}
-use Rattle.md_history.specs.Front.{Front, LegalFrom, committed_in, replay_of}
+use Rattle.md_history.specs.Front.{Front}
 use Rattle.md_history.specs.Script.{Did}
 use Rattle.md_book.specs.declared.commands.Command.{Command}
 use Rattle.md_book.specs.declared.commands.BookReply.{BookReply}

@@ -6,6 +6,7 @@ mod alone;
 mod kept;
 mod limits;
 mod order_lines;
+mod summed;
 #[cfg(test)]
 mod tests;
 
@@ -13,3 +14,4 @@ pub use all::{Outcome, run_all};
 pub use alone::{Played, play_alone};
 pub use limits::limits_hold;
 pub use md_many::{FreeGate, Gate};
+pub use summed::summaries_add_up;

@@ -4,10 +4,11 @@ ghost use Rattle.std.specs.Prelude.{◌≡◌, length, IfOk};
 
 use crate::all::run_all;
 use crate::alone::play_alone;
+use crate::summed::summaries_add_up;
 use md_book::{BookReply, DEPTHS, LEVELS, MAPS, MAX_PARTS, Part, order_name};
 use md_history::{Contents, PlainStore};
 use md_many::FreeGate;
-use md_orders::{Scripts, read_orders};
+use md_orders::{Scripts, read_orders, summary};
 use md_words::limits::{MAX_MAPS, MAX_QUEUES};
 use std::alloc::{AllocError, Global};
 use std::test::Fail;
@@ -106,7 +107,7 @@ fn the_largest_contents(rt: HostRuntime) -> Result<(), Fail> {
 }
 
 // The rounds of one caller, over many more lines than a round has room for, give the replies that
-// playing alone gives.
+// playing alone gives, and a summary that adds up.
 #[test]
 fn one_caller_in_rounds(rt: HostRuntime) -> Result<(), Fail> {
     let alloc = rt.alloc();
@@ -122,5 +123,9 @@ fn one_caller_in_rounds(rt: HostRuntime) -> Result<(), Fail> {
         }
     }
     assert_eq!(rt; played.fronts.len(), 1);
+    summaries_add_up();
+    let line = summary(alloc, &scripts, &played.replies, &played.contents)?;
+    let want = b"made 7000 placed 5000 cancelled 1000 filled 4000 open 0\n".as_slice();
+    assert_eq!(rt; line.as_slice(), want);
     Ok(())
 }

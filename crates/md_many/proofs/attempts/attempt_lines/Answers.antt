@@ -6,7 +6,7 @@ use Rattle.md_history.specs.declared.stops.Shown.{Shown}
 use Rattle.md_history.specs.declared.stops.Stop.{Stop}
 use Rattle.md_history.specs.declared.stops.Stop.TheVariants.{Conflict, NoMemory}
 use Rattle.md_history.specs.Attempt.{IsStopCounted}
-use Rattle.md_many.proofs.Playing.{played-none, played-stopped, played-more, plays}
+use Rattle.md_many.proofs.Playing.{played-none, played-stopped, played-more}
 use Rattle.md_many.proofs.attempts.attempt_lines.Goals as goal
 use Rattle.md_many.proofs.attempts.attempt_lines.Goals.{in-Committed, in-Stopped-Conflict+else-conflicts-eq-MOST_CONFLICTS}
 
@@ -117,9 +117,8 @@ attempts-preserved g c =
 
 pub returns-in-Stopped-NoMemory-clause-lines : goal.returns-in-Stopped-NoMemory-clause-lines
 returns-in-Stopped-NoMemory-clause-lines g c =
-    plays _ _ _ _ _ _ _ _
     (played-stopped _ _ _ _ _ _ _ _ _ _ c.attempts.invariant.lines c.attempts.invariant.fated
-    c.in-Stopped-NoMemory.ensures.stopped)
+    c.in-Stopped-NoMemory.ensures.stopped).plays
 
 pub returns-in-Stopped-NoMemory-clause-tries : goal.returns-in-Stopped-NoMemory-clause-tries
 returns-in-Stopped-NoMemory-clause-tries g c =
@@ -132,9 +131,8 @@ returns-in-Stopped-NoMemory-clause-tries g c =
 
 pub returns-in-Stopped-Limit-clause-lines : goal.returns-in-Stopped-Limit-clause-lines
 returns-in-Stopped-Limit-clause-lines g c =
-    plays _ _ _ _ _ _ _ _
     (played-stopped _ _ _ _ _ _ _ _ _ _ c.attempts.invariant.lines c.attempts.invariant.fated
-    c.in-Stopped-Limit.ensures.stopped)
+    c.in-Stopped-Limit.ensures.stopped).plays
 
 pub returns-in-Stopped-Limit-clause-tries : goal.returns-in-Stopped-Limit-clause-tries
 returns-in-Stopped-Limit-clause-tries g c =
@@ -147,9 +145,8 @@ returns-in-Stopped-Limit-clause-tries g c =
 
 pub returns-then-conflicts-eq-MOST_CONFLICTS-clause-lines : goal.returns-then-conflicts-eq-MOST_CONFLICTS-clause-lines
 returns-then-conflicts-eq-MOST_CONFLICTS-clause-lines g c =
-    plays _ _ _ _ _ _ _ _
     (played-stopped _ _ _ _ _ _ _ _ _ _ c.attempts.invariant.lines c.attempts.invariant.fated
-    c.in-Stopped-Conflict.ensures.stopped)
+    c.in-Stopped-Conflict.ensures.stopped).plays
 
 pub returns-then-conflicts-eq-MOST_CONFLICTS-clause-tries : goal.returns-then-conflicts-eq-MOST_CONFLICTS-clause-tries
 returns-then-conflicts-eq-MOST_CONFLICTS-clause-tries g c =

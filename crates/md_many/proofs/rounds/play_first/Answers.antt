@@ -32,8 +32,8 @@ keep_lines-requires-clause-suit g c =
     rw c.deref_mut.ensures.value
     (suit-wider (g.L.LawfulLines.suits c.args.lines.now c.args.caller) (g.K.Keeper.can_keep c.args.keeper.now c.args.caller)
     (c.requires.keeper c.args.caller) _ _
-    (first-suit _ _ _ _ _ _ _ _ _ _ _ c.requires.laws
-    _ _ _ _ _ c.requires.stands c.pass_is_legal.ensures _ c.pass_is_legal-2.ensures c.args.caller
+    (first-suit _ _ _ _ _ _ _ _ _ _ _ c.requires.course.laws
+    _ _ _ _ _ c.requires.course.stands c.pass_is_legal.ensures _ c.pass_is_legal-2.ensures c.args.caller
     _ _ c.attempt_lines.ensures.lines at
     c.attempt_lines.ensures.few))
 
@@ -44,19 +44,23 @@ keep_lines-requires-clause-few g c =
     by-index done c.args.caller _ c.requires.from_1 c.requires.there c.index.ensures in
     rw c.deref_mut.ensures.value (omega (arith, c.attempt_lines.ensures.few, at))
 
-pub returns-clause-stands : goal.returns-clause-stands
-returns-clause-stands g c =
+pub returns-clause-course : goal.returns-clause-course
+returns-clause-course g c =
     let done = c.args.course.done.items in
     let at : c.index.result.now ≡ at_caller 0 done c.args.caller =
     by-index done c.args.caller _ c.requires.from_1 c.requires.there c.index.ensures in
     let kept = kept-from c.in_ok-keep_lines.ensures.kept c.deref_mut.ensures.value in
     let whole = written-back c.keep_lines.new.done done c.args.course.done.len kept.callers c.args.course.done.ok.0 in
-    rw whole
-    (first-stands _ _ _ _ _ _ _ _ _ _ _ c.requires.laws
-    _ _ _ _ _ c.requires.stands c.pass_is_legal.ensures _ c.pass_is_legal-2.ensures c.args.caller
-    _ _ c.attempt_lines.ensures.lines at
-    c.attempt_lines.ensures.few _ _ kept (λ caller line some. (((g.met.L.Lines g.world.𝓛 g.world.𝓜 g.world.𝓡 ((λ s x. x), (λ x. x), (λ x. x), λ x. x)).has_body c.args.lines.now caller line).0 some).1)
-    c.attempt_lines.ensures.lanes c.attempt_lines.ensures.pending c.attempt_lines.ensures.gate)
+    record {
+      laws = c.requires.course.laws;
+      runs = c.requires.course.runs;
+      stands = rw whole
+          (first-stands _ _ _ _ _ _ _ _ _ _ _ c.requires.course.laws
+          _ _ _ _ _ c.requires.course.stands c.pass_is_legal.ensures _ c.pass_is_legal-2.ensures c.args.caller
+          _ _ c.attempt_lines.ensures.lines at
+          c.attempt_lines.ensures.few _ _ kept (λ caller line some. (((g.met.L.Lines g.world.𝓛 g.world.𝓜 g.world.𝓡 ((λ s x. x), (λ x. x), (λ x. x), λ x. x)).has_body c.args.lines.now caller line).0 some).1)
+          c.attempt_lines.ensures.lanes c.attempt_lines.ensures.pending c.attempt_lines.ensures.gate);
+    }
 
 pub returns-clause-kept : goal.returns-clause-kept
 returns-clause-kept g c =
@@ -66,8 +70,8 @@ returns-clause-kept g c =
     let kept = kept-from c.in_ok-keep_lines.ensures.kept c.deref_mut.ensures.value in
     let whole = written-back c.keep_lines.new.done done c.args.course.done.len kept.callers c.args.course.done.ok.0 in
     rw whole
-    (first-kept _ _ _ _ _ _ _ _ _ _ _ c.requires.laws
-    _ _ _ _ _ c.requires.stands c.pass_is_legal.ensures _ c.pass_is_legal-2.ensures c.args.caller
+    (first-kept _ _ _ _ _ _ _ _ _ _ _ c.requires.course.laws
+    _ _ _ _ _ c.requires.course.stands c.pass_is_legal.ensures _ c.pass_is_legal-2.ensures c.args.caller
     _ _ c.attempt_lines.ensures.lines at
     c.attempt_lines.ensures.few _ _ kept (λ caller line some. (((g.met.L.Lines g.world.𝓛 g.world.𝓜 g.world.𝓡 ((λ s x. x), (λ x. x), (λ x. x), λ x. x)).has_body c.args.lines.now caller line).0 some).1))
 
@@ -81,8 +85,8 @@ returns-clause-played g c = λ awake.
     let kept = kept-from c.in_ok-keep_lines.ensures.kept c.deref_mut.ensures.value in
     let whole = written-back c.keep_lines.new.done done c.args.course.done.len kept.callers c.args.course.done.ok.0 in
     rw whole
-    (first-less _ _ _ _ _ _ _ _ _ _ _ c.requires.laws
-    _ _ _ _ _ c.requires.stands c.pass_is_legal.ensures _ c.pass_is_legal-2.ensures c.args.caller
+    (first-less _ _ _ _ _ _ _ _ _ _ _ c.requires.course.laws
+    _ _ _ _ _ c.requires.course.stands c.pass_is_legal.ensures _ c.pass_is_legal-2.ensures c.args.caller
     _ _ c.attempt_lines.ensures.lines at
     c.attempt_lines.ensures.few _ _ kept (λ caller line some. (((g.met.L.Lines g.world.𝓛 g.world.𝓜 g.world.𝓡 ((λ s x. x), (λ x. x), (λ x. x), λ x. x)).has_body c.args.lines.now caller line).0 some).1)
     c.requires.from_1 c.requires.there some)
@@ -92,8 +96,8 @@ returns-clause-fresh g c = λ fresh empty.
     let done = c.args.course.done.items in
     let at : c.index.result.now ≡ at_caller 0 done c.args.caller =
     by-index done c.args.caller _ c.requires.from_1 c.requires.there c.index.ensures in
-    let small = first-small _ _ _ _ _ _ _ _ c.requires.laws _ _ _ _ _ c.requires.stands.leaves
-    empty c.requires.runs.bounds
+    let small = first-small _ _ _ _ _ _ _ _ c.requires.course.laws _ _ _ _ _ c.requires.course.stands.leaves
+    empty c.requires.course.runs.bounds
     c.args.caller (c.index.result.now + 1) in
-    let some = c.in_ok-attempt_lines.ensures.first fresh c.requires.runs.tries small (omega (arith, at, c.requires.left)) in
+    let some = c.in_ok-attempt_lines.ensures.first fresh c.requires.course.runs.tries small (omega (arith, at, c.requires.left)) in
     c.is_empty.ensures ∙ ne_eqb _ 0 (λ none. omega (arith, some, none, c.attempt_lines.new.replies.ok.0))

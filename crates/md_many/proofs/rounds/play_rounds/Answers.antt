@@ -15,10 +15,13 @@ rounds-init g c =
     ap length c.in_ok-none_done.ensures ∙ length-replicate c.callers.result 0 in
     record {
       of = c.requires.of;
-      runs = c.requires.runs;
-      stands = rw (c.new.ensures.items, c.in_ok-none_done.ensures, count)
-          (stands-first _ _ _ _ _ _ _ _ _ _ _ c.requires.laws _ _ _
-          c.requires.opening empty c.requires.empty);
+      course = record {
+        laws = c.requires.laws;
+        runs = c.requires.runs;
+        stands = rw (c.new.ensures.items, c.in_ok-none_done.ensures, count)
+            (stands-first _ _ _ _ _ _ _ _ _ _ _ c.requires.laws _ _ _
+            c.requires.opening empty c.requires.empty);
+      };
       keeper = c.requires.keeper;
       callers = omega (arith, zeros, c.callers.type_inv);
       count = zeros ∙ c.callers.ensures;
@@ -27,37 +30,37 @@ rounds-init g c =
 pub returns-clause-each_line_once : goal.returns-clause-each_line_once
 returns-clause-each_line_once g c =
     let all = whole-count _ _ _ _ _ _ _ _ _ _ _ c.requires.laws
-    _ _ _ _ _ c.rounds.invariant.stands c.pass_is_legal.ensures
-    (g.L.Lines.caller_count c.args.lines.now) (sym c.rounds.invariant.stands.callers ∙ c.rounds.invariant.count)
+    _ _ _ _ _ c.rounds.invariant.course.stands c.pass_is_legal.ensures
+    (g.L.Lines.caller_count c.args.lines.now) (sym c.rounds.invariant.course.stands.callers ∙ c.rounds.invariant.count)
     ((g.met.L.Lines g.world.𝓛 g.world.𝓜 g.world.𝓡 ((λ s x. x), (λ x. x), (λ x. x), λ x. x)).has_caller c.args.lines.now)
     (λ caller low high. ap (λ ns. at_caller 0 ns caller) (sym c.deref.ensures.value)
     ∙ c.in_default.ensures.none caller low (omega (arith, high, ap length c.deref.ensures.value))) in
     rw (c.in_ok-push.ensures.items, map_push g.E.Engine.front c.rounds.course.fronts.items c.in_ok-contents.front)
     (all-played _ _ _ _ _ _ _ _ _ _ _ c.requires.laws
-    _ _ _ _ _ c.rounds.invariant.stands c.pass_is_legal.ensures
+    _ _ _ _ _ c.rounds.invariant.course.stands c.pass_is_legal.ensures
     (g.E.Engine.front c.in_ok-contents.front) _ c.in_ok-contents.ensures.settled c.in_ok-contents.ensures.contents all)
 
 pub returns-clause-gate : goal.returns-clause-gate
 returns-clause-gate g c = λ caller line low high.
     let all = whole-count _ _ _ _ _ _ _ _ _ _ _ c.requires.laws
-    _ _ _ _ _ c.rounds.invariant.stands c.pass_is_legal.ensures
-    (g.L.Lines.caller_count c.args.lines.now) (sym c.rounds.invariant.stands.callers ∙ c.rounds.invariant.count)
+    _ _ _ _ _ c.rounds.invariant.course.stands c.pass_is_legal.ensures
+    (g.L.Lines.caller_count c.args.lines.now) (sym c.rounds.invariant.course.stands.callers ∙ c.rounds.invariant.count)
     ((g.met.L.Lines g.world.𝓛 g.world.𝓜 g.world.𝓡 ((λ s x. x), (λ x. x), (λ x. x), λ x. x)).has_caller c.args.lines.now)
     (λ caller low high. ap (λ ns. at_caller 0 ns caller) (sym c.deref.ensures.value)
     ∙ c.in_default.ensures.none caller low (omega (arith, high, ap length c.deref.ensures.value))) in
-    c.rounds.invariant.stands.gate caller line low (omega (arith, high, all caller))
+    c.rounds.invariant.course.stands.gate caller line low (omega (arith, high, all caller))
 
 pub returns-clause-interleaving : goal.returns-clause-interleaving
 returns-clause-interleaving g c =
     let all = whole-count _ _ _ _ _ _ _ _ _ _ _ c.requires.laws
-    _ _ _ _ _ c.rounds.invariant.stands c.pass_is_legal.ensures
-    (g.L.Lines.caller_count c.args.lines.now) (sym c.rounds.invariant.stands.callers ∙ c.rounds.invariant.count)
+    _ _ _ _ _ c.rounds.invariant.course.stands c.pass_is_legal.ensures
+    (g.L.Lines.caller_count c.args.lines.now) (sym c.rounds.invariant.course.stands.callers ∙ c.rounds.invariant.count)
     ((g.met.L.Lines g.world.𝓛 g.world.𝓜 g.world.𝓡 ((λ s x. x), (λ x. x), (λ x. x), λ x. x)).has_caller c.args.lines.now)
     (λ caller low high. ap (λ ns. at_caller 0 ns caller) (sym c.deref.ensures.value)
     ∙ c.in_default.ensures.none caller low (omega (arith, high, ap length c.deref.ensures.value))) in
     rw (c.in_ok-push.ensures.items, map_push g.E.Engine.front c.rounds.course.fronts.items c.in_ok-contents.front)
     (are-interleaving _ _ _ _ _
     (all-played _ _ _ _ _ _ _ _ _ _ _ c.requires.laws
-    _ _ _ _ _ c.rounds.invariant.stands c.pass_is_legal.ensures
+    _ _ _ _ _ c.rounds.invariant.course.stands c.pass_is_legal.ensures
     (g.E.Engine.front c.in_ok-contents.front) _ c.in_ok-contents.ensures.settled c.in_ok-contents.ensures.contents
     all).each)

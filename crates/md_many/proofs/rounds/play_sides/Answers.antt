@@ -11,8 +11,8 @@ keep_turns-requires-clause-callers g c =
     let plays = plays-from c.in_ok-turns.ensures.turns c.deref.ensures.value in
     rw c.deref_mut.ensures.value
     (sym (length-map c.in_ok-turns.turns.played.items (λ (p : Played _). p.replies.items))
-    ∙ sides-count _ _ _ _ _ _ _ _ _ _ _ c.requires.laws
-    _ _ _ _ _ c.requires.stands c.pass_is_legal.ensures _ c.pass_is_legal-2.ensures _ plays)
+    ∙ sides-count _ _ _ _ _ _ _ _ _ _ _ c.requires.course.laws
+    _ _ _ _ _ c.requires.course.stands c.pass_is_legal.ensures _ c.pass_is_legal-2.ensures _ plays)
 
 pub keep_turns-requires-clause-suit : goal.keep_turns-requires-clause-suit
 keep_turns-requires-clause-suit g c = λ caller.
@@ -20,25 +20,29 @@ keep_turns-requires-clause-suit g c = λ caller.
     rw c.deref_mut.ensures.value
     (suit-wider (g.L.LawfulLines.suits c.args.lines.now caller) (g.K.Keeper.can_keep c.args.keeper.now caller)
     (c.requires.keeper caller) _ _
-    (sides-suit _ _ _ _ _ _ _ _ _ _ _ c.requires.laws
-    _ _ _ _ _ c.requires.stands c.pass_is_legal.ensures _ c.pass_is_legal-2.ensures _ plays caller))
+    (sides-suit _ _ _ _ _ _ _ _ _ _ _ c.requires.course.laws
+    _ _ _ _ _ c.requires.course.stands c.pass_is_legal.ensures _ c.pass_is_legal-2.ensures _ plays caller))
 
 pub keep_turns-requires-clause-few : goal.keep_turns-requires-clause-few
 keep_turns-requires-clause-few g c = λ caller.
     let plays = plays-from c.in_ok-turns.ensures.turns c.deref.ensures.value in
     rw c.deref_mut.ensures.value
-    (sides-few _ _ _ _ _ _ _ _ _ _ _ c.requires.laws
-    _ _ _ _ _ c.requires.stands c.pass_is_legal.ensures _ c.pass_is_legal-2.ensures _ plays caller)
+    (sides-few _ _ _ _ _ _ _ _ _ _ _ c.requires.course.laws
+    _ _ _ _ _ c.requires.course.stands c.pass_is_legal.ensures _ c.pass_is_legal-2.ensures _ plays caller)
 
-pub returns-clause-stands : goal.returns-clause-stands
-returns-clause-stands g c =
+pub returns-clause-course : goal.returns-clause-course
+returns-clause-course g c =
     let done = c.args.course.done.items in
     let plays = plays-from c.in_ok-turns.ensures.turns c.deref.ensures.value in
     let kept = kept-from c.in_ok-keep_turns.ensures.kept c.deref_mut.ensures.value in
     let whole = written-back c.keep_turns.new.done done c.args.course.done.len kept.callers c.args.course.done.ok.0 in
-    rw whole
-    (sides-stand _ _ _ _ _ _ _ _ _ _ _ c.requires.laws
-    _ _ _ _ _ c.requires.stands c.pass_is_legal.ensures _ c.pass_is_legal-2.ensures _ plays _ _ kept (λ caller line some. (((g.met.L.Lines g.world.𝓛 g.world.𝓜 g.world.𝓡 ((λ s x. x), (λ x. x), (λ x. x), λ x. x)).has_body c.args.lines.now caller line).0 some).1))
+    record {
+      laws = c.requires.course.laws;
+      runs = c.requires.course.runs;
+      stands = rw whole
+          (sides-stand _ _ _ _ _ _ _ _ _ _ _ c.requires.course.laws
+          _ _ _ _ _ c.requires.course.stands c.pass_is_legal.ensures _ c.pass_is_legal-2.ensures _ plays _ _ kept (λ caller line some. (((g.met.L.Lines g.world.𝓛 g.world.𝓜 g.world.𝓡 ((λ s x. x), (λ x. x), (λ x. x), λ x. x)).has_body c.args.lines.now caller line).0 some).1));
+    }
 
 pub returns-clause-kept : goal.returns-clause-kept
 returns-clause-kept g c =
@@ -47,5 +51,5 @@ returns-clause-kept g c =
     let kept = kept-from c.in_ok-keep_turns.ensures.kept c.deref_mut.ensures.value in
     let whole = written-back c.keep_turns.new.done done c.args.course.done.len kept.callers c.args.course.done.ok.0 in
     rw whole
-    (sides-kept _ _ _ _ _ _ _ _ _ _ _ c.requires.laws
-    _ _ _ _ _ c.requires.stands c.pass_is_legal.ensures _ c.pass_is_legal-2.ensures _ plays _ _ kept (λ caller line some. (((g.met.L.Lines g.world.𝓛 g.world.𝓜 g.world.𝓡 ((λ s x. x), (λ x. x), (λ x. x), λ x. x)).has_body c.args.lines.now caller line).0 some).1))
+    (sides-kept _ _ _ _ _ _ _ _ _ _ _ c.requires.course.laws
+    _ _ _ _ _ c.requires.course.stands c.pass_is_legal.ensures _ c.pass_is_legal-2.ensures _ plays _ _ kept (λ caller line some. (((g.met.L.Lines g.world.𝓛 g.world.𝓜 g.world.𝓡 ((λ s x. x), (λ x. x), (λ x. x), λ x. x)).has_body c.args.lines.now caller line).0 some).1))

@@ -6,14 +6,18 @@ use Rattle.md_many.proofs.rounds.renewed.Goals as goal
 
 pub renew-requires-clause-room : goal.renew-requires-clause-room
 renew-requires-clause-room g c =
-    has-room _ _ _ _ _ _ _ _ _ _ _ c.requires.laws _ _ _ _ _ c.requires.stands
-    c.pass_is_legal.ensures _ c.requires.runs.room
+    has-room _ _ _ _ _ _ _ _ _ _ _ c.requires.course.laws _ _ _ _ _ c.requires.course.stands
+    c.pass_is_legal.ensures _ c.requires.course.runs.room
 
-pub returns-clause-stands : goal.returns-clause-stands
-returns-clause-stands g c =
+pub returns-clause-course : goal.returns-clause-course
+returns-clause-course g c =
     let empty : g.E.Engine.front c.in_ok-engine.pass ≡ empty_front (g.E.Engine.lanes c.in_ok-engine.engine) =
     search rules in
-    rw (c.in_ok-push.ensures.items, map_push g.E.Engine.front c.args.course.fronts.items c.in_ok-engine.front)
-    (stands-renewed _ _ _ _ _ _ _ _ _ _ _ c.requires.laws _ _ _ _ _ c.requires.stands
-    c.pass_is_legal.ensures (g.E.Engine.front c.in_ok-engine.front) _ _ _ c.in_ok-engine.ensures.settled
-    c.in_ok-engine.ensures.start c.in_ok-engine.ensures.lanes empty)
+    record {
+      laws = c.requires.course.laws;
+      runs = search rules;
+      stands = rw (c.in_ok-push.ensures.items, map_push g.E.Engine.front c.args.course.fronts.items c.in_ok-engine.front)
+          (stands-renewed _ _ _ _ _ _ _ _ _ _ _ c.requires.course.laws _ _ _ _ _ c.requires.course.stands
+          c.pass_is_legal.ensures (g.E.Engine.front c.in_ok-engine.front) _ _ _ c.in_ok-engine.ensures.settled
+          c.in_ok-engine.ensures.start c.in_ok-engine.ensures.lanes empty);
+    }

@@ -1,4 +1,4 @@
-use Rattle.std.proofs.Common.{◌≡◌, ◌≤◌, ◌∙◌, map, arith}
+use Rattle.std.proofs.Common.{◌≤◌, map, arith}
 use Rattle.md_orders.specs.Records.{max_records}
 use Rattle.md_orders.specs.Scripts.{count_of}
 use Rattle.md_rounds.proofs.BookLaws.{order-laws}

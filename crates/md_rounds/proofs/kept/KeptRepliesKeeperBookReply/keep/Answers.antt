@@ -1,4 +1,4 @@
-use Rattle.std.proofs.Common.{◌≡◌, ◌++◌, ◌∙◌, sym, ap, subst}
+use Rattle.std.proofs.Common.{◌++◌, ◌∙◌, sym, ap, subst}
 use Rattle.md_orders.specs.Replies.{RepliesState}
 use Rattle.md_rounds.specs.Kept.{HasReplies, with_replies}
 use Rattle.md_rounds.proofs.Holding.{holds-more, holds-other}

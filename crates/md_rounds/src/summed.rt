@@ -1,0 +1,14 @@
+//! That the summary of what was played adds up.
+
+ghost use Rattle.md_rounds.specs.Summed.{SummariesAddUp};
+
+use md_book::days_add_up;
+
+/// In the summary of scripts that were played, what was placed is what was cancelled, was filled
+/// and is open. `run_all` and `play_alone` say that their scripts were played. There is nothing to
+/// run: the law is what the call ensures.
+pub fn summaries_add_up()
+    ensures { SummariesAddUp }
+{
+    days_add_up();
+}
