@@ -2,17 +2,20 @@
 use Rattle.std.proofs.Common.{◌≡◌, ◌≢◌, ◌⊎◌, ℕ, ◌<◌, ◌≤◌, true, false, Some, None, refl, sym, ap, ◌∙◌, subst, inl, inr, ⊎_elim, arith}
 use Rattle.std.specs.List.{Contains}
 use Rattle.std.proofs.lemmas.Bool.{cases_Bool, cases_lt, false≢true}
+use Rattle.md_words.specs.declared.limits.TheConstants.{SET}
 use Rattle.md_words.specs.declared.shape.Shape.{Shape}
 use Rattle.md_words.specs.Content.{spot_of, value_of}
 use Rattle.md_words.specs.Lanes.{OwnsNode, node_of}
 use Rattle.md_words.specs.Layout.{address, desc_count}
 use Rattle.md_words.specs.Place.{node_next}
-use Rattle.md_words.specs.Status.{serial_of}
+use Rattle.md_words.specs.Status.{serial_of, status_of}
+use Rattle.md_words.specs.declared.status.Status.{Status}
+use Rattle.md_words.specs.declared.status.Status.TheVariants.{InPrep, InProg, Committed, Aborted}
 use Rattle.md_words.proofs.Owners.{one_desc, owner_of_desc, owner_of_node}
 use Rattle.md_machine.specs.declared.attempt.AttemptId.{AttemptId}
 use Rattle.md_machine.specs.declared.attempt.HistoryEntry.{HistoryEntry}
 use Rattle.md_machine.specs.declared.pass.PassView.{PassView}
-use Rattle.md_machine.specs.Event.{Does, Event}
+use Rattle.md_machine.specs.Event.{Does, Event, abort}
 use Rattle.md_machine.specs.FreeToReturn.{KnowsFree}
 use Rattle.md_machine.specs.GoesOn.{GoesOn}
 use Rattle.md_machine.specs.Installs.{spot_of_install}
@@ -22,7 +25,8 @@ use Rattle.md_machine.specs.Own.{HasDesc}
 use Rattle.md_machine.specs.Resolution.{structure_in}
 use Rattle.md_machine.specs.Theorem.{IsKept}
 use Rattle.md_machine.specs.Trail.{EveryStepOf}
-use Rattle.md_machine.specs.clauses.words.Statuses.{StatusCame}
+use Rattle.md_machine.specs.clauses.words.Statuses.{StatusCame, leads_to}
+use Rattle.md_machine.specs.events.Decide.{HasMet}
 use Rattle.md_machine.specs.events.Install.{installed_word}
 use Rattle.md_machine.specs.events.Start.{IsClean, WonInstall}
 use Rattle.md_machine.proofs.clauses.nodes.KnowsFree.{free_after}
@@ -33,11 +37,31 @@ use Rattle.md_machine.proofs.events.Moves.{own_exists}
 use Rattle.md_rule.specs.InHand.{HoldsDesc}
 use Rattle.md_rule.specs.Kept.{KeepsLane, MetNoLater}
 use Rattle.md_rule.specs.declared.shares.Share.{Share}
+use Rattle.md_rule.proofs.FirstAttempts.{AbortsOwn, FirstsFit, IsFirstUnready, never_met, still_unready}
+
+-- an abort is of no lane that has begun no attempt, unless its descriptor was met
+abbrev pub Spares : Shape → Event → PassView → (lane : ℕ) → Share → Type 0
+Spares shape (abort pass desc from) p lane share = desc ≡ lane → (0 < share.tries_taken) ⊎ HasMet shape p desc
+Spares shape _ p lane share = Unit {0}
+
+into_prep : (s : Status) → leads_to s InPrep ≡ true → s ≡ InPrep
+into_prep InPrep h = refl
+into_prep InProg h = absurd (false≢true h)
+into_prep Committed h = absurd (false≢true h)
+into_prep Aborted h = absurd (false≢true h)
+
+-- only itself came to the status of a first attempt in preparation
+unready_same : (now held : ℕ) → serial_of now ≡ 0 → status_of now ≡ InPrep → StatusCame held now → held ≡ now
+unready_same now held zero prep came = ⊎_elim
+    (λ less. absurd (omega (arith, less, zero)))
+    (λ one. one.same (into_prep (status_of held) (subst (λ s. leads_to (status_of held) s ≡ true) prep one.leads) ∙ sym prep))
+    came
 
 -- what is kept of a lane, in a machine in which its holder stands: of the serial that is there and the present attempt
 pub record FitsLane (m : Machine) (p : PassView) (share : Share) (lane : ℕ) : Type 0 where
   pub serial : (serial_of (status_at m lane) ≡ 0) ⊎ (serial_of (status_at m lane) < share.tries_taken)
   pub first : share.tries_taken ≡ 0 → was_begun m.begun (attempt_of lane 0) ≡ false
+  pub unready : share.tries_taken ≡ 0 → status_of (status_at m lane) ≡ InPrep
   pub clean : share.left_open ≡ false → IsClean p (present m lane)
   pub slots : EveryStepOf p (λ s. WonInstall (present m lane) s → (spot_of (value_of s.after)).slot < share.slots_written)
 
@@ -83,20 +107,31 @@ module _ (m : Machine) (k : IsKept m) (pass : ℕ) (p : PassView) (at : IsAt m p
       (cases_lt now serial)
 
   module _ (share : Share) where
-    pub fits : KeepsLane (shape_of m) p share lane → FitsLane m p share lane
-    fits keeps = record {
-      serial = ⊎_elim inl
-          (λ some. let it = some.2.2 in subst (λ n. (n ≡ 0) ⊎ (n < share.tries_taken)) it.2 (keeps.serials some.0 some.1 some.2.0 some.2.1 it.0 it.1))
-          (k.own_serials pass p at lane own_desc);
-      first = λ none. let new = keeps.first none in new_is_first m k pass p at (attempt_of lane 0) own_desc (record { pending = new.pending; steps = new.steps });
+    serial_there : KeepsLane (shape_of m) p share lane → (now ≡ 0) ⊎ (now < share.tries_taken)
+    serial_there keeps = ⊎_elim inl
+        (λ some. let it = some.2.2 in subst (λ n. (n ≡ 0) ⊎ (n < share.tries_taken)) it.2 (keeps.serials some.0 some.1 some.2.0 some.2.1 it.0 it.1))
+        (k.own_serials pass p at lane own_desc)
+
+    -- the serial is 0 where no attempt was taken
+    pub none_there : (now ≡ 0) ⊎ (now < share.tries_taken) → share.tries_taken ≡ 0 → now ≡ 0
+    none_there serial none = ⊎_elim (λ zero. zero) (λ less. absurd (omega (arith, less, none))) serial
+
+    unbegun : KeepsLane (shape_of m) p share lane → share.tries_taken ≡ 0 → was_begun m.begun (attempt_of lane 0) ≡ false
+    unbegun keeps none = let new = keeps.first none in new_is_first m k pass p at (attempt_of lane 0) own_desc (record { pending = new.pending; steps = new.steps })
+
+    pub fits : FirstsFit m → KeepsLane (shape_of m) p share lane → FitsLane m p share lane
+    fits firsts keeps = record {
+      serial = serial_there keeps;
+      first = unbegun keeps;
+      unready = λ none. firsts.unready pass p at lane own_desc (unbegun keeps none) (none_there (serial_there keeps) none) (keeps.untouched none);
       clean = λ closed. keeps.clean closed now met_no_later;
       slots = keeps.slots now met_no_later;
     }
 
     pub keeps : share.tries_taken ≤ (shape_of m).tries
         → ((node : ℕ) → OwnsNode (shape_of m) lane node → node_of (shape_of m) lane share.nodes_taken ≤ node → KnowsFree (shape_of m) p node)
-        → (HoldsDesc p lane → share.left_open ≡ true) → FitsLane m p share lane → KeepsLane (shape_of m) p share lane
-    keeps tries free hand f = record {
+        → share.slots_written ≤ SET → (HoldsDesc p lane → share.left_open ≡ true) → FitsLane m p share lane → KeepsLane (shape_of m) p share lane
+    keeps tries free few hand f = record {
       tries = tries;
       free = free;
       serials = λ segment c s i found meets. let met = met_no_later segment c s i found meets in ⊎_elim
@@ -105,10 +140,16 @@ module _ (m : Machine) (k : IsKept m) (pass : ℕ) (p : PassView) (at : IsAt m p
           f.serial;
       first = λ none. let new = later_is_new m k pass p at (attempt_of lane 0) (λ was. false≢true (sym (f.first none) ∙ was)) in
           record { pending = new.pending; steps = new.steps };
+      untouched = λ none segment c s i there.
+          let met = k.statuses pass p at segment c s i lane inside there in
+          let same = unready_same (status_at m lane) in
+          let zero = none_there f.serial none in
+          same s.before zero (f.unready none) met.before ∙ sym (same s.after zero (f.unready none) met.after);
       clean = λ closed. each_later (λ serial. IsClean p (attempt_of lane serial)) (f.clean closed)
           (λ serial less segment c s i won. absurd (none_later serial less segment c s i won));
       slots = each_later (λ serial. EveryStepOf p (λ s. WonInstall (attempt_of lane serial) s → (spot_of (value_of s.after)).slot < share.slots_written)) f.slots
           (λ serial less segment c s i won. absurd (none_later serial less segment c s i won));
+      few = few;
       hand = hand;
     }
 
@@ -143,14 +184,16 @@ pub record LaneGoes (m n : Machine) (p u : PassView) (before after : Share) (lan
       → Contains m.history x ⊎ (structure_in x.placed node ≡ None)
   pub begun : was_begun n.begun (attempt_of lane 0) ≡ true → (was_begun m.begun (attempt_of lane 0) ≡ true) ⊎ (0 < after.tries_taken)
   pub status : Continues m n p before after lane ⊎ Begins n u after lane
+  pub few : before.slots_written ≤ SET → after.slots_written ≤ SET
   pub hand : HoldsDesc u lane → after.left_open ≡ true
 
 -- by such an event, whoever holds the lane keeps it
 module _ (M : Meaning) (m n : Machine) (e : Event) (km : IsKept m) (kn : IsKept n) (on : GoesOn m n) (does : Does M m e n)
     (pass j : ℕ) (p u : PassView) (at : IsAt m pass p) (u_at : IsAt n j u) (lane : ℕ) (held : Contains p.lanes lane) (u_held : Contains u.lanes lane)
-    (before after : Share) (goes : LaneGoes m n p u before after lane) (kept : KeepsLane (shape_of m) p before lane) where
+    (before after : Share) (goes : LaneGoes m n p u before after lane) (firsts : FirstsFit m) (spares : Spares (shape_of m) e p lane before)
+    (kept : KeepsLane (shape_of m) p before lane) where
   f : FitsLane m p before lane
-  f = fits m km pass p at lane held before kept
+  f = fits m km pass p at lane held before firsts kept
 
   same_shape : shape_of n ≡ shape_of m
   same_shape = ap (λ o. o.shape) on.opening
@@ -204,13 +247,33 @@ module _ (M : Meaning) (m n : Machine) (e : Event) (km : IsKept m) (kn : IsKept 
         now_present : (i : Install) → i.attempt ≡ present n lane → IsPresentIn (shape_of m) m.words i.attempt
         now_present i is = ap (λ (a : AttemptId). a.serial) is ∙ c.serial ∙ ap (λ d. serial_of (status_at m d)) (sym (ap (λ (a : AttemptId). a.desc) is))
 
+  serial_then : (serial_of (status_at n lane) ≡ 0) ⊎ (serial_of (status_at n lane) < after.tries_taken)
+  serial_then = ⊎_elim
+      (λ (c : Continues m n p before after lane). subst (λ t. (serial_of (status_at n lane) ≡ 0) ⊎ (serial_of (status_at n lane) < t)) (sym goes.tries)
+      (subst (λ x. (x ≡ 0) ⊎ (x < before.tries_taken)) (sym c.serial) f.serial))
+      (λ b. inr b.serial)
+      goes.status
+
+  module _ (none : before.tries_taken ≡ 0) where
+    unready : IsFirstUnready m lane
+    unready = record { unbegun = f.first none; serial = none_there m km pass p at lane held before f.serial none; unready = f.unready none }
+
+    -- no attempt of the lane was taken, and nobody met its descriptor: so it isn't aborted
+    spared : (d : Event) → Spares (shape_of m) d p lane before → AbortsOwn m d lane → ⊥
+    spared (abort i desc from) may (same, _) = ⊎_elim
+        (λ some. omega (arith, some, none))
+        (λ met. never_met m km lane (inside m km pass p at lane held) unready firsts.found pass p at (subst (HasMet (shape_of m) p) same met))
+        (may same)
+    spared _ may own = own
+
+    unready_then : serial_of (status_at n lane) ≡ 0 → status_of (status_at n lane) ≡ InPrep
+    unready_then zero = ⊎_elim (λ r. r) (λ own. absurd (spared e spares own))
+        (still_unready m km lane (inside m km pass p at lane held) unready n firsts.found M e does zero)
+
   still_fits : FitsLane n u after lane
   still_fits = record {
-    serial = ⊎_elim
-        (λ (c : Continues m n p before after lane). subst (λ t. (serial_of (status_at n lane) ≡ 0) ⊎ (serial_of (status_at n lane) < t)) (sym goes.tries)
-        (subst (λ x. (x ≡ 0) ⊎ (x < before.tries_taken)) (sym c.serial) f.serial))
-        (λ b. inr b.serial)
-        goes.status;
+    serial = serial_then;
+    unready = λ none. unready_then (sym goes.tries ∙ none) (none_there n kn j u u_at lane u_held after serial_then none);
     first = λ none. ⊎_elim
         (λ was. ⊎_elim
         (λ old. absurd (false≢true (sym (f.first (sym goes.tries ∙ none)) ∙ old)))
@@ -234,4 +297,4 @@ module _ (M : Meaning) (m n : Machine) (e : Event) (km : IsKept m) (kn : IsKept 
       (let t = goes.tries in let most = kept.tries in subst (λ s. after.tries_taken ≤ s.tries) (sym same_shape) (omega (arith, t, most)))
       (λ node owns more. subst (λ s. KnowsFree s u node) (sym same_shape)
       (still_free node (subst (λ s. OwnsNode s lane node) same_shape owns, subst (λ s. node_of s lane before.nodes_taken ≤ node) same_shape (subst (λ t. node_of (shape_of n) lane t ≤ node) goes.nodes more))))
-      goes.hand still_fits)
+      (goes.few kept.few) goes.hand still_fits)

@@ -6,6 +6,7 @@ use Rattle.std.specs.List.{Contains}
 use Rattle.std.proofs.lemmas.Bool.{cases_Bool, cases_eq, cond_both, false≢true}
 use Rattle.std.proofs.lemmas.List.Elements.{Contains-push_cases}
 use Rattle.md_words.specs.declared.content.Spot.{Spot}
+use Rattle.md_words.specs.declared.limits.TheConstants.{SET}
 use Rattle.md_words.specs.declared.status.Status.{Status}
 use Rattle.md_words.specs.declared.status.Status.TheVariants.{InPrep, InProg, Committed, Aborted}
 use Rattle.md_words.specs.Content.{spot_of, spot_value, value_of, count_of}
@@ -83,6 +84,7 @@ module _ (m n : Machine) (before after : PassView) (lane : ℕ) (share : Share) 
     entries = λ node left x c. inl (subst (λ l. Contains l x) q.history c);
     begun = none_begun q.begun;
     status = inl (goes_on (q.serials lane exists));
+    few = λ h. h;
     hand = λ holds. left (q.hand lane holds);
   }
 
@@ -242,6 +244,7 @@ module _ (M : Meaning) (o : Origin) (before after : PassView) where
 
     -- one that won is in no next word of a node that is left, and its slot is counted
     module _ (lane : ℕ) (share : Share) (slots : ℕ) (more : share.slots_written ≤ slots) (counts : to.desc ≡ lane → to.slot < slots)
+        (few : share.slots_written ≤ SET → slots ≤ SET)
         (avoids : (node : ℕ) → IsLeftOf (shape_of m) share lane node → word ≢ address (shape_of m) (node_next node))
         (exists : lane < desc_count (shape_of m)) (left : HoldsDesc before lane → share.left_open ≡ true) where
       abbrev later : Share
@@ -278,6 +281,7 @@ module _ (M : Meaning) (o : Origin) (before after : PassView) where
         entries = λ node not x c. inl (subst (λ l. Contains l x) (ap (λ (k : Machine). k.history) s.does.4) c);
         begun = none_begun m s.next before after lane share (ap (λ (k : Machine). k.begun) s.does.4);
         status = inl (record { serial = install_serials lane exists; slots = more; closed = inl });
+        few = few;
         hand = λ holds. left (install_hand lane holds);
       }
 
@@ -312,6 +316,7 @@ module _ (M : Meaning) (o : Origin) (before after : PassView) where
       entries = λ node not. unstored_unplaced M s.machine s.next s.pass reads before s.acts.at s.does node (never node not);
       begun = none_begun s.machine s.next before after lane share (ap (λ (k : Machine). k.begun) s.does.5);
       status = inl (goes_on s.machine s.next before after lane share (ready_serials lane exists));
+      few = λ h. h;
       hand = λ holds. left (ready_hand lane holds);
     }
 
@@ -340,6 +345,7 @@ module _ (M : Meaning) (o : Origin) (before after : PassView) where
             (λ ne. inl (sym (ap (λ (x : Share). x.left_open) (else_same ne)) ∙ closed))
             (cases_eq desc lane);
       });
+      few = subst (λ n. n ≤ SET) (sym (ap (λ (x : Share). x.slots_written) same));
       hand = λ (h, held, of). open_now (ap (λ (a : AttemptId). a.desc) (some_same (present s.machine desc) h.attempt
           (sym (ap (λ (p : PassView). attempt_in_hand p.hand) (told_begin M o before after desc tag s).1) ∙ ap attempt_in_hand held)) ∙ of);
     }
@@ -366,6 +372,7 @@ module _ (M : Meaning) (o : Origin) (before after : PassView) where
           (ap (λ (k : Machine). serial_of (status_at k lane)) s.does.3
           ∙ serial_else s.machine (formats s) word (started_word from) lane exists (λ is. other (same_desc desc lane (sym (place_at-address (shape_of s.machine) (desc_status desc) (own_exists s.machine before desc (told_start M o before after desc from s).0.own))
           ∙ ap (place_at (shape_of s.machine)) (sym is) ∙ place_at-address (shape_of s.machine) (desc_status lane) exists)))));
+      few = λ h. h;
       hand = λ holds. absurd (idle holds);
     }
 
@@ -385,6 +392,7 @@ module _ (M : Meaning) (o : Origin) (before after : PassView) where
             serial = omega (arith, serial, taken);
             steps = subst (λ a. EveryStepOf after (λ t. t.attempt ≢ Some a)) (ap (λ d. attempt_of d (serial_of from + 1)) is ∙ ap (attempt_of lane) (sym serial)) new.steps;
           });
+          few = λ _. omega arith;
           hand = λ holds. absurd (idle holds);
         }
 
@@ -403,5 +411,6 @@ module _ (M : Meaning) (o : Origin) (before after : PassView) where
           entries = λ node not x c. inl (subst (λ l. Contains l x) q.history c);
           begun = none_begun s.machine s.next before after lane share q.begun;
           status = inl (record { serial = q.serials lane exists; slots = le_refl share.slots_written; closed = λ _. inr (subst (IsClean before) this (clean h holds.1)) });
+          few = λ h. h;
           hand = λ (k, held, _). absurd (none_some after.hand k (ap (λ (p : PassView). p.hand) (told_end M o before after s).2) held);
         }

@@ -1,5 +1,5 @@
 -- Lists of lanes: which lanes they have.
-use Rattle.std.proofs.Common.{◌≡◌, ◌==◌, ◌||◌, ℕ, zero, suc, ◌+◌, ◌-◌, ◌/◌, ◌<◌, ◌≤◌, Bool, true, false, List, [], ◌∷◌, filter, take, drop, length, ne_eqb, eq-eqb, arith, refl, sym, ap, ◌∙◌, ⊎_elim}
+use Rattle.std.proofs.Common.{◌≡◌, ◌==◌, ◌||◌, ℕ, zero, suc, ◌+◌, ◌-◌, ◌/◌, ◌<◌, ◌≤◌, Bool, true, false, ◌⊎◌, List, [], ◌∷◌, filter, take, drop, length, ne_eqb, eq-eqb, arith, refl, sym, ap, ◌∙◌, subst, inl, inr, ⊎_elim}
 use Rattle.std.specs.List.{Contains, range_with_len}
 use Rattle.md_words.specs.Layout.{desc_count}
 use Rattle.md_machine.proofs.lists.Rising.{in_lane, rise_drop, rise_filter, rise_range, rise_take}
@@ -10,7 +10,12 @@ use Rattle.md_words.specs.declared.shape.Shape.{Shape}
 use Rattle.md_history.specs.Front.{is_lane_of}
 use Rattle.md_machine.specs.events.SplitJoin.{given_lanes, joined_lanes, kept_lanes}
 use Rattle.md_rule.proofs.LaneSets.{few_lanes, some_lanes, any_pass}
+use Rattle.md_machine.specs.Own.{HasDesc}
+use Rattle.md_machine.specs.events.Decide.{HasMet}
+use Rattle.md_rule.specs.Kept.{IsReached}
 use Rattle.md_rule.specs.Lanes.{AreLanes}
+use Rattle.md_rule.specs.Views.{PassState}
+use Rattle.md_words.proofs.Owners.{one_desc}
 
 -- a list without a lane, in its first element and its rest
 without : (x : ℕ) (xs : List ℕ) (l : ℕ) → is_lane_of (x ∷ xs) l ≡ false → ((x == l) ≡ false) × (is_lane_of xs l ≡ false)
@@ -102,3 +107,12 @@ desc_exists shape lanes desc k c = lane_exists shape lanes desc k c
 pub desc_fits : (shape : Shape) (desc : ℕ) → desc < desc_count shape → desc < 64
 unfolding desc_count
 desc_fits shape desc h = let few = few_lanes shape in omega (arith, h, few)
+
+-- what an abort asks of its descriptor, in the machine's words
+pub reaches : (p : PassState) (shape : Shape) → p.shape ≡ shape → (desc : ℕ) → desc < desc_count shape → IsReached p desc
+    → HasDesc shape p.view desc ⊎ HasMet shape p.view desc
+unfolding desc_count
+reaches p shape same desc exists reached = ⊎_elim
+    (λ own. inl (desc, own.0, (one_desc shape desc desc exists).1 refl))
+    (λ met. inr (subst (λ (x : Shape). HasMet x p.view desc) same met))
+    reached

@@ -18,7 +18,8 @@ use Rattle.md_rule.specs.Steps.{EventOf, Stepped}
 use Rattle.md_rule.specs.Views.{Origin}
 use Rattle.md_rule.specs.declared.shares.Share.{Share}
 use Rattle.md_rule.specs.declared.shares.TheConstants.{UNUSED}
-use Rattle.md_rule.proofs.Kept.{inside, still_kept}
+use Rattle.md_rule.proofs.FirstAttempts.{first_fit}
+use Rattle.md_rule.proofs.Kept.{Spares, inside, still_kept}
 use Rattle.md_rule.proofs.LaneEvents.{IsQuiet, no_hand, quiet_by, quiet_goes}
 use Rattle.md_rule.proofs.LaneSets.{few_lanes}
 use Rattle.md_rule.proofs.Moves.{goes_on, is_kept, next_admitted}
@@ -38,15 +39,17 @@ share_joined lanes mine others lane fits =
 module _ (M : Meaning) (o : Origin) (event : EventOf) (before after : PassView) (s : Stepped M o event before after) where
   -- a quiet event leaves to whoever holds a lane afterwards what its holder kept of it
   kept_by : (i j : ℕ) (p u : PassView) → IsAt s.machine i p → IsAt s.next j u → IsQuiet s.machine s.next p u → (lane : ℕ) → Contains p.lanes lane → Contains u.lanes lane
-      → (shape : Shape) → shape ≡ o.shape → (share : Share) → KeepsLane shape p share lane → KeepsLane shape u share lane
-  kept_by i j p u at u_at quiet lane held u_held shape same share keeps =
+      → (shape : Shape) → shape ≡ o.shape → (share : Share)
+      → Spares (shape_of s.machine) (event s.pass) p lane share → KeepsLane shape p share lane → KeepsLane shape u share lane
+  kept_by i j p u at u_at quiet lane held u_held shape same share spares keeps =
       let shapes : shape ≡ shape_of s.machine = same ∙ sym s.admitted.shape in
       let kept = subst (λ (x : Shape). KeepsLane x p share lane) shapes keeps in
       let km = is_kept M o s.machine s.admitted in
       subst (λ (x : Shape). KeepsLane x u share lane) (sym shapes)
       (still_kept M s.machine s.next (event s.pass) km (is_kept M o s.next (next_admitted M o event before after s))
       (goes_on M o s.machine s.next (event s.pass) s.admitted s.does) s.does i j p u at u_at lane held u_held share share
-      (quiet_goes s.machine s.next p u lane share quiet (inside s.machine km i p at lane held) kept.hand) kept)
+      (quiet_goes s.machine s.next p u lane share quiet (inside s.machine km i p at lane held) kept.hand)
+      (first_fit M o s.machine s.admitted) spares kept)
 
 module _ (M : Meaning) (o : Origin) (shape : Shape) (same : shape ≡ o.shape) where
   -- each part of a split keeps its lanes
@@ -57,11 +60,11 @@ module _ (M : Meaning) (o : Origin) (shape : Shape) (same : shape ≡ o.shape) w
 
     pub kept_half : kept.hand ≡ None → ((lane : ℕ) → Contains kept.lanes lane → Contains before.lanes lane) → KeepsLanes shape kept shares
     kept_half none from lane c = kept_by M o (λ pass. split pass) before kept t.step t.step.pass t.step.pass before kept t.step.acts.at t.step.knows (quiet_split kept none)
-        lane (from lane c) c shape same (share_at shares lane) (keeps lane (from lane c))
+        lane (from lane c) c shape same (share_at shares lane) tt (keeps lane (from lane c))
 
     pub given_half : given.hand ≡ None → ((lane : ℕ) → Contains given.lanes lane → Contains before.lanes lane) → KeepsLanes shape given shares
     given_half none from lane c = kept_by M o (λ pass. split pass) before kept t.step t.step.pass (length t.step.machine.passes) before given t.step.acts.at t.beside (quiet_split given none)
-        lane (from lane c) c shape same (share_at shares lane) (keeps lane (from lane c))
+        lane (from lane c) c shape same (share_at shares lane) tt (keeps lane (from lane c))
 
   -- and a joined pass keeps those of both
   module _ (one other both : PassView) (t : JoinedInto M o one other both) (mine others : List Share) (keeps : KeepsLanes shape one mine) (too : KeepsLanes shape other others) where
@@ -79,9 +82,9 @@ module _ (M : Meaning) (o : Origin) (shape : Shape) (same : shape ≡ o.shape) w
         let exists = next.lanes.exists t.step.pass lane (both, t.step.knows, c) in
         let fits : lane < 64 = omega (arith, few, exists) in
         let theirs : Contains other.lanes lane → Kept (share_at others lane) = λ held.
-        kept_by M o e one both t.step t.seat t.step.pass other both t.beside.at t.step.knows (quiet_join other none) lane held c shape same (share_at others lane) (too lane held) in
+        kept_by M o e one both t.step t.seat t.step.pass other both t.beside.at t.step.knows (quiet_join other none) lane held c shape same (share_at others lane) tt (too lane held) in
         let own : Contains one.lanes lane → Kept (share_at mine lane) = λ held.
-        kept_by M o e one both t.step t.step.pass t.step.pass one both t.step.acts.at t.step.knows (quiet_join one none) lane held c shape same (share_at mine lane) (keeps lane held) in
+        kept_by M o e one both t.step t.step.pass t.step.pass one both t.step.acts.at t.step.knows (quiet_join one none) lane held c shape same (share_at mine lane) tt (keeps lane held) in
         subst Kept (sym (share_joined other.lanes mine others lane fits)) (⊎_elim
         (λ (is : is_lane_of other.lanes lane ≡ true). subst (λ b. Kept (if b then share_at others lane else share_at mine lane)) (sym is) (theirs (lane_in other.lanes lane is)))
         (λ not. subst (λ b. Kept (if b then share_at others lane else share_at mine lane)) (sym not)

@@ -38,8 +38,10 @@ module _ (shape : Shape) where
     free = λ node owns _. opened_free shape lane node owns;
     serials = first_none _;
     first = λ _. record { pending = refl; steps = first_none _ };
+    untouched = λ _. first_none _;
     clean = λ _ serial _. first_none _;
     slots = λ serial _. first_none _;
+    few = omega arith;
     hand = λ holds. absurd (none_some (first_pass shape).hand holds.0 refl holds.1);
   })
 
@@ -64,8 +66,10 @@ module _ (shape : Shape) (view : PassView) where
         (cases_lt n.0 share.nodes_taken);
     serials = k.serials;
     first = k.first;
+    untouched = k.untouched;
     clean = k.clean;
     slots = k.slots;
+    few = k.few;
     hand = k.hand;
   }
 
@@ -76,8 +80,10 @@ module _ (shape : Shape) (view : PassView) where
     free = k.free;
     serials = λ segment c s i held meets. ⊎_elim inl (λ less. inr (omega (arith, less, rises))) (k.serials segment c s i held meets);
     first = λ none. k.first (omega (arith, none, rises));
+    untouched = λ none. k.untouched (omega (arith, none, rises));
     clean = k.clean;
     slots = k.slots;
+    few = k.few;
     hand = k.hand;
   }
 

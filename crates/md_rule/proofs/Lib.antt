@@ -3,6 +3,8 @@ pub mod LaneLists
 pub mod Sharing
 pub mod Moves
 pub mod Events
+pub mod Entering
+pub mod FirstAttempts
 pub mod Closes
 pub mod Told
 pub mod Fronts
@@ -11,3 +13,4 @@ pub mod LaneEvents
 pub mod LaneSteps
 pub mod LaneShares
 pub mod LaneMoves
+pub mod HandTaken

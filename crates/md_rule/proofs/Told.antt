@@ -31,7 +31,7 @@ pub record IsThat (p before after w : PassView) : Type 0 where
   pub was : p ≡ before
   pub is : after ≡ w
 
-that : (m n : Machine) (pass : ℕ) (p before after w : PassView) → Acts m pass p → Acts m pass before → n.passes ≡ slice_set m.passes pass w → IsAt n pass after → IsThat p before after w
+pub that : (m n : Machine) (pass : ℕ) (p before after w : PassView) → Acts m pass p → Acts m pass before → n.passes ≡ slice_set m.passes pass w → IsAt n pass after → IsThat p before after w
 that m n pass p before after w a b passes knows = record {
   was = some-injective p before (sym a.at ∙ b.at);
   is = some-injective after w (sym knows ∙ ap (λ (l : List PassView). get_elem? l pass) passes ∙ set_there m.passes pass w before b.at);

@@ -2,6 +2,7 @@ pub mod Views
 pub mod Admitted
 pub mod Rule
 pub mod Steps
+pub mod Entering
 pub mod InHand
 pub mod LaneSet
 pub mod Lanes

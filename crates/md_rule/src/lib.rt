@@ -4,6 +4,7 @@
 //! is one atomic operation and one event of the machine, and its contract says which.
 #![tactic(auto)]
 
+pub use certifying::Certifying;
 pub use close::Closed;
 pub use field::Field;
 pub use known::{Known, Parts};
@@ -11,6 +12,7 @@ pub use pass::Pass;
 pub use rule::{Halving, Joining, Key, Looking, Ruled, Telling};
 pub use shares::Share;
 
+mod certifying;
 mod close;
 mod field;
 mod known;

@@ -1,6 +1,6 @@
 //! The nine steps.
 
-ghost use Rattle.std.specs.Prelude.{◌≡◌, ◌+◌, ◌<◌, ◌≤◌, MatchResult};
+ghost use Rattle.std.specs.Prelude.{◌≡◌, ◌+◌, ◌<◌, ◌≤◌, MatchResult, IfOk};
 ghost use Rattle.std.specs.List.{Contains};
 ghost use Rattle.md_words.specs.declared.limits.TheConstants.{SET};
 ghost use Rattle.md_words.specs.Content.{word_of};
@@ -11,12 +11,14 @@ ghost use Rattle.md_machine.specs.declared.step.TheConstants.{LAST_COUNT};
 ghost use Rattle.md_machine.specs.Machine.{IsLive};
 ghost use Rattle.md_machine.specs.Event.{load, store, install, exchange, ready};
 ghost use Rattle.md_machine.specs.Event.{commit, abort, uninstall, start};
+ghost use Rattle.md_rule.specs.Entering.{EnteredBy, MayBecomeReady};
 ghost use Rattle.md_rule.specs.InHand.{HoldsUnready};
-ghost use Rattle.md_rule.specs.Kept.{IsNoNextLeft, StoredNoneLeft};
+ghost use Rattle.md_rule.specs.Kept.{IsNoNextLeft, IsReached, StoredNoneLeft};
 ghost use Rattle.md_rule.specs.Shares.{after_restart, after_slot, share_at};
 ghost use Rattle.md_rule.specs.Steps.{Exchanged, May, Stepped, SteppedFrom};
 ghost use Rattle.md_rule.specs.Views.{IsOf};
 
+use crate::certifying::Certifying;
 use crate::field::Field;
 use crate::known::Known;
 use crate::pass::Pass;
@@ -117,19 +119,31 @@ impl<T: Theory> Pass<T> {
         )
     }
 
-    /// Makes the transaction in hand ready: it joins the history. It stored to no node that wasn't
+    /// Makes the transaction in hand ready: it joins the history, by some certificates of its acts.
+    /// The caller picks of which kind they are: `K` says it, and may speak of `about`, which has no
+    /// bytes. It shows certificates of that kind, and after Ok the new entry, the last one that the
+    /// pass has seen, has certificates of that kind. The transaction stored to no node that wasn't
     /// taken, or was given back.
-    pub fn ready(&mut self, field: &Field<T>, desc: u32, from: u64, reads: u8) -> Result<(), u64>
+    pub fn ready<K: Certifying, A>(
+        &mut self,
+        field: &Field<T>,
+        desc: u32,
+        from: u64,
+        reads: u8,
+        about: Snapshot<A>,
+    ) -> Result<(), u64>
         requires field { IsOf self.old field.now
             × (desc < desc_count field.now.origin.shape) }
         requires hand { HoldsUnready self.old.view desc from }
         requires taken { StoredNoneLeft self.old }
-        requires may { May T.meaning field.now.origin (λ pass. ready pass reads) self.old.view }
+        requires may { MayBecomeReady T.meaning field.now.origin K.by reads self.old.view }
         ensures same { self.new ≡ record self.old { view = self.new.view } }
         ensures step { Exchanged T.meaning field.now.origin (λ pass. ready pass reads)
             (address field.now.origin.shape (desc_status desc)) from result
             self.old.view self.new.view }
+        ensures by { IfOk result (λ _. EnteredBy K.by self.new.view) }
     {
+        drop(about);
         let word = field.shape().status(desc);
         let about = Snapshot::of(&(desc, reads));
         exchange_word::<Brand, T, _>(
@@ -159,10 +173,13 @@ impl<T: Theory> Pass<T> {
         exchange_word::<Brand, T, _>(&mut self.seat, field, word, from, committed, about)
     }
 
-    /// Aborts an attempt that isn't ready, or one with a read that doesn't stand.
+    /// Aborts an attempt that isn't ready, or one with a read that doesn't stand. Its descriptor is
+    /// of one of the pass's lanes, and an attempt of it was taken (`set_tries_taken`); or a step of
+    /// the pass found it in a counted word.
     pub fn abort(&mut self, field: &Field<T>, desc: u32, from: u64) -> Result<(), u64>
         requires field { IsOf self.old field.now
             × (desc < desc_count field.now.origin.shape) }
+        requires reached { IsReached self.old desc }
         requires may { May T.meaning field.now.origin (λ pass. abort pass desc from) self.old.view }
         ensures same { self.new ≡ record self.old { view = self.new.view } }
         ensures step { Exchanged T.meaning field.now.origin (λ pass. abort pass desc from)

@@ -2,6 +2,7 @@
 
 ghost use Rattle.std.specs.Prelude.{◌≡◌, ◌≤◌};
 ghost use Rattle.std.specs.List.{Contains};
+ghost use Rattle.md_words.specs.declared.limits.TheConstants.{SET};
 ghost use Rattle.md_rule.specs.Shares.{MayReturn, share_at, with_share};
 
 use crate::pass::Pass;
@@ -25,12 +26,13 @@ impl<T: Theory> Pass<T> {
         self.shares[lane as usize].tries_taken
     }
 
-    /// How many slots the lane's last transaction wrote.
-    pub fn slots_written(&self, lane: u32) -> u8
+    /// How many slots the lane's last transaction wrote, at most `SET`.
+    pub fn slots_written(&self, lane: u32) -> u32
         requires { Contains self.now.view.lanes lane }
-        ensures { result ≡ (share_at self.now.shares lane).slots_written }
+        ensures slots { result ≡ (share_at self.now.shares lane).slots_written }
+        ensures few { result ≤ SET }
     {
-        self.shares[lane as usize].slots_written
+        self.shares[lane as usize].slots_written as u32
     }
 
     /// Whether the lane's last transaction was put in hand and not ended by `mark_end`.

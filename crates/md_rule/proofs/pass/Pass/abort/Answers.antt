@@ -2,10 +2,11 @@ use Rattle.std.proofs.Common.{◌≡◌, ap, refl, sym, subst, ◌∙◌}
 use Rattle.md_words.specs.Layout.{address}
 use Rattle.md_words.specs.Place.{desc_status}
 use Rattle.md_machine.specs.Event.{abort}
+use Rattle.md_rule.specs.Kept.{IsReached}
 use Rattle.md_rule.specs.Steps.{Exchanged, May, MayTell, SteppedFrom}
 use Rattle.md_rule.proofs.Events.{exchange_tells, is_abort, traded}
 use Rattle.md_rule.proofs.LaneEvents.{quiet_abort}
-use Rattle.md_rule.proofs.LaneSteps.{kept_quiet, stepped_of}
+use Rattle.md_rule.proofs.LaneSteps.{kept_quiet, spares_reached, stepped_of}
 use Rattle.md_rule.proofs.pass.Pass.abort.Goals as goal
 
 pub exchange_word-requires-clause-may : goal.exchange_word-requires-clause-may
@@ -31,7 +32,9 @@ invariant_of-self g c =
       same.0 ∙ c.self.invariant.0,
       c.self.invariant.1,
       same.1 ∙ c.self.invariant.2,
-      kept_quiet M o _ _ _ told same.0 c.self.inside.shape shape (quiet_abort M o _ _ c.args.desc c.args.from told) c.self.inside.shares c.self.invariant.3,
+      kept_quiet M o _ _ _ told same.0 c.self.inside.shape shape (quiet_abort M o _ _ c.args.desc c.args.from told) c.self.inside.shares
+          (λ lane _ is. spares_reached (record { table = c.self.inside.seat.table_id; shape = c.self.inside.shape; view = c.self.inside.seat.me.0.view; shares = c.self.inside.shares })
+          _ (shape ∙ sym told.admitted.shape) c.args.desc lane is (subst (λ p. IsReached p c.args.desc) (sym c.self.view_is) c.requires.reached)) c.self.invariant.3,
     )
 
 pub returns-clause-step : goal.returns-clause-step

@@ -31,7 +31,7 @@ invariant_of-self g c =
       same.0 ∙ c.self.invariant.0,
       c.self.invariant.1,
       same.1 ∙ c.self.invariant.2,
-      kept_quiet M o _ _ _ told same.0 c.self.inside.shape shape (quiet_commit M o _ _ c.args.desc c.args.from told) c.self.inside.shares c.self.invariant.3,
+      kept_quiet M o _ _ _ told same.0 c.self.inside.shape shape (quiet_commit M o _ _ c.args.desc c.args.from told) c.self.inside.shares (λ _ _. tt) c.self.invariant.3,
     )
 
 pub returns-clause-step : goal.returns-clause-step

@@ -24,7 +24,7 @@ invariant_of-self g c =
       same.0 ∙ c.self.invariant.0,
       c.self.invariant.1,
       same.1 ∙ c.self.invariant.2,
-      kept_quiet M o _ _ _ told.2 same.0 c.self.inside.shape shape (quiet_mark_act M o _ _ told.0 told.2) c.self.inside.shares c.self.invariant.3,
+      kept_quiet M o _ _ _ told.2 same.0 c.self.inside.shape shape (quiet_mark_act M o _ _ told.0 told.2) c.self.inside.shares (λ _ _. tt) c.self.invariant.3,
     )
 
 pub returns-clause-step : goal.returns-clause-step

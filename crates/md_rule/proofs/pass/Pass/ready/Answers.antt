@@ -1,11 +1,13 @@
-use Rattle.std.proofs.Common.{◌≡◌, ap, refl, sym, subst, ◌∙◌}
+use Rattle.std.proofs.Common.{◌≡◌, ap, sym, subst, ◌∙◌}
 use Rattle.md_words.specs.Layout.{address}
 use Rattle.md_words.specs.Place.{desc_status}
-use Rattle.md_machine.specs.Event.{ready}
+use Rattle.md_rule.specs.Entering.{MayBecomeReady}
 use Rattle.md_rule.specs.InHand.{HoldsUnready}
 use Rattle.md_rule.specs.Kept.{StoredNoneLeft}
-use Rattle.md_rule.specs.Steps.{Exchanged, May, MayTell, SteppedFrom}
-use Rattle.md_rule.proofs.Events.{exchange_tells, is_ready, traded}
+use Rattle.md_machine.specs.Event.{ready}
+use Rattle.md_rule.specs.Steps.{Exchanged, MayTell}
+use Rattle.md_rule.proofs.Entering.{Readies, Tells, readies_by, readies_step, ready_tells}
+use Rattle.md_rule.proofs.Events.{traded}
 use Rattle.md_rule.proofs.LaneSteps.{kept_ready, stepped_of}
 use Rattle.md_rule.proofs.pass.Pass.ready.Goals as goal
 
@@ -13,21 +15,24 @@ pub exchange_word-requires-clause-may : goal.exchange_word-requires-clause-may
 exchange_word-requires-clause-may g c =
     let M = g.T.Theory.meaning in
     let o = c.args.field.now.origin in
+    let By = g.K.Certifying.by in
     let view = c.self.inside.seat.me.0.view in
-    let at : c.status-word.result ≡ address o.shape (desc_status c.args.desc) = c.status-word.ensures.place ∙ ap (λ s. address s (desc_status c.args.desc)) c.shape.ensures in
-    let to = c.ready.result in
-    let may : May M o (λ pass. ready pass c.args.reads) view = rw (ap (λ p. p.view) c.self.view_is) c.requires.may in
-    let hand : HoldsUnready view c.args.desc c.args.from = rw (ap (λ p. p.view) c.self.view_is) c.requires.hand in
-    subst (λ about. MayTell M o view c.status-word.result (traded c.args.from to) (SteppedFrom M o (λ pass. ready pass about.1) (address o.shape (desc_status about.0)))) (sym c.of-about.ensures)
-    (subst (λ word. MayTell M o view word (traded c.args.from to) (SteppedFrom M o (λ pass. ready pass c.args.reads) (address o.shape (desc_status c.args.desc)))) (sym at)
-    (exchange_tells M o _ view (address o.shape (desc_status c.args.desc)) c.args.from _ c.args.from to may (is_ready M o view c.args.desc c.args.from c.args.reads hand) refl c.ready.ensures))
+    let desc = c.args.desc in
+    let from = c.args.from in
+    let reads = c.args.reads in
+    let at : c.status-word.result ≡ address o.shape (desc_status desc) = c.status-word.ensures.place ∙ ap (λ s. address s (desc_status desc)) c.shape.ensures in
+    let may : MayBecomeReady M o By reads view = rw (ap (λ p. p.view) c.self.view_is) c.requires.may in
+    let hand : HoldsUnready view desc from = rw (ap (λ p. p.view) c.self.view_is) c.requires.hand in
+    subst (λ about. MayTell M o view c.status-word.result (traded from c.ready.result) (Readies M o By about.0 from about.1)) (sym c.of-about.ensures)
+    (subst (λ word. MayTell M o view word (traded from c.ready.result) (Readies M o By desc from reads)) (sym at)
+    (ready_tells M o By view desc from c.ready.result reads hand c.ready.ensures may))
 
 pub invariant_of-self : goal.invariant_of-self
 invariant_of-self g c =
     let M = g.T.Theory.meaning in
     let o = c.args.field.now.origin in
-    let told = stepped_of M o _ (address o.shape (desc_status c.args.desc)) c.args.from c.exchange_word.result _ _
-    (subst (λ about. Exchanged M o (λ pass. ready pass about.1) (address o.shape (desc_status about.0)) c.args.from c.exchange_word.result c.self.inside.seat.me.0.view c.exchange_word.new.seat.me.0.view) c.of-about.ensures c.exchange_word.ensures.told) in
+    let exchanged = readies_step M o g.K.Certifying.by c.args.desc c.args.from c.args.reads _ _ c.exchange_word.result (subst (λ about. Tells M o g.K.Certifying.by about.0 c.args.from about.1 c.self.inside.seat.me.0.view c.exchange_word.new.seat.me.0.view c.exchange_word.result) c.of-about.ensures c.exchange_word.ensures.told) in
+    let told = stepped_of M o _ (address o.shape (desc_status c.args.desc)) c.args.from c.exchange_word.result _ _ exchanged in
     let same = c.exchange_word.ensures.same in
     let shape = ap (λ p. p.shape) c.self.view_is ∙ c.requires.field.0.shape in (
       same.0 ∙ c.self.invariant.0,
@@ -42,4 +47,10 @@ returns-clause-step g c =
     let M = g.T.Theory.meaning in
     let o = c.args.field.now.origin in
     subst (λ v. Exchanged M o (λ pass. ready pass c.args.reads) (address o.shape (desc_status c.args.desc)) c.args.from c.exchange_word.result v c.exchange_word.new.seat.me.0.view) (ap (λ p. p.view) c.self.view_is)
-    (subst (λ about. Exchanged M o (λ pass. ready pass about.1) (address o.shape (desc_status about.0)) c.args.from c.exchange_word.result c.self.inside.seat.me.0.view c.exchange_word.new.seat.me.0.view) c.of-about.ensures c.exchange_word.ensures.told)
+    (readies_step M o g.K.Certifying.by c.args.desc c.args.from c.args.reads _ _ c.exchange_word.result (subst (λ about. Tells M o g.K.Certifying.by about.0 c.args.from about.1 c.self.inside.seat.me.0.view c.exchange_word.new.seat.me.0.view c.exchange_word.result) c.of-about.ensures c.exchange_word.ensures.told))
+
+pub returns-clause-by : goal.returns-clause-by
+returns-clause-by g c =
+    let M = g.T.Theory.meaning in
+    let o = c.args.field.now.origin in
+    readies_by M o g.K.Certifying.by c.args.desc c.args.from c.args.reads _ _ c.exchange_word.result (subst (λ about. Tells M o g.K.Certifying.by about.0 c.args.from about.1 c.self.inside.seat.me.0.view c.exchange_word.new.seat.me.0.view c.exchange_word.result) c.of-about.ensures c.exchange_word.ensures.told)
