@@ -31,7 +31,9 @@ use Rattle.md_rule.proofs.Moves.{is_kept}
 use Rattle.md_rule.proofs.Told.{told_abort, told_commit}
 use Rattle.md_help.specs.After.{IsAfter}
 use Rattle.md_help.specs.Reads.{FindsRead, Validated}
-use Rattle.md_help.specs.Settles.{IsReached, MetStatus}
+use Rattle.md_rule.specs.Kept.{IsReached}
+use Rattle.md_rule.specs.Views.{PassState}
+use Rattle.md_help.specs.Settles.{MetStatus}
 use Rattle.md_help.proofs.Numbers.{formats_of}
 use Rattle.md_help.proofs.Reading.{finds_right}
 use Rattle.md_help.proofs.Steps.{Made, known_stays, made, trail_after}
@@ -55,11 +57,12 @@ some_after P shape steps p q a (segment, c, (s, i, h)) = ⊎_elim
     (λ (last : p.trail ≡ segment). (q.trail, Contains-push q.past q.trail, (s, subst (λ l. Contains l s) (sym (trail_after shape steps p q a)) (Contains-append_left p.trail steps s (subst (λ l. Contains l s) (sym last) i)), h)))
     (Contains-push_cases p.past p.trail segment c)
 
-pub reached_after : (shape : Shape) (steps : List Step) (p q : PassView) (desc : ℕ) → IsAfter shape steps p q → IsReached shape p desc → IsReached shape q desc
-reached_after shape steps p q desc a r = ⊎_elim
-    (λ own. inl (own.0, subst (λ (l : List ℕ). Contains l own.0) (sym (ap (λ (x : PassView). x.lanes) a.1)) own.1, own.2))
-    (λ met. inr (met.0, met.1, met.2, met.3, some_after (Finds met.0 met.1) shape steps p q a met.4))
-    r
+pub reached_after : (shape : Shape) (steps : List Step) (p q : PassState) (desc : ℕ) → q ≡ record p { view = q.view } → IsAfter shape steps p.view q.view
+    → IsReached p desc → IsReached q desc
+reached_after shape steps p q desc same a r = subst (λ (x : PassState). IsReached x desc) (sym same) (⊎_elim
+    (λ own. inl (subst (λ (l : List ℕ). Contains l desc) (sym (ap (λ (x : PassView). x.lanes) a.1)) own.0, own.1))
+    (λ met. inr (met.0, met.1, met.2, met.3, some_after (Finds met.0 met.1) shape steps p.view q.view a met.4))
+    r)
 
 abbrev pub since_met : (shape : Shape) (p : PassView) (desc status : ℕ) → MetStatus shape p desc status → SinceStatus shape p desc status
 since_met shape p desc status m = record {

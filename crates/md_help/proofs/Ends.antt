@@ -18,7 +18,7 @@ use Rattle.md_machine.specs.events.Decide.{decided_word}
 use Rattle.md_help.specs.declared.settling.End.{End}
 use Rattle.md_help.specs.declared.settling.End.TheVariants.{Committed, Aborted, Gone}
 use Rattle.md_help.specs.After.{IsAfter}
-use Rattle.md_help.specs.Reads.{LooksOn, Validated}
+use Rattle.md_help.specs.Reads.{LoadsNoStatus, Validated}
 use Rattle.md_help.specs.Settles.{Decides, EndIs, Ends, FindsMoved, IsDecidedAs, IsFound, IsLost, IsMet, Settled, SettledNewer}
 use Rattle.md_help.proofs.Reading.{finds_left, some_right}
 use Rattle.md_help.proofs.Steps.{Made, both_after, none_after}
@@ -48,7 +48,7 @@ module _ (shape : Shape) (desc : ℕ) where
 
   same_serials : (first reads : ℕ) (stood : Bool) (p q : PassView) (v : Validated shape desc reads stood p q) (s : Step) → serial_of s.before ≡ serial_of first → All (Same first) (v.steps ++ s ∷ [])
   same_serials first reads stood p q v s e = All-append (Same first) v.steps (s ∷ [])
-      (All-weaker (LooksOn shape desc) (Same first) (λ x l there. absurd (l.1 there)) v.steps v.still)
+      (All-weaker (LoadsNoStatus shape) (Same first) (λ x l there. absurd (l.1 desc v.exists there)) v.steps v.still)
       (All-cons (Same first) s [] (λ _. e) (All-nil (Same first)))
 
   -- reads were validated, and one exchange of the status was made
@@ -62,7 +62,7 @@ module _ (shape : Shape) (desc : ℕ) where
       goes = both_after shape v.steps (m.step ∷ []) p q r v.goes m.goes;
       few = (first, refl, inl refl, (let a = v.few in let l = length-append v.steps (m.step ∷ []) in omega (arith, a, l, fits, some)));
       changes = All-append (Decides shape desc) v.steps (m.step ∷ [])
-          (All-weaker (LooksOn shape desc) (Decides shape desc) (λ x l. inl l.0) v.steps v.still)
+          (All-weaker (LoadsNoStatus shape) (Decides shape desc) (λ x l. inl l) v.steps v.still)
           (All-cons (Decides shape desc) m.step [] (inr (m.there, ⊎_elim (λ e. inl (m.is_kind ∙ e)) (λ e. inr (m.is_kind ∙ e)) decides)) (All-nil (Decides shape desc)));
       ends = ends;
     }

@@ -1,19 +1,20 @@
 -- A clearing put together from its steps.
 use Rattle.std.proofs.Common.{◌≡◌, ◌≢◌, ◌==◌, not, ◌+◌, ◌≤◌, ℕ, true, false, List, [], ◌∷◌, ◌++◌, length, refl, sym, ap, ◌∙◌, subst, inl, inr, ⊎_elim, arith, eq-eqb, append_assoc, length-append}
-use Rattle.std.specs.List.{Contains}
+use Rattle.std.specs.List.{All, Contains}
 use Rattle.std.proofs.lemmas.Bool.{and_from}
-use Rattle.std.proofs.lemmas.List.Elements.{Contains-append_right, Contains-push}
+use Rattle.std.proofs.lemmas.List.Elements.{All-append, All-cons, All-nil, All-weaker, Contains-append_right, Contains-push}
 use Rattle.md_words.specs.declared.shape.Shape.{Shape}
 use Rattle.md_words.specs.Content.{count_of, is_even, spot_of, value_of}
 use Rattle.md_words.specs.Layout.{IsInSet, address}
 use Rattle.md_words.specs.Place.{desc_status}
-use Rattle.md_words.specs.PlaceAt.{IsCounted}
+use Rattle.md_words.specs.PlaceAt.{IsCounted, place_at}
 use Rattle.md_words.specs.declared.status.Status.{Status}
 use Rattle.md_machine.specs.declared.pass.PassView.{PassView}
-use Rattle.md_machine.specs.declared.step.Kind.TheVariants.{Load}
+use Rattle.md_machine.specs.declared.step.Kind.TheVariants.{Abort, Commit, Load}
 use Rattle.md_machine.specs.declared.step.Step.{Step}
 use Rattle.md_machine.specs.declared.step.TheConstants.{LAST_COUNT}
 use Rattle.md_machine.specs.Event.{load}
+use Rattle.md_machine.specs.clauses.nodes.Flags.{NotesWord}
 use Rattle.md_machine.specs.Meaning.{Meaning}
 use Rattle.md_machine.specs.Trail.{Finds, Meets, SomeStep, holds_desc}
 use Rattle.md_machine.specs.clauses.words.MetSpots.{MetSpotsExist}
@@ -26,11 +27,19 @@ use Rattle.md_help.specs.declared.settling.End.{End}
 use Rattle.md_help.specs.declared.settling.End.TheVariants.{Committed, Aborted, Gone}
 use Rattle.md_help.specs.declared.clearing.Cleared.{Cleared}
 use Rattle.md_help.specs.After.{IsAfter}
+use Rattle.md_machine.specs.events.Decide.{HasMet}
 use Rattle.md_help.specs.Clears.{Clears, EndsLater, Finishes, SawDecided, SawTwice, TakenLater, TakenOut, fate_of}
-use Rattle.md_help.specs.Settles.{AreFew, IsDecidedAs, IsReached, MetStatus, Settled}
+use Rattle.md_help.specs.Settles.{AreFew, Decides, IsDecidedAs, MetStatus, Settled}
 use Rattle.md_help.proofs.Numbers.{formats_of}
 use Rattle.md_help.proofs.Reading.{some_left, some_right}
-use Rattle.md_help.proofs.Steps.{Made, both_after, load_finds, trail_after}
+use Rattle.md_help.proofs.Flagged.{flags_last, noted_after}
+use Rattle.md_help.proofs.Steps.{Made, StaysSame, both_after, load_finds, load_same, trail_after}
+
+no_load : (s : Step) → s.kind ≡ Load → s.kind ≡ Commit → ⊥
+no_load s is other = cc
+
+no_abort : (s : Step) → s.kind ≡ Load → s.kind ≡ Abort → ⊥
+no_abort s is other = cc
 
 module _ (shape : Shape) (word from : ℕ) where
   abbrev desc : ℕ
@@ -52,10 +61,10 @@ module _ (shape : Shape) (word from : ℕ) where
   }
 
   -- so the descriptor was met, and its status
-  pub saw_reached : (status : ℕ) (p : PassView) → IsCounted shape word → is_even (count_of from) ≡ false → SawTwice shape p word from status → IsReached shape p desc
-  saw_reached status p counted odd s =
+  pub saw_met : (status : ℕ) (p : PassView) → IsCounted shape word → is_even (count_of from) ≡ false → SawTwice shape p word from status → HasMet shape p desc
+  saw_met status p counted odd s =
       let holds : holds_desc desc from ≡ true = and_from (not (is_even (count_of from))) ((spot_of (value_of from)).desc == desc) (ap not odd) (eq-eqb desc desc refl) in
-      inr (word, from, counted, holds, (p.trail, Contains-push p.past p.trail, (s.found, subst (λ l. Contains l s.found) (sym s.trail) (Contains-append_right s.earlier (s.found ∷ (s.first ++ s.ask ∷ s.look ∷ [])) s.found (0, omega arith, refl)), s.finds)))
+      (word, from, counted, holds, (p.trail, Contains-push p.past p.trail, (s.found, subst (λ l. Contains l s.found) (sym s.trail) (Contains-append_right s.earlier (s.found ∷ (s.first ++ s.ask ∷ s.look ∷ [])) s.found (0, omega arith, refl)), s.finds)))
 
   pub saw_status : (status : ℕ) (p : PassView) → SawTwice shape p word from status → MetStatus shape p desc status
   saw_status status p s = record {
@@ -93,6 +102,12 @@ module _ (shape : Shape) (word from : ℕ) where
   saw_decided status Aborted p q n s t = saw_fate status (fate_of Aborted) t.steps p q s t.goes t.ends.0
   saw_decided status Gone p q n s t = absurd (n refl)
 
+  one_load : (on held : ℕ) (p q : PassView) (m : Made shape Load on held held p q) → All StaysSame (m.step ∷ [])
+  one_load on held p q m = All-cons StaysSame m.step [] (λ _. load_same shape on held p q m) (All-nil StaysSame)
+
+  settling_same : (steps : List Step) → All (Decides shape desc) steps → All StaysSame steps
+  settling_same steps decides = All-weaker (Decides shape desc) StaysSame (λ s d is. ⊎_elim (λ l. l.0.1) (λ o. absurd (⊎_elim (no_load s is) (no_abort s is) o.1)) d) steps decides
+
   few_more : (status : ℕ) (steps extra : List Step) → AreFew shape desc status 2 steps → length extra ≤ 2 → AreFew shape desc status 4 (steps ++ extra)
   few_more status steps extra f h = (
     f.0,
@@ -101,12 +116,14 @@ module _ (shape : Shape) (word from : ℕ) where
     (let a = f.3 in let l = length-append steps extra in omega (arith, a, l, h)),
   )
 
-  pub finishes_gone : (status left : ℕ) (p q r : PassView) → Settled shape desc status 2 Gone p q → Made shape Load word left left q r → left ≢ from → Finishes shape word from status (record { end = Gone; left = left }) p r
-  finishes_gone status left p q r t m empty = record {
+  pub finishes_gone : (status left : ℕ) (p q r : PassView) → Settled shape desc status 2 Gone p q → (m : Made shape Load word left left q r) → (NotesWord q.placed (place_at shape word) → m.step.placed ≡ true) → left ≢ from → Finishes shape word from status (record { end = Gone; left = left }) p r
+  finishes_gone status left p q r t m flag empty = record {
     steps = t.steps ++ m.step ∷ [];
     goes = both_after shape t.steps (m.step ∷ []) p q r t.goes m.goes;
     few = few_more status t.steps (m.step ∷ []) t.few (omega arith);
     empty = empty;
+    still = All-append StaysSame t.steps (m.step ∷ []) (settling_same t.steps t.changes) (one_load word left q r m);
+    noted = flags_last shape Load word left left t.steps p q r t.goes m flag;
     ends = record { settling = t.steps; last = m.step; order = refl; changes = t.changes; other = t.ends; looks = load_finds shape word left left q r m };
   }
 
@@ -121,6 +138,8 @@ module _ (shape : Shape) (word from : ℕ) where
     goes = both_after shape t.steps (k.slot ∷ k.take ∷ []) p q r t.goes k.goes;
     few = few_more status t.steps (k.slot ∷ k.take ∷ []) t.few (omega arith);
     empty = k.empty;
+    still = All-append StaysSame t.steps (k.slot ∷ k.take ∷ []) (settling_same t.steps t.changes) k.still;
+    noted = λ n. some_right (λ s. Meets word left s × (s.placed ≡ true)) t.steps (k.slot ∷ k.take ∷ []) (k.noted (noted_after shape t.steps p q (place_at shape word) t.goes n));
     ends = ends_later status left end (t.steps ++ k.slot ∷ k.take ∷ []) n (record {
       settling = t.steps;
       slot = k.slot;
@@ -134,8 +153,8 @@ module _ (shape : Shape) (word from : ℕ) where
     });
   }
 
-  pub clears_gone : (status left : ℕ) (p q r : PassView) → Made shape Load (status_of_desc shape from) status status p q → Made shape Load word left left q r → left ≢ from → Clears shape word from (record { end = Gone; left = left }) p r
-  clears_gone status left p q r a b empty = record {
+  pub clears_gone : (status left : ℕ) (p q r : PassView) → Made shape Load (status_of_desc shape from) status status p q → (b : Made shape Load word left left q r) → (NotesWord q.placed (place_at shape word) → b.step.placed ≡ true) → left ≢ from → Clears shape word from (record { end = Gone; left = left }) p r
+  clears_gone status left p q r a b flag empty = record {
     status = status;
     ask = a.step;
     look = b.step;
@@ -144,21 +163,27 @@ module _ (shape : Shape) (word from : ℕ) where
     asks = load_finds shape (status_of_desc shape from) status status p q a;
     few = (status, refl, inl refl, omega arith);
     empty = empty;
+    still = All-append StaysSame (a.step ∷ []) (b.step ∷ []) (one_load (status_of_desc shape from) status p q a) (one_load word left q r b);
+    noted = flags_last shape Load word left left (a.step ∷ []) p q r a.goes b flag;
     ends = inl (load_finds shape word left left q r b, refl, refl);
   }
 
   pub clears_later : (status : ℕ) (c : Cleared) (p q r t : PassView) → Made shape Load (status_of_desc shape from) status status p q → Made shape Load word from from q r → Finishes shape word from status c r t → Clears shape word from c p t
-  clears_later status c p q r t a b f = record {
-    status = status;
-    ask = a.step;
-    look = b.step;
-    steps = f.steps;
-    goes = both_after shape (a.step ∷ b.step ∷ []) f.steps p r t (both_after shape (a.step ∷ []) (b.step ∷ []) p q r a.goes b.goes) f.goes;
-    asks = load_finds shape (status_of_desc shape from) status status p q a;
-    few = f.few;
-    empty = f.empty;
-    ends = inr (load_finds shape word from from q r b, f.ends);
-  }
+  clears_later status c p q r t a b f =
+      let looked = both_after shape (a.step ∷ []) (b.step ∷ []) p q r a.goes b.goes in record {
+        status = status;
+        ask = a.step;
+        look = b.step;
+        steps = f.steps;
+        goes = both_after shape (a.step ∷ b.step ∷ []) f.steps p r t looked f.goes;
+        asks = load_finds shape (status_of_desc shape from) status status p q a;
+        few = f.few;
+        empty = f.empty;
+        still = All-append StaysSame (a.step ∷ []) (b.step ∷ f.steps) (one_load (status_of_desc shape from) status p q a)
+            (All-append StaysSame (b.step ∷ []) f.steps (one_load word from q r b) f.still);
+        noted = λ n. some_right (λ s. Meets word c.left s × (s.placed ≡ true)) (a.step ∷ b.step ∷ []) f.steps (f.noted (noted_after shape (a.step ∷ b.step ∷ []) p r (place_at shape word) looked n));
+        ends = inr (load_finds shape word from from q r b, f.ends);
+      }
 
 module _ (M : Meaning) (o : Origin) where
   -- the count of what stands in a word has room for an uninstall

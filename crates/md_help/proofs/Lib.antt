@@ -4,5 +4,6 @@ pub mod Numbers
 pub mod Deciding
 pub mod Owns
 pub mod Ends
+pub mod Flagged
 pub mod Taking
 pub mod Finishing

@@ -1,7 +1,7 @@
 -- The numbers that a helper loads are in range.
 use Rattle.std.proofs.Common.{◌≡◌, ◌≢◌, ◌<◌, ◌^◌, ℕ, true, slice_index, sym, ap, ◌∙◌, subst, ⊎_elim, arith}
 use Rattle.md_words.specs.declared.shape.Shape.{Shape}
-use Rattle.md_words.specs.Layout.{Exists, IsInSet, address, desc_count, words_of}
+use Rattle.md_words.specs.Layout.{Exists, IsInSet, address, words_of}
 use Rattle.md_words.specs.Place.{Place, base_word, desc_status, is_counted, read_content, read_word}
 use Rattle.md_words.proofs.Places.{address_below, address_differs, address-base_word, place_at-address, words_fit}
 use Rattle.md_words.specs.PlaceAt.{IsCounted, place_at}
@@ -15,6 +15,7 @@ use Rattle.md_rule.specs.Admitted.{Admitted}
 use Rattle.md_rule.specs.Steps.{SteppedFrom}
 use Rattle.md_rule.specs.Views.{Origin}
 use Rattle.md_rule.proofs.Moves.{is_kept}
+use Rattle.md_help.specs.Reads.{IsNoStatus}
 
 -- a word of a read or a slot is a word of the field
 named_below : (shape : Shape) (x : ℕ) → NamesWord shape x → x < words_of shape
@@ -24,17 +25,17 @@ named_below shape x n = ⊎_elim (λ e. subst (λ y. y < words_of shape) (addres
 place_apart : (shape : Shape) (p q : Place) → Exists shape p → Exists shape q → p ≢ q → address shape p ≢ address shape q
 place_apart shape p q a b n = address_differs shape p q a b n
 
-pub apart_read_word : (shape : Shape) (desc i : ℕ) → IsInSet shape desc i → address shape (read_word desc i) ≢ address shape (desc_status desc)
-apart_read_word shape desc i inside = place_apart shape (read_word desc i) (desc_status desc) inside inside.0 (λ e. grind arith)
+pub apart_read_word : (shape : Shape) (desc i : ℕ) → IsInSet shape desc i → IsNoStatus shape (address shape (read_word desc i))
+apart_read_word shape desc i inside other exists = place_apart shape (read_word desc i) (desc_status other) inside exists (λ e. grind arith)
 
-pub apart_read_content : (shape : Shape) (desc i : ℕ) → IsInSet shape desc i → address shape (read_content desc i) ≢ address shape (desc_status desc)
-apart_read_content shape desc i inside = place_apart shape (read_content desc i) (desc_status desc) inside inside.0 (λ e. grind arith)
+pub apart_read_content : (shape : Shape) (desc i : ℕ) → IsInSet shape desc i → IsNoStatus shape (address shape (read_content desc i))
+apart_read_content shape desc i inside other exists = place_apart shape (read_content desc i) (desc_status other) inside exists (λ e. grind arith)
 
-apart_counted : (shape : Shape) (desc x : ℕ) → desc < desc_count shape → IsCounted shape x → x ≢ address shape (desc_status desc)
-apart_counted shape desc x h c e = absurd (false≢true (subst (λ (p : Place). is_counted p ≡ true) (ap (place_at shape) e ∙ place_at-address shape (desc_status desc) h) c.1))
+pub apart_counted : (shape : Shape) (x : ℕ) → IsCounted shape x → IsNoStatus shape x
+apart_counted shape x c desc h e = absurd (false≢true (subst (λ (p : Place). is_counted p ≡ true) (ap (place_at shape) e ∙ place_at-address shape (desc_status desc) h) c.1))
 
-apart_named : (shape : Shape) (desc x : ℕ) → desc < desc_count shape → NamesWord shape x → x ≢ address shape (desc_status desc)
-apart_named shape desc x h n = ⊎_elim (λ e k. place_apart shape base_word (desc_status desc) tt h (λ f. grind arith) (address-base_word shape ∙ sym e ∙ k)) (apart_counted shape desc x h) n
+apart_named : (shape : Shape) (x : ℕ) → NamesWord shape x → IsNoStatus shape x
+apart_named shape x n desc h = ⊎_elim (λ e k. place_apart shape base_word (desc_status desc) tt h (λ f. grind arith) (address-base_word shape ∙ sym e ∙ k)) (λ c. apart_counted shape x c desc h) n
 
 pub fits_word : (shape : Shape) (x : ℕ) → x < words_of shape → x < 2 ^ 32
 fits_word shape x h = let few = words_fit shape in omega (arith, few, h)
@@ -54,5 +55,5 @@ module _ (M : Meaning) (o : Origin) where
       named_below o.shape held (read_word_named before after word held desc i inside at (s, is))
 
   pub read_word_apart : (before after : PassView) (word held desc i : ℕ) → IsInSet o.shape desc i → word ≡ address o.shape (read_word desc i)
-      → SteppedFrom M o (λ pass. load pass word) word held before after → held ≢ address o.shape (desc_status desc)
-  read_word_apart before after word held desc i inside at s = apart_named o.shape desc held inside.0 (read_word_named before after word held desc i inside at s)
+      → SteppedFrom M o (λ pass. load pass word) word held before after → IsNoStatus o.shape held
+  read_word_apart before after word held desc i inside at s = apart_named o.shape held (read_word_named before after word held desc i inside at s)

@@ -1,5 +1,5 @@
 -- Attempts of own descriptors: nobody else begins another one, so a step finds no later status than was met.
-use Rattle.std.proofs.Common.{◌≡◌, ◌≢◌, ◌<◌, ◌≤◌, ℕ, Bool, List, [], ◌∷◌, ◌++◌, All, refl, sym, ap, ◌∙◌, subst, inl, inr, ⊎_elim, arith, le_of_eq}
+use Rattle.std.proofs.Common.{◌≡◌, ◌<◌, ◌≤◌, ℕ, Bool, List, [], ◌∷◌, ◌++◌, All, refl, sym, ap, ◌∙◌, subst, inr, ⊎_elim, arith, le_of_eq}
 use Rattle.std.specs.List.{Contains}
 use Rattle.std.proofs.lemmas.List.Elements.{All-cons, All-nil, All-weaker, Contains-append_cases, Contains-append_left, Contains-append_right, Contains-push, Contains-push_cases, All-contains}
 use Rattle.md_words.specs.declared.shape.Shape.{Shape}
@@ -12,7 +12,7 @@ use Rattle.md_machine.specs.declared.step.Step.{Step}
 use Rattle.md_machine.specs.Machine.{content, shape_of}
 use Rattle.md_machine.specs.Meaning.{Meaning}
 use Rattle.md_machine.specs.Own.{HasDesc}
-use Rattle.md_machine.specs.Trail.{Meets, SomeStep}
+use Rattle.md_machine.specs.Trail.{Meets}
 use Rattle.md_machine.specs.clauses.words.Statuses.{StatusCame, StatusesCame}
 use Rattle.md_rule.specs.Kept.{MetNoLater}
 use Rattle.md_rule.specs.Steps.{EventOf, SteppedFrom}
@@ -21,7 +21,7 @@ use Rattle.md_rule.proofs.Moves.{is_kept}
 use Rattle.md_help.specs.After.{IsAfter}
 use Rattle.md_help.specs.Clears.{fate_of}
 use Rattle.md_help.specs.Owns.{IsOwnLast, KnowsEnd}
-use Rattle.md_help.specs.Reads.{LooksOn, Validated}
+use Rattle.md_help.specs.Reads.{LoadsNoStatus, Validated}
 use Rattle.md_help.specs.Settles.{EndIs, MetStatus}
 use Rattle.md_help.specs.declared.settling.End.{End}
 use Rattle.md_help.specs.declared.settling.End.TheVariants.{Committed, Aborted, Gone}
@@ -56,7 +56,7 @@ module _ (shape : Shape) (desc : ℕ) where
 
   pub last_validated : (status reads : ℕ) (stood : Bool) (p q : PassView) → Validated shape desc reads stood p q → IsOwnLast shape p desc status → IsOwnLast shape q desc status
   last_validated status reads stood p q v = last_after status v.steps p q v.goes
-      (All-weaker (LooksOn shape desc) (IsNoLaterStep shape desc (serial_of status)) (λ s l held meets. absurd (l.1 (⊎_elim (λ f. f.there) (λ f. f.there) meets))) v.steps v.still)
+      (All-weaker (LoadsNoStatus shape) (IsNoLaterStep shape desc (serial_of status)) (λ s l held meets. absurd (l.1 desc v.exists (⊎_elim (λ f. f.there) (λ f. f.there) meets))) v.steps v.still)
 
   pub last_made : (status : ℕ) (kind : Kind) (held left : ℕ) (p q : PassView) → Made shape kind word held left p q → serial_of held ≤ serial_of status → serial_of left ≤ serial_of status
       → IsOwnLast shape p desc status → IsOwnLast shape q desc status

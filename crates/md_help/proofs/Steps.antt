@@ -86,6 +86,13 @@ trail_after shape steps p q a = ap (λ (x : PassView). x.trail) a.1
 pub load_finds : (shape : Shape) (word held left : ℕ) (p q : PassView) (m : Made shape Load word held left p q) → Loads word held m.step
 load_finds shape word held left p q m = record { kind = m.is_kind; finds = record { there = m.there; before = m.found; found = rw m.is_kind refl } }
 
+-- a load changes nothing
+abbrev pub StaysSame : Step → Type 0
+StaysSame s = s.kind ≡ Load → s.before ≡ s.after
+
+pub load_same : (shape : Shape) (word held : ℕ) (p q : PassView) (m : Made shape Load word held held p q) → m.step.before ≡ m.step.after
+load_same shape word held p q m = m.found ∙ sym m.left_it
+
 module _ (M : Meaning) (o : Origin) where
   -- the fates that a pass knew stay over a step that leaves it its lanes
   pub known_stays : (event : EventOf) (before after : PassView) → Stepped M o event before after → after.lanes ≡ before.lanes → AllStay before.known after.known

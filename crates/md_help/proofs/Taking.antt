@@ -1,7 +1,7 @@
 -- Taking a descriptor out of a word.
-use Rattle.std.proofs.Common.{◌≡◌, ◌≢◌, ◌+◌, ◌<◌, ◌≤◌, ◌^◌, ◌⊎◌, ℕ, false, List, [], ◌∷◌, ◌++◌, slice_index, refl, sym, ap, ◌∙◌, subst, inl, inr, ⊎_elim, arith, append_assoc}
+use Rattle.std.proofs.Common.{◌≡◌, ◌≢◌, ◌+◌, ◌<◌, ◌≤◌, ◌^◌, ◌⊎◌, ℕ, true, false, List, [], ◌∷◌, ◌++◌, slice_index, refl, sym, ap, ◌∙◌, subst, inl, inr, ⊎_elim, arith, append_assoc}
 use Rattle.std.specs.List.{Contains}
-use Rattle.std.proofs.lemmas.List.Elements.{Contains-append_left, Contains-append_right, Contains-push}
+use Rattle.std.proofs.lemmas.List.Elements.{All-cons, All-nil, Contains-append_left, Contains-append_right, Contains-push}
 use Rattle.md_words.specs.declared.shape.Shape.{Shape}
 use Rattle.md_words.specs.declared.content.Spot.{Spot}
 use Rattle.md_words.specs.declared.status.Status.{Status}
@@ -9,7 +9,7 @@ use Rattle.md_words.specs.declared.status.Status.TheVariants.{Aborted as IsAbort
 use Rattle.md_words.specs.Content.{count_of, is_even, spot_of, value_of}
 use Rattle.md_words.specs.Layout.{IsInSet, address}
 use Rattle.md_words.specs.Place.{slot_new}
-use Rattle.md_words.specs.PlaceAt.{IsCounted}
+use Rattle.md_words.specs.PlaceAt.{IsCounted, place_at}
 use Rattle.md_words.specs.Status.{serial_of}
 use Rattle.md_words.proofs.Words.{count_of-counted_word}
 use Rattle.md_machine.specs.declared.pass.PassView.{PassView}
@@ -19,6 +19,7 @@ use Rattle.md_machine.specs.declared.step.TheConstants.{LAST_COUNT}
 use Rattle.md_machine.specs.Event.{load, uninstall}
 use Rattle.md_machine.specs.Meaning.{Meaning}
 use Rattle.md_machine.specs.Trail.{Loads, segments}
+use Rattle.md_machine.specs.clauses.nodes.Flags.{NotesWord}
 use Rattle.md_machine.specs.clauses.words.Brackets.{MeetsOdd, NotesStanding}
 use Rattle.md_machine.specs.events.Uninstall.{HelperSaw, IsDecided, after_uninstall, desc_in, slot_by_fate, status_of_desc, uninstalled_word, value_by_fate}
 use Rattle.md_rule.specs.Steps.{May, SteppedFrom}
@@ -31,8 +32,9 @@ use Rattle.md_help.specs.After.{IsAfter}
 use Rattle.md_help.specs.Clears.{SawDecided, SawTwice, SlotLoaded, TakenOut, fate_of}
 use Rattle.md_help.specs.Settles.{FindsOther}
 use Rattle.md_help.proofs.Deciding.{lost_exchange, won_exchange}
+use Rattle.md_help.proofs.Flagged.{flags_last}
 use Rattle.md_help.proofs.Numbers.{formats_of}
-use Rattle.md_help.proofs.Steps.{Made, both_after, known_stays, load_finds, trail_after}
+use Rattle.md_help.proofs.Steps.{Made, StaysSame, both_after, known_stays, load_finds, load_same, trail_after}
 
 -- the fate of an end that isn't Committed, and that of each is decided
 pub fate_else : (e : End) → e ≢ Committed → fate_of e ≡ IsAborted
@@ -53,6 +55,7 @@ slot_loaded shape from fate f spot held value p q e s m is = subst (λ x. SlotLo
   goes = m.goes;
   held = held;
   loads = subst (λ x. Loads (address shape (slot_by_fate fate x)) held m.step) s (load_finds shape _ held held p q m);
+  same = load_same shape _ held p q m;
   is = is;
 })
 
@@ -142,9 +145,10 @@ count_apart from value fits e =
     let same = ap count_of e in
     omega (arith, is, same)
 
-pub taken_out : (shape : Shape) (word from value before left : ℕ) (fate : Status) (p q r : PassView) → (l : SlotLoaded shape from fate value p q) → Made shape Uninstall word before left q r
-    → ((before ≡ from) × (left ≡ uninstalled_word from value)) ⊎ ((before ≢ from) × (left ≡ before)) → left ≢ from → TakenOut shape word from fate left p r
-taken_out shape word from value before left fate p q r l m won empty = record {
+pub taken_out : (shape : Shape) (word from value before left : ℕ) (fate : Status) (p q r : PassView) → (l : SlotLoaded shape from fate value p q) → (m : Made shape Uninstall word before left q r)
+    → ((before ≡ from) × (left ≡ uninstalled_word from value)) ⊎ ((before ≢ from) × (left ≡ before)) → left ≢ from
+    → (NotesWord q.placed (place_at shape word) → m.step.placed ≡ true) → TakenOut shape word from fate left p r
+taken_out shape word from value before left fate p q r l m won empty flag = record {
   slot = l.slot;
   take = m.step;
   goes = both_after shape (l.slot ∷ []) (m.step ∷ []) p q r l.goes m.goes;
@@ -157,4 +161,9 @@ taken_out shape word from value before left fate p q r l m won empty = record {
     won = ⊎_elim (λ w. inl (m.found ∙ w.0, w.1 ∙ ap (uninstalled_word from) (sym l.is))) (λ w. inr ((λ e. w.0 (sym m.found ∙ e)), w.1 ∙ sym m.found)) won;
   };
   empty = empty;
+  still = All-cons StaysSame l.slot (m.step ∷ []) (λ _. l.same) (All-cons StaysSame m.step [] (λ is. absurd (no_load is)) (All-nil StaysSame));
+  noted = flags_last shape Uninstall word before left (l.slot ∷ []) p q r l.goes m flag;
 }
+  where
+    no_load : m.step.kind ≡ Load → ⊥
+    no_load e = let other = m.is_kind in cc

@@ -1,16 +1,18 @@
 -- How a descriptor is cleared out of a word.
-use Rattle.std.specs.Prelude.{◌≡◌, ◌≢◌, ℕ, List, [], ◌∷◌, ◌++◌, All, ◌⊎◌}
+use Rattle.std.specs.Prelude.{◌≡◌, ◌≢◌, ℕ, true, List, [], ◌∷◌, ◌++◌, All, ◌⊎◌}
 use Rattle.md_words.specs.declared.shape.Shape.{Shape}
 use Rattle.md_words.specs.declared.status.Status.{Status}
 use Rattle.md_words.specs.declared.status.Status.TheVariants.{Committed as IsCommitted, Aborted as IsAborted}
 use Rattle.md_words.specs.Content.{spot_of, value_of}
 use Rattle.md_words.specs.Layout.{address}
 use Rattle.md_words.specs.Place.{desc_status}
+use Rattle.md_words.specs.PlaceAt.{place_at}
 use Rattle.md_words.specs.Status.{serial_of, status_of}
 use Rattle.md_machine.specs.declared.pass.PassView.{PassView}
 use Rattle.md_machine.specs.declared.step.Step.{Step}
-use Rattle.md_machine.specs.declared.step.Kind.TheVariants.{Uninstall}
+use Rattle.md_machine.specs.declared.step.Kind.TheVariants.{Load, Uninstall}
 use Rattle.md_machine.specs.Trail.{Finds, Loads, Meets, SomeStep}
+use Rattle.md_machine.specs.clauses.nodes.Flags.{NotesWord}
 use Rattle.md_machine.specs.events.Uninstall.{FindsSerial, desc_in, slot_by_fate, status_of_desc, uninstalled_word, value_by_fate}
 use Rattle.md_help.specs.declared.settling.End.{End}
 use Rattle.md_help.specs.declared.settling.End.TheVariants.{Committed, Gone}
@@ -56,6 +58,14 @@ pub record SawDecided (shape : Shape) (view : PassView) (word from : ℕ) (fate 
   pub asked : SomeStep (FindsSerial (status_of_desc shape from) (serial_of status)) first
   pub decided : SomeStep (Meets (status_of_desc shape from) status) (first ++ again ∷ second)
 
+-- where the word is one of a node that the pass had noted, one of the steps met this there and is flagged
+abbrev pub FlagsNoted : Shape → PassView → (word held : ℕ) → List Step → Type 0
+FlagsNoted shape view word held steps = NotesWord view.placed (place_at shape word) → SomeStep (λ s. Meets word held s × (s.placed ≡ true)) steps
+
+-- no load among the steps changed anything
+abbrev pub LoadsChangeNothing : List Step → Type 0
+LoadsChangeNothing steps = All (λ s. s.kind ≡ Load → s.before ≡ s.after) steps
+
 -- the status of an attempt that ended so
 abbrev pub fate_of : End → Status
 fate_of Committed = IsCommitted
@@ -77,6 +87,8 @@ pub record TakenOut (shape : Shape) (word from : ℕ) (fate : Status) (left : �
   pub loads : Loads (address shape (slot_by_fate fate (spot_of (value_of from)))) held slot
   pub takes : TakesOut word from (value_by_fate fate held) left take
   pub empty : left ≢ from
+  pub still : LoadsChangeNothing (slot ∷ take ∷ [])
+  pub noted : FlagsNoted shape before word left (slot ∷ take ∷ [])
 
 -- the word of a slot was loaded, and the fate's value taken from it
 pub record SlotLoaded (shape : Shape) (from : ℕ) (fate : Status) (value : ℕ) (before after : PassView) : Type 0 where
@@ -84,6 +96,7 @@ pub record SlotLoaded (shape : Shape) (from : ℕ) (fate : Status) (value : ℕ)
   pub goes : IsAfter shape (slot ∷ []) before after
   pub held : ℕ
   pub loads : Loads (address shape (slot_by_fate fate (spot_of (value_of from)))) held slot
+  pub same : slot.before ≡ slot.after
   pub is : value_by_fate fate held ≡ value
 
 -- how the later steps of a clearing end. Gone: they found a later attempt's status, the last one looked at the word.
@@ -117,6 +130,8 @@ pub record Finishes (shape : Shape) (word from status : ℕ) (c : Cleared) (befo
   pub goes : IsAfter shape steps before after
   pub few : AreFew shape (desc_in from) status 4 steps
   pub empty : c.left ≢ from
+  pub still : LoadsChangeNothing steps
+  pub noted : FlagsNoted shape before word c.left steps
   pub ends : EndsLater shape word from status c.end c.left steps
 
 -- a clearing: the first step asked for the status of the descriptor, the second looked at the word again. Where another
@@ -130,5 +145,7 @@ pub record Clears (shape : Shape) (word from : ℕ) (c : Cleared) (before after 
   pub asks : Loads (status_of_desc shape from) status ask
   pub few : AreFew shape (desc_in from) status 4 steps
   pub empty : c.left ≢ from
+  pub still : LoadsChangeNothing (ask ∷ look ∷ steps)
+  pub noted : FlagsNoted shape before word c.left (ask ∷ look ∷ steps)
   pub ends : (Loads word c.left look × (c.end ≡ Gone) × (steps ≡ []))
       ⊎ (Loads word from look × EndsLater shape word from status c.end c.left steps)

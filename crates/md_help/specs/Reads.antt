@@ -1,7 +1,7 @@
 -- What steps found of the reads of an attempt.
 use Rattle.std.specs.Prelude.{◌≡◌, ◌≢◌, ◌*◌, ◌<◌, ◌≤◌, ℕ, Bool, true, false, List, All, length}
 use Rattle.md_words.specs.declared.shape.Shape.{Shape}
-use Rattle.md_words.specs.Layout.{address}
+use Rattle.md_words.specs.Layout.{address, desc_count}
 use Rattle.md_words.specs.Place.{desc_status, read_word, read_content}
 use Rattle.md_machine.specs.declared.pass.PassView.{PassView}
 use Rattle.md_machine.specs.declared.step.Step.{Step}
@@ -24,22 +24,28 @@ abbrev pub FindsReads : Shape → (desc reads : ℕ) → Bool → List Step → 
 FindsReads shape desc reads true steps = (i : ℕ) → i < reads → FindsRead shape desc i true steps
 FindsReads shape desc reads false steps = (i : ℕ) × (i < reads) × FindsRead shape desc i false steps
 
--- the step is a load, changed nothing, and isn't on the descriptor's status
-abbrev pub LooksOn : Shape → (desc : ℕ) → Step → Type 0
-LooksOn shape desc s = ((s.kind ≡ Load) × (s.before ≡ s.after)) × (s.word ≢ address shape (desc_status desc))
+-- the word is no descriptor's status
+abbrev pub IsNoStatus : Shape → (word : ℕ) → Type 0
+IsNoStatus shape word = (desc : ℕ) → desc < desc_count shape → word ≢ address shape (desc_status desc)
 
--- a pass validated so many reads: three loads each at most
+-- the step is a load, changed nothing, and isn't on a status
+abbrev pub LoadsNoStatus : Shape → Step → Type 0
+LoadsNoStatus shape s = ((s.kind ≡ Load) × (s.before ≡ s.after)) × IsNoStatus shape s.word
+
+-- a pass validated so many reads of a descriptor: three loads each at most
 pub record Validated (shape : Shape) (desc reads : ℕ) (stood : Bool) (before after : PassView) : Type 0 where
+  pub exists : desc < desc_count shape
   pub steps : List Step
   pub goes : IsAfter shape steps before after
   pub few : length steps ≤ 3 * reads
-  pub still : All (LooksOn shape desc) steps
+  pub still : All (LoadsNoStatus shape) steps
   pub finds : FindsReads shape desc reads stood steps
 
 -- the same of one read
 pub record Checked (shape : Shape) (desc i : ℕ) (stood : Bool) (before after : PassView) : Type 0 where
+  pub exists : desc < desc_count shape
   pub steps : List Step
   pub goes : IsAfter shape steps before after
   pub three : length steps ≡ 3
-  pub still : All (LooksOn shape desc) steps
+  pub still : All (LoadsNoStatus shape) steps
   pub finds : FindsRead shape desc i stood steps

@@ -9,18 +9,12 @@ use Rattle.md_words.specs.Place.{desc_status}
 use Rattle.md_words.specs.Status.{reads_of, serial_of, status_of}
 use Rattle.md_machine.specs.declared.pass.PassView.{PassView}
 use Rattle.md_machine.specs.declared.step.Step.{Step}
-use Rattle.md_machine.specs.declared.step.Kind.TheVariants.{Abort, Commit, Load}
-use Rattle.md_machine.specs.Own.{HasDesc}
+use Rattle.md_machine.specs.declared.step.Kind.TheVariants.{Abort, Commit}
 use Rattle.md_machine.specs.Trail.{Finds, Meets, SomeStep}
-use Rattle.md_machine.specs.events.Decide.{HasMet}
 use Rattle.md_help.specs.declared.settling.End.{End}
 use Rattle.md_help.specs.declared.settling.End.TheVariants.{Committed, Aborted, Gone}
 use Rattle.md_help.specs.After.{IsAfter}
-use Rattle.md_help.specs.Reads.{FindsRead}
-
--- the descriptor is of one of the pass's lanes, or a step of the pass found it standing in a counted word
-abbrev pub IsReached : Shape → PassView → (desc : ℕ) → Type 0
-IsReached shape view desc = HasDesc shape view desc ⊎ HasMet shape view desc
+use Rattle.md_help.specs.Reads.{FindsRead, LoadsNoStatus}
 
 -- a step of the last segment found or left this status
 pub record MetStatus (shape : Shape) (view : PassView) (desc status : ℕ) : Type 0 where
@@ -78,9 +72,9 @@ abbrev pub AreFew : Shape → (desc first more : ℕ) → List Step → Type 0
 AreFew shape desc first more steps = (held : ℕ) × (serial_of held ≡ serial_of first)
     × IsFound shape desc first held steps × (length steps ≤ 3 * reads_of held + more)
 
--- the step is a load and changes nothing, or it is a load, a commit or an abort of the descriptor's status
+-- the step is a load of no status and changes nothing, or it is a commit or an abort of the descriptor's status
 abbrev pub Decides : Shape → (desc : ℕ) → Step → Type 0
-Decides shape desc s = ((s.kind ≡ Load) × (s.before ≡ s.after))
+Decides shape desc s = LoadsNoStatus shape s
     ⊎ ((s.word ≡ address shape (desc_status desc)) × ((s.kind ≡ Commit) ⊎ (s.kind ≡ Abort)))
 
 -- a pass settled the attempt of a status that it had met

@@ -3,6 +3,7 @@
 #![tactic(auto)]
 
 pub use clearing::{Cleared, clear, slot_value};
+pub use reads::does_stand;
 pub use settling::{End, settle_one};
 
 mod clearing;

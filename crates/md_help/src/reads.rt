@@ -47,12 +47,12 @@ fn check<T: Theory>(field: &Field<T>, pass: &mut Pass<T>, desc: u32, i: u8) -> b
     let word = pass.load(field, field.shape().read_word(desc, i)) as u32;
     let recorded = pass.load(field, field.shape().read_content(desc, i));
     let found = pass.load(field, word);
-    stands(desc, recorded, found)
+    does_stand(desc, recorded, found)
 }
 
-// A read stands where its word holds what was recorded, or the read's own descriptor one count
-// later.
-fn stands(desc: u32, recorded: u64, found: u64) -> bool
+/// Whether a read of a descriptor stands that recorded one content, where another is found in its
+/// word: the two are the same, or the descriptor itself stands there, one count later.
+pub fn does_stand(desc: u32, recorded: u64, found: u64) -> bool
     ensures { result ≡ read_stands desc recorded found }
 {
     if found == recorded {

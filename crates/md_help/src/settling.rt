@@ -8,11 +8,12 @@ ghost use Rattle.md_words.specs.Status.{reads_of, serial_of, status_of};
 ghost use Rattle.md_machine.specs.Own.{HasDesc};
 ghost use Rattle.md_machine.specs.events.Uninstall.{IsDecided};
 ghost use Rattle.md_rule.specs.InHand.{HoldsDesc};
+ghost use Rattle.md_rule.specs.Kept.{IsReached};
 ghost use Rattle.md_rule.specs.Views.{IsOf};
 ghost use Rattle.md_help.specs.Clears.{SettlesOne};
 ghost use Rattle.md_help.specs.After.{Stands};
 ghost use Rattle.md_help.specs.Owns.{EndsOwn, IsOwnLast, KnowsEnd};
-ghost use Rattle.md_help.specs.Settles.{EndIs, IsReached, MetStatus, Settled, SettledNewer};
+ghost use Rattle.md_help.specs.Settles.{EndIs, MetStatus, Settled, SettledNewer};
 
 use crate::reads::validate;
 use md_machine::Theory;
@@ -33,12 +34,13 @@ pub enum End {
 /// a later step finds another attempt's status: never if the descriptor is of one of the pass's
 /// lanes, since nobody else begins its attempts.
 ///
-/// The descriptor exists, and is of one of the pass's lanes or was found standing in a counted
-/// word. It isn't that of the transaction in hand. It takes no memory.
+/// The descriptor exists. It is of one of the pass's lanes and an attempt of it was taken
+/// (`take_descriptor` of md_arena), or it was found standing in a counted word. It isn't that of
+/// the transaction in hand. It takes no memory.
 pub fn settle_one<T: Theory>(field: &Field<T>, pass: &mut Pass<T>, desc: u32) -> End
     requires field { IsOf pass.old field.now }
     requires exists { desc < desc_count field.now.origin.shape }
-    requires reached { IsReached field.now.origin.shape pass.old.view desc }
+    requires reached { IsReached pass.old desc }
     requires other { ¬ HoldsDesc pass.old.view desc }
     ensures same { pass.new ≡ record pass.old { view = pass.new.view } }
     ensures stands { Stands T.meaning field.now.origin pass.new.view }
@@ -57,7 +59,7 @@ pub(crate) fn settle<T: Theory>(field: &Field<T>, pass: &mut Pass<T>, desc: u32,
     requires field { IsOf pass.old field.now }
     requires stands { Stands T.meaning field.now.origin pass.old.view }
     requires exists { desc < desc_count field.now.origin.shape }
-    requires reached { IsReached field.now.origin.shape pass.old.view desc }
+    requires reached { IsReached pass.old desc }
     requires met { MetStatus field.now.origin.shape pass.old.view desc status }
     requires few { reads_of status ≤ SET }
     ensures same { pass.new ≡ record pass.old { view = pass.new.view } }
@@ -77,7 +79,7 @@ pub(crate) fn settle<T: Theory>(field: &Field<T>, pass: &mut Pass<T>, desc: u32,
 fn abort_unready<T: Theory>(field: &Field<T>, pass: &mut Pass<T>, desc: u32, status: u64) -> End
     requires field { IsOf pass.old field.now }
     requires exists { desc < desc_count field.now.origin.shape }
-    requires reached { IsReached field.now.origin.shape pass.old.view desc }
+    requires reached { IsReached pass.old desc }
     requires met { MetStatus field.now.origin.shape pass.old.view desc status }
     requires unready { status_of status ≡ InPrep }
     ensures same { pass.new ≡ record pass.old { view = pass.new.view } }
@@ -104,7 +106,7 @@ fn settle_newer<T: Theory>(
     requires field { IsOf pass.old field.now }
     requires stands { Stands T.meaning field.now.origin pass.old.view }
     requires exists { desc < desc_count field.now.origin.shape }
-    requires reached { IsReached field.now.origin.shape pass.old.view desc }
+    requires reached { IsReached pass.old desc }
     requires met { MetStatus field.now.origin.shape pass.old.view desc newer }
     requires few { reads_of newer ≤ SET }
     requires ready { serial_of newer ≡ serial_of old → status_of newer ≢ InPrep }
@@ -127,7 +129,7 @@ fn settle_ready<T: Theory>(field: &Field<T>, pass: &mut Pass<T>, desc: u32, stat
     requires field { IsOf pass.old field.now }
     requires stands { Stands T.meaning field.now.origin pass.old.view }
     requires exists { desc < desc_count field.now.origin.shape }
-    requires reached { IsReached field.now.origin.shape pass.old.view desc }
+    requires reached { IsReached pass.old desc }
     requires met { MetStatus field.now.origin.shape pass.old.view desc status }
     requires few { reads_of status ≤ SET }
     requires ready { status_of status ≢ InPrep }
@@ -150,7 +152,7 @@ fn decide<T: Theory>(field: &Field<T>, pass: &mut Pass<T>, desc: u32, status: u6
     requires field { IsOf pass.old field.now }
     requires stands { Stands T.meaning field.now.origin pass.old.view }
     requires exists { desc < desc_count field.now.origin.shape }
-    requires reached { IsReached field.now.origin.shape pass.old.view desc }
+    requires reached { IsReached pass.old desc }
     requires met { MetStatus field.now.origin.shape pass.old.view desc status }
     requires few { reads_of status ≤ SET }
     requires in_progress { status_of status ≡ InProg }

@@ -1,9 +1,7 @@
 //! Attempts that nobody goes on with are settled, on a field of the cell.
 
-ghost use Rattle.std.specs.Prelude.{◌≡◌, ◌<◌, IfOk, None, replicate};
-ghost use Rattle.md_words.specs.Layout.{desc_count};
+ghost use Rattle.std.specs.Prelude.{◌≡◌, IfOk, None, replicate};
 ghost use Rattle.md_machine.specs.Event.{first_pass};
-ghost use Rattle.md_machine.specs.Own.{HasDesc};
 ghost use Rattle.md_rule.specs.Views.{IsOf};
 
 use crate::{End, settle_one};
@@ -30,26 +28,31 @@ fn blank(alloc: Global, shape: Shape) -> Result<(Field<CellTheory>, Pass<CellThe
     Field::open(alloc, shape, words)
 }
 
-// Settles an own descriptor, while nothing is in hand.
-fn settle_own(field: &Field<CellTheory>, pass: &mut Pass<CellTheory>, desc: u32) -> End
+// Takes an attempt of the lowest lane that the pass has, if there is one left, and settles the
+// lane's descriptor.
+fn settle_next(field: &Field<CellTheory>, pass: &mut Pass<CellTheory>) -> Option<End>
     requires field { IsOf pass.old field.now }
-    requires own { (desc < desc_count field.now.origin.shape)
-        × HasDesc field.now.origin.shape pass.old.view desc }
     requires idle { pass.old.view.hand ≡ None }
     ensures field { IsOf pass.new field.now }
-    ensures own { HasDesc field.now.origin.shape pass.new.view desc }
     ensures idle { pass.new.view.hand ≡ None }
 {
-    settle_one(field, pass, desc)
+    let tries = pass.shape().tries;
+    let desc = pass.lane(0);
+    let taken = pass.tries_taken(desc);
+    if taken == tries {
+        return None;
+    }
+    pass.set_tries_taken(desc, taken + 1);
+    Some(settle_one(field, pass, desc))
 }
 
 #[test]
 fn an_attempt_that_is_not_ready_is_aborted_once(rt: HostRuntime) -> Result<(), Fail> {
     let shape = Shape::new(2, 16, 1, 4, 1, 64, 1)?;
     let (field, mut pass) = blank(rt.alloc(), shape)?;
+    assert_eq!(rt; settle_next(&field, &mut pass), Some(End::Aborted));
+    assert_eq!(rt; settle_next(&field, &mut pass), Some(End::Aborted));
     let desc = field.shape().desc_of(0);
-    assert_eq!(rt; settle_own(&field, &mut pass, desc), End::Aborted);
-    assert_eq!(rt; settle_own(&field, &mut pass, desc), End::Aborted);
     let status = field.shape().status(desc);
     assert_eq!(rt; pass.load(&field, status), 3);
     Ok(())

@@ -11,6 +11,7 @@ use Rattle.md_machine.specs.events.Uninstall.{desc_in, status_of_desc}
 use Rattle.md_rule.specs.Steps.{SteppedFrom}
 use Rattle.md_help.proofs.Deciding.{newer_few}
 use Rattle.md_help.proofs.Finishing.{clears_gone, clears_later, found_fits, saw_twice, spot_exists}
+use Rattle.md_help.proofs.Flagged.{flagged_load}
 use Rattle.md_help.proofs.Steps.{made_load, stands_made}
 use Rattle.md_help.proofs.clearing.clear.Goals as goal
 
@@ -32,7 +33,8 @@ returns-then-left-word-clause-clears g c =
     let r = c.load-left.new.self.view in
     let at = c.status.ensures.place ∙ ap (λ s. address s (desc_status c.spot_in-desc.result.desc)) c.shape.ensures ∙ ap (λ (s : Spot). address o.shape (desc_status s.desc)) c.spot_in-desc.ensures in
     let step = subst (λ w. SteppedFrom M o (λ pass. load pass w) w c.load-status.result p q) at c.load-status.ensures.step in
-    clears_gone o.shape c.args.word from c.load-status.result c.load-left.result p q r (made_load M o (status_of_desc o.shape from) c.load-status.result p q step) (made_load M o c.args.word c.load-left.result q r c.load-left.ensures.step)
+    let look = made_load M o c.args.word c.load-left.result q r c.load-left.ensures.step in
+    clears_gone o.shape c.args.word from c.load-status.result c.load-left.result p q r (made_load M o (status_of_desc o.shape from) c.load-status.result p q step) look (flagged_load M o c.args.word c.load-left.result c.load-left.result q r look c.load-left.ensures.step.0)
     (λ e. c.if-left-word.true (e ∙ sym c.word.ensures.whole))
 
 pub finish-requires-clause-stands : goal.finish-requires-clause-stands

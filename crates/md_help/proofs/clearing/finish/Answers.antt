@@ -1,12 +1,17 @@
-use Rattle.std.proofs.Common.{◌<◌, sym, subst}
+use Rattle.std.proofs.Common.{◌<◌, sym, subst, inr}
+use Rattle.md_words.specs.declared.shape.Shape.{Shape}
 use Rattle.md_words.specs.declared.content.Spot.{Spot}
 use Rattle.md_words.specs.Content.{word_of}
 use Rattle.md_words.specs.Layout.{desc_count}
 use Rattle.md_machine.specs.declared.step.Kind.TheVariants.{Load}
 use Rattle.md_machine.specs.Event.{load}
+use Rattle.md_machine.specs.events.Decide.{HasMet}
+use Rattle.md_machine.specs.events.Uninstall.{desc_in}
+use Rattle.md_rule.specs.Kept.{IsReached}
 use Rattle.md_help.specs.declared.settling.End.TheVariants.{Gone}
-use Rattle.md_help.specs.Settles.{IsReached, MetStatus, Settled}
-use Rattle.md_help.proofs.Finishing.{finishes_gone, finishes_taken, saw_decided, saw_reached, saw_status}
+use Rattle.md_help.specs.Settles.{MetStatus, Settled}
+use Rattle.md_help.proofs.Finishing.{finishes_gone, finishes_taken, saw_decided, saw_met, saw_status}
+use Rattle.md_help.proofs.Flagged.{flagged_load}
 use Rattle.md_help.proofs.Steps.{made_load, stands_made}
 use Rattle.md_help.proofs.Taking.{gone_apart}
 use Rattle.md_help.proofs.clearing.finish.Goals as goal
@@ -18,7 +23,9 @@ pub settle-end-requires-clause-reached : goal.settle-end-requires-clause-reached
 settle-end-requires-clause-reached g c =
     let shape = c.args.field.now.origin.shape in
     let p = c.args.pass.now.view in
-    subst (λ (s : Spot). IsReached shape p s.desc) (sym c.spot_in-desc.ensures) (saw_reached shape c.args.word (word_of c.args.found) c.args.status p c.requires.counted c.requires.odd c.requires.saw)
+    subst (λ (s : Spot). IsReached c.args.pass.now s.desc) (sym c.spot_in-desc.ensures)
+    (inr (subst (λ (h : Shape). HasMet h p (desc_in (word_of c.args.found))) (sym c.requires.field.shape)
+    (saw_met shape c.args.word (word_of c.args.found) c.args.status p c.requires.counted c.requires.odd c.requires.saw)))
 
 pub settle-end-requires-clause-met : goal.settle-end-requires-clause-met
 settle-end-requires-clause-met g c =
@@ -52,7 +59,8 @@ returns-in-Gone-clause-finishes g c =
     let r = c.load-left.new.self.view in
     let t = subst (λ e. Settled o.shape (c.spot_in-desc.result).desc c.args.status 2 e p q) c.in-Gone.is c.settle-end.ensures.settled in
     let s = subst (λ (s : Spot). Settled o.shape s.desc c.args.status 2 Gone p q) c.spot_in-desc.ensures t in
-    finishes_gone o.shape c.args.word from c.args.status c.load-left.result p q r s (made_load M o c.args.word c.load-left.result q r c.load-left.ensures.step)
+    let last = made_load M o c.args.word c.load-left.result q r c.load-left.ensures.step in
+    finishes_gone o.shape c.args.word from c.args.status c.load-left.result p q r s last (flagged_load M o c.args.word c.load-left.result c.load-left.result q r last c.load-left.ensures.step.0)
     (gone_apart M o c.args.word from c.args.status c.load-left.result s.steps p q r c.requires.counted c.requires.odd c.requires.saw s.goes s.ends c.load-left.ensures.step)
 
 pub returns-in_default-clause-finishes : goal.returns-in_default-clause-finishes

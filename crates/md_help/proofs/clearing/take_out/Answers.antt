@@ -6,6 +6,7 @@ use Rattle.md_machine.specs.Event.{uninstall}
 use Rattle.md_machine.specs.events.Uninstall.{uninstalled_word}
 use Rattle.md_rule.proofs.Events.{count_of_word}
 use Rattle.md_help.specs.Clears.{TakenOut, fate_of}
+use Rattle.md_help.proofs.Flagged.{flagged_uninstall}
 use Rattle.md_help.proofs.Steps.{stands_made}
 use Rattle.md_help.proofs.Taking.{count_apart, fate_decided, may_uninstall, taken_out, uninstall_lost, uninstall_won}
 use Rattle.md_help.proofs.clearing.take_out.Goals as goal
@@ -35,9 +36,11 @@ returns-in-Ok-clause-taken g c =
     let r = c.uninstall.new.self.view in
     let count = count_of_word c.args.found c.requires.fits in
     let is : c.word.result ≡ uninstalled_word from value = c.word.ensures.whole ∙ ap (λ n. counted_word value (n + 1)) (sym count) in
+    let take = uninstall_won M o c.args.word from value q r c.in-Ok.ensures.step in
     subst (λ left. TakenOut o.shape c.args.word from (fate_of c.args.end) left p r) (sym is)
-    (taken_out o.shape c.args.word from value from (uninstalled_word from value) (fate_of c.args.end) p q r c.slot_value-value.ensures.loaded (uninstall_won M o c.args.word from value q r c.in-Ok.ensures.step)
-    (inl (refl, refl)) (count_apart from value (subst (λ n. n ≤ LAST_COUNT + 1) (sym count) c.requires.fits)))
+    (taken_out o.shape c.args.word from value from (uninstalled_word from value) (fate_of c.args.end) p q r c.slot_value-value.ensures.loaded take
+    (inl (refl, refl)) (count_apart from value (subst (λ n. n ≤ LAST_COUNT + 1) (sym count) c.requires.fits))
+    (flagged_uninstall M o c.args.word from value from (uninstalled_word from value) q r take c.in-Ok.ensures.step.0))
 
 pub returns-in-Err-clause-stands : goal.returns-in-Err-clause-stands
 returns-in-Err-clause-stands g c =
@@ -60,4 +63,6 @@ returns-in-Err-clause-taken g c =
     let q = c.slot_value-value.new.pass.view in
     let r = c.uninstall.new.self.view in
     let step = c.in-Err.ensures.step in
-    taken_out o.shape c.args.word from value c.in-Err.left c.in-Err.left (fate_of c.args.end) p q r c.slot_value-value.ensures.loaded (uninstall_lost M o c.args.word from value c.in-Err.left q r step.0 step.1) (inr (step.0, refl)) step.0
+    let take = uninstall_lost M o c.args.word from value c.in-Err.left q r step.0 step.1 in
+    taken_out o.shape c.args.word from value c.in-Err.left c.in-Err.left (fate_of c.args.end) p q r c.slot_value-value.ensures.loaded take (inr (step.0, refl)) step.0
+    (flagged_uninstall M o c.args.word from value c.in-Err.left c.in-Err.left q r take step.1.0)

@@ -44,8 +44,8 @@ returns-clause-checked g c =
     let e = c.load-found.new.self.view in
     let at = c.read_word.ensures.place ∙ ap (λ s. address s (read_word c.args.desc c.args.i)) c.shape.ensures in
     let there = c.read_content.ensures.place ∙ ap (λ s. address s (read_content c.args.desc c.args.i)) c.shape-2.ensures in
-    checked o.shape c.args.desc c.args.i c.load-word.result c.load-recorded.result c.load-found.result c.stands.result a b d e
+    checked o.shape c.args.desc c.args.i c.load-word.result c.load-recorded.result c.load-found.result c.does_stand.result a b d e
     (made_load M o _ c.load-word.result a b (subst (λ w. SteppedFrom M o (λ pass. load pass w) w c.load-word.result a b) at c.load-word.ensures.step))
     (made_load M o _ c.load-recorded.result b d (subst (λ w. SteppedFrom M o (λ pass. load pass w) w c.load-recorded.result b d) there c.load-recorded.ensures.step))
     (made_load M o c.load-word.result c.load-found.result d e c.load-found.ensures.step)
-    c.requires.exists (read_word_apart M o a b c.read_word.result c.load-word.result c.args.desc c.args.i c.requires.exists at c.load-word.ensures.step) c.stands.ensures
+    c.requires.exists (read_word_apart M o a b c.read_word.result c.load-word.result c.args.desc c.args.i c.requires.exists at c.load-word.ensures.step) c.does_stand.ensures

@@ -31,5 +31,5 @@ loop-i-init g c = record {
   field = c.requires.field;
   same = refl;
   stands = c.requires.stands;
-  so_far = validated_none c.args.field.now.origin.shape c.args.desc c.args.pass.now.view;
+  so_far = validated_none c.args.field.now.origin.shape c.args.desc c.args.pass.now.view c.requires.desc;
 }

@@ -6,6 +6,7 @@ use Rattle.md_words.specs.Place.{desc_status}
 use Rattle.md_machine.specs.declared.step.Kind.TheVariants.{Abort}
 use Rattle.md_machine.specs.Event.{abort}
 use Rattle.md_machine.specs.events.Decide.{decided_word}
+use Rattle.md_rule.proofs.LaneLists.{reaches}
 use Rattle.md_help.proofs.Deciding.{abort_lost, abort_won, lost_ready, may_abort, met_made, newer_came, newer_few, reached_after}
 use Rattle.md_help.proofs.Ends.{settled_aborted, settled_newer}
 use Rattle.md_help.proofs.Reading.{validated_none}
@@ -17,7 +18,11 @@ use Rattle.md_help.proofs.settling.abort_unready.Goals as goal
 
 pub abort-requires-clause-may : goal.abort-requires-clause-may
 abort-requires-clause-may g c =
-    may_abort g.T.Theory.meaning c.args.field.now.origin c.args.pass.now.view c.args.desc c.args.status (record { exists = c.requires.exists; reached = c.requires.reached; undecided = inl c.requires.unready })
+    may_abort g.T.Theory.meaning c.args.field.now.origin c.args.pass.now.view c.args.desc c.args.status (record {
+      exists = c.requires.exists;
+      reached = reaches c.args.pass.now c.args.field.now.origin.shape c.requires.field.shape c.args.desc c.requires.exists c.requires.reached;
+      undecided = inl c.requires.unready;
+    })
 
 pub settle_newer-requires-clause-stands : goal.settle_newer-requires-clause-stands
 settle_newer-requires-clause-stands g c =
@@ -35,7 +40,7 @@ settle_newer-requires-clause-reached g c =
     let q = c.abort.new.self.view in
     let step = c.in-Err.ensures.step in
     let m = abort_lost g.T.Theory.meaning o c.args.desc c.args.status c.in-Err.newer p q step.0 step.1 in
-    reached_after o.shape (m.step ∷ []) p q c.args.desc m.goes c.requires.reached
+    reached_after o.shape (m.step ∷ []) c.args.pass.now c.abort.new.self c.args.desc c.abort.ensures.same m.goes c.requires.reached
 
 pub settle_newer-requires-clause-met : goal.settle_newer-requires-clause-met
 settle_newer-requires-clause-met g c =
@@ -70,7 +75,7 @@ returns-in-Ok-clause-settled g c =
     let p = c.args.pass.now.view in
     let q = c.abort.new.self.view in
     let m = abort_won g.T.Theory.meaning o c.args.desc c.args.status p q c.in-Ok.ensures.step in
-    settled_aborted o.shape c.args.desc c.args.status 0 2 true Abort c.args.status (decided_word IsAborted c.args.status) p p q (validated_none o.shape c.args.desc p) m (inr refl) (omega arith) (omega arith) refl refl (inl c.requires.unready)
+    settled_aborted o.shape c.args.desc c.args.status 0 2 true Abort c.args.status (decided_word IsAborted c.args.status) p p q (validated_none o.shape c.args.desc p c.requires.exists) m (inr refl) (omega arith) (omega arith) refl refl (inl c.requires.unready)
 
 pub returns-in-Err-clause-settled : goal.returns-in-Err-clause-settled
 returns-in-Err-clause-settled g c =

@@ -1,10 +1,12 @@
-use Rattle.std.proofs.Common.{inl, [], ◌∷◌, le_refl, true, false, refl, inr}
+use Rattle.std.proofs.Common.{ap, ◌∙◌, inl, [], ◌∷◌, le_refl, true, false, refl, inr}
 use Rattle.md_words.specs.declared.status.Status.TheVariants.{Committed as IsCommitted, Aborted as IsAborted}
 use Rattle.md_words.specs.Layout.{address}
 use Rattle.md_words.specs.Place.{desc_status}
 use Rattle.md_machine.specs.declared.step.Kind.TheVariants.{Abort, Commit}
 use Rattle.md_machine.specs.Event.{abort, commit}
 use Rattle.md_machine.specs.events.Decide.{decided_word}
+use Rattle.md_rule.proofs.LaneLists.{reaches}
+use Rattle.md_rule.specs.Views.{PassState}
 use Rattle.md_help.proofs.Deciding.{abort_lost, abort_won, commit_lost, commit_won, lost_decided, may_abort, may_commit, may_commit_by, met_after, moved_by, newer_came, reached_after, validated_at}
 use Rattle.md_help.proofs.Ends.{moved_read, settled_aborted, settled_committed, settled_lost}
 use Rattle.md_help.proofs.Steps.{stands_made}
@@ -78,9 +80,16 @@ abort-requires-clause-may g c =
     let v = validated_at o.shape c.args.desc c.of.result c.args.status c.validate.result false p q c.of.ensures.parts c.if-validate.false c.validate.ensures.validated in
     may_abort g.T.Theory.meaning o q c.args.desc c.args.status (record {
       exists = c.requires.exists;
-      reached = reached_after o.shape v.steps p q c.args.desc v.goes c.requires.reached;
+      reached = reaches c.validate.new.pass o.shape (ap (λ (x : PassState). x.shape) c.validate.ensures.same ∙ c.requires.field.shape) c.args.desc c.requires.exists
+          (reached_after o.shape v.steps c.args.pass.now c.validate.new.pass c.args.desc c.validate.ensures.same v.goes c.requires.reached);
       undecided = inr (moved_by o.shape p q c.args.desc c.args.status c.requires.in_progress c.requires.met v);
     })
+
+pub abort-requires-clause-reached : goal.abort-requires-clause-reached
+abort-requires-clause-reached g c =
+    let o = c.args.field.now.origin in
+    let v = c.validate.ensures.validated in
+    reached_after o.shape v.steps c.args.pass.now c.validate.new.pass c.args.desc c.validate.ensures.same v.goes c.requires.reached
 
 pub end_of-requires-in-Err-abort : goal.end_of-requires-in-Err-abort
 end_of-requires-in-Err-abort g c =

@@ -25,7 +25,7 @@ settle-requires-clause-reached g c =
     let p = c.args.pass.now.view in
     let q = c.load-status.new.self.view in
     let m = made_load g.T.Theory.meaning o c.status.result c.load-status.result p q c.load-status.ensures.step in
-    reached_after o.shape (m.step ∷ []) p q c.args.desc m.goes c.requires.reached
+    reached_after o.shape (m.step ∷ []) c.args.pass.now c.load-status.new.self c.args.desc c.load-status.ensures.same m.goes c.requires.reached
 
 pub settle-requires-clause-met : goal.settle-requires-clause-met
 settle-requires-clause-met g c =
