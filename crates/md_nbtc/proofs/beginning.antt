@@ -5,4 +5,5 @@ pub mod SlotLooks
 pub mod PutInHand
 pub mod Begun
 pub mod Leaving
+pub mod LeftOut
 pub mod Beginnings

@@ -1,7 +1,16 @@
 pub mod Given
+pub mod Looking
 pub mod Loaded
 pub mod Fields
 pub mod AloneChain
 pub mod Causes
 pub mod EvenLooks
 pub mod Halted
+pub mod Stopped
+pub mod CalmSteps
+pub mod Clearings
+pub mod ClearedLooks
+pub mod LeftLooks
+pub mod Awaited
+pub mod OwnSlots
+pub mod OwnLooks

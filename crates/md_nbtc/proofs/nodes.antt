@@ -6,3 +6,10 @@ pub mod Stores
 pub mod StoredNodes
 pub mod TookNode
 pub mod NewNode
+pub mod LotsSince
+pub mod Taking
+pub mod Freshening
+pub mod Freshened
+pub mod FreshState
+pub mod FreshSteps
+pub mod Worn

@@ -1,7 +1,11 @@
 pub mod Later
 pub mod GoingOn
 pub mod Quiet
+pub mod Out
 pub mod SameState
 pub mod Heaps
 pub mod StaysPrepared
+pub mod Calm
 pub mod StatusApart
+pub mod Carried
+pub mod Apart

@@ -7,4 +7,5 @@ pub mod MayBeReady
 pub mod Lost
 pub mod Telling
 pub mod Won
+pub mod Outcome
 pub mod Cleanups

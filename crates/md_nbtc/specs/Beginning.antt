@@ -29,21 +29,6 @@ use Rattle.md_rule.specs.Shares.{share_at}
 use Rattle.md_rule.specs.Views.{Origin, PassState}
 use Rattle.md_rule.specs.declared.shares.Share.{Share}
 
--- a pass left the status of a descriptor as it found it
-abbrev pub LeavesStatus : Shape → PassView → (desc : ℕ) → Type 0
-LeavesStatus shape view desc = EveryStepOf view (λ s. s.word ≡ address shape (desc_status desc) → s.before ≡ s.after)
-
--- of each of its lanes that began no attempt
-abbrev pub LeavesFirst : PassState → Type 0
-LeavesFirst p = (lane : ℕ) → Contains p.view.lanes lane → (share_at p.shares lane).tries_taken ≡ 0 → LeavesStatus p.shape p.view lane
-
--- LENT, until it is proved of every machine of a field: the status of a lane's first attempt is InPrep, if the lane's
--- pass never had that attempt in hand and left the status as it found it
-abbrev pub FirstIsUnready : Meaning → Origin → Type 0
-FirstIsUnready M o = (m : Machine) → Admitted M o m → (pass : ℕ) (p : PassView) → Acts m pass p → (desc : ℕ) → HasDesc o.shape p desc
-    → IsNew p (attempt_of desc 0) → LeavesStatus o.shape p desc
-    → let held = content m (address o.shape (desc_status desc)) in serial_of held ≡ 0 → status_of held ≡ InPrep
-
 -- the lane's attempt was taken last: so much is kept of the lane as it was before
 pub record IsTakenLast (p : PassState) (desc : ℕ) : Type 0 where
   pub exists : desc < desc_count p.shape
@@ -52,7 +37,6 @@ pub record IsTakenLast (p : PassState) (desc : ℕ) : Type 0 where
   pub before : ℕ
   pub taken : (share_at p.shares desc).tries_taken ≡ before + 1
   pub kept : KeepsLane p.shape p.view (record (share_at p.shares desc) { tries_taken = before }) desc
-  pub first : before ≡ 0 → LeavesStatus p.shape p.view desc
 
 -- the same numbers of nodes and of attempts were taken
 abbrev pub KeepsCounts : (old new : List Share) → Type 0

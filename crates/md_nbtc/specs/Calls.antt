@@ -2,6 +2,7 @@
 use Rattle.std.specs.Prelude.{◌≡◌, ◌==◌, ◌||◌, ◌≤◌, ◌+◌, ◌<◌, ◌⊎◌, ℕ, Bool, true, false, List, [], ◌∷◌, ◌++◌, map, Contains, Option, Some, None, Result, Ok, Err, MatchResult, length, if◌then◌else◌, nat_le, is_some}
 use Rattle.std.specs.List.{list_any}
 use Rattle.md_words.specs.declared.limits.TheConstants.{SET}
+use Rattle.md_words.specs.declared.shape.Shape.{Shape}
 use Rattle.md_words.specs.Content.{count_of, is_even}
 use Rattle.md_words.specs.Layout.{IsNode, address, words_of}
 use Rattle.md_words.specs.Place.{Place, node_key, node_next, node_value}
@@ -29,18 +30,15 @@ use Rattle.md_nbtc.specs.declared.seen.Cleanup.{Cleanup}
 use Rattle.md_nbtc.specs.declared.seen.Kind.{Kind}
 use Rattle.md_nbtc.specs.declared.seen.Kind.TheVariants.{Critical, Plain}
 use Rattle.md_nbtc.specs.declared.seen.Seen.{Seen}
+use Rattle.md_nbtc.specs.declared.seen.TheConstants.{WORN}
 use Rattle.md_nbtc.specs.declared.sets.Slot.{Slot}
 use Rattle.md_nbtc.specs.Cleaning.{CleanupsStay, MayTidyLater}
 use Rattle.md_nbtc.specs.Course.{MayEnd}
-use Rattle.md_nbtc.specs.Going.{IsGoing}
+use Rattle.md_nbtc.specs.Going.{IsFoundFirst, IsGoing}
 use Rattle.md_nbtc.specs.Known.{IsLater, KnowsPlaced}
-use Rattle.md_nbtc.specs.Seeing.{Gave, IsTidyNow, Looks, MayChange}
+use Rattle.md_nbtc.specs.Seeing.{Gave, IsTidyNow, KeepsGiven, Looks, MayChange}
 use Rattle.md_nbtc.specs.Sets.{with_new}
 use Rattle.md_nbtc.specs.State.{OwnNode, TxnState, attempt_in, installed_at, own_steps, seen_content, shape_in, writes_in}
-
--- a count from which no word is changed
-abbrev pub WORN : ℕ
-WORN = 4294967292
 
 -- the transaction goes on, with the same certificates, and is later
 pub record GoesOn (M : Meaning) (t u : TxnState) : Type 0 where
@@ -151,14 +149,22 @@ NoFresh t u s = ((s ≡ Limited Nodes) × NoLane t.pass (HasNodeLeft t.pass))
     × SomeStep (Finds (address (shape_in t) (node_next node)) held) (own_steps u)
     × (s ≡ Limited (Worn (address (shape_in t) (node_next node)) (count_of held))))
 
+-- what was given of the other words than the new node's next word stays so
+abbrev pub FreshKeepsGiven : (t u : TxnState) → Result ℕ Stop → Type 0
+FreshKeepsGiven t u result = MatchResult result (λ node. KeepsGiven t u (address (shape_in t) (node_next node))) (λ s. (other : ℕ) → KeepsGiven t u other)
+
 abbrev pub Freshened : (t u : TxnState) → (key value next : ℕ) → Result ℕ Stop → Type 0
 Freshened t u key value next result = MatchResult result (Freshens t u key value next) (λ s. Refuses t u s result × NoFresh t u s)
+
+-- the word is the next word of the node
+abbrev pub is_next_word : Shape → (word node : ℕ) → Bool
+is_next_word shape word node = word == address shape (node_next node)
 
 -- a change is a part of the transaction if it is asked for so, if the word is recorded, and if it is an own node's next
 -- word
 abbrev pub is_critical : TxnState → (word : ℕ) → Kind → Bool
 is_critical t word Critical = true
-is_critical t word Plain = is_some (content_read t.reads word) || list_any (λ n. word == address (shape_in t) (node_next n.node)) t.nodes
+is_critical t word Plain = is_some (content_read t.reads word) || list_any (is_next_word (shape_in t) word) (map (λ n. n.node) t.nodes)
 
 -- which case of an exchange applies
 pub data ExchangeCase : Type 0 where
@@ -177,10 +183,27 @@ abbrev pub case_unless_moved : (recorded_content : Option ℕ) (content : ℕ) �
 case_unless_moved (Some held) content else_case = if held == content then else_case else moved held
 case_unless_moved None content else_case = else_case
 
+-- of a word that isn't an own one
+abbrev pub case_of_other : TxnState → (word : ℕ) → Seen → (critical : Bool) → ExchangeCase
+case_of_other t word from critical = case_unless_moved (content_read t.reads word) (seen_content from) (case_by_count critical (length t.slots) from.count)
+
 abbrev pub exchange_case : TxnState → (word : ℕ) → Seen → Kind → ExchangeCase
 exchange_case t word from kind =
     if is_written (writes_in t) word then own
-    else case_unless_moved (content_read t.reads word) (seen_content from) (case_by_count (is_critical t word kind) (length t.slots) from.count)
+    else case_of_other t word from (is_critical t word kind)
+
+-- why an exchange is refused, where its case says so
+abbrev pub refusal_by : ExchangeCase → (word : ℕ) → Seen → Option Stop
+refusal_by (moved held) word from = Some (Conflict (record { word = word; was = held; now = seen_content from }))
+refusal_by no_slot word from = Some (Limited Writes)
+refusal_by worn word from = Some (Limited (Worn word from.count))
+refusal_by _ word from = None
+
+-- a step is made
+abbrev pub makes_step : ExchangeCase → Bool
+makes_step installs = true
+makes_step changes = true
+makes_step _ = false
 
 -- the change is noted for the operation
 abbrev pub with_change : Hand → (word old new : ℕ) → Hand
@@ -208,10 +231,11 @@ Exchanges changes M t u word from to result = MatchResult result
     (λ seen. (seen ≡ record { value = to; count = from.count + 2; own = false }) × (u ≡ record t { pass = u.pass }) × Looks M t u word seen)
     (λ s. Lost t u word from s result)
 
--- the condition of an exchange, by its case: a kept cleanup still fits, or the word may be changed
+-- the condition of an exchange, by its case: a kept cleanup still fits, or the word may be changed, and what was seen
+-- there was found so
 abbrev pub MayBeOf : ExchangeCase → Meaning → TxnState → (word : ℕ) → Seen → (to : ℕ) → Type 0
 MayBeOf own M t word from to = CleanupsStay t word to
-MayBeOf installs M t word from to = MayChange M t word
+MayBeOf installs M t word from to = MayChange M t word × IsFoundFirst M t word from.value
 MayBeOf changes M t word from to = MayChange M t word × IsTidyNow M t word from.value to
 MayBeOf _ M t word from to = Unit {0}
 

@@ -1,6 +1,6 @@
 -- What a transaction tidies after it has committed.
-use Rattle.std.specs.Prelude.{◌≡◌, ◌==◌, ◌-◌, ◌⊎◌, ℕ, true, false, List, [], All, Contains, Some, None, IfSome, if◌then◌else◌}
-use Rattle.md_words.specs.Layout.{address}
+use Rattle.std.specs.Prelude.{◌≡◌, ◌≢◌, ◌==◌, ◌-◌, ◌⊎◌, ℕ, true, false, List, [], map, All, Contains, Some, None, IfSome, if◌then◌else◌}
+use Rattle.md_words.specs.Layout.{IsNode, address}
 use Rattle.md_words.specs.Link.{is_marked, link_value}
 use Rattle.md_words.specs.Place.{node_next}
 use Rattle.md_words.specs.PlaceAt.{IsCounted}
@@ -17,7 +17,7 @@ use Rattle.md_nbtc.specs.declared.seen.Cleanup.TheVariants.{MoveTail, Unlink}
 use Rattle.md_nbtc.specs.declared.sets.Slot.{Slot}
 use Rattle.md_nbtc.specs.Known.{KnowsPlaced}
 use Rattle.md_nbtc.specs.Seeing.{MayChange}
-use Rattle.md_nbtc.specs.State.{TxnState, shape_in}
+use Rattle.md_nbtc.specs.State.{TxnState, shape_in, writes_in}
 
 -- the word that it will change, and the node whose next word it goes by
 abbrev pub cleanup_word : Cleanup → ℕ
@@ -28,10 +28,10 @@ abbrev pub cleanup_node : Cleanup → ℕ
 cleanup_node (Unlink prev node) = node
 cleanup_node (MoveTail tail from to) = from
 
--- what the node's next word must have then: the mark, or it names the node to which the tail is moved
+-- what the node's next word must have then: the mark, or it names the node to which the tail is moved, which isn't none
 abbrev pub FitsCleanup : Cleanup → (value : ℕ) → Type 0
 FitsCleanup (Unlink prev node) value = is_marked value ≡ true
-FitsCleanup (MoveTail tail from to) value = value ≡ link_value to false
+FitsCleanup (MoveTail tail from to) value = (value ≡ link_value to false) × (value ≢ 0)
 
 -- the value that the word gets by a value of the next word
 abbrev pub cleanup_value : Cleanup → (next : ℕ) → ℕ
@@ -70,8 +70,17 @@ pub record MayTidyLater (M : Meaning) (t : TxnState) (cs : List Certificate) (c 
   pub of : IsPlacedFor M t cs c
   pub tidies : (next : ℕ) → FitsCleanup c next → TidiesLater M t cs c next
 
+-- the node's next word is a written one whose new value fits
+pub record IsWrittenFor (t : TxnState) (c : Cleanup) : Type 0 where
+  pub exists : IsNode (shape_in t) (cleanup_node c)
+  pub write : Write
+  pub among : Contains (writes_in t) write
+  pub there : write.word ≡ address (shape_in t) (node_next (cleanup_node c))
+  pub fits : FitsCleanup c write.new
+
 -- it is kept with the slot of the node's next word, whose new value fits
 pub record IsKeptCleanup (M : Meaning) (t : TxnState) (cs : List Certificate) (w : Write) (c : Cleanup) : Type 0 where
+  pub exists : IsNode (shape_in t) (cleanup_node c)
   pub word : w.word ≡ address (shape_in t) (node_next (cleanup_node c))
   pub fits : FitsCleanup c w.new
   pub may : MayTidyLater M t cs c
@@ -83,3 +92,7 @@ CleanupsStay t word to = All (λ (s : Slot). s.write.word ≡ word → IfSome s.
 -- the slot of the word keeps the cleanup, in place of one that was kept there
 abbrev pub with_cleanup : (word : ℕ) → Cleanup → Slot → Slot
 with_cleanup word c s = if s.write.word == word then record s { cleanup = Some c } else s
+
+-- the slot of the node's next word keeps it
+abbrev pub with_cleanup_kept : TxnState → Cleanup → List Slot
+with_cleanup_kept t c = map (with_cleanup (address (shape_in t) (node_next (cleanup_node c))) c) t.slots

@@ -1,8 +1,10 @@
 -- How a transaction begins, becomes ready and ends.
-use Rattle.std.specs.Prelude.{◌≡◌, ◌==◌, ◌&&◌, ◌+◌, ◌≤◌, ◌⊎◌, ℕ, Bool, true, false, List, [], ◌∷◌, ◌++◌, map, length, All, Contains, Option, Some, None, IfSome, if◌then◌else◌}
+use Rattle.std.specs.Prelude.{◌≡◌, ◌≢◌, ◌==◌, ◌&&◌, ◌+◌, ◌≤◌, ◌⊎◌, ℕ, Bool, true, false, List, [], ◌∷◌, ◌++◌, map, length, All, Contains, Option, Some, None, IfSome, if◌then◌else◌}
+use Rattle.std.specs.List.{AllZip}
 use Rattle.md_words.specs.declared.shape.Shape.{Shape}
 use Rattle.md_words.specs.Content.{count_of, is_even, value_of}
-use Rattle.md_words.specs.Layout.{address}
+use Rattle.md_words.specs.declared.status.Status.TheVariants.{Committed as IsCommitted}
+use Rattle.md_words.specs.Layout.{IsNode, address}
 use Rattle.md_words.specs.Link.{link_value}
 use Rattle.md_words.specs.Place.{desc_status, node_next}
 use Rattle.md_words.specs.PlaceAt.{IsCounted}
@@ -14,8 +16,8 @@ use Rattle.md_machine.specs.declared.attempt.HistoryEntry.{HistoryEntry}
 use Rattle.md_machine.specs.declared.certificate.Fact.{Fact}
 use Rattle.md_machine.specs.declared.attempt.Read.{Read}
 use Rattle.md_machine.specs.declared.attempt.Write.{Write}
-use Rattle.md_machine.specs.Certified.{is_written}
 use Rattle.md_machine.specs.declared.node.Structure.{Structure}
+use Rattle.md_machine.specs.declared.node.Structure.TheVariants.{Bucket, Queue}
 use Rattle.md_machine.specs.declared.certificate.TidyChange.{TidyChange}
 use Rattle.md_machine.specs.declared.step.Kind.TheVariants.{Exchange, Load}
 use Rattle.md_machine.specs.declared.step.Step.{Step}
@@ -25,7 +27,7 @@ use Rattle.md_machine.specs.clauses.nodes.FreeNodes.{IsFreeBy}
 use Rattle.md_machine.specs.events.Exchange.{exchanged_word}
 use Rattle.md_machine.specs.Meaning.{Meaning}
 use Rattle.md_machine.specs.Moved.{Moved}
-use Rattle.md_machine.specs.Trail.{Loads, Meets, SomeStep}
+use Rattle.md_machine.specs.Trail.{Loads, Meets, SomeStep, read_stands}
 use Rattle.md_machine.specs.clauses.passes.Alone.{HoldsAll}
 use Rattle.md_machine.specs.events.Mark.{new_hand, without}
 use Rattle.md_machine.specs.events.Ready.{ready_word, unready_word}
@@ -37,10 +39,12 @@ use Rattle.md_nbtc.specs.declared.seen.Cleanup.{Cleanup}
 use Rattle.md_nbtc.specs.declared.seen.Cleanup.TheVariants.{MoveTail, Unlink}
 use Rattle.md_nbtc.specs.declared.sets.Slot.{Slot}
 use Rattle.md_nbtc.specs.declared.ending.Ready.{Ready}
-use Rattle.md_nbtc.specs.Calls.{WORN}
+use Rattle.md_nbtc.specs.declared.seen.TheConstants.{WORN}
 use Rattle.md_nbtc.specs.Cleaning.{FitsCleanup, cleanup_node, cleanup_value, cleanup_word}
 use Rattle.md_nbtc.specs.Prepared.{IsHeld, LastOn}
 use Rattle.md_nbtc.specs.Seeing.{IsNextOf}
+use Rattle.md_nbtc.specs.Withdrawing.{TakesWrite}
+use Rattle.md_nbtc.specs.Telling.{Told, read_count, write_count}
 use Rattle.md_nbtc.specs.State.{OwnNode, SameNodes, TxnState, attempt_in, own_steps, shape_in, state_of, writes_in}
 
 -- what steps and marks leave of a pass: its field, its lanes, what it answered; it made more steps, and knows more fates
@@ -115,12 +119,17 @@ pub record HasEntry (t : TxnState) : Type 0 where
   pub acts : entry.entry.acts ≡ t.hand.acts
 
 abbrev pub ready_state : {T : Type 0} → Ready T → TxnState
-ready_state t = state_of t.field.now t.pass.now t.began.value t.reads t.slots None t.desc t.serial t.lots
+ready_state t = state_of t.field.now t.pass.now t.began.value t.reads t.slots None t.desc t.serial t.tag t.lots
 
 -- a node is placed once the transaction has committed: the pass noted it, or the entry places it
 abbrev pub IsPlacedThen : (t : TxnState) → HasEntry t → (node : ℕ) → Structure → Type 0
 IsPlacedThen t e node structure = Contains t.pass.view.placed (record { node = node; structure = structure })
     ⊎ Contains e.entry.placed (record { node = node; structure = structure })
+
+-- the node of an unlink is one of a bucket then, that of a move of the tail one of a queue
+abbrev pub IsPlacedForThen : (t : TxnState) → HasEntry t → Cleanup → Type 0
+IsPlacedForThen t e (Unlink prev node) = (map : ℕ) × (bucket : ℕ) × IsPlacedThen t e node (Bucket map bucket)
+IsPlacedForThen t e (MoveTail tail from to) = (queue : ℕ) × IsPlacedThen t e from (Queue queue)
 
 -- a fact that will do then: of a placed node, and of that node's next word alone
 pub record IsFactThen (t : TxnState) (e : HasEntry t) (node next : ℕ) (f : Fact) : Type 0 where
@@ -138,11 +147,12 @@ pub record TidiesThen (M : Meaning) (t : TxnState) (e : HasEntry t) (c : Cleanup
   pub facts : All (IsFactThen t e (cleanup_node c) next) tidy.facts
 
 pub record IsReadyCleanup (M : Meaning) (t : TxnState) (e : HasEntry t) (w : Write) (c : Cleanup) : Type 0 where
+  pub exists : IsNode (shape_in t) (cleanup_node c)
   pub word : w.word ≡ address (shape_in t) (node_next (cleanup_node c))
   pub fits : FitsCleanup c w.new
   pub counted : IsCounted (shape_in t) (cleanup_word c)
   pub place : (node : ℕ) → IsNextOf t (cleanup_word c) node → (structure : Structure) × IsPlacedThen t e node structure
-  pub of : (structure : Structure) × IsPlacedThen t e (cleanup_node c) structure
+  pub of : IsPlacedForThen t e c
   pub tidies : (next : ℕ) → FitsCleanup c next → TidiesThen M t e c next
 
 -- a transaction that is ready: its last step on its status left that in progress, and its pass stands so in some machine of
@@ -182,95 +192,103 @@ shown_aborted t = record {
 abbrev pub IsShown : TxnState → (q : PassState) → Shown → Type 0
 IsShown t q shown = Moved (shape_in t) (attempt_in t) (own_steps (record t { pass = q })) shown × (¬ HoldsAll (shape_in t) q.view)
 
+-- a read that the pass found moved, which then took the status from ready to aborted by its own step
+pub record MovedRead (t : TxnState) (q : PassState) (shown : Shown) : Type 0 where
+  pub read : Read
+  pub among : Contains t.reads read
+  pub is : (shown.word ≡ read.word) × (shown.was ≡ read.content)
+  pub moved : read_stands (attempt_in t).desc read.content shown.now ≡ false
+  pub own : SomeStep (λ s. (s.word ≡ (shown_aborted t).word) × (s.before ≡ (shown_aborted t).was) × (s.after ≡ (shown_aborted t).now)) (own_steps (record t { pass = q }))
+
+-- what is shown of an aborted transaction: such a read, or else that another aborted it
+abbrev pub TellsWhy : TxnState → (q : PassState) → Shown → Type 0
+TellsWhy t q shown = MovedRead t q shown ⊎ (shown ≡ shown_aborted t)
+
 -- the word of a cleanup names its node
 abbrev pub names_node : Cleanup → (held : ℕ) → Bool
 names_node c held = is_even (count_of held) && (value_of held == link_value (cleanup_node c) false)
 
--- which words are loaded then: for an unlink the node's next word
-abbrev pub looks_of : Shape → Cleanup → List ℕ
-looks_of shape (Unlink prev node) = address shape (node_next node) ∷ []
-looks_of shape (MoveTail tail from to) = []
+-- a content of the node's next word by which a cleanup may go: with an even count, and a value that fits and isn't 0
+pub record IsReason (c : Cleanup) (held : ℕ) : Type 0 where
+  pub even : is_even (count_of held) ≡ true
+  pub fits : FitsCleanup c (value_of held)
+  pub some : value_of held ≢ 0
 
--- the last of some steps on the node's next word left a value that fits, with an even count, while the node was placed
-pub record LastFits (shape : Shape) (c : Cleanup) (steps : List Step) : Type 0 where
-  pub earlier : List Step
-  pub last : Step
-  pub later : List Step
-  pub order : steps ≡ earlier ++ last ∷ later
-  pub there : last.word ≡ address shape (node_next (cleanup_node c))
-  pub none : All (λ s. ¬ (s.word ≡ address shape (node_next (cleanup_node c)))) later
-  pub even : is_even (count_of last.after) ≡ true
-  pub fits : FitsCleanup c (value_of last.after)
-  pub placed : last.placed ≡ true
+-- a step left such a content there, while the node was placed
+abbrev pub Fits : Cleanup → Step → Type 0
+Fits c s = IsReason c s.after × (s.placed ≡ true)
 
--- the steps of a cleanup: a load of its word; if that names the node, the further loads, and one plain exchange, unless
--- the word is worn or the node's next word wasn't found as it must be
-pub record Tries (shape : Shape) (c : Cleanup) (before : List Step) (held : ℕ) (steps : List Step) : Type 0 where
+-- a load of a word
+pub record LooksAtWord (word : ℕ) (s : Step) : Type 0 where
+  pub kind : s.kind ≡ Load
+  pub there : s.word ≡ word
+  pub same : s.before ≡ s.after
+
+-- the step by which a cleanup goes: for an unlink a load of the node's next word, which is made then; for a move of the
+-- tail the step that took the descriptor out of that word
+abbrev pub GoesBy : Shape → Cleanup → (out : Step) → (looks : List Step) → Step → Type 0
+GoesBy shape (Unlink prev node) out looks s = (looks ≡ s ∷ []) × LooksAtWord (address shape (node_next node)) s
+GoesBy shape (MoveTail tail from to) out looks s = (looks ≡ []) × (s ≡ out)
+
+-- the steps of a cleanup whose word names the node: the further loads, and one plain exchange, unless the word is worn or
+-- the node's next word wasn't found or left as it must be
+pub record Tries (shape : Shape) (c : Cleanup) (out : Step) (held : ℕ) (steps : List Step) : Type 0 where
   pub looks : List Step
-  pub words : map (λ s. s.word) looks ≡ looks_of shape c
-  pub loads : All (λ s. s.kind ≡ Load) looks
-  pub ends : ((steps ≡ looks) × ((WORN ≤ count_of held) ⊎ ¬ LastFits shape c (before ++ looks)))
-      ⊎ ((last : Step) × (next : ℕ) × (steps ≡ looks ++ last ∷ []) × (last.kind ≡ Exchange) × (last.word ≡ cleanup_word c)
-      × FitsCleanup c next × (last.before ≡ held → last.after ≡ exchanged_word held (cleanup_value c next)))
+  pub by : Step
+  pub goes : GoesBy shape c out looks by
+  pub ends : ((steps ≡ looks) × ((WORN ≤ count_of held) ⊎ ¬ Fits c by))
+      ⊎ ((last : Step) × (steps ≡ looks ++ last ∷ []) × (last.kind ≡ Exchange) × (last.word ≡ cleanup_word c)
+      × Fits c by × (last.before ≡ held → last.after ≡ exchanged_word held (cleanup_value c (value_of by.after))))
 
-pub record Cleans (shape : Shape) (c : Cleanup) (before steps : List Step) : Type 0 where
+-- the steps of a cleanup: a load of its word; if that names the node, the cleanup is tried
+pub record Cleans (shape : Shape) (c : Cleanup) (out : Step) (steps : List Step) : Type 0 where
   pub first : Step
   pub rest : List Step
   pub order : steps ≡ first ∷ rest
   pub held : ℕ
   pub loads : Loads (cleanup_word c) held first
-  pub ends : ((names_node c held ≡ false) × (rest ≡ [])) ⊎ ((names_node c held ≡ true) × Tries shape c (before ++ first ∷ []) held rest)
+  pub ends : ((names_node c held ≡ false) × (rest ≡ [])) ⊎ ((names_node c held ≡ true) × Tries shape c out held rest)
 
-abbrev with_first : Option Cleanup → List Cleanup → List Cleanup
-with_first None cs = cs
-with_first (Some c) cs = c ∷ cs
+-- the steps of what a slot keeps
+abbrev pub CleansKept : Shape → Option Cleanup → (out : Step) → (steps : List Step) → Type 0
+CleansKept shape None out steps = steps ≡ []
+CleansKept shape (Some c) out steps = Cleans shape c out steps
 
--- the cleanups that are kept, in the order of their slots
-abbrev pub kept_cleanups : List Slot → List Cleanup
-kept_cleanups [] = []
-kept_cleanups (s ∷ ss) = with_first s.cleanup (kept_cleanups ss)
-
--- the steps of some cleanups, one after another
-abbrev pub CleansAll : Shape → List Cleanup → (before steps : List Step) → Type 0
-CleansAll shape [] before steps = steps ≡ []
-CleansAll shape (c ∷ cs) before steps = (first : List Step) × (rest : List Step) × (steps ≡ first ++ rest) × Cleans shape c before first × CleansAll shape cs (before ++ first) rest
+-- the cleanups that are kept, in the order of their slots, each with the step that took its slot out of its word
+abbrev pub CleansAll : Shape → List Slot → (outs steps : List Step) → Type 0
+CleansAll shape [] outs steps = steps ≡ []
+CleansAll shape (s ∷ ss) [] steps = ⊥
+CleansAll shape (s ∷ ss) (out ∷ outs) steps =
+    (first : List Step) × (rest : List Step) × (steps ≡ first ++ rest) × CleansKept shape s.cleanup out first × CleansAll shape ss outs rest
 
 -- the last fate of a list
 abbrev pub LastFate : List Fate → Fate → Type 0
 LastFate known f = (fates : List Fate) × (known ≡ fates ++ f ∷ [])
 
--- a transaction was committed: its entry was answered. After its own steps up to one that met the descriptor committed,
--- and those that took it out of its words, come the kept cleanups, and last a mark
+-- a transaction was committed: its entry was answered. After its own steps up to one that met the descriptor committed
+-- come those that took it out of its words, the kept cleanups, and last a mark
 pub record Commits (M : Meaning) (t : TxnState) (e : HasEntry t) (q : PassState) : Type 0 where
   pub down : PutDown M t q
   pub nodes : SameNodes t.pass q
   pub mine : q.view.mine ≡ t.pass.view.mine ++ e.entry.entry ∷ []
   pub committed : LastFate q.view.known Committed
   pub deciding : List Step
+  pub outs : List Step
   pub cleaning : List Step
   pub mark : Step
-  pub trail : q.view.trail ≡ t.pass.view.trail ++ (deciding ++ (cleaning ++ mark ∷ []))
+  pub trail : q.view.trail ≡ t.pass.view.trail ++ (deciding ++ (outs ++ (cleaning ++ mark ∷ [])))
   pub met : SomeStep (λ s. (held : ℕ) × Meets (address (shape_in t) (desc_status (attempt_in t).desc)) held s × (held ≡ ready_word (attempt_in t) (length t.reads) + 1)) deciding
-  pub cleans : CleansAll (shape_in t) (kept_cleanups t.slots) (t.pass.view.trail ++ deciding) cleaning
+  pub taken : AllZip (TakesWrite (attempt_in t) IsCommitted) (writes_in t) outs
+  pub cleans : CleansAll (shape_in t) t.slots outs cleaning
 
 -- it was aborted: its entry is known to be so, and it left nothing
 pub record Aborts (M : Meaning) (t : TxnState) (q : PassState) : Type 0 where
   pub stopped : Stopped M t q
   pub aborted : LastFate q.view.known Aborted
 
--- a receipt: the tag, and for each read and each write the word and the count at which it stood when the transaction
--- became ready
-pub record Told : Type 0 where
-  pub tag : ℕ
-  pub reads : List (ℕ × ℕ)
-  pub writes : List (ℕ × ℕ)
-
-abbrev pub read_count : List Write → Read → ℕ × ℕ
-read_count writes r = (r.word, if is_written writes r.word then count_of r.content + 1 else count_of r.content)
-
 abbrev pub receipt_of : TxnState → Told
 receipt_of t = record {
   tag = t.hand.tag;
   reads = map (read_count (writes_in t)) t.reads;
-  writes = map (λ (w : Write). (w.word, count_of w.old + 1)) (writes_in t);
+  writes = map write_count (writes_in t);
 }

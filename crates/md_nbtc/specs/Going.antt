@@ -1,5 +1,5 @@
 -- A transaction under way, between two calls.
-use Rattle.std.specs.Prelude.{◌≡◌, ◌⊎◌, ℕ, List, All, Contains, Some, None, IfSome}
+use Rattle.std.specs.Prelude.{◌≡◌, ◌⊎◌, ℕ, false, List, All, Contains, Some, None, IfSome}
 use Rattle.md_words.specs.Content.{value_of}
 use Rattle.md_words.specs.Layout.{IsNode}
 use Rattle.md_history.specs.declared.stops.Shown.{Shown}
@@ -11,6 +11,7 @@ use Rattle.md_machine.specs.Certified.{first_content}
 use Rattle.md_machine.specs.Meaning.{Meaning}
 use Rattle.md_machine.specs.Moved.{Moved}
 use Rattle.md_machine.specs.clauses.passes.Alone.{HoldsAll}
+use Rattle.md_nbtc.specs.declared.seen.Seen.{Seen}
 use Rattle.md_nbtc.specs.declared.sets.Slot.{Slot}
 use Rattle.md_nbtc.specs.Cleaning.{IsKeptCleanup}
 use Rattle.md_help.specs.After.{Stands}
@@ -31,6 +32,10 @@ pub record IsUnplaced (M : Meaning) (t : TxnState) (n : OwnNode) : Type 0 where
 -- was stored, or what was met
 abbrev pub IsFoundFirst : Meaning → TxnState → (word value : ℕ) → Type 0
 IsFoundFirst M t word value = ((n : OwnNode) × Contains t.nodes n × IsNextOf t word n.node × (value ≡ n.next)) ⊎ Met M t word value
+
+-- what was seen in a word that isn't an own one was found so
+abbrev pub IsFoundThere : Meaning → TxnState → (word : ℕ) → Seen → Type 0
+IsFoundThere M t word seen = seen.own ≡ false → IsFoundFirst M t word seen.value
 
 -- a stop has its cause: a conflict shows a word that moved in the transaction's own steps, and comes only if another
 -- pass is live

@@ -4,8 +4,15 @@ pub mod Prepared
 pub mod Known
 pub mod Seeing
 pub mod Course
+pub mod Telling
+pub mod Tidied
 pub mod Cleaning
 pub mod Going
+pub mod Looking
 pub mod Calls
 pub mod Ending
+pub mod Deciding
 pub mod Beginning
+pub mod Withdrawing
+pub mod Exchanging
+pub mod Withdrawn

@@ -2,20 +2,22 @@
 use Rattle.std.specs.Prelude.{◌≡◌, ◌≢◌, ◌<◌, ◌≤◌, ◌+◌, ◌⊎◌, ℕ, true, false, List, [], ◌∷◌, ◌++◌, All, Contains, Some, None, length}
 use Rattle.std.specs.List.{AllPairs}
 use Rattle.md_words.specs.declared.limits.TheConstants.{SET}
+use Rattle.md_words.specs.declared.shape.Shape.{Shape}
 use Rattle.md_words.specs.Content.{count_of, is_even, value_of}
 use Rattle.md_words.specs.Layout.{address}
-use Rattle.md_words.specs.Place.{desc_status, node_key, node_next, node_value, read_content, read_word, slot_new}
+use Rattle.md_words.specs.Place.{desc_status, node_key, node_next, node_value, read_content, read_word, slot_new, slot_old}
 use Rattle.md_words.specs.PlaceAt.{IsCounted}
 use Rattle.md_history.specs.Front.{IsPrefix}
 use Rattle.md_machine.specs.declared.attempt.AttemptId.{AttemptId}
 use Rattle.md_machine.specs.declared.attempt.Read.{Read}
 use Rattle.md_machine.specs.declared.attempt.Write.{Write}
+use Rattle.md_machine.specs.declared.pass.PassView.{PassView}
 use Rattle.md_machine.specs.declared.step.Step.{Step}
 use Rattle.md_machine.specs.Certified.{content_replaced, first_content, is_written}
 use Rattle.md_machine.specs.Machine.{is_ready}
 use Rattle.md_machine.specs.Moved.{TakesOther}
 use Rattle.md_machine.specs.Own.{HasDesc, HasNode}
-use Rattle.md_machine.specs.Trail.{LastStored, Leaves, EveryStepOf, SomeStep, SomeStepOf, StoresFor}
+use Rattle.md_machine.specs.Trail.{LastStored, Leaves, EveryStepOf, MetHigher, SomeStep, SomeStepOf, StoresFor}
 use Rattle.md_machine.specs.clauses.nodes.FreeNodes.{IsFreeBy}
 use Rattle.md_machine.specs.events.Install.{MayBeChanged, installed_word}
 use Rattle.md_machine.specs.events.Ready.{InstallsFor, unready_word}
@@ -68,14 +70,15 @@ pub record IsRecorded (t : TxnState) (i : ℕ) (r : Read) : Type 0 where
 abbrev pub InstallsFrom : AttemptId → Write → Step → Type 0
 InstallsFrom a w s = InstallsFor a w s × (s.before ≡ w.old)
 
--- a slot is installed: an own step put the descriptor into the word, no own step changed that since, and its new value
--- stands in the descriptor
+-- a slot is installed: an own step put the descriptor into the word, no own step changed that since, and its old content
+-- and its new value were stored in the descriptor
 pub record IsWritten (t : TxnState) (i : ℕ) (w : Write) : Type 0 where
   pub slot : w.slot ≡ i
   pub counted : IsCounted (shape_in t) w.word
   pub from : MayBeChanged w.old
   pub installed : SomeStep (InstallsFrom (attempt_in t) w) (own_steps t)
   pub left : LeftLast w.word (installed_word w.old (record { desc = (attempt_in t).desc; slot = w.slot })) (own_steps t)
+  pub old : LastStored t.pass.view (attempt_in t) (address (shape_in t) (slot_old (attempt_in t).desc i)) w.old
   pub new : LastStored t.pass.view (attempt_in t) (address (shape_in t) (slot_new (attempt_in t).desc i)) w.new
 
 -- something holds of each of a list, which is given with its place
@@ -95,11 +98,21 @@ pub record IsPreparedNode (t : TxnState) (n : OwnNode) : Type 0 where
       → (held : ℕ) × (value_of held ≡ n.next) × (is_even (count_of held) ≡ true)
       × LeftLast (address (shape_in t) (node_next n.node)) held t.pass.view.trail
 
--- nodes were only taken since, and of no lane above one that has a node left
+-- nodes were only taken since, of no lane above one that has a node left, of none that isn't the pass's, and of each no
+-- more than it has
 abbrev pub TakenInTurn : (before now : PassState) → Type 0
 TakenInTurn before now = ((lane : ℕ) → (share_at before.shares lane).nodes_taken ≤ (share_at now.shares lane).nodes_taken)
     × ((lane other : ℕ) → Contains before.view.lanes lane → lane < other → HasNodeLeft now lane
     → (share_at now.shares other).nodes_taken ≡ (share_at before.shares other).nodes_taken)
+    × ((lane : ℕ) → ¬ Contains before.view.lanes lane → (share_at now.shares lane).nodes_taken ≡ (share_at before.shares lane).nodes_taken)
+    × ((lane : ℕ) → (share_at before.shares lane).nodes_taken < (share_at now.shares lane).nodes_taken
+    → (share_at now.shares lane).nodes_taken ≤ now.shape.nodes)
+
+-- where an earlier attempt was installed in the next word of a node that was left when this one began, the pass met a
+-- higher count since
+abbrev pub AreOut : (began : PassState) → Shape → PassView → AttemptId → Type 0
+AreOut began shape view a = (node : ℕ) → IsLeft (record began { shape = shape }) node → EveryStepOf view (λ s. (b : AttemptId) → b ≢ a → WonInstall b s
+    → s.word ≡ address shape (node_next node) → MetHigher view s.word (count_of s.after))
 
 -- the pass has the attempt in hand, with these sets
 pub record IsHeld (t : TxnState) : Type 0 where
@@ -109,9 +122,10 @@ pub record IsHeld (t : TxnState) : Type 0 where
   pub between : t.hand.operating ≡ false → (t.hand.changes ≡ []) × (t.hand.stored ≡ [])
   pub since : IsPrefix t.began.view.trail t.pass.view.trail
   pub lanes : t.pass.view.lanes ≡ t.began.view.lanes
-  pub numbers : (t.desc ≡ (attempt_in t).desc) × (t.serial ≡ (attempt_in t).serial)
+  pub numbers : (t.desc ≡ (attempt_in t).desc) × (t.serial ≡ (attempt_in t).serial) × (t.tag ≡ t.hand.tag)
   pub taken : TakenInTurn t.began t.pass
   pub lots : t.lots ≡ lots_since t.began t.pass
+  pub out : AreOut t.began (shape_in t) t.pass.view (attempt_in t)
   -- no node that is left was stored to for the attempt
   pub stored : (node : ℕ) → IsLeft t.pass node → ¬ SomeStepOf t.pass.view (StoresFor (attempt_in t) (address (shape_in t) (node_next node)))
   pub few_reads : length t.reads ≤ SET

@@ -3,6 +3,7 @@ use Rattle.std.specs.Prelude.{◌≡◌, ◌≢◌, ◌+◌, ◌⊎◌, ℕ, tru
 use Rattle.md_words.specs.Content.{count_of, is_even}
 use Rattle.md_words.specs.Layout.{IsNode, address}
 use Rattle.md_words.specs.Place.{node_next}
+use Rattle.md_words.specs.PlaceAt.{IsCounted}
 use Rattle.md_machine.specs.declared.attempt.Read.{Read}
 use Rattle.md_machine.specs.declared.attempt.Write.{Write}
 use Rattle.md_machine.specs.declared.certificate.TidyChange.{TidyChange}
@@ -36,8 +37,9 @@ pub record SeesContent (t : TxnState) (word : ℕ) (seen : Seen) : Type 0 where
       ⊎ (Moved (shape_in t) (attempt_in t) (own_steps t) (record { word = word; was = r.content; now = seen_content seen })
       × (¬ HoldsAll (shape_in t) t.pass.view))
 
--- what a look at the word, or the last change of it, gave
+-- what a look at a counted word, or the last change of it, gave
 pub record Gave (t : TxnState) (word : ℕ) (seen : Seen) : Type 0 where
+  pub counted : IsCounted (shape_in t) word
   pub own : seen.own ≡ is_written (writes_in t) word
   pub slot : seen.own ≡ true → SeesSlot t word seen
   pub content : seen.own ≡ false → SeesContent t word seen

@@ -40,9 +40,10 @@ pub record TxnState : Type 0 where
   pub slots : List Slot
   pub nodes : List OwnNode
   pub stop : Option Stop
-  -- what the code keeps beside: its descriptor, its serial, and where its nodes begin in each lane
+  -- what the code keeps beside: its descriptor, its serial, its tag, and where its nodes begin in each lane
   pub desc : ℕ
   pub serial : ℕ
+  pub tag : ℕ
   pub lots : List Lot
 
 -- so many nodes of each lane are taken in both
@@ -89,8 +90,8 @@ abbrev pub no_hand : Hand
 no_hand = record { attempt = attempt_of 0 0; tag = 0; acts = []; operating = false; changes = []; stored = [] }
 
 -- the state of a transaction, by its parts
-abbrev pub state_of : FieldView → (pass began : PassState) → List Read → List Slot → Option Stop → (desc serial : ℕ) → List Lot → TxnState
-state_of field pass began reads slots stop desc serial lots = record {
+abbrev pub state_of : FieldView → (pass began : PassState) → List Read → List Slot → Option Stop → (desc serial tag : ℕ) → List Lot → TxnState
+state_of field pass began reads slots stop desc serial tag lots = record {
   field = field;
   pass = pass;
   began = began;
@@ -101,11 +102,12 @@ state_of field pass began reads slots stop desc serial lots = record {
   stop = stop;
   desc = desc;
   serial = serial;
+  tag = tag;
   lots = lots;
 }
 
 abbrev pub state : {T : Type 0} → Txn T → TxnState
-state t = state_of t.field.now t.pass.now t.began.value t.reads t.slots t.stop t.desc t.serial t.lots
+state t = state_of t.field.now t.pass.now t.began.value t.reads t.slots t.stop t.desc t.serial t.tag t.lots
 
 -- its shape, its attempt, and what its slots write
 abbrev pub shape_in : TxnState → Shape

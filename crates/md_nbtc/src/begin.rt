@@ -6,20 +6,19 @@ ghost use Rattle.std.specs.Prelude.{IfOk, IfErr, IsTrue};
 ghost use Rattle.std.specs.Borrow.{sem, RestsIfErr};
 ghost use Rattle.std.specs.List.{Contains};
 ghost use Rattle.md_words.specs.Content.{is_even, spot_of, word_of};
-ghost use Rattle.md_words.specs.declared.limits.TheConstants.{SET};
 ghost use Rattle.md_words.specs.Layout.{IsInSet, desc_count};
 ghost use Rattle.md_machine.specs.declared.step.TheConstants.{LAST_COUNT};
 ghost use Rattle.md_machine.specs.Own.{HasDesc};
 ghost use Rattle.md_arena.specs.Left.{HasTryLeft, NoLane};
 ghost use Rattle.md_help.specs.After.{Stands};
 ghost use Rattle.md_help.specs.Owns.{KnowsEnd};
-ghost use Rattle.md_rule.specs.Kept.{KeepsLanes};
+ghost use Rattle.md_rule.specs.Kept.{IsReached, KeepsLanes};
 ghost use Rattle.md_rule.specs.Shares.{share_at};
 ghost use Rattle.md_rule.specs.Views.{IsOf};
 ghost use Rattle.md_rule.specs.contracts.pass.Pass.{the_row};
 ghost use Rattle.md_nbtc.specs.Beginning.{Empties, FindsDecided, FindsNew, IsEmptied};
-ghost use Rattle.md_nbtc.specs.Beginning.{FirstIsUnready, PassesCount, PutsInHand, StandsOwn};
-ghost use Rattle.md_nbtc.specs.Beginning.{IsTakenLast, KeepsCounts, LeavesFirst, TakesSlot};
+ghost use Rattle.md_nbtc.specs.Beginning.{PassesCount, PutsInHand, StandsOwn};
+ghost use Rattle.md_nbtc.specs.Beginning.{IsTakenLast, KeepsCounts, TakesSlot};
 ghost use Rattle.md_nbtc.specs.Ending.{Begins, BeginsNot};
 ghost use Rattle.md_nbtc.specs.Going.{IsGoing};
 ghost use Rattle.md_nbtc.specs.State.{state, state_of};
@@ -31,7 +30,7 @@ use md_help::{End, settle_one, slot_value};
 use md_history::Limit;
 use md_machine::Theory;
 use md_rule::{Field, Pass};
-use md_words::{Content, SET, Status, StatusWord};
+use md_words::{Content, Status, StatusWord};
 use std::snapshot::Snapshot;
 
 // What a pass keeps of its lanes.
@@ -47,6 +46,7 @@ fn settled_status<T: Theory>(pass: &mut Pass<T>, field: &Field<T>, desc: u32) ->
     requires idle { pass.old.view.hand ≡ None }
     requires exists { desc < desc_count field.now.origin.shape }
     requires own { HasDesc field.now.origin.shape pass.old.view desc }
+    requires reached { IsReached pass.old desc }
     ensures same { pass.new ≡ record pass.old { view = pass.new.view } }
     ensures finds { FindsDecided field.now.origin.shape desc result pass.old.view pass.new.view }
 {
@@ -61,6 +61,7 @@ fn decided_status<T: Theory>(pass: &mut Pass<T>, field: &Field<T>, desc: u32) ->
     requires idle { pass.old.view.hand ≡ None }
     requires exists { desc < desc_count field.now.origin.shape }
     requires own { HasDesc field.now.origin.shape pass.old.view desc }
+    requires reached { IsReached pass.old desc }
     ensures same { pass.new ≡ record pass.old { view = pass.new.view } }
     ensures finds { FindsDecided field.now.origin.shape desc result pass.old.view pass.new.view }
 {
@@ -93,7 +94,6 @@ fn restart<T: Theory>(pass: &mut Pass<T>, field: &Field<T>, desc: u32) -> u64
 
 // At the lane's first attempt: its descriptor serves it from the beginning. One step.
 fn first_serial<T: Theory>(pass: &mut Pass<T>, field: &Field<T>, desc: u32) -> u64
-    requires lent { FirstIsUnready T.meaning field.now.origin }
     requires of { IsOf pass.old field.now }
     requires idle { pass.old.view.hand ≡ None }
     requires taken { IsTakenLast pass.old desc }
@@ -147,17 +147,6 @@ fn take_slot_out<T: Theory>(pass: &mut Pass<T>, field: &Field<T>, desc: u32, slo
     }
 }
 
-// How many slots of the lane's descriptor are to be looked at.
-fn slots_of<T: Theory>(pass: &Pass<T>, lane: u32) -> u8
-    requires { Contains pass.now.view.lanes lane }
-    ensures fits { result ≤ SET }
-    ensures all { (slot : ℕ) → slot < (share_at pass.now.shares lane).slots_written → slot < SET
-        → slot < result }
-{
-    let slots = pass.slots_written(lane);
-    if slots < SET { slots } else { SET }
-}
-
 // Settles the last transaction of the lane, which was dropped, and takes its descriptor out of the
 // words that it wrote.
 fn take_slots_out<T: Theory>(pass: &mut Pass<T>, field: &Field<T>, desc: u32)
@@ -168,7 +157,7 @@ fn take_slots_out<T: Theory>(pass: &mut Pass<T>, field: &Field<T>, desc: u32)
     ensures empty { Empties field.now.origin.shape desc pass.old.view pass.new.view }
 {
     let end = settle_one(field, pass, desc);
-    let slots = slots_of(pass, desc);
+    let slots = pass.slots_written(desc) as u8;
     for slot in 0..slots {
         take_slot_out(pass, field, desc, slot, end);
     }
@@ -189,7 +178,6 @@ fn take_left_out<T: Theory>(pass: &mut Pass<T>, field: &Field<T>, desc: u32)
 
 // The serial of the lane's next attempt, which its descriptor serves then.
 fn next_serial<T: Theory>(pass: &mut Pass<T>, field: &Field<T>, desc: u32) -> u64
-    requires lent { FirstIsUnready T.meaning field.now.origin }
     requires of { IsOf pass.old field.now }
     requires stands { Stands T.meaning field.now.origin pass.old.view }
     requires idle { pass.old.view.hand ≡ None }
@@ -207,7 +195,6 @@ fn next_serial<T: Theory>(pass: &mut Pass<T>, field: &Field<T>, desc: u32) -> u6
 
 // Puts the lane's next attempt in hand. Its serial.
 fn put_in_hand<T: Theory>(pass: &mut Pass<T>, field: &Field<T>, desc: u32, tag: u64) -> u64
-    requires lent { FirstIsUnready T.meaning field.now.origin }
     requires of { IsOf pass.old field.now }
     requires stands { Stands T.meaning field.now.origin pass.old.view }
     requires idle { pass.old.view.hand ≡ None }
@@ -229,24 +216,16 @@ impl<'a, T: Theory> Txn<'a, T> {
     /// taken out of the words that it wrote; its nodes stay taken. The answer is `Limit::Tries`
     /// exactly if each lane has begun all of its attempts. It takes no memory.
     ///
-    /// Callers would have to know that the status of a lane's first attempt is as it was opened
-    /// (`lent`), and that the pass left it so (`first`).
-    ///
     /// Three steps at a lane's first attempt, and four later ones. After a dropped transaction, at
     /// most `3r + 3` more, `r` being its reads, and at most four for each word that it wrote; three
     /// more if an attempt was taken and never put in hand.
-    pub(crate) fn begin(
-        pass: &'a mut Pass<T>,
-        field: &'a Field<T>,
-        tag: u64,
-    ) -> Result<Txn<'a, T>, Limit>
-        requires lent { FirstIsUnready T.meaning field.now.origin }
+    pub fn begin(pass: &'a mut Pass<T>, field: &'a Field<T>, tag: u64) -> Result<Txn<'a, T>, Limit>
         requires of { IsOf pass.old field.now }
-        requires first { LeavesFirst pass.old }
         ensures* refused { sem 𝓛 (RestsIfErr (the_row T.row T.Theory) pass.entry
             (λ t. t.pass.ghost_name) result
             (λ q. BeginsNot T.meaning pass.old field.now.origin q)) }
         ensures pass { IfOk result (λ t. t.pass.ghost_name ≡ pass.entry.ghost_name) }
+        ensures field { IfOk result (λ t. (state t).field ≡ field.now) }
         ensures begun { IfOk result (λ t. Begins pass.old tag (state t)) }
         ensures going { IfOk result (λ t. IsGoing T.meaning (state t) []) }
         ensures none { (result ≡ Err Limit.Tries) ↔ NoLane pass.old (HasTryLeft pass.old) }
@@ -260,7 +239,7 @@ impl<'a, T: Theory> Txn<'a, T> {
         };
         let began = Snapshot::of(&*pass);
         let serial = put_in_hand(pass, field, desc, tag);
-        Ok(Txn::over(pass, field, began, desc, serial))
+        Ok(Txn::over(pass, field, began, desc, serial, tag))
     }
 
     fn over(
@@ -269,10 +248,11 @@ impl<'a, T: Theory> Txn<'a, T> {
         began: Snapshot<Pass<T>>,
         desc: u32,
         serial: u64,
+        tag: u64,
     ) -> Txn<'a, T>
         ensures pass { result.pass.ghost_name ≡ pass.entry.ghost_name }
         ensures state { state result
-            ≡ state_of field.now pass.old began.value [] [] None desc serial [] }
+            ≡ state_of field.now pass.old began.value [] [] None desc serial tag [] }
     {
         Txn {
             pass,
@@ -280,6 +260,7 @@ impl<'a, T: Theory> Txn<'a, T> {
             began,
             desc,
             serial,
+            tag,
             reads: Reads::new(),
             slots: Slots::new(),
             lots: Lots::new(),

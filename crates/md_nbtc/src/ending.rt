@@ -1,9 +1,25 @@
 //! How a transaction ends.
 
+ghost use Rattle.std.specs.Prelude.{◌≡◌, ◌<◌, ◌^◌, None, IfErr, IfOk, MatchResult, false};
+ghost use Rattle.md_words.specs.declared.status.Status.TheVariants.{InPrep, InProg};
+ghost use Rattle.md_words.specs.Status.{status_word};
+ghost use Rattle.md_nbtc.specs.Ending.{Aborts, Commits, HasEntry, IsReady, IsShown, Readies, Stopped};
+ghost use Rattle.md_nbtc.specs.Ending.{TellsWhy, receipt_of};
+ghost use Rattle.md_nbtc.specs.Ending.{ready_state, shown_unready};
+ghost use Rattle.md_nbtc.specs.Going.{IsUnderWay};
+ghost use Rattle.md_nbtc.specs.State.{state};
+
+use crate::deciding::{settle, validate};
+use crate::receipt::Receipt;
 use crate::sets::{Lots, Reads, Slots};
+use crate::tidying::finish;
+use crate::txn::Txn;
+use crate::withdrawal::withdraw;
 use md_history::Shown;
-use md_machine::Theory;
+use md_machine::{AttemptId, Theory};
 use md_rule::{Field, Pass};
+use md_words::{Status, StatusWord};
+use std::marker::Brand;
 use std::snapshot::Snapshot;
 
 /// A transaction that is ready: it has its place in the history.
@@ -14,6 +30,7 @@ pub struct Ready<'a, T: Theory> {
     pub(crate) began: Snapshot<Pass<T>>,
     pub(crate) desc: u32,
     pub(crate) serial: u64,
+    pub(crate) tag: u64,
     pub(crate) reads: Reads,
     pub(crate) slots: Slots,
     pub(crate) lots: Lots,
@@ -27,13 +44,144 @@ pub struct Refused<'a, T: Theory> {
     pub shown: Shown,
 }
 
-/// What a committed transaction had: its tag, and for each read and each write the word with the
-/// count at which it stood when the transaction became ready.
-#[derive(Drop)]
-pub struct Receipt {
-    tag: u64,
-    reads: [(u32, u32); 128],
-    read_count: u8,
-    writes: [(u32, u32); 128],
-    write_count: u8,
+impl<'a, T: Theory> Txn<'a, T> {
+    /// Makes the transaction ready: it joins the history, by certificates of its operations. No
+    /// operation is begun, and none of its calls was answered by a stop.
+    ///
+    /// It is refused exactly if another had aborted it. It is stopped then as by `stop`, and what
+    /// is shown is its status word, before and after the abort; another pass is live. The refusal
+    /// holds the pass until it is dropped. It takes no memory.
+    ///
+    /// One step. If it is refused, one more, and one for each word that it wrote.
+    pub fn ready(self) -> Result<Ready<'a, T>, Refused<'a, T>>
+        requires going { IsUnderWay T.meaning (state self) }
+        requires between { (state self).hand.operating ≡ false }
+        requires runs { (state self).stop ≡ None }
+        ensures pass { MatchResult result
+            (λ r. r.pass.ghost_name ≡ self.entry.pass.ghost_name)
+            (λ r. r.pass.ghost_name ≡ self.entry.pass.ghost_name) }
+        ensures ready { IfOk result (λ r. IsReady T.meaning (ready_state r)
+            × Readies (state self.entry) (ready_state r)) }
+        ensures refused { IfErr result (λ r. Stopped T.meaning (state self.entry) r.pass.now
+            × (r.shown ≡ shown_unready (state self.entry))
+            × IsShown (state self.entry) r.pass.now r.shown) }
+    {
+        let about = Snapshot::of(&self);
+        let Txn {
+            pass,
+            field,
+            began,
+            desc,
+            serial,
+            tag,
+            reads,
+            slots,
+            lots,
+            stop: _,
+        } = self;
+        let from = unready(serial);
+        match pass.ready::<Brand, _>(field, desc, from, reads.len(), about) {
+            Ok(()) => Ok(Ready {
+                pass,
+                field,
+                began,
+                desc,
+                serial,
+                tag,
+                reads,
+                slots,
+                lots,
+            }),
+            Err(found) => {
+                withdraw(
+                    pass,
+                    field,
+                    AttemptId { desc, serial },
+                    &slots,
+                    &lots,
+                    &began,
+                );
+                let shown = Shown {
+                    word: field.shape().status(desc),
+                    was: from,
+                    now: found,
+                };
+                Err(Refused { pass, shown })
+            }
+        }
+    }
+}
+
+// The status word of an attempt that isn't ready.
+fn unready(serial: u64) -> u64
+    requires { serial < 2 ^ 54 }
+    ensures { result ≡ status_word InPrep 0 serial }
+{
+    StatusWord {
+        status: Status::InPrep,
+        reads: 0,
+        serial,
+    }
+    .word()
+}
+
+impl<'a, T: Theory> Ready<'a, T> {
+    /// Decides the transaction: it validates its reads, and commits or aborts it. Another may have
+    /// done so before; its decision stands then. The descriptor is taken out of the words that the
+    /// transaction wrote, which have their new values after a commit and their old ones after an
+    /// abort. After a commit the kept cleanups are made, in the order of their slots, and the
+    /// receipt is returned. After an abort the nodes are given back, and what is shown is the read
+    /// that didn't stand, with its recorded and its found content, or the status word before and
+    /// after another's abort. A transaction is aborted only while another pass is live. It takes
+    /// no memory.
+    ///
+    /// One step for each read, up to the first that doesn't stand, one for the decision, one for
+    /// each word that was written, at most three for each kept cleanup, and one more.
+    pub fn decide(self) -> Result<Receipt, Shown>
+        requires { IsReady T.meaning (ready_state self) }
+        ensures committed { IfOk result (λ receipt. (e : HasEntry (ready_state self.entry))
+            × Commits T.meaning (ready_state self.entry) e self.exit.0.now
+            × (receipt ≡ receipt_of (ready_state self.entry))) }
+        ensures aborted { IfErr result (λ shown. Aborts T.meaning (ready_state self.entry) self.exit.0.now
+            × IsShown (ready_state self.entry) self.exit.0.now shown
+            × TellsWhy (ready_state self.entry) self.exit.0.now shown) }
+    {
+        let Ready {
+            pass,
+            field,
+            began,
+            desc,
+            serial,
+            tag,
+            reads,
+            slots,
+            lots,
+        } = self;
+        let attempt = AttemptId { desc, serial };
+        let moved = validate(pass, field, desc, &reads);
+        let from = in_progress(reads.len(), serial);
+        match settle(pass, field, attempt, from, moved) {
+            Ok(()) => {
+                finish(pass, field, attempt, &slots);
+                Ok(Receipt::of(tag, &reads, &slots))
+            }
+            Err(shown) => {
+                withdraw(pass, field, attempt, &slots, &lots, &began);
+                Err(shown)
+            }
+        }
+    }
+}
+
+// The status word of an attempt that is ready.
+fn in_progress(reads: u8, serial: u64) -> u64
+    requires { serial < 2 ^ 54 }
+    ensures { result ≡ status_word InProg reads serial }
+{
+    StatusWord {
+        status: Status::InProg,
+        reads,
+        serial,
+    }
+    .word()
 }

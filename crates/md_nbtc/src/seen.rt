@@ -1,5 +1,8 @@
 //! What a transaction sees of a word, and how it changes one.
 
+// A word with this count, or a higher one, isn't changed any more.
+pub(crate) const WORN: u32 = 4_294_967_292;
+
 /// What a word stands for, as a transaction saw it.
 #[derive(Clone, Copy, Debug, PartialEq, Eq)]
 pub struct Seen {

@@ -1,11 +1,14 @@
 //! The words that a transaction recorded and those that it changes, in order, and where its nodes
 //! begin. A set has room for as many words as a transaction may have, and is searched in turn.
 
-ghost use Rattle.std.specs.Prelude.{◌≡◌, ◌<◌, [], ◌∷◌, ◌++◌, length, get_or};
+ghost use Rattle.std.specs.Prelude.{◌≡◌, ◌==◌, ◌<◌, [], ◌∷◌, ◌++◌, length, get_or, map, None};
+ghost use Rattle.std.specs.Prelude.{false};
+ghost use Rattle.std.specs.List.{list_any};
 ghost use Rattle.md_words.specs.declared.limits.TheConstants.{SET};
 ghost use Rattle.md_machine.specs.Certified.{content_read};
-ghost use Rattle.md_nbtc.specs.declared.sets.TheConstants.{NO_READ, NO_SLOT};
-ghost use Rattle.md_nbtc.specs.Sets.{place_of};
+ghost use Rattle.md_nbtc.specs.declared.sets.TheConstants.{NO_LOT, NO_READ, NO_SLOT};
+ghost use Rattle.md_nbtc.specs.Cleaning.{with_cleanup};
+ghost use Rattle.md_nbtc.specs.Sets.{place_of, renewed_at, with_lot};
 
 use crate::seen::Cleanup;
 use md_machine::{Read, Write};
@@ -29,11 +32,33 @@ const NO_SLOT: Slot = Slot {
     cleanup: None,
 };
 
+const NO_LOT: Lot = Lot { lane: 0, first: 0 };
+
 /// A word that the transaction changes, and what is tidied afterwards.
 #[derive(Clone, Copy)]
 pub struct Slot {
     pub write: Write,
     pub cleanup: Option<Cleanup>,
+}
+
+impl Slot {
+    // A slot of a number, for a word with this old content and a new value.
+    pub(crate) fn of(slot: u8, word: u32, old: u64, to: u32) -> Slot
+        ensures { result ≡ record {
+          write = record { slot = slot; word = word; old = old; new = to };
+          cleanup = None;
+        } }
+    {
+        Slot {
+            write: Write {
+                slot,
+                word,
+                old,
+                new: to as u64,
+            },
+            cleanup: None,
+        }
+    }
 }
 
 /// The recorded words with what was found there.
@@ -159,6 +184,26 @@ impl Slots {
         self.items[self.count as usize] = slot;
         self.count += 1;
     }
+
+    // Keeps a cleanup with the slot of a word.
+    pub(crate) fn keep(&mut self, word: u32, cleanup: Cleanup)
+        ensures { self.new ≡ map (with_cleanup word cleanup) self.old }
+    {
+        for i in 0..self.count {
+            let slot = self.items[i as usize];
+            if slot.write.word == word {
+                self.items[i as usize].cleanup = Some(cleanup);
+            }
+        }
+    }
+
+    // The slot at a place gets another new value.
+    pub(crate) fn set_new(&mut self, i: u8, to: u32)
+        requires { i < length self.old }
+        ensures { self.new ≡ renewed_at i to self.old }
+    {
+        self.items[i as usize].write.new = to as u64;
+    }
 }
 
 /// The nodes of a lane from this place on are the transaction's.
@@ -191,8 +236,44 @@ impl Lots {
         ensures { result ≡ [] }
     {
         Lots {
-            items: [Lot { lane: 0, first: 0 }; 64],
+            items: [NO_LOT; 64],
             count: 0,
+        }
+    }
+
+    pub(crate) fn len(&self) -> u8
+        ensures { result ≡ length self.now }
+    {
+        self.count
+    }
+
+    pub(crate) fn get(&self, i: u8) -> Lot
+        requires { i < length self.now }
+        ensures { result ≡ get_or self.now i NO_LOT }
+    {
+        self.items[i as usize]
+    }
+
+    // Whether a lane gave nodes.
+    fn has(&self, lane: u32) -> bool
+        ensures { result ≡ list_any (λ l. l.lane == lane) self.now }
+    {
+        for i in 0..self.count {
+            if self.items[i as usize].lane == lane {
+                return true;
+            }
+        }
+        false
+    }
+
+    // Keeps where the nodes of a lane begin, unless it is known.
+    pub(crate) fn keep(&mut self, lot: Lot)
+        requires { list_any (λ l. l.lane == lot.lane) self.old ≡ false → length self.old < 64 }
+        ensures { self.new ≡ with_lot self.old lot }
+    {
+        if !self.has(lot.lane) {
+            self.items[self.count as usize] = lot;
+            self.count += 1;
         }
     }
 }

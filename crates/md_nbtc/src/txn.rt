@@ -13,6 +13,7 @@ use crate::sets::{Lots, Reads, Slots};
 use md_history::{Op, Reply, Stop};
 use md_machine::Theory;
 use md_rule::{Field, Pass};
+use md_words::Shape;
 use std::snapshot::Snapshot;
 
 /// A transaction under way.
@@ -24,6 +25,7 @@ pub struct Txn<'a, T: Theory> {
     pub(crate) began: Snapshot<Pass<T>>,
     pub(crate) desc: u32,
     pub(crate) serial: u64,
+    pub(crate) tag: u64,
     pub(crate) reads: Reads,
     pub(crate) slots: Slots,
     pub(crate) lots: Lots,
@@ -31,6 +33,13 @@ pub struct Txn<'a, T: Theory> {
 }
 
 impl<'a, T: Theory> Txn<'a, T> {
+    /// The numbers of its field. No step.
+    pub fn shape(&self) -> &Shape
+        ensures { result.now ≡ shape_in (state self.now) }
+    {
+        self.field.shape()
+    }
+
     /// Begins an operation. None is begun yet. One step.
     pub fn start_op(&mut self)
         requires going { IsUnderWay T.meaning (state self.old) }

@@ -1,5 +1,5 @@
 -- A transaction begins: its parts, put together.
-use Rattle.std.proofs.Common.{◌≡◌, ◌+◌, ◌<◌, ℕ, List, [], ◌∷◌, ◌++◌, false, Ok, Err, MatchResult, length, refl, sym, ap, ◌∙◌, subst}
+use Rattle.std.proofs.Common.{◌≡◌, ◌+◌, ◌<◌, ℕ, List, [], ◌∷◌, ◌++◌, false, None, Ok, Err, MatchResult, length, refl, sym, ap, ◌∙◌, subst}
 use Rattle.std.specs.List.{Contains}
 use Rattle.std.proofs.lemmas.List.{append-nil}
 use Rattle.md_history.specs.Front.{AllStay}
@@ -12,6 +12,10 @@ use Rattle.md_machine.specs.Machine.{attempt_of, was_begun}
 use Rattle.md_machine.specs.Meaning.{Meaning}
 use Rattle.md_machine.specs.Own.{HasDesc}
 use Rattle.md_machine.specs.events.Mark.{new_hand}
+use Rattle.md_machine.specs.clauses.nodes.EvenNexts.{AllTakenOut}
+use Rattle.md_words.specs.Layout.{address}
+use Rattle.md_words.specs.Place.{node_next}
+use Rattle.md_rule.specs.Kept.{IsLeft}
 use Rattle.md_rule.specs.Shares.{share_at}
 use Rattle.md_rule.specs.Steps.{Stepped}
 use Rattle.md_rule.specs.Views.{FieldView, IsOf, PassState}
@@ -43,7 +47,8 @@ same_over p q r a b = record {
 
 module _ (M : Meaning) (field : FieldView) (p q r s : PassState) (desc tag serial : ℕ) (leave : q ≡ record p { view = q.view }) (step : Stepped M field.origin (λ pass. mark_leave pass) p.view q.view)
     (takes : TakesDesc q desc r) (fits : desc < length q.shares) (rest : s ≡ record r { view = s.view; shares = s.shares }) (counts : KeepsCounts r.shares s.shares)
-    (h : PutsInHand M field.origin desc tag serial r.view s.view) (of : IsOf s field) (own : HasDesc field.origin.shape r.view desc) where
+    (h : PutsInHand M field.origin desc tag serial r.view s.view) (of : IsOf s field) (own : HasDesc field.origin.shape r.view desc)
+    (idle : r.view.hand ≡ None) (free : (node : ℕ) → IsLeft (record r { shape = field.origin.shape }) node → AllTakenOut r.view (address field.origin.shape (node_next node))) where
   pub nodes : SameNodes r s
   nodes lane = (counts lane).0
 
@@ -51,7 +56,7 @@ module _ (M : Meaning) (field : FieldView) (p q r s : PassState) (desc tag seria
   t = begun M field r s desc tag serial of own nodes h
 
   held : IsHeld t
-  held = is_held M field r s desc tag serial of own nodes h
+  held = is_held M field r s desc tag serial of own nodes h idle free
 
   hand : t.hand ≡ new_hand (attempt_of desc serial) tag
   hand = is_hand M field r s desc tag serial of own nodes h

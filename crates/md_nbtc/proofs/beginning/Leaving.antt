@@ -25,7 +25,7 @@ use Rattle.md_rule.proofs.Told.{told_leave}
 use Rattle.md_history.specs.Front.{AllStay}
 use Rattle.md_help.specs.After.{Stands}
 use Rattle.md_help.proofs.Steps.{known_stays, stands_after}
-use Rattle.md_nbtc.specs.Beginning.{IsTakenLast, LeavesStatus}
+use Rattle.md_nbtc.specs.Beginning.{IsTakenLast}
 use Rattle.md_nbtc.specs.Ending.{BeginsNot, IsSamePass}
 
 module _ (M : Meaning) (o : Origin) (p q : PassView) (step : Stepped M o (λ pass. mark_leave pass) p q) where
@@ -37,18 +37,6 @@ module _ (M : Meaning) (o : Origin) (p q : PassView) (step : Stepped M o (λ pas
 
   pub lanes_left : q.lanes ≡ p.lanes
   lanes_left = ap (λ (x : PassView). x.lanes) told
-
-  pub leaves_left : (shape : Shape) (desc : ℕ) → LeavesStatus shape p desc → LeavesStatus shape q desc
-  leaves_left shape desc leaves segment c s i = ⊎_elim
-      (λ (old : Contains q.past segment). leaves segment (Contains-append_left p.past (p.trail ∷ []) segment (subst (λ l. Contains l segment) (ap (λ (x : PassView). x.past) told) old)) s i)
-      (λ (last : q.trail ≡ segment). ⊎_elim
-      (λ old. leaves p.trail (Contains-push p.past p.trail) s old)
-      (λ new e. subst (λ (x : Step). x.before ≡ x.after) (one_of mark s new) refl)
-      (Contains-append_cases p.trail (mark ∷ []) s (subst (λ l. Contains l s) (sym last ∙ ap (λ (x : PassView). x.trail) told) i)))
-      (Contains-push_cases q.past q.trail segment c)
-    where
-      one_of : (x s : Step) → Contains (x ∷ []) s → x ≡ s
-      one_of x s c = ⊎_elim (λ e. e) (λ n. absurd (in_none s n)) (in_cons x [] s c)
 
   pub left_same : (before after : PassState) → before.view ≡ p → after ≡ record before { view = q } → IsSamePass before after
   left_same before after was is = record {
@@ -79,8 +67,8 @@ share_taken shares desc n fits = get_or-set_same shares desc (record (share_at s
 
 -- so the attempt was taken last
 pub taken_last : (p q : PassState) (desc : ℕ) → HasDesc p.shape p.view desc → KeepsLanes p.shape p.view p.shares → length p.shares ≡ 64
-    → TakesDesc p desc q → ((share_at p.shares desc).tries_taken ≡ 0 → LeavesStatus p.shape p.view desc) → IsTakenLast q desc
-taken_last p q desc own kept size takes leaves =
+    → TakesDesc p desc q → IsTakenLast q desc
+taken_last p q desc own kept size takes =
     let exists = own_desc_exists p.shape own.0 desc own.2 in
     let n = (share_at p.shares desc).tries_taken in
     let same = share_taken p.shares desc (n + 1) (subst (λ k. desc < k) (sym size) (desc_fits p.shape desc exists)) in
@@ -91,5 +79,4 @@ taken_last p q desc own kept size takes leaves =
       before = n;
       taken = ap (λ (s : Share). s.tries_taken) same;
       kept = subst (λ (s : Share). KeepsLane p.shape p.view (record s { tries_taken = n }) desc) (sym same) (kept desc takes.0.held);
-      first = leaves;
     })

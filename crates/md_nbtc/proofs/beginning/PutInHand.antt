@@ -28,7 +28,8 @@ use Rattle.md_machine.specs.events.Mark.{after_mark_begin, marked, new_hand}
 use Rattle.md_machine.specs.events.Ready.{unready_word}
 use Rattle.md_machine.proofs.clauses.passes.BegunNoLater.{later_is_new, new_is_first}
 use Rattle.md_rule.specs.Admitted.{Admitted}
-use Rattle.md_rule.specs.Kept.{IsNew, KeepsLane}
+use Rattle.md_rule.specs.Kept.{IsNew, KeepsLane, LeavesStatus}
+use Rattle.md_rule.proofs.FirstAttempts.{first_fit}
 use Rattle.md_rule.specs.Shares.{after_begin, share_at}
 use Rattle.md_rule.specs.Steps.{EventOf, May, Stepped, SteppedFrom}
 use Rattle.md_rule.specs.Views.{Origin}
@@ -40,7 +41,7 @@ use Rattle.md_help.specs.After.{IsAfter, Stands}
 use Rattle.md_help.proofs.Numbers.{formats_of}
 use Rattle.md_help.proofs.Owns.{last_loaded}
 use Rattle.md_help.proofs.Steps.{both_after, made_load, stands_after, stands_made, trail_after}
-use Rattle.md_nbtc.specs.Beginning.{FindsNew, FirstIsUnready, IsBehind, KeepsCounts, LeavesStatus, PutsInHand}
+use Rattle.md_nbtc.specs.Beginning.{FindsNew, IsBehind, KeepsCounts, PutsInHand}
 use Rattle.md_nbtc.proofs.beginning.Starting.{present_is, ready_out}
 
 -- putting in hand changes no number of a share
@@ -98,9 +99,9 @@ module _ (M : Meaning) (o : Origin) (desc : ℕ) (exists : desc < desc_count o.s
   }
 
   -- at the first attempt the status is found as it was at the beginning
-  pub first_new : (p q : PassView) (found : ℕ) (share : Share) → FirstIsUnready M o → p.hand ≡ None → HasDesc o.shape p desc → KeepsLane o.shape p share desc → share.tries_taken ≡ 0
-      → LeavesStatus o.shape p desc → SteppedFrom M o (λ pass. load pass status) status found p q → FindsNew M o desc (serial_of found) p q
-  first_new p q found share lent idle own kept none leaves step =
+  pub first_new : (p q : PassView) (found : ℕ) (share : Share) → p.hand ≡ None → HasDesc o.shape p desc → KeepsLane o.shape p share desc → share.tries_taken ≡ 0
+      → SteppedFrom M o (λ pass. load pass status) status found p q → FindsNew M o desc (serial_of found) p q
+  first_new p q found share idle own kept none step =
       let s = step.0 in
       let m = s.machine in
       let k = is_kept M o m s.admitted in
@@ -116,11 +117,13 @@ module _ (M : Meaning) (o : Origin) (desc : ℕ) (exists : desc < desc_count o.s
       (λ l. absurd (omega (arith, l, none)))
       (kept.serials x.0 x.1 x.2.0 x.2.1 it.0 (subst (λ (h : Shape). Meets (address h (desc_status desc)) it.0 x.2.0) s.admitted.shape it.1)))
       (k.own_serials s.pass p s.acts.at desc own_m) in
-      let unready : status_of found ≡ InPrep = subst (λ x. status_of x ≡ InPrep) step.1 (lent m s.admitted s.pass p s.acts desc own new leaves (ap serial_of step.1 ∙ zero)) in
+      let first = new_is_first m k s.pass p s.acts.at (attempt_of desc 0) own_m (record { pending = new.pending; steps = new.steps }) in
+      let leaves = subst (λ (h : Shape). LeavesStatus h p desc) (sym s.admitted.shape) (kept.untouched none) in
+      let unready : status_of found ≡ InPrep = subst (λ x. status_of x ≡ InPrep) (ap (λ (h : Shape). content m (address h (desc_status desc))) s.admitted.shape ∙ step.1)
+      ((first_fit M o m s.admitted).unready s.pass p s.acts.at desc own_m first (now ∙ zero) leaves) in
       let fits = subst (StatusFits o.shape) step.1 ((formats_of M o m s.admitted).status desc exists) in
       let is : found ≡ unready_word (attempt_of desc (serial_of found)) = sym (status_word-parts found)
       ∙ ap (λ x. status_word x (reads_of found) (serial_of found)) unready ∙ ap (λ n. status_word InPrep n (serial_of found)) (fits.unready unready) in
-      let first = new_is_first m k s.pass p s.acts.at (attempt_of desc 0) own_m (record { pending = new.pending; steps = new.steps }) in
       let begun : s.next.begun ≡ m.begun = ap (λ (x : Machine). x.begun) s.does.3 in
       let later = later_is_new s.next (is_kept M o s.next (next_admitted M o event p q s)) s.pass q s.knows (attempt_of desc 0)
       (λ was. false≢true (sym first ∙ ap (λ bs. was_begun bs (attempt_of desc 0)) (sym begun) ∙ was)) in record {

@@ -75,8 +75,17 @@ drop_first [] ys = refl
 drop_first (x ∷ xs) ys = drop_first xs ys
 
 -- a trail is its first part and the steps after it
-own_rest : (began trail : List Step) → IsPrefix began trail → trail ≡ began ++ drop (length began) trail
+pub own_rest : (began trail : List Step) → IsPrefix began trail → trail ≡ began ++ drop (length began) trail
 own_rest began trail since = since.is ∙ ap (λ l. began ++ l) (sym (ap (drop (length began)) since.is ∙ drop_first began since.rest))
+
+-- a content that is recorded of a word that isn't an own one was left there by an own step, and is even
+pub recorded_left : (t : TxnState) → IsPrepared t → (word : ℕ) → is_written (writes_in t) word ≡ false → (r : Read) → Contains t.reads r → r.word ≡ word
+    → (is_even (count_of r.content) ≡ true) × LeftThere (attempt_in t).desc word r.content (own_steps t)
+recorded_left t prepared word none r among there =
+    let x = (each_in (IsRecorded t) 0 t.reads prepared.has.reads r among).3 in
+    let unreplaced : content_replaced (writes_in t) r.word ≡ None =
+    ap (content_replaced (writes_in t)) there ∙ none_is _ (sym (written_replaced (writes_in t) word) ∙ none) in
+    (x.even, subst (λ w. LeftThere (attempt_in t).desc w r.content (own_steps t)) there (x.left unreplaced))
 
 -- in a chain a step that changes nothing finds what was left there
 pub left_finds : (desc word held : ℕ) (began own : List Step) (s : Step) → ChainsFrom [] (began ++ (own ++ s ∷ [])) → LeftThere desc word held own
@@ -173,10 +182,8 @@ module _ (M : Meaning) (t : TxnState) (prepared : IsPrepared t) (q : PassView) (
       let below = at.2 in
       let x = at.3 in
       let desc = own_desc_exists (shape_in t) prepared.has.own.0 a.desc prepared.has.own.2 in
-      let unreplaced : content_replaced (writes_in t) r.word ≡ None =
-      ap (content_replaced (writes_in t)) there ∙ none_is _ (sym (written_replaced (writes_in t) word) ∙ none) in
       ⊎_elim inl
-      (λ differ. inr (moved_so r.content differ (subst (λ w. LeftThere a.desc w r.content (own_steps t)) there (x.left unreplaced))
+      (λ differ. inr (moved_so r.content differ (recorded_left t prepared word none r among there).1
       (inl (at.0, (desc, omega (arith, below, few)), subst (λ w. SomeStep (λ s. StoresFor a (address (shape_in t) (read_word a.desc at.0)) s × (s.after ≡ w)) (own_steps t ++ made.step ∷ [])) there (some_then _ x.shown)))))
       (cases_eq r.content found)
 

@@ -1,5 +1,5 @@
 -- What a look at a word gives that isn't an own one, where one load finds an even content.
-use Rattle.std.proofs.Common.{◌≡◌, ◌++◌, ◌∷◌, ℕ, true, false, List, [], length, drop, refl, sym, ap, ◌∙◌, subst, inl, inr, is_some, arith}
+use Rattle.std.proofs.Common.{◌≡◌, ◌++◌, ◌∷◌, ℕ, true, false, List, [], refl, sym, ap, ◌∙◌, subst, inl, inr, is_some, arith}
 use Rattle.std.proofs.lemmas.Bool.{true≢false}
 use Rattle.std.proofs.lemmas.List.Elements.{All-contains, Contains-append_left, Contains-push}
 use Rattle.std.specs.List.{Contains}
@@ -18,7 +18,7 @@ use Rattle.md_machine.specs.Event.{load}
 use Rattle.md_machine.specs.LogicalHeap.{LogicalHeap}
 use Rattle.md_machine.specs.Machine.{Machine, content, shape_of}
 use Rattle.md_machine.specs.Meaning.{KeepsFacts, Lawful, Meaning}
-use Rattle.md_machine.specs.Stepping.{is_of_placed, step_of}
+use Rattle.md_machine.specs.Stepping.{is_of_placed}
 use Rattle.md_machine.specs.Trail.{Finds, Meets}
 use Rattle.md_machine.specs.clauses.nodes.OwnWords.{LastLeft}
 use Rattle.md_machine.specs.events.Exchange.{FoundNext}
@@ -26,26 +26,20 @@ use Rattle.md_rule.specs.Steps.{SteppedFrom}
 use Rattle.md_rule.specs.Views.{FieldView}
 use Rattle.md_rule.proofs.Moves.{is_kept, is_meant}
 use Rattle.md_rule.proofs.Told.{told_load}
+use Rattle.md_help.proofs.Flagged.{flag_is as step_flag}
 use Rattle.md_nbtc.specs.declared.seen.Seen.{Seen}
 use Rattle.md_nbtc.specs.Going.{IsGoing}
 use Rattle.md_nbtc.specs.Known.{Met}
 use Rattle.md_nbtc.specs.Prepared.{IsPreparedNode, LeftLast}
 use Rattle.md_nbtc.specs.Seeing.{Gave, IsInPlace, IsNextOf, Looks}
 use Rattle.md_nbtc.specs.State.{OwnNode, TxnState, shape_in, writes_in}
-use Rattle.md_nbtc.proofs.looks.Causes.{after_load, drop_first, made, seen_there, sees_content, whole}
+use Rattle.md_nbtc.proofs.looks.Causes.{after_load, made, seen_there, sees_content, whole}
 use Rattle.md_nbtc.proofs.preparing.Heaps.{heap_there, later_self}
 use Rattle.md_nbtc.proofs.ready.Nodes.{last_left, node_own, not_placed}
 
-abbrev first_or : Step → List Step → Step
-first_or d [] = d
-first_or d (x ∷ xs) = x
-
-last_same : (xs : List Step) (x y : Step) → xs ++ x ∷ [] ≡ xs ++ y ∷ [] → x ≡ y
-last_same xs x y e = ap (first_or x) (sym (drop_first xs (x ∷ [])) ∙ ap (drop (length xs)) e ∙ drop_first xs (y ∷ []))
-
 module _ (M : Meaning) (lawful : Lawful M) (t : TxnState) (cs : List Certificate) (going : IsGoing M t cs) (q : PassView) (word found : ℕ)
     (step : SteppedFrom M t.field.origin (λ pass. load pass word) word found t.pass.view q) (counted : IsCounted (shape_in t) word)
-    (none : is_written (writes_in t) word ≡ false) (even : is_even (count_of found) ≡ true) where
+    (none : is_written (writes_in t) word ≡ false) where
   abbrev m : Machine
   m = step.0.machine
 
@@ -63,37 +57,25 @@ module _ (M : Meaning) (lawful : Lawful M) (t : TxnState) (cs : List Certificate
 
   -- the step's flag tells whether the node of the word is placed
   flag_is : the.placed ≡ is_of_placed m (place_at (shape_of m) word)
-  flag_is = ap (λ (s : Step). s.placed) (last_same t.pass.view.trail the (step_of m t.pass.view Load word (content m word))
-      (sym trail_is ∙ ap (λ (x : PassView). x.trail) (told_load M t.field.origin t.pass.view q word step.0)))
+  flag_is = step_flag (shape_in t) m Load word found found (content m word) t.pass.view q (made M t going.prepared q word found step) (told_load M t.field.origin t.pass.view q word step.0)
 
-  next_place : (node : ℕ) → IsNextOf t word node → place_at (shape_in t) word ≡ node_next node
+  pub next_place : (node : ℕ) → IsNextOf t word node → place_at (shape_in t) word ≡ node_next node
   next_place node is = ap (place_at (shape_in t)) is.1 ∙ place_at-address (shape_in t) (node_next node) is.0
 
-  next_of : (node : ℕ) → place_at (shape_in t) word ≡ node_next node → IsNextOf t word node
+  pub next_of : (node : ℕ) → place_at (shape_in t) word ≡ node_next node → IsNextOf t word node
   next_of node is =
       let at = address-place_at (shape_in t) word counted.0 in
       (subst (Exists (shape_in t)) is at.0, sym at.1 ∙ ap (address (shape_in t)) is)
 
-  flagged : IsInPlace M t word → (node : ℕ) → IsNextOf t word node → the.placed ≡ true
+  -- so in place it is flagged
+  pub flagged : IsInPlace M t word → (node : ℕ) → IsNextOf t word node → the.placed ≡ true
   flagged place node is =
       let known = place node is in
       flag_is ∙ ap (is_of_placed m) (ap (λ (x : Shape). place_at x word) step.0.admitted.shape ∙ next_place node is)
       ∙ ap is_some (known.1 t (later_self t) going.prepared _ (heap_there M lawful t m step.0.admitted step.0.pass step.0.acts))
 
-  abbrev u : TxnState
-  u = after_load M t going.prepared q word found step
-
-  abbrev seen : Seen
-  seen = seen_there M t going.prepared q word found step
-
-  gave : Gave u word seen
-  gave = record {
-    own = sym none;
-    slot = λ own. absurd (true≢false (sym own));
-    content = λ _. sees_content M t going.prepared q word found step none even;
-  }
-
-  own_next : (n : OwnNode) → Contains t.nodes n → IsNextOf t word n.node → value_of found ≡ n.next
+  -- in an own node's next word it finds an even content, with the value that was stored
+  pub own_next : (n : OwnNode) → Contains t.nodes n → IsNextOf t word n.node → (value_of found ≡ n.next) × (is_even (count_of found) ≡ true)
   own_next n among is =
       let k = is_kept M t.field.origin m step.0.admitted in
       let shape = step.0.admitted.shape in
@@ -109,50 +91,66 @@ module _ (M : Meaning) (lawful : Lawful M) (t : TxnState) (cs : List Certificate
       (subst (λ l. LastLeft (node_next n.node) w (content m w) l) left.order stands) left.leaves.there
       (ap (λ c. is_even (count_of c)) left.leaves.after ∙ held.2)
       (λ x c there. All-contains (λ s. s.word ≡ w → s.before ≡ s.after) left.later x left.unchanged c there) in
-      ap value_of (sym step.1 ∙ ap (content m) (is.1 ∙ same) ∙ now ∙ left.leaves.after) ∙ held.1
+      let is_held = sym step.1 ∙ ap (content m) (is.1 ∙ same) ∙ now ∙ left.leaves.after in
+      (ap value_of is_held ∙ held.1, ap (λ c. is_even (count_of c)) is_held ∙ held.2)
 
-  met : IsInPlace M t word → Met M u word (value_of found)
-  met place v over prepared h of =
-      let shape : shape_of of.machine ≡ shape_in t = of.admitted.shape ∙ ap (λ (f : FieldView). f.origin.shape) over.field in
-      let there : Contains v.pass.view.trail the = subst (λ l. Contains l the) (sym over.steps.is) (Contains-append_left q.trail over.steps.rest the inside) in
-      let was = (is_meant M v.field.origin lawful of.machine of.admitted).was_in of.pass v.pass.view of.acts.at v.pass.view.trail
-      (Contains-push v.pass.view.past v.pass.view.trail) the there word found (record {
-        counted = subst (λ s. IsCounted s word) (sym shape) counted;
-        even = even;
-        met = inl finds;
-        flagged = λ node is. flagged place node (next_of node (ap (λ (s : Shape). place_at s word) (sym shape) ∙ is));
-      }) in record {
-        heap = was.heap;
-        valid = was.valid;
-        shape = was.shape ∙ sym (ap (λ (x : LogicalHeap). x.words.shape) of.is);
-        is = was.is;
-        rooted = was.rooted;
-        facts = subst (KeepsFacts was.heap) (sym of.is) (was.facts of.choice of.resolves);
-      }
+  module _ (even : is_even (count_of found) ≡ true) where
+    abbrev u : TxnState
+    u = after_load M t going.prepared q word found step
 
-  found_next : IsInPlace M t word → (node : ℕ) → IsNextOf t word node → FoundNext (shape_in t) q node (value_of found)
-  found_next place node is = (
-    found,
-    refl,
-    even,
-    (
-      q.trail,
-      Contains-push q.past q.trail,
+    abbrev seen : Seen
+    seen = seen_there M t going.prepared q word found step
+
+    gave : Gave u word seen
+    gave = record {
+      counted = counted;
+      own = sym none;
+      slot = λ own. absurd (true≢false (sym own));
+      content = λ _. sees_content M t going.prepared q word found step none even;
+    }
+
+    met : IsInPlace M t word → Met M u word (value_of found)
+    met place v over prepared h of =
+        let shape : shape_of of.machine ≡ shape_in t = of.admitted.shape ∙ ap (λ (f : FieldView). f.origin.shape) over.field in
+        let there : Contains v.pass.view.trail the = subst (λ l. Contains l the) (sym over.steps.is) (Contains-append_left q.trail over.steps.rest the inside) in
+        let was = (is_meant M v.field.origin lawful of.machine of.admitted).was_in of.pass v.pass.view of.acts.at v.pass.view.trail
+        (Contains-push v.pass.view.past v.pass.view.trail) the there word found (record {
+          counted = subst (λ s. IsCounted s word) (sym shape) counted;
+          even = even;
+          met = inl finds;
+          flagged = λ node is. flagged place node (next_of node (ap (λ (s : Shape). place_at s word) (sym shape) ∙ is));
+        }) in record {
+          heap = was.heap;
+          valid = was.valid;
+          shape = was.shape ∙ sym (ap (λ (x : LogicalHeap). x.words.shape) of.is);
+          is = was.is;
+          rooted = was.rooted;
+          facts = subst (KeepsFacts was.heap) (sym of.is) (was.facts of.choice of.resolves);
+        }
+
+    found_next : IsInPlace M t word → (node : ℕ) → IsNextOf t word node → FoundNext (shape_in t) q node (value_of found)
+    found_next place node is = (
+      found,
+      refl,
+      even,
       (
-        the,
-        inside,
-        (subst (λ w. Meets w found the) is.1 (inl finds), flagged place node is),
+        q.trail,
+        Contains-push q.past q.trail,
+        (
+          the,
+          inside,
+          (subst (λ w. Meets w found the) is.1 (inl finds), flagged place node is),
+        ),
       ),
-    ),
-  )
+    )
 
-  pub looks : Looks M t u word seen
-  looks = record {
-    gave = gave;
-    steps = the ∷ [];
-    trail = trail_is;
-    now = (the, (0, omega arith, refl), subst (λ c. Meets word c the) (sym (whole found)) (inl finds));
-    own_node = λ _. own_next;
-    met = λ _. met;
-    found = λ _. found_next;
-  }
+    pub looks : Looks M t u word seen
+    looks = record {
+      gave = gave;
+      steps = the ∷ [];
+      trail = trail_is;
+      now = (the, (0, omega arith, refl), subst (λ c. Meets word c the) (sym (whole found)) (inl finds));
+      own_node = λ _ n among is. (own_next n among is).0;
+      met = λ _. met;
+      found = λ _. found_next;
+    }

@@ -31,6 +31,7 @@ module _ (t : TxnState) (pass : PassState) (steps : List Step) (own : own_steps 
 
   pub gave_same : (word : ℕ) (seen : Seen) → All (λ s. s.word ≡ word → s.before ≡ s.after) steps → Gave t word seen → Gave stepped word seen
   gave_same word seen same g = record {
+    counted = g.counted;
     own = g.own;
     slot = λ is. slot_same word seen (g.slot is);
     content = λ is. content_same word seen same (g.content is);

@@ -46,6 +46,7 @@ module _ (t : TxnState) (prepared : IsPrepared t) (kept_stop : Stop) where
     from = x.from;
     installed = x.installed;
     left = x.left;
+    old = x.old;
     new = x.new;
   }
 
@@ -64,6 +65,7 @@ module _ (t : TxnState) (prepared : IsPrepared t) (kept_stop : Stop) where
       numbers = h.numbers;
       taken = h.taken;
       lots = h.lots;
+      out = h.out;
       stored = h.stored;
       few_reads = h.few_reads;
       few_writes = h.few_writes;
@@ -124,6 +126,7 @@ module _ (t : TxnState) (prepared : IsPrepared t) (kept_stop : Stop) where
 
     kept_halted : (cs : List Certificate) (w : Write) (c : Cleanup) → IsKeptCleanup M t cs w c → IsKeptCleanup M halted cs w c
     kept_halted cs w c k = record {
+      exists = k.exists;
       word = k.word;
       fits = k.fits;
       may = record {

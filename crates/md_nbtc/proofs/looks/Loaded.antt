@@ -112,23 +112,23 @@ module _ (M : Meaning) (t : TxnState) (prepared : IsPrepared t) (q : PassView) (
       (ap (λ (x : PassView). x.lanes) made.goes.1) w seen (one (λ s. s.word ≡ w → s.before ≡ s.after) (λ _. look.same))
 
 -- what contracts see of the transaction then
-module _ (M : Meaning) (field : FieldView) (p : PassState) (began : PassState) (reads : List Read) (slots : List Slot) (stop : Option Stop) (desc serial : ℕ) (lots : List Lot) where
+module _ (M : Meaning) (field : FieldView) (p : PassState) (began : PassState) (reads : List Read) (slots : List Slot) (stop : Option Stop) (desc serial tag : ℕ) (lots : List Lot) where
   abbrev before : TxnState
-  before = state_of field p began reads slots stop desc serial lots
+  before = state_of field p began reads slots stop desc serial tag lots
 
   module _ (pass : PassState) (same : pass ≡ record p { view = pass.view }) (word result : ℕ)
       (step : SteppedFrom M field.origin (λ x. load x word) word result p.view pass.view) where
     abbrev after : TxnState
-    after = state_of field pass began reads slots stop desc serial lots
+    after = state_of field pass began reads slots stop desc serial tag lots
 
     made_so : Made field.origin.shape Load word result result p.view pass.view
     made_so = made_load M field.origin word result p.view pass.view step
 
     pub loaded_is : after ≡ record before { pass = pass }
-    loaded_is = subst (λ (x : PassState). state_of field x began reads slots stop desc serial lots ≡ record before { pass = x }) (sym same)
+    loaded_is = subst (λ (x : PassState). state_of field x began reads slots stop desc serial tag lots ≡ record before { pass = x }) (sym same)
         (same_state field.origin.shape p pass.view (made_so.step ∷ []) made_so.goes
         (All-cons IsQuiet made_so.step [] (look_quiet made_so.step (record { kind = made_so.is_kind; same = made_so.found ∙ sym made_so.left_it })) (All-nil IsQuiet))
-        field began reads slots stop desc serial lots)
+        field began reads slots stop desc serial tag lots)
 
     pub loaded_so : after ≡ record before { pass = record p { view = pass.view } }
     loaded_so = loaded_is ∙ ap (λ (x : PassState). record before { pass = x }) same

@@ -100,7 +100,7 @@ module _ (M : Meaning) (t : TxnState) (pass : PassState) (lots : List Lot) (n : 
     }
 
     kept_more : (cs : List Certificate) (w : Write) (c : Cleanup) → IsKeptCleanup M t cs w c → IsKeptCleanup M grown cs w c
-    kept_more cs w c k = record { word = k.word; fits = k.fits; may = tidy_more cs c k.may }
+    kept_more cs w c k = record { exists = k.exists; word = k.word; fits = k.fits; may = tidy_more cs c k.may }
 
     unplaced_more : (n : OwnNode) → IsUnplaced M t n → IsUnplaced M grown n
     unplaced_more n u = record {

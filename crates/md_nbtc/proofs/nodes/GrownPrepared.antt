@@ -8,7 +8,7 @@ use Rattle.md_words.specs.declared.limits.TheConstants.{SET}
 use Rattle.md_words.specs.declared.shape.Shape.{Shape}
 use Rattle.md_words.specs.Lanes.{OwnsNode}
 use Rattle.md_words.specs.Layout.{Exists, IsNode, address, desc_count}
-use Rattle.md_words.specs.Place.{Place, desc_status, node_key, node_next, node_value, read_content, read_word, slot_new}
+use Rattle.md_words.specs.Place.{Place, desc_status, node_key, node_next, node_value, read_content, read_word, slot_new, slot_old}
 use Rattle.md_words.proofs.Owners.{own_desc_exists, own_node_exists}
 use Rattle.md_words.proofs.Places.{place_at-address}
 use Rattle.md_words.specs.PlaceAt.{place_at}
@@ -19,6 +19,7 @@ use Rattle.md_machine.specs.declared.step.Step.{Step}
 use Rattle.md_machine.specs.declared.step.Kind.TheVariants.{Install, Load, Store}
 use Rattle.md_machine.specs.Machine.{is_ready}
 use Rattle.md_machine.specs.Own.{HasNode, IsWordOf}
+use Rattle.md_machine.specs.Stepping.{attempt_in_hand}
 use Rattle.md_machine.specs.Trail.{LastStored, StoresFor, segments}
 use Rattle.md_machine.specs.clauses.nodes.FreeNodes.{IsFreeBy}
 use Rattle.md_machine.specs.events.Start.{WonInstall}
@@ -36,6 +37,7 @@ use Rattle.md_nbtc.specs.State.{OwnNode, TxnState, attempt_in, lots_since, own_s
 use Rattle.md_nbtc.proofs.preparing.GoingOn.{own_grows}
 use Rattle.md_nbtc.proofs.ready.Lookups.{all_of}
 use Rattle.md_nbtc.proofs.looks.Loaded.{IsLook}
+use Rattle.md_nbtc.proofs.preparing.Out.{out_on}
 use Rattle.md_nbtc.proofs.preparing.Quiet.{earlier_still, every_still, last_longer, last_on, last_still, left_same, some_was}
 
 -- each of a list with its place has one thing where it has another, by its place and by being one of them
@@ -49,13 +51,13 @@ abbrev pub IsOnNode : Shape → (node : ℕ) → Step → Type 0
 IsOnNode shape node s = IsLook s ⊎ ((s.kind ≡ Store) × ((place : Place) × IsWordOf node place × (s.word ≡ address shape place)))
 
 -- the node whose word it is
-abbrev node_in : Place → ℕ
+abbrev pub node_in : Place → ℕ
 node_in (node_key node) = node
 node_in (node_value node) = node
 node_in (node_next node) = node
 node_in _ = 0
 
-in_node : (node : ℕ) (place : Place) → IsWordOf node place → node_in place ≡ node
+pub in_node : (node : ℕ) (place : Place) → IsWordOf node place → node_in place ≡ node
 in_node node place is = ⊎_elim (λ d. ⊎_elim (ap node_in) (ap node_in) d) (ap node_in) is
 
 word_exists : (shape : Shape) (node : ℕ) → IsNode shape node → (place : Place) → IsWordOf node place → Exists shape place
@@ -159,9 +161,13 @@ module _ (t : TxnState) (prepared : IsPrepared t) (operates : t.hand.operating �
       from = x.from;
       installed = (x.installed.0, subst (λ l. Contains l x.installed.0) (sym own_then) (Contains-append_left (own_steps t) steps x.installed.0 x.installed.1), x.installed.2);
       left = subst (LeftLast w.word _) (sym own_then) (last_still w.word _ (own_steps t) steps (written w c) x.left);
+      old = stored_on (slot_old (attempt_in t).desc i) (desc_exists, below) not_old w.old x.old;
       new = stored_on (slot_new (attempt_in t).desc i) (desc_exists, below) not_slot w.new x.new;
     }
       where
+        not_old : IsWordOf n.node (slot_old (attempt_in t).desc i) → ⊥
+        not_old is = ⊎_elim (λ d. ⊎_elim (λ e. cc) (λ e. cc) d) (λ e. cc) is
+
         not_slot : IsWordOf n.node (slot_new (attempt_in t).desc i) → ⊥
         not_slot is = ⊎_elim (λ d. ⊎_elim (λ e. cc) (λ e. cc) d) (λ e. cc) is
 
@@ -227,6 +233,7 @@ module _ (t : TxnState) (prepared : IsPrepared t) (operates : t.hand.operating �
       numbers = h.numbers;
       taken = taken;
       lots = lots_are;
+      out = out_on t.began (shape_in t) (attempt_in t) steps t.pass.view base after (ap attempt_in_hand h.held) h.out;
       stored = λ node left is. h.stored node (left_was node left).0 (some_was (shape_in t) steps t.pass.view base after _ (no_stored_left node left) is);
       few_reads = h.few_reads;
       few_writes = h.few_writes;

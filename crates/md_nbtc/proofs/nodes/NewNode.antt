@@ -10,7 +10,6 @@ use Rattle.md_words.specs.Place.{Place, is_counted, node_key, node_next, node_va
 use Rattle.md_words.specs.PlaceAt.{IsCounted, place_at}
 use Rattle.md_words.proofs.Owners.{own_node_exists}
 use Rattle.md_words.proofs.Places.{place_at-address}
-use Rattle.md_machine.specs.declared.attempt.Read.{Read}
 use Rattle.md_machine.specs.declared.certificate.Certificate.{Certificate}
 use Rattle.md_machine.specs.declared.certificate.Fact.{Fact}
 use Rattle.md_machine.specs.declared.certificate.NewNode.{NewNode}
@@ -60,25 +59,28 @@ module _ (M : Meaning) (lawful : Lawful M) (t : TxnState) (cs : List Certificate
       not_there now.0 now.1 placed.0 (was.facts fact (record { placed = placed.1; key = tt; value = tt; next = tt })).placed)
       first
 
-  -- so steps on the node's words leave each word that was recorded
-  pub recorded_apart : (steps : List Step) → All (IsOnNode (shape_in t) node) steps → (r : Read) → Contains t.reads r → IsCounted (shape_in t) r.word
-      → All (λ s. s.word ≡ r.word → s.before ≡ s.after) steps
-  recorded_apart steps on r c counted = all_of (λ s. s.word ≡ r.word → s.before ≡ s.after) steps (λ s in_steps at. ⊎_elim
+  -- so steps on the node's words leave each counted word but its next word
+  pub counted_apart : (steps : List Step) → All (IsOnNode (shape_in t) node) steps → (word : ℕ) → IsCounted (shape_in t) word → word ≢ address (shape_in t) (node_next node)
+      → All (λ s. s.word ≡ word → s.before ≡ s.after) steps
+  counted_apart steps on word counted other = all_of (λ s. s.word ≡ word → s.before ≡ s.after) steps (λ s in_steps at. ⊎_elim
       (λ look. look.same)
       (λ store.
       let place = store.1.0 in
-      let there : r.word ≡ address (shape_in t) place = sym at ∙ store.1.2 in
-      let found : first_content t.reads (writes_in t) r.word ≡ Some r.content
-      = All-contains (λ (x : Read). first_content t.reads (writes_in t) x.word ≡ Some x.content) t.reads r going.prepared.has.read c in
+      let there : word ≡ address (shape_in t) place = sym at ∙ store.1.2 in
       let its : (p : Place) → p ≡ place → IsNode (shape_in t) node → place_at (shape_in t) (address (shape_in t) p) ≡ p → is_counted p ≡ true
       = λ p e n at_p. ap is_counted (sym (ap (place_at (shape_in t)) (there ∙ ap (address (shape_in t)) (sym e)) ∙ at_p)) ∙ counted.1 in
       absurd (⊎_elim
       (λ d. ⊎_elim
       (λ key. true≢false (sym (its (node_key node) (sym key) exists (place_at-address (shape_in t) (node_key node) exists))))
       (λ value. true≢false (sym (its (node_value node) (sym value) exists (place_at-address (shape_in t) (node_value node) exists)))) d)
-      (λ next. not_next r.word (value_of r.content) (going.first r.word r.content found) (there ∙ ap (address (shape_in t)) next))
+      (λ next. other (there ∙ ap (address (shape_in t)) next))
       store.1.1))
       (All-contains (IsOnNode (shape_in t) node) steps s on in_steps))
+
+  -- and each word that was recorded or written
+  pub found_apart : (steps : List Step) → All (IsOnNode (shape_in t) node) steps → (word content : ℕ) → first_content t.reads (writes_in t) word ≡ Some content
+      → IsCounted (shape_in t) word → All (λ s. s.word ≡ word → s.before ≡ s.after) steps
+  found_apart steps on word content found counted = counted_apart steps on word counted (not_next word (value_of content) (going.first word content found))
 
   -- and the node comes last of those that were stored
   pub stored_last : and_node t.hand.stored node ≡ t.hand.stored ++ node ∷ []

@@ -56,6 +56,20 @@ only_stored m h old value node place is = ⊎_elim
     Only : Place → Type 0
     Only p = (changes_by_store m h.attempt old value p h.changes ≡ h.changes) × (stored_by_store p h.stored ≡ and_node h.stored node)
 
+module _ (M : Meaning) (o : Origin) (v : PassView) (h : Hand) (desc : HasDesc o.shape v h.attempt.desc) (unready : is_ready v.seen h.attempt ≡ false) where
+  -- the attempt in hand has no entry in any machine in which the pass stands so
+  pub unready_there : (m : Machine) → Admitted M o m → (pass : ℕ) → Acts m pass v → is_ready m.history h.attempt ≡ false
+  unready_there m admitted pass acts = ⊎_elim
+      (λ ready.
+      let entry = ready_entry m.history h.attempt ready in
+      let parts = same_parts entry.0.attempt h.attempt entry.2 in
+      let lane : lane_of_desc (shape_of m) entry.0.attempt.desc ≡ desc.0 =
+      ap (λ s. lane_of_desc s entry.0.attempt.desc) admitted.shape ∙ ap (lane_of_desc o.shape) parts.0 ∙ lane_is o.shape desc.0 h.attempt.desc desc.2 in
+      let seen = ((is_kept M o m admitted).fronts pass v acts.at).own entry.0 entry.1 (subst (Contains v.lanes) (sym lane) desc.1) in
+      absurd (true≢false (sym (ready_in v.seen entry.0 h.attempt seen parts.0 parts.1) ∙ unready)))
+      (λ not. not)
+      (cases_Bool (is_ready m.history h.attempt))
+
 module _ (M : Meaning) (o : Origin) (v : PassView) (h : Hand) (held : v.hand ≡ Some h) (desc : HasDesc o.shape v h.attempt.desc)
     (unready : is_ready v.seen h.attempt ≡ false) (node : ℕ) (has : HasNode o.shape v node) where
   exists : IsNode o.shape node
@@ -68,19 +82,6 @@ module _ (M : Meaning) (o : Origin) (v : PassView) (h : Hand) (held : v.hand ≡
 
   here_is : (m : Machine) → Admitted M o m → (place : Place) → IsWordOf node place → place_at (shape_of m) (address o.shape place) ≡ place
   here_is m admitted place is = ap (λ s. place_at s (address o.shape place)) admitted.shape ∙ place_at-address o.shape place (place_exists place is)
-
-  -- the attempt in hand has no entry in any machine in which the pass stands so
-  unready_there : (m : Machine) → Admitted M o m → (pass : ℕ) → Acts m pass v → is_ready m.history h.attempt ≡ false
-  unready_there m admitted pass acts = ⊎_elim
-      (λ ready.
-      let entry = ready_entry m.history h.attempt ready in
-      let parts = same_parts entry.0.attempt h.attempt entry.2 in
-      let lane : lane_of_desc (shape_of m) entry.0.attempt.desc ≡ desc.0 =
-      ap (λ s. lane_of_desc s entry.0.attempt.desc) admitted.shape ∙ ap (lane_of_desc o.shape) parts.0 ∙ lane_is o.shape desc.0 h.attempt.desc desc.2 in
-      let seen = ((is_kept M o m admitted).fronts pass v acts.at).own entry.0 entry.1 (subst (Contains v.lanes) (sym lane) desc.1) in
-      absurd (true≢false (sym (ready_in v.seen entry.0 h.attempt seen parts.0 parts.1) ∙ unready)))
-      (λ not. not)
-      (cases_Bool (is_ready m.history h.attempt))
 
   -- the store may be made: of the key or the value, and of the next word by what stands there
   module _ (free : IsFreeBy v.seen v.known node) where
@@ -106,7 +107,7 @@ module _ (M : Meaning) (o : Origin) (v : PassView) (h : Hand) (held : v.hand ≡
             acts,
             record {
               held = held;
-              unready = unready_there m admitted pass acts;
+              unready = unready_there M o v h desc unready m admitted pass acts;
               exists = subst (λ s. word < words_of s) (sym admitted.shape) (address_below o.shape place (place_exists place is));
               place = subst At (sym (here_is m admitted place is)) at;
             },

@@ -70,6 +70,14 @@ module _ (t : TxnState) (prepared : IsPrepared t) (node : ℕ) (p : PassState) (
         (λ (b : takes.lane < lane). above other (omega (arith, b, less)))
         o)
         (cases_order lane takes.lane),
+    λ lane none. others lane (λ e. none (subst (Contains t.began.view.lanes) (sym e) held_before)) ∙ prepared.has.taken.2 lane none,
+    λ lane more. ⊎_elim
+        (λ (e : lane ≡ takes.lane). let has = takes.lowest.has in
+        subst (λ l. (share_at p.shares l).nodes_taken ≤ t.pass.shape.nodes) (sym e) (omega (arith, its, has)))
+        (λ o. let ne : lane ≢ takes.lane = (λ e. ⊎_elim (λ (b : lane < takes.lane). omega (arith, e, b)) (λ (b : takes.lane < lane). omega (arith, e, b)) o) in
+        let same = others lane ne in
+        let most = prepared.has.taken.3 lane (omega (arith, more, same)) in omega (arith, most, same))
+        (cases_order lane takes.lane),
   )
     where
       above : (other : ℕ) → takes.lane < other → (share_at p.shares other).nodes_taken ≡ (share_at t.began.shares other).nodes_taken

@@ -42,7 +42,7 @@ last_changes [] word new is = absurd (none-some new is)
 last_changes (c ∷ cs) word new is = by_first c cs word new (λ v. last_changes cs word v) (last_new cs word) refl (c.word == word) is
 
 -- what is in one of two cases
-by_last : (o p : Option ℕ) (x new : ℕ) → or_else o p ≡ Some new → (p ≡ Some new → x ≡ new) → unwrap_or o x ≡ new
+pub by_last : (o p : Option ℕ) (x new : ℕ) → or_else o p ≡ Some new → (p ≡ Some new → x ≡ new) → unwrap_or o x ≡ new
 by_last None p x new is old = old is
 by_last (Some v) p x new is old = some_same v new is
 

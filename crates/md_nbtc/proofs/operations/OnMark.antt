@@ -106,9 +106,9 @@ module _ (M : Meaning) (t : TxnState) (prepared : IsPrepared t) (acts : List Act
       (subst (λ u. IsCourse M u ds) (sym after_is) course)))
 
 -- what contracts see of the transaction then
-module _ (M : Meaning) (field : FieldView) (p began : PassState) (reads : List Read) (slots : List Slot) (stop : Option Stop) (desc serial : ℕ) (lots : List Lot) where
+module _ (M : Meaning) (field : FieldView) (p began : PassState) (reads : List Read) (slots : List Slot) (stop : Option Stop) (desc serial tag : ℕ) (lots : List Lot) where
   abbrev before : TxnState
-  before = state_of field p began reads slots stop desc serial lots
+  before = state_of field p began reads slots stop desc serial tag lots
 
   module _ (prepared : IsPrepared before) (acts : List Act) (operating : Bool) (event : EventOf) (pass : PassState) (same : pass ≡ record p { view = pass.view })
       (step : Stepped M field.origin event p.view pass.view)
@@ -116,9 +116,9 @@ module _ (M : Meaning) (field : FieldView) (p began : PassState) (reads : List R
     abbrev hand : Hand
     hand = turned_hand before.hand acts operating
 
-    pub mark_so : state_of field pass began reads slots stop desc serial lots ≡ after_mark M before prepared acts operating event pass.view step view_is
-    mark_so = subst (λ (x : PassState). state_of field x began reads slots stop desc serial lots ≡ record before { pass = record p { view = x.view }; hand = hand }) (sym same)
-        (subst (λ (x : PassView). state_of field (record p { view = x }) began reads slots stop desc serial lots ≡ record before { pass = record p { view = x }; hand = hand })
+    pub mark_so : state_of field pass began reads slots stop desc serial tag lots ≡ after_mark M before prepared acts operating event pass.view step view_is
+    mark_so = subst (λ (x : PassState). state_of field x began reads slots stop desc serial tag lots ≡ record before { pass = record p { view = x.view }; hand = hand }) (sym same)
+        (subst (λ (x : PassView). state_of field (record p { view = x }) began reads slots stop desc serial tag lots ≡ record before { pass = record p { view = x }; hand = hand })
         (sym view_is)
         (ap (λ nodes. record before { pass = record p { view = record (marked step.machine p.view) { hand = Some hand } }; hand = hand; nodes = nodes })
         (same_nodes field.origin.shape p (marked step.machine p.view) ((mark M before prepared acts operating event pass.view step view_is).step ∷ [])
@@ -126,5 +126,5 @@ module _ (M : Meaning) (field : FieldView) (p began : PassState) (reads : List R
         (one M before prepared acts operating event pass.view step view_is IsQuiet (look_quiet (mark M before prepared acts operating event pass.view step view_is).step (look M before prepared acts operating event pass.view step view_is)))
         field.origin.shape began)))
 
-    pub mark_is_so : state_of field pass began reads slots stop desc serial lots ≡ record before { pass = pass; hand = hand }
+    pub mark_is_so : state_of field pass began reads slots stop desc serial tag lots ≡ record before { pass = pass; hand = hand }
     mark_is_so = mark_so ∙ ap (λ (x : PassState). record before { pass = x; hand = hand }) (sym same)

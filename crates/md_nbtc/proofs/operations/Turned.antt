@@ -66,6 +66,7 @@ module _ (t : TxnState) (prepared : IsPrepared t) (acts : List Act) (operating :
     from = x.from;
     installed = x.installed;
     left = x.left;
+    old = stored_turned _ _ x.old;
     new = stored_turned _ _ x.new;
   }
 
@@ -84,6 +85,7 @@ module _ (t : TxnState) (prepared : IsPrepared t) (acts : List Act) (operating :
       numbers = h.numbers;
       taken = h.taken;
       lots = h.lots;
+      out = h.out;
       stored = h.stored;
       few_reads = h.few_reads;
       few_writes = h.few_writes;
@@ -154,6 +156,7 @@ module _ (t : TxnState) (prepared : IsPrepared t) (acts : List Act) (operating :
 
       kept_turned : (w : Write) (c : Cleanup) → IsKeptCleanup M t cs w c → IsKeptCleanup M turned ds w c
       kept_turned w c k = record {
+        exists = k.exists;
         word = k.word;
         fits = k.fits;
         may = record {

@@ -14,7 +14,7 @@ use Rattle.md_machine.specs.declared.certificate.Fact.{Fact}
 use Rattle.md_machine.specs.declared.node.Structure.{Structure}
 use Rattle.md_machine.specs.declared.step.Step.{Step}
 use Rattle.md_machine.specs.Meaning.{Meaning}
-use Rattle.md_machine.specs.Moved.{Moved}
+use Rattle.md_machine.specs.Moved.{Concerns, Moved}
 use Rattle.md_machine.specs.Trail.{SomeStep}
 use Rattle.md_words.specs.declared.shape.Shape.{Shape}
 use Rattle.md_rule.specs.Views.{PassState}
@@ -38,6 +38,11 @@ use Rattle.md_nbtc.proofs.preparing.Later.{known_later}
 some_more : (P : Step → Type 0) (steps more : List Step) → SomeStep P steps → SomeStep P (steps ++ more)
 some_more P steps more (s, i, p) = (s, Contains-append_left steps more s i, p)
 
+-- a word that concerns the attempt by some steps does so by more
+pub concerns_more : (shape : Shape) (a : AttemptId) (word : ℕ) (steps more : List Step) → Concerns shape a steps word → Concerns shape a (steps ++ more) word
+concerns_more shape a word steps more = ⊎_elim (λ r. inl (r.0, r.1, some_more _ steps more r.2))
+    (λ o. inr (⊎_elim (λ c. inl (some_more _ steps more c)) (λ p. inr (⊎_elim (λ f. inl (some_more _ steps more f)) inr p)) o))
+
 -- what moved in some steps moved in more
 pub moved_more : (shape : Shape) (a : AttemptId) (steps more : List Step) (shown : Shown) → Moved shape a steps shown → Moved shape a (steps ++ more) shown
 moved_more shape a steps more shown m = record {
@@ -52,8 +57,7 @@ moved_more shape a steps more shown m = record {
   now = m.now;
   differ = m.differ;
   unchanged = m.unchanged;
-  concerns = ⊎_elim (λ r. inl (r.0, r.1, some_more _ steps more r.2))
-      (λ o. inr (⊎_elim (λ c. inl (some_more _ steps more c)) (λ p. inr (⊎_elim (λ f. inl (some_more _ steps more f)) inr p)) o)) m.concerns;
+  concerns = concerns_more shape a shown.word steps more m.concerns;
 }
 
 -- what is so of a transaction under way, but that its pass stands in a machine: between the two changes of a mark none does
@@ -96,7 +100,7 @@ module _ (M : Meaning) (t : TxnState) (pass : PassState) where
     placed_more : (node : ℕ) (s : Structure) → KnowsPlaced M t node s → KnowsPlaced M stepped_on node s
     placed_more node s = known_later M (λ u h. h.placed node ≡ Some s) t stepped_on later
 
-    change_more : (word : ℕ) → MayChange M t word → MayChange M stepped_on word
+    pub change_more : (word : ℕ) → MayChange M t word → MayChange M stepped_on word
     change_more word may node is = ⊎_elim (λ p. inl (p.0, placed_more node p.0 p.1)) inr (may node is)
 
     in_more : (cs : List Certificate) (node : ℕ) (s : Structure) → IsPlacedIn M t cs node s → IsPlacedIn M stepped_on cs node s
@@ -127,7 +131,7 @@ module _ (M : Meaning) (t : TxnState) (pass : PassState) where
     }
 
     kept_more : (cs : List Certificate) (w : Write) (c : Cleanup) → IsKeptCleanup M t cs w c → IsKeptCleanup M stepped_on cs w c
-    kept_more cs w c k = record { word = k.word; fits = k.fits; may = tidy_more cs c k.may }
+    kept_more cs w c k = record { exists = k.exists; word = k.word; fits = k.fits; may = tidy_more cs c k.may }
 
     unplaced_more : (n : OwnNode) → IsUnplaced M t n → IsUnplaced M stepped_on n
     unplaced_more n u = record {
@@ -137,7 +141,7 @@ module _ (M : Meaning) (t : TxnState) (pass : PassState) where
       value = known_later M _ t stepped_on later u.value;
     }
 
-    first_more : (word value : ℕ) → IsFoundFirst M t word value → IsFoundFirst M stepped_on word value
+    pub first_more : (word value : ℕ) → IsFoundFirst M t word value → IsFoundFirst M stepped_on word value
     first_more word value = ⊎_elim inl (λ met. inr (known_later M _ t stepped_on later met))
 
     stored_more : (n : NewNode) → IsStoredNode t n → IsStoredNode stepped_on n

@@ -51,10 +51,10 @@ module _ (shape : Shape) (p : PassState) (q : PassView) (steps : List Step) (aft
   pub same_nodes : (s : Shape) (began : PassState) → map (own_node s pass_after) (taken_since began pass_after) ≡ map (own_node s p) (taken_since began p)
   same_nodes s began = ap (map (own_node s pass_after)) (same_taken began) ∙ map_agree (own_node s pass_after) (own_node s p) (same_node s) (taken_since began p)
 
-  pub same_state : (field : FieldView) (began : PassState) (reads : List Read) (slots : List Slot) (stop : Option Stop) (desc serial : ℕ) (lots : List Lot)
-      → state_of field pass_after began reads slots stop desc serial lots ≡ record (state_of field p began reads slots stop desc serial lots) { pass = pass_after }
-  same_state field began reads slots stop desc serial lots =
-      let was = state_of field p began reads slots stop desc serial lots in
-      let now = state_of field pass_after began reads slots stop desc serial lots in
+  pub same_state : (field : FieldView) (began : PassState) (reads : List Read) (slots : List Slot) (stop : Option Stop) (desc serial tag : ℕ) (lots : List Lot)
+      → state_of field pass_after began reads slots stop desc serial tag lots ≡ record (state_of field p began reads slots stop desc serial tag lots) { pass = pass_after }
+  same_state field began reads slots stop desc serial tag lots =
+      let was = state_of field p began reads slots stop desc serial tag lots in
+      let now = state_of field pass_after began reads slots stop desc serial tag lots in
       ap (λ nodes. record now { nodes = nodes }) (same_nodes field.origin.shape began)
       ∙ ap (λ (x : PassView). record was { pass = pass_after; hand = unwrap_or x.hand no_hand }) after.1

@@ -1,6 +1,6 @@
 -- A transaction stays prepared over quiet steps of its pass.
 use Rattle.std.proofs.Common.{◌≡◌, ◌≢◌, ◌++◌, ◌∷◌, ◌+◌, ℕ, true, List, [], refl, sym, ap, ◌∙◌, subst, inl, inr, append_assoc}
-use Rattle.std.proofs.lemmas.List.Elements.{All-weaker, Contains-append_left}
+use Rattle.std.proofs.lemmas.List.Elements.{All-contains, All-weaker, Contains-append_left}
 use Rattle.std.specs.List.{All, Contains, flat_map}
 use Rattle.md_words.specs.Content.{count_of, is_even}
 use Rattle.md_words.specs.Layout.{address}
@@ -14,6 +14,7 @@ use Rattle.md_machine.specs.declared.step.Kind.TheVariants.{Uninstall}
 use Rattle.md_machine.specs.Machine.{is_ready}
 use Rattle.md_machine.specs.Moved.{TakesOther, holds_other}
 use Rattle.md_machine.specs.Own.{HasNode, IsWordOf}
+use Rattle.md_machine.specs.Stepping.{attempt_in_hand}
 use Rattle.md_machine.specs.Trail.{SomeStep, StoresFor}
 use Rattle.md_machine.specs.clauses.nodes.FreeNodes.{IsFreeBy}
 use Rattle.md_machine.specs.events.Start.{WonInstall}
@@ -24,6 +25,8 @@ use Rattle.md_help.proofs.Deciding.{some_after}
 use Rattle.md_nbtc.specs.Prepared.{EachFrom, IsHeld, IsPrepared, IsPreparedNode, IsRecorded, InstallsFrom, IsWritten, LastOn, LeftLast, LeftThere}
 use Rattle.md_nbtc.specs.State.{OwnNode, TxnState, attempt_in, lot_of_lane, own_steps, shape_in, writes_in}
 use Rattle.md_nbtc.proofs.preparing.GoingOn.{own_grows}
+use Rattle.md_nbtc.proofs.preparing.Out.{out_on}
+use Rattle.md_nbtc.proofs.ready.Lookups.{all_of}
 use Rattle.md_nbtc.proofs.preparing.Quiet.{IsQuiet, IsStill, every_still, last_on, last_still, left_still, quiet_store, some_was, stored_still}
 
 -- each of a list has one thing where it has another
@@ -75,6 +78,7 @@ module _ (t : TxnState) (prepared : IsPrepared t) (q : PassView) (steps : List S
       from = x.from;
       installed = some_own _ x.installed;
       left = subst (LeftLast w.word _) (sym own_then) (last_still w.word _ (own_steps t) steps (own i w x) x.left);
+      old = stored_still (shape_in t) steps t.pass.view q after (attempt_in t) _ _ quiet x.old;
       new = stored_still (shape_in t) steps t.pass.view q after (attempt_in t) _ _ quiet x.new;
     }
 
@@ -98,6 +102,7 @@ module _ (t : TxnState) (prepared : IsPrepared t) (q : PassView) (steps : List S
       numbers = h.numbers;
       taken = h.taken;
       lots = h.lots ∙ ap (λ l. flat_map (lot_of_lane t.began t.pass) l) (sym lanes_same);
+      out = out_on t.began (shape_in t) (attempt_in t) steps t.pass.view q after (ap attempt_in_hand h.held) h.out;
       stored = λ node left is. h.stored node (left_before node left) (some_was (shape_in t) steps t.pass.view q after _ (no_store _) is);
       few_reads = h.few_reads;
       few_writes = h.few_writes;
@@ -112,7 +117,7 @@ module _ (t : TxnState) (prepared : IsPrepared t) (q : PassView) (steps : List S
     }
 
     module _ (status : All (λ s. s.word ≢ address (shape_in t) (desc_status (attempt_in t).desc)) steps)
-        (nodes : (node : ℕ) → HasNode (shape_in t) t.pass.view node → (place : Place) → IsWordOf node place
+        (nodes : (n : OwnNode) → Contains t.nodes n → (place : Place) → IsWordOf n.node place
         → All (λ s. s.word ≡ address (shape_in t) place → s.before ≡ s.after) steps)
         (free : (node : ℕ) → HasNode (shape_in t) t.pass.view node → IsFreeBy t.pass.view.seen t.pass.view.known node → IsFreeBy q.seen q.known node) where
       node_then : (node : ℕ) → HasNode (shape_in t) t.pass.view node → HasNode (shape_in t) q node
@@ -121,20 +126,27 @@ module _ (t : TxnState) (prepared : IsPrepared t) (q : PassView) (steps : List S
       last_then : (word held : ℕ) → All (λ s. s.word ≡ word → s.before ≡ s.after) steps → LeftLast word held t.pass.view.trail → LeftLast word held q.trail
       last_then word held same l = subst (LeftLast word held) (sym (ap (λ (x : PassView). x.trail) after.1)) (last_still word held t.pass.view.trail steps same l)
 
-      prepared_node : (n : OwnNode) → IsPreparedNode t n → IsPreparedNode now n
-      prepared_node n x = record {
+      prepared_node : (n : OwnNode) → Contains t.nodes n → IsPreparedNode t n → IsPreparedNode now n
+      prepared_node n among x = record {
         own = node_then n.node x.own;
         unplaced = free n.node x.own x.unplaced;
         stored = some_after _ (shape_in t) steps t.pass.view q after x.stored;
-        key = last_then _ _ (nodes n.node x.own (node_key n.node) (inl (inl refl))) x.key;
-        value = last_then _ _ (nodes n.node x.own (node_value n.node) (inl (inr refl))) x.value;
-        next = λ none. let y = x.next none in (y.0, y.1, y.2, last_then _ _ (nodes n.node x.own (node_next n.node) (inr refl)) y.3);
+        key = last_then _ _ (nodes n among (node_key n.node) (inl (inl refl))) x.key;
+        value = last_then _ _ (nodes n among (node_value n.node) (inl (inr refl))) x.value;
+        next = λ none. let y = x.next none in (y.0, y.1, y.2, last_then _ _ (nodes n among (node_next n.node) (inr refl)) y.3);
       }
 
-      pub stays_prepared : IsPrepared now
-      stays_prepared = record {
+      -- so it is where they leave the words of its own nodes
+      pub stays_prepared_own : IsPrepared now
+      stays_prepared_own = record {
         has = held_then;
         unready = ap (λ (x : PassView). is_ready x.seen (attempt_in t)) after.1 ∙ prepared.unready;
         status = subst (LastOn _ _) (sym own_then) (last_on _ _ (own_steps t) steps status prepared.status);
-        nodes = All-weaker (IsPreparedNode t) (IsPreparedNode now) prepared_node t.nodes prepared.nodes;
+        nodes = all_of (IsPreparedNode now) t.nodes (λ n among. prepared_node n among (All-contains (IsPreparedNode t) t.nodes n prepared.nodes among));
       }
+
+    -- or those of all nodes of the pass's lanes
+    pub stays_prepared : All (λ s. s.word ≢ address (shape_in t) (desc_status (attempt_in t).desc)) steps
+        → ((node : ℕ) → HasNode (shape_in t) t.pass.view node → (place : Place) → IsWordOf node place → All (λ s. s.word ≡ address (shape_in t) place → s.before ≡ s.after) steps)
+        → ((node : ℕ) → HasNode (shape_in t) t.pass.view node → IsFreeBy t.pass.view.seen t.pass.view.known node → IsFreeBy q.seen q.known node) → IsPrepared now
+    stays_prepared status nodes = stays_prepared_own status (λ n among. nodes n.node (All-contains (IsPreparedNode t) t.nodes n prepared.nodes among).own)

@@ -61,7 +61,7 @@ module _ (t : TxnState) (held : IsHeld t) (m : Machine) (k : IsKept m) (shape : 
   desc_exists = own_desc_exists (shape_of m) own_desc.0 a.desc own_desc.2
 
   -- what it stored last in its descriptor stands there
-  stands : (place : Place) → Exists (shape_of m) place → IsEntryWord a.desc place → (word : ℕ) → LastStored t.pass.view a (address (shape_in t) place) word
+  pub stands : (place : Place) → Exists (shape_of m) place → IsEntryWord a.desc place → (word : ℕ) → LastStored t.pass.view a (address (shape_in t) place) word
       → word_at (shape_of m) m.words place ≡ word
   stands place exists is word last =
       k.stores pass t.pass.view at a (let is = is_present in cc) (address (shape_of m) place) word
@@ -107,7 +107,7 @@ module _ (t : TxnState) (held : IsHeld t) (m : Machine) (k : IsKept m) (shape : 
       let all = length-map t.slots (λ (s : Slot). s.write) in
       (found.0, omega (arith, below, few, all), found.3)
 
-  present_install : (i : Install) → i.attempt ≡ a → IsPresentIn (shape_of m) m.words i.attempt
+  pub present_install : (i : Install) → i.attempt ≡ a → IsPresentIn (shape_of m) m.words i.attempt
   present_install i of = subst (IsPresentIn (shape_of m) m.words) (sym of) (ap (λ (x : AttemptId). x.serial) is_present)
 
   -- an install of a slot's step is of the slot
@@ -132,7 +132,7 @@ module _ (t : TxnState) (held : IsHeld t) (m : Machine) (k : IsKept m) (shape : 
       (ap (λ (x : Spot). word_at (shape_of m) m.words (slot_new x.desc x.slot)) same ∙ new)
 
   -- a present install of the attempt is of a slot
-  shown_slot : (i : Install) → Contains m.installs i → i.attempt ≡ a → (w : Write) × Contains (writes_in t) w × (write_now m i ≡ w)
+  pub shown_slot : (i : Install) → Contains m.installs i → i.attempt ≡ a → (w : Write) × Contains (writes_in t) w × (write_now m i ≡ w)
   shown_slot i made of =
       let won = k.own_installs i made (present_install i of) pass t.pass.view at (subst (λ (x : AttemptId). HasDesc (shape_of m) t.pass.view x.desc) (sym of) own_desc) in
       let s = won.2.0 in

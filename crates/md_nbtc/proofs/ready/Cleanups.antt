@@ -28,7 +28,7 @@ use Rattle.md_nbtc.specs.declared.seen.Cleanup.{Cleanup}
 use Rattle.md_nbtc.specs.declared.seen.Cleanup.TheVariants.{MoveTail, Unlink}
 use Rattle.md_nbtc.specs.declared.sets.Slot.{Slot}
 use Rattle.md_nbtc.specs.Cleaning.{IsFactLater, IsKeptCleanup, IsPlacedFor, IsPlacedIn, TidiesLater, cleanup_node, cleanup_word}
-use Rattle.md_nbtc.specs.Ending.{IsFactThen, IsPlacedThen, IsReady, IsReadyCleanup, TidiesThen}
+use Rattle.md_nbtc.specs.Ending.{IsFactThen, IsPlacedForThen, IsPlacedThen, IsReady, IsReadyCleanup, TidiesThen}
 use Rattle.md_nbtc.specs.Going.{IsGoing}
 use Rattle.md_nbtc.specs.Known.{KnowsPlaced}
 use Rattle.md_nbtc.specs.Seeing.{IsNextOf, MayChange}
@@ -104,9 +104,9 @@ module _ (M : Meaning) (lawful : Lawful M) (t : TxnState) (cs : List Certificate
       (new.0.structure, inr (subst (λ n. Contains (placed_by ds) (made n)) (new.2 ∙ own.2) (map_in of (all_nodes ds) new.0 new.1))))
       (may node is)
 
-  for_then : (c : Cleanup) → IsPlacedFor M t ds c → (s : Structure) × Then (cleanup_node c) s
-  for_then (Unlink prev node) p = (Bucket p.0 p.1, placed_then node (Bucket p.0 p.1) p.2)
-  for_then (MoveTail tail from to) p = (Queue p.0, placed_then from (Queue p.0) p.1)
+  for_then : (c : Cleanup) → IsPlacedFor M t ds c → IsPlacedForThen u (won_entry M lawful t cs going q step) c
+  for_then (Unlink prev node) p = (p.0, p.1, placed_then node (Bucket p.0 p.1) p.2)
+  for_then (MoveTail tail from to) p = (p.0, placed_then from (Queue p.0) p.1)
 
   fact_then : (node next : ℕ) (f : Fact) → IsFactLater M t ds node next f → IsFactThen u (won_entry M lawful t cs going q step) node next f
   fact_then node next f is = record { placed = placed_then f.node f.structure is.placed; key = is.key; value = is.value; of_next = is.of_next }
@@ -122,6 +122,7 @@ module _ (M : Meaning) (lawful : Lawful M) (t : TxnState) (cs : List Certificate
 
   cleanup_then : (w : Write) (c : Cleanup) → IsKeptCleanup M t ds w c → IsReadyCleanup M u (won_entry M lawful t cs going q step) w c
   cleanup_then w c k = record {
+    exists = k.exists;
     word = k.word;
     fits = k.fits;
     counted = k.may.counted;

@@ -1,6 +1,6 @@
 -- What sets tell of a word: two that have the same members tell the same.
 use Rattle.std.proofs.Common.{◌≡◌, ◌≢◌, ◌==◌, ◌||◌, ◌+◌, ◌<◌, ◌≤◌, ◌⊎◌, ℕ, true, List, [], ◌∷◌, length, Option, Some, None, is_some, get_or, refl, sym, ap, ◌∙◌, subst, eqb-true, eq-eqb, if◌then◌else◌, ⊎_elim, arith}
-use Rattle.std.proofs.lemmas.Bool.{cond_both, true≢false}
+use Rattle.std.proofs.lemmas.Bool.{cond_both, or_right, true≢false}
 use Rattle.std.proofs.lemmas.List.Elements.{All-cons, All-contains, All-head, All-nil, All-tail, Contains-get_or}
 use Rattle.std.proofs.lemmas.Option.{none-some}
 use Rattle.std.specs.List.{All, AllPairs, AllZip, Contains}
@@ -60,6 +60,14 @@ written_replaced (w ∷ ws) word = cond_both (w.word == word) (Some w.old) (cont
     (λ o. ((w.word == word) || is_written ws word) ≡ is_some o)
     (λ this. ap (λ b. b || is_written ws word) this)
     (λ not. ap (λ b. b || is_written ws word) not ∙ written_replaced ws word)
+
+-- the word of a slot is written
+pub written_there : (ws : List Write) (w : Write) → Contains ws w → (word : ℕ) → w.word ≡ word → is_written ws word ≡ true
+written_there [] w c word is = absurd (in_none w c)
+written_there (x ∷ xs) w c word is = ⊎_elim
+    (λ same. ap (λ b. b || is_written xs word) (eq-eqb x.word word (ap (λ (y : Write). y.word) same ∙ is)))
+    (λ later. or_right (x.word == word) (is_written xs word) (written_there xs w later word is))
+    (in_cons x xs w c)
 
 -- a slot of a written word
 written_by : (ws : List Write) (word : ℕ) (o : Option ℕ) → content_replaced ws word ≡ o → is_some o ≡ true → (w : Write) × Contains ws w × (w.word ≡ word)

@@ -50,11 +50,11 @@ parts_are w s serial is none at_serial =
     sym (status_word-parts w) ∙ ap (λ x. status_word x (reads_of w) (serial_of w)) is ∙ ap (λ n. status_word s n (serial_of w)) none
     ∙ ap (status_word s 0) (sym at_serial)
 
-on_word : (word : ℕ) (xs : List Step) (s : Step) → Contains xs s → s.word ≡ word → list_any (λ (x : Step). x.word == word) xs ≡ true
+pub on_word : (word : ℕ) (xs : List Step) (s : Step) → Contains xs s → s.word ≡ word → list_any (λ (x : Step). x.word == word) xs ≡ true
 on_word word xs s c is = list_any_at (λ (x : Step). x.word == word) xs c.0 s c.1 (ap (λ (x : Step). x.word == word) c.2 ∙ eq-eqb s.word word is)
 
 -- where each step on a word left one content, and the last one's stands, that stands
-one_stands : (m : Machine) (word held : ℕ) (xs : List Step) → LastStand m xs → All (λ s. s.word ≡ word → s.after ≡ held) xs
+pub one_stands : (m : Machine) (word held : ℕ) (xs : List Step) → LastStand m xs → All (λ s. s.word ≡ word → s.after ≡ held) xs
     → list_any (λ (x : Step). x.word == word) xs ≡ true → content m word ≡ held
 one_stands m word held [] last left some = absurd (false≢true some)
 one_stands m word held (x ∷ xs) last left some = ⊎_elim
@@ -67,7 +67,7 @@ one_stands m word held (x ∷ xs) last left some = ⊎_elim
     (cases_Bool (list_any (λ (y : Step). y.word == word) xs))
 
 -- the last of more steps too
-last_part : (m : Machine) (xs ys : List Step) → LastStand m (xs ++ ys) → LastStand m ys
+pub last_part : (m : Machine) (xs ys : List Step) → LastStand m (xs ++ ys) → LastStand m ys
 last_part m [] ys last = last
 last_part m (x ∷ xs) ys last = last_part m xs ys last.1
 
@@ -76,7 +76,7 @@ whole : {X : Type 0} (xs ys : List X) → xs ++ drop (length xs) (xs ++ ys) ≡ 
 whole [] ys = refl
 whole (x ∷ xs) ys = ap (λ l. x ∷ l) (whole xs ys)
 
-began_then : (began trail : List Step) → IsPrefix began trail → trail ≡ began ++ drop (length began) trail
+pub began_then : (began trail : List Step) → IsPrefix began trail → trail ≡ began ++ drop (length began) trail
 began_then began trail p = p.is ∙ sym (whole began p.rest) ∙ ap (λ l. began ++ drop (length began) l) (sym p.is)
 
 module _ (M : Meaning) (t : TxnState) (prepared : IsPrepared t) (q : PassView) (found : ℕ) (apart : found ≢ unready_word (attempt_in t))
@@ -110,7 +110,7 @@ module _ (M : Meaning) (t : TxnState) (prepared : IsPrepared t) (q : PassView) (
       true≢false (sym (ready_in t.pass.view.seen e a seen (ap (λ (x : AttemptId). x.desc) same) (ap (λ (x : AttemptId). x.serial) same)) ∙ prepared.unready)
 
   -- so what it found is its abort
-  found_aborted : found ≡ unready_word a + 3
+  pub found_aborted : found ≡ unready_word a + 3
   found_aborted =
       let own = own_desc t prepared.has m kept step.0.admitted.shape step.0.pass step.0.acts.at in
       let exists = own_desc_exists (shape_of m) own.0 a.desc own.2 in

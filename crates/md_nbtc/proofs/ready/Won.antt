@@ -87,7 +87,7 @@ module _ (t : TxnState) (h : IsHeld t) (seen : List HistoryEntry) (known : List 
   }
 
   written_seeing : (i : ℕ) (w : Write) → IsWritten t i w → IsWritten seeing i w
-  written_seeing i w x = record { slot = x.slot; counted = x.counted; from = x.from; installed = x.installed; left = x.left; new = stored_seeing _ _ x.new }
+  written_seeing i w x = record { slot = x.slot; counted = x.counted; from = x.from; installed = x.installed; left = x.left; old = stored_seeing _ _ x.old; new = stored_seeing _ _ x.new }
 
   held_seeing : IsHeld seeing
   held_seeing = record {
@@ -100,6 +100,7 @@ module _ (t : TxnState) (h : IsHeld t) (seen : List HistoryEntry) (known : List 
     numbers = h.numbers;
     taken = h.taken;
     lots = h.lots;
+    out = h.out;
     stored = h.stored;
     few_reads = h.few_reads;
     few_writes = h.few_writes;
@@ -277,28 +278,28 @@ module _ (M : Meaning) (lawful : Lawful M) (t : TxnState) (cs : List Certificate
   }
 
 -- what contracts see of the transaction then
-module _ (M : Meaning) (lawful : Lawful M) (field : FieldView) (p began : PassState) (reads : List Read) (slots : List Slot) (desc serial : ℕ) (lots : List Lot)
-    (cs : List Certificate) (going : IsGoing M (state_of field p began reads slots None desc serial lots) cs) (q : PassView)
+module _ (M : Meaning) (lawful : Lawful M) (field : FieldView) (p began : PassState) (reads : List Read) (slots : List Slot) (desc serial tag : ℕ) (lots : List Lot)
+    (cs : List Certificate) (going : IsGoing M (state_of field p began reads slots None desc serial tag lots) cs) (q : PassView)
     (step : SteppedFrom M field.origin (λ pass. ready pass (length reads))
-    (address field.origin.shape (desc_status (attempt_in (state_of field p began reads slots None desc serial lots)).desc))
-    (unready_word (attempt_in (state_of field p began reads slots None desc serial lots))) p.view q) where
+    (address field.origin.shape (desc_status (attempt_in (state_of field p began reads slots None desc serial tag lots)).desc))
+    (unready_word (attempt_in (state_of field p began reads slots None desc serial tag lots))) p.view q) where
   abbrev before : TxnState
-  before = state_of field p began reads slots None desc serial lots
+  before = state_of field p began reads slots None desc serial tag lots
 
   abbrev stepped_on : PassView
   stepped_on = stepped_view M lawful before cs going q step
 
-  state_stepped : state_of field (record p { view = stepped_on }) began reads slots None desc serial lots ≡ record before { pass = record p { view = stepped_on } }
+  state_stepped : state_of field (record p { view = stepped_on }) began reads slots None desc serial tag lots ≡ record before { pass = record p { view = stepped_on } }
   state_stepped =
       let made = won_made M lawful before cs going q step in
-      same_state field.origin.shape p stepped_on (made.step ∷ []) made.goes (won_quiet M lawful before cs going q step) field began reads slots None desc serial lots
+      same_state field.origin.shape p stepped_on (made.step ∷ []) made.goes (won_quiet M lawful before cs going q step) field began reads slots None desc serial tag lots
 
-  pub won_state : state_of field (record p { view = q }) began reads slots None desc serial lots ≡ now_ready M lawful before cs going q step
+  pub won_state : state_of field (record p { view = q }) began reads slots None desc serial tag lots ≡ now_ready M lawful before cs going q step
   won_state =
       let seeing : PassView = record stepped_on {
         seen = history_after_ready step.0.machine before.hand (certificates M lawful before cs going q step) (length reads);
         known = fates_after_ready step.0.machine;
       } in
-      subst (λ v. state_of field (record p { view = v }) began reads slots None desc serial lots ≡ record before { pass = record p { view = v } })
+      subst (λ v. state_of field (record p { view = v }) began reads slots None desc serial tag lots ≡ record before { pass = record p { view = v } })
       (sym (won_view M lawful before cs going q step))
       (ap (λ (x : TxnState). record x { pass = record p { view = seeing } }) state_stepped)

@@ -5,6 +5,7 @@ use Rattle.md_words.specs.Place.{desc_status}
 use Rattle.md_machine.specs.declared.pass.PassView.{PassView}
 use Rattle.md_machine.specs.Event.{load}
 use Rattle.md_rule.specs.Steps.{SteppedFrom}
+use Rattle.md_help.proofs.Deciding.{reached_after}
 use Rattle.md_help.proofs.Steps.{made_load}
 use Rattle.md_nbtc.proofs.beginning.Starting.{finds_after, finds_loaded, no_later_loaded, own_still}
 use Rattle.md_nbtc.proofs.begin.decided_status.Goals as goal
@@ -24,6 +25,14 @@ settled_status-requires-clause-own g c =
     let q = c.load-found.new.self.view in
     let m = made_load M o c.status.result c.load-found.result p q c.load-found.ensures.step in
     own_still M o c.args.desc c.requires.exists (m.step ∷ []) p q m.goes c.requires.own
+
+pub settled_status-requires-clause-reached : goal.settled_status-requires-clause-reached
+settled_status-requires-clause-reached g c =
+    let o = c.args.field.now.origin in
+    let p = c.args.pass.now in
+    let q = c.load-found.new.self in
+    let m = made_load g.T.Theory.meaning o c.status.result c.load-found.result p.view q.view c.load-found.ensures.step in
+    reached_after o.shape (m.step ∷ []) p q c.args.desc c.load-found.ensures.same m.goes c.requires.reached
 
 pub returns-in-Committed-clause-finds : goal.returns-in-Committed-clause-finds
 returns-in-Committed-clause-finds g c =

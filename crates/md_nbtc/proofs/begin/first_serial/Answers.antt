@@ -8,7 +8,7 @@ use Rattle.md_machine.specs.Own.{HasDesc}
 use Rattle.md_rule.specs.Kept.{KeepsLane}
 use Rattle.md_rule.specs.Shares.{share_at}
 use Rattle.md_rule.specs.Steps.{SteppedFrom}
-use Rattle.md_nbtc.specs.Beginning.{FindsNew, LeavesStatus}
+use Rattle.md_nbtc.specs.Beginning.{FindsNew}
 use Rattle.md_nbtc.proofs.beginning.PutInHand.{first_new}
 use Rattle.md_nbtc.proofs.begin.first_serial.Goals as goal
 
@@ -28,6 +28,5 @@ returns-clause-new g c =
     let at = c.status.ensures.place ∙ ap (λ s. address s (desc_status desc)) c.shape.ensures in
     let step = subst (λ w. SteppedFrom M o (λ pass. load pass w) w c.load-found.result p q) at c.load-found.ensures.step in
     subst (λ n. FindsNew M o desc n p q) (sym (ap (λ (w : StatusWord). w.serial) c.of.ensures.parts))
-    (first_new M o desc (subst (λ (h : Shape). desc < desc_count h) shape taken.exists) p q c.load-found.result share c.requires.lent c.requires.idle
-    (subst (λ (h : Shape). HasDesc h p desc) shape taken.own) (subst (λ (h : Shape). KeepsLane h p share desc) shape taken.kept) none
-    (subst (λ (h : Shape). LeavesStatus h p desc) shape (taken.first none)) step)
+    (first_new M o desc (subst (λ (h : Shape). desc < desc_count h) shape taken.exists) p q c.load-found.result share c.requires.idle
+    (subst (λ (h : Shape). HasDesc h p desc) shape taken.own) (subst (λ (h : Shape). KeepsLane h p share desc) shape taken.kept) none step)

@@ -1,4 +1,4 @@
-use Rattle.std.proofs.Common.{◌+◌, ◌≤◌, [], ◌∷◌, ◌++◌, sym, ap, subst, ◌∙◌, arith}
+use Rattle.std.proofs.Common.{◌+◌, ◌≤◌, [], ◌∷◌, ◌++◌, sym, ap, subst, ◌∙◌, inl, arith}
 use Rattle.md_words.specs.declared.shape.Shape.{Shape}
 use Rattle.md_words.specs.declared.status.StatusWord.{StatusWord}
 use Rattle.md_words.specs.Status.{serial_of}
@@ -8,6 +8,9 @@ use Rattle.md_nbtc.specs.Beginning.{FindsNew}
 use Rattle.md_nbtc.proofs.beginning.Starting.{may_start, own_still, starts_new}
 use Rattle.md_nbtc.proofs.beginning.TakingOut.{clean_still, no_later_before}
 use Rattle.md_nbtc.proofs.begin.restart.Goals as goal
+
+pub decided_status-found-requires-clause-reached : goal.decided_status-found-requires-clause-reached
+decided_status-found-requires-clause-reached g c = let one = c.requires.empty.1 in inl (c.requires.lane, omega (arith, one))
 
 pub start-requires-clause-may : goal.start-requires-clause-may
 start-requires-clause-may g c =

@@ -1,4 +1,4 @@
-use Rattle.std.proofs.Common.{◌<◌, ◌∷◌, arith, sym, ap, subst, ◌∙◌}
+use Rattle.std.proofs.Common.{◌<◌, ◌∷◌, arith, sym, ap, subst, ◌∙◌, inl}
 use Rattle.md_words.specs.declared.shape.Shape.{Shape}
 use Rattle.md_words.specs.Layout.{desc_count}
 use Rattle.md_machine.specs.Own.{HasDesc}
@@ -8,6 +8,9 @@ use Rattle.md_rule.specs.Views.{PassState}
 use Rattle.md_nbtc.proofs.beginning.SlotLooks.{won_small}
 use Rattle.md_nbtc.proofs.beginning.TakingOut.{takes_all, takes_none, takes_one}
 use Rattle.md_nbtc.proofs.begin.take_slots_out.Goals as goal
+
+pub settle_one-end-requires-clause-reached : goal.settle_one-end-requires-clause-reached
+settle_one-end-requires-clause-reached g c = let one = c.requires.taken.taken in inl (c.requires.taken.lane, omega (arith, one))
 
 pub loop-slot-init : goal.loop-slot-init
 loop-slot-init g c =
@@ -48,9 +51,9 @@ returns-clause-empty g c =
     let taken = c.requires.taken in
     let kept = subst (λ (h : Shape). KeepsLane h p (record (share_at c.args.pass.now.shares c.args.desc) { tries_taken = taken.before }) c.args.desc) c.requires.of.shape taken.kept in
     let same = ap (λ (x : PassState). (share_at x.shares c.args.desc).slots_written) c.settle_one-end.ensures.same in
-    let all = c.slots_of-slots.ensures.all in
+    let all = c.slots_written-slots.ensures.slots in
     let test = c.loop-slot-test.false in
     takes_all o.shape c.args.desc c.settle_one-end.result (share_at c.args.pass.now.shares c.args.desc).slots_written c.loop-slot.slot p q c.requires.idle
     (λ serial last. kept.slots serial last)
-    (λ slot written small. let less = all slot (subst (λ n. slot < n) (sym same) written) small in omega (arith, less, test))
+    (λ slot written small. omega (arith, written, same, all, test))
     c.loop-slot.invariant.so_far

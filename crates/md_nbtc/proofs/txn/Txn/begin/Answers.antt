@@ -13,14 +13,14 @@ use Rattle.md_rule.specs.Views.{IsOf}
 use Rattle.md_rule.proofs.LaneLists.{desc_fits}
 use Rattle.md_nbtc.specs.Ending.{Begins, BeginsNot}
 use Rattle.md_nbtc.specs.Going.{IsGoing}
-use Rattle.md_nbtc.specs.State.{state_of}
+use Rattle.md_nbtc.specs.State.{TxnState, state_of}
 use Rattle.md_rule.proofs.Told.{told_leave}
 use Rattle.md_help.specs.After.{Stands}
 use Rattle.md_help.proofs.Steps.{stands_after}
-use Rattle.md_nbtc.specs.Beginning.{LeavesStatus}
 use Rattle.md_nbtc.proofs.beginning.Begun.{is_going}
 use Rattle.md_nbtc.proofs.beginning.Beginnings.{begins, lowest, ok_not_err}
-use Rattle.md_nbtc.proofs.beginning.Leaving.{begins_not, lanes_left, leaves_left, taken_last}
+use Rattle.md_nbtc.proofs.beginning.Leaving.{begins_not, lanes_left, taken_last}
+use Rattle.md_nbtc.proofs.beginning.LeftOut.{free_left}
 use Rattle.md_nbtc.proofs.txn.Txn.begin.Goals as goal
 
 pub put_in_hand-serial-requires-clause-stands : goal.put_in_hand-serial-requires-clause-stands
@@ -41,18 +41,7 @@ put_in_hand-serial-requires-clause-idle g c =
 
 pub put_in_hand-serial-requires-clause-taken : goal.put_in_hand-serial-requires-clause-taken
 put_in_hand-serial-requires-clause-taken g c =
-    let M = g.T.Theory.meaning in
-    let o = c.args.field.now.origin in
-    let p = c.args.pass.now.view in
-    let q = c.mark_leave.new.self.view in
-    let step = c.mark_leave.ensures.step in
-    let same = c.mark_leave.ensures.same in
-    let takes = c.in-Ok.ensures.takes in
-    let desc = c.in-Ok.desc in
-    taken_last c.mark_leave.new.self c.take_descriptor.new.pass desc c.in-Ok.ensures.own c.kept.ensures.lanes c.kept.ensures.shares takes
-    (λ none. subst (λ (h : Shape). LeavesStatus h q desc) (sym (ap (λ (x : PassState). x.shape) same))
-    (leaves_left M o p q step c.args.pass.now.shape desc (c.requires.first desc (subst (λ (l : List ℕ). Contains l desc) (lanes_left M o p q step) takes.0.held)
-    (ap (λ (x : PassState). (share_at x.shares desc).tries_taken) (sym same) ∙ none))))
+    taken_last c.mark_leave.new.self c.take_descriptor.new.pass c.in-Ok.desc c.in-Ok.ensures.own c.kept.ensures.lanes c.kept.ensures.shares c.in-Ok.ensures.takes
 
 pub returns-in-Err : goal.returns-in-Err
 returns-in-Err g c =
@@ -67,6 +56,7 @@ returns-in-Err g c =
       record {
         refused = tt;
         pass = tt;
+        field = tt;
         begun = tt;
         going = tt;
         none = (
@@ -104,16 +94,20 @@ returns g c =
     } in
     let own : HasDesc field.origin.shape r.view desc = subst (λ (x : PassState). HasDesc field.origin.shape x.view desc) (sym takes.1)
     (subst (λ shape. HasDesc shape q.view desc) (ap (λ (x : PassState). x.shape) leave ∙ c.requires.of.shape) own_q) in
-    let is = c.over.ensures.state ∙ ap (λ b. state_of field s b [] [] None desc serial []) c.of-began.ensures in (
+    let idle = ap (λ (x : PassState). x.view.hand) takes.1 ∙ ap (λ (x : PassView). x.hand) (told_leave M field.origin p.view q.view step) in
+    let free = free_left field.origin.shape q r desc (ap (λ (x : PassState). x.shape) leave ∙ c.requires.of.shape) c.kept.ensures.lanes takes
+    (subst (λ n. desc < n) (sym c.kept.ensures.shares) (desc_fits q.shape desc (own_desc_exists q.shape own_q.0 desc own_q.2))) in
+    let is = c.over.ensures.state ∙ ap (λ b. state_of field s b [] [] None desc serial tag []) c.of-began.ensures in (
       (ap some (sym c.over.ensures.pass), (λ w. refl), tt),
       record {
         refused = tt;
         pass = c.over.ensures.pass;
-        begun = subst (Begins p tag) (sym is) (begins M field p q r s desc tag serial leave step takes fits rest counts h of own);
-        going = subst (λ t. IsGoing M t []) (sym is) (is_going M field r s desc tag serial of own (λ lane. (counts lane).0) h);
+        field = ap (λ (t : TxnState). t.field) is;
+        begun = subst (Begins p tag) (sym is) (begins M field p q r s desc tag serial leave step takes fits rest counts h of own idle free);
+        going = subst (λ t. IsGoing M t []) (sym is) (is_going M field r s desc tag serial of own (λ lane. (counts lane).0) h idle free);
         none = (
           (λ e. absurd (ok_not_err _ _ e)),
-          (λ none. let l = lowest M field p q r s desc tag serial leave step takes fits rest counts h of own in absurd (none desc l.held l.has)),
+          (λ none. let l = lowest M field p q r s desc tag serial leave step takes fits rest counts h of own idle free in absurd (none desc l.held l.has)),
         );
         limit = tt;
       },

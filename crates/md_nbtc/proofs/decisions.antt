@@ -1,0 +1,12 @@
+pub mod Validation
+pub mod Settling
+pub mod MaySettle
+pub mod LastFates
+pub mod Answered
+pub mod Decided
+pub mod Commits
+pub mod Aborts
+pub mod StoodThen
+pub mod Tells
+pub mod Shows
+pub mod Outcome

@@ -1,0 +1,4 @@
+pub mod Mapping
+pub mod Keeping
+pub mod Reslotted
+pub mod Kept

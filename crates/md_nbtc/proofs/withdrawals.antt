@@ -1,0 +1,9 @@
+pub mod OneOut
+pub mod AllOut
+pub mod LotBack
+pub mod NodesBack
+pub mod Freed
+pub mod Ended
+pub mod Unready
+pub mod Held
+pub mod Stops

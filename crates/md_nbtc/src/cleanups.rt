@@ -1,0 +1,44 @@
+//! What a transaction puts off until it has committed.
+
+ghost use Rattle.std.specs.Prelude.{◌≡◌, ℕ, true};
+ghost use Rattle.md_nbtc.specs.Calls.{Keeps};
+ghost use Rattle.md_nbtc.specs.Cleaning.{IsWrittenFor, cleanup_node, with_cleanup_kept};
+ghost use Rattle.md_nbtc.specs.Seeing.{KeepsGiven};
+ghost use Rattle.md_nbtc.specs.State.{state};
+
+use crate::seen::Cleanup;
+use crate::txn::Txn;
+use md_machine::Theory;
+
+// The node by whose next word a cleanup goes.
+fn node_of(cleanup: Cleanup) -> u32
+    ensures { result ≡ cleanup_node cleanup }
+{
+    match cleanup {
+        Cleanup::Unlink { prev: _, node } => node,
+        Cleanup::MoveTail {
+            tail: _,
+            from,
+            to: _,
+        } => from,
+    }
+}
+
+impl<'a, T: Theory> Txn<'a, T> {
+    /// Keeps a cleanup until the transaction has committed, with the slot of the next word of its
+    /// node: for an `Unlink` that is `node`, for a `MoveTail` it is `from`. The transaction has
+    /// written that word; its new value has the mark for an `Unlink`, and names `to` for a
+    /// `MoveTail`. The cleanup replaces one that was kept there. No step; it searches the slots.
+    pub fn later(&mut self, cleanup: Cleanup)
+        requires operates { (state self.old).hand.operating ≡ true }
+        requires written { IsWrittenFor (state self.old) cleanup }
+        ensures pass { self.new.pass.ghost_name ≡ self.old.pass.ghost_name }
+        ensures on { Keeps T.meaning (state self.old) (state self.new) cleanup }
+        ensures kept { state self.new
+            ≡ record (state self.old) { slots = with_cleanup_kept (state self.old) cleanup } }
+        ensures given { (other : ℕ) → KeepsGiven (state self.old) (state self.new) other }
+    {
+        let word = self.field.shape().node_next(node_of(cleanup));
+        self.slots.keep(word, cleanup);
+    }
+}

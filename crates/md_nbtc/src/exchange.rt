@@ -1,0 +1,346 @@
+//! How a transaction changes a word.
+
+ghost use Rattle.std.specs.Prelude.{◌≡◌, ◌≢◌, ◌<◌, ℕ, IfOk, false, true, length, map, Some};
+ghost use Rattle.std.specs.List.{Contains, list_any};
+ghost use Rattle.md_words.specs.declared.limits.TheConstants.{SET};
+ghost use Rattle.md_words.specs.PlaceAt.{IsCounted};
+ghost use Rattle.md_machine.specs.Certified.{content_read, is_written};
+ghost use Rattle.md_nbtc.specs.declared.seen.Kind.TheVariants.{Plain};
+ghost use Rattle.md_nbtc.specs.declared.seen.Seen.{Seen};
+ghost use Rattle.md_nbtc.specs.Calls.{AfterStop, Exchanges, GoesOn, MayBeOf, MayExchange};
+ghost use Rattle.md_nbtc.specs.declared.seen.TheConstants.{WORN};
+ghost use Rattle.md_nbtc.specs.Calls.{case_by_count, case_of_other, exchange_case, is_critical};
+ghost use Rattle.md_nbtc.specs.Calls.{is_next_word, makes_step, refusal_by, with_change};
+ghost use Rattle.md_nbtc.specs.Calls.ExchangeCase.{changes, installs};
+ghost use Rattle.md_nbtc.specs.Cleaning.{CleanupsStay};
+ghost use Rattle.md_nbtc.specs.Exchanging.{HoldsSlot, MayPutInSlot, Stored};
+ghost use Rattle.md_nbtc.specs.Going.{IsFoundFirst, IsUnderWay};
+ghost use Rattle.md_nbtc.specs.Seeing.{Gave, IsTidyNow, KeepsGiven, MayChange};
+ghost use Rattle.md_nbtc.specs.Sets.{place_of, with_new};
+ghost use Rattle.md_nbtc.specs.State.{seen_content, shape_in, state, taken_of_lane, writes_in};
+
+use crate::seen::{Kind, Seen, WORN};
+use crate::sets::{Lot, Slot};
+use crate::txn::Txn;
+use md_history::{Limit, Shown, Stop};
+use md_machine::Theory;
+use md_words::{Content, SET, Spot};
+
+impl<'a, T: Theory> Txn<'a, T> {
+    /// Changes a word from what was seen there last to another value, and tells what stands there
+    /// then. It does the first of these that applies:
+    ///
+    /// 1. After a stop it answers the same stop, and does nothing.
+    /// 2. An own word gets a new value in its slot. One step.
+    /// 3. A word that is recorded with another content is `Conflict`, with both. No step.
+    /// 4. A critical change with as many written words as a set has room for is
+    ///    `Limit(Writes)`. No step.
+    /// 5. A count of 4,294,967,292 or more is `Limit(Worn)`. No step.
+    /// 6. A critical change puts the descriptor, at the next slot, into the word. Four steps.
+    /// 7. A plain change is made at once. One step.
+    ///
+    /// A lost step is `Conflict`, with what was seen and what was found. Some other pass is live
+    /// then. A plain change of a word that is recorded, or is an own node's next word, is critical.
+    /// Any other plain change is tidy: the caller shows that by the theory. It takes no memory.
+    pub fn exchange(&mut self, word: u32, from: Seen, to: u32, kind: Kind) -> Result<Seen, Stop>
+        requires going { IsUnderWay T.meaning (state self.old) }
+        requires may { MayExchange T.meaning (state self.old) word from to kind }
+        ensures pass { self.new.pass.ghost_name ≡ self.old.pass.ghost_name }
+        ensures on { GoesOn T.meaning (state self.old) (state self.new) }
+        ensures exchanged { AfterStop (state self.old).stop (state self.old) (state self.new) result
+            (Exchanges (exchange_case (state self.old) word from kind) T.meaning (state self.old)
+            (state self.new) word from to result) }
+        ensures given { KeepsGiven (state self.old) (state self.new) word }
+        ensures gave { IfOk result (λ seen. Gave (state self.new) word seen) }
+    {
+        if let Some(stop) = self.stop {
+            return Err(stop);
+        }
+        if let Some(place) = self.slots.find(word) {
+            return Ok(self.exchange_own(place, word, from, to));
+        }
+        self.exchange_other(word, from, to, kind)
+    }
+
+    // Changes a word that isn't an own one.
+    fn exchange_other(&mut self, word: u32, from: Seen, to: u32, kind: Kind) -> Result<Seen, Stop>
+        requires going { IsUnderWay T.meaning (state self.old) }
+        requires operates { (state self.old).hand.operating ≡ true }
+        requires counted { IsCounted (shape_in (state self.old)) word }
+        requires other { is_written (writes_in (state self.old)) word ≡ false }
+        requires gave { Gave (state self.old) word from }
+        requires may { MayBeOf (case_of_other (state self.old) word from
+            (is_critical (state self.old) word kind)) T.meaning (state self.old) word from to }
+        ensures pass { self.new.pass.ghost_name ≡ self.old.pass.ghost_name }
+        ensures on { GoesOn T.meaning (state self.old) (state self.new) }
+        ensures exchanged { Exchanges (case_of_other (state self.old) word from
+            (is_critical (state self.old) word kind)) T.meaning (state self.old) (state self.new)
+            word from to result }
+        ensures given { KeepsGiven (state self.old) (state self.new) word }
+        ensures gave { IfOk result (λ seen. Gave (state self.new) word seen) }
+    {
+        let critical = self.is_critical(word, kind);
+        if let Some(stop) = self.refusal(word, from, critical) {
+            self.stop = Some(stop);
+            return Err(stop);
+        }
+        if critical {
+            self.install(word, from, to)
+        } else {
+            self.change_plainly(word, from, to)
+        }
+    }
+
+    // An own word gets a new value in its slot. One step.
+    fn exchange_own(&mut self, place: u8, word: u32, from: Seen, to: u32) -> Seen
+        requires going { IsUnderWay T.meaning (state self.old) }
+        requires operates { (state self.old).hand.operating ≡ true }
+        requires found { place_of (state self.old).slots word 0 ≡ Some place }
+        requires gave { Gave (state self.old) word from }
+        requires stay { CleanupsStay (state self.old) word to }
+        ensures pass { self.new.pass.ghost_name ≡ self.old.pass.ghost_name }
+        ensures on { GoesOn T.meaning (state self.old) (state self.new) }
+        ensures seen { result ≡ record { value = to; count = from.count; own = true } }
+        ensures renewed { state self.new ≡ record (state self.old) {
+          pass = (state self.new).pass;
+          hand = with_change (state self.old).hand word from.value to;
+          slots = map (with_new word to) (state self.old).slots;
+        } }
+        ensures given { KeepsGiven (state self.old) (state self.new) word }
+        ensures gave { Gave (state self.new) word result }
+    {
+        let _ = word;
+        let slot_new = self.field.shape().slot_new(self.desc, place);
+        self.pass.store(self.field, slot_new, to as u64);
+        self.slots.set_new(place, to);
+        Seen {
+            value: to,
+            count: from.count,
+            own: true,
+        }
+    }
+
+    // Whether the change of a word that isn't an own one is a part of the transaction.
+    fn is_critical(&self, word: u32, kind: Kind) -> bool
+        requires going { IsUnderWay T.meaning (state self.now) }
+        ensures { result ≡ is_critical (state self.now) word kind }
+    {
+        match kind {
+            Kind::Critical => true,
+            Kind::Plain => self.reads.content(word).is_some() || self.is_own_next(word),
+        }
+    }
+
+    // Whether the word is the next word of one of the transaction's nodes.
+    fn is_own_next(&self, word: u32) -> bool
+        requires going { IsUnderWay T.meaning (state self.now) }
+        ensures { result ≡ list_any (is_next_word (shape_in (state self.now)) word) (map (λ n. n.node)
+            (state self.now).nodes) }
+    {
+        for i in 0..self.lots.len() {
+            if self.is_next_in(self.lots.get(i), word) {
+                return true;
+            }
+        }
+        false
+    }
+
+    // Whether it is that of a node of a lane that gave some. Next words are three words apart.
+    fn is_next_in(&self, lot: Lot, word: u32) -> bool
+        requires going { IsUnderWay T.meaning (state self.now) }
+        requires lot { Contains self.now.lots lot }
+        ensures { result ≡ list_any (is_next_word (shape_in (state self.now)) word)
+            (taken_of_lane self.now.began.value self.now.pass.now lot.lane) }
+    {
+        let shape = self.field.shape();
+        let first = shape.node_next(shape.base + lot.lane * shape.nodes + lot.first + 1);
+        if word < first {
+            return false;
+        }
+        let past = word - first;
+        past % 3 == 0 && past / 3 < self.pass.nodes_taken(lot.lane) - lot.first
+    }
+
+    // Why the exchange of a word that isn't an own one is refused, if it is.
+    fn refusal(&self, word: u32, from: Seen, critical: bool) -> Option<Stop>
+        ensures { result
+            ≡ refusal_by (case_of_other (state self.now) word from critical) word from }
+    {
+        let now = Content {
+            value: from.value,
+            count: from.count,
+        };
+        if let Some(was) = self.reads.content(word) {
+            if was != now.word() {
+                return Some(Stop::Conflict(Shown {
+                    word,
+                    was,
+                    now: now.word(),
+                }));
+            }
+        }
+        self.limit(word, from.count, critical)
+    }
+
+    // The limit that refuses it.
+    fn limit(&self, word: u32, count: u32, critical: bool) -> Option<Stop>
+        ensures { (from : Seen) → from.count ≡ count
+            → result ≡ refusal_by (case_by_count critical (length self.now.slots) count) word from }
+    {
+        if critical && self.slots.len() == SET {
+            return Some(Stop::Limit(Limit::Writes));
+        }
+        if count >= WORN {
+            return Some(Stop::Limit(Limit::Worn { word, count }));
+        }
+        None
+    }
+
+    // Stores to a part of the next slot. One step.
+    fn put_in_slot(&mut self, at: u32, value: u64)
+        requires going { IsUnderWay T.meaning (state self.old) }
+        requires operates { (state self.old).hand.operating ≡ true }
+        requires may { MayPutInSlot (state self.old) at value }
+        ensures pass { self.new.pass.ghost_name ≡ self.old.pass.ghost_name }
+        ensures on { GoesOn T.meaning (state self.old) (state self.new) }
+        ensures same { state self.new ≡ record (state self.old) { pass = (state self.new).pass } }
+        ensures given { (other : ℕ) → KeepsGiven (state self.old) (state self.new) other }
+        ensures stored { Stored (state self.new) at value }
+        ensures keeps { (word held : ℕ) → word ≢ at → Stored (state self.old) word held
+            → Stored (state self.new) word held }
+    {
+        self.pass.store(self.field, at, value);
+    }
+
+    // Stores a word, its old content and its new value in the next slot. Three steps.
+    fn store_slot(&mut self, word: u32, old: u64, new: u32)
+        requires going { IsUnderWay T.meaning (state self.old) }
+        requires operates { (state self.old).hand.operating ≡ true }
+        requires counted { IsCounted (shape_in (state self.old)) word }
+        requires room { length self.old.slots < SET }
+        ensures pass { self.new.pass.ghost_name ≡ self.old.pass.ghost_name }
+        ensures on { GoesOn T.meaning (state self.old) (state self.new) }
+        ensures same { state self.new ≡ record (state self.old) { pass = (state self.new).pass } }
+        ensures given { (other : ℕ) → KeepsGiven (state self.old) (state self.new) other }
+        ensures holds { HoldsSlot (state self.new) word old new }
+    {
+        let slot = self.slots.len();
+        let at_word = self.field.shape().slot_word(self.desc, slot);
+        let at_old = self.field.shape().slot_old(self.desc, slot);
+        let at_new = self.field.shape().slot_new(self.desc, slot);
+        self.put_in_slot(at_word, word as u64);
+        self.put_in_slot(at_old, old);
+        self.put_in_slot(at_new, new as u64);
+    }
+
+    // Puts the descriptor, at the next slot, into a word. Four steps.
+    fn install(&mut self, word: u32, from: Seen, to: u32) -> Result<Seen, Stop>
+        requires going { IsUnderWay T.meaning (state self.old) }
+        requires operates { (state self.old).hand.operating ≡ true }
+        requires counted { IsCounted (shape_in (state self.old)) word }
+        requires other { is_written (writes_in (state self.old)) word ≡ false }
+        requires steps { makes_step (case_of_other (state self.old) word from true) ≡ true }
+        requires gave { Gave (state self.old) word from }
+        requires may { MayChange T.meaning (state self.old) word }
+        requires first { IsFoundFirst T.meaning (state self.old) word from.value }
+        ensures pass { self.new.pass.ghost_name ≡ self.old.pass.ghost_name }
+        ensures on { GoesOn T.meaning (state self.old) (state self.new) }
+        ensures exchanged { Exchanges installs T.meaning (state self.old) (state self.new) word from
+            to result }
+        ensures given { KeepsGiven (state self.old) (state self.new) word }
+        ensures gave { IfOk result (λ seen. Gave (state self.new) word seen) }
+    {
+        let old = Content {
+            value: from.value,
+            count: from.count,
+        };
+        self.store_slot(word, old.word(), to);
+        self.install_next(word, from, to)
+    }
+
+    // Puts the descriptor, at the next slot, which is stored, into a word. One step.
+    fn install_next(&mut self, word: u32, from: Seen, to: u32) -> Result<Seen, Stop>
+        requires going { IsUnderWay T.meaning (state self.old) }
+        requires operates { (state self.old).hand.operating ≡ true }
+        requires counted { IsCounted (shape_in (state self.old)) word }
+        requires other { is_written (writes_in (state self.old)) word ≡ false }
+        requires fits { from.count < WORN }
+        requires agree { (held : ℕ) → content_read (state self.old).reads word ≡ Some held
+            → held ≡ seen_content from }
+        requires holds { HoldsSlot (state self.old) word (seen_content from) to }
+        requires gave { Gave (state self.old) word from }
+        requires may { MayChange T.meaning (state self.old) word }
+        requires first { IsFoundFirst T.meaning (state self.old) word from.value }
+        ensures pass { self.new.pass.ghost_name ≡ self.old.pass.ghost_name }
+        ensures on { GoesOn T.meaning (state self.old) (state self.new) }
+        ensures exchanged { Exchanges installs T.meaning (state self.old) (state self.new) word from
+            to result }
+        ensures given { KeepsGiven (state self.old) (state self.new) word }
+        ensures gave { IfOk result (λ seen. Gave (state self.new) word seen) }
+    {
+        let old = Content {
+            value: from.value,
+            count: from.count,
+        };
+        let slot = self.slots.len();
+        let spot = Spot {
+            desc: self.desc,
+            slot,
+        };
+        let _ = self.pass.shape();
+        match self.pass.install(self.field, word, old, spot) {
+            Ok(()) => {
+                self.slots.push(Slot::of(slot, word, old.word(), to));
+                Ok(Seen {
+                    value: to,
+                    count: from.count + 1,
+                    own: true,
+                })
+            }
+            Err(now) => Err(self.lose(word, old.word(), now)),
+        }
+    }
+
+    // Changes a word by a plain exchange, which is tidy. One step.
+    fn change_plainly(&mut self, word: u32, from: Seen, to: u32) -> Result<Seen, Stop>
+        requires going { IsUnderWay T.meaning (state self.old) }
+        requires operates { (state self.old).hand.operating ≡ true }
+        requires counted { IsCounted (shape_in (state self.old)) word }
+        requires other { is_written (writes_in (state self.old)) word ≡ false }
+        requires fits { from.count < WORN }
+        requires plain { is_critical (state self.old) word Plain ≡ false }
+        requires gave { Gave (state self.old) word from }
+        requires may { MayChange T.meaning (state self.old) word }
+        requires tidy { IsTidyNow T.meaning (state self.old) word from.value to }
+        ensures pass { self.new.pass.ghost_name ≡ self.old.pass.ghost_name }
+        ensures on { GoesOn T.meaning (state self.old) (state self.new) }
+        ensures exchanged { Exchanges changes T.meaning (state self.old) (state self.new) word from
+            to result }
+        ensures given { KeepsGiven (state self.old) (state self.new) word }
+        ensures gave { IfOk result (λ seen. Gave (state self.new) word seen) }
+    {
+        let old = Content {
+            value: from.value,
+            count: from.count,
+        };
+        match self.pass.exchange(self.field, word, old, to) {
+            Ok(()) => Ok(Seen {
+                value: to,
+                count: from.count + 2,
+                own: false,
+            }),
+            Err(found) => Err(self.lose(word, old.word(), found)),
+        }
+    }
+
+    // Keeps the conflict that a lost exchange shows.
+    fn lose(&mut self, word: u32, was: u64, now: u64) -> Stop
+        ensures pass { self.new.pass.ghost_name ≡ self.old.pass.ghost_name }
+        ensures stop { result ≡ Stop.Conflict (record { word = word; was = was; now = now }) }
+        ensures kept { self.new ≡ record self.old { stop = Some result } }
+    {
+        let stop = Stop::Conflict(Shown { word, was, now });
+        self.stop = Some(stop);
+        stop
+    }
+}

@@ -1,0 +1,70 @@
+//! How a transaction takes new nodes.
+
+ghost use Rattle.std.specs.Prelude.{◌≡◌, ℕ, true};
+ghost use Rattle.md_nbtc.specs.Calls.{AfterStop, FreshKeepsGiven, Freshened, GoesOn};
+ghost use Rattle.md_nbtc.specs.Going.{IsUnderWay};
+ghost use Rattle.md_nbtc.specs.State.{state};
+
+use crate::seen::WORN;
+use crate::sets::Lot;
+use crate::txn::Txn;
+use md_arena::{give_back, take_node};
+use md_history::{Limit, Stop};
+use md_machine::Theory;
+use md_words::Content;
+
+impl<'a, T: Theory> Txn<'a, T> {
+    /// Takes the lowest node that is left of the pass's lanes, and stores its key, its value and,
+    /// with a count 2 higher, its next word. Nobody else sees the node before the transaction has
+    /// put it into a structure and committed.
+    ///
+    /// The answer is `Limit::Nodes` exactly if no lane of the pass has a node left, and
+    /// `Limit::Worn` exactly if the count of the node's next word is 4,294,967,292 or more; the
+    /// node is left again then. The transaction keeps this stop. After a stop the answer is the
+    /// same stop and nothing is done.
+    ///
+    /// Four steps; one if the next word is worn, and none if no node is left.
+    pub fn fresh(&mut self, key: u64, value: u64, next: u32) -> Result<u32, Stop>
+        requires going { IsUnderWay T.meaning (state self.old) }
+        requires operates { (state self.old).hand.operating ≡ true }
+        ensures pass { self.new.pass.ghost_name ≡ self.old.pass.ghost_name }
+        ensures on { GoesOn T.meaning (state self.old) (state self.new) }
+        ensures fresh { AfterStop (state self.old).stop (state self.old) (state self.new) result
+            (Freshened (state self.old) (state self.new) key value next result) }
+        ensures given { FreshKeepsGiven (state self.old) (state self.new) result }
+    {
+        if let Some(stop) = self.stop {
+            return Err(stop);
+        }
+        let shape = *self.pass.shape();
+        let node = match take_node(self.pass) {
+            Ok(node) => node,
+            Err(limit) => {
+                self.stop = Some(Stop::Limit(limit));
+                return Err(Stop::Limit(limit));
+            }
+        };
+        let word = shape.node_next(node);
+        let found = Content::of(self.pass.load(self.field, word));
+        if found.count >= WORN {
+            give_back(self.pass, node);
+            let worn = Stop::Limit(Limit::Worn {
+                word,
+                count: found.count,
+            });
+            self.stop = Some(worn);
+            return Err(worn);
+        }
+        let stored = Content {
+            value: next,
+            count: found.count + 2,
+        };
+        self.pass.store(self.field, shape.node_key(node), key);
+        self.pass.store(self.field, shape.node_value(node), value);
+        self.pass.store(self.field, word, stored.word());
+        let lane = (node - shape.base - 1) / shape.nodes;
+        let first = self.pass.nodes_taken(lane) - 1;
+        self.lots.keep(Lot { lane, first });
+        Ok(node)
+    }
+}

@@ -1,0 +1,181 @@
+//! How a transaction looks at a word.
+
+ghost use Rattle.std.specs.Prelude.{◌≡◌, ◌<◌, ◌≤◌, ◌^◌, false, None, Some};
+ghost use Rattle.md_words.specs.Content.{count_of, word_of};
+ghost use Rattle.md_words.specs.Layout.{words_of};
+ghost use Rattle.md_words.specs.PlaceAt.{IsCounted};
+ghost use Rattle.md_machine.specs.declared.step.TheConstants.{LAST_COUNT};
+ghost use Rattle.md_machine.specs.events.Install.{installed_word};
+ghost use Rattle.md_rule.specs.Views.{IsOf};
+ghost use Rattle.md_help.specs.After.{Stands};
+ghost use Rattle.md_nbtc.specs.Calls.{AfterStop, GoesOn, Looked};
+ghost use Rattle.md_nbtc.specs.Going.{IsUnderWay};
+ghost use Rattle.md_nbtc.specs.Looking.{LooksUntil};
+ghost use Rattle.md_nbtc.specs.Seeing.{KeepsGiven};
+ghost use Rattle.md_nbtc.specs.Sets.{place_of};
+ghost use Rattle.md_nbtc.specs.State.{shape_in, state};
+
+use crate::seen::Seen;
+use crate::txn::Txn;
+use md_help::clear;
+use md_history::{Shown, Stop};
+use md_machine::{Theory, Write};
+use md_rule::{Field, Pass};
+use md_words::{Content, Spot};
+use std::hint::spin_loop;
+
+// So often a descriptor is looked at again at most, before it is cleared.
+const LOOKS: u32 = 300;
+
+// A pause between two looks is at most so long, in turns of the spin hint.
+const LONGEST: u32 = 64;
+
+fn pause(turns: u32) {
+    for _ in 0..turns.min(LONGEST) {
+        spin_loop();
+    }
+}
+
+// Looks again while the same content stands in the word, with growing pauses. What it found last.
+fn await_other<T: Theory>(pass: &mut Pass<T>, field: &Field<T>, word: u32, found: u64) -> u64
+    requires of { IsOf pass.old field.now }
+    requires stands { Stands T.meaning field.now.origin pass.old.view }
+    requires inside { word < words_of field.now.origin.shape }
+    ensures same { pass.new ≡ record pass.old { view = pass.new.view } }
+    ensures looks { LooksUntil T.meaning field.now.origin word result pass.old.view pass.new.view }
+{
+    let mut last = found;
+    for i in 0..LOOKS {
+        pause(i);
+        last = pass.load(field, word);
+        if last != found {
+            return last;
+        }
+    }
+    last
+}
+
+// What is found in a word: a descriptor only if it stands there for a while.
+fn look_at<T: Theory>(pass: &mut Pass<T>, field: &Field<T>, word: u32) -> u64
+    requires of { IsOf pass.old field.now }
+    requires stands { Stands T.meaning field.now.origin pass.old.view }
+    requires inside { word < words_of field.now.origin.shape }
+    ensures same { pass.new ≡ record pass.old { view = pass.new.view } }
+    ensures looks { LooksUntil T.meaning field.now.origin word result pass.old.view pass.new.view }
+{
+    let found = pass.load(field, word);
+    match Content::of(found).stands() {
+        None => found,
+        Some(_) => await_other(pass, field, word, found),
+    }
+}
+
+// What is seen in a word that holds an even content.
+fn seen_of(content: Content) -> Seen
+    ensures { result ≡ record { value = content.value; count = content.count; own = false } }
+{
+    Seen {
+        value: content.value,
+        count: content.count,
+        own: false,
+    }
+}
+
+// What a descriptor left in a word when it was installed with this slot.
+fn installed(desc: u32, write: Write) -> Content
+    requires fits { desc < 2 ^ 24 }
+    requires room { count_of write.old ≤ LAST_COUNT }
+    ensures { word_of result
+        ≡ installed_word write.old (record { desc = desc; slot = write.slot }) }
+{
+    let spot = Spot {
+        desc,
+        slot: write.slot,
+    };
+    Content {
+        value: spot.value(),
+        count: Content::of(write.old).count + 1,
+    }
+}
+
+impl<'a, T: Theory> Txn<'a, T> {
+    /// What a word stands for: a word that holds an even content stands for its value, and one that
+    /// the transaction wrote for its new value there. Where another's descriptor stands, the word
+    /// is looked at again, at most 300 times with pauses between, and the descriptor is taken out
+    /// by `md_help::clear` if it stands there still. It takes no memory.
+    ///
+    /// The transaction is under way, and the word is a counted one. The answer is a conflict if
+    /// the own descriptor isn't any more where it was installed, or if a descriptor was found again
+    /// after a clearing; never if the pass holds all lanes. A stop is kept: each later call answers
+    /// it and makes no step.
+    ///
+    /// One step. Where another's descriptor stands: at most 300 looks and `3r + 6` steps more, `r`
+    /// being the reads of the attempt that is cleared. After Cai, Wen and Scott (2023).
+    pub fn load(&mut self, word: u32) -> Result<Seen, Stop>
+        requires going { IsUnderWay T.meaning (state self.old) }
+        requires counted { IsCounted (shape_in (state self.old)) word }
+        ensures pass { self.new.pass.ghost_name ≡ self.old.pass.ghost_name }
+        ensures on { GoesOn T.meaning (state self.old) (state self.new) }
+        ensures looked { AfterStop (state self.old).stop (state self.old) (state self.new) result
+            (Looked T.meaning (state self.old) (state self.new) word result) }
+        ensures given { KeepsGiven (state self.old) (state self.new) word }
+    {
+        if let Some(stop) = self.stop {
+            return Err(stop);
+        }
+        match self.slots.find(word) {
+            Some(i) => self.load_own(word, i),
+            None => self.load_other(word),
+        }
+    }
+
+    // Of a word that the transaction wrote.
+    fn load_own(&mut self, word: u32, i: u8) -> Result<Seen, Stop>
+        requires going { IsUnderWay T.meaning (state self.old) }
+        requires counted { IsCounted (shape_in (state self.old)) word }
+        requires slot { place_of (state self.old).slots word 0 ≡ Some i }
+        ensures pass { self.new.pass.ghost_name ≡ self.old.pass.ghost_name }
+        ensures on { GoesOn T.meaning (state self.old) (state self.new) }
+        ensures looked { Looked T.meaning (state self.old) (state self.new) word result }
+        ensures given { KeepsGiven (state self.old) (state self.new) word }
+    {
+        let write = self.slots.get(i).write;
+        let was = installed(self.desc, write).word();
+        let now = self.pass.load(self.field, word);
+        if now == was {
+            return Ok(Seen {
+                value: write.new as u32,
+                count: Content::of(write.old).count + 1,
+                own: true,
+            });
+        }
+        let stop = Stop::Conflict(Shown { word, was, now });
+        self.stop = Some(stop);
+        Err(stop)
+    }
+
+    // Of any other word.
+    fn load_other(&mut self, word: u32) -> Result<Seen, Stop>
+        requires going { IsUnderWay T.meaning (state self.old) }
+        requires counted { IsCounted (shape_in (state self.old)) word }
+        requires none { place_of (state self.old).slots word 0 ≡ None }
+        ensures pass { self.new.pass.ghost_name ≡ self.old.pass.ghost_name }
+        ensures on { GoesOn T.meaning (state self.old) (state self.new) }
+        ensures looked { Looked T.meaning (state self.old) (state self.new) word result }
+        ensures given { KeepsGiven (state self.old) (state self.new) word }
+    {
+        let was = look_at(self.pass, self.field, word);
+        let found = Content::of(was);
+        if found.stands().is_none() {
+            return Ok(seen_of(found));
+        }
+        let now = clear(self.field, self.pass, word, found).left;
+        let left = Content::of(now);
+        if left.stands().is_none() {
+            return Ok(seen_of(left));
+        }
+        let stop = Stop::Conflict(Shown { word, was, now });
+        self.stop = Some(stop);
+        Err(stop)
+    }
+}

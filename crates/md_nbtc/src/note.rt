@@ -1,0 +1,122 @@
+//! How a transaction records what it found in a word.
+
+ghost use Rattle.std.specs.Prelude.{◌≡◌, ◌<◌, [], ◌∷◌, ◌++◌, ℕ, None, Some, Err};
+ghost use Rattle.std.specs.Prelude.{length, false, true};
+ghost use Rattle.md_words.specs.declared.limits.TheConstants.{SET};
+ghost use Rattle.md_words.specs.Content.{count_of, value_of};
+ghost use Rattle.md_machine.specs.Certified.{content_read};
+ghost use Rattle.md_nbtc.specs.declared.seen.Seen.{Seen};
+ghost use Rattle.md_nbtc.specs.Calls.{AfterStop, GoesOn, Notes, note_case};
+ghost use Rattle.md_nbtc.specs.Going.{HasCause, IsFoundThere, IsUnderWay};
+ghost use Rattle.md_nbtc.specs.Seeing.{Gave, KeepsGiven};
+ghost use Rattle.md_nbtc.specs.State.{seen_content, state};
+
+use crate::seen::Seen;
+use crate::txn::Txn;
+use md_history::{Limit, Shown, Stop};
+use md_machine::{Read, Theory};
+use md_words::{Content, SET};
+
+// The word of what was seen.
+fn content_of(seen: Seen) -> u64
+    ensures whole { result ≡ seen_content seen }
+    ensures parts { (value_of result ≡ seen.value) × (count_of result ≡ seen.count) }
+{
+    Content {
+        value: seen.value,
+        count: seen.count,
+    }
+    .word()
+}
+
+impl<'a, T: Theory> Txn<'a, T> {
+    /// Records what was seen in a word: the transaction commits only if the word holds it still.
+    /// `seen` is what the transaction's last load or exchange of the word gave. Nothing is done
+    /// for a word that the transaction changes, or that is recorded with the same content.
+    ///
+    /// The answer is `Conflict` with the word, the recorded content and the seen one, if the word
+    /// is recorded with another content; and `Limit::Reads` exactly if the word must be recorded
+    /// and 128 words are. The transaction keeps this stop. After a stop the answer is the same stop
+    /// and nothing is done.
+    ///
+    /// Two steps where the word is recorded, and else none. It searches the recorded words.
+    pub fn note(&mut self, word: u32, seen: Seen) -> Result<(), Stop>
+        requires going { IsUnderWay T.meaning (state self.old) }
+        requires operates { (state self.old).hand.operating ≡ true }
+        requires gave { Gave (state self.old) word seen }
+        requires found { IsFoundThere T.meaning (state self.old) word seen }
+        ensures pass { self.new.pass.ghost_name ≡ self.old.pass.ghost_name }
+        ensures on { GoesOn T.meaning (state self.old) (state self.new) }
+        ensures noted { AfterStop (state self.old).stop (state self.old) (state self.new) result
+            (Notes (note_case (state self.old) word seen) (state self.old) (state self.new) word seen
+            result) }
+        ensures given { KeepsGiven (state self.old) (state self.new) word }
+        ensures gave { Gave (state self.new) word seen }
+    {
+        if let Some(stop) = self.stop {
+            return Err(stop);
+        }
+        if seen.own {
+            return Ok(());
+        }
+        let now = content_of(seen);
+        if let Some(was) = self.reads.content(word) {
+            if was == now {
+                return Ok(());
+            }
+            return self.halt(Stop::Conflict(Shown { word, was, now }));
+        }
+        if self.reads.len() == SET {
+            return self.halt(Stop::Limit(Limit::Reads));
+        }
+        self.record(word, seen);
+        Ok(())
+    }
+
+    // Keeps a stop, which has its cause, and answers it.
+    fn halt(&mut self, stop: Stop) -> Result<(), Stop>
+        requires going { IsUnderWay T.meaning (state self.old) }
+        requires cause { HasCause (state self.old) stop }
+        ensures pass { self.new.pass.ghost_name ≡ self.old.pass.ghost_name }
+        ensures answer { result ≡ Err stop }
+        ensures kept { state self.new ≡ record (state self.old) { stop = Some stop } }
+        ensures on { GoesOn T.meaning (state self.old) (state self.new) }
+        ensures gave { (word : ℕ) (seen : Seen) → Gave (state self.old) word seen
+            → Gave (state self.new) word seen }
+    {
+        self.stop = Some(stop);
+        Err(stop)
+    }
+
+    // Records a word that isn't recorded yet, in the next read of the descriptor. Two steps.
+    fn record(&mut self, word: u32, seen: Seen)
+        requires going { IsUnderWay T.meaning (state self.old) }
+        requires gave { Gave (state self.old) word seen }
+        requires found { IsFoundThere T.meaning (state self.old) word seen }
+        requires other { seen.own ≡ false }
+        requires unread { content_read (state self.old).reads word ≡ None }
+        requires room { length (state self.old).reads < SET }
+        ensures pass { self.new.pass.ghost_name ≡ self.old.pass.ghost_name }
+        ensures on { GoesOn T.meaning (state self.old) (state self.new) }
+        ensures recorded { state self.new ≡ record (state self.old) {
+          pass = (state self.new).pass;
+          reads = (state self.old).reads
+              ++ (record { word = word; content = seen_content seen; stood = true }) ∷ [];
+        } }
+        ensures given { KeepsGiven (state self.old) (state self.new) word }
+        ensures gave { Gave (state self.new) word seen }
+    {
+        let read = Read {
+            word,
+            content: content_of(seen),
+            stood: true,
+        };
+        let shape = self.field.shape();
+        let i = self.reads.len();
+        let word_at = shape.read_word(self.desc, i);
+        let content_at = shape.read_content(self.desc, i);
+        self.pass.store(self.field, word_at, word as u64);
+        self.pass.store(self.field, content_at, read.content);
+        self.reads.push(read);
+    }
+}

@@ -1,0 +1,255 @@
+//! How the cleanups of a committed transaction are made.
+
+ghost use Rattle.std.specs.Prelude.{◌≡◌, ◌≤◌, ◌↔◌, All, IsTrue, List, length, map, take, true};
+ghost use Rattle.std.specs.List.{AllZip};
+ghost use Rattle.md_words.specs.declared.limits.TheConstants.{SET};
+ghost use Rattle.md_words.specs.declared.status.Status.TheVariants.{Committed};
+ghost use Rattle.md_words.specs.Content.{value_of};
+ghost use Rattle.md_words.specs.Layout.{IsNode};
+ghost use Rattle.md_machine.specs.declared.step.Step.{Step};
+ghost use Rattle.md_machine.specs.events.Start.{IsClean};
+ghost use Rattle.md_rule.specs.Views.{IsOf};
+ghost use Rattle.md_help.specs.After.{Stands};
+ghost use Rattle.md_nbtc.specs.Cleaning.{cleanup_node, cleanup_value, cleanup_word};
+ghost use Rattle.md_nbtc.specs.Deciding.{Cleaned, CleansSlots, FindsNext, MayClean, MayCleanSlot};
+ghost use Rattle.md_nbtc.specs.Deciding.{CleansSlot, Finishes};
+ghost use Rattle.md_nbtc.specs.Deciding.{TakesSlots, TookLeft, TookOut, TookSlot, Tried};
+ghost use Rattle.md_nbtc.specs.Ending.{IsReason, names_node};
+ghost use Rattle.md_nbtc.specs.Withdrawing.{AreInstalled, HasFate, IsAlwaysPlaced};
+
+use crate::seen::{Cleanup, WORN};
+use crate::sets::{Slot, Slots};
+use crate::withdrawing::take_write_out;
+use md_machine::{AttemptId, Theory};
+use md_rule::{Field, Pass};
+use md_words::{Content, Status};
+
+// The word that it changes.
+fn word_of(cleanup: Cleanup) -> u32
+    ensures { result ≡ cleanup_word cleanup }
+{
+    match cleanup {
+        Cleanup::Unlink { prev, node: _ } => prev,
+        Cleanup::MoveTail {
+            tail,
+            from: _,
+            to: _,
+        } => tail,
+    }
+}
+
+// The node whose next word it goes by.
+fn node_of(cleanup: Cleanup) -> u32
+    ensures { result ≡ cleanup_node cleanup }
+{
+    match cleanup {
+        Cleanup::Unlink { prev: _, node } => node,
+        Cleanup::MoveTail {
+            tail: _,
+            from,
+            to: _,
+        } => from,
+    }
+}
+
+// Whether its word names the node, without a mark.
+fn names(cleanup: Cleanup, held: u64) -> bool
+    ensures { result ≡ names_node cleanup held }
+{
+    let content = Content::of(held);
+    content.stands().is_none() && content.value as u64 == 2 * node_of(cleanup) as u64
+}
+
+// Whether it may go by this content of the node's next word.
+fn is_reason(cleanup: Cleanup, next: u64) -> bool
+    ensures { IsTrue result ↔ IsReason cleanup next }
+{
+    let content = Content::of(next);
+    if content.stands().is_some() {
+        return false;
+    }
+    match cleanup {
+        Cleanup::Unlink { prev: _, node: _ } => content.value % 2 == 1,
+        Cleanup::MoveTail {
+            tail: _,
+            from: _,
+            to,
+        } => content.value != 0 && content.value as u64 == 2 * to as u64,
+    }
+}
+
+// The value that its word gets by this content.
+fn new_value(cleanup: Cleanup, next: u64) -> u32
+    requires { IsReason cleanup next }
+    ensures { result ≡ cleanup_value cleanup (value_of next) }
+{
+    let value = Content::of(next).value;
+    match cleanup {
+        Cleanup::Unlink { prev: _, node: _ } => value - 1,
+        Cleanup::MoveTail {
+            tail: _,
+            from: _,
+            to: _,
+        } => value,
+    }
+}
+
+// What stands in the node's next word: an unlink loads it, and a move of the tail goes by what was
+// left there when the descriptor was taken out of it.
+fn next_by<T: Theory>(pass: &mut Pass<T>, field: &Field<T>, cleanup: Cleanup, left: u64) -> u64
+    requires of { IsOf pass.old field.now }
+    requires stands { Stands T.meaning field.now.origin pass.old.view }
+    requires exists { IsNode field.now.origin.shape (cleanup_node cleanup) }
+    requires placed { IsAlwaysPlaced T.meaning field.now.origin pass.old.view
+        (cleanup_node cleanup) }
+    ensures same { pass.new ≡ record pass.old { view = pass.new.view } }
+    ensures stands { Stands T.meaning field.now.origin pass.new.view }
+    ensures next { (out : Step) → TookOut field.now.origin.shape pass.old.view cleanup left out
+        → FindsNext field.now.origin.shape cleanup out result pass.old.view pass.new.view }
+{
+    match cleanup {
+        Cleanup::Unlink { prev: _, node } => pass.load(field, field.shape().node_next(node)),
+        Cleanup::MoveTail {
+            tail: _,
+            from: _,
+            to: _,
+        } => left,
+    }
+}
+
+// Makes the change of a cleanup whose word was found to name its node. Nothing is done if the word
+// is worn, or if the node's next word doesn't hold what it must. At most two steps.
+fn try_cleanup<T: Theory>(
+    pass: &mut Pass<T>,
+    field: &Field<T>,
+    cleanup: Cleanup,
+    held: u64,
+    left: u64,
+)
+    requires of { IsOf pass.old field.now }
+    requires stands { Stands T.meaning field.now.origin pass.old.view }
+    requires may { MayClean T.meaning field.now.origin pass.old.view cleanup }
+    requires names { names_node cleanup held ≡ true }
+    requires out { (out : Step) × TookOut field.now.origin.shape pass.old.view cleanup left out }
+    ensures same { pass.new ≡ record pass.old { view = pass.new.view } }
+    ensures stands { Stands T.meaning field.now.origin pass.new.view }
+    ensures tried { (out : Step) → TookOut field.now.origin.shape pass.old.view cleanup left out
+        → Tried field.now.origin.shape cleanup out held pass.old.view pass.new.view }
+{
+    let next = next_by(pass, field, cleanup, left);
+    let from = Content::of(held);
+    if from.count < WORN && is_reason(cleanup, next) {
+        let _ = pass.exchange(field, word_of(cleanup), from, new_value(cleanup, next));
+    }
+}
+
+// Makes one cleanup, if its word still names its node. At most three steps.
+fn clean_up<T: Theory>(pass: &mut Pass<T>, field: &Field<T>, cleanup: Cleanup, left: u64)
+    requires of { IsOf pass.old field.now }
+    requires stands { Stands T.meaning field.now.origin pass.old.view }
+    requires may { MayClean T.meaning field.now.origin pass.old.view cleanup }
+    requires out { (out : Step) × TookOut field.now.origin.shape pass.old.view cleanup left out }
+    ensures same { pass.new ≡ record pass.old { view = pass.new.view } }
+    ensures stands { Stands T.meaning field.now.origin pass.new.view }
+    ensures cleaned { (out : Step) → TookOut field.now.origin.shape pass.old.view cleanup left out
+        → Cleaned field.now.origin.shape cleanup out pass.old.view pass.new.view }
+{
+    let held = pass.load(field, word_of(cleanup));
+    if names(cleanup, held) {
+        try_cleanup(pass, field, cleanup, held, left);
+    }
+}
+
+// Takes the descriptor of a committed attempt out of the words that it wrote, in order, and keeps
+// what is left in each. One step each.
+pub(crate) fn take_slots_out<T: Theory>(
+    pass: &mut Pass<T>,
+    field: &Field<T>,
+    attempt: AttemptId,
+    slots: &Slots,
+    lefts: &mut [u64],
+)
+    requires of { IsOf pass.old field.now }
+    requires stands { Stands T.meaning field.now.origin pass.old.view }
+    requires fate { HasFate field.now.origin.shape pass.old.view attempt Committed }
+    requires installed { AreInstalled field.now.origin.shape pass.old.view attempt
+        (map (λ s. s.write) slots.now) }
+    requires may { All (MayCleanSlot T.meaning field.now.origin pass.old.view) slots.now }
+    requires room { length slots.now ≤ length lefts.old }
+    ensures same { pass.new ≡ record pass.old { view = pass.new.view } }
+    ensures stands { Stands T.meaning field.now.origin pass.new.view }
+    ensures takes { TakesSlots field.now.origin.shape attempt slots.now
+        (take (length slots.now) lefts.new) pass.old.view pass.new.view }
+    ensures clean { IsClean pass.new.view attempt }
+{
+    for i in 0..slots.len() {
+        let write = slots.get(i).write;
+        lefts[i as usize] = take_write_out(pass, field, attempt, write, Status::Committed);
+    }
+}
+
+// Makes the cleanup that a slot keeps, if it keeps one.
+fn clean_slot<T: Theory>(pass: &mut Pass<T>, field: &Field<T>, slot: Slot, left: u64)
+    requires of { IsOf pass.old field.now }
+    requires stands { Stands T.meaning field.now.origin pass.old.view }
+    requires may { MayCleanSlot T.meaning field.now.origin pass.old.view slot }
+    requires out { (out : Step) × TookLeft field.now.origin.shape pass.old.view slot left out }
+    ensures same { pass.new ≡ record pass.old { view = pass.new.view } }
+    ensures stands { Stands T.meaning field.now.origin pass.new.view }
+    ensures cleans { (out : Step) → TookLeft field.now.origin.shape pass.old.view slot left out
+        → CleansSlot field.now.origin.shape slot out pass.old.view pass.new.view }
+{
+    if let Some(cleanup) = slot.cleanup {
+        clean_up(pass, field, cleanup, left);
+    }
+}
+
+// Makes the cleanups that are kept, in the order of their slots. At most three steps each.
+pub(crate) fn clean_slots<T: Theory>(
+    pass: &mut Pass<T>,
+    field: &Field<T>,
+    slots: &Slots,
+    lefts: &[u64],
+)
+    requires of { IsOf pass.old field.now }
+    requires stands { Stands T.meaning field.now.origin pass.old.view }
+    requires may { All (MayCleanSlot T.meaning field.now.origin pass.old.view) slots.now }
+    requires outs { (outs : List Step)
+        × AllZip (TookSlot field.now.origin.shape pass.old.view) slots.now outs
+        × (take (length slots.now) lefts.now ≡ map (λ s. s.after) outs) }
+    ensures same { pass.new ≡ record pass.old { view = pass.new.view } }
+    ensures stands { Stands T.meaning field.now.origin pass.new.view }
+    ensures cleans { (outs : List Step)
+        → AllZip (TookSlot field.now.origin.shape pass.old.view) slots.now outs
+        → take (length slots.now) lefts.now ≡ map (λ s. s.after) outs
+        → CleansSlots field.now.origin.shape slots.now outs pass.old.view pass.new.view }
+{
+    for i in 0..slots.len() {
+        clean_slot(pass, field, slots.get(i), lefts[i as usize]);
+    }
+}
+
+// The rest of an attempt that was committed: its descriptor is taken out of the words that it
+// wrote, the kept cleanups are made, and nothing is in hand. At most four steps for each written
+// word, and one more.
+pub(crate) fn finish<T: Theory>(
+    pass: &mut Pass<T>,
+    field: &Field<T>,
+    attempt: AttemptId,
+    slots: &Slots,
+)
+    requires of { IsOf pass.old field.now }
+    requires stands { Stands T.meaning field.now.origin pass.old.view }
+    requires fate { HasFate field.now.origin.shape pass.old.view attempt Committed }
+    requires installed { AreInstalled field.now.origin.shape pass.old.view attempt
+        (map (λ s. s.write) slots.now) }
+    requires may { All (MayCleanSlot T.meaning field.now.origin pass.old.view) slots.now }
+    requires few { length slots.now ≤ SET }
+    ensures { Finishes T.meaning field.now.origin pass.old attempt slots.now pass.new }
+{
+    let _ = pass.shape();
+    let mut lefts = [0; 128];
+    take_slots_out(pass, field, attempt, slots, &mut lefts);
+    clean_slots(pass, field, slots, &lefts);
+    pass.mark_end(field, attempt.desc);
+}
