@@ -15,7 +15,7 @@ pub mod Standing
 pub mod Framing
 pub mod RisingLinks
 pub mod RisingRows
-mod RisingAlong
+pub mod RisingAlong
 pub mod OneListLaws
 mod Shown
 pub mod RowsHold

@@ -1,0 +1,167 @@
+-- A look-up of a key that is in the list, and of one that isn't: its certificate.
+use Rattle.std.proofs.Common.{◌≡◌, ◌≢◌, ◌⊎◌, ◌<◌, ◌≤◌, ◌^◌, ℕ, true, false, List, [], ◌∷◌, Some, None, refl, sym, ap, ◌∙◌, subst, inl, inr, ⊎_elim, eqb-true, eq-eqb, arith}
+use Rattle.std.proofs.lemmas.Bool.{cases_eq, true≢false}
+use Rattle.std.proofs.lemmas.List.Elements.{All-cons, All-nil}
+use Rattle.std.specs.List.{All, Contains}
+use Rattle.md_words.specs.Layout.{IsNode, address, bucket_of}
+use Rattle.md_words.specs.Place.{node_value}
+use Rattle.md_words.specs.PlaceAt.{place_at}
+use Rattle.md_words.proofs.Places.{place_at-address}
+use Rattle.md_history.specs.declared.acts.Op.{Op}
+use Rattle.md_history.specs.declared.acts.Op.TheVariants.{Get}
+use Rattle.md_history.specs.declared.acts.Reply.TheVariants.{Value}
+use Rattle.md_machine.specs.declared.certificate.Certificate.{Certificate}
+use Rattle.md_machine.specs.declared.certificate.Fact.{Fact}
+use Rattle.md_machine.specs.declared.node.Structure.{Structure}
+use Rattle.md_machine.specs.declared.node.Structure.TheVariants.{Bucket}
+use Rattle.md_machine.specs.Certified.{after_wholes, content_read, is_written}
+use Rattle.md_machine.specs.LogicalHeap.{Holds, LogicalHeap}
+use Rattle.md_machine.specs.Meaning.{Lawful, Meaning}
+use Rattle.md_machine.proofs.lists.Rising.{here, there}
+use Rattle.md_nbtc.specs.Calls.{MayAnswer, data_at}
+use Rattle.md_nbtc.specs.Going.{IsGoing}
+use Rattle.md_nbtc.specs.Known.{IsHeapOf, IsLater, Known}
+use Rattle.md_nbtc.specs.Prepared.{IsPrepared}
+use Rattle.md_nbtc.specs.State.{TxnState, seen_content, shape_in, writes_in}
+use Rattle.md_nbtc.proofs.preparing.Later.{known_later}
+use Rattle.md_nbtc.proofs.structures.NodesKnown.{data_known, shape_later}
+use Rattle.md_nbtc.proofs.structures.Reading.{reading}
+use Rattle.md_list_law.specs.Certificates.{ChangesNothing, IsPlaceOf, IsRow, RecordsPlace, get_some, key_fact, pair_fact}
+use Rattle.md_list_law.specs.HasLists.{HasListsOf}
+use Rattle.md_list_law.specs.ListShape.{next_word}
+use Rattle.md_list.specs.Walking.{FindsNode, HasFound, IsHeadOf, IsWalking, KnowsAfter}
+use Rattle.md_list.specs.declared.walk.Found.{Found}
+use Rattle.md_list.proofs.Rows.{may_answer_reading, one_head}
+
+module _ (M : Meaning) (lawful : Lawful M) (lists : HasListsOf M) (t : TxnState) (head key : ℕ) (found : Found) (has : HasFound M t head key found) where
+  abbrev w : IsWalking M t head
+  w = has.walking
+
+  abbrev list : Structure
+  list = Bucket w.map w.bucket
+
+  -- the key is here exactly if a node with it was found
+  pub here_some : found.here ≡ true → found.node ≢ 0
+  here_some is_here zero = true≢false (sym is_here ∙ (has.place.none zero).here)
+
+  pub here_node : found.here ≡ true → FindsNode M t w.certificates list key found
+  here_node is_here = has.place.some (here_some is_here)
+
+  here_key : (is_here : found.here ≡ true) → (here_node is_here).found_key ≡ key
+  here_key is_here = eqb-true (here_node is_here).found_key key (sym (here_node is_here).here ∙ is_here)
+
+  -- a gap in the keys at which a key would be, with facts that show it
+  pub record Gap : Type 0 where
+    pub facts : List Fact
+    pub place : IsPlaceOf (shape_in t) list head facts key found.prev found.at.value
+    pub known : Known M t (λ u h. All (Holds (after_wholes h w.certificates)) facts)
+    pub plain : All (λ (f : Fact). f.next ≡ None) facts
+
+  -- one more fact
+  module _ (f : Fact) (f_known : KnowsAfter M t w.certificates f) (f_plain : f.next ≡ None) (fs : List Fact) (fs_known : Known M t (λ u h. All (Holds (after_wholes h w.certificates)) fs)) where
+    one_known : Known M t (λ u h. All (Holds (after_wholes h w.certificates)) (f ∷ fs))
+    one_known u over prepared h of = All-cons (Holds (after_wholes h w.certificates)) f fs (f_known u over prepared h of) (fs_known u over prepared h of)
+
+  none_known : Known M t (λ u h. All (Holds (after_wholes h w.certificates)) [])
+  none_known u over prepared h of = All-nil (Holds (after_wholes h w.certificates))
+
+  -- with the node that the word names, if any
+  upper : (fs : List Fact) → Known M t (λ u h. All (Holds (after_wholes h w.certificates)) fs) → All (λ (f : Fact). f.next ≡ None) fs
+      → ((gs : List Fact) → ((f : Fact) → Contains fs f → Contains gs f) → (found.prev ≡ head)
+      ⊎ ((node less : ℕ) × Contains gs (key_fact list node less) × (less < key) × (found.prev ≡ next_word (shape_in t) node)))
+      → found.here ≡ false → Gap
+  upper fs known plain after absent = ⊎_elim
+      (λ zero. record {
+        facts = fs;
+        place = record { unmarked = has.place.at.unmarked; after = after fs (λ f c. c); before = inl (sym has.place.node ∙ zero) };
+        known = known;
+        plain = plain;
+      })
+      (λ some.
+      let n = has.place.some some in
+      let f = key_fact list found.node n.found_key in
+      let least = n.least in
+      record {
+        facts = f ∷ fs;
+        place = record {
+          unmarked = has.place.at.unmarked;
+          after = after (f ∷ fs) (λ g c. there f fs g c);
+          before = inr (
+            n.found_key,
+            subst (λ x. Contains (f ∷ fs) (key_fact list x n.found_key)) has.place.node (here f fs),
+            less_than key n.found_key least (λ e. true≢false (sym (eq-eqb n.found_key key (sym e)) ∙ sym n.here ∙ absent)),
+          );
+        };
+        known = one_known f n.known refl fs known;
+        plain = All-cons (λ (g : Fact). g.next ≡ None) f fs refl plain;
+      })
+      (cases_eq found.node 0)
+    where
+      less_than : (a b : ℕ) → a ≤ b → a ≢ b → a < b
+      less_than a b le ne = grind (arith, le, ne)
+
+  pub gap : found.here ≡ false → Gap
+  gap absent = ⊎_elim
+      (λ first. upper [] none_known (All-nil (λ (f : Fact). f.next ≡ None)) (λ gs in_gs. inl first) absent)
+      (λ before.
+      let f = key_fact list before.0 before.1 in
+      upper (f ∷ []) (one_known f before.3 refl [] none_known) (All-cons (λ (g : Fact). g.next ≡ None) f [] refl (All-nil (λ (f : Fact). f.next ≡ None)))
+      (λ gs in_gs. inr (before.0, before.1, in_gs f (here f []), before.4, before.5)) absent)
+      has.place.before
+
+  module _ (map : ℕ) (is : IsHeadOf (shape_in t) map key head) (v : TxnState) (later : IsLater t v) (same : v.hand ≡ t.hand) (going : IsGoing M v w.certificates) (slots : v.slots ≡ t.slots) where
+    own_head : (w.map ≡ map) × (w.bucket ≡ bucket_of (shape_in t) key)
+    own_head = one_head (shape_in t) w.map w.bucket map (bucket_of (shape_in t) key) head w.is_head is
+
+    -- of a key that is there
+    pub may_get_some : (is_here : found.here ≡ true) → found.next.count < 2 ^ 32
+        → (is_written (writes_in t) (next_word (shape_in t) found.node) ≡ false → content_read v.reads (next_word (shape_in t) found.node) ≡ Some (seen_content found.next))
+        → (value word : ℕ) → word ≡ address (shape_in t) (node_value found.node) → Known M v (λ u h. data_at h (place_at (shape_in t) word) ≡ value)
+        → MayAnswer M v (Get map key) (Value (Some value))
+    may_get_some is_here fits noted value word word_is data_is =
+        let n = here_node is_here in
+        let fact = pair_fact list found.node key value in
+        let holds = λ (u : TxnState) (over : IsLater v u) (prepared : IsPrepared u) (h : LogicalHeap) (of : IsHeapOf M u h).
+        merge (after_wholes h w.certificates) n.found_key value (here_key is_here) (known_later M _ t v later n.known u over prepared h of) (value_known n value word word_is data_is u over prepared h of) in
+        subst (λ m. MayAnswer M v (Get m key) (Value (Some value))) own_head.0
+        (may_answer_reading M lawful lists t head key w own_head.1 v later same going (next_word (shape_in t) found.node) found.next n.next fits slots noted
+        (Get w.map key) (Value (Some value)) (fact ∷ [])
+        (get_some found.node value refl refl (record { changes = refl; nodes = refl }) (record {
+          fact = here fact [];
+          next = found.next.value;
+          unmarked = n.next.unmarked;
+          recorded = here (record { word = next_word (shape_in t) found.node; value = found.next.value }) [];
+        }))
+        (λ u over prepared h of. All-cons (Holds (after_wholes h w.certificates)) fact [] (holds u over prepared h of) (All-nil (Holds (after_wholes h w.certificates))))
+        (All-cons (λ (f : Fact). f.next ≡ None) fact [] refl (All-nil (λ (f : Fact). f.next ≡ None))))
+      where
+        merge : (h : LogicalHeap) (k value : ℕ) → k ≡ key → Holds h (key_fact list found.node k)
+            → Holds h (record { node = found.node; structure = list; key = None; value = Some value; next = None }) → Holds h (pair_fact list found.node key value)
+        merge h k value key_is one two = record { placed = one.placed; key = one.key ∙ key_is; value = two.value; next = tt }
+
+        value_known : FindsNode M t w.certificates list key found → (value word : ℕ) → word ≡ address (shape_in t) (node_value found.node)
+            → Known M v (λ u h. data_at h (place_at (shape_in t) word) ≡ value)
+            → Known M v (λ u h. Holds (after_wholes h w.certificates) (record { node = found.node; structure = list; key = None; value = Some value; next = None }))
+        value_known n value word word_is data_is = data_known M lawful v w.certificates going found.node list None (Some value)
+            (subst (λ s. IsNode s found.node) (sym (shape_later t v later)) n.exists)
+            (λ u over prepared h of. (known_later M (λ u h. Holds (after_wholes h w.certificates) (key_fact list found.node n.found_key)) t v later n.known u over prepared h of).placed)
+            (λ u over prepared h of. tt)
+            (λ u over prepared h of. subst (λ p. data_at h p ≡ value) (ap (place_at (shape_in t)) word_is ∙ place_at-address (shape_in t) (node_value found.node) n.exists) (data_is u over prepared h of))
+
+    -- of a key that is absent
+    pub may_answer_none : found.here ≡ false → found.at.count < 2 ^ 32
+        → (is_written (writes_in t) found.prev ≡ false → content_read v.reads found.prev ≡ Some (seen_content found.at))
+        → (op : ℕ → Op) → ((c : Certificate) → c.op ≡ op w.map → c.reply ≡ Value None → ChangesNothing c → RecordsPlace (shape_in t) list head c key → IsRow (shape_in t) list head w.map key c)
+        → MayAnswer M v (op map) (Value None)
+    may_answer_none absent fits noted op row =
+        let g = gap absent in
+        let c = reading (op w.map) (Value None) w.changes (record { word = found.prev; value = found.at.value } ∷ []) g.facts in
+        subst (λ m. MayAnswer M v (op m) (Value None)) own_head.0
+        (may_answer_reading M lawful lists t head key w own_head.1 v later same going found.prev found.at has.place.at fits slots noted (op w.map) (Value None) g.facts
+        (row c refl refl (record { changes = refl; nodes = refl }) (record {
+          word = found.prev;
+          value = found.at.value;
+          place = g.place;
+          recorded = here (record { word = found.prev; value = found.at.value }) [];
+        }))
+        (known_later M (λ u h. All (Holds (after_wholes h w.certificates)) g.facts) t v later g.known) g.plain)

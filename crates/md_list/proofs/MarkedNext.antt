@@ -1,0 +1,210 @@
+-- A marked next word: its node is known to be placed, or the word is an own one. So the node may be unlinked.
+use Rattle.std.proofs.Common.{◌≡◌, ◌⊎◌, ◌-◌, ℕ, true, false, List, [], ◌∷◌, Option, Some, None, refl, sym, ap, ◌∙◌, subst, inl, inr, ⊎_elim}
+use Rattle.std.proofs.lemmas.Bool.{cases_Bool, true≢false}
+use Rattle.std.proofs.lemmas.List.Elements.{All-contains, All-cons, All-nil}
+use Rattle.std.specs.List.{All, Contains}
+use Rattle.md_words.specs.declared.shape.Shape.{Shape}
+use Rattle.md_words.specs.Layout.{IsNode}
+use Rattle.md_words.specs.Link.{is_marked, link_value, linked_node}
+use Rattle.md_words.proofs.Words.{link_value-parts}
+use Rattle.md_machine.specs.declared.certificate.Certificate.{Certificate}
+use Rattle.md_machine.specs.declared.certificate.Fact.{Fact}
+use Rattle.md_machine.specs.declared.certificate.TidyChange.{TidyChange}
+use Rattle.md_machine.specs.declared.node.Structure.{Structure}
+use Rattle.md_machine.specs.declared.node.Structure.TheVariants.{Bucket}
+use Rattle.md_machine.specs.Certified.{all_nodes, after_wholes}
+use Rattle.md_machine.specs.LogicalHeap.{Holds, is_settled}
+use Rattle.md_machine.specs.Meaning.{Lawful, Meaning}
+use Rattle.md_machine.specs.events.Exchange.{FoundFact, FoundNext}
+use Rattle.md_machine.proofs.chain.Agree.{tidies_shape, wholes_shape}
+use Rattle.md_machine.proofs.chain.SameNodes.{next_alone}
+use Rattle.md_machine.proofs.lists.Rising.{here, there as further}
+use Rattle.md_nbtc.specs.declared.seen.Kind.{Kind}
+use Rattle.md_nbtc.specs.declared.seen.Kind.TheVariants.{Critical}
+use Rattle.md_nbtc.specs.declared.seen.Seen.{Seen}
+use Rattle.md_nbtc.specs.Calls.{MayExchange, is_critical}
+use Rattle.md_nbtc.specs.Course.{IsStoredNode, stored_words}
+use Rattle.md_nbtc.specs.Going.{IsUnplaced}
+use Rattle.md_nbtc.specs.Known.{Known, KnowsFact, Met, WasThere}
+use Rattle.md_nbtc.specs.Seeing.{IsTidyNow}
+use Rattle.md_nbtc.specs.State.{OwnNode, TxnState, shape_in}
+use Rattle.md_nbtc.specs.Tidied.{tidied}
+use Rattle.md_nbtc.proofs.preparing.Heaps.{known_now}
+use Rattle.md_nbtc.proofs.structures.Exchanging.{may_exchange_so}
+use Rattle.md_nbtc.proofs.structures.NodesKnown.{fact_tidied, own_is_new, own_known, placed_or_own, shape_known}
+use Rattle.md_nbtc.proofs.structures.SeenValues.{own_value}
+use Rattle.md_nbtc.proofs.structures.Tidying.{bare_holds, bare_placed}
+use Rattle.md_list_law.specs.Certificates.{IsUnlink, key_fact, next_fact, node_fact}
+use Rattle.md_list_law.specs.HasLists.{HasListsOf}
+use Rattle.md_list_law.specs.ListShape.{IsIn, next_word}
+use Rattle.md_list.specs.Walking.{IsBefore}
+use Rattle.md_list.proofs.At.{IsAt}
+use Rattle.md_list.proofs.Marks.{mark_gone, marked_again}
+use Rattle.md_list.proofs.OnNode.{IsOn}
+use Rattle.md_list.proofs.Rising.{met_node}
+use Rattle.md_list.proofs.Unlinks.{cleanups_stay, may_change, no_own_next}
+
+module _ (M : Meaning) (lawful : Lawful M) (lists : HasListsOf M) (t : TxnState) (head key : ℕ) (visited : List ℕ) (prev : ℕ) (at next : Seen)
+    (on : IsOn M t head key visited prev at next) (marked : is_marked next.value ≡ true) where
+  abbrev stands : IsAt M t head key visited prev at
+  stands = on.stands
+
+  abbrev cs : List Certificate
+  cs = stands.walking.certificates
+
+  abbrev list : Structure
+  list = Bucket stands.walking.map stands.walking.bucket
+
+  abbrev node : ℕ
+  node = linked_node at.value
+
+  abbrev next_at : ℕ
+  next_at = next_word (shape_in t) node
+
+  -- what was stored in an own node's next word is unmarked
+  own_unmarked : (n : OwnNode) → Contains t.nodes n → n.node ≡ node → is_marked n.next ≡ false
+  own_unmarked n among same =
+      let new = own_is_new M lawful t cs stands.walking.going stands.walking.tidied.stored n among in
+      let stored = All-contains (IsStoredNode t) (all_nodes cs) new.0 stands.walking.going.course.nodes new.1 in
+      let both = known_now M lawful (λ u h. (IsIn (after_wholes h cs) list node) × ((after_wholes h cs).placed new.0.node ≡ Some new.0.structure)) t cs stands.walking.going
+      (λ u later prepared h of. (on.placed u later prepared h of, (own_known M lawful t cs stands.walking.going new.0 new.1 u later prepared h of).placed)) in
+      let is_list = one_structure list new.0.structure ((after_wholes both.0 cs).placed node) both.2.0
+      (ap (after_wholes both.0 cs).placed (sym same ∙ ap (λ (x : OwnNode). x.node) (sym new.2)) ∙ both.2.1) in
+      ap is_marked (ap (λ (x : OwnNode). x.next) (sym new.2)) ∙ ap (λ s. is_settled s new.0.next) is_list ∙ stored.unsettled
+    where
+      one_structure : (s r : Structure) (o : Option Structure) → o ≡ Some s → o ≡ Some r → s ≡ r
+      one_structure s r o a b = cc (a, b)
+
+  -- so the marked value was met, if the word isn't an own one
+  met_marked : next.own ≡ false → Met M t next_at next.value
+  met_marked other = ⊎_elim
+      (λ own. absurd (true≢false (sym marked ∙ ap is_marked own.3
+      ∙ own_unmarked own.0 own.1 (sym (next_alone (shape_in t) node own.0.node on.exists own.2.0 own.2.1)))))
+      (λ met. met)
+      (on.there other)
+
+  was_there : next.own ≡ false → Known M t (λ u h. WasThere M h (next_word h.words.shape node) next.value)
+  was_there other u later prepared h of =
+      subst (λ (s : Shape). WasThere M h (next_word s node) next.value) (sym (shape_known M lawful t u later prepared h of)) (met_marked other u later prepared h of)
+
+  -- and the node is known to be placed, with this mark for good
+  pub next_fact_known : next.own ≡ false → KnowsFact M t (next_fact list node next.value)
+  next_fact_known other u later prepared h of =
+      let was = was_there other u later prepared h of in
+      let root = met_node M lawful lists t stands.walking.map stands.walking.bucket stands.walking.is_head.is_map stands.walking.is_head.is_bucket cs stands.walking.going
+      stands.walking.changes stands.walking.tidied node next.value on.exists on.placed u later prepared h of was in
+      was.facts (next_fact list node next.value) (record {
+        placed = root.0;
+        key = tt;
+        value = tt;
+        next = (ap (λ (s : Shape). was.heap.words.value (next_word s node)) was.shape ∙ was.is, marked);
+      })
+
+  pub found_next : next.own ≡ false → FoundNext (shape_in t) t.pass.view node next.value
+  found_next other = ⊎_elim
+      (λ own.
+      let both = known_now M lawful (λ u h. (h.placed node ≡ Some list) × (h.placed own.0.node ≡ None)) t cs stands.walking.going
+      (λ u later prepared h of. (
+        (next_fact_known other u later prepared h of).placed,
+        (All-contains (IsUnplaced M t) t.nodes own.0 stands.walking.going.nodes own.1).unplaced u later prepared h of,
+      )) in
+      absurd (placed_or_not (both.0.placed node) both.2.0 (ap both.0.placed (sym own.2) ∙ both.2.1)))
+      (λ found. found)
+      (on.found other)
+    where
+      placed_or_not : (o : Option Structure) → o ≡ Some list → o ≡ None → ⊥
+      placed_or_not o a b = cc (a, b)
+
+  -- after the tidy changes so far the mark stands there
+  pub next_fact_holds : Known M t (λ u h. Holds (tidied h cs stands.walking.changes) (next_fact list node next.value))
+  next_fact_holds = ⊎_elim
+      (λ own u later prepared h of.
+      let after = tidies_shape (after_wholes h cs) stands.walking.changes ∙ wholes_shape h cs ∙ shape_known M lawful t u later prepared h of in
+      record {
+        placed = ap (λ (f : ℕ → Option Structure). f node) (bare_placed (after_wholes h cs) stands.walking.changes stands.walking.tidied.bare) ∙ on.placed u later prepared h of;
+        key = tt;
+        value = tt;
+        next = (
+          ap (λ (s : Shape). (tidied h cs stands.walking.changes).words.value (next_word s node)) after
+              ∙ own_value M lawful t cs stands.walking.going stands.walking.changes stands.walking.tidied next_at next (on.gave.slot own) h (shape_known M lawful t u later prepared h of),
+          marked,
+        );
+      })
+      (λ other. fact_tidied M lawful t cs stands.walking.going stands.walking.changes stands.walking.tidied (next_fact list node next.value) on.exists
+      (inr (sym on.gave.own ∙ other)) (next_fact_known other))
+      (cases_Bool next.own)
+
+  -- the unlink: its facts are that mark, and that the word is of a node of the list
+  abbrev pub facts_of : IsBefore M t cs list head key prev → List Fact
+  facts_of (inl first) = []
+  facts_of (inr before) = node_fact list before.0 ∷ []
+
+  abbrev pub unlink_facts : List Fact
+  unlink_facts = next_fact list node next.value ∷ facts_of stands.before
+
+  abbrev pub unlink : TidyChange
+  unlink = record { change = record { word = prev; old = at.value; new = next.value - 1 }; nodes = []; facts = unlink_facts }
+
+  all_facts : (P : Fact → Type 0) → P (next_fact list node next.value)
+      → ((other : ℕ) (less : ℕ) → IsNode (shape_in t) other → Known M t (λ u h. Holds (after_wholes h cs) (key_fact list other less)) → prev ≡ next_word (shape_in t) other → P (node_fact list other))
+      → All P unlink_facts
+  all_facts P first rest = All-cons P (next_fact list node next.value) (facts_of stands.before) first (others stands.before)
+    where
+      others : (before : IsBefore M t cs list head key prev) → All P (facts_of before)
+      others (inl first) = All-nil P
+      others (inr before) = All-cons P (node_fact list before.0) [] (rest before.0 before.1 before.2 before.3 before.5) (All-nil P)
+
+  pub is_unlink : IsUnlink (shape_in t) list head unlink
+  is_unlink = record {
+    node = node;
+    word = place stands.before;
+    old = sym (link_value-parts at.value) ∙ ap (link_value node) stands.gives.unmarked;
+    unmarked = mark_gone next.value marked;
+    marked = subst (λ v. Contains unlink_facts (next_fact list node v)) (sym (marked_again next.value marked)) (here (next_fact list node next.value) (facts_of stands.before));
+    nodes = refl;
+  }
+    where
+      place : (before : IsBefore M t cs list head key prev) → (prev ≡ head)
+          ⊎ ((other : ℕ) × Contains (next_fact list node next.value ∷ facts_of before) (node_fact list other) × (prev ≡ next_word (shape_in t) other))
+      place (inl first) = inl first
+      place (inr before) = inr (before.0, further (next_fact list node next.value) (node_fact list before.0 ∷ []) (node_fact list before.0) (here (node_fact list before.0) []), before.5)
+
+  pub unlink_tidies : M.tidies (shape_in t) unlink
+  unlink_tidies = lists.unlinks (shape_in t) stands.walking.map stands.walking.bucket unlink stands.walking.is_head.is_map stands.walking.is_head.is_bucket
+      (subst (λ word. IsUnlink (shape_in t) list word unlink) stands.walking.is_head.is is_unlink)
+
+  pub facts_hold : Known M t (λ u h. All (Holds (tidied h cs stands.walking.changes)) unlink_facts)
+  facts_hold u later prepared h of = all_facts (Holds (tidied h cs stands.walking.changes)) (next_fact_holds u later prepared h of)
+      (λ other less exists known is. bare_holds (after_wholes h cs) stands.walking.changes stands.walking.tidied.bare (node_fact list other) refl
+      (record { placed = (known u later prepared h of).placed; key = tt; value = tt; next = tt }))
+
+  -- a plain unlink is tidy
+  pub tidy_now : next.own ≡ false → (kind : Kind) → is_critical t prev kind ≡ false → IsTidyNow M t prev at.value (next.value - 1)
+  tidy_now other kind plain = record {
+    tidy = unlink;
+    bare = refl;
+    change = refl;
+    tidies = unlink_tidies;
+    facts = all_facts (KnowsFact M t) (next_fact_known other) (λ node less exists known is. ⊎_elim
+        (λ placed u later prepared h of. record { placed = placed u later prepared h of; key = tt; value = tt; next = tt })
+        (λ own. absurd (no_own_next t prev kind plain (stored_words own.0)
+        (All-contains (IsStoredNode t) (all_nodes cs) own.0 stands.walking.going.course.nodes own.1).own (is ∙ ap (next_word (shape_in t)) (sym own.2))))
+        (placed_or_own M lawful t cs stands.walking.going node list (λ u later prepared h of. (known u later prepared h of).placed)));
+    found = all_facts (FoundFact (shape_in t) t.pass.view) (found_next other) (λ node less exists known is. tt);
+  }
+
+  -- so the unlink may be made: as a part of the transaction where the mark is its own
+  pub may_unlink : t.hand.operating ≡ true → (kind : Kind) → (next.own ≡ true → kind ≡ Critical) → MayExchange M t prev at (next.value - 1) kind
+  may_unlink operates kind own_kind = record {
+    operates = operates;
+    counted = stands.gives.gave.counted;
+    gave = stands.gives.gave;
+    of = may_exchange_so M t prev at (next.value - 1) kind
+        (λ written. cleanups_stay M lawful lists t head key visited prev at stands written (next.value - 1))
+        (may_change M lawful lists t head key visited prev at stands)
+        (λ unwritten. stands.gives.there (stands.gives.gave.own ∙ unwritten))
+        (λ unwritten plain. ⊎_elim
+        (λ own. absurd (true≢false (ap (is_critical t prev) (sym (own_kind own)) ∙ plain)))
+        (λ other. tidy_now other kind plain)
+        (cases_Bool next.own));
+  }

@@ -1,0 +1,105 @@
+-- A certificate of a look-up: the place that a walk found shows why the operation has its reply.
+use Rattle.std.proofs.Common.{◌≡◌, ◌<◌, ◌^◌, ℕ, true, false, List, [], ◌∷◌, Some, None, refl, sym, ap, ◌∙◌, subst, ⊎_elim, is_some, get_or, map}
+use Rattle.std.proofs.lemmas.Bool.{cases_Bool}
+use Rattle.std.proofs.lemmas.List.Elements.{All-cons, All-nil}
+use Rattle.std.specs.List.{All}
+use Rattle.md_words.specs.declared.shape.Shape.{Shape}
+use Rattle.md_words.specs.Layout.{bucket_of}
+use Rattle.md_words.specs.Place.{bucket_head}
+use Rattle.md_words.specs.PlaceAt.{place_at}
+use Rattle.md_words.proofs.Places.{place_at-address}
+use Rattle.md_history.specs.declared.acts.Op.{Op}
+use Rattle.md_history.specs.declared.acts.Reply.{Reply}
+use Rattle.md_machine.specs.declared.certificate.Certificate.{Certificate}
+use Rattle.md_machine.specs.declared.certificate.Fact.{Fact}
+use Rattle.md_machine.specs.declared.certificate.WordValue.{WordValue}
+use Rattle.md_machine.specs.declared.node.Structure.{Structure}
+use Rattle.md_machine.specs.declared.node.Structure.TheVariants.{Bucket}
+use Rattle.md_machine.specs.Certified.{after_wholes, content_read, content_replaced, first_content, is_written}
+use Rattle.md_machine.specs.LogicalHeap.{Holds}
+use Rattle.md_machine.specs.Meaning.{Lawful, Meaning}
+use Rattle.md_machine.specs.Resolution.{or_else}
+use Rattle.md_nbtc.specs.declared.seen.Seen.{Seen}
+use Rattle.md_nbtc.specs.Calls.{MayAnswer}
+use Rattle.md_nbtc.specs.Going.{IsGoing}
+use Rattle.md_nbtc.specs.Known.{IsLater, Known, found_by}
+use Rattle.md_nbtc.specs.State.{TxnState, seen_content, shape_in, writes_in}
+use Rattle.md_nbtc.specs.Tidied.{HasTidied, tidied}
+use Rattle.md_nbtc.proofs.structures.Growing.{tidied_later, tidied_none}
+use Rattle.md_nbtc.proofs.structures.NodesKnown.{shape_later}
+use Rattle.md_nbtc.proofs.structures.Reading.{may_end_reading, reading}
+use Rattle.md_nbtc.proofs.structures.SeenValues.{seen_value}
+use Rattle.md_nbtc.proofs.structures.StoodThen.{written_is_found}
+use Rattle.md_nbtc.proofs.structures.Tidying.{bare_holds}
+use Rattle.md_list_law.specs.Certificates.{IsListCertificate, IsRow, IsUnlink}
+use Rattle.md_list_law.specs.HasLists.{HasListsOf}
+use Rattle.md_list_law.specs.ListShape.{head_word}
+use Rattle.md_list.specs.Operations.{IsBegun}
+use Rattle.md_list.specs.Walking.{Gives, IsHead, IsHeadOf, IsWalking}
+
+-- a head is that of one bucket
+one_bucket : (m b n d : ℕ) → bucket_head m b ≡ bucket_head n d → (m ≡ n) × (b ≡ d)
+one_bucket m b n d e = (cc e, cc e)
+
+pub one_head : (shape : Shape) (m b n d head : ℕ) → IsHead shape m b head → IsHead shape n d head → (m ≡ n) × (b ≡ d)
+one_head shape m b n d head one two = one_bucket m b n d (sym (place_at-address shape (bucket_head m b) (one.is_map, one.is_bucket))
+    ∙ ap (place_at shape) (sym one.is ∙ two.is) ∙ place_at-address shape (bucket_head n d) (two.is_map, two.is_bucket))
+
+-- where an operation was begun a walk may begin
+pub begun_walks : (M : Meaning) (t : TxnState) (map key head : ℕ) → IsBegun M t → IsHeadOf (shape_in t) map key head → IsWalking M t head
+begun_walks M t map key head begun is = record {
+  operates = begun.operates;
+  certificates = begun.going.0;
+  going = begun.going.1;
+  map = map;
+  bucket = bucket_of (shape_in t) key;
+  is_head = is;
+  changes = [];
+  tidied = tidied_none M t begun.going.0 begun.changes begun.stored;
+  unlinks = All-nil (IsUnlink (shape_in t) (Bucket map (bucket_of (shape_in t) key)) head);
+}
+
+module _ (M : Meaning) (lawful : Lawful M) (lists : HasListsOf M) (t : TxnState) (head key : ℕ) (w : IsWalking M t head) (own_bucket : w.bucket ≡ bucket_of (shape_in t) key)
+    (v : TxnState) (later : IsLater t v) (same : v.hand ≡ t.hand) (going : IsGoing M v w.certificates) (word : ℕ) (seen : Seen) (gives : Gives M t word seen) (fits : seen.count < 2 ^ 32)
+    (slots : v.slots ≡ t.slots) (noted : is_written (writes_in t) word ≡ false → content_read v.reads word ≡ Some (seen_content seen)) where
+  abbrev cs : List Certificate
+  cs = w.certificates
+
+  abbrev list : Structure
+  list = Bucket w.map w.bucket
+
+  -- the word was found with this content
+  first_is : seen.own ≡ false → first_content v.reads (writes_in v) word ≡ Some (seen_content seen)
+  first_is other = ap (λ o. or_else o (content_replaced (writes_in v) word)) (noted (sym gives.gave.own ∙ other))
+
+  is_found : is_some (first_content v.reads (writes_in v) word) ≡ true
+  is_found = ⊎_elim
+      (λ own. written_is_found v word (ap (λ l. is_written (map (λ s. s.write) l) word) slots ∙ sym gives.gave.own ∙ own))
+      (λ other. ap (λ o. is_some o) (first_is other))
+      (cases_Bool seen.own)
+
+  tidied_now : HasTidied M v cs w.changes
+  tidied_now = tidied_later M t cs w.changes w.tidied v later same
+
+  -- a look-up of a list may be answered so
+  pub may_answer_reading : (op : Op) (reply : Reply) (facts : List Fact)
+      → IsRow (shape_in t) list head w.map key (reading op reply w.changes (record { word = word; value = seen.value } ∷ []) facts)
+      → Known M v (λ u h. All (Holds (after_wholes h cs)) facts) → All (λ (f : Fact). f.next ≡ None) facts
+      → MayAnswer M v op reply
+  may_answer_reading op reply facts row known plain =
+      let shape = shape_later t v later in
+      let c = reading op reply w.changes (record { word = word; value = seen.value } ∷ []) facts in
+      record {
+        earlier = cs;
+        going = going;
+        certificate = c;
+        of = (refl, refl);
+        may = may_end_reading M v cs w.changes tidied_now op reply (record { word = word; value = seen.value } ∷ []) facts
+            (subst (λ s. M.certifies s c) (sym shape) (lists.certifies (shape_in t) w.map key c w.is_head.is_map
+            (subst (λ b. IsListCertificate (shape_in t) (Bucket w.map b) (head_word (shape_in t) w.map b) w.map key c) own_bucket
+            (subst (λ x. IsListCertificate (shape_in t) list x w.map key c) w.is_head.is (record { row = row; unlinks = w.unlinks })))))
+            (All-cons (λ (x : WordValue). is_some (first_content v.reads (writes_in v) x.word) ≡ true) (record { word = word; value = seen.value }) [] is_found (All-nil _))
+            (λ u over prepared h of. All-cons (λ (x : WordValue). (tidied (found_by u h) cs w.changes).words.value x.word ≡ x.value) (record { word = word; value = seen.value }) []
+            (seen_value M lawful t cs w.going w.changes w.tidied word seen gives.gave gives.there fits v later first_is u over prepared h of) (All-nil _))
+            (λ u over prepared h of i d below. bare_holds (after_wholes h cs) w.changes w.tidied.bare (get_or facts i d) (plain i d below) (known u over prepared h of i d below));
+      }

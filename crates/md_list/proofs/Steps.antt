@@ -1,0 +1,109 @@
+-- What a walk has after each of its calls.
+use Rattle.std.proofs.Common.{◌≡◌, ◌≢◌, ◌<◌, ◌^◌, ◌-◌, ◌/◌, ◌∷◌, ℕ, true, List, [], Result, Ok, refl, sym, ap, ◌∙◌, subst, inl, inr, ⊎_elim}
+use Rattle.std.proofs.lemmas.List.Elements.{All-contains}
+use Rattle.md_words.specs.declared.shape.Shape.{Shape}
+use Rattle.md_words.specs.Layout.{IsNode, address, words_of}
+use Rattle.md_words.specs.Link.{is_marked, linked_node}
+use Rattle.md_words.specs.Place.{bucket_head, node_key, node_next}
+use Rattle.md_words.specs.PlaceAt.{IsCounted, place_at}
+use Rattle.md_words.proofs.Places.{address_below, counted_by_place, place_at-address}
+use Rattle.md_history.specs.declared.stops.Stop.{Stop}
+use Rattle.md_machine.specs.declared.node.Structure.TheVariants.{Bucket}
+use Rattle.md_machine.specs.Certified.{all_nodes}
+use Rattle.md_machine.specs.Meaning.{Lawful, Meaning}
+use Rattle.md_nbtc.specs.declared.seen.Kind.{Kind}
+use Rattle.md_nbtc.specs.declared.seen.Seen.{Seen}
+use Rattle.md_nbtc.specs.Calls.{AfterStop, Exchanges, GoesOn, IsData, Looked, exchange_case}
+use Rattle.md_nbtc.specs.Course.{IsStoredNode, stored_words}
+use Rattle.md_nbtc.specs.Seeing.{Gave, KeepsGiven, Looks}
+use Rattle.md_nbtc.specs.State.{TxnState, shape_in}
+use Rattle.md_nbtc.proofs.structures.Answering.{IsStopped, after_ok}
+use Rattle.md_nbtc.proofs.structures.Exchanging.{HasExchanged, changed_own, changed_plainly, exchanged_so, installed}
+use Rattle.md_nbtc.proofs.structures.NodesKnown.{placed_or_own}
+use Rattle.md_list_law.specs.HasLists.{HasListsOf}
+use Rattle.md_list_law.specs.ListShape.{next_word}
+use Rattle.md_list.specs.Walking.{IsHead, IsWalking, WalkedFrom}
+use Rattle.md_list.proofs.At.{IsAt, stepped}
+use Rattle.md_list.proofs.Further.{unlinked}
+use Rattle.md_list.proofs.Marks.{halved}
+use Rattle.md_list.proofs.OnNode.{IsOn, begins, looks_on}
+use Rattle.md_list.proofs.Walked.{stopped_nodes, stopped_reads, walked_more}
+
+-- the head is a counted word
+pub head_counted : (shape : Shape) (map bucket head : ℕ) → IsHead shape map bucket head → IsCounted shape head
+head_counted shape map bucket head is = subst (IsCounted shape) (sym is.is) ((counted_by_place shape (bucket_head map bucket) (is.is_map, is.is_bucket)).1 refl)
+
+-- the next word and the key of the node that a value names, as the code finds them
+pub next_is : (shape there : Shape) (value word : ℕ) → word ≡ address there (node_next (value / 2)) → there ≡ shape → word ≡ next_word shape (linked_node value)
+next_is shape there value word place same = place ∙ ap (λ s. address s (node_next (value / 2))) same ∙ ap (next_word shape) (sym (halved value))
+
+pub key_is : (shape there : Shape) (value word : ℕ) → word ≡ address there (node_key (value / 2)) → there ≡ shape → word ≡ address shape (node_key (linked_node value))
+key_is shape there value word place same = place ∙ ap (λ s. address s (node_key (value / 2))) same ∙ ap (λ n. address shape (node_key n)) (sym (halved value))
+
+pub node_is : (shape there : Shape) (value : ℕ) → there ≡ shape → IsNode shape (linked_node value) → IsNode there (value / 2)
+node_is shape there value same exists = subst (λ s. IsNode s (value / 2)) (sym same) (subst (IsNode shape) (halved value) exists)
+
+module _ (M : Meaning) (t u : TxnState) (word : ℕ) where
+  -- a look
+  pub looked_ok : (seen : Seen) → AfterStop t.stop t u (let r : Result Seen Stop = Ok seen in r) (Looked M t u word (Ok seen)) → (u ≡ record t { pass = u.pass }) × Looks M t u word seen
+  looked_ok seen looked = after_ok Seen t u t.stop seen (Looked M t u word (Ok seen)) looked
+
+  pub exchanged_ok : (from : Seen) (to : ℕ) (kind : Kind) (seen : Seen)
+      → AfterStop t.stop t u (let r : Result Seen Stop = Ok seen in r) (Exchanges (exchange_case t word from kind) M t u word from to (Ok seen)) → HasExchanged M t word from to kind u seen
+  exchanged_ok from to kind seen exchanged = exchanged_so M t word from to kind u seen
+      (after_ok Seen t u t.stop seen (Exchanges (exchange_case t word from kind) M t u word from to (Ok seen)) exchanged)
+
+  pub exchanged_reads : (from : Seen) (to : ℕ) (kind : Kind) (seen : Seen) → HasExchanged M t word from to kind u seen → u.reads ≡ t.reads
+  exchanged_reads from to kind seen (changed_own e) = ap (λ (x : TxnState). x.reads) e.state_is
+  exchanged_reads from to kind seen (installed e) = ap (λ (x : TxnState). x.reads) e.state_is
+  exchanged_reads from to kind seen (changed_plainly e) = ap (λ (x : TxnState). x.reads) e.state_is
+
+  pub exchanged_nodes : (from : Seen) (to : ℕ) (kind : Kind) (seen : Seen) → HasExchanged M t word from to kind u seen → u.nodes ≡ t.nodes
+  exchanged_nodes from to kind seen (changed_own e) = ap (λ (x : TxnState). x.nodes) e.state_is
+  exchanged_nodes from to kind seen (installed e) = ap (λ (x : TxnState). x.nodes) e.state_is
+  exchanged_nodes from to kind seen (changed_plainly e) = ap (λ (x : TxnState). x.nodes) e.state_is
+
+-- what a walk leaves after one more call
+module _ (M : Meaning) (s t u : TxnState) (walked : WalkedFrom M s t) (goes : GoesOn M t u) where
+  pub walked_same : u ≡ record t { pass = u.pass } → WalkedFrom M s u
+  walked_same same = walked_more M s t u walked goes (ap (λ (x : TxnState). x.reads) same) (ap (λ (x : TxnState). x.nodes) same)
+
+  pub walked_stop : (stop : Stop) → IsStopped t u stop → WalkedFrom M s u
+  walked_stop stop is = walked_more M s t u walked goes (stopped_reads M t u stop is) (stopped_nodes M t u stop is)
+
+module _ (M : Meaning) (lawful : Lawful M) (lists : HasListsOf M) (t u : TxnState) (head key : ℕ) (goes : GoesOn M t u) where
+  pub head_looked : IsWalking M t head → (seen : Seen) → AfterStop t.stop t u (let r : Result Seen Stop = Ok seen in r) (Looked M t u head (Ok seen)) → IsAt M u head key [] head seen
+  head_looked w seen looked =
+      let is = looked_ok M t u head seen looked in
+      subst (λ x. IsAt M x head key [] head seen) (sym is.0)
+      (begins M lawful lists t u.pass head key seen (subst (GoesOn M t) is.0 goes) w (subst (λ x. Looks M t x head seen) is.0 is.1))
+
+  module _ (visited : List ℕ) (prev : ℕ) (at : Seen) (stands : IsAt M t head key visited prev at) (some : linked_node at.value ≢ 0) where
+    pub next_looked : (word : ℕ) → word ≡ next_word (shape_in t) (linked_node at.value) → (next : Seen)
+        → AfterStop t.stop t u (let r : Result Seen Stop = Ok next in r) (Looked M t u word (Ok next)) → KeepsGiven t u word → IsOn M u head key visited prev at next
+    next_looked word is_next next looked given =
+        let is = looked_ok M t u word next looked in
+        subst (λ x. IsOn M x head key visited prev at next) (sym is.0)
+        (looks_on M lawful lists t head key visited prev at stands some u.pass next (subst (GoesOn M t) is.0 goes)
+        (subst (λ w. Looks M t (stepped t u.pass) w next) is_next (subst (λ x. Looks M t x word next) is.0 is.1))
+        (subst (λ w. KeepsGiven t (stepped t u.pass) w) is_next (subst (λ x. KeepsGiven t x word) is.0 given)))
+
+    pub unlinked_ok : (next : Seen) → IsOn M t head key visited prev at next → is_marked next.value ≡ true → at.count < 2 ^ 32 → (kind : Kind) (seen : Seen) → Gave u prev seen
+        → HasExchanged M t prev at (next.value - 1) kind u seen → IsAt M u head key (linked_node at.value ∷ visited) prev seen
+    unlinked_ok next on marked fits kind seen gave ex = unlinked M lawful lists t head key visited prev at next on some marked fits kind u seen goes gave ex
+
+-- the key of a node that a walk stands on may be read
+pub key_data : (M : Meaning) (lawful : Lawful M) (lists : HasListsOf M) (t : TxnState) (head key : ℕ) (visited : List ℕ) (prev : ℕ) (at next : Seen)
+    → IsOn M t head key visited prev at next → (word : ℕ) → word ≡ address (shape_in t) (node_key (linked_node at.value)) → IsData M t word
+key_data M lawful lists t head key visited prev at next on word is =
+    let w = on.stands.walking in
+    let node = linked_node at.value in
+    record {
+      node = node;
+      exists = on.exists;
+      within = subst (λ x. x < words_of (shape_in t)) (sym is) (address_below (shape_in t) (node_key node) on.exists);
+      is = inl (ap (place_at (shape_in t)) is ∙ place_at-address (shape_in t) (node_key node) on.exists);
+      among = ⊎_elim (λ known. inl (Bucket w.map w.bucket, known))
+          (λ own. inr (stored_words own.0, (All-contains (IsStoredNode t) (all_nodes w.certificates) own.0 w.going.course.nodes own.1).own, own.2))
+          (placed_or_own M lawful t w.certificates w.going node (Bucket w.map w.bucket) on.placed);
+    }

@@ -1,0 +1,48 @@
+//! The value of a key.
+
+ghost use Rattle.std.specs.Prelude.{◌≡◌, ℕ, IfOk, IfErr, Some};
+ghost use Rattle.md_history.specs.declared.acts.Op.TheVariants.{Get};
+ghost use Rattle.md_history.specs.declared.acts.Reply.TheVariants.{Value};
+ghost use Rattle.md_nbtc.specs.Calls.{MayAnswer};
+ghost use Rattle.md_nbtc.specs.State.{shape_in, state};
+ghost use Rattle.md_list.specs.Operations.{IsBegun, LooksUp};
+ghost use Rattle.md_list.specs.Walking.{IsHeadOf};
+
+use crate::walk::find;
+use md_history::Stop;
+use md_list_law::HasLists;
+use md_nbtc::Txn;
+
+/// The value of a key of a map, or `None` if the key isn't there, as an operation of a transaction
+/// that was just begun. `head` is the head of the key's own bucket. The caller ends the operation
+/// with the answer as the reply of a `Get` of the key.
+///
+/// At most one more word is recorded: the node's next word if the key is there, and else the word
+/// of the gap in which the key would be. No node is taken. `Err` is the refusal of the first call
+/// that was refused: a load or an exchange of [`find`], or the note of that word. The transaction
+/// keeps it.
+///
+/// One [`find`] and at most three steps more. It takes no memory.
+///
+/// After M. M. Michael, "High Performance Dynamic Lock-Free Hash Tables and List-Based Sets"
+/// (2002).
+pub fn get<'a, T: HasLists>(tx: &mut Txn<'a, T>, head: u32, key: u64) -> Result<Option<u64>, Stop>
+    requires begun { IsBegun T.meaning (state tx.old) }
+    requires head { (map : ℕ) × IsHeadOf (shape_in (state tx.old)) map key head }
+    ensures pass { tx.new.pass.ghost_name ≡ tx.old.pass.ghost_name }
+    ensures looks { LooksUp T.meaning (state tx.old) (state tx.new) }
+    ensures answer { IfOk result (λ value. (map : ℕ)
+        → IsHeadOf (shape_in (state tx.old)) map key head
+        → MayAnswer T.meaning (state tx.new) (Get map key) (Value value)) }
+    ensures stop { IfErr result (λ stop. (state tx.new).stop ≡ Some stop) }
+{
+    let found = find(tx, head, key)?;
+    if !found.here {
+        tx.note(found.prev, found.at)?;
+        return Ok(None);
+    }
+    let next_word = tx.shape().node_next(found.node);
+    tx.note(next_word, found.next)?;
+    let value_word = tx.shape().node_value(found.node);
+    Ok(Some(tx.field_of(value_word)))
+}

@@ -1,0 +1,88 @@
+//! How a key is looked for.
+
+ghost use Rattle.std.specs.Prelude.{◌≡◌, IfOk, IfErr, Some};
+ghost use Rattle.md_nbtc.specs.State.{state};
+ghost use Rattle.md_list.specs.Walking.{HasFound, IsWalking, WalkedFrom};
+
+use md_history::Stop;
+use md_list_law::HasLists;
+use md_nbtc::{Kind, Seen, Txn};
+
+/// The place of a key in a list. `prev` is the head or the next word of a node with a smaller key,
+/// and `at` is what it gave last. `node` is the first node whose key isn't smaller, or 0. `next` is
+/// what its next word gave last; without a node it is `at`. `here` says that there is a node and
+/// that its key is the one looked for. Both `at` and `next` are unmarked.
+#[derive(Clone, Copy, Debug, PartialEq, Eq)]
+pub struct Found {
+    pub prev: u32,
+    pub at: Seen,
+    pub node: u32,
+    pub next: Seen,
+    pub here: bool,
+}
+
+/// Looks for a key in a list, as a part of an operation that was begun and has changed nothing but
+/// by unlinks of the list. `head` is the head of a bucket.
+///
+/// It unlinks each removed node that it meets: at once if the remove has committed, and as a part
+/// of the transaction if the remove is its own, or if the word was recorded or is an own node's. It
+/// records no word and takes no node. `Err` is the refusal of the first load or exchange that was
+/// refused; the transaction keeps it.
+///
+/// It meets each node of the list at most once. It costs one load of the head, and for each node
+/// that it meets one load more, and one step to read the node's key or one exchange to unlink the
+/// node. It takes no memory.
+///
+/// After M. M. Michael, "High Performance Dynamic Lock-Free Hash Tables and List-Based Sets"
+/// (2002). It differs from Michael's find in two ways. It doesn't go on after a lost exchange,
+/// since the transaction then stops. And it doesn't look at `prev` again before it reads the key:
+/// the operation records or changes what was found, and the transaction commits only if that
+/// still stands.
+pub fn find<'a, T: HasLists>(tx: &mut Txn<'a, T>, head: u32, key: u64) -> Result<Found, Stop>
+    requires walking { IsWalking T.meaning (state tx.old) head }
+    ensures pass { tx.new.pass.ghost_name ≡ tx.old.pass.ghost_name }
+    ensures walked { WalkedFrom T.meaning (state tx.old) (state tx.new) }
+    ensures found { IfOk result (HasFound T.meaning (state tx.new) head key) }
+    ensures stop { IfErr result (λ stop. (state tx.new).stop ≡ Some stop) }
+{
+    let mut prev = head;
+    let mut at = tx.load(prev)?;
+    // Keys rise from node to node, so none is met twice, and there are no more turns than nodes.
+    for _ in 0..u32::MAX {
+        let node = at.value / 2;
+        if node == 0 {
+            break;
+        }
+        let next_word = tx.shape().node_next(node);
+        let next = tx.load(next_word)?;
+        if next.value % 2 == 1 {
+            let kind = if next.own {
+                Kind::Critical
+            } else {
+                Kind::Plain
+            };
+            at = tx.exchange(prev, at, next.value - 1, kind)?;
+            continue;
+        }
+        let key_word = tx.shape().node_key(node);
+        let node_key = tx.field_of(key_word);
+        if node_key >= key {
+            return Ok(Found {
+                prev,
+                at,
+                node,
+                next,
+                here: node_key == key,
+            });
+        }
+        prev = next_word;
+        at = next;
+    }
+    Ok(Found {
+        prev,
+        at,
+        node: 0,
+        next: at,
+        here: false,
+    })
+}
