@@ -23,3 +23,5 @@ pub mod Laters
 pub mod FreshNode
 pub mod Inserting
 pub mod Taken
+pub mod Charged
+pub mod ChargedWalk
