@@ -16,7 +16,8 @@ use md_rule::Pass;
 /// has one left. The pass knows that it is free. The answer is `Limit::Nodes` exactly if none has
 /// one left. Nothing but that lane's share is changed.
 ///
-/// It takes constant time where the lowest lane has a node left, and else time by the lanes.
+/// It takes constant time where the lowest lane has a node left. Otherwise it goes over the lanes
+/// below one that has, and takes time in the order of the square of their number.
 pub fn take_node<T: Theory>(pass: &mut Pass<T>) -> Result<u32, Limit>
     ensures takes { IfOk result (λ node. TakesNode pass.old node pass.new) }
     ensures own { IfOk result (HasNode pass.old.shape pass.old.view) }

@@ -16,8 +16,8 @@ use std::marker::Model;
 
 /// Ordered maps and queues, numbered from 0. Contracts see finite maps and lists.
 ///
-/// A call on a map of n keys takes time in the order of log n, one on a queue constant time. Each
-/// call needs its map or queue to exist.
+/// A call on one key of a map of n keys takes time in the order of log n, one on a queue constant
+/// time. Each call needs its map or queue to exist.
 #[derive(Drop)]
 pub struct Contents {
     maps: Vec<BTreeMap<u64, u64>>,

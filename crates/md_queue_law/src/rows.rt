@@ -2,8 +2,8 @@
 
 ghost use Rattle.md_queue_law.specs.Rows.{WorkedRows};
 
-/// A value is enqueued in an empty queue, the tail follows, a line sees the value, it is dequeued,
-/// and then the queue is found empty. Each heap on the way is valid.
+/// Two values are enqueued in an empty queue, the tail follows late, and they are looked at and
+/// dequeued, until the queue is found empty. Each heap on the way is valid.
 pub fn worked_rows()
     ensures { WorkedRows }
 {}

@@ -12,16 +12,22 @@ use md_history::Front;
 use md_machine::Theory;
 use std::alloc::{AllocError, Global};
 
-/// What a field leaves: its words, and the last pass as it stood.
+/// What a field leaves when it is closed.
 #[derive(Drop)]
 pub struct Closed<T: Theory> {
+    /// Its words: a valid heap in which every count is even.
     pub words: Vec<u64>,
+    /// The last pass as it stood. It has no bytes.
     pub front: Front<Pass<T>>,
 }
 
 impl<T: Theory> Field<T> {
-    /// Ends the field, and gives its words. The pass holds all lanes and knows every fate, and no
-    /// descriptor stands in a word. `AllocError` ends the field and the pass too.
+    /// Ends the field, and gives its words: a valid heap, whose state is the replay of the
+    /// committed transactions. The pass is of the field, holds all its lanes and knows every fate,
+    /// and no descriptor stands in a word.
+    ///
+    /// `AllocError` if memory runs out; then the field and the pass have ended too. Takes time
+    /// linear in the words. No step of the field is made: no other pass is live.
     pub fn close(self, alloc: Global, pass: Pass<T>) -> Result<Closed<T>, AllocError>
         requires field { IsOf pass self }
         requires may { MayClose T.meaning self.origin pass.view }

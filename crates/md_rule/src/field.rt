@@ -16,7 +16,9 @@ use std::alloc::{AllocError, Global};
 use std::marker::Model;
 use std::snapshot::Snapshot;
 
-/// A table of shared words under the rule.
+/// A table of shared words under the rule: its words, and what its passes know, show a machine to
+/// which events lead from the opening. Threads share it by `&`. Each steps on it by a `Pass` of its
+/// own.
 #[derive(Drop)]
 pub struct Field<T: Theory> {
     pub(crate) table: Table<(), Known, Key, Ruled<T>, Global>,
@@ -41,7 +43,12 @@ impl<T: Theory> Model for Field<T> {
 }
 
 impl<T: Theory> Field<T> {
-    /// Makes a field of these words, and the pass that holds all its lanes.
+    /// Makes a field of these words, and the pass that holds all its lanes. With some base nodes
+    /// placed, the words may be an opening of the machine (`CanOpen`): they are a valid heap of the
+    /// theory with even counts, and the words of the lanes' nodes and of the descriptors are 0.
+    ///
+    /// `AllocError` if memory runs out; then nothing was made. Takes time linear in the words, of
+    /// which there are at most `MAX_WORDS`.
     pub fn open(
         alloc: Global,
         shape: Shape,
@@ -61,7 +68,7 @@ impl<T: Theory> Field<T> {
         Ok((Field { table, shape }, Pass::of(seat, shape)))
     }
 
-    /// The numbers of the field.
+    /// The numbers of the field. It takes no memory and makes no step.
     pub fn shape(&self) -> &Shape
         ensures { result.now ≡ self.now.origin.shape }
     {

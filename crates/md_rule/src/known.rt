@@ -2,17 +2,20 @@
 
 use md_machine::PassView;
 
-/// The view of its pass, and the views of the two passes that were joined into it last. No value
-/// of it is made.
+/// What contracts see of a seat of the table. No value of it is made.
 #[derive(Drop)]
 pub struct Known {
+    /// What its pass knows.
     pub view: PassView,
+    /// What the two passes knew that were joined into it last.
     pub joined: Option<Parts>,
 }
 
 /// Two passes before they are joined.
 #[derive(Drop)]
 pub struct Parts {
+    /// The pass that took the other in.
     pub one: PassView,
+    /// The pass that was taken in.
     pub other: PassView,
 }

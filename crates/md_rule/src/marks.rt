@@ -21,8 +21,11 @@ use std::marker::Brand;
 use std::snapshot::Snapshot;
 
 impl<T: Theory> Pass<T> {
-    /// Takes the present attempt of an own descriptor in hand, with a tag. That attempt was taken
-    /// (`set_tries_taken`).
+    /// Takes the present attempt of an own descriptor in hand, with a tag. Nothing is in hand, the
+    /// attempt was taken (`set_tries_taken`), and was never in hand. It is in hand afterwards,
+    /// without acts, and pending.
+    ///
+    /// One load of word 0. It has no refusal.
     pub fn mark_begin(&mut self, field: &Field<T>, desc: u32, tag: u64)
         requires field { IsOf self.old field.now }
         requires own { Contains self.old.view.lanes desc }
@@ -40,7 +43,8 @@ impl<T: Theory> Pass<T> {
         begin_lane(&mut self.shares, desc);
     }
 
-    /// Begins an operation of the transaction in hand.
+    /// Begins an operation of the transaction in hand, which has begun none. One load of word 0. It
+    /// has no refusal.
     pub fn mark_start(&mut self, field: &Field<T>)
         requires field { IsOf self.old field.now }
         requires may { May T.meaning field.now.origin (λ pass. mark_start pass) self.old.view }
@@ -51,7 +55,9 @@ impl<T: Theory> Pass<T> {
         mark::<Brand, T, _>(&mut self.seat, field, Snapshot::of(&()));
     }
 
-    /// Ends the operation that was begun: it has this reply, by some certificate.
+    /// Ends the operation that was begun: it has this reply, by some certificate of the theory,
+    /// whose changes and new nodes are those made since, and whose words the transaction recorded
+    /// or changes (`MayAct`). The act is the last one then. One load of word 0. It has no refusal.
     pub fn mark_act(&mut self, field: &Field<T>, op: Op, reply: Reply)
         requires field { IsOf self.old field.now }
         requires may { MayAct T.meaning field.now.origin op reply self.old.view }
@@ -61,8 +67,12 @@ impl<T: Theory> Pass<T> {
         mark::<Brand, T, _>(&mut self.seat, field, Snapshot::of(&(op, reply)));
     }
 
-    /// Nothing is in hand afterwards: the transaction of this descriptor, whose attempt is decided
-    /// and stands in no word, is answered or stopped.
+    /// Ends the transaction in hand, which is of this descriptor: it is answered if it was
+    /// committed, and else stopped, and is pending no longer. Its attempt was met decided, and each
+    /// word in which it was installed was met at a higher count since, so that it stands in no
+    /// word.
+    ///
+    /// One load of word 0. It has no refusal. Nothing is in hand afterwards.
     pub fn mark_end(&mut self, field: &Field<T>, desc: u32)
         requires field { IsOf self.old field.now × (desc < desc_count field.now.origin.shape) }
         requires hand { HoldsDesc self.old.view desc }
@@ -80,8 +90,9 @@ impl<T: Theory> Pass<T> {
         end_lane(&mut self.shares, desc);
     }
 
-    /// Nothing is in hand afterwards. A transaction that was in hand is neither answered nor
-    /// stopped.
+    /// Leaves what is in hand, if anything is: nothing is in hand afterwards. A transaction that
+    /// was in hand is neither answered nor stopped, and stays pending. One load of word 0. It has
+    /// no refusal.
     pub fn mark_leave(&mut self, field: &Field<T>)
         requires { IsOf self.old field.now }
         ensures same { self.new ≡ record self.old { view = self.new.view } }

@@ -19,7 +19,11 @@ use md_machine::Theory;
 use std::marker::Brand;
 
 impl<T: Theory> Pass<T> {
-    /// Gives a new pass the last half of the lanes, that of fewer. None exactly where there is one.
+    /// Gives the last half of the lanes, rounded down, to a new pass, which knows what this one
+    /// knows. Nothing is in hand of either part. `None` exactly if the pass has one lane; then
+    /// nothing changes.
+    ///
+    /// Two loads of word 0. It takes no memory and waits for nobody.
     pub fn split(&mut self, field: &Field<T>) -> Option<Pass<T>>
         requires { IsOf self.old field.now }
         ensures some { IfSome result (λ p. (2 ≤ length self.old.view.lanes)
@@ -38,7 +42,10 @@ impl<T: Theory> Pass<T> {
         Some(self.part(seat, lanes))
     }
 
-    /// Takes in another pass of the field.
+    /// Takes in another pass of the field: the pass then has the lanes of both, and knows what both
+    /// knew. Nothing is in hand. It has no refusal.
+    ///
+    /// Two loads of word 0. It takes no memory and waits for nobody.
     pub fn join(&mut self, field: &Field<T>, other: Pass<T>)
         requires mine { IsOf self.old field.now }
         requires others { IsOf other field.now }

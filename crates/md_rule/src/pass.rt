@@ -18,7 +18,9 @@ use md_machine::Theory;
 use md_words::Shape;
 use std::marker::{Model, PhantomData};
 
-/// A thread's token: what it steps with.
+/// A thread's right to step on a field: it holds some of the field's lanes, and keeps a few numbers
+/// of each. What it knows, its trail among it, is seen by contracts alone and has no bytes. A pass
+/// that is dropped takes its lanes with it.
 #[derive(Drop)]
 pub struct Pass<T: Theory> {
     pub(crate) seat: Seat<(), Known>,
@@ -75,14 +77,15 @@ impl<T: Theory> Pass<T> {
         &self.shape
     }
 
-    /// How many lanes it holds.
+    /// How many lanes it holds: 1 to 64. It makes no step.
     pub fn lanes(&self) -> u32
         ensures { result ≡ length self.now.view.lanes }
     {
         self.lanes.count()
     }
 
-    /// The lane at a place of its lanes, in rising order from 0.
+    /// The lane at a place of its lanes, in rising order from 0. The place is below `lanes()`.
+    /// Takes time in the order of the place. It makes no step.
     pub fn lane(&self, place: u32) -> u32
         requires { place < length self.now.view.lanes }
         ensures lane { result ≡ slice_index self.now.view.lanes place }
@@ -91,7 +94,7 @@ impl<T: Theory> Pass<T> {
         self.lanes.at(place)
     }
 
-    /// Whether it holds all lanes of the field.
+    /// Whether it holds all lanes of the field, which is its own. It makes no step.
     pub fn holds_all(&self, field: &Field<T>) -> bool
         requires { IsOf self.now field.now }
         ensures { IsTrue result ↔ HoldsAll field.now.origin.shape self.now.view }

@@ -59,7 +59,7 @@ impl<K: Telling> Play<(), Known> for Tells<K> {
         × (now.1 ≡ me.1) };
 }
 
-/// How the view of a pass is split, and how two are joined. Each call picks it.
+/// How the view of a pass is split. Each call picks it.
 pub trait Halving {
     ghost use Rattle.md_machine.specs.declared.pass.PassView.{PassView};
 
@@ -74,6 +74,7 @@ impl Halving for Brand {
     ghost given = { λ p. p };
 }
 
+/// How the views of two passes are joined. Each call picks it.
 pub trait Joining {
     ghost use Rattle.md_machine.specs.declared.pass.PassView.{PassView};
 

@@ -32,7 +32,8 @@ use std::marker::Brand;
 use std::snapshot::Snapshot;
 
 impl<T: Theory> Pass<T> {
-    /// What a word holds.
+    /// What a word holds. The word is one of the field. One atomic load. It has no refusal, and
+    /// takes no memory.
     pub fn load(&mut self, field: &Field<T>, word: u32) -> u64
         requires { IsOf self.old field.now × (word < words_of field.now.origin.shape) }
         ensures same { self.new ≡ record self.old { view = self.new.view } }
@@ -42,8 +43,12 @@ impl<T: Theory> Pass<T> {
         load_word::<Brand, T, _>(&mut self.seat, field, word, Snapshot::of(&word))
     }
 
-    /// Writes a word of an own node that isn't published, or of a read or a slot of the
-    /// transaction in hand.
+    /// Writes a word that nobody else relies on: of an own node that no resolution places, or of a
+    /// read or a slot of the transaction in hand, which isn't ready (`MayStore`). A slot's word and
+    /// old content are stored only before the slot is installed, a slot's new value is below 2^32,
+    /// and the count of a next word rises by 2.
+    ///
+    /// One atomic store. It has no refusal.
     pub fn store(&mut self, field: &Field<T>, word: u32, value: u64)
         requires field { IsOf self.old field.now
             × (word < words_of field.now.origin.shape) }
@@ -57,8 +62,15 @@ impl<T: Theory> Pass<T> {
         store_word::<Brand, T, _>(&mut self.seat, field, word, value, about);
     }
 
-    /// Puts the descriptor in hand, at one of its slots, into a word. That isn't the next word of
-    /// a node that wasn't taken.
+    /// Puts the descriptor in hand, at one of its slots, into a counted word that may be changed:
+    /// the install of a critical exchange in Cai, Wen and Scott's transactions. The slot has this
+    /// word and this old content, whose count is even and at most `LAST_COUNT`; the attempt isn't
+    /// ready. A next word is of a node that is placed in every resolution, or of an own one that
+    /// was taken (`MayInstall`).
+    ///
+    /// Ok exactly if the word held the expected content, which is changed then. `Err` has what it
+    /// held in its place; then nothing is changed. The count is one more then. One atomic exchange;
+    /// a step that wins counts the slot.
     pub fn install(
         &mut self,
         field: &Field<T>,
@@ -86,7 +98,12 @@ impl<T: Theory> Pass<T> {
         Ok(())
     }
 
-    /// Changes a word by a plain exchange, which leaves the state as it is.
+    /// Changes a counted word at once by a tidy change of the theory, which leaves the state as it
+    /// is, as an unlink of a removed node does or a move of a lagging tail. The old count is even
+    /// and leaves room, and the next words on which the change rests were met (`MayExchange`).
+    ///
+    /// Ok exactly if the word held the expected content, which is changed then. `Err` has what it
+    /// held in its place; then nothing is changed. The count is two more then. One atomic exchange.
     pub fn exchange(
         &mut self,
         field: &Field<T>,
@@ -120,10 +137,16 @@ impl<T: Theory> Pass<T> {
     }
 
     /// Makes the transaction in hand ready: it joins the history, by some certificates of its acts.
-    /// The caller picks of which kind they are: `K` says it, and may speak of `about`, which has no
-    /// bytes. It shows certificates of that kind, and after Ok the new entry, the last one that the
-    /// pass has seen, has certificates of that kind. The transaction stored to no node that wasn't
-    /// taken, or was given back.
+    /// In Cai, Wen and Scott's transactions this sets the descriptor in progress. Its first `reads`
+    /// reads are stored and were met, and it stored to no node that wasn't taken, or was given
+    /// back.
+    ///
+    /// The caller picks of which kind the certificates are: `K` says it, and may speak of `about`,
+    /// which has no bytes. It shows certificates of that kind, and after Ok the new entry, the last
+    /// one that the pass has seen, has certificates of that kind.
+    ///
+    /// Ok exactly if the word held the expected content, which is changed then. `Err` has what it
+    /// held in its place; then nothing is changed. One atomic exchange.
     pub fn ready<K: Certifying, A>(
         &mut self,
         field: &Field<T>,
@@ -156,7 +179,12 @@ impl<T: Theory> Pass<T> {
         )
     }
 
-    /// Commits an attempt that is in progress, and whose reads all stand.
+    /// Commits an attempt that is in progress (`from`), whoever's it is: the last part of
+    /// validation. Since the pass met that status, it loaded each read of the attempt, or stored it
+    /// itself, and found each to stand.
+    ///
+    /// Ok exactly if the word held the expected content, which is changed then. `Err` has what it
+    /// held in its place; then nothing is changed. One atomic exchange.
     pub fn commit(&mut self, field: &Field<T>, desc: u32, from: u64) -> Result<(), u64>
         requires field { IsOf self.old field.now
             × (desc < desc_count field.now.origin.shape) }
@@ -173,9 +201,13 @@ impl<T: Theory> Pass<T> {
         exchange_word::<Brand, T, _>(&mut self.seat, field, word, from, committed, about)
     }
 
-    /// Aborts an attempt that isn't ready, or one with a read that doesn't stand. Its descriptor is
-    /// of one of the pass's lanes, and an attempt of it was taken (`set_tries_taken`); or a step of
-    /// the pass found it in a counted word.
+    /// Aborts an attempt that isn't ready, or one in progress of which a read was found, since the
+    /// pass met that status, that doesn't stand. Its descriptor is of one of the pass's lanes, and
+    /// an attempt of it was taken (`set_tries_taken`); or a step of the pass found it in a counted
+    /// word.
+    ///
+    /// Ok exactly if the word held the expected content, which is changed then. `Err` has what it
+    /// held in its place; then nothing is changed. One atomic exchange.
     pub fn abort(&mut self, field: &Field<T>, desc: u32, from: u64) -> Result<(), u64>
         requires field { IsOf self.old field.now
             × (desc < desc_count field.now.origin.shape) }
@@ -192,7 +224,14 @@ impl<T: Theory> Pass<T> {
         exchange_word::<Brand, T, _>(&mut self.seat, field, word, from, aborted, about)
     }
 
-    /// Takes a descriptor whose attempt is decided out of a word.
+    /// Takes a descriptor whose attempt is decided out of a counted word, whoever's it is. The
+    /// value is that of the attempt's fate: the slot's new value after a commit, and the value of
+    /// its old content after an abort. The pass met the present attempt of an own descriptor
+    /// decided; or it met the content, a status, the content again, the slot, and the decided
+    /// status, in the order that `MayUninstall` says.
+    ///
+    /// Ok exactly if the word held the expected content, which is changed then. `Err` has what it
+    /// held in its place; then nothing is changed. The count is one more then. One atomic exchange.
     pub fn uninstall(
         &mut self,
         field: &Field<T>,
@@ -225,8 +264,12 @@ impl<T: Theory> Pass<T> {
         )
     }
 
-    /// Begins the next attempt of an own descriptor, whose last one is decided and stands in no
-    /// word. The new one was taken (`set_tries_taken`).
+    /// Begins the next attempt of an own descriptor, which was taken (`set_tries_taken`). Nothing
+    /// is in hand; the last attempt, of the status `from`, is decided, its fate is known, and it
+    /// stands in no word. The serial rises by one.
+    ///
+    /// One atomic store. It has no refusal. Descriptors that serve one attempt after another are
+    /// this project's own.
     pub fn start(&mut self, field: &Field<T>, desc: u32, from: u64)
         requires field { IsOf self.old field.now }
         requires own { Contains self.old.view.lanes desc }

@@ -10,7 +10,8 @@ use crate::shares::{set_nodes, set_tries};
 use md_machine::Theory;
 
 impl<T: Theory> Pass<T> {
-    /// How many nodes of a lane were taken: its lowest ones.
+    /// How many nodes of a lane were taken: its lowest ones, at most the shape's `nodes`. The lane
+    /// is the pass's. Constant time; it makes no step.
     pub fn nodes_taken(&self, lane: u32) -> u32
         requires { Contains self.now.view.lanes lane }
         ensures { result ≡ (share_at self.now.shares lane).nodes_taken }
@@ -18,7 +19,8 @@ impl<T: Theory> Pass<T> {
         self.shares[lane as usize].nodes_taken
     }
 
-    /// How many attempts a lane has begun.
+    /// How many attempts a lane has begun, at most the shape's `tries`. The lane is the pass's.
+    /// Constant time; it makes no step.
     pub fn tries_taken(&self, lane: u32) -> u32
         requires { Contains self.now.view.lanes lane }
         ensures { result ≡ (share_at self.now.shares lane).tries_taken }
@@ -26,7 +28,8 @@ impl<T: Theory> Pass<T> {
         self.shares[lane as usize].tries_taken
     }
 
-    /// How many slots the lane's last transaction wrote, at most `SET`.
+    /// How many slots the lane's last transaction wrote, at most `SET`. The lane is the pass's.
+    /// Constant time; it makes no step.
     pub fn slots_written(&self, lane: u32) -> u32
         requires { Contains self.now.view.lanes lane }
         ensures slots { result ≡ (share_at self.now.shares lane).slots_written }
@@ -35,7 +38,8 @@ impl<T: Theory> Pass<T> {
         self.shares[lane as usize].slots_written as u32
     }
 
-    /// Whether the lane's last transaction was put in hand and not ended by `mark_end`.
+    /// Whether the lane's last transaction was put in hand and not ended by `mark_end`. The lane is
+    /// the pass's. Constant time; it makes no step.
     pub fn left_open(&self, lane: u32) -> bool
         requires { Contains self.now.view.lanes lane }
         ensures { result ≡ (share_at self.now.shares lane).left_open }
@@ -43,7 +47,9 @@ impl<T: Theory> Pass<T> {
         self.shares[lane as usize].left_open
     }
 
-    /// Sets how many nodes of a lane are taken. Nodes that come free are known to be free.
+    /// Sets how many nodes of a lane are taken, at most the shape's `nodes`. The lane is the
+    /// pass's, and nodes that come free are known to be free (`KnowsFree`). Constant time; it makes
+    /// no step and has no refusal.
     pub fn set_nodes_taken(&mut self, lane: u32, taken: u32)
         requires lane { Contains self.old.view.lanes lane }
         requires fits { taken ≤ self.old.shape.nodes }
@@ -57,7 +63,8 @@ impl<T: Theory> Pass<T> {
         set_nodes(&mut self.shares, lane, taken);
     }
 
-    /// Sets how many attempts a lane has begun. It never falls.
+    /// Sets how many attempts a lane has begun, at most the shape's `tries` and no fewer than
+    /// before. The lane is the pass's. Constant time; it makes no step and has no refusal.
     pub fn set_tries_taken(&mut self, lane: u32, taken: u32)
         requires lane { Contains self.old.view.lanes lane }
         requires fits { taken ≤ self.old.shape.tries }
