@@ -1,0 +1,6 @@
+pub mod Laws
+pub mod Splitting
+pub mod Opening
+pub mod Joining
+pub mod Counting
+pub mod Joined

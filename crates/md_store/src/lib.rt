@@ -1,0 +1,8 @@
+//! The concurrent store: maps and queues in one field of shared words, used by several passes at
+//! once.
+#![tactic(auto)]
+
+pub use store::{OpenFault, Store};
+
+mod moves;
+mod store;
