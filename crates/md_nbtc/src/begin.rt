@@ -48,6 +48,7 @@ fn settled_status<T: Theory>(pass: &mut Pass<T>, field: &Field<T>, desc: u32) ->
     requires own { HasDesc field.now.origin.shape pass.old.view desc }
     requires reached { IsReached pass.old desc }
     ensures same { pass.new ≡ record pass.old { view = pass.new.view } }
+    ensures stands { Stands T.meaning field.now.origin pass.new.view }
     ensures finds { FindsDecided field.now.origin.shape desc result pass.old.view pass.new.view }
 {
     settle_one(field, pass, desc);
@@ -66,6 +67,7 @@ pub fn decided_status<T: Theory>(pass: &mut Pass<T>, field: &Field<T>, desc: u32
     requires own { HasDesc field.now.origin.shape pass.old.view desc }
     requires reached { IsReached pass.old desc }
     ensures same { pass.new ≡ record pass.old { view = pass.new.view } }
+    ensures stands { Stands T.meaning field.now.origin pass.new.view }
     ensures finds { FindsDecided field.now.origin.shape desc result pass.old.view pass.new.view }
 {
     let found = pass.load(field, field.shape().status(desc));
