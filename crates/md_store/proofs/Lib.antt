@@ -4,3 +4,7 @@ pub mod Opening
 pub mod Joining
 pub mod Counting
 pub mod Joined
+pub mod Settled
+pub mod SettledLanes
+pub mod Closing
+pub mod Settlement

@@ -5,4 +5,5 @@
 pub use store::{OpenFault, Store};
 
 mod moves;
+mod settling;
 mod store;
