@@ -8,3 +8,6 @@ pub mod Settled
 pub mod SettledLanes
 pub mod Closing
 pub mod Settlement
+pub mod Closed
+pub mod Rooms
+pub mod Renewing

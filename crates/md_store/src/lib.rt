@@ -4,6 +4,10 @@
 
 pub use store::{OpenFault, Store};
 
+mod ending;
+mod engine;
 mod moves;
 mod settling;
 mod store;
+#[cfg(test)]
+mod tests;
