@@ -91,3 +91,15 @@ module _ (M : Meaning) (t : TxnState) (cs : List Certificate) (ts : List TidyCha
       };
     };
   }
+
+-- the word is an own one then, with the new value, and no node is taken
+module _ (M : Meaning) (t u : TxnState) (word : ℕ) (from : Seen) (to : ℕ) (seen : Seen) where
+  pub exchanged_own : HasExchanged M t word from to Critical u seen → (seen.own ≡ true) × (seen.value ≡ to)
+  exchanged_own (changed_own e) = (ap (λ (s : Seen). s.own) e.seen_is, ap (λ (s : Seen). s.value) e.seen_is)
+  exchanged_own (installed e) = (ap (λ (s : Seen). s.own) e.seen_is, ap (λ (s : Seen). s.value) e.seen_is)
+  exchanged_own (changed_plainly e) = absurd (true≢false e.plain)
+
+  pub exchanged_nodes : HasExchanged M t word from to Critical u seen → u.nodes ≡ t.nodes
+  exchanged_nodes (changed_own e) = ap (λ (x : TxnState). x.nodes) e.state_is
+  exchanged_nodes (installed e) = ap (λ (x : TxnState). x.nodes) e.state_is
+  exchanged_nodes (changed_plainly e) = absurd (true≢false e.plain)

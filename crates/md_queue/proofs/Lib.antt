@@ -9,3 +9,7 @@ pub mod Firsts
 pub mod Moving
 pub mod Changing
 pub mod Takings
+pub mod Following
+pub mod Ends
+pub mod FreshNode
+pub mod Putting

@@ -195,3 +195,19 @@ refused_up M t u a b x y stop is reads writes =
       };
       no_nodes = is.no_nodes;
     }
+
+pub goes_up : (M : Meaning) (t u : TxnState) (a b c x y z : ℕ) → GoesBy M t u a b c → a ≤ x → b ≤ y → c ≤ z → GoesBy M t u x y z
+goes_up M t u a b c x y z is reads writes nodes =
+    let r = is.leaves.reads_few in
+    let w = is.leaves.writes_few in
+    let n = is.leaves.nodes_few in
+    record {
+      leaves = record {
+        going = is.leaves.going;
+        later = is.leaves.later;
+        reads_few = omega (arith, r, reads);
+        writes_few = omega (arith, w, writes);
+        nodes_few = omega (arith, n, nodes);
+      };
+      same_stop = is.same_stop;
+    }

@@ -1,15 +1,19 @@
 -- What the operations of a queue ask, and what they leave.
-use Rattle.std.specs.Prelude.{◌≡◌, ◌≤◌, ◌<◌, ◌+◌, ℕ, true, [], Some, length}
+use Rattle.std.specs.Prelude.{◌≡◌, ◌≤◌, ◌<◌, ◌+◌, ℕ, true, [], ◌∷◌, ◌++◌, Contains, Some, length}
 use Rattle.md_history.specs.declared.acts.Op.{Op}
 use Rattle.md_history.specs.declared.acts.Reply.{Reply}
 use Rattle.md_history.specs.declared.stops.Limit.TheVariants.{Nodes}
 use Rattle.md_history.specs.declared.stops.Stop.{Stop}
 use Rattle.md_history.specs.declared.stops.Stop.TheVariants.{Limit as Limited}
 use Rattle.md_machine.specs.Meaning.{Meaning}
+use Rattle.md_nbtc.specs.declared.seen.Cleanup.TheVariants.{MoveTail}
+use Rattle.md_nbtc.specs.declared.sets.Slot.{Slot}
 use Rattle.md_nbtc.specs.Calls.{MayAnswer}
 use Rattle.md_nbtc.specs.Going.{IsUnderWay}
 use Rattle.md_nbtc.specs.Known.{IsLater}
-use Rattle.md_nbtc.specs.State.{TxnState, shape_in}
+use Rattle.md_nbtc.specs.State.{OwnNode, TxnState, shape_in}
+use Rattle.md_queue_law.specs.QueueShape.{link}
+use Rattle.md_queue.specs.Words.{next_at, tail_at}
 
 -- an operation was begun, and nothing was done since; the queue is one of the field
 pub record IsBegun (M : Meaning) (t : TxnState) (queue : ℕ) : Type 0 where
@@ -47,3 +51,15 @@ pub record RefusedOtherwise (M : Meaning) (t u : TxnState) (reads writes : ℕ) 
 pub record Answered (M : Meaning) (t u : TxnState) (op : Op) (reply : Reply) (reads writes nodes : ℕ) : Type 0 where
   pub goes : GoesBy M t u reads writes nodes
   pub may : MayAnswer M u op reply
+
+-- a node was taken for the value, and was put behind the last one; the tail is moved to it after the commit
+pub record PutsLast (t u : TxnState) (queue value : ℕ) : Type 0 where
+  pub last : ℕ
+  pub new : OwnNode
+  pub nodes : u.nodes ≡ t.nodes ++ new ∷ []
+  pub value_is : new.value ≡ value
+  pub slot : Slot
+  pub among : Contains u.slots slot
+  pub word : slot.write.word ≡ next_at u last
+  pub names : slot.write.new ≡ link new.node
+  pub cleanup : slot.cleanup ≡ Some (MoveTail (tail_at u queue) last new.node)

@@ -1,5 +1,5 @@
 -- What a transaction sees of a queue while one of its operations is under way.
-use Rattle.std.specs.Prelude.{◌≡◌, ◌≢◌, ◌<◌, ◌⊎◌, ℕ, true, false, List, Contains, is_some}
+use Rattle.std.specs.Prelude.{◌≡◌, ◌≢◌, ◌≤◌, ◌<◌, ◌⊎◌, ℕ, true, false, List, Contains, is_some, if◌then◌else◌}
 use Rattle.md_words.specs.Layout.{IsNode}
 use Rattle.md_words.specs.Link.{linked_node}
 use Rattle.md_machine.specs.declared.certificate.Certificate.{Certificate}
@@ -16,7 +16,7 @@ use Rattle.md_nbtc.specs.State.{OwnNode, TxnState, shape_in, writes_in}
 use Rattle.md_nbtc.specs.Tidied.{HasTidied, tidied}
 use Rattle.md_queue_law.specs.QueueCertificates.{head_is, next_is}
 use Rattle.md_queue_law.specs.QueueShape.{IsOf, link}
-use Rattle.md_queue.specs.Words.{head_at, next_at}
+use Rattle.md_queue.specs.Words.{head_at, next_at, tail_at}
 
 module _ (M : Meaning) (t : TxnState) where
   -- the latest look at a word, or change of it, gave this
@@ -73,3 +73,24 @@ module _ (M : Meaning) (t : TxnState) (queue : ℕ) (head next : Seen) where
     pub head_noted : IsRecorded M t certificates changes (head_is (shape_in t) queue head.value)
     pub next_noted : IsRecorded M t certificates changes (next_is (shape_in t) (linked_node head.value) next.value)
     pub next_named : next.value ≢ 0 → NamesNode M t certificates queue next.value
+
+module _ (M : Meaning) (t : TxnState) (queue : ℕ) (tail : Seen) where
+  -- what was seen in the tail, whose node has at least this rank
+  pub record SeesTail (least : ℕ) : Type 0 where
+    pub certificates : List Certificate
+    pub changes : List TidyChange
+    pub working : IsWorking M t queue certificates changes
+    pub tail_sees : SeesAt M t (tail_at t queue) tail
+    pub rank : Known M t (λ u h. least ≤ (after_wholes h certificates).words.key_of (linked_node tail.value))
+
+  -- and what was seen in the next word of its node
+  pub record SeesEnd (next : Seen) (least : ℕ) : Type 0 where
+    pub sees_tail : SeesTail least
+    pub next_sees : SeesNext M t sees_tail.certificates queue (linked_node tail.value) next
+
+-- a word that was seen as an own one counts once, and what is left of one word
+abbrev pub own_count : Seen → ℕ
+own_count seen = if seen.own then 1 else 0
+
+abbrev pub other_count : Seen → ℕ
+other_count seen = if seen.own then 0 else 1

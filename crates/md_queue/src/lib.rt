@@ -3,7 +3,8 @@
 //! Blocking Concurrent Queue Algorithms" (1996).
 #![tactic(auto)]
 
-pub use first::front;
+pub use first::{dequeue, front};
 
 mod first;
+mod last;
 mod words;
