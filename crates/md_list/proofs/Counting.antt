@@ -1,6 +1,9 @@
 -- Numbers that differ are no more than there may be.
-use Rattle.std.proofs.Common.{◌≡◌, ◌≢◌, ◌<◌, ◌≤◌, ℕ, true, false, List, [], ◌∷◌, length, eqb, sym, subst, ⊎_elim, eqb-true, ne_eqb}
+use Rattle.std.proofs.Common.{◌≡◌, ◌≢◌, ◌<◌, ◌≤◌, ℕ, true, false, List, [], ◌∷◌, length, eqb, eq-eqb, refl, sym, subst, ⊎_elim, eqb-true, ne_eqb}
 use Rattle.std.proofs.lemmas.Bool.{or_cases}
+use Rattle.std.proofs.lemmas.Cmp.{nat_eq_equiv}
+use Rattle.std.proofs.lemmas.Map.Made.{length-le_from_is_member}
+use Rattle.md_nbtc.proofs.exchanging.OwnSlots.{any_has}
 use Rattle.std.proofs.lemmas.List.Elements.{All-contains, All-weaker, recursion_from_All}
 use Rattle.std.proofs.lemmas.Map.Steps.{length-le_from_distinct_below}
 use Rattle.std.specs.List.{All, AllPairs, Contains, IsDistinct, list_any}
@@ -24,3 +27,8 @@ found_in q (x ∷ xs) any = ⊎_elim
 
 pub few_below : (xs : List ℕ) (n : ℕ) → AllPairs (λ (a b : ℕ). a ≢ b) xs → All (λ x. x < n) xs → length xs ≤ n
 few_below xs n differ below = length-le_from_distinct_below xs n (distinct_of xs differ) (λ q any. All-contains (λ x. x < n) xs q below (found_in q xs any))
+
+-- numbers that differ and are all among some are no more than those
+pub few_among : (xs ys : List ℕ) → AllPairs (λ (a b : ℕ). a ≢ b) xs → All (Contains ys) xs → length xs ≤ length ys
+few_among xs ys differ among = length-le_from_is_member nat_eq_equiv xs ys (distinct_of xs differ)
+    (λ q any. any_has (eqb q) ys q (All-contains (Contains ys) xs q among (found_in q xs any)) (eq-eqb q q refl))

@@ -28,7 +28,7 @@ use Rattle.md_list.specs.Walking.{IsBefore}
 use Rattle.md_list.proofs.At.{IsAt}
 use Rattle.md_list.proofs.Marks.{mark_gone}
 use Rattle.md_list.proofs.OnNode.{IsOn}
-use Rattle.md_list.proofs.Unlinks.{prev_place}
+use Rattle.md_list.proofs.ListWords.{prev_place}
 use Rattle.std.proofs.Common.{◌^◌, ◌++◌, ◌≤◌, map, length, arith}
 use Rattle.std.specs.List.{AllPairs}
 use Rattle.std.proofs.lemmas.List.Kept.{AllPairs-cons}
@@ -184,7 +184,7 @@ module _ (M : Meaning) (lawful : Lawful M) (lists : HasListsOf M) (t : TxnState)
         (stands_unlinked u.pass t.hand t.slots goes_on stands.walking.operates stands.walking.changes
         (tidied_later M t cs stands.walking.changes stands.walking.tidied (stepped t u.pass) goes_on.later refl) stands.walking.unlinks seen
         (subst (λ x. Gave x prev seen) e.state_is gave)
-        (looked_there M t u.pass prev seen (subst (λ x. Looks M t x prev seen) e.state_is e.looks) (prev_place M lawful lists t head key visited prev at stands))
+        (looked_there M t u.pass prev seen (subst (λ x. Looks M t x prev seen) e.state_is e.looks) (prev_place M lawful lists t cs stands.walking.going stands.walking.map stands.walking.bucket head key prev stands.walking.is_head stands.before))
         (ap (λ (s : Seen). s.value) e.seen_is))
 
   -- after the node's key was read the walk stands at its next word, or has found the place

@@ -17,7 +17,7 @@ use Rattle.md_nbtc.specs.State.{TxnState, shape_in}
 use Rattle.md_nbtc.proofs.preparing.Later.{later_over}
 use Rattle.md_nbtc.proofs.structures.Answering.{IsStopped, after_ok}
 use Rattle.md_nbtc.proofs.structures.Noting.{HasNoted, has_noted}
-use Rattle.md_list.specs.Operations.{LooksUp}
+use Rattle.md_list.specs.Operations.{KeepsNodes}
 use Rattle.md_list.specs.Walking.{FindsNode, HasFound, WalkedFrom}
 use Rattle.md_list.specs.declared.walk.Found.{Found}
 
@@ -28,7 +28,7 @@ noted_ok t u word seen noted = has_noted t u word seen (after_ok (Unit {0}) t u 
 
 module _ (M : Meaning) (s t u : TxnState) (walked : WalkedFrom M s t) where
   -- a walk is a look-up so far
-  pub walk_looks : LooksUp M s t
+  pub walk_looks : KeepsNodes M s t
   walk_looks = record {
     going = walked.going;
     later = walked.later;
@@ -36,7 +36,7 @@ module _ (M : Meaning) (s t u : TxnState) (walked : WalkedFrom M s t) where
     nodes = walked.nodes;
   }
 
-  pub note_looks : GoesOn M t u → length u.reads ≤ length t.reads + 1 → u.nodes ≡ t.nodes → LooksUp M s u
+  pub note_looks : GoesOn M t u → length u.reads ≤ length t.reads + 1 → u.nodes ≡ t.nodes → KeepsNodes M s u
   note_looks goes reads nodes = record {
     going = (walked.going.0, goes.going walked.going.0 walked.going.1);
     later = later_over s t u walked.later goes.later;
@@ -44,11 +44,11 @@ module _ (M : Meaning) (s t u : TxnState) (walked : WalkedFrom M s t) where
     nodes = nodes ∙ walked.nodes;
   }
 
-  pub stop_looks : GoesOn M t u → (stop : Stop) → IsStopped t u stop → LooksUp M s u
+  pub stop_looks : GoesOn M t u → (stop : Stop) → IsStopped t u stop → KeepsNodes M s u
   stop_looks goes stop is = note_looks goes (let l = ap (λ (x : TxnState). length x.reads) is in omega (arith, l)) (ap (λ (x : TxnState). x.nodes) is)
 
 -- steps of the pass alone leave a look-up one
-pub step_looks : (M : Meaning) (s t u : TxnState) → LooksUp M s t → GoesOn M t u → u ≡ record t { pass = u.pass } → LooksUp M s u
+pub step_looks : (M : Meaning) (s t u : TxnState) → KeepsNodes M s t → GoesOn M t u → u ≡ record t { pass = u.pass } → KeepsNodes M s u
 step_looks M s t u looks goes same = record {
   going = (looks.going.0, goes.going looks.going.0 looks.going.1);
   later = later_over s t u looks.later goes.later;

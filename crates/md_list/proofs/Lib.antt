@@ -2,6 +2,7 @@ pub mod MetInBuckets
 pub mod Rising
 pub mod At
 pub mod Walked
+pub mod ListWords
 pub mod OnNode
 pub mod Marks
 pub mod Unlinks
@@ -13,3 +14,14 @@ pub mod Keyed
 pub mod Rows
 pub mod LookUps
 pub mod Getting
+pub mod FoundOn
+pub mod Critical
+pub mod Changing
+pub mod UnlinkLater
+pub mod Removing
+pub mod Laters
+pub mod FreshNode
+pub mod Inserting
+pub mod Taken
+pub mod Charged
+pub mod ChargedWalk

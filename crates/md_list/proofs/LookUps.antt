@@ -8,8 +8,8 @@ use Rattle.md_words.specs.Place.{node_value}
 use Rattle.md_words.specs.PlaceAt.{place_at}
 use Rattle.md_words.proofs.Places.{place_at-address}
 use Rattle.md_history.specs.declared.acts.Op.{Op}
-use Rattle.md_history.specs.declared.acts.Op.TheVariants.{Get}
-use Rattle.md_history.specs.declared.acts.Reply.TheVariants.{Value}
+use Rattle.md_history.specs.declared.acts.Op.TheVariants.{Get, Insert}
+use Rattle.md_history.specs.declared.acts.Reply.TheVariants.{Flag, Value}
 use Rattle.md_machine.specs.declared.certificate.Certificate.{Certificate}
 use Rattle.md_machine.specs.declared.certificate.Fact.{Fact}
 use Rattle.md_machine.specs.declared.node.Structure.{Structure}
@@ -20,13 +20,12 @@ use Rattle.md_machine.specs.Meaning.{Lawful, Meaning}
 use Rattle.md_machine.proofs.lists.Rising.{here, there}
 use Rattle.md_nbtc.specs.Calls.{MayAnswer, data_at}
 use Rattle.md_nbtc.specs.Going.{IsGoing}
-use Rattle.md_nbtc.specs.Known.{IsHeapOf, IsLater, Known}
-use Rattle.md_nbtc.specs.Prepared.{IsPrepared}
+use Rattle.md_nbtc.specs.Known.{IsLater, Known}
 use Rattle.md_nbtc.specs.State.{TxnState, seen_content, shape_in, writes_in}
 use Rattle.md_nbtc.proofs.preparing.Later.{known_later}
 use Rattle.md_nbtc.proofs.structures.NodesKnown.{data_known, shape_later}
 use Rattle.md_nbtc.proofs.structures.Reading.{reading}
-use Rattle.md_list_law.specs.Certificates.{ChangesNothing, IsPlaceOf, IsRow, RecordsPlace, get_some, key_fact, pair_fact}
+use Rattle.md_list_law.specs.Certificates.{ChangesNothing, IsPlaceOf, IsRow, RecordsPlace, get_some, insert_false, key_fact, pair_fact}
 use Rattle.md_list_law.specs.HasLists.{HasListsOf}
 use Rattle.md_list_law.specs.ListShape.{next_word}
 use Rattle.md_list.specs.Walking.{FindsNode, HasFound, IsHeadOf, IsWalking, KnowsAfter}
@@ -109,7 +108,33 @@ module _ (M : Meaning) (lawful : Lawful M) (lists : HasListsOf M) (t : TxnState)
       (λ gs in_gs. inr (before.0, before.1, in_gs f (here f []), before.4, before.5)) absent)
       has.place.before
 
+  -- the key and the value of a node that is here
+  module _ (v : TxnState) (later : IsLater t v) (going : IsGoing M v w.certificates) (is_here : found.here ≡ true) (value word : ℕ) (word_is : word ≡ address (shape_in t) (node_value found.node))
+      (data_is : Known M v (λ u h. data_at h (place_at (shape_in t) word) ≡ value)) where
+    abbrev n : FindsNode M t w.certificates list key found
+    n = here_node is_here
+
+    abbrev value_fact : Fact
+    value_fact = record { node = found.node; structure = list; key = None; value = Some value; next = None }
+
+    value_known : Known M v (λ u h. Holds (after_wholes h w.certificates) value_fact)
+    value_known = data_known M lawful v w.certificates going found.node list None (Some value)
+        (subst (λ s. IsNode s found.node) (sym (shape_later t v later)) n.exists)
+        (λ u over prepared h of. (known_later M (λ u h. Holds (after_wholes h w.certificates) (key_fact list found.node n.found_key)) t v later n.known u over prepared h of).placed)
+        (λ u over prepared h of. tt)
+        (λ u over prepared h of. subst (λ p. data_at h p ≡ value) (ap (place_at (shape_in t)) word_is ∙ place_at-address (shape_in t) (node_value found.node) n.exists) (data_is u over prepared h of))
+
+    merge : (h : LogicalHeap) (k : ℕ) → k ≡ key → Holds h (key_fact list found.node k) → Holds h value_fact → Holds h (pair_fact list found.node key value)
+    merge h k key_is one two = record { placed = one.placed; key = one.key ∙ key_is; value = two.value; next = tt }
+
+    pub pair_known : KnowsAfter M v w.certificates (pair_fact list found.node key value)
+    pair_known u over prepared h of = merge (after_wholes h w.certificates) n.found_key (here_key is_here)
+        (known_later M (λ u h. Holds (after_wholes h w.certificates) (key_fact list found.node n.found_key)) t v later n.known u over prepared h of) (value_known u over prepared h of)
+
   module _ (map : ℕ) (is : IsHeadOf (shape_in t) map key head) (v : TxnState) (later : IsLater t v) (same : v.hand ≡ t.hand) (going : IsGoing M v w.certificates) (slots : v.slots ≡ t.slots) where
+    one_known_of : (f : Fact) → KnowsAfter M v w.certificates f → Known M v (λ u h. All (Holds (after_wholes h w.certificates)) (f ∷ []))
+    one_known_of f known u over prepared h of = All-cons (Holds (after_wholes h w.certificates)) f [] (known u over prepared h of) (All-nil (Holds (after_wholes h w.certificates)))
+
     own_head : (w.map ≡ map) × (w.bucket ≡ bucket_of (shape_in t) key)
     own_head = one_head (shape_in t) w.map w.bucket map (bucket_of (shape_in t) key) head w.is_head is
 
@@ -121,8 +146,6 @@ module _ (M : Meaning) (lawful : Lawful M) (lists : HasListsOf M) (t : TxnState)
     may_get_some is_here fits noted value word word_is data_is =
         let n = here_node is_here in
         let fact = pair_fact list found.node key value in
-        let holds = λ (u : TxnState) (over : IsLater v u) (prepared : IsPrepared u) (h : LogicalHeap) (of : IsHeapOf M u h).
-        merge (after_wholes h w.certificates) n.found_key value (here_key is_here) (known_later M _ t v later n.known u over prepared h of) (value_known n value word word_is data_is u over prepared h of) in
         subst (λ m. MayAnswer M v (Get m key) (Value (Some value))) own_head.0
         (may_answer_reading M lawful lists t head key w own_head.1 v later same going (next_word (shape_in t) found.node) found.next n.next fits slots noted
         (Get w.map key) (Value (Some value)) (fact ∷ [])
@@ -132,21 +155,28 @@ module _ (M : Meaning) (lawful : Lawful M) (lists : HasListsOf M) (t : TxnState)
           unmarked = n.next.unmarked;
           recorded = here (record { word = next_word (shape_in t) found.node; value = found.next.value }) [];
         }))
-        (λ u over prepared h of. All-cons (Holds (after_wholes h w.certificates)) fact [] (holds u over prepared h of) (All-nil (Holds (after_wholes h w.certificates))))
+        (one_known_of fact (pair_known v later going is_here value word word_is data_is))
         (All-cons (λ (f : Fact). f.next ≡ None) fact [] refl (All-nil (λ (f : Fact). f.next ≡ None))))
-      where
-        merge : (h : LogicalHeap) (k value : ℕ) → k ≡ key → Holds h (key_fact list found.node k)
-            → Holds h (record { node = found.node; structure = list; key = None; value = Some value; next = None }) → Holds h (pair_fact list found.node key value)
-        merge h k value key_is one two = record { placed = one.placed; key = one.key ∙ key_is; value = two.value; next = tt }
 
-        value_known : FindsNode M t w.certificates list key found → (value word : ℕ) → word ≡ address (shape_in t) (node_value found.node)
-            → Known M v (λ u h. data_at h (place_at (shape_in t) word) ≡ value)
-            → Known M v (λ u h. Holds (after_wholes h w.certificates) (record { node = found.node; structure = list; key = None; value = Some value; next = None }))
-        value_known n value word word_is data_is = data_known M lawful v w.certificates going found.node list None (Some value)
-            (subst (λ s. IsNode s found.node) (sym (shape_later t v later)) n.exists)
-            (λ u over prepared h of. (known_later M (λ u h. Holds (after_wholes h w.certificates) (key_fact list found.node n.found_key)) t v later n.known u over prepared h of).placed)
-            (λ u over prepared h of. tt)
-            (λ u over prepared h of. subst (λ p. data_at h p ≡ value) (ap (place_at (shape_in t)) word_is ∙ place_at-address (shape_in t) (node_value found.node) n.exists) (data_is u over prepared h of))
+    -- an insert of a key that is there answers false
+    pub may_insert_false : (is_here : found.here ≡ true) → found.next.count < 2 ^ 32
+        → (is_written (writes_in t) (next_word (shape_in t) found.node) ≡ false → content_read v.reads (next_word (shape_in t) found.node) ≡ Some (seen_content found.next))
+        → (value : ℕ) → MayAnswer M v (Insert map key value) (Flag false)
+    may_insert_false is_here fits noted value =
+        let n = here_node is_here in
+        let fact = key_fact list found.node key in
+        subst (λ m. MayAnswer M v (Insert m key value) (Flag false)) own_head.0
+        (may_answer_reading M lawful lists t head key w own_head.1 v later same going (next_word (shape_in t) found.node) found.next n.next fits slots noted
+        (Insert w.map key value) (Flag false) (fact ∷ [])
+        (insert_false found.node value refl refl (record { changes = refl; nodes = refl }) (record {
+          fact = here fact [];
+          next = found.next.value;
+          unmarked = n.next.unmarked;
+          recorded = here (record { word = next_word (shape_in t) found.node; value = found.next.value }) [];
+        }))
+        (one_known_of fact (subst (λ k. KnowsAfter M v w.certificates (key_fact list found.node k)) (here_key is_here)
+        (known_later M (λ u h. Holds (after_wholes h w.certificates) (key_fact list found.node n.found_key)) t v later n.known)))
+        (All-cons (λ (f : Fact). f.next ≡ None) fact [] refl (All-nil (λ (f : Fact). f.next ≡ None))))
 
     -- of a key that is absent
     pub may_answer_none : found.here ≡ false → found.at.count < 2 ^ 32

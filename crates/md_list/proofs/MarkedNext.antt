@@ -1,14 +1,12 @@
 -- A marked next word: its node is known to be placed, or the word is an own one. So the node may be unlinked.
-use Rattle.std.proofs.Common.{◌≡◌, ◌⊎◌, ◌-◌, ℕ, true, false, List, [], ◌∷◌, Option, Some, None, refl, sym, ap, ◌∙◌, subst, inl, inr, ⊎_elim}
+use Rattle.std.proofs.Common.{◌≡◌, ◌≢◌, ◌-◌, ℕ, true, false, List, Option, Some, None, refl, sym, ap, ◌∙◌, subst, inr, ⊎_elim}
 use Rattle.std.proofs.lemmas.Bool.{cases_Bool, true≢false}
-use Rattle.std.proofs.lemmas.List.Elements.{All-contains, All-cons, All-nil}
+use Rattle.std.proofs.lemmas.List.Elements.{All-contains}
 use Rattle.std.specs.List.{All, Contains}
 use Rattle.md_words.specs.declared.shape.Shape.{Shape}
-use Rattle.md_words.specs.Layout.{IsNode}
 use Rattle.md_words.specs.Link.{is_marked, link_value, linked_node}
 use Rattle.md_words.proofs.Words.{link_value-parts}
 use Rattle.md_machine.specs.declared.certificate.Certificate.{Certificate}
-use Rattle.md_machine.specs.declared.certificate.Fact.{Fact}
 use Rattle.md_machine.specs.declared.certificate.TidyChange.{TidyChange}
 use Rattle.md_machine.specs.declared.node.Structure.{Structure}
 use Rattle.md_machine.specs.declared.node.Structure.TheVariants.{Bucket}
@@ -18,9 +16,8 @@ use Rattle.md_machine.specs.Meaning.{Lawful, Meaning}
 use Rattle.md_machine.specs.events.Exchange.{FoundFact, FoundNext}
 use Rattle.md_machine.proofs.chain.Agree.{tidies_shape, wholes_shape}
 use Rattle.md_machine.proofs.chain.SameNodes.{next_alone}
-use Rattle.md_machine.proofs.lists.Rising.{here, there as further}
 use Rattle.md_nbtc.specs.declared.seen.Kind.{Kind}
-use Rattle.md_nbtc.specs.declared.seen.Kind.TheVariants.{Critical}
+use Rattle.md_nbtc.specs.declared.seen.Kind.TheVariants.{Critical, Plain}
 use Rattle.md_nbtc.specs.declared.seen.Seen.{Seen}
 use Rattle.md_nbtc.specs.Calls.{MayExchange, is_critical}
 use Rattle.md_nbtc.specs.Course.{IsStoredNode, stored_words}
@@ -29,20 +26,25 @@ use Rattle.md_nbtc.specs.Known.{Known, KnowsFact, Met, WasThere}
 use Rattle.md_nbtc.specs.Seeing.{IsTidyNow}
 use Rattle.md_nbtc.specs.State.{OwnNode, TxnState, shape_in}
 use Rattle.md_nbtc.specs.Tidied.{tidied}
+use Rattle.md_nbtc.proofs.exchanging.PlainWords.{foreign}
 use Rattle.md_nbtc.proofs.preparing.Heaps.{known_now}
 use Rattle.md_nbtc.proofs.structures.Exchanging.{may_exchange_so}
 use Rattle.md_nbtc.proofs.structures.NodesKnown.{fact_tidied, own_is_new, own_known, placed_or_own, shape_known}
 use Rattle.md_nbtc.proofs.structures.SeenValues.{own_value}
 use Rattle.md_nbtc.proofs.structures.Tidying.{bare_holds, bare_placed}
-use Rattle.md_list_law.specs.Certificates.{IsUnlink, key_fact, next_fact, node_fact}
+use Rattle.md_list_law.specs.Certificates.{IsUnlink, next_fact, node_fact}
 use Rattle.md_list_law.specs.HasLists.{HasListsOf}
 use Rattle.md_list_law.specs.ListShape.{IsIn, next_word}
-use Rattle.md_list.specs.Walking.{IsBefore}
 use Rattle.md_list.proofs.At.{IsAt}
-use Rattle.md_list.proofs.Marks.{mark_gone, marked_again}
 use Rattle.md_list.proofs.OnNode.{IsOn}
 use Rattle.md_list.proofs.Rising.{met_node}
-use Rattle.md_list.proofs.Unlinks.{cleanups_stay, may_change, no_own_next}
+use Rattle.md_list.proofs.ListWords.{cleanups_stay, may_change}
+use Rattle.md_list.proofs.Unlinks.{all_facts, is_unlink_from, unlink_from, unlink_from_tidies}
+
+-- a word that may be a plain change's is no own node's next word
+no_own_next : (t : TxnState) (word : ℕ) (kind : Kind) → is_critical t word kind ≡ false → (n : OwnNode) → Contains t.nodes n → word ≢ next_word (shape_in t) n.node
+no_own_next t word Critical plain = absurd (true≢false plain)
+no_own_next t word Plain plain = foreign t word plain
 
 module _ (M : Meaning) (lawful : Lawful M) (lists : HasListsOf M) (t : TxnState) (head key : ℕ) (visited : List ℕ) (prev : ℕ) (at next : Seen)
     (on : IsOn M t head key visited prev at next) (marked : is_marked next.value ≡ true) where
@@ -134,47 +136,21 @@ module _ (M : Meaning) (lawful : Lawful M) (lists : HasListsOf M) (t : TxnState)
       (inr (sym on.gave.own ∙ other)) (next_fact_known other))
       (cases_Bool next.own)
 
-  -- the unlink: its facts are that mark, and that the word is of a node of the list
-  abbrev pub facts_of : IsBefore M t cs list head key prev → List Fact
-  facts_of (inl first) = []
-  facts_of (inr before) = node_fact list before.0 ∷ []
-
-  abbrev pub unlink_facts : List Fact
-  unlink_facts = next_fact list node next.value ∷ facts_of stands.before
+  -- the unlink
+  abbrev at_is : at.value ≡ link_value node false
+  at_is = sym (link_value-parts at.value) ∙ ap (link_value node) stands.gives.unmarked
 
   abbrev pub unlink : TidyChange
-  unlink = record { change = record { word = prev; old = at.value; new = next.value - 1 }; nodes = []; facts = unlink_facts }
-
-  all_facts : (P : Fact → Type 0) → P (next_fact list node next.value)
-      → ((other : ℕ) (less : ℕ) → IsNode (shape_in t) other → Known M t (λ u h. Holds (after_wholes h cs) (key_fact list other less)) → prev ≡ next_word (shape_in t) other → P (node_fact list other))
-      → All P unlink_facts
-  all_facts P first rest = All-cons P (next_fact list node next.value) (facts_of stands.before) first (others stands.before)
-    where
-      others : (before : IsBefore M t cs list head key prev) → All P (facts_of before)
-      others (inl first) = All-nil P
-      others (inr before) = All-cons P (node_fact list before.0) [] (rest before.0 before.1 before.2 before.3 before.5) (All-nil P)
+  unlink = unlink_from M t cs stands.walking.map stands.walking.bucket head key prev stands.before node next.value at.value at_is marked
 
   pub is_unlink : IsUnlink (shape_in t) list head unlink
-  is_unlink = record {
-    node = node;
-    word = place stands.before;
-    old = sym (link_value-parts at.value) ∙ ap (link_value node) stands.gives.unmarked;
-    unmarked = mark_gone next.value marked;
-    marked = subst (λ v. Contains unlink_facts (next_fact list node v)) (sym (marked_again next.value marked)) (here (next_fact list node next.value) (facts_of stands.before));
-    nodes = refl;
-  }
-    where
-      place : (before : IsBefore M t cs list head key prev) → (prev ≡ head)
-          ⊎ ((other : ℕ) × Contains (next_fact list node next.value ∷ facts_of before) (node_fact list other) × (prev ≡ next_word (shape_in t) other))
-      place (inl first) = inl first
-      place (inr before) = inr (before.0, further (next_fact list node next.value) (node_fact list before.0 ∷ []) (node_fact list before.0) (here (node_fact list before.0) []), before.5)
+  is_unlink = is_unlink_from M t cs stands.walking.map stands.walking.bucket head key prev stands.before node next.value at.value at_is marked
 
   pub unlink_tidies : M.tidies (shape_in t) unlink
-  unlink_tidies = lists.unlinks (shape_in t) stands.walking.map stands.walking.bucket unlink stands.walking.is_head.is_map stands.walking.is_head.is_bucket
-      (subst (λ word. IsUnlink (shape_in t) list word unlink) stands.walking.is_head.is is_unlink)
+  unlink_tidies = unlink_from_tidies M t cs stands.walking.map stands.walking.bucket head key prev stands.before node next.value at.value at_is marked lists stands.walking.is_head
 
-  pub facts_hold : Known M t (λ u h. All (Holds (tidied h cs stands.walking.changes)) unlink_facts)
-  facts_hold u later prepared h of = all_facts (Holds (tidied h cs stands.walking.changes)) (next_fact_holds u later prepared h of)
+  pub facts_hold : Known M t (λ u h. All (Holds (tidied h cs stands.walking.changes)) unlink.facts)
+  facts_hold u later prepared h of = all_facts M t cs stands.walking.map stands.walking.bucket head key prev stands.before node next.value (Holds (tidied h cs stands.walking.changes)) (next_fact_holds u later prepared h of)
       (λ other less exists known is. bare_holds (after_wholes h cs) stands.walking.changes stands.walking.tidied.bare (node_fact list other) refl
       (record { placed = (known u later prepared h of).placed; key = tt; value = tt; next = tt }))
 
@@ -185,12 +161,12 @@ module _ (M : Meaning) (lawful : Lawful M) (lists : HasListsOf M) (t : TxnState)
     bare = refl;
     change = refl;
     tidies = unlink_tidies;
-    facts = all_facts (KnowsFact M t) (next_fact_known other) (λ node less exists known is. ⊎_elim
+    facts = all_facts M t cs stands.walking.map stands.walking.bucket head key prev stands.before node next.value (KnowsFact M t) (next_fact_known other) (λ node less exists known is. ⊎_elim
         (λ placed u later prepared h of. record { placed = placed u later prepared h of; key = tt; value = tt; next = tt })
         (λ own. absurd (no_own_next t prev kind plain (stored_words own.0)
         (All-contains (IsStoredNode t) (all_nodes cs) own.0 stands.walking.going.course.nodes own.1).own (is ∙ ap (next_word (shape_in t)) (sym own.2))))
         (placed_or_own M lawful t cs stands.walking.going node list (λ u later prepared h of. (known u later prepared h of).placed)));
-    found = all_facts (FoundFact (shape_in t) t.pass.view) (found_next other) (λ node less exists known is. tt);
+    found = all_facts M t cs stands.walking.map stands.walking.bucket head key prev stands.before node next.value (FoundFact (shape_in t) t.pass.view) (found_next other) (λ node less exists known is. tt);
   }
 
   -- so the unlink may be made: as a part of the transaction where the mark is its own
@@ -200,8 +176,8 @@ module _ (M : Meaning) (lawful : Lawful M) (lists : HasListsOf M) (t : TxnState)
     counted = stands.gives.gave.counted;
     gave = stands.gives.gave;
     of = may_exchange_so M t prev at (next.value - 1) kind
-        (λ written. cleanups_stay M lawful lists t head key visited prev at stands written (next.value - 1))
-        (may_change M lawful lists t head key visited prev at stands)
+        (λ written. cleanups_stay M lawful lists t cs stands.walking.going stands.walking.map stands.walking.bucket head key prev stands.walking.is_head stands.before at stands.gives written (next.value - 1))
+        (may_change M lawful lists t cs stands.walking.going stands.walking.map stands.walking.bucket head key prev stands.walking.is_head stands.before)
         (λ unwritten. stands.gives.there (stands.gives.gave.own ∙ unwritten))
         (λ unwritten plain. ⊎_elim
         (λ own. absurd (true≢false (ap (is_critical t prev) (sym (own_kind own)) ∙ plain)))

@@ -6,27 +6,26 @@ use Rattle.md_words.specs.Layout.{IsNode}
 use Rattle.md_words.specs.Link.{linked_node}
 use Rattle.md_machine.specs.declared.node.Structure.{Structure}
 use Rattle.md_machine.specs.declared.node.Structure.TheVariants.{Bucket}
-use Rattle.md_machine.specs.Certified.{all_nodes, after_wholes}
+use Rattle.md_machine.specs.Certified.{after_wholes}
 use Rattle.md_machine.specs.Meaning.{Lawful, Meaning}
 use Rattle.md_machine.specs.events.Exchange.{FoundNext}
 use Rattle.md_machine.proofs.chain.SameNodes.{next_alone}
 use Rattle.md_machine.proofs.lists.Differ.{no_pairs}
 use Rattle.md_nbtc.specs.declared.seen.Seen.{Seen}
 use Rattle.md_nbtc.specs.Calls.{GoesOn}
-use Rattle.md_nbtc.specs.Course.{IsStoredNode, stored_words}
 use Rattle.md_nbtc.specs.Going.{IsFoundThere}
-use Rattle.md_nbtc.specs.Known.{Known, KnowsPlaced}
+use Rattle.md_nbtc.specs.Known.{Known}
 use Rattle.md_nbtc.specs.Seeing.{Gave, IsInPlace, IsNextOf, KeepsGiven, Looks}
 use Rattle.md_nbtc.specs.State.{OwnNode, TxnState, shape_in}
 use Rattle.md_rule.specs.Views.{PassState}
 use Rattle.md_nbtc.proofs.preparing.Heaps.{known_now}
 use Rattle.md_nbtc.proofs.preparing.Later.{known_later}
-use Rattle.md_nbtc.proofs.structures.NodesKnown.{placed_or_own}
 use Rattle.md_list_law.specs.HasLists.{HasListsOf}
 use Rattle.md_list_law.specs.ListShape.{IsIn, next_word}
 use Rattle.md_list_law.proofs.Links.{head_is_no_next}
 use Rattle.md_list.specs.Walking.{IsWalking}
 use Rattle.md_list.proofs.At.{IsAt, NamesPast, before_on, found_stays, head_in_place, looked_there, node_exists, stepped, walking_on}
+use Rattle.md_list.proofs.ListWords.{next_place as list_next_place}
 use Rattle.md_list.proofs.Rising.{head_names}
 
 module _ (M : Meaning) where
@@ -97,17 +96,7 @@ module _ (M : Meaning) where
 
       -- its next word may be looked at
       pub next_place : IsInPlace M t (next_word (shape_in t) node) ⊎ ((n : OwnNode) × Contains t.nodes n × IsNextOf t (next_word (shape_in t) node) n.node)
-      next_place = ⊎_elim
-          (λ known. inl (λ other next. (list, subst (λ x. KnowsPlaced M t x list) (next_alone (shape_in t) node other named_exists next.0 next.1) known)))
-          (λ own. inr (
-            stored_words own.0,
-            (All-contains (IsStoredNode t) (all_nodes stands.walking.certificates) own.0 stands.walking.going.course.nodes own.1).own,
-            (
-              subst (IsNode (shape_in t)) (sym own.2) named_exists,
-              ap (next_word (shape_in t)) (sym own.2),
-            ),
-          ))
-          (placed_or_own M lawful t stands.walking.certificates stands.walking.going node list named_placed)
+      next_place = list_next_place M lawful lists t stands.walking.certificates stands.walking.going stands.walking.map stands.walking.bucket node named_exists named_placed
 
       -- the walk goes on to stand there over steps of the pass that keep what was given
       abbrev pub stands_on : (p : PassState) → GoesOn M t (stepped t p) → (word : ℕ) → prev ≢ word → KeepsGiven t (stepped t p) word → IsAt M (stepped t p) head key visited prev at

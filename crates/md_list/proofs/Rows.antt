@@ -59,6 +59,14 @@ begun_walks M t map key head begun is = record {
   unlinks = All-nil (IsUnlink (shape_in t) (Bucket map (bucket_of (shape_in t) key)) head);
 }
 
+-- the theory has the certificate of a row, with unlinks of the list before it
+pub row_certifies : (M : Meaning) → HasListsOf M → (t : TxnState) (head key : ℕ) (w : IsWalking M t head) → w.bucket ≡ bucket_of (shape_in t) key → (v : TxnState) → IsLater t v
+    → (c : Certificate) → IsRow (shape_in t) (Bucket w.map w.bucket) head w.map key c → All (IsUnlink (shape_in t) (Bucket w.map w.bucket) head) c.tidy → M.certifies (shape_in v) c
+row_certifies M lists t head key w own_bucket v later c row unlinks = subst (λ s. M.certifies s c) (sym (shape_later t v later))
+    (lists.certifies (shape_in t) w.map key c w.is_head.is_map
+    (subst (λ b. IsListCertificate (shape_in t) (Bucket w.map b) (head_word (shape_in t) w.map b) w.map key c) own_bucket
+    (subst (λ x. IsListCertificate (shape_in t) (Bucket w.map w.bucket) x w.map key c) w.is_head.is (record { row = row; unlinks = unlinks }))))
+
 module _ (M : Meaning) (lawful : Lawful M) (lists : HasListsOf M) (t : TxnState) (head key : ℕ) (w : IsWalking M t head) (own_bucket : w.bucket ≡ bucket_of (shape_in t) key)
     (v : TxnState) (later : IsLater t v) (same : v.hand ≡ t.hand) (going : IsGoing M v w.certificates) (word : ℕ) (seen : Seen) (gives : Gives M t word seen) (fits : seen.count < 2 ^ 32)
     (slots : v.slots ≡ t.slots) (noted : is_written (writes_in t) word ≡ false → content_read v.reads word ≡ Some (seen_content seen)) where
@@ -87,7 +95,6 @@ module _ (M : Meaning) (lawful : Lawful M) (lists : HasListsOf M) (t : TxnState)
       → Known M v (λ u h. All (Holds (after_wholes h cs)) facts) → All (λ (f : Fact). f.next ≡ None) facts
       → MayAnswer M v op reply
   may_answer_reading op reply facts row known plain =
-      let shape = shape_later t v later in
       let c = reading op reply w.changes (record { word = word; value = seen.value } ∷ []) facts in
       record {
         earlier = cs;
@@ -95,9 +102,7 @@ module _ (M : Meaning) (lawful : Lawful M) (lists : HasListsOf M) (t : TxnState)
         certificate = c;
         of = (refl, refl);
         may = may_end_reading M v cs w.changes tidied_now op reply (record { word = word; value = seen.value } ∷ []) facts
-            (subst (λ s. M.certifies s c) (sym shape) (lists.certifies (shape_in t) w.map key c w.is_head.is_map
-            (subst (λ b. IsListCertificate (shape_in t) (Bucket w.map b) (head_word (shape_in t) w.map b) w.map key c) own_bucket
-            (subst (λ x. IsListCertificate (shape_in t) list x w.map key c) w.is_head.is (record { row = row; unlinks = w.unlinks })))))
+            (row_certifies M lists t head key w own_bucket v later c row w.unlinks)
             (All-cons (λ (x : WordValue). is_some (first_content v.reads (writes_in v) x.word) ≡ true) (record { word = word; value = seen.value }) [] is_found (All-nil _))
             (λ u over prepared h of. All-cons (λ (x : WordValue). (tidied (found_by u h) cs w.changes).words.value x.word ≡ x.value) (record { word = word; value = seen.value }) []
             (seen_value M lawful t cs w.going w.changes w.tidied word seen gives.gave gives.there fits v later first_is u over prepared h of) (All-nil _))

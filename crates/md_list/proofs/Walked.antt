@@ -30,5 +30,8 @@ module _ (M : Meaning) (t : TxnState) where
   pub stopped_nodes : (u : TxnState) (s : Stop) → IsStopped t u s → u.nodes ≡ t.nodes
   stopped_nodes u s is = ap (λ (x : TxnState). x.nodes) is
 
+  pub stopped_slots : (u : TxnState) (s : Stop) → IsStopped t u s → u.slots ≡ t.slots
+  stopped_slots u s is = ap (λ (x : TxnState). x.slots) is
+
   pub has_stop : (u : TxnState) (s : Stop) → IsStopped t u s → u.stop ≡ Some s
   has_stop u s is = ap (λ (x : TxnState). x.stop) is

@@ -12,9 +12,16 @@ pub record IsBegun (M : Meaning) (t : TxnState) : Type 0 where
   pub changes : t.hand.changes ≡ []
   pub stored : t.hand.stored ≡ []
 
--- what a look-up leaves of a transaction: it is under way and later, recorded at most one more word, and took no node
-pub record LooksUp (M : Meaning) (t u : TxnState) : Type 0 where
+-- what an operation leaves of a transaction that takes no node, answered or refused: it is under way and later, and recorded at most one more word
+pub record KeepsNodes (M : Meaning) (t u : TxnState) : Type 0 where
   pub going : IsUnderWay M u
   pub later : IsLater t u
   pub reads : length u.reads ≤ length t.reads + 1
   pub nodes : u.nodes ≡ t.nodes
+
+-- and of one that takes at most one
+pub record TakesOne (M : Meaning) (t u : TxnState) : Type 0 where
+  pub going : IsUnderWay M u
+  pub later : IsLater t u
+  pub reads : length u.reads ≤ length t.reads + 1
+  pub nodes : length u.nodes ≤ length t.nodes + 1

@@ -3,11 +3,15 @@
 //! (2002).
 //!
 //! [`find`] looks for the place of a key, and unlinks removed nodes on its way. [`get`] reads the
-//! value of a key. The operations that insert and remove keys are still to come.
+//! value of a key, [`insert`] inserts a key that is absent, and [`remove`] removes one.
 #![tactic(auto)]
 
+pub use insertion::insert;
 pub use lookup::get;
+pub use removal::remove;
 pub use walk::{Found, find};
 
+mod insertion;
 mod lookup;
+mod removal;
 mod walk;

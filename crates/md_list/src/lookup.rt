@@ -5,7 +5,7 @@ ghost use Rattle.md_history.specs.declared.acts.Op.TheVariants.{Get};
 ghost use Rattle.md_history.specs.declared.acts.Reply.TheVariants.{Value};
 ghost use Rattle.md_nbtc.specs.Calls.{MayAnswer};
 ghost use Rattle.md_nbtc.specs.State.{shape_in, state};
-ghost use Rattle.md_list.specs.Operations.{IsBegun, LooksUp};
+ghost use Rattle.md_list.specs.Operations.{IsBegun, KeepsNodes};
 ghost use Rattle.md_list.specs.Walking.{IsHeadOf};
 
 use crate::walk::find;
@@ -30,7 +30,7 @@ pub fn get<'a, T: HasLists>(tx: &mut Txn<'a, T>, head: u32, key: u64) -> Result<
     requires begun { IsBegun T.meaning (state tx.old) }
     requires head { (map : ℕ) × IsHeadOf (shape_in (state tx.old)) map key head }
     ensures pass { tx.new.pass.ghost_name ≡ tx.old.pass.ghost_name }
-    ensures looks { LooksUp T.meaning (state tx.old) (state tx.new) }
+    ensures leaves { KeepsNodes T.meaning (state tx.old) (state tx.new) }
     ensures answer { IfOk result (λ value. (map : ℕ)
         → IsHeadOf (shape_in (state tx.old)) map key head
         → MayAnswer T.meaning (state tx.new) (Get map key) (Value value)) }

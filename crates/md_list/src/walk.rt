@@ -3,6 +3,7 @@
 ghost use Rattle.std.specs.Prelude.{◌≡◌, IfOk, IfErr, Some};
 ghost use Rattle.md_nbtc.specs.State.{state};
 ghost use Rattle.md_list.specs.Walking.{HasFound, IsWalking, WalkedFrom};
+ghost use Rattle.md_list.specs.Written.{WritesFew};
 
 use md_history::Stop;
 use md_list_law::HasLists;
@@ -26,7 +27,8 @@ pub struct Found {
 ///
 /// It unlinks each removed node that it meets: at once if the remove has committed, and as a part
 /// of the transaction if the remove is its own, or if the word was recorded or is an own node's. It
-/// records no word and takes no node. `Err` is the refusal of the first load or exchange that was
+/// records no word and takes no node, and writes at most as many more words as the transaction had
+/// recorded or written, each counted once, and as it has nodes. `Err` is the refusal of the first load or exchange that was
 /// refused; the transaction keeps it.
 ///
 /// It meets each node of the list at most once. It costs one load of the head, and for each node
@@ -42,6 +44,7 @@ pub fn find<'a, T: HasLists>(tx: &mut Txn<'a, T>, head: u32, key: u64) -> Result
     requires walking { IsWalking T.meaning (state tx.old) head }
     ensures pass { tx.new.pass.ghost_name ≡ tx.old.pass.ghost_name }
     ensures walked { WalkedFrom T.meaning (state tx.old) (state tx.new) }
+    ensures few { WritesFew (state tx.old) (state tx.new) 0 }
     ensures found { IfOk result (HasFound T.meaning (state tx.new) head key) }
     ensures stop { IfErr result (λ stop. (state tx.new).stop ≡ Some stop) }
 {

@@ -38,6 +38,15 @@ pub record IsTakenLast (p : PassState) (desc : ℕ) : Type 0 where
   pub taken : (share_at p.shares desc).tries_taken ≡ before + 1
   pub kept : KeepsLane p.shape p.view (record (share_at p.shares desc) { tries_taken = before }) desc
 
+-- an attempt of the lane was taken; whatever the number of its attempts, so much is kept of the lane
+pub record HasAttempt (p : PassState) (desc : ℕ) : Type 0 where
+  pub exists : desc < desc_count p.shape
+  pub lane : Contains p.view.lanes desc
+  pub own : HasDesc p.shape p.view desc
+  pub some : 1 ≤ (share_at p.shares desc).tries_taken
+  pub count : ℕ
+  pub kept : KeepsLane p.shape p.view (record (share_at p.shares desc) { tries_taken = count }) desc
+
 -- the same numbers of nodes and of attempts were taken
 abbrev pub KeepsCounts : (old new : List Share) → Type 0
 KeepsCounts old new = (lane : ℕ) → ((share_at new lane).nodes_taken ≡ (share_at old lane).nodes_taken) × ((share_at new lane).tries_taken ≡ (share_at old lane).tries_taken)

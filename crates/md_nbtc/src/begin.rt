@@ -18,7 +18,7 @@ ghost use Rattle.md_rule.specs.Views.{IsOf};
 ghost use Rattle.md_rule.specs.contracts.pass.Pass.{the_row};
 ghost use Rattle.md_nbtc.specs.Beginning.{Empties, FindsDecided, FindsNew, IsEmptied};
 ghost use Rattle.md_nbtc.specs.Beginning.{PassesCount, PutsInHand, StandsOwn};
-ghost use Rattle.md_nbtc.specs.Beginning.{IsTakenLast, KeepsCounts, TakesSlot};
+ghost use Rattle.md_nbtc.specs.Beginning.{HasAttempt, IsTakenLast, KeepsCounts, TakesSlot};
 ghost use Rattle.md_nbtc.specs.Ending.{Begins, BeginsNot};
 ghost use Rattle.md_nbtc.specs.Going.{IsGoing};
 ghost use Rattle.md_nbtc.specs.State.{state, state_of};
@@ -48,21 +48,26 @@ fn settled_status<T: Theory>(pass: &mut Pass<T>, field: &Field<T>, desc: u32) ->
     requires own { HasDesc field.now.origin.shape pass.old.view desc }
     requires reached { IsReached pass.old desc }
     ensures same { pass.new ≡ record pass.old { view = pass.new.view } }
+    ensures stands { Stands T.meaning field.now.origin pass.new.view }
     ensures finds { FindsDecided field.now.origin.shape desc result pass.old.view pass.new.view }
 {
     settle_one(field, pass, desc);
     pass.load(field, field.shape().status(desc))
 }
 
-// The status of an own descriptor whose attempt is decided. It is settled first if need be: if it
-// was taken and never put in hand. One step, or four.
-fn decided_status<T: Theory>(pass: &mut Pass<T>, field: &Field<T>, desc: u32) -> u64
+/// The status of an own descriptor, whose attempt is decided; it is settled first if need be. The
+/// pass then knows the fate of the attempt's entry. An attempt of the descriptor was taken, and
+/// nothing is in hand. It takes no memory.
+///
+/// One step if the attempt is decided. Otherwise at most `3r + 5`, `r` being its reads.
+pub fn decided_status<T: Theory>(pass: &mut Pass<T>, field: &Field<T>, desc: u32) -> u64
     requires of { IsOf pass.old field.now }
     requires idle { pass.old.view.hand ≡ None }
     requires exists { desc < desc_count field.now.origin.shape }
     requires own { HasDesc field.now.origin.shape pass.old.view desc }
     requires reached { IsReached pass.old desc }
     ensures same { pass.new ≡ record pass.old { view = pass.new.view } }
+    ensures stands { Stands T.meaning field.now.origin pass.new.view }
     ensures finds { FindsDecided field.now.origin.shape desc result pass.old.view pass.new.view }
 {
     let found = pass.load(field, field.shape().status(desc));
@@ -152,7 +157,7 @@ fn take_slot_out<T: Theory>(pass: &mut Pass<T>, field: &Field<T>, desc: u32, slo
 fn take_slots_out<T: Theory>(pass: &mut Pass<T>, field: &Field<T>, desc: u32)
     requires of { IsOf pass.old field.now }
     requires idle { pass.old.view.hand ≡ None }
-    requires taken { IsTakenLast pass.old desc }
+    requires taken { HasAttempt pass.old desc }
     ensures same { pass.new ≡ record pass.old { view = pass.new.view } }
     ensures empty { Empties field.now.origin.shape desc pass.old.view pass.new.view }
 {
@@ -163,11 +168,15 @@ fn take_slots_out<T: Theory>(pass: &mut Pass<T>, field: &Field<T>, desc: u32)
     }
 }
 
-// If the lane's last transaction was dropped.
-fn take_left_out<T: Theory>(pass: &mut Pass<T>, field: &Field<T>, desc: u32)
+/// If the lane's last transaction was dropped, settles it and takes its descriptor out of the words
+/// that it wrote. An attempt of the lane was taken, and nothing is in hand. It takes no memory.
+///
+/// No step if the last transaction was ended. Otherwise at most `3r + 3`, `r` being its reads, and
+/// at most four for each word that it wrote.
+pub fn take_left_out<T: Theory>(pass: &mut Pass<T>, field: &Field<T>, desc: u32)
     requires of { IsOf pass.old field.now }
     requires idle { pass.old.view.hand ≡ None }
-    requires taken { IsTakenLast pass.old desc }
+    requires taken { HasAttempt pass.old desc }
     ensures same { pass.new ≡ record pass.old { view = pass.new.view } }
     ensures empty { Empties field.now.origin.shape desc pass.old.view pass.new.view }
 {

@@ -10,6 +10,7 @@
 //! whatever others do, by `Known`.
 #![tactic(auto)]
 
+pub use begin::{decided_status, take_left_out};
 pub use ending::{Ready, Refused};
 pub use receipt::Receipt;
 pub use seen::{Cleanup, Kind, Seen};

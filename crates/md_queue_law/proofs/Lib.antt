@@ -1,3 +1,3 @@
 pub mod Facts
-mod RisingAlong
+pub mod RisingAlong
 pub mod RowsHold

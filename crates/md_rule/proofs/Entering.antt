@@ -1,5 +1,5 @@
 -- A ready step that wins makes an entry with the certificates by which it was shown.
-use Rattle.std.proofs.Common.{◌≡◌, ◌≢◌, ◌==◌, ◌++◌, ℕ, Bool, true, List, [], ◌∷◌, Result, Ok, Err, MatchResult, IfOk, Some, refl, sym, ap, ◌∙◌, subst, slice_set}
+use Rattle.std.proofs.Common.{◌≡◌, ◌≢◌, ◌++◌, ℕ, true, List, [], ◌∷◌, Result, Ok, Err, MatchResult, IfOk, refl, sym, ap, ◌∙◌, subst, slice_set}
 use Rattle.std.proofs.lemmas.Bool.{cond-true, eq-eqb}
 use mathlib.Core.Option.{some}
 use lib.ListN.{get_elem?}
@@ -12,17 +12,16 @@ use Rattle.md_machine.specs.declared.attempt.Hand.{Hand}
 use Rattle.md_machine.specs.declared.attempt.HistoryEntry.{HistoryEntry}
 use Rattle.md_machine.specs.declared.certificate.Certificate.{Certificate}
 use Rattle.md_machine.specs.declared.pass.PassView.{PassView}
-use Rattle.md_machine.specs.Event.{Acts, Does, ready}
+use Rattle.md_machine.specs.Event.{Does, ready}
 use Rattle.md_machine.specs.Machine.{IsAt, Machine, content, shape_of}
 use Rattle.md_machine.specs.Meaning.{Meaning}
 use Rattle.md_machine.specs.Stepping.{wins}
 use Rattle.md_machine.specs.events.Ready.{after_ready, history_entry, unready_word, view_after_ready}
 use Rattle.md_machine.proofs.lists.At.{set_there}
 use Rattle.md_machine.proofs.lists.Options.{some_same}
-use Rattle.md_rule.specs.Admitted.{Admitted}
 use Rattle.md_rule.specs.Entering.{EnteredBy, MayBecomeReady}
 use Rattle.md_rule.specs.InHand.{HoldsUnready}
-use Rattle.md_rule.specs.Steps.{Exchanged, MayTell, Stepped, SteppedFrom}
+use Rattle.md_rule.specs.Steps.{Exchanged, MayTell, SteppedFrom}
 use Rattle.md_rule.specs.Views.{Origin}
 use Rattle.md_rule.proofs.Events.{is_ready, traded}
 use Rattle.md_rule.proofs.Told.{that}

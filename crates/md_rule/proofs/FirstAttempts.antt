@@ -1,8 +1,7 @@
 -- The first attempt of a lane, as long as it isn't begun: it is in preparation, unless the pass that holds the lane
 -- aborted it. So nobody who met the descriptor in a word can have done so.
-use Rattle.std.proofs.Common.{◌≡◌, ◌≢◌, ◌==◌, ◌⊎◌, ◌+◌, ℕ, ◌<◌, ◌≤◌, Bool, true, false, not, List, [], ◌∷◌, slice_set, refl, sym, ap, ◌∙◌, subst, inl, inr, ⊎_elim, arith, get_or-set_other, eqb-true}
-use Rattle.std.specs.List.{Contains}
-use Rattle.std.proofs.lemmas.Bool.{and_parts, cases_Bool, cases_eq, false≢true, true≢false}
+use Rattle.std.proofs.Common.{◌≡◌, ◌==◌, ◌⊎◌, ◌+◌, ℕ, ◌<◌, ◌≤◌, Bool, true, false, not, List, [], ◌∷◌, slice_set, refl, sym, ap, ◌∙◌, subst, inl, inr, ⊎_elim, arith, get_or-set_other, eqb-true}
+use Rattle.std.proofs.lemmas.Bool.{and_parts, cases_Bool, cases_eq, true≢false}
 use Rattle.std.proofs.lemmas.List.Elements.{Contains-push}
 use prog.Atomic.{either}
 use Rattle.md_words.specs.Content.{count_of, is_even}
@@ -16,7 +15,6 @@ use Rattle.md_words.specs.Status.{serial_of, status_of}
 use Rattle.md_words.proofs.Owners.{one_desc}
 use Rattle.md_words.proofs.Places.{address_below, place_at-address}
 use Rattle.md_words.proofs.Words.{serial_of-status_word, status_of-status_word, status_word-begins}
-use Rattle.md_machine.specs.declared.attempt.AttemptId.{AttemptId}
 use Rattle.md_machine.specs.declared.pass.PassView.{PassView}
 use Rattle.md_machine.specs.declared.step.Kind.TheVariants.{Abort}
 use Rattle.md_machine.specs.declared.step.Step.{Step}

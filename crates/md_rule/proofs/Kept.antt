@@ -95,19 +95,19 @@ module _ (m : Machine) (k : IsKept m) (pass : ℕ) (p : PassView) (at : IsAt m p
       (k.own_serials pass p at lane own_desc)
 
   -- no step was made for a later attempt
-  none_later : (serial : ℕ) → now < serial → EveryStepOf p (λ s. ¬ WonInstall (attempt_of lane serial) s)
+  pub none_later : (serial : ℕ) → now < serial → EveryStepOf p (λ s. ¬ WonInstall (attempt_of lane serial) s)
   none_later serial less segment c s i won =
       let no = (k.begun_no_later (attempt_of lane serial) (k.steps_begun pass p at segment c s i (attempt_of lane serial) won.attempt)).1 in omega (arith, less, no)
 
   -- so what holds of the present attempt holds of each that may be
-  each_later : (P : ℕ → Type 0) → P now → ((serial : ℕ) → now < serial → P serial) → (serial : ℕ) → MetNoLater (shape_of m) p lane serial → P serial
+  pub each_later : (P : ℕ → Type 0) → P now → ((serial : ℕ) → now < serial → P serial) → (serial : ℕ) → MetNoLater (shape_of m) p lane serial → P serial
   each_later P present later serial met = ⊎_elim
       (λ less. later serial less)
       (λ not. let most = no_less serial met in subst P (omega (arith, most, not)) present)
       (cases_lt now serial)
 
   module _ (share : Share) where
-    serial_there : KeepsLane (shape_of m) p share lane → (now ≡ 0) ⊎ (now < share.tries_taken)
+    pub serial_there : KeepsLane (shape_of m) p share lane → (now ≡ 0) ⊎ (now < share.tries_taken)
     serial_there keeps = ⊎_elim inl
         (λ some. let it = some.2.2 in subst (λ n. (n ≡ 0) ⊎ (n < share.tries_taken)) it.2 (keeps.serials some.0 some.1 some.2.0 some.2.1 it.0 it.1))
         (k.own_serials pass p at lane own_desc)
@@ -116,7 +116,7 @@ module _ (m : Machine) (k : IsKept m) (pass : ℕ) (p : PassView) (at : IsAt m p
     pub none_there : (now ≡ 0) ⊎ (now < share.tries_taken) → share.tries_taken ≡ 0 → now ≡ 0
     none_there serial none = ⊎_elim (λ zero. zero) (λ less. absurd (omega (arith, less, none))) serial
 
-    unbegun : KeepsLane (shape_of m) p share lane → share.tries_taken ≡ 0 → was_begun m.begun (attempt_of lane 0) ≡ false
+    pub unbegun : KeepsLane (shape_of m) p share lane → share.tries_taken ≡ 0 → was_begun m.begun (attempt_of lane 0) ≡ false
     unbegun keeps none = let new = keeps.first none in new_is_first m k pass p at (attempt_of lane 0) own_desc (record { pending = new.pending; steps = new.steps })
 
     pub fits : FirstsFit m → KeepsLane (shape_of m) p share lane → FitsLane m p share lane

@@ -21,7 +21,7 @@ use Rattle.md_rule.specs.declared.shares.TheConstants.{UNUSED}
 use Rattle.md_rule.proofs.LaneSteps.{one_changed}
 
 -- the share of a lane that wasn't used
-share_unused : (n lane : ℕ) → share_at (replicate n UNUSED) lane ≡ UNUSED
+pub share_unused : (n lane : ℕ) → share_at (replicate n UNUSED) lane ≡ UNUSED
 share_unused n lane = ⊎_elim
     (λ less. get_or-replicate n lane UNUSED UNUSED less)
     (λ not. get_or_past (replicate n UNUSED) lane UNUSED (let count = length-replicate n UNUSED in omega (arith, count, not)))

@@ -109,7 +109,7 @@ module _ (M : Meaning) (lawful : Lawful M) (t : TxnState) where
         (subst (All (IsOther h f is_node)) (sym (nodes_are M t cs going.course ts has)) (is_other f u later prepared h of holds.placed)) holds)
 
     -- a node that is none of theirs is placed as it was
-    placed_before : (h : LogicalHeap) (node : ℕ) → ((n : NewNode) → Contains (all_nodes cs) n → n.node ≢ node) → (after_wholes h cs).placed node ≡ h.placed node
+    pub placed_before : (h : LogicalHeap) (node : ℕ) → ((n : NewNode) → Contains (all_nodes cs) n → n.node ≢ node) → (after_wholes h cs).placed node ≡ h.placed node
     placed_before h node others = wholes_keep (λ k. k.placed node ≡ h.placed node) (λ (c : Change). Unit {0}) (λ (n : NewNode). n.node ≢ node) (λ k c _ is. is)
         (λ k n other is. put_stays k.placed n.node (Some n.structure) node (h.placed node) is (λ e. absurd (other (sym e)))) h cs (λ i d below. tt)
         (all_of (λ (n : NewNode). n.node ≢ node) (all_nodes cs) others) refl

@@ -46,7 +46,7 @@ written_is_found t word written =
     some_either (content_read t.reads word) (content_replaced (writes_in t) word) (sym (written_replaced (writes_in t) word) ∙ written)
 
 -- what was found of a word, if anything was
-some_of : (o : Option ℕ) → is_some o ≡ true → (x : ℕ) × (o ≡ Some x)
+pub some_of : (o : Option ℕ) → is_some o ≡ true → (x : ℕ) × (o ≡ Some x)
 some_of None some = absurd (cc some)
 some_of (Some x) some = (x, refl)
 

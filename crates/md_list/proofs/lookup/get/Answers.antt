@@ -24,8 +24,8 @@ use Rattle.md_list.proofs.lookup.get.Goals as goal
 pub find-requires : goal.find-requires
 find-requires g c = record { walking = begun_walks g.T.Theory.meaning (state c.args.tx.now) c.requires.head.0 c.args.key c.args.head c.requires.begun c.requires.head.1 }
 
-pub returns-in_err-note-clause-looks : goal.returns-in_err-note-clause-looks
-returns-in_err-note-clause-looks g c =
+pub returns-in_err-note-clause-leaves : goal.returns-in_err-note-clause-leaves
+returns-in_err-note-clause-leaves g c =
     let t = state c.find.new.tx in
     let u = state c.note.new.self in
     let stop = c.in_err-note.field-0.0 in
@@ -41,8 +41,8 @@ returns-in_err-note-clause-stop g c =
     (note_refused g.T.Theory.meaning t u stop (note_case t c.in_ok-found.found.prev c.in_ok-found.found.at) c.in_ok-found.found.prev c.in_ok-found.found.at c.in_err-note.ensures.noted) in
     search rules
 
-pub returns-then-not-found-clause-looks : goal.returns-then-not-found-clause-looks
-returns-then-not-found-clause-looks g c =
+pub returns-then-not-found-clause-leaves : goal.returns-then-not-found-clause-leaves
+returns-then-not-found-clause-leaves g c =
     let t = state c.find.new.tx in
     let u = state c.note.new.self in
     let noted = noted_ok t u c.in_ok-found.found.prev c.in_ok-found.found.at c.in_ok-note.ensures.noted in
@@ -73,8 +73,8 @@ note-requires-2-clause-found g c =
     let n = here_node g.T.Theory.meaning g.T.Theory.lawful g.met.T.HasLists.has_lists t c.args.head c.args.key c.in_ok-found.found c.in_ok-found.ensures.found (is_there c.in_ok-found.found.here c.if-not-found.false) in
     subst (λ x. IsFoundThere g.T.Theory.meaning t x c.in_ok-found.found.next) (sym (c.node_next-next_word.ensures.place ∙ ap (λ x. address x (node_next c.in_ok-found.found.node)) c.shape.ensures)) n.next.there
 
-pub returns-in_err-note-2-clause-looks : goal.returns-in_err-note-2-clause-looks
-returns-in_err-note-2-clause-looks g c =
+pub returns-in_err-note-2-clause-leaves : goal.returns-in_err-note-2-clause-leaves
+returns-in_err-note-2-clause-leaves g c =
     let t = state c.find.new.tx in
     let u = state c.note-2.new.self in
     let stop = c.in_err-note-2.field-0.0 in
@@ -105,8 +105,8 @@ field_of-requires-clause-data g c =
     value_data M g.T.Theory.lawful t c.args.head c.args.key c.in_ok-found.found has n u c.in_ok-note-2.ensures.on c.node_value-value_word.result
     (c.node_value-value_word.ensures.place ∙ ap (λ x. address x (node_value c.in_ok-found.found.node)) c.shape-2.ensures)
 
-pub returns-clause-looks : goal.returns-clause-looks
-returns-clause-looks g c =
+pub returns-clause-leaves : goal.returns-clause-leaves
+returns-clause-leaves g c =
     let t = state c.find.new.tx in
     let u = state c.note-2.new.self in
     let noted = noted_ok t u c.node_next-next_word.result c.in_ok-found.found.next c.in_ok-note-2.ensures.noted in

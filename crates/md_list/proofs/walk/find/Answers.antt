@@ -1,14 +1,17 @@
-use Rattle.std.proofs.Common.{◌≡◌, ◌≢◌, ◌-◌, ◌∷◌, [], refl, sym, ap, ◌∙◌, subst, arith, rules, Some}
+use Rattle.std.proofs.Common.{◌≡◌, ◌≢◌, ◌-◌, ◌∷◌, [], refl, sym, ap, ◌∙◌, subst, inl, inr, arith, rules, Some}
 use Rattle.std.proofs.lemmas.Bool.{true≢false}
 use Rattle.md_words.specs.Link.{linked_node}
 use Rattle.md_nbtc.specs.State.{shape_in, state}
 use Rattle.md_nbtc.proofs.structures.Answering.{exchange_refused, look_refused}
+use Rattle.md_nbtc.proofs.structures.NodesKnown.{shape_later}
+use Rattle.md_list.proofs.Charged.{charges_more, charges_none, few_after, few_written}
+use Rattle.md_list.proofs.ChargedWalk.{charges_pass, charges_unlink}
 use Rattle.md_list.proofs.Further.{few_visited, finds_none}
 use Rattle.md_list.proofs.Marks.{even_is_unmarked, halved, odd_is_marked}
 use Rattle.md_list.proofs.MarkedNext.{may_unlink}
 use Rattle.md_list.proofs.OnNode.{named_exists}
 use Rattle.md_list.proofs.Steps.{exchanged_nodes, exchanged_ok, exchanged_reads, head_counted, head_looked, key_data, key_is, looked_ok, next_is, next_looked, node_is, unlinked_ok, walked_same, walked_stop}
-use Rattle.md_list.proofs.Walked.{has_stop, stopped_nodes, stopped_reads, walked_more, walked_one}
+use Rattle.md_list.proofs.Walked.{has_stop, stopped_nodes, stopped_reads, stopped_slots, walked_more, walked_one}
 use Rattle.md_words.specs.PlaceAt.{IsCounted}
 use Rattle.md_machine.proofs.chain.SameNodes.{next_counted}
 use Rattle.md_list_law.specs.ListShape.{next_word}
@@ -30,6 +33,7 @@ loop-init g c =
       walked = walked_one M t (c.requires.walking.certificates, c.requires.walking.going) u c.in_ok-at.ensures.on (ap (λ x. x.reads) is.0) (ap (λ x. x.nodes) is.0);
       visited = [];
       stands = head_looked M g.T.Theory.lawful g.met.T.HasLists.has_lists t u c.args.head c.args.key c.in_ok-at.ensures.on c.requires.walking c.in_ok-at.at c.in_ok-at.ensures.looked;
+      charges = charges_none M t c.args.head u (ap (λ x. x.slots) is.0);
       turns = refl;
       small = omega arith;
     }
@@ -130,6 +134,7 @@ loop-preserved-then-next-eq1 g c =
     c.in_ok-next.next c.in_ok-next.ensures.looked c.in_ok-next.ensures.given in
     let ex = exchanged_ok M u v c.loop.prev c.loop.at (c.in_ok-next.next.value - 1) c.if-next.kind c.in_ok-at-2.at c.in_ok-at-2.ensures.exchanged in
     let turns = i.turns in
+    let charged = charges_pass M s c.args.head t i.visited i.charges u is.0 in
     record {
       pass = c.in_ok-at-2.ensures.pass ∙ c.load-in-loop.ensures.pass ∙ i.pass;
       walked = walked_more M s u v (walked_same M s t u i.walked c.in_ok-next.ensures.on is.0) c.in_ok-at-2.ensures.on
@@ -138,6 +143,9 @@ loop-preserved-then-next-eq1 g c =
       visited = linked_node c.loop.at.value ∷ i.visited;
       stands = unlinked_ok M g.T.Theory.lawful g.met.T.HasLists.has_lists u v c.args.head c.args.key c.in_ok-at-2.ensures.on i.visited c.loop.prev c.loop.at on.stands some c.in_ok-next.next on
           (odd_is_marked c.in_ok-next.next.value c.if-next-eq1.true) i.small c.if-next.kind c.in_ok-at-2.at c.in_ok-at-2.ensures.gave ex;
+      charges = charges_unlink M g.T.Theory.lawful g.met.T.HasLists.has_lists s c.args.head c.args.key u i.visited c.loop.prev c.loop.at c.in_ok-next.next on some
+          (ap (λ x. x.reads) is.0 ∙ i.walked.reads) (ap (λ x. x.nodes) is.0 ∙ i.walked.nodes) (ap (λ x. shape_in x) is.0 ∙ shape_later s t i.walked.later) charged
+          (c.in_ok-next.next.value - 1) c.if-next.kind (elim c.if-next.branch [ then-next w ↦ inl w.if-next.true | else-next w ↦ inr w.kind-is ]) v c.in_ok-at-2.at ex;
       turns = omega (arith, turns);
       small = omega arith;
     }
@@ -221,6 +229,7 @@ loop-preserved g c =
           c.node_key-key_word.result
           (key_is (shape_in u) c.shape-in-loop.result.now c.loop.at.value c.node_key-key_word.result c.node_key-key_word.ensures.place c.shape-in-loop.ensures)
           c.field_of-node_key.result c.field_of-node_key.ensures.known (omega arith) c.node_next-next_word.result (is_next ∙ ap (λ x. next_word (shape_in x) (linked_node c.loop.at.value)) (sym is.0) ∙ ap (λ x. next_word (shape_in x) (linked_node c.loop.at.value)) (sym c.field_of-node_key.ensures.same));
+      charges = charges_more M s c.args.head v i.visited (linked_node c.loop.at.value) (charges_pass M s c.args.head u i.visited (charges_pass M s c.args.head t i.visited i.charges u is.0) v c.field_of-node_key.ensures.same);
       turns = omega (arith, turns);
       small = omega arith;
     }
@@ -265,3 +274,51 @@ returns-in_err-next-clause-stop g c =
 
 pub returns-in_err-at-clause-pass : goal.returns-in_err-at-clause-pass
 returns-in_err-at-clause-pass g c = c.in_err-at.ensures.pass
+
+pub returns-in_err-at-clause-few : goal.returns-in_err-at-clause-few
+returns-in_err-at-clause-few g c =
+    let M = g.T.Theory.meaning in
+    let t = state c.args.tx.now in
+    let u = state c.load.new.self in
+    let stop = c.in_err-at.field-0.0 in
+    let is = look_refused M t u stop c.args.head c.in_err-at.ensures.looked in
+    few_written M t c.args.head u [] (charges_none M t c.args.head u (stopped_slots M t u stop is))
+
+pub returns-in_err-next-clause-few : goal.returns-in_err-next-clause-few
+returns-in_err-next-clause-few g c =
+    let M = g.T.Theory.meaning in
+    let s = state c.args.tx.now in
+    let t = state c.loop.tx in
+    let u = state c.load-in-loop.new.self in
+    let i = c.loop.invariant in
+    let stop = c.in_err-next.field-0.0 in
+    few_after s t u 0 (stopped_slots M t u stop (look_refused M t u stop c.node_next-next_word.result c.in_err-next.ensures.looked)) (few_written M s c.args.head t i.visited i.charges)
+
+pub returns-in_err-at-2-clause-few : goal.returns-in_err-at-2-clause-few
+returns-in_err-at-2-clause-few g c =
+    let M = g.T.Theory.meaning in
+    let s = state c.args.tx.now in
+    let t = state c.loop.tx in
+    let u = state c.load-in-loop.new.self in
+    let v = state c.exchange.new.self in
+    let i = c.loop.invariant in
+    let stop = c.in_err-at-2.field-0.0 in
+    let is = looked_ok M t u c.node_next-next_word.result c.in_ok-next.next c.in_ok-next.ensures.looked in
+    few_after s t v 0 (stopped_slots M u v stop (exchange_refused M u v stop c.loop.prev c.loop.at (c.in_ok-next.next.value - 1) c.if-next.kind c.in_err-at-2.ensures.exchanged) ∙ ap (λ x. x.slots) is.0)
+    (few_written M s c.args.head t i.visited i.charges)
+
+pub returns-then-node_key-key-clause-few : goal.returns-then-node_key-key-clause-few
+returns-then-node_key-key-clause-few g c =
+    let M = g.T.Theory.meaning in
+    let s = state c.args.tx.now in
+    let t = state c.loop.tx in
+    let u = state c.load-in-loop.new.self in
+    let i = c.loop.invariant in
+    let is = looked_ok M t u c.node_next-next_word.result c.in_ok-next.next c.in_ok-next.ensures.looked in
+    few_after s t (state c.field_of-node_key.new.self) 0 (ap (λ x. x.slots) c.field_of-node_key.ensures.same ∙ ap (λ x. x.slots) is.0) (few_written M s c.args.head t i.visited i.charges)
+
+pub returns-after-loop-clause-few : goal.returns-after-loop-clause-few
+returns-after-loop-clause-few g c = few_written g.T.Theory.meaning (state c.args.tx.now) c.args.head (state c.loop.tx) c.loop.invariant.visited c.loop.invariant.charges
+
+pub returns-then-node-eq0-clause-few : goal.returns-then-node-eq0-clause-few
+returns-then-node-eq0-clause-few g c = few_written g.T.Theory.meaning (state c.args.tx.now) c.args.head (state c.loop.tx) c.loop.invariant.visited c.loop.invariant.charges

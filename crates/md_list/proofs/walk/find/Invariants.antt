@@ -2,6 +2,7 @@ use Rattle.std.proofs.Common.{◌≡◌, ◌<◌, ◌^◌, ℕ, List, length}
 use Rattle.md_nbtc.specs.State.{state}
 use Rattle.md_list.specs.Walking.{WalkedFrom}
 use Rattle.md_list.proofs.At.{IsAt}
+use Rattle.md_list.proofs.Charged.{Charges}
 use Rattle.md_list.proofs.walk.find.Given as goal
 
 abbrev pub invariant-loop : goal.invariant-loop
@@ -10,6 +11,7 @@ invariant-loop g l = record {
   walked : WalkedFrom g.T.Theory.meaning (state l.fn.tx) (state l.tx);
   visited : List ℕ;
   stands : IsAt g.T.Theory.meaning (state l.tx) l.head l.key visited l.prev l.at;
+  charges : Charges g.T.Theory.meaning (state l.fn.tx) l.head (state l.tx) visited;
   turns : length visited ≡ l.counter;
   small : l.at.count < 2 ^ 32;
 }

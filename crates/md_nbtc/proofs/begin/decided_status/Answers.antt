@@ -3,10 +3,11 @@ use Rattle.md_words.specs.declared.status.StatusWord.{StatusWord}
 use Rattle.md_words.specs.Layout.{address}
 use Rattle.md_words.specs.Place.{desc_status}
 use Rattle.md_machine.specs.declared.pass.PassView.{PassView}
+use Rattle.md_machine.specs.declared.step.Kind.TheVariants.{Load}
 use Rattle.md_machine.specs.Event.{load}
 use Rattle.md_rule.specs.Steps.{SteppedFrom}
 use Rattle.md_help.proofs.Deciding.{reached_after}
-use Rattle.md_help.proofs.Steps.{made_load}
+use Rattle.md_help.proofs.Steps.{made_load, stands_made}
 use Rattle.md_nbtc.proofs.beginning.Starting.{finds_after, finds_loaded, no_later_loaded, own_still}
 use Rattle.md_nbtc.proofs.begin.decided_status.Goals as goal
 
@@ -67,3 +68,21 @@ returns-in_default-clause-finds g c =
     let m = made_load M o (address o.shape (desc_status c.args.desc)) c.load-found.result p q step in
     finds_after M o c.args.desc c.requires.exists (m.step ∷ []) p q c.settled_status.new.pass.view c.settled_status.result m.goes
     (no_later_loaded M o c.args.desc c.requires.exists p q c.load-found.result c.requires.own step) c.settled_status.ensures.finds
+
+pub returns-in-Committed-clause-stands : goal.returns-in-Committed-clause-stands
+returns-in-Committed-clause-stands g c =
+    let M = g.T.Theory.meaning in
+    let o = c.args.field.now.origin in
+    let p = c.args.pass.now.view in
+    let q = c.load-found.new.self.view in
+    let is = made_load M o c.status.result c.load-found.result p q c.load-found.ensures.step in
+    stands_made M o (λ pass. load pass c.status.result) Load c.status.result c.load-found.result c.load-found.result p q c.load-found.ensures.step.0 is
+
+pub returns-in-Aborted-clause-stands : goal.returns-in-Aborted-clause-stands
+returns-in-Aborted-clause-stands g c =
+    let M = g.T.Theory.meaning in
+    let o = c.args.field.now.origin in
+    let p = c.args.pass.now.view in
+    let q = c.load-found.new.self.view in
+    let is = made_load M o c.status.result c.load-found.result p q c.load-found.ensures.step in
+    stands_made M o (λ pass. load pass c.status.result) Load c.status.result c.load-found.result c.load-found.result p q c.load-found.ensures.step.0 is

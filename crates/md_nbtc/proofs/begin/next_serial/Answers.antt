@@ -12,6 +12,18 @@ use Rattle.md_nbtc.proofs.beginning.PutInHand.{behind_of, new_after}
 use Rattle.md_nbtc.proofs.beginning.Starting.{own_still}
 use Rattle.md_nbtc.proofs.begin.next_serial.Goals as goal
 
+pub take_left_out-requires-clause-taken : goal.take_left_out-requires-clause-taken
+take_left_out-requires-clause-taken g c =
+    let taken = c.requires.taken in
+    let is = taken.taken in record {
+      exists = taken.exists;
+      lane = taken.lane;
+      own = taken.own;
+      some = omega (arith, is);
+      count = taken.before;
+      kept = taken.kept;
+    }
+
 pub restart-requires-clause-own : goal.restart-requires-clause-own
 restart-requires-clause-own g c =
     let o = c.args.field.now.origin in

@@ -9,5 +9,5 @@ pub returns-else-left_open-clause-empty : goal.returns-else-left_open-clause-emp
 returns-else-left_open-clause-empty g c =
     let p = c.args.pass.now.view in
     let taken = c.requires.taken in
-    let kept = subst (λ (h : Shape). KeepsLane h p (record (share_at c.args.pass.now.shares c.args.desc) { tries_taken = taken.before }) c.args.desc) c.requires.of.shape taken.kept in
+    let kept = subst (λ (h : Shape). KeepsLane h p (record (share_at c.args.pass.now.shares c.args.desc) { tries_taken = taken.count }) c.args.desc) c.requires.of.shape taken.kept in
     empties_closed c.args.field.now.origin.shape c.args.desc p (kept.clean (sym c.left_open.ensures ∙ c.if-left_open.false))

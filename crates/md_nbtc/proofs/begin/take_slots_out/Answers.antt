@@ -10,7 +10,7 @@ use Rattle.md_nbtc.proofs.beginning.TakingOut.{takes_all, takes_none, takes_one}
 use Rattle.md_nbtc.proofs.begin.take_slots_out.Goals as goal
 
 pub settle_one-end-requires-clause-reached : goal.settle_one-end-requires-clause-reached
-settle_one-end-requires-clause-reached g c = let one = c.requires.taken.taken in inl (c.requires.taken.lane, omega (arith, one))
+settle_one-end-requires-clause-reached g c = inl (c.requires.taken.lane, c.requires.taken.some)
 
 pub loop-slot-init : goal.loop-slot-init
 loop-slot-init g c =
@@ -49,7 +49,7 @@ returns-clause-empty g c =
     let p = c.args.pass.now.view in
     let q = c.loop-slot.pass.view in
     let taken = c.requires.taken in
-    let kept = subst (λ (h : Shape). KeepsLane h p (record (share_at c.args.pass.now.shares c.args.desc) { tries_taken = taken.before }) c.args.desc) c.requires.of.shape taken.kept in
+    let kept = subst (λ (h : Shape). KeepsLane h p (record (share_at c.args.pass.now.shares c.args.desc) { tries_taken = taken.count }) c.args.desc) c.requires.of.shape taken.kept in
     let same = ap (λ (x : PassState). (share_at x.shares c.args.desc).slots_written) c.settle_one-end.ensures.same in
     let all = c.slots_written-slots.ensures.slots in
     let test = c.loop-slot-test.false in

@@ -1,0 +1,51 @@
+-- What a change that is a part of the transaction leaves.
+use Rattle.std.proofs.Common.{◌≡◌, ◌∷◌, [], ℕ, true, false, List, Some, sym, ap, ◌∙◌, subst}
+use Rattle.std.proofs.lemmas.Bool.{true≢false}
+use Rattle.std.proofs.lemmas.List.Elements.{All-contains, Contains-append_right}
+use Rattle.std.specs.List.{Contains}
+use Rattle.md_machine.specs.declared.attempt.Write.{Write}
+use Rattle.md_machine.specs.declared.certificate.Certificate.{Certificate}
+use Rattle.md_machine.specs.Certified.{first_content}
+use Rattle.md_machine.specs.Meaning.{Meaning}
+use Rattle.md_machine.proofs.lists.Rising.{here, map_in}
+use Rattle.md_nbtc.specs.declared.seen.Kind.TheVariants.{Critical}
+use Rattle.md_nbtc.specs.declared.seen.Seen.{Seen}
+use Rattle.md_nbtc.specs.declared.sets.Slot.{Slot}
+use Rattle.md_nbtc.specs.Calls.{new_slot, with_change}
+use Rattle.md_nbtc.specs.Going.{IsGoing}
+use Rattle.md_nbtc.specs.Seeing.{Gave}
+use Rattle.md_nbtc.specs.State.{TxnState, seen_content, writes_in}
+use Rattle.md_nbtc.proofs.structures.Exchanging.{HasExchanged, changed_own, changed_plainly, installed}
+
+module _ (M : Meaning) (t : TxnState) (word : ℕ) (from : Seen) (to : ℕ) (u : TxnState) (seen : Seen) where
+  -- the word is an own one with the new value, the change is noted for the operation, and what was seen was the word's first content if it wasn't own before
+  pub record ChangedCritically : Type 0 where
+    pub own : seen.own ≡ true
+    pub value : seen.value ≡ to
+    pub hand : u.hand ≡ with_change t.hand word from.value to
+    pub reads : u.reads ≡ t.reads
+    pub nodes : u.nodes ≡ t.nodes
+    pub first : from.own ≡ false → first_content u.reads (writes_in u) word ≡ Some (seen_content from)
+
+  pub changed_critically : Gave t word from → (cs : List Certificate) → IsGoing M u cs → HasExchanged M t word from to Critical u seen → ChangedCritically
+  changed_critically gave cs going (changed_own e) = record {
+    own = ap (λ (s : Seen). s.own) e.seen_is;
+    value = ap (λ (s : Seen). s.value) e.seen_is;
+    hand = ap (λ (x : TxnState). x.hand) e.state_is;
+    reads = ap (λ (x : TxnState). x.reads) e.state_is;
+    nodes = ap (λ (x : TxnState). x.nodes) e.state_is;
+    first = λ other. absurd (true≢false (sym (gave.own ∙ e.written) ∙ other));
+  }
+  changed_critically gave cs going (installed e) =
+      let slot = new_slot t word from to in
+      let there = subst (λ l. Contains l slot) (sym (ap (λ (x : TxnState). x.slots) e.state_is)) (Contains-append_right t.slots (slot ∷ []) slot (here slot [])) in
+      record {
+        own = ap (λ (s : Seen). s.own) e.seen_is;
+        value = ap (λ (s : Seen). s.value) e.seen_is;
+        hand = ap (λ (x : TxnState). x.hand) e.state_is;
+        reads = ap (λ (x : TxnState). x.reads) e.state_is;
+        nodes = ap (λ (x : TxnState). x.nodes) e.state_is;
+        first = λ other. All-contains (λ (w : Write). first_content u.reads (writes_in u) w.word ≡ Some w.old) (writes_in u) slot.write going.prepared.has.replaced
+            (map_in (λ (s : Slot). s.write) u.slots slot there);
+      }
+  changed_critically gave cs going (changed_plainly e) = absurd (true≢false e.plain)

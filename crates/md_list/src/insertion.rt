@@ -1,0 +1,58 @@
+//! How a key is inserted.
+
+ghost use Rattle.std.specs.Prelude.{◌≡◌, ℕ, IfOk, IfErr, Some, false};
+ghost use Rattle.md_history.specs.declared.acts.Op.TheVariants.{Insert};
+ghost use Rattle.md_history.specs.declared.acts.Reply.TheVariants.{Flag};
+ghost use Rattle.md_nbtc.specs.Calls.{MayAnswer};
+ghost use Rattle.md_nbtc.specs.State.{shape_in, state};
+ghost use Rattle.md_list.specs.Operations.{IsBegun, TakesOne};
+ghost use Rattle.md_list.specs.Walking.{IsHeadOf};
+
+use crate::walk::find;
+use md_history::Stop;
+use md_list_law::HasLists;
+use md_nbtc::{Kind, Txn};
+
+/// Inserts a key with a value into a map, if the key isn't there, and answers whether it was
+/// absent, as an operation of a transaction that was just begun. `head` is the head of the key's
+/// own bucket. The caller ends the operation with the answer as the reply of an `Insert` of the key
+/// and the value.
+///
+/// If the key is absent, one node is taken, and the word of the gap in which the key belongs is
+/// changed to it as a part of the transaction. If the key is there, its value stays; at most one
+/// more word is recorded, the node's next word, and no node is taken. `Err` is the refusal of the
+/// first call that was refused: a load or an exchange of [`find`], the note of that word, the
+/// taking of the node, or the exchange that puts it there. The transaction keeps it.
+///
+/// One [`find`] and at most eight steps more. It takes no memory.
+///
+/// After M. M. Michael, "High Performance Dynamic Lock-Free Hash Tables and List-Based Sets"
+/// (2002). It differs from Michael's in one way: a lost exchange isn't tried again, since the
+/// transaction then stops.
+pub fn insert<'a, T: HasLists>(
+    tx: &mut Txn<'a, T>,
+    head: u32,
+    key: u64,
+    value: u64,
+) -> Result<bool, Stop>
+    requires begun { IsBegun T.meaning (state tx.old) }
+    requires head { (map : ℕ) × IsHeadOf (shape_in (state tx.old)) map key head }
+    ensures pass { tx.new.pass.ghost_name ≡ tx.old.pass.ghost_name }
+    ensures leaves { TakesOne T.meaning (state tx.old) (state tx.new) }
+    ensures none { IfOk result (λ absent. absent ≡ false
+        → (state tx.new).nodes ≡ (state tx.old).nodes) }
+    ensures answer { IfOk result (λ absent. (map : ℕ)
+        → IsHeadOf (shape_in (state tx.old)) map key head
+        → MayAnswer T.meaning (state tx.new) (Insert map key value) (Flag absent)) }
+    ensures stop { IfErr result (λ stop. (state tx.new).stop ≡ Some stop) }
+{
+    let found = find(tx, head, key)?;
+    if found.here {
+        let next_word = tx.shape().node_next(found.node);
+        tx.note(next_word, found.next)?;
+        return Ok(false);
+    }
+    let node = tx.fresh(key, value, found.at.value)?;
+    tx.exchange(found.prev, found.at, node * 2, Kind::Critical)?;
+    Ok(true)
+}

@@ -1,0 +1,60 @@
+//! How a key is removed.
+
+ghost use Rattle.std.specs.Prelude.{◌≡◌, ℕ, IfOk, IfErr, Some};
+ghost use Rattle.md_history.specs.declared.acts.Op.TheVariants.{Remove};
+ghost use Rattle.md_history.specs.declared.acts.Reply.TheVariants.{Value};
+ghost use Rattle.md_nbtc.specs.Calls.{MayAnswer};
+ghost use Rattle.md_nbtc.specs.State.{shape_in, state};
+ghost use Rattle.md_list.specs.Operations.{IsBegun, KeepsNodes};
+ghost use Rattle.md_list.specs.Walking.{IsHeadOf};
+
+use crate::walk::find;
+use md_history::Stop;
+use md_list_law::HasLists;
+use md_nbtc::{Cleanup, Kind, Txn};
+
+/// Removes a key of a map, and answers the value that it had, or `None` if the key isn't there, as
+/// an operation of a transaction that was just begun. `head` is the head of the key's own bucket.
+/// The caller ends the operation with the answer as the reply of a `Remove` of the key.
+///
+/// The node's next word is marked as a part of the transaction. The unlink is a cleanup, which is
+/// made when the transaction has committed. If the key isn't there, at most one more word is
+/// recorded: that of the gap in which the key would be. No node is taken. `Err` is the refusal of
+/// the first call that was refused: a load or an exchange of [`find`], the note of that word, or
+/// the exchange that marks. The transaction keeps it.
+///
+/// One [`find`] and at most five steps more. It takes no memory.
+///
+/// After M. M. Michael, "High Performance Dynamic Lock-Free Hash Tables and List-Based Sets"
+/// (2002). It differs from Michael's in two ways. A lost exchange isn't tried again, since the
+/// transaction then stops. And the node isn't unlinked at once, since the mark holds only if the
+/// transaction commits.
+pub fn remove<'a, T: HasLists>(
+    tx: &mut Txn<'a, T>,
+    head: u32,
+    key: u64,
+) -> Result<Option<u64>, Stop>
+    requires begun { IsBegun T.meaning (state tx.old) }
+    requires head { (map : ℕ) × IsHeadOf (shape_in (state tx.old)) map key head }
+    ensures pass { tx.new.pass.ghost_name ≡ tx.old.pass.ghost_name }
+    ensures leaves { KeepsNodes T.meaning (state tx.old) (state tx.new) }
+    ensures answer { IfOk result (λ value. (map : ℕ)
+        → IsHeadOf (shape_in (state tx.old)) map key head
+        → MayAnswer T.meaning (state tx.new) (Remove map key) (Value value)) }
+    ensures stop { IfErr result (λ stop. (state tx.new).stop ≡ Some stop) }
+{
+    let found = find(tx, head, key)?;
+    if !found.here {
+        tx.note(found.prev, found.at)?;
+        return Ok(None);
+    }
+    let value_word = tx.shape().node_value(found.node);
+    let value = tx.field_of(value_word);
+    let next_word = tx.shape().node_next(found.node);
+    tx.exchange(next_word, found.next, found.next.value + 1, Kind::Critical)?;
+    tx.later(Cleanup::Unlink {
+        prev: found.prev,
+        node: found.node,
+    });
+    Ok(Some(value))
+}

@@ -1,0 +1,165 @@
+-- The tail, and the next word of its node: what is seen there, and after the tail was moved.
+use Rattle.std.proofs.Common.{◌≡◌, ◌≢◌, ◌<◌, ◌≤◌, ◌+◌, ◌^◌, ◌++◌, ℕ, suc, true, false, List, [], ◌∷◌, length, map, refl, sym, ap, ◌∙◌, subst, if◌then◌else◌, arith, ⊎_elim}
+use Rattle.std.proofs.lemmas.Bool.{cases_Bool}
+use Rattle.std.proofs.lemmas.List.{length-append, length-map}
+use Rattle.md_words.specs.declared.shape.Shape.{Shape}
+use Rattle.md_words.specs.Layout.{IsNode, address, node_count}
+use Rattle.md_words.specs.Link.{link_value, linked_node}
+use Rattle.md_words.specs.Place.{node_next, queue_tail}
+use Rattle.md_words.proofs.Places.{nodes_fit_values}
+use Rattle.md_history.specs.declared.stops.Stop.{Stop}
+use Rattle.md_machine.specs.declared.certificate.Certificate.{Certificate}
+use Rattle.md_machine.specs.declared.certificate.TidyChange.{TidyChange}
+use Rattle.md_machine.specs.Certified.{after_wholes}
+use Rattle.md_machine.specs.Meaning.{Lawful, Meaning}
+use Rattle.md_nbtc.specs.declared.seen.Kind.{Kind}
+use Rattle.md_nbtc.specs.declared.seen.Seen.{Seen}
+use Rattle.md_nbtc.specs.Calls.{GoesOn, MayExchange, new_slot}
+use Rattle.md_nbtc.specs.Going.{IsUnderWay}
+use Rattle.md_nbtc.specs.Known.{IsLater, Known}
+use Rattle.md_nbtc.specs.Seeing.{Gave, KeepsGiven, Looks}
+use Rattle.md_nbtc.specs.Sets.{with_new}
+use Rattle.md_nbtc.specs.State.{TxnState, shape_in}
+use Rattle.md_nbtc.proofs.preparing.Heaps.{known_now}
+use Rattle.md_nbtc.proofs.preparing.Later.{known_later, later_over}
+use Rattle.md_nbtc.proofs.structures.Exchanging.{HasExchanged, changed_own, changed_plainly, installed}
+use Rattle.md_nbtc.proofs.structures.NodesKnown.{shape_later}
+use Rattle.md_queue_law.specs.Laws.Words.{tail_not_next}
+use Rattle.md_queue_law.specs.QueueMeaning.{HasQueuesOf}
+use Rattle.md_queue.specs.Operations.{GoesBy, IsBegun, RefusedOtherwise}
+use Rattle.md_queue.specs.Words.{move_kind, next_at, tail_at}
+use Rattle.md_queue.specs.Working.{IsWorking, NamesNode, SeesAt, SeesEnd, SeesNext, SeesTail, other_count, own_count}
+use Rattle.md_queue.proofs.Firsts.{begun_working}
+use Rattle.md_queue.proofs.Looking.{next_looked, next_rank, tail_looked, tail_named}
+use Rattle.md_queue.proofs.Moving.{may_move, moved}
+use Rattle.md_queue.proofs.Passing.{sees_on, working_on}
+use Rattle.md_queue.proofs.Ranks.{rank_fits}
+use Rattle.md_queue.proofs.Steps.{goes_then}
+
+module _ (M : Meaning) (lawful : Lawful M) (queues : HasQueuesOf M) (t u : TxnState) (queue : ℕ) (on : GoesOn M t u) (same : u ≡ record t { pass = u.pass }) where
+  shape_is : shape_in u ≡ shape_in t
+  shape_is = shape_later t u on.later
+
+  pub tail_seen : IsBegun M t queue → (word : ℕ) → word ≡ tail_at t queue → (tail : Seen) → Looks M t u word tail → SeesTail M u queue tail 0
+  tail_seen begun word is tail looks =
+      let w = begun_working M t queue begun in
+      record {
+        certificates = begun.going.0;
+        changes = [];
+        working = working_on M t u on.later queue begun.going.0 [] on (ap (λ x. x.hand) same) w;
+        tail_sees = subst (λ (s : Shape). SeesAt M u (address s (queue_tail queue)) tail) (sym shape_is)
+            (tail_looked M lawful queues t queue begun.going.0 [] w u on tail (subst (λ x. Looks M t u x tail) is looks));
+        rank = λ v later prepared h of. omega arith;
+      }
+
+  -- and at the next word of its node
+  pub end_seen : (tail next : Seen) (least : ℕ) → SeesTail M t queue tail least → KeepsGiven t u (next_at t (linked_node tail.value)) → Looks M t u (next_at t (linked_node tail.value)) next
+      → SeesEnd M u queue tail next least
+  end_seen tail next least s given looks =
+      let named = tail_named M lawful queues t queue s.certificates s.changes s.working tail s.tail_sees in
+      record {
+        sees_tail = record {
+          certificates = s.certificates;
+          changes = s.changes;
+          working = working_on M t u on.later queue s.certificates s.changes on (ap (λ x. x.hand) same) s.working;
+          tail_sees = subst (λ (x : Shape). SeesAt M u (address x (queue_tail queue)) tail) (sym shape_is)
+              (sees_on M t u on.later (tail_at t queue) tail s.tail_sees
+              (given (tail_at t queue) tail (tail_not_next (shape_in t) queue (linked_node tail.value) s.working.within named.exists) s.tail_sees.gave));
+          rank = known_later M (λ v h. least ≤ (after_wholes h s.certificates).words.key_of (linked_node tail.value)) t u on.later s.rank;
+        };
+        next_sees = next_looked M lawful queues t queue s.certificates s.changes s.working u on next (linked_node tail.value) named.placed looks same;
+      }
+
+module _ (M : Meaning) (lawful : Lawful M) (queues : HasQueuesOf M) (t : TxnState) (queue : ℕ) (tail next : Seen) (least : ℕ) (s : SeesEnd M t queue tail next least) where
+  abbrev cs : List Certificate
+  cs = s.sees_tail.certificates
+
+  abbrev ts : List TidyChange
+  ts = s.sees_tail.changes
+
+  pub may_follow : next.value ≢ 0 → MayExchange M t (tail_at t queue) tail next.value (move_kind next)
+  may_follow some = may_move M lawful queues t queue cs ts s.sees_tail.working (linked_node tail.value) next s.next_sees some tail s.sees_tail.tail_sees refl
+
+  -- the tail was moved by one rank
+  pub followed : next.value ≢ 0 → (u : TxnState) → GoesOn M t u → tail.count < 2 ^ 32 → (seen : Seen) → Gave u (tail_at t queue) seen
+      → HasExchanged M t (tail_at t queue) tail next.value (move_kind next) u seen → SeesTail M u queue seen (least + 1)
+  followed some u on fits seen gave ex =
+      let m = moved M lawful queues t queue cs ts s.sees_tail.working (linked_node tail.value) next s.next_sees some tail s.sees_tail.tail_sees refl u on fits seen gave ex in
+      record {
+        certificates = cs;
+        changes = m.changes;
+        working = m.working;
+        tail_sees = m.sees_tail;
+        rank = λ v later prepared h of.
+            let over = later_over t u v on.later later in
+            let key = next_rank M lawful queues t queue cs ts s.sees_tail.working (linked_node tail.value) next s.next_sees some v over prepared h of in
+            let low = s.sees_tail.rank v over prepared h of in
+            subst (λ x. least + 1 ≤ (after_wholes h cs).words.key_of (linked_node x)) (sym m.value) (omega (arith, key, low));
+      }
+
+  -- a rank is below the number of nodes
+  pub end_fits : least < node_count (shape_in t)
+  end_fits =
+      let both = known_now M lawful (λ u h. (least ≤ (after_wholes h cs).words.key_of (linked_node tail.value)) × ((after_wholes h cs).words.key_of (linked_node tail.value) < node_count (shape_in t)))
+      t cs s.sees_tail.working.going
+      (λ u later prepared h of. (
+        s.sees_tail.rank u later prepared h of,
+        rank_fits M lawful queues t queue s.sees_tail.working.within cs s.sees_tail.working.going ts s.sees_tail.working.tidied (linked_node tail.value) s.next_sees.placed u later prepared h of,
+      )) in
+      let low = both.2.0 in
+      let high = both.2.1 in
+      omega (arith, low, high)
+
+-- how many words an exchange wrote more
+module _ (M : Meaning) (t u : TxnState) (word : ℕ) (from : Seen) (to : ℕ) (kind : Kind) (seen : Seen) where
+  count_own : (s : Seen) → s.own ≡ true → (own_count s ≡ 1) × (other_count s ≡ 0)
+  count_own s own = (ap (λ b. if b then 1 else 0) own, ap (λ b. if b then 0 else 1) own)
+
+  count_other : (s : Seen) → s.own ≡ false → (own_count s ≡ 0) × (other_count s ≡ 1)
+  count_other s other = (ap (λ b. if b then 1 else 0) other, ap (λ b. if b then 0 else 1) other)
+
+  pub moved_counts : HasExchanged M t word from to kind u seen → Gave t word from
+      → (length u.slots + own_count from ≤ length t.slots + own_count seen) × (length u.slots ≤ length t.slots + other_count from)
+  moved_counts (changed_own e) gave =
+      let l = ap (λ (x : TxnState). length x.slots) e.state_is ∙ length-map t.slots (with_new word to) in
+      let one = count_own from (gave.own ∙ e.written) in
+      let two = count_own seen (ap (λ (s : Seen). s.own) e.seen_is) in
+      (omega (arith, l, one.0, two.0), omega (arith, l, one.1))
+  moved_counts (installed e) gave =
+      let l = ap (λ (x : TxnState). length x.slots) e.state_is ∙ length-append t.slots (new_slot t word from to ∷ []) in
+      let one = count_other from (gave.own ∙ e.unwritten) in
+      let two = count_own seen (ap (λ (s : Seen). s.own) e.seen_is) in
+      (omega (arith, l, one.0, two.0), omega (arith, l, one.1))
+  moved_counts (changed_plainly e) gave =
+      let l = ap (λ (x : TxnState). length x.slots) e.state_is in
+      let one = count_other from (gave.own ∙ e.unwritten) in
+      let two = count_other seen (ap (λ (s : Seen). s.own) e.seen_is) in
+      (omega (arith, l, one.0, two.0), omega (arith, l, one.1))
+
+-- within a bound on what is written
+pub goes_within : (M : Meaning) (t u : TxnState) (a x : ℕ) → GoesBy M t u 0 a 0 → length u.slots ≤ length t.slots + x → GoesBy M t u 0 x 0
+goes_within M t u a x g writes = record {
+  leaves = record {
+    going = g.leaves.going;
+    later = g.leaves.later;
+    reads_few = g.leaves.reads_few;
+    writes_few = writes;
+    nodes_few = g.leaves.nodes_few;
+  };
+  same_stop = g.same_stop;
+}
+
+-- one word in all
+pub counts_one : (s : Seen) → own_count s + other_count s ≡ 1
+counts_one s = ⊎_elim (λ own. ap (λ b. (if b then 1 else 0) + (if b then 0 else 1)) own) (λ other. ap (λ b. (if b then 1 else 0) + (if b then 0 else 1)) other) (cases_Bool s.own)
+
+-- the tail is written at most once, however often it is moved
+pub goes_moved : (M : Meaning) (s t u : TxnState) (a b c : ℕ) → GoesBy M s t 0 a 0 → GoesBy M t u 0 b 0 → length u.slots + a ≤ length t.slots + c → GoesBy M s u 0 c 0
+goes_moved M s t u a b c one two counts =
+    let few = one.leaves.writes_few in
+    goes_within M s u (a + b) c (goes_then M s t u 0 a 0 0 b 0 0 (a + b) 0 one two (omega arith) (omega arith) (omega arith)) (omega (arith, few, counts))
+
+-- there are fewer nodes than turns
+pub node_limit : (shape : Shape) → node_count shape < 4294967295
+unfolding link_value
+node_limit shape = let fits = nodes_fit_values shape (node_count shape) false (omega arith) in omega (arith, fits)

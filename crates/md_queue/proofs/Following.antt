@@ -1,0 +1,53 @@
+-- The tail is looked at, and doesn't stay behind the head.
+use Rattle.std.proofs.Common.{◌≡◌, ◌≢◌, ◌<◌, ◌^◌, ℕ, refl, sym, ap, ◌∙◌, subst}
+use Rattle.md_words.specs.declared.shape.Shape.{Shape}
+use Rattle.md_words.specs.Layout.{address}
+use Rattle.md_words.specs.Link.{linked_node}
+use Rattle.md_words.specs.Place.{queue_tail}
+use Rattle.md_machine.specs.Meaning.{Lawful, Meaning}
+use Rattle.md_nbtc.specs.declared.seen.Seen.{Seen}
+use Rattle.md_nbtc.specs.Calls.{GoesOn, MayExchange}
+use Rattle.md_nbtc.specs.Seeing.{Gave, KeepsGiven, Looks}
+use Rattle.md_nbtc.specs.State.{TxnState, shape_in}
+use Rattle.md_nbtc.proofs.structures.Exchanging.{HasExchanged}
+use Rattle.md_nbtc.proofs.structures.NodesKnown.{shape_later}
+use Rattle.md_queue_law.specs.Laws.Words.{head_not_tail, tail_not_next}
+use Rattle.md_queue_law.specs.QueueMeaning.{HasQueuesOf}
+use Rattle.md_queue.specs.Words.{head_at, move_kind, next_at, tail_at}
+use Rattle.md_queue.specs.Working.{IsWorking, SeesAt, SeesFirst}
+use Rattle.md_queue.proofs.Looking.{tail_looked}
+use Rattle.md_queue.proofs.Moving.{may_move, moved}
+use Rattle.md_queue.proofs.Passing.{working_on}
+use Rattle.md_queue.proofs.Takings.{first_on}
+
+module _ (M : Meaning) (lawful : Lawful M) (queues : HasQueuesOf M) (t : TxnState) (queue : ℕ) (head next : Seen) (s : SeesFirst M t queue head next) where
+  -- the tail is another word
+  apart : head_at t queue ≢ tail_at t queue
+  apart = head_not_tail (shape_in t) queue queue s.working.within s.working.within
+
+  next_apart : next_at t (linked_node head.value) ≢ tail_at t queue
+  next_apart e = tail_not_next (shape_in t) queue (linked_node head.value) s.working.within s.next_sees.exists (sym e)
+
+  -- after a look at it
+  module _ (u : TxnState) (on : GoesOn M t u) (same : u ≡ record t { pass = u.pass }) (word : ℕ) (is : word ≡ tail_at t queue) (given : KeepsGiven t u word) where
+    pub first_stays : SeesFirst M u queue head next
+    first_stays = first_on M t u queue head next s on.later (tail_at t queue) (subst (λ x. KeepsGiven t u x) is given) apart next_apart s.changes
+        (working_on M t u on.later queue s.certificates s.changes on (ap (λ x. x.hand) same) s.working)
+
+    pub tail_seen : (tail : Seen) → Looks M t u word tail → SeesAt M u (tail_at u queue) tail
+    tail_seen tail looks = subst (λ (x : Shape). SeesAt M u (address x (queue_tail queue)) tail) (sym (shape_later t u on.later))
+        (tail_looked M lawful queues t queue s.certificates s.changes s.working u on tail (subst (λ x. Looks M t u x tail) is looks))
+
+  module _ (some : next.value ≢ 0) (tail : Seen) (sees : SeesAt M t (tail_at t queue) tail) (same : tail.value ≡ head.value) where
+    one_node : linked_node head.value ≡ linked_node tail.value
+    one_node = ap linked_node (sym same)
+
+    pub may_follow : MayExchange M t (tail_at t queue) tail next.value (move_kind next)
+    may_follow = may_move M lawful queues t queue s.certificates s.changes s.working (linked_node head.value) next s.next_sees some tail sees one_node
+
+    -- and after it was moved
+    pub first_moved : (u : TxnState) → GoesOn M t u → KeepsGiven t u (tail_at t queue) → tail.count < 2 ^ 32 → (seen : Seen) → Gave u (tail_at t queue) seen
+        → HasExchanged M t (tail_at t queue) tail next.value (move_kind next) u seen → SeesFirst M u queue head next
+    first_moved u on given fits seen gave ex =
+        let m = moved M lawful queues t queue s.certificates s.changes s.working (linked_node head.value) next s.next_sees some tail sees one_node u on fits seen gave ex in
+        first_on M t u queue head next s on.later (tail_at t queue) given apart next_apart m.changes m.working

@@ -1,0 +1,15 @@
+pub mod Data
+pub mod MetInQueues
+pub mod Ranks
+pub mod Passing
+pub mod Looking
+pub mod Steps
+pub mod Recording
+pub mod Firsts
+pub mod Moving
+pub mod Changing
+pub mod Takings
+pub mod Following
+pub mod Ends
+pub mod FreshNode
+pub mod Putting

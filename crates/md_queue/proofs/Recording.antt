@@ -1,0 +1,79 @@
+-- A word that was recorded has its value for good, as the transaction sees it; and operations that only look are answered
+-- by the words that they recorded.
+use Rattle.std.proofs.Common.{◌≡◌, ◌<◌, ◌^◌, ◌≢◌, ℕ, true, false, List, [], ◌∷◌, map, Option, Some, None, refl, sym, ap, ◌∙◌, subst, inl, inr, ⊎_elim, is_some}
+use Rattle.std.proofs.lemmas.Bool.{cases_Bool}
+use Rattle.std.proofs.lemmas.List.Elements.{All-cons, All-nil}
+use Rattle.std.specs.List.{All}
+use Rattle.std.specs.Prelude.{get_or}
+use Rattle.md_words.specs.declared.shape.Shape.{Shape}
+use Rattle.md_history.specs.declared.acts.Op.{Op}
+use Rattle.md_history.specs.declared.acts.Reply.{Reply}
+use Rattle.md_machine.specs.declared.certificate.Certificate.{Certificate}
+use Rattle.md_machine.specs.declared.certificate.Fact.{Fact}
+use Rattle.md_machine.specs.declared.certificate.TidyChange.{TidyChange}
+use Rattle.md_machine.specs.declared.certificate.WordValue.{WordValue}
+use Rattle.md_machine.specs.Certified.{after_wholes, content_replaced, first_content, is_written}
+use Rattle.md_machine.specs.LogicalHeap.{Holds, LogicalHeap}
+use Rattle.md_machine.specs.Meaning.{Lawful, Meaning}
+use Rattle.md_machine.specs.Resolution.{or_else}
+use Rattle.md_nbtc.specs.declared.seen.Seen.{Seen}
+use Rattle.md_nbtc.specs.Calls.{MayAnswer}
+use Rattle.md_nbtc.specs.Known.{IsLater, Known, found_by}
+use Rattle.md_nbtc.specs.Prepared.{IsPrepared}
+use Rattle.md_nbtc.specs.State.{TxnState, seen_content, shape_in, writes_in}
+use Rattle.md_nbtc.specs.Tidied.{tidied}
+use Rattle.md_nbtc.proofs.preparing.Later.{known_later}
+use Rattle.md_nbtc.proofs.structures.FoundLater.{found_later}
+use Rattle.md_nbtc.proofs.structures.Noting.{HasNoted}
+use Rattle.md_nbtc.proofs.structures.Reading.{may_end_reading, reading}
+use Rattle.md_nbtc.proofs.structures.SeenValues.{seen_value}
+use Rattle.md_nbtc.proofs.structures.StoodThen.{some_of, written_is_found}
+use Rattle.md_nbtc.proofs.structures.Tidying.{bare_holds}
+use Rattle.md_queue_law.specs.QueueCertificates.{CertifiesQueue}
+use Rattle.md_queue_law.specs.QueueMeaning.{HasQueuesOf}
+use Rattle.md_queue.specs.Working.{IsRecorded, IsWorking, SeesAt}
+
+module _ (M : Meaning) (lawful : Lawful M) (t : TxnState) (queue : ℕ) (cs : List Certificate) (ts : List TidyChange) (w : IsWorking M t queue cs ts)
+    (u : TxnState) (later : IsLater t u) (word : ℕ) (seen : Seen) (sees : SeesAt M t word seen) (fits : seen.count < 2 ^ 32) where
+  -- where the content is recorded of the word, or the word is own
+  module _ (slots : u.slots ≡ t.slots) (content : is_written (writes_in t) word ≡ false → first_content u.reads (writes_in u) word ≡ Some (seen_content seen)) where
+    first_is : seen.own ≡ false → first_content u.reads (writes_in u) word ≡ Some (seen_content seen)
+    first_is other = content (sym sees.gave.own ∙ other)
+
+    pub seen_recorded : IsRecorded M u cs ts (record { word = word; value = seen.value })
+    seen_recorded = record {
+      found = ⊎_elim
+          (λ own. written_is_found u word (ap (λ l. is_written (map (λ s. s.write) l) word) slots ∙ sym sees.gave.own ∙ own))
+          (λ other. ap (λ o. is_some o) (first_is other))
+          (cases_Bool seen.own);
+      value = seen_value M lawful t cs w.going ts w.tidied word seen sees.gave sees.there fits u later first_is;
+    }
+
+  -- after a note of it
+  pub noted_recorded : HasNoted t u word seen → IsRecorded M u cs ts (record { word = word; value = seen.value })
+  noted_recorded noted = seen_recorded noted.slots (λ other. ap (λ o. or_else o (content_replaced (writes_in u) word)) (noted.content other))
+
+-- it stays recorded
+pub recorded_on : (M : Meaning) (t u : TxnState) (later : IsLater t u) (prepared : IsPrepared u) (cs : List Certificate) (ts : List TidyChange) (r : WordValue)
+    → IsRecorded M t cs ts r → IsRecorded M u cs ts r
+recorded_on M t u later prepared cs ts r is =
+    let held = some_of (first_content t.reads (writes_in t) r.word) is.found in
+    record {
+      found = ap (λ o. is_some o) (found_later t u later prepared r.word held.0 held.1);
+      value = known_later M (λ v h. (tidied (found_by v h) cs ts).words.value r.word ≡ r.value) t u later is.value;
+    }
+
+module _ (M : Meaning) (queues : HasQueuesOf M) (t : TxnState) (queue : ℕ) (cs : List Certificate) (ts : List TidyChange) (w : IsWorking M t queue cs ts) where
+  -- an operation that looked at recorded words may be answered by them, and by what is known of nodes
+  pub may_answer_reading : (op : Op) (reply : Reply) (words : List WordValue) (facts : List Fact) → CertifiesQueue (shape_in t) (reading op reply ts words facts)
+      → All (IsRecorded M t cs ts) words → Known M t (λ u h. All (Holds (after_wholes h cs)) facts) → All (λ (f : Fact). f.next ≡ None) facts → MayAnswer M t op reply
+  may_answer_reading op reply words facts certifies recorded known plain = record {
+    earlier = cs;
+    going = w.going;
+    certificate = reading op reply ts words facts;
+    of = (refl, refl);
+    may = may_end_reading M t cs ts w.tidied op reply words facts (queues.certifies (shape_in t) (reading op reply ts words facts) certifies)
+        (λ i d below. (recorded i d below).found)
+        (λ u later prepared h of i d below. (recorded i d below).value u later prepared h of)
+        (λ u later prepared h of i d below. bare_holds (after_wholes h cs) ts w.tidied.bare (get_or facts i d) (plain i d below) (known u later prepared h of i d below));
+  }

@@ -1,0 +1,213 @@
+-- What each call leaves of a transaction, and how that adds up.
+use Rattle.std.proofs.Common.{◌≡◌, ◌≤◌, ◌+◌, ℕ, Option, Some, None, Result, Ok, Err, length, map, [], ◌∷◌, refl, sym, ap, ◌∙◌, subst, arith}
+use Rattle.std.proofs.lemmas.List.{length-append, length-map}
+use Rattle.md_history.specs.declared.stops.Limit.TheVariants.{Nodes, Reads, Worn, Writes}
+use Rattle.md_history.specs.declared.stops.Shown.{Shown}
+use Rattle.md_history.specs.declared.stops.Stop.{Stop}
+use Rattle.md_history.specs.declared.stops.Stop.TheVariants.{Conflict, Limit as Limited}
+use Rattle.md_machine.specs.Meaning.{Meaning}
+use Rattle.md_nbtc.specs.declared.seen.Kind.{Kind}
+use Rattle.md_nbtc.specs.declared.seen.Seen.{Seen}
+use Rattle.md_nbtc.specs.Calls.{AfterStop, Exchanges, GoesOn, Looked, NoteCase, Notes, exchange_case, full, new_slot, note_case, noted, recorded, unread}
+use Rattle.md_nbtc.specs.Going.{IsUnderWay}
+use Rattle.md_nbtc.specs.Seeing.{Looks}
+use Rattle.md_nbtc.specs.Sets.{with_new}
+use Rattle.md_nbtc.specs.State.{TxnState}
+use Rattle.md_nbtc.proofs.preparing.Later.{later_over}
+use Rattle.md_nbtc.proofs.structures.Answering.{IsStopped, after_ok, exchange_refused, look_refused, note_refused}
+use Rattle.md_nbtc.proofs.structures.Exchanging.{HasExchanged, changed_own, changed_plainly, exchange_so, exchanged_so, installed}
+use Rattle.md_nbtc.proofs.structures.Noting.{HasNoted, has_noted}
+use Rattle.md_queue.specs.Operations.{GoesBy, Leaves, Refused, RefusedOtherwise}
+
+module _ (M : Meaning) where
+  -- one after another
+  leaves_then : (s t u : TxnState) (a b c d e f x y z : ℕ) → Leaves M s t a b c → Leaves M t u d e f → a + d ≤ x → b + e ≤ y → c + f ≤ z → Leaves M s u x y z
+  leaves_then s t u a b c d e f x y z one two reads writes nodes =
+      let r = one.reads_few in
+      let rr = two.reads_few in
+      let w = one.writes_few in
+      let ww = two.writes_few in
+      let n = one.nodes_few in
+      let nn = two.nodes_few in
+      record {
+        going = two.going;
+        later = later_over s t u one.later two.later;
+        reads_few = omega (arith, r, rr, reads);
+        writes_few = omega (arith, w, ww, writes);
+        nodes_few = omega (arith, n, nn, nodes);
+      }
+
+  pub goes_then : (s t u : TxnState) (a b c d e f x y z : ℕ) → GoesBy M s t a b c → GoesBy M t u d e f → a + d ≤ x → b + e ≤ y → c + f ≤ z → GoesBy M s u x y z
+  goes_then s t u a b c d e f x y z one two reads writes nodes = record {
+    leaves = leaves_then s t u a b c d e f x y z one.leaves two.leaves reads writes nodes;
+    same_stop = two.same_stop ∙ one.same_stop;
+  }
+
+  pub refused_then : (s t u : TxnState) (a b d e x y : ℕ) (stop : Stop) → GoesBy M s t a b 0 → RefusedOtherwise M t u d e stop → a + d ≤ x → b + e ≤ y → RefusedOtherwise M s u x y stop
+  refused_then s t u a b d e x y stop one two reads writes = record {
+    refused = record {
+      leaves = leaves_then s t u a b 0 d e 0 x y 0 one.leaves two.refused.leaves reads writes (omega arith);
+      kept = two.refused.kept;
+    };
+    no_nodes = λ is. sym one.same_stop ∙ two.no_nodes is;
+  }
+
+  module _ (t u : TxnState) (under : IsUnderWay M t) (on : GoesOn M t u) where
+    stepped_leaves : (a b c : ℕ) → length u.reads ≤ length t.reads + a → length u.slots ≤ length t.slots + b → length u.nodes ≤ length t.nodes + c → Leaves M t u a b c
+    stepped_leaves a b c reads writes nodes = record {
+      going = (under.0, on.going under.0 under.1);
+      later = on.later;
+      reads_few = reads;
+      writes_few = writes;
+      nodes_few = nodes;
+    }
+
+    -- steps of the pass alone
+    pub pass_goes : u ≡ record t { pass = u.pass } → GoesBy M t u 0 0 0
+    pass_goes same = record {
+      leaves = stepped_leaves 0 0 0 (let l = ap (λ (x : TxnState). length x.reads) same in omega (arith, l))
+          (let l = ap (λ (x : TxnState). length x.slots) same in omega (arith, l))
+          (let l = ap (λ (x : TxnState). length x.nodes) same in omega (arith, l));
+      same_stop = ap (λ (x : TxnState). x.stop) same;
+    }
+
+    halted : (stop : Stop) → IsStopped t u stop → (stop ≡ Limited Nodes → t.stop ≡ Some stop) → RefusedOtherwise M t u 0 0 stop
+    halted stop is others = record {
+      refused = record {
+        leaves = stepped_leaves 0 0 0 (let l = ap (λ (x : TxnState). length x.reads) is in omega (arith, l))
+            (let l = ap (λ (x : TxnState). length x.slots) is in omega (arith, l))
+            (let l = ap (λ (x : TxnState). length x.nodes) is in omega (arith, l));
+        kept = ap (λ (x : TxnState). x.stop) is;
+      };
+      no_nodes = others;
+    }
+
+    -- a refusal that isn't one for want of nodes, unless it is an old one
+    module _ (A : Type 0) (stop : Stop) where
+      err_same : (r : Stop) → (let e : Result A Stop = Err stop in e) ≡ Err r → r ≡ stop
+      err_same r e = cc e
+
+      old_stop : (o : Option Stop) → t.stop ≡ o → (P : Type 0) → (P → stop ≡ Limited Nodes → ⊥) → AfterStop o t u (let r : Result A Stop = Err stop in r) P → stop ≡ Limited Nodes → t.stop ≡ Some stop
+      old_stop None is P others p nodes = absurd (others p nodes)
+      old_stop (Some r) is P others p nodes = is ∙ ap (λ x. Some x) (err_same r p.0)
+
+    conflict_no_nodes : (stop : Stop) (shown : Shown) → stop ≡ Conflict shown → stop ≡ Limited Nodes → ⊥
+    conflict_no_nodes stop shown is nodes = cc (is, nodes)
+
+    -- a look
+    pub look_ok : (word : ℕ) (seen : Seen) → AfterStop t.stop t u (let r : Result Seen Stop = Ok seen in r) (Looked M t u word (Ok seen)) → (u ≡ record t { pass = u.pass }) × Looks M t u word seen
+    look_ok word seen looked = after_ok Seen t u t.stop seen (Looked M t u word (Ok seen)) looked
+
+    pub look_goes : (word : ℕ) (seen : Seen) → AfterStop t.stop t u (let r : Result Seen Stop = Ok seen in r) (Looked M t u word (Ok seen)) → GoesBy M t u 0 0 0
+    look_goes word seen looked = pass_goes (look_ok word seen looked).0
+
+    pub look_stops : (word : ℕ) (stop : Stop) → AfterStop t.stop t u (let r : Result Seen Stop = Err stop in r) (Looked M t u word (Err stop)) → RefusedOtherwise M t u 0 0 stop
+    look_stops word stop looked = halted stop (look_refused M t u stop word looked)
+        (old_stop Seen stop t.stop refl (Looked M t u word (Err stop)) (λ is nodes. conflict_no_nodes stop is.1.0 is.1.1 nodes) looked)
+
+    -- a note
+    ok_is_err : {B : Type 0} (s : Stop) → (let r : Result (Unit {0}) Stop = Ok tt in r) ≡ Err s → B
+    ok_is_err s e = absurd (cc e)
+
+    noted_stop : (c : NoteCase) (word : ℕ) (seen : Seen) → Notes c t u word seen (Ok tt) → u.stop ≡ t.stop
+    noted_stop noted word seen is = ap (λ (x : TxnState). x.stop) is.1
+    noted_stop (recorded held) word seen is = ok_is_err _ is.0
+    noted_stop full word seen is = ok_is_err _ is.0
+    noted_stop unread word seen is = ap (λ (x : TxnState). x.stop) is.1
+
+    pub note_ok : (word : ℕ) (seen : Seen) → AfterStop t.stop t u (let r : Result (Unit {0}) Stop = Ok tt in r) (Notes (note_case t word seen) t u word seen (Ok tt)) → HasNoted t u word seen
+    note_ok word seen is = has_noted t u word seen (after_ok (Unit {0}) t u t.stop tt (Notes (note_case t word seen) t u word seen (Ok tt)) is)
+
+    pub note_goes : (word : ℕ) (seen : Seen) → AfterStop t.stop t u (let r : Result (Unit {0}) Stop = Ok tt in r) (Notes (note_case t word seen) t u word seen (Ok tt)) → GoesBy M t u 1 0 0
+    note_goes word seen is =
+        let noted = note_ok word seen is in
+        record {
+          leaves = stepped_leaves 1 0 0 noted.few (let l = ap (λ x. length x) noted.slots in omega (arith, l)) (let l = ap (λ x. length x) noted.nodes in omega (arith, l));
+          same_stop = noted_stop (note_case t word seen) word seen (after_ok (Unit {0}) t u t.stop tt (Notes (note_case t word seen) t u word seen (Ok tt)) is);
+        }
+
+    note_no_nodes : (stop : Stop) (c : NoteCase) (word : ℕ) (seen : Seen) → Notes c t u word seen (Err stop) → stop ≡ Limited Nodes → ⊥
+    note_no_nodes stop noted word seen is nodes = let e = is.0 in cc e
+    note_no_nodes stop (recorded held) word seen is nodes = let e = is.0 in cc (e, nodes)
+    note_no_nodes stop full word seen is nodes = let e = is.0 in cc (e, nodes)
+    note_no_nodes stop unread word seen is nodes = let e = is.0 in cc e
+
+    pub note_stops : (word : ℕ) (seen : Seen) (stop : Stop) → AfterStop t.stop t u (let r : Result (Unit {0}) Stop = Err stop in r) (Notes (note_case t word seen) t u word seen (Err stop)) → RefusedOtherwise M t u 0 0 stop
+    note_stops word seen stop is = halted stop (note_refused M t u stop (note_case t word seen) word seen is)
+        (old_stop (Unit {0}) stop t.stop refl (Notes (note_case t word seen) t u word seen (Err stop)) (note_no_nodes stop (note_case t word seen) word seen) is)
+
+    -- an exchange
+    pub exchange_ok : (word : ℕ) (from : Seen) (to : ℕ) (kind : Kind) (seen : Seen)
+        → AfterStop t.stop t u (let r : Result Seen Stop = Ok seen in r) (Exchanges (exchange_case t word from kind) M t u word from to (Ok seen)) → HasExchanged M t word from to kind u seen
+    exchange_ok word from to kind seen is = exchanged_so M t word from to kind u seen
+        (after_ok Seen t u t.stop seen (Exchanges (exchange_case t word from kind) M t u word from to (Ok seen)) is)
+
+    pub exchange_goes : (word : ℕ) (from : Seen) (to : ℕ) (kind : Kind) (seen : Seen) → HasExchanged M t word from to kind u seen → GoesBy M t u 0 1 0
+    exchange_goes word from to kind seen (changed_own e) = record {
+      leaves = stepped_leaves 0 1 0 (let l = ap (λ (x : TxnState). length x.reads) e.state_is in omega (arith, l))
+          (let l = ap (λ (x : TxnState). length x.slots) e.state_is ∙ length-map t.slots (with_new word to) in omega (arith, l))
+          (let l = ap (λ (x : TxnState). length x.nodes) e.state_is in omega (arith, l));
+      same_stop = ap (λ (x : TxnState). x.stop) e.state_is;
+    }
+    exchange_goes word from to kind seen (installed e) = record {
+      leaves = stepped_leaves 0 1 0 (let l = ap (λ (x : TxnState). length x.reads) e.state_is in omega (arith, l))
+          (let l = ap (λ (x : TxnState). length x.slots) e.state_is ∙ length-append t.slots (new_slot t word from to ∷ []) in omega (arith, l))
+          (let l = ap (λ (x : TxnState). length x.nodes) e.state_is in omega (arith, l));
+      same_stop = ap (λ (x : TxnState). x.stop) e.state_is;
+    }
+    exchange_goes word from to kind seen (changed_plainly e) = record {
+      leaves = stepped_leaves 0 1 0 (let l = ap (λ (x : TxnState). length x.reads) e.state_is in omega (arith, l))
+          (let l = ap (λ (x : TxnState). length x.slots) e.state_is in omega (arith, l))
+          (let l = ap (λ (x : TxnState). length x.nodes) e.state_is in omega (arith, l));
+      same_stop = ap (λ (x : TxnState). x.stop) e.state_is;
+    }
+
+    err_no_nodes : (stop r : Stop) → (let e : Result Seen Stop = Err stop in e) ≡ Err r → (r ≡ Limited Nodes → ⊥) → stop ≡ Limited Nodes → ⊥
+    err_no_nodes stop r same others nodes = others (err_same Seen stop r same ∙ nodes)
+
+    exchange_no_nodes : (word : ℕ) (from : Seen) (to : ℕ) (kind : Kind) (stop : Stop) → Exchanges (exchange_case t word from kind) M t u word from to (Err stop) → stop ≡ Limited Nodes → ⊥
+    exchange_no_nodes word from to kind stop = exchange_so (λ c. Exchanges c M t u word from to (Err stop) → stop ≡ Limited Nodes → ⊥)
+        (λ held is. err_no_nodes stop _ is.0 (λ e. cc e)) (λ is. err_no_nodes stop _ is.0 (λ e. cc e)) (λ is. err_no_nodes stop _ is.0 (λ e. cc e)) t word from kind
+        (λ written is nodes. let e = is.0 in cc e)
+        (λ unwritten critical is. conflict_no_nodes stop _ is.1.1)
+        (λ unwritten plain is. conflict_no_nodes stop _ is.1.1)
+
+    pub exchange_stops : (word : ℕ) (from : Seen) (to : ℕ) (kind : Kind) (stop : Stop)
+        → AfterStop t.stop t u (let r : Result Seen Stop = Err stop in r) (Exchanges (exchange_case t word from kind) M t u word from to (Err stop)) → RefusedOtherwise M t u 0 0 stop
+    exchange_stops word from to kind stop is = halted stop (exchange_refused M t u stop word from to kind is)
+        (old_stop Seen stop t.stop refl (Exchanges (exchange_case t word from kind) M t u word from to (Err stop)) (exchange_no_nodes word from to kind stop) is)
+
+-- a refusal within wider bounds
+pub refused_up : (M : Meaning) (t u : TxnState) (a b x y : ℕ) (stop : Stop) → RefusedOtherwise M t u a b stop → a ≤ x → b ≤ y → RefusedOtherwise M t u x y stop
+refused_up M t u a b x y stop is reads writes =
+    let r = is.refused.leaves.reads_few in
+    let w = is.refused.leaves.writes_few in
+    record {
+      refused = record {
+        leaves = record {
+          going = is.refused.leaves.going;
+          later = is.refused.leaves.later;
+          reads_few = omega (arith, r, reads);
+          writes_few = omega (arith, w, writes);
+          nodes_few = is.refused.leaves.nodes_few;
+        };
+        kept = is.refused.kept;
+      };
+      no_nodes = is.no_nodes;
+    }
+
+pub goes_up : (M : Meaning) (t u : TxnState) (a b c x y z : ℕ) → GoesBy M t u a b c → a ≤ x → b ≤ y → c ≤ z → GoesBy M t u x y z
+goes_up M t u a b c x y z is reads writes nodes =
+    let r = is.leaves.reads_few in
+    let w = is.leaves.writes_few in
+    let n = is.leaves.nodes_few in
+    record {
+      leaves = record {
+        going = is.leaves.going;
+        later = is.leaves.later;
+        reads_few = omega (arith, r, reads);
+        writes_few = omega (arith, w, writes);
+        nodes_few = omega (arith, n, nodes);
+      };
+      same_stop = is.same_stop;
+    }

@@ -1,0 +1,97 @@
+use Rattle.std.proofs.Common.{◌≡◌, ◌/◌, ap, sym, subst, ◌∙◌, arith, rules}
+use Rattle.md_words.specs.Layout.{IsNode, address}
+use Rattle.md_words.specs.Place.{queue_head}
+use Rattle.md_nbtc.specs.Going.{IsFoundThere}
+use Rattle.md_nbtc.specs.Seeing.{Gave}
+use Rattle.md_nbtc.specs.State.{shape_in, state}
+use Rattle.md_nbtc.proofs.structures.Noting.{HasNoted}
+use Rattle.md_queue.specs.Operations.{RefusedOtherwise}
+use Rattle.md_queue.specs.Words.{next_at}
+use Rattle.md_queue.proofs.Data.{half_is}
+use Rattle.md_queue.proofs.Firsts.{noted_first, noted_head}
+use Rattle.md_queue.proofs.Steps.{goes_then, note_goes, note_ok, note_stops, refused_then, refused_up}
+use Rattle.md_queue.proofs.first.note_first.Goals as goal
+
+pub note-requires-clause-found : goal.note-requires-clause-found
+note-requires-clause-found g c =
+    let t = state c.args.tx.now in
+    subst (λ w. IsFoundThere g.T.Theory.meaning t w c.args.first.head) (sym (c.queue_head-head_word.ensures.place ∙ ap (λ s. address s (queue_head c.args.queue)) c.shape.ensures))
+    c.requires.sees.head_sees.there
+
+pub returns-in_err-note-clause-stop : goal.returns-in_err-note-clause-stop
+returns-in_err-note-clause-stop g c =
+    let M = g.T.Theory.meaning in
+    let t = state c.args.tx.now in
+    let u = state c.note.new.self in
+    let s = c.requires.sees in
+    let stop = c.in_err-note.field-0.0 in
+    let refused : RefusedOtherwise M t u 2 0 stop = refused_up M t u 0 0 2 0 stop
+    (note_stops M t u (s.certificates, s.working.going) c.in_err-note.ensures.on c.queue_head-head_word.result c.args.first.head stop c.in_err-note.ensures.noted) (omega arith) (omega arith) in
+    search rules
+
+pub note_next-requires : goal.note_next-requires
+note_next-requires g c =
+    let M = g.T.Theory.meaning in
+    let t = state c.args.tx.now in
+    let u = state c.note.new.self in
+    let s = c.requires.sees in
+    let first = c.args.first in
+    let on = c.in_ok-note.ensures.on in
+    let noted = note_ok M t u (s.certificates, s.working.going) on c.queue_head-head_word.result first.head c.in_ok-note.ensures.noted in
+    let n = noted_head M g.T.Theory.lawful g.met.T.HasQueues.has_queues t c.args.queue first.head first.next s u on (omega arith) c.queue_head-head_word.result
+    (c.queue_head-head_word.ensures.place ∙ ap (λ s. address s (queue_head c.args.queue)) c.shape.ensures) noted c.in_ok-note.ensures.given in
+    let half = sym (half_is first.head.value) in
+    record {
+      may = record {
+        going = (s.certificates, n.working.going);
+        exists = subst (IsNode (shape_in u)) half n.next_sees.exists;
+        operates = n.working.operates;
+        gave = subst (λ x. Gave u (next_at u x) first.next) half n.next_sees.at.gave;
+        there = subst (λ x. IsFoundThere M u (next_at u x) first.next) half n.next_sees.at.there;
+      };
+    }
+
+pub returns-in_err-note_next-clause-stop : goal.returns-in_err-note_next-clause-stop
+returns-in_err-note_next-clause-stop g c =
+    let M = g.T.Theory.meaning in
+    let t = state c.args.tx.now in
+    let u = state c.note.new.self in
+    let v = state c.note_next.new.tx in
+    let s = c.requires.sees in
+    let first = c.args.first in
+    let on = c.in_ok-note.ensures.on in
+    let stop = c.in_err-note_next.field-0.0 in
+    let refused : RefusedOtherwise M t v 2 0 stop = refused_then M t u v 1 0 0 0 2 0 stop
+    (note_goes M t u (s.certificates, s.working.going) on c.queue_head-head_word.result first.head c.in_ok-note.ensures.noted)
+    (note_stops M u v (s.certificates, on.going s.certificates s.working.going) c.in_err-note_next.ensures.on (next_at u (first.head.value / 2)) first.next stop c.in_err-note_next.ensures.noted)
+    (omega arith) (omega arith) in
+    search rules
+
+pub returns-clause-goes : goal.returns-clause-goes
+returns-clause-goes g c =
+    let M = g.T.Theory.meaning in
+    let t = state c.args.tx.now in
+    let u = state c.note.new.self in
+    let v = state c.note_next.new.tx in
+    let s = c.requires.sees in
+    let first = c.args.first in
+    let on = c.in_ok-note.ensures.on in
+    goes_then M t u v 1 0 0 1 0 0 2 0 0 (note_goes M t u (s.certificates, s.working.going) on c.queue_head-head_word.result first.head c.in_ok-note.ensures.noted)
+    (note_goes M u v (s.certificates, on.going s.certificates s.working.going) c.in_ok-note_next.ensures.on (next_at u (first.head.value / 2)) first.next c.in_ok-note_next.ensures.noted)
+    (omega arith) (omega arith) (omega arith)
+
+pub returns-clause-noted : goal.returns-clause-noted
+returns-clause-noted g c =
+    let M = g.T.Theory.meaning in
+    let t = state c.args.tx.now in
+    let u = state c.note.new.self in
+    let v = state c.note_next.new.tx in
+    let s = c.requires.sees in
+    let first = c.args.first in
+    let on = c.in_ok-note.ensures.on in
+    let noted = note_ok M t u (s.certificates, s.working.going) on c.queue_head-head_word.result first.head c.in_ok-note.ensures.noted in
+    let n = noted_head M g.T.Theory.lawful g.met.T.HasQueues.has_queues t c.args.queue first.head first.next s u on (omega arith) c.queue_head-head_word.result
+    (c.queue_head-head_word.ensures.place ∙ ap (λ s. address s (queue_head c.args.queue)) c.shape.ensures) noted c.in_ok-note.ensures.given in
+    let noted_next = note_ok M u v (s.certificates, n.working.going) c.in_ok-note_next.ensures.on (next_at u (first.head.value / 2)) first.next c.in_ok-note_next.ensures.noted in
+    noted_first M g.T.Theory.lawful g.met.T.HasQueues.has_queues t c.args.queue first.head first.next s u on (omega arith) n v c.in_ok-note_next.ensures.on (omega arith)
+    (subst (λ x. HasNoted u v (next_at u x) first.next) (half_is first.head.value) noted_next)

@@ -1,0 +1,144 @@
+use Rattle.std.proofs.Common.{◌≡◌, ◌/◌, ap, sym, subst, ◌∙◌, arith, rules}
+use Rattle.md_words.specs.Layout.{IsNode, address}
+use Rattle.md_words.specs.Link.{linked_node}
+use Rattle.md_words.specs.Place.{queue_head}
+use Rattle.md_nbtc.specs.declared.seen.Kind.TheVariants.{Critical}
+use Rattle.md_nbtc.specs.Calls.{MayExchange}
+use Rattle.md_nbtc.specs.Going.{IsFoundThere}
+use Rattle.md_nbtc.specs.Known.{Known}
+use Rattle.md_nbtc.specs.Seeing.{Gave, KeepsGiven}
+use Rattle.md_nbtc.specs.State.{shape_in, state}
+use Rattle.md_nbtc.proofs.structures.Exchanging.{HasExchanged}
+use Rattle.md_nbtc.proofs.structures.Noting.{HasNoted}
+use Rattle.md_queue.specs.Nodes.{IsReadable}
+use Rattle.md_queue.specs.Operations.{RefusedOtherwise}
+use Rattle.md_queue.specs.Words.{head_at, next_at}
+use Rattle.md_queue.proofs.Data.{half_is}
+use Rattle.md_queue.proofs.Looking.{node_readable}
+use Rattle.md_queue.proofs.Steps.{exchange_goes, exchange_ok, exchange_stops, goes_then, note_goes, note_ok, note_stops, pass_goes, refused_then, refused_up}
+use Rattle.md_queue.proofs.Takings.{IsTaking, may_answer_taken, may_take, taking_noted, taking_on}
+use Rattle.md_queue.proofs.first.take_first.Goals as goal
+
+pub note_next-requires : goal.note_next-requires
+note_next-requires g c =
+    let M = g.T.Theory.meaning in
+    let t = state c.args.tx.now in
+    let s = c.requires.sees in
+    let first = c.args.first in
+    let half = sym (half_is first.head.value) in
+    record {
+      may = record {
+        going = (s.certificates, s.working.going);
+        exists = subst (IsNode (shape_in t)) half s.next_sees.exists;
+        operates = s.working.operates;
+        gave = subst (λ x. Gave t (next_at t x) first.next) half s.next_sees.at.gave;
+        there = subst (λ x. IsFoundThere M t (next_at t x) first.next) half s.next_sees.at.there;
+      };
+    }
+
+pub returns-in_err-note_next-clause-stop : goal.returns-in_err-note_next-clause-stop
+returns-in_err-note_next-clause-stop g c =
+    let M = g.T.Theory.meaning in
+    let t = state c.args.tx.now in
+    let u = state c.note_next.new.tx in
+    let s = c.requires.sees in
+    let first = c.args.first in
+    let stop = c.in_err-note_next.field-0.0 in
+    let refused : RefusedOtherwise M t u 1 1 stop = refused_up M t u 0 0 1 1 stop
+    (note_stops M t u (s.certificates, s.working.going) c.in_err-note_next.ensures.on (next_at t (first.head.value / 2)) first.next stop c.in_err-note_next.ensures.noted) (omega arith) (omega arith) in
+    search rules
+
+pub value_of-value-requires : goal.value_of-value-requires
+value_of-value-requires g c =
+    let M = g.T.Theory.meaning in
+    let t = state c.args.tx.now in
+    let u = state c.note_next.new.tx in
+    let s = c.requires.sees in
+    let first = c.args.first in
+    let on = c.in_ok-note_next.ensures.on in
+    let half = half_is first.head.value in
+    let noted = note_ok M t u (s.certificates, s.working.going) on (next_at t (first.head.value / 2)) first.next c.in_ok-note_next.ensures.noted in
+    let k = taking_noted M g.T.Theory.lawful g.met.T.HasQueues.has_queues c.args.queue first.head first.next c.requires.some t u s on (omega arith)
+    (subst (λ x. HasNoted t u (next_at t x) first.next) half noted) (subst (λ x. KeepsGiven t u (next_at t x)) half c.in_ok-note_next.ensures.given) in
+    record {
+      may = record {
+        going = (k.certificates, k.working.going);
+        readable = subst (IsReadable M u) (sym (half_is first.next.value))
+            (node_readable M g.T.Theory.lawful g.met.T.HasQueues.has_queues u c.args.queue k.certificates k.changes k.working (linked_node first.next.value) k.named.placed);
+      };
+    }
+
+pub exchange-requires-clause-going : goal.exchange-requires-clause-going
+exchange-requires-clause-going g c =
+    let s = c.requires.sees in
+    (s.certificates, c.value_of-value.ensures.on.going s.certificates (c.in_ok-note_next.ensures.on.going s.certificates s.working.going))
+
+pub exchange-requires-clause-may : goal.exchange-requires-clause-may
+exchange-requires-clause-may g c =
+    let M = g.T.Theory.meaning in
+    let t = state c.args.tx.now in
+    let u = state c.note_next.new.tx in
+    let v = state c.value_of-value.new.tx in
+    let s = c.requires.sees in
+    let first = c.args.first in
+    let on = c.in_ok-note_next.ensures.on in
+    let half = half_is first.head.value in
+    let noted = note_ok M t u (s.certificates, s.working.going) on (next_at t (first.head.value / 2)) first.next c.in_ok-note_next.ensures.noted in
+    let k = taking_noted M g.T.Theory.lawful g.met.T.HasQueues.has_queues c.args.queue first.head first.next c.requires.some t u s on (omega arith)
+    (subst (λ x. HasNoted t u (next_at t x) first.next) half noted) (subst (λ x. KeepsGiven t u (next_at t x)) half c.in_ok-note_next.ensures.given) in
+    let l = taking_on M g.T.Theory.lawful g.met.T.HasQueues.has_queues c.args.queue first.head first.next c.requires.some u v k c.value_of-value.ensures.on c.value_of-value.ensures.same c.value_of-value.ensures.given in
+    subst (λ w. MayExchange M v w first.head first.next.value Critical) (sym (c.queue_head-head_word.ensures.place ∙ ap (λ x. address x (queue_head c.args.queue)) c.shape.ensures))
+    (may_take M g.T.Theory.lawful g.met.T.HasQueues.has_queues c.args.queue first.head first.next c.requires.some v l first.next.value)
+
+pub returns-in_err-exchange-clause-stop : goal.returns-in_err-exchange-clause-stop
+returns-in_err-exchange-clause-stop g c =
+    let M = g.T.Theory.meaning in
+    let t = state c.args.tx.now in
+    let u = state c.note_next.new.tx in
+    let v = state c.value_of-value.new.tx in
+    let x = state c.exchange.new.self in
+    let s = c.requires.sees in
+    let first = c.args.first in
+    let on = c.in_ok-note_next.ensures.on in
+    let going = on.going s.certificates s.working.going in
+    let over = c.value_of-value.ensures.on in
+    let stop = c.in_err-exchange.field-0.0 in
+    let goes = goes_then M t u v 1 0 0 0 0 0 1 0 0
+    (note_goes M t u (s.certificates, s.working.going) on (next_at t (first.head.value / 2)) first.next c.in_ok-note_next.ensures.noted)
+    (pass_goes M u v (s.certificates, going) over c.value_of-value.ensures.same) (omega arith) (omega arith) (omega arith) in
+    let refused : RefusedOtherwise M t x 1 1 stop = refused_then M t v x 1 0 0 0 1 1 stop goes
+    (exchange_stops M v x (s.certificates, over.going s.certificates going) c.in_err-exchange.ensures.on c.queue_head-head_word.result first.head first.next.value Critical stop
+    c.in_err-exchange.ensures.exchanged) (omega arith) (omega arith) in
+    search rules
+
+pub returns-clause-answer : goal.returns-clause-answer
+returns-clause-answer g c =
+    let M = g.T.Theory.meaning in
+    let t = state c.args.tx.now in
+    let u = state c.note_next.new.tx in
+    let v = state c.value_of-value.new.tx in
+    let x = state c.exchange.new.self in
+    let s = c.requires.sees in
+    let first = c.args.first in
+    let on = c.in_ok-note_next.ensures.on in
+    let going = on.going s.certificates s.working.going in
+    let over = c.value_of-value.ensures.on in
+    let last = c.in_ok-exchange.ensures.on in
+    let under = (s.certificates, over.going s.certificates going) in
+    let seen = c.in_ok-exchange.field-0 in
+    let half = half_is first.head.value in
+    let noted = note_ok M t u (s.certificates, s.working.going) on (next_at t (first.head.value / 2)) first.next c.in_ok-note_next.ensures.noted in
+    let k = taking_noted M g.T.Theory.lawful g.met.T.HasQueues.has_queues c.args.queue first.head first.next c.requires.some t u s on (omega arith)
+    (subst (λ x. HasNoted t u (next_at t x) first.next) half noted) (subst (λ x. KeepsGiven t u (next_at t x)) half c.in_ok-note_next.ensures.given) in
+    let l = taking_on M g.T.Theory.lawful g.met.T.HasQueues.has_queues c.args.queue first.head first.next c.requires.some u v k over c.value_of-value.ensures.same c.value_of-value.ensures.given in
+    let place = c.queue_head-head_word.ensures.place ∙ ap (λ x. address x (queue_head c.args.queue)) c.shape.ensures in
+    let ex = exchange_ok M v x under last c.queue_head-head_word.result first.head first.next.value Critical seen c.in_ok-exchange.ensures.exchanged in
+    let goes = goes_then M t u v 1 0 0 0 0 0 1 0 0
+    (note_goes M t u (s.certificates, s.working.going) on (next_at t (first.head.value / 2)) first.next c.in_ok-note_next.ensures.noted)
+    (pass_goes M u v (s.certificates, going) over c.value_of-value.ensures.same) (omega arith) (omega arith) (omega arith) in
+    record {
+      goes = goes_then M t v x 1 0 0 0 1 0 1 1 0 goes (exchange_goes M v x under last c.queue_head-head_word.result first.head first.next.value Critical seen ex) (omega arith) (omega arith) (omega arith);
+      may = may_answer_taken M g.T.Theory.lawful g.met.T.HasQueues.has_queues c.args.queue first.head first.next c.requires.some v l c.value_of-value.result
+          (subst (λ y. Known M v (λ w h. h.words.value_of_node y ≡ c.value_of-value.result)) (half_is first.next.value) c.value_of-value.ensures.known) x last (omega arith) seen
+          (subst (λ w. HasExchanged M v w first.head first.next.value Critical x seen) place ex);
+    }

@@ -1,0 +1,65 @@
+use Rattle.std.proofs.Common.{◌≡◌, ◌≤◌, ◌+◌, length, ap, sym, subst, ◌∙◌, arith, rules}
+use Rattle.md_nbtc.specs.State.{shape_in, state}
+use Rattle.md_queue.specs.Operations.{RefusedOtherwise}
+use Rattle.md_queue.specs.Working.{other_count, own_count}
+use Rattle.md_queue.proofs.Ends.{counts_one, end_fits, goes_moved, node_limit}
+use Rattle.md_queue.proofs.Steps.{goes_up, refused_then}
+use Rattle.md_queue.proofs.last.find_last.Goals as goal
+
+pub loop-init : goal.loop-init
+loop-init g c = record {
+  pass = c.in_ok-end.ensures.pass;
+  goes = goes_up g.T.Theory.meaning (state c.args.tx.now) (state c.load_end.new.tx) 0 0 0 0 (own_count c.in_ok-end.end.tail) 0 c.in_ok-end.ensures.goes (omega arith) (omega arith) (omega arith);
+  sees = c.in_ok-end.ensures.sees;
+}
+
+pub follow-requires : goal.follow-requires
+follow-requires g c = record { sees = (c.loop.counter, c.loop.invariant.sees); some = c.if-end-eq0.false }
+
+pub returns-in_err-end-2-clause-stop : goal.returns-in_err-end-2-clause-stop
+returns-in_err-end-2-clause-stop g c =
+    let M = g.T.Theory.meaning in
+    let s = state c.args.tx.now in
+    let t = state c.loop.tx in
+    let u = state c.follow.new.tx in
+    let tail = c.loop.end.tail in
+    let stop = c.in_err-end-2.field-0.0 in
+    let one = counts_one tail in
+    let refused : RefusedOtherwise M s u 0 1 stop = refused_then M s t u 0 (own_count tail) 0 (other_count tail) 0 1 stop c.loop.invariant.goes c.in_err-end-2.ensures.stop (omega arith) (omega (arith, one)) in
+    search rules
+
+pub loop-preserved : goal.loop-preserved
+loop-preserved g c =
+    let M = g.T.Theory.meaning in
+    let s = state c.args.tx.now in
+    let t = state c.loop.tx in
+    let u = state c.follow.new.tx in
+    let i = c.loop.invariant in
+    let e = c.in_ok-end-2.ensures in
+    record {
+      pass = e.pass ∙ i.pass;
+      goes = goes_moved M s t u (own_count c.loop.end.tail) (other_count c.loop.end.tail) (own_count c.in_ok-end-2.end.tail) i.goes e.goes e.counts;
+      sees = e.sees c.loop.counter i.sees;
+    }
+
+pub returns-then-end-eq0-clause-goes : goal.returns-then-end-eq0-clause-goes
+returns-then-end-eq0-clause-goes g c =
+    let one = counts_one c.loop.end.tail in
+    goes_up g.T.Theory.meaning (state c.args.tx.now) (state c.loop.tx) 0 (own_count c.loop.end.tail) 0 0 1 0 c.loop.invariant.goes (omega arith) (omega (arith, one)) (omega arith)
+
+pub returns-then-end-eq0-clause-sees : goal.returns-then-end-eq0-clause-sees
+returns-then-end-eq0-clause-sees g c = (c.loop.counter, c.loop.invariant.sees)
+
+pub returns-after-loop-clause-goes : goal.returns-after-loop-clause-goes
+returns-after-loop-clause-goes g c =
+    let one = counts_one c.loop.end.tail in
+    goes_up g.T.Theory.meaning (state c.args.tx.now) (state c.loop.tx) 0 (own_count c.loop.end.tail) 0 0 1 0 c.loop.invariant.goes (omega arith) (omega (arith, one)) (omega arith)
+
+pub returns-after-loop-clause-sees : goal.returns-after-loop-clause-sees
+returns-after-loop-clause-sees g c = (c.loop.counter, c.loop.invariant.sees)
+
+pub returns-after-loop-clause-last : goal.returns-after-loop-clause-last
+returns-after-loop-clause-last g c =
+    let few = end_fits g.T.Theory.meaning g.T.Theory.lawful g.met.T.HasQueues.has_queues (state c.loop.tx) c.args.queue c.loop.end.tail c.loop.end.next c.loop.counter c.loop.invariant.sees in
+    let limit = node_limit (shape_in (state c.loop.tx)) in
+    absurd (omega (arith, few, limit))

@@ -1,0 +1,12 @@
+use Rattle.std.proofs.Common.{◌≡◌}
+use Rattle.md_nbtc.specs.State.{state}
+use Rattle.md_queue.specs.Operations.{GoesBy}
+use Rattle.md_queue.specs.Working.{SeesEnd, own_count}
+use Rattle.md_queue.proofs.last.find_last.Given as goal
+
+abbrev pub invariant-loop : goal.invariant-loop
+invariant-loop g l = record {
+  pass : l.tx.pass.ghost_name ≡ l.fn.tx.pass.ghost_name;
+  goes : GoesBy g.T.Theory.meaning (state l.fn.tx) (state l.tx) 0 (own_count l.end.tail) 0;
+  sees : SeesEnd g.T.Theory.meaning (state l.tx) l.queue l.end.tail l.end.next l.counter;
+}

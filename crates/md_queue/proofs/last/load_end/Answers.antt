@@ -1,0 +1,84 @@
+use Rattle.std.proofs.Common.{◌≡◌, ◌/◌, [], ap, sym, subst, ◌∙◌, arith, rules}
+use Rattle.md_words.specs.Layout.{IsNode, address}
+use Rattle.md_words.specs.Link.{linked_node}
+use Rattle.md_words.specs.Place.{queue_tail}
+use Rattle.md_words.specs.PlaceAt.{IsCounted}
+use Rattle.md_history.specs.declared.stops.Stop.{Stop}
+use Rattle.md_nbtc.specs.Seeing.{KeepsGiven, Looks}
+use Rattle.md_nbtc.specs.State.{shape_in, state}
+use Rattle.md_queue.specs.Operations.{RefusedOtherwise}
+use Rattle.md_queue.specs.Words.{next_at}
+use Rattle.md_queue.proofs.Data.{half_is}
+use Rattle.md_queue.proofs.Ends.{end_seen, tail_seen}
+use Rattle.md_queue.proofs.Firsts.{begun_working}
+use Rattle.md_queue.proofs.Looking.{tail_counted, tail_named}
+use Rattle.md_queue.proofs.Steps.{goes_then, look_goes, look_ok, look_stops, refused_then}
+use Rattle.md_queue.proofs.last.load_end.Goals as goal
+
+pub load-requires-clause-counted : goal.load-requires-clause-counted
+load-requires-clause-counted g c =
+    let t = state c.args.tx.now in
+    subst (IsCounted (shape_in t)) (sym (c.queue_tail-tail_word.ensures.place ∙ ap (λ s. address s (queue_tail c.args.queue)) c.shape.ensures))
+    (tail_counted g.T.Theory.meaning g.T.Theory.lawful g.met.T.HasQueues.has_queues t c.args.queue c.requires.begun.going.0 []
+    (begun_working g.T.Theory.meaning t c.args.queue c.requires.begun))
+
+pub load_next-requires : goal.load_next-requires
+load_next-requires g c =
+    let M = g.T.Theory.meaning in
+    let t = state c.args.tx.now in
+    let u = state c.load.new.self in
+    let on = c.in_ok-tail.ensures.on in
+    let is = look_ok M t u c.requires.begun.going on c.queue_tail-tail_word.result c.in_ok-tail.tail c.in_ok-tail.ensures.looked in
+    let s = tail_seen M g.T.Theory.lawful g.met.T.HasQueues.has_queues t u c.args.queue on is.0 c.requires.begun c.queue_tail-tail_word.result
+    (c.queue_tail-tail_word.ensures.place ∙ ap (λ s. address s (queue_tail c.args.queue)) c.shape.ensures) c.in_ok-tail.tail is.1 in
+    record {
+      may = record {
+        going = (s.certificates, s.working.going);
+        exists = subst (IsNode (shape_in u)) (sym (half_is c.in_ok-tail.tail.value))
+            (tail_named M g.T.Theory.lawful g.met.T.HasQueues.has_queues u c.args.queue s.certificates s.changes s.working c.in_ok-tail.tail s.tail_sees).exists;
+      };
+    }
+
+pub returns-in_err-next-clause-stop : goal.returns-in_err-next-clause-stop
+returns-in_err-next-clause-stop g c =
+    let M = g.T.Theory.meaning in
+    let t = state c.args.tx.now in
+    let u = state c.load.new.self in
+    let v = state c.load_next.new.tx in
+    let under = c.requires.begun.going in
+    let on = c.in_ok-tail.ensures.on in
+    let stop = c.in_err-next.field-0.0 in
+    let refused : RefusedOtherwise M t v 0 0 stop = refused_then M t u v 0 0 0 0 0 0 stop
+    (look_goes M t u under on c.queue_tail-tail_word.result c.in_ok-tail.tail c.in_ok-tail.ensures.looked)
+    (look_stops M u v (under.0, on.going under.0 under.1) c.in_err-next.ensures.on (next_at u (c.in_ok-tail.tail.value / 2)) stop c.in_err-next.ensures.looked) (omega arith) (omega arith) in
+    search rules
+
+pub returns-clause-goes : goal.returns-clause-goes
+returns-clause-goes g c =
+    let M = g.T.Theory.meaning in
+    let t = state c.args.tx.now in
+    let u = state c.load.new.self in
+    let v = state c.load_next.new.tx in
+    let under = c.requires.begun.going in
+    let on = c.in_ok-tail.ensures.on in
+    goes_then M t u v 0 0 0 0 0 0 0 0 0 (look_goes M t u under on c.queue_tail-tail_word.result c.in_ok-tail.tail c.in_ok-tail.ensures.looked)
+    (look_goes M u v (under.0, on.going under.0 under.1) c.in_ok-next.ensures.on (next_at u (c.in_ok-tail.tail.value / 2)) c.in_ok-next.next c.in_ok-next.ensures.looked)
+    (omega arith) (omega arith) (omega arith)
+
+pub returns-clause-sees : goal.returns-clause-sees
+returns-clause-sees g c =
+    let M = g.T.Theory.meaning in
+    let t = state c.args.tx.now in
+    let u = state c.load.new.self in
+    let v = state c.load_next.new.tx in
+    let tail = c.in_ok-tail.tail in
+    let next = c.in_ok-next.next in
+    let on = c.in_ok-tail.ensures.on in
+    let under = c.requires.begun.going in
+    let is = look_ok M t u under on c.queue_tail-tail_word.result tail c.in_ok-tail.ensures.looked in
+    let s = tail_seen M g.T.Theory.lawful g.met.T.HasQueues.has_queues t u c.args.queue on is.0 c.requires.begun c.queue_tail-tail_word.result
+    (c.queue_tail-tail_word.ensures.place ∙ ap (λ s. address s (queue_tail c.args.queue)) c.shape.ensures) tail is.1 in
+    let next_is = look_ok M u v (under.0, on.going under.0 under.1) c.in_ok-next.ensures.on (next_at u (tail.value / 2)) next c.in_ok-next.ensures.looked in
+    end_seen M g.T.Theory.lawful g.met.T.HasQueues.has_queues u v c.args.queue c.in_ok-next.ensures.on next_is.0 tail next 0 s
+    (subst (λ n. KeepsGiven u v (next_at u n)) (half_is tail.value) c.in_ok-next.ensures.given)
+    (subst (λ n. Looks M u v (next_at u n) next) (half_is tail.value) next_is.1)

@@ -1,0 +1,15 @@
+use Rattle.std.proofs.Common.{◌∙◌, ap}
+use Rattle.md_words.specs.Layout.{address}
+use Rattle.md_words.specs.Place.{node_key}
+use Rattle.md_nbtc.specs.State.{state}
+use Rattle.md_queue.proofs.Data.{key_data, key_known}
+use Rattle.md_queue.proofs.words.rank_of.Goals as goal
+
+pub field_of-requires-clause-data : goal.field_of-requires-clause-data
+field_of-requires-clause-data g c = key_data g.T.Theory.meaning (state c.args.tx.now) c.args.node c.requires.may.readable c.node_key-key_word.result
+    (c.node_key-key_word.ensures.place ∙ ap (λ s. address s (node_key c.args.node)) c.shape.ensures)
+
+pub returns-clause-known : goal.returns-clause-known
+returns-clause-known g c = key_known g.T.Theory.meaning (state c.args.tx.now) c.args.node c.requires.may.readable c.node_key-key_word.result
+    (state c.field_of.new.self) c.field_of.result c.field_of.ensures.known
+    (c.node_key-key_word.ensures.place ∙ ap (λ s. address s (node_key c.args.node)) c.shape.ensures)

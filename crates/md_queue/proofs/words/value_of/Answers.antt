@@ -1,0 +1,15 @@
+use Rattle.std.proofs.Common.{◌∙◌, ap}
+use Rattle.md_words.specs.Layout.{address}
+use Rattle.md_words.specs.Place.{node_value}
+use Rattle.md_nbtc.specs.State.{state}
+use Rattle.md_queue.proofs.Data.{value_data, value_known}
+use Rattle.md_queue.proofs.words.value_of.Goals as goal
+
+pub field_of-requires-clause-data : goal.field_of-requires-clause-data
+field_of-requires-clause-data g c = value_data g.T.Theory.meaning (state c.args.tx.now) c.args.node c.requires.may.readable c.node_value-value_word.result
+    (c.node_value-value_word.ensures.place ∙ ap (λ s. address s (node_value c.args.node)) c.shape.ensures)
+
+pub returns-clause-known : goal.returns-clause-known
+returns-clause-known g c = value_known g.T.Theory.meaning (state c.args.tx.now) c.args.node c.requires.may.readable c.node_value-value_word.result
+    (state c.field_of.new.self) c.field_of.result c.field_of.ensures.known
+    (c.node_value-value_word.ensures.place ∙ ap (λ s. address s (node_value c.args.node)) c.shape.ensures)

@@ -1,0 +1,144 @@
+//! The first value of a queue.
+
+ghost use Rattle.std.specs.Prelude.{◌≡◌, ◌≢◌, IfOk, IfErr, Some};
+ghost use Rattle.md_history.specs.declared.acts.Op.TheVariants.{Dequeue, Front};
+ghost use Rattle.md_history.specs.declared.acts.Reply.TheVariants.{Value};
+ghost use Rattle.md_nbtc.specs.State.{state};
+ghost use Rattle.md_queue.specs.Operations.{Answered, GoesBy, IsBegun, RefusedOtherwise};
+ghost use Rattle.md_queue.specs.Working.{NotedFirst, SeesFirst};
+
+use crate::words::{load_next, move_tail, note_next, value_of};
+use md_history::Stop;
+use md_nbtc::{Kind, Seen, Txn};
+use md_queue_law::HasQueues;
+
+// What was seen in the head, and in the next word of its node.
+#[derive(Clone, Copy)]
+struct First {
+    head: Seen,
+    next: Seen,
+}
+
+fn load_first<'a, T: HasQueues>(tx: &mut Txn<'a, T>, queue: u32) -> Result<First, Stop>
+    requires begun { IsBegun T.meaning (state tx.old) queue }
+    ensures pass { tx.new.pass.ghost_name ≡ tx.old.pass.ghost_name }
+    ensures goes { IfOk result (λ first. GoesBy T.meaning (state tx.old) (state tx.new) 0 0 0) }
+    ensures sees { IfOk result (λ first. SeesFirst T.meaning (state tx.new) queue first.head
+        first.next) }
+    ensures stop { IfErr result (RefusedOtherwise T.meaning (state tx.old) (state tx.new) 0 0) }
+{
+    let head_word = tx.shape().queue_head(queue);
+    let head = tx.load(head_word)?;
+    let next = load_next(tx, head.value / 2)?;
+    Ok(First { head, next })
+}
+
+// Records both.
+fn note_first<'a, T: HasQueues>(
+    tx: &mut Txn<'a, T>,
+    queue: u32,
+    first: First,
+) -> Result<(), Stop>
+    requires sees { SeesFirst T.meaning (state tx.old) queue first.head first.next }
+    ensures pass { tx.new.pass.ghost_name ≡ tx.old.pass.ghost_name }
+    ensures goes { IfOk result (λ done. GoesBy T.meaning (state tx.old) (state tx.new) 2 0 0) }
+    ensures noted { IfOk result (λ done. NotedFirst T.meaning (state tx.new) queue first.head
+        first.next) }
+    ensures stop { IfErr result (RefusedOtherwise T.meaning (state tx.old) (state tx.new) 2 0) }
+{
+    let head_word = tx.shape().queue_head(queue);
+    tx.note(head_word, first.head)?;
+    note_next(tx, first.head.value / 2, first.next)?;
+    Ok(())
+}
+
+/// The first value of a queue of the field, as an operation of a transaction that was just begun.
+/// The caller ends the operation with the answer as the reply of a `Front`.
+///
+/// At most two more words are recorded: the head, and the next word of its node. `Err` is the
+/// refusal of the first call that was refused; the transaction keeps it, and it is no want of nodes.
+///
+/// The original has no such operation: it is its dequeue without the change.
+pub fn front<'a, T: HasQueues>(tx: &mut Txn<'a, T>, queue: u32) -> Result<Option<u64>, Stop>
+    requires begun { IsBegun T.meaning (state tx.old) queue }
+    ensures pass { tx.new.pass.ghost_name ≡ tx.old.pass.ghost_name }
+    ensures answer { IfOk result (λ value. Answered T.meaning (state tx.old) (state tx.new)
+        (Front queue) (Value value) 2 0 0) }
+    ensures stop { IfErr result (RefusedOtherwise T.meaning (state tx.old) (state tx.new) 2 0) }
+{
+    let first = load_first(tx, queue)?;
+    note_first(tx, queue, first)?;
+    if first.next.value == 0 {
+        return Ok(None);
+    }
+    Ok(Some(value_of(tx, first.next.value / 2)))
+}
+
+// Moves the tail from the head's node to the next one, if it is still there.
+fn follow_tail<'a, T: HasQueues>(
+    tx: &mut Txn<'a, T>,
+    queue: u32,
+    first: First,
+) -> Result<(), Stop>
+    requires sees { SeesFirst T.meaning (state tx.old) queue first.head first.next }
+    requires some { first.next.value ≢ 0 }
+    ensures pass { tx.new.pass.ghost_name ≡ tx.old.pass.ghost_name }
+    ensures goes { IfOk result (λ done. GoesBy T.meaning (state tx.old) (state tx.new) 0 1 0) }
+    ensures sees { IfOk result (λ done. SeesFirst T.meaning (state tx.new) queue first.head
+        first.next) }
+    ensures stop { IfErr result (RefusedOtherwise T.meaning (state tx.old) (state tx.new) 0 1) }
+{
+    let tail_word = tx.shape().queue_tail(queue);
+    let tail = tx.load(tail_word)?;
+    if tail.value == first.head.value {
+        move_tail(tx, queue, tail, first.next)?;
+    }
+    Ok(())
+}
+
+// Moves the head to the next node, and returns its value.
+fn take_first<'a, T: HasQueues>(
+    tx: &mut Txn<'a, T>,
+    queue: u32,
+    first: First,
+) -> Result<u64, Stop>
+    requires sees { SeesFirst T.meaning (state tx.old) queue first.head first.next }
+    requires some { first.next.value ≢ 0 }
+    ensures pass { tx.new.pass.ghost_name ≡ tx.old.pass.ghost_name }
+    ensures answer { IfOk result (λ value. Answered T.meaning (state tx.old) (state tx.new)
+        (Dequeue queue) (Value (Some value)) 1 1 0) }
+    ensures stop { IfErr result (RefusedOtherwise T.meaning (state tx.old) (state tx.new) 1 1) }
+{
+    note_next(tx, first.head.value / 2, first.next)?;
+    let value = value_of(tx, first.next.value / 2);
+    let head_word = tx.shape().queue_head(queue);
+    tx.exchange(head_word, first.head, first.next.value, Kind::Critical)?;
+    Ok(value)
+}
+
+/// Takes the first value of a queue of the field, as an operation of a transaction that was just
+/// begun. The caller ends the operation with the answer as the reply of a `Dequeue`.
+///
+/// At most two more words are recorded and two written. `Err` is the refusal of the first call that
+/// was refused; the transaction keeps it, and it is no want of nodes.
+///
+/// After Michael and Scott (1996), with two differences. It doesn't look at the head again after
+/// it read the next word: both words are recorded or changed, and the transaction commits only if
+/// they still stand. And the node that held the dummy isn't freed: it stays taken until the field is
+/// renewed.
+pub fn dequeue<'a, T: HasQueues>(tx: &mut Txn<'a, T>, queue: u32) -> Result<Option<u64>, Stop>
+    requires begun { IsBegun T.meaning (state tx.old) queue }
+    ensures pass { tx.new.pass.ghost_name ≡ tx.old.pass.ghost_name }
+    ensures answer { IfOk result (λ value. Answered T.meaning (state tx.old) (state tx.new)
+        (Dequeue queue) (Value value) 2 2 0) }
+    ensures stop { IfErr result (RefusedOtherwise T.meaning (state tx.old) (state tx.new) 2 2) }
+{
+    let first = load_first(tx, queue)?;
+    if first.next.value == 0 {
+        note_first(tx, queue, first)?;
+        return Ok(None);
+    }
+    follow_tail(tx, queue, first)?;
+    let value = take_first(tx, queue, first)?;
+    Ok(Some(value))
+}

@@ -1,0 +1,99 @@
+//! The words of a queue: its tail, and those of its nodes.
+
+ghost use Rattle.std.specs.Prelude.{◌≡◌, ℕ, IfOk};
+ghost use Rattle.md_nbtc.specs.Calls.{AfterStop, Exchanges, GoesOn, Looked, Notes};
+ghost use Rattle.md_nbtc.specs.Calls.{exchange_case, note_case};
+ghost use Rattle.md_nbtc.specs.Known.{Known};
+ghost use Rattle.md_nbtc.specs.Seeing.{Gave, KeepsGiven};
+ghost use Rattle.md_nbtc.specs.State.{state};
+ghost use Rattle.md_queue.specs.Nodes.{MayLook, MayMove, MayNote, MayRead};
+ghost use Rattle.md_queue.specs.Words.{move_kind, next_at, tail_at};
+
+use md_history::Stop;
+use md_machine::Theory;
+use md_nbtc::{Kind, Seen, Txn};
+
+// Looks at the next word of a node.
+pub(crate) fn load_next<'a, T: Theory>(tx: &mut Txn<'a, T>, node: u32) -> Result<Seen, Stop>
+    requires may { MayLook T.meaning (state tx.old) node }
+    ensures pass { tx.new.pass.ghost_name ≡ tx.old.pass.ghost_name }
+    ensures on { GoesOn T.meaning (state tx.old) (state tx.new) }
+    ensures looked { AfterStop (state tx.old).stop (state tx.old) (state tx.new) result
+        (Looked T.meaning (state tx.old) (state tx.new) (next_at (state tx.old) node) result) }
+    ensures given { KeepsGiven (state tx.old) (state tx.new) (next_at (state tx.old) node) }
+{
+    let next_word = tx.shape().node_next(node);
+    tx.load(next_word)
+}
+
+// Records what was seen in the next word of a node.
+pub(crate) fn note_next<'a, T: Theory>(
+    tx: &mut Txn<'a, T>,
+    node: u32,
+    next: Seen,
+) -> Result<(), Stop>
+    requires may { MayNote T.meaning (state tx.old) node next }
+    ensures pass { tx.new.pass.ghost_name ≡ tx.old.pass.ghost_name }
+    ensures on { GoesOn T.meaning (state tx.old) (state tx.new) }
+    ensures noted { AfterStop (state tx.old).stop (state tx.old) (state tx.new) result
+        (Notes (note_case (state tx.old) (next_at (state tx.old) node) next) (state tx.old)
+        (state tx.new) (next_at (state tx.old) node) next result) }
+    ensures given { KeepsGiven (state tx.old) (state tx.new) (next_at (state tx.old) node) }
+    ensures gave { Gave (state tx.new) (next_at (state tx.old) node) next }
+{
+    let next_word = tx.shape().node_next(node);
+    tx.note(next_word, next)
+}
+
+// The value of a node.
+pub(crate) fn value_of<'a, T: Theory>(tx: &mut Txn<'a, T>, node: u32) -> u64
+    requires may { MayRead T.meaning (state tx.old) node }
+    ensures pass { tx.new.pass.ghost_name ≡ tx.old.pass.ghost_name }
+    ensures on { GoesOn T.meaning (state tx.old) (state tx.new) }
+    ensures same { state tx.new ≡ record (state tx.old) { pass = (state tx.new).pass } }
+    ensures known { Known T.meaning (state tx.new) (λ u h. h.words.value_of_node node ≡ result) }
+    ensures given { (other : ℕ) → KeepsGiven (state tx.old) (state tx.new) other }
+{
+    let value_word = tx.shape().node_value(node);
+    tx.field_of(value_word)
+}
+
+// The rank of a node.
+pub(crate) fn rank_of<'a, T: Theory>(tx: &mut Txn<'a, T>, node: u32) -> u64
+    requires may { MayRead T.meaning (state tx.old) node }
+    ensures pass { tx.new.pass.ghost_name ≡ tx.old.pass.ghost_name }
+    ensures on { GoesOn T.meaning (state tx.old) (state tx.new) }
+    ensures same { state tx.new ≡ record (state tx.old) { pass = (state tx.new).pass } }
+    ensures known { Known T.meaning (state tx.new) (λ u h. h.words.key_of node ≡ result) }
+    ensures given { (other : ℕ) → KeepsGiven (state tx.old) (state tx.new) other }
+{
+    let key_word = tx.shape().node_key(node);
+    tx.field_of(key_word)
+}
+
+// Moves the tail from what was seen there to what the next word of its node names. The move is a
+// part of the transaction if that next word is its own: then it mustn't stand before the commit.
+pub(crate) fn move_tail<'a, T: Theory>(
+    tx: &mut Txn<'a, T>,
+    queue: u32,
+    tail: Seen,
+    next: Seen,
+) -> Result<Seen, Stop>
+    requires may { MayMove T.meaning (state tx.old) queue tail next }
+    ensures pass { tx.new.pass.ghost_name ≡ tx.old.pass.ghost_name }
+    ensures on { GoesOn T.meaning (state tx.old) (state tx.new) }
+    ensures exchanged { AfterStop (state tx.old).stop (state tx.old) (state tx.new) result
+        (Exchanges (exchange_case (state tx.old) (tail_at (state tx.old) queue) tail
+        (move_kind next)) T.meaning (state tx.old) (state tx.new) (tail_at (state tx.old) queue)
+        tail next.value result) }
+    ensures given { KeepsGiven (state tx.old) (state tx.new) (tail_at (state tx.old) queue) }
+    ensures gave { IfOk result (λ seen. Gave (state tx.new) (tail_at (state tx.old) queue) seen) }
+{
+    let tail_word = tx.shape().queue_tail(queue);
+    let kind = if next.own {
+        Kind::Critical
+    } else {
+        Kind::Plain
+    };
+    tx.exchange(tail_word, tail, next.value, kind)
+}

@@ -1,0 +1,48 @@
+-- What a closed field of a store holds.
+use Rattle.std.proofs.Common.{◌≡◌, ℕ, List, [], Result, Ok, Err, IfOk, length, sym, ap, ◌∙◌, subst}
+use Rattle.std.specs.List.{range_with_len}
+use Rattle.std.proofs.lemmas.List.{length-map}
+use Rattle.md_words.specs.declared.shape.Shape.{Shape}
+use Rattle.md_history.specs.Engine.{SettlesFrom}
+use Rattle.md_history.specs.Front.{replay_of}
+use Rattle.md_history.specs.State.{HaveSameNumbers}
+use Rattle.md_machine.specs.Event.{opened}
+use Rattle.md_machine.specs.LogicalHeap.{LogicalWords}
+use Rattle.md_rule.specs.Closing.{LeavesReplay}
+use Rattle.md_rule.specs.Views.{FieldView, PassState}
+use Rattle.md_store_law.specs.Compacted.{contents_of}
+use Rattle.md_hash_law.specs.HashTable.{pairs_of_map}
+use Rattle.md_list_law.specs.Walk.{map_of_pairs}
+use Rattle.md_queue_law.specs.QueueValues.{queue_values}
+use Rattle.md_store_law.specs.Store.{state_of_store, store}
+use Rattle.md_store_law.proofs.EvenFields.{even_fields_are_stores}
+use Rattle.md_store.specs.Ending.{Leaves}
+use Rattle.md_store.specs.Store.{front_in, start_of}
+
+-- a field that was closed after a settling
+pub leaves_contents : (f : FieldView) (before settled last : PassState) (words : List ℕ) → SettlesFrom (start_of f) (front_in before) (front_in settled)
+    → LeavesReplay store f.origin settled.view words → last ≡ settled → Leaves f before words last
+leaves_contents f before settled last words settles left same =
+    let m = opened (record { shape = f.origin.shape; words = words; placed = [] }) in
+    let even = even_fields_are_stores m [] left.placed (record { field = left.field; even = left.even }) left.valid in
+    subst (Leaves f before words) (sym same) (record {
+      settles = settles;
+      store = even.0;
+      contents = even.1 ∙ left.state;
+    })
+
+-- so it is of a call that may be refused
+pub ended_leaves : {A E : Type 0} (words : A → List ℕ) (front : A → PassState) (f : FieldView) (before settled : PassState) → SettlesFrom (start_of f) (front_in before) (front_in settled)
+    → (result : Result A E) → IfOk result (λ c. LeavesReplay store f.origin settled.view (words c)) → IfOk result (λ c. front c ≡ settled)
+    → IfOk result (λ c. Leaves f before (words c) (front c))
+ended_leaves words front f before settled s (Ok c) left same = leaves_contents f before settled (front c) (words c) s left same
+ended_leaves words front f before settled s (Err e) left same = tt
+
+-- two states of fields of one shape have as many maps and queues
+pub same_numbers : (w u : LogicalWords) → w.shape ≡ u.shape → HaveSameNumbers (state_of_store w) (state_of_store u)
+same_numbers w u same = record {
+  maps = length-map (range_with_len 0 w.shape.maps) (λ map. map_of_pairs (pairs_of_map w map)) ∙ ap (λ (s : Shape). length (range_with_len 0 s.maps)) same
+      ∙ sym (length-map (range_with_len 0 u.shape.maps) (λ map. map_of_pairs (pairs_of_map u map)));
+  queues = length-map (range_with_len 0 w.shape.queues) (queue_values w) ∙ ap (λ (s : Shape). length (range_with_len 0 s.queues)) same
+      ∙ sym (length-map (range_with_len 0 u.shape.queues) (queue_values u));
+}

@@ -1,0 +1,13 @@
+pub mod Laws
+pub mod Splitting
+pub mod Opening
+pub mod Joining
+pub mod Counting
+pub mod Joined
+pub mod Settled
+pub mod SettledLanes
+pub mod Closing
+pub mod Settlement
+pub mod Closed
+pub mod Rooms
+pub mod Renewing

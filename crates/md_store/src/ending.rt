@@ -1,0 +1,73 @@
+//! The end of a field of a store: what it contains, as contents or as a new field.
+
+ghost use Rattle.std.specs.Prelude.{◌≡◌, IfOk};
+ghost use Rattle.md_history.specs.Engine.{HasRoom, SettlesFrom};
+ghost use Rattle.md_history.specs.Front.{replay_of};
+ghost use Rattle.md_history.specs.State.{HaveSameNumbers};
+ghost use Rattle.md_store.specs.Ending.{Leaves, Renews};
+ghost use Rattle.md_store.specs.Store.{IsPassOf, all_lanes, front_in, room_of, start_of};
+
+use crate::settling::settle;
+use md_history::{Contents, Front};
+use md_rule::{Closed, Field, Pass};
+use md_store_law::{StoreTheory, compact, read_off};
+use std::alloc::{AllocError, Global};
+
+// Settles what was left open, and ends the field.
+fn ended(
+    field: Field<StoreTheory>,
+    alloc: Global,
+    mut pass: Pass<StoreTheory>,
+) -> Result<Closed<StoreTheory>, AllocError>
+    requires of { IsPassOf field pass }
+    requires all { (front_in pass).lanes ≡ all_lanes field.origin.shape }
+    ensures leaves { IfOk result (λ c. Leaves field pass c.words.items c.front) }
+{
+    settle(&field, &mut pass);
+    field.close(alloc, pass)
+}
+
+// Ends the field, and gives its contents.
+pub(crate) fn contents(
+    field: Field<StoreTheory>,
+    alloc: Global,
+    pass: Pass<StoreTheory>,
+) -> Result<(Contents, Front<Pass<StoreTheory>>), AllocError>
+    requires of { IsPassOf field pass }
+    requires all { (front_in pass).lanes ≡ all_lanes field.origin.shape }
+    ensures settled { IfOk result (λ r. SettlesFrom (start_of field) (front_in pass) (front_in r.1)) }
+    ensures contents { IfOk result (λ r. r.0 ≡ replay_of (start_of field) (front_in r.1)) }
+    ensures numbers { IfOk result (λ r. HaveSameNumbers r.0 (start_of field)) }
+{
+    let shape = *field.shape();
+    let Closed { words, front } = ended(field, alloc, pass)?;
+    let contents = read_off(alloc, &shape, &words)?;
+    Ok((contents, front))
+}
+
+// Ends the field, and opens one on its contents, of the same shape but for its base nodes: it has
+// as many as the contents need.
+pub(crate) fn renewed(
+    field: Field<StoreTheory>,
+    alloc: Global,
+    pass: Pass<StoreTheory>,
+) -> Result<
+    (
+        Field<StoreTheory>,
+        Pass<StoreTheory>,
+        Front<Pass<StoreTheory>>,
+    ),
+    AllocError,
+>
+    requires of { IsPassOf field pass }
+    requires all { (front_in pass).lanes ≡ all_lanes field.origin.shape }
+    requires room { HasRoom (start_of field) (room_of field.origin.shape) (front_in pass) }
+    ensures settled { IfOk result (λ r. SettlesFrom (start_of field) (front_in pass) (front_in r.2)) }
+    ensures renews { IfOk result (λ r. Renews field r.0 r.1 (replay_of (start_of field) (front_in r.2))) }
+{
+    let shape = *field.shape();
+    let Closed { words, front } = ended(field, alloc, pass)?;
+    let (fresh, row) = compact(alloc, &shape, words)?;
+    let (renewed, first) = Field::open(alloc, fresh, row)?;
+    Ok((renewed, first, front))
+}

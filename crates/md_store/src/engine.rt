@@ -1,0 +1,109 @@
+//! What a store does as an engine, beside attempts. Each call has the clauses of `Engine`.
+
+ghost use Rattle.std.specs.Prelude.{◌≡◌, ◌+◌, ◌↔◌, IfNone, IfOk, IfSome, IsNone, length};
+ghost use Rattle.std.specs.Prelude.{option_map, unwrap_or};
+ghost use Rattle.md_history.specs.Engine.{HasRoom, Joins, SettlesFrom, Splits};
+ghost use Rattle.md_history.specs.Front.{replay_of};
+ghost use Rattle.md_history.specs.State.{HaveSameNumbers};
+ghost use Rattle.md_rule.specs.Closing.{MayClose};
+ghost use Rattle.md_store_law.specs.Store.{store};
+ghost use Rattle.md_store.specs.Ending.{Renews};
+ghost use Rattle.md_store.specs.Store.{IsPassOf, all_lanes, begun_by, front_in, room_of, start_of};
+
+use crate::store::Store;
+use crate::{ending, moves, settling};
+use md_history::{Contents, Front};
+use md_rule::Pass;
+use md_store_law::StoreTheory;
+use std::alloc::AllocError;
+
+impl Store {
+    /// Gives the last half of the lanes, rounded down, to a new pass, which has seen what the old
+    /// one has. `None` exactly if the pass holds one lane. It takes no memory.
+    pub fn split(&self, pass: &mut Pass<StoreTheory>) -> Option<Pass<StoreTheory>>
+        requires { IsPassOf self.now pass.old }
+        ensures none { IsNone result ↔ (length (front_in pass.old).lanes ≡ 1) }
+        ensures same { IfNone result (front_in pass.new ≡ front_in pass.old) }
+        ensures split { IfSome result (λ other.
+            Splits (front_in pass.old) (front_in pass.new) (front_in other)) }
+        ensures begun { begun_by pass.old
+            ≡ begun_by pass.new + unwrap_or (option_map begun_by result) 0 }
+        ensures of { IsPassOf self.now pass.new }
+        ensures of_other { IfSome result (λ other. IsPassOf self.now other) }
+    {
+        moves::split(&self.field, pass)
+    }
+
+    /// Takes the lanes of another pass of the store, and what it has seen. It takes no memory.
+    pub fn join(&self, pass: &mut Pass<StoreTheory>, other: Pass<StoreTheory>)
+        requires of { IsPassOf self.now pass.old }
+        requires of_other { IsPassOf self.now other }
+        ensures joined { Joins (front_in pass.old) (front_in other) (front_in pass.new) }
+        ensures begun { begun_by pass.new ≡ begun_by pass.old + begun_by other }
+        ensures of { IsPassOf self.now pass.new }
+    {
+        moves::join(&self.field, pass, other);
+    }
+
+    /// Decides whatever was left open, and takes it out of the words: then every fate is known, and
+    /// every count is even. The pass holds all lanes. It takes no memory.
+    ///
+    /// One step, and one more for each lane whose last transaction was ended. Any other lane that
+    /// has begun an attempt takes at most `3r + 5`, `r` being the reads of its last transaction,
+    /// and four for each word that it wrote.
+    pub fn settle(&self, pass: &mut Pass<StoreTheory>)
+        requires of { IsPassOf self.now pass.old }
+        requires all { (front_in pass.old).lanes ≡ all_lanes self.now.origin.shape }
+        ensures of { IsPassOf self.now pass.new }
+        ensures settles { SettlesFrom (start_of self.now) (front_in pass.old) (front_in pass.new) }
+        ensures may { MayClose store self.now.origin pass.new.view }
+    {
+        settling::settle(&self.field, pass);
+    }
+
+    /// Settles the store and ends it. Returns its contents, and the front of its last pass with
+    /// every fate decided. The pass holds all lanes. `AllocError` if memory runs out; then the
+    /// store has ended, and its contents are lost.
+    pub fn close(
+        self,
+        pass: Pass<StoreTheory>,
+    ) -> Result<(Contents, Front<Pass<StoreTheory>>), AllocError>
+        requires of { IsPassOf self pass }
+        requires all { (front_in pass).lanes ≡ all_lanes self.origin.shape }
+        ensures settled { IfOk result (λ r.
+            SettlesFrom (start_of self) (front_in pass) (front_in r.1)) }
+        ensures contents { IfOk result (λ r. r.0 ≡ replay_of (start_of self) (front_in r.1)) }
+        ensures numbers { IfOk result (λ r. HaveSameNumbers r.0 (start_of self)) }
+    {
+        let Store { field, alloc } = self;
+        ending::contents(field, alloc, pass)
+    }
+
+    /// Settles the store, ends it, and opens one on its contents, with all nodes and attempts
+    /// again. Its base nodes are those that the contents need. Returns the front of the old pass
+    /// with every fate decided, too. `AllocError` if memory runs out; then the store has ended, and
+    /// its contents are lost.
+    pub fn renew(
+        self,
+        pass: Pass<StoreTheory>,
+    ) -> Result<(Store, Pass<StoreTheory>, Front<Pass<StoreTheory>>), AllocError>
+        requires of { IsPassOf self pass }
+        requires all { (front_in pass).lanes ≡ all_lanes self.origin.shape }
+        requires room { HasRoom (start_of self) (room_of self.origin.shape) (front_in pass) }
+        ensures settled { IfOk result (λ r.
+            SettlesFrom (start_of self) (front_in pass) (front_in r.2)) }
+        ensures renews { IfOk result (λ r.
+            Renews self r.0 r.1 (replay_of (start_of self) (front_in r.2))) }
+    {
+        let Store { field, alloc } = self;
+        let (renewed, first, front) = ending::renewed(field, alloc, pass)?;
+        Ok((
+            Store {
+                field: renewed,
+                alloc,
+            },
+            first,
+            front,
+        ))
+    }
+}
