@@ -4,9 +4,11 @@
 
 pub use store::{OpenFault, Store};
 
+mod broken;
 mod ending;
 mod engine;
 mod moves;
+mod on_maps;
 mod settling;
 mod store;
 #[cfg(test)]
