@@ -9,7 +9,7 @@ use Rattle.md_machine.specs.declared.certificate.NewNode.{NewNode}
 use Rattle.md_machine.specs.declared.node.PlacedNode.{PlacedNode}
 use Rattle.md_machine.specs.declared.node.Structure.{Structure}
 use Rattle.md_machine.specs.declared.node.Structure.TheVariants.{Bucket}
-use Rattle.md_machine.specs.Certified.{all_nodes, after_wholes}
+use Rattle.md_machine.specs.Certified.{all_changes, all_nodes, after_wholes}
 use Rattle.md_machine.specs.LogicalHeap.{LogicalHeap}
 use Rattle.md_machine.specs.Meaning.{Lawful, Meaning}
 use Rattle.md_machine.proofs.lists.Rising.{in_map}
@@ -31,6 +31,7 @@ use Rattle.md_list_law.specs.HasLists.{HasListsOf}
 use Rattle.md_list_law.specs.ListShape.{IsIn, NamesNone, next_word}
 use Rattle.md_list_law.proofs.Links.{head_is_no_next}
 use Rattle.md_list.specs.Walking.{Gives, IsBefore, IsHead, IsWalking}
+use Rattle.md_list.proofs.Charging.{charged_later}
 
 -- the state after steps that change the pass alone
 abbrev pub stepped : TxnState → PassState → TxnState
@@ -84,6 +85,7 @@ module _ (M : Meaning) where
       changes = w.changes;
       tidied = tidied_later M t w.certificates w.changes w.tidied (stepped t p) on.later refl;
       unlinks = w.unlinks;
+      charged = charged_later t (stepped t p) on.later (λ w among marked. among) (all_changes w.certificates) w.changes w.charged;
     }
 
     -- what is known after the ended operations stays known

@@ -26,14 +26,14 @@ module _ (M : Meaning) (t : TxnState) (head : ℕ) where
   IsKnown word = ((r : Read) × Contains t.reads r × (r.word ≡ word)) ⊎ ((n : OwnNode) × Contains t.nodes n × (word ≡ next_word (shape_in t) n.node))
 
   -- a word to which one is charged: it was written before, and is the next word of a visited node; or it is written since, and was recorded or is an own node's
-  abbrev pub IsCharged : TxnState → List ℕ → (word : ℕ) → Type 0
-  IsCharged u visited word = ((is_written (writes_in t) word ≡ true) × ((node : ℕ) × Contains visited node × (word ≡ next_word (shape_in t) node)))
+  abbrev pub IsPayer : TxnState → List ℕ → (word : ℕ) → Type 0
+  IsPayer u visited word = ((is_written (writes_in t) word ≡ true) × ((node : ℕ) × Contains visited node × (word ≡ next_word (shape_in t) node)))
       ⊎ ((is_written (writes_in t) word ≡ false) × (is_written (writes_in u) word ≡ true) × IsKnown word)
 
   pub record Charges (u : TxnState) (visited : List ℕ) : Type 0 where
     pub charged : List ℕ
     pub differ : AllPairs (λ (a b : ℕ). a ≢ b) charged
-    pub each : All (IsCharged u visited) charged
+    pub each : All (IsPayer u visited) charged
     pub few : length u.slots ≤ length t.slots + length charged
     pub kept : (word : ℕ) → is_written (writes_in t) word ≡ true → is_written (writes_in u) word ≡ true
     pub since : (word : ℕ) → is_written (writes_in u) word ≡ true → (is_written (writes_in t) word ≡ true) ⊎ IsBehind M t visited head word
@@ -43,7 +43,7 @@ module _ (M : Meaning) (t : TxnState) (head : ℕ) where
   chargeable = map (λ (w : Write). w.word) (writes_in t)
       ++ (map (λ (r : Read). r.word) (unwritten_reads t) ++ map (λ (n : OwnNode). next_word (shape_in t) n.node) t.nodes)
 
-  among : (u : TxnState) (visited : List ℕ) (word : ℕ) → IsCharged u visited word → Contains chargeable word
+  among : (u : TxnState) (visited : List ℕ) (word : ℕ) → IsPayer u visited word → Contains chargeable word
   among u visited word = ⊎_elim
       (λ before.
       let w = written_found (writes_in t) word before.0 in
@@ -59,7 +59,7 @@ module _ (M : Meaning) (t : TxnState) (head : ℕ) where
   -- so few words were written
   pub few_written : (u : TxnState) (visited : List ℕ) → Charges u visited → WritesFew t u 0
   few_written u visited c =
-      let most = few_among c.charged chargeable c.differ (All-weaker (IsCharged u visited) (Contains chargeable) (among u visited) c.charged c.each) in
+      let most = few_among c.charged chargeable c.differ (All-weaker (IsPayer u visited) (Contains chargeable) (among u visited) c.charged c.each) in
       let few = c.few in
       omega (
         arith,
@@ -78,7 +78,7 @@ module _ (M : Meaning) (t : TxnState) (head : ℕ) where
   charges_none u same = record {
     charged = [];
     differ = no_pairs (λ (a b : ℕ). a ≢ b);
-    each = All-nil (IsCharged u []);
+    each = All-nil (IsPayer u []);
     few = let l = ap (λ ss. length ss) same in omega (arith, l);
     kept = λ word is. ap (λ ss. is_written (map (λ (s : Slot). s.write) ss) word) same ∙ is;
     since = λ word is. inl (ap (λ ss. is_written (map (λ (s : Slot). s.write) ss) word) (sym same) ∙ is);
@@ -89,7 +89,7 @@ module _ (M : Meaning) (t : TxnState) (head : ℕ) where
   charges_more u visited node c = record {
     charged = c.charged;
     differ = c.differ;
-    each = All-weaker (IsCharged u visited) (IsCharged u (node ∷ visited)) (λ word. ⊎_elim (λ before. inl (before.0, (before.1.0, further node visited before.1.0 before.1.1, before.1.2))) inr) c.charged c.each;
+    each = All-weaker (IsPayer u visited) (IsPayer u (node ∷ visited)) (λ word. ⊎_elim (λ before. inl (before.0, (before.1.0, further node visited before.1.0 before.1.1, before.1.2))) inr) c.charged c.each;
     few = c.few;
     kept = c.kept;
     since = λ word is. ⊎_elim inl (λ behind. inr (⊎_elim inl (λ b. inr (b.0, further node visited b.0 b.1, b.2)) behind)) (c.since word is);
@@ -100,7 +100,7 @@ module _ (M : Meaning) (t : TxnState) (head : ℕ) where
   charges_same u v visited long same c = record {
     charged = c.charged;
     differ = c.differ;
-    each = All-weaker (IsCharged u visited) (IsCharged v visited) (λ word. ⊎_elim inl (λ since. inr (since.0, same word ∙ since.1, since.2))) c.charged c.each;
+    each = All-weaker (IsPayer u visited) (IsPayer v visited) (λ word. ⊎_elim inl (λ since. inr (since.0, same word ∙ since.1, since.2))) c.charged c.each;
     few = let l = c.few in omega (arith, l, long);
     kept = λ word is. same word ∙ c.kept word is;
     since = λ word is. c.since word (sym (same word) ∙ is);
@@ -125,12 +125,12 @@ module _ (M : Meaning) (t : TxnState) (head : ℕ) where
     written_or_new : (word : ℕ) → is_written (writes_in v) word ≡ true → (is_written (writes_in u) word ≡ true) ⊎ (slot.write.word ≡ word)
     written_or_new word is = ⊎_elim inl (λ not. inr (eqb-true slot.write.word word (sym (ap (λ b. b || (slot.write.word == word)) not) ∙ sym (push_is word) ∙ is))) (cases_Bool (is_written (writes_in u) word))
 
-    pub charges_one : (c : Charges u visited) → IsBehind M t visited head slot.write.word → (word : ℕ) → IsCharged v visited word → All (λ other. word ≢ other) c.charged → Charges v visited
+    pub charges_one : (c : Charges u visited) → IsBehind M t visited head slot.write.word → (word : ℕ) → IsPayer v visited word → All (λ other. word ≢ other) c.charged → Charges v visited
     charges_one c behind word is apart = record {
       charged = word ∷ c.charged;
       differ = AllPairs-cons (λ (a b : ℕ). a ≢ b) word c.charged apart c.differ;
-      each = All-cons (IsCharged v visited) word c.charged is
-          (All-weaker (IsCharged u visited) (IsCharged v visited) (λ other. ⊎_elim inl (λ since. inr (since.0, still_written other since.1, since.2))) c.charged c.each);
+      each = All-cons (IsPayer v visited) word c.charged is
+          (All-weaker (IsPayer u visited) (IsPayer v visited) (λ other. ⊎_elim inl (λ since. inr (since.0, still_written other since.1, since.2))) c.charged c.each);
       few = let l = ap (λ ss. length ss) pushed in let few = c.few in omega (arith, l, few, length-append u.slots (slot ∷ []));
       kept = λ other was. still_written other (c.kept other was);
       since = λ other now. ⊎_elim (c.since other) (λ same. inr (subst (IsBehind M t visited head) same behind)) (written_or_new other now);

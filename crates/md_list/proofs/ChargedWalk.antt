@@ -28,25 +28,16 @@ use Rattle.md_list_law.specs.HasLists.{HasListsOf}
 use Rattle.md_list_law.specs.ListShape.{next_word}
 use Rattle.md_list_law.proofs.Links.{head_is_no_next}
 use Rattle.md_list.proofs.At.{IsBehind}
-use Rattle.md_list.proofs.Charged.{Charges, IsCharged, IsKnown, charges_more, charges_one, charges_same, now_written}
+use Rattle.md_list.proofs.Charging.{known_of}
+use Rattle.md_list.proofs.Charged.{Charges, IsPayer, IsKnown, charges_more, charges_one, charges_same, now_written}
 use Rattle.md_list.proofs.OnNode.{IsOn, not_visited}
 
 -- a word whose change is critical, if it isn't asked for so, was recorded or is an own node's
-known_of : (M : Meaning) (t u : TxnState) (head : ℕ) → u.reads ≡ t.reads → u.nodes ≡ t.nodes → shape_in u ≡ shape_in t → (word : ℕ) → is_critical u word Plain ≡ true → IsKnown M t head word
-known_of M t u head reads nodes shape word critical = ⊎_elim
-    (λ read.
-    let held = some_of (content_read u.reads word) read in
-    let r = read_there u.reads word held.0 held.1 in
-    inl (r.0, subst (λ l. Contains l r.0) reads r.1, r.2))
-    (λ not.
-    let any = any_found (is_next_word (shape_in u) word) (map (λ (n : OwnNode). n.node) u.nodes) (sym (ap (λ b. b || list_any (is_next_word (shape_in u) word) (map (λ (n : OwnNode). n.node) u.nodes)) not) ∙ critical) in
-    let n = in_map (λ (x : OwnNode). x.node) u.nodes any.0 any.1 in
-    inr (n.0, subst (λ l. Contains l n.0) nodes n.1, eqb-true word (next_word (shape_in u) any.0) any.2 ∙ ap (next_word (shape_in u)) (sym n.2) ∙ ap (λ s. next_word s n.0.node) shape))
-    (cases_Bool (is_some (content_read u.reads word)))
-  where
-    some_of : (o : Option ℕ) → is_some o ≡ true → (x : ℕ) × (o ≡ Some x)
-    some_of None some = absurd (cc some)
-    some_of (Some x) some = (x, refl)
+known_at_first : (M : Meaning) (t u : TxnState) (head : ℕ) → u.reads ≡ t.reads → u.nodes ≡ t.nodes → shape_in u ≡ shape_in t → (word : ℕ) → is_critical u word Plain ≡ true → IsKnown M t head word
+known_at_first M t u head reads nodes shape word critical = ⊎_elim
+    (λ r. inl (r.0, subst (λ l. Contains l r.0) reads r.1, r.2))
+    (λ n. inr (n.0, subst (λ l. Contains l n.0) nodes n.1, n.2 ∙ ap (λ s. next_word s n.0.node) shape))
+    (known_of u word critical)
 
 module _ (M : Meaning) (lawful : Lawful M) (lists : HasListsOf M) (t : TxnState) (head key : ℕ) (u : TxnState) (visited : List ℕ) (prev : ℕ) (at next : Seen)
     (on : IsOn M u head key visited prev at next) (some : linked_node at.value ≢ 0) (reads : u.reads ≡ t.reads) (nodes : u.nodes ≡ t.nodes) (shape : shape_in u ≡ shape_in t) (c : Charges M t head u visited) where
@@ -76,9 +67,9 @@ module _ (M : Meaning) (lawful : Lawful M) (lists : HasListsOf M) (t : TxnState)
   more = charges_more M t head u visited node c
 
   module _ (to : ℕ) (v : TxnState) (unwritten : is_written (writes_in u) prev ≡ false) (pushed : v.slots ≡ u.slots ++ new_slot u prev at to ∷ []) where
-    charge : (word : ℕ) → IsCharged M t head v (node ∷ visited) word → ((other : ℕ) → IsCharged M t head u visited other → word ≢ other) → Charges M t head v (node ∷ visited)
+    charge : (word : ℕ) → IsPayer M t head v (node ∷ visited) word → ((other : ℕ) → IsPayer M t head u visited other → word ≢ other) → Charges M t head v (node ∷ visited)
     charge word is apart = charges_one M t head u v (node ∷ visited) (new_slot u prev at to) pushed more behind_more word is
-        (all_of (λ other. word ≢ other) c.charged (λ other among. apart other (All-contains (IsCharged M t head u visited) c.charged other c.each among)))
+        (all_of (λ other. word ≢ other) c.charged (λ other among. apart other (All-contains (IsPayer M t head u visited) c.charged other c.each among)))
 
     -- an own mark is charged to the word that has it
     by_mark : next.own ≡ true → Charges M t head v (node ∷ visited)
@@ -94,7 +85,7 @@ module _ (M : Meaning) (lawful : Lawful M) (lists : HasListsOf M) (t : TxnState)
     by_word : is_critical u prev Plain ≡ true → Charges M t head v (node ∷ visited)
     by_word critical =
         let before : is_written (writes_in t) prev ≡ false = ⊎_elim (λ was. absurd (true≢false (sym (c.kept prev was) ∙ unwritten))) (λ not. not) (cases_Bool (is_written (writes_in t) prev)) in
-        charge prev (inr (before, now_written M t head u v visited (new_slot u prev at to) pushed, known_of M t u head reads nodes shape prev critical)) (λ other. ⊎_elim
+        charge prev (inr (before, now_written M t head u v visited (new_slot u prev at to) pushed, known_at_first M t u head reads nodes shape prev critical)) (λ other. ⊎_elim
         (λ old same. true≢false (sym old.0 ∙ ap (is_written (writes_in t)) (sym same) ∙ before))
         (λ new same. true≢false (sym new.1 ∙ ap (is_written (writes_in u)) (sym same) ∙ unwritten)))
 

@@ -17,44 +17,13 @@ use Rattle.md_nbtc.specs.State.{TxnState, shape_in}
 use Rattle.md_nbtc.proofs.preparing.Later.{later_over}
 use Rattle.md_nbtc.proofs.structures.Answering.{IsStopped, after_ok}
 use Rattle.md_nbtc.proofs.structures.Noting.{HasNoted, has_noted}
-use Rattle.md_list.specs.Operations.{KeepsNodes}
-use Rattle.md_list.specs.Walking.{FindsNode, HasFound, WalkedFrom}
+use Rattle.md_list.specs.Walking.{FindsNode, HasFound}
 use Rattle.md_list.specs.declared.walk.Found.{Found}
 
 -- a note that was answered
 pub noted_ok : (t u : TxnState) (word : ℕ) (seen : Seen)
     → AfterStop t.stop t u (let r : Result (Unit {0}) Stop = Ok tt in r) (Notes (note_case t word seen) t u word seen (Ok tt)) → HasNoted t u word seen
 noted_ok t u word seen noted = has_noted t u word seen (after_ok (Unit {0}) t u t.stop tt (Notes (note_case t word seen) t u word seen (Ok tt)) noted)
-
-module _ (M : Meaning) (s t u : TxnState) (walked : WalkedFrom M s t) where
-  -- a walk is a look-up so far
-  pub walk_looks : KeepsNodes M s t
-  walk_looks = record {
-    going = walked.going;
-    later = walked.later;
-    reads = let l = ap length walked.reads in omega (arith, l);
-    nodes = walked.nodes;
-  }
-
-  pub note_looks : GoesOn M t u → length u.reads ≤ length t.reads + 1 → u.nodes ≡ t.nodes → KeepsNodes M s u
-  note_looks goes reads nodes = record {
-    going = (walked.going.0, goes.going walked.going.0 walked.going.1);
-    later = later_over s t u walked.later goes.later;
-    reads = let l = ap length walked.reads in omega (arith, l, reads);
-    nodes = nodes ∙ walked.nodes;
-  }
-
-  pub stop_looks : GoesOn M t u → (stop : Stop) → IsStopped t u stop → KeepsNodes M s u
-  stop_looks goes stop is = note_looks goes (let l = ap (λ (x : TxnState). length x.reads) is in omega (arith, l)) (ap (λ (x : TxnState). x.nodes) is)
-
--- steps of the pass alone leave a look-up one
-pub step_looks : (M : Meaning) (s t u : TxnState) → KeepsNodes M s t → GoesOn M t u → u ≡ record t { pass = u.pass } → KeepsNodes M s u
-step_looks M s t u looks goes same = record {
-  going = (looks.going.0, goes.going looks.going.0 looks.going.1);
-  later = later_over s t u looks.later goes.later;
-  reads = let l = ap (λ (x : TxnState). length x.reads) same in let few = looks.reads in omega (arith, l, few);
-  nodes = ap (λ (x : TxnState). x.nodes) same ∙ looks.nodes;
-}
 
 -- what the test of an answer tells
 pub is_absent : (b : Bool) → not b ≡ true → b ≡ false

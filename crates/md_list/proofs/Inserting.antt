@@ -14,13 +14,13 @@ use Rattle.md_machine.specs.declared.certificate.Change.{Change}
 use Rattle.md_machine.specs.declared.certificate.NewNode.{NewNode}
 use Rattle.md_machine.specs.declared.node.Structure.{Structure}
 use Rattle.md_machine.specs.declared.node.Structure.TheVariants.{Bucket}
-use Rattle.md_machine.specs.Certified.{after_wholes, is_written}
+use Rattle.md_machine.specs.Certified.{after_wholes, all_changes, is_written}
 use Rattle.md_machine.specs.LogicalHeap.{Holds}
 use Rattle.md_machine.specs.Meaning.{Lawful, Meaning}
 use Rattle.md_machine.proofs.lists.Rising.{here}
 use Rattle.md_nbtc.specs.declared.seen.Kind.TheVariants.{Critical}
 use Rattle.md_nbtc.specs.declared.seen.Seen.{Seen}
-use Rattle.md_nbtc.specs.Calls.{Freshens, GoesOn, MayAnswer, MayExchange}
+use Rattle.md_nbtc.specs.Calls.{Freshens, GoesOn, MayExchange}
 use Rattle.md_nbtc.specs.Course.{IsStoredNode}
 use Rattle.md_nbtc.specs.Going.{IsGoing}
 use Rattle.md_nbtc.specs.Known.{IsLater, Known}
@@ -32,20 +32,20 @@ use Rattle.md_nbtc.proofs.structures.Exchanging.{HasExchanged, may_exchange_so}
 use Rattle.md_nbtc.proofs.structures.NodesKnown.{shape_later}
 use Rattle.md_nbtc.proofs.structures.SeenValues.{seen_value}
 use Rattle.md_nbtc.proofs.structures.Tidying.{bare_holds}
-use Rattle.md_list_law.specs.Certificates.{insert_true}
+use Rattle.md_list_law.specs.Certificates.{IsRow, insert_true}
 use Rattle.md_list_law.specs.HasLists.{HasListsOf}
 use Rattle.md_list_law.specs.ListShape.{next_word}
 use Rattle.md_list.specs.declared.walk.Found.{Found}
-use Rattle.md_list.specs.Operations.{TakesOne}
-use Rattle.md_list.specs.Walking.{Gives, HasFound, IsBefore, IsHead, IsHeadOf, IsWalking, WalkedFrom}
+use Rattle.md_list.specs.Operations.{IsAnswered}
+use Rattle.md_list.specs.Walking.{Gives, HasFound, IsBefore, IsHead, IsHeadOf, IsWalking}
 use Rattle.md_list.proofs.Changing.{changing, may_end_changing}
 use Rattle.md_list.proofs.Critical.{ChangedCritically, changed_critically}
 use Rattle.md_list.proofs.FreshNode.{apart_from_fresh, fresh_after, fresh_unwritten}
 use Rattle.md_list.proofs.Laters.{before_later, head_later, there_later}
 use Rattle.md_list.proofs.ListWords.{cleanups_stay, may_change}
 use Rattle.md_list.proofs.LookUps.{Gap, gap}
-use Rattle.md_list.proofs.Rows.{one_head, row_certifies}
-use Rattle.md_list.proofs.Taken.{takes_same}
+use Rattle.md_list.proofs.Charging.{KeepsMarks, charged_later, marks_kept, marks_over, marks_slots}
+use Rattle.md_list.proofs.Rows.{one_head, row_certifies, row_of_map}
 
 module _ (M : Meaning) (lawful : Lawful M) (lists : HasListsOf M) (t : TxnState) (head key : ℕ) (found : Found) (has : HasFound M t head key found) (absent : found.here ≡ false)
     (value : ℕ) (u : TxnState) (goes : GoesOn M t u) (node : ℕ) (fresh : Freshens t u key value found.at.value node) (given : KeepsGiven t u (address (shape_in t) (node_next node))) where
@@ -72,17 +72,6 @@ module _ (M : Meaning) (lawful : Lawful M) (lists : HasListsOf M) (t : TxnState)
 
   stored_there : Contains u.hand.stored node
   stored_there = subst (λ l. Contains l node) (sym stored_is) (here node [])
-
-  -- what the taking of the node leaves
-  pub fresh_leaves : (s : TxnState) → WalkedFrom M s t → TakesOne M s u
-  fresh_leaves s walked = record {
-    going = (cs, going_u);
-    later = later_over s t u walked.later goes.later;
-    reads = let l = ap (λ rs. length rs) (ap (λ (x : TxnState). x.reads) fresh.new ∙ walked.reads) in omega (arith, l);
-    nodes =
-        let l = ap (λ ns. length ns) (ap (λ (x : TxnState). x.nodes) fresh.new ∙ ap (λ ns. ns ++ own ∷ []) walked.nodes) in
-        omega (arith, l, length-append s.nodes (own ∷ []));
-  }
 
   abbrev head_u : IsHead (shape_in u) w.map w.bucket head
   head_u = head_later M t u goes.later w.map w.bucket head w.is_head
@@ -124,14 +113,14 @@ module _ (M : Meaning) (lawful : Lawful M) (lists : HasListsOf M) (t : TxnState)
     abbrev later_v : IsLater t v
     later_v = later_over t u v goes.later goes_v.later
 
-    abbrev did : ChangedCritically M u found.prev found.at (link_value node false) v seen
-    did = changed_critically M u found.prev found.at (link_value node false) v seen gives_u.gave cs going_v changed
+    pub linked : ChangedCritically M u found.prev found.at (link_value node false) v seen
+    linked = changed_critically M u found.prev found.at (link_value node false) v seen gives_u.gave cs going_v changed
 
     own_v : Contains v.nodes own
-    own_v = subst (λ l. Contains l own) (sym did.nodes) own_there
+    own_v = subst (λ l. Contains l own) (sym linked.nodes) own_there
 
     stored_v : v.hand.stored ≡ node ∷ []
-    stored_v = ap (λ h. h.stored) did.hand ∙ stored_is
+    stored_v = ap (λ h. h.stored) linked.hand ∙ stored_is
 
     stored_there_v : Contains v.hand.stored node
     stored_there_v = subst (λ l. Contains l node) (sym stored_v) (here node [])
@@ -148,25 +137,24 @@ module _ (M : Meaning) (lawful : Lawful M) (lists : HasListsOf M) (t : TxnState)
     abbrev c : Certificate
     c = changing (Insert w.map key value) (Flag true) w.changes change (new ∷ []) g.facts
 
-    -- what the insert leaves
-    pub inserted_leaves : (s : TxnState) → WalkedFrom M s t → TakesOne M s v
-    inserted_leaves s walked = takes_same M s u v (fresh_leaves s walked) goes_v did.reads did.nodes
+    marks : KeepsMarks t v
+    marks = marks_over t u v (marks_slots t u (ap (λ (x : TxnState). x.slots) fresh.new))
+        (marks_kept M u found.prev found.at (link_value node false) Critical v seen gives_u.gave gives_u.unmarked going_u.prepared.has.written_once changed)
 
     module _ (fits : found.at.count < 2 ^ 32) (map : ℕ) (is : IsHeadOf (shape_in t) map key head) where
       own_head : (w.map ≡ map) × (w.bucket ≡ bucket_of (shape_in t) key)
       own_head = one_head (shape_in t) w.map w.bucket map (bucket_of (shape_in t) key) head w.is_head is
 
-      certified : M.certifies (shape_in v) c
-      certified = row_certifies M lists t head key w own_head.1 v later_v c
-          (insert_true value refl refl (record {
-            word = found.prev;
-            old = found.at.value;
-            node = node;
-            place = g.place;
-            is_node = fresh.exists;
-            changes = refl;
-            nodes = refl;
-          })) w.unlinks
+      row : IsRow (shape_in t) list head w.map key c
+      row = insert_true value refl refl (record {
+        word = found.prev;
+        old = found.at.value;
+        node = node;
+        place = g.place;
+        is_node = fresh.exists;
+        changes = refl;
+        nodes = refl;
+      })
 
       stored_node : IsStoredNode v new
       stored_node = record { own = own_v; unsettled = has.place.at.unmarked }
@@ -178,18 +166,23 @@ module _ (M : Meaning) (lawful : Lawful M) (lists : HasListsOf M) (t : TxnState)
       new_fresh x over prepared h of = All-cons (λ (n : NewNode). (tidied h cs w.changes).placed n.node ≡ None) new []
           (fresh_after M lawful v cs going_v own own_v stored_there_v w.changes w.tidied.bare x over prepared h of) (All-nil _)
 
-      pub may_answer_inserted : MayAnswer M v (Insert map key value) (Flag true)
-      may_answer_inserted = subst (λ m. MayAnswer M v (Insert m key value) (Flag true)) own_head.0 (record {
-        earlier = cs;
-        going = going_v;
-        certificate = c;
-        of = (refl, refl);
-        may = may_end_changing M t cs w.changes w.tidied v later_v (Insert w.map key value) (Flag true) change (new ∷ []) g.facts certified
-            (ap (λ h. h.changes) did.hand ∙ ap (λ (x : TxnState). x.hand.changes ++ change ∷ []) fresh.new) (sym stored_v)
-            (All-cons (IsStoredNode v) new [] stored_node (All-nil (IsStoredNode v)))
-            (All-cons (λ (n : NewNode). is_written (writes_in v) (address (shape_in v) (node_next n.node)) ≡ false) new []
-            (fresh_unwritten M lawful v cs going_v own own_v stored_there_v) (All-nil _))
-            (seen_value M lawful t cs w.going w.changes w.tidied found.prev found.at has.place.at.gave has.place.at.there fits v later_v did.first)
-            (known_later M _ t v later_v facts_known)
-            new_fresh;
+      pub inserted : IsAnswered M v map key (Insert map key value) (Flag true)
+      inserted = subst (λ m. IsAnswered M v m key (Insert m key value) (Flag true)) own_head.0 (record {
+        may = record {
+          earlier = cs;
+          going = going_v;
+          certificate = c;
+          of = (refl, refl);
+          may = may_end_changing M t cs w.changes w.tidied v later_v (Insert w.map key value) (Flag true) change (new ∷ []) g.facts
+              (row_certifies M lists t head key w own_head.1 v later_v c row w.unlinks)
+              (ap (λ h. h.changes) linked.hand ∙ ap (λ (x : TxnState). x.hand.changes ++ change ∷ []) fresh.new) (sym stored_v)
+              (All-cons (IsStoredNode v) new [] stored_node (All-nil (IsStoredNode v)))
+              (All-cons (λ (n : NewNode). is_written (writes_in v) (address (shape_in v) (node_next n.node)) ≡ false) new []
+              (fresh_unwritten M lawful v cs going_v own own_v stored_there_v) (All-nil _))
+              (seen_value M lawful t cs w.going w.changes w.tidied found.prev found.at has.place.at.gave has.place.at.there fits v later_v linked.first)
+              (known_later M _ t v later_v facts_known)
+              new_fresh;
+        };
+        row = row_of_map M lists t head key w own_head.1 v later_v c row w.unlinks;
+        charged = charged_later t v later_v marks (all_changes cs) w.changes w.charged;
       })

@@ -1,6 +1,9 @@
+pub mod Charging
 pub mod MetInBuckets
 pub mod Rising
 pub mod At
+pub mod Adding
+pub mod Stops
 pub mod Walked
 pub mod ListWords
 pub mod OnNode
@@ -22,6 +25,5 @@ pub mod Removing
 pub mod Laters
 pub mod FreshNode
 pub mod Inserting
-pub mod Taken
 pub mod Charged
 pub mod ChargedWalk

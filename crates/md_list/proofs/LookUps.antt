@@ -18,7 +18,7 @@ use Rattle.md_machine.specs.Certified.{after_wholes, content_read, is_written}
 use Rattle.md_machine.specs.LogicalHeap.{Holds, LogicalHeap}
 use Rattle.md_machine.specs.Meaning.{Lawful, Meaning}
 use Rattle.md_machine.proofs.lists.Rising.{here, there}
-use Rattle.md_nbtc.specs.Calls.{MayAnswer, data_at}
+use Rattle.md_nbtc.specs.Calls.{data_at}
 use Rattle.md_nbtc.specs.Going.{IsGoing}
 use Rattle.md_nbtc.specs.Known.{IsLater, Known}
 use Rattle.md_nbtc.specs.State.{TxnState, seen_content, shape_in, writes_in}
@@ -28,9 +28,10 @@ use Rattle.md_nbtc.proofs.structures.Reading.{reading}
 use Rattle.md_list_law.specs.Certificates.{ChangesNothing, IsPlaceOf, IsRow, RecordsPlace, get_some, insert_false, key_fact, pair_fact}
 use Rattle.md_list_law.specs.HasLists.{HasListsOf}
 use Rattle.md_list_law.specs.ListShape.{next_word}
+use Rattle.md_list.specs.Operations.{IsAnswered}
 use Rattle.md_list.specs.Walking.{FindsNode, HasFound, IsHeadOf, IsWalking, KnowsAfter}
 use Rattle.md_list.specs.declared.walk.Found.{Found}
-use Rattle.md_list.proofs.Rows.{may_answer_reading, one_head}
+use Rattle.md_list.proofs.Rows.{answered_reading, one_head}
 
 module _ (M : Meaning) (lawful : Lawful M) (lists : HasListsOf M) (t : TxnState) (head key : ℕ) (found : Found) (has : HasFound M t head key found) where
   abbrev w : IsWalking M t head
@@ -139,15 +140,15 @@ module _ (M : Meaning) (lawful : Lawful M) (lists : HasListsOf M) (t : TxnState)
     own_head = one_head (shape_in t) w.map w.bucket map (bucket_of (shape_in t) key) head w.is_head is
 
     -- of a key that is there
-    pub may_get_some : (is_here : found.here ≡ true) → found.next.count < 2 ^ 32
+    pub got_some : (is_here : found.here ≡ true) → found.next.count < 2 ^ 32
         → (is_written (writes_in t) (next_word (shape_in t) found.node) ≡ false → content_read v.reads (next_word (shape_in t) found.node) ≡ Some (seen_content found.next))
         → (value word : ℕ) → word ≡ address (shape_in t) (node_value found.node) → Known M v (λ u h. data_at h (place_at (shape_in t) word) ≡ value)
-        → MayAnswer M v (Get map key) (Value (Some value))
-    may_get_some is_here fits noted value word word_is data_is =
+        → IsAnswered M v map key (Get map key) (Value (Some value))
+    got_some is_here fits noted value word word_is data_is =
         let n = here_node is_here in
         let fact = pair_fact list found.node key value in
-        subst (λ m. MayAnswer M v (Get m key) (Value (Some value))) own_head.0
-        (may_answer_reading M lawful lists t head key w own_head.1 v later same going (next_word (shape_in t) found.node) found.next n.next fits slots noted
+        subst (λ m. IsAnswered M v m key (Get m key) (Value (Some value))) own_head.0
+        (answered_reading M lawful lists t head key w own_head.1 v later same going (next_word (shape_in t) found.node) found.next n.next fits slots noted
         (Get w.map key) (Value (Some value)) (fact ∷ [])
         (get_some found.node value refl refl (record { changes = refl; nodes = refl }) (record {
           fact = here fact [];
@@ -159,14 +160,14 @@ module _ (M : Meaning) (lawful : Lawful M) (lists : HasListsOf M) (t : TxnState)
         (All-cons (λ (f : Fact). f.next ≡ None) fact [] refl (All-nil (λ (f : Fact). f.next ≡ None))))
 
     -- an insert of a key that is there answers false
-    pub may_insert_false : (is_here : found.here ≡ true) → found.next.count < 2 ^ 32
+    pub inserted_none : (is_here : found.here ≡ true) → found.next.count < 2 ^ 32
         → (is_written (writes_in t) (next_word (shape_in t) found.node) ≡ false → content_read v.reads (next_word (shape_in t) found.node) ≡ Some (seen_content found.next))
-        → (value : ℕ) → MayAnswer M v (Insert map key value) (Flag false)
-    may_insert_false is_here fits noted value =
+        → (value : ℕ) → IsAnswered M v map key (Insert map key value) (Flag false)
+    inserted_none is_here fits noted value =
         let n = here_node is_here in
         let fact = key_fact list found.node key in
-        subst (λ m. MayAnswer M v (Insert m key value) (Flag false)) own_head.0
-        (may_answer_reading M lawful lists t head key w own_head.1 v later same going (next_word (shape_in t) found.node) found.next n.next fits slots noted
+        subst (λ m. IsAnswered M v m key (Insert m key value) (Flag false)) own_head.0
+        (answered_reading M lawful lists t head key w own_head.1 v later same going (next_word (shape_in t) found.node) found.next n.next fits slots noted
         (Insert w.map key value) (Flag false) (fact ∷ [])
         (insert_false found.node value refl refl (record { changes = refl; nodes = refl }) (record {
           fact = here fact [];
@@ -179,15 +180,15 @@ module _ (M : Meaning) (lawful : Lawful M) (lists : HasListsOf M) (t : TxnState)
         (All-cons (λ (f : Fact). f.next ≡ None) fact [] refl (All-nil (λ (f : Fact). f.next ≡ None))))
 
     -- of a key that is absent
-    pub may_answer_none : found.here ≡ false → found.at.count < 2 ^ 32
+    pub answered_none : found.here ≡ false → found.at.count < 2 ^ 32
         → (is_written (writes_in t) found.prev ≡ false → content_read v.reads found.prev ≡ Some (seen_content found.at))
         → (op : ℕ → Op) → ((c : Certificate) → c.op ≡ op w.map → c.reply ≡ Value None → ChangesNothing c → RecordsPlace (shape_in t) list head c key → IsRow (shape_in t) list head w.map key c)
-        → MayAnswer M v (op map) (Value None)
-    may_answer_none absent fits noted op row =
+        → IsAnswered M v map key (op map) (Value None)
+    answered_none absent fits noted op row =
         let g = gap absent in
         let c = reading (op w.map) (Value None) w.changes (record { word = found.prev; value = found.at.value } ∷ []) g.facts in
-        subst (λ m. MayAnswer M v (op m) (Value None)) own_head.0
-        (may_answer_reading M lawful lists t head key w own_head.1 v later same going found.prev found.at has.place.at fits slots noted (op w.map) (Value None) g.facts
+        subst (λ m. IsAnswered M v m key (op m) (Value None)) own_head.0
+        (answered_reading M lawful lists t head key w own_head.1 v later same going found.prev found.at has.place.at fits slots noted (op w.map) (Value None) g.facts
         (row c refl refl (record { changes = refl; nodes = refl }) (record {
           word = found.prev;
           value = found.at.value;

@@ -1,8 +1,8 @@
 -- The remove of a key that was found: its node's next word may be marked, the unlink put off, and the operation ended.
-use Rattle.std.proofs.Common.{◌≡◌, ◌<◌, ◌^◌, ◌+◌, ℕ, true, [], ◌∷◌, Some, length, arith, refl, sym, ap, ◌∙◌, subst}
+use Rattle.std.proofs.Common.{◌≡◌, ◌≢◌, ◌<◌, ◌^◌, ◌+◌, ◌++◌, ℕ, true, [], ◌∷◌, Some, map, arith, refl, sym, ap, ◌∙◌, subst, ⊎_elim, eq-eqb, if◌then◌else◌}
 use Rattle.std.proofs.lemmas.Bool.{true≢false}
 use Rattle.std.proofs.lemmas.List.Elements.{All-cons, All-nil}
-use Rattle.std.specs.List.{All}
+use Rattle.std.specs.List.{All, Contains}
 use Rattle.md_words.specs.Layout.{IsNode, address, bucket_of}
 use Rattle.md_words.specs.Link.{is_marked}
 use Rattle.md_words.specs.Place.{node_value}
@@ -14,39 +14,46 @@ use Rattle.md_machine.specs.declared.certificate.Change.{Change}
 use Rattle.md_machine.specs.declared.certificate.Fact.{Fact}
 use Rattle.md_machine.specs.declared.node.Structure.{Structure}
 use Rattle.md_machine.specs.declared.node.Structure.TheVariants.{Bucket}
-use Rattle.md_machine.specs.Certified.{after_wholes}
+use Rattle.md_machine.specs.declared.attempt.Write.{Write}
+use Rattle.md_machine.specs.Certified.{after_wholes, all_changes}
 use Rattle.md_machine.specs.LogicalHeap.{Holds}
 use Rattle.md_machine.specs.Meaning.{Lawful, Meaning}
-use Rattle.md_machine.proofs.lists.Rising.{here}
+use Rattle.md_machine.proofs.chain.SameNodes.{next_alone}
+use Rattle.md_machine.proofs.lists.Rising.{here, in_map, map_in}
+use Rattle.md_nbtc.specs.declared.sets.Slot.{Slot}
 use Rattle.md_nbtc.specs.declared.seen.Cleanup.{Cleanup}
 use Rattle.md_nbtc.specs.declared.seen.Cleanup.TheVariants.{Unlink}
 use Rattle.md_nbtc.specs.declared.seen.Kind.TheVariants.{Critical}
 use Rattle.md_nbtc.specs.declared.seen.Seen.{Seen}
-use Rattle.md_nbtc.specs.Calls.{GoesOn, Keeps, MayAnswer, MayExchange, data_at}
-use Rattle.md_nbtc.specs.Cleaning.{IsWrittenFor, MayTidyLater, with_cleanup_kept}
+use Rattle.md_nbtc.specs.Calls.{GoesOn, Keeps, MayExchange, data_at}
+use Rattle.md_nbtc.specs.Cleaning.{IsWrittenFor, MayTidyLater, with_cleanup, with_cleanup_kept}
+use Rattle.md_nbtc.specs.Going.{IsUnderWay}
 use Rattle.md_nbtc.specs.Known.{IsLater, Known}
-use Rattle.md_nbtc.specs.Seeing.{Gave}
-use Rattle.md_nbtc.specs.State.{TxnState, shape_in}
+use Rattle.md_nbtc.specs.Seeing.{Gave, KeepsGiven}
+use Rattle.md_nbtc.specs.State.{TxnState, shape_in, writes_in}
 use Rattle.md_nbtc.specs.Tidied.{tidied}
-use Rattle.md_nbtc.proofs.preparing.Heaps.{later_self}
+use Rattle.md_nbtc.proofs.keeping.Kept.{same_writes}
+use Rattle.md_nbtc.proofs.preparing.Heaps.{known_now, later_self}
 use Rattle.md_nbtc.proofs.preparing.Later.{known_later, later_over}
 use Rattle.md_nbtc.proofs.structures.Exchanging.{HasExchanged, may_exchange_so}
 use Rattle.md_nbtc.proofs.structures.NodesKnown.{shape_later}
 use Rattle.md_nbtc.proofs.structures.SeenValues.{seen_value}
 use Rattle.md_nbtc.proofs.structures.Tidying.{bare_holds}
-use Rattle.md_list_law.specs.Certificates.{pair_fact, remove_some}
+use Rattle.md_list_law.specs.Certificates.{IsRow, key_fact, pair_fact, remove_some}
 use Rattle.md_list_law.specs.HasLists.{HasListsOf}
 use Rattle.md_list_law.specs.ListShape.{IsIn, next_word}
 use Rattle.md_list.specs.declared.walk.Found.{Found}
-use Rattle.md_list.specs.Walking.{FindsNode, HasFound, IsHeadOf, IsWalking, WalkedFrom}
-use Rattle.md_list.specs.Operations.{KeepsNodes}
+use Rattle.md_list.specs.Walking.{FindsNode, HasFound, IsHeadOf, IsWalking}
+use Rattle.md_list.specs.Operations.{IsAnswered, KeepsUnlink}
+use Rattle.md_list_law.proofs.Links.{head_is_no_next}
 use Rattle.md_list.proofs.Changing.{changing, may_end_changing}
 use Rattle.md_list.proofs.Critical.{ChangedCritically, changed_critically}
 use Rattle.md_list.proofs.Laters.{before_later, head_later}
 use Rattle.md_list.proofs.ListWords.{mark_stays, next_may_change}
 use Rattle.md_list.proofs.LookUps.{here_node, pair_known}
 use Rattle.md_list.proofs.Marks.{mark_set}
-use Rattle.md_list.proofs.Rows.{one_head, row_certifies}
+use Rattle.md_list.proofs.Charging.{KeepsMarks, charged_later, marks_kept, marks_over, marks_same}
+use Rattle.md_list.proofs.Rows.{one_head, row_certifies, row_of_map}
 use Rattle.md_list.proofs.UnlinkLater.{may_unlink_later}
 
 module _ (M : Meaning) (lawful : Lawful M) (lists : HasListsOf M) (t : TxnState) (head key : ℕ) (found : Found) (has : HasFound M t head key found) (is_here : found.here ≡ true) where
@@ -85,8 +92,8 @@ module _ (M : Meaning) (lawful : Lawful M) (lists : HasListsOf M) (t : TxnState)
   }
 
   module _ (u : TxnState) (goes : GoesOn M t u) (seen : Seen) (gave : Gave u next_at seen) (changed : HasExchanged M t next_at found.next marked Critical u seen) where
-    abbrev did : ChangedCritically M t next_at found.next marked u seen
-    did = changed_critically M t next_at found.next marked u seen n.next.gave w.certificates (goes.going w.certificates w.going) changed
+    pub marked_by : ChangedCritically M t next_at found.next marked u seen
+    marked_by = changed_critically M t next_at found.next marked u seen n.next.gave w.certificates (goes.going w.certificates w.going) changed
 
     shape_is : shape_in u ≡ shape_in t
     shape_is = shape_later t u goes.later
@@ -97,13 +104,13 @@ module _ (M : Meaning) (lawful : Lawful M) (lists : HasListsOf M) (t : TxnState)
     -- the unlink may be put off
     pub written_for : IsWrittenFor u cleanup
     written_for =
-        let slot = gave.slot did.own in
+        let slot = gave.slot marked_by.own in
         record {
           exists = exists_still;
           write = slot.write;
           among = slot.among;
           there = slot.there ∙ ap (λ s. next_word s found.node) (sym shape_is);
-          fits = ap is_marked (slot.value ∙ did.value) ∙ mark_set found.next.value n.next.unmarked;
+          fits = ap is_marked (slot.value ∙ marked_by.value) ∙ mark_set found.next.value n.next.unmarked;
         }
 
     tidy_later : MayTidyLater M u w.certificates cleanup
@@ -111,26 +118,79 @@ module _ (M : Meaning) (lawful : Lawful M) (lists : HasListsOf M) (t : TxnState)
         (head_later M t u goes.later w.map w.bucket head w.is_head) (before_later M t u goes.later w.certificates list head key found.prev has.place.before)
         (subst (λ s. IsCounted s found.prev) (sym shape_is) has.place.at.gave.counted) found.node exists_still (known_later M _ t u goes.later node_placed)
 
+    -- it is under way still
+    pub goes_kept : (v : TxnState) → Keeps M u v cleanup → IsUnderWay M v
+    goes_kept v keeps = (w.certificates, keeps.going w.certificates (goes.going w.certificates w.going) tidy_later)
+
     module _ (v : TxnState) (keeps : Keeps M u v cleanup) (kept : v ≡ record u { slots = with_cleanup_kept u cleanup }) where
       abbrev later_v : IsLater t v
       later_v = later_over t u v goes.later keeps.later
 
-      -- what it leaves
-      pub removed_leaves : (s : TxnState) → WalkedFrom M s t → KeepsNodes M s v
-      removed_leaves s walked = record {
-        going = (w.certificates, keeps.going w.certificates (goes.going w.certificates w.going) tidy_later);
-        later = later_over s t v walked.later later_v;
-        reads = let l = ap (λ rs. length rs) (ap (λ (x : TxnState). x.reads) kept ∙ did.reads ∙ walked.reads) in omega (arith, l);
-        nodes = ap (λ (x : TxnState). x.nodes) kept ∙ did.nodes ∙ walked.nodes;
-      }
+      writes_same : writes_in v ≡ writes_in u
+      writes_same = ap (λ (x : TxnState). writes_in x) kept ∙ same_writes (next_word (shape_in u) found.node) cleanup u.slots
+
+      marks : KeepsMarks t v
+      marks = marks_over t u v (marks_kept M t next_at found.next marked Critical u seen n.next.gave n.next.unmarked w.going.prepared.has.written_once changed) (marks_same u v writes_same)
+
+      abbrev change : Change
+      change = record { word = next_at; old = found.next.value; new = marked }
+
+      hand_is : v.hand ≡ u.hand
+      hand_is = ap (λ (x : TxnState). x.hand) kept
+
+      -- the word that named the node is another one than its next word, and names it still
+      prev_apart : found.prev ≢ next_at
+      prev_apart same = ⊎_elim
+          (λ first. head_is_no_next (shape_in t) w.map w.bucket found.node w.is_head.is_map w.is_head.is_bucket n.exists (sym same ∙ first ∙ w.is_head.is))
+          (λ b.
+          let node_same = next_alone (shape_in t) b.0 found.node b.2 n.exists (sym b.5 ∙ same) in
+          let both = known_now M lawful (λ x h. Holds (after_wholes h w.certificates) (key_fact list b.0 b.1) × Holds (after_wholes h w.certificates) (key_fact list found.node n.found_key)) t
+          w.certificates w.going (λ x over prepared h of. (b.3 x over prepared h of, n.known x over prepared h of)) in
+          let key_less = sym both.2.0.key ∙ ap (after_wholes both.0 w.certificates).words.key_of node_same ∙ both.2.1.key in
+          let less = b.4 in
+          let least = n.least in
+          absurd (omega (arith, less, least, key_less)))
+          has.place.before
+
+      -- the unlink is kept
+      pub keeps_unlink : KeepsGiven t u next_at → ((other : ℕ) → KeepsGiven u v other) → KeepsUnlink v
+      keeps_unlink given_u given_v =
+          let seen_slot = gave.slot marked_by.own in
+          let there = in_map (λ (s : Slot). s.write) u.slots seen_slot.write seen_slot.among in
+          let s = there.0 in
+          let word_is : s.write.word ≡ next_at = ap (λ (x : Write). x.word) there.2 ∙ seen_slot.there in
+          let new_is : s.write.new ≡ marked = ap (λ (x : Write). x.new) there.2 ∙ seen_slot.value ∙ marked_by.value in
+          let this = eq-eqb s.write.word (next_word (shape_in u) found.node) (word_is ∙ ap (λ x. next_word x found.node) (sym shape_is)) in
+          record {
+            node = found.node;
+            exists = subst (λ x. IsNode x found.node) (sym (shape_later t v later_v)) n.exists;
+            prev = found.prev;
+            at = found.at;
+            gave = given_v (found.prev + 1) found.prev found.at (apart_more found.prev) (given_u found.prev found.at prev_apart has.place.at.gave);
+            names = sym has.place.node;
+            slot = record s { cleanup = Some cleanup };
+            among = subst (λ l. Contains l (record s { cleanup = Some cleanup })) (sym (ap (λ (x : TxnState). x.slots) kept))
+                (subst (Contains (map (with_cleanup (next_word (shape_in u) found.node) cleanup) u.slots)) (ap (λ b. if b then record s { cleanup = Some cleanup } else s) this)
+                (map_in (with_cleanup (next_word (shape_in u) found.node) cleanup) u.slots s there.1));
+            word = word_is ∙ ap (λ x. next_word x found.node) (sym (shape_later t v later_v));
+            marked = ap is_marked new_is ∙ mark_set found.next.value n.next.unmarked;
+            cleanup = refl;
+            earlier = t.hand.changes;
+            old = found.next.value;
+            last = ap (λ h. h.changes) (hand_is ∙ marked_by.hand)
+                ∙ ap (λ (x : Change). t.hand.changes ++ x ∷ []) (changes_same next_at s.write.word marked s.write.new (sym word_is) (sym new_is));
+          }
+        where
+          apart_more : (x : ℕ) → x ≢ x + 1
+          apart_more x e = absurd (omega (arith, e))
+
+          changes_same : (a b x y : ℕ) → a ≡ b → x ≡ y → (let c : Change = record { word = a; old = found.next.value; new = x } in c) ≡ record { word = b; old = found.next.value; new = y }
+          changes_same a b x y one two = cc (one, two)
 
       module _ (fits : found.next.count < 2 ^ 32) (map : ℕ) (is : IsHeadOf (shape_in t) map key head) (value word : ℕ) (word_is : word ≡ address (shape_in t) (node_value found.node))
           (data_is : Known M t (λ u h. data_at h (place_at (shape_in t) word) ≡ value)) where
         abbrev fact : Fact
         fact = pair_fact list found.node key value
-
-        abbrev change : Change
-        change = record { word = next_at; old = found.next.value; new = marked }
 
         abbrev c : Certificate
         c = changing (Remove w.map key) (Value (Some value)) w.changes change [] (fact ∷ [])
@@ -138,28 +198,29 @@ module _ (M : Meaning) (lawful : Lawful M) (lists : HasListsOf M) (t : TxnState)
         own_head : (w.map ≡ map) × (w.bucket ≡ bucket_of (shape_in t) key)
         own_head = one_head (shape_in t) w.map w.bucket map (bucket_of (shape_in t) key) head w.is_head is
 
-        certified : M.certifies (shape_in v) c
-        certified = row_certifies M lists t head key w own_head.1 v later_v c
-            (remove_some value refl refl (record { node = found.node; old = found.next.value; fact = here fact []; unmarked = n.next.unmarked; changes = refl; nodes = refl })) w.unlinks
+        row : IsRow (shape_in t) list head w.map key c
+        row = remove_some value refl refl (record { node = found.node; old = found.next.value; fact = here fact []; unmarked = n.next.unmarked; changes = refl; nodes = refl })
 
         facts_known : Known M t (λ u h. All (Holds (tidied h w.certificates w.changes)) (fact ∷ []))
         facts_known x over prepared h of = All-cons (Holds (tidied h w.certificates w.changes)) fact []
             (bare_holds (after_wholes h w.certificates) w.changes w.tidied.bare fact refl
             (pair_known M lawful lists t head key found has t (later_self t) w.going is_here value word word_is data_is x over prepared h of)) (All-nil (Holds (tidied h w.certificates w.changes)))
 
-        hand_is : v.hand ≡ u.hand
-        hand_is = ap (λ (x : TxnState). x.hand) kept
-
-        pub may_answer_removed : MayAnswer M v (Remove map key) (Value (Some value))
-        may_answer_removed = subst (λ m. MayAnswer M v (Remove m key) (Value (Some value))) own_head.0 (record {
-          earlier = w.certificates;
-          going = keeps.going w.certificates (goes.going w.certificates w.going) tidy_later;
-          certificate = c;
-          of = (refl, refl);
-          may = may_end_changing M t w.certificates w.changes w.tidied v later_v (Remove w.map key) (Value (Some value)) change [] (fact ∷ []) certified
-              (ap (λ h. h.changes) (hand_is ∙ did.hand)) (sym (ap (λ h. h.stored) (hand_is ∙ did.hand) ∙ w.tidied.stored)) (All-nil _) (All-nil _)
-              (known_later M _ u v keeps.later
-              (seen_value M lawful t w.certificates w.going w.changes w.tidied next_at found.next n.next.gave n.next.there fits u goes.later did.first))
-              (known_later M _ t v later_v facts_known)
-              (λ x over prepared h of. All-nil _);
+        pub removed : IsAnswered M v map key (Remove map key) (Value (Some value))
+        removed = subst (λ m. IsAnswered M v m key (Remove m key) (Value (Some value))) own_head.0 (record {
+          may = record {
+            earlier = w.certificates;
+            going = keeps.going w.certificates (goes.going w.certificates w.going) tidy_later;
+            certificate = c;
+            of = (refl, refl);
+            may = may_end_changing M t w.certificates w.changes w.tidied v later_v (Remove w.map key) (Value (Some value)) change [] (fact ∷ [])
+                (row_certifies M lists t head key w own_head.1 v later_v c row w.unlinks)
+                (ap (λ h. h.changes) (hand_is ∙ marked_by.hand)) (sym (ap (λ h. h.stored) (hand_is ∙ marked_by.hand) ∙ w.tidied.stored)) (All-nil _) (All-nil _)
+                (known_later M _ u v keeps.later
+                (seen_value M lawful t w.certificates w.going w.changes w.tidied next_at found.next n.next.gave n.next.there fits u goes.later marked_by.first))
+                (known_later M _ t v later_v facts_known)
+                (λ x over prepared h of. All-nil _);
+          };
+          row = row_of_map M lists t head key w own_head.1 v later_v c row w.unlinks;
+          charged = charged_later t v later_v marks (all_changes w.certificates) w.changes w.charged;
         })

@@ -15,12 +15,11 @@ use Rattle.md_machine.specs.declared.certificate.Fact.{Fact}
 use Rattle.md_machine.specs.declared.certificate.WordValue.{WordValue}
 use Rattle.md_machine.specs.declared.node.Structure.{Structure}
 use Rattle.md_machine.specs.declared.node.Structure.TheVariants.{Bucket}
-use Rattle.md_machine.specs.Certified.{after_wholes, content_read, content_replaced, first_content, is_written}
+use Rattle.md_machine.specs.Certified.{after_wholes, all_changes, content_read, content_replaced, first_content, is_written}
 use Rattle.md_machine.specs.LogicalHeap.{Holds}
 use Rattle.md_machine.specs.Meaning.{Lawful, Meaning}
 use Rattle.md_machine.specs.Resolution.{or_else}
 use Rattle.md_nbtc.specs.declared.seen.Seen.{Seen}
-use Rattle.md_nbtc.specs.Calls.{MayAnswer}
 use Rattle.md_nbtc.specs.Going.{IsGoing}
 use Rattle.md_nbtc.specs.Known.{IsLater, Known, found_by}
 use Rattle.md_nbtc.specs.State.{TxnState, seen_content, shape_in, writes_in}
@@ -32,10 +31,11 @@ use Rattle.md_nbtc.proofs.structures.SeenValues.{seen_value}
 use Rattle.md_nbtc.proofs.structures.StoodThen.{written_is_found}
 use Rattle.md_nbtc.proofs.structures.Tidying.{bare_holds}
 use Rattle.md_list_law.specs.Certificates.{IsListCertificate, IsRow, IsUnlink}
-use Rattle.md_list_law.specs.HasLists.{HasListsOf}
+use Rattle.md_list_law.specs.HasLists.{HasListsOf, IsMapCertificate}
 use Rattle.md_list_law.specs.ListShape.{head_word}
-use Rattle.md_list.specs.Operations.{IsBegun}
+use Rattle.md_list.specs.Operations.{IsAnswered, IsBegun}
 use Rattle.md_list.specs.Walking.{Gives, IsHead, IsHeadOf, IsWalking}
+use Rattle.md_list.proofs.Charging.{charged_later, marks_slots}
 
 -- a head is that of one bucket
 one_bucket : (m b n d : ℕ) → bucket_head m b ≡ bucket_head n d → (m ≡ n) × (b ≡ d)
@@ -57,15 +57,21 @@ begun_walks M t map key head begun is = record {
   changes = [];
   tidied = tidied_none M t begun.going.0 begun.changes begun.stored;
   unlinks = All-nil (IsUnlink (shape_in t) (Bucket map (bucket_of (shape_in t) key)) head);
+  charged = tt;
 }
 
--- the theory has the certificate of a row, with unlinks of the list before it
-pub row_certifies : (M : Meaning) → HasListsOf M → (t : TxnState) (head key : ℕ) (w : IsWalking M t head) → w.bucket ≡ bucket_of (shape_in t) key → (v : TxnState) → IsLater t v
-    → (c : Certificate) → IsRow (shape_in t) (Bucket w.map w.bucket) head w.map key c → All (IsUnlink (shape_in t) (Bucket w.map w.bucket) head) c.tidy → M.certifies (shape_in v) c
-row_certifies M lists t head key w own_bucket v later c row unlinks = subst (λ s. M.certifies s c) (sym (shape_later t v later))
-    (lists.certifies (shape_in t) w.map key c w.is_head.is_map
-    (subst (λ b. IsListCertificate (shape_in t) (Bucket w.map b) (head_word (shape_in t) w.map b) w.map key c) own_bucket
-    (subst (λ x. IsListCertificate (shape_in t) (Bucket w.map w.bucket) x w.map key c) w.is_head.is (record { row = row; unlinks = unlinks }))))
+-- a certificate of a row in the bucket, with unlinks of the list before it, is one of the map; so the theory has it
+module _ (M : Meaning) (lists : HasListsOf M) (t : TxnState) (head key : ℕ) (w : IsWalking M t head) (own_bucket : w.bucket ≡ bucket_of (shape_in t) key) (v : TxnState) (later : IsLater t v)
+    (c : Certificate) (row : IsRow (shape_in t) (Bucket w.map w.bucket) head w.map key c) (unlinks : All (IsUnlink (shape_in t) (Bucket w.map w.bucket) head) c.tidy) where
+  of_map : IsMapCertificate (shape_in t) w.map key c
+  of_map = subst (λ b. IsListCertificate (shape_in t) (Bucket w.map b) (head_word (shape_in t) w.map b) w.map key c) own_bucket
+      (subst (λ x. IsListCertificate (shape_in t) (Bucket w.map w.bucket) x w.map key c) w.is_head.is (record { row = row; unlinks = unlinks }))
+
+  pub row_of_map : IsMapCertificate (shape_in v) w.map key c
+  row_of_map = subst (λ s. IsMapCertificate s w.map key c) (sym (shape_later t v later)) of_map
+
+  pub row_certifies : M.certifies (shape_in v) c
+  row_certifies = subst (λ s. M.certifies s c) (sym (shape_later t v later)) (lists.certifies (shape_in t) w.map key c w.is_head.is_map of_map)
 
 module _ (M : Meaning) (lawful : Lawful M) (lists : HasListsOf M) (t : TxnState) (head key : ℕ) (w : IsWalking M t head) (own_bucket : w.bucket ≡ bucket_of (shape_in t) key)
     (v : TxnState) (later : IsLater t v) (same : v.hand ≡ t.hand) (going : IsGoing M v w.certificates) (word : ℕ) (seen : Seen) (gives : Gives M t word seen) (fits : seen.count < 2 ^ 32)
@@ -90,21 +96,25 @@ module _ (M : Meaning) (lawful : Lawful M) (lists : HasListsOf M) (t : TxnState)
   tidied_now = tidied_later M t cs w.changes w.tidied v later same
 
   -- a look-up of a list may be answered so
-  pub may_answer_reading : (op : Op) (reply : Reply) (facts : List Fact)
+  pub answered_reading : (op : Op) (reply : Reply) (facts : List Fact)
       → IsRow (shape_in t) list head w.map key (reading op reply w.changes (record { word = word; value = seen.value } ∷ []) facts)
       → Known M v (λ u h. All (Holds (after_wholes h cs)) facts) → All (λ (f : Fact). f.next ≡ None) facts
-      → MayAnswer M v op reply
-  may_answer_reading op reply facts row known plain =
+      → IsAnswered M v w.map key op reply
+  answered_reading op reply facts row known plain =
       let c = reading op reply w.changes (record { word = word; value = seen.value } ∷ []) facts in
       record {
-        earlier = cs;
-        going = going;
-        certificate = c;
-        of = (refl, refl);
-        may = may_end_reading M v cs w.changes tidied_now op reply (record { word = word; value = seen.value } ∷ []) facts
-            (row_certifies M lists t head key w own_bucket v later c row w.unlinks)
-            (All-cons (λ (x : WordValue). is_some (first_content v.reads (writes_in v) x.word) ≡ true) (record { word = word; value = seen.value }) [] is_found (All-nil _))
-            (λ u over prepared h of. All-cons (λ (x : WordValue). (tidied (found_by u h) cs w.changes).words.value x.word ≡ x.value) (record { word = word; value = seen.value }) []
-            (seen_value M lawful t cs w.going w.changes w.tidied word seen gives.gave gives.there fits v later first_is u over prepared h of) (All-nil _))
-            (λ u over prepared h of i d below. bare_holds (after_wholes h cs) w.changes w.tidied.bare (get_or facts i d) (plain i d below) (known u over prepared h of i d below));
+        may = record {
+          earlier = cs;
+          going = going;
+          certificate = c;
+          of = (refl, refl);
+          may = may_end_reading M v cs w.changes tidied_now op reply (record { word = word; value = seen.value } ∷ []) facts
+              (row_certifies M lists t head key w own_bucket v later c row w.unlinks)
+              (All-cons (λ (x : WordValue). is_some (first_content v.reads (writes_in v) x.word) ≡ true) (record { word = word; value = seen.value }) [] is_found (All-nil _))
+              (λ u over prepared h of. All-cons (λ (x : WordValue). (tidied (found_by u h) cs w.changes).words.value x.word ≡ x.value) (record { word = word; value = seen.value }) []
+              (seen_value M lawful t cs w.going w.changes w.tidied word seen gives.gave gives.there fits v later first_is u over prepared h of) (All-nil _))
+              (λ u over prepared h of i d below. bare_holds (after_wholes h cs) w.changes w.tidied.bare (get_or facts i d) (plain i d below) (known u over prepared h of i d below));
+        };
+        row = row_of_map M lists t head key w own_bucket v later c row w.unlinks;
+        charged = charged_later t v later (marks_slots t v slots) (all_changes cs) w.changes w.charged;
       }

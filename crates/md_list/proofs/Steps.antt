@@ -1,5 +1,5 @@
 -- What a walk has after each of its calls.
-use Rattle.std.proofs.Common.{◌≡◌, ◌≢◌, ◌<◌, ◌^◌, ◌-◌, ◌/◌, ◌∷◌, ℕ, true, List, [], Result, Ok, refl, sym, ap, ◌∙◌, subst, inl, inr, ⊎_elim}
+use Rattle.std.proofs.Common.{◌≡◌, ◌≢◌, ◌<◌, ◌^◌, ◌-◌, ◌/◌, ◌∷◌, ◌⊎◌, ℕ, true, List, [], Result, Ok, refl, sym, ap, ◌∙◌, subst, inl, inr, ⊎_elim}
 use Rattle.std.proofs.lemmas.List.Elements.{All-contains}
 use Rattle.md_words.specs.declared.shape.Shape.{Shape}
 use Rattle.md_words.specs.Layout.{IsNode, address, words_of}
@@ -12,22 +12,23 @@ use Rattle.md_machine.specs.declared.node.Structure.TheVariants.{Bucket}
 use Rattle.md_machine.specs.Certified.{all_nodes}
 use Rattle.md_machine.specs.Meaning.{Lawful, Meaning}
 use Rattle.md_nbtc.specs.declared.seen.Kind.{Kind}
+use Rattle.md_nbtc.specs.declared.seen.Kind.TheVariants.{Plain}
 use Rattle.md_nbtc.specs.declared.seen.Seen.{Seen}
 use Rattle.md_nbtc.specs.Calls.{AfterStop, Exchanges, GoesOn, IsData, Looked, exchange_case}
 use Rattle.md_nbtc.specs.Course.{IsStoredNode, stored_words}
 use Rattle.md_nbtc.specs.Seeing.{Gave, KeepsGiven, Looks}
 use Rattle.md_nbtc.specs.State.{TxnState, shape_in}
-use Rattle.md_nbtc.proofs.structures.Answering.{IsStopped, after_ok}
+use Rattle.md_nbtc.proofs.structures.Answering.{after_ok}
 use Rattle.md_nbtc.proofs.structures.Exchanging.{HasExchanged, changed_own, changed_plainly, exchanged_so, installed}
 use Rattle.md_nbtc.proofs.structures.NodesKnown.{placed_or_own}
 use Rattle.md_list_law.specs.HasLists.{HasListsOf}
 use Rattle.md_list_law.specs.ListShape.{next_word}
-use Rattle.md_list.specs.Walking.{IsHead, IsWalking, WalkedFrom}
+use Rattle.md_list.specs.Walking.{IsHead, IsWalking}
 use Rattle.md_list.proofs.At.{IsAt, stepped}
 use Rattle.md_list.proofs.Further.{unlinked}
 use Rattle.md_list.proofs.Marks.{halved}
 use Rattle.md_list.proofs.OnNode.{IsOn, begins, looks_on}
-use Rattle.md_list.proofs.Walked.{stopped_nodes, stopped_reads, walked_more}
+use Rattle.md_list.proofs.Walked.{WalkedFrom, walked_more}
 
 -- the head is a counted word
 pub head_counted : (shape : Shape) (map bucket head : ℕ) → IsHead shape map bucket head → IsCounted shape head
@@ -58,18 +59,18 @@ module _ (M : Meaning) (t u : TxnState) (word : ℕ) where
   exchanged_reads from to kind seen (installed e) = ap (λ (x : TxnState). x.reads) e.state_is
   exchanged_reads from to kind seen (changed_plainly e) = ap (λ (x : TxnState). x.reads) e.state_is
 
-  pub exchanged_nodes : (from : Seen) (to : ℕ) (kind : Kind) (seen : Seen) → HasExchanged M t word from to kind u seen → u.nodes ≡ t.nodes
-  exchanged_nodes from to kind seen (changed_own e) = ap (λ (x : TxnState). x.nodes) e.state_is
-  exchanged_nodes from to kind seen (installed e) = ap (λ (x : TxnState). x.nodes) e.state_is
-  exchanged_nodes from to kind seen (changed_plainly e) = ap (λ (x : TxnState). x.nodes) e.state_is
-
 -- what a walk leaves after one more call
 module _ (M : Meaning) (s t u : TxnState) (walked : WalkedFrom M s t) (goes : GoesOn M t u) where
   pub walked_same : u ≡ record t { pass = u.pass } → WalkedFrom M s u
-  walked_same same = walked_more M s t u walked goes (ap (λ (x : TxnState). x.reads) same) (ap (λ (x : TxnState). x.nodes) same)
+  walked_same same = walked_more M s t u walked goes (ap (λ (x : TxnState). x.hand.acts) same) (ap (λ (x : TxnState). x.hand.operating) same) (ap (λ (x : TxnState). x.reads) same)
+      (ap (λ (x : TxnState). x.nodes) same)
 
-  pub walked_stop : (stop : Stop) → IsStopped t u stop → WalkedFrom M s u
-  walked_stop stop is = walked_more M s t u walked goes (stopped_reads M t u stop is) (stopped_nodes M t u stop is)
+  pub walked_exchange : (word : ℕ) (from : Seen) (to : ℕ) (kind : Kind) (seen : Seen) → HasExchanged M t word from to kind u seen → WalkedFrom M s u
+  walked_exchange word from to kind seen (changed_own e) = walked_more M s t u walked goes (ap (λ (x : TxnState). x.hand.acts) e.state_is) (ap (λ (x : TxnState). x.hand.operating) e.state_is)
+      (ap (λ (x : TxnState). x.reads) e.state_is) (ap (λ (x : TxnState). x.nodes) e.state_is)
+  walked_exchange word from to kind seen (installed e) = walked_more M s t u walked goes (ap (λ (x : TxnState). x.hand.acts) e.state_is) (ap (λ (x : TxnState). x.hand.operating) e.state_is)
+      (ap (λ (x : TxnState). x.reads) e.state_is) (ap (λ (x : TxnState). x.nodes) e.state_is)
+  walked_exchange word from to kind seen (changed_plainly e) = walked_same e.state_is
 
 module _ (M : Meaning) (lawful : Lawful M) (lists : HasListsOf M) (t u : TxnState) (head key : ℕ) (goes : GoesOn M t u) where
   pub head_looked : IsWalking M t head → (seen : Seen) → AfterStop t.stop t u (let r : Result Seen Stop = Ok seen in r) (Looked M t u head (Ok seen)) → IsAt M u head key [] head seen
@@ -88,9 +89,9 @@ module _ (M : Meaning) (lawful : Lawful M) (lists : HasListsOf M) (t u : TxnStat
         (subst (λ w. Looks M t (stepped t u.pass) w next) is_next (subst (λ x. Looks M t x word next) is.0 is.1))
         (subst (λ w. KeepsGiven t (stepped t u.pass) w) is_next (subst (λ x. KeepsGiven t x word) is.0 given)))
 
-    pub unlinked_ok : (next : Seen) → IsOn M t head key visited prev at next → is_marked next.value ≡ true → at.count < 2 ^ 32 → (kind : Kind) (seen : Seen) → Gave u prev seen
-        → HasExchanged M t prev at (next.value - 1) kind u seen → IsAt M u head key (linked_node at.value ∷ visited) prev seen
-    unlinked_ok next on marked fits kind seen gave ex = unlinked M lawful lists t head key visited prev at next on some marked fits kind u seen goes gave ex
+    pub unlinked_ok : (next : Seen) → IsOn M t head key visited prev at next → is_marked next.value ≡ true → at.count < 2 ^ 32 → (kind : Kind) → ((next.own ≡ true) ⊎ (kind ≡ Plain)) → (seen : Seen)
+        → Gave u prev seen → HasExchanged M t prev at (next.value - 1) kind u seen → IsAt M u head key (linked_node at.value ∷ visited) prev seen
+    unlinked_ok next on marked fits kind why seen gave ex = unlinked M lawful lists t head key visited prev at next on some marked fits kind why u seen goes gave ex
 
 -- the key of a node that a walk stands on may be read
 pub key_data : (M : Meaning) (lawful : Lawful M) (lists : HasListsOf M) (t : TxnState) (head key : ℕ) (visited : List ℕ) (prev : ℕ) (at next : Seen)

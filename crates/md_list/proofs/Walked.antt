@@ -1,37 +1,65 @@
 -- What a walk leaves of a transaction, step by step.
-use Rattle.std.proofs.Common.{◌≡◌, Some, ap, ◌∙◌}
+use Rattle.std.proofs.Common.{◌≡◌, ◌≤◌, ◌+◌, true, length, Some, ap, ◌∙◌, arith}
 use Rattle.md_history.specs.declared.stops.Stop.{Stop}
 use Rattle.md_machine.specs.Meaning.{Meaning}
 use Rattle.md_nbtc.specs.Calls.{GoesOn}
 use Rattle.md_nbtc.specs.Going.{IsUnderWay}
+use Rattle.md_nbtc.specs.Known.{IsLater}
 use Rattle.md_nbtc.specs.State.{TxnState}
 use Rattle.md_nbtc.proofs.preparing.Later.{later_over}
 use Rattle.md_nbtc.proofs.structures.Answering.{IsStopped}
-use Rattle.md_list.specs.Walking.{WalkedFrom}
+use Rattle.md_list.specs.Operations.{Leaves}
+use Rattle.md_list.specs.Written.{WritesFew}
+use Rattle.md_list.proofs.Adding.{adds_stop, leaves_more}
+
+-- it is under way and later, and recorded no word and took no node
+pub record WalkedFrom (M : Meaning) (t u : TxnState) : Type 0 where
+  pub going : IsUnderWay M u
+  pub later : IsLater t u
+  pub acts : u.hand.acts ≡ t.hand.acts
+  pub operates : u.hand.operating ≡ true
+  pub reads : u.reads ≡ t.reads
+  pub nodes : u.nodes ≡ t.nodes
 
 module _ (M : Meaning) (t : TxnState) where
   -- after one call
-  pub walked_one : IsUnderWay M t → (u : TxnState) → GoesOn M t u → u.reads ≡ t.reads → u.nodes ≡ t.nodes → WalkedFrom M t u
-  walked_one under u goes reads nodes = record { going = (under.0, goes.going under.0 under.1); later = goes.later; reads = reads; nodes = nodes }
+  pub walked_one : IsUnderWay M t → t.hand.operating ≡ true → (u : TxnState) → GoesOn M t u → u ≡ record t { pass = u.pass } → WalkedFrom M t u
+  walked_one under operates u goes same = record {
+    going = (under.0, goes.going under.0 under.1);
+    later = goes.later;
+    acts = ap (λ (x : TxnState). x.hand.acts) same;
+    operates = ap (λ (x : TxnState). x.hand.operating) same ∙ operates;
+    reads = ap (λ (x : TxnState). x.reads) same;
+    nodes = ap (λ (x : TxnState). x.nodes) same;
+  }
 
   -- and after one more
-  pub walked_more : (u v : TxnState) → WalkedFrom M t u → GoesOn M u v → v.reads ≡ u.reads → v.nodes ≡ u.nodes → WalkedFrom M t v
-  walked_more u v walked goes reads nodes = record {
+  pub walked_more : (u v : TxnState) → WalkedFrom M t u → GoesOn M u v → v.hand.acts ≡ u.hand.acts → v.hand.operating ≡ u.hand.operating → v.reads ≡ u.reads → v.nodes ≡ u.nodes
+      → WalkedFrom M t v
+  walked_more u v walked goes acts operates reads nodes = record {
     going = (walked.going.0, goes.going walked.going.0 walked.going.1);
     later = later_over t u v walked.later goes.later;
+    acts = acts ∙ walked.acts;
+    operates = operates ∙ walked.operates;
     reads = reads ∙ walked.reads;
     nodes = nodes ∙ walked.nodes;
   }
 
-  -- a stop leaves the sets
-  pub stopped_reads : (u : TxnState) (s : Stop) → IsStopped t u s → u.reads ≡ t.reads
-  stopped_reads u s is = ap (λ (x : TxnState). x.reads) is
+  -- so it leaves this, with few words written
+  pub walk_leaves : (u : TxnState) → WalkedFrom M t u → WritesFew t u 0 → Leaves M t u 0 0 0
+  walk_leaves u walked few = record {
+    going = walked.going;
+    later = walked.later;
+    acts = walked.acts;
+    operates = walked.operates;
+    reads_few = let l = ap (λ rs. length rs) walked.reads in omega (arith, l);
+    writes_few = few;
+    nodes_few = let l = ap (λ ns. length ns) walked.nodes in omega (arith, l);
+  }
 
-  pub stopped_nodes : (u : TxnState) (s : Stop) → IsStopped t u s → u.nodes ≡ t.nodes
-  stopped_nodes u s is = ap (λ (x : TxnState). x.nodes) is
-
-  pub stopped_slots : (u : TxnState) (s : Stop) → IsStopped t u s → u.slots ≡ t.slots
-  stopped_slots u s is = ap (λ (x : TxnState). x.slots) is
+  -- and after a refusal still
+  pub stop_leaves : (u v : TxnState) (s : Stop) → Leaves M t u 0 0 0 → GoesOn M u v → IsStopped u v s → Leaves M t v 0 0 0
+  stop_leaves u v s leaves goes is = leaves_more M t u v 0 0 0 0 0 0 leaves goes (adds_stop u v s is)
 
   pub has_stop : (u : TxnState) (s : Stop) → IsStopped t u s → u.stop ≡ Some s
   has_stop u s is = ap (λ (x : TxnState). x.stop) is

@@ -1,3 +1,4 @@
 pub mod Walking
 pub mod Written
+pub mod Charged
 pub mod Operations

@@ -1,9 +1,28 @@
 -- What the operations of a list ask, and what they leave.
-use Rattle.std.specs.Prelude.{◌≡◌, ◌≤◌, ◌+◌, true, [], length}
+use Rattle.std.specs.Prelude.{◌≡◌, ◌≢◌, ◌≤◌, ◌+◌, ◌++◌, ℕ, true, List, [], ◌∷◌, Contains, Some, None, Result, MatchResult, length}
+use Rattle.md_words.specs.Layout.{IsNode}
+use Rattle.md_words.specs.Link.{is_marked, linked_node}
+use Rattle.md_history.specs.declared.acts.Op.{Op}
+use Rattle.md_history.specs.declared.acts.Reply.{Reply}
+use Rattle.md_history.specs.declared.stops.Limit.TheVariants.{Nodes}
+use Rattle.md_history.specs.declared.stops.Stop.{Stop}
+use Rattle.md_history.specs.declared.stops.Stop.TheVariants.{Limit as Limited}
+use Rattle.md_machine.specs.declared.certificate.Change.{Change}
+use Rattle.md_machine.specs.Certified.{all_changes}
 use Rattle.md_machine.specs.Meaning.{Meaning}
+use Rattle.md_nbtc.specs.declared.seen.Cleanup.TheVariants.{Unlink}
+use Rattle.md_nbtc.specs.declared.seen.Seen.{Seen}
+use Rattle.md_nbtc.specs.declared.sets.Slot.{Slot}
+use Rattle.md_nbtc.specs.Calls.{MayAnswer}
 use Rattle.md_nbtc.specs.Going.{IsUnderWay}
 use Rattle.md_nbtc.specs.Known.{IsLater}
-use Rattle.md_nbtc.specs.State.{TxnState}
+use Rattle.md_nbtc.specs.Seeing.{Gave}
+use Rattle.md_nbtc.specs.State.{TxnState, shape_in}
+use Rattle.md_list_law.specs.HasLists.{IsMapCertificate}
+use Rattle.md_list_law.specs.ListShape.{next_word}
+use Rattle.md_list.specs.Charged.{AreCharged}
+use Rattle.md_list.specs.Walking.{IsHeadOf}
+use Rattle.md_list.specs.Written.{WritesFew}
 
 -- an operation was begun, and nothing was done since
 pub record IsBegun (M : Meaning) (t : TxnState) : Type 0 where
@@ -12,16 +31,51 @@ pub record IsBegun (M : Meaning) (t : TxnState) : Type 0 where
   pub changes : t.hand.changes ≡ []
   pub stored : t.hand.stored ≡ []
 
--- what an operation leaves of a transaction that takes no node, answered or refused: it is under way and later, and recorded at most one more word
-pub record KeepsNodes (M : Meaning) (t u : TxnState) : Type 0 where
+-- what a call leaves of the transaction, answered or refused: it is under way and later, its acts are the same and the
+-- operation is begun still. So many words more are recorded at most, so many more written than those that WritesFew
+-- allows anyway, and so many nodes taken
+pub record Leaves (M : Meaning) (t u : TxnState) (reads writes nodes : ℕ) : Type 0 where
   pub going : IsUnderWay M u
   pub later : IsLater t u
-  pub reads : length u.reads ≤ length t.reads + 1
-  pub nodes : u.nodes ≡ t.nodes
+  pub acts : u.hand.acts ≡ t.hand.acts
+  pub operates : u.hand.operating ≡ true
+  pub reads_few : length u.reads ≤ length t.reads + reads
+  pub writes_few : WritesFew t u writes
+  pub nodes_few : length u.nodes ≤ length t.nodes + nodes
 
--- and of one that takes at most one
-pub record TakesOne (M : Meaning) (t u : TxnState) : Type 0 where
-  pub going : IsUnderWay M u
-  pub later : IsLater t u
-  pub reads : length u.reads ≤ length t.reads + 1
-  pub nodes : length u.nodes ≤ length t.nodes + 1
+-- if no stop stood before: none stands after an Ok, and after an Err the one that was answered
+abbrev pub HasStop : {A : Type 0} → TxnState → Result A Stop → Type 0
+HasStop u result = MatchResult result (λ _. u.stop ≡ None) (λ s. u.stop ≡ Some s)
+
+-- and it didn't come for want of nodes
+abbrev pub HasStopButNodes : {A : Type 0} → TxnState → Result A Stop → Type 0
+HasStopButNodes u result = MatchResult result (λ _. u.stop ≡ None) (λ s. (u.stop ≡ Some s) × (s ≢ Limited Nodes))
+
+-- an operation on a key of a map may be ended with the reply, by a certificate of its row in the table of lists, whose
+-- unlinks are charged
+pub record IsAnswered (M : Meaning) (t : TxnState) (map key : ℕ) (op : Op) (reply : Reply) : Type 0 where
+  pub may : MayAnswer M t op reply
+  pub row : IsMapCertificate (shape_in t) map key may.certificate
+  pub charged : AreCharged t (all_changes may.earlier) may.certificate.tidy
+
+-- for each map of which the head is that of the key's bucket
+abbrev pub Answers : Meaning → (t u : TxnState) → (head key : ℕ) → (op : ℕ → Op) → Reply → Type 0
+Answers M t u head key op reply = (map : ℕ) → IsHeadOf (shape_in t) map key head → IsAnswered M u map key (op map) reply
+
+-- the last change of the operation marked the next word of a node, and the unlink of this node is kept with that word. It
+-- goes by the word that named the node when the transaction looked there last
+pub record KeepsUnlink (t : TxnState) : Type 0 where
+  pub node : ℕ
+  pub exists : IsNode (shape_in t) node
+  pub prev : ℕ
+  pub at : Seen
+  pub gave : Gave t prev at
+  pub names : linked_node at.value ≡ node
+  pub slot : Slot
+  pub among : Contains t.slots slot
+  pub word : slot.write.word ≡ next_word (shape_in t) node
+  pub marked : is_marked slot.write.new ≡ true
+  pub cleanup : slot.cleanup ≡ Some (Unlink prev node)
+  pub earlier : List Change
+  pub old : ℕ
+  pub last : t.hand.changes ≡ earlier ++ record { word = slot.write.word; old = old; new = slot.write.new } ∷ []

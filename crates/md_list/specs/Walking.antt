@@ -8,17 +8,18 @@ use Rattle.md_machine.specs.declared.certificate.Fact.{Fact}
 use Rattle.md_machine.specs.declared.certificate.TidyChange.{TidyChange}
 use Rattle.md_machine.specs.declared.node.Structure.{Structure}
 use Rattle.md_machine.specs.declared.node.Structure.TheVariants.{Bucket}
-use Rattle.md_machine.specs.Certified.{after_wholes}
+use Rattle.md_machine.specs.Certified.{after_wholes, all_changes}
 use Rattle.md_machine.specs.LogicalHeap.{Holds}
 use Rattle.md_machine.specs.Meaning.{Meaning}
 use Rattle.md_nbtc.specs.declared.seen.Seen.{Seen}
-use Rattle.md_nbtc.specs.Going.{IsFoundThere, IsGoing, IsUnderWay}
-use Rattle.md_nbtc.specs.Known.{IsLater, Known}
+use Rattle.md_nbtc.specs.Going.{IsFoundThere, IsGoing}
+use Rattle.md_nbtc.specs.Known.{Known}
 use Rattle.md_nbtc.specs.Seeing.{Gave}
 use Rattle.md_nbtc.specs.State.{TxnState, shape_in}
 use Rattle.md_nbtc.specs.Tidied.{HasTidied}
 use Rattle.md_list_law.specs.Certificates.{IsUnlink, key_fact}
 use Rattle.md_list_law.specs.ListShape.{head_word, next_word}
+use Rattle.md_list.specs.Charged.{AreCharged}
 use Rattle.md_list.specs.declared.walk.Found.{Found}
 
 -- the word is the head of a bucket of a map; of that of a key's own bucket
@@ -70,7 +71,7 @@ module _ (M : Meaning) (t : TxnState) (cs : List Certificate) where
     pub none : found.node ≡ 0 → FindsNone found
 
 module _ (M : Meaning) (t : TxnState) (head : ℕ) where
-  -- the operation that was begun has changed nothing but by unlinks of the bucket of this head
+  -- the operation that was begun has changed nothing but by unlinks of the bucket of this head, which are charged
   pub record IsWalking : Type 0 where
     pub operates : t.hand.operating ≡ true
     pub certificates : List Certificate
@@ -81,15 +82,9 @@ module _ (M : Meaning) (t : TxnState) (head : ℕ) where
     pub changes : List TidyChange
     pub tidied : HasTidied M t certificates changes
     pub unlinks : All (IsUnlink (shape_in t) (Bucket map bucket) head) changes
+    pub charged : AreCharged t (all_changes certificates) changes
 
   -- and the place of a key was found there
   pub record HasFound (key : ℕ) (found : Found) : Type 0 where
     pub walking : IsWalking
     pub place : FindsPlace M t walking.certificates (Bucket walking.map walking.bucket) head key found
-
--- what a walk leaves of a transaction: it is under way and later, and recorded no word and took no node
-pub record WalkedFrom (M : Meaning) (t u : TxnState) : Type 0 where
-  pub going : IsUnderWay M u
-  pub later : IsLater t u
-  pub reads : u.reads ≡ t.reads
-  pub nodes : u.nodes ≡ t.nodes

@@ -1,11 +1,11 @@
 //! How a key is inserted.
 
-ghost use Rattle.std.specs.Prelude.{◌≡◌, ℕ, IfOk, IfErr, Some, false};
+ghost use Rattle.std.specs.Prelude.{◌≡◌, ℕ, IfOk, false, true};
 ghost use Rattle.md_history.specs.declared.acts.Op.TheVariants.{Insert};
 ghost use Rattle.md_history.specs.declared.acts.Reply.TheVariants.{Flag};
-ghost use Rattle.md_nbtc.specs.Calls.{MayAnswer};
+ghost use Rattle.md_nbtc.specs.Calls.{AfterStop};
 ghost use Rattle.md_nbtc.specs.State.{shape_in, state};
-ghost use Rattle.md_list.specs.Operations.{IsBegun, TakesOne};
+ghost use Rattle.md_list.specs.Operations.{Answers, HasStop, IsBegun, Leaves};
 ghost use Rattle.md_list.specs.Walking.{IsHeadOf};
 
 use crate::walk::find;
@@ -38,13 +38,15 @@ pub fn insert<'a, T: HasLists>(
     requires begun { IsBegun T.meaning (state tx.old) }
     requires head { (map : ℕ) × IsHeadOf (shape_in (state tx.old)) map key head }
     ensures pass { tx.new.pass.ghost_name ≡ tx.old.pass.ghost_name }
-    ensures leaves { TakesOne T.meaning (state tx.old) (state tx.new) }
-    ensures none { IfOk result (λ absent. absent ≡ false
+    ensures leaves { Leaves T.meaning (state tx.old) (state tx.new) 1 1 1 }
+    ensures placed { IfOk result (λ absent. absent ≡ true
+        → (state tx.new).reads ≡ (state tx.old).reads) }
+    ensures there { IfOk result (λ absent. absent ≡ false
         → (state tx.new).nodes ≡ (state tx.old).nodes) }
-    ensures answer { IfOk result (λ absent. (map : ℕ)
-        → IsHeadOf (shape_in (state tx.old)) map key head
-        → MayAnswer T.meaning (state tx.new) (Insert map key value) (Flag absent)) }
-    ensures stop { IfErr result (λ stop. (state tx.new).stop ≡ Some stop) }
+    ensures answer { IfOk result (λ absent. Answers T.meaning (state tx.old) (state tx.new) head key
+        (λ map. Insert map key value) (Flag absent)) }
+    ensures stops { AfterStop (state tx.old).stop (state tx.old) (state tx.new) result
+        (HasStop (state tx.new) result) }
 {
     let found = find(tx, head, key)?;
     if found.here {

@@ -1,11 +1,11 @@
 //! The value of a key.
 
-ghost use Rattle.std.specs.Prelude.{◌≡◌, ℕ, IfOk, IfErr, Some};
+ghost use Rattle.std.specs.Prelude.{◌≡◌, ℕ, IfOk};
 ghost use Rattle.md_history.specs.declared.acts.Op.TheVariants.{Get};
 ghost use Rattle.md_history.specs.declared.acts.Reply.TheVariants.{Value};
-ghost use Rattle.md_nbtc.specs.Calls.{MayAnswer};
+ghost use Rattle.md_nbtc.specs.Calls.{AfterStop};
 ghost use Rattle.md_nbtc.specs.State.{shape_in, state};
-ghost use Rattle.md_list.specs.Operations.{IsBegun, KeepsNodes};
+ghost use Rattle.md_list.specs.Operations.{Answers, HasStopButNodes, IsBegun, Leaves};
 ghost use Rattle.md_list.specs.Walking.{IsHeadOf};
 
 use crate::walk::find;
@@ -30,11 +30,11 @@ pub fn get<'a, T: HasLists>(tx: &mut Txn<'a, T>, head: u32, key: u64) -> Result<
     requires begun { IsBegun T.meaning (state tx.old) }
     requires head { (map : ℕ) × IsHeadOf (shape_in (state tx.old)) map key head }
     ensures pass { tx.new.pass.ghost_name ≡ tx.old.pass.ghost_name }
-    ensures leaves { KeepsNodes T.meaning (state tx.old) (state tx.new) }
-    ensures answer { IfOk result (λ value. (map : ℕ)
-        → IsHeadOf (shape_in (state tx.old)) map key head
-        → MayAnswer T.meaning (state tx.new) (Get map key) (Value value)) }
-    ensures stop { IfErr result (λ stop. (state tx.new).stop ≡ Some stop) }
+    ensures leaves { Leaves T.meaning (state tx.old) (state tx.new) 1 0 0 }
+    ensures answer { IfOk result (λ value. Answers T.meaning (state tx.old) (state tx.new) head key
+        (λ map. Get map key) (Value value)) }
+    ensures stops { AfterStop (state tx.old).stop (state tx.old) (state tx.new) result
+        (HasStopButNodes (state tx.new) result) }
 {
     let found = find(tx, head, key)?;
     if !found.here {

@@ -1,11 +1,11 @@
 //! How a key is removed.
 
-ghost use Rattle.std.specs.Prelude.{◌≡◌, ℕ, IfOk, IfErr, Some};
+ghost use Rattle.std.specs.Prelude.{◌≡◌, ℕ, IfOk, IfSome};
 ghost use Rattle.md_history.specs.declared.acts.Op.TheVariants.{Remove};
 ghost use Rattle.md_history.specs.declared.acts.Reply.TheVariants.{Value};
-ghost use Rattle.md_nbtc.specs.Calls.{MayAnswer};
+ghost use Rattle.md_nbtc.specs.Calls.{AfterStop};
 ghost use Rattle.md_nbtc.specs.State.{shape_in, state};
-ghost use Rattle.md_list.specs.Operations.{IsBegun, KeepsNodes};
+ghost use Rattle.md_list.specs.Operations.{Answers, HasStopButNodes, IsBegun, KeepsUnlink, Leaves};
 ghost use Rattle.md_list.specs.Walking.{IsHeadOf};
 
 use crate::walk::find;
@@ -37,11 +37,14 @@ pub fn remove<'a, T: HasLists>(
     requires begun { IsBegun T.meaning (state tx.old) }
     requires head { (map : ℕ) × IsHeadOf (shape_in (state tx.old)) map key head }
     ensures pass { tx.new.pass.ghost_name ≡ tx.old.pass.ghost_name }
-    ensures leaves { KeepsNodes T.meaning (state tx.old) (state tx.new) }
-    ensures answer { IfOk result (λ value. (map : ℕ)
-        → IsHeadOf (shape_in (state tx.old)) map key head
-        → MayAnswer T.meaning (state tx.new) (Remove map key) (Value value)) }
-    ensures stop { IfErr result (λ stop. (state tx.new).stop ≡ Some stop) }
+    ensures leaves { Leaves T.meaning (state tx.old) (state tx.new) 1 1 0 }
+    ensures marked { IfOk result (λ value. IfSome value (λ _.
+        (state tx.new).reads ≡ (state tx.old).reads)) }
+    ensures unlink { IfOk result (λ value. IfSome value (λ _. KeepsUnlink (state tx.new))) }
+    ensures answer { IfOk result (λ value. Answers T.meaning (state tx.old) (state tx.new) head key
+        (λ map. Remove map key) (Value value)) }
+    ensures stops { AfterStop (state tx.old).stop (state tx.old) (state tx.new) result
+        (HasStopButNodes (state tx.new) result) }
 {
     let found = find(tx, head, key)?;
     if !found.here {

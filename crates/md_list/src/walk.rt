@@ -1,9 +1,10 @@
 //! How a key is looked for.
 
-ghost use Rattle.std.specs.Prelude.{◌≡◌, IfOk, IfErr, Some};
+ghost use Rattle.std.specs.Prelude.{◌≡◌, IfOk};
+ghost use Rattle.md_nbtc.specs.Calls.{AfterStop};
 ghost use Rattle.md_nbtc.specs.State.{state};
-ghost use Rattle.md_list.specs.Walking.{HasFound, IsWalking, WalkedFrom};
-ghost use Rattle.md_list.specs.Written.{WritesFew};
+ghost use Rattle.md_list.specs.Operations.{HasStopButNodes, Leaves};
+ghost use Rattle.md_list.specs.Walking.{HasFound, IsWalking};
 
 use md_history::Stop;
 use md_list_law::HasLists;
@@ -43,10 +44,10 @@ pub struct Found {
 pub fn find<'a, T: HasLists>(tx: &mut Txn<'a, T>, head: u32, key: u64) -> Result<Found, Stop>
     requires walking { IsWalking T.meaning (state tx.old) head }
     ensures pass { tx.new.pass.ghost_name ≡ tx.old.pass.ghost_name }
-    ensures walked { WalkedFrom T.meaning (state tx.old) (state tx.new) }
-    ensures few { WritesFew (state tx.old) (state tx.new) 0 }
+    ensures leaves { Leaves T.meaning (state tx.old) (state tx.new) 0 0 0 }
     ensures found { IfOk result (HasFound T.meaning (state tx.new) head key) }
-    ensures stop { IfErr result (λ stop. (state tx.new).stop ≡ Some stop) }
+    ensures stops { AfterStop (state tx.old).stop (state tx.old) (state tx.new) result
+        (HasStopButNodes (state tx.new) result) }
 {
     let mut prev = head;
     let mut at = tx.load(prev)?;

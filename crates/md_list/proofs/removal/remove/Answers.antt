@@ -1,4 +1,4 @@
-use Rattle.std.proofs.Common.{◌≡◌, ◌∙◌, ◌+◌, sym, ap, subst, arith, rules, Some}
+use Rattle.std.proofs.Common.{◌≡◌, ◌≢◌, ◌∙◌, ◌+◌, ℕ, sym, ap, subst, arith, Option, None, Some, Err}
 use Rattle.md_history.specs.declared.acts.Op.TheVariants.{Remove}
 use Rattle.md_words.specs.Layout.{address}
 use Rattle.md_words.specs.Place.{node_next, node_value}
@@ -6,8 +6,9 @@ use Rattle.md_words.specs.PlaceAt.{place_at}
 use Rattle.md_nbtc.specs.declared.seen.Kind.TheVariants.{Critical}
 use Rattle.md_nbtc.specs.Calls.{MayExchange, data_at, note_case}
 use Rattle.md_nbtc.specs.Known.{Known}
-use Rattle.md_nbtc.specs.Seeing.{Gave}
-use Rattle.md_nbtc.specs.State.{state}
+use Rattle.md_nbtc.specs.declared.seen.Cleanup.TheVariants.{Unlink}
+use Rattle.md_nbtc.specs.Seeing.{Gave, KeepsGiven}
+use Rattle.md_nbtc.specs.State.{shape_in, state}
 use Rattle.md_nbtc.proofs.preparing.Heaps.{later_self}
 use Rattle.md_nbtc.proofs.preparing.Later.{later_over}
 use Rattle.md_nbtc.proofs.structures.Answering.{exchange_refused, note_refused}
@@ -16,41 +17,24 @@ use Rattle.md_nbtc.proofs.structures.NodesKnown.{shape_later}
 use Rattle.md_list_law.specs.Certificates.{remove_none}
 use Rattle.md_list.specs.Walking.{IsHeadOf}
 use Rattle.md_list.proofs.FoundOn.{found_on}
-use Rattle.md_list.proofs.Getting.{is_absent, is_there, note_looks, noted_ok, stop_looks, value_data}
-use Rattle.md_list.proofs.LookUps.{here_node, may_answer_none}
+use Rattle.md_list.proofs.Adding.{adds_note, adds_steps, leaves_kept, leaves_more, leaves_within, on_by_none}
+use Rattle.md_list.proofs.Critical.{adds_change}
+use Rattle.md_list.proofs.Getting.{is_absent, is_there, noted_ok, value_data}
+use Rattle.md_list_law.specs.ListShape.{next_word}
+use Rattle.md_list.proofs.LookUps.{here_node, answered_none}
 use Rattle.md_list.proofs.Marks.{mark_fits}
-use Rattle.md_list.proofs.Removing.{may_answer_removed, may_mark, removed_leaves, written_for}
+use Rattle.md_list.proofs.Removing.{goes_kept, keeps_unlink, marked_by, may_mark, removed, written_for}
 use Rattle.md_list.proofs.Rows.{begun_walks}
-use Rattle.md_list.proofs.Steps.{exchanged_ok, walked_same}
-use Rattle.md_list.proofs.Walked.{has_stop}
+use Rattle.md_list.proofs.Steps.{exchanged_ok, exchanged_reads}
+use Rattle.md_list.proofs.Stops.{answers_other, exchange_stops, exchanged_stop, none_stood, note_stops, noted_stop_ok, passed_on, stop_after_ok}
+use Rattle.md_list.proofs.Walked.{stop_leaves}
+use Rattle.md_list.specs.declared.walk.Found.{Found}
+use Rattle.md_history.specs.declared.stops.Limit.TheVariants.{Nodes}
+use Rattle.md_history.specs.declared.stops.Stop.TheVariants.{Limit as Limited}
 use Rattle.md_list.proofs.removal.remove.Goals as goal
 
 pub find-requires : goal.find-requires
 find-requires g c = record { walking = begun_walks g.T.Theory.meaning (state c.args.tx.now) c.requires.head.0 c.args.key c.args.head c.requires.begun c.requires.head.1 }
-
-pub returns-in_err-note-clause-leaves : goal.returns-in_err-note-clause-leaves
-returns-in_err-note-clause-leaves g c =
-    let t = state c.find.new.tx in
-    let u = state c.note.new.self in
-    let stop = c.in_err-note.field-0.0 in
-    stop_looks g.T.Theory.meaning (state c.args.tx.now) t u c.in_ok-found.ensures.walked c.in_err-note.ensures.on stop
-    (note_refused g.T.Theory.meaning t u stop (note_case t c.in_ok-found.found.prev c.in_ok-found.found.at) c.in_ok-found.found.prev c.in_ok-found.found.at c.in_err-note.ensures.noted)
-
-pub returns-in_err-note-clause-stop : goal.returns-in_err-note-clause-stop
-returns-in_err-note-clause-stop g c =
-    let t = state c.find.new.tx in
-    let u = state c.note.new.self in
-    let stop = c.in_err-note.field-0.0 in
-    let stopped : u.stop ≡ Some stop = has_stop g.T.Theory.meaning t u stop
-    (note_refused g.T.Theory.meaning t u stop (note_case t c.in_ok-found.found.prev c.in_ok-found.found.at) c.in_ok-found.found.prev c.in_ok-found.found.at c.in_err-note.ensures.noted) in
-    search rules
-
-pub returns-then-not-found-clause-leaves : goal.returns-then-not-found-clause-leaves
-returns-then-not-found-clause-leaves g c =
-    let t = state c.find.new.tx in
-    let u = state c.note.new.self in
-    let noted = noted_ok t u c.in_ok-found.found.prev c.in_ok-found.found.at c.in_ok-note.ensures.noted in
-    note_looks g.T.Theory.meaning (state c.args.tx.now) t u c.in_ok-found.ensures.walked c.in_ok-note.ensures.on noted.few noted.nodes
 
 pub returns-then-not-found-clause-answer : goal.returns-then-not-found-clause-answer
 returns-then-not-found-clause-answer g c map is =
@@ -60,8 +44,8 @@ returns-then-not-found-clause-answer g c map is =
     let u = state c.note.new.self in
     let has = c.in_ok-found.ensures.found in
     let noted = noted_ok t u c.in_ok-found.found.prev c.in_ok-found.found.at c.in_ok-note.ensures.noted in
-    may_answer_none M g.T.Theory.lawful g.met.T.HasLists.has_lists t c.args.head c.args.key c.in_ok-found.found has map
-    (subst (λ x. IsHeadOf x map c.args.key c.args.head) (sym (shape_later s t c.in_ok-found.ensures.walked.later)) is) u c.in_ok-note.ensures.on.later noted.hand
+    answered_none M g.T.Theory.lawful g.met.T.HasLists.has_lists t c.args.head c.args.key c.in_ok-found.found has map
+    (subst (λ x. IsHeadOf x map c.args.key c.args.head) (sym (shape_later s t c.in_ok-found.ensures.leaves.later)) is) u c.in_ok-note.ensures.on.later noted.hand
     (c.in_ok-note.ensures.on.going has.walking.certificates has.walking.going) noted.slots (is_absent c.in_ok-found.found.here c.if-not-found.true) (omega arith) noted.content
     (λ m. Remove m c.args.key) (λ d op reply changes records. remove_none op reply changes records)
 
@@ -95,26 +79,6 @@ exchange-requires-clause-may g c =
     subst (λ x. MayExchange M v x c.in_ok-found.found.next (c.in_ok-found.found.next.value + 1) Critical) (sym (c.node_next-next_word.ensures.place ∙ ap (λ x. address x (node_next c.in_ok-found.found.node)) c.shape-2.ensures))
     (may_mark M g.T.Theory.lawful g.met.T.HasLists.has_lists v c.args.head c.args.key c.in_ok-found.found has (is_there c.in_ok-found.found.here c.if-not-found.false))
 
-pub returns-in_err-exchange-clause-leaves : goal.returns-in_err-exchange-clause-leaves
-returns-in_err-exchange-clause-leaves g c =
-    let M = g.T.Theory.meaning in
-    let v = state c.field_of-value.new.self in
-    let u = state c.exchange.new.self in
-    let stop = c.in_err-exchange.field-0.0 in
-    let walked = walked_same M (state c.args.tx.now) (state c.find.new.tx) v c.in_ok-found.ensures.walked c.field_of-value.ensures.on c.field_of-value.ensures.same in
-    stop_looks M (state c.args.tx.now) v u walked c.in_err-exchange.ensures.on stop
-    (exchange_refused M v u stop c.node_next-next_word.result c.in_ok-found.found.next (c.in_ok-found.found.next.value + 1) Critical c.in_err-exchange.ensures.exchanged)
-
-pub returns-in_err-exchange-clause-stop : goal.returns-in_err-exchange-clause-stop
-returns-in_err-exchange-clause-stop g c =
-    let M = g.T.Theory.meaning in
-    let v = state c.field_of-value.new.self in
-    let u = state c.exchange.new.self in
-    let stop = c.in_err-exchange.field-0.0 in
-    let stopped : u.stop ≡ Some stop = has_stop M v u stop
-    (exchange_refused M v u stop c.node_next-next_word.result c.in_ok-found.found.next (c.in_ok-found.found.next.value + 1) Critical c.in_err-exchange.ensures.exchanged) in
-    search rules
-
 pub later-requires-clause-written : goal.later-requires-clause-written
 later-requires-clause-written g c =
     let M = g.T.Theory.meaning in
@@ -127,21 +91,6 @@ later-requires-clause-written g c =
     c.in_ok-exchange.field-0 (subst (λ x. Gave u x c.in_ok-exchange.field-0) next_is c.in_ok-exchange.ensures.gave)
     (subst (λ x. HasExchanged M v x c.in_ok-found.found.next (c.in_ok-found.found.next.value + 1) Critical u c.in_ok-exchange.field-0) next_is
     (exchanged_ok M v u c.node_next-next_word.result c.in_ok-found.found.next (c.in_ok-found.found.next.value + 1) Critical c.in_ok-exchange.field-0 c.in_ok-exchange.ensures.exchanged))
-
-pub returns-clause-leaves : goal.returns-clause-leaves
-returns-clause-leaves g c =
-    let M = g.T.Theory.meaning in
-    let v = state c.field_of-value.new.self in
-    let u = state c.exchange.new.self in
-    let has = found_on M g.T.Theory.lawful g.met.T.HasLists.has_lists (state c.find.new.tx) c.args.head c.args.key c.in_ok-found.found c.in_ok-found.ensures.found v
-    c.field_of-value.ensures.on c.field_of-value.ensures.same c.field_of-value.ensures.given in
-    let next_is = c.node_next-next_word.ensures.place ∙ ap (λ x. address x (node_next c.in_ok-found.found.node)) c.shape-2.ensures in
-    let walked = walked_same M (state c.args.tx.now) (state c.find.new.tx) v c.in_ok-found.ensures.walked c.field_of-value.ensures.on c.field_of-value.ensures.same in
-    removed_leaves M g.T.Theory.lawful g.met.T.HasLists.has_lists v c.args.head c.args.key c.in_ok-found.found has (is_there c.in_ok-found.found.here c.if-not-found.false) u c.in_ok-exchange.ensures.on
-    c.in_ok-exchange.field-0 (subst (λ x. Gave u x c.in_ok-exchange.field-0) next_is c.in_ok-exchange.ensures.gave)
-    (subst (λ x. HasExchanged M v x c.in_ok-found.found.next (c.in_ok-found.found.next.value + 1) Critical u c.in_ok-exchange.field-0) next_is
-    (exchanged_ok M v u c.node_next-next_word.result c.in_ok-found.found.next (c.in_ok-found.found.next.value + 1) Critical c.in_ok-exchange.field-0 c.in_ok-exchange.ensures.exchanged))
-    (state c.later.new.self) c.later.ensures.on c.later.ensures.kept (state c.args.tx.now) walked
 
 pub returns-clause-answer : goal.returns-clause-answer
 returns-clause-answer g c map is =
@@ -156,12 +105,160 @@ returns-clause-answer g c map is =
     let next_is = c.node_next-next_word.ensures.place ∙ ap (λ x. address x (node_next c.in_ok-found.found.node)) c.shape-2.ensures in
     let on = c.field_of-value.ensures.on in
     let shape = shape_later t v on.later in
-    may_answer_removed M g.T.Theory.lawful g.met.T.HasLists.has_lists v c.args.head c.args.key c.in_ok-found.found has (is_there c.in_ok-found.found.here c.if-not-found.false) u c.in_ok-exchange.ensures.on
+    removed M g.T.Theory.lawful g.met.T.HasLists.has_lists v c.args.head c.args.key c.in_ok-found.found has (is_there c.in_ok-found.found.here c.if-not-found.false) u c.in_ok-exchange.ensures.on
     c.in_ok-exchange.field-0 (subst (λ x. Gave u x c.in_ok-exchange.field-0) next_is c.in_ok-exchange.ensures.gave)
     (subst (λ x. HasExchanged M v x c.in_ok-found.found.next (c.in_ok-found.found.next.value + 1) Critical u c.in_ok-exchange.field-0) next_is
     (exchanged_ok M v u c.node_next-next_word.result c.in_ok-found.found.next (c.in_ok-found.found.next.value + 1) Critical c.in_ok-exchange.field-0 c.in_ok-exchange.ensures.exchanged))
     (state c.later.new.self) c.later.ensures.on c.later.ensures.kept (omega arith) map
-    (subst (λ x. IsHeadOf x map c.args.key c.args.head) (sym (shape_later s v (later_over s t v c.in_ok-found.ensures.walked.later on.later))) is)
+    (subst (λ x. IsHeadOf x map c.args.key c.args.head) (sym (shape_later s v (later_over s t v c.in_ok-found.ensures.leaves.later on.later))) is)
     c.field_of-value.result c.node_value-value_word.result
     (c.node_value-value_word.ensures.place ∙ ap (λ x. address x (node_value node)) (c.shape.ensures ∙ sym shape))
     (subst (λ x. Known M v (λ w h. data_at h (place_at x c.node_value-value_word.result) ≡ c.field_of-value.result)) (sym shape) c.field_of-value.ensures.known)
+
+pub returns-in_err-found-clause-leaves : goal.returns-in_err-found-clause-leaves
+returns-in_err-found-clause-leaves g c = leaves_within g.T.Theory.meaning (state c.args.tx.now) (state c.find.new.tx) 0 0 0 1 1 0 (omega arith) (omega arith) (omega arith) c.in_err-found.ensures.leaves
+
+pub returns-in_err-found-clause-stops : goal.returns-in_err-found-clause-stops
+returns-in_err-found-clause-stops g c =
+    let s = state c.args.tx.now in
+    let t = state c.find.new.tx in
+    let stop = c.in_err-found.field-0.0 in
+    answers_other (Option ℕ) s t stop c.from_residual.result c.from_residual.ensures.1 (passed_on Found (Option ℕ) s t s.stop stop ((t.stop ≡ Some stop) × (stop ≢ Limited Nodes)) ((t.stop ≡ Some stop) × (stop ≢ Limited Nodes)) (λ p. p) c.in_err-found.ensures.stops)
+
+pub returns-in_err-note-clause-leaves : goal.returns-in_err-note-clause-leaves
+returns-in_err-note-clause-leaves g c =
+    let M = g.T.Theory.meaning in
+    let s = state c.args.tx.now in
+    let t = state c.find.new.tx in
+    let u = state c.note.new.self in
+    let stop = c.in_err-note.field-0.0 in
+    let found = c.in_ok-found.found in
+    leaves_within M s u 0 0 0 1 1 0 (omega arith) (omega arith) (omega arith) (stop_leaves M s t u stop c.in_ok-found.ensures.leaves c.in_err-note.ensures.on
+    (note_refused M t u stop (note_case t found.prev found.at) found.prev found.at c.in_err-note.ensures.noted))
+
+pub returns-in_err-note-clause-stops : goal.returns-in_err-note-clause-stops
+returns-in_err-note-clause-stops g c =
+    let M = g.T.Theory.meaning in
+    let s = state c.args.tx.now in
+    let t = state c.find.new.tx in
+    let u = state c.note.new.self in
+    let stop = c.in_err-note.field-0.0 in
+    let found = c.in_ok-found.found in
+    let none = stop_after_ok Found s t found c.in_ok-found.ensures.stops in
+    answers_other (Option ℕ) s u stop c.from_residual-in_err-note.result c.from_residual-in_err-note.ensures.1 (none_stood (Option ℕ) s u (Err stop) ((u.stop ≡ Some stop) × (stop ≢ Limited Nodes)) none.0 (note_stops M t u stop none.1 found.prev found.at c.in_err-note.ensures.noted))
+
+pub returns-then-not-found-clause-leaves : goal.returns-then-not-found-clause-leaves
+returns-then-not-found-clause-leaves g c =
+    let M = g.T.Theory.meaning in
+    let s = state c.args.tx.now in
+    let t = state c.find.new.tx in
+    let u = state c.note.new.self in
+    let found = c.in_ok-found.found in
+    leaves_within M s u 1 0 0 1 1 0 (omega arith) (omega arith) (omega arith) (leaves_more M s t u 0 0 0 1 0 0 c.in_ok-found.ensures.leaves c.in_ok-note.ensures.on
+    (adds_note t u found.prev found.at (noted_ok t u found.prev found.at c.in_ok-note.ensures.noted)))
+
+pub returns-then-not-found-clause-stops : goal.returns-then-not-found-clause-stops
+returns-then-not-found-clause-stops g c =
+    let s = state c.args.tx.now in
+    let t = state c.find.new.tx in
+    let u = state c.note.new.self in
+    let found = c.in_ok-found.found in
+    let none = stop_after_ok Found s t found c.in_ok-found.ensures.stops in
+    none_stood (Option ℕ) s u _ (u.stop ≡ None) none.0 (noted_stop_ok g.T.Theory.meaning t u found.prev found.at c.in_ok-note.ensures.noted ∙ none.1)
+
+pub returns-in_err-exchange-clause-leaves : goal.returns-in_err-exchange-clause-leaves
+returns-in_err-exchange-clause-leaves g c =
+    let M = g.T.Theory.meaning in
+    let s = state c.args.tx.now in
+    let t = state c.find.new.tx in
+    let v = state c.field_of-value.new.self in
+    let u = state c.exchange.new.self in
+    let found = c.in_ok-found.found in
+    let stop = c.in_err-exchange.field-0.0 in
+    let value_read = leaves_more M s t v 0 0 0 0 0 0 c.in_ok-found.ensures.leaves c.field_of-value.ensures.on (adds_steps t v c.field_of-value.ensures.same) in
+    leaves_within M s u 0 0 0 1 1 0 (omega arith) (omega arith) (omega arith) (stop_leaves M s v u stop value_read c.in_err-exchange.ensures.on
+    (exchange_refused M v u stop c.node_next-next_word.result found.next (found.next.value + 1) Critical c.in_err-exchange.ensures.exchanged))
+
+pub returns-in_err-exchange-clause-stops : goal.returns-in_err-exchange-clause-stops
+returns-in_err-exchange-clause-stops g c =
+    let M = g.T.Theory.meaning in
+    let s = state c.args.tx.now in
+    let t = state c.find.new.tx in
+    let v = state c.field_of-value.new.self in
+    let u = state c.exchange.new.self in
+    let found = c.in_ok-found.found in
+    let stop = c.in_err-exchange.field-0.0 in
+    let none = stop_after_ok Found s t found c.in_ok-found.ensures.stops in
+    answers_other (Option ℕ) s u stop c.from_residual-in_err-exchange.result c.from_residual-in_err-exchange.ensures.1 (none_stood (Option ℕ) s u (Err stop) ((u.stop ≡ Some stop) × (stop ≢ Limited Nodes)) none.0
+    (exchange_stops M v u stop (ap (λ x. x.stop) c.field_of-value.ensures.same ∙ none.1) c.node_next-next_word.result found.next (found.next.value + 1) Critical c.in_err-exchange.ensures.exchanged))
+
+pub returns-clause-leaves : goal.returns-clause-leaves
+returns-clause-leaves g c =
+    let M = g.T.Theory.meaning in
+    let s = state c.args.tx.now in
+    let t = state c.find.new.tx in
+    let v = state c.field_of-value.new.self in
+    let u = state c.exchange.new.self in
+    let x = state c.later.new.self in
+    let found = c.in_ok-found.found in
+    let has = found_on M g.T.Theory.lawful g.met.T.HasLists.has_lists t c.args.head c.args.key found c.in_ok-found.ensures.found v
+    c.field_of-value.ensures.on c.field_of-value.ensures.same c.field_of-value.ensures.given in
+    let next_is = c.node_next-next_word.ensures.place ∙ ap (λ x. address x (node_next found.node)) c.shape-2.ensures in
+    let here = is_there found.here c.if-not-found.false in
+    let gave = subst (λ x. Gave u x c.in_ok-exchange.field-0) next_is c.in_ok-exchange.ensures.gave in
+    let changed = subst (λ x. HasExchanged M v x found.next (found.next.value + 1) Critical u c.in_ok-exchange.field-0) next_is
+    (exchanged_ok M v u c.node_next-next_word.result found.next (found.next.value + 1) Critical c.in_ok-exchange.field-0 c.in_ok-exchange.ensures.exchanged) in
+    let did = marked_by M g.T.Theory.lawful g.met.T.HasLists.has_lists v c.args.head c.args.key found has here u c.in_ok-exchange.ensures.on c.in_ok-exchange.field-0 gave changed in
+    let goes = goes_kept M g.T.Theory.lawful g.met.T.HasLists.has_lists v c.args.head c.args.key found has here u c.in_ok-exchange.ensures.on c.in_ok-exchange.field-0 gave changed
+    x c.later.ensures.on in
+    let value_read = leaves_more M s t v 0 0 0 0 0 0 c.in_ok-found.ensures.leaves c.field_of-value.ensures.on (adds_steps t v c.field_of-value.ensures.same) in
+    let marked = leaves_more M s v u 0 0 0 0 1 0 value_read c.in_ok-exchange.ensures.on (adds_change M v (next_word (shape_in v) found.node) found.next (found.next.value + 1) u c.in_ok-exchange.field-0 did) in
+    leaves_within M s x 0 1 0 1 1 0 (omega arith) (omega arith) (omega arith)
+    (leaves_kept M s u x 0 1 0 (Unlink found.prev found.node) marked goes c.later.ensures.on.later c.later.ensures.kept)
+
+pub returns-clause-marked : goal.returns-clause-marked
+returns-clause-marked g c =
+    let M = g.T.Theory.meaning in
+    let s = state c.args.tx.now in
+    let t = state c.find.new.tx in
+    let v = state c.field_of-value.new.self in
+    let u = state c.exchange.new.self in
+    let found = c.in_ok-found.found in
+    let leaves = c.in_ok-found.ensures.leaves in
+    ap (λ x. x.reads) c.later.ensures.kept
+    ∙ exchanged_reads M v u c.node_next-next_word.result found.next (found.next.value + 1) Critical c.in_ok-exchange.field-0
+    (exchanged_ok M v u c.node_next-next_word.result found.next (found.next.value + 1) Critical c.in_ok-exchange.field-0 c.in_ok-exchange.ensures.exchanged)
+    ∙ ap (λ x. x.reads) c.field_of-value.ensures.same ∙ on_by_none s.reads t.reads leaves.later.reads leaves.reads_few
+
+pub returns-clause-unlink : goal.returns-clause-unlink
+returns-clause-unlink g c =
+    let M = g.T.Theory.meaning in
+    let t = state c.find.new.tx in
+    let v = state c.field_of-value.new.self in
+    let u = state c.exchange.new.self in
+    let x = state c.later.new.self in
+    let found = c.in_ok-found.found in
+    let has = found_on M g.T.Theory.lawful g.met.T.HasLists.has_lists t c.args.head c.args.key found c.in_ok-found.ensures.found v
+    c.field_of-value.ensures.on c.field_of-value.ensures.same c.field_of-value.ensures.given in
+    let next_is = c.node_next-next_word.ensures.place ∙ ap (λ x. address x (node_next found.node)) c.shape-2.ensures in
+    keeps_unlink M g.T.Theory.lawful g.met.T.HasLists.has_lists v c.args.head c.args.key found has (is_there found.here c.if-not-found.false) u c.in_ok-exchange.ensures.on
+    c.in_ok-exchange.field-0 (subst (λ x. Gave u x c.in_ok-exchange.field-0) next_is c.in_ok-exchange.ensures.gave)
+    (subst (λ x. HasExchanged M v x found.next (found.next.value + 1) Critical u c.in_ok-exchange.field-0) next_is
+    (exchanged_ok M v u c.node_next-next_word.result found.next (found.next.value + 1) Critical c.in_ok-exchange.field-0 c.in_ok-exchange.ensures.exchanged))
+    x c.later.ensures.on c.later.ensures.kept (subst (KeepsGiven v u) next_is c.in_ok-exchange.ensures.given) c.later.ensures.given
+
+pub returns-clause-stops : goal.returns-clause-stops
+returns-clause-stops g c =
+    let M = g.T.Theory.meaning in
+    let s = state c.args.tx.now in
+    let t = state c.find.new.tx in
+    let v = state c.field_of-value.new.self in
+    let u = state c.exchange.new.self in
+    let x = state c.later.new.self in
+    let found = c.in_ok-found.found in
+    let none = stop_after_ok Found s t found c.in_ok-found.ensures.stops in
+    none_stood (Option ℕ) s x _ (x.stop ≡ None) none.0
+    (ap (λ y. y.stop) c.later.ensures.kept
+    ∙ exchanged_stop M v u c.node_next-next_word.result found.next (found.next.value + 1) Critical c.in_ok-exchange.field-0
+    (exchanged_ok M v u c.node_next-next_word.result found.next (found.next.value + 1) Critical c.in_ok-exchange.field-0 c.in_ok-exchange.ensures.exchanged)
+    ∙ ap (λ y. y.stop) c.field_of-value.ensures.same ∙ none.1)

@@ -1,4 +1,4 @@
-use Rattle.std.proofs.Common.{◌≡◌, ◌≢◌, ◌-◌, ◌∷◌, [], refl, sym, ap, ◌∙◌, subst, inl, inr, arith, rules, Some}
+use Rattle.std.proofs.Common.{◌≡◌, ◌≢◌, ◌-◌, ◌∷◌, [], refl, sym, ap, ◌∙◌, subst, inl, inr, arith, None, Some, Ok, Err}
 use Rattle.std.proofs.lemmas.Bool.{true≢false}
 use Rattle.md_words.specs.Link.{linked_node}
 use Rattle.md_nbtc.specs.State.{shape_in, state}
@@ -10,8 +10,15 @@ use Rattle.md_list.proofs.Further.{few_visited, finds_none}
 use Rattle.md_list.proofs.Marks.{even_is_unmarked, halved, odd_is_marked}
 use Rattle.md_list.proofs.MarkedNext.{may_unlink}
 use Rattle.md_list.proofs.OnNode.{named_exists}
-use Rattle.md_list.proofs.Steps.{exchanged_nodes, exchanged_ok, exchanged_reads, head_counted, head_looked, key_data, key_is, looked_ok, next_is, next_looked, node_is, unlinked_ok, walked_same, walked_stop}
-use Rattle.md_list.proofs.Walked.{has_stop, stopped_nodes, stopped_reads, stopped_slots, walked_more, walked_one}
+use Rattle.md_list.proofs.Steps.{exchanged_ok, head_counted, head_looked, key_data, key_is, looked_ok, next_is, next_looked, node_is, unlinked_ok, walked_exchange, walked_same}
+use Rattle.md_list.proofs.Stops.{answers_other, exchange_stops, exchanged_stop, look_other, look_stops, none_stood, ok_unstopped, passed_on}
+use Rattle.md_list.proofs.Walked.{has_stop, stop_leaves, walk_leaves, walked_one}
+use Rattle.md_list.proofs.Adding.{leaves_none}
+use Rattle.md_list.specs.declared.walk.Found.{Found}
+use Rattle.md_history.specs.declared.stops.Limit.TheVariants.{Nodes}
+use Rattle.md_history.specs.declared.stops.Stop.TheVariants.{Limit as Limited}
+use Rattle.md_nbtc.specs.declared.seen.Seen.{Seen}
+use Rattle.md_nbtc.specs.Calls.{Looked}
 use Rattle.md_words.specs.PlaceAt.{IsCounted}
 use Rattle.md_machine.proofs.chain.SameNodes.{next_counted}
 use Rattle.md_list_law.specs.ListShape.{next_word}
@@ -30,29 +37,15 @@ loop-init g c =
     let is = looked_ok M t u c.args.head c.in_ok-at.at c.in_ok-at.ensures.looked in
     record {
       pass = c.in_ok-at.ensures.pass;
-      walked = walked_one M t (c.requires.walking.certificates, c.requires.walking.going) u c.in_ok-at.ensures.on (ap (λ x. x.reads) is.0) (ap (λ x. x.nodes) is.0);
+      walked = walked_one M t (c.requires.walking.certificates, c.requires.walking.going) c.requires.walking.operates u c.in_ok-at.ensures.on is.0;
+      unstopped = ok_unstopped Seen t u t.stop c.in_ok-at.at (Looked M t u c.args.head (Ok c.in_ok-at.at)) c.in_ok-at.ensures.looked;
+      still = ap (λ x. x.stop) is.0 ∙ ok_unstopped Seen t u t.stop c.in_ok-at.at (Looked M t u c.args.head (Ok c.in_ok-at.at)) c.in_ok-at.ensures.looked;
       visited = [];
       stands = head_looked M g.T.Theory.lawful g.met.T.HasLists.has_lists t u c.args.head c.args.key c.in_ok-at.ensures.on c.requires.walking c.in_ok-at.at c.in_ok-at.ensures.looked;
       charges = charges_none M t c.args.head u (ap (λ x. x.slots) is.0);
       turns = refl;
       small = omega arith;
     }
-
-pub returns-in_err-at-clause-walked : goal.returns-in_err-at-clause-walked
-returns-in_err-at-clause-walked g c =
-    let M = g.T.Theory.meaning in
-    let t = state c.args.tx.now in
-    let u = state c.load.new.self in
-    let stop = c.in_err-at.field-0.0 in
-    let is = look_refused M t u stop c.args.head c.in_err-at.ensures.looked in
-    walked_one M t (c.requires.walking.certificates, c.requires.walking.going) u c.in_err-at.ensures.on (stopped_reads M t u stop is) (stopped_nodes M t u stop is)
-
-pub returns-in_err-at-clause-stop : goal.returns-in_err-at-clause-stop
-returns-in_err-at-clause-stop g c =
-    let stop = c.in_err-at.field-0.0 in
-    let stopped : c.load.new.self.stop ≡ Some stop = has_stop g.T.Theory.meaning (state c.args.tx.now) (state c.load.new.self) stop
-    (look_refused g.T.Theory.meaning (state c.args.tx.now) (state c.load.new.self) stop c.args.head c.in_err-at.ensures.looked) in
-    search rules
 
 pub node_next-next_word-requires : goal.node_next-next_word-requires
 node_next-next_word-requires g c =
@@ -76,15 +69,6 @@ load-requires-in-loop-clause-counted g c =
 pub returns-in_err-next-clause-pass : goal.returns-in_err-next-clause-pass
 returns-in_err-next-clause-pass g c = c.in_err-next.ensures.pass ∙ c.loop.invariant.pass
 
-pub returns-in_err-next-clause-walked : goal.returns-in_err-next-clause-walked
-returns-in_err-next-clause-walked g c =
-    let M = g.T.Theory.meaning in
-    let t = state c.loop.tx in
-    let u = state c.load-in-loop.new.self in
-    let stop = c.in_err-next.field-0.0 in
-    walked_stop M (state c.args.tx.now) t u c.loop.invariant.walked c.in_err-next.ensures.on stop
-    (look_refused M t u stop c.node_next-next_word.result c.in_err-next.ensures.looked)
-
 pub exchange-requires-clause-going : goal.exchange-requires-clause-going
 exchange-requires-clause-going g c =
     let under = c.loop.invariant.walked.going in
@@ -107,18 +91,6 @@ exchange-requires-clause-may g c =
 pub returns-in_err-at-2-clause-pass : goal.returns-in_err-at-2-clause-pass
 returns-in_err-at-2-clause-pass g c = c.in_err-at-2.ensures.pass ∙ c.load-in-loop.ensures.pass ∙ c.loop.invariant.pass
 
-pub returns-in_err-at-2-clause-walked : goal.returns-in_err-at-2-clause-walked
-returns-in_err-at-2-clause-walked g c =
-    let M = g.T.Theory.meaning in
-    let s = state c.args.tx.now in
-    let t = state c.loop.tx in
-    let u = state c.load-in-loop.new.self in
-    let v = state c.exchange.new.self in
-    let stop = c.in_err-at-2.field-0.0 in
-    let is = looked_ok M t u c.node_next-next_word.result c.in_ok-next.next c.in_ok-next.ensures.looked in
-    walked_stop M s u v (walked_same M s t u c.loop.invariant.walked c.in_ok-next.ensures.on is.0) c.in_err-at-2.ensures.on stop
-    (exchange_refused M u v stop c.loop.prev c.loop.at (c.in_ok-next.next.value - 1) c.if-next.kind c.in_err-at-2.ensures.exchanged)
-
 pub loop-preserved-then-next-eq1 : goal.loop-preserved-then-next-eq1
 loop-preserved-then-next-eq1 g c =
     let M = g.T.Theory.meaning in
@@ -137,12 +109,14 @@ loop-preserved-then-next-eq1 g c =
     let charged = charges_pass M s c.args.head t i.visited i.charges u is.0 in
     record {
       pass = c.in_ok-at-2.ensures.pass ∙ c.load-in-loop.ensures.pass ∙ i.pass;
-      walked = walked_more M s u v (walked_same M s t u i.walked c.in_ok-next.ensures.on is.0) c.in_ok-at-2.ensures.on
-          (exchanged_reads M u v c.loop.prev c.loop.at (c.in_ok-next.next.value - 1) c.if-next.kind c.in_ok-at-2.at ex)
-          (exchanged_nodes M u v c.loop.prev c.loop.at (c.in_ok-next.next.value - 1) c.if-next.kind c.in_ok-at-2.at ex);
+      walked = walked_exchange M s u v (walked_same M s t u i.walked c.in_ok-next.ensures.on is.0) c.in_ok-at-2.ensures.on c.loop.prev c.loop.at (c.in_ok-next.next.value - 1) c.if-next.kind
+          c.in_ok-at-2.at ex;
+      unstopped = i.unstopped;
+      still = exchanged_stop M u v c.loop.prev c.loop.at (c.in_ok-next.next.value - 1) c.if-next.kind c.in_ok-at-2.at ex ∙ ap (λ x. x.stop) is.0 ∙ i.still;
       visited = linked_node c.loop.at.value ∷ i.visited;
       stands = unlinked_ok M g.T.Theory.lawful g.met.T.HasLists.has_lists u v c.args.head c.args.key c.in_ok-at-2.ensures.on i.visited c.loop.prev c.loop.at on.stands some c.in_ok-next.next on
-          (odd_is_marked c.in_ok-next.next.value c.if-next-eq1.true) i.small c.if-next.kind c.in_ok-at-2.at c.in_ok-at-2.ensures.gave ex;
+          (odd_is_marked c.in_ok-next.next.value c.if-next-eq1.true) i.small c.if-next.kind
+          (elim c.if-next.branch [ then-next w ↦ inl w.if-next.true | else-next w ↦ inr w.kind-is ]) c.in_ok-at-2.at c.in_ok-at-2.ensures.gave ex;
       charges = charges_unlink M g.T.Theory.lawful g.met.T.HasLists.has_lists s c.args.head c.args.key u i.visited c.loop.prev c.loop.at c.in_ok-next.next on some
           (ap (λ x. x.reads) is.0 ∙ i.walked.reads) (ap (λ x. x.nodes) is.0 ∙ i.walked.nodes) (ap (λ x. shape_in x) is.0 ∙ shape_later s t i.walked.later) charged
           (c.in_ok-next.next.value - 1) c.if-next.kind (elim c.if-next.branch [ then-next w ↦ inl w.if-next.true | else-next w ↦ inr w.kind-is ]) v c.in_ok-at-2.at ex;
@@ -180,15 +154,6 @@ field_of-node_key-requires-clause-data g c =
 pub returns-then-node_key-key-clause-pass : goal.returns-then-node_key-key-clause-pass
 returns-then-node_key-key-clause-pass g c = c.field_of-node_key.ensures.pass ∙ c.load-in-loop.ensures.pass ∙ c.loop.invariant.pass
 
-pub returns-then-node_key-key-clause-walked : goal.returns-then-node_key-key-clause-walked
-returns-then-node_key-key-clause-walked g c =
-    let M = g.T.Theory.meaning in
-    let s = state c.args.tx.now in
-    let t = state c.loop.tx in
-    let u = state c.load-in-loop.new.self in
-    let is = looked_ok M t u c.node_next-next_word.result c.in_ok-next.next c.in_ok-next.ensures.looked in
-    walked_same M s u (state c.field_of-node_key.new.self) (walked_same M s t u c.loop.invariant.walked c.in_ok-next.ensures.on is.0) c.field_of-node_key.ensures.on c.field_of-node_key.ensures.same
-
 pub returns-then-node_key-key-clause-found : goal.returns-then-node_key-key-clause-found
 returns-then-node_key-key-clause-found g c =
     let M = g.T.Theory.meaning in
@@ -223,6 +188,8 @@ loop-preserved g c =
     record {
       pass = c.field_of-node_key.ensures.pass ∙ c.load-in-loop.ensures.pass ∙ i.pass;
       walked = walked_same M s u v (walked_same M s t u i.walked c.in_ok-next.ensures.on is.0) c.field_of-node_key.ensures.on c.field_of-node_key.ensures.same;
+      unstopped = i.unstopped;
+      still = ap (λ x. x.stop) c.field_of-node_key.ensures.same ∙ ap (λ x. x.stop) is.0 ∙ i.still;
       visited = linked_node c.loop.at.value ∷ i.visited;
       stands = key_walks M g.T.Theory.lawful g.met.T.HasLists.has_lists u v c.args.head c.args.key i.visited c.loop.prev c.loop.at c.in_ok-next.next on some
           (even_is_unmarked c.in_ok-next.next.value c.if-next-eq1.false) c.field_of-node_key.ensures.on c.field_of-node_key.ensures.same c.field_of-node_key.ensures.given
@@ -237,9 +204,6 @@ loop-preserved g c =
 pub returns-after-loop-clause-pass : goal.returns-after-loop-clause-pass
 returns-after-loop-clause-pass g c = c.loop.invariant.pass
 
-pub returns-after-loop-clause-walked : goal.returns-after-loop-clause-walked
-returns-after-loop-clause-walked g c = c.loop.invariant.walked
-
 pub returns-after-loop-clause-found : goal.returns-after-loop-clause-found
 returns-after-loop-clause-found g c =
     let i = c.loop.invariant in
@@ -250,52 +214,56 @@ returns-after-loop-clause-found g c =
 pub returns-then-node-eq0-clause-pass : goal.returns-then-node-eq0-clause-pass
 returns-then-node-eq0-clause-pass g c = c.loop.invariant.pass
 
-pub returns-then-node-eq0-clause-walked : goal.returns-then-node-eq0-clause-walked
-returns-then-node-eq0-clause-walked g c = c.loop.invariant.walked
-
 pub returns-then-node-eq0-clause-found : goal.returns-then-node-eq0-clause-found
 returns-then-node-eq0-clause-found g c =
     finds_none g.T.Theory.meaning (state c.loop.tx) c.args.head c.args.key c.loop.invariant.visited c.loop.prev c.loop.at c.loop.invariant.stands
     (halved c.loop.at.value ∙ c.if-node-eq0.true) _ refl refl refl refl refl
 
-pub returns-in_err-at-2-clause-stop : goal.returns-in_err-at-2-clause-stop
-returns-in_err-at-2-clause-stop g c =
-    let stop = c.in_err-at-2.field-0.0 in
-    let stopped : c.exchange.new.self.stop ≡ Some stop = has_stop g.T.Theory.meaning (state c.load-in-loop.new.self) (state c.exchange.new.self) stop
-    (exchange_refused g.T.Theory.meaning (state c.load-in-loop.new.self) (state c.exchange.new.self) stop c.loop.prev c.loop.at (c.in_ok-next.next.value - 1) c.if-next.kind c.in_err-at-2.ensures.exchanged) in
-    search rules
-
-pub returns-in_err-next-clause-stop : goal.returns-in_err-next-clause-stop
-returns-in_err-next-clause-stop g c =
-    let stop = c.in_err-next.field-0.0 in
-    let stopped : c.load-in-loop.new.self.stop ≡ Some stop = has_stop g.T.Theory.meaning (state c.loop.tx) (state c.load-in-loop.new.self) stop
-    (look_refused g.T.Theory.meaning (state c.loop.tx) (state c.load-in-loop.new.self) stop c.node_next-next_word.result c.in_err-next.ensures.looked) in
-    search rules
-
 pub returns-in_err-at-clause-pass : goal.returns-in_err-at-clause-pass
 returns-in_err-at-clause-pass g c = c.in_err-at.ensures.pass
 
-pub returns-in_err-at-clause-few : goal.returns-in_err-at-clause-few
-returns-in_err-at-clause-few g c =
+
+pub returns-in_err-at-clause-leaves : goal.returns-in_err-at-clause-leaves
+returns-in_err-at-clause-leaves g c =
+    let M = g.T.Theory.meaning in
+    let t = state c.args.tx.now in
+    let u = state c.load.new.self in
+    let w = c.requires.walking in
+    let stop = c.in_err-at.field-0.0 in
+    stop_leaves M t t u stop (leaves_none M t (w.certificates, w.going) w.operates) c.in_err-at.ensures.on (look_refused M t u stop c.args.head c.in_err-at.ensures.looked)
+
+pub returns-in_err-at-clause-stops : goal.returns-in_err-at-clause-stops
+returns-in_err-at-clause-stops g c =
     let M = g.T.Theory.meaning in
     let t = state c.args.tx.now in
     let u = state c.load.new.self in
     let stop = c.in_err-at.field-0.0 in
-    let is = look_refused M t u stop c.args.head c.in_err-at.ensures.looked in
-    few_written M t c.args.head u [] (charges_none M t c.args.head u (stopped_slots M t u stop is))
+    answers_other Found t u stop c.from_residual.result c.from_residual.ensures.1 (passed_on Seen Found t u t.stop stop (Looked M t u c.args.head (Err stop)) ((u.stop ≡ Some stop) × (stop ≢ Limited Nodes))
+    (λ looked. (has_stop M t u stop looked.0.1, look_other M t u stop c.args.head looked)) c.in_err-at.ensures.looked)
 
-pub returns-in_err-next-clause-few : goal.returns-in_err-next-clause-few
-returns-in_err-next-clause-few g c =
+pub returns-in_err-next-clause-leaves : goal.returns-in_err-next-clause-leaves
+returns-in_err-next-clause-leaves g c =
     let M = g.T.Theory.meaning in
     let s = state c.args.tx.now in
     let t = state c.loop.tx in
     let u = state c.load-in-loop.new.self in
     let i = c.loop.invariant in
     let stop = c.in_err-next.field-0.0 in
-    few_after s t u 0 (stopped_slots M t u stop (look_refused M t u stop c.node_next-next_word.result c.in_err-next.ensures.looked)) (few_written M s c.args.head t i.visited i.charges)
+    stop_leaves M s t u stop (walk_leaves M s t i.walked (few_written M s c.args.head t i.visited i.charges)) c.in_err-next.ensures.on
+    (look_refused M t u stop c.node_next-next_word.result c.in_err-next.ensures.looked)
 
-pub returns-in_err-at-2-clause-few : goal.returns-in_err-at-2-clause-few
-returns-in_err-at-2-clause-few g c =
+pub returns-in_err-next-clause-stops : goal.returns-in_err-next-clause-stops
+returns-in_err-next-clause-stops g c =
+    let M = g.T.Theory.meaning in
+    let s = state c.args.tx.now in
+    let t = state c.loop.tx in
+    let u = state c.load-in-loop.new.self in
+    let stop = c.in_err-next.field-0.0 in
+    answers_other Found s u stop c.from_residual-in_err-next.result c.from_residual-in_err-next.ensures.1 (none_stood Found s u (Err stop) ((u.stop ≡ Some stop) × (stop ≢ Limited Nodes)) c.loop.invariant.unstopped
+    (look_stops M t u stop c.loop.invariant.still c.node_next-next_word.result c.in_err-next.ensures.looked))
+
+pub returns-in_err-at-2-clause-leaves : goal.returns-in_err-at-2-clause-leaves
+returns-in_err-at-2-clause-leaves g c =
     let M = g.T.Theory.meaning in
     let s = state c.args.tx.now in
     let t = state c.loop.tx in
@@ -304,21 +272,56 @@ returns-in_err-at-2-clause-few g c =
     let i = c.loop.invariant in
     let stop = c.in_err-at-2.field-0.0 in
     let is = looked_ok M t u c.node_next-next_word.result c.in_ok-next.next c.in_ok-next.ensures.looked in
-    few_after s t v 0 (stopped_slots M u v stop (exchange_refused M u v stop c.loop.prev c.loop.at (c.in_ok-next.next.value - 1) c.if-next.kind c.in_err-at-2.ensures.exchanged) ∙ ap (λ x. x.slots) is.0)
-    (few_written M s c.args.head t i.visited i.charges)
+    stop_leaves M s u v stop (walk_leaves M s u (walked_same M s t u i.walked c.in_ok-next.ensures.on is.0) (few_after s t u 0 (ap (λ x. x.slots) is.0) (few_written M s c.args.head t i.visited i.charges)))
+    c.in_err-at-2.ensures.on (exchange_refused M u v stop c.loop.prev c.loop.at (c.in_ok-next.next.value - 1) c.if-next.kind c.in_err-at-2.ensures.exchanged)
 
-pub returns-then-node_key-key-clause-few : goal.returns-then-node_key-key-clause-few
-returns-then-node_key-key-clause-few g c =
+pub returns-in_err-at-2-clause-stops : goal.returns-in_err-at-2-clause-stops
+returns-in_err-at-2-clause-stops g c =
     let M = g.T.Theory.meaning in
     let s = state c.args.tx.now in
     let t = state c.loop.tx in
     let u = state c.load-in-loop.new.self in
+    let v = state c.exchange.new.self in
+    let i = c.loop.invariant in
+    let stop = c.in_err-at-2.field-0.0 in
+    let is = looked_ok M t u c.node_next-next_word.result c.in_ok-next.next c.in_ok-next.ensures.looked in
+    answers_other Found s v stop c.from_residual-in_err-at-2.result c.from_residual-in_err-at-2.ensures.1 (none_stood Found s v (Err stop) ((v.stop ≡ Some stop) × (stop ≢ Limited Nodes)) i.unstopped
+    (exchange_stops M u v stop (ap (λ x. x.stop) is.0 ∙ i.still) c.loop.prev c.loop.at (c.in_ok-next.next.value - 1) c.if-next.kind c.in_err-at-2.ensures.exchanged))
+
+pub returns-then-node_key-key-clause-leaves : goal.returns-then-node_key-key-clause-leaves
+returns-then-node_key-key-clause-leaves g c =
+    let M = g.T.Theory.meaning in
+    let s = state c.args.tx.now in
+    let t = state c.loop.tx in
+    let u = state c.load-in-loop.new.self in
+    let v = state c.field_of-node_key.new.self in
     let i = c.loop.invariant in
     let is = looked_ok M t u c.node_next-next_word.result c.in_ok-next.next c.in_ok-next.ensures.looked in
-    few_after s t (state c.field_of-node_key.new.self) 0 (ap (λ x. x.slots) c.field_of-node_key.ensures.same ∙ ap (λ x. x.slots) is.0) (few_written M s c.args.head t i.visited i.charges)
+    walk_leaves M s v (walked_same M s u v (walked_same M s t u i.walked c.in_ok-next.ensures.on is.0) c.field_of-node_key.ensures.on c.field_of-node_key.ensures.same)
+    (few_after s t v 0 (ap (λ x. x.slots) c.field_of-node_key.ensures.same ∙ ap (λ x. x.slots) is.0) (few_written M s c.args.head t i.visited i.charges))
 
-pub returns-after-loop-clause-few : goal.returns-after-loop-clause-few
-returns-after-loop-clause-few g c = few_written g.T.Theory.meaning (state c.args.tx.now) c.args.head (state c.loop.tx) c.loop.invariant.visited c.loop.invariant.charges
+pub returns-then-node_key-key-clause-stops : goal.returns-then-node_key-key-clause-stops
+returns-then-node_key-key-clause-stops g c =
+    let M = g.T.Theory.meaning in
+    let t = state c.loop.tx in
+    let u = state c.load-in-loop.new.self in
+    let v = state c.field_of-node_key.new.self in
+    let i = c.loop.invariant in
+    let is = looked_ok M t u c.node_next-next_word.result c.in_ok-next.next c.in_ok-next.ensures.looked in
+    none_stood Found (state c.args.tx.now) v _ (v.stop ≡ None) i.unstopped (ap (λ x. x.stop) c.field_of-node_key.ensures.same ∙ ap (λ x. x.stop) is.0 ∙ i.still)
 
-pub returns-then-node-eq0-clause-few : goal.returns-then-node-eq0-clause-few
-returns-then-node-eq0-clause-few g c = few_written g.T.Theory.meaning (state c.args.tx.now) c.args.head (state c.loop.tx) c.loop.invariant.visited c.loop.invariant.charges
+pub returns-after-loop-clause-leaves : goal.returns-after-loop-clause-leaves
+returns-after-loop-clause-leaves g c =
+    let i = c.loop.invariant in
+    walk_leaves g.T.Theory.meaning (state c.args.tx.now) (state c.loop.tx) i.walked (few_written g.T.Theory.meaning (state c.args.tx.now) c.args.head (state c.loop.tx) i.visited i.charges)
+
+pub returns-after-loop-clause-stops : goal.returns-after-loop-clause-stops
+returns-after-loop-clause-stops g c = none_stood Found (state c.args.tx.now) (state c.loop.tx) _ ((state c.loop.tx).stop ≡ None) c.loop.invariant.unstopped c.loop.invariant.still
+
+pub returns-then-node-eq0-clause-leaves : goal.returns-then-node-eq0-clause-leaves
+returns-then-node-eq0-clause-leaves g c =
+    let i = c.loop.invariant in
+    walk_leaves g.T.Theory.meaning (state c.args.tx.now) (state c.loop.tx) i.walked (few_written g.T.Theory.meaning (state c.args.tx.now) c.args.head (state c.loop.tx) i.visited i.charges)
+
+pub returns-then-node-eq0-clause-stops : goal.returns-then-node-eq0-clause-stops
+returns-then-node-eq0-clause-stops g c = none_stood Found (state c.args.tx.now) (state c.loop.tx) _ ((state c.loop.tx).stop ≡ None) c.loop.invariant.unstopped c.loop.invariant.still

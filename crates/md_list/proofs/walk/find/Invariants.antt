@@ -1,14 +1,16 @@
-use Rattle.std.proofs.Common.{◌≡◌, ◌<◌, ◌^◌, ℕ, List, length}
+use Rattle.std.proofs.Common.{◌≡◌, ◌<◌, ◌^◌, ℕ, List, None, length}
 use Rattle.md_nbtc.specs.State.{state}
-use Rattle.md_list.specs.Walking.{WalkedFrom}
 use Rattle.md_list.proofs.At.{IsAt}
 use Rattle.md_list.proofs.Charged.{Charges}
+use Rattle.md_list.proofs.Walked.{WalkedFrom}
 use Rattle.md_list.proofs.walk.find.Given as goal
 
 abbrev pub invariant-loop : goal.invariant-loop
 invariant-loop g l = record {
   pass : l.tx.pass.ghost_name ≡ l.fn.tx.pass.ghost_name;
   walked : WalkedFrom g.T.Theory.meaning (state l.fn.tx) (state l.tx);
+  unstopped : (state l.fn.tx).stop ≡ None;
+  still : (state l.tx).stop ≡ None;
   visited : List ℕ;
   stands : IsAt g.T.Theory.meaning (state l.tx) l.head l.key visited l.prev l.at;
   charges : Charges g.T.Theory.meaning (state l.fn.tx) l.head (state l.tx) visited;

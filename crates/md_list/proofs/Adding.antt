@@ -1,0 +1,141 @@
+-- What each call adds to a transaction, and what several calls leave of it together.
+use Rattle.std.proofs.Common.{◌≡◌, ◌≤◌, ◌+◌, ◌++◌, ℕ, true, List, [], ◌∷◌, length, map, refl, sym, ap, ◌∙◌, arith}
+use Rattle.std.proofs.lemmas.List.{append-nil, length-append, length-map}
+use Rattle.md_history.specs.Front.{IsPrefix}
+use Rattle.md_history.specs.declared.stops.Stop.{Stop}
+use Rattle.md_machine.specs.Meaning.{Meaning}
+use Rattle.md_nbtc.specs.declared.seen.Cleanup.{Cleanup}
+use Rattle.md_nbtc.specs.declared.seen.Seen.{Seen}
+use Rattle.md_nbtc.specs.declared.sets.Slot.{Slot}
+use Rattle.md_words.specs.Layout.{address}
+use Rattle.md_words.specs.Place.{node_next}
+use Rattle.md_nbtc.specs.Calls.{Freshens, GoesOn}
+use Rattle.md_nbtc.specs.Cleaning.{cleanup_node, with_cleanup, with_cleanup_kept}
+use Rattle.md_nbtc.specs.Going.{IsUnderWay}
+use Rattle.md_nbtc.specs.Known.{IsLater}
+use Rattle.md_nbtc.specs.State.{OwnNode, TxnState, shape_in}
+use Rattle.md_nbtc.proofs.preparing.Heaps.{later_self}
+use Rattle.md_nbtc.proofs.preparing.Later.{later_over}
+use Rattle.md_nbtc.proofs.structures.Answering.{IsStopped}
+use Rattle.md_nbtc.proofs.structures.Noting.{HasNoted}
+use Rattle.md_list.specs.Operations.{Leaves}
+
+-- one call adds so much at most, and leaves the acts and that an operation is begun
+pub record Adds (t u : TxnState) (reads writes nodes : ℕ) : Type 0 where
+  pub acts : u.hand.acts ≡ t.hand.acts
+  pub operates : u.hand.operating ≡ t.hand.operating
+  pub reads_few : length u.reads ≤ length t.reads + reads
+  pub slots_few : length u.slots ≤ length t.slots + writes
+  pub nodes_few : length u.nodes ≤ length t.nodes + nodes
+
+module _ (t u : TxnState) where
+  -- steps of the pass, and a stop, add nothing
+  pub adds_steps : u ≡ record t { pass = u.pass } → Adds t u 0 0 0
+  adds_steps same = record {
+    acts = ap (λ (x : TxnState). x.hand.acts) same;
+    operates = ap (λ (x : TxnState). x.hand.operating) same;
+    reads_few = let l = ap (λ (x : TxnState). length x.reads) same in omega (arith, l);
+    slots_few = let l = ap (λ (x : TxnState). length x.slots) same in omega (arith, l);
+    nodes_few = let l = ap (λ (x : TxnState). length x.nodes) same in omega (arith, l);
+  }
+
+  pub adds_stop : (s : Stop) → IsStopped t u s → Adds t u 0 0 0
+  adds_stop s is = record {
+    acts = ap (λ (x : TxnState). x.hand.acts) is;
+    operates = ap (λ (x : TxnState). x.hand.operating) is;
+    reads_few = let l = ap (λ (x : TxnState). length x.reads) is in omega (arith, l);
+    slots_few = let l = ap (λ (x : TxnState). length x.slots) is in omega (arith, l);
+    nodes_few = let l = ap (λ (x : TxnState). length x.nodes) is in omega (arith, l);
+  }
+
+  -- a note adds a recorded word
+  pub adds_note : (word : ℕ) (seen : Seen) → HasNoted t u word seen → Adds t u 1 0 0
+  adds_note word seen noted = record {
+    acts = ap (λ h. h.acts) noted.hand;
+    operates = ap (λ h. h.operating) noted.hand;
+    reads_few = noted.few;
+    slots_few = let l = ap (λ ss. length ss) noted.slots in omega (arith, l);
+    nodes_few = let l = ap (λ ns. length ns) noted.nodes in omega (arith, l);
+  }
+
+  -- a fresh node is a node more
+  pub adds_node : (key value next node : ℕ) → Freshens t u key value next node → Adds t u 0 0 1
+  adds_node key value next node fresh =
+      let own : OwnNode = record { node = node; key = key; value = value; next = next } in
+      record {
+        acts = ap (λ (x : TxnState). x.hand.acts) fresh.new;
+        operates = ap (λ (x : TxnState). x.hand.operating) fresh.new;
+        reads_few = let l = ap (λ (x : TxnState). length x.reads) fresh.new in omega (arith, l);
+        slots_few = let l = ap (λ (x : TxnState). length x.slots) fresh.new in omega (arith, l);
+        nodes_few = let l = ap (λ (x : TxnState). length x.nodes) fresh.new in omega (arith, l, length-append t.nodes (own ∷ []));
+      }
+
+  -- a cleanup adds nothing
+  pub adds_cleanup : (c : Cleanup) → u ≡ record t { slots = with_cleanup_kept t c } → Adds t u 0 0 0
+  adds_cleanup c kept = record {
+    acts = ap (λ (x : TxnState). x.hand.acts) kept;
+    operates = ap (λ (x : TxnState). x.hand.operating) kept;
+    reads_few = let l = ap (λ (x : TxnState). length x.reads) kept in omega (arith, l);
+    slots_few = let l = ap (λ (x : TxnState). length x.slots) kept in omega (arith, l, length-map t.slots (with_cleanup (address (shape_in t) (node_next (cleanup_node c))) c));
+    nodes_few = let l = ap (λ (x : TxnState). length x.nodes) kept in omega (arith, l);
+  }
+
+module _ (M : Meaning) (s : TxnState) where
+  -- at first
+  pub leaves_none : IsUnderWay M s → s.hand.operating ≡ true → Leaves M s s 0 0 0
+  leaves_none going operates = record {
+    going = going;
+    later = later_self s;
+    acts = refl;
+    operates = operates;
+    reads_few = omega arith;
+    writes_few = omega arith;
+    nodes_few = omega arith;
+  }
+
+  -- after one more call
+  pub leaves_more : (t u : TxnState) (a b c reads writes nodes : ℕ) → Leaves M s t a b c → GoesOn M t u → Adds t u reads writes nodes → Leaves M s u (a + reads) (b + writes) (c + nodes)
+  leaves_more t u a b c reads writes nodes leaves goes adds = record {
+    going = (leaves.going.0, goes.going leaves.going.0 leaves.going.1);
+    later = later_over s t u leaves.later goes.later;
+    acts = adds.acts ∙ leaves.acts;
+    operates = adds.operates ∙ leaves.operates;
+    reads_few = let x = leaves.reads_few in let y = adds.reads_few in omega (arith, x, y);
+    writes_few = let x = leaves.writes_few in let y = adds.slots_few in omega (arith, x, y);
+    nodes_few = let x = leaves.nodes_few in let y = adds.nodes_few in omega (arith, x, y);
+  }
+
+  -- after a cleanup was kept
+  pub leaves_kept : (t u : TxnState) (a b c : ℕ) (cleanup : Cleanup) → Leaves M s t a b c → IsUnderWay M u → IsLater t u → u ≡ record t { slots = with_cleanup_kept t cleanup } → Leaves M s u a b c
+  leaves_kept t u a b c cleanup leaves under later kept =
+      let adds = adds_cleanup t u cleanup kept in
+      record {
+        going = under;
+        later = later_over s t u leaves.later later;
+        acts = adds.acts ∙ leaves.acts;
+        operates = adds.operates ∙ leaves.operates;
+        reads_few = let x = leaves.reads_few in let y = adds.reads_few in omega (arith, x, y);
+        writes_few = let x = leaves.writes_few in let y = adds.slots_few in omega (arith, x, y);
+        nodes_few = let x = leaves.nodes_few in let y = adds.nodes_few in omega (arith, x, y);
+      }
+
+  -- fewer are at most as many
+  pub leaves_within : (t : TxnState) (a b c reads writes nodes : ℕ) → a ≤ reads → b ≤ writes → c ≤ nodes → Leaves M s t a b c → Leaves M s t reads writes nodes
+  leaves_within t a b c reads writes nodes one two three leaves = record {
+    going = leaves.going;
+    later = leaves.later;
+    acts = leaves.acts;
+    operates = leaves.operates;
+    reads_few = let x = leaves.reads_few in omega (arith, x, one);
+    writes_few = let x = leaves.writes_few in omega (arith, x, two);
+    nodes_few = let x = leaves.nodes_few in omega (arith, x, three);
+  }
+
+-- a list that goes on by none is the same
+module _ {A : Type 0} (xs : List A) where
+  by_rest : (rest : List A) → length (xs ++ rest) ≤ length xs + 0 → xs ++ rest ≡ xs
+  by_rest [] none = append-nil xs
+  by_rest (x ∷ rest) none = absurd (let l = length-append xs (x ∷ rest) in omega (arith, l, none))
+
+  pub on_by_none : (ys : List A) → IsPrefix xs ys → length ys ≤ length xs + 0 → ys ≡ xs
+  on_by_none ys on few = on.is ∙ by_rest on.rest (let l = ap (λ l. length l) on.is in omega (arith, l, few))
