@@ -11,3 +11,4 @@ pub mod Settlement
 pub mod Closed
 pub mod Rooms
 pub mod Renewing
+pub mod FreshPasses

@@ -1,83 +1,132 @@
-//! A store that is opened, divided, put together again, renewed and closed, without transactions.
+//! Stores that are opened, divided, put together again, settled, renewed and closed, without
+//! transactions.
 
-ghost use Rattle.md_store.specs.Store.{IsPassOf};
+ghost use Rattle.std.specs.Prelude.{◌≤◌, IfOk};
+ghost use Rattle.md_history.specs.Engine.{needed};
+ghost use Rattle.md_store.specs.Store.{IsFresh, IsPassOf, room_of, start_of};
 
 use super::*;
 use md_history::Contents;
+use md_rule::Pass;
+use md_store_law::StoreTheory;
 use md_words::Shape;
-use std::alloc::Global;
+use std::alloc::{AllocError, Global};
 use std::test::Fail;
 
-// Two pairs, one of which is in the second map, and three values in two queues.
-fn laid(alloc: Global) -> Result<Contents, Fail> {
+// Two pairs in two maps, and three values in two queues.
+fn pairs_and_values(alloc: Global) -> Result<Contents, AllocError> {
     let mut contents = Contents::empty(alloc, 2, 2)?;
-    let _ = contents.put(0, 5, 6)?;
-    let _ = contents.put(1, 7, 8)?;
+    contents.put(0, 5, 6)?;
+    contents.put(1, 7, 8)?;
     contents.push(0, 1)?;
     contents.push(0, 2)?;
     contents.push(1, 3)?;
     Ok(contents)
 }
 
-fn is_laid(contents: &Contents) -> bool {
-    contents.get(0, 5) == Some(6)
-        && contents.get(1, 7) == Some(8)
-        && contents.queue(0).len() == 2
-        && contents.queue(0)[0] == 1
-        && contents.queue(0)[1] == 2
-        && contents.queue(1).len() == 1
-        && contents.queue(1)[0] == 3
-}
-
-#[test]
-fn laid_contents_come_back(rt: HostRuntime) -> Result<(), Fail> {
-    let shape = Shape::new(4, 2, 7, 3, 2, 4, 2)?;
-    let start = laid(rt.alloc)?;
-    let (store, pass) = Store::open(rt.alloc, shape, &start)?;
-    let (contents, _) = store.close(pass)?;
-    assert!(is_laid(&contents));
-    Ok(())
-}
-
-#[test]
-fn renewals_keep_the_contents(rt: HostRuntime) -> Result<(), Fail> {
-    let shape = Shape::new(4, 2, 9, 3, 2, 4, 2)?;
-    let start = laid(rt.alloc)?;
-    let (store, pass) = Store::open(rt.alloc, shape, &start)?;
-    let (store, pass, _) = store.renew(pass)?;
-    let (store, pass, _) = store.renew(pass)?;
-    let (contents, _) = store.close(pass)?;
-    assert!(is_laid(&contents));
-    Ok(())
-}
-
-#[test]
-fn too_little_room_is_refused(rt: HostRuntime) -> Result<(), Fail> {
-    let shape = Shape::new(2, 16, 0, 4, 1, 64, 1)?;
-    let start = Contents::empty(rt.alloc, 1, 1)?;
-    assert!(
-        Store::open(rt.alloc, shape, &start).err() == Some(OpenFault::NoRoom { needed: 1, base: 0 })
-    );
-    Ok(())
-}
-
-#[test]
-fn lanes_come_together_in_another_order(rt: HostRuntime) -> Result<(), Fail> {
-    let shape = Shape::new(4, 2, 7, 3, 2, 4, 2)?;
-    let start = laid(rt.alloc)?;
-    let (store, mut first) = Store::open(rt.alloc, shape, &start)?;
-    if let Some(mut third) = store.split(&mut first) {
-        let second = store.split(&mut first);
-        let fourth = store.split(&mut third);
-        assert!(store.split(&mut first).is_none());
-        if let Some(last) = fourth {
-            store.join(&mut first, last);
-        }
-        store.join(&mut first, third);
-        if let Some(other) = second {
-            store.join(&mut first, other);
-        }
+// Opens a store, if the contents have as many maps and queues as the shape.
+fn opened(
+    alloc: Global,
+    shape: Shape,
+    start: &Contents,
+) -> Result<(Store, Pass<StoreTheory>), OpenFault>
+    ensures of { IfOk result (λ r. IsPassOf r.0 r.1) }
+    ensures fresh { IfOk result (λ r. IsFresh r.1) }
+    ensures room { IfOk result (λ r. needed (start_of r.0) ≤ room_of r.0.origin.shape) }
+{
+    let maps = start.maps().len() == shape.maps as usize;
+    let queues = start.queues().len() == shape.queues as usize;
+    if !maps || !queues {
+        return Err(OpenFault::NoMemory);
     }
-    assert!(first.lanes() == 4);
+    Store::open(alloc, shape, start)
+}
+
+// Renews a store whose pass has seen nothing.
+fn renewed(
+    store: Store,
+    pass: Pass<StoreTheory>,
+) -> Result<(Store, Pass<StoreTheory>), AllocError>
+    requires of { IsPassOf store pass }
+    requires fresh { IsFresh pass }
+    requires room { needed (start_of store) ≤ room_of store.origin.shape }
+    ensures of { IfOk result (λ r. IsPassOf r.0 r.1) }
+    ensures fresh { IfOk result (λ r. IsFresh r.1) }
+    ensures room { IfOk result (λ r. needed (start_of r.0) ≤ room_of r.0.origin.shape) }
+{
+    let (again, first, _) = store.renew(pass)?;
+    Ok((again, first))
+}
+
+// Settles a store and closes it, if the pass holds all lanes.
+fn closed(store: Store, mut pass: Pass<StoreTheory>) -> Result<Option<Contents>, AllocError>
+    requires { IsPassOf store pass }
+{
+    if !pass.holds_all(&store.field) {
+        return Ok(None);
+    }
+    store.settle(&mut pass);
+    let (contents, _) = store.close(pass)?;
+    Ok(Some(contents))
+}
+
+#[test]
+fn an_empty_store_is_closed(rt: HostRuntime) -> Result<(), Fail> {
+    let start = Contents::empty(rt.alloc(), 1, 0)?;
+    let shape = Shape::new(1, 1, 0, 1, 1, 1, 0)?;
+    let (store, pass) = opened(rt.alloc(), shape, &start)?;
+    let back = closed(store, pass)?.expect(&rt, "the one lane");
+    assert_eq!(rt; back.maps(), start.maps());
+    assert_eq!(rt; back.queues(), start.queues());
+    Ok(())
+}
+
+#[test]
+fn contents_come_back(rt: HostRuntime) -> Result<(), Fail> {
+    let start = pairs_and_values(rt.alloc())?;
+    let shape = Shape::new(4, 2, 7, 3, 2, 4, 2)?;
+    let (store, pass) = opened(rt.alloc(), shape, &start)?;
+    let back = closed(store, pass)?.expect(&rt, "all lanes");
+    assert_eq!(rt; back.maps(), start.maps());
+    assert_eq!(rt; back.queues(), start.queues());
+    Ok(())
+}
+
+#[test]
+fn contents_outlast_renewals(rt: HostRuntime) -> Result<(), Fail> {
+    let start = pairs_and_values(rt.alloc())?;
+    let shape = Shape::new(4, 2, 20, 3, 2, 4, 2)?;
+    let (store, pass) = opened(rt.alloc(), shape, &start)?;
+    let (store, pass) = renewed(store, pass)?;
+    assert_eq!(rt; store.field.shape().base, 7);
+    let (store, pass) = renewed(store, pass)?;
+    let back = closed(store, pass)?.expect(&rt, "all lanes");
+    assert_eq!(rt; back.maps(), start.maps());
+    assert_eq!(rt; back.queues(), start.queues());
+    Ok(())
+}
+
+#[test]
+fn a_queue_needs_a_base_node(rt: HostRuntime) -> Result<(), Fail> {
+    let start = Contents::empty(rt.alloc(), 1, 1)?;
+    let shape = Shape::new(2, 16, 0, 4, 1, 64, 1)?;
+    let fault = opened(rt.alloc(), shape, &start).err();
+    assert_eq!(rt; fault, Some(OpenFault::NoRoom { needed: 1, base: 0 }));
+    Ok(())
+}
+
+#[test]
+fn two_lanes_part_and_meet(rt: HostRuntime) -> Result<(), Fail> {
+    let start = pairs_and_values(rt.alloc())?;
+    let shape = Shape::new(2, 1, 7, 1, 2, 4, 2)?;
+    let (store, mut first) = opened(rt.alloc(), shape, &start)?;
+    let second = store.split(&mut first).expect(&rt, "two lanes");
+    assert_eq!(rt; first.lanes(), 1);
+    assert_eq!(rt; second.lanes(), 1);
+    assert!(rt; store.split(&mut first).is_none());
+    store.join(&mut first, second);
+    let back = closed(store, first)?.expect(&rt, "both lanes");
+    assert_eq!(rt; back.maps(), start.maps());
+    assert_eq!(rt; back.queues(), start.queues());
     Ok(())
 }
