@@ -1,5 +1,5 @@
 -- What the operations of a queue ask, and what they leave.
-use Rattle.std.specs.Prelude.{◌≡◌, ◌≤◌, ◌<◌, ◌+◌, ℕ, true, [], ◌∷◌, ◌++◌, Contains, Some, length}
+use Rattle.std.specs.Prelude.{◌≡◌, ◌≤◌, ◌<◌, ◌+◌, ℕ, true, [], ◌∷◌, ◌++◌, Contains, Option, Some, None, Result, Err, length}
 use Rattle.md_history.specs.declared.acts.Op.{Op}
 use Rattle.md_history.specs.declared.acts.Reply.{Reply}
 use Rattle.md_history.specs.declared.stops.Limit.TheVariants.{Nodes}
@@ -23,11 +23,13 @@ pub record IsBegun (M : Meaning) (t : TxnState) (queue : ℕ) : Type 0 where
   pub changes : t.hand.changes ≡ []
   pub stored : t.hand.stored ≡ []
 
--- what is left of the transaction: it is under way and later, and at most so many words are recorded more, and written
--- more, and so many nodes taken
+-- what is left of the transaction: it is under way and later, in the same operation, and at most so many words are
+-- recorded more, and written more, and so many nodes taken
 pub record Leaves (M : Meaning) (t u : TxnState) (reads writes nodes : ℕ) : Type 0 where
   pub going : IsUnderWay M u
   pub later : IsLater t u
+  pub acts : u.hand.acts ≡ t.hand.acts
+  pub operates : u.hand.operating ≡ true
   pub reads_few : length u.reads ≤ length t.reads + reads
   pub writes_few : length u.slots ≤ length t.slots + writes
   pub nodes_few : length u.nodes ≤ length t.nodes + nodes
@@ -36,6 +38,10 @@ pub record Leaves (M : Meaning) (t u : TxnState) (reads writes nodes : ℕ) : Ty
 pub record GoesBy (M : Meaning) (t u : TxnState) (reads writes nodes : ℕ) : Type 0 where
   pub leaves : Leaves M t u reads writes nodes
   pub same_stop : u.stop ≡ t.stop
+
+-- after a stop the answer is the same stop, and nothing is done
+abbrev pub StaysStopped : {A : Type 0} → (t u : TxnState) → Result A Stop → Type 0
+StaysStopped t u result = (s : Stop) → t.stop ≡ Some s → (result ≡ Err s) × (u ≡ t)
 
 -- or it was refused, and keeps the stop
 pub record Refused (M : Meaning) (t u : TxnState) (reads writes nodes : ℕ) (s : Stop) : Type 0 where
@@ -51,6 +57,15 @@ pub record RefusedOtherwise (M : Meaning) (t u : TxnState) (reads writes : ℕ) 
 pub record Answered (M : Meaning) (t u : TxnState) (op : Op) (reply : Reply) (reads writes nodes : ℕ) : Type 0 where
   pub goes : GoesBy M t u reads writes nodes
   pub may : MayAnswer M u op reply
+
+-- how many words a dequeue records more, and writes more, by what it answers
+abbrev pub dequeue_reads : Option ℕ → ℕ
+dequeue_reads (Some value) = 1
+dequeue_reads None = 2
+
+abbrev pub dequeue_writes : Option ℕ → ℕ
+dequeue_writes (Some value) = 2
+dequeue_writes None = 0
 
 -- a node was taken for the value, and was put behind the last one; the tail is moved to it after the commit
 pub record PutsLast (t u : TxnState) (queue value : ℕ) : Type 0 where

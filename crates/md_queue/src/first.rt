@@ -5,6 +5,7 @@ ghost use Rattle.md_history.specs.declared.acts.Op.TheVariants.{Dequeue, Front};
 ghost use Rattle.md_history.specs.declared.acts.Reply.TheVariants.{Value};
 ghost use Rattle.md_nbtc.specs.State.{state};
 ghost use Rattle.md_queue.specs.Operations.{Answered, GoesBy, IsBegun, RefusedOtherwise};
+ghost use Rattle.md_queue.specs.Operations.{StaysStopped, dequeue_reads, dequeue_writes};
 ghost use Rattle.md_queue.specs.Working.{NotedFirst, SeesFirst};
 
 use crate::words::{load_next, move_tail, note_next, value_of};
@@ -26,6 +27,7 @@ fn load_first<'a, T: HasQueues>(tx: &mut Txn<'a, T>, queue: u32) -> Result<First
     ensures sees { IfOk result (λ first. SeesFirst T.meaning (state tx.new) queue first.head
         first.next) }
     ensures stop { IfErr result (RefusedOtherwise T.meaning (state tx.old) (state tx.new) 0 0) }
+    ensures stopped { StaysStopped (state tx.old) (state tx.new) result }
 {
     let head_word = tx.shape().queue_head(queue);
     let head = tx.load(head_word)?;
@@ -65,6 +67,7 @@ pub fn front<'a, T: HasQueues>(tx: &mut Txn<'a, T>, queue: u32) -> Result<Option
     ensures answer { IfOk result (λ value. Answered T.meaning (state tx.old) (state tx.new)
         (Front queue) (Value value) 2 0 0) }
     ensures stop { IfErr result (RefusedOtherwise T.meaning (state tx.old) (state tx.new) 2 0) }
+    ensures stopped { StaysStopped (state tx.old) (state tx.new) result }
 {
     let first = load_first(tx, queue)?;
     note_first(tx, queue, first)?;
@@ -130,8 +133,9 @@ pub fn dequeue<'a, T: HasQueues>(tx: &mut Txn<'a, T>, queue: u32) -> Result<Opti
     requires begun { IsBegun T.meaning (state tx.old) queue }
     ensures pass { tx.new.pass.ghost_name ≡ tx.old.pass.ghost_name }
     ensures answer { IfOk result (λ value. Answered T.meaning (state tx.old) (state tx.new)
-        (Dequeue queue) (Value value) 2 2 0) }
+        (Dequeue queue) (Value value) (dequeue_reads value) (dequeue_writes value) 0) }
     ensures stop { IfErr result (RefusedOtherwise T.meaning (state tx.old) (state tx.new) 2 2) }
+    ensures stopped { StaysStopped (state tx.old) (state tx.new) result }
 {
     let first = load_first(tx, queue)?;
     if first.next.value == 0 {
