@@ -12,7 +12,7 @@ returns-then-first-eq0-clause-answer g c =
     let t = state c.load_first.new.tx in
     let u = state c.note_first.new.tx in
     record {
-      goes = goes_then M s t u 0 0 0 2 0 0 2 2 0 c.in_ok-first.ensures.goes c.in_ok-note_first.ensures.goes (omega arith) (omega arith) (omega arith);
+      goes = goes_then M s t u 0 0 0 2 0 0 2 0 0 c.in_ok-first.ensures.goes (λ _. c.in_ok-note_first.ensures.goes) (omega arith) (omega arith) (omega arith);
       may = dequeue_none M g.T.Theory.lawful g.met.T.HasQueues.has_queues u c.args.queue c.in_ok-first.first.head c.in_ok-first.first.next c.in_ok-note_first.ensures.noted c.if-first-eq0.true;
     }
 
@@ -23,7 +23,7 @@ returns-in_err-follow_tail-clause-stop g c =
     let t = state c.load_first.new.tx in
     let u = state c.follow_tail.new.tx in
     let stop = c.in_err-follow_tail.field-0.0 in
-    let refused : RefusedOtherwise M s u 2 2 stop = refused_then M s t u 0 0 0 1 2 2 stop c.in_ok-first.ensures.goes c.in_err-follow_tail.ensures.stop (omega arith) (omega arith) in
+    let refused : RefusedOtherwise M s u 2 2 stop = refused_then M s t u 0 0 0 1 2 2 stop c.in_ok-first.ensures.goes (λ _. c.in_err-follow_tail.ensures.stop) (omega arith) (omega arith) in
     search rules
 
 pub returns-in_err-value-clause-stop : goal.returns-in_err-value-clause-stop
@@ -35,7 +35,7 @@ returns-in_err-value-clause-stop g c =
     let v = state c.take_first.new.tx in
     let stop = c.in_err-value.field-0.0 in
     let refused : RefusedOtherwise M s v 2 2 stop = refused_then M s u v 0 1 1 1 2 2 stop
-    (goes_then M s t u 0 0 0 0 1 0 0 1 0 c.in_ok-first.ensures.goes c.in_ok-follow_tail.ensures.goes (omega arith) (omega arith) (omega arith)) c.in_err-value.ensures.stop (omega arith) (omega arith) in
+    (goes_then M s t u 0 0 0 0 1 0 0 1 0 c.in_ok-first.ensures.goes (λ _. c.in_ok-follow_tail.ensures.goes) (omega arith) (omega arith) (omega arith)) (λ _. c.in_err-value.ensures.stop) (omega arith) (omega arith) in
     search rules
 
 pub returns-clause-answer : goal.returns-clause-answer
@@ -46,8 +46,8 @@ returns-clause-answer g c =
     let u = state c.follow_tail.new.tx in
     let v = state c.take_first.new.tx in
     record {
-      goes = goes_then M s u v 0 1 0 1 1 0 2 2 0
-          (goes_then M s t u 0 0 0 0 1 0 0 1 0 c.in_ok-first.ensures.goes c.in_ok-follow_tail.ensures.goes (omega arith) (omega arith) (omega arith))
-          c.in_ok-value.ensures.answer.goes (omega arith) (omega arith) (omega arith);
+      goes = goes_then M s u v 0 1 0 1 1 0 1 2 0
+          (goes_then M s t u 0 0 0 0 1 0 0 1 0 c.in_ok-first.ensures.goes (λ _. c.in_ok-follow_tail.ensures.goes) (omega arith) (omega arith) (omega arith))
+          (λ _. c.in_ok-value.ensures.answer.goes) (omega arith) (omega arith) (omega arith);
       may = c.in_ok-value.ensures.answer.may;
     }
