@@ -2,7 +2,7 @@ use Rattle.std.proofs.Common.{◌≡◌, arith, rules}
 use Rattle.md_nbtc.specs.State.{state}
 use Rattle.md_queue.specs.Operations.{RefusedOtherwise}
 use Rattle.md_queue.proofs.Firsts.{dequeue_none}
-use Rattle.md_queue.proofs.Steps.{goes_then, refused_then}
+use Rattle.md_queue.proofs.Steps.{goes_then, refused_then, unstopped}
 use Rattle.md_queue.proofs.first.dequeue.Goals as goal
 
 pub returns-then-first-eq0-clause-answer : goal.returns-then-first-eq0-clause-answer
@@ -51,3 +51,18 @@ returns-clause-answer g c =
           (λ _. c.in_ok-value.ensures.answer.goes) (omega arith) (omega arith) (omega arith);
       may = c.in_ok-value.ensures.answer.may;
     }
+
+pub returns-then-first-eq0-clause-stopped : goal.returns-then-first-eq0-clause-stopped
+returns-then-first-eq0-clause-stopped g c s is = unstopped (state c.args.tx.now) (state c.load_first.new.tx) c.in_ok-first.first c.in_ok-first.ensures.stopped s is
+
+pub returns-clause-stopped : goal.returns-clause-stopped
+returns-clause-stopped g c s is = unstopped (state c.args.tx.now) (state c.load_first.new.tx) c.in_ok-first.first c.in_ok-first.ensures.stopped s is
+
+pub returns-in_err-note_first-clause-stopped : goal.returns-in_err-note_first-clause-stopped
+returns-in_err-note_first-clause-stopped g c s is = unstopped (state c.args.tx.now) (state c.load_first.new.tx) c.in_ok-first.first c.in_ok-first.ensures.stopped s is
+
+pub returns-in_err-follow_tail-clause-stopped : goal.returns-in_err-follow_tail-clause-stopped
+returns-in_err-follow_tail-clause-stopped g c s is = unstopped (state c.args.tx.now) (state c.load_first.new.tx) c.in_ok-first.first c.in_ok-first.ensures.stopped s is
+
+pub returns-in_err-value-clause-stopped : goal.returns-in_err-value-clause-stopped
+returns-in_err-value-clause-stopped g c s is = unstopped (state c.args.tx.now) (state c.load_first.new.tx) c.in_ok-first.first c.in_ok-first.ensures.stopped s is

@@ -2,6 +2,7 @@ use Rattle.std.proofs.Common.{◌≡◌, ap, sym, subst, ◌∙◌, arith, rules
 use Rattle.md_words.specs.Layout.{address}
 use Rattle.md_words.specs.Place.{queue_tail}
 use Rattle.md_words.specs.PlaceAt.{IsCounted}
+use Rattle.md_nbtc.specs.Going.{IsUnderWay}
 use Rattle.md_nbtc.specs.State.{shape_in, state}
 use Rattle.md_queue.specs.Operations.{RefusedOtherwise}
 use Rattle.md_queue.specs.Words.{move_kind, tail_at}
@@ -76,7 +77,7 @@ returns-in_ok-move_tail-clause-goes g c =
     let tail = c.in_ok-tail.tail in
     let next = c.args.first.next in
     let over = c.in_ok-move_tail.ensures.on in
-    let under = (s.certificates, on.going s.certificates s.working.going) in
+    let under : IsUnderWay M u = (s.certificates, on.going s.certificates s.working.going) in
     let seen = c.in_ok-move_tail.field-0 in
     goes_then M t u v 0 0 0 0 1 0 0 1 0 (look_goes M t u (s.certificates, s.working.going) on c.queue_tail-tail_word.result tail c.in_ok-tail.ensures.looked s.working.operates)
     (exchange_goes M u v under over (tail_at u c.args.queue) tail next.value (move_kind next) seen

@@ -4,7 +4,7 @@ use Rattle.md_words.specs.Link.{linked_node}
 use Rattle.md_words.specs.Place.{queue_head}
 use Rattle.md_nbtc.specs.declared.seen.Kind.TheVariants.{Critical}
 use Rattle.md_nbtc.specs.Calls.{MayExchange}
-use Rattle.md_nbtc.specs.Going.{IsFoundThere}
+use Rattle.md_nbtc.specs.Going.{IsFoundThere, IsUnderWay}
 use Rattle.md_nbtc.specs.Known.{Known}
 use Rattle.md_nbtc.specs.Seeing.{Gave, KeepsGiven}
 use Rattle.md_nbtc.specs.State.{shape_in, state}
@@ -125,7 +125,7 @@ returns-clause-answer g c =
     let going = on.going s.certificates s.working.going in
     let over = c.value_of-value.ensures.on in
     let last = c.in_ok-exchange.ensures.on in
-    let under = (s.certificates, over.going s.certificates going) in
+    let under : IsUnderWay M v = (s.certificates, over.going s.certificates going) in
     let seen = c.in_ok-exchange.field-0 in
     let half = half_is first.head.value in
     let noted = note_ok M t u (s.certificates, s.working.going) on (next_at t (first.head.value / 2)) first.next c.in_ok-note_next.ensures.noted in
@@ -158,7 +158,7 @@ returns-clause-tail g c =
     let going = on.going s.certificates s.working.going in
     let over = c.value_of-value.ensures.on in
     let last = c.in_ok-exchange.ensures.on in
-    let under = (s.certificates, over.going s.certificates going) in
+    let under : IsUnderWay M v = (s.certificates, over.going s.certificates going) in
     let seen = c.in_ok-exchange.field-0 in
     let half = half_is first.head.value in
     let noted = note_ok M t u (s.certificates, s.working.going) on (next_at t (first.head.value / 2)) first.next c.in_ok-note_next.ensures.noted in
