@@ -142,6 +142,8 @@ goes_within M t u a x g writes = record {
   leaves = record {
     going = g.leaves.going;
     later = g.leaves.later;
+    acts = g.leaves.acts;
+    operates = g.leaves.operates;
     reads_few = g.leaves.reads_few;
     writes_few = writes;
     nodes_few = g.leaves.nodes_few;
@@ -157,7 +159,7 @@ counts_one s = ⊎_elim (λ own. ap (λ b. (if b then 1 else 0) + (if b then 0 e
 pub goes_moved : (M : Meaning) (s t u : TxnState) (a b c : ℕ) → GoesBy M s t 0 a 0 → GoesBy M t u 0 b 0 → length u.slots + a ≤ length t.slots + c → GoesBy M s u 0 c 0
 goes_moved M s t u a b c one two counts =
     let few = one.leaves.writes_few in
-    goes_within M s u (a + b) c (goes_then M s t u 0 a 0 0 b 0 0 (a + b) 0 one two (omega arith) (omega arith) (omega arith)) (omega (arith, few, counts))
+    goes_within M s u (a + b) c (goes_then M s t u 0 a 0 0 b 0 0 (a + b) 0 one (λ _. two) (omega arith) (omega arith) (omega arith)) (omega (arith, few, counts))
 
 -- there are fewer nodes than turns
 pub node_limit : (shape : Shape) → node_count shape < 4294967295

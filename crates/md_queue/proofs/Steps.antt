@@ -1,5 +1,5 @@
 -- What each call leaves of a transaction, and how that adds up.
-use Rattle.std.proofs.Common.{◌≡◌, ◌≤◌, ◌+◌, ℕ, Option, Some, None, Result, Ok, Err, length, map, [], ◌∷◌, refl, sym, ap, ◌∙◌, subst, arith}
+use Rattle.std.proofs.Common.{◌≡◌, ◌≤◌, ◌+◌, ℕ, Option, Some, None, true, Result, Ok, Err, length, map, [], ◌∷◌, refl, sym, ap, ◌∙◌, subst, arith}
 use Rattle.std.proofs.lemmas.List.{length-append, length-map}
 use Rattle.md_history.specs.declared.stops.Limit.TheVariants.{Nodes, Reads, Worn, Writes}
 use Rattle.md_history.specs.declared.stops.Shown.{Shown}
@@ -17,7 +17,7 @@ use Rattle.md_nbtc.proofs.preparing.Later.{later_over}
 use Rattle.md_nbtc.proofs.structures.Answering.{IsStopped, after_ok, exchange_refused, look_refused, note_refused}
 use Rattle.md_nbtc.proofs.structures.Exchanging.{HasExchanged, changed_own, changed_plainly, exchange_so, exchanged_so, installed}
 use Rattle.md_nbtc.proofs.structures.Noting.{HasNoted, has_noted}
-use Rattle.md_queue.specs.Operations.{GoesBy, Leaves, Refused, RefusedOtherwise}
+use Rattle.md_queue.specs.Operations.{GoesBy, Leaves, Refused, RefusedOtherwise, StaysStopped}
 
 module _ (M : Meaning) where
   -- one after another
@@ -32,49 +32,62 @@ module _ (M : Meaning) where
       record {
         going = two.going;
         later = later_over s t u one.later two.later;
+        acts = two.acts ∙ one.acts;
+        operates = two.operates;
         reads_few = omega (arith, r, rr, reads);
         writes_few = omega (arith, w, ww, writes);
         nodes_few = omega (arith, n, nn, nodes);
       }
 
-  pub goes_then : (s t u : TxnState) (a b c d e f x y z : ℕ) → GoesBy M s t a b c → GoesBy M t u d e f → a + d ≤ x → b + e ≤ y → c + f ≤ z → GoesBy M s u x y z
-  goes_then s t u a b c d e f x y z one two reads writes nodes = record {
-    leaves = leaves_then s t u a b c d e f x y z one.leaves two.leaves reads writes nodes;
-    same_stop = two.same_stop ∙ one.same_stop;
-  }
+  -- the second one is asked to go on only in an operation
+  pub goes_then : (s t u : TxnState) (a b c d e f x y z : ℕ) → GoesBy M s t a b c → (t.hand.operating ≡ true → GoesBy M t u d e f)
+      → a + d ≤ x → b + e ≤ y → c + f ≤ z → GoesBy M s u x y z
+  goes_then s t u a b c d e f x y z one next reads writes nodes =
+      let two = next one.leaves.operates in
+      record {
+        leaves = leaves_then s t u a b c d e f x y z one.leaves two.leaves reads writes nodes;
+        same_stop = two.same_stop ∙ one.same_stop;
+      }
 
-  pub refused_then : (s t u : TxnState) (a b d e x y : ℕ) (stop : Stop) → GoesBy M s t a b 0 → RefusedOtherwise M t u d e stop → a + d ≤ x → b + e ≤ y → RefusedOtherwise M s u x y stop
-  refused_then s t u a b d e x y stop one two reads writes = record {
-    refused = record {
-      leaves = leaves_then s t u a b 0 d e 0 x y 0 one.leaves two.refused.leaves reads writes (omega arith);
-      kept = two.refused.kept;
-    };
-    no_nodes = λ is. sym one.same_stop ∙ two.no_nodes is;
-  }
+  pub refused_then : (s t u : TxnState) (a b d e x y : ℕ) (stop : Stop) → GoesBy M s t a b 0 → (t.hand.operating ≡ true → RefusedOtherwise M t u d e stop)
+      → a + d ≤ x → b + e ≤ y → RefusedOtherwise M s u x y stop
+  refused_then s t u a b d e x y stop one next reads writes =
+      let two = next one.leaves.operates in
+      record {
+        refused = record {
+          leaves = leaves_then s t u a b 0 d e 0 x y 0 one.leaves two.refused.leaves reads writes (omega arith);
+          kept = two.refused.kept;
+        };
+        no_nodes = λ is. sym one.same_stop ∙ two.no_nodes is;
+      }
 
   module _ (t u : TxnState) (under : IsUnderWay M t) (on : GoesOn M t u) where
-    stepped_leaves : (a b c : ℕ) → length u.reads ≤ length t.reads + a → length u.slots ≤ length t.slots + b → length u.nodes ≤ length t.nodes + c → Leaves M t u a b c
-    stepped_leaves a b c reads writes nodes = record {
+    stepped_leaves : (a b c : ℕ) → u.hand.acts ≡ t.hand.acts → u.hand.operating ≡ t.hand.operating → t.hand.operating ≡ true → length u.reads ≤ length t.reads + a → length u.slots ≤ length t.slots + b → length u.nodes ≤ length t.nodes + c → Leaves M t u a b c
+    stepped_leaves a b c acts operating operates reads writes nodes = record {
       going = (under.0, on.going under.0 under.1);
       later = on.later;
+      acts = acts;
+      operates = operating ∙ operates;
       reads_few = reads;
       writes_few = writes;
       nodes_few = nodes;
     }
 
     -- steps of the pass alone
-    pub pass_goes : u ≡ record t { pass = u.pass } → GoesBy M t u 0 0 0
-    pass_goes same = record {
-      leaves = stepped_leaves 0 0 0 (let l = ap (λ (x : TxnState). length x.reads) same in omega (arith, l))
+    pub pass_goes : u ≡ record t { pass = u.pass } → t.hand.operating ≡ true → GoesBy M t u 0 0 0
+    pass_goes same operates = record {
+      leaves = stepped_leaves 0 0 0 (ap (λ (x : TxnState). x.hand.acts) same) (ap (λ (x : TxnState). x.hand.operating) same) operates
+          (let l = ap (λ (x : TxnState). length x.reads) same in omega (arith, l))
           (let l = ap (λ (x : TxnState). length x.slots) same in omega (arith, l))
           (let l = ap (λ (x : TxnState). length x.nodes) same in omega (arith, l));
       same_stop = ap (λ (x : TxnState). x.stop) same;
     }
 
-    halted : (stop : Stop) → IsStopped t u stop → (stop ≡ Limited Nodes → t.stop ≡ Some stop) → RefusedOtherwise M t u 0 0 stop
-    halted stop is others = record {
+    halted : (stop : Stop) → IsStopped t u stop → (stop ≡ Limited Nodes → t.stop ≡ Some stop) → t.hand.operating ≡ true → RefusedOtherwise M t u 0 0 stop
+    halted stop is others operates = record {
       refused = record {
-        leaves = stepped_leaves 0 0 0 (let l = ap (λ (x : TxnState). length x.reads) is in omega (arith, l))
+        leaves = stepped_leaves 0 0 0 (ap (λ (x : TxnState). x.hand.acts) is) (ap (λ (x : TxnState). x.hand.operating) is) operates
+            (let l = ap (λ (x : TxnState). length x.reads) is in omega (arith, l))
             (let l = ap (λ (x : TxnState). length x.slots) is in omega (arith, l))
             (let l = ap (λ (x : TxnState). length x.nodes) is in omega (arith, l));
         kept = ap (λ (x : TxnState). x.stop) is;
@@ -98,12 +111,26 @@ module _ (M : Meaning) where
     pub look_ok : (word : ℕ) (seen : Seen) → AfterStop t.stop t u (let r : Result Seen Stop = Ok seen in r) (Looked M t u word (Ok seen)) → (u ≡ record t { pass = u.pass }) × Looks M t u word seen
     look_ok word seen looked = after_ok Seen t u t.stop seen (Looked M t u word (Ok seen)) looked
 
-    pub look_goes : (word : ℕ) (seen : Seen) → AfterStop t.stop t u (let r : Result Seen Stop = Ok seen in r) (Looked M t u word (Ok seen)) → GoesBy M t u 0 0 0
+    pub look_goes : (word : ℕ) (seen : Seen) → AfterStop t.stop t u (let r : Result Seen Stop = Ok seen in r) (Looked M t u word (Ok seen)) → t.hand.operating ≡ true → GoesBy M t u 0 0 0
     look_goes word seen looked = pass_goes (look_ok word seen looked).0
 
-    pub look_stops : (word : ℕ) (stop : Stop) → AfterStop t.stop t u (let r : Result Seen Stop = Err stop in r) (Looked M t u word (Err stop)) → RefusedOtherwise M t u 0 0 stop
+    pub look_stops : (word : ℕ) (stop : Stop) → AfterStop t.stop t u (let r : Result Seen Stop = Err stop in r) (Looked M t u word (Err stop)) → t.hand.operating ≡ true → RefusedOtherwise M t u 0 0 stop
     look_stops word stop looked = halted stop (look_refused M t u stop word looked)
         (old_stop Seen stop t.stop refl (Looked M t u word (Err stop)) (λ is nodes. conflict_no_nodes stop is.1.0 is.1.1 nodes) looked)
+
+    -- after a stop the same stop, and nothing is done
+    pub look_stopped : (word : ℕ) (stop : Stop) → AfterStop t.stop t u (let r : Result Seen Stop = Err stop in r) (Looked M t u word (Err stop))
+        → (s : Stop) → t.stop ≡ Some s → (stop ≡ s) × (u ≡ t)
+    look_stopped word stop looked s is =
+        let same : ((let e : Result Seen Stop = Err stop in e) ≡ Err s) × (u ≡ t) = subst (λ o. AfterStop o t u (let r : Result Seen Stop = Err stop in r) (Looked M t u word (Err stop))) is looked in
+        (sym (err_same Seen stop s same.0), same.1)
+
+    pub look_unstopped : {B : Type 0} (word : ℕ) (seen : Seen) → AfterStop t.stop t u (let r : Result Seen Stop = Ok seen in r) (Looked M t u word (Ok seen))
+        → (s : Stop) → t.stop ≡ Some s → B
+    look_unstopped word seen looked s is =
+        let same : ((let e : Result Seen Stop = Ok seen in e) ≡ Err s) × (u ≡ t) = subst (λ o. AfterStop o t u (let r : Result Seen Stop = Ok seen in r) (Looked M t u word (Ok seen))) is looked in
+        let e = same.0 in
+        cc e
 
     -- a note
     ok_is_err : {B : Type 0} (s : Stop) → (let r : Result (Unit {0}) Stop = Ok tt in r) ≡ Err s → B
@@ -118,11 +145,11 @@ module _ (M : Meaning) where
     pub note_ok : (word : ℕ) (seen : Seen) → AfterStop t.stop t u (let r : Result (Unit {0}) Stop = Ok tt in r) (Notes (note_case t word seen) t u word seen (Ok tt)) → HasNoted t u word seen
     note_ok word seen is = has_noted t u word seen (after_ok (Unit {0}) t u t.stop tt (Notes (note_case t word seen) t u word seen (Ok tt)) is)
 
-    pub note_goes : (word : ℕ) (seen : Seen) → AfterStop t.stop t u (let r : Result (Unit {0}) Stop = Ok tt in r) (Notes (note_case t word seen) t u word seen (Ok tt)) → GoesBy M t u 1 0 0
-    note_goes word seen is =
+    pub note_goes : (word : ℕ) (seen : Seen) → AfterStop t.stop t u (let r : Result (Unit {0}) Stop = Ok tt in r) (Notes (note_case t word seen) t u word seen (Ok tt)) → t.hand.operating ≡ true → GoesBy M t u 1 0 0
+    note_goes word seen is operates =
         let noted = note_ok word seen is in
         record {
-          leaves = stepped_leaves 1 0 0 noted.few (let l = ap (λ x. length x) noted.slots in omega (arith, l)) (let l = ap (λ x. length x) noted.nodes in omega (arith, l));
+          leaves = stepped_leaves 1 0 0 (ap (λ x. x.acts) noted.hand) (ap (λ x. x.operating) noted.hand) operates noted.few (let l = ap (λ x. length x) noted.slots in omega (arith, l)) (let l = ap (λ x. length x) noted.nodes in omega (arith, l));
           same_stop = noted_stop (note_case t word seen) word seen (after_ok (Unit {0}) t u t.stop tt (Notes (note_case t word seen) t u word seen (Ok tt)) is);
         }
 
@@ -132,7 +159,7 @@ module _ (M : Meaning) where
     note_no_nodes stop full word seen is nodes = let e = is.0 in cc (e, nodes)
     note_no_nodes stop unread word seen is nodes = let e = is.0 in cc e
 
-    pub note_stops : (word : ℕ) (seen : Seen) (stop : Stop) → AfterStop t.stop t u (let r : Result (Unit {0}) Stop = Err stop in r) (Notes (note_case t word seen) t u word seen (Err stop)) → RefusedOtherwise M t u 0 0 stop
+    pub note_stops : (word : ℕ) (seen : Seen) (stop : Stop) → AfterStop t.stop t u (let r : Result (Unit {0}) Stop = Err stop in r) (Notes (note_case t word seen) t u word seen (Err stop)) → t.hand.operating ≡ true → RefusedOtherwise M t u 0 0 stop
     note_stops word seen stop is = halted stop (note_refused M t u stop (note_case t word seen) word seen is)
         (old_stop (Unit {0}) stop t.stop refl (Notes (note_case t word seen) t u word seen (Err stop)) (note_no_nodes stop (note_case t word seen) word seen) is)
 
@@ -142,21 +169,24 @@ module _ (M : Meaning) where
     exchange_ok word from to kind seen is = exchanged_so M t word from to kind u seen
         (after_ok Seen t u t.stop seen (Exchanges (exchange_case t word from kind) M t u word from to (Ok seen)) is)
 
-    pub exchange_goes : (word : ℕ) (from : Seen) (to : ℕ) (kind : Kind) (seen : Seen) → HasExchanged M t word from to kind u seen → GoesBy M t u 0 1 0
-    exchange_goes word from to kind seen (changed_own e) = record {
-      leaves = stepped_leaves 0 1 0 (let l = ap (λ (x : TxnState). length x.reads) e.state_is in omega (arith, l))
+    pub exchange_goes : (word : ℕ) (from : Seen) (to : ℕ) (kind : Kind) (seen : Seen) → HasExchanged M t word from to kind u seen → t.hand.operating ≡ true → GoesBy M t u 0 1 0
+    exchange_goes word from to kind seen (changed_own e) operates = record {
+      leaves = stepped_leaves 0 1 0 (ap (λ (x : TxnState). x.hand.acts) e.state_is) (ap (λ (x : TxnState). x.hand.operating) e.state_is) operates
+          (let l = ap (λ (x : TxnState). length x.reads) e.state_is in omega (arith, l))
           (let l = ap (λ (x : TxnState). length x.slots) e.state_is ∙ length-map t.slots (with_new word to) in omega (arith, l))
           (let l = ap (λ (x : TxnState). length x.nodes) e.state_is in omega (arith, l));
       same_stop = ap (λ (x : TxnState). x.stop) e.state_is;
     }
-    exchange_goes word from to kind seen (installed e) = record {
-      leaves = stepped_leaves 0 1 0 (let l = ap (λ (x : TxnState). length x.reads) e.state_is in omega (arith, l))
+    exchange_goes word from to kind seen (installed e) operates = record {
+      leaves = stepped_leaves 0 1 0 (ap (λ (x : TxnState). x.hand.acts) e.state_is) (ap (λ (x : TxnState). x.hand.operating) e.state_is) operates
+          (let l = ap (λ (x : TxnState). length x.reads) e.state_is in omega (arith, l))
           (let l = ap (λ (x : TxnState). length x.slots) e.state_is ∙ length-append t.slots (new_slot t word from to ∷ []) in omega (arith, l))
           (let l = ap (λ (x : TxnState). length x.nodes) e.state_is in omega (arith, l));
       same_stop = ap (λ (x : TxnState). x.stop) e.state_is;
     }
-    exchange_goes word from to kind seen (changed_plainly e) = record {
-      leaves = stepped_leaves 0 1 0 (let l = ap (λ (x : TxnState). length x.reads) e.state_is in omega (arith, l))
+    exchange_goes word from to kind seen (changed_plainly e) operates = record {
+      leaves = stepped_leaves 0 1 0 (ap (λ (x : TxnState). x.hand.acts) e.state_is) (ap (λ (x : TxnState). x.hand.operating) e.state_is) operates
+          (let l = ap (λ (x : TxnState). length x.reads) e.state_is in omega (arith, l))
           (let l = ap (λ (x : TxnState). length x.slots) e.state_is in omega (arith, l))
           (let l = ap (λ (x : TxnState). length x.nodes) e.state_is in omega (arith, l));
       same_stop = ap (λ (x : TxnState). x.stop) e.state_is;
@@ -173,9 +203,13 @@ module _ (M : Meaning) where
         (λ unwritten plain is. conflict_no_nodes stop _ is.1.1)
 
     pub exchange_stops : (word : ℕ) (from : Seen) (to : ℕ) (kind : Kind) (stop : Stop)
-        → AfterStop t.stop t u (let r : Result Seen Stop = Err stop in r) (Exchanges (exchange_case t word from kind) M t u word from to (Err stop)) → RefusedOtherwise M t u 0 0 stop
+        → AfterStop t.stop t u (let r : Result Seen Stop = Err stop in r) (Exchanges (exchange_case t word from kind) M t u word from to (Err stop)) → t.hand.operating ≡ true → RefusedOtherwise M t u 0 0 stop
     exchange_stops word from to kind stop is = halted stop (exchange_refused M t u stop word from to kind is)
         (old_stop Seen stop t.stop refl (Exchanges (exchange_case t word from kind) M t u word from to (Err stop)) (exchange_no_nodes word from to kind stop) is)
+
+-- an Ok doesn't come after a stop
+pub unstopped : {A B : Type 0} (t u : TxnState) (x : A) → StaysStopped t u (let r : Result A Stop = Ok x in r) → (s : Stop) → t.stop ≡ Some s → B
+unstopped t u x stays s is = let e = (stays s is).0 in cc e
 
 -- a refusal within wider bounds
 pub refused_up : (M : Meaning) (t u : TxnState) (a b x y : ℕ) (stop : Stop) → RefusedOtherwise M t u a b stop → a ≤ x → b ≤ y → RefusedOtherwise M t u x y stop
@@ -187,6 +221,8 @@ refused_up M t u a b x y stop is reads writes =
         leaves = record {
           going = is.refused.leaves.going;
           later = is.refused.leaves.later;
+          acts = is.refused.leaves.acts;
+          operates = is.refused.leaves.operates;
           reads_few = omega (arith, r, reads);
           writes_few = omega (arith, w, writes);
           nodes_few = is.refused.leaves.nodes_few;
@@ -205,6 +241,8 @@ goes_up M t u a b c x y z is reads writes nodes =
       leaves = record {
         going = is.leaves.going;
         later = is.leaves.later;
+        acts = is.leaves.acts;
+        operates = is.leaves.operates;
         reads_few = omega (arith, r, reads);
         writes_few = omega (arith, w, writes);
         nodes_few = omega (arith, n, nodes);

@@ -2,7 +2,7 @@
 
 ghost use Rattle.std.specs.Prelude.{◌≡◌, ◌≢◌, ◌≤◌, ◌+◌, ℕ, IfOk, IfErr, Some, length};
 ghost use Rattle.md_nbtc.specs.State.{state};
-ghost use Rattle.md_queue.specs.Operations.{GoesBy, IsBegun, RefusedOtherwise};
+ghost use Rattle.md_queue.specs.Operations.{GoesBy, IsBegun, RefusedOtherwise, StaysStopped};
 ghost use Rattle.md_queue.specs.Working.{SeesEnd, other_count, own_count};
 
 use crate::words::{load_next, move_tail};
@@ -23,6 +23,7 @@ fn load_end<'a, T: HasQueues>(tx: &mut Txn<'a, T>, queue: u32) -> Result<End, St
     ensures goes { IfOk result (λ end. GoesBy T.meaning (state tx.old) (state tx.new) 0 0 0) }
     ensures sees { IfOk result (λ end. SeesEnd T.meaning (state tx.new) queue end.tail end.next 0) }
     ensures stop { IfErr result (RefusedOtherwise T.meaning (state tx.old) (state tx.new) 0 0) }
+    ensures stopped { StaysStopped (state tx.old) (state tx.new) result }
 {
     let tail_word = tx.shape().queue_tail(queue);
     let tail = tx.load(tail_word)?;
@@ -59,6 +60,7 @@ pub(crate) fn find_last<'a, T: HasQueues>(tx: &mut Txn<'a, T>, queue: u32) -> Re
         × SeesEnd T.meaning (state tx.new) queue end.tail end.next least) }
     ensures last { IfOk result (λ end. end.next.value ≡ 0) }
     ensures stop { IfErr result (RefusedOtherwise T.meaning (state tx.old) (state tx.new) 0 1) }
+    ensures stopped { StaysStopped (state tx.old) (state tx.new) result }
 {
     let mut end = load_end(tx, queue)?;
     // Ranks rise from node to node, so there are no more turns than nodes.

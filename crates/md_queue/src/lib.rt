@@ -4,7 +4,9 @@
 #![tactic(auto)]
 
 pub use first::{dequeue, front};
+pub use lines::line;
 
 mod first;
 mod last;
+mod lines;
 mod words;

@@ -25,7 +25,7 @@ returns-in_err-end-2-clause-stop g c =
     let tail = c.loop.end.tail in
     let stop = c.in_err-end-2.field-0.0 in
     let one = counts_one tail in
-    let refused : RefusedOtherwise M s u 0 1 stop = refused_then M s t u 0 (own_count tail) 0 (other_count tail) 0 1 stop c.loop.invariant.goes c.in_err-end-2.ensures.stop (omega arith) (omega (arith, one)) in
+    let refused : RefusedOtherwise M s u 0 1 stop = refused_then M s t u 0 (own_count tail) 0 (other_count tail) 0 1 stop c.loop.invariant.goes (λ _. c.in_err-end-2.ensures.stop) (omega arith) (omega (arith, one)) in
     search rules
 
 pub loop-preserved : goal.loop-preserved

@@ -32,7 +32,7 @@ returns-in_err-tail-clause-stop g c =
     let end = c.args.end in
     let stop = c.in_err-tail.field-0.0 in
     let refused : RefusedOtherwise M t u 0 (other_count end.tail) stop = refused_up M t u 0 0 0 (other_count end.tail) stop
-    (exchange_stops M t u (s.sees_tail.certificates, s.sees_tail.working.going) c.in_err-tail.ensures.on (tail_at t c.args.queue) end.tail end.next.value (move_kind end.next) stop c.in_err-tail.ensures.exchanged)
+    (exchange_stops M t u (s.sees_tail.certificates, s.sees_tail.working.going) c.in_err-tail.ensures.on (tail_at t c.args.queue) end.tail end.next.value (move_kind end.next) stop c.in_err-tail.ensures.exchanged s.sees_tail.working.operates)
     (omega arith) (omega arith) in
     search rules
 
@@ -67,7 +67,7 @@ returns-in_err-next-clause-stop g c =
     let tail = c.in_ok-tail.tail in
     let on = c.in_ok-tail.ensures.on in
     let ex = exchange_ok M t u under on (tail_at t c.args.queue) end.tail end.next.value (move_kind end.next) tail c.in_ok-tail.ensures.exchanged in
-    let goes = exchange_goes M t u under on (tail_at t c.args.queue) end.tail end.next.value (move_kind end.next) tail ex in
+    let goes = exchange_goes M t u under on (tail_at t c.args.queue) end.tail end.next.value (move_kind end.next) tail ex s.sees_tail.working.operates in
     let counts = moved_counts M t u (tail_at t c.args.queue) end.tail end.next.value (move_kind end.next) tail ex s.sees_tail.tail_sees.gave in
     let stop = c.in_err-next.field-0.0 in
     let refused : RefusedOtherwise M t v 0 (other_count end.tail) stop = refused_then M t u v 0 (other_count end.tail) 0 0 0 (other_count end.tail) stop
@@ -87,7 +87,7 @@ returns-clause-goes g c =
     let tail = c.in_ok-tail.tail in
     let on = c.in_ok-tail.ensures.on in
     let ex = exchange_ok M t u under on (tail_at t c.args.queue) end.tail end.next.value (move_kind end.next) tail c.in_ok-tail.ensures.exchanged in
-    let goes = exchange_goes M t u under on (tail_at t c.args.queue) end.tail end.next.value (move_kind end.next) tail ex in
+    let goes = exchange_goes M t u under on (tail_at t c.args.queue) end.tail end.next.value (move_kind end.next) tail ex s.sees_tail.working.operates in
     let counts = moved_counts M t u (tail_at t c.args.queue) end.tail end.next.value (move_kind end.next) tail ex s.sees_tail.tail_sees.gave in
     goes_then M t u v 0 (other_count end.tail) 0 0 0 0 0 (other_count end.tail) 0 (goes_within M t u 1 (other_count end.tail) goes counts.1)
     (look_goes M u v (under.0, on.going under.0 under.1) c.in_ok-next.ensures.on (next_at u (tail.value / 2)) c.in_ok-next.next c.in_ok-next.ensures.looked) (omega arith) (omega arith) (omega arith)

@@ -12,7 +12,7 @@ use Rattle.md_queue.proofs.Data.{half_is}
 use Rattle.md_queue.proofs.Ends.{end_seen, tail_seen}
 use Rattle.md_queue.proofs.Firsts.{begun_working}
 use Rattle.md_queue.proofs.Looking.{tail_counted, tail_named}
-use Rattle.md_queue.proofs.Steps.{goes_then, look_goes, look_ok, look_stops, refused_then}
+use Rattle.md_queue.proofs.Steps.{goes_then, look_goes, look_ok, look_stopped, look_stops, look_unstopped, refused_then}
 use Rattle.md_queue.proofs.last.load_end.Goals as goal
 
 pub load-requires-clause-counted : goal.load-requires-clause-counted
@@ -49,7 +49,7 @@ returns-in_err-next-clause-stop g c =
     let on = c.in_ok-tail.ensures.on in
     let stop = c.in_err-next.field-0.0 in
     let refused : RefusedOtherwise M t v 0 0 stop = refused_then M t u v 0 0 0 0 0 0 stop
-    (look_goes M t u under on c.queue_tail-tail_word.result c.in_ok-tail.tail c.in_ok-tail.ensures.looked)
+    (look_goes M t u under on c.queue_tail-tail_word.result c.in_ok-tail.tail c.in_ok-tail.ensures.looked c.requires.begun.operates)
     (look_stops M u v (under.0, on.going under.0 under.1) c.in_err-next.ensures.on (next_at u (c.in_ok-tail.tail.value / 2)) stop c.in_err-next.ensures.looked) (omega arith) (omega arith) in
     search rules
 
@@ -61,7 +61,7 @@ returns-clause-goes g c =
     let v = state c.load_next.new.tx in
     let under = c.requires.begun.going in
     let on = c.in_ok-tail.ensures.on in
-    goes_then M t u v 0 0 0 0 0 0 0 0 0 (look_goes M t u under on c.queue_tail-tail_word.result c.in_ok-tail.tail c.in_ok-tail.ensures.looked)
+    goes_then M t u v 0 0 0 0 0 0 0 0 0 (look_goes M t u under on c.queue_tail-tail_word.result c.in_ok-tail.tail c.in_ok-tail.ensures.looked c.requires.begun.operates)
     (look_goes M u v (under.0, on.going under.0 under.1) c.in_ok-next.ensures.on (next_at u (c.in_ok-tail.tail.value / 2)) c.in_ok-next.next c.in_ok-next.ensures.looked)
     (omega arith) (omega arith) (omega arith)
 
@@ -82,3 +82,12 @@ returns-clause-sees g c =
     end_seen M g.T.Theory.lawful g.met.T.HasQueues.has_queues u v c.args.queue c.in_ok-next.ensures.on next_is.0 tail next 0 s
     (subst (λ n. KeepsGiven u v (next_at u n)) (half_is tail.value) c.in_ok-next.ensures.given)
     (subst (λ n. Looks M u v (next_at u n) next) (half_is tail.value) next_is.1)
+
+pub returns-in_err-tail-clause-stopped : goal.returns-in_err-tail-clause-stopped
+returns-in_err-tail-clause-stopped g c s is =
+    let M = g.T.Theory.meaning in
+    let t = state c.args.tx.now in
+    let u = state c.load.new.self in
+    let stop = c.in_err-tail.field-0.0 in
+    let same = look_stopped M t u c.requires.begun.going c.in_err-tail.ensures.on c.queue_tail-tail_word.result stop c.in_err-tail.ensures.looked s is in
+    search rules
