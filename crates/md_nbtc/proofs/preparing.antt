@@ -1,3 +1,4 @@
+pub mod Fronts
 pub mod Later
 pub mod GoingOn
 pub mod Quiet

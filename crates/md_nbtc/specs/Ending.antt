@@ -73,6 +73,7 @@ pub record Begins (p : PassState) (tag : ℕ) (t : TxnState) : Type 0 where
   pub nodes_taken : SameNodes p t.pass
   pub hand : t.hand ≡ new_hand (attempt_in t) tag
   pub began : SameNodes t.began t.pass
+  pub since : IsPrefix p.view.trail t.began.view.trail
   pub reads : t.reads ≡ []
   pub slots : t.slots ≡ []
   pub nodes : t.nodes ≡ []
@@ -165,11 +166,18 @@ pub record IsReady (M : Meaning) (t : TxnState) : Type 0 where
   pub nodes : All (λ (n : OwnNode). HasNode (shape_in t) t.pass.view n.node × IsFreeBy entry.before entry.fates n.node) t.nodes
   pub cleanups : All (λ (s : Slot). IfSome s.cleanup (IsReadyCleanup M t entry s.write)) t.slots
 
--- a transaction became ready
-pub record Readies (t u : TxnState) : Type 0 where
+-- a transaction became ready: its pass saw what others had entered, none of it of its own lanes, and last the transaction's
+-- entry, which is of the lane of its descriptor
+pub record Readies (t u : TxnState) (e : HasEntry u) : Type 0 where
   pub same : IsSamePass t.pass u.pass
-  pub seen : IsPrefix t.pass.view.seen u.pass.view.seen
+  pub others : List HistoryEntry
+  pub seen : u.pass.view.seen ≡ t.pass.view.seen ++ (others ++ e.entry ∷ [])
+  pub of_others : All (λ (x : HistoryEntry). ¬ Contains t.pass.view.lanes x.entry.lane) others
+  pub lane : e.entry.entry.lane ≡ (attempt_in t).desc
+  pub own : Contains t.pass.view.lanes e.entry.entry.lane
+  pub fated : length u.pass.view.known ≡ length u.pass.view.seen
   pub mine : u.pass.view.mine ≡ t.pass.view.mine
+  pub pending : u.pass.view.pending ≡ t.pass.view.pending
   pub shares : u.pass.shares ≡ t.pass.shares
   pub rest : u ≡ record t { pass = u.pass }
 

@@ -11,9 +11,9 @@ use Rattle.md_machine.specs.Meaning.{KeepsFacts, Meaning}
 use Rattle.md_machine.specs.Resolution.{Resolves, logical_heap}
 use Rattle.md_rule.specs.Admitted.{Admitted}
 use Rattle.md_nbtc.specs.Prepared.{IsPrepared}
-use Rattle.md_nbtc.specs.State.{TxnState, attempt_in, installs_in, writes_in}
+use Rattle.md_nbtc.specs.State.{SameFront, TxnState, attempt_in, installs_in, writes_in}
 
--- a later state of the same transaction: what it did and has stays
+-- a later state of the same transaction: what it did and has stays, and so does the front of its pass
 pub record IsLater (t u : TxnState) : Type 0 where
   pub field : u.field ≡ t.field
   pub began : u.began ≡ t.began
@@ -26,6 +26,7 @@ pub record IsLater (t u : TxnState) : Type 0 where
   pub reads : IsPrefix t.reads u.reads
   pub installs : IsPrefix (installs_in t) (installs_in u)
   pub nodes : IsPrefix t.nodes u.nodes
+  pub front : SameFront t.pass u.pass
 
 module _ (M : Meaning) where
   -- a logical heap of the field, as far as the transaction can know: of some machine of it in which the pass stands so,

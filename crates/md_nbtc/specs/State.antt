@@ -7,6 +7,7 @@ use Rattle.md_words.specs.Lanes.{node_of}
 use Rattle.md_words.specs.Layout.{address}
 use Rattle.md_words.specs.Place.{node_key, node_value, node_next}
 use Rattle.md_history.specs.declared.stops.Stop.{Stop}
+use Rattle.md_history.specs.Front.{AllStay}
 use Rattle.md_machine.specs.declared.attempt.AttemptId.{AttemptId}
 use Rattle.md_machine.specs.declared.attempt.Hand.{Hand}
 use Rattle.md_machine.specs.declared.attempt.Read.{Read}
@@ -49,6 +50,18 @@ pub record TxnState : Type 0 where
 -- so many nodes of each lane are taken in both
 abbrev pub SameNodes : PassState → PassState → Type 0
 SameNodes p q = (lane : ℕ) → (share_at q.shares lane).nodes_taken ≡ (share_at p.shares lane).nodes_taken
+
+-- so many attempts of each lane were begun in both
+abbrev pub SameTries : PassState → PassState → Type 0
+SameTries p q = (lane : ℕ) → (share_at q.shares lane).tries_taken ≡ (share_at p.shares lane).tries_taken
+
+-- the front of a pass stays, but for fates that it didn't know, and so do the numbers of attempts
+pub record SameFront (p q : PassState) : Type 0 where
+  pub seen : q.view.seen ≡ p.view.seen
+  pub mine : q.view.mine ≡ p.view.mine
+  pub pending : q.view.pending ≡ p.view.pending
+  pub known : AllStay p.view.known q.view.known
+  pub tries : SameTries p q
 
 -- the nodes of a pass's lanes that were taken since it stood so
 abbrev pub taken_of_lane : (before now : PassState) → (lane : ℕ) → List ℕ

@@ -60,8 +60,8 @@ impl<'a, T: Theory> Txn<'a, T> {
         ensures pass { MatchResult result
             (λ r. r.pass.ghost_name ≡ self.entry.pass.ghost_name)
             (λ r. r.pass.ghost_name ≡ self.entry.pass.ghost_name) }
-        ensures ready { IfOk result (λ r. IsReady T.meaning (ready_state r)
-            × Readies (state self.entry) (ready_state r)) }
+        ensures ready { IfOk result (λ r. (is : IsReady T.meaning (ready_state r))
+            × Readies (state self.entry) (ready_state r) is.entry) }
         ensures refused { IfErr result (λ r. Stopped T.meaning (state self.entry) r.pass.now
             × (r.shown ≡ shown_unready (state self.entry))
             × IsShown (state self.entry) r.pass.now r.shown) }

@@ -1,16 +1,17 @@
 //! How a transaction looks at a word.
 
-ghost use Rattle.std.specs.Prelude.{◌≡◌, ◌<◌, ◌≤◌, ◌^◌, false, None, Some};
-ghost use Rattle.md_words.specs.Content.{count_of, word_of};
+ghost use Rattle.std.specs.Prelude.{◌≡◌, ◌+◌, ◌<◌, ◌≤◌, ◌^◌, false, None, Some};
+ghost use Rattle.md_words.specs.Content.{count_of, is_even, word_of};
 ghost use Rattle.md_words.specs.Layout.{words_of};
 ghost use Rattle.md_words.specs.PlaceAt.{IsCounted};
 ghost use Rattle.md_machine.specs.declared.step.TheConstants.{LAST_COUNT};
 ghost use Rattle.md_machine.specs.events.Install.{installed_word};
 ghost use Rattle.md_rule.specs.Views.{IsOf};
 ghost use Rattle.md_help.specs.After.{Stands};
+ghost use Rattle.md_nbtc.specs.declared.load.TheConstants.{LOOKS};
 ghost use Rattle.md_nbtc.specs.Calls.{AfterStop, GoesOn, Looked};
 ghost use Rattle.md_nbtc.specs.Going.{IsUnderWay};
-ghost use Rattle.md_nbtc.specs.Looking.{LooksUntil};
+ghost use Rattle.md_nbtc.specs.Looking.{LookSteps, LooksUntil};
 ghost use Rattle.md_nbtc.specs.Seeing.{KeepsGiven};
 ghost use Rattle.md_nbtc.specs.Sets.{place_of};
 ghost use Rattle.md_nbtc.specs.State.{shape_in, state};
@@ -36,13 +37,16 @@ fn pause(turns: u32) {
     }
 }
 
-// Looks again while the same content stands in the word, with growing pauses. What it found last.
+// Looks again while the same descriptor stands in the word, with growing pauses. What it found
+// last.
 fn await_other<T: Theory>(pass: &mut Pass<T>, field: &Field<T>, word: u32, found: u64) -> u64
     requires of { IsOf pass.old field.now }
     requires stands { Stands T.meaning field.now.origin pass.old.view }
     requires inside { word < words_of field.now.origin.shape }
+    requires odd { is_even (count_of found) ≡ false }
     ensures same { pass.new ≡ record pass.old { view = pass.new.view } }
-    ensures looks { LooksUntil T.meaning field.now.origin word result pass.old.view pass.new.view }
+    ensures looks { LooksUntil T.meaning field.now.origin word LOOKS result pass.old.view
+        pass.new.view }
 {
     let mut last = found;
     for i in 0..LOOKS {
@@ -61,7 +65,8 @@ fn look_at<T: Theory>(pass: &mut Pass<T>, field: &Field<T>, word: u32) -> u64
     requires stands { Stands T.meaning field.now.origin pass.old.view }
     requires inside { word < words_of field.now.origin.shape }
     ensures same { pass.new ≡ record pass.old { view = pass.new.view } }
-    ensures looks { LooksUntil T.meaning field.now.origin word result pass.old.view pass.new.view }
+    ensures looks { LooksUntil T.meaning field.now.origin word (LOOKS + 1) result pass.old.view
+        pass.new.view }
 {
     let found = pass.load(field, word);
     match Content::of(found).stands() {
@@ -118,6 +123,8 @@ impl<'a, T: Theory> Txn<'a, T> {
         ensures on { GoesOn T.meaning (state self.old) (state self.new) }
         ensures looked { AfterStop (state self.old).stop (state self.old) (state self.new) result
             (Looked T.meaning (state self.old) (state self.new) word result) }
+        ensures steps { AfterStop (state self.old).stop (state self.old) (state self.new) result
+            (LookSteps (state self.old) (state self.new) word result) }
         ensures given { KeepsGiven (state self.old) (state self.new) word }
     {
         if let Some(stop) = self.stop {
@@ -137,6 +144,7 @@ impl<'a, T: Theory> Txn<'a, T> {
         ensures pass { self.new.pass.ghost_name ≡ self.old.pass.ghost_name }
         ensures on { GoesOn T.meaning (state self.old) (state self.new) }
         ensures looked { Looked T.meaning (state self.old) (state self.new) word result }
+        ensures steps { LookSteps (state self.old) (state self.new) word result }
         ensures given { KeepsGiven (state self.old) (state self.new) word }
     {
         let write = self.slots.get(i).write;
@@ -162,6 +170,7 @@ impl<'a, T: Theory> Txn<'a, T> {
         ensures pass { self.new.pass.ghost_name ≡ self.old.pass.ghost_name }
         ensures on { GoesOn T.meaning (state self.old) (state self.new) }
         ensures looked { Looked T.meaning (state self.old) (state self.new) word result }
+        ensures steps { LookSteps (state self.old) (state self.new) word result }
         ensures given { KeepsGiven (state self.old) (state self.new) word }
     {
         let was = look_at(self.pass, self.field, word);

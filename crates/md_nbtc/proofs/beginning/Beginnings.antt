@@ -2,7 +2,7 @@
 use Rattle.std.proofs.Common.{◌≡◌, ◌+◌, ◌<◌, ℕ, List, [], ◌∷◌, ◌++◌, false, None, Ok, Err, MatchResult, length, refl, sym, ap, ◌∙◌, subst}
 use Rattle.std.specs.List.{Contains}
 use Rattle.std.proofs.lemmas.List.{append-nil}
-use Rattle.md_history.specs.Front.{AllStay}
+use Rattle.md_history.specs.Front.{AllStay, IsPrefix}
 use Rattle.md_history.specs.FrontLaws.{all_stay-self, all_stay-trans}
 use Rattle.md_machine.specs.declared.attempt.Hand.{Hand}
 use Rattle.md_machine.specs.declared.attempt.AttemptId.{AttemptId}
@@ -130,6 +130,7 @@ module _ (M : Meaning) (field : FieldView) (p q r s : PassState) (desc tag seria
     nodes_taken = λ lane. (counts lane).0 ∙ (changed lane).0;
     hand = hand ∙ ap (λ x. new_hand x tag) (sym at);
     began = nodes;
+    since = subst (λ (v : PassView). IsPrefix p.view.trail v.trail) (sym view_taken) left.same.steps;
     reads = refl;
     slots = refl;
     nodes = no_nodes M field r s desc tag serial of own nodes h;

@@ -18,6 +18,7 @@ use Rattle.md_machine.specs.declared.step.Step.{Step}
 use Rattle.md_machine.specs.Certified.{RecordsFound, all_changes, all_nodes, first_content}
 use Rattle.md_machine.specs.Meaning.{Meaning}
 use Rattle.md_machine.specs.Moved.{Moved}
+use Rattle.md_rule.specs.Shares.{share_at}
 use Rattle.md_rule.specs.declared.shares.Share.{Share}
 use Rattle.md_help.specs.After.{IsAfter, Stands}
 use Rattle.md_nbtc.specs.declared.seen.Cleanup.{Cleanup}
@@ -31,6 +32,7 @@ use Rattle.md_nbtc.specs.Prepared.{IsPrepared}
 use Rattle.md_nbtc.specs.Seeing.{MayChange}
 use Rattle.md_nbtc.specs.State.{OwnNode, TxnState, attempt_in, installs_in, own_steps, shape_in, writes_in}
 use Rattle.md_nbtc.proofs.exchanging.ChangedPrepared.{changed, own_then}
+use Rattle.md_nbtc.proofs.preparing.Fronts.{front_after, front_in_hand}
 use Rattle.md_nbtc.proofs.preparing.GoingOn.{moved_more}
 use Rattle.md_nbtc.proofs.preparing.Later.{known_later}
 
@@ -39,7 +41,8 @@ module _ (M : Meaning) (t : TxnState) (prepared : IsPrepared t) (base : PassView
   abbrev u : TxnState
   u = changed t base s after changes shares slots
 
-  module _ (installs : IsPrefix (installs_in t) (installs_in u)) where
+  module _ (installs : IsPrefix (installs_in t) (installs_in u))
+      (tries : (lane : ℕ) → (share_at shares lane).tries_taken ≡ (share_at t.pass.shares lane).tries_taken) where
     pub changed_later : IsLater t u
     changed_later = record {
       field = refl;
@@ -53,6 +56,8 @@ module _ (M : Meaning) (t : TxnState) (prepared : IsPrepared t) (base : PassView
       reads = record { rest = []; is = sym (append-nil _) };
       installs = installs;
       nodes = record { rest = []; is = sym (append-nil _) };
+      front = front_in_hand t.pass (record t.pass { view = base; shares = shares }) (Some (record t.hand { changes = changes }))
+          (front_after (shape_in t) t.pass (s ∷ []) base shares after tries);
     }
 
     cause_more : (x : Stop) → HasCause t x → HasCause u x

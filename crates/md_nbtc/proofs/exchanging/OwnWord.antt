@@ -306,7 +306,7 @@ module _ (M : Meaning) (t : TxnState) (prepared : IsPrepared t) (operates : t.ha
 
     pub renewed_later : IsLater t renewed
     renewed_later = changed_later M t prepared stores.base s stores.goes new_changes t.pass.shares (map (with_new word to) t.slots)
-        (record { rest = []; is = installs_same t.slots ∙ sym (append-nil _) })
+        (record { rest = []; is = installs_same t.slots ∙ sym (append-nil _) }) (λ lane. refl)
 
     abbrev Goes : List Certificate → Write → Type 0
     Goes cs = GoesOnWith (all_changes cs ++ t.hand.changes) (record { word = word; old = from.value; new = to })
@@ -319,7 +319,7 @@ module _ (M : Meaning) (t : TxnState) (prepared : IsPrepared t) (operates : t.ha
 
     pub renewed_going : CleanupsStay t word to → (cs : List Certificate) → IsGoing M t cs → IsGoing M renewed cs
     renewed_going stay cs going = changed_going M t prepared stores.base s stores.goes new_changes t.pass.shares (map (with_new word to) t.slots)
-        (record { rest = []; is = installs_same t.slots ∙ sym (append-nil _) }) cs going
+        (record { rest = []; is = installs_same t.slots ∙ sym (append-nil _) }) (λ lane. refl) cs going
         (subst (Stands M t.field.origin) stores.view (stands_after M t.field.origin (λ pass. store pass (address (shape_in t) (slot_new a_desc place)) to) t.pass.view q step (ap (λ (v : PassView). v.lanes) stores.view ∙ ap (λ (v : PassView). v.lanes) stores.goes.1)))
         renewed_prepared (record {
           first = λ x content is. inl (sym (first_same x) ∙ is);

@@ -77,14 +77,14 @@ module _ (t : TxnState) (prepared : IsPrepared t) (operates : t.hand.operating �
 
     pub once_on : (M : Meaning) → Stands M t.field.origin stepped_once.pass.view → GoesOn M t stepped_once
     once_on M stands = record {
-      going = λ cs going. changed_going M t prepared base s after t.hand.changes t.pass.shares t.slots (record { rest = []; is = sym (append-nil _) }) cs going stands once_prepared (record {
+      going = λ cs going. changed_going M t prepared base s after t.hand.changes t.pass.shares t.slots (record { rest = []; is = sym (append-nil _) }) (λ lane. refl) cs going stands once_prepared (record {
         first = λ word content is. inl is;
         found = λ word is. is;
         places = going.places;
         goes = record { exactly = going.course.changes.exactly; last = going.course.changes.last };
         cleanups = going.cleanups;
       });
-      later = changed_later M t prepared base s after t.hand.changes t.pass.shares t.slots (record { rest = []; is = sym (append-nil _) });
+      later = changed_later M t prepared base s after t.hand.changes t.pass.shares t.slots (record { rest = []; is = sym (append-nil _) }) (λ lane. refl);
     }
 
     -- what was given of a word that the step leaves stays so

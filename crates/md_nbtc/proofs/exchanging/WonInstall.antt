@@ -36,6 +36,7 @@ use Rattle.md_rule.specs.declared.shares.Share.{Share}
 use Rattle.md_help.specs.After.{Stands}
 use Rattle.md_nbtc.specs.declared.seen.Seen.{Seen}
 use Rattle.md_nbtc.specs.declared.sets.Slot.{Slot}
+use Rattle.md_nbtc.specs.Beginning.{KeepsCounts}
 use Rattle.md_nbtc.specs.Calls.{GoesOn, new_slot}
 use Rattle.md_nbtc.specs.declared.seen.TheConstants.{WORN}
 use Rattle.md_nbtc.specs.Cleaning.{IsKeptCleanup}
@@ -47,7 +48,7 @@ use Rattle.md_nbtc.specs.Seeing.{Gave, MayChange}
 use Rattle.md_nbtc.specs.State.{OwnNode, TxnState, attempt_in, installs_in, own_steps, seen_content, shape_in, state_of, writes_in}
 use Rattle.md_nbtc.proofs.exchanging.ChangedGiven.{gave_on}
 use Rattle.md_nbtc.proofs.exchanging.ChangedGoing.{changed_going, changed_later}
-use Rattle.md_nbtc.proofs.exchanging.ChangedPrepared.{LeavesRest, SameTaken, changed, changed_prepared, own_then, stored_on, written_then}
+use Rattle.md_nbtc.proofs.exchanging.ChangedPrepared.{LeavesRest, changed, changed_prepared, own_then, stored_on, written_then}
 use Rattle.md_nbtc.proofs.exchanging.ChangedState.{changed_so}
 use Rattle.md_nbtc.proofs.exchanging.Installed.{count_is, may_be_changed, value_is, won_step}
 use Rattle.md_machine.specs.Event.{install}
@@ -64,23 +65,26 @@ use Rattle.md_nbtc.proofs.nodes.GrownPrepared.{each_on}
 use Rattle.md_nbtc.proofs.preparing.StatusApart.{counted_apart}
 use Rattle.md_nbtc.proofs.ready.Lookups.{all_of, each_in, replaced_there, written_replaced}
 
--- an install counts its slot, and takes no node
-pub slot_takes_none : (shares : List Share) (to : Spot) → SameTaken shares (after_slot shares to)
-slot_takes_none shares to lane = nodes_same shares _ to.desc lane (max (share_at shares to.desc).slots_written (to.slot + 1))
+abbrev SameCounts : Share → Share → Type 0
+SameCounts a b = (b.nodes_taken ≡ a.nodes_taken) × (b.tries_taken ≡ a.tries_taken)
+
+-- an install counts its slot, and takes no node and no attempt
+pub slot_takes_none : (shares : List Share) (to : Spot) → KeepsCounts shares (after_slot shares to)
+slot_takes_none shares to lane = counts_same shares _ to.desc lane (max (share_at shares to.desc).slots_written (to.slot + 1))
   where
-    nodes_same : (xs : List Share) (u : Share) (i k n : ℕ) → (get_or (set xs i (record (get_or xs i u) { slots_written = n })) k u).nodes_taken ≡ (get_or xs k u).nodes_taken
-    nodes_same [] u i k n = refl
-    nodes_same (x ∷ xs) u zero zero n = refl
-    nodes_same (x ∷ xs) u zero (suc k) n = refl
-    nodes_same (x ∷ xs) u (suc i) zero n = refl
-    nodes_same (x ∷ xs) u (suc i) (suc k) n = nodes_same xs u i k n
+    counts_same : (xs : List Share) (u : Share) (i k n : ℕ) → SameCounts (get_or xs k u) (get_or (set xs i (record (get_or xs i u) { slots_written = n })) k u)
+    counts_same [] u i k n = (refl, refl)
+    counts_same (x ∷ xs) u zero zero n = (refl, refl)
+    counts_same (x ∷ xs) u zero (suc k) n = (refl, refl)
+    counts_same (x ∷ xs) u (suc i) zero n = (refl, refl)
+    counts_same (x ∷ xs) u (suc i) (suc k) n = counts_same xs u i k n
 
 module _ (M : Meaning) (lawful : Lawful M) (t : TxnState) (prepared : IsPrepared t) (operates : t.hand.operating ≡ true) (word : ℕ) (from : Seen) (to : ℕ) (counted : IsCounted (shape_in t) word)
     (none : is_written (writes_in t) word ≡ false) (gave : Gave t word from) (below : from.count < WORN) (may : MayChange M t word) (holds : HoldsSlot t word (seen_content from) to)
     (agree : (held : ℕ) → content_read t.reads word ≡ Some held → held ≡ seen_content from)
     (q : PassView) (it : StepsOnce M t prepared Install word (seen_content from) (installed_word (seen_content from) (record { desc = (attempt_in t).desc; slot = length t.slots }))
     (t.hand.changes ++ (record { word = word; old = from.value; new = to }) ∷ []) q)
-    (shares : List Share) (same : SameTaken t.pass.shares shares) where
+    (shares : List Share) (same : KeepsCounts t.pass.shares shares) where
   abbrev s : Step
   s = it.step
 
@@ -179,7 +183,7 @@ module _ (M : Meaning) (lawful : Lawful M) (t : TxnState) (prepared : IsPrepared
   rest = record {
     status = λ e. counted_apart t prepared word counted (sym it.there ∙ e);
     few = let room = holds.room in let long = length-append t.slots (new_slot t word from to ∷ []) in omega (arith, room, long);
-    same_taken = same;
+    same_taken = λ lane. (same lane).0;
     reads = λ i inside. (not_store _, not_store _);
     nexts = λ node is. not_store _;
     unreplaced = λ x is. before_push x (sym (ap (λ ws. content_replaced ws x) writes_are ∙ replaced_push (writes_in t) w x) ∙ is);
@@ -258,7 +262,7 @@ module _ (M : Meaning) (lawful : Lawful M) (t : TxnState) (prepared : IsPrepared
 
   pub installed_on : IsFoundFirst M t word from.value → GoesOn M t installed
   installed_on first = record {
-    going = λ cs going. changed_going M t prepared it.base it.step it.goes now_changes shares now_slots prefix cs going
+    going = λ cs going. changed_going M t prepared it.base it.step it.goes now_changes shares now_slots prefix (λ lane. (same lane).1) cs going
         (subst (Stands M t.field.origin) it.view it.stands) installed_prepared (record {
           first = λ x content is. by_first x content (sym (ap (λ ws. first_content t.reads ws x) writes_are ∙ first_push t.reads (writes_in t) w x) ∙ is)
               (first_content t.reads (writes_in t) x) refl;
@@ -273,7 +277,7 @@ module _ (M : Meaning) (lawful : Lawful M) (t : TxnState) (prepared : IsPrepared
           cleanups = All-append (λ (x : Slot). IfSome x.cleanup (IsKeptCleanup M t cs x.write)) t.slots (new_slot t word from to ∷ []) going.cleanups
               (All-cons (λ (x : Slot). IfSome x.cleanup (IsKeptCleanup M t cs x.write)) (new_slot t word from to) [] tt (All-nil _));
         });
-    later = changed_later M t prepared it.base it.step it.goes now_changes shares now_slots prefix;
+    later = changed_later M t prepared it.base it.step it.goes now_changes shares now_slots prefix (λ lane. (same lane).1);
   }
     where
       by_first : (x content : ℕ) → or_else (first_content t.reads (writes_in t) x) (if w.word == x then Some w.old else None) ≡ Some content
@@ -340,14 +344,14 @@ module _ (M : Meaning) (lawful : Lawful M) (field : FieldView) (p : PassState) (
     it_won = won_step M lawful t prepared word from to counted none gave below may holds pass.view
         (subst (λ x. SteppedFrom M field.origin (λ n. install n word (seen_content from) x) word (seen_content from) p.view pass.view) is_spot step)
 
-    pub taken_same : SameTaken p.shares pass.shares
-    taken_same = subst (SameTaken p.shares) (sym shares_are) (slot_takes_none p.shares to_spot)
+    pub taken_same : KeepsCounts p.shares pass.shares
+    taken_same = subst (KeepsCounts p.shares) (sym shares_are) (slot_takes_none p.shares to_spot)
 
     pub installed_so : (agree : (held : ℕ) → content_read t.reads word ≡ Some held → held ≡ seen_content from) → (now : List Slot) → now ≡ slots ++ new_slot t word from to ∷ []
         → state_of field pass began reads now stop desc serial tag lots ≡ installed M lawful t prepared operates word from to counted none gave below may holds agree pass.view it_won pass.shares taken_same
     installed_so agree now is = ap (λ l. state_of field pass began reads l stop desc serial tag lots) is
         ∙ changed_so field p began reads slots stop desc serial tag lots it_won.base it_won.step it_won.goes (t.hand.changes ++ (record { word = word; old = from.value; new = to }) ∷ []) pass.shares
-        (slots ++ new_slot t word from to ∷ []) taken_same
+        (slots ++ new_slot t word from to ∷ []) (λ lane. (taken_same lane).0)
         (λ n c r of stores e. install_stores (ap is_store (sym it_won.kind) ∙ stores)) pass same it_won.view refl
       where
         install_stores : is_store Install ≡ true → ⊥

@@ -24,6 +24,7 @@ use Rattle.md_nbtc.specs.Prepared.{EachFrom, InstallsFrom, IsPrepared, IsPrepare
 use Rattle.md_nbtc.specs.Seeing.{Gave, MayChange, SeesContent, SeesSlot}
 use Rattle.md_nbtc.specs.State.{OwnNode, TxnState, attempt_in, installs_in, shape_in, writes_in}
 use Rattle.md_nbtc.proofs.preparing.Carried.{change_carried, first_carried, unplaced_carried}
+use Rattle.md_nbtc.proofs.preparing.Fronts.{front_self}
 use Rattle.md_nbtc.proofs.preparing.Later.{known_later}
 use Rattle.md_nbtc.proofs.preparing.StaysPrepared.{each_weaker}
 
@@ -119,6 +120,7 @@ module _ (t : TxnState) (slots : List Slot) (same : map (λ (s : Slot). s.write)
     reads = record { rest = []; is = sym (append-nil _) };
     installs = record { rest = []; is = same_installs ∙ sym (append-nil _) };
     nodes = record { rest = []; is = sym (append-nil _) };
+    front = front_self t.pass;
   }
 
   content_then : (word : ℕ) (seen : Seen) → SeesContent t word seen → SeesContent reslotted word seen

@@ -1,5 +1,5 @@
 -- What a look tells that may have waited for another's descriptor, and then cleared it.
-use Rattle.std.proofs.Common.{◌≡◌, ◌≢◌, ◌++◌, ◌∷◌, ℕ, Bool, not, true, false, List, Option, Some, None, is_some, sym, ap, ◌∙◌, subst, append_assoc}
+use Rattle.std.proofs.Common.{◌≡◌, ◌≢◌, ◌++◌, ◌∷◌, ◌+◌, ℕ, Bool, not, true, false, List, [], Option, Some, None, is_some, sym, ap, ◌∙◌, subst, append_assoc}
 use Rattle.std.proofs.lemmas.Bool.{cond_both, true≢false}
 use Rattle.std.proofs.lemmas.List.Elements.{All-weaker, Contains-append_right}
 use Rattle.std.specs.List.{All}
@@ -27,6 +27,7 @@ use Rattle.md_help.specs.Clears.{Clears}
 use Rattle.md_help.specs.declared.clearing.Cleared.{Cleared}
 use Rattle.md_nbtc.specs.declared.seen.Seen.{Seen}
 use Rattle.md_nbtc.specs.declared.sets.Lot.{Lot}
+use Rattle.md_nbtc.specs.declared.load.TheConstants.{LOOKS}
 use Rattle.md_nbtc.specs.declared.sets.Slot.{Slot}
 use Rattle.md_nbtc.specs.Calls.{GoesOn}
 use Rattle.md_nbtc.specs.Going.{HasCause, IsGoing, IsUnderWay}
@@ -40,7 +41,7 @@ use Rattle.md_nbtc.proofs.looks.ClearedLooks.{calm, cleared_given, cleared_on, c
 use Rattle.md_nbtc.proofs.looks.EvenLooks.{looks}
 use Rattle.md_nbtc.proofs.looks.LeftLooks.{left_looks}
 use Rattle.md_nbtc.proofs.looks.Loaded.{loaded_given, look_quiet}
-use Rattle.md_nbtc.proofs.looks.Looking.{looks_both, looks_one}
+use Rattle.md_nbtc.proofs.looks.Looking.{few_looks}
 use Rattle.md_nbtc.proofs.looks.Stopped.{loaded_on}
 use Rattle.md_nbtc.proofs.preparing.Calm.{IsCalm, over_given, over_on}
 use Rattle.md_nbtc.proofs.preparing.Later.{known_later, later_over}
@@ -51,7 +52,7 @@ use Rattle.md_nbtc.proofs.preparing.SameState.{same_state}
 stands_none : (c : Content) → is_some (spot_in c) ≡ false → is_even c.count ≡ true
 stands_none c = cond_both (is_even c.count) None (Some (spot_of c.value)) (λ o. is_some o ≡ false → is_even c.count ≡ true) (λ even _. even) (λ odd e. absurd (true≢false e))
 
-stands_some : (c : Content) → is_some (spot_in c) ≡ true → is_even c.count ≡ false
+pub stands_some : (c : Content) → is_some (spot_in c) ≡ true → is_even c.count ≡ false
 stands_some c = cond_both (is_even c.count) None (Some (spot_of c.value)) (λ o. is_some o ≡ true → is_even c.count ≡ false) (λ even e. absurd (true≢false (sym e))) (λ odd _. odd)
 
 pub found_even : (word : ℕ) (c : Content) (o : Option Spot) (b : Bool) → c ≡ content_of word → o ≡ spot_in c → is_some o ≡ not b → b ≡ true → is_even (count_of word) ≡ true
@@ -83,7 +84,7 @@ looks_since M t u pass word seen later l = record {
   found = λ own place. l.found own (λ node is. let p = place node is in (p.0, known_later M (λ v h. h.placed node ≡ Some p.0) t (record t { pass = pass }) later p.1));
 }
 
-module _ (M : Meaning) (lawful : Lawful M) (t : TxnState) (way : IsUnderWay M t) (q : PassView) (word found : ℕ) (l : LooksUntil M t.field.origin word found t.pass.view q)
+module _ (M : Meaning) (lawful : Lawful M) (t : TxnState) (way : IsUnderWay M t) (q : PassView) (word found : ℕ) (l : LooksUntil M t.field.origin word (LOOKS + 1) found t.pass.view q)
     (counted : IsCounted (shape_in t) word) (none : is_written (writes_in t) word ≡ false) where
   -- the transaction before the last look
   abbrev waits : TxnState
@@ -168,15 +169,16 @@ module _ (field : FieldView) (p : PassState) (began : PassState) (reads : List R
       (same_state field.origin.shape p pass.view steps goes quiet field began reads slots stop desc serial tag lots)
 
   -- so it is after looks
-  pub looked_is : (M : Meaning) (word found : ℕ) (pass : PassState) → pass ≡ record p { view = pass.view } → LooksUntil M field.origin word found p.view pass.view
+  pub looked_is : (M : Meaning) (word found : ℕ) (pass : PassState) → pass ≡ record p { view = pass.view } → LooksUntil M field.origin word (LOOKS + 1) found p.view pass.view
       → state_of field pass began reads slots stop desc serial tag lots ≡ record (state_of field p began reads slots stop desc serial tag lots) { pass = pass }
   looked_is M word found pass same l =
-      let all = looks_both field.origin.shape word p.view l.last pass.view l.earlier (looks_one M field.origin word found l.last pass.view l.step) in
-      stepped_is pass same all.steps all.goes (All-weaker (LooksAt word) IsQuiet (λ s x. look_quiet s (record { kind = x.kind; same = x.same })) all.steps all.looks)
+      let all = few_looks M field.origin word found l.last pass.view l.step p.view l.earlier l.few in
+      let steps = all.earlier ++ all.last ∷ [] in
+      stepped_is pass same steps all.goes (All-weaker (LooksAt word) IsQuiet (λ s x. look_quiet s (record { kind = x.kind; same = x.same })) steps all.looks)
 
 -- and after a clearing that follows them
 pub cleared_is : (field : FieldView) (p : PassState) (began : PassState) (reads : List Read) (slots : List Slot) (stop : Option Stop) (desc serial tag : ℕ) (lots : List Lot)
-    → (M : Meaning) (word found : ℕ) (q r : PassState) → q ≡ record p { view = q.view } → LooksUntil M field.origin word found p.view q.view → r ≡ record q { view = r.view }
+    → (M : Meaning) (word found : ℕ) (q r : PassState) → q ≡ record p { view = q.view } → LooksUntil M field.origin word (LOOKS + 1) found p.view q.view → r ≡ record q { view = r.view }
     → (steps : List Step) → IsAfter field.origin.shape steps q.view r.view → All IsQuiet steps
     → state_of field r began reads slots stop desc serial tag lots ≡ record (state_of field p began reads slots stop desc serial tag lots) { pass = record p { view = r.view } }
 cleared_is field p began reads slots stop desc serial tag lots M word found q r same l then steps goes quiet =

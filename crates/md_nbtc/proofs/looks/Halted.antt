@@ -6,6 +6,7 @@ use Rattle.md_machine.specs.declared.attempt.Read.{Read}
 use Rattle.md_machine.specs.declared.attempt.Write.{Write}
 use Rattle.md_nbtc.specs.Prepared.{IsPrepared, IsPreparedNode, IsRecorded, IsWritten}
 use Rattle.md_nbtc.specs.State.{OwnNode, TxnState, writes_in}
+use Rattle.md_nbtc.proofs.preparing.Fronts.{front_self}
 use Rattle.md_nbtc.proofs.preparing.StaysPrepared.{each_weaker}
 use Rattle.std.proofs.lemmas.Option.{IfSome_then}
 use Rattle.md_history.specs.declared.stops.Stop.{Stop}
@@ -96,6 +97,7 @@ module _ (t : TxnState) (prepared : IsPrepared t) (kept_stop : Stop) where
     reads = record { rest = []; is = sym (append-nil _) };
     installs = record { rest = []; is = sym (append-nil _) };
     nodes = record { rest = []; is = sym (append-nil _) };
+    front = front_self t.pass;
   }
 
   module _ (M : Meaning) where

@@ -29,6 +29,7 @@ use Rattle.md_nbtc.specs.Going.{IsGoing}
 use Rattle.md_nbtc.specs.Known.{IsLater}
 use Rattle.md_nbtc.specs.Prepared.{IsPrepared}
 use Rattle.md_nbtc.specs.State.{TxnState, attempt_in, shape_in, state_of}
+use Rattle.md_nbtc.proofs.preparing.Fronts.{front_after}
 use Rattle.md_nbtc.proofs.preparing.GoingOn.{going_on, own_grows}
 use Rattle.md_nbtc.proofs.preparing.Quiet.{IsQuiet, IsStill}
 use Rattle.md_nbtc.proofs.preparing.StaysPrepared.{stays_prepared}
@@ -99,6 +100,7 @@ module _ (M : Meaning) (t : TxnState) (prepared : IsPrepared t) (q : PassView) (
     reads = record { rest = []; is = sym (append-nil _) };
     installs = record { rest = []; is = sym (append-nil _) };
     nodes = record { rest = []; is = sym (append-nil _) };
+    front = front_after (shape_in t) t.pass (made.step ∷ []) q t.pass.shares made.goes (λ lane. refl);
   }
 
   pub loaded_going : word ≢ address (shape_in t) (desc_status (attempt_in t).desc) → (cs : List Certificate) → IsGoing M t cs → IsGoing M loaded cs

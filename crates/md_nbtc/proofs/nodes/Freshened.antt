@@ -32,7 +32,7 @@ use Rattle.md_nbtc.specs.Going.{IsGoing}
 use Rattle.md_nbtc.specs.Known.{IsLater}
 use Rattle.md_nbtc.specs.Prepared.{IsPrepared, IsPreparedNode, IsRecorded, IsWritten, LeftLast, TakenInTurn}
 use Rattle.md_nbtc.specs.Seeing.{Gave}
-use Rattle.md_nbtc.specs.State.{OwnNode, TxnState, attempt_in, last_stored, lots_since, own_steps, shape_in, writes_in}
+use Rattle.md_nbtc.specs.State.{OwnNode, SameFront, TxnState, attempt_in, last_stored, lots_since, own_steps, shape_in, writes_in}
 use Rattle.md_nbtc.proofs.looks.Given.{gave_same}
 use Rattle.md_nbtc.proofs.looks.Loaded.{IsLook}
 use Rattle.md_nbtc.proofs.nodes.FreshState.{stored_here}
@@ -40,8 +40,9 @@ use Rattle.md_nbtc.proofs.nodes.Grown.{grown, grown_going}
 use Rattle.md_nbtc.proofs.nodes.GrownPrepared.{IsOnNode, grown_pass, grown_prepared, in_node, node_in}
 use Rattle.md_nbtc.proofs.nodes.NewNode.{counted_apart, found_apart, stored_last}
 use Rattle.md_nbtc.proofs.nodes.StoredNodes.{Goes, StoredThree, goes_on, with_node}
-use Rattle.md_nbtc.proofs.nodes.TookNode.{left_was, took_in_turn, took_new}
+use Rattle.md_nbtc.proofs.nodes.TookNode.{left_was, took_in_turn, took_new, took_no_try}
 use Rattle.md_nbtc.proofs.nodes.Unplaced.{own_unplaced}
+use Rattle.md_nbtc.proofs.preparing.Fronts.{front_after, front_in_hand}
 use Rattle.md_nbtc.proofs.preparing.GoingOn.{own_grows}
 use Rattle.md_nbtc.proofs.ready.Lookups.{all_of, each_in}
 use Rattle.md_nbtc.proofs.recording.ReadMore.{one_place}
@@ -269,6 +270,9 @@ module _ (M : Meaning) (lawful : Lawful M) (t : TxnState) (cs : List Certificate
       reads = record { rest = []; is = sym (append-nil _) };
       installs = record { rest = []; is = sym (append-nil _) };
       nodes = record { rest = n ∷ []; is = refl };
+      front = subst (λ (x : PassView). SameFront t.pass (record t.pass { view = x; shares = a.shares })) (sym all.is)
+          (front_in_hand t.pass (record t.pass { view = all.base; shares = a.shares }) (Some (with_node t.hand node))
+          (front_after (shape_in t) t.pass steps all.base a.shares all.goes (took_no_try t.pass node a takes)));
     }
 
     fresh_on : Stands M t.field.origin e → GoesOn M t fresh

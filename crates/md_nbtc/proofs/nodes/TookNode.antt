@@ -14,6 +14,7 @@ use Rattle.md_rule.specs.declared.shares.Share.{Share}
 use Rattle.md_rule.specs.Kept.{IsLeft, next_of}
 use Rattle.md_rule.specs.Shares.{share_at}
 use Rattle.md_rule.specs.Views.{PassState}
+use Rattle.md_rule.proofs.LaneSteps.{one_changed}
 use Rattle.md_nbtc.specs.Prepared.{IsPrepared, IsPreparedNode, TakenInTurn}
 use Rattle.md_nbtc.specs.State.{OwnNode, TxnState, attempt_in, shape_in}
 use Rattle.md_nbtc.proofs.nodes.Taken.{TookOne}
@@ -111,3 +112,11 @@ module _ (t : TxnState) (prepared : IsPrepared t) (node : ℕ) (p : PassState) (
   took_new k c same = prepared.has.stored node was_left
       (subst (λ x. SomeStepOf t.pass.view (StoresFor (attempt_in t) (address (shape_in t) (node_next x)))) same
       (All-contains (IsPreparedNode t) t.nodes k prepared.nodes c).stored)
+
+-- and no attempt was taken
+pub took_no_try : (q : PassState) (node : ℕ) (p : PassState) → TakesNode q node p → (lane : ℕ) → (share_at p.shares lane).tries_taken ≡ (share_at q.shares lane).tries_taken
+took_no_try q node p takes lane =
+    let share : Share = record (share_at q.shares takes.lane) { nodes_taken = (share_at q.shares takes.lane).nodes_taken + 1 } in
+    subst (λ (x : PassState). (share_at x.shares lane).tries_taken ≡ (share_at q.shares lane).tries_taken) (sym takes.taken)
+    (one_changed (λ (l : ℕ) (a b : Share). b.tries_taken ≡ a.tries_taken) q.shares takes.lane share takes.shared
+    (λ l e. ap (λ k. (share_at q.shares k).tries_taken) e) (λ l ne. refl) lane)

@@ -31,6 +31,7 @@ use Rattle.md_nbtc.specs.Known.{IsLater}
 use Rattle.md_nbtc.specs.Prepared.{IsPrepared}
 use Rattle.md_nbtc.specs.State.{TxnState, attempt_in, shape_in, state_of}
 use Rattle.md_nbtc.proofs.preparing.GoingOn.{Rest, going_of, rest_of, rest_on}
+use Rattle.md_nbtc.proofs.preparing.Fronts.{front_after}
 use Rattle.md_nbtc.proofs.preparing.Later.{later_over}
 use Rattle.md_nbtc.proofs.looks.Loaded.{IsLook, free_over, look_quiet}
 use Rattle.md_nbtc.proofs.preparing.Quiet.{IsQuiet, IsStill}
@@ -85,6 +86,7 @@ module _ (M : Meaning) (t : TxnState) (prepared : IsPrepared t) (acts : List Act
     reads = record { rest = []; is = sym (append-nil _) };
     installs = record { rest = []; is = sym (append-nil _) };
     nodes = record { rest = []; is = sym (append-nil _) };
+    front = front_after (shape_in t) t.pass (mark.step ∷ []) base t.pass.shares mark.goes (λ lane. refl);
   }
 
   -- the transaction after the mark

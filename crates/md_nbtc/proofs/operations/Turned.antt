@@ -29,6 +29,7 @@ use Rattle.md_nbtc.specs.Going.{IsUnplaced}
 use Rattle.md_nbtc.specs.Known.{IsLater, KnowsPlaced}
 use Rattle.md_nbtc.specs.Seeing.{MayChange}
 use Rattle.md_nbtc.proofs.preparing.GoingOn.{Rest}
+use Rattle.md_nbtc.proofs.preparing.Fronts.{front_in_hand, front_self}
 use Rattle.md_nbtc.proofs.preparing.Later.{known_later}
 
 -- what is in hand with these acts, and nothing changed or stored since
@@ -116,6 +117,7 @@ module _ (t : TxnState) (prepared : IsPrepared t) (acts : List Act) (operating :
     reads = record { rest = []; is = sym (append-nil _) };
     installs = record { rest = []; is = sym (append-nil _) };
     nodes = record { rest = []; is = sym (append-nil _) };
+    front = front_in_hand t.pass t.pass (Some (turned_hand t.hand acts operating)) (front_self t.pass);
   }
 
   module _ (M : Meaning) where

@@ -25,6 +25,7 @@ use Rattle.md_nbtc.specs.Prepared.{IsPrepared, IsWritten}
 use Rattle.md_nbtc.specs.Seeing.{Gave}
 use Rattle.md_nbtc.specs.State.{OwnNode, TxnState, attempt_in, shape_in}
 use Rattle.md_nbtc.proofs.looks.Given.{gave_same}
+use Rattle.md_nbtc.proofs.preparing.Fronts.{front_after}
 use Rattle.md_nbtc.proofs.preparing.GoingOn.{going_on, own_grows}
 use Rattle.md_nbtc.proofs.preparing.Quiet.{IsQuiet, IsStill}
 use Rattle.md_nbtc.proofs.preparing.StaysPrepared.{stays_prepared_own}
@@ -73,6 +74,7 @@ module _ (M : Meaning) (t : TxnState) (way : IsUnderWay M t) (q : PassView) (ste
     reads = record { rest = []; is = sym (append-nil _) };
     installs = record { rest = []; is = sym (append-nil _) };
     nodes = record { rest = []; is = sym (append-nil _) };
+    front = front_after (shape_in t) t.pass steps q t.pass.shares after (λ lane. refl);
   }
 
   abbrev Same : ℕ → Step → Type 0

@@ -9,9 +9,11 @@ use Rattle.md_machine.proofs.replay.Settled.{meant_fated}
 use Rattle.md_machine.proofs.resolutions.Placing.{least_resolves}
 use Rattle.md_rule.specs.Admitted.{Admitted}
 use Rattle.md_rule.proofs.Moves.{is_meant}
+use Rattle.md_nbtc.specs.Calls.{GoesOn}
 use Rattle.md_nbtc.specs.Going.{IsGoing}
 use Rattle.md_nbtc.specs.Known.{IsHeapOf, IsLater, Known}
 use Rattle.md_nbtc.specs.State.{TxnState, shape_in}
+use Rattle.md_nbtc.proofs.preparing.Fronts.{front_self}
 use Rattle.md_machine.specs.declared.certificate.Certificate.{Certificate}
 use Rattle.std.proofs.lemmas.List.{append-nil}
 
@@ -29,7 +31,12 @@ later_self t = record {
   reads = record { rest = []; is = sym (append-nil _) };
   installs = record { rest = []; is = sym (append-nil _) };
   nodes = record { rest = []; is = sym (append-nil _) };
+  front = front_self t.pass;
 }
+
+-- and goes on as it is
+pub goes_self : (M : Meaning) (t : TxnState) → GoesOn M t t
+goes_self M t = record { going = λ cs going. going; later = later_self t }
 
 module _ (M : Meaning) (lawful : Lawful M) where
   -- a heap is valid, and of the field's shape

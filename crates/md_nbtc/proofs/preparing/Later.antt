@@ -5,6 +5,7 @@ use Rattle.md_machine.specs.LogicalHeap.{LogicalHeap}
 use Rattle.md_machine.specs.Meaning.{Meaning}
 use Rattle.md_nbtc.specs.Known.{IsLater, Known}
 use Rattle.md_nbtc.specs.State.{TxnState}
+use Rattle.md_nbtc.proofs.preparing.Fronts.{front_over}
 
 -- prefixes of prefixes
 pub prefix_over : {A : Type 0} (xs ys zs : List A) → IsPrefix xs ys → IsPrefix ys zs → IsPrefix xs zs
@@ -24,6 +25,7 @@ later_over t u v a b = record {
   reads = prefix_over _ _ _ a.reads b.reads;
   installs = prefix_over _ _ _ a.installs b.installs;
   nodes = prefix_over _ _ _ a.nodes b.nodes;
+  front = front_over t.pass u.pass v.pass a.front b.front;
 }
 
 module _ (M : Meaning) where

@@ -28,7 +28,7 @@ use Rattle.md_nbtc.specs.declared.seen.Cleanup.{Cleanup}
 use Rattle.md_nbtc.specs.declared.seen.Cleanup.TheVariants.{MoveTail, Unlink}
 use Rattle.md_nbtc.specs.declared.sets.Slot.{Slot}
 use Rattle.md_nbtc.specs.Cleaning.{IsFactLater, IsKeptCleanup, IsPlacedFor, IsPlacedIn, TidiesLater, cleanup_node, cleanup_word}
-use Rattle.md_nbtc.specs.Ending.{IsFactThen, IsPlacedForThen, IsPlacedThen, IsReady, IsReadyCleanup, TidiesThen}
+use Rattle.md_nbtc.specs.Ending.{IsFactThen, IsPlacedForThen, IsPlacedThen, IsReady, IsReadyCleanup, Readies, TidiesThen}
 use Rattle.md_nbtc.specs.Going.{IsGoing}
 use Rattle.md_nbtc.specs.Known.{KnowsPlaced}
 use Rattle.md_nbtc.specs.Seeing.{IsNextOf, MayChange}
@@ -139,7 +139,7 @@ module _ (M : Meaning) (lawful : Lawful M) (t : TxnState) (cs : List Certificate
     (step : SteppedFrom M t.field.origin (λ pass. ready pass (length t.reads)) (address (shape_in t) (desc_status (attempt_in t).desc))
     (unready_word (attempt_in t)) t.pass.view q)
     (entered : (before : List HistoryEntry) × (entry : HistoryEntry) × (q.seen ≡ before ++ entry ∷ []) × IsGoing M t entry.certificates) where
-  pub became_ready : IsReady M (now_ready M lawful t cs going q step)
+  pub became_ready : (r : IsReady M (now_ready M lawful t cs going q step)) × Readies t (now_ready M lawful t cs going q step) r.entry
   became_ready =
       let by = won_last M lawful t cs going q step (λ e. IsGoing M t e.certificates) entered.0 entered.1 entered.2 entered.3 in
       won_ready M lawful t cs going q step (won_cleanups M lawful t cs going idle q step by)

@@ -40,7 +40,7 @@ use Rattle.md_nbtc.proofs.preparing.GoingOn.{moved_more, own_grows}
 use Rattle.md_nbtc.proofs.preparing.Quiet.{IsQuiet}
 use Rattle.md_nbtc.proofs.ready.Cleanups.{became_ready}
 use Rattle.md_nbtc.proofs.ready.Lost.{found_aborted, lost_made, lost_shown}
-use Rattle.md_nbtc.proofs.ready.Won.{now_ready, won_readies, won_state}
+use Rattle.md_nbtc.proofs.ready.Won.{now_ready, won_state}
 use Rattle.md_nbtc.proofs.withdrawals.Stops.{met_may, met_stopped}
 
 -- the step as the code names its descriptor, its status and the number of its reads
@@ -78,13 +78,13 @@ module _ (M : Meaning) (lawful : Lawful M) (field : FieldView) (p began : PassSt
     state_is = ap (λ x. state_of field x began reads slots None desc serial tag lots) same
         ∙ won_state M lawful field p began reads slots desc serial tag lots cs runs r.view step_so
 
-    pub is_ready_now : IsReady M (state_of field r began reads slots None desc serial tag lots)
-    is_ready_now = subst (IsReady M) (sym state_is) (became_ready M lawful running cs runs idle r.view step_so
-        (entered.0, entered.1, entered.2, subst (λ s. IsGoing M (stopped_by s) entered.1.certificates) none entered.3))
+    abbrev pub ready_then : TxnState
+    ready_then = state_of field r began reads slots None desc serial tag lots
 
-    pub readies_now : Readies (stopped_by stop) (state_of field r began reads slots None desc serial tag lots)
-    readies_now = subst (λ s. Readies (stopped_by s) (state_of field r began reads slots None desc serial tag lots)) (sym none)
-        (subst (Readies running) (sym state_is) (won_readies M lawful running cs runs r.view step_so))
+    pub ready_now : (is : IsReady M ready_then) × Readies (stopped_by stop) ready_then is.entry
+    ready_now = subst (λ s. (is : IsReady M ready_then) × Readies (stopped_by s) ready_then is.entry) (sym none)
+        (subst (λ (u : TxnState). (is : IsReady M u) × Readies running u is.entry) (sym state_is) (became_ready M lawful running cs runs idle r.view step_so
+        (entered.0, entered.1, entered.2, subst (λ s. IsGoing M (stopped_by s) entered.1.certificates) none entered.3)))
 
 -- it lost: another had aborted the attempt
 module _ (M : Meaning) (t : TxnState) (prepared : IsPrepared t) (f : ℕ → OwnNode) (node_is : (n : ℕ) → (f n).node ≡ n) (nodes : t.nodes ≡ map f (taken_since t.began t.pass))

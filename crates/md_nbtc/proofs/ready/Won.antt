@@ -3,19 +3,19 @@ use Rattle.std.proofs.Common.{◌≡◌, ◌++◌, ℕ, true, List, [], ◌∷�
 use Rattle.std.specs.Prelude.{is_none}
 use Rattle.std.proofs.lemmas.Bool.{cond-true, false≢true}
 use Rattle.std.proofs.lemmas.List.{same_from_push}
-use Rattle.std.proofs.lemmas.List.Elements.{All-cons, All-nil}
+use Rattle.std.proofs.lemmas.List.Elements.{All-cons, All-nil, Contains-append_right}
 use Rattle.std.specs.List.{All, Contains}
 use Rattle.md_words.specs.declared.shape.Shape.{Shape}
-use Rattle.md_words.specs.Lanes.{OwnsNode}
+use Rattle.md_words.specs.Lanes.{OwnsDesc, OwnsNode, lane_of_desc}
 use Rattle.md_words.specs.Layout.{address}
 use Rattle.md_words.specs.Place.{desc_status}
 use Rattle.md_words.specs.PlaceAt.{place_at}
 use Rattle.md_words.specs.Status.{status_of}
 use Rattle.md_words.specs.declared.status.Status.TheVariants.{InPrep, InProg}
-use Rattle.md_words.proofs.Owners.{own_desc_exists}
+use Rattle.md_words.proofs.Owners.{own_desc_exists, owner_of_desc}
 use Rattle.md_words.proofs.Places.{place_at-address}
 use Rattle.md_words.proofs.Words.{status_of-status_word}
-use Rattle.md_history.specs.Front.{AllStay}
+use Rattle.md_history.specs.Front.{AllStay, IsPrefix}
 use Rattle.md_history.specs.FrontLaws.{all_stay-self}
 use Rattle.md_history.specs.declared.entries.Fate.{Fate}
 use Rattle.md_machine.specs.declared.attempt.AttemptId.{AttemptId}
@@ -36,6 +36,7 @@ use Rattle.md_machine.specs.Stepping.{exchanged, left_by, step_of, wins}
 use Rattle.md_machine.specs.Trail.{LastStored, is_store}
 use Rattle.md_machine.specs.clauses.nodes.FreeNodes.{IsFreeBy}
 use Rattle.md_machine.specs.events.Ready.{fates_after_ready, history_after_ready, history_entry, ready_word, unready_word, view_after_ready}
+use Rattle.md_machine.proofs.clauses.passes.MineParts.{not_again}
 use Rattle.md_machine.proofs.lists.Options.{some_same}
 use Rattle.md_rule.specs.Steps.{SteppedFrom}
 use Rattle.md_rule.specs.Views.{FieldView, PassState}
@@ -213,15 +214,39 @@ module _ (M : Meaning) (lawful : Lawful M) (t : TxnState) (cs : List Certificate
         second_none (structure_in m.opening.placed n.node) (kept_structure m.history (greatest m.history m.fates) n.node) own.1,
       ))
 
-  -- it became ready: what else the pass has is as it was
-  pub won_readies : Readies t now_ready
-  won_readies =
+  -- the history before it is what the pass had seen, and entries of other lanes than the pass's
+  begun_with : IsPrefix t.pass.view.seen m.history
+  begun_with = (((is_kept M t.field.origin m step.0.admitted).fronts) step.0.pass t.pass.view step.0.acts.at).seen
+
+  of_others : All (λ (x : HistoryEntry). ¬ Contains t.pass.view.lanes x.entry.lane) begun_with.rest
+  of_others = all_of (λ (x : HistoryEntry). ¬ Contains t.pass.view.lanes x.entry.lane) begun_with.rest (λ x later held.
       let kept = is_kept M t.field.origin m step.0.admitted in
-      let front = (kept.fronts step.0.pass t.pass.view step.0.acts.at).seen in
-      let entry = history_entry m t.hand certificates (length t.reads) in
+      let there = subst (λ l. Contains l x) (sym begun_with.is) (Contains-append_right t.pass.view.seen begun_with.rest x later) in
+      let lane = (kept.numbered.lanes x there).lane in
+      not_again m.history t.pass.view.seen begun_with.rest x kept.numbered.distinct begun_with.is
+      ((kept.fronts step.0.pass t.pass.view step.0.acts.at).own x there (subst (Contains t.pass.view.lanes) lane held)) later)
+
+  -- its entry is of the lane of its descriptor, which is one of the pass's
+  abbrev entry_lane : ℕ
+  entry_lane = (history_entry m t.hand certificates (length t.reads)).entry.lane
+
+  lane_is : entry_lane ≡ a.desc
+  unfolding lane_of_desc
+  lane_is = refl
+
+  lane_own : Contains t.pass.view.lanes entry_lane
+  lane_own = subst (Contains t.pass.view.lanes) (sym ((owner_of_desc (shape_of m) has.own.0 a.desc).0
+      (subst (λ s. OwnsDesc s has.own.0 a.desc) (sym step.0.admitted.shape) has.own.2)).1) has.own.1
+
+  -- it became ready: what else the pass has is as it was
+  won_readies : Readies t now_ready won_entry
+  unfolding won_entry
+  won_readies =
       let lane = has.own.0 in
       let on = (goes_on M t.field.origin m step.0.next (ready step.0.pass (length t.reads)) step.0.admitted step.0.does).fronts
       step.0.pass step.0.pass lane t.pass.view q step.0.acts.at step.0.knows has.own.1 (subst (λ l. Contains l lane) (sym won_lanes) has.own.1) in
+      let entry = history_entry m t.hand certificates (length t.reads) in
+      let now = won_stands in
       record {
         same = record {
           table = refl;
@@ -231,11 +256,15 @@ module _ (M : Meaning) (lawful : Lawful M) (t : TxnState) (cs : List Certificate
           steps = record { rest = won_made.step ∷ []; is = won_trail };
           known = on.known;
         };
-        seen = record {
-          rest = front.rest ++ entry ∷ [];
-          is = ap (λ (x : PassView). x.seen) won_view ∙ ap (λ l. l ++ entry ∷ []) front.is ∙ append_assoc t.pass.view.seen front.rest (entry ∷ []);
-        };
+        others = begun_with.rest;
+        seen = ap (λ (x : PassView). x.seen) won_view ∙ ap (λ l. l ++ entry ∷ []) begun_with.is
+            ∙ append_assoc t.pass.view.seen begun_with.rest (entry ∷ []);
+        of_others = of_others;
+        lane = lane_is;
+        own = lane_own;
+        fated = ((is_kept M t.field.origin now.machine now.admitted).fronts now.pass q now.acts.at).fated;
         mine = ap (λ (x : PassView). x.mine) won_view;
+        pending = ap (λ (x : PassView). x.pending) won_view;
         shares = refl;
         rest = refl;
       }
@@ -266,16 +295,20 @@ module _ (M : Meaning) (lawful : Lawful M) (t : TxnState) (cs : List Certificate
       (held_seeing (record t { pass = record t.pass { view = stepped_view } }) held_stepped (history_after_ready m t.hand certificates (length t.reads)) (fates_after_ready m))
 
   -- and it is ready, if its kept cleanups will be tidy
-  pub won_ready : All (λ (s : Slot). IfSome s.cleanup (IsReadyCleanup M now_ready won_entry s.write)) t.slots → IsReady M now_ready
+  pub won_ready : All (λ (s : Slot). IfSome s.cleanup (IsReadyCleanup M now_ready won_entry s.write)) t.slots
+      → (r : IsReady M now_ready) × Readies t now_ready r.entry
   unfolding won_entry
-  won_ready cleanups = record {
-    stands = won_stands;
-    has = won_held;
-    entry = won_entry;
-    left = won_left;
-    nodes = won_nodes;
-    cleanups = cleanups;
-  }
+  won_ready cleanups = (
+    record {
+      stands = won_stands;
+      has = won_held;
+      entry = won_entry;
+      left = won_left;
+      nodes = won_nodes;
+      cleanups = cleanups;
+    },
+    won_readies,
+  )
 
 -- what contracts see of the transaction then
 module _ (M : Meaning) (lawful : Lawful M) (field : FieldView) (p began : PassState) (reads : List Read) (slots : List Slot) (desc serial tag : ℕ) (lots : List Lot)

@@ -31,6 +31,7 @@ use Rattle.md_nbtc.specs.State.{TxnState, attempt_in, own_steps, seen_content, s
 use Rattle.md_nbtc.proofs.looks.Given.{gave_same}
 use Rattle.md_nbtc.proofs.preparing.Carried.{change_carried, first_carried, kept_carried, unplaced_carried}
 use Rattle.md_nbtc.proofs.preparing.GoingOn.{moved_more}
+use Rattle.md_nbtc.proofs.preparing.Fronts.{front_after}
 use Rattle.md_nbtc.proofs.preparing.Later.{known_later}
 use Rattle.md_nbtc.proofs.recording.ReadMore.{counted_apart, now, own_then, read_prepared}
 use Rattle.md_nbtc.proofs.recording.ReadSets.{first_other, first_some, first_this}
@@ -74,6 +75,7 @@ module _ (M : Meaning) (t : TxnState) (prepared : IsPrepared t) (word : ℕ) (se
     reads = record { rest = new_read ∷ []; is = refl };
     installs = record { rest = []; is = sym (append-nil _) };
     nodes = record { rest = []; is = sym (append-nil _) };
+    front = front_after (shape_in t) t.pass steps q t.pass.shares stored.goes (λ lane. refl);
   }
 
   cause_more : (s : Stop) → HasCause t s → HasCause noted s

@@ -1,6 +1,7 @@
-use Rattle.std.proofs.Common.{◌≡◌, ◌⊎◌}
+use Rattle.std.proofs.Common.{◌≡◌, ◌⊎◌, length}
 use Rattle.md_help.specs.After.{Stands}
 use Rattle.md_rule.specs.Views.{IsOf}
+use Rattle.md_nbtc.specs.declared.load.TheConstants.{LOOKS}
 use Rattle.md_nbtc.specs.Looking.{LooksUntil, OnlyLooks}
 use Rattle.md_nbtc.proofs.load.await_other.Given as goal
 
@@ -9,6 +10,6 @@ invariant-loop-i g l = record {
   of : IsOf l.pass l.field;
   same : l.pass ≡ record l.fn.pass { view = l.pass.view };
   stands : Stands g.T.Theory.meaning l.field.origin l.pass.view;
-  looks : OnlyLooks l.field.origin.shape l.word l.fn.pass.view l.pass.view;
-  until : (l.i ≡ 0) ⊎ LooksUntil g.T.Theory.meaning l.field.origin l.word l.last l.fn.pass.view l.pass.view;
+  looks : (x : OnlyLooks l.field.origin.shape l.word l.fn.pass.view l.pass.view) × (length x.steps ≡ l.i);
+  until : (l.i ≡ 0) ⊎ LooksUntil g.T.Theory.meaning l.field.origin l.word LOOKS l.last l.fn.pass.view l.pass.view;
 }

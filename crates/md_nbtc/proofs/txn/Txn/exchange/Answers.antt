@@ -4,7 +4,11 @@ use Rattle.md_nbtc.specs.Calls.{AfterStop, ExchangeCase, Exchanges, MayBeOf, cas
 use Rattle.md_nbtc.specs.State.{TxnState, state, writes_in}
 use Rattle.md_nbtc.specs.Sets.{place_of}
 use Rattle.md_nbtc.proofs.exchanging.Cases.{other_case, own_case, written_place}
+use Rattle.md_nbtc.proofs.preparing.Heaps.{goes_self}
 use Rattle.md_nbtc.proofs.txn.Txn.exchange.Goals as goal
+
+pub returns-in-Some-clause-on : goal.returns-in-Some-clause-on
+returns-in-Some-clause-on g c = goes_self g.T.Theory.meaning (state c.args.self.now)
 
 pub exchange_own-requires-clause-stay : goal.exchange_own-requires-clause-stay
 exchange_own-requires-clause-stay g c =

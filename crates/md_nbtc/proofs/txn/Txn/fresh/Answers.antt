@@ -20,6 +20,7 @@ use Rattle.md_nbtc.proofs.nodes.FreshSteps.{StoresNode, freshens, goes_on, keeps
 use Rattle.md_nbtc.proofs.nodes.Freshening.{may_key, may_next, may_value, three}
 use Rattle.md_nbtc.proofs.nodes.Taking.{exists, given_back, highest, knows_then}
 use Rattle.md_nbtc.proofs.nodes.Worn.{only_load, worn_found, worn_given, worn_on}
+use Rattle.md_nbtc.proofs.preparing.Heaps.{goes_self}
 use Rattle.md_nbtc.proofs.recording.Stopping.{limit_cause, stopped_gave, stopped_on}
 use Rattle.md_nbtc.proofs.txn.Txn.fresh.Given.{Over}
 use Rattle.md_nbtc.proofs.txn.Txn.fresh.Goals as goal
@@ -27,6 +28,9 @@ use Rattle.md_nbtc.proofs.txn.Txn.fresh.Goals as goal
 -- where a word is, by the shape of the transaction
 at_word : (t : TxnState) → IsPrepared t → {shape : Shape} → shape ≡ t.pass.shape → (place : Place) → {word : ℕ} → word ≡ address shape place → word ≡ address (shape_in t) place
 at_word t prepared same place is = is ∙ ap (λ (s : Shape). address s place) (same ∙ prepared.has.of.shape)
+
+pub returns-in-Some-clause-on : goal.returns-in-Some-clause-on
+returns-in-Some-clause-on g c = goes_self g.T.Theory.meaning (state c.args.self.now)
 
 pub returns-in-Err-clause-on : goal.returns-in-Err-clause-on
 returns-in-Err-clause-on g c =

@@ -1,4 +1,5 @@
 use Rattle.std.proofs.Common.{◌≡◌, ◌<◌, ◌∷◌, Some, refl, sym, ap, subst, inr, ◌∙◌}
+use Rattle.std.proofs.lemmas.Bool.{true≢false}
 use Rattle.md_words.specs.Layout.{desc_count}
 use Rattle.md_history.specs.declared.stops.Shown.{Shown}
 use Rattle.md_history.specs.declared.stops.Stop.TheVariants.{Conflict}
@@ -9,8 +10,10 @@ use Rattle.md_rule.specs.Views.{PassState}
 use Rattle.md_help.specs.Clears.{Clears}
 use Rattle.md_nbtc.specs.Calls.{GoesOn}
 use Rattle.md_nbtc.specs.Seeing.{Gave, Looks}
-use Rattle.md_nbtc.specs.State.{TxnState, shape_in, state}
+use Rattle.md_nbtc.specs.State.{TxnState, content_there, shape_in, state}
 use Rattle.md_nbtc.proofs.looks.Awaited.{cleared, cleared_cause, cleared_goes, cleared_is, cleared_keeps, cleared_looks, cleared_quiet, desc_met, desc_there, even_looks, found_even, found_odd, holds, looked, looked_given, looked_is, looked_on, not_held, seen_is}
+use Rattle.md_nbtc.proofs.looks.Causes.{whole}
+use Rattle.md_nbtc.proofs.looks.Looking.{looks_cleared, looks_even}
 use Rattle.md_nbtc.proofs.looks.OwnSlots.{slot_none}
 use Rattle.md_nbtc.proofs.looks.Stopped.{stopped_gave, stopped_on}
 use Rattle.md_nbtc.proofs.txn.Txn.load_other.Goals as goal
@@ -43,6 +46,21 @@ returns-then-is_none-clause-looked g c =
       subst (λ u. Looks M t u c.args.word c.seen_of.result) (sym (is ∙ ap (λ p. record t { pass = p }) c.look_at-was.ensures.same))
           (subst (Looks M t (looked M g.T.Theory.lawful t c.requires.going q.view c.args.word was l c.requires.counted none) c.args.word) seen
           (even_looks M g.T.Theory.lawful t c.requires.going q.view c.args.word was l c.requires.counted none even)),
+    )
+
+pub returns-then-is_none-clause-steps : goal.returns-then-is_none-clause-steps
+returns-then-is_none-clause-steps g c =
+    let M = g.T.Theory.meaning in
+    let t = state c.args.self.now in
+    let was = c.look_at-was.result in
+    let q = c.look_at-was.new.pass.view in
+    let none = slot_none t.slots c.args.word c.requires.none in
+    let even = found_even was c.of-found.result c.stands.result c.is_none.result c.of-found.ensures.parts c.stands.ensures.spot c.is_none.ensures c.if-is_none.true in
+    let seen = seen_is was c.of-found.result c.seen_of.result c.of-found.ensures.parts c.seen_of.ensures in (
+      was,
+      (λ own. absurd (true≢false (sym own ∙ none))),
+      (λ _. looks_even M t.field.origin c.args.word was t.pass.view q c.look_at-was.ensures.looks even),
+      subst (λ s. content_there t c.args.word s ≡ was) seen (whole was),
     )
 
 pub returns-then-is_none-clause-given : goal.returns-then-is_none-clause-given
@@ -135,6 +153,24 @@ returns-then-is_none-2-clause-looked g c =
           (subst (Looks M t (cleared M lawful t c.requires.going q.view word was l c.requires.counted none odd r.view result clears stands) word) seen (cleared_looks M lawful t c.requires.going q.view word was l c.requires.counted none odd r.view result clears stands even)),
     )
 
+pub returns-then-is_none-2-clause-steps : goal.returns-then-is_none-2-clause-steps
+returns-then-is_none-2-clause-steps g c =
+    let M = g.T.Theory.meaning in
+    let t = state c.args.self.now in
+    let was = c.look_at-was.result in
+    let q = c.look_at-was.new.pass.view in
+    let none = slot_none t.slots c.args.word c.requires.none in
+    let odd = found_odd was c.of-found.result c.stands.result c.is_none.result c.of-found.ensures.parts c.stands.ensures.spot c.is_none.ensures c.if-is_none.false in
+    let r = c.clear-now.new.pass.view in
+    let result = c.clear-now.result in
+    let clears = subst (λ w. Clears (shape_in t) c.args.word w result q r) c.of-found.ensures.inverse c.clear-now.ensures.clears in
+    let seen = seen_is result.left c.of-left.result c.seen_of-then-is_none-2.result c.of-left.ensures.parts c.seen_of-then-is_none-2.ensures in (
+      result.left,
+      (λ own. absurd (true≢false (sym own ∙ none))),
+      (λ _. looks_cleared M t.field.origin c.args.word was t.pass.view q r c.look_at-was.ensures.looks odd result clears),
+      subst (λ s. content_there t c.args.word s ≡ result.left) seen (whole result.left),
+    )
+
 pub returns-then-is_none-2-clause-given : goal.returns-then-is_none-2-clause-given
 returns-then-is_none-2-clause-given g c other seen differ gave =
     let M = g.T.Theory.meaning in
@@ -201,6 +237,23 @@ returns-clause-looked g c =
     let pass : r ≡ record x.pass.now { view = r.view } = c.clear-now.ensures.same ∙ ap (λ (p : PassState). record p { view = r.view }) c.look_at-was.ensures.same in (
       (refl, ap (λ (v : TxnState). record v { stop = Some (Conflict shown) }) (is ∙ ap (λ p. record t { pass = p }) (sym pass))),
       (shown, refl, refl, inr (none, holds M lawful t c.requires.going q.view word was l c.requires.counted none odd, left_odd)),
+    )
+
+pub returns-clause-steps : goal.returns-clause-steps
+returns-clause-steps g c =
+    let M = g.T.Theory.meaning in
+    let t = state c.args.self.now in
+    let was = c.look_at-was.result in
+    let q = c.look_at-was.new.pass.view in
+    let none = slot_none t.slots c.args.word c.requires.none in
+    let odd = found_odd was c.of-found.result c.stands.result c.is_none.result c.of-found.ensures.parts c.stands.ensures.spot c.is_none.ensures c.if-is_none.false in
+    let r = c.clear-now.new.pass.view in
+    let result = c.clear-now.result in
+    let clears = subst (λ w. Clears (shape_in t) c.args.word w result q r) c.of-found.ensures.inverse c.clear-now.ensures.clears in (
+      result.left,
+      (λ own. absurd (true≢false (sym own ∙ none))),
+      (λ _. looks_cleared M t.field.origin c.args.word was t.pass.view q r c.look_at-was.ensures.looks odd result clears),
+      (was, refl),
     )
 
 pub returns-clause-given : goal.returns-clause-given

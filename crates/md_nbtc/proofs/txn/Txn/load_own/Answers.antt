@@ -1,4 +1,5 @@
 use Rattle.std.proofs.Common.{◌+◌, true, Some, refl, sym, ap, subst, inl, ◌∙◌, arith}
+use Rattle.std.proofs.lemmas.Bool.{true≢false}
 use Rattle.md_words.specs.declared.content.Content.{Content}
 use Rattle.md_history.specs.declared.stops.Shown.{Shown}
 use Rattle.md_history.specs.declared.stops.Stop.TheVariants.{Conflict}
@@ -10,6 +11,7 @@ use Rattle.md_nbtc.specs.Seeing.{Gave, Looks}
 use Rattle.md_nbtc.specs.State.{TxnState, attempt_in, own_steps, shape_in, state}
 use Rattle.md_nbtc.specs.declared.sets.TheConstants.{NO_SLOT}
 use Rattle.md_nbtc.proofs.looks.Causes.{after_load, own_moved}
+use Rattle.md_nbtc.proofs.looks.Looking.{one_look}
 use Rattle.md_nbtc.proofs.looks.Loaded.{loaded_given, loaded_is, loaded_so}
 use Rattle.md_nbtc.proofs.looks.OwnLooks.{desc_fits, new_fits, old_room, own_looks}
 use Rattle.md_nbtc.proofs.looks.OwnSlots.{IsSlotOf, slot_found}
@@ -79,6 +81,20 @@ returns-then-now-was-clause-looked g c =
           (own_looks M t prepared q.view c.args.word c.load-now.result step c.get.result.write slot.among slot.there slot.written c.requires.counted is)),
     )
 
+pub returns-then-now-was-clause-steps : goal.returns-then-now-was-clause-steps
+returns-then-now-was-clause-steps g c =
+    let x = c.args.self.now in
+    let t = state x in
+    let prepared = c.requires.going.1.prepared in
+    let slot = subst (IsSlotOf t.slots c.args.word c.args.i) (sym c.get.ensures) (slot_found t.slots c.args.word c.args.i NO_SLOT c.requires.slot) in
+    let is = slot.installed (attempt_in t).desc ∙ ap (λ d. installed_word c.get.result.write.old (record { desc = d; slot = c.get.result.write.slot })) (sym prepared.has.numbers.0)
+    ∙ sym c.installed.ensures ∙ sym c.word-was.ensures.whole ∙ sym c.if-now-was.true in (
+      c.load-now.result,
+      (λ _. one_look g.T.Theory.meaning t.field.origin c.args.word c.load-now.result t.pass.view c.load-now.new.self.view c.load-now.ensures.step),
+      (λ none. absurd (true≢false (sym slot.written ∙ none))),
+      is,
+    )
+
 pub returns-then-now-was-clause-given : goal.returns-then-now-was-clause-given
 returns-then-now-was-clause-given g c other seen differ gave =
     let M = g.T.Theory.meaning in
@@ -122,6 +138,16 @@ returns-clause-looked g c =
         ap (λ (v : TxnState). record v { stop = Some (Conflict shown) }) (loaded_is M x.field.now x.pass.now x.began.value x.reads x.slots x.stop x.desc x.serial x.tag x.lots q c.load-now.ensures.same c.args.word c.load-now.result step),
       ),
       (shown, refl, refl, inl (slot.written, is ∙ sym (slot.installed (attempt_in t).desc))),
+    )
+
+pub returns-clause-steps : goal.returns-clause-steps
+returns-clause-steps g c =
+    let t = state c.args.self.now in
+    let slot = subst (IsSlotOf t.slots c.args.word c.args.i) (sym c.get.ensures) (slot_found t.slots c.args.word c.args.i NO_SLOT c.requires.slot) in (
+      c.load-now.result,
+      (λ _. one_look g.T.Theory.meaning t.field.origin c.args.word c.load-now.result t.pass.view c.load-now.new.self.view c.load-now.ensures.step),
+      (λ none. absurd (true≢false (sym slot.written ∙ none))),
+      (c.word-was.result, refl),
     )
 
 pub returns-clause-given : goal.returns-clause-given

@@ -1,7 +1,17 @@
 use Rattle.std.proofs.Common.{sym, ◌∙◌}
 use Rattle.md_nbtc.specs.State.{state}
+use Rattle.md_nbtc.proofs.preparing.Heaps.{goes_self}
 use Rattle.md_nbtc.proofs.recording.Stopping.{moved_cause}
 use Rattle.md_nbtc.proofs.txn.Txn.note.Goals as goal
+
+pub returns-in-Some-clause-on : goal.returns-in-Some-clause-on
+returns-in-Some-clause-on g c = goes_self g.T.Theory.meaning (state c.args.self.now)
+
+pub returns-then-seen-clause-on : goal.returns-then-seen-clause-on
+returns-then-seen-clause-on g c = goes_self g.T.Theory.meaning (state c.args.self.now)
+
+pub returns-then-was-now-clause-on : goal.returns-then-was-now-clause-on
+returns-then-was-now-clause-on g c = goes_self g.T.Theory.meaning (state c.args.self.now)
 
 pub halt-requires-clause-cause : goal.halt-requires-clause-cause
 halt-requires-clause-cause g c =

@@ -10,7 +10,7 @@ use Rattle.md_nbtc.specs.Ending.{IsShown}
 use Rattle.md_nbtc.specs.Going.{IsGoing}
 use Rattle.md_nbtc.specs.State.{attempt_in, own_node, state}
 use Rattle.md_nbtc.proofs.ready.MayBeReady.{holds_unready, may_enter, stored_none_left}
-use Rattle.md_nbtc.proofs.ready.Outcome.{from_is, is_ready_now, lost_lots, lost_may, lost_shows, lost_stands, lost_stopped, lost_word, readies_now, step_is}
+use Rattle.md_nbtc.proofs.ready.Outcome.{from_is, lost_lots, lost_may, lost_shows, lost_stands, lost_stopped, lost_word, ready_now, step_is}
 use Rattle.md_nbtc.proofs.withdrawals.Stops.{is_unready, numbers_are}
 use Rattle.md_nbtc.proofs.withdrawals.Unready.{exists, small}
 use Rattle.md_nbtc.proofs.txn.Txn.ready.Goals as goal
@@ -51,12 +51,9 @@ returns-in-Ok-clause-ready g c =
     let M = g.T.Theory.meaning in
     let x = c.args.self in
     let r = c.ready.new.self in
-    let by = subst (λ y. EnteredBy (IsGoing M (state y)) r.view) c.of-about.ensures c.in-Ok.ensures.by in (
-      is_ready_now M g.T.Theory.lawful x.field.now x.pass.now x.began.value x.reads x.slots x.stop x.desc x.serial x.tag x.lots c.requires.going.0 c.requires.runs c.requires.going.1
-          c.requires.between c.unready-from.result c.len.result c.unready-from.ensures c.len.ensures r c.ready.ensures.same c.in-Ok.ensures.step by,
-      readies_now M g.T.Theory.lawful x.field.now x.pass.now x.began.value x.reads x.slots x.stop x.desc x.serial x.tag x.lots c.requires.going.0 c.requires.runs c.requires.going.1
-          c.requires.between c.unready-from.result c.len.result c.unready-from.ensures c.len.ensures r c.ready.ensures.same c.in-Ok.ensures.step by,
-    )
+    let by = subst (λ y. EnteredBy (IsGoing M (state y)) r.view) c.of-about.ensures c.in-Ok.ensures.by in
+    ready_now M g.T.Theory.lawful x.field.now x.pass.now x.began.value x.reads x.slots x.stop x.desc x.serial x.tag x.lots c.requires.going.0 c.requires.runs c.requires.going.1
+    c.requires.between c.unready-from.result c.len.result c.unready-from.ensures c.len.ensures r c.ready.ensures.same c.in-Ok.ensures.step by
 
 pub withdraw-requires-clause-stands : goal.withdraw-requires-clause-stands
 withdraw-requires-clause-stands g c =
