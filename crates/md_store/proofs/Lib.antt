@@ -12,3 +12,4 @@ pub mod Closed
 pub mod Rooms
 pub mod Renewing
 pub mod FreshPasses
+pub mod Runs
