@@ -1,5 +1,5 @@
 -- What each call leaves of a transaction, and how that adds up.
-use Rattle.std.proofs.Common.{◌≡◌, ◌≤◌, ◌+◌, ℕ, Option, Some, None, Result, Ok, Err, length, map, [], ◌∷◌, refl, sym, ap, ◌∙◌, subst, arith}
+use Rattle.std.proofs.Common.{◌≡◌, ◌≤◌, ◌+◌, ℕ, true, Option, Some, None, Result, Ok, Err, length, map, [], ◌∷◌, refl, sym, ap, ◌∙◌, subst, arith}
 use Rattle.std.proofs.lemmas.List.{length-append, length-map}
 use Rattle.md_history.specs.declared.stops.Limit.TheVariants.{Nodes, Reads, Worn, Writes}
 use Rattle.md_history.specs.declared.stops.Shown.{Shown}
