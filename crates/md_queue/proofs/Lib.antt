@@ -13,3 +13,4 @@ pub mod Following
 pub mod Ends
 pub mod FreshNode
 pub mod Putting
+pub mod Enqueuing

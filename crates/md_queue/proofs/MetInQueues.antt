@@ -51,8 +51,7 @@ module _ (M : Meaning) (queues : HasQueuesOf M) (h : LogicalHeap) (queue : ℕ) 
   pub met_in_head : (value : ℕ) → WasThere M h (address h.words.shape (queue_head queue)) value → NamesOneOf h queue value
   met_in_head value was =
       let word = address h.words.shape (queue_head queue) in
-      let named = (queue_then word value was).head in
-      (
+      let named = (queue_then word value was).head in (
         named.0,
         (still_of word value was named.0 named.1).0,
         sym (ap (λ (s : Shape). was.heap.words.value (address s (queue_head queue))) was.shape ∙ was.is) ∙ named.2,
@@ -61,8 +60,7 @@ module _ (M : Meaning) (queues : HasQueuesOf M) (h : LogicalHeap) (queue : ℕ) 
   pub met_in_tail : (value : ℕ) → WasThere M h (address h.words.shape (queue_tail queue)) value → NamesOneOf h queue value
   met_in_tail value was =
       let word = address h.words.shape (queue_tail queue) in
-      let named = (queue_then word value was).tail in
-      (
+      let named = (queue_then word value was).tail in (
         named.0,
         (still_of word value was named.0 named.1).0,
         sym (ap (λ (s : Shape). was.heap.words.value (address s (queue_tail queue))) was.shape ∙ was.is) ∙ named.2,

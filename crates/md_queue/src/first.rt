@@ -36,11 +36,7 @@ fn load_first<'a, T: HasQueues>(tx: &mut Txn<'a, T>, queue: u32) -> Result<First
 }
 
 // Records both.
-fn note_first<'a, T: HasQueues>(
-    tx: &mut Txn<'a, T>,
-    queue: u32,
-    first: First,
-) -> Result<(), Stop>
+fn note_first<'a, T: HasQueues>(tx: &mut Txn<'a, T>, queue: u32, first: First) -> Result<(), Stop>
     requires sees { SeesFirst T.meaning (state tx.old) queue first.head first.next }
     ensures pass { tx.new.pass.ghost_name ≡ tx.old.pass.ghost_name }
     ensures goes { IfOk result (λ done. GoesBy T.meaning (state tx.old) (state tx.new) 2 0 0) }
@@ -78,11 +74,7 @@ pub fn front<'a, T: HasQueues>(tx: &mut Txn<'a, T>, queue: u32) -> Result<Option
 }
 
 // Moves the tail from the head's node to the next one, if it is still there.
-fn follow_tail<'a, T: HasQueues>(
-    tx: &mut Txn<'a, T>,
-    queue: u32,
-    first: First,
-) -> Result<(), Stop>
+fn follow_tail<'a, T: HasQueues>(tx: &mut Txn<'a, T>, queue: u32, first: First) -> Result<(), Stop>
     requires sees { SeesFirst T.meaning (state tx.old) queue first.head first.next }
     requires some { first.next.value ≢ 0 }
     ensures pass { tx.new.pass.ghost_name ≡ tx.old.pass.ghost_name }
@@ -100,11 +92,7 @@ fn follow_tail<'a, T: HasQueues>(
 }
 
 // Moves the head to the next node, and returns its value.
-fn take_first<'a, T: HasQueues>(
-    tx: &mut Txn<'a, T>,
-    queue: u32,
-    first: First,
-) -> Result<u64, Stop>
+fn take_first<'a, T: HasQueues>(tx: &mut Txn<'a, T>, queue: u32, first: First) -> Result<u64, Stop>
     requires sees { SeesFirst T.meaning (state tx.old) queue first.head first.next }
     requires some { first.next.value ≢ 0 }
     ensures pass { tx.new.pass.ghost_name ≡ tx.old.pass.ghost_name }
