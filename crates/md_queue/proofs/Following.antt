@@ -1,21 +1,24 @@
 -- The tail is looked at, and doesn't stay behind the head.
-use Rattle.std.proofs.Common.{◌≡◌, ◌≢◌, ◌<◌, ◌^◌, ℕ, refl, sym, ap, ◌∙◌, subst}
+use Rattle.std.proofs.Common.{◌≡◌, ◌≢◌, ◌<◌, ◌^◌, ℕ, suc, arith, refl, sym, ap, ◌∙◌, subst}
 use Rattle.md_words.specs.declared.shape.Shape.{Shape}
 use Rattle.md_words.specs.Layout.{address}
 use Rattle.md_words.specs.Link.{linked_node}
 use Rattle.md_words.specs.Place.{queue_tail}
+use Rattle.md_machine.specs.Certified.{after_wholes}
 use Rattle.md_machine.specs.Meaning.{Lawful, Meaning}
 use Rattle.md_nbtc.specs.declared.seen.Seen.{Seen}
 use Rattle.md_nbtc.specs.Calls.{GoesOn, MayExchange}
 use Rattle.md_nbtc.specs.Seeing.{Gave, KeepsGiven, Looks}
 use Rattle.md_nbtc.specs.State.{TxnState, shape_in}
+use Rattle.md_nbtc.proofs.preparing.Heaps.{known_now}
 use Rattle.md_nbtc.proofs.structures.Exchanging.{HasExchanged}
 use Rattle.md_nbtc.proofs.structures.NodesKnown.{shape_later}
 use Rattle.md_queue_law.specs.Laws.Words.{head_not_tail, tail_not_next}
 use Rattle.md_queue_law.specs.QueueMeaning.{HasQueuesOf}
+use Rattle.md_queue.specs.Operations.{TailDiffers}
 use Rattle.md_queue.specs.Words.{head_at, move_kind, next_at, tail_at}
 use Rattle.md_queue.specs.Working.{IsWorking, SeesAt, SeesFirst}
-use Rattle.md_queue.proofs.Looking.{tail_looked}
+use Rattle.md_queue.proofs.Looking.{next_rank, tail_looked}
 use Rattle.md_queue.proofs.Moving.{may_move, moved}
 use Rattle.md_queue.proofs.Passing.{working_on}
 use Rattle.md_queue.proofs.Takings.{first_on}
@@ -42,6 +45,15 @@ module _ (M : Meaning) (lawful : Lawful M) (queues : HasQueuesOf M) (t : TxnStat
     one_node : linked_node head.value ≡ linked_node tail.value
     one_node = ap linked_node (sym same)
 
+    -- the next node is another one
+    next_differs : next.value ≢ head.value
+    next_differs e =
+        let now = known_now M lawful (λ u h. (after_wholes h s.certificates).words.key_of (linked_node next.value) ≡ suc ((after_wholes h s.certificates).words.key_of (linked_node head.value)))
+        t s.certificates s.working.going
+        (next_rank M lawful queues t queue s.certificates s.changes s.working (linked_node head.value) next s.next_sees some) in
+        let key = sym (ap (λ v. (after_wholes now.0 s.certificates).words.key_of (linked_node v)) e) ∙ now.2 in
+        absurd (omega (arith, key))
+
     pub may_follow : MayExchange M t (tail_at t queue) tail next.value (move_kind next)
     may_follow = may_move M lawful queues t queue s.certificates s.changes s.working (linked_node head.value) next s.next_sees some tail sees one_node
 
@@ -51,3 +63,10 @@ module _ (M : Meaning) (lawful : Lawful M) (queues : HasQueuesOf M) (t : TxnStat
     first_moved u on given fits seen gave ex =
         let m = moved M lawful queues t queue s.certificates s.changes s.working (linked_node head.value) next s.next_sees some tail sees one_node u on fits seen gave ex in
         first_on M t u queue head next s on.later (tail_at t queue) given apart next_apart m.changes m.working
+
+    -- and isn't where the head is
+    pub moved_apart : (u : TxnState) → GoesOn M t u → tail.count < 2 ^ 32 → (seen : Seen) → Gave u (tail_at t queue) seen
+        → HasExchanged M t (tail_at t queue) tail next.value (move_kind next) u seen → TailDiffers u queue head.value
+    moved_apart u on fits seen gave ex =
+        let m = moved M lawful queues t queue s.certificates s.changes s.working (linked_node head.value) next s.next_sees some tail sees one_node u on fits seen gave ex in
+        (seen, m.sees_tail.gave, λ e. next_differs (sym m.value ∙ e))

@@ -9,6 +9,8 @@ pub mod Firsts
 pub mod Moving
 pub mod Changing
 pub mod Takings
+pub mod Along
+pub mod Lined
 pub mod Following
 pub mod Ends
 pub mod FreshNode

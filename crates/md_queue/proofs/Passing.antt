@@ -4,7 +4,7 @@ use Rattle.std.proofs.lemmas.List.Elements.{Contains-append_cases, Contains-appe
 use Rattle.std.specs.List.{Contains}
 use Rattle.md_words.specs.Layout.{IsNode, address}
 use Rattle.md_words.specs.Link.{linked_node}
-use Rattle.md_words.specs.Place.{node_next}
+use Rattle.md_words.specs.Place.{node_next, queue_head}
 use Rattle.md_machine.specs.declared.certificate.Certificate.{Certificate}
 use Rattle.md_machine.specs.declared.certificate.TidyChange.{TidyChange}
 use Rattle.md_machine.specs.declared.step.Step.{Step}
@@ -23,7 +23,7 @@ use Rattle.md_nbtc.proofs.preparing.Later.{known_later}
 use Rattle.md_nbtc.proofs.structures.Growing.{tidied_later}
 use Rattle.md_nbtc.proofs.structures.NodesKnown.{shape_later}
 use Rattle.md_queue_law.specs.QueueShape.{IsOf, link}
-use Rattle.md_queue.specs.Words.{next_at}
+use Rattle.md_queue.specs.Words.{head_at, next_at}
 use Rattle.md_queue.specs.Working.{IsWorking, KnowsOf, NamesNode, SeesAt, SeesNext}
 
 module _ (M : Meaning) (t u : TxnState) (later : IsLater t u) where
@@ -52,6 +52,10 @@ module _ (M : Meaning) (t u : TxnState) (later : IsLater t u) where
 
   shape : shape_in u ≡ shape_in t
   shape = shape_later t u later
+
+  -- the head's word
+  pub shape_head : (queue : ℕ) → head_at u queue ≡ head_at t queue
+  shape_head queue = ap (λ s. address s (queue_head queue)) shape
 
   found_next_on : (node value : ℕ) → FoundNext (shape_in t) t.pass.view node value → FoundNext (shape_in u) u.pass.view node value
   found_next_on node value found = subst (λ s. FoundNext s u.pass.view node value) (sym shape) (found.0, found.1, found.2, some_step_on _ found.3)

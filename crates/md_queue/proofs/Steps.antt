@@ -1,5 +1,5 @@
 -- What each call leaves of a transaction, and how that adds up.
-use Rattle.std.proofs.Common.{◌≡◌, ◌≤◌, ◌+◌, ℕ, true, Option, Some, None, Result, Ok, Err, length, map, [], ◌∷◌, refl, sym, ap, ◌∙◌, subst, arith}
+use Rattle.std.proofs.Common.{◌≡◌, ◌≤◌, ◌+◌, ℕ, Option, Some, None, true, Result, Ok, Err, length, map, [], ◌∷◌, refl, sym, ap, ◌∙◌, subst, arith}
 use Rattle.std.proofs.lemmas.List.{length-append, length-map}
 use Rattle.md_history.specs.declared.stops.Limit.TheVariants.{Nodes, Reads, Worn, Writes}
 use Rattle.md_history.specs.declared.stops.Shown.{Shown}
@@ -17,7 +17,7 @@ use Rattle.md_nbtc.proofs.preparing.Later.{later_over}
 use Rattle.md_nbtc.proofs.structures.Answering.{IsStopped, after_ok, exchange_refused, look_refused, note_refused}
 use Rattle.md_nbtc.proofs.structures.Exchanging.{HasExchanged, changed_own, changed_plainly, exchange_so, exchanged_so, installed}
 use Rattle.md_nbtc.proofs.structures.Noting.{HasNoted, has_noted}
-use Rattle.md_queue.specs.Operations.{GoesBy, Leaves, Refused, RefusedOtherwise}
+use Rattle.md_queue.specs.Operations.{GoesBy, Leaves, Refused, RefusedOtherwise, StaysStopped}
 
 module _ (M : Meaning) where
   -- one after another
@@ -206,6 +206,10 @@ module _ (M : Meaning) where
         → AfterStop t.stop t u (let r : Result Seen Stop = Err stop in r) (Exchanges (exchange_case t word from kind) M t u word from to (Err stop)) → t.hand.operating ≡ true → RefusedOtherwise M t u 0 0 stop
     exchange_stops word from to kind stop is = halted stop (exchange_refused M t u stop word from to kind is)
         (old_stop Seen stop t.stop refl (Exchanges (exchange_case t word from kind) M t u word from to (Err stop)) (exchange_no_nodes word from to kind stop) is)
+
+-- an Ok doesn't come after a stop
+pub unstopped : {A B : Type 0} (t u : TxnState) (x : A) → StaysStopped t u (let r : Result A Stop = Ok x in r) → (s : Stop) → t.stop ≡ Some s → B
+unstopped t u x stays s is = let e = (stays s is).0 in cc e
 
 -- a refusal within wider bounds
 pub refused_up : (M : Meaning) (t u : TxnState) (a b x y : ℕ) (stop : Stop) → RefusedOtherwise M t u a b stop → a ≤ x → b ≤ y → RefusedOtherwise M t u x y stop

@@ -6,7 +6,7 @@ use Rattle.std.specs.Prelude.{get_or}
 use Rattle.md_words.specs.declared.shape.Shape.{Shape}
 use Rattle.md_words.specs.Layout.{IsNode, address}
 use Rattle.md_words.specs.Link.{linked_node}
-use Rattle.md_words.specs.Place.{node_next, queue_head}
+use Rattle.md_words.specs.Place.{node_next, queue_head, queue_tail}
 use Rattle.md_history.specs.declared.acts.Op.TheVariants.{Dequeue}
 use Rattle.md_history.specs.declared.acts.Reply.TheVariants.{Value}
 use Rattle.md_machine.specs.declared.certificate.Certificate.{Certificate}
@@ -37,6 +37,7 @@ use Rattle.md_queue_law.specs.Laws.Words.{head_not_next, head_not_tail, tail_not
 use Rattle.md_queue_law.specs.QueueCertificates.{CertifiesQueue, has_value, head_change, next_is}
 use Rattle.md_queue_law.specs.QueueMeaning.{HasQueuesOf}
 use Rattle.md_queue_law.specs.QueueShape.{link}
+use Rattle.md_queue.specs.Operations.{LeavesDummy, TailDiffers}
 use Rattle.md_queue.specs.Words.{head_at, next_at, tail_at}
 use Rattle.md_queue.specs.Working.{IsRecorded, IsWorking, KnowsOf, NamesNode, SeesAt, SeesFirst, SeesNext}
 use Rattle.md_queue.proofs.Changing.{changing, exchanged_first, exchanged_hand, may_end_changing}
@@ -58,6 +59,14 @@ first_on M t u queue head next s later word given apart next_apart changes worki
   next_sees = next_on M t u later s.certificates queue (linked_node head.value) next s.next_sees
       (given (next_at t (linked_node head.value)) next next_apart s.next_sees.at.gave);
 }
+
+-- and so does that the tail is elsewhere, over calls that keep what was given of it
+pub differs_on : (M : Meaning) (t u : TxnState) (queue value : ℕ) (later : IsLater t u) (word : ℕ) → KeepsGiven t u word → tail_at t queue ≢ word → TailDiffers t queue value → TailDiffers u queue value
+differs_on M t u queue value later word given apart d = (
+  d.0,
+  subst (λ (x : Shape). Gave u (address x (queue_tail queue)) d.0) (sym (shape_later t u later)) (given (tail_at t queue) d.0 apart d.1),
+  d.2,
+)
 
 module _ (M : Meaning) (lawful : Lawful M) (queues : HasQueuesOf M) (queue : ℕ) (head next : Seen) (some : next.value ≢ 0) where
   -- the next word of the head's node is recorded
@@ -121,6 +130,18 @@ module _ (M : Meaning) (lawful : Lawful M) (queues : HasQueuesOf M) (queue : ℕ
               (λ unwritten. k.head_sees.there (k.head_sees.gave.own ∙ unwritten))
               (λ unwritten plain. absurd (true≢false plain));
         }
+
+    -- the tail isn't left behind it
+    pub leaves_dummy : TailDiffers t queue head.value → (u : TxnState) → GoesOn M t u → KeepsGiven t u (head_at t queue) → (seen : Seen)
+        → HasExchanged M t (head_at t queue) head next.value Critical u seen → LeavesDummy u queue
+    leaves_dummy d u on given seen ex = record {
+      earlier = t.hand.changes;
+      from = head.value;
+      to = next.value;
+      changes = ap (λ x. x.changes) (exchanged_hand M t u (head_at t queue) head next.value seen ex)
+          ∙ ap (λ (x : Shape). t.hand.changes ++ head_change x queue head.value next.value ∷ []) (sym (shape_later t u on.later));
+      tail = differs_on M t u queue head.value on.later (head_at t queue) given (λ e. head_not_tail (shape_in t) queue queue k.working.within k.working.within (sym e)) d;
+    }
 
     -- and the operation is ended with the value
     pub may_answer_taken : (value : ℕ) → Known M t (λ v h. h.words.value_of_node (linked_node next.value) ≡ value) → (u : TxnState) → GoesOn M t u → head.count < 2 ^ 32 → (seen : Seen)

@@ -2,3 +2,4 @@ pub mod Operations
 pub mod Nodes
 pub mod Words
 pub mod Working
+pub mod Along

@@ -1,17 +1,21 @@
 -- What the operations of a queue ask, and what they leave.
-use Rattle.std.specs.Prelude.{◌≡◌, ◌≤◌, ◌<◌, ◌+◌, ℕ, true, [], ◌∷◌, ◌++◌, Contains, Option, Some, None, Result, Err, length}
+use Rattle.std.specs.Prelude.{◌≡◌, ◌≢◌, ◌≤◌, ◌<◌, ◌+◌, ℕ, true, List, [], ◌∷◌, ◌++◌, Contains, Option, Some, None, Result, Err, length}
 use Rattle.md_history.specs.declared.acts.Op.{Op}
 use Rattle.md_history.specs.declared.acts.Reply.{Reply}
 use Rattle.md_history.specs.declared.stops.Limit.TheVariants.{Nodes}
 use Rattle.md_history.specs.declared.stops.Stop.{Stop}
 use Rattle.md_history.specs.declared.stops.Stop.TheVariants.{Limit as Limited}
+use Rattle.md_machine.specs.declared.certificate.Change.{Change}
 use Rattle.md_machine.specs.Meaning.{Meaning}
 use Rattle.md_nbtc.specs.declared.seen.Cleanup.TheVariants.{MoveTail}
+use Rattle.md_nbtc.specs.declared.seen.Seen.{Seen}
 use Rattle.md_nbtc.specs.declared.sets.Slot.{Slot}
 use Rattle.md_nbtc.specs.Calls.{MayAnswer}
 use Rattle.md_nbtc.specs.Going.{IsUnderWay}
 use Rattle.md_nbtc.specs.Known.{IsLater}
+use Rattle.md_nbtc.specs.Seeing.{Gave}
 use Rattle.md_nbtc.specs.State.{OwnNode, TxnState, shape_in}
+use Rattle.md_queue_law.specs.QueueCertificates.{head_change}
 use Rattle.md_queue_law.specs.QueueShape.{link}
 use Rattle.md_queue.specs.Words.{next_at, tail_at}
 
@@ -66,6 +70,18 @@ dequeue_reads None = 2
 abbrev pub dequeue_writes : Option ℕ → ℕ
 dequeue_writes (Some value) = 2
 dequeue_writes None = 0
+
+-- the tail, as the transaction saw it last, has another value
+abbrev pub TailDiffers : TxnState → (queue value : ℕ) → Type 0
+TailDiffers t queue value = (tail : Seen) × Gave t (tail_at t queue) tail × (tail.value ≢ value)
+
+-- the head was changed last, and the tail isn't left at the node that it named before
+pub record LeavesDummy (t : TxnState) (queue : ℕ) : Type 0 where
+  pub earlier : List Change
+  pub from : ℕ
+  pub to : ℕ
+  pub changes : t.hand.changes ≡ earlier ++ head_change (shape_in t) queue from to ∷ []
+  pub tail : TailDiffers t queue from
 
 -- a node was taken for the value, and was put behind the last one; the tail is moved to it after the commit
 pub record PutsLast (t u : TxnState) (queue value : ℕ) : Type 0 where

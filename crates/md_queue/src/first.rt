@@ -1,11 +1,12 @@
 //! The first value of a queue.
 
-ghost use Rattle.std.specs.Prelude.{◌≡◌, ◌≢◌, IfOk, IfErr, Some};
+ghost use Rattle.std.specs.Prelude.{◌≡◌, ◌≢◌, IfOk, IfErr, IfSome, Some};
 ghost use Rattle.md_history.specs.declared.acts.Op.TheVariants.{Dequeue, Front};
 ghost use Rattle.md_history.specs.declared.acts.Reply.TheVariants.{Value};
 ghost use Rattle.md_nbtc.specs.State.{state};
 ghost use Rattle.md_queue.specs.Operations.{Answered, GoesBy, IsBegun, RefusedOtherwise};
-ghost use Rattle.md_queue.specs.Operations.{StaysStopped, dequeue_reads, dequeue_writes};
+ghost use Rattle.md_queue.specs.Operations.{LeavesDummy, StaysStopped, TailDiffers};
+ghost use Rattle.md_queue.specs.Operations.{dequeue_reads, dequeue_writes};
 ghost use Rattle.md_queue.specs.Working.{NotedFirst, SeesFirst};
 
 use crate::words::{load_next, move_tail, note_next, value_of};
@@ -46,15 +47,22 @@ fn note_first<'a, T: HasQueues>(tx: &mut Txn<'a, T>, queue: u32, first: First) -
 {
     let head_word = tx.shape().queue_head(queue);
     tx.note(head_word, first.head)?;
-    note_next(tx, first.head.value / 2, first.next)?;
+    let dummy = first.head.value / 2;
+    note_next(tx, dummy, first.next)?;
     Ok(())
 }
 
-/// The first value of a queue of the field, as an operation of a transaction that was just begun.
-/// The caller ends the operation with the answer as the reply of a `Front`.
+/// The first value of a queue of the field, or `None` if it is empty, as an operation of a
+/// transaction that was just begun. The caller ends the operation with the answer as the reply of a
+/// `Front`.
 ///
-/// At most two more words are recorded: the head, and the next word of its node. `Err` is the
-/// refusal of the first call that was refused; the transaction keeps it, and it is no want of nodes.
+/// At most two more words are recorded: the head, and the next word of its node. No word is written
+/// and no node is taken. `Err` is the refusal of the first call that was refused: a load, or a note.
+/// The transaction keeps it, and it is no want of nodes. After a stop the answer is the same stop
+/// and nothing is done.
+///
+/// Seven steps: two loads, two notes of two steps, and the value; six if the queue is empty. A load
+/// costs more where another's descriptor stands (`Txn::load`). It takes no memory.
 ///
 /// The original has no such operation: it is its dequeue without the change.
 pub fn front<'a, T: HasQueues>(tx: &mut Txn<'a, T>, queue: u32) -> Result<Option<u64>, Stop>
@@ -81,6 +89,7 @@ fn follow_tail<'a, T: HasQueues>(tx: &mut Txn<'a, T>, queue: u32, first: First) 
     ensures goes { IfOk result (λ done. GoesBy T.meaning (state tx.old) (state tx.new) 0 1 0) }
     ensures sees { IfOk result (λ done. SeesFirst T.meaning (state tx.new) queue first.head
         first.next) }
+    ensures apart { IfOk result (λ done. TailDiffers (state tx.new) queue first.head.value) }
     ensures stop { IfErr result (RefusedOtherwise T.meaning (state tx.old) (state tx.new) 0 1) }
 {
     let tail_word = tx.shape().queue_tail(queue);
@@ -95,9 +104,11 @@ fn follow_tail<'a, T: HasQueues>(tx: &mut Txn<'a, T>, queue: u32, first: First) 
 fn take_first<'a, T: HasQueues>(tx: &mut Txn<'a, T>, queue: u32, first: First) -> Result<u64, Stop>
     requires sees { SeesFirst T.meaning (state tx.old) queue first.head first.next }
     requires some { first.next.value ≢ 0 }
+    requires apart { TailDiffers (state tx.old) queue first.head.value }
     ensures pass { tx.new.pass.ghost_name ≡ tx.old.pass.ghost_name }
     ensures answer { IfOk result (λ value. Answered T.meaning (state tx.old) (state tx.new)
         (Dequeue queue) (Value (Some value)) 1 1 0) }
+    ensures tail { IfOk result (λ value. LeavesDummy (state tx.new) queue) }
     ensures stop { IfErr result (RefusedOtherwise T.meaning (state tx.old) (state tx.new) 1 1) }
 {
     note_next(tx, first.head.value / 2, first.next)?;
@@ -107,21 +118,34 @@ fn take_first<'a, T: HasQueues>(tx: &mut Txn<'a, T>, queue: u32, first: First) -
     Ok(value)
 }
 
-/// Takes the first value of a queue of the field, as an operation of a transaction that was just
-/// begun. The caller ends the operation with the answer as the reply of a `Dequeue`.
+/// Takes the first value of a queue of the field and answers it, or answers `None` if the queue is
+/// empty, as an operation of a transaction that was just begun. The caller ends the operation with
+/// the answer as the reply of a `Dequeue`.
 ///
-/// At most two more words are recorded and two written. `Err` is the refusal of the first call that
-/// was refused; the transaction keeps it, and it is no want of nodes.
+/// If there is a value, the head is changed to its node as a part of the transaction, and the next
+/// word of the head's old node is recorded. A tail that is still at that node is moved along first,
+/// so that it isn't left behind the head. If there is none, no word is written, and the head and the
+/// next word of its node are recorded. No node is taken. `Err` is the refusal of the first call that
+/// was refused: a load, a note, or an exchange. The transaction keeps it, and it is no want of
+/// nodes; at most two words were recorded then and two written. After a stop the answer is the same
+/// stop and nothing is done.
 ///
-/// After Michael and Scott (1996), with two differences. It doesn't look at the head again after
-/// it read the next word: both words are recorded or changed, and the transaction commits only if
-/// they still stand. And the node that held the dummy isn't freed: it stays taken until the field is
-/// renewed.
+/// Ten steps: three loads, a note of two, the value, and four to change the head; six if the queue
+/// is empty. One more moves a tail that lags, or four as a part of the transaction. A load costs
+/// more where another's descriptor stands (`Txn::load`). It takes no memory.
+///
+/// After Michael and Scott (1996), with three differences. It doesn't look at the head again after
+/// it read the next word, nor at whether the tail is where the head is before it finds the queue
+/// empty: the words that it rests on are recorded or changed, and the transaction commits only if
+/// they still stand. A lost exchange isn't tried again, since the transaction then stops. And the
+/// node that the head leaves isn't freed: it stays taken until the field is renewed, so that no
+/// count has to tell one use of it from another.
 pub fn dequeue<'a, T: HasQueues>(tx: &mut Txn<'a, T>, queue: u32) -> Result<Option<u64>, Stop>
     requires begun { IsBegun T.meaning (state tx.old) queue }
     ensures pass { tx.new.pass.ghost_name ≡ tx.old.pass.ghost_name }
     ensures answer { IfOk result (λ value. Answered T.meaning (state tx.old) (state tx.new)
         (Dequeue queue) (Value value) (dequeue_reads value) (dequeue_writes value) 0) }
+    ensures tail { IfOk result (λ value. IfSome value (λ v. LeavesDummy (state tx.new) queue)) }
     ensures stop { IfErr result (RefusedOtherwise T.meaning (state tx.old) (state tx.new) 2 2) }
     ensures stopped { StaysStopped (state tx.old) (state tx.new) result }
 {

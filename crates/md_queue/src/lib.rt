@@ -5,7 +5,9 @@
 
 pub use first::{dequeue, front};
 pub use last::enqueue;
+pub use lines::line;
 
 mod first;
 mod last;
+mod lines;
 mod words;

@@ -2,7 +2,7 @@ use Rattle.std.proofs.Common.{◌≡◌, arith, rules}
 use Rattle.md_nbtc.specs.State.{state}
 use Rattle.md_queue.specs.Operations.{RefusedOtherwise}
 use Rattle.md_queue.proofs.Firsts.{dequeue_none}
-use Rattle.md_queue.proofs.Steps.{goes_then, refused_then}
+use Rattle.md_queue.proofs.Steps.{goes_then, refused_then, unstopped}
 use Rattle.md_queue.proofs.first.dequeue.Goals as goal
 
 pub returns-then-first-eq0-clause-answer : goal.returns-then-first-eq0-clause-answer
@@ -12,7 +12,7 @@ returns-then-first-eq0-clause-answer g c =
     let t = state c.load_first.new.tx in
     let u = state c.note_first.new.tx in
     record {
-      goes = goes_then M s t u 0 0 0 2 0 0 2 2 0 c.in_ok-first.ensures.goes c.in_ok-note_first.ensures.goes (omega arith) (omega arith) (omega arith);
+      goes = goes_then M s t u 0 0 0 2 0 0 2 0 0 c.in_ok-first.ensures.goes (λ _. c.in_ok-note_first.ensures.goes) (omega arith) (omega arith) (omega arith);
       may = dequeue_none M g.T.Theory.lawful g.met.T.HasQueues.has_queues u c.args.queue c.in_ok-first.first.head c.in_ok-first.first.next c.in_ok-note_first.ensures.noted c.if-first-eq0.true;
     }
 
@@ -23,7 +23,7 @@ returns-in_err-follow_tail-clause-stop g c =
     let t = state c.load_first.new.tx in
     let u = state c.follow_tail.new.tx in
     let stop = c.in_err-follow_tail.field-0.0 in
-    let refused : RefusedOtherwise M s u 2 2 stop = refused_then M s t u 0 0 0 1 2 2 stop c.in_ok-first.ensures.goes c.in_err-follow_tail.ensures.stop (omega arith) (omega arith) in
+    let refused : RefusedOtherwise M s u 2 2 stop = refused_then M s t u 0 0 0 1 2 2 stop c.in_ok-first.ensures.goes (λ _. c.in_err-follow_tail.ensures.stop) (omega arith) (omega arith) in
     search rules
 
 pub returns-in_err-value-clause-stop : goal.returns-in_err-value-clause-stop
@@ -35,7 +35,7 @@ returns-in_err-value-clause-stop g c =
     let v = state c.take_first.new.tx in
     let stop = c.in_err-value.field-0.0 in
     let refused : RefusedOtherwise M s v 2 2 stop = refused_then M s u v 0 1 1 1 2 2 stop
-    (goes_then M s t u 0 0 0 0 1 0 0 1 0 c.in_ok-first.ensures.goes c.in_ok-follow_tail.ensures.goes (omega arith) (omega arith) (omega arith)) c.in_err-value.ensures.stop (omega arith) (omega arith) in
+    (goes_then M s t u 0 0 0 0 1 0 0 1 0 c.in_ok-first.ensures.goes (λ _. c.in_ok-follow_tail.ensures.goes) (omega arith) (omega arith) (omega arith)) (λ _. c.in_err-value.ensures.stop) (omega arith) (omega arith) in
     search rules
 
 pub returns-clause-answer : goal.returns-clause-answer
@@ -46,8 +46,23 @@ returns-clause-answer g c =
     let u = state c.follow_tail.new.tx in
     let v = state c.take_first.new.tx in
     record {
-      goes = goes_then M s u v 0 1 0 1 1 0 2 2 0
-          (goes_then M s t u 0 0 0 0 1 0 0 1 0 c.in_ok-first.ensures.goes c.in_ok-follow_tail.ensures.goes (omega arith) (omega arith) (omega arith))
-          c.in_ok-value.ensures.answer.goes (omega arith) (omega arith) (omega arith);
+      goes = goes_then M s u v 0 1 0 1 1 0 1 2 0
+          (goes_then M s t u 0 0 0 0 1 0 0 1 0 c.in_ok-first.ensures.goes (λ _. c.in_ok-follow_tail.ensures.goes) (omega arith) (omega arith) (omega arith))
+          (λ _. c.in_ok-value.ensures.answer.goes) (omega arith) (omega arith) (omega arith);
       may = c.in_ok-value.ensures.answer.may;
     }
+
+pub returns-then-first-eq0-clause-stopped : goal.returns-then-first-eq0-clause-stopped
+returns-then-first-eq0-clause-stopped g c s is = unstopped (state c.args.tx.now) (state c.load_first.new.tx) c.in_ok-first.first c.in_ok-first.ensures.stopped s is
+
+pub returns-clause-stopped : goal.returns-clause-stopped
+returns-clause-stopped g c s is = unstopped (state c.args.tx.now) (state c.load_first.new.tx) c.in_ok-first.first c.in_ok-first.ensures.stopped s is
+
+pub returns-in_err-note_first-clause-stopped : goal.returns-in_err-note_first-clause-stopped
+returns-in_err-note_first-clause-stopped g c s is = unstopped (state c.args.tx.now) (state c.load_first.new.tx) c.in_ok-first.first c.in_ok-first.ensures.stopped s is
+
+pub returns-in_err-follow_tail-clause-stopped : goal.returns-in_err-follow_tail-clause-stopped
+returns-in_err-follow_tail-clause-stopped g c s is = unstopped (state c.args.tx.now) (state c.load_first.new.tx) c.in_ok-first.first c.in_ok-first.ensures.stopped s is
+
+pub returns-in_err-value-clause-stopped : goal.returns-in_err-value-clause-stopped
+returns-in_err-value-clause-stopped g c s is = unstopped (state c.args.tx.now) (state c.load_first.new.tx) c.in_ok-first.first c.in_ok-first.ensures.stopped s is

@@ -2,10 +2,11 @@ use Rattle.std.proofs.Common.{◌≡◌, ap, sym, subst, ◌∙◌, arith, rules
 use Rattle.md_words.specs.Layout.{address}
 use Rattle.md_words.specs.Place.{queue_tail}
 use Rattle.md_words.specs.PlaceAt.{IsCounted}
+use Rattle.md_nbtc.specs.Going.{IsUnderWay}
 use Rattle.md_nbtc.specs.State.{shape_in, state}
 use Rattle.md_queue.specs.Operations.{RefusedOtherwise}
 use Rattle.md_queue.specs.Words.{move_kind, tail_at}
-use Rattle.md_queue.proofs.Following.{first_moved, first_stays, may_follow, tail_seen}
+use Rattle.md_queue.proofs.Following.{first_moved, first_stays, may_follow, moved_apart, tail_seen}
 use Rattle.md_queue.proofs.Looking.{tail_counted}
 use Rattle.md_queue.proofs.Steps.{exchange_goes, exchange_ok, exchange_stops, goes_then, goes_up, look_goes, look_ok, look_stops, refused_then, refused_up}
 use Rattle.md_queue.proofs.first.follow_tail.Goals as goal
@@ -25,7 +26,7 @@ returns-in_err-tail-clause-stop g c =
     let s = c.requires.sees in
     let stop = c.in_err-tail.field-0.0 in
     let refused : RefusedOtherwise M t u 0 1 stop = refused_up M t u 0 0 0 1 stop
-    (look_stops M t u (s.certificates, s.working.going) c.in_err-tail.ensures.on c.queue_tail-tail_word.result stop c.in_err-tail.ensures.looked) (omega arith) (omega arith) in
+    (look_stops M t u (s.certificates, s.working.going) c.in_err-tail.ensures.on c.queue_tail-tail_word.result stop c.in_err-tail.ensures.looked s.working.operates) (omega arith) (omega arith) in
     search rules
 
 pub move_tail-requires : goal.move_tail-requires
@@ -60,7 +61,7 @@ returns-in_err-move_tail-clause-stop g c =
     let tail = c.in_ok-tail.tail in
     let stop = c.in_err-move_tail.field-0.0 in
     let refused : RefusedOtherwise M t v 0 1 stop = refused_then M t u v 0 0 0 0 0 1 stop
-    (look_goes M t u (s.certificates, s.working.going) on c.queue_tail-tail_word.result tail c.in_ok-tail.ensures.looked)
+    (look_goes M t u (s.certificates, s.working.going) on c.queue_tail-tail_word.result tail c.in_ok-tail.ensures.looked s.working.operates)
     (exchange_stops M u v (s.certificates, on.going s.certificates s.working.going) c.in_err-move_tail.ensures.on (tail_at u c.args.queue) tail c.args.first.next.value (move_kind c.args.first.next) stop
     c.in_err-move_tail.ensures.exchanged) (omega arith) (omega arith) in
     search rules
@@ -76,9 +77,9 @@ returns-in_ok-move_tail-clause-goes g c =
     let tail = c.in_ok-tail.tail in
     let next = c.args.first.next in
     let over = c.in_ok-move_tail.ensures.on in
-    let under = (s.certificates, on.going s.certificates s.working.going) in
+    let under : IsUnderWay M u = (s.certificates, on.going s.certificates s.working.going) in
     let seen = c.in_ok-move_tail.field-0 in
-    goes_then M t u v 0 0 0 0 1 0 0 1 0 (look_goes M t u (s.certificates, s.working.going) on c.queue_tail-tail_word.result tail c.in_ok-tail.ensures.looked)
+    goes_then M t u v 0 0 0 0 1 0 0 1 0 (look_goes M t u (s.certificates, s.working.going) on c.queue_tail-tail_word.result tail c.in_ok-tail.ensures.looked s.working.operates)
     (exchange_goes M u v under over (tail_at u c.args.queue) tail next.value (move_kind next) seen
     (exchange_ok M u v under over (tail_at u c.args.queue) tail next.value (move_kind next) seen c.in_ok-move_tail.ensures.exchanged))
     (omega arith) (omega arith) (omega arith)
@@ -109,7 +110,7 @@ returns-else-tail-first-clause-goes g c =
     let t = state c.args.tx.now in
     let u = state c.load.new.self in
     let s = c.requires.sees in
-    goes_up M t u 0 0 0 0 1 0 (look_goes M t u (s.certificates, s.working.going) c.in_ok-tail.ensures.on c.queue_tail-tail_word.result c.in_ok-tail.tail c.in_ok-tail.ensures.looked)
+    goes_up M t u 0 0 0 0 1 0 (look_goes M t u (s.certificates, s.working.going) c.in_ok-tail.ensures.on c.queue_tail-tail_word.result c.in_ok-tail.tail c.in_ok-tail.ensures.looked s.working.operates)
     (omega arith) (omega arith) (omega arith)
 
 pub returns-else-tail-first-clause-sees : goal.returns-else-tail-first-clause-sees
@@ -124,3 +125,37 @@ returns-else-tail-first-clause-sees g c =
     let place = c.queue_tail-tail_word.ensures.place ∙ ap (λ x. address x (queue_tail c.args.queue)) c.shape.ensures in
     let is = look_ok M t u (s.certificates, s.working.going) on c.queue_tail-tail_word.result tail c.in_ok-tail.ensures.looked in
     first_stays M g.T.Theory.lawful g.met.T.HasQueues.has_queues t c.args.queue first.head first.next s u on is.0 c.queue_tail-tail_word.result place c.in_ok-tail.ensures.given
+
+pub returns-in_ok-move_tail-clause-apart : goal.returns-in_ok-move_tail-clause-apart
+returns-in_ok-move_tail-clause-apart g c =
+    let M = g.T.Theory.meaning in
+    let t = state c.args.tx.now in
+    let u = state c.load.new.self in
+    let v = state c.move_tail.new.tx in
+    let s = c.requires.sees in
+    let first = c.args.first in
+    let on = c.in_ok-tail.ensures.on in
+    let tail = c.in_ok-tail.tail in
+    let place = c.queue_tail-tail_word.ensures.place ∙ ap (λ x. address x (queue_tail c.args.queue)) c.shape.ensures in
+    let is = look_ok M t u (s.certificates, s.working.going) on c.queue_tail-tail_word.result tail c.in_ok-tail.ensures.looked in
+    let stays = first_stays M g.T.Theory.lawful g.met.T.HasQueues.has_queues t c.args.queue first.head first.next s u on is.0 c.queue_tail-tail_word.result place c.in_ok-tail.ensures.given in
+    let sees = tail_seen M g.T.Theory.lawful g.met.T.HasQueues.has_queues t c.args.queue first.head first.next s u on is.0 c.queue_tail-tail_word.result place c.in_ok-tail.ensures.given tail is.1 in
+    let over = c.in_ok-move_tail.ensures.on in
+    let seen = c.in_ok-move_tail.field-0 in
+    moved_apart M g.T.Theory.lawful g.met.T.HasQueues.has_queues u c.args.queue first.head first.next stays c.requires.some tail sees c.if-tail-first.true v over (omega arith)
+    seen c.in_ok-move_tail.ensures.gave
+    (exchange_ok M u v (stays.certificates, stays.working.going) over (tail_at u c.args.queue) tail first.next.value (move_kind first.next) seen c.in_ok-move_tail.ensures.exchanged)
+
+pub returns-else-tail-first-clause-apart : goal.returns-else-tail-first-clause-apart
+returns-else-tail-first-clause-apart g c =
+    let M = g.T.Theory.meaning in
+    let t = state c.args.tx.now in
+    let u = state c.load.new.self in
+    let s = c.requires.sees in
+    let first = c.args.first in
+    let on = c.in_ok-tail.ensures.on in
+    let tail = c.in_ok-tail.tail in
+    let place = c.queue_tail-tail_word.ensures.place ∙ ap (λ x. address x (queue_tail c.args.queue)) c.shape.ensures in
+    let is = look_ok M t u (s.certificates, s.working.going) on c.queue_tail-tail_word.result tail c.in_ok-tail.ensures.looked in
+    let sees = tail_seen M g.T.Theory.lawful g.met.T.HasQueues.has_queues t c.args.queue first.head first.next s u on is.0 c.queue_tail-tail_word.result place c.in_ok-tail.ensures.given tail is.1 in
+    (tail, sees.gave, c.if-tail-first.false)

@@ -11,7 +11,7 @@ use Rattle.md_queue.specs.Words.{next_at}
 use Rattle.md_queue.proofs.Data.{half_is}
 use Rattle.md_queue.proofs.Firsts.{begun_working, sees_first, sees_head}
 use Rattle.md_queue.proofs.Looking.{head_counted, head_named}
-use Rattle.md_queue.proofs.Steps.{goes_then, look_goes, look_ok, look_stops, refused_then}
+use Rattle.md_queue.proofs.Steps.{goes_then, look_goes, look_ok, look_stopped, look_stops, look_unstopped, refused_then}
 use Rattle.md_queue.proofs.first.load_first.Goals as goal
 
 pub load-requires-clause-counted : goal.load-requires-clause-counted
@@ -48,7 +48,7 @@ returns-in_err-next-clause-stop g c =
     let on = c.in_ok-head.ensures.on in
     let stop = c.in_err-next.field-0.0 in
     let refused : RefusedOtherwise M t v 0 0 stop = refused_then M t u v 0 0 0 0 0 0 stop
-    (look_goes M t u under on c.queue_head-head_word.result c.in_ok-head.head c.in_ok-head.ensures.looked)
+    (look_goes M t u under on c.queue_head-head_word.result c.in_ok-head.head c.in_ok-head.ensures.looked c.requires.begun.operates)
     (look_stops M u v (under.0, on.going under.0 under.1) c.in_err-next.ensures.on (next_at u (c.in_ok-head.head.value / 2)) stop c.in_err-next.ensures.looked) (omega arith) (omega arith) in
     search rules
 
@@ -60,7 +60,7 @@ returns-clause-goes g c =
     let v = state c.load_next.new.tx in
     let under = c.requires.begun.going in
     let on = c.in_ok-head.ensures.on in
-    goes_then M t u v 0 0 0 0 0 0 0 0 0 (look_goes M t u under on c.queue_head-head_word.result c.in_ok-head.head c.in_ok-head.ensures.looked)
+    goes_then M t u v 0 0 0 0 0 0 0 0 0 (look_goes M t u under on c.queue_head-head_word.result c.in_ok-head.head c.in_ok-head.ensures.looked c.requires.begun.operates)
     (look_goes M u v (under.0, on.going under.0 under.1) c.in_ok-next.ensures.on (next_at u (c.in_ok-head.head.value / 2)) c.in_ok-next.next c.in_ok-next.ensures.looked)
     (omega arith) (omega arith) (omega arith)
 

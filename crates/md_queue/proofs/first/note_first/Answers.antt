@@ -26,7 +26,7 @@ returns-in_err-note-clause-stop g c =
     let s = c.requires.sees in
     let stop = c.in_err-note.field-0.0 in
     let refused : RefusedOtherwise M t u 2 0 stop = refused_up M t u 0 0 2 0 stop
-    (note_stops M t u (s.certificates, s.working.going) c.in_err-note.ensures.on c.queue_head-head_word.result c.args.first.head stop c.in_err-note.ensures.noted) (omega arith) (omega arith) in
+    (note_stops M t u (s.certificates, s.working.going) c.in_err-note.ensures.on c.queue_head-head_word.result c.args.first.head stop c.in_err-note.ensures.noted s.working.operates) (omega arith) (omega arith) in
     search rules
 
 pub note_next-requires : goal.note_next-requires
@@ -62,7 +62,7 @@ returns-in_err-note_next-clause-stop g c =
     let on = c.in_ok-note.ensures.on in
     let stop = c.in_err-note_next.field-0.0 in
     let refused : RefusedOtherwise M t v 2 0 stop = refused_then M t u v 1 0 0 0 2 0 stop
-    (note_goes M t u (s.certificates, s.working.going) on c.queue_head-head_word.result first.head c.in_ok-note.ensures.noted)
+    (note_goes M t u (s.certificates, s.working.going) on c.queue_head-head_word.result first.head c.in_ok-note.ensures.noted s.working.operates)
     (note_stops M u v (s.certificates, on.going s.certificates s.working.going) c.in_err-note_next.ensures.on (next_at u (first.head.value / 2)) first.next stop c.in_err-note_next.ensures.noted)
     (omega arith) (omega arith) in
     search rules
@@ -76,7 +76,7 @@ returns-clause-goes g c =
     let s = c.requires.sees in
     let first = c.args.first in
     let on = c.in_ok-note.ensures.on in
-    goes_then M t u v 1 0 0 1 0 0 2 0 0 (note_goes M t u (s.certificates, s.working.going) on c.queue_head-head_word.result first.head c.in_ok-note.ensures.noted)
+    goes_then M t u v 1 0 0 1 0 0 2 0 0 (note_goes M t u (s.certificates, s.working.going) on c.queue_head-head_word.result first.head c.in_ok-note.ensures.noted s.working.operates)
     (note_goes M u v (s.certificates, on.going s.certificates s.working.going) c.in_ok-note_next.ensures.on (next_at u (first.head.value / 2)) first.next c.in_ok-note_next.ensures.noted)
     (omega arith) (omega arith) (omega arith)
 

@@ -1,0 +1,39 @@
+-- A line that is filled place by place, and what a look along a queue has done for it.
+use Rattle.std.proofs.Common.{◌≡◌, ◌<◌, ◌+◌, ◌-◌, ℕ, suc, List, [], ◌∷◌, ◌++◌, length, map, refl, sym, ap, ◌∙◌, set, append_assoc, arith}
+use Rattle.std.proofs.lemmas.List.{length-append, set_at}
+use Rattle.std.specs.Prelude.{replicate}
+use Rattle.md_history.specs.declared.acts.Line.{Line}
+use Rattle.md_history.specs.declared.acts.TheConstants.{MAX_LINE}
+use Rattle.md_history.specs.State.{line_of}
+use Rattle.md_machine.specs.Meaning.{Meaning}
+use Rattle.md_nbtc.specs.State.{TxnState}
+use Rattle.md_queue_law.specs.QueueCertificates.{Seen}
+use Rattle.md_queue.specs.Along.{HasLooked}
+use Rattle.md_queue.specs.Operations.{GoesBy}
+
+-- the values of the nodes that were passed
+abbrev pub values_of : List Seen → List ℕ
+values_of seen = map (λ s. s.value) seen
+
+-- since it stood so, the look came to a node over as many as are counted, and the line has their values
+pub record HasLine (M : Meaning) (s t : TxnState) (queue node count : ℕ) (line : Line) : Type 0 where
+  pub goes : GoesBy M s t (count + 1) 0 0
+  pub seen : List Seen
+  pub counted : length seen ≡ count
+  pub is : line ≡ line_of (values_of seen)
+  pub looked : HasLooked M t queue node seen
+
+zeros_more : (m i : ℕ) → i < m → replicate {A = ℕ} (m - i) 0 ≡ 0 ∷ replicate {A = ℕ} (m - (i + 1)) 0
+zeros_more m i below = let e : m - i ≡ suc (m - (i + 1)) = omega arith in rw e refl
+
+-- one more value in a line
+pub line_more : (xs : List ℕ) (i v : ℕ) → length xs ≡ i → i < MAX_LINE → (values : List ℕ) → values ≡ (line_of xs).values
+    → (let l : Line = record { count = i + 1; values = set values i v } in l) ≡ line_of (xs ++ v ∷ [])
+line_more xs i v full below values is =
+    let zeros : List ℕ = replicate {A = ℕ} (MAX_LINE - (i + 1)) 0 in
+    let more : length (xs ++ v ∷ []) ≡ i + 1 = length-append xs (v ∷ []) ∙ ap (λ k. k + 1) full in
+    let filled : set values i v ≡ (xs ++ v ∷ []) ++ zeros
+    = ap (λ ys. set ys i v) (is ∙ ap (λ k. xs ++ replicate {A = ℕ} (MAX_LINE - k) 0) full ∙ ap (λ ys. xs ++ ys) (zeros_more MAX_LINE i below))
+    ∙ set_at xs 0 zeros v i full ∙ sym (append_assoc xs (v ∷ []) zeros) in
+    ap (λ ys. (let l : Line = record { count = i + 1; values = ys } in l)) filled
+    ∙ ap (λ k. (let l : Line = record { count = k; values = (xs ++ v ∷ []) ++ replicate {A = ℕ} (MAX_LINE - k) 0 } in l)) (sym more)

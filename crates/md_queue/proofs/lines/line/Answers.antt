@@ -1,0 +1,77 @@
+use Rattle.std.proofs.Common.{◌≡◌, ◌<◌, ◌+◌, ◌++◌, [], ◌∷◌, length, map, Some, None, refl, sym, ap, ◌∙◌, subst, arith}
+use Rattle.std.proofs.lemmas.List.{length-append, length-map, map-append}
+use Rattle.md_history.specs.declared.acts.Op.TheVariants.{Line as LineOf}
+use Rattle.md_history.specs.declared.acts.Reply.TheVariants.{Line as TheLine}
+use Rattle.md_history.specs.State.{line_of}
+use Rattle.md_nbtc.specs.Calls.{MayAnswer}
+use Rattle.md_nbtc.specs.State.{state}
+use Rattle.md_queue_law.specs.QueueCertificates.{Seen}
+use Rattle.md_queue.specs.Along.{LooksFurther, seen_as}
+use Rattle.md_queue.proofs.Along.{looked_enough, looked_to_end}
+use Rattle.md_queue.proofs.Lined.{HasLine, line_more, values_of}
+use Rattle.md_queue.proofs.Steps.{goes_then, goes_up}
+use Rattle.md_queue.proofs.lines.line.Goals as goal
+
+pub loop-i-init : goal.loop-i-init
+loop-i-init g c = record {
+  pass = c.in_ok-node.ensures.pass;
+  has = record { goes = c.in_ok-node.ensures.goes; seen = []; counted = refl; is = refl; looked = c.in_ok-node.ensures.looked };
+}
+
+pub pass_next-requires : goal.pass_next-requires
+pass_next-requires g c =
+    let h = c.loop-i.invariant.has in
+    record { looked = (c.args.queue, h.seen, h.looked) }
+
+pub loop-i-preserved : goal.loop-i-preserved
+loop-i-preserved g c =
+    let M = g.T.Theory.meaning in
+    let s = state c.args.tx.now in
+    let t = state c.loop-i.tx in
+    let u = state c.pass_next.new.tx in
+    let h = c.loop-i.invariant.has in
+    let i = c.loop-i.i in
+    let passed = c.in-Some.passed in
+    let p = seen_as passed in
+    let further : LooksFurther M u c.args.queue c.loop-i.node h.seen (Some passed)
+    = subst (LooksFurther M u c.args.queue c.loop-i.node h.seen) c.in-Some.is (c.in_ok-passed.ensures.further c.args.queue h.seen h.looked) in
+    record {
+      pass = c.in_ok-passed.ensures.pass ∙ c.loop-i.invariant.pass;
+      has = record {
+        goes = goes_then M s t u (i + 1) 0 0 1 0 0 (i + 1 + 1) 0 0 h.goes (λ _. c.in_ok-passed.ensures.goes) (omega arith) (omega arith) (omega arith);
+        seen = h.seen ++ p ∷ [];
+        counted = length-append h.seen (p ∷ []) ∙ ap (λ k. k + 1) h.counted;
+        is = line_more (values_of h.seen) i passed.value (length-map h.seen (λ (x : Seen). x.value) ∙ h.counted) (omega arith) c.loop-i.line.values (ap (λ l. l.values) h.is)
+            ∙ ap line_of (sym (map-append (λ (x : Seen). x.value) h.seen (p ∷ [])));
+        looked = further;
+      };
+    }
+
+pub returns-after-loop-i-clause-answer : goal.returns-after-loop-i-clause-answer
+returns-after-loop-i-clause-answer g c =
+    let M = g.T.Theory.meaning in
+    let t = state c.loop-i.tx in
+    let h = c.loop-i.invariant.has in
+    let all : length h.seen ≡ c.args.n = h.counted ∙ omega arith in
+    record {
+      goes = goes_up M (state c.args.tx.now) t (c.loop-i.i + 1) 0 0 (c.args.n + 1) 0 0 h.goes (omega arith) (omega arith) (omega arith);
+      may = subst (λ k. MayAnswer M t (LineOf c.args.queue k) (TheLine c.loop-i.line)) all
+          (subst (λ l. MayAnswer M t (LineOf c.args.queue (length h.seen)) (TheLine l)) (sym h.is)
+          (looked_enough M g.T.Theory.lawful g.met.T.HasQueues.has_queues t c.args.queue c.loop-i.node h.seen h.looked));
+    }
+
+pub returns-in_default-clause-answer : goal.returns-in_default-clause-answer
+returns-in_default-clause-answer g c =
+    let M = g.T.Theory.meaning in
+    let s = state c.args.tx.now in
+    let t = state c.loop-i.tx in
+    let u = state c.pass_next.new.tx in
+    let h = c.loop-i.invariant.has in
+    let counted = h.counted in
+    let end : LooksFurther M u c.args.queue c.loop-i.node h.seen None
+    = subst (LooksFurther M u c.args.queue c.loop-i.node h.seen) c.in_default.is (c.in_ok-passed.ensures.further c.args.queue h.seen h.looked) in
+    record {
+      goes = goes_then M s t u (c.loop-i.i + 1) 0 0 1 0 0 (c.args.n + 1) 0 0 h.goes (λ _. c.in_ok-passed.ensures.goes) (omega arith) (omega arith) (omega arith);
+      may = subst (λ l. MayAnswer M u (LineOf c.args.queue c.args.n) (TheLine l)) (sym h.is)
+          (looked_to_end M g.T.Theory.lawful g.met.T.HasQueues.has_queues u c.args.queue c.loop-i.node h.seen end c.args.n (omega (arith, counted)));
+    }

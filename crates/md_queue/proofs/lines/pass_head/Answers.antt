@@ -1,0 +1,106 @@
+use Rattle.std.proofs.Common.{◌≡◌, ◌/◌, [], ap, sym, subst, ◌∙◌, arith, rules}
+use Rattle.md_words.specs.Layout.{address}
+use Rattle.md_words.specs.Place.{queue_head}
+use Rattle.md_words.specs.PlaceAt.{IsCounted}
+use Rattle.md_nbtc.specs.Going.{IsFoundThere}
+use Rattle.md_nbtc.specs.Seeing.{Gave}
+use Rattle.md_nbtc.specs.State.{shape_in, state}
+use Rattle.md_nbtc.proofs.structures.Noting.{HasNoted}
+use Rattle.md_queue.specs.Along.{HasLooked}
+use Rattle.md_queue.specs.Operations.{RefusedOtherwise}
+use Rattle.md_queue.specs.Words.{head_at}
+use Rattle.md_queue.proofs.Along.{head_passed}
+use Rattle.md_queue.proofs.Data.{half_is}
+use Rattle.md_queue.proofs.Firsts.{begun_working, sees_head}
+use Rattle.md_queue.proofs.Looking.{head_counted}
+use Rattle.md_queue.proofs.Passing.{shape_head}
+use Rattle.md_queue.proofs.Steps.{goes_then, look_goes, look_ok, look_stopped, look_stops, look_unstopped, note_goes, note_ok, note_stops, refused_then, refused_up}
+use Rattle.md_queue.proofs.lines.pass_head.Goals as goal
+
+pub load-requires-clause-counted : goal.load-requires-clause-counted
+load-requires-clause-counted g c =
+    let t = state c.args.tx.now in
+    subst (IsCounted (shape_in t)) (sym (c.queue_head-head_word.ensures.place ∙ ap (λ s. address s (queue_head c.args.queue)) c.shape.ensures))
+    (head_counted g.T.Theory.meaning g.T.Theory.lawful g.met.T.HasQueues.has_queues t c.args.queue c.requires.begun.going.0 []
+    (begun_working g.T.Theory.meaning t c.args.queue c.requires.begun))
+
+pub note-requires-clause-operates : goal.note-requires-clause-operates
+note-requires-clause-operates g c =
+    let M = g.T.Theory.meaning in
+    let t = state c.args.tx.now in
+    let u = state c.load.new.self in
+    (look_goes M t u c.requires.begun.going c.in_ok-head.ensures.on c.queue_head-head_word.result c.in_ok-head.head c.in_ok-head.ensures.looked c.requires.begun.operates).leaves.operates
+
+pub note-requires-clause-gave : goal.note-requires-clause-gave
+note-requires-clause-gave g c =
+    let M = g.T.Theory.meaning in
+    let t = state c.args.tx.now in
+    let u = state c.load.new.self in
+    (look_ok M t u c.requires.begun.going c.in_ok-head.ensures.on c.queue_head-head_word.result c.in_ok-head.head c.in_ok-head.ensures.looked).1.gave
+
+pub note-requires-clause-found : goal.note-requires-clause-found
+note-requires-clause-found g c =
+    let M = g.T.Theory.meaning in
+    let t = state c.args.tx.now in
+    let u = state c.load.new.self in
+    let on = c.in_ok-head.ensures.on in
+    let place = c.queue_head-head_word.ensures.place ∙ ap (λ s. address s (queue_head c.args.queue)) c.shape.ensures in
+    let is = look_ok M t u c.requires.begun.going on c.queue_head-head_word.result c.in_ok-head.head c.in_ok-head.ensures.looked in
+    let s = sees_head M g.T.Theory.lawful g.met.T.HasQueues.has_queues t u c.args.queue on is.0 c.requires.begun c.queue_head-head_word.result place c.in_ok-head.head is.1 in
+    subst (λ w. IsFoundThere M u w c.in_ok-head.head) (shape_head M t u on.later c.args.queue ∙ sym place) s.head_sees.there
+
+pub returns-in_err-head-clause-stop : goal.returns-in_err-head-clause-stop
+returns-in_err-head-clause-stop g c =
+    let M = g.T.Theory.meaning in
+    let t = state c.args.tx.now in
+    let u = state c.load.new.self in
+    let stop = c.in_err-head.field-0.0 in
+    let refused : RefusedOtherwise M t u 1 0 stop = refused_up M t u 0 0 1 0 stop
+    (look_stops M t u c.requires.begun.going c.in_err-head.ensures.on c.queue_head-head_word.result stop c.in_err-head.ensures.looked c.requires.begun.operates) (omega arith) (omega arith) in
+    search rules
+
+pub returns-in_err-note-clause-stop : goal.returns-in_err-note-clause-stop
+returns-in_err-note-clause-stop g c =
+    let M = g.T.Theory.meaning in
+    let t = state c.args.tx.now in
+    let u = state c.load.new.self in
+    let v = state c.note.new.self in
+    let under = c.requires.begun.going in
+    let on = c.in_ok-head.ensures.on in
+    let head = c.in_ok-head.head in
+    let stop = c.in_err-note.field-0.0 in
+    let refused : RefusedOtherwise M t v 1 0 stop = refused_then M t u v 0 0 0 0 1 0 stop
+    (look_goes M t u under on c.queue_head-head_word.result head c.in_ok-head.ensures.looked c.requires.begun.operates)
+    (note_stops M u v (under.0, on.going under.0 under.1) c.in_err-note.ensures.on c.queue_head-head_word.result head stop c.in_err-note.ensures.noted) (omega arith) (omega arith) in
+    search rules
+
+pub returns-clause-goes : goal.returns-clause-goes
+returns-clause-goes g c =
+    let M = g.T.Theory.meaning in
+    let t = state c.args.tx.now in
+    let u = state c.load.new.self in
+    let v = state c.note.new.self in
+    let under = c.requires.begun.going in
+    let on = c.in_ok-head.ensures.on in
+    let head = c.in_ok-head.head in
+    goes_then M t u v 0 0 0 1 0 0 1 0 0
+    (look_goes M t u under on c.queue_head-head_word.result head c.in_ok-head.ensures.looked c.requires.begun.operates)
+    (note_goes M u v (under.0, on.going under.0 under.1) c.in_ok-note.ensures.on c.queue_head-head_word.result head c.in_ok-note.ensures.noted) (omega arith) (omega arith) (omega arith)
+
+pub returns-clause-looked : goal.returns-clause-looked
+returns-clause-looked g c =
+    let M = g.T.Theory.meaning in
+    let t = state c.args.tx.now in
+    let u = state c.load.new.self in
+    let v = state c.note.new.self in
+    let under = c.requires.begun.going in
+    let on = c.in_ok-head.ensures.on in
+    let over = c.in_ok-note.ensures.on in
+    let head = c.in_ok-head.head in
+    let place = c.queue_head-head_word.ensures.place ∙ ap (λ s. address s (queue_head c.args.queue)) c.shape.ensures in
+    let is = look_ok M t u under on c.queue_head-head_word.result head c.in_ok-head.ensures.looked in
+    let s = sees_head M g.T.Theory.lawful g.met.T.HasQueues.has_queues t u c.args.queue on is.0 c.requires.begun c.queue_head-head_word.result place head is.1 in
+    let noted = note_ok M u v (under.0, on.going under.0 under.1) over c.queue_head-head_word.result head c.in_ok-note.ensures.noted in
+    subst (λ n. HasLooked M v c.args.queue n []) (sym (half_is head.value))
+    (head_passed M g.T.Theory.lawful g.met.T.HasQueues.has_queues u c.args.queue head s v over (omega arith)
+    (subst (λ w. HasNoted u v w head) (place ∙ sym (shape_head M t u on.later c.args.queue)) noted))

@@ -1,0 +1,153 @@
+use Rattle.std.proofs.Common.{◌≡◌, ◌/◌, ◌++◌, [], ◌∷◌, ap, sym, subst, ◌∙◌, arith, rules}
+use Rattle.md_words.specs.Link.{linked_node}
+use Rattle.md_nbtc.specs.Known.{Known}
+use Rattle.md_nbtc.specs.State.{shape_in, state}
+use Rattle.md_queue_law.specs.QueueCertificates.{Seen}
+use Rattle.md_queue.specs.Along.{HasLooked}
+use Rattle.md_queue.specs.Nodes.{IsReadable}
+use Rattle.md_queue.specs.Operations.{RefusedOtherwise}
+use Rattle.md_queue.specs.Words.{next_at}
+use Rattle.md_queue.proofs.Along.{ended, further, next_looked_at, next_noted}
+use Rattle.md_queue.proofs.Data.{half_is}
+use Rattle.md_queue.proofs.Looking.{node_readable}
+use Rattle.md_queue.proofs.Steps.{goes_then, look_goes, look_ok, look_stops, note_goes, note_ok, note_stops, pass_goes, refused_then, refused_up}
+use Rattle.md_queue.proofs.lines.pass_next.Goals as goal
+
+pub load_next-requires : goal.load_next-requires
+load_next-requires g c =
+    let s = c.requires.looked.2 in
+    record { may = record { going = (s.certificates, s.working.going); exists = s.exists } }
+
+pub returns-in_err-next-clause-stop : goal.returns-in_err-next-clause-stop
+returns-in_err-next-clause-stop g c =
+    let M = g.T.Theory.meaning in
+    let t = state c.args.tx.now in
+    let u = state c.load_next.new.tx in
+    let s = c.requires.looked.2 in
+    let stop = c.in_err-next.field-0.0 in
+    let refused : RefusedOtherwise M t u 1 0 stop = refused_up M t u 0 0 1 0 stop
+    (look_stops M t u (s.certificates, s.working.going) c.in_err-next.ensures.on (next_at t c.args.node) stop c.in_err-next.ensures.looked s.working.operates) (omega arith) (omega arith) in
+    search rules
+
+pub note_next-requires : goal.note_next-requires
+note_next-requires g c =
+    let M = g.T.Theory.meaning in
+    let t = state c.args.tx.now in
+    let u = state c.load_next.new.tx in
+    let queue = c.requires.looked.0 in
+    let seen = c.requires.looked.1 in
+    let s = c.requires.looked.2 in
+    let on = c.in_ok-next.ensures.on in
+    let next = c.in_ok-next.next in
+    let is = look_ok M t u (s.certificates, s.working.going) on (next_at t c.args.node) next c.in_ok-next.ensures.looked in
+    let sees = next_looked_at M g.T.Theory.lawful g.met.T.HasQueues.has_queues t queue c.args.node seen s u on is.0 next is.1 in
+    record {
+      may = record {
+        going = (s.certificates, on.going s.certificates s.working.going);
+        exists = sees.exists;
+        operates = ap (λ x. x.hand.operating) is.0 ∙ s.working.operates;
+        gave = sees.at.gave;
+        there = sees.at.there;
+      };
+    }
+
+pub returns-in_err-note_next-clause-stop : goal.returns-in_err-note_next-clause-stop
+returns-in_err-note_next-clause-stop g c =
+    let M = g.T.Theory.meaning in
+    let t = state c.args.tx.now in
+    let u = state c.load_next.new.tx in
+    let v = state c.note_next.new.tx in
+    let s = c.requires.looked.2 in
+    let on = c.in_ok-next.ensures.on in
+    let next = c.in_ok-next.next in
+    let stop = c.in_err-note_next.field-0.0 in
+    let refused : RefusedOtherwise M t v 1 0 stop = refused_then M t u v 0 0 0 0 1 0 stop
+    (look_goes M t u (s.certificates, s.working.going) on (next_at t c.args.node) next c.in_ok-next.ensures.looked s.working.operates)
+    (note_stops M u v (s.certificates, on.going s.certificates s.working.going) c.in_err-note_next.ensures.on (next_at u c.args.node) next stop c.in_err-note_next.ensures.noted) (omega arith) (omega arith) in
+    search rules
+
+pub returns-then-next-eq0-clause-goes : goal.returns-then-next-eq0-clause-goes
+returns-then-next-eq0-clause-goes g c =
+    let M = g.T.Theory.meaning in
+    let t = state c.args.tx.now in
+    let u = state c.load_next.new.tx in
+    let v = state c.note_next.new.tx in
+    let s = c.requires.looked.2 in
+    let on = c.in_ok-next.ensures.on in
+    let next = c.in_ok-next.next in
+    goes_then M t u v 0 0 0 1 0 0 1 0 0
+    (look_goes M t u (s.certificates, s.working.going) on (next_at t c.args.node) next c.in_ok-next.ensures.looked s.working.operates)
+    (note_goes M u v (s.certificates, on.going s.certificates s.working.going) c.in_ok-note_next.ensures.on (next_at u c.args.node) next c.in_ok-note_next.ensures.noted) (omega arith) (omega arith) (omega arith)
+
+pub returns-then-next-eq0-clause-further : goal.returns-then-next-eq0-clause-further
+returns-then-next-eq0-clause-further g c queue seen s =
+    let M = g.T.Theory.meaning in
+    let t = state c.args.tx.now in
+    let u = state c.load_next.new.tx in
+    let v = state c.note_next.new.tx in
+    let on = c.in_ok-next.ensures.on in
+    let over = c.in_ok-note_next.ensures.on in
+    let next = c.in_ok-next.next in
+    let is = look_ok M t u (s.certificates, s.working.going) on (next_at t c.args.node) next c.in_ok-next.ensures.looked in
+    let noted = note_ok M u v (s.certificates, on.going s.certificates s.working.going) over (next_at u c.args.node) next c.in_ok-note_next.ensures.noted in
+    ended M g.T.Theory.lawful g.met.T.HasQueues.has_queues t queue c.args.node seen s v next
+    (next_noted M g.T.Theory.lawful g.met.T.HasQueues.has_queues t queue c.args.node seen s u on is.0 next is.1 v over (omega arith) noted) c.if-next-eq0.true
+
+pub value_of-value-requires : goal.value_of-value-requires
+value_of-value-requires g c =
+    let M = g.T.Theory.meaning in
+    let t = state c.args.tx.now in
+    let u = state c.load_next.new.tx in
+    let v = state c.note_next.new.tx in
+    let queue = c.requires.looked.0 in
+    let seen = c.requires.looked.1 in
+    let s = c.requires.looked.2 in
+    let on = c.in_ok-next.ensures.on in
+    let over = c.in_ok-note_next.ensures.on in
+    let next = c.in_ok-next.next in
+    let is = look_ok M t u (s.certificates, s.working.going) on (next_at t c.args.node) next c.in_ok-next.ensures.looked in
+    let noted = note_ok M u v (s.certificates, on.going s.certificates s.working.going) over (next_at u c.args.node) next c.in_ok-note_next.ensures.noted in
+    let n = next_noted M g.T.Theory.lawful g.met.T.HasQueues.has_queues t queue c.args.node seen s u on is.0 next is.1 v over (omega arith) noted in
+    record {
+      may = record {
+        going = (s.certificates, n.working.going);
+        readable = subst (IsReadable M v) (sym (half_is next.value))
+            (node_readable M g.T.Theory.lawful g.met.T.HasQueues.has_queues v queue s.certificates s.changes n.working (linked_node next.value) (n.named c.if-next-eq0.false).placed);
+      };
+    }
+
+pub returns-clause-goes : goal.returns-clause-goes
+returns-clause-goes g c =
+    let M = g.T.Theory.meaning in
+    let t = state c.args.tx.now in
+    let u = state c.load_next.new.tx in
+    let v = state c.note_next.new.tx in
+    let w = state c.value_of-value.new.tx in
+    let s = c.requires.looked.2 in
+    let on = c.in_ok-next.ensures.on in
+    let over = c.in_ok-note_next.ensures.on in
+    let next = c.in_ok-next.next in
+    let going = on.going s.certificates s.working.going in
+    goes_then M t v w 1 0 0 0 0 0 1 0 0
+    (goes_then M t u v 0 0 0 1 0 0 1 0 0
+    (look_goes M t u (s.certificates, s.working.going) on (next_at t c.args.node) next c.in_ok-next.ensures.looked s.working.operates)
+    (note_goes M u v (s.certificates, going) over (next_at u c.args.node) next c.in_ok-note_next.ensures.noted) (omega arith) (omega arith) (omega arith))
+    (pass_goes M v w (s.certificates, over.going s.certificates going) c.value_of-value.ensures.on c.value_of-value.ensures.same) (omega arith) (omega arith) (omega arith)
+
+pub returns-clause-further : goal.returns-clause-further
+returns-clause-further g c queue seen s =
+    let M = g.T.Theory.meaning in
+    let t = state c.args.tx.now in
+    let u = state c.load_next.new.tx in
+    let v = state c.note_next.new.tx in
+    let w = state c.value_of-value.new.tx in
+    let on = c.in_ok-next.ensures.on in
+    let over = c.in_ok-note_next.ensures.on in
+    let next = c.in_ok-next.next in
+    let value = c.value_of-value.result in
+    let is = look_ok M t u (s.certificates, s.working.going) on (next_at t c.args.node) next c.in_ok-next.ensures.looked in
+    let noted = note_ok M u v (s.certificates, on.going s.certificates s.working.going) over (next_at u c.args.node) next c.in_ok-note_next.ensures.noted in
+    let n = next_noted M g.T.Theory.lawful g.met.T.HasQueues.has_queues t queue c.args.node seen s u on is.0 next is.1 v over (omega arith) noted in
+    subst (λ x. HasLooked M w queue x (seen ++ (let p : Seen = record { node = x; value = value } in p) ∷ [])) (sym (half_is next.value))
+    (further M g.T.Theory.lawful g.met.T.HasQueues.has_queues t queue c.args.node seen s v next n c.if-next-eq0.false w c.value_of-value.ensures.on c.value_of-value.ensures.same value
+    (subst (λ x. Known M w (λ y h. h.words.value_of_node x ≡ value)) (half_is next.value) c.value_of-value.ensures.known))

@@ -1,0 +1,99 @@
+//! The first values of a queue.
+
+ghost use Rattle.std.specs.Prelude.{◌≡◌, ◌+◌, [], ℕ, List, IfOk, IfErr};
+ghost use Rattle.md_history.specs.declared.acts.Op.TheVariants.{Line as LineOf};
+ghost use Rattle.md_history.specs.declared.acts.Reply.TheVariants.{Line as TheLine};
+ghost use Rattle.md_history.specs.Calls.{IsLineLength};
+ghost use Rattle.md_nbtc.specs.State.{state};
+ghost use Rattle.md_queue_law.specs.QueueCertificates.{Seen};
+ghost use Rattle.md_queue.specs.Along.{HasLooked, LooksFurther};
+ghost use Rattle.md_queue.specs.Operations.{Answered, GoesBy, IsBegun, RefusedOtherwise};
+ghost use Rattle.md_queue.specs.Operations.{StaysStopped};
+
+use crate::words::{load_next, note_next, value_of};
+use md_history::{Line, MAX_LINE, Stop};
+use md_nbtc::Txn;
+use md_queue_law::HasQueues;
+
+// A node that a look along a queue came to, and its value.
+#[derive(Clone, Copy)]
+struct Passed {
+    node: u32,
+    value: u64,
+}
+
+// Looks at the head, and records it. The node that it names.
+fn pass_head<'a, T: HasQueues>(tx: &mut Txn<'a, T>, queue: u32) -> Result<u32, Stop>
+    requires begun { IsBegun T.meaning (state tx.old) queue }
+    ensures pass { tx.new.pass.ghost_name ≡ tx.old.pass.ghost_name }
+    ensures goes { IfOk result (λ node. GoesBy T.meaning (state tx.old) (state tx.new) 1 0 0) }
+    ensures looked { IfOk result (λ node. HasLooked T.meaning (state tx.new) queue node []) }
+    ensures stop { IfErr result (RefusedOtherwise T.meaning (state tx.old) (state tx.new) 1 0) }
+    ensures stopped { StaysStopped (state tx.old) (state tx.new) result }
+{
+    let head_word = tx.shape().queue_head(queue);
+    let head = tx.load(head_word)?;
+    tx.note(head_word, head)?;
+    Ok(head.value / 2)
+}
+
+// Looks at the next word of a node, and records it. The node that it names with its value, if any.
+fn pass_next<'a, T: HasQueues>(tx: &mut Txn<'a, T>, node: u32) -> Result<Option<Passed>, Stop>
+    requires looked { (queue : ℕ) × (seen : List Seen)
+        × HasLooked T.meaning (state tx.old) queue node seen }
+    ensures pass { tx.new.pass.ghost_name ≡ tx.old.pass.ghost_name }
+    ensures goes { IfOk result (λ passed. GoesBy T.meaning (state tx.old) (state tx.new) 1 0 0) }
+    ensures further { IfOk result (λ passed. (queue : ℕ) (seen : List Seen)
+        → HasLooked T.meaning (state tx.old) queue node seen
+        → LooksFurther T.meaning (state tx.new) queue node seen passed) }
+    ensures stop { IfErr result (RefusedOtherwise T.meaning (state tx.old) (state tx.new) 1 0) }
+{
+    let next = load_next(tx, node)?;
+    note_next(tx, node, next)?;
+    if next.value == 0 {
+        return Ok(None);
+    }
+    let node = next.value / 2;
+    let value = value_of(tx, node);
+    Ok(Some(Passed { node, value }))
+}
+
+/// The first `n` values of a queue of the field, or all if there are fewer, as an operation of a
+/// transaction that was just begun. `n` is from 1 to 12. The caller ends the operation with the
+/// answer as the reply of a `Line`.
+///
+/// At most `n + 1` more words are recorded: the head, and the next words of the nodes on the way,
+/// the last of which is 0 if there are fewer values. No word is written and no node is taken. `Err`
+/// is the refusal of the first call that was refused; the transaction keeps it, and it is no want
+/// of nodes. After a stop the answer is the same stop and nothing is done.
+///
+/// Three steps for the head, a load and a note of two; four for each value, a load, a note of two
+/// and the value; and three for a next word that is 0. A load costs more where another's descriptor
+/// stands (`Txn::load`). It takes no memory.
+///
+/// This is Medley's own: the original has no look at more than one value.
+pub fn line<'a, T: HasQueues>(tx: &mut Txn<'a, T>, queue: u32, n: u8) -> Result<Line, Stop>
+    requires begun { IsBegun T.meaning (state tx.old) queue }
+    requires few { IsLineLength n }
+    ensures pass { tx.new.pass.ghost_name ≡ tx.old.pass.ghost_name }
+    ensures answer { IfOk result (λ line. Answered T.meaning (state tx.old) (state tx.new)
+        (LineOf queue n) (TheLine line) (n + 1) 0 0) }
+    ensures stop { IfErr result (RefusedOtherwise T.meaning (state tx.old) (state tx.new) (n + 1)
+        0) }
+    ensures stopped { StaysStopped (state tx.old) (state tx.new) result }
+{
+    let mut node = pass_head(tx, queue)?;
+    let mut line = Line {
+        count: 0,
+        values: [0; MAX_LINE],
+    };
+    for i in 0..n {
+        let Some(passed) = pass_next(tx, node)? else {
+            break;
+        };
+        line.values[i as usize] = passed.value;
+        line.count = i + 1;
+        node = passed.node;
+    }
+    Ok(line)
+}
