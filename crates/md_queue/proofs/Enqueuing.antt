@@ -1,9 +1,10 @@
 -- What the calls of an enqueue leave of the transaction: a node is taken, its link is made, and the move of the tail is kept.
 use Rattle.std.proofs.Common.{◌≡◌, ◌==◌, ◌≤◌, ◌+◌, ◌++◌, ℕ, true, List, [], ◌∷◌, length, map, Option, Some, Result, Err, refl, sym, ap, ◌∙◌, subst, if◌then◌else◌, eq-eqb, arith}
-use Rattle.std.proofs.lemmas.List.{length-append, length-map}
+use Rattle.std.proofs.lemmas.List.{append-nil, length-append, length-map}
 use Rattle.std.specs.List.{Contains}
+use Rattle.md_words.specs.declared.shape.Shape.{Shape}
 use Rattle.md_words.specs.Layout.{address}
-use Rattle.md_words.specs.Place.{node_next}
+use Rattle.md_words.specs.Place.{node_next, queue_tail}
 use Rattle.md_history.specs.declared.stops.Stop.{Stop}
 use Rattle.md_history.specs.Front.{IsPrefix}
 use Rattle.md_machine.specs.declared.attempt.Write.{Write}
@@ -11,13 +12,15 @@ use Rattle.md_machine.specs.declared.certificate.Certificate.{Certificate}
 use Rattle.md_machine.specs.Meaning.{Meaning}
 use Rattle.md_machine.proofs.lists.Rising.{in_map, map_in}
 use Rattle.md_nbtc.specs.declared.seen.Cleanup.{Cleanup}
+use Rattle.md_nbtc.specs.declared.seen.Cleanup.TheVariants.{MoveTail}
 use Rattle.md_nbtc.specs.declared.sets.Slot.{Slot}
 use Rattle.md_nbtc.specs.Calls.{AfterStop, Freshened, Freshens, GoesOn, Keeps}
 use Rattle.md_nbtc.specs.Cleaning.{IsWrittenFor, MayTidyLater, cleanup_node, with_cleanup, with_cleanup_kept}
 use Rattle.md_nbtc.specs.Going.{IsGoing, IsUnderWay}
 use Rattle.md_nbtc.specs.State.{OwnNode, TxnState, shape_in}
 use Rattle.md_nbtc.proofs.structures.Answering.{fresh_refused}
-use Rattle.md_queue.specs.Operations.{GoesBy, Refused}
+use Rattle.md_queue.specs.Operations.{GoesBy, PutsLast, Refused}
+use Rattle.md_queue.specs.Words.{tail_at}
 use Rattle.md_queue.proofs.Steps.{leaves_then}
 
 module _ (M : Meaning) (t u : TxnState) (under : IsUnderWay M t) (on : GoesOn M t u) (operates : t.hand.operating ≡ true) where
@@ -86,7 +89,7 @@ pub no_more_nodes : (t u : TxnState) → IsPrefix t.nodes u.nodes → length u.n
 no_more_nodes t u first few = first.is ∙ none first.rest (let l = ap (λ (x : List OwnNode). length x) first.is ∙ length-append t.nodes first.rest in omega (arith, l, few))
   where
     none : (rest : List OwnNode) → length rest ≤ 0 → t.nodes ++ rest ≡ t.nodes
-    none [] l = append_none t.nodes
+    none [] l = append-nil t.nodes
     none (n ∷ rest) l = absurd (omega (arith, l))
 
 -- the slot of the node's next word keeps the cleanup
@@ -97,7 +100,7 @@ module _ (t : TxnState) (c : Cleanup) (written : IsWrittenFor t c) where
   abbrev among : (s : Slot) × Contains t.slots s × (s.write ≡ written.write)
   among = in_map (λ (s : Slot). s.write) t.slots written.write written.among
 
-  pub kept_slot : Slot
+  abbrev pub kept_slot : Slot
   kept_slot = with_cleanup word c among.0
 
   pub kept_among : Contains (with_cleanup_kept t c) kept_slot
@@ -111,3 +114,21 @@ module _ (t : TxnState) (c : Cleanup) (written : IsWrittenFor t c) where
 
   pub kept_cleanup : kept_slot.cleanup ≡ Some c
   kept_cleanup = ap (λ (s : Slot). s.cleanup) slot_is
+
+-- the new node was put behind the last one, and the move of the tail to it is kept
+pub puts_last : (s v x : TxnState) (queue last : ℕ) (new : OwnNode) → IsWrittenFor v (MoveTail (tail_at v queue) last new.node)
+    → x ≡ record v { slots = with_cleanup_kept v (MoveTail (tail_at v queue) last new.node) } → x.nodes ≡ s.nodes ++ new ∷ [] → PutsLast s x queue new.value
+puts_last s v x queue last new written kept nodes =
+    let c : Cleanup = MoveTail (tail_at v queue) last new.node in
+    let shape = ap (λ (y : TxnState). shape_in y) kept in
+    record {
+      last = last;
+      new = new;
+      nodes = nodes;
+      value_is = refl;
+      slot = kept_slot v c written;
+      among = subst (λ l. Contains l (kept_slot v c written)) (sym (ap (λ (y : TxnState). y.slots) kept)) (kept_among v c written);
+      word = ap (λ (w : Write). w.word) (kept_write v c written) ∙ written.there ∙ ap (λ (y : Shape). address y (node_next last)) (sym shape);
+      names = ap (λ (w : Write). w.new) (kept_write v c written) ∙ written.fits.0;
+      cleanup = kept_cleanup v c written ∙ ap (λ (y : Shape). Some (MoveTail (address y (queue_tail queue)) last new.node)) (sym shape);
+    }
