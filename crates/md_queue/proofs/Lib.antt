@@ -15,3 +15,4 @@ pub mod Following
 pub mod Ends
 pub mod FreshNode
 pub mod Putting
+pub mod Enqueuing

@@ -21,7 +21,7 @@ use Rattle.md_queue.specs.Operations.{GoesBy, Leaves, Refused, RefusedOtherwise,
 
 module _ (M : Meaning) where
   -- one after another
-  leaves_then : (s t u : TxnState) (a b c d e f x y z : ℕ) → Leaves M s t a b c → Leaves M t u d e f → a + d ≤ x → b + e ≤ y → c + f ≤ z → Leaves M s u x y z
+  pub leaves_then : (s t u : TxnState) (a b c d e f x y z : ℕ) → Leaves M s t a b c → Leaves M t u d e f → a + d ≤ x → b + e ≤ y → c + f ≤ z → Leaves M s u x y z
   leaves_then s t u a b c d e f x y z one two reads writes nodes =
       let r = one.reads_few in
       let rr = two.reads_few in

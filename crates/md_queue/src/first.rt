@@ -47,7 +47,8 @@ fn note_first<'a, T: HasQueues>(tx: &mut Txn<'a, T>, queue: u32, first: First) -
 {
     let head_word = tx.shape().queue_head(queue);
     tx.note(head_word, first.head)?;
-    note_next(tx, first.head.value / 2, first.next)?;
+    let dummy = first.head.value / 2;
+    note_next(tx, dummy, first.next)?;
     Ok(())
 }
 

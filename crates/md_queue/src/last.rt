@@ -1,20 +1,23 @@
 //! The last node of a queue, and a new one behind it.
 
 ghost use Rattle.std.specs.Prelude.{◌≡◌, ◌≢◌, ◌≤◌, ◌+◌, ℕ, IfOk, IfErr, Some, length};
+ghost use Rattle.md_history.specs.declared.acts.Op.TheVariants.{Enqueue};
+ghost use Rattle.md_history.specs.declared.acts.Reply.TheVariants.{Nothing};
 ghost use Rattle.md_nbtc.specs.State.{state};
-ghost use Rattle.md_queue.specs.Operations.{GoesBy, IsBegun, RefusedOtherwise, StaysStopped};
+ghost use Rattle.md_queue.specs.Operations.{Answered, GoesBy, IsBegun, PutsLast, Refused};
+ghost use Rattle.md_queue.specs.Operations.{RefusedOtherwise, StaysStopped};
 ghost use Rattle.md_queue.specs.Working.{SeesEnd, other_count, own_count};
 
-use crate::words::{load_next, move_tail};
+use crate::words::{load_next, move_tail, rank_of};
 use md_history::Stop;
-use md_nbtc::{Seen, Txn};
+use md_nbtc::{Cleanup, Kind, Seen, Txn};
 use md_queue_law::HasQueues;
 
 // What was seen in the tail, and in the next word of its node.
 #[derive(Clone, Copy)]
-pub(crate) struct End {
-    pub(crate) tail: Seen,
-    pub(crate) next: Seen,
+struct End {
+    tail: Seen,
+    next: Seen,
 }
 
 fn load_end<'a, T: HasQueues>(tx: &mut Txn<'a, T>, queue: u32) -> Result<End, Stop>
@@ -52,7 +55,7 @@ fn follow<'a, T: HasQueues>(tx: &mut Txn<'a, T>, queue: u32, end: End) -> Result
 }
 
 // Finds the last node from the tail, which it moves along.
-pub(crate) fn find_last<'a, T: HasQueues>(tx: &mut Txn<'a, T>, queue: u32) -> Result<End, Stop>
+fn find_last<'a, T: HasQueues>(tx: &mut Txn<'a, T>, queue: u32) -> Result<End, Stop>
     requires begun { IsBegun T.meaning (state tx.old) queue }
     ensures pass { tx.new.pass.ghost_name ≡ tx.old.pass.ghost_name }
     ensures goes { IfOk result (λ end. GoesBy T.meaning (state tx.old) (state tx.new) 0 1 0) }
@@ -71,4 +74,65 @@ pub(crate) fn find_last<'a, T: HasQueues>(tx: &mut Txn<'a, T>, queue: u32) -> Re
         end = follow(tx, queue, end)?;
     }
     Ok(end)
+}
+
+/// Appends a value to a queue of the field, as an operation of a transaction that was just begun.
+/// Any value will do. The caller ends the operation with `Nothing` as the reply of an `Enqueue`.
+///
+/// It looks for the last node from the tail on, and moves the tail along. Then it takes a node for
+/// the value and puts it into the last node's next word, as a part of the transaction: others meet
+/// it once the transaction has committed. The transaction itself meets it at once, so a second
+/// enqueue goes behind the first; it moves the tail to the first one's node as a part of the
+/// transaction too.
+///
+/// No more words are recorded, at most two more are written (the last node's next word and the
+/// tail), and one node is taken. `Err` is the refusal of the first call that was refused; the
+/// transaction keeps it. It is
+///
+/// - `Conflict` if a word moved under the transaction: another pass is live then;
+/// - `Limit(Nodes)` if no lane of the pass has a node left;
+/// - `Limit(Writes)` if the transaction has written as many words as a set has room for;
+/// - `Limit(Worn)` if the count of the tail, or of the next word of the last node or of the new
+///   one, is 4,294,967,292 or more.
+///
+/// After a stop it is the same stop, and nothing is done.
+///
+/// Eleven steps if the tail names the last node and no other descriptor is met: a look at the tail,
+/// at the next word and at the rank, four for the new node and four for its link. Two steps more
+/// for each node by which the tail is behind, and three more once if the transaction changes the
+/// tail itself. The move of the tail after the commit takes at most two. It takes no memory.
+///
+/// After M. M. Michael and M. L. Scott, "Simple, Fast, and Practical Non-Blocking and Blocking
+/// Concurrent Queue Algorithms" (1996), with these differences:
+///
+/// - The tail is moved to the new node only after the commit, if nobody did, since others mustn't
+///   follow it to a node that isn't in the queue yet.
+/// - The node gets a rank, one more than that of the node before it, and so is taken after that
+///   one was found. By the ranks a walk along next words ends, even if the transaction meets words
+///   that never stood together.
+/// - It doesn't look at the tail again after it read the next word: a next word that isn't 0 never
+///   changes, and the link is made only if it is 0 still.
+/// - A lost exchange isn't tried again, since the transaction then stops.
+pub fn enqueue<'a, T: HasQueues>(tx: &mut Txn<'a, T>, queue: u32, value: u64) -> Result<(), Stop>
+    requires begun { IsBegun T.meaning (state tx.old) queue }
+    ensures pass { tx.new.pass.ghost_name ≡ tx.old.pass.ghost_name }
+    ensures answer { IfOk result (λ done. Answered T.meaning (state tx.old) (state tx.new)
+        (Enqueue queue value) Nothing 0 2 1) }
+    ensures puts { IfOk result (λ done. PutsLast (state tx.old) (state tx.new) queue value) }
+    ensures stop { IfErr result (Refused T.meaning (state tx.old) (state tx.new) 0 2 1) }
+    ensures stopped { StaysStopped (state tx.old) (state tx.new) result }
+{
+    let end = find_last(tx, queue)?;
+    let last = end.tail.value / 2;
+    let rank = rank_of(tx, last);
+    let node = tx.fresh(rank + 1, value, 0)?;
+    let next_word = tx.shape().node_next(last);
+    tx.exchange(next_word, end.next, node * 2, Kind::Critical)?;
+    let tail = tx.shape().queue_tail(queue);
+    tx.later(Cleanup::MoveTail {
+        tail,
+        from: last,
+        to: node,
+    });
+    Ok(())
 }

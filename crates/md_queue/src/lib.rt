@@ -4,6 +4,7 @@
 #![tactic(auto)]
 
 pub use first::{dequeue, front};
+pub use last::enqueue;
 pub use lines::line;
 
 mod first;

@@ -63,3 +63,13 @@ returns-after-loop-clause-last g c =
     let few = end_fits g.T.Theory.meaning g.T.Theory.lawful g.met.T.HasQueues.has_queues (state c.loop.tx) c.args.queue c.loop.end.tail c.loop.end.next c.loop.counter c.loop.invariant.sees in
     let limit = node_limit (shape_in (state c.loop.tx)) in
     absurd (omega (arith, few, limit))
+
+pub returns-then-end-eq0-clause-stopped : goal.returns-then-end-eq0-clause-stopped
+returns-then-end-eq0-clause-stopped g c s is =
+    let e = (c.in_ok-end.ensures.stopped s is).0 in
+    absurd (cc e)
+
+pub returns-after-loop-clause-stopped : goal.returns-after-loop-clause-stopped
+returns-after-loop-clause-stopped g c s is =
+    let e = (c.in_ok-end.ensures.stopped s is).0 in
+    absurd (cc e)

@@ -1,6 +1,7 @@
 use Rattle.std.proofs.Common.{◌≡◌, ◌/◌, ◌≤◌, ◌+◌, length, ap, sym, subst, ◌∙◌, arith, rules}
 use Rattle.md_words.specs.Layout.{IsNode}
 use Rattle.md_words.specs.Link.{linked_node}
+use Rattle.md_nbtc.specs.Going.{IsUnderWay}
 use Rattle.md_nbtc.specs.Seeing.{KeepsGiven, Looks}
 use Rattle.md_nbtc.specs.State.{shape_in, state}
 use Rattle.md_queue.specs.Operations.{RefusedOtherwise}
@@ -62,7 +63,7 @@ returns-in_err-next-clause-stop g c =
     let u = state c.move_tail.new.tx in
     let v = state c.load_next.new.tx in
     let s = c.requires.sees.1 in
-    let under = (s.sees_tail.certificates, s.sees_tail.working.going) in
+    let under : IsUnderWay M t = (s.sees_tail.certificates, s.sees_tail.working.going) in
     let end = c.args.end in
     let tail = c.in_ok-tail.tail in
     let on = c.in_ok-tail.ensures.on in
@@ -82,7 +83,7 @@ returns-clause-goes g c =
     let u = state c.move_tail.new.tx in
     let v = state c.load_next.new.tx in
     let s = c.requires.sees.1 in
-    let under = (s.sees_tail.certificates, s.sees_tail.working.going) in
+    let under : IsUnderWay M t = (s.sees_tail.certificates, s.sees_tail.working.going) in
     let end = c.args.end in
     let tail = c.in_ok-tail.tail in
     let on = c.in_ok-tail.ensures.on in
@@ -99,7 +100,7 @@ returns-clause-counts g c =
     let u = state c.move_tail.new.tx in
     let v = state c.load_next.new.tx in
     let s = c.requires.sees.1 in
-    let under = (s.sees_tail.certificates, s.sees_tail.working.going) in
+    let under : IsUnderWay M t = (s.sees_tail.certificates, s.sees_tail.working.going) in
     let end = c.args.end in
     let tail = c.in_ok-tail.tail in
     let on = c.in_ok-tail.ensures.on in
@@ -116,7 +117,7 @@ returns-clause-sees g c least s =
     let t = state c.args.tx.now in
     let u = state c.move_tail.new.tx in
     let v = state c.load_next.new.tx in
-    let under = (s.sees_tail.certificates, s.sees_tail.working.going) in
+    let under : IsUnderWay M t = (s.sees_tail.certificates, s.sees_tail.working.going) in
     let end = c.args.end in
     let tail = c.in_ok-tail.tail in
     let next = c.in_ok-next.next in
