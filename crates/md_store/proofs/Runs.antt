@@ -17,6 +17,7 @@ use Rattle.md_nbtc.specs.State.{TxnState, shape_in}
 use Rattle.md_nbtc.proofs.preparing.Later.{later_over}
 use Rattle.md_list.specs.Operations.{Leaves as LeavesList}
 use Rattle.md_list.specs.Walking.{IsHeadOf}
+use Rattle.md_queue.specs.Operations.{Answered as AnsweredByQueue, IsBegun as IsBegunQueue, Refused as RefusedByQueue}
 use Rattle.md_rule.specs.Views.{PassState}
 use Rattle.md_store_law.specs.Store.{store}
 use Rattle.md_store.specs.declared.broken.Broken.{Broken}
@@ -104,3 +105,24 @@ module _ (s u : TxnState) (reads writes nodes : ℕ) (leaves : LeavesList store 
 
   pub list_refused : (why : Stop) → u.stop ≡ Some why → WasRefused s u why
   list_refused why is = record { going = leaves.going; later = leaves.later; stop = is }
+
+-- and of queues
+pub queue_begun : (t s : TxnState) (queue : ℕ) → IsUnderWay store t → IsStarted t s → queue < (shape_in t).queues → IsBegunQueue store s queue
+queue_begun t s queue under start below = record {
+  going = (under.0, start.on.going under.0 under.1);
+  within = subst (λ (x : Shape). queue < x.queues) (sym (ap shape_in start.is)) below;
+  operates = ap (λ (x : TxnState). x.hand.operating) start.is;
+  changes = ap (λ (x : TxnState). x.hand.changes) start.is;
+  stored = ap (λ (x : TxnState). x.hand.stored) start.is;
+}
+
+module _ (s u : TxnState) (reads writes nodes : ℕ) where
+  pub queue_answered : (op : Op) (reply : Reply) → s.stop ≡ None → AnsweredByQueue store s u op reply reads writes nodes → WasAnswered s u op reply
+  queue_answered op reply none a = record {
+    later = a.goes.leaves.later;
+    stop = a.goes.same_stop ∙ none;
+    may = a.may;
+  }
+
+  pub queue_refused : (why : Stop) → RefusedByQueue store s u reads writes nodes why → WasRefused s u why
+  queue_refused why r = record { going = r.leaves.going; later = r.leaves.later; stop = r.kept }

@@ -1,5 +1,5 @@
 -- A transaction of the store under way, as the calls of transactions see it.
-use Rattle.std.specs.Prelude.{◌≡◌, ℕ, false, List, Option, None, option_map}
+use Rattle.std.specs.Prelude.{◌≡◌, ℕ, false, [], Option, None, option_map}
 use Rattle.md_history.specs.declared.acts.Op.{Op}
 use Rattle.md_history.specs.declared.acts.Reply.{Reply}
 use Rattle.md_history.specs.declared.stops.Stop.{Stop}
@@ -38,3 +38,17 @@ pub record Kept : Type 0 where
   pub before : PassState
   pub tag : ℕ
   pub field : FieldView
+
+-- a transaction under way as contracts see it
+pub record Running : Type 0 where
+  pub kept : Kept
+  pub now : TxnState
+  pub refused : Option Refusal
+
+-- it has just begun on a field with a pass and a tag: nothing was done or refused
+pub record IsNew (f : FieldView) (p : PassState) (tag : ℕ) (r : Running) : Type 0 where
+  pub before : r.kept.before ≡ p
+  pub tagged : r.kept.tag ≡ tag
+  pub field : r.kept.field ≡ f
+  pub acts : r.now.hand.acts ≡ []
+  pub refused : r.refused ≡ None
