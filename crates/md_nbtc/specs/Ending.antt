@@ -3,7 +3,7 @@ use Rattle.std.specs.Prelude.{◌≡◌, ◌≢◌, ◌==◌, ◌&&◌, ◌+◌,
 use Rattle.std.specs.List.{AllZip}
 use Rattle.md_words.specs.declared.shape.Shape.{Shape}
 use Rattle.md_words.specs.Content.{count_of, is_even, value_of}
-use Rattle.md_words.specs.declared.status.Status.TheVariants.{Committed as IsCommitted}
+use Rattle.md_words.specs.declared.status.Status.TheVariants.{Aborted as IsAborted, Committed as IsCommitted}
 use Rattle.md_words.specs.Layout.{IsNode, address}
 use Rattle.md_words.specs.Link.{link_value}
 use Rattle.md_words.specs.Place.{desc_status, node_next}
@@ -98,12 +98,19 @@ pub record PutDown (M : Meaning) (t : TxnState) (q : PassState) : Type 0 where
   pub ended : (share_at q.shares (attempt_in t).desc).left_open ≡ false
   pub tries : (lane : ℕ) → (share_at q.shares lane).tries_taken ≡ (share_at t.pass.shares lane).tries_taken
 
--- it left nothing: nothing was answered, its nodes are in their lanes again, and no plain exchange was made
+-- it left nothing: nothing was answered, its nodes are in their lanes again, and no plain exchange was made. After the
+-- steps that aborted it, or found it so, come those that gave its words their old values, one for each in order, and last
+-- a mark
 pub record Stopped (M : Meaning) (t : TxnState) (q : PassState) : Type 0 where
   pub down : PutDown M t q
   pub steps : List Step
   pub trail : q.view.trail ≡ t.pass.view.trail ++ steps
   pub quiet : All (λ (s : Step). ¬ (s.kind ≡ Exchange)) steps
+  pub deciding : List Step
+  pub outs : List Step
+  pub mark : Step
+  pub order : steps ≡ deciding ++ (outs ++ mark ∷ [])
+  pub taken : AllZip (TakesWrite (attempt_in t) IsAborted) (writes_in t) outs
   pub mine : q.view.mine ≡ t.pass.view.mine
   pub back : SameNodes t.began q
 

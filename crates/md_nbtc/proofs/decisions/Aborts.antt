@@ -149,7 +149,7 @@ module _ (M : Meaning) (t : TxnState) (ready : IsReady M t) (q : PassView) (move
       none
 
   -- and is aborted then
-  pub aborts : (s : PassState) → Withdraws M t.field.origin t.began now a s → Aborts M t s
+  pub aborts : (s : PassState) → Withdraws M t.field.origin t.began now a (writes_in t) s → Aborts M t s
   aborts s w = record {
     stopped = held_stopped t ready.has r (v.steps ++ step ∷ []) after (quiet M t ready q moved v r step last kind there IsAborted left)
         (has_fate M t ready q moved v r step last kind there IsAborted left (inr refl)) M looks_none s w;

@@ -146,10 +146,10 @@ module _ (M : Meaning) (t : TxnState) (prepared : IsPrepared t) (f : ℕ → Own
       ap (λ x. made x was found) word_is ∙ ap (λ y. made (address (shape_in t) (desc_status (attempt_in t).desc)) y found) was_is
       ∙ ap (made (address (shape_in t) (desc_status (attempt_in t).desc)) (unready_word (attempt_in t))) (found_aborted M t prepared r.view found apart step)
 
-  module _ (a : AttemptId) (is : a ≡ attempt_in t) (s : PassState) (w : Withdraws M t.field.origin t.began r a s) where
+  module _ (a : AttemptId) (is : a ≡ attempt_in t) (s : PassState) (w : Withdraws M t.field.origin t.began r a (writes_in t) s) where
     pub lost_stopped : Stopped M t s
     lost_stopped = met_stopped t prepared f node_is nodes r.view b (lost_made M t prepared r.view found apart step).goes quiet fate free M none s
-        (subst (λ x. Withdraws M t.field.origin t.began x (attempt_in t) s) same (subst (λ x. Withdraws M t.field.origin t.began r x s) is w))
+        (subst (λ x. Withdraws M t.field.origin t.began x (attempt_in t) (writes_in t) s) same (subst (λ x. Withdraws M t.field.origin t.began r x (writes_in t) s) is w))
 
     pub lost_shows : IsShown t s (shown_unready t)
     lost_shows =

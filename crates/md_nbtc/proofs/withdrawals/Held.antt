@@ -84,7 +84,7 @@ module _ (t : TxnState) (h : IsHeld t) (q : PassView) (steps : List Step) (goes 
   }
 
   -- and then it is stopped
-  pub held_stopped : (M : Meaning) → All (λ (s : Step). ¬ (s.kind ≡ Exchange)) steps → (s : PassState) → Withdraws M t.field.origin t.began now (attempt_in t) s → Stopped M t s
+  pub held_stopped : (M : Meaning) → All (λ (s : Step). ¬ (s.kind ≡ Exchange)) steps → (s : PassState) → Withdraws M t.field.origin t.began now (attempt_in t) (writes_in t) s → Stopped M t s
   held_stopped M none s w = record {
     down = record {
       stands = w.stands;
@@ -105,6 +105,11 @@ module _ (t : TxnState) (h : IsHeld t) (q : PassView) (steps : List Step) (goes 
     steps = steps ++ w.steps;
     trail = trail_is;
     quiet = All-append (λ (x : Step). ¬ (x.kind ≡ Exchange)) steps w.steps none w.quiet;
+    deciding = steps;
+    outs = w.outs;
+    mark = w.mark;
+    order = ap (λ l. steps ++ l) w.order;
+    taken = w.taken;
     mine = w.mine ∙ ap (λ (x : PassView). x.mine) goes.1;
     back = w.back;
   }

@@ -65,7 +65,7 @@ module _ (t : TxnState) (prepared : IsPrepared t) where
     met_may = held_may t prepared.has q (step ∷ []) goes (All-cons IsQuiet step [] quiet (All-nil IsQuiet)) fate all_free
         (none_answered q.seen q.known (attempt_in t) (ap (λ (v : PassView). is_ready v.seen (attempt_in t)) goes.1 ∙ prepared.unready))
 
-    pub met_stopped : (M : Meaning) → ¬ (step.kind ≡ Exchange) → (s : PassState) → Withdraws M t.field.origin t.began (record t.pass { view = q }) (attempt_in t) s → Stopped M t s
+    pub met_stopped : (M : Meaning) → ¬ (step.kind ≡ Exchange) → (s : PassState) → Withdraws M t.field.origin t.began (record t.pass { view = q }) (attempt_in t) (writes_in t) s → Stopped M t s
     met_stopped M none = held_stopped t prepared.has q (step ∷ []) goes (All-cons IsQuiet step [] quiet (All-nil IsQuiet)) fate M
         (All-cons (λ (s : Step). ¬ (s.kind ≡ Exchange)) step [] none (All-nil (λ (s : Step). ¬ (s.kind ≡ Exchange))))
 
@@ -82,6 +82,6 @@ module _ (t : TxnState) (prepared : IsPrepared t) where
     stop_may = subst (λ x. MayWithdraw (shape_in t) t.began x a (writes_in t)) (sym same) (subst (λ x. MayWithdraw (shape_in t) t.began (record t.pass { view = p.view }) x (writes_in t)) (sym is)
         (met_may f node_is nodes p.view aborts.step aborts.goes quiet_is fate_is aborts.free))
 
-    pub stopped : (M : Meaning) (s : PassState) → Withdraws M t.field.origin t.began p a s → Stopped M t s
+    pub stopped : (M : Meaning) (s : PassState) → Withdraws M t.field.origin t.began p a (writes_in t) s → Stopped M t s
     stopped M s w = met_stopped f node_is nodes p.view aborts.step aborts.goes quiet_is fate_is aborts.free M (no_exchange aborts.step.kind aborts.kind) s
-        (subst (λ x. Withdraws M t.field.origin t.began x (attempt_in t) s) same (subst (λ x. Withdraws M t.field.origin t.began p x s) is w))
+        (subst (λ x. Withdraws M t.field.origin t.began x (attempt_in t) (writes_in t) s) same (subst (λ x. Withdraws M t.field.origin t.began p x (writes_in t) s) is w))
