@@ -128,9 +128,9 @@ module _ (t : TxnState) (word : ℕ) (from : Seen) (gave : Gave t word from) (no
 
   -- by its count
   worn_or : (c : ExchangeCase) → refusal_by c word from ≡ None → refusal_by (if nat_le WORN from.count then ExchangeCase.worn else c) word from ≡ Some s → HasCause t s
-  worn_or c open = cond_both (nat_le WORN from.count) ExchangeCase.worn c (λ x. refusal_by x word from ≡ Some s → HasCause t s)
+  worn_or c free = cond_both (nat_le WORN from.count) ExchangeCase.worn c (λ x. refusal_by x word from ≡ Some s → HasCause t s)
       (λ big e. subst (HasCause t) (some_same _ s e) (seen_worn t word from gave none fits (leb-true WORN from.count big)))
-      (λ _ e. absurd (none_some (sym open ∙ e)))
+      (λ _ e. absurd (none_some (sym free ∙ e)))
 
   count_cause : (critical : Bool) → refusal_by (case_by_count critical (length t.slots) from.count) word from ≡ Some s → HasCause t s
   count_cause false = worn_or ExchangeCase.changes refl
