@@ -144,7 +144,8 @@ module _ (t : TxnState) (word : ℕ) (from : Seen) (gave : Gave t word from) (no
     where
       by_read : (o : Option ℕ) → content_read t.reads word ≡ o → refusal_by (case_unless_moved o (seen_content from) (case_by_count critical (length t.slots) from.count)) word from ≡ Some s → HasCause t s
       by_read None at e = count_cause critical e
-      by_read (Some held) at = cond_both (held == seen_content from) (case_by_count critical (length t.slots) from.count) (ExchangeCase.moved held)
+      by_read (Some held) at e = cond_both (held == seen_content from) (case_by_count critical (length t.slots) from.count) (ExchangeCase.moved held)
           (λ c. refusal_by c word from ≡ Some s → HasCause t s)
           (λ _ z. count_cause critical z)
           (λ differ z. subst (HasCause t) (some_same _ s z) (seen_cause t word held from gave none at (λ same. true≢false (sym (eq-eqb held (seen_content from) same) ∙ differ))))
+          e

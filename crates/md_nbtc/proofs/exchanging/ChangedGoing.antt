@@ -17,6 +17,7 @@ use Rattle.md_machine.specs.declared.node.Structure.{Structure}
 use Rattle.md_machine.specs.declared.pass.PassView.{PassView}
 use Rattle.md_machine.specs.declared.step.Step.{Step}
 use Rattle.md_machine.specs.Certified.{RecordsFound, all_changes, all_nodes, first_content}
+use Rattle.md_machine.specs.Machine.{Install}
 use Rattle.md_machine.specs.Meaning.{Meaning}
 use Rattle.md_rule.specs.declared.shares.Share.{Share}
 use Rattle.md_help.specs.After.{IsAfter, Stands}
@@ -57,9 +58,10 @@ module _ (M : Meaning) (t : TxnState) (prepared : IsPrepared t) (base : PassView
 
     full_more : length slots ≤ SET → length t.slots ≡ SET → length slots ≡ SET
     full_more few full =
-        let now = length-map slots (λ (x : Slot). record { attempt = attempt_in t; slot = x.write.slot; word = x.write.word; old = x.write.old }) in
-        let was = length-map t.slots (λ (x : Slot). record { attempt = attempt_in t; slot = x.write.slot; word = x.write.word; old = x.write.old }) in
-        let more = ap length installs.is ∙ length-append (installs_in t) installs.rest in omega (arith, few, full, now, was, more)
+        let made : Slot → Install = λ x. record { attempt = attempt_in t; slot = x.write.slot; word = x.write.word; old = x.write.old } in
+        let more = ap length installs.is ∙ length-append (installs_in t) installs.rest in
+        let after_it = length-map slots made in
+        let before_it = length-map t.slots made in omega (arith, few, full, more, after_it, before_it)
 
     cause_more : length slots ≤ SET → SameTaken t.pass.shares shares → (x : Stop) → HasCause t x → HasCause u x
     cause_more few taken = cause_kept t u (record {

@@ -12,5 +12,5 @@ halt-requires-clause-cause g c =
 pub returns-in-Some-content-clause-gave : goal.returns-in-Some-content-clause-gave
 returns-in-Some-content-clause-gave g c = c.halt.ensures.gave c.args.word c.args.seen c.requires.gave
 
-pub halt-requires-2-clause-cause : goal.halt-requires-2-clause-cause
-halt-requires-2-clause-cause g c = reads_cause (state c.args.self.now) (let h = c in ?)
+pub halt-requires-then-len-clause-cause : goal.halt-requires-then-len-clause-cause
+halt-requires-then-len-clause-cause g c = reads_cause (state c.args.self.now) (let h = c in ?)
