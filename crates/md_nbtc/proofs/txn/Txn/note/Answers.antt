@@ -13,4 +13,4 @@ pub returns-in-Some-content-clause-gave : goal.returns-in-Some-content-clause-ga
 returns-in-Some-content-clause-gave g c = c.halt.ensures.gave c.args.word c.args.seen c.requires.gave
 
 pub halt-requires-then-len-clause-cause : goal.halt-requires-then-len-clause-cause
-halt-requires-then-len-clause-cause g c = reads_cause (state c.args.self.now) (let h = c in ?)
+halt-requires-then-len-clause-cause g c = reads_cause (state c.args.self.now) (sym c.len.ensures ∙ c.if-len.true)
