@@ -14,4 +14,5 @@ pub mod structures
 pub mod Searching
 pub mod Heads
 pub mod Tested
+pub mod WornWords
 pub mod exchanging

@@ -9,10 +9,11 @@ use Rattle.md_rule.specs.Views.{FieldView, IsOf, PassState}
 use Rattle.md_words.specs.Layout.{IsNode, address}
 use Rattle.md_words.specs.Place.{node_next}
 use Rattle.md_words.specs.PlaceAt.{IsCounted}
+use Rattle.md_nbtc.specs.declared.seen.Kind.{Kind}
 use Rattle.md_nbtc.specs.declared.seen.Kind.TheVariants.{Critical}
 use Rattle.md_nbtc.specs.declared.seen.Seen.{Seen}
 use Rattle.md_nbtc.specs.declared.sets.Slot.{Slot}
-use Rattle.md_nbtc.specs.Calls.{AfterStop, ExchangeCase, Exchanges, Freshened, GoesOn, Looked, MayExchange, NoteCase, Notes, changes, full, installs, moved, no_slot, noted, own, recorded, unread, with_operation, worn}
+use Rattle.md_nbtc.specs.Calls.{AfterStop, ExchangeCase, Exchanges, Freshened, GoesOn, Looked, MayExchange, NoteCase, Notes, changes, exchange_case, full, installs, moved, no_slot, note_case, noted, own, recorded, unread, with_operation, worn}
 use Rattle.md_nbtc.specs.Cleaning.{FitsCleanup}
 use Rattle.md_nbtc.specs.Going.{IsFoundThere, IsGoing, IsUnderWay}
 use Rattle.md_nbtc.specs.Seeing.{IsNextOf, Looks}
@@ -28,27 +29,27 @@ abbrev IsPlain : List Slot → Type 0
 IsPlain = All IsBare
 
 -- the operation goes on, and no cleanup comes
-pub record Keeps (t u : TxnState) : Type 0 where
+record Keeps (t u : TxnState) : Type 0 where
   pub operating : u.hand.operating ≡ t.hand.operating
   pub plain : IsPlain t.slots → IsPlain u.slots
 
 -- a state with the same hand and slots
-pub kept_same : (t u : TxnState) → u.hand ≡ t.hand → u.slots ≡ t.slots → Keeps t u
+kept_same : (t u : TxnState) → u.hand ≡ t.hand → u.slots ≡ t.slots → Keeps t u
 kept_same t u h s = record { operating = ap (λ x. x.operating) h; plain = subst IsPlain (sym s) }
 
 module _ (t u : TxnState) where
   -- so it is after a stop
-  pub kept_after : {A : Type 0} {P : Type 0} (s : Option Stop) (r : Result A Stop) → (P → Keeps t u) → AfterStop s t u r P → Keeps t u
+  kept_after : {A : Type 0} {P : Type 0} (s : Option Stop) (r : Result A Stop) → (P → Keeps t u) → AfterStop s t u r P → Keeps t u
   kept_after (Some s) r f e = kept_same t u (ap (λ x. x.hand) e.1) (ap (λ x. x.slots) e.1)
   kept_after None r f e = f e
 
   -- a look
-  pub kept_look : (word : ℕ) (r : Result Seen Stop) → Looked cell_meaning t u word r → Keeps t u
+  kept_look : (word : ℕ) (r : Result Seen Stop) → Looked cell_meaning t u word r → Keeps t u
   kept_look word (Ok seen) e = kept_same t u (ap (λ x. x.hand) e.0) (ap (λ x. x.slots) e.0)
   kept_look word (Err s) e = kept_same t u (ap (λ x. x.hand) e.0.1) (ap (λ x. x.slots) e.0.1)
 
   -- a note
-  pub kept_note : (c : NoteCase) (word : ℕ) (seen : Seen) (r : Result (Unit {0}) Stop) → Notes c t u word seen r → Keeps t u
+  kept_note : (c : NoteCase) (word : ℕ) (seen : Seen) (r : Result (Unit {0}) Stop) → Notes c t u word seen r → Keeps t u
   kept_note noted word seen r e = kept_same t u (ap (λ x. x.hand) e.1) (ap (λ x. x.slots) e.1)
   kept_note (recorded held) word seen r e = kept_same t u (ap (λ x. x.hand) e.1) (ap (λ x. x.slots) e.1)
   kept_note full word seen r e = kept_same t u (ap (λ x. x.hand) e.1) (ap (λ x. x.slots) e.1)
@@ -61,7 +62,7 @@ module _ (t u : TxnState) where
       (renewed_plain word to ss (All-tail IsBare s ss p))
 
   -- an exchange
-  pub kept_exchange : (c : ExchangeCase) (word : ℕ) (from : Seen) (to : ℕ) (r : Result Seen Stop) → Exchanges c cell_meaning t u word from to r → Keeps t u
+  kept_exchange : (c : ExchangeCase) (word : ℕ) (from : Seen) (to : ℕ) (r : Result Seen Stop) → Exchanges c cell_meaning t u word from to r → Keeps t u
   kept_exchange own word from to r e = record { operating = ap (λ x. x.hand.operating) e.1; plain = λ p. subst IsPlain (sym (ap (λ x. x.slots) e.1)) (renewed_plain word to t.slots p) }
   kept_exchange (moved held) word from to r e = kept_same t u (ap (λ x. x.hand) e.1) (ap (λ x. x.slots) e.1)
   kept_exchange no_slot word from to r e = kept_same t u (ap (λ x. x.hand) e.1) (ap (λ x. x.slots) e.1)
@@ -72,18 +73,33 @@ module _ (t u : TxnState) where
   kept_exchange changes word from to (Err s) e = kept_same t u (ap (λ x. x.hand) e.0.1) (ap (λ x. x.slots) e.0.1)
 
   -- a fresh node
-  pub kept_fresh : (key value next : ℕ) (r : Result ℕ Stop) → Freshened t u key value next r → Keeps t u
+  kept_fresh : (key value next : ℕ) (r : Result ℕ Stop) → Freshened t u key value next r → Keeps t u
   kept_fresh key value next (Ok node) e = record { operating = ap (λ x. x.hand.operating) e.new; plain = subst IsPlain (sym (ap (λ x. x.slots) e.new)) }
   kept_fresh key value next (Err s) e = kept_same t u (ap (λ x. x.hand) e.0.1) (ap (λ x. x.slots) e.0.1)
 
 -- it stays open
-pub stays_open : (f : FieldView) (t u : TxnState) → GoesOn cell_meaning t u → Keeps t u → IsOpen f t → IsOpen f u
+stays_open : (f : FieldView) (t u : TxnState) → GoesOn cell_meaning t u → Keeps t u → IsOpen f t → IsOpen f u
 stays_open f t u on keeps is = record {
   going = (is.going.0, on.going is.going.0 is.going.1);
   operating = keeps.operating ∙ is.operating;
   plain = keeps.plain is.plain;
   field = on.later.field ∙ is.field;
 }
+
+-- over each call
+module _ (f : FieldView) (t u : TxnState) (on : GoesOn cell_meaning t u) where
+  pub over_look : (word : ℕ) (r : Result Seen Stop) → AfterStop t.stop t u r (Looked cell_meaning t u word r) → IsOpen f t → IsOpen f u
+  over_look word r e = stays_open f t u on (kept_after t u t.stop r (kept_look t u word r) e)
+
+  pub over_note : (word : ℕ) (seen : Seen) (r : Result (Unit {0}) Stop) → AfterStop t.stop t u r (Notes (note_case t word seen) t u word seen r) → IsOpen f t → IsOpen f u
+  over_note word seen r e = stays_open f t u on (kept_after t u t.stop r (kept_note t u (note_case t word seen) word seen r) e)
+
+  pub over_exchange : (word : ℕ) (from : Seen) (to : ℕ) (kind : Kind) (r : Result Seen Stop) → AfterStop t.stop t u r (Exchanges (exchange_case t word from kind) cell_meaning t u word from to r)
+      → IsOpen f t → IsOpen f u
+  over_exchange word from to kind r e = stays_open f t u on (kept_after t u t.stop r (kept_exchange t u (exchange_case t word from kind) word from to r) e)
+
+  pub over_fresh : (key value next : ℕ) (r : Result ℕ Stop) → AfterStop t.stop t u r (Freshened t u key value next r) → IsOpen f t → IsOpen f u
+  over_fresh key value next r e = stays_open f t u on (kept_after t u t.stop r (kept_fresh t u key value next r) e)
 
 -- once it has ended, the pass is still of its field
 pub of_field : (f : FieldView) (t : TxnState) (q : PassState) → IsOpen f t → q.table ≡ t.pass.table → q.shape ≡ t.pass.shape → IsOf q f

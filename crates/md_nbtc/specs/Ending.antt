@@ -43,7 +43,7 @@ use Rattle.md_nbtc.specs.declared.seen.TheConstants.{WORN}
 use Rattle.md_nbtc.specs.Cleaning.{FitsCleanup, cleanup_node, cleanup_value, cleanup_word}
 use Rattle.md_nbtc.specs.Prepared.{IsHeld, LastOn}
 use Rattle.md_nbtc.specs.Seeing.{IsNextOf}
-use Rattle.md_nbtc.specs.Withdrawing.{TakesWrite}
+use Rattle.md_nbtc.specs.Withdrawing.{MeetsFate, TakesWrite}
 use Rattle.md_nbtc.specs.Telling.{Told, read_count, write_count}
 use Rattle.md_nbtc.specs.State.{OwnNode, SameNodes, TxnState, attempt_in, own_steps, shape_in, state_of, writes_in}
 
@@ -98,9 +98,9 @@ pub record PutDown (M : Meaning) (t : TxnState) (q : PassState) : Type 0 where
   pub ended : (share_at q.shares (attempt_in t).desc).left_open ≡ false
   pub tries : (lane : ℕ) → (share_at q.shares lane).tries_taken ≡ (share_at t.pass.shares lane).tries_taken
 
--- it left nothing: nothing was answered, its nodes are in their lanes again, and no plain exchange was made. After the
--- steps that aborted it, or found it so, come those that gave its words their old values, one for each in order, and last
--- a mark
+-- it left nothing: nothing was answered, its nodes are in their lanes again, and no plain exchange was made. After steps
+-- up to one that met it aborted come those that took it out of its words with their old values, one for each in order, and
+-- last a mark
 pub record Stopped (M : Meaning) (t : TxnState) (q : PassState) : Type 0 where
   pub down : PutDown M t q
   pub steps : List Step
@@ -110,6 +110,7 @@ pub record Stopped (M : Meaning) (t : TxnState) (q : PassState) : Type 0 where
   pub outs : List Step
   pub mark : Step
   pub order : steps ≡ deciding ++ (outs ++ mark ∷ [])
+  pub met : SomeStep (MeetsFate (shape_in t) (attempt_in t) IsAborted) deciding
   pub taken : AllZip (TakesWrite (attempt_in t) IsAborted) (writes_in t) outs
   pub mine : q.view.mine ≡ t.pass.view.mine
   pub back : SameNodes t.began q

@@ -20,7 +20,7 @@ use Rattle.md_help.specs.After.{IsAfter, Stands}
 use Rattle.md_nbtc.specs.Ending.{IsSamePass}
 use Rattle.md_nbtc.specs.Prepared.{AreOut, TakenInTurn}
 use Rattle.md_nbtc.specs.State.{SameNodes, taken_since}
-use Rattle.md_nbtc.specs.Withdrawing.{AreInstalled, HasFate, TakesWrite}
+use Rattle.md_nbtc.specs.Withdrawing.{AreInstalled, HasFate, MeetsFate, TakesWrite}
 
 -- an attempt in hand may be withdrawn: it was met aborted, with these writes; the nodes that were taken for it are free, and
 -- no entry of it is known to be committed
@@ -64,5 +64,6 @@ pub record AbortsHand (shape : Shape) (a : AttemptId) (before after : PassView) 
   pub step : Step
   pub goes : IsAfter shape (step ∷ []) before after
   pub kind : step.kind ≡ Abort
+  pub met : MeetsFate shape a Aborted step
   pub fate : HasFate shape after a Aborted
   pub free : (node : ℕ) → IsFreeBy before.seen before.known node → IsFreeBy after.seen after.known node

@@ -1,10 +1,11 @@
 //! Transactions on fields of the cell: their words are the heads of the map's buckets.
 
-ghost use Rattle.std.specs.Prelude.{◌≡◌, IfOk, replicate};
+ghost use Rattle.std.specs.Prelude.{◌≡◌, IfOk, false, replicate};
 ghost use Rattle.md_rule.specs.Views.{IsOf};
 ghost use Rattle.md_nbtc.specs.Tested.{IsOpen};
 ghost use Rattle.md_nbtc.specs.State.{state};
 
+use crate::seen::WORN;
 use crate::{Kind, Receipt, Seen, Txn};
 use md_cell::{CellTheory, cell_rows};
 use md_history::{Limit, Shown, Stop};
@@ -25,6 +26,16 @@ fn blank(alloc: Global, shape: Shape) -> Result<(Field<CellTheory>, Pass<CellThe
 {
     cell_rows();
     let words = zeros(alloc, shape.words() as usize)?;
+    Field::open(alloc, shape, words)
+}
+
+// A field in which the first bucket's head is worn and every other word is 0, and the pass of all
+// its lanes.
+fn worn(alloc: Global, shape: Shape) -> Result<(Field<CellTheory>, Pass<CellTheory>), AllocError>
+    ensures { IfOk result (λ r. IsOf r.1 r.0) }
+{
+    let mut words = zeros(alloc, shape.words() as usize)?;
+    words[1] = WORN as u64;
     Field::open(alloc, shape, words)
 }
 
@@ -374,5 +385,21 @@ fn a_transaction_without_operations_commits(rt: HostRuntime) -> Result<(), Fail>
     let receipt = commit(&mut pass, &field, 8)?.expect(&rt, "no other pass");
     assert_eq!(rt; receipt.tag(), 8);
     assert_eq!(rt; receipt.reads().len() + receipt.writes().len(), 0);
+    Ok(())
+}
+
+#[test]
+fn a_worn_word_is_not_changed(rt: HostRuntime) -> Result<(), Fail> {
+    let shape = Shape::new(1, 1, 0, 3, 1, 1, 0)?;
+    let (field, mut pass) = worn(rt.alloc(), shape)?;
+    let mut txn = begin(&mut pass, &field, 7)?;
+    let limit = Stop::Limit(Limit::Worn {
+        word: 1,
+        count: 4_294_967_292,
+    });
+    assert_eq!(rt; look(&mut txn, &field, 0), Ok(plain(0, 4_294_967_292)));
+    assert_eq!(rt; change(&mut txn, &field, 0, 5), Err(limit));
+    assert_eq!(rt; note(&mut txn, &field, 0), Err(limit));
+    stop(txn, &field);
     Ok(())
 }
