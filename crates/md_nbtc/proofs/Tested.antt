@@ -1,5 +1,5 @@
 -- What a call leaves of a transaction that the tests keep open.
-use Rattle.std.proofs.Common.{◌≡◌, ◌==◌, ◌++◌, ◌∷◌, [], ℕ, List, Bool, true, Option, Some, None, Result, Ok, Err, IfSome, true≢false, refl, sym, ap, ◌∙◌, subst, inr, map}
+use Rattle.std.proofs.Common.{◌≡◌, ◌==◌, ◌∷◌, [], ℕ, List, true, Option, Some, None, Result, Ok, Err, IfSome, true≢false, refl, sym, ap, ◌∙◌, subst, inr, map}
 use Rattle.std.proofs.lemmas.Bool.{cond_both}
 use Rattle.std.proofs.lemmas.List.Elements.{All-append, All-cons, All-head, All-nil, All-tail}
 use Rattle.std.specs.List.{All}
@@ -15,7 +15,7 @@ use Rattle.md_nbtc.specs.declared.seen.Seen.{Seen}
 use Rattle.md_nbtc.specs.declared.sets.Slot.{Slot}
 use Rattle.md_nbtc.specs.Calls.{AfterStop, ExchangeCase, Exchanges, Freshened, GoesOn, Looked, MayExchange, NoteCase, Notes, changes, exchange_case, full, installs, moved, no_slot, note_case, noted, own, recorded, unread, with_operation, worn}
 use Rattle.md_nbtc.specs.Cleaning.{FitsCleanup}
-use Rattle.md_nbtc.specs.Going.{IsFoundThere, IsGoing, IsUnderWay}
+use Rattle.md_nbtc.specs.Going.{IsFoundThere, IsGoing}
 use Rattle.md_nbtc.specs.Seeing.{IsNextOf, Looks}
 use Rattle.md_nbtc.specs.Sets.{with_new}
 use Rattle.md_nbtc.specs.State.{TxnState, shape_in}

@@ -1,4 +1,3 @@
-use Rattle.std.proofs.Common.{ap}
 use Rattle.md_nbtc.specs.State.{state}
 use Rattle.md_nbtc.proofs.Tested.{begun_open}
 use Rattle.md_nbtc.proofs.tests.begin.Goals as goal

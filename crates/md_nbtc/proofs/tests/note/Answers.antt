@@ -1,4 +1,4 @@
-use Rattle.std.proofs.Common.{◌≡◌, ◌∙◌, ℕ, sym, ap}
+use Rattle.std.proofs.Common.{◌∙◌, ℕ, sym, ap}
 use Rattle.md_nbtc.specs.Seeing.{IsNextOf}
 use Rattle.md_nbtc.specs.State.{shape_in, state}
 use Rattle.md_nbtc.proofs.Heads.{apart_at, counted_at}
