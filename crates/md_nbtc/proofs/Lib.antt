@@ -12,4 +12,7 @@ pub mod nodes
 pub mod withdrawals
 pub mod structures
 pub mod Searching
+pub mod Heads
+pub mod Tested
+pub mod WornWords
 pub mod exchanging

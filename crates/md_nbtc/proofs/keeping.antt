@@ -2,3 +2,4 @@ pub mod Mapping
 pub mod Keeping
 pub mod Reslotted
 pub mod Kept
+pub mod Causes

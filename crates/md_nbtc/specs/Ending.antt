@@ -3,7 +3,7 @@ use Rattle.std.specs.Prelude.{◌≡◌, ◌≢◌, ◌==◌, ◌&&◌, ◌+◌,
 use Rattle.std.specs.List.{AllZip}
 use Rattle.md_words.specs.declared.shape.Shape.{Shape}
 use Rattle.md_words.specs.Content.{count_of, is_even, value_of}
-use Rattle.md_words.specs.declared.status.Status.TheVariants.{Committed as IsCommitted}
+use Rattle.md_words.specs.declared.status.Status.TheVariants.{Aborted as IsAborted, Committed as IsCommitted}
 use Rattle.md_words.specs.Layout.{IsNode, address}
 use Rattle.md_words.specs.Link.{link_value}
 use Rattle.md_words.specs.Place.{desc_status, node_next}
@@ -43,7 +43,7 @@ use Rattle.md_nbtc.specs.declared.seen.TheConstants.{WORN}
 use Rattle.md_nbtc.specs.Cleaning.{FitsCleanup, cleanup_node, cleanup_value, cleanup_word}
 use Rattle.md_nbtc.specs.Prepared.{IsHeld, LastOn}
 use Rattle.md_nbtc.specs.Seeing.{IsNextOf}
-use Rattle.md_nbtc.specs.Withdrawing.{TakesWrite}
+use Rattle.md_nbtc.specs.Withdrawing.{MeetsFate, TakesWrite}
 use Rattle.md_nbtc.specs.Telling.{Told, read_count, write_count}
 use Rattle.md_nbtc.specs.State.{OwnNode, SameNodes, TxnState, attempt_in, own_steps, shape_in, state_of, writes_in}
 
@@ -99,12 +99,20 @@ pub record PutDown (M : Meaning) (t : TxnState) (q : PassState) : Type 0 where
   pub ended : (share_at q.shares (attempt_in t).desc).left_open ≡ false
   pub tries : (lane : ℕ) → (share_at q.shares lane).tries_taken ≡ (share_at t.pass.shares lane).tries_taken
 
--- it left nothing: nothing was answered, its nodes are in their lanes again, and no plain exchange was made
+-- it left nothing: nothing was answered, its nodes are in their lanes again, and no plain exchange was made. After steps
+-- up to one that met it aborted come those that took it out of its words with their old values, one for each in order, and
+-- last a mark
 pub record Stopped (M : Meaning) (t : TxnState) (q : PassState) : Type 0 where
   pub down : PutDown M t q
   pub steps : List Step
   pub trail : q.view.trail ≡ t.pass.view.trail ++ steps
   pub quiet : All (λ (s : Step). ¬ (s.kind ≡ Exchange)) steps
+  pub deciding : List Step
+  pub outs : List Step
+  pub mark : Step
+  pub order : steps ≡ deciding ++ (outs ++ mark ∷ [])
+  pub met : SomeStep (MeetsFate (shape_in t) (attempt_in t) IsAborted) deciding
+  pub taken : AllZip (TakesWrite (attempt_in t) IsAborted) (writes_in t) outs
   pub mine : q.view.mine ≡ t.pass.view.mine
   pub back : SameNodes t.began q
 

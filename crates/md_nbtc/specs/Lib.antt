@@ -16,3 +16,4 @@ pub mod Beginning
 pub mod Withdrawing
 pub mod Exchanging
 pub mod Withdrawn
+pub mod Tested

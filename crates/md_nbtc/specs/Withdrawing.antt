@@ -41,6 +41,10 @@ pub record HasFate (shape : Shape) (view : PassView) (a : AttemptId) (fate : Sta
   pub is : status_of status ≡ fate
   pub met : SomeStep (Meets (address shape (desc_status a.desc)) status) view.trail
 
+-- a step met the attempt with this fate
+abbrev pub MeetsFate : Shape → AttemptId → Status → Step → Type 0
+MeetsFate shape a fate s = (status : ℕ) × Meets (address shape (desc_status a.desc)) status s × (serial_of status ≡ a.serial) × (status_of status ≡ fate)
+
 -- what a write left in its word where it was installed
 abbrev pub installed_in : AttemptId → Write → ℕ
 installed_in a w = installed_word w.old (record { desc = a.desc; slot = w.slot })

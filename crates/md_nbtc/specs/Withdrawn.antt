@@ -1,5 +1,6 @@
 -- How an aborted transaction is withdrawn.
 use Rattle.std.specs.Prelude.{◌≡◌, ◌++◌, ◌∷◌, ℕ, false, List, [], All, None, Some}
+use Rattle.std.specs.List.{AllZip}
 use Rattle.md_words.specs.declared.shape.Shape.{Shape}
 use Rattle.md_words.specs.declared.status.Status.TheVariants.{Aborted}
 use Rattle.md_machine.specs.declared.attempt.AttemptId.{AttemptId}
@@ -19,7 +20,7 @@ use Rattle.md_help.specs.After.{IsAfter, Stands}
 use Rattle.md_nbtc.specs.Ending.{IsSamePass}
 use Rattle.md_nbtc.specs.Prepared.{AreOut, TakenInTurn}
 use Rattle.md_nbtc.specs.State.{SameNodes, taken_since}
-use Rattle.md_nbtc.specs.Withdrawing.{AreInstalled, HasFate}
+use Rattle.md_nbtc.specs.Withdrawing.{AreInstalled, HasFate, MeetsFate, TakesWrite}
 
 -- an attempt in hand may be withdrawn: it was met aborted, with these writes; the nodes that were taken for it are free, and
 -- no entry of it is known to be committed
@@ -33,8 +34,8 @@ pub record MayWithdraw (shape : Shape) (began p : PassState) (a : AttemptId) (wr
   pub none : answered p.view.seen p.view.known a ≡ []
 
 -- it was: it isn't in hand any more, its nodes are in their lanes again, nothing was answered, and no plain exchange was
--- made
-pub record Withdraws (M : Meaning) (o : Origin) (began p : PassState) (a : AttemptId) (q : PassState) : Type 0 where
+-- made. Each write was taken out by one step, in order, and then came a mark
+pub record Withdraws (M : Meaning) (o : Origin) (began p : PassState) (a : AttemptId) (writes : List Write) (q : PassState) : Type 0 where
   pub stands : Stands M o q.view
   pub same : IsSamePass p q
   pub seen : q.view.seen ≡ p.view.seen
@@ -47,6 +48,10 @@ pub record Withdraws (M : Meaning) (o : Origin) (began p : PassState) (a : Attem
   pub steps : List Step
   pub trail : q.view.trail ≡ p.view.trail ++ steps
   pub quiet : All (λ (s : Step). ¬ (s.kind ≡ Exchange)) steps
+  pub outs : List Step
+  pub mark : Step
+  pub order : steps ≡ outs ++ mark ∷ []
+  pub taken : AllZip (TakesWrite a Aborted) writes outs
 
 -- a pass has an attempt in hand that isn't ready as far as it has seen, which is all that there is of its own lanes
 pub record IsUnready (shape : Shape) (view : PassView) (a : AttemptId) : Type 0 where
@@ -59,5 +64,6 @@ pub record AbortsHand (shape : Shape) (a : AttemptId) (before after : PassView) 
   pub step : Step
   pub goes : IsAfter shape (step ∷ []) before after
   pub kind : step.kind ≡ Abort
+  pub met : MeetsFate shape a Aborted step
   pub fate : HasFate shape after a Aborted
   pub free : (node : ℕ) → IsFreeBy before.seen before.known node → IsFreeBy after.seen after.known node

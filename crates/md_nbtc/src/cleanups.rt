@@ -26,9 +26,11 @@ fn node_of(cleanup: Cleanup) -> u32
 
 impl<'a, T: Theory> Txn<'a, T> {
     /// Keeps a cleanup until the transaction has committed, with the slot of the next word of its
-    /// node: for an `Unlink` that is `node`, for a `MoveTail` it is `from`. The transaction has
-    /// written that word; its new value has the mark for an `Unlink`, and names `to` for a
-    /// `MoveTail`. The cleanup replaces one that was kept there. No step; it searches the slots.
+    /// node: for an `Unlink` that is `node`, for a `MoveTail` it is `from`. An operation is begun,
+    /// and the transaction has written that word; its new value has the mark for an `Unlink`, and
+    /// names `to` for a `MoveTail`. The cleanup replaces one that was kept there. It is made only
+    /// by `Ready::decide`: not after an abort, and not if another commits the transaction after it
+    /// was left. No step; it searches the slots.
     pub fn later(&mut self, cleanup: Cleanup)
         requires operates { (state self.old).hand.operating ≡ true }
         requires written { IsWrittenFor (state self.old) cleanup }

@@ -22,7 +22,8 @@ use md_words::{Status, StatusWord};
 use std::marker::Brand;
 use std::snapshot::Snapshot;
 
-/// A transaction that is ready: it has its place in the history.
+/// A transaction that is ready: it has its place in the history. If it is dropped, it stays
+/// undecided until another decides it (`Ready::leave`).
 #[derive(Drop)]
 pub struct Ready<'a, T: Theory> {
     pub(crate) pass: &'a mut Pass<T>,
@@ -170,6 +171,17 @@ impl<'a, T: Theory> Ready<'a, T> {
                 Err(shown)
             }
         }
+    }
+
+    /// Leaves the transaction undecided, and the pass as it is. Dropping it does the same, and
+    /// tells nothing of the pass. Another pass that meets its descriptor in a word validates it,
+    /// and commits or aborts it. Else the lane's next `begin` does. Its cleanups are never made,
+    /// and its nodes stay taken for good, also after an abort. No step.
+    pub fn leave(self)
+        ensures { self.exit.0.now ≡ self.entry.pass.now }
+    {
+        let Ready { pass, .. } = self;
+        let _ = pass;
     }
 }
 

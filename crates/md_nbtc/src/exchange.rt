@@ -1,6 +1,6 @@
 //! How a transaction changes a word.
 
-ghost use Rattle.std.specs.Prelude.{◌≡◌, ◌≢◌, ◌<◌, ℕ, IfOk, false, true, length, map, Some};
+ghost use Rattle.std.specs.Prelude.{◌≡◌, ◌≢◌, ◌<◌, ◌^◌, ℕ, IfOk, false, true, length, map, Some};
 ghost use Rattle.std.specs.List.{Contains, list_any};
 ghost use Rattle.md_words.specs.declared.limits.TheConstants.{SET};
 ghost use Rattle.md_words.specs.PlaceAt.{IsCounted};
@@ -28,7 +28,10 @@ use md_words::{Content, SET, Spot};
 
 impl<'a, T: Theory> Txn<'a, T> {
     /// Changes a word from what was seen there last to another value, and tells what stands there
-    /// then. It does the first of these that applies:
+    /// then. An operation is begun, and `from` is what the transaction's last load or exchange of
+    /// the word gave. The word is a counted one. If it is the next word of a node, that is known
+    /// to be placed, or an own one that an ended operation placed. A kept cleanup of an own word
+    /// still fits the new value. It does the first of these that applies:
     ///
     /// 1. After a stop it answers the same stop, and does nothing.
     /// 2. An own word gets a new value in its slot. One step.
@@ -163,8 +166,9 @@ impl<'a, T: Theory> Txn<'a, T> {
 
     // Why the exchange of a word that isn't an own one is refused, if it is.
     fn refusal(&self, word: u32, from: Seen, critical: bool) -> Option<Stop>
-        ensures { result
+        ensures is { result
             ≡ refusal_by (case_of_other (state self.now) word from critical) word from }
+        ensures fits { from.count < 2 ^ 32 }
     {
         let now = Content {
             value: from.value,

@@ -15,8 +15,9 @@ use md_words::Content;
 
 impl<'a, T: Theory> Txn<'a, T> {
     /// Takes the lowest node that is left of the pass's lanes, and stores its key, its value and,
-    /// with a count 2 higher, its next word. Nobody else sees the node before the transaction has
-    /// put it into a structure and committed.
+    /// with a count 2 higher, its next word. An operation is begun. Nobody else sees the node
+    /// before the transaction has put it into a structure and committed. The operation's
+    /// certificate names it as a new node, with these words, when the operation ends.
     ///
     /// The answer is `Limit::Nodes` exactly if no lane of the pass has a node left, and
     /// `Limit::Worn` exactly if the count of the node's next word is 4,294,967,292 or more; the

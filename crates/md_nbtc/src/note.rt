@@ -31,8 +31,10 @@ fn content_of(seen: Seen) -> u64
 
 impl<'a, T: Theory> Txn<'a, T> {
     /// Records what was seen in a word: the transaction commits only if the word holds it still.
-    /// `seen` is what the transaction's last load or exchange of the word gave. Nothing is done
-    /// for a word that the transaction changes, or that is recorded with the same content.
+    /// An operation is begun, and `seen` is what the transaction's last load or exchange of the
+    /// word gave. A word that isn't an own one was found so: it is the next word of no node but one
+    /// that is known to be placed, or an own node's. Nothing is done for a word that the
+    /// transaction changes, or that is recorded with the same content.
     ///
     /// The answer is `Conflict` with the word, the recorded content and the seen one, if the word
     /// is recorded with another content; and `Limit::Reads` exactly if the word must be recorded

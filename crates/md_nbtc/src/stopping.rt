@@ -1,5 +1,6 @@
-//! How a transaction is stopped.
+//! How a transaction is stopped, or left.
 
+ghost use Rattle.std.specs.Prelude.{◌≡◌};
 ghost use Rattle.md_nbtc.specs.Ending.{Stopped};
 ghost use Rattle.md_nbtc.specs.Going.{IsUnderWay};
 ghost use Rattle.md_nbtc.specs.State.{state};
@@ -33,5 +34,16 @@ impl<'a, T: Theory> Txn<'a, T> {
         let attempt = AttemptId { desc, serial };
         abort_unready(pass, field, attempt);
         withdraw(pass, field, attempt, &slots, &lots, &began);
+    }
+
+    /// Leaves the transaction as it stands, and the pass as it is. Dropping it does the same, and
+    /// tells nothing of the pass. Its descriptor stands in the words that it wrote until another
+    /// pass that meets it there aborts it and takes it out. The lane's next `begin` settles it, and
+    /// takes it out of the words where it still stands. Its nodes stay taken for good. No step.
+    pub fn leave(self)
+        ensures { self.exit.0.now ≡ self.entry.pass.now }
+    {
+        let Txn { pass, .. } = self;
+        let _ = pass;
     }
 }

@@ -16,7 +16,8 @@ use md_rule::{Field, Pass};
 use md_words::Shape;
 use std::snapshot::Snapshot;
 
-/// A transaction under way.
+/// A transaction under way. It ends by `stop`, or by `ready` and `decide`. If it is dropped, its
+/// descriptor stands where it was installed, and its nodes stay taken (`Txn::leave`).
 #[derive(Drop)]
 pub struct Txn<'a, T: Theory> {
     pub(crate) pass: &'a mut Pass<T>,

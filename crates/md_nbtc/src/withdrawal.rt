@@ -28,7 +28,8 @@ pub(crate) fn withdraw<T: Theory>(
     requires may { MayWithdraw field.now.origin.shape began.now.value pass.old attempt
         (map (λ s. s.write) slots.now) }
     requires lots { lots.now ≡ lots_since began.now.value pass.old }
-    ensures { Withdraws T.meaning field.now.origin began.now.value pass.old attempt pass.new }
+    ensures { Withdraws T.meaning field.now.origin began.now.value pass.old attempt
+        (map (λ s. s.write) slots.now) pass.new }
 {
     let _ = pass.shape();
     take_writes_out(pass, field, attempt, slots, Status::Aborted);

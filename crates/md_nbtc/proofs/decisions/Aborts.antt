@@ -1,7 +1,7 @@
 -- A transaction that was ready, was decided to be aborted, and was withdrawn is aborted.
 use Rattle.std.proofs.Common.{◌≡◌, ◌⊎◌, ◌++◌, ◌∷◌, ℕ, Bool, true, false, List, [], Option, length, map, refl, sym, ap, ◌∙◌, subst, inr, ⊎_elim, append_assoc, arith}
 use Rattle.std.proofs.lemmas.List.{append-nil, length-append}
-use Rattle.std.proofs.lemmas.List.Elements.{All-append, All-cons, All-nil, All-weaker}
+use Rattle.std.proofs.lemmas.List.Elements.{All-append, All-cons, All-nil, All-weaker, Contains-push}
 use Rattle.std.specs.List.{All, Contains}
 use Rattle.md_words.specs.declared.status.Status.TheVariants.{Aborted as IsAborted}
 use Rattle.md_words.specs.Layout.{address}
@@ -33,7 +33,7 @@ use Rattle.md_nbtc.specs.Ending.{Aborts, IsReady, LastFate}
 use Rattle.md_nbtc.specs.State.{OwnNode, TxnState, attempt_in, shape_in, taken_since, writes_in}
 use Rattle.md_nbtc.specs.Withdrawn.{MayWithdraw, Withdraws}
 use Rattle.md_nbtc.proofs.decisions.Answered.{answered_last, rise_first}
-use Rattle.md_nbtc.proofs.decisions.Decided.{goes, has_fate, quiet}
+use Rattle.md_nbtc.proofs.decisions.Decided.{goes, has_fate, met_fate, quiet}
 use Rattle.md_nbtc.proofs.decisions.LastFates.{last_stays}
 use Rattle.md_nbtc.proofs.decisions.MaySettle.{from}
 use Rattle.md_nbtc.proofs.withdrawals.Held.{all_numbers, held_may, held_stopped}
@@ -149,10 +149,11 @@ module _ (M : Meaning) (t : TxnState) (ready : IsReady M t) (q : PassView) (move
       none
 
   -- and is aborted then
-  pub aborts : (s : PassState) → Withdraws M t.field.origin t.began now a s → Aborts M t s
+  pub aborts : (s : PassState) → Withdraws M t.field.origin t.began now a (writes_in t) s → Aborts M t s
   aborts s w = record {
     stopped = held_stopped t ready.has r (v.steps ++ step ∷ []) after (quiet M t ready q moved v r step last kind there IsAborted left)
-        (has_fate M t ready q moved v r step last kind there IsAborted left (inr refl)) M looks_none s w;
+        (has_fate M t ready q moved v r step last kind there IsAborted left (inr refl)) M
+        (step, Contains-push v.steps step, met_fate M t ready q moved v r step last kind there IsAborted left) looks_none s w;
     aborted = last_stays aborted.0 Aborted s.view.known (inr refl) (subst (λ l. AllStay l s.view.known) aborted.1 w.same.known)
         (((is_kept M t.field.origin w.stands.machine w.stands.admitted).fronts w.stands.pass s.view w.stands.acts.at).fated ∙ ap length w.seen
         ∙ sym ((is_kept M t.field.origin stands.machine stands.admitted).fronts stands.pass r stands.acts.at).fated ∙ ap length aborted.1);

@@ -27,7 +27,7 @@ use Rattle.md_nbtc.specs.declared.sets.Slot.{Slot}
 use Rattle.md_nbtc.specs.Deciding.{LooksAt, MayCleanSlot, Validates}
 use Rattle.md_nbtc.specs.Ending.{IsReady, LastFate}
 use Rattle.md_nbtc.specs.State.{TxnState, attempt_in, shape_in, writes_in}
-use Rattle.md_nbtc.specs.Withdrawing.{AreInstalled, HasFate}
+use Rattle.md_nbtc.specs.Withdrawing.{AreInstalled, HasFate, MeetsFate}
 use Rattle.md_nbtc.proofs.decisions.LastFates.{TellsFate, known_last}
 use Rattle.md_nbtc.proofs.decisions.MaySettle.{desc_is, from, from_serial, hand_then, look_is_quiet, own_then}
 use Rattle.md_nbtc.proofs.preparing.Quiet.{IsQuiet}
@@ -78,6 +78,10 @@ module _ (M : Meaning) (t : TxnState) (ready : IsReady M t) (q : PassView) (move
     is = left_status;
     met = (step, subst (λ l. Contains l step) (sym (trail_after (shape_in t) (step ∷ []) q r last)) (Contains-push q.trail step), inr (record { there = there; after = refl }));
   }
+
+  -- by the step itself
+  pub met_fate : MeetsFate (shape_in t) a status step
+  met_fate = (step.after, inr (record { there = there; after = refl }), left_serial, left_status)
 
   pub installed : AreInstalled (shape_in t) r a (writes_in t)
   installed = are_still (shape_in t) a steps t.pass.view r goes quiet (writes_in t) (held_installed t ready.has)

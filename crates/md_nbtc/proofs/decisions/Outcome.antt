@@ -99,9 +99,9 @@ module _ (M : Meaning) (t : TxnState) (ready : IsReady M t) (x : AttemptId) (x_i
       may_end f node_is nodes = subst (λ y. MayWithdraw (shape_in t) t.began q y (writes_in t)) (sym x_is) (subst (λ y. MayWithdraw (shape_in t) t.began y a (writes_in t)) (sym is_now)
           (may_withdraw M t ready p.view moved v q.view s.step s.goes s.kind s.there ends.0 aborted after f node_is nodes))
 
-      module _ (e : PassState) (withdraws : Withdraws M t.field.origin t.began q x e) where
-        abbrev w : Withdraws M t.field.origin t.began (record t.pass { view = q.view }) a e
-        w = subst (λ y. Withdraws M t.field.origin t.began y a e) is_now (subst (λ y. Withdraws M t.field.origin t.began q y e) x_is withdraws)
+      module _ (e : PassState) (withdraws : Withdraws M t.field.origin t.began q x (writes_in t) e) where
+        abbrev w : Withdraws M t.field.origin t.began (record t.pass { view = q.view }) a (writes_in t) e
+        w = subst (λ y. Withdraws M t.field.origin t.began y a (writes_in t) e) is_now (subst (λ y. Withdraws M t.field.origin t.began q y (writes_in t) e) x_is withdraws)
 
         pub aborts_so : Aborts M t e
         aborts_so = aborts M t ready p.view moved v q.view s.step s.goes s.kind s.there ends.0 aborted after e w

@@ -1,7 +1,8 @@
 -- What the cases of an exchange tell.
-use Rattle.std.proofs.Common.{◌≡◌, ◌≢◌, ◌==◌, ◌||◌, ◌+◌, ◌<◌, ◌≤◌, ℕ, List, [], ◌∷◌, map, length, Err, is_some, subst, Bool, true, false, Option, Some, None, refl, sym, ap, ◌∙◌, ⊎_elim, eqb-true, eq-eqb, if◌then◌else◌, nat_le, le-leb, arith}
+use Rattle.std.proofs.Common.{◌≡◌, ◌≢◌, ◌==◌, ◌||◌, ◌+◌, ◌<◌, ◌≤◌, ℕ, List, [], ◌∷◌, map, length, Err, is_some, subst, Bool, true, false, Option, Some, None, refl, sym, ap, ◌∙◌, ⊎_elim, eqb-true, eq-eqb, if◌then◌else◌, nat_le, le-leb, leb-true, arith}
 use Rattle.std.proofs.lemmas.Bool.{cases_Bool, cases_lt, cond-false, cond-true, cond_both, true≢false}
 use Rattle.md_words.specs.declared.limits.TheConstants.{SET}
+use Rattle.md_words.specs.Content.{count_of}
 use Rattle.md_machine.proofs.lists.Options.{some_same}
 use Rattle.std.specs.List.{Contains}
 use Rattle.md_history.specs.declared.stops.Stop.{Stop}
@@ -16,7 +17,8 @@ use Rattle.md_nbtc.specs.Going.{HasCause}
 use Rattle.md_nbtc.specs.Seeing.{Gave}
 use Rattle.md_nbtc.specs.Sets.{place_of}
 use Rattle.md_nbtc.specs.State.{TxnState, seen_content, writes_in}
-use Rattle.md_nbtc.proofs.exchanging.Refused.{limit_cause, seen_cause}
+use Rattle.md_nbtc.proofs.exchanging.Refused.{seen_cause}
+use Rattle.md_nbtc.proofs.keeping.Causes.{seen_worn, writes_cause}
 
 -- where a step is made, the recorded content is that which was seen, the count isn't worn, and a critical one has a slot left
 pub record MakesStep (recorded : Option ℕ) (seen count slots : ℕ) (critical : Bool) : Type 0 where
@@ -120,37 +122,30 @@ refused M t u word from to ExchangeCase.changes s is so = absurd (none_some is)
     none_some e = cc
 
 -- and it has a cause
-count_cause : (t : TxnState) (word : ℕ) (from : Seen) (s : Stop) (critical : Bool) (slots count : ℕ) → refusal_by (case_by_count critical slots count) word from ≡ Some s → HasCause t s
-count_cause t word from s critical slots count is = by_case (case_by_count critical slots count) (unmoved critical slots count) is
-  where
-    none_some : {x : Stop} → None ≡ Some x → ⊥
-    none_some e = cc
+module _ (t : TxnState) (word : ℕ) (from : Seen) (gave : Gave t word from) (none : is_written (writes_in t) word ≡ false) (fits : count_of (seen_content from) ≡ from.count) (s : Stop) where
+  none_some : {x : Stop} → None ≡ Some x → ⊥
+  none_some e = cc
 
-    is_moved : ExchangeCase → Bool
-    is_moved (ExchangeCase.moved held) = true
-    is_moved _ = false
+  -- by its count
+  worn_or : (c : ExchangeCase) → refusal_by c word from ≡ None → refusal_by (if nat_le WORN from.count then ExchangeCase.worn else c) word from ≡ Some s → HasCause t s
+  worn_or c free = cond_both (nat_le WORN from.count) ExchangeCase.worn c (λ x. refusal_by x word from ≡ Some s → HasCause t s)
+      (λ big e. subst (HasCause t) (some_same _ s e) (seen_worn t word from gave none fits (leb-true WORN from.count big)))
+      (λ _ e. absurd (none_some (sym free ∙ e)))
 
-    unmoved : (c : Bool) (n k : ℕ) → is_moved (case_by_count c n k) ≡ false
-    unmoved false n k = cond_both (nat_le WORN k) ExchangeCase.worn ExchangeCase.changes (λ x. is_moved x ≡ false) (λ _. refl) (λ _. refl)
-    unmoved true n k = cond_both (n == SET) ExchangeCase.no_slot (if nat_le WORN k then ExchangeCase.worn else ExchangeCase.installs) (λ x. is_moved x ≡ false) (λ _. refl)
-        (λ _. cond_both (nat_le WORN k) ExchangeCase.worn ExchangeCase.installs (λ x. is_moved x ≡ false) (λ _. refl) (λ _. refl))
+  count_cause : (critical : Bool) → refusal_by (case_by_count critical (length t.slots) from.count) word from ≡ Some s → HasCause t s
+  count_cause false = worn_or ExchangeCase.changes refl
+  count_cause true = cond_both (length t.slots == SET) ExchangeCase.no_slot (if nat_le WORN from.count then ExchangeCase.worn else ExchangeCase.installs)
+      (λ x. refusal_by x word from ≡ Some s → HasCause t s)
+      (λ full e. subst (HasCause t) (some_same _ s e) (writes_cause t (eqb-true (length t.slots) SET full)))
+      (λ _. worn_or ExchangeCase.installs refl)
 
-    by_case : (c : ExchangeCase) → is_moved c ≡ false → refusal_by c word from ≡ Some s → HasCause t s
-    by_case ExchangeCase.own not e = absurd (none_some e)
-    by_case (ExchangeCase.moved held) not e = absurd (true≢false not)
-    by_case ExchangeCase.no_slot not e = subst (HasCause t) (some_same _ s e) (limit_cause t _)
-    by_case ExchangeCase.worn not e = subst (HasCause t) (some_same _ s e) (limit_cause t _)
-    by_case ExchangeCase.installs not e = absurd (none_some e)
-    by_case ExchangeCase.changes not e = absurd (none_some e)
-
-pub refusal_cause : (t : TxnState) (word : ℕ) (from : Seen) (critical : Bool) (s : Stop) → Gave t word from → is_written (writes_in t) word ≡ false
-    → refusal_by (case_of_other t word from critical) word from ≡ Some s → HasCause t s
-refusal_cause t word from critical s gave none is = by_read (content_read t.reads word) refl is
-  where
-    by_read : (o : Option ℕ) → content_read t.reads word ≡ o → refusal_by (case_unless_moved o (seen_content from) (case_by_count critical (length t.slots) from.count)) word from ≡ Some s → HasCause t s
-    by_read None at e = count_cause t word from s critical (length t.slots) from.count e
-    by_read (Some held) at e = cond_both (held == seen_content from) (case_by_count critical (length t.slots) from.count) (ExchangeCase.moved held)
-        (λ c. refusal_by c word from ≡ Some s → HasCause t s)
-        (λ _ z. count_cause t word from s critical (length t.slots) from.count z)
-        (λ differ z. subst (HasCause t) (some_same _ s z) (seen_cause t word held from gave none at (λ same. true≢false (sym (eq-eqb held (seen_content from) same) ∙ differ))))
-        e
+  pub refusal_cause : (critical : Bool) → refusal_by (case_of_other t word from critical) word from ≡ Some s → HasCause t s
+  refusal_cause critical = by_read (content_read t.reads word) refl
+    where
+      by_read : (o : Option ℕ) → content_read t.reads word ≡ o → refusal_by (case_unless_moved o (seen_content from) (case_by_count critical (length t.slots) from.count)) word from ≡ Some s → HasCause t s
+      by_read None at e = count_cause critical e
+      by_read (Some held) at e = cond_both (held == seen_content from) (case_by_count critical (length t.slots) from.count) (ExchangeCase.moved held)
+          (λ c. refusal_by c word from ≡ Some s → HasCause t s)
+          (λ _ z. count_cause critical z)
+          (λ differ z. subst (HasCause t) (some_same _ s z) (seen_cause t word held from gave none at (λ same. true≢false (sym (eq-eqb held (seen_content from) same) ∙ differ))))
+          e

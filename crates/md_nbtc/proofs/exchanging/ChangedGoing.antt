@@ -1,9 +1,10 @@
 -- A transaction goes on over one step by which its slots, or the changes of its operation, become others.
-use Rattle.std.proofs.Common.{◌≡◌, ◌⊎◌, ◌++◌, ◌∷◌, ℕ, true, List, [], is_some, Some, refl, sym, ap, ◌∙◌, subst, inl, inr, ⊎_elim, IfSome}
-use Rattle.std.proofs.lemmas.List.{append-nil}
+use Rattle.std.proofs.Common.{◌≡◌, ◌⊎◌, ◌++◌, ◌∷◌, ◌≤◌, ℕ, true, List, [], is_some, length, arith, Some, refl, sym, ap, ◌∙◌, subst, inl, inr, ⊎_elim, IfSome}
+use Rattle.std.proofs.lemmas.List.{append-nil, length-append, length-map}
 use Rattle.std.proofs.lemmas.List.Elements.{All-weaker}
 use Rattle.std.proofs.lemmas.Option.{IfSome_then}
 use Rattle.std.specs.List.{All, Contains}
+use Rattle.md_words.specs.declared.limits.TheConstants.{SET}
 use Rattle.md_words.specs.Content.{value_of}
 use Rattle.md_history.specs.Front.{IsPrefix}
 use Rattle.md_history.specs.declared.stops.Stop.{Stop}
@@ -16,8 +17,8 @@ use Rattle.md_machine.specs.declared.node.Structure.{Structure}
 use Rattle.md_machine.specs.declared.pass.PassView.{PassView}
 use Rattle.md_machine.specs.declared.step.Step.{Step}
 use Rattle.md_machine.specs.Certified.{RecordsFound, all_changes, all_nodes, first_content}
+use Rattle.md_machine.specs.Machine.{Install}
 use Rattle.md_machine.specs.Meaning.{Meaning}
-use Rattle.md_machine.specs.Moved.{Moved}
 use Rattle.md_rule.specs.Shares.{share_at}
 use Rattle.md_rule.specs.declared.shares.Share.{Share}
 use Rattle.md_help.specs.After.{IsAfter, Stands}
@@ -31,9 +32,9 @@ use Rattle.md_nbtc.specs.Known.{IsLater, KnowsPlaced}
 use Rattle.md_nbtc.specs.Prepared.{IsPrepared}
 use Rattle.md_nbtc.specs.Seeing.{MayChange}
 use Rattle.md_nbtc.specs.State.{OwnNode, TxnState, attempt_in, installs_in, own_steps, shape_in, writes_in}
-use Rattle.md_nbtc.proofs.exchanging.ChangedPrepared.{changed, own_then}
+use Rattle.md_nbtc.proofs.exchanging.ChangedPrepared.{SameTaken, changed, own_then}
 use Rattle.md_nbtc.proofs.preparing.Fronts.{front_after, front_in_hand}
-use Rattle.md_nbtc.proofs.preparing.GoingOn.{moved_more}
+use Rattle.md_nbtc.proofs.preparing.GoingOn.{cause_kept, none_left}
 use Rattle.md_nbtc.proofs.preparing.Later.{known_later}
 
 module _ (M : Meaning) (t : TxnState) (prepared : IsPrepared t) (base : PassView) (s : Step) (after : IsAfter (shape_in t) (s ∷ []) t.pass.view base)
@@ -60,12 +61,24 @@ module _ (M : Meaning) (t : TxnState) (prepared : IsPrepared t) (base : PassView
           (front_after (shape_in t) t.pass (s ∷ []) base shares after tries);
     }
 
-    cause_more : (x : Stop) → HasCause t x → HasCause u x
-    cause_more x c = record {
-      moved = λ shown is. subst (λ l. Moved (shape_in t) (attempt_in t) l shown) (sym (own_then t base s after changes shares slots prepared))
-          (moved_more (shape_in t) (attempt_in t) (own_steps t) (s ∷ []) shown (c.moved shown is));
-      others = λ shown is all. c.others shown is (λ lane below. subst (λ l. Contains l lane) (ap (λ (x : PassView). x.lanes) after.1) (all lane below));
-    }
+    full_more : length slots ≤ SET → length t.slots ≡ SET → length slots ≡ SET
+    full_more few full =
+        let made : Slot → Install = λ x. record { attempt = attempt_in t; slot = x.write.slot; word = x.write.word; old = x.write.old } in
+        let more = ap length installs.is ∙ length-append (installs_in t) installs.rest in
+        let after_it = length-map slots made in
+        let before_it = length-map t.slots made in omega (arith, few, full, more, after_it, before_it)
+
+    cause_more : length slots ≤ SET → SameTaken t.pass.shares shares → (x : Stop) → HasCause t x → HasCause u x
+    cause_more few taken = cause_kept t u (record {
+      shape = refl;
+      attempt = refl;
+      lanes = ap (λ (x : PassView). x.lanes) after.1;
+      steps = s ∷ [];
+      own = own_then t base s after changes shares slots prepared;
+      reads = λ full. full;
+      slots = full_more few;
+      nodes = none_left t.pass u.pass refl (ap (λ (x : PassView). x.lanes) after.1) (λ lane. let same = taken lane in omega (arith, same));
+    })
 
     placed_more : (node : ℕ) (x : Structure) → KnowsPlaced M t node x → KnowsPlaced M u node x
     placed_more node x = known_later M (λ v h. h.placed node ≡ Some x) t u changed_later
@@ -115,7 +128,7 @@ module _ (M : Meaning) (t : TxnState) (prepared : IsPrepared t) (base : PassView
     first_more word value = ⊎_elim inl (λ met. inr (known_later M _ t u changed_later met))
 
     -- what was found first in a word was found so before, or is that of a new slot; the slots may be made, go with the
-    -- changes, and keep cleanups that fit
+    -- changes, and keep cleanups that fit. No node was taken
     pub record GoesWith (cs : List Certificate) : Type 0 where
       pub first : (word content : ℕ) → first_content t.reads (writes_in u) word ≡ Some content
           → (first_content t.reads (writes_in t) word ≡ Some content) ⊎ IsFoundFirst M t word (value_of content)
@@ -123,6 +136,7 @@ module _ (M : Meaning) (t : TxnState) (prepared : IsPrepared t) (base : PassView
       pub places : All (λ (w : Write). MayChange M t w.word) (writes_in u)
       pub goes : ChangesAreWrites u (all_changes cs ++ changes)
       pub cleanups : All (λ (x : Slot). IfSome x.cleanup (IsKeptCleanup M t cs x.write)) slots
+      pub taken : SameTaken t.pass.shares shares
 
     course_more : (cs : List Certificate) → IsCourse M t cs → GoesWith cs → IsCourse M u cs
     course_more cs c with_it = record {
@@ -147,5 +161,5 @@ module _ (M : Meaning) (t : TxnState) (prepared : IsPrepared t) (base : PassView
       places = All-weaker _ _ (λ (w : Write). change_more w.word) _ with_it.places;
       course = course_more cs g.course with_it;
       cleanups = All-weaker _ _ (λ (x : Slot) kept. IfSome_then x.cleanup kept (kept_more cs x.write)) slots with_it.cleanups;
-      stop = λ x is. cause_more x (g.stop x is);
+      stop = λ x is. cause_more now.has.few_writes with_it.taken x (g.stop x is);
     }

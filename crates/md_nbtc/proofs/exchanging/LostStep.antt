@@ -30,7 +30,8 @@ use Rattle.std.proofs.lemmas.Bool.{true≢false}
 use Rattle.md_nbtc.proofs.exchanging.ChangedPrepared.{changed_view, own_then, trail_is}
 use Rattle.md_nbtc.proofs.exchanging.FilledSlot.{both_on}
 use Rattle.md_nbtc.proofs.exchanging.OneStep.{StepsOnce}
-use Rattle.md_nbtc.proofs.exchanging.Refused.{conflict_cause, halted_gave, halted_on}
+use Rattle.md_nbtc.proofs.exchanging.Refused.{halted_gave, halted_on}
+use Rattle.md_nbtc.proofs.keeping.Causes.{conflict_cause}
 use Rattle.md_nbtc.proofs.exchanging.SameSlots.{LeavesSets, once_gave, once_on, once_prepared, stepped_once}
 use Rattle.md_nbtc.proofs.looks.AloneChain.{ChainsFrom, chained}
 use Rattle.md_nbtc.proofs.looks.Causes.{left_finds, own_rest}

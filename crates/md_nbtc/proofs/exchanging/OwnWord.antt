@@ -333,6 +333,7 @@ module _ (M : Meaning) (t : TxnState) (prepared : IsPrepared t) (operates : t.ha
               (by_writes (All (Goes cs))
               (all_map_in (writes_in t) (λ w c. goes_with w c cs (All-contains (λ (v : Write). last_new (all_changes cs ++ t.hand.changes) v.word ≡ Some v.new) (writes_in t) w going.course.changes.last c)))));
           cleanups = all_kept t.slots going.cleanups stay;
+          taken = λ lane. refl;
         })
       where
         all_map_in : (ws : List Write) → ((w : Write) → Contains ws w → Goes cs (renew word to w)) → All (Goes cs) (map (renew word to) ws)

@@ -3,15 +3,13 @@ use Rattle.std.proofs.Common.{◌≡◌, ◌≢◌, ◌==◌, ◌∷◌, ℕ, Bo
 use Rattle.std.proofs.lemmas.Bool.{cond_both, true≢false}
 use Rattle.std.proofs.lemmas.Option.{none-some}
 use Rattle.std.specs.List.{Contains}
-use Rattle.md_history.specs.declared.stops.Limit.{Limit}
 use Rattle.md_history.specs.declared.stops.Shown.{Shown}
 use Rattle.md_history.specs.declared.stops.Stop.{Stop}
-use Rattle.md_history.specs.declared.stops.Stop.TheVariants.{Conflict, Limit as Limited}
+use Rattle.md_history.specs.declared.stops.Stop.TheVariants.{Conflict}
 use Rattle.md_machine.specs.declared.attempt.Read.{Read}
 use Rattle.md_machine.specs.Certified.{content_read, is_written}
 use Rattle.md_machine.specs.Meaning.{Meaning}
 use Rattle.md_machine.specs.Moved.{Moved}
-use Rattle.md_machine.specs.clauses.passes.Alone.{HoldsAll}
 use Rattle.md_machine.proofs.lists.Options.{some_same}
 use Rattle.md_machine.proofs.lists.Rising.{here, there}
 use Rattle.md_nbtc.specs.declared.seen.Seen.{Seen}
@@ -20,6 +18,7 @@ use Rattle.md_nbtc.specs.Going.{HasCause}
 use Rattle.md_nbtc.specs.Prepared.{IsPrepared}
 use Rattle.md_nbtc.specs.Seeing.{Gave}
 use Rattle.md_nbtc.specs.State.{TxnState, attempt_in, own_steps, seen_content, shape_in, writes_in}
+use Rattle.md_nbtc.proofs.keeping.Causes.{conflict_cause}
 use Rattle.md_nbtc.proofs.looks.Halted.{halted, halted_going, halted_later}
 
 -- a content that is recorded of a word is that of a read of the word
@@ -31,24 +30,6 @@ read_there (r ∷ rs) word held is =
     (λ this e. (r, here r rs, eqb-true r.word word this, some_same r.content held e))
     (λ _ e. let found = read_there rs word held e in (found.0, there r rs found.0 found.1, found.2, found.3))
     is
-
-abbrev shown_in : Shown → Stop → Shown
-shown_in d (Conflict x) = x
-shown_in d _ = d
-
--- a conflict that shows a word that moved while another pass was live
-pub conflict_cause : (t : TxnState) (shown : Shown) → Moved (shape_in t) (attempt_in t) (own_steps t) shown → (¬ HoldsAll (shape_in t) t.pass.view) → HasCause t (Conflict shown)
-conflict_cause t shown moved others = record {
-  moved = λ x is. subst (λ y. Moved (shape_in t) (attempt_in t) (own_steps t) y) (ap (shown_in shown) is) moved;
-  others = λ x is. others;
-}
-
--- and a limit
-pub limit_cause : (t : TxnState) (l : Limit) → HasCause t (Limited l)
-limit_cause t l = record { moved = λ x is. absurd (apart x is); others = λ x is. absurd (apart x is) }
-  where
-    apart : (x : Shown) → Limited l ≡ Conflict x → ⊥
-    apart x e = cc
 
 -- a word that is recorded with another content than was seen there last
 pub seen_cause : (t : TxnState) (word held : ℕ) (from : Seen) → Gave t word from → is_written (writes_in t) word ≡ false → content_read t.reads word ≡ Some held → held ≢ seen_content from

@@ -83,6 +83,7 @@ module _ (t : TxnState) (prepared : IsPrepared t) (operates : t.hand.operating �
         places = going.places;
         goes = record { exactly = going.course.changes.exactly; last = going.course.changes.last };
         cleanups = going.cleanups;
+        taken = λ lane. refl;
       });
       later = changed_later M t prepared base s after t.hand.changes t.pass.shares t.slots (record { rest = []; is = sym (append-nil _) }) (λ lane. refl);
     }

@@ -276,6 +276,7 @@ module _ (M : Meaning) (lawful : Lawful M) (t : TxnState) (prepared : IsPrepared
               (All-cons (Goes cs) w [] (inl (refl, refl)) (All-nil (Goes cs))))));
           cleanups = All-append (λ (x : Slot). IfSome x.cleanup (IsKeptCleanup M t cs x.write)) t.slots (new_slot t word from to ∷ []) going.cleanups
               (All-cons (λ (x : Slot). IfSome x.cleanup (IsKeptCleanup M t cs x.write)) (new_slot t word from to) [] tt (All-nil _));
+          taken = same;
         });
     later = changed_later M t prepared it.base it.step it.goes now_changes shares now_slots prefix (λ lane. (same lane).1);
   }

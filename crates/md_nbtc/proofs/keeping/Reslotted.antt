@@ -144,6 +144,9 @@ module _ (t : TxnState) (slots : List Slot) (same : map (λ (s : Slot). s.write)
     content = λ is. content_then word seen (g.content is);
   }
 
+  same_length : length t.slots ≡ SET → length slots ≡ SET
+  same_length full = sym (length-map slots (λ (s : Slot). s.write)) ∙ ap length same ∙ length-map t.slots (λ (s : Slot). s.write) ∙ full
+
   module _ (M : Meaning) where
     course_then : (cs : List Certificate) → IsCourse M t cs → IsCourse M reslotted cs
     course_then cs c = record {
@@ -173,5 +176,14 @@ module _ (t : TxnState) (slots : List Slot) (same : map (λ (s : Slot). s.write)
           (λ w. change_carried M t t.pass t.reads slots t.stop reslotted_later w.word) (writes_in t) g.places);
       course = course_then cs g.course;
       cleanups = kept;
-      stop = λ s is. let c = g.stop s is in record { moved = c.moved; others = c.others };
+      stop = λ s is. let c = g.stop s is in record {
+        moved = c.moved;
+        others = c.others;
+        reads = c.reads;
+        writes = λ full. same_length (c.writes full);
+        nodes = c.nodes;
+        worn = c.worn;
+        no_tries = c.no_tries;
+        no_memory = c.no_memory;
+      };
     }

@@ -40,7 +40,7 @@ use Rattle.md_nbtc.proofs.looks.Causes.{after_load, is_other, left_finds, made, 
 use Rattle.md_nbtc.proofs.looks.Clearings.{ClearsBy, Passes, clears_by}
 use Rattle.md_nbtc.proofs.looks.EvenLooks.{own_next}
 use Rattle.md_nbtc.proofs.looks.Loaded.{loaded_going}
-use Rattle.md_nbtc.proofs.looks.Stopped.{conflict_cause}
+use Rattle.md_nbtc.proofs.keeping.Causes.{conflict_cause}
 use Rattle.md_nbtc.proofs.preparing.Calm.{IsCalm, over_given, over_on}
 use Rattle.md_nbtc.proofs.preparing.GoingOn.{concerns_more, own_grows}
 use Rattle.md_nbtc.proofs.preparing.Later.{prefix_over}

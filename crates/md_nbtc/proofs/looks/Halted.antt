@@ -170,5 +170,14 @@ module _ (t : TxnState) (prepared : IsPrepared t) (kept_stop : Stop) where
       places = All-weaker (λ (w : Write). MayChange M t w.word) (λ (w : Write). MayChange M halted w.word) (λ w. change_halted w.word) (writes_in t) g.places;
       course = course_halted cs g.course;
       cleanups = All-weaker _ _ (λ (s : Slot) kept. IfSome_then s.cleanup kept (kept_halted cs s.write)) t.slots g.cleanups;
-      stop = λ s is. subst (HasCause halted) (ap (λ o. unwrap_or o kept_stop) is) (record { moved = cause.moved; others = cause.others });
+      stop = λ s is. subst (HasCause halted) (ap (λ o. unwrap_or o kept_stop) is) (record {
+        moved = cause.moved;
+        others = cause.others;
+        reads = cause.reads;
+        writes = cause.writes;
+        nodes = cause.nodes;
+        worn = cause.worn;
+        no_tries = cause.no_tries;
+        no_memory = cause.no_memory;
+      });
     }

@@ -104,7 +104,7 @@ module _ (M : Meaning) (t : TxnState) (prepared : IsPrepared t) (q : PassView) (
   }
 
   pub loaded_going : word ≢ address (shape_in t) (desc_status (attempt_in t).desc) → (cs : List Certificate) → IsGoing M t cs → IsGoing M loaded cs
-  loaded_going apart cs going = going_on M t (record t.pass { view = q }) loaded_later prepared.has.since cs going
+  loaded_going apart cs going = going_on M t (record t.pass { view = q }) loaded_later prepared.has.since refl cs going
       (stands_made M t.field.origin (λ pass. load pass word) Load word result result t.pass.view q step.0 made) (loaded_prepared apart)
 
   -- what a look at any word gave stays so

@@ -1,35 +1,20 @@
 -- A transaction that goes on, and then keeps a conflict.
-use Rattle.std.proofs.Common.{ℕ, Some, ap, subst}
+use Rattle.std.proofs.Common.{ℕ, Some}
 use Rattle.md_words.specs.PlaceAt.{IsCounted}
-use Rattle.md_history.specs.declared.stops.Shown.{Shown}
 use Rattle.md_history.specs.declared.stops.Stop.{Stop}
-use Rattle.md_history.specs.declared.stops.Stop.TheVariants.{Conflict}
 use Rattle.md_machine.specs.declared.pass.PassView.{PassView}
 use Rattle.md_machine.specs.Event.{load}
 use Rattle.md_machine.specs.Meaning.{Meaning}
-use Rattle.md_machine.specs.Moved.{Moved}
-use Rattle.md_machine.specs.clauses.passes.Alone.{HoldsAll}
 use Rattle.md_rule.specs.Steps.{SteppedFrom}
 use Rattle.md_nbtc.specs.declared.seen.Seen.{Seen}
 use Rattle.md_nbtc.specs.Calls.{GoesOn}
 use Rattle.md_nbtc.specs.Going.{HasCause, IsUnderWay}
 use Rattle.md_nbtc.specs.Seeing.{Gave}
-use Rattle.md_nbtc.specs.State.{TxnState, attempt_in, own_steps, shape_in}
+use Rattle.md_nbtc.specs.State.{TxnState, shape_in}
 use Rattle.md_nbtc.proofs.looks.Halted.{halted, halted_going, halted_later}
 use Rattle.md_nbtc.proofs.looks.Loaded.{loaded_going, loaded_later}
 use Rattle.md_nbtc.proofs.preparing.StatusApart.{counted_apart}
 use Rattle.md_nbtc.proofs.preparing.Later.{later_over}
-
-abbrev shown_in : Shown → Stop → Shown
-shown_in d (Conflict shown) = shown
-shown_in d _ = d
-
--- a conflict has its cause where its word moved, and another pass is live
-pub conflict_cause : (t : TxnState) (shown : Shown) → Moved (shape_in t) (attempt_in t) (own_steps t) shown → ¬ HoldsAll (shape_in t) t.pass.view → HasCause t (Conflict shown)
-conflict_cause t shown moved others = record {
-  moved = λ other is. subst (Moved (shape_in t) (attempt_in t) (own_steps t)) (ap (shown_in shown) is) moved;
-  others = λ other is. others;
-}
 
 module _ (M : Meaning) (t u : TxnState) (way : IsUnderWay M t) (on : GoesOn M t u) (stop : Stop) where
   pub stopped_on : HasCause u stop → GoesOn M t (record u { stop = Some stop })

@@ -40,7 +40,7 @@ use Rattle.md_nbtc.proofs.nodes.Grown.{grown, grown_going}
 use Rattle.md_nbtc.proofs.nodes.GrownPrepared.{IsOnNode, grown_pass, grown_prepared, in_node, node_in}
 use Rattle.md_nbtc.proofs.nodes.NewNode.{counted_apart, found_apart, stored_last}
 use Rattle.md_nbtc.proofs.nodes.StoredNodes.{Goes, StoredThree, goes_on, with_node}
-use Rattle.md_nbtc.proofs.nodes.TookNode.{left_was, took_in_turn, took_new, took_no_try}
+use Rattle.md_nbtc.proofs.nodes.TookNode.{left_was, took_in_turn, took_more, took_new, took_no_try}
 use Rattle.md_nbtc.proofs.nodes.Unplaced.{own_unplaced}
 use Rattle.md_nbtc.proofs.preparing.Fronts.{front_after, front_in_hand}
 use Rattle.md_nbtc.proofs.preparing.GoingOn.{own_grows}
@@ -277,7 +277,7 @@ module _ (M : Meaning) (lawful : Lawful M) (t : TxnState) (cs : List Certificate
 
     fresh_on : Stands M t.field.origin e → GoesOn M t fresh
     fresh_on stands = record {
-      going = λ ds g. grown_going M t fresh_pass lots n new fresh_later prepared.has.since ds g stands fresh_prepared
+      going = λ ds g. grown_going M t fresh_pass lots n new fresh_later prepared.has.since (took_more t prepared node a takes e lanes_same) ds g stands fresh_prepared
           (own_unplaced M lawful fresh n (Contains-push t.nodes n) exists);
       later = fresh_later;
     }

@@ -1,5 +1,5 @@
 -- A transaction that took a node goes on.
-use Rattle.std.proofs.Common.{◌≡◌, ◌≢◌, ◌++◌, ◌∷◌, ℕ, List, [], map, Some, sym, ap, ◌∙◌, subst, inl, inr, ⊎_elim, append_assoc}
+use Rattle.std.proofs.Common.{◌≡◌, ◌≢◌, ◌++◌, ◌∷◌, ◌≤◌, ℕ, List, [], map, Some, refl, sym, ap, ◌∙◌, subst, inl, inr, ⊎_elim, append_assoc}
 use Rattle.std.proofs.lemmas.List.{map-append}
 use Rattle.std.proofs.lemmas.List.Elements.{All-weaker, Contains-append_cases, Contains-append_left, All-append, All-cons, All-nil}
 use Rattle.std.proofs.lemmas.Option.{IfSome_then}
@@ -11,7 +11,7 @@ use Rattle.md_machine.specs.declared.certificate.Certificate.{Certificate}
 use Rattle.md_machine.specs.declared.certificate.Fact.{Fact}
 use Rattle.md_machine.specs.declared.node.Structure.{Structure}
 use Rattle.md_machine.specs.Meaning.{Meaning}
-use Rattle.md_machine.specs.Moved.{Moved}
+use Rattle.md_rule.specs.Shares.{share_at}
 use Rattle.md_rule.specs.Views.{PassState}
 use Rattle.md_help.specs.After.{Stands}
 use Rattle.md_nbtc.specs.declared.seen.Cleanup.{Cleanup}
@@ -30,7 +30,7 @@ use Rattle.md_nbtc.proofs.preparing.Later.{known_later}
 use Rattle.md_machine.specs.declared.attempt.Hand.{Hand}
 use Rattle.md_machine.proofs.lists.Rising.{in_cons, in_none}
 use Rattle.md_nbtc.specs.declared.sets.Lot.{Lot}
-use Rattle.md_nbtc.proofs.preparing.GoingOn.{moved_more, own_grows}
+use Rattle.md_nbtc.proofs.preparing.GoingOn.{cause_kept, none_left, own_grows}
 
 module _ (M : Meaning) (t : TxnState) (pass : PassState) (lots : List Lot) (n : OwnNode) (differs : (k : OwnNode) → Contains t.nodes k → k.node ≢ n.node) where
   abbrev pub grown_hand : Hand
@@ -45,12 +45,21 @@ module _ (M : Meaning) (t : TxnState) (pass : PassState) (lots : List Lot) (n : 
     pub own_more : own_steps grown ≡ own_steps t ++ later.steps.rest
     own_more = own_grows t.began.view.trail t.pass.view.trail pass.view.trail later.steps.rest since later.steps.is
 
-    cause_more : (s : Stop) → HasCause t s → HasCause grown s
-    cause_more s c = record {
-      moved = λ shown is. subst (λ l. Moved (shape_in t) (attempt_in t) l shown) (sym own_more)
-          (moved_more (shape_in t) (attempt_in t) (own_steps t) later.steps.rest shown (c.moved shown is));
-      others = λ shown is all. c.others shown is (λ lane below. subst (λ l. Contains l lane) later.lanes (all lane below));
-    }
+    -- no fewer nodes of each lane are taken
+    abbrev pub TakesMore : Type 0
+    TakesMore = (lane : ℕ) → (share_at t.pass.shares lane).nodes_taken ≤ (share_at pass.shares lane).nodes_taken
+
+    cause_more : pass.shape ≡ t.pass.shape → TakesMore → (s : Stop) → HasCause t s → HasCause grown s
+    cause_more shape more = cause_kept t grown (record {
+      shape = refl;
+      attempt = refl;
+      lanes = later.lanes;
+      steps = later.steps.rest;
+      own = own_more;
+      reads = λ full. full;
+      slots = λ full. full;
+      nodes = none_left t.pass pass shape later.lanes more;
+    })
 
     placed_more : (node : ℕ) (s : Structure) → KnowsPlaced M t node s → KnowsPlaced M grown node s
     placed_more node s = known_later M (λ u h. h.placed node ≡ Some s) t grown later
@@ -130,8 +139,8 @@ module _ (M : Meaning) (t : TxnState) (pass : PassState) (lots : List Lot) (n : 
       stand = known_later M _ t grown later c.stand;
     }
 
-    pub grown_going : (cs : List Certificate) → IsGoing M t cs → Stands M t.field.origin pass.view → IsPrepared grown → IsUnplaced M grown n → IsGoing M grown cs
-    grown_going cs g stands prepared new = record {
+    pub grown_going : TakesMore → (cs : List Certificate) → IsGoing M t cs → Stands M t.field.origin pass.view → IsPrepared grown → IsUnplaced M grown n → IsGoing M grown cs
+    grown_going more cs g stands prepared new = record {
       stands = stands;
       prepared = prepared;
       nodes = All-append (IsUnplaced M grown) t.nodes (n ∷ []) (All-weaker _ _ unplaced_more t.nodes g.nodes)
@@ -140,5 +149,5 @@ module _ (M : Meaning) (t : TxnState) (pass : PassState) (lots : List Lot) (n : 
       places = All-weaker _ _ (λ (w : Write). change_more w.word) _ g.places;
       course = course_more cs g.course;
       cleanups = All-weaker _ _ (λ (s : Slot) kept. IfSome_then s.cleanup kept (kept_more cs s.write)) t.slots g.cleanups;
-      stop = λ s is. cause_more s (g.stop s is);
+      stop = λ s is. cause_more (prepared.has.of.shape ∙ sym g.prepared.has.of.shape) more s (g.stop s is);
     }

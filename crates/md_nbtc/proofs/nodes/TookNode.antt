@@ -42,6 +42,13 @@ module _ (t : TxnState) (prepared : IsPrepared t) (node : ℕ) (p : PassState) (
   others : (other : ℕ) → other ≢ takes.lane → (share_at p.shares other).nodes_taken ≡ (share_at t.pass.shares other).nodes_taken
   others other ne = ap (λ (s : Share). s.nodes_taken) (same_share other ne)
 
+  -- no fewer nodes of each lane are taken then
+  pub took_more : (lane : ℕ) → (share_at t.pass.shares lane).nodes_taken ≤ (share_at took_pass.shares lane).nodes_taken
+  took_more lane = ⊎_elim
+      (λ (e : lane ≡ takes.lane). subst (λ l. (share_at t.pass.shares l).nodes_taken ≤ (share_at p.shares l).nodes_taken) (sym e) (let one = its in omega (arith, one)))
+      (λ o. let same = others lane (λ e. ⊎_elim (λ (b : lane < takes.lane). omega (arith, e, b)) (λ (b : takes.lane < lane). omega (arith, e, b)) o) in omega (arith, same))
+      (cases_order lane takes.lane)
+
   held_before : Contains t.began.view.lanes takes.lane
   held_before = subst (λ l. Contains l takes.lane) prepared.has.lanes takes.lowest.held
 

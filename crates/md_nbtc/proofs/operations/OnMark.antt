@@ -104,7 +104,7 @@ module _ (M : Meaning) (t : TxnState) (prepared : IsPrepared t) (acts : List Act
       → IsCourse M after_mark ds → IsGoing M after_mark ds
   mark_going cs ds grow going course = going_of M after_mark ds (stands_after M t.field.origin event t.pass.view q step lanes_are)
       (subst (λ u. Rest M u ds) after_is (turned_rest at_base base_prepared acts operating M cs ds grow
-      (rest_on M t (record t.pass { view = base }) base_later prepared.has.since cs (rest_of M t cs going) base_prepared)
+      (rest_on M t (record t.pass { view = base }) base_later prepared.has.since refl cs (rest_of M t cs going) base_prepared)
       (subst (λ u. IsCourse M u ds) (sym after_is) course)))
 
 -- what contracts see of the transaction then

@@ -177,5 +177,14 @@ module _ (t : TxnState) (prepared : IsPrepared t) (acts : List Act) (operating :
         places = All-weaker (λ (w : Write). MayChange M t w.word) (λ (w : Write). MayChange M turned w.word) (λ w. change_turned w.word) (writes_in t) g.places;
         course = course;
         cleanups = All-weaker _ _ (λ (s : Slot) kept. IfSome_then s.cleanup kept (kept_turned s.write)) t.slots g.cleanups;
-        stop = λ s is. let c = g.stop s is in record { moved = c.moved; others = c.others };
+        stop = λ s is. let c = g.stop s is in record {
+          moved = c.moved;
+          others = c.others;
+          reads = c.reads;
+          writes = c.writes;
+          nodes = c.nodes;
+          worn = c.worn;
+          no_tries = c.no_tries;
+          no_memory = c.no_memory;
+        };
       }

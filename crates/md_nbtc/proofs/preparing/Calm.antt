@@ -91,7 +91,7 @@ module _ (M : Meaning) (t : TxnState) (way : IsUnderWay M t) (q : PassView) (ste
 
   -- so it goes on
   pub over_on : GoesOn M t over
-  over_on = record { going = λ cs g. going_on M t (record t.pass { view = q }) over_later prepared.has.since cs g stands over_prepared; later = over_later }
+  over_on = record { going = λ cs g. going_on M t (record t.pass { view = q }) over_later prepared.has.since refl cs g stands over_prepared; later = over_later }
 
   -- what was given of the other words stays so
   pub over_given : (other : ℕ) (seen : Seen) → other ≢ word → Gave t other seen → Gave over other seen

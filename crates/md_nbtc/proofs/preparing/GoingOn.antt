@@ -1,5 +1,5 @@
 -- A transaction that only made steps goes on.
-use Rattle.std.proofs.Common.{◌≡◌, ◌++◌, ◌∷◌, ℕ, List, Some, length, drop, sym, ap, ◌∙◌, subst, inl, inr, ⊎_elim, append_assoc, arith, IfSome}
+use Rattle.std.proofs.Common.{◌≡◌, ◌++◌, ◌∷◌, ◌≤◌, ℕ, List, Some, length, drop, refl, sym, ap, ◌∙◌, subst, inl, inr, ⊎_elim, append_assoc, arith, IfSome}
 use Rattle.std.proofs.lemmas.List.{drop-append-le, length-append}
 use Rattle.std.proofs.lemmas.List.Elements.{All-weaker, Contains-append_left}
 use Rattle.std.proofs.lemmas.Option.{IfSome_then}
@@ -16,6 +16,12 @@ use Rattle.md_machine.specs.declared.step.Step.{Step}
 use Rattle.md_machine.specs.Meaning.{Meaning}
 use Rattle.md_machine.specs.Moved.{Concerns, Moved}
 use Rattle.md_machine.specs.Trail.{SomeStep}
+use Rattle.md_machine.specs.clauses.passes.Alone.{HoldsAll}
+use Rattle.md_words.specs.declared.limits.TheConstants.{SET}
+use Rattle.md_words.specs.PlaceAt.{IsCounted}
+use Rattle.md_arena.specs.Left.{HasNodeLeft, NoLane}
+use Rattle.md_rule.specs.declared.shares.Share.{Share}
+use Rattle.md_rule.specs.Shares.{share_at}
 use Rattle.md_words.specs.declared.shape.Shape.{Shape}
 use Rattle.md_rule.specs.Views.{PassState}
 use Rattle.md_help.specs.After.{Stands}
@@ -60,6 +66,43 @@ moved_more shape a steps more shown m = record {
   concerns = concerns_more shape a shown.word steps more m.concerns;
 }
 
+-- a pass with the same lanes, of each of which it took no fewer nodes, has no node left where the other had none
+pub none_left : (p q : PassState) → q.shape ≡ p.shape → q.view.lanes ≡ p.view.lanes
+    → ((lane : ℕ) → (share_at p.shares lane).nodes_taken ≤ (share_at q.shares lane).nodes_taken) → NoLane p (HasNodeLeft p) → NoLane q (HasNodeLeft q)
+none_left p q shape lanes more none lane held left = none lane (subst (λ l. Contains l lane) lanes held)
+    (let a = more lane in let b = ap (λ (s : Shape). s.nodes) shape in omega (arith, a, b, left))
+
+-- a later state of an attempt in which no set shrank, and in which the pass has no node left where it had none
+pub record KeepsSets (t u : TxnState) : Type 0 where
+  pub shape : shape_in u ≡ shape_in t
+  pub attempt : attempt_in u ≡ attempt_in t
+  pub lanes : u.pass.view.lanes ≡ t.pass.view.lanes
+  pub steps : List Step
+  pub own : own_steps u ≡ own_steps t ++ steps
+  pub reads : length t.reads ≡ SET → length u.reads ≡ SET
+  pub slots : length t.slots ≡ SET → length u.slots ≡ SET
+  pub nodes : NoLane t.pass (HasNodeLeft t.pass) → NoLane u.pass (HasNodeLeft u.pass)
+
+pub cause_kept : (t u : TxnState) → KeepsSets t u → (s : Stop) → HasCause t s → HasCause u s
+cause_kept t u k s c = record {
+  moved = λ shown is. subst (λ l. Moved (shape_in u) (attempt_in u) l shown) (sym k.own)
+      (subst (λ x. Moved x (attempt_in u) (own_steps t ++ k.steps) shown) (sym k.shape)
+      (subst (λ a. Moved (shape_in t) a (own_steps t ++ k.steps) shown) (sym k.attempt)
+      (moved_more (shape_in t) (attempt_in t) (own_steps t) k.steps shown (c.moved shown is))));
+  others = λ shown is all. c.others shown is
+      (subst (λ x. HoldsAll x t.pass.view) k.shape (λ lane below. subst (λ l. Contains l lane) k.lanes (all lane below)));
+  reads = λ is. k.reads (c.reads is);
+  writes = λ is. k.slots (c.writes is);
+  nodes = λ is. k.nodes (c.nodes is);
+  worn = λ word count is. let w = c.worn word count is in let m = w.2 in (
+    subst (λ x. IsCounted x word) (sym k.shape) w.0,
+    w.1,
+    (m.0, subst (λ l. Contains l m.0) (sym k.own) (Contains-append_left (own_steps t) k.steps m.0 m.1), m.2),
+  );
+  no_tries = c.no_tries;
+  no_memory = c.no_memory;
+}
+
 -- what is so of a transaction under way, but that its pass stands in a machine: between the two changes of a mark none does
 pub record Rest (M : Meaning) (t : TxnState) (cs : List Certificate) : Type 0 where
   pub prepared : IsPrepared t
@@ -90,12 +133,17 @@ module _ (M : Meaning) (t : TxnState) (pass : PassState) where
     pub own_more : own_steps stepped_on ≡ own_steps t ++ later.steps.rest
     own_more = own_grows t.began.view.trail t.pass.view.trail pass.view.trail later.steps.rest since later.steps.is
 
-    cause_more : (s : Stop) → HasCause t s → HasCause stepped_on s
-    cause_more s c = record {
-      moved = λ shown is. subst (λ l. Moved (shape_in t) (attempt_in t) l shown) (sym own_more)
-          (moved_more (shape_in t) (attempt_in t) (own_steps t) later.steps.rest shown (c.moved shown is));
-      others = λ shown is all. c.others shown is (λ lane below. subst (λ l. Contains l lane) later.lanes (all lane below));
-    }
+    cause_more : pass.shape ≡ t.pass.shape → pass.shares ≡ t.pass.shares → (s : Stop) → HasCause t s → HasCause stepped_on s
+    cause_more shape shares = cause_kept t stepped_on (record {
+      shape = refl;
+      attempt = refl;
+      lanes = later.lanes;
+      steps = later.steps.rest;
+      own = own_more;
+      reads = λ full. full;
+      slots = λ full. full;
+      nodes = none_left t.pass pass shape later.lanes (λ lane. subst (λ (x : List Share). (share_at t.pass.shares lane).nodes_taken ≤ (share_at x lane).nodes_taken) (sym shares) (omega arith));
+    })
 
     placed_more : (node : ℕ) (s : Structure) → KnowsPlaced M t node s → KnowsPlaced M stepped_on node s
     placed_more node s = known_later M (λ u h. h.placed node ≡ Some s) t stepped_on later
@@ -160,16 +208,16 @@ module _ (M : Meaning) (t : TxnState) (pass : PassState) where
       stand = known_later M _ t stepped_on later c.stand;
     }
 
-    pub rest_on : (cs : List Certificate) → Rest M t cs → IsPrepared stepped_on → Rest M stepped_on cs
-    rest_on cs g prepared = record {
+    pub rest_on : pass.shares ≡ t.pass.shares → (cs : List Certificate) → Rest M t cs → IsPrepared stepped_on → Rest M stepped_on cs
+    rest_on shares cs g prepared = record {
       prepared = prepared;
       nodes = All-weaker _ _ unplaced_more t.nodes g.nodes;
       first = λ word content is. first_more word _ (g.first word content is);
       places = All-weaker _ _ (λ (w : Write). change_more w.word) _ g.places;
       course = course_more cs g.course;
       cleanups = All-weaker _ _ (λ (s : Slot) kept. IfSome_then s.cleanup kept (kept_more cs s.write)) t.slots g.cleanups;
-      stop = λ s is. cause_more s (g.stop s is);
+      stop = λ s is. cause_more (prepared.has.of.shape ∙ sym g.prepared.has.of.shape) shares s (g.stop s is);
     }
 
-    pub going_on : (cs : List Certificate) → IsGoing M t cs → Stands M t.field.origin pass.view → IsPrepared stepped_on → IsGoing M stepped_on cs
-    going_on cs g stands prepared = going_of M stepped_on cs stands (rest_on cs (rest_of M t cs g) prepared)
+    pub going_on : pass.shares ≡ t.pass.shares → (cs : List Certificate) → IsGoing M t cs → Stands M t.field.origin pass.view → IsPrepared stepped_on → IsGoing M stepped_on cs
+    going_on shares cs g stands prepared = going_of M stepped_on cs stands (rest_on shares cs (rest_of M t cs g) prepared)

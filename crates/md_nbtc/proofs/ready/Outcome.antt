@@ -33,7 +33,7 @@ use Rattle.md_nbtc.specs.Ending.{IsReady, IsShown, Readies, Stopped, shown_unrea
 use Rattle.md_nbtc.specs.Going.{IsGoing}
 use Rattle.md_nbtc.specs.Prepared.{IsPrepared}
 use Rattle.md_nbtc.specs.State.{OwnNode, TxnState, attempt_in, lot_of_lane, lots_since, own_steps, shape_in, state_of, taken_since, writes_in}
-use Rattle.md_nbtc.specs.Withdrawing.{HasFate}
+use Rattle.md_nbtc.specs.Withdrawing.{HasFate, MeetsFate}
 use Rattle.md_nbtc.specs.Withdrawn.{MayWithdraw, Withdraws}
 use Rattle.md_nbtc.proofs.looks.Loaded.{free_over}
 use Rattle.md_nbtc.proofs.preparing.GoingOn.{moved_more, own_grows}
@@ -119,6 +119,16 @@ module _ (M : Meaning) (t : TxnState) (prepared : IsPrepared t) (f : ℕ → Own
         met = (m.step, subst (λ l. Contains l m.step) (sym (trail_after (shape_in t) (m.step ∷ []) t.pass.view r.view m.goes)) (Contains-push t.pass.view.trail m.step), inr (record { there = m.there; after = m.left_it }));
       }
 
+  met : MeetsFate (shape_in t) (attempt_in t) Aborted b
+  met =
+      let m = lost_made M t prepared r.view found apart step in
+      let word : found ≡ status_word Aborted 0 (attempt_in t).serial = found_aborted M t prepared r.view found apart step ∙ sym (status_word-adds Aborted 0 (attempt_in t).serial) in (
+        found,
+        inr (record { there = m.there; after = m.left_it }),
+        ap serial_of word ∙ serial_of-status_word Aborted 0 (attempt_in t).serial (omega arith),
+        ap status_of word ∙ status_of-status_word Aborted 0 (attempt_in t).serial,
+      )
+
   free : (node : ℕ) → IsFreeBy t.pass.view.seen t.pass.view.known node → IsFreeBy r.view.seen r.view.known node
   free node =
       let m = lost_made M t prepared r.view found apart step in
@@ -146,10 +156,10 @@ module _ (M : Meaning) (t : TxnState) (prepared : IsPrepared t) (f : ℕ → Own
       ap (λ x. made x was found) word_is ∙ ap (λ y. made (address (shape_in t) (desc_status (attempt_in t).desc)) y found) was_is
       ∙ ap (made (address (shape_in t) (desc_status (attempt_in t).desc)) (unready_word (attempt_in t))) (found_aborted M t prepared r.view found apart step)
 
-  module _ (a : AttemptId) (is : a ≡ attempt_in t) (s : PassState) (w : Withdraws M t.field.origin t.began r a s) where
+  module _ (a : AttemptId) (is : a ≡ attempt_in t) (s : PassState) (w : Withdraws M t.field.origin t.began r a (writes_in t) s) where
     pub lost_stopped : Stopped M t s
-    lost_stopped = met_stopped t prepared f node_is nodes r.view b (lost_made M t prepared r.view found apart step).goes quiet fate free M none s
-        (subst (λ x. Withdraws M t.field.origin t.began x (attempt_in t) s) same (subst (λ x. Withdraws M t.field.origin t.began r x s) is w))
+    lost_stopped = met_stopped t prepared f node_is nodes r.view b (lost_made M t prepared r.view found apart step).goes quiet fate free M met none s
+        (subst (λ x. Withdraws M t.field.origin t.began x (attempt_in t) (writes_in t) s) same (subst (λ x. Withdraws M t.field.origin t.began r x (writes_in t) s) is w))
 
     pub lost_shows : IsShown t s (shown_unready t)
     lost_shows =

@@ -1,5 +1,5 @@
 -- A transaction that recorded a word goes on.
-use Rattle.std.proofs.Common.{◌≡◌, ◌≢◌, ◌++◌, ◌∷◌, ◌<◌, ℕ, true, false, List, [], length, Some, None, is_some, refl, sym, ap, ◌∙◌, subst, inl, ⊎_elim}
+use Rattle.std.proofs.Common.{◌≡◌, ◌≢◌, ◌++◌, ◌∷◌, ◌<◌, ℕ, true, false, List, [], length, Some, None, is_some, refl, sym, ap, ◌∙◌, subst, inl, ⊎_elim, arith}
 use Rattle.std.proofs.lemmas.Bool.{cases_eq}
 use Rattle.std.proofs.lemmas.List.{append-nil}
 use Rattle.std.proofs.lemmas.List.Elements.{All-weaker, Contains-push_cases}
@@ -30,7 +30,7 @@ use Rattle.md_nbtc.specs.Seeing.{Gave, MayChange, SeesContent}
 use Rattle.md_nbtc.specs.State.{TxnState, attempt_in, own_steps, seen_content, shape_in, writes_in}
 use Rattle.md_nbtc.proofs.looks.Given.{gave_same}
 use Rattle.md_nbtc.proofs.preparing.Carried.{change_carried, first_carried, kept_carried, unplaced_carried}
-use Rattle.md_nbtc.proofs.preparing.GoingOn.{moved_more}
+use Rattle.md_nbtc.proofs.preparing.GoingOn.{cause_kept, none_left}
 use Rattle.md_nbtc.proofs.preparing.Fronts.{front_after}
 use Rattle.md_nbtc.proofs.preparing.Later.{known_later}
 use Rattle.md_nbtc.proofs.recording.ReadMore.{counted_apart, now, own_then, read_prepared}
@@ -79,11 +79,16 @@ module _ (M : Meaning) (t : TxnState) (prepared : IsPrepared t) (word : ℕ) (se
   }
 
   cause_more : (s : Stop) → HasCause t s → HasCause noted s
-  cause_more s c = record {
-    moved = λ shown is. subst (λ l. Moved (shape_in t) (attempt_in t) l shown) (sym own_more)
-        (moved_more (shape_in t) (attempt_in t) (own_steps t) steps shown (c.moved shown is));
-    others = λ shown is all. c.others shown is (λ lane below. subst (λ l. Contains l lane) lanes_same (all lane below));
-  }
+  cause_more = cause_kept t noted (record {
+    shape = refl;
+    attempt = refl;
+    lanes = lanes_same;
+    steps = steps;
+    own = own_more;
+    reads = λ full. absurd (omega (arith, full, room));
+    slots = λ full. full;
+    nodes = none_left t.pass noted.pass refl lanes_same (λ lane. omega arith);
+  })
 
   module _ (parts : (value_of (seen_content seen) ≡ seen.value) × (count_of (seen_content seen) ≡ seen.count)) (gave : Gave t word seen) (other : seen.own ≡ false) (found : IsFoundFirst M t word seen.value) (unread : content_read t.reads word ≡ None) where
     sees : SeesContent t word seen

@@ -1,9 +1,7 @@
 -- Why a note stops a transaction, which goes on with the stop.
 use Rattle.std.proofs.Common.{◌≡◌, ◌≢◌, ℕ, false, Some, sym, ◌∙◌, subst, ⊎_elim}
-use Rattle.md_history.specs.declared.stops.Limit.{Limit}
-use Rattle.md_history.specs.declared.stops.Shown.{Shown}
 use Rattle.md_history.specs.declared.stops.Stop.{Stop}
-use Rattle.md_history.specs.declared.stops.Stop.TheVariants.{Conflict, Limit as Limited}
+use Rattle.md_history.specs.declared.stops.Stop.TheVariants.{Conflict}
 use Rattle.md_machine.specs.Certified.{content_read}
 use Rattle.md_machine.specs.Meaning.{Meaning}
 use Rattle.md_machine.specs.Moved.{Moved}
@@ -13,15 +11,9 @@ use Rattle.md_nbtc.specs.Calls.{GoesOn}
 use Rattle.md_nbtc.specs.Going.{HasCause, IsUnderWay}
 use Rattle.md_nbtc.specs.Seeing.{Gave}
 use Rattle.md_nbtc.specs.State.{TxnState, attempt_in, own_steps, seen_content, shape_in}
+use Rattle.md_nbtc.proofs.keeping.Causes.{conflict_cause}
 use Rattle.md_nbtc.proofs.looks.Halted.{halted, halted_going, halted_later}
 use Rattle.md_nbtc.proofs.recording.ReadSets.{read_of}
-
--- a limit is no conflict
-pub limit_cause : (t : TxnState) (limit : Limit) → HasCause t (Limited limit)
-limit_cause t limit = record { moved = λ shown is. absurd (other shown is); others = λ shown is. absurd (other shown is) }
-  where
-    other : (shown : Shown) → Limited limit ≡ Conflict shown → ⊥
-    other shown e = cc
 
 -- a stop leaves what was given
 pub stopped_gave : (t : TxnState) (stop : Stop) (word : ℕ) (seen : Seen) → Gave t word seen → Gave (record t { stop = Some stop }) word seen
@@ -41,16 +33,10 @@ moved_cause t word seen gave other was now recorded now_is differ =
     (λ same. absurd (differ (sym read.3 ∙ same ∙ sym now_is)))
     (λ m. subst (λ n. Moves was n) (sym now_is) (subst (λ n. Moves n (seen_content seen)) read.3 m))
     ((gave.content other).moved read.0 read.1 read.2) in
-    record {
-      moved = λ shown is. subst (Moved (shape_in t) (attempt_in t) (own_steps t)) (same_shown _ shown is) so.0;
-      others = λ shown is. so.1;
-    }
+    conflict_cause t (record { word = word; was = was; now = now }) so.0 so.1
   where
     Moves : (was now : ℕ) → Type 0
     Moves was now = Moved (shape_in t) (attempt_in t) (own_steps t) (record { word = word; was = was; now = now }) × (¬ HoldsAll (shape_in t) t.pass.view)
-
-    same_shown : (x y : Shown) → Conflict x ≡ Conflict y → x ≡ y
-    same_shown x y e = cc
 
 pub stopped_on : (M : Meaning) (t : TxnState) (going : IsUnderWay M t) (stop : Stop) → HasCause t stop → GoesOn M t (halted t going.1.prepared stop)
 stopped_on M t going stop cause = record { going = halted_going t going.1.prepared stop M cause; later = halted_later t going.1.prepared stop }

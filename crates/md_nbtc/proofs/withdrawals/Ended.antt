@@ -141,7 +141,7 @@ module _ (M : Meaning) (o : Origin) (began p q r s : PassState) (a : AttemptId) 
     no_load : Load ≡ Exchange → ⊥
     no_load e = cc
 
-    pub withdrawn : Withdraws M o began p a s
+    pub withdrawn : Withdraws M o began p a writes s
     withdrawn = record {
       stands = stands_after M o (λ pass. mark_end pass) r.view s.view step lanes_marked;
       same = record {
@@ -164,6 +164,10 @@ module _ (M : Meaning) (o : Origin) (began p q r s : PassState) (a : AttemptId) 
       back = λ lane. ap (λ (x : PassState). (share_at x.shares lane).nodes_taken) marks ∙ (ends_share lane).0 ∙ ap (λ (x : Share). x.nodes_taken) (share_is lane);
       steps = t.steps ++ mark ∷ [];
       trail = trail_is;
+      outs = t.steps;
+      mark = mark;
+      order = refl;
+      taken = t.each;
       quiet = All-append (λ (x : Step). ¬ (x.kind ≡ Exchange)) t.steps (mark ∷ []) (quiet_zip writes t.steps t.each)
           (All-cons (λ (x : Step). ¬ (x.kind ≡ Exchange)) mark [] no_load (All-nil (λ (x : Step). ¬ (x.kind ≡ Exchange))));
     }

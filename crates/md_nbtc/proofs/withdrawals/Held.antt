@@ -19,7 +19,7 @@ use Rattle.md_machine.specs.Meaning.{Meaning}
 use Rattle.md_machine.specs.Own.{HasNode}
 use Rattle.md_machine.specs.Resolution.{is_committed}
 use Rattle.md_machine.specs.Stepping.{attempt_in_hand}
-use Rattle.md_machine.specs.Trail.{LastStored}
+use Rattle.md_machine.specs.Trail.{LastStored, SomeStep}
 use Rattle.md_machine.specs.clauses.nodes.FreeNodes.{IsFreeBy}
 use Rattle.md_machine.specs.events.Mark.{answered, without}
 use Rattle.md_rule.specs.Views.{PassState}
@@ -29,7 +29,7 @@ use Rattle.md_nbtc.specs.declared.sets.Slot.{Slot}
 use Rattle.md_nbtc.specs.Ending.{Stopped}
 use Rattle.md_nbtc.specs.Prepared.{EachFrom, IsHeld, IsWritten}
 use Rattle.md_nbtc.specs.State.{OwnNode, TxnState, attempt_in, shape_in, taken_of_lane, taken_since, writes_in}
-use Rattle.md_nbtc.specs.Withdrawing.{AreInstalled, HasFate, IsInstalled}
+use Rattle.md_nbtc.specs.Withdrawing.{AreInstalled, HasFate, IsInstalled, MeetsFate}
 use Rattle.md_nbtc.specs.Withdrawn.{MayWithdraw, Withdraws}
 use Rattle.md_nbtc.proofs.preparing.Out.{out_on}
 use Rattle.md_nbtc.proofs.preparing.Quiet.{IsQuiet}
@@ -84,8 +84,8 @@ module _ (t : TxnState) (h : IsHeld t) (q : PassView) (steps : List Step) (goes 
   }
 
   -- and then it is stopped
-  pub held_stopped : (M : Meaning) → All (λ (s : Step). ¬ (s.kind ≡ Exchange)) steps → (s : PassState) → Withdraws M t.field.origin t.began now (attempt_in t) s → Stopped M t s
-  held_stopped M none s w = record {
+  pub held_stopped : (M : Meaning) → SomeStep (MeetsFate (shape_in t) (attempt_in t) Aborted) steps → All (λ (s : Step). ¬ (s.kind ≡ Exchange)) steps → (s : PassState) → Withdraws M t.field.origin t.began now (attempt_in t) (writes_in t) s → Stopped M t s
+  held_stopped M met none s w = record {
     down = record {
       stands = w.stands;
       same = record {
@@ -105,6 +105,12 @@ module _ (t : TxnState) (h : IsHeld t) (q : PassView) (steps : List Step) (goes 
     steps = steps ++ w.steps;
     trail = trail_is;
     quiet = All-append (λ (x : Step). ¬ (x.kind ≡ Exchange)) steps w.steps none w.quiet;
+    deciding = steps;
+    outs = w.outs;
+    mark = w.mark;
+    order = ap (λ l. steps ++ l) w.order;
+    met = met;
+    taken = w.taken;
     mine = w.mine ∙ ap (λ (x : PassView). x.mine) goes.1;
     back = w.back;
   }

@@ -14,13 +14,14 @@ use Rattle.md_machine.specs.Stepping.{attempt_in_hand}
 use Rattle.md_machine.specs.Trail.{is_store}
 use Rattle.md_machine.specs.clauses.nodes.FreeNodes.{IsFreeBy}
 use Rattle.md_machine.proofs.events.Attempts.{attempt_same}
+use Rattle.md_machine.proofs.lists.Rising.{here}
 use Rattle.md_rule.specs.Views.{PassState}
 use Rattle.md_help.specs.After.{IsAfter}
 use Rattle.md_words.specs.declared.status.Status.TheVariants.{Aborted}
 use Rattle.md_nbtc.specs.Ending.{Stopped}
 use Rattle.md_nbtc.specs.Prepared.{IsPrepared, IsPreparedNode}
 use Rattle.md_nbtc.specs.State.{OwnNode, TxnState, attempt_in, shape_in, taken_since, writes_in}
-use Rattle.md_nbtc.specs.Withdrawing.{HasFate}
+use Rattle.md_nbtc.specs.Withdrawing.{HasFate, MeetsFate}
 use Rattle.md_nbtc.specs.Withdrawn.{AbortsHand, IsUnready, MayWithdraw, Withdraws}
 use Rattle.md_nbtc.proofs.preparing.Quiet.{IsQuiet}
 use Rattle.md_nbtc.proofs.withdrawals.Held.{all_numbers, held_may, held_stopped, none_answered}
@@ -65,8 +66,8 @@ module _ (t : TxnState) (prepared : IsPrepared t) where
     met_may = held_may t prepared.has q (step ∷ []) goes (All-cons IsQuiet step [] quiet (All-nil IsQuiet)) fate all_free
         (none_answered q.seen q.known (attempt_in t) (ap (λ (v : PassView). is_ready v.seen (attempt_in t)) goes.1 ∙ prepared.unready))
 
-    pub met_stopped : (M : Meaning) → ¬ (step.kind ≡ Exchange) → (s : PassState) → Withdraws M t.field.origin t.began (record t.pass { view = q }) (attempt_in t) s → Stopped M t s
-    met_stopped M none = held_stopped t prepared.has q (step ∷ []) goes (All-cons IsQuiet step [] quiet (All-nil IsQuiet)) fate M
+    pub met_stopped : (M : Meaning) → MeetsFate (shape_in t) (attempt_in t) Aborted step → ¬ (step.kind ≡ Exchange) → (s : PassState) → Withdraws M t.field.origin t.began (record t.pass { view = q }) (attempt_in t) (writes_in t) s → Stopped M t s
+    met_stopped M met none = held_stopped t prepared.has q (step ∷ []) goes (All-cons IsQuiet step [] quiet (All-nil IsQuiet)) fate M (step, here step [], met)
         (All-cons (λ (s : Step). ¬ (s.kind ≡ Exchange)) step [] none (All-nil (λ (s : Step). ¬ (s.kind ≡ Exchange))))
 
   -- so it is after an abort
@@ -82,6 +83,6 @@ module _ (t : TxnState) (prepared : IsPrepared t) where
     stop_may = subst (λ x. MayWithdraw (shape_in t) t.began x a (writes_in t)) (sym same) (subst (λ x. MayWithdraw (shape_in t) t.began (record t.pass { view = p.view }) x (writes_in t)) (sym is)
         (met_may f node_is nodes p.view aborts.step aborts.goes quiet_is fate_is aborts.free))
 
-    pub stopped : (M : Meaning) (s : PassState) → Withdraws M t.field.origin t.began p a s → Stopped M t s
-    stopped M s w = met_stopped f node_is nodes p.view aborts.step aborts.goes quiet_is fate_is aborts.free M (no_exchange aborts.step.kind aborts.kind) s
-        (subst (λ x. Withdraws M t.field.origin t.began x (attempt_in t) s) same (subst (λ x. Withdraws M t.field.origin t.began p x s) is w))
+    pub stopped : (M : Meaning) (s : PassState) → Withdraws M t.field.origin t.began p a (writes_in t) s → Stopped M t s
+    stopped M s w = met_stopped f node_is nodes p.view aborts.step aborts.goes quiet_is fate_is aborts.free M (subst (λ x. MeetsFate (shape_in t) x Aborted aborts.step) is aborts.met) (no_exchange aborts.step.kind aborts.kind) s
+        (subst (λ x. Withdraws M t.field.origin t.began x (attempt_in t) (writes_in t) s) same (subst (λ x. Withdraws M t.field.origin t.began p x (writes_in t) s) is w))

@@ -101,6 +101,12 @@ module _ (M : Meaning) (o : Origin) (p : PassView) (a : AttemptId) (u : IsUnread
     step = b.step;
     goes = b.goes;
     kind = b.is_kind ∙ is;
+    met = (
+      left,
+      inr (record { there = b.there; after = b.left_it }),
+      ap serial_of left_is ∙ serial_of-status_word Aborted 0 a.serial (omega arith),
+      ap status_of left_is ∙ status_of-status_word Aborted 0 a.serial,
+    );
     fate = record {
       held = ap (λ (x : PassView). attempt_in_hand x.hand) b.goes.1 ∙ u.held;
       own = (u.own.0, subst (λ l. Contains l u.own.0) (sym (ap (λ (x : PassView). x.lanes) b.goes.1)) u.own.1, u.own.2);

@@ -1,5 +1,6 @@
 use Rattle.std.proofs.Common.{◌≡◌, ◌<◌, ◌∙◌, ℕ, Bool, true, false, length, Some, None, Err, refl, sym, ap, subst}
 use Rattle.std.proofs.lemmas.Bool.{true≢false}
+use Rattle.md_words.proofs.Words.{count_of-counted_word}
 use Rattle.md_history.specs.declared.stops.Stop.{Stop}
 use Rattle.md_machine.specs.Certified.{content_read}
 use Rattle.md_machine.specs.Meaning.{Meaning}
@@ -32,7 +33,7 @@ returns-in-Some-clause-on g c =
     let M = g.T.Theory.meaning in
     let t = state c.args.self.now in
     let r = c.requires in
-    halted_on M t r.going.1.prepared c.in-Some.stop (refusal_cause t c.args.word c.args.from c.is_critical-critical.result c.in-Some.stop r.gave r.other (sym c.refusal.ensures ∙ c.in-Some.is))
+    halted_on M t r.going.1.prepared c.in-Some.stop (refusal_cause t c.args.word c.args.from r.gave r.other (count_of-counted_word c.args.from.value c.args.from.count c.refusal.ensures.fits) c.in-Some.stop c.is_critical-critical.result (sym c.refusal.ensures.is ∙ c.in-Some.is))
 
 pub returns-in-Some-clause-exchanged : goal.returns-in-Some-clause-exchanged
 returns-in-Some-clause-exchanged g c =
@@ -40,7 +41,7 @@ returns-in-Some-clause-exchanged g c =
     let t = state c.args.self.now in
     let r = c.requires in
     refused M t (record t { stop = Some c.in-Some.stop }) c.args.word c.args.from c.args.to (case_of_other t c.args.word c.args.from (is_critical t c.args.word c.args.kind)) c.in-Some.stop
-    (ap (λ b. refusal_by (case_of_other t c.args.word c.args.from b) c.args.word c.args.from) (sym c.is_critical-critical.ensures) ∙ sym c.refusal.ensures ∙ c.in-Some.is) refl
+    (ap (λ b. refusal_by (case_of_other t c.args.word c.args.from b) c.args.word c.args.from) (sym c.is_critical-critical.ensures) ∙ sym c.refusal.ensures.is ∙ c.in-Some.is) refl
 
 pub returns-in-Some-clause-given : goal.returns-in-Some-clause-given
 returns-in-Some-clause-given g c other seen differ gave = halted_gave (state c.args.self.now) c.in-Some.stop other seen gave
@@ -50,7 +51,7 @@ install-requires-clause-steps g c =
     let M = g.T.Theory.meaning in
     let t = state c.args.self.now in
     let r = c.requires in
-    ap makes_step (case_is t c.args.word c.args.from c.args.kind c.is_critical-critical.result true c.is_critical-critical.ensures c.if-critical.true (sym c.refusal.ensures ∙ c.in_default.is))
+    ap makes_step (case_is t c.args.word c.args.from c.args.kind c.is_critical-critical.result true c.is_critical-critical.ensures c.if-critical.true (sym c.refusal.ensures.is ∙ c.in_default.is))
 
 pub install-requires-clause-may : goal.install-requires-clause-may
 install-requires-clause-may g c =
@@ -58,7 +59,7 @@ install-requires-clause-may g c =
     let t = state c.args.self.now in
     let r = c.requires in
     (subst (λ k. MayBeOf k M t c.args.word c.args.from c.args.to)
-    (whole_case t c.args.word c.args.from c.args.kind c.is_critical-critical.result true c.is_critical-critical.ensures c.if-critical.true (sym c.refusal.ensures ∙ c.in_default.is)) r.may).0
+    (whole_case t c.args.word c.args.from c.args.kind c.is_critical-critical.result true c.is_critical-critical.ensures c.if-critical.true (sym c.refusal.ensures.is ∙ c.in_default.is)) r.may).0
 
 pub install-requires-clause-first : goal.install-requires-clause-first
 install-requires-clause-first g c =
@@ -66,7 +67,7 @@ install-requires-clause-first g c =
     let t = state c.args.self.now in
     let r = c.requires in
     (subst (λ k. MayBeOf k M t c.args.word c.args.from c.args.to)
-    (whole_case t c.args.word c.args.from c.args.kind c.is_critical-critical.result true c.is_critical-critical.ensures c.if-critical.true (sym c.refusal.ensures ∙ c.in_default.is)) r.may).1
+    (whole_case t c.args.word c.args.from c.args.kind c.is_critical-critical.result true c.is_critical-critical.ensures c.if-critical.true (sym c.refusal.ensures.is ∙ c.in_default.is)) r.may).1
 
 pub returns-then-critical-clause-exchanged : goal.returns-then-critical-clause-exchanged
 returns-then-critical-clause-exchanged g c =
@@ -74,7 +75,7 @@ returns-then-critical-clause-exchanged g c =
     let t = state c.args.self.now in
     let r = c.requires in
     subst (λ k. Exchanges k M t (state c.install.new.self) c.args.word c.args.from c.args.to c.install.result)
-    (sym (whole_case t c.args.word c.args.from c.args.kind c.is_critical-critical.result true c.is_critical-critical.ensures c.if-critical.true (sym c.refusal.ensures ∙ c.in_default.is))) c.install.ensures.exchanged
+    (sym (whole_case t c.args.word c.args.from c.args.kind c.is_critical-critical.result true c.is_critical-critical.ensures c.if-critical.true (sym c.refusal.ensures.is ∙ c.in_default.is))) c.install.ensures.exchanged
 
 pub change_plainly-requires-clause-fits : goal.change_plainly-requires-clause-fits
 change_plainly-requires-clause-fits g c =
@@ -82,7 +83,7 @@ change_plainly-requires-clause-fits g c =
     let t = state c.args.self.now in
     let r = c.requires in
     (step_made (content_read t.reads c.args.word) (seen_content c.args.from) c.args.from.count (length t.slots) false
-    (ap makes_step (case_is t c.args.word c.args.from c.args.kind c.is_critical-critical.result false c.is_critical-critical.ensures c.if-critical.false (sym c.refusal.ensures ∙ c.in_default.is)))).fits
+    (ap makes_step (case_is t c.args.word c.args.from c.args.kind c.is_critical-critical.result false c.is_critical-critical.ensures c.if-critical.false (sym c.refusal.ensures.is ∙ c.in_default.is)))).fits
 
 pub change_plainly-requires-clause-plain : goal.change_plainly-requires-clause-plain
 change_plainly-requires-clause-plain g c = plain_kind (state c.args.self.now) c.args.word c.args.kind (sym c.is_critical-critical.ensures ∙ c.if-critical.false)
@@ -93,7 +94,7 @@ change_plainly-requires-clause-may g c =
     let t = state c.args.self.now in
     let r = c.requires in
     (subst (λ k. MayBeOf k M t c.args.word c.args.from c.args.to)
-    (whole_case t c.args.word c.args.from c.args.kind c.is_critical-critical.result false c.is_critical-critical.ensures c.if-critical.false (sym c.refusal.ensures ∙ c.in_default.is)) r.may).0
+    (whole_case t c.args.word c.args.from c.args.kind c.is_critical-critical.result false c.is_critical-critical.ensures c.if-critical.false (sym c.refusal.ensures.is ∙ c.in_default.is)) r.may).0
 
 pub change_plainly-requires-clause-tidy : goal.change_plainly-requires-clause-tidy
 change_plainly-requires-clause-tidy g c =
@@ -101,7 +102,7 @@ change_plainly-requires-clause-tidy g c =
     let t = state c.args.self.now in
     let r = c.requires in
     (subst (λ k. MayBeOf k M t c.args.word c.args.from c.args.to)
-    (whole_case t c.args.word c.args.from c.args.kind c.is_critical-critical.result false c.is_critical-critical.ensures c.if-critical.false (sym c.refusal.ensures ∙ c.in_default.is)) r.may).1
+    (whole_case t c.args.word c.args.from c.args.kind c.is_critical-critical.result false c.is_critical-critical.ensures c.if-critical.false (sym c.refusal.ensures.is ∙ c.in_default.is)) r.may).1
 
 pub returns-else-critical-clause-exchanged : goal.returns-else-critical-clause-exchanged
 returns-else-critical-clause-exchanged g c =
@@ -109,4 +110,4 @@ returns-else-critical-clause-exchanged g c =
     let t = state c.args.self.now in
     let r = c.requires in
     subst (λ k. Exchanges k M t (state c.change_plainly.new.self) c.args.word c.args.from c.args.to c.change_plainly.result)
-    (sym (whole_case t c.args.word c.args.from c.args.kind c.is_critical-critical.result false c.is_critical-critical.ensures c.if-critical.false (sym c.refusal.ensures ∙ c.in_default.is))) c.change_plainly.ensures.exchanged
+    (sym (whole_case t c.args.word c.args.from c.args.kind c.is_critical-critical.result false c.is_critical-critical.ensures c.if-critical.false (sym c.refusal.ensures.is ∙ c.in_default.is))) c.change_plainly.ensures.exchanged

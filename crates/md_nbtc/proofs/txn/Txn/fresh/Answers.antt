@@ -12,16 +12,18 @@ use Rattle.md_rule.specs.Steps.{May, Stepped, SteppedFrom}
 use Rattle.md_rule.specs.Views.{PassState}
 use Rattle.md_arena.proofs.TakenNodes.{past_base}
 use Rattle.md_nbtc.specs.Calls.{AfterStop, Freshened, GoesOn}
+use Rattle.md_nbtc.specs.Going.{HasCause}
 use Rattle.md_nbtc.specs.Prepared.{IsPrepared}
 use Rattle.md_nbtc.specs.Seeing.{Gave}
 use Rattle.md_nbtc.specs.State.{TxnState, shape_in, state, state_of}
+use Rattle.md_nbtc.proofs.keeping.Causes.{nodes_cause}
 use Rattle.md_nbtc.proofs.looks.Loaded.{loaded_is, loaded_so}
 use Rattle.md_nbtc.proofs.nodes.FreshSteps.{StoresNode, freshens, goes_on, keeps_given, lane_held, lane_is, lot_fits, one_more}
 use Rattle.md_nbtc.proofs.nodes.Freshening.{may_key, may_next, may_value, three}
 use Rattle.md_nbtc.proofs.nodes.Taking.{exists, given_back, highest, knows_then}
-use Rattle.md_nbtc.proofs.nodes.Worn.{only_load, worn_found, worn_given, worn_on}
+use Rattle.md_nbtc.proofs.nodes.Worn.{is_worn, only_load, worn_found, worn_given, worn_on}
 use Rattle.md_nbtc.proofs.preparing.Heaps.{goes_self}
-use Rattle.md_nbtc.proofs.recording.Stopping.{limit_cause, stopped_gave, stopped_on}
+use Rattle.md_nbtc.proofs.recording.Stopping.{stopped_gave, stopped_on}
 use Rattle.md_nbtc.proofs.txn.Txn.fresh.Given.{Over}
 use Rattle.md_nbtc.proofs.txn.Txn.fresh.Goals as goal
 
@@ -38,7 +40,7 @@ returns-in-Err-clause-on g c =
     let t = state x in
     let prepared = c.requires.going.1.prepared in
     subst (λ (p : PassState). GoesOn g.T.Theory.meaning t (state_of x.field.now p x.began.value x.reads x.slots (Some (Limited c.in-Err.limit)) x.desc x.serial x.tag x.lots)) (sym c.in-Err.ensures.limit.1)
-    (stopped_on g.T.Theory.meaning t c.requires.going (Limited c.in-Err.limit) (limit_cause t c.in-Err.limit))
+    (stopped_on g.T.Theory.meaning t c.requires.going (Limited c.in-Err.limit) (subst (λ l. HasCause t (Limited l)) (sym c.in-Err.ensures.limit.0) (nodes_cause t (c.take_node.ensures.none.0 (c.in-Err.is ∙ ap Err c.in-Err.ensures.limit.0)))))
 
 pub returns-in-Err-clause-given : goal.returns-in-Err-clause-given
 returns-in-Err-clause-given g c other word seen differ gave =
@@ -116,7 +118,9 @@ returns-then-found-ge-WORN-clause-on g c =
     subst (GoesOn M t) (sym (worn_so g c))
     (worn_on M t prepared c.in-Ok.node c.take_node.new.pass c.in-Ok.ensures.takes c.in-Ok.ensures.free c.load.new.self c.load.ensures.same
     c.node_next-word.result (next_at g c) c.load.result c.load.ensures.step c.give_back.new.pass c.give_back.ensures.gives
-    (limit g c))
+    (limit g c) (is_worn M t prepared c.in-Ok.node c.take_node.new.pass c.in-Ok.ensures.takes c.in-Ok.ensures.free c.load.new.self c.load.ensures.same
+    c.node_next-word.result (next_at g c) c.load.result c.load.ensures.step c.give_back.new.pass c.give_back.ensures.gives
+    c.node_next-word.result c.of-found.result.count (next_at g c) (ap (λ (y : Content). y.count) c.of-found.ensures.parts) c.if-found-ge-WORN.true))
 
 pub returns-then-found-ge-WORN-clause-fresh : goal.returns-then-found-ge-WORN-clause-fresh
 returns-then-found-ge-WORN-clause-fresh g c =

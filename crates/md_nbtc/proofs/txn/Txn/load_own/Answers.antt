@@ -15,7 +15,8 @@ use Rattle.md_nbtc.proofs.looks.Looking.{one_look}
 use Rattle.md_nbtc.proofs.looks.Loaded.{loaded_given, loaded_is, loaded_so}
 use Rattle.md_nbtc.proofs.looks.OwnLooks.{desc_fits, new_fits, old_room, own_looks}
 use Rattle.md_nbtc.proofs.looks.OwnSlots.{IsSlotOf, slot_found}
-use Rattle.md_nbtc.proofs.looks.Stopped.{conflict_cause, loaded_on, stopped_gave, stopped_on}
+use Rattle.md_nbtc.proofs.keeping.Causes.{conflict_cause}
+use Rattle.md_nbtc.proofs.looks.Stopped.{loaded_on, stopped_gave, stopped_on}
 use Rattle.md_nbtc.proofs.txn.Txn.load_own.Goals as goal
 
 pub get-requires : goal.get-requires

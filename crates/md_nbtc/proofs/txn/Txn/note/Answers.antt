@@ -1,6 +1,7 @@
 use Rattle.std.proofs.Common.{sym, ◌∙◌}
 use Rattle.md_nbtc.specs.State.{state}
 use Rattle.md_nbtc.proofs.preparing.Heaps.{goes_self}
+use Rattle.md_nbtc.proofs.keeping.Causes.{reads_cause}
 use Rattle.md_nbtc.proofs.recording.Stopping.{moved_cause}
 use Rattle.md_nbtc.proofs.txn.Txn.note.Goals as goal
 
@@ -20,3 +21,6 @@ halt-requires-clause-cause g c =
 
 pub returns-in-Some-content-clause-gave : goal.returns-in-Some-content-clause-gave
 returns-in-Some-content-clause-gave g c = c.halt.ensures.gave c.args.word c.args.seen c.requires.gave
+
+pub halt-requires-then-len-clause-cause : goal.halt-requires-then-len-clause-cause
+halt-requires-then-len-clause-cause g c = reads_cause (state c.args.self.now) (sym c.len.ensures ∙ c.if-len.true)
