@@ -1,10 +1,8 @@
 -- A transaction of the store under way, as the calls of transactions see it.
-use Rattle.std.specs.Prelude.{◌≡◌, ℕ, false, [], Option, None, option_map}
-use Rattle.md_history.specs.declared.acts.Op.{Op}
-use Rattle.md_history.specs.declared.acts.Reply.{Reply}
-use Rattle.md_history.specs.declared.stops.Stop.{Stop}
-use Rattle.md_history.specs.Calls.{Answered, Refusal, Refused}
-use Rattle.md_nbtc.specs.Ending.{Begins}
+use Rattle.std.specs.Prelude.{◌≡◌, ◌⊎◌, ℕ, false, [], Option, None, option_map}
+use Rattle.md_history.specs.declared.stops.Shown.{Shown}
+use Rattle.md_history.specs.Calls.{Refusal}
+use Rattle.md_nbtc.specs.Ending.{Aborts, Begins, Commits as CommitsTxn, HasEntry, IsShown, Readies, Stopped}
 use Rattle.md_nbtc.specs.Going.{IsUnderWay}
 use Rattle.md_nbtc.specs.Known.{IsLater}
 use Rattle.md_nbtc.specs.State.{TxnState}
@@ -52,3 +50,26 @@ pub record IsNew (f : FieldView) (p : PassState) (tag : ℕ) (r : Running) : Typ
   pub field : r.kept.field ≡ f
   pub acts : r.now.hand.acts ≡ []
   pub refused : r.refused ≡ None
+
+-- how a transaction ended that had no refusal: its attempt was committed; or it was aborted after it had become ready, or
+-- before, and this is shown
+pub record WasCommitted (u : TxnState) (q : PassState) : Type 0 where
+  pub then_state : TxnState
+  pub entry : HasEntry then_state
+  pub readies : Readies u then_state entry
+  pub answered : HasEntry then_state
+  pub commits : CommitsTxn store then_state answered q
+
+pub record WasAborted (u : TxnState) (q : PassState) (shown : Shown) : Type 0 where
+  pub then_state : TxnState
+  pub entry : HasEntry then_state
+  pub readies : Readies u then_state entry
+  pub aborts : Aborts store then_state q
+  pub is_shown : IsShown then_state q shown
+
+pub record WasUnready (u : TxnState) (q : PassState) (shown : Shown) : Type 0 where
+  pub stopped : Stopped store u q
+  pub is_shown : IsShown u q shown
+
+abbrev pub WasLost : TxnState → PassState → Shown → Type 0
+WasLost u q shown = WasAborted u q shown ⊎ WasUnready u q shown

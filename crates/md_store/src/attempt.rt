@@ -1,9 +1,13 @@
 //! Attempts: a body that is run once, as a transaction of the store.
 
-ghost use Rattle.std.specs.Prelude.{◌≡◌, ◌≢◌};
+ghost use Rattle.std.specs.Prelude.{◌≡◌, false, IfErr, IfOk, None};
 ghost use Rattle.md_history.specs.Attempt.{Commits, IfCommitted, IfStopped, IsCounted, Stops};
 ghost use Rattle.md_history.specs.Engine.{IsNoConflict};
 ghost use Rattle.md_history.specs.Front.{LegalFrom};
+ghost use Rattle.md_nbtc.specs.Going.{IsUnderWay};
+ghost use Rattle.md_nbtc.specs.State.{state};
+ghost use Rattle.md_store.specs.Running.{WasCommitted, WasLost};
+ghost use Rattle.md_store_law.specs.Store.{store};
 ghost use Rattle.md_store.specs.Store.{IsPassOf, MayStop, all_lanes, begun_by, front_in, start_of};
 
 use crate::store::Store;
@@ -14,7 +18,13 @@ use md_rule::Pass;
 use md_store_law::StoreTheory;
 
 // Makes a transaction ready and decides it. What moved, if it was aborted.
-fn finish(txn: Txn<'_, StoreTheory>) -> Result<(), Shown> {
+fn finish(txn: Txn<'_, StoreTheory>) -> Result<(), Shown>
+    requires going { IsUnderWay store (state txn) }
+    requires between { (state txn).hand.operating ≡ false }
+    requires runs { (state txn).stop ≡ None }
+    ensures committed { IfOk result (λ _. WasCommitted (state txn.entry) txn.exit.0.now) }
+    ensures lost { IfErr result (WasLost (state txn.entry) txn.exit.0.now) }
+{
     match txn.ready() {
         Ok(ready) => match ready.decide() {
             Ok(_) => Ok(()),

@@ -5,6 +5,7 @@
 pub use store::{OpenFault, Store};
 pub use txn::StoreTxn;
 
+mod attempt;
 mod begin;
 mod broken;
 mod calls;
