@@ -13,3 +13,4 @@ pub mod withdrawals
 pub mod structures
 pub mod Searching
 pub mod exchanging
+pub mod attempts

@@ -18,8 +18,8 @@ use Rattle.md_machine.specs.declared.step.Step.{Step}
 use Rattle.md_machine.specs.Certified.{RecordsFound, all_changes, all_nodes, first_content}
 use Rattle.md_machine.specs.Meaning.{Meaning}
 use Rattle.md_machine.specs.Moved.{Moved}
-use Rattle.md_rule.specs.Shares.{share_at}
 use Rattle.md_rule.specs.declared.shares.Share.{Share}
+use Rattle.md_rule.specs.Shares.{share_at}
 use Rattle.md_help.specs.After.{IsAfter, Stands}
 use Rattle.md_nbtc.specs.declared.seen.Cleanup.{Cleanup}
 use Rattle.md_nbtc.specs.declared.seen.Cleanup.TheVariants.{MoveTail, Unlink}
@@ -32,9 +32,9 @@ use Rattle.md_nbtc.specs.Prepared.{IsPrepared}
 use Rattle.md_nbtc.specs.Seeing.{MayChange}
 use Rattle.md_nbtc.specs.State.{OwnNode, TxnState, attempt_in, installs_in, own_steps, shape_in, writes_in}
 use Rattle.md_nbtc.proofs.exchanging.ChangedPrepared.{changed, own_then}
-use Rattle.md_nbtc.proofs.preparing.Fronts.{front_after, front_in_hand}
 use Rattle.md_nbtc.proofs.preparing.GoingOn.{moved_more}
 use Rattle.md_nbtc.proofs.preparing.Later.{known_later}
+use Rattle.md_nbtc.proofs.preparing.Fronts.{front_after, front_in_hand}
 
 module _ (M : Meaning) (t : TxnState) (prepared : IsPrepared t) (base : PassView) (s : Step) (after : IsAfter (shape_in t) (s ∷ []) t.pass.view base)
     (changes : List Change) (shares : List Share) (slots : List Slot) where

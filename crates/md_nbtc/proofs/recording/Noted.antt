@@ -31,8 +31,8 @@ use Rattle.md_nbtc.specs.State.{TxnState, attempt_in, own_steps, seen_content, s
 use Rattle.md_nbtc.proofs.looks.Given.{gave_same}
 use Rattle.md_nbtc.proofs.preparing.Carried.{change_carried, first_carried, kept_carried, unplaced_carried}
 use Rattle.md_nbtc.proofs.preparing.GoingOn.{moved_more}
-use Rattle.md_nbtc.proofs.preparing.Fronts.{front_after}
 use Rattle.md_nbtc.proofs.preparing.Later.{known_later}
+use Rattle.md_nbtc.proofs.preparing.Fronts.{front_after}
 use Rattle.md_nbtc.proofs.recording.ReadMore.{counted_apart, now, own_then, read_prepared}
 use Rattle.md_nbtc.proofs.recording.ReadSets.{first_other, first_some, first_this}
 use Rattle.md_nbtc.proofs.recording.StoredRead.{Prepares, StoredRead}

@@ -20,9 +20,9 @@ use Rattle.md_nbtc.proofs.nodes.FreshSteps.{StoresNode, freshens, goes_on, keeps
 use Rattle.md_nbtc.proofs.nodes.Freshening.{may_key, may_next, may_value, three}
 use Rattle.md_nbtc.proofs.nodes.Taking.{exists, given_back, highest, knows_then}
 use Rattle.md_nbtc.proofs.nodes.Worn.{only_load, worn_found, worn_given, worn_on}
-use Rattle.md_nbtc.proofs.preparing.Heaps.{goes_self}
 use Rattle.md_nbtc.proofs.recording.Stopping.{limit_cause, stopped_gave, stopped_on}
 use Rattle.md_nbtc.proofs.txn.Txn.fresh.Given.{Over}
+use Rattle.md_nbtc.proofs.preparing.Heaps.{goes_self}
 use Rattle.md_nbtc.proofs.txn.Txn.fresh.Goals as goal
 
 -- where a word is, by the shape of the transaction
