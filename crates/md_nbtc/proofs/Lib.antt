@@ -16,3 +16,4 @@ pub mod Heads
 pub mod Tested
 pub mod WornWords
 pub mod exchanging
+pub mod attempts

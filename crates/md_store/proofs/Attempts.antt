@@ -1,29 +1,34 @@
 -- What became of an attempt of a store, as its pass tells it.
-use Rattle.std.proofs.Common.{◌≡◌, ◌+◌, ℕ, List, [], ◌∷◌, Option, None, Some, refl, sym, ap, ◌∙◌, subst, ⊎_elim, arith}
+use Rattle.std.proofs.Common.{◌≡◌, ◌+◌, ◌≤◌, ℕ, List, [], ◌∷◌, Option, None, Some, refl, sym, ap, ◌∙◌, subst, ⊎_elim, arith}
 use Rattle.std.specs.Prelude.{option_map}
 use Rattle.std.specs.List.{Contains, sum_by}
 use Rattle.std.proofs.lemmas.Bool.{cases_eq}
 use Rattle.std.proofs.lemmas.List.Sums.{sum_by-cons}
 use Rattle.md_words.specs.declared.shape.Shape.{Shape}
 use Rattle.md_history.specs.declared.acts.Act.{Act}
+use Rattle.md_history.specs.declared.stops.Shown.{Shown}
 use Rattle.md_history.specs.declared.stops.Stop.{Stop}
+use Rattle.md_history.specs.declared.stops.Stop.TheVariants.{Conflict, Limit, NoMemory}
 use Rattle.md_history.specs.Attempt.{Commits as CommitsFront, Stops as StopsFront}
 use Rattle.md_history.specs.Calls.{Refusal}
-use Rattle.md_history.specs.Engine.{IsNoConflict}
-use Rattle.md_history.specs.Front.{Front}
+use Rattle.md_history.specs.Engine.{IsNoConflict, IsRising}
 use Rattle.md_machine.specs.clauses.passes.Alone.{HoldsAll}
 use Rattle.md_machine.specs.clauses.passes.Lanes.{RiseFrom}
 use Rattle.md_machine.specs.Legal.{front_of}
 use Rattle.md_machine.proofs.lists.Rising.{in_cons, in_none, rise_low}
-use Rattle.md_nbtc.specs.Ending.{PutDown}
-use Rattle.md_nbtc.specs.State.{SameTries, TxnState}
+use Rattle.md_help.specs.After.{Stands}
+use Rattle.md_nbtc.specs.Ending.{HasEntry, PutDown, Readies, Stopped}
+use Rattle.md_nbtc.specs.Going.{HasCause}
+use Rattle.md_nbtc.specs.State.{SameTries, TxnState, attempt_in}
 use Rattle.md_nbtc.proofs.attempts.Fronts.{decided_commits, decided_stops, stopped_front}
-use Rattle.md_rule.specs.Lanes.{AreLanes}
 use Rattle.md_rule.specs.Shares.{share_at}
 use Rattle.md_rule.specs.Views.{FieldView, PassState}
+use Rattle.md_rule.specs.declared.shares.Share.{Share}
 use Rattle.md_store_law.specs.Store.{store}
 use Rattle.md_store.specs.Running.{IsRunning, WasAborted, WasCommitted, WasLost, WasUnready}
 use Rattle.md_store.specs.Store.{IsPassOf, MayStop, all_lanes, begun_by, front_in}
+use Rattle.md_store.proofs.Laws.{of_is}
+use Rattle.md_store.proofs.Settlement.{holds_all}
 
 -- a sum over rising numbers in which one more is counted at one of them
 same_sum : (low : ℕ) (xs : List ℕ) (g h : ℕ → ℕ) (d : ℕ) → RiseFrom low xs → d + 1 ≤ low → ((x : ℕ) → ¬ (x ≡ d) → h x ≡ g x) → sum_by h xs ≡ sum_by g xs
@@ -50,30 +55,132 @@ one_more low (x ∷ xs) g h d rise c one others =
     let rest = one_more (x + 1) xs g h d rise.1 later one others in omega (arith, first, rest, mine, theirs))
     (in_cons x xs d c)
 
--- a pass that holds all lanes in the words of a field holds all lanes
 tries_of : PassState → ℕ → ℕ
 tries_of p lane = (share_at p.shares lane).tries_taken
 
+-- each number greater than the one before it, as lanes rise
+rise_from : (low x : ℕ) (xs : List ℕ) → low ≤ x → IsRising (x ∷ xs) → RiseFrom low (x ∷ xs)
+rise_from low x [] least rise = (least, tt)
+rise_from low x (y ∷ ys) least rise = let more = rise.0 in (least, rise_from (x + 1) y ys (omega (arith, more)) rise.1)
+
+lanes_rise : (xs : List ℕ) → IsRising xs → RiseFrom 0 xs
+lanes_rise [] rise = tt
+lanes_rise (x ∷ xs) rise = rise_from 0 x xs (omega arith) rise
+
+may_be : (s : Stop) → ¬ (s ≡ NoMemory) → MayStop s
+may_be (Conflict shown) no = tt
+may_be (Limit limit) no = tt
+may_be NoMemory no = absurd (no refl)
+
 module _ (f : FieldView) (p : PassState) (of : IsPassOf f p) (u : TxnState) (r : Option Refusal) (run : IsRunning p u r) (field : u.field ≡ f) where
-  -- a pass of which the transaction was put down is of the field, and has begun one attempt more
-  module _ (w : TxnState) (q : PassState) (down : PutDown store w q) (same : w.field ≡ f) (table : w.pass.table ≡ p.table) (shape : w.pass.shape ≡ p.shape)
-      (lanes : w.pass.view.lanes ≡ p.view.lanes) (tries : SameTries run.start.pass w.pass) where
-    pub of_then : IsPassOf f q
-    of_then = record {
+  table_is : u.pass.table ≡ p.table
+  table_is = run.going.1.prepared.has.of.table ∙ ap (λ (x : FieldView). x.table) field ∙ sym of.of.table
+
+  shape_is : u.pass.shape ≡ p.shape
+  shape_is = run.going.1.prepared.has.of.shape ∙ ap (λ (x : FieldView). x.origin.shape) field ∙ sym of.of.shape
+
+  lanes_are : u.pass.view.lanes ≡ p.view.lanes
+  lanes_are = run.later.lanes ∙ run.begins.same.lanes
+
+  -- a pass that put the transaction down is of the field, and began one attempt more
+  module _ (w : TxnState) (q : PassState) (down : PutDown store w q) (same : w.field ≡ u.field) (table : w.pass.table ≡ u.pass.table)
+      (shape : w.pass.shape ≡ u.pass.shape) (lanes : w.pass.view.lanes ≡ u.pass.view.lanes) (tries : SameTries u.pass w.pass) where
+    down_of : IsPassOf f q
+    down_of = record {
       of = record {
-        table = down.same.table ∙ table ∙ of.of.table;
-        shape = down.same.shape ∙ shape ∙ of.of.shape;
+        table = down.same.table ∙ table ∙ table_is ∙ of.of.table;
+        shape = down.same.shape ∙ shape ∙ shape_is ∙ of.of.shape;
       };
-      stands = subst (λ (x : FieldView). Stands store x.origin q.view) same down.stands;
+      stands = subst (λ (x : FieldView). Stands store x.origin q.view) (same ∙ field) down.stands;
     }
 
-    pub shape_then : q.shape ≡ p.shape
-    shape_then = down.same.shape ∙ shape
+    down_shape : q.shape ≡ p.shape
+    down_shape = down.same.shape ∙ shape ∙ shape_is
 
-    pub begun_then : AreLanes p.shape p.view.lanes → begun_by q ≡ begun_by p + 1
-    begun_then is =
+    down_lanes : q.view.lanes ≡ p.view.lanes
+    down_lanes = down.same.lanes ∙ lanes ∙ lanes_are
+
+    down_begun : begun_by q ≡ begun_by p + 1
+    down_begun =
         let b = run.begins.lane in
-        let d = b.lowest in
-        let now : (lane : ℕ) → tries_of q lane ≡ tries_of run.start.pass lane = λ lane. down.tries lane ∙ tries lane in
-        ap (sum_by (tries_of q)) (down.same.lanes ∙ lanes)
-        ∙ one_more 0 p.view.lanes (tries_of p) (tries_of q) _ is.rising d.held (now _ ∙ b.one) (λ lane other. now lane ∙ b.others lane other)
+        let now : (lane : ℕ) → tries_of q lane ≡ tries_of run.start.pass lane = λ lane. down.tries lane ∙ tries lane ∙ run.later.front.tries lane in
+        ap (sum_by (tries_of q)) down_lanes
+        ∙ one_more 0 p.view.lanes (tries_of p) (tries_of q) (attempt_in run.start).desc (lanes_rise p.view.lanes (of_is f p of).rising) b.lowest.held
+        (now (attempt_in run.start).desc ∙ b.one) (λ lane other. now lane ∙ b.others lane other)
+
+  -- what is said of a pass after an attempt that was begun
+  pub record Ended (q : PassState) : Type 0 where
+    pub of_field : IsPassOf f q
+    pub begun : begun_by q ≡ begun_by p + 1
+    pub lanes : q.view.lanes ≡ p.view.lanes
+    pub shape : q.shape ≡ p.shape
+
+  stopped_ends : (q : PassState) → Stopped store u q → Ended q
+  stopped_ends q s = record {
+    of_field = down_of u q s.down refl refl refl refl (λ lane. refl);
+    begun = down_begun u q s.down refl refl refl refl (λ lane. refl);
+    lanes = down_lanes u q s.down refl refl refl refl (λ lane. refl);
+    shape = down_shape u q s.down refl refl refl refl (λ lane. refl);
+  }
+
+  ready_ends : (w : TxnState) (e : HasEntry w) → Readies u w e → (q : PassState) → PutDown store w q → Ended q
+  ready_ends w e ready q down =
+      let same = ap (λ (x : TxnState). x.field) ready.rest in
+      let tries : SameTries u.pass w.pass = λ lane. ap (λ (shares : List Share). (share_at shares lane).tries_taken) ready.shares in record {
+        of_field = down_of w q down same ready.same.table ready.same.shape ready.same.lanes tries;
+        begun = down_begun w q down same ready.same.table ready.same.shape ready.same.lanes tries;
+        lanes = down_lanes w q down same ready.same.table ready.same.shape ready.same.lanes tries;
+        shape = down_shape w q down same ready.same.table ready.same.shape ready.same.lanes tries;
+      }
+
+  pub committed_ends : (q : PassState) → WasCommitted u q → Ended q
+  committed_ends q c = ready_ends c.then_state c.entry c.readies q c.commits.down
+
+  pub lost_ends : (q : PassState) (shown : Shown) → WasLost u q shown → Ended q
+  lost_ends q shown = ⊎_elim (λ a. ready_ends a.then_state a.entry a.readies q a.aborts.stopped.down) (λ s. stopped_ends q s.stopped)
+
+  -- the front tells it
+  pub commits_front : {R : Type 0} (did : List Act → R → Type 0) (reply : R) → did u.hand.acts reply → (q : PassState) → WasCommitted u q
+      → CommitsFront did u.hand.tag reply (front_in p) (front_in q)
+  commits_front did reply did_it q c =
+      subst (λ (s : Shape). CommitsFront did u.hand.tag reply (front_in p) (front_of s q.view)) (sym (committed_ends q c).shape)
+      (decided_commits store p.shape p u.hand.tag run.start u run.begins run.later c.then_state c.entry c.readies q c.answered c.commits did reply
+      (subst (λ (acts : List Act). did acts reply) (sym (ap (λ (x : TxnState). x.hand.acts) c.readies.rest)) did_it))
+
+  stops_front : (q : PassState) → Stopped store u q → StopsFront u.hand.tag (front_in p) (front_in q)
+  stops_front q s =
+      subst (λ (x : Shape). StopsFront u.hand.tag (front_in p) (front_of x q.view)) (sym (stopped_ends q s).shape)
+      (stopped_front store p.shape p u.hand.tag run.start u run.begins run.later q s)
+
+  aborts_front : (q : PassState) (shown : Shown) → WasAborted u q shown → StopsFront u.hand.tag (front_in p) (front_in q)
+  aborts_front q shown a =
+      subst (λ (x : Shape). StopsFront u.hand.tag (front_in p) (front_of x q.view))
+      (sym (ready_ends a.then_state a.entry a.readies q a.aborts.stopped.down).shape)
+      (decided_stops store p.shape p u.hand.tag run.start u run.begins run.later a.then_state a.entry a.readies q a.aborts)
+
+  pub lost_front : (q : PassState) (shown : Shown) → WasLost u q shown → StopsFront u.hand.tag (front_in p) (front_in q)
+  lost_front q shown = ⊎_elim (λ a. aborts_front q shown a) (λ s. stops_front q s.stopped)
+
+  -- and a pass that holds all lanes loses none
+  pub lost_to : (q : PassState) (shown : Shown) → WasLost u q shown → p.view.lanes ≡ all_lanes f.origin.shape → IsNoConflict (Conflict shown)
+  lost_to q shown lost all other is =
+      let holds : HoldsAll f.origin.shape q.view = holds_all f.origin.shape q.view ((lost_ends q shown lost).lanes ∙ all) in
+      ⊎_elim
+      (λ a. a.is_shown.1 (subst (λ (x : FieldView). HoldsAll x.origin.shape q.view) (sym (ap (λ (x : TxnState). x.field) a.readies.rest ∙ field)) holds))
+      (λ s. s.is_shown.1 (subst (λ (x : FieldView). HoldsAll x.origin.shape q.view) (sym field) holds)) lost
+
+  -- a refused call's stop
+  module _ (refusal : Refusal) (is : r ≡ Some refusal) where
+    cause : HasCause u refusal.stop
+    cause = run.going.1.stop refusal.stop (run.stop ∙ ap (option_map (λ (x : Refusal). x.stop)) is)
+
+    pub refused_may : MayStop refusal.stop
+    refused_may = may_be refusal.stop cause.no_memory
+
+    pub refused_to : p.view.lanes ≡ all_lanes f.origin.shape → IsNoConflict refusal.stop
+    refused_to all shown same =
+        cause.others shown same (subst (λ (x : FieldView). HoldsAll x.origin.shape u.pass.view) (sym field)
+        (holds_all f.origin.shape u.pass.view (lanes_are ∙ all)))
+
+  pub stopped_all : (q : PassState) → Stopped store u q → Ended q × StopsFront u.hand.tag (front_in p) (front_in q)
+  stopped_all q s = (stopped_ends q s, stops_front q s)

@@ -13,3 +13,4 @@ pub mod Rooms
 pub mod Renewing
 pub mod FreshPasses
 pub mod Runs
+pub mod Attempts

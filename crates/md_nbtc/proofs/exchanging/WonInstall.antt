@@ -48,7 +48,7 @@ use Rattle.md_nbtc.specs.Seeing.{Gave, MayChange}
 use Rattle.md_nbtc.specs.State.{OwnNode, TxnState, attempt_in, installs_in, own_steps, seen_content, shape_in, state_of, writes_in}
 use Rattle.md_nbtc.proofs.exchanging.ChangedGiven.{gave_on}
 use Rattle.md_nbtc.proofs.exchanging.ChangedGoing.{changed_going, changed_later}
-use Rattle.md_nbtc.proofs.exchanging.ChangedPrepared.{LeavesRest, changed, changed_prepared, own_then, stored_on, written_then}
+use Rattle.md_nbtc.proofs.exchanging.ChangedPrepared.{LeavesRest, SameTaken, changed, changed_prepared, own_then, stored_on, written_then}
 use Rattle.md_nbtc.proofs.exchanging.ChangedState.{changed_so}
 use Rattle.md_nbtc.proofs.exchanging.Installed.{count_is, may_be_changed, value_is, won_step}
 use Rattle.md_machine.specs.Event.{install}
@@ -84,7 +84,10 @@ module _ (M : Meaning) (lawful : Lawful M) (t : TxnState) (prepared : IsPrepared
     (agree : (held : ℕ) → content_read t.reads word ≡ Some held → held ≡ seen_content from)
     (q : PassView) (it : StepsOnce M t prepared Install word (seen_content from) (installed_word (seen_content from) (record { desc = (attempt_in t).desc; slot = length t.slots }))
     (t.hand.changes ++ (record { word = word; old = from.value; new = to }) ∷ []) q)
-    (shares : List Share) (same : KeepsCounts t.pass.shares shares) where
+    (shares : List Share) (counts : KeepsCounts t.pass.shares shares) where
+  same : SameTaken t.pass.shares shares
+  same lane = (counts lane).0
+
   abbrev s : Step
   s = it.step
 
@@ -183,7 +186,7 @@ module _ (M : Meaning) (lawful : Lawful M) (t : TxnState) (prepared : IsPrepared
   rest = record {
     status = λ e. counted_apart t prepared word counted (sym it.there ∙ e);
     few = let room = holds.room in let long = length-append t.slots (new_slot t word from to ∷ []) in omega (arith, room, long);
-    same_taken = λ lane. (same lane).0;
+    same_taken = same;
     reads = λ i inside. (not_store _, not_store _);
     nexts = λ node is. not_store _;
     unreplaced = λ x is. before_push x (sym (ap (λ ws. content_replaced ws x) writes_are ∙ replaced_push (writes_in t) w x) ∙ is);
@@ -262,7 +265,7 @@ module _ (M : Meaning) (lawful : Lawful M) (t : TxnState) (prepared : IsPrepared
 
   pub installed_on : IsFoundFirst M t word from.value → GoesOn M t installed
   installed_on first = record {
-    going = λ cs going. changed_going M t prepared it.base it.step it.goes now_changes shares now_slots prefix (λ lane. (same lane).1) cs going
+    going = λ cs going. changed_going M t prepared it.base it.step it.goes now_changes shares now_slots prefix (λ lane. (counts lane).1) cs going
         (subst (Stands M t.field.origin) it.view it.stands) installed_prepared (record {
           first = λ x content is. by_first x content (sym (ap (λ ws. first_content t.reads ws x) writes_are ∙ first_push t.reads (writes_in t) w x) ∙ is)
               (first_content t.reads (writes_in t) x) refl;
@@ -278,7 +281,7 @@ module _ (M : Meaning) (lawful : Lawful M) (t : TxnState) (prepared : IsPrepared
               (All-cons (λ (x : Slot). IfSome x.cleanup (IsKeptCleanup M t cs x.write)) (new_slot t word from to) [] tt (All-nil _));
           taken = same;
         });
-    later = changed_later M t prepared it.base it.step it.goes now_changes shares now_slots prefix (λ lane. (same lane).1);
+    later = changed_later M t prepared it.base it.step it.goes now_changes shares now_slots prefix (λ lane. (counts lane).1);
   }
     where
       by_first : (x content : ℕ) → or_else (first_content t.reads (writes_in t) x) (if w.word == x then Some w.old else None) ≡ Some content

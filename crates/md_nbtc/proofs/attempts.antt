@@ -1,0 +1,2 @@
+pub mod OwnAfter
+pub mod Fronts
