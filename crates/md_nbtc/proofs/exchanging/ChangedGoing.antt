@@ -19,14 +19,6 @@ use Rattle.md_machine.specs.declared.step.Step.{Step}
 use Rattle.md_machine.specs.Certified.{RecordsFound, all_changes, all_nodes, first_content}
 use Rattle.md_machine.specs.Machine.{Install}
 use Rattle.md_machine.specs.Meaning.{Meaning}
-<<<<<<< HEAD
-use Rattle.md_rule.specs.Shares.{share_at}
-||||||| 79842ab
-use Rattle.md_machine.specs.Moved.{Moved}
-use Rattle.md_rule.specs.Shares.{share_at}
-=======
-use Rattle.md_machine.specs.Moved.{Moved}
->>>>>>> 1b1aada0f3be25e64fd3775ac3d9fe11e97deeaf
 use Rattle.md_rule.specs.declared.shares.Share.{Share}
 use Rattle.md_rule.specs.Shares.{share_at}
 use Rattle.md_help.specs.After.{IsAfter, Stands}
@@ -40,18 +32,8 @@ use Rattle.md_nbtc.specs.Known.{IsLater, KnowsPlaced}
 use Rattle.md_nbtc.specs.Prepared.{IsPrepared}
 use Rattle.md_nbtc.specs.Seeing.{MayChange}
 use Rattle.md_nbtc.specs.State.{OwnNode, TxnState, attempt_in, installs_in, own_steps, shape_in, writes_in}
-<<<<<<< HEAD
 use Rattle.md_nbtc.proofs.exchanging.ChangedPrepared.{SameTaken, changed, own_then}
-use Rattle.md_nbtc.proofs.preparing.Fronts.{front_after, front_in_hand}
 use Rattle.md_nbtc.proofs.preparing.GoingOn.{cause_kept, none_left}
-||||||| 79842ab
-use Rattle.md_nbtc.proofs.exchanging.ChangedPrepared.{changed, own_then}
-use Rattle.md_nbtc.proofs.preparing.Fronts.{front_after, front_in_hand}
-use Rattle.md_nbtc.proofs.preparing.GoingOn.{moved_more}
-=======
-use Rattle.md_nbtc.proofs.exchanging.ChangedPrepared.{changed, own_then}
-use Rattle.md_nbtc.proofs.preparing.GoingOn.{moved_more}
->>>>>>> 1b1aada0f3be25e64fd3775ac3d9fe11e97deeaf
 use Rattle.md_nbtc.proofs.preparing.Later.{known_later}
 use Rattle.md_nbtc.proofs.preparing.Fronts.{front_after, front_in_hand}
 

@@ -40,13 +40,7 @@ use Rattle.md_nbtc.proofs.nodes.Grown.{grown, grown_going}
 use Rattle.md_nbtc.proofs.nodes.GrownPrepared.{IsOnNode, grown_pass, grown_prepared, in_node, node_in}
 use Rattle.md_nbtc.proofs.nodes.NewNode.{counted_apart, found_apart, stored_last}
 use Rattle.md_nbtc.proofs.nodes.StoredNodes.{Goes, StoredThree, goes_on, with_node}
-<<<<<<< HEAD
-use Rattle.md_nbtc.proofs.nodes.TookNode.{left_was, took_in_turn, took_more, took_new, took_no_try}
-||||||| 79842ab
-use Rattle.md_nbtc.proofs.nodes.TookNode.{left_was, took_in_turn, took_new, took_no_try}
-=======
-use Rattle.md_nbtc.proofs.nodes.TookNode.{left_was, took_in_turn, took_new}
->>>>>>> 1b1aada0f3be25e64fd3775ac3d9fe11e97deeaf
+use Rattle.md_nbtc.proofs.nodes.TookNode.{left_was, took_in_turn, took_more, took_new}
 use Rattle.md_nbtc.proofs.nodes.Unplaced.{own_unplaced}
 use Rattle.md_nbtc.proofs.nodes.TookNode.{took_no_try}
 use Rattle.md_nbtc.proofs.preparing.Fronts.{front_after, front_in_hand}

@@ -30,15 +30,7 @@ use Rattle.md_nbtc.specs.Seeing.{Gave, MayChange, SeesContent}
 use Rattle.md_nbtc.specs.State.{TxnState, attempt_in, own_steps, seen_content, shape_in, writes_in}
 use Rattle.md_nbtc.proofs.looks.Given.{gave_same}
 use Rattle.md_nbtc.proofs.preparing.Carried.{change_carried, first_carried, kept_carried, unplaced_carried}
-<<<<<<< HEAD
 use Rattle.md_nbtc.proofs.preparing.GoingOn.{cause_kept, none_left}
-use Rattle.md_nbtc.proofs.preparing.Fronts.{front_after}
-||||||| 79842ab
-use Rattle.md_nbtc.proofs.preparing.GoingOn.{moved_more}
-use Rattle.md_nbtc.proofs.preparing.Fronts.{front_after}
-=======
-use Rattle.md_nbtc.proofs.preparing.GoingOn.{moved_more}
->>>>>>> 1b1aada0f3be25e64fd3775ac3d9fe11e97deeaf
 use Rattle.md_nbtc.proofs.preparing.Later.{known_later}
 use Rattle.md_nbtc.proofs.preparing.Fronts.{front_after}
 use Rattle.md_nbtc.proofs.recording.ReadMore.{counted_apart, now, own_then, read_prepared}

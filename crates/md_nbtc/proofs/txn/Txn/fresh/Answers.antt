@@ -21,18 +21,8 @@ use Rattle.md_nbtc.proofs.looks.Loaded.{loaded_is, loaded_so}
 use Rattle.md_nbtc.proofs.nodes.FreshSteps.{StoresNode, freshens, goes_on, keeps_given, lane_held, lane_is, lot_fits, one_more}
 use Rattle.md_nbtc.proofs.nodes.Freshening.{may_key, may_next, may_value, three}
 use Rattle.md_nbtc.proofs.nodes.Taking.{exists, given_back, highest, knows_then}
-<<<<<<< HEAD
 use Rattle.md_nbtc.proofs.nodes.Worn.{is_worn, only_load, worn_found, worn_given, worn_on}
-use Rattle.md_nbtc.proofs.preparing.Heaps.{goes_self}
 use Rattle.md_nbtc.proofs.recording.Stopping.{stopped_gave, stopped_on}
-||||||| 79842ab
-use Rattle.md_nbtc.proofs.nodes.Worn.{only_load, worn_found, worn_given, worn_on}
-use Rattle.md_nbtc.proofs.preparing.Heaps.{goes_self}
-use Rattle.md_nbtc.proofs.recording.Stopping.{limit_cause, stopped_gave, stopped_on}
-=======
-use Rattle.md_nbtc.proofs.nodes.Worn.{only_load, worn_found, worn_given, worn_on}
-use Rattle.md_nbtc.proofs.recording.Stopping.{limit_cause, stopped_gave, stopped_on}
->>>>>>> 1b1aada0f3be25e64fd3775ac3d9fe11e97deeaf
 use Rattle.md_nbtc.proofs.txn.Txn.fresh.Given.{Over}
 use Rattle.md_nbtc.proofs.preparing.Heaps.{goes_self}
 use Rattle.md_nbtc.proofs.txn.Txn.fresh.Goals as goal

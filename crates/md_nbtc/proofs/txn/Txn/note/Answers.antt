@@ -1,12 +1,6 @@
 use Rattle.std.proofs.Common.{sym, ◌∙◌}
 use Rattle.md_nbtc.specs.State.{state}
-<<<<<<< HEAD
-use Rattle.md_nbtc.proofs.preparing.Heaps.{goes_self}
 use Rattle.md_nbtc.proofs.keeping.Causes.{reads_cause}
-||||||| 79842ab
-use Rattle.md_nbtc.proofs.preparing.Heaps.{goes_self}
-=======
->>>>>>> 1b1aada0f3be25e64fd3775ac3d9fe11e97deeaf
 use Rattle.md_nbtc.proofs.recording.Stopping.{moved_cause}
 use Rattle.md_nbtc.proofs.preparing.Heaps.{goes_self}
 use Rattle.md_nbtc.proofs.txn.Txn.note.Goals as goal
