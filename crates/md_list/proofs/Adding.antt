@@ -11,8 +11,6 @@ use Rattle.md_words.specs.Layout.{address}
 use Rattle.md_words.specs.Place.{node_next}
 use Rattle.md_nbtc.specs.Calls.{Freshens, GoesOn}
 use Rattle.md_nbtc.specs.Cleaning.{cleanup_node, with_cleanup, with_cleanup_kept}
-use Rattle.md_nbtc.specs.Going.{IsUnderWay}
-use Rattle.md_nbtc.specs.Known.{IsLater}
 use Rattle.md_nbtc.specs.State.{OwnNode, TxnState, shape_in}
 use Rattle.md_nbtc.proofs.preparing.Heaps.{later_self}
 use Rattle.md_nbtc.proofs.preparing.Later.{later_over}
@@ -80,12 +78,15 @@ module _ (t u : TxnState) where
     nodes_few = let l = ap (λ (x : TxnState). length x.nodes) kept in omega (arith, l);
   }
 
+-- going on twice
+pub goes_over : (M : Meaning) (s t u : TxnState) → GoesOn M s t → GoesOn M t u → GoesOn M s u
+goes_over M s t u one two = record { going = λ cs going. two.going cs (one.going cs going); later = later_over s t u one.later two.later }
+
 module _ (M : Meaning) (s : TxnState) where
   -- at first
-  pub leaves_none : IsUnderWay M s → s.hand.operating ≡ true → Leaves M s s 0 0 0
-  leaves_none going operates = record {
-    going = going;
-    later = later_self s;
+  pub leaves_none : s.hand.operating ≡ true → Leaves M s s 0 0 0
+  leaves_none operates = record {
+    on = record { going = λ cs going. going; later = later_self s };
     acts = refl;
     operates = operates;
     reads_few = omega arith;
@@ -94,10 +95,9 @@ module _ (M : Meaning) (s : TxnState) where
   }
 
   -- after one more call
-  pub leaves_more : (t u : TxnState) (a b c reads writes nodes : ℕ) → Leaves M s t a b c → GoesOn M t u → Adds t u reads writes nodes → Leaves M s u (a + reads) (b + writes) (c + nodes)
-  leaves_more t u a b c reads writes nodes leaves goes adds = record {
-    going = (leaves.going.0, goes.going leaves.going.0 leaves.going.1);
-    later = later_over s t u leaves.later goes.later;
+  pub leaves_on : (t u : TxnState) (a b c reads writes nodes : ℕ) → Leaves M s t a b c → GoesOn M s u → Adds t u reads writes nodes → Leaves M s u (a + reads) (b + writes) (c + nodes)
+  leaves_on t u a b c reads writes nodes leaves goes adds = record {
+    on = goes;
     acts = adds.acts ∙ leaves.acts;
     operates = adds.operates ∙ leaves.operates;
     reads_few = let x = leaves.reads_few in let y = adds.reads_few in omega (arith, x, y);
@@ -105,25 +105,13 @@ module _ (M : Meaning) (s : TxnState) where
     nodes_few = let x = leaves.nodes_few in let y = adds.nodes_few in omega (arith, x, y);
   }
 
-  -- after a cleanup was kept
-  pub leaves_kept : (t u : TxnState) (a b c : ℕ) (cleanup : Cleanup) → Leaves M s t a b c → IsUnderWay M u → IsLater t u → u ≡ record t { slots = with_cleanup_kept t cleanup } → Leaves M s u a b c
-  leaves_kept t u a b c cleanup leaves under later kept =
-      let adds = adds_cleanup t u cleanup kept in
-      record {
-        going = under;
-        later = later_over s t u leaves.later later;
-        acts = adds.acts ∙ leaves.acts;
-        operates = adds.operates ∙ leaves.operates;
-        reads_few = let x = leaves.reads_few in let y = adds.reads_few in omega (arith, x, y);
-        writes_few = let x = leaves.writes_few in let y = adds.slots_few in omega (arith, x, y);
-        nodes_few = let x = leaves.nodes_few in let y = adds.nodes_few in omega (arith, x, y);
-      }
+  pub leaves_more : (t u : TxnState) (a b c reads writes nodes : ℕ) → Leaves M s t a b c → GoesOn M t u → Adds t u reads writes nodes → Leaves M s u (a + reads) (b + writes) (c + nodes)
+  leaves_more t u a b c reads writes nodes leaves goes adds = leaves_on t u a b c reads writes nodes leaves (goes_over M s t u leaves.on goes) adds
 
   -- fewer are at most as many
   pub leaves_within : (t : TxnState) (a b c reads writes nodes : ℕ) → a ≤ reads → b ≤ writes → c ≤ nodes → Leaves M s t a b c → Leaves M s t reads writes nodes
   leaves_within t a b c reads writes nodes one two three leaves = record {
-    going = leaves.going;
-    later = leaves.later;
+    on = leaves.on;
     acts = leaves.acts;
     operates = leaves.operates;
     reads_few = let x = leaves.reads_few in omega (arith, x, one);

@@ -30,7 +30,8 @@ use Rattle.md_list_law.specs.Certificates.{node_fact}
 use Rattle.md_list_law.specs.HasLists.{HasListsOf}
 use Rattle.md_list_law.specs.ListShape.{IsIn, NamesNone, next_word}
 use Rattle.md_list_law.proofs.Links.{head_is_no_next}
-use Rattle.md_list.specs.Walking.{Gives, IsBefore, IsHead, IsWalking}
+use Rattle.md_list.specs.declared.walk.Found.{Found}
+use Rattle.md_list.specs.Walking.{Gives, HasFound, IsBefore, IsHead, IsWalking}
 use Rattle.md_list.proofs.Charging.{charged_later}
 
 -- the state after steps that change the pass alone
@@ -55,6 +56,16 @@ module _ (M : Meaning) where
     pub exist : All (IsNode (shape_in t)) visited
     pub differ : AllPairs (λ (a b : ℕ). a ≢ b) visited
     pub named : Known M t (λ u h. NamesPast (after_wholes h walking.certificates) (Bucket walking.map walking.bucket) visited at.value)
+
+  -- with these certificates of the ended operations
+  abbrev pub IsAtBy : (t : TxnState) → List Certificate → (head key : ℕ) → List ℕ → (prev : ℕ) → Seen → Type 0
+  IsAtBy t cs head key visited prev at = (a : IsAt t head key visited prev at) × (a.walking.certificates ≡ cs)
+
+  abbrev pub HasFoundBy : (t : TxnState) → List Certificate → (head key : ℕ) → Found → Type 0
+  HasFoundBy t cs head key found = (h : HasFound M t head key found) × (h.walking.certificates ≡ cs)
+
+  pub found_over : (t : TxnState) (head key : ℕ) (found : Found) (cs ds : List Certificate) → HasFoundBy t cs head key found → cs ≡ ds → HasFoundBy t ds head key found
+  found_over t head key found cs ds has same = (has.0, has.1 ∙ same)
 
   -- what was found first stays found
   pub found_stays : (t : TxnState) (p : PassState) → IsLater t (stepped t p) → (word : ℕ) (seen : Seen) → IsFoundThere M t word seen → IsFoundThere M (stepped t p) word seen

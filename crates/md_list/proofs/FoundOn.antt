@@ -1,5 +1,5 @@
 -- A place that was found stays found over steps that change the pass alone.
-use Rattle.std.proofs.Common.{◌≡◌, ◌≢◌, ◌+◌, ℕ, subst, sym, arith}
+use Rattle.std.proofs.Common.{◌≡◌, ◌≢◌, ◌+◌, ℕ, refl, subst, sym, arith}
 use Rattle.md_machine.specs.declared.node.Structure.TheVariants.{Bucket}
 use Rattle.md_machine.specs.Meaning.{Lawful, Meaning}
 use Rattle.md_rule.specs.Views.{PassState}
@@ -11,7 +11,7 @@ use Rattle.md_nbtc.proofs.preparing.Later.{known_later}
 use Rattle.md_list_law.specs.HasLists.{HasListsOf}
 use Rattle.md_list.specs.declared.walk.Found.{Found}
 use Rattle.md_list.specs.Walking.{FindsNode, Gives, HasFound}
-use Rattle.md_list.proofs.At.{before_on, found_stays, stepped, walking_on}
+use Rattle.md_list.proofs.At.{HasFoundBy, before_on, found_stays, stepped, walking_on}
 
 apart_more : (n : ℕ) → n ≢ n + 1
 apart_more n e = absurd (omega (arith, e))
@@ -36,18 +36,21 @@ module _ (M : Meaning) (lawful : Lawful M) (lists : HasListsOf M) (t : TxnState)
       next = gives_on _ found.next n.next;
     }
 
-    found_there : HasFound M (stepped t p) head key found
-    found_there = record {
-      walking = walking_on M lawful lists t p head goes has.walking;
-      place = record {
-        before = before_on M lawful lists t p has.walking.certificates (Bucket has.walking.map has.walking.bucket) head key found.prev goes.later has.place.before;
-        at = gives_on found.prev found.at has.place.at;
-        node = has.place.node;
-        some = λ some. node_on (has.place.some some);
-        none = λ zero. record { here = (has.place.none zero).here; next = (has.place.none zero).next };
-      };
-    }
+    found_there : HasFoundBy M (stepped t p) has.walking.certificates head key found
+    found_there = (
+      record {
+        walking = walking_on M lawful lists t p head goes has.walking;
+        place = record {
+          before = before_on M lawful lists t p has.walking.certificates (Bucket has.walking.map has.walking.bucket) head key found.prev goes.later has.place.before;
+          at = gives_on found.prev found.at has.place.at;
+          node = has.place.node;
+          some = λ some. node_on (has.place.some some);
+          none = λ zero. record { here = (has.place.none zero).here; next = (has.place.none zero).next };
+        };
+      },
+      refl,
+    )
 
-  pub found_on : (u : TxnState) → GoesOn M t u → u ≡ record t { pass = u.pass } → ((other : ℕ) → KeepsGiven t u other) → HasFound M u head key found
-  found_on u goes same given = subst (λ x. HasFound M x head key found) (sym same)
+  pub found_on : (u : TxnState) → GoesOn M t u → u ≡ record t { pass = u.pass } → ((other : ℕ) → KeepsGiven t u other) → HasFoundBy M u has.walking.certificates head key found
+  found_on u goes same given = subst (λ x. HasFoundBy M x has.walking.certificates head key found) (sym same)
       (found_there u.pass (subst (GoesOn M t) same goes) (subst (λ x. (other : ℕ) → KeepsGiven t x other) same given))

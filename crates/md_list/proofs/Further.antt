@@ -57,7 +57,7 @@ use Rattle.md_nbtc.proofs.structures.NodesKnown.{data_known}
 use Rattle.md_nbtc.proofs.structures.SeenValues.{seen_value}
 use Rattle.md_list.specs.Walking.{Gives, HasFound, KnowsAfter}
 use Rattle.md_list.specs.declared.walk.Found.{Found}
-use Rattle.md_list.proofs.At.{IsBehind, NamesPast, found_stays, looked_there, stepped, walking_on}
+use Rattle.md_list.proofs.At.{HasFoundBy, IsAtBy, IsBehind, NamesPast, found_stays, looked_there, stepped, walking_on}
 use Rattle.md_list.proofs.Counting.{few_below}
 use Rattle.md_list.proofs.Marks.{node_kept}
 use Rattle.md_list.proofs.MarkedNext.{facts_hold, is_unlink, unlink, unlink_tidies}
@@ -119,28 +119,31 @@ module _ (M : Meaning) (lawful : Lawful M) (lists : HasListsOf M) (t : TxnState)
       u = record t { pass = p; hand = hand; slots = slots }
 
       stands_unlinked : (ts : List TidyChange) → HasTidied M u cs ts → All (IsUnlink (shape_in t) list head) ts → AreCharged u (all_changes cs) ts
-          → (seen : Seen) → Gave u prev seen → IsFoundThere M u prev seen → seen.value ≡ next.value - 1 → IsAt M u head key (node ∷ visited) prev seen
-      stands_unlinked ts tidied unlinks charged seen gave there value = record {
-        walking = record {
-          operates = operates;
-          certificates = cs;
-          going = goes.going cs stands.walking.going;
-          map = stands.walking.map;
-          bucket = stands.walking.bucket;
-          is_head = stands.walking.is_head;
-          changes = ts;
-          tidied = tidied;
-          unlinks = unlinks;
-          charged = charged;
-        };
-        before = ⊎_elim inl (λ before. inr (before.0, before.1, before.2, known_later M _ t u goes.later before.3, before.4, before.5)) stands.before;
-        behind = still_behind;
-        gives = record { gave = gave; there = there; unmarked = ap is_marked value ∙ mark_gone next.value marked };
-        exist = all_exist;
-        differ = all_differ some;
-        named = λ v later prepared h of. past_same (after_wholes h cs) list (node ∷ visited) next.value seen.value (sym (ap linked_node value ∙ node_kept next.value marked))
-            (named_next v (later_over t u v goes.later later) prepared h of);
-      }
+          → (seen : Seen) → Gave u prev seen → IsFoundThere M u prev seen → seen.value ≡ next.value - 1 → IsAtBy M u cs head key (node ∷ visited) prev seen
+      stands_unlinked ts tidied unlinks charged seen gave there value = (
+        record {
+          walking = record {
+            operates = operates;
+            certificates = cs;
+            going = goes.going cs stands.walking.going;
+            map = stands.walking.map;
+            bucket = stands.walking.bucket;
+            is_head = stands.walking.is_head;
+            changes = ts;
+            tidied = tidied;
+            unlinks = unlinks;
+            charged = charged;
+          };
+          before = ⊎_elim inl (λ before. inr (before.0, before.1, before.2, known_later M _ t u goes.later before.3, before.4, before.5)) stands.before;
+          behind = still_behind;
+          gives = record { gave = gave; there = there; unmarked = ap is_marked value ∙ mark_gone next.value marked };
+          exist = all_exist;
+          differ = all_differ some;
+          named = λ v later prepared h of. past_same (after_wholes h cs) list (node ∷ visited) next.value seen.value (sym (ap linked_node value ∙ node_kept next.value marked))
+              (named_next v (later_over t u v goes.later later) prepared h of);
+        },
+        refl,
+      )
 
       -- the unlink is one more tidy change
       grown : at.count < 2 ^ 32 → hand.changes ≡ t.hand.changes ++ record { word = prev; old = at.value; new = next.value - 1 } ∷ [] → hand.stored ≡ t.hand.stored
@@ -182,13 +185,13 @@ module _ (M : Meaning) (lawful : Lawful M) (lists : HasListsOf M) (t : TxnState)
 
     -- whichever case of the exchange applied; it was asked to be a part of the transaction if the mark is own
     pub unlinked : at.count < 2 ^ 32 → (kind : Kind) → ((next.own ≡ true) ⊎ (kind ≡ Plain)) → (u : TxnState) (seen : Seen) → GoesOn M t u → Gave u prev seen
-        → HasExchanged M t prev at (next.value - 1) kind u seen → IsAt M u head key (node ∷ visited) prev seen
+        → HasExchanged M t prev at (next.value - 1) kind u seen → IsAtBy M u cs head key (node ∷ visited) prev seen
     unlinked fits kind why u seen goes gave (changed_own e) =
         let hand = with_change t.hand prev at.value (next.value - 1) in
         let slots = map (with_new prev (next.value - 1)) t.slots in
         let goes_on = subst (GoesOn M t) e.state_is goes in
         let marks = subst (KeepsMarks t) e.state_is (marks_kept M t prev at (next.value - 1) kind u seen stands.gives.gave stands.gives.unmarked stands.walking.going.prepared.has.written_once (changed_own e)) in
-        subst (λ x. IsAt M x head key (node ∷ visited) prev seen) (sym e.state_is)
+        subst (λ x. IsAtBy M x cs head key (node ∷ visited) prev seen) (sym e.state_is)
         (stands_unlinked u.pass hand slots goes_on stands.walking.operates (stands.walking.changes ++ unlink M lawful lists t head key visited prev at next on marked ∷ [])
         (grown u.pass hand slots goes_on stands.walking.operates fits refl refl
         (λ other. absurd (true≢false (sym (stands.gives.gave.own ∙ e.written) ∙ other))))
@@ -204,7 +207,7 @@ module _ (M : Meaning) (lawful : Lawful M) (lists : HasListsOf M) (t : TxnState)
         let v : TxnState = record t { pass = u.pass; hand = hand; slots = slots } in
         let prepared = (goes_on.going cs stands.walking.going).prepared in
         let marks = subst (KeepsMarks t) e.state_is (marks_kept M t prev at (next.value - 1) kind u seen stands.gives.gave stands.gives.unmarked stands.walking.going.prepared.has.written_once (installed e)) in
-        subst (λ x. IsAt M x head key (node ∷ visited) prev seen) (sym e.state_is)
+        subst (λ x. IsAtBy M x cs head key (node ∷ visited) prev seen) (sym e.state_is)
         (stands_unlinked u.pass hand slots goes_on stands.walking.operates (stands.walking.changes ++ unlink M lawful lists t head key visited prev at next on marked ∷ [])
         (grown u.pass hand slots goes_on stands.walking.operates fits refl refl
         (λ other. All-contains (λ (w : Write). first_content v.reads (writes_in v) w.word ≡ Some w.old) (writes_in v) slot.write prepared.has.replaced
@@ -216,7 +219,7 @@ module _ (M : Meaning) (lawful : Lawful M) (lists : HasListsOf M) (t : TxnState)
         (λ other. absurd (true≢false (ap (λ (s : Seen). s.own) (sym e.seen_is) ∙ other))) (ap (λ (s : Seen). s.value) e.seen_is))
     unlinked fits kind why u seen goes gave (changed_plainly e) =
         let goes_on = subst (GoesOn M t) e.state_is goes in
-        subst (λ x. IsAt M x head key (node ∷ visited) prev seen) (sym e.state_is)
+        subst (λ x. IsAtBy M x cs head key (node ∷ visited) prev seen) (sym e.state_is)
         (stands_unlinked u.pass t.hand t.slots goes_on stands.walking.operates stands.walking.changes
         (tidied_later M t cs stands.walking.changes stands.walking.tidied (stepped t u.pass) goes_on.later refl) stands.walking.unlinks
         (still_charged u.pass t.hand t.slots goes_on stands.walking.operates (λ w among marked. among)) seen
@@ -247,50 +250,59 @@ module _ (M : Meaning) (lawful : Lawful M) (lists : HasListsOf M) (t : TxnState)
       unmarked = unmarked;
     }
 
-    pub walks_on : k < key → IsAt M (stepped t p) head key (node ∷ visited) next_at next
-    walks_on less = record {
-      walking = walking_on M lawful lists t p head goes stands.walking;
-      before = inr (node, k, on.exists, key_known, less, refl);
-      behind = inr (node, here node visited, refl);
-      gives = next_gives;
-      exist = all_exist;
-      differ = all_differ some;
-      named = known_later M (λ v h. NamesPast (after_wholes h cs) list (node ∷ visited) next.value) t (stepped t p) goes.later named_next;
-    }
+    pub walks_on : k < key → IsAtBy M (stepped t p) cs head key (node ∷ visited) next_at next
+    walks_on less = (
+      record {
+        walking = walking_on M lawful lists t p head goes stands.walking;
+        before = inr (node, k, on.exists, key_known, less, refl);
+        behind = inr (node, here node visited, refl);
+        gives = next_gives;
+        exist = all_exist;
+        differ = all_differ some;
+        named = known_later M (λ v h. NamesPast (after_wholes h cs) list (node ∷ visited) next.value) t (stepped t p) goes.later named_next;
+      },
+      refl,
+    )
 
     pub finds : (found : Found) → found.prev ≡ prev → found.at ≡ at → found.node ≡ node → found.next ≡ next → found.here ≡ (k == key) → key ≤ k
-        → HasFound M (stepped t p) head key found
-    finds found prev_is at_is node_is next_is here_is least = record {
-      walking = here_now.walking;
-      place = record {
-        before = subst (IsBefore M (stepped t p) cs list head key) (sym prev_is) here_now.before;
-        at = subst (λ x. Gives M (stepped t p) found.prev x) (sym at_is) (subst (λ w. Gives M (stepped t p) w at) (sym prev_is) here_now.gives);
-        node = node_is ∙ ap (λ (s : Seen). linked_node s.value) (sym at_is);
-        some = λ _. record {
-          exists = subst (IsNode (shape_in t)) (sym node_is) on.exists;
-          found_key = k;
-          known = subst (λ n. KnowsAfter M (stepped t p) cs (key_fact list n k)) (sym node_is) key_known;
-          least = least;
-          here = here_is;
-          next = subst (λ x. Gives M (stepped t p) (next_word (shape_in t) found.node) x) (sym next_is) (subst (λ n. Gives M (stepped t p) (next_word (shape_in t) n) next) (sym node_is) next_gives);
+        → HasFoundBy M (stepped t p) cs head key found
+    finds found prev_is at_is node_is next_is here_is least = (
+      record {
+        walking = here_now.walking;
+        place = record {
+          before = subst (IsBefore M (stepped t p) cs list head key) (sym prev_is) here_now.before;
+          at = subst (λ x. Gives M (stepped t p) found.prev x) (sym at_is) (subst (λ w. Gives M (stepped t p) w at) (sym prev_is) here_now.gives);
+          node = node_is ∙ ap (λ (s : Seen). linked_node s.value) (sym at_is);
+          some = λ _. record {
+            exists = subst (IsNode (shape_in t)) (sym node_is) on.exists;
+            found_key = k;
+            known = subst (λ n. KnowsAfter M (stepped t p) cs (key_fact list n k)) (sym node_is) key_known;
+            least = least;
+            here = here_is;
+            next = subst (λ x. Gives M (stepped t p) (next_word (shape_in t) found.node) x) (sym next_is) (subst (λ n. Gives M (stepped t p) (next_word (shape_in t) n) next) (sym node_is) next_gives);
+          };
+          none = λ zero. absurd (some (sym node_is ∙ zero));
         };
-        none = λ zero. absurd (some (sym node_is ∙ zero));
-      };
-    }
+      },
+      refl,
+    )
 
 -- where the word names no node the place is found too
-pub finds_none : (M : Meaning) (t : TxnState) (head key : ℕ) (visited : List ℕ) (prev : ℕ) (at : Seen) → IsAt M t head key visited prev at → linked_node at.value ≡ 0
-    → (found : Found) → found.prev ≡ prev → found.at ≡ at → found.node ≡ 0 → found.next ≡ at → found.here ≡ false → HasFound M t head key found
-finds_none M t head key visited prev at stands none found prev_is at_is node_is next_is here_is = record {
-  walking = stands.walking;
-  place = record {
-    before = subst (IsBefore M t stands.walking.certificates (Bucket stands.walking.map stands.walking.bucket) head key) (sym prev_is) stands.before;
-    at = subst (λ x. Gives M t found.prev x) (sym at_is) (subst (λ w. Gives M t w at) (sym prev_is) stands.gives);
-    node = node_is ∙ sym none ∙ ap (λ (s : Seen). linked_node s.value) (sym at_is);
-    some = λ other. absurd (other node_is);
-    none = λ _. record { here = here_is; next = next_is ∙ sym at_is };
-  };
-}
+pub finds_none : (M : Meaning) (t : TxnState) (head key : ℕ) (visited : List ℕ) (prev : ℕ) (at : Seen) → (stands : IsAt M t head key visited prev at) → linked_node at.value ≡ 0
+    → (found : Found) → found.prev ≡ prev → found.at ≡ at → found.node ≡ 0 → found.next ≡ at → found.here ≡ false → HasFoundBy M t stands.walking.certificates head key found
+finds_none M t head key visited prev at stands none found prev_is at_is node_is next_is here_is = (
+  record {
+    walking = stands.walking;
+    place = record {
+      before = subst (IsBefore M t stands.walking.certificates (Bucket stands.walking.map stands.walking.bucket) head key) (sym prev_is) stands.before;
+      at = subst (λ x. Gives M t found.prev x) (sym at_is) (subst (λ w. Gives M t w at) (sym prev_is) stands.gives);
+      node = node_is ∙ sym none ∙ ap (λ (s : Seen). linked_node s.value) (sym at_is);
+      some = λ other. absurd (other node_is);
+      none = λ _. record { here = here_is; next = next_is ∙ sym at_is };
+    };
+  },
+  refl,
+)
 
 -- a list of nodes is short, since links to them are values
 twice : (n l : ℕ) → link_value n false < 2 ^ 32 → l ≤ n + 1 → l ≤ 2 ^ 31

@@ -166,23 +166,19 @@ module _ (M : Meaning) (lawful : Lawful M) (lists : HasListsOf M) (t : TxnState)
       new_fresh x over prepared h of = All-cons (λ (n : NewNode). (tidied h cs w.changes).placed n.node ≡ None) new []
           (fresh_after M lawful v cs going_v own own_v stored_there_v w.changes w.tidied.bare x over prepared h of) (All-nil _)
 
-      pub inserted : IsAnswered M v map key (Insert map key value) (Flag true)
-      inserted = subst (λ m. IsAnswered M v m key (Insert m key value) (Flag true)) own_head.0 (record {
-        may = record {
-          earlier = cs;
-          going = going_v;
-          certificate = c;
-          of = (refl, refl);
-          may = may_end_changing M t cs w.changes w.tidied v later_v (Insert w.map key value) (Flag true) change (new ∷ []) g.facts
-              (row_certifies M lists t head key w own_head.1 v later_v c row w.unlinks)
-              (ap (λ h. h.changes) linked.hand ∙ ap (λ (x : TxnState). x.hand.changes ++ change ∷ []) fresh.new) (sym stored_v)
-              (All-cons (IsStoredNode v) new [] stored_node (All-nil (IsStoredNode v)))
-              (All-cons (λ (n : NewNode). is_written (writes_in v) (address (shape_in v) (node_next n.node)) ≡ false) new []
-              (fresh_unwritten M lawful v cs going_v own own_v stored_there_v) (All-nil _))
-              (seen_value M lawful t cs w.going w.changes w.tidied found.prev found.at has.place.at.gave has.place.at.there fits v later_v linked.first)
-              (known_later M _ t v later_v facts_known)
-              new_fresh;
-        };
+      pub inserted : IsAnswered M v cs map key (Insert map key value) (Flag true)
+      inserted = subst (λ m. IsAnswered M v cs m key (Insert m key value) (Flag true)) own_head.0 (record {
+        certificate = c;
+        of = (refl, refl);
+        may = may_end_changing M t cs w.changes w.tidied v later_v (Insert w.map key value) (Flag true) change (new ∷ []) g.facts
+            (row_certifies M lists t head key w own_head.1 v later_v c row w.unlinks)
+            (ap (λ h. h.changes) linked.hand ∙ ap (λ (x : TxnState). x.hand.changes ++ change ∷ []) fresh.new) (sym stored_v)
+            (All-cons (IsStoredNode v) new [] stored_node (All-nil (IsStoredNode v)))
+            (All-cons (λ (n : NewNode). is_written (writes_in v) (address (shape_in v) (node_next n.node)) ≡ false) new []
+            (fresh_unwritten M lawful v cs going_v own own_v stored_there_v) (All-nil _))
+            (seen_value M lawful t cs w.going w.changes w.tidied found.prev found.at has.place.at.gave has.place.at.there fits v later_v linked.first)
+            (known_later M _ t v later_v facts_known)
+            new_fresh;
         row = row_of_map M lists t head key w own_head.1 v later_v c row w.unlinks;
         charged = charged_later t v later_v marks (all_changes cs) w.changes w.charged;
       })

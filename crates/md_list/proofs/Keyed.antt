@@ -12,9 +12,8 @@ use Rattle.md_nbtc.specs.Seeing.{KeepsGiven}
 use Rattle.md_nbtc.specs.State.{TxnState, shape_in}
 use Rattle.md_list_law.specs.HasLists.{HasListsOf}
 use Rattle.md_list_law.specs.ListShape.{next_word}
-use Rattle.md_list.specs.Walking.{HasFound}
 use Rattle.md_list.specs.declared.walk.Found.{Found}
-use Rattle.md_list.proofs.At.{IsAt, stepped}
+use Rattle.md_list.proofs.At.{HasFoundBy, IsAtBy, stepped}
 use Rattle.md_list.proofs.Further.{finds, walks_on}
 use Rattle.md_list.proofs.OnNode.{IsOn}
 
@@ -27,13 +26,13 @@ module _ (M : Meaning) (lawful : Lawful M) (lists : HasListsOf M) (t u : TxnStat
       (subst (λ x. Known M x (λ v h. data_at h (place_at (shape_in t) word) ≡ k)) same known)
 
   -- the place is found
-  pub key_finds : (found : Found) → found.prev ≡ prev → found.at ≡ at → found.node ≡ linked_node at.value → found.next ≡ next → found.here ≡ (k == key) → key ≤ k → HasFound M u head key found
-  key_finds found prev_is at_is node_is next_is here_is least = subst (λ x. HasFound M x head key found) (sym same)
+  pub key_finds : (found : Found) → found.prev ≡ prev → found.at ≡ at → found.node ≡ linked_node at.value → found.next ≡ next → found.here ≡ (k == key) → key ≤ k → HasFoundBy M u on.stands.walking.certificates head key found
+  key_finds found prev_is at_is node_is next_is here_is least = subst (λ x. HasFoundBy M x on.stands.walking.certificates head key found) (sym same)
       (finds M lawful lists t head key visited prev at next on some unmarked u.pass (subst (GoesOn M t) same goes) (subst (λ x. (other : ℕ) → KeepsGiven t x other) same given) k data_is
       found prev_is at_is node_is next_is here_is least)
 
   -- or the walk goes on
-  pub key_walks : k < key → (there : ℕ) → there ≡ next_word (shape_in u) (linked_node at.value) → IsAt M u head key (linked_node at.value ∷ visited) there next
-  key_walks less there there_is = subst (λ w. IsAt M u head key (linked_node at.value ∷ visited) w next) (sym (there_is ∙ ap (λ (x : TxnState). next_word (shape_in x) (linked_node at.value)) same))
-      (subst (λ x. IsAt M x head key (linked_node at.value ∷ visited) (next_word (shape_in t) (linked_node at.value)) next) (sym same)
+  pub key_walks : k < key → (there : ℕ) → there ≡ next_word (shape_in u) (linked_node at.value) → IsAtBy M u on.stands.walking.certificates head key (linked_node at.value ∷ visited) there next
+  key_walks less there there_is = subst (λ w. IsAtBy M u on.stands.walking.certificates head key (linked_node at.value ∷ visited) w next) (sym (there_is ∙ ap (λ (x : TxnState). next_word (shape_in x) (linked_node at.value)) same))
+      (subst (λ x. IsAtBy M x on.stands.walking.certificates head key (linked_node at.value ∷ visited) (next_word (shape_in t) (linked_node at.value)) next) (sym same)
       (walks_on M lawful lists t head key visited prev at next on some unmarked u.pass (subst (GoesOn M t) same goes) (subst (λ x. (other : ℕ) → KeepsGiven t x other) same given) k data_is less))

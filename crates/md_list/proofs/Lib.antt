@@ -27,3 +27,4 @@ pub mod FreshNode
 pub mod Inserting
 pub mod Charged
 pub mod ChargedWalk
+pub mod Answered

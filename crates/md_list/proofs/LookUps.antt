@@ -28,10 +28,11 @@ use Rattle.md_nbtc.proofs.structures.Reading.{reading}
 use Rattle.md_list_law.specs.Certificates.{ChangesNothing, IsPlaceOf, IsRow, RecordsPlace, get_some, insert_false, key_fact, pair_fact}
 use Rattle.md_list_law.specs.HasLists.{HasListsOf}
 use Rattle.md_list_law.specs.ListShape.{next_word}
-use Rattle.md_list.specs.Operations.{IsAnswered}
-use Rattle.md_list.specs.Walking.{FindsNode, HasFound, IsHeadOf, IsWalking, KnowsAfter}
+use Rattle.md_words.specs.declared.shape.Shape.{Shape}
+use Rattle.md_list.specs.Operations.{IsAnswered, IsBegun}
+use Rattle.md_list.specs.Walking.{FindsFrom, FindsNode, HasFound, IsHeadOf, IsWalking, KnowsAfter}
 use Rattle.md_list.specs.declared.walk.Found.{Found}
-use Rattle.md_list.proofs.Rows.{answered_reading, one_head}
+use Rattle.md_list.proofs.Rows.{found_of, answered_reading, one_head}
 
 module _ (M : Meaning) (lawful : Lawful M) (lists : HasListsOf M) (t : TxnState) (head key : ℕ) (found : Found) (has : HasFound M t head key found) where
   abbrev w : IsWalking M t head
@@ -143,11 +144,11 @@ module _ (M : Meaning) (lawful : Lawful M) (lists : HasListsOf M) (t : TxnState)
     pub got_some : (is_here : found.here ≡ true) → found.next.count < 2 ^ 32
         → (is_written (writes_in t) (next_word (shape_in t) found.node) ≡ false → content_read v.reads (next_word (shape_in t) found.node) ≡ Some (seen_content found.next))
         → (value word : ℕ) → word ≡ address (shape_in t) (node_value found.node) → Known M v (λ u h. data_at h (place_at (shape_in t) word) ≡ value)
-        → IsAnswered M v map key (Get map key) (Value (Some value))
+        → IsAnswered M v w.certificates map key (Get map key) (Value (Some value))
     got_some is_here fits noted value word word_is data_is =
         let n = here_node is_here in
         let fact = pair_fact list found.node key value in
-        subst (λ m. IsAnswered M v m key (Get m key) (Value (Some value))) own_head.0
+        subst (λ m. IsAnswered M v w.certificates m key (Get m key) (Value (Some value))) own_head.0
         (answered_reading M lawful lists t head key w own_head.1 v later same going (next_word (shape_in t) found.node) found.next n.next fits slots noted
         (Get w.map key) (Value (Some value)) (fact ∷ [])
         (get_some found.node value refl refl (record { changes = refl; nodes = refl }) (record {
@@ -162,11 +163,11 @@ module _ (M : Meaning) (lawful : Lawful M) (lists : HasListsOf M) (t : TxnState)
     -- an insert of a key that is there answers false
     pub inserted_none : (is_here : found.here ≡ true) → found.next.count < 2 ^ 32
         → (is_written (writes_in t) (next_word (shape_in t) found.node) ≡ false → content_read v.reads (next_word (shape_in t) found.node) ≡ Some (seen_content found.next))
-        → (value : ℕ) → IsAnswered M v map key (Insert map key value) (Flag false)
+        → (value : ℕ) → IsAnswered M v w.certificates map key (Insert map key value) (Flag false)
     inserted_none is_here fits noted value =
         let n = here_node is_here in
         let fact = key_fact list found.node key in
-        subst (λ m. IsAnswered M v m key (Insert m key value) (Flag false)) own_head.0
+        subst (λ m. IsAnswered M v w.certificates m key (Insert m key value) (Flag false)) own_head.0
         (answered_reading M lawful lists t head key w own_head.1 v later same going (next_word (shape_in t) found.node) found.next n.next fits slots noted
         (Insert w.map key value) (Flag false) (fact ∷ [])
         (insert_false found.node value refl refl (record { changes = refl; nodes = refl }) (record {
@@ -183,11 +184,11 @@ module _ (M : Meaning) (lawful : Lawful M) (lists : HasListsOf M) (t : TxnState)
     pub answered_none : found.here ≡ false → found.at.count < 2 ^ 32
         → (is_written (writes_in t) found.prev ≡ false → content_read v.reads found.prev ≡ Some (seen_content found.at))
         → (op : ℕ → Op) → ((c : Certificate) → c.op ≡ op w.map → c.reply ≡ Value None → ChangesNothing c → RecordsPlace (shape_in t) list head c key → IsRow (shape_in t) list head w.map key c)
-        → IsAnswered M v map key (op map) (Value None)
+        → IsAnswered M v w.certificates map key (op map) (Value None)
     answered_none absent fits noted op row =
         let g = gap absent in
         let c = reading (op w.map) (Value None) w.changes (record { word = found.prev; value = found.at.value } ∷ []) g.facts in
-        subst (λ m. IsAnswered M v m key (op m) (Value None)) own_head.0
+        subst (λ m. IsAnswered M v w.certificates m key (op m) (Value None)) own_head.0
         (answered_reading M lawful lists t head key w own_head.1 v later same going found.prev found.at has.place.at fits slots noted (op w.map) (Value None) g.facts
         (row c refl refl (record { changes = refl; nodes = refl }) (record {
           word = found.prev;
@@ -196,3 +197,9 @@ module _ (M : Meaning) (lawful : Lawful M) (lists : HasListsOf M) (t : TxnState)
           recorded = here (record { word = found.prev; value = found.at.value }) [];
         }))
         (known_later M (λ u h. All (Holds (after_wholes h w.certificates)) g.facts) t v later g.known) g.plain)
+
+-- the node that was found for an operation that was just begun is one of the field, however its shape is read
+pub found_exists : (M : Meaning) (lawful : Lawful M) (lists : HasListsOf M) (s t : TxnState) (head key : ℕ) (found : Found) → FindsFrom M s t head key found → IsBegun M s
+    → (map : ℕ) × IsHeadOf (shape_in s) map key head → found.here ≡ true → (shape : Shape) → shape ≡ shape_in t → IsNode shape found.node
+found_exists M lawful lists s t head key found finds begun is is_here shape same = subst (λ x. IsNode x found.node) (sym same)
+    (here_node M lawful lists t head key found (found_of M s t head key found finds begun is) is_here).exists

@@ -4,6 +4,7 @@ use Rattle.std.specs.List.{All, Contains}
 use Rattle.std.proofs.lemmas.List.Elements.{All-contains, All-nil}
 use Rattle.md_words.specs.Layout.{IsNode}
 use Rattle.md_words.specs.Link.{linked_node}
+use Rattle.md_machine.specs.declared.certificate.Certificate.{Certificate}
 use Rattle.md_machine.specs.declared.node.Structure.{Structure}
 use Rattle.md_machine.specs.declared.node.Structure.TheVariants.{Bucket}
 use Rattle.md_machine.specs.Certified.{after_wholes}
@@ -24,7 +25,7 @@ use Rattle.md_list_law.specs.HasLists.{HasListsOf}
 use Rattle.md_list_law.specs.ListShape.{IsIn, next_word}
 use Rattle.md_list_law.proofs.Links.{head_is_no_next}
 use Rattle.md_list.specs.Walking.{IsWalking}
-use Rattle.md_list.proofs.At.{IsAt, NamesPast, before_on, found_stays, head_in_place, looked_there, node_exists, stepped, walking_on}
+use Rattle.md_list.proofs.At.{IsAt, IsAtBy, NamesPast, before_on, found_stays, head_in_place, looked_there, node_exists, stepped, walking_on}
 use Rattle.md_list.proofs.ListWords.{next_place as list_next_place}
 use Rattle.md_list.proofs.Rising.{head_names}
 
@@ -39,27 +40,33 @@ module _ (M : Meaning) where
     pub there : IsFoundThere M t (next_word (shape_in t) (linked_node at.value)) next
     pub found : next.own ≡ false → ((n : OwnNode) × Contains t.nodes n × (n.node ≡ linked_node at.value)) ⊎ FoundNext (shape_in t) t.pass.view (linked_node at.value) next.value
 
+  -- with these certificates of the ended operations
+  abbrev pub IsOnBy : (t : TxnState) → List Certificate → (head key : ℕ) → List ℕ → (prev : ℕ) → (at next : Seen) → Type 0
+  IsOnBy t cs head key visited prev at next = (on : IsOn t head key visited prev at next) × (on.stands.walking.certificates ≡ cs)
+
   module _ (lawful : Lawful M) (lists : HasListsOf M) where
     -- after a look at the head the walk stands there
-    pub begins : (t : TxnState) (p : PassState) (head key : ℕ) (seen : Seen) → GoesOn M t (stepped t p) → IsWalking M t head → Looks M t (stepped t p) head seen
-        → IsAt M (stepped t p) head key [] head seen
+    pub begins : (t : TxnState) (p : PassState) (head key : ℕ) (seen : Seen) → GoesOn M t (stepped t p) → (w : IsWalking M t head) → Looks M t (stepped t p) head seen
+        → IsAtBy M (stepped t p) w.certificates head key [] head seen
     begins t p head key seen on w looks =
         let u = stepped t p in
         let walking = walking_on M lawful lists t p head on w in
         let there = looked_there M t p head seen looks (inl (head_in_place M lawful lists t w.map w.bucket head w.is_head)) in
         let names = head_names M lawful lists u w.map w.bucket w.is_head.is_map w.is_head.is_bucket walking.certificates walking.going walking.changes walking.tidied seen
-        (subst (λ word. Gave u word seen) w.is_head.is looks.gave) (subst (λ word. IsFoundThere M u word seen) w.is_head.is there) in
-        record {
-          walking = walking;
-          before = inl refl;
-          behind = inl refl;
-          gives = record { gave = looks.gave; there = there; unmarked = (known_now M lawful _ u walking.certificates walking.going names).2.0 };
-          exist = All-nil (IsNode (shape_in t));
-          differ = no_pairs (λ (a b : ℕ). a ≢ b);
-          named = λ v later prepared h of. ⊎_elim inl
-              (λ placed. inr (placed, All-nil (λ node. (after_wholes h w.certificates).words.key_of node < (after_wholes h w.certificates).words.key_of (linked_node seen.value))))
-              (names v later prepared h of).1;
-        }
+        (subst (λ word. Gave u word seen) w.is_head.is looks.gave) (subst (λ word. IsFoundThere M u word seen) w.is_head.is there) in (
+          record {
+            walking = walking;
+            before = inl refl;
+            behind = inl refl;
+            gives = record { gave = looks.gave; there = there; unmarked = (known_now M lawful _ u walking.certificates walking.going names).2.0 };
+            exist = All-nil (IsNode (shape_in t));
+            differ = no_pairs (λ (a b : ℕ). a ≢ b);
+            named = λ v later prepared h of. ⊎_elim inl
+                (λ placed. inr (placed, All-nil (λ node. (after_wholes h w.certificates).words.key_of node < (after_wholes h w.certificates).words.key_of (linked_node seen.value))))
+                (names v later prepared h of).1;
+          },
+          refl,
+        )
 
     module _ (t : TxnState) (head key : ℕ) (visited : List ℕ) (prev : ℕ) (at : Seen) (stands : IsAt M t head key visited prev at) (some : linked_node at.value ≢ 0) where
       abbrev node : ℕ
@@ -115,17 +122,20 @@ module _ (M : Meaning) where
       }
 
       pub looks_on : (p : PassState) (next : Seen) → GoesOn M t (stepped t p) → Looks M t (stepped t p) (next_word (shape_in t) node) next
-          → KeepsGiven t (stepped t p) (next_word (shape_in t) node) → IsOn (stepped t p) head key visited prev at next
-      looks_on p next on looks given = record {
-        stands = stands_on p on (next_word (shape_in t) node) next_apart given;
-        exists = named_exists;
-        placed = known_later M (λ u h. IsIn (after_wholes h stands.walking.certificates) list node) t (stepped t p) on.later named_placed;
-        past = known_later M (λ u h. All (λ other. (after_wholes h stands.walking.certificates).words.key_of other < (after_wholes h stands.walking.certificates).words.key_of node) visited)
-            t (stepped t p) on.later named_past;
-        gave = looks.gave;
-        there = looked_there M t p (next_word (shape_in t) node) next looks next_place;
-        found = λ other. ⊎_elim
-            (λ place. inr (looks.found other place node (named_exists, refl)))
-            (λ own. inl (own.0, own.1, sym (next_alone (shape_in t) node own.0.node named_exists own.2.0 own.2.1)))
-            next_place;
-      }
+          → KeepsGiven t (stepped t p) (next_word (shape_in t) node) → IsOnBy (stepped t p) stands.walking.certificates head key visited prev at next
+      looks_on p next on looks given = (
+        record {
+          stands = stands_on p on (next_word (shape_in t) node) next_apart given;
+          exists = named_exists;
+          placed = known_later M (λ u h. IsIn (after_wholes h stands.walking.certificates) list node) t (stepped t p) on.later named_placed;
+          past = known_later M (λ u h. All (λ other. (after_wholes h stands.walking.certificates).words.key_of other < (after_wholes h stands.walking.certificates).words.key_of node) visited)
+              t (stepped t p) on.later named_past;
+          gave = looks.gave;
+          there = looked_there M t p (next_word (shape_in t) node) next looks next_place;
+          found = λ other. ⊎_elim
+              (λ place. inr (looks.found other place node (named_exists, refl)))
+              (λ own. inl (own.0, own.1, sym (next_alone (shape_in t) node own.0.node named_exists own.2.0 own.2.1)))
+              next_place;
+        },
+        refl,
+      )

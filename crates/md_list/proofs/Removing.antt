@@ -27,7 +27,7 @@ use Rattle.md_nbtc.specs.declared.seen.Kind.TheVariants.{Critical}
 use Rattle.md_nbtc.specs.declared.seen.Seen.{Seen}
 use Rattle.md_nbtc.specs.Calls.{GoesOn, Keeps, MayExchange, data_at}
 use Rattle.md_nbtc.specs.Cleaning.{IsWrittenFor, MayTidyLater, with_cleanup, with_cleanup_kept}
-use Rattle.md_nbtc.specs.Going.{IsUnderWay}
+use Rattle.md_nbtc.specs.Going.{IsGoing}
 use Rattle.md_nbtc.specs.Known.{IsLater, Known}
 use Rattle.md_nbtc.specs.Seeing.{Gave, KeepsGiven}
 use Rattle.md_nbtc.specs.State.{TxnState, shape_in, writes_in}
@@ -118,9 +118,9 @@ module _ (M : Meaning) (lawful : Lawful M) (lists : HasListsOf M) (t : TxnState)
         (head_later M t u goes.later w.map w.bucket head w.is_head) (before_later M t u goes.later w.certificates list head key found.prev has.place.before)
         (subst (λ s. IsCounted s found.prev) (sym shape_is) has.place.at.gave.counted) found.node exists_still (known_later M _ t u goes.later node_placed)
 
-    -- it is under way still
-    pub goes_kept : (v : TxnState) → Keeps M u v cleanup → IsUnderWay M v
-    goes_kept v keeps = (w.certificates, keeps.going w.certificates (goes.going w.certificates w.going) tidy_later)
+    -- it goes on
+    pub goes_kept : (v : TxnState) → Keeps M u v cleanup → IsGoing M v w.certificates
+    goes_kept v keeps = keeps.going w.certificates (goes.going w.certificates w.going) tidy_later
 
     module _ (v : TxnState) (keeps : Keeps M u v cleanup) (kept : v ≡ record u { slots = with_cleanup_kept u cleanup }) where
       abbrev later_v : IsLater t v
@@ -206,21 +206,17 @@ module _ (M : Meaning) (lawful : Lawful M) (lists : HasListsOf M) (t : TxnState)
             (bare_holds (after_wholes h w.certificates) w.changes w.tidied.bare fact refl
             (pair_known M lawful lists t head key found has t (later_self t) w.going is_here value word word_is data_is x over prepared h of)) (All-nil (Holds (tidied h w.certificates w.changes)))
 
-        pub removed : IsAnswered M v map key (Remove map key) (Value (Some value))
-        removed = subst (λ m. IsAnswered M v m key (Remove m key) (Value (Some value))) own_head.0 (record {
-          may = record {
-            earlier = w.certificates;
-            going = keeps.going w.certificates (goes.going w.certificates w.going) tidy_later;
-            certificate = c;
-            of = (refl, refl);
-            may = may_end_changing M t w.certificates w.changes w.tidied v later_v (Remove w.map key) (Value (Some value)) change [] (fact ∷ [])
-                (row_certifies M lists t head key w own_head.1 v later_v c row w.unlinks)
-                (ap (λ h. h.changes) (hand_is ∙ marked_by.hand)) (sym (ap (λ h. h.stored) (hand_is ∙ marked_by.hand) ∙ w.tidied.stored)) (All-nil _) (All-nil _)
-                (known_later M _ u v keeps.later
-                (seen_value M lawful t w.certificates w.going w.changes w.tidied next_at found.next n.next.gave n.next.there fits u goes.later marked_by.first))
-                (known_later M _ t v later_v facts_known)
-                (λ x over prepared h of. All-nil _);
-          };
+        pub removed : IsAnswered M v w.certificates map key (Remove map key) (Value (Some value))
+        removed = subst (λ m. IsAnswered M v w.certificates m key (Remove m key) (Value (Some value))) own_head.0 (record {
+          certificate = c;
+          of = (refl, refl);
+          may = may_end_changing M t w.certificates w.changes w.tidied v later_v (Remove w.map key) (Value (Some value)) change [] (fact ∷ [])
+              (row_certifies M lists t head key w own_head.1 v later_v c row w.unlinks)
+              (ap (λ h. h.changes) (hand_is ∙ marked_by.hand)) (sym (ap (λ h. h.stored) (hand_is ∙ marked_by.hand) ∙ w.tidied.stored)) (All-nil _) (All-nil _)
+              (known_later M _ u v keeps.later
+              (seen_value M lawful t w.certificates w.going w.changes w.tidied next_at found.next n.next.gave n.next.there fits u goes.later marked_by.first))
+              (known_later M _ t v later_v facts_known)
+              (λ x over prepared h of. All-nil _);
           row = row_of_map M lists t head key w own_head.1 v later_v c row w.unlinks;
           charged = charged_later t v later_v marks (all_changes w.certificates) w.changes w.charged;
         })

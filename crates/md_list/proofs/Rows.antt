@@ -34,7 +34,8 @@ use Rattle.md_list_law.specs.Certificates.{IsListCertificate, IsRow, IsUnlink}
 use Rattle.md_list_law.specs.HasLists.{HasListsOf, IsMapCertificate}
 use Rattle.md_list_law.specs.ListShape.{head_word}
 use Rattle.md_list.specs.Operations.{IsAnswered, IsBegun}
-use Rattle.md_list.specs.Walking.{Gives, IsHead, IsHeadOf, IsWalking}
+use Rattle.md_list.specs.declared.walk.Found.{Found}
+use Rattle.md_list.specs.Walking.{FindsFrom, Gives, HasFound, IsHead, IsHeadOf, IsWalking}
 use Rattle.md_list.proofs.Charging.{charged_later, marks_slots}
 
 -- a head is that of one bucket
@@ -45,20 +46,28 @@ pub one_head : (shape : Shape) (m b n d head : ℕ) → IsHead shape m b head �
 one_head shape m b n d head one two = one_bucket m b n d (sym (place_at-address shape (bucket_head m b) (one.is_map, one.is_bucket))
     ∙ ap (place_at shape) (sym one.is ∙ two.is) ∙ place_at-address shape (bucket_head n d) (two.is_map, two.is_bucket))
 
--- where an operation was begun a walk may begin
-pub begun_walks : (M : Meaning) (t : TxnState) (map key head : ℕ) → IsBegun M t → IsHeadOf (shape_in t) map key head → IsWalking M t head
-begun_walks M t map key head begun is = record {
+-- where an operation was begun a walk may begin, with whatever certificates
+abbrev pub begun_walks : (M : Meaning) (t : TxnState) (map key head : ℕ) → IsBegun M t → IsHeadOf (shape_in t) map key head → (cs : List Certificate) → IsGoing M t cs → IsWalking M t head
+begun_walks M t map key head begun is cs going = record {
   operates = begun.operates;
-  certificates = begun.going.0;
-  going = begun.going.1;
+  certificates = cs;
+  going = going;
   map = map;
   bucket = bucket_of (shape_in t) key;
   is_head = is;
   changes = [];
-  tidied = tidied_none M t begun.going.0 begun.changes begun.stored;
+  tidied = tidied_none M t cs begun.changes begun.stored;
   unlinks = All-nil (IsUnlink (shape_in t) (Bucket map (bucket_of (shape_in t) key)) head);
   charged = tt;
 }
+
+-- so a place was found
+pub found_of : (M : Meaning) (s t : TxnState) (head key : ℕ) (found : Found) → FindsFrom M s t head key found → IsBegun M s → (map : ℕ) × IsHeadOf (shape_in s) map key head → HasFound M t head key found
+found_of M s t head key found finds begun is = (finds (begun_walks M s is.0 key head begun is.1 begun.going.0 begun.going.1)).0
+
+-- an answer after ended operations with the same certificates
+pub by_same : (M : Meaning) (v : TxnState) (cs ds : List Certificate) (map key : ℕ) {op : Op} {reply : Reply} → cs ≡ ds → IsAnswered M v cs map key op reply → IsAnswered M v ds map key op reply
+by_same M v cs ds map key {op = op} {reply = reply} same = subst (λ x. IsAnswered M v x map key op reply) same
 
 -- a certificate of a row in the bucket, with unlinks of the list before it, is one of the map; so the theory has it
 module _ (M : Meaning) (lists : HasListsOf M) (t : TxnState) (head key : ℕ) (w : IsWalking M t head) (own_bucket : w.bucket ≡ bucket_of (shape_in t) key) (v : TxnState) (later : IsLater t v)
@@ -99,22 +108,18 @@ module _ (M : Meaning) (lawful : Lawful M) (lists : HasListsOf M) (t : TxnState)
   pub answered_reading : (op : Op) (reply : Reply) (facts : List Fact)
       → IsRow (shape_in t) list head w.map key (reading op reply w.changes (record { word = word; value = seen.value } ∷ []) facts)
       → Known M v (λ u h. All (Holds (after_wholes h cs)) facts) → All (λ (f : Fact). f.next ≡ None) facts
-      → IsAnswered M v w.map key op reply
+      → IsAnswered M v cs w.map key op reply
   answered_reading op reply facts row known plain =
       let c = reading op reply w.changes (record { word = word; value = seen.value } ∷ []) facts in
       record {
-        may = record {
-          earlier = cs;
-          going = going;
-          certificate = c;
-          of = (refl, refl);
-          may = may_end_reading M v cs w.changes tidied_now op reply (record { word = word; value = seen.value } ∷ []) facts
-              (row_certifies M lists t head key w own_bucket v later c row w.unlinks)
-              (All-cons (λ (x : WordValue). is_some (first_content v.reads (writes_in v) x.word) ≡ true) (record { word = word; value = seen.value }) [] is_found (All-nil _))
-              (λ u over prepared h of. All-cons (λ (x : WordValue). (tidied (found_by u h) cs w.changes).words.value x.word ≡ x.value) (record { word = word; value = seen.value }) []
-              (seen_value M lawful t cs w.going w.changes w.tidied word seen gives.gave gives.there fits v later first_is u over prepared h of) (All-nil _))
-              (λ u over prepared h of i d below. bare_holds (after_wholes h cs) w.changes w.tidied.bare (get_or facts i d) (plain i d below) (known u over prepared h of i d below));
-        };
+        certificate = c;
+        of = (refl, refl);
+        may = may_end_reading M v cs w.changes tidied_now op reply (record { word = word; value = seen.value } ∷ []) facts
+            (row_certifies M lists t head key w own_bucket v later c row w.unlinks)
+            (All-cons (λ (x : WordValue). is_some (first_content v.reads (writes_in v) x.word) ≡ true) (record { word = word; value = seen.value }) [] is_found (All-nil _))
+            (λ u over prepared h of. All-cons (λ (x : WordValue). (tidied (found_by u h) cs w.changes).words.value x.word ≡ x.value) (record { word = word; value = seen.value }) []
+            (seen_value M lawful t cs w.going w.changes w.tidied word seen gives.gave gives.there fits v later first_is u over prepared h of) (All-nil _))
+            (λ u over prepared h of i d below. bare_holds (after_wholes h cs) w.changes w.tidied.bare (get_or facts i d) (plain i d below) (known u over prepared h of i d below));
         row = row_of_map M lists t head key w own_bucket v later c row w.unlinks;
         charged = charged_later t v later (marks_slots t v slots) (all_changes cs) w.changes w.charged;
       }

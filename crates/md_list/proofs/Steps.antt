@@ -24,10 +24,10 @@ use Rattle.md_nbtc.proofs.structures.NodesKnown.{placed_or_own}
 use Rattle.md_list_law.specs.HasLists.{HasListsOf}
 use Rattle.md_list_law.specs.ListShape.{next_word}
 use Rattle.md_list.specs.Walking.{IsHead, IsWalking}
-use Rattle.md_list.proofs.At.{IsAt, stepped}
+use Rattle.md_list.proofs.At.{IsAt, IsAtBy, stepped}
 use Rattle.md_list.proofs.Further.{unlinked}
 use Rattle.md_list.proofs.Marks.{halved}
-use Rattle.md_list.proofs.OnNode.{IsOn, begins, looks_on}
+use Rattle.md_list.proofs.OnNode.{IsOn, IsOnBy, begins, looks_on}
 use Rattle.md_list.proofs.Walked.{WalkedFrom, walked_more}
 
 -- the head is a counted word
@@ -73,24 +73,25 @@ module _ (M : Meaning) (s t u : TxnState) (walked : WalkedFrom M s t) (goes : Go
   walked_exchange word from to kind seen (changed_plainly e) = walked_same e.state_is
 
 module _ (M : Meaning) (lawful : Lawful M) (lists : HasListsOf M) (t u : TxnState) (head key : ℕ) (goes : GoesOn M t u) where
-  pub head_looked : IsWalking M t head → (seen : Seen) → AfterStop t.stop t u (let r : Result Seen Stop = Ok seen in r) (Looked M t u head (Ok seen)) → IsAt M u head key [] head seen
+  pub head_looked : (w : IsWalking M t head) → (seen : Seen) → AfterStop t.stop t u (let r : Result Seen Stop = Ok seen in r) (Looked M t u head (Ok seen))
+      → IsAtBy M u w.certificates head key [] head seen
   head_looked w seen looked =
       let is = looked_ok M t u head seen looked in
-      subst (λ x. IsAt M x head key [] head seen) (sym is.0)
+      subst (λ x. IsAtBy M x w.certificates head key [] head seen) (sym is.0)
       (begins M lawful lists t u.pass head key seen (subst (GoesOn M t) is.0 goes) w (subst (λ x. Looks M t x head seen) is.0 is.1))
 
   module _ (visited : List ℕ) (prev : ℕ) (at : Seen) (stands : IsAt M t head key visited prev at) (some : linked_node at.value ≢ 0) where
     pub next_looked : (word : ℕ) → word ≡ next_word (shape_in t) (linked_node at.value) → (next : Seen)
-        → AfterStop t.stop t u (let r : Result Seen Stop = Ok next in r) (Looked M t u word (Ok next)) → KeepsGiven t u word → IsOn M u head key visited prev at next
+        → AfterStop t.stop t u (let r : Result Seen Stop = Ok next in r) (Looked M t u word (Ok next)) → KeepsGiven t u word → IsOnBy M u stands.walking.certificates head key visited prev at next
     next_looked word is_next next looked given =
         let is = looked_ok M t u word next looked in
-        subst (λ x. IsOn M x head key visited prev at next) (sym is.0)
+        subst (λ x. IsOnBy M x stands.walking.certificates head key visited prev at next) (sym is.0)
         (looks_on M lawful lists t head key visited prev at stands some u.pass next (subst (GoesOn M t) is.0 goes)
         (subst (λ w. Looks M t (stepped t u.pass) w next) is_next (subst (λ x. Looks M t x word next) is.0 is.1))
         (subst (λ w. KeepsGiven t (stepped t u.pass) w) is_next (subst (λ x. KeepsGiven t x word) is.0 given)))
 
-    pub unlinked_ok : (next : Seen) → IsOn M t head key visited prev at next → is_marked next.value ≡ true → at.count < 2 ^ 32 → (kind : Kind) → ((next.own ≡ true) ⊎ (kind ≡ Plain)) → (seen : Seen)
-        → Gave u prev seen → HasExchanged M t prev at (next.value - 1) kind u seen → IsAt M u head key (linked_node at.value ∷ visited) prev seen
+    pub unlinked_ok : (next : Seen) → (on : IsOn M t head key visited prev at next) → is_marked next.value ≡ true → at.count < 2 ^ 32 → (kind : Kind) → ((next.own ≡ true) ⊎ (kind ≡ Plain)) → (seen : Seen)
+        → Gave u prev seen → HasExchanged M t prev at (next.value - 1) kind u seen → IsAtBy M u on.stands.walking.certificates head key (linked_node at.value ∷ visited) prev seen
     unlinked_ok next on marked fits kind why seen gave ex = unlinked M lawful lists t head key visited prev at next on some marked fits kind why u seen goes gave ex
 
 -- the key of a node that a walk stands on may be read

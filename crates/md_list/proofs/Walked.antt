@@ -3,19 +3,15 @@ use Rattle.std.proofs.Common.{◌≡◌, ◌≤◌, ◌+◌, true, length, Some,
 use Rattle.md_history.specs.declared.stops.Stop.{Stop}
 use Rattle.md_machine.specs.Meaning.{Meaning}
 use Rattle.md_nbtc.specs.Calls.{GoesOn}
-use Rattle.md_nbtc.specs.Going.{IsUnderWay}
-use Rattle.md_nbtc.specs.Known.{IsLater}
 use Rattle.md_nbtc.specs.State.{TxnState}
-use Rattle.md_nbtc.proofs.preparing.Later.{later_over}
 use Rattle.md_nbtc.proofs.structures.Answering.{IsStopped}
 use Rattle.md_list.specs.Operations.{Leaves}
 use Rattle.md_list.specs.Written.{WritesFew}
-use Rattle.md_list.proofs.Adding.{adds_stop, leaves_more}
+use Rattle.md_list.proofs.Adding.{adds_stop, goes_over, leaves_more}
 
--- it is under way and later, and recorded no word and took no node
+-- it goes on with the same certificates, and recorded no word and took no node
 pub record WalkedFrom (M : Meaning) (t u : TxnState) : Type 0 where
-  pub going : IsUnderWay M u
-  pub later : IsLater t u
+  pub on : GoesOn M t u
   pub acts : u.hand.acts ≡ t.hand.acts
   pub operates : u.hand.operating ≡ true
   pub reads : u.reads ≡ t.reads
@@ -23,10 +19,9 @@ pub record WalkedFrom (M : Meaning) (t u : TxnState) : Type 0 where
 
 module _ (M : Meaning) (t : TxnState) where
   -- after one call
-  pub walked_one : IsUnderWay M t → t.hand.operating ≡ true → (u : TxnState) → GoesOn M t u → u ≡ record t { pass = u.pass } → WalkedFrom M t u
-  walked_one under operates u goes same = record {
-    going = (under.0, goes.going under.0 under.1);
-    later = goes.later;
+  pub walked_one : t.hand.operating ≡ true → (u : TxnState) → GoesOn M t u → u ≡ record t { pass = u.pass } → WalkedFrom M t u
+  walked_one operates u goes same = record {
+    on = goes;
     acts = ap (λ (x : TxnState). x.hand.acts) same;
     operates = ap (λ (x : TxnState). x.hand.operating) same ∙ operates;
     reads = ap (λ (x : TxnState). x.reads) same;
@@ -37,8 +32,7 @@ module _ (M : Meaning) (t : TxnState) where
   pub walked_more : (u v : TxnState) → WalkedFrom M t u → GoesOn M u v → v.hand.acts ≡ u.hand.acts → v.hand.operating ≡ u.hand.operating → v.reads ≡ u.reads → v.nodes ≡ u.nodes
       → WalkedFrom M t v
   walked_more u v walked goes acts operates reads nodes = record {
-    going = (walked.going.0, goes.going walked.going.0 walked.going.1);
-    later = later_over t u v walked.later goes.later;
+    on = goes_over M t u v walked.on goes;
     acts = acts ∙ walked.acts;
     operates = operates ∙ walked.operates;
     reads = reads ∙ walked.reads;
@@ -48,8 +42,7 @@ module _ (M : Meaning) (t : TxnState) where
   -- so it leaves this, with few words written
   pub walk_leaves : (u : TxnState) → WalkedFrom M t u → WritesFew t u 0 → Leaves M t u 0 0 0
   walk_leaves u walked few = record {
-    going = walked.going;
-    later = walked.later;
+    on = walked.on;
     acts = walked.acts;
     operates = walked.operates;
     reads_few = let l = ap (λ rs. length rs) walked.reads in omega (arith, l);

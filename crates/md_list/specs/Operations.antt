@@ -7,15 +7,17 @@ use Rattle.md_history.specs.declared.acts.Reply.{Reply}
 use Rattle.md_history.specs.declared.stops.Limit.TheVariants.{Nodes}
 use Rattle.md_history.specs.declared.stops.Stop.{Stop}
 use Rattle.md_history.specs.declared.stops.Stop.TheVariants.{Limit as Limited}
+use Rattle.md_machine.specs.declared.certificate.Certificate.{Certificate}
 use Rattle.md_machine.specs.declared.certificate.Change.{Change}
 use Rattle.md_machine.specs.Certified.{all_changes}
 use Rattle.md_machine.specs.Meaning.{Meaning}
 use Rattle.md_nbtc.specs.declared.seen.Cleanup.TheVariants.{Unlink}
 use Rattle.md_nbtc.specs.declared.seen.Seen.{Seen}
 use Rattle.md_nbtc.specs.declared.sets.Slot.{Slot}
-use Rattle.md_nbtc.specs.Calls.{MayAnswer}
-use Rattle.md_nbtc.specs.Going.{IsUnderWay}
-use Rattle.md_nbtc.specs.Known.{IsLater}
+use Rattle.md_rule.specs.Steps.{IsOf as IsOfAct}
+use Rattle.md_nbtc.specs.Calls.{GoesOn}
+use Rattle.md_nbtc.specs.Course.{MayEnd}
+use Rattle.md_nbtc.specs.Going.{IsGoing, IsUnderWay}
 use Rattle.md_nbtc.specs.Seeing.{Gave}
 use Rattle.md_nbtc.specs.State.{TxnState, shape_in}
 use Rattle.md_list_law.specs.HasLists.{IsMapCertificate}
@@ -31,12 +33,11 @@ pub record IsBegun (M : Meaning) (t : TxnState) : Type 0 where
   pub changes : t.hand.changes ≡ []
   pub stored : t.hand.stored ≡ []
 
--- what a call leaves of the transaction, answered or refused: it is under way and later, its acts are the same and the
--- operation is begun still. So many words more are recorded at most, so many more written than those that WritesFew
--- allows anyway, and so many nodes taken
+-- what a call leaves of the transaction, answered or refused: it goes on with the same certificates, its acts are the same
+-- and the operation is begun still. So many words more are recorded at most, so many more written than those that
+-- WritesFew allows anyway, and so many nodes taken
 pub record Leaves (M : Meaning) (t u : TxnState) (reads writes nodes : ℕ) : Type 0 where
-  pub going : IsUnderWay M u
-  pub later : IsLater t u
+  pub on : GoesOn M t u
   pub acts : u.hand.acts ≡ t.hand.acts
   pub operates : u.hand.operating ≡ true
   pub reads_few : length u.reads ≤ length t.reads + reads
@@ -51,16 +52,19 @@ HasStop u result = MatchResult result (λ _. u.stop ≡ None) (λ s. u.stop ≡ 
 abbrev pub HasStopButNodes : {A : Type 0} → TxnState → Result A Stop → Type 0
 HasStopButNodes u result = MatchResult result (λ _. u.stop ≡ None) (λ s. (u.stop ≡ Some s) × (s ≢ Limited Nodes))
 
--- an operation on a key of a map may be ended with the reply, by a certificate of its row in the table of lists, whose
--- unlinks are charged
-pub record IsAnswered (M : Meaning) (t : TxnState) (map key : ℕ) (op : Op) (reply : Reply) : Type 0 where
-  pub may : MayAnswer M t op reply
-  pub row : IsMapCertificate (shape_in t) map key may.certificate
-  pub charged : AreCharged t (all_changes may.earlier) may.certificate.tidy
+-- an operation on a key of a map may be ended with the reply, after ended operations with these certificates: by a
+-- certificate of its row in the table of lists, whose unlinks are charged
+pub record IsAnswered (M : Meaning) (t : TxnState) (cs : List Certificate) (map key : ℕ) (op : Op) (reply : Reply) : Type 0 where
+  pub certificate : Certificate
+  pub of : IsOfAct op reply certificate
+  pub may : MayEnd M t cs certificate
+  pub row : IsMapCertificate (shape_in t) map key certificate
+  pub charged : AreCharged t (all_changes cs) certificate.tidy
 
--- for each map of which the head is that of the key's bucket
+-- so for each map of which the head is that of the key's bucket, and whatever the certificates are
 abbrev pub Answers : Meaning → (t u : TxnState) → (head key : ℕ) → (op : ℕ → Op) → Reply → Type 0
-Answers M t u head key op reply = (map : ℕ) → IsHeadOf (shape_in t) map key head → IsAnswered M u map key (op map) reply
+Answers M t u head key op reply = (map : ℕ) → IsHeadOf (shape_in t) map key head → (cs : List Certificate) → IsGoing M t cs
+    → IsAnswered M u cs map key (op map) reply
 
 -- the last change of the operation marked the next word of a node, and the unlink of this node is kept with that word. It
 -- goes by the word that named the node when the transaction looked there last

@@ -88,3 +88,7 @@ module _ (M : Meaning) (t : TxnState) (head : ℕ) where
   pub record HasFound (key : ℕ) (found : Found) : Type 0 where
     pub walking : IsWalking
     pub place : FindsPlace M t walking.certificates (Bucket walking.map walking.bucket) head key found
+
+-- whatever walk it was, the place of a key was found, with the same certificates of the ended operations
+abbrev pub FindsFrom : Meaning → (t u : TxnState) → (head key : ℕ) → Found → Type 0
+FindsFrom M t u head key found = (w : IsWalking M t head) → (h : HasFound M u head key found) × (h.walking.certificates ≡ w.certificates)

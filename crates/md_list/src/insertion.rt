@@ -19,16 +19,22 @@ use md_nbtc::{Kind, Txn};
 /// and the value.
 ///
 /// If the key is absent, one node is taken, and the word of the gap in which the key belongs is
-/// changed to it as a part of the transaction. If the key is there, its value stays; at most one
-/// more word is recorded, the node's next word, and no node is taken. `Err` is the refusal of the
-/// first call that was refused: a load or an exchange of [`find`], the note of that word, the
-/// taking of the node, or the exchange that puts it there. The transaction keeps it.
+/// changed to it as a part of the transaction; no word is recorded. If the key is there, its value
+/// stays; at most one more word is recorded, the next word of its node, and no node is taken. At
+/// most one word is written beside those of [`find`].
 ///
-/// One [`find`] and at most eight steps more. It takes no memory.
+/// `Err` is the refusal of the first call that was refused, and the transaction keeps it: those of
+/// [`find`]; of the note `Conflict` and `Limit::Reads`, as in [`get`](crate::get); of the taking
+/// `Limit::Nodes`, if no lane of the pass has a node left, and `Limit::Worn` of the node's next
+/// word; of the last exchange `Conflict`, `Limit::Writes` and `Limit::Worn`. After a stop the
+/// answer is the same stop, and nothing is done.
+///
+/// One [`find`], and two steps for a note; or four for the node, and four for the change, one if
+/// its word is an own one. It takes no memory.
 ///
 /// After M. M. Michael, "High Performance Dynamic Lock-Free Hash Tables and List-Based Sets"
-/// (2002). It differs from Michael's in one way: a lost exchange isn't tried again, since the
-/// transaction then stops.
+/// (2002). It differs from Michael's in two ways. A lost exchange isn't tried again, since the
+/// transaction then stops. And a key that is there is recorded, since the answer rests on it.
 pub fn insert<'a, T: HasLists>(
     tx: &mut Txn<'a, T>,
     head: u32,

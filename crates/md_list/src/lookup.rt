@@ -17,15 +17,19 @@ use md_nbtc::Txn;
 /// that was just begun. `head` is the head of the key's own bucket. The caller ends the operation
 /// with the answer as the reply of a `Get` of the key.
 ///
-/// At most one more word is recorded: the node's next word if the key is there, and else the word
-/// of the gap in which the key would be. No node is taken. `Err` is the refusal of the first call
-/// that was refused: a load or an exchange of [`find`], or the note of that word. The transaction
-/// keeps it.
+/// At most one more word is recorded: the next word of the key's node, or the word of the gap in
+/// which the key would be. Words are written only by the unlinks of [`find`], and no node is taken.
 ///
-/// One [`find`] and at most three steps more. It takes no memory.
+/// `Err` is the refusal of the first call that was refused, and the transaction keeps it: those of
+/// [`find`]; and of the note `Conflict`, if the word is recorded with another content, and
+/// `Limit::Reads`, if it must be recorded and 128 words are. It is never `Limit::Nodes`. After a
+/// stop the answer is the same stop, and nothing is done.
+///
+/// One [`find`], two steps if the word is recorded now, and one for the value. It takes no memory.
 ///
 /// After M. M. Michael, "High Performance Dynamic Lock-Free Hash Tables and List-Based Sets"
-/// (2002).
+/// (2002). It differs from Michael's search in one way: it records the word on which its answer
+/// rests, so that the transaction commits only if the answer still holds then.
 pub fn get<'a, T: HasLists>(tx: &mut Txn<'a, T>, head: u32, key: u64) -> Result<Option<u64>, Stop>
     requires begun { IsBegun T.meaning (state tx.old) }
     requires head { (map : ℕ) × IsHeadOf (shape_in (state tx.old)) map key head }

@@ -17,18 +17,25 @@ use md_nbtc::{Cleanup, Kind, Txn};
 /// an operation of a transaction that was just begun. `head` is the head of the key's own bucket.
 /// The caller ends the operation with the answer as the reply of a `Remove` of the key.
 ///
-/// The node's next word is marked as a part of the transaction. The unlink is a cleanup, which is
-/// made when the transaction has committed. If the key isn't there, at most one more word is
-/// recorded: that of the gap in which the key would be. No node is taken. `Err` is the refusal of
-/// the first call that was refused: a load or an exchange of [`find`], the note of that word, or
-/// the exchange that marks. The transaction keeps it.
+/// If the key is there, the next word of its node is marked as a part of the transaction, and no
+/// word is recorded. The unlink of the node is kept as a cleanup with that word, and is made when
+/// the transaction has committed. If the key isn't there, at most one more word is recorded: that
+/// of the gap in which the key would be. At most one word is written beside those of [`find`], and
+/// no node is taken.
 ///
-/// One [`find`] and at most five steps more. It takes no memory.
+/// `Err` is the refusal of the first call that was refused, and the transaction keeps it: those of
+/// [`find`]; of the note `Conflict` and `Limit::Reads`, as in [`get`](crate::get); of the exchange
+/// that marks `Conflict`, `Limit::Writes` and `Limit::Worn`. It is never `Limit::Nodes`. After a
+/// stop the answer is the same stop, and nothing is done.
+///
+/// One [`find`], and two steps for a note; or one for the value and four for the mark, one if the
+/// word is an own one. It takes no memory.
 ///
 /// After M. M. Michael, "High Performance Dynamic Lock-Free Hash Tables and List-Based Sets"
-/// (2002). It differs from Michael's in two ways. A lost exchange isn't tried again, since the
-/// transaction then stops. And the node isn't unlinked at once, since the mark holds only if the
-/// transaction commits.
+/// (2002). It differs from Michael's in three ways. A lost exchange isn't tried again, since the
+/// transaction then stops. The node isn't unlinked at once, since the mark holds only if the
+/// transaction commits. And the gap of a key that is absent is recorded, since the answer rests on
+/// it.
 pub fn remove<'a, T: HasLists>(
     tx: &mut Txn<'a, T>,
     head: u32,
@@ -55,6 +62,7 @@ pub fn remove<'a, T: HasLists>(
     let value = tx.field_of(value_word);
     let next_word = tx.shape().node_next(found.node);
     tx.exchange(next_word, found.next, found.next.value + 1, Kind::Critical)?;
+    // Michael's remove unlinks the node here. The mark isn't decided yet, so the unlink waits.
     tx.later(Cleanup::Unlink {
         prev: found.prev,
         node: found.node,

@@ -4,7 +4,7 @@ ghost use Rattle.std.specs.Prelude.{◌≡◌, IfOk};
 ghost use Rattle.md_nbtc.specs.Calls.{AfterStop};
 ghost use Rattle.md_nbtc.specs.State.{state};
 ghost use Rattle.md_list.specs.Operations.{HasStopButNodes, Leaves};
-ghost use Rattle.md_list.specs.Walking.{HasFound, IsWalking};
+ghost use Rattle.md_list.specs.Walking.{FindsFrom, IsWalking};
 
 use md_history::Stop;
 use md_list_law::HasLists;
@@ -26,26 +26,33 @@ pub struct Found {
 /// Looks for a key in a list, as a part of an operation that was begun and has changed nothing but
 /// by unlinks of the list. `head` is the head of a bucket.
 ///
-/// It unlinks each removed node that it meets: at once if the remove has committed, and as a part
-/// of the transaction if the remove is its own, or if the word was recorded or is an own node's. It
-/// records no word and takes no node, and writes at most as many more words as the transaction had
-/// recorded or written, each counted once, and as it has nodes. `Err` is the refusal of the first load or exchange that was
-/// refused; the transaction keeps it.
+/// It unlinks each removed node that it meets: as a part of the transaction if the remove is the
+/// transaction's own, and else at once, by a plain change. A plain change is critical all the same
+/// if its word was recorded or is the next word of a node that the transaction took. So it writes
+/// at most one word more for each word that the transaction had recorded or written, and one for
+/// each node that it had taken. It records no word and takes no node.
 ///
-/// It meets each node of the list at most once. It costs one load of the head, and for each node
-/// that it meets one load more, and one step to read the node's key or one exchange to unlink the
-/// node. It takes no memory.
+/// `Err` is the refusal of the first load or exchange that was refused, and the transaction keeps
+/// it: `Conflict` if a word moved, `Limit::Writes` if an unlink needs a slot and 128 are written,
+/// `Limit::Worn` if the word of an unlink has a count of 4,294,967,292 or more. It is never
+/// `Limit::Nodes`. After a stop the answer is the same stop, and nothing is done.
+///
+/// One load of the head; for each node that stands, one load of its next word and one step to read
+/// its key; for each removed node, one load of its next word and one exchange, of one step if it is
+/// plain or the word is an own one, and else of four. Keys rise from node to node, so no node is
+/// met twice. It takes no memory.
 ///
 /// After M. M. Michael, "High Performance Dynamic Lock-Free Hash Tables and List-Based Sets"
-/// (2002). It differs from Michael's find in two ways. It doesn't go on after a lost exchange,
-/// since the transaction then stops. And it doesn't look at `prev` again before it reads the key:
-/// the operation records or changes what was found, and the transaction commits only if that
-/// still stands.
+/// (2002). It differs from Michael's find in three ways. It doesn't start again after a lost
+/// exchange, since the transaction then stops. It doesn't look at `prev` again before it reads the
+/// key: the operation records or changes what was found, and the transaction commits only if that
+/// still stands. And a node whose remove is the transaction's own isn't unlinked at once, since the
+/// mark holds only if the transaction commits.
 pub fn find<'a, T: HasLists>(tx: &mut Txn<'a, T>, head: u32, key: u64) -> Result<Found, Stop>
     requires walking { IsWalking T.meaning (state tx.old) head }
     ensures pass { tx.new.pass.ghost_name ≡ tx.old.pass.ghost_name }
     ensures leaves { Leaves T.meaning (state tx.old) (state tx.new) 0 0 0 }
-    ensures found { IfOk result (HasFound T.meaning (state tx.new) head key) }
+    ensures found { IfOk result (FindsFrom T.meaning (state tx.old) (state tx.new) head key) }
     ensures stops { AfterStop (state tx.old).stop (state tx.old) (state tx.new) result
         (HasStopButNodes (state tx.new) result) }
 {
@@ -60,6 +67,7 @@ pub fn find<'a, T: HasLists>(tx: &mut Txn<'a, T>, head: u32, key: u64) -> Result
         let next_word = tx.shape().node_next(node);
         let next = tx.load(next_word)?;
         if next.value % 2 == 1 {
+            // A mark of the transaction's own isn't decided, and neither may its unlink be.
             let kind = if next.own {
                 Kind::Critical
             } else {

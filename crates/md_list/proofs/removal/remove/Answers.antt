@@ -4,7 +4,8 @@ use Rattle.md_words.specs.Layout.{address}
 use Rattle.md_words.specs.Place.{node_next, node_value}
 use Rattle.md_words.specs.PlaceAt.{place_at}
 use Rattle.md_nbtc.specs.declared.seen.Kind.TheVariants.{Critical}
-use Rattle.md_nbtc.specs.Calls.{MayExchange, data_at, note_case}
+use Rattle.md_nbtc.specs.Calls.{GoesOn, MayExchange, data_at, note_case}
+use Rattle.md_nbtc.specs.Going.{IsGoing}
 use Rattle.md_nbtc.specs.Known.{Known}
 use Rattle.md_nbtc.specs.declared.seen.Cleanup.TheVariants.{Unlink}
 use Rattle.md_nbtc.specs.Seeing.{Gave, KeepsGiven}
@@ -17,14 +18,14 @@ use Rattle.md_nbtc.proofs.structures.NodesKnown.{shape_later}
 use Rattle.md_list_law.specs.Certificates.{remove_none}
 use Rattle.md_list.specs.Walking.{IsHeadOf}
 use Rattle.md_list.proofs.FoundOn.{found_on}
-use Rattle.md_list.proofs.Adding.{adds_note, adds_steps, leaves_kept, leaves_more, leaves_within, on_by_none}
+use Rattle.md_list.proofs.Adding.{adds_cleanup, adds_note, adds_steps, leaves_more, leaves_on, leaves_within, on_by_none}
 use Rattle.md_list.proofs.Critical.{adds_change}
 use Rattle.md_list.proofs.Getting.{is_absent, is_there, noted_ok, value_data}
 use Rattle.md_list_law.specs.ListShape.{next_word}
-use Rattle.md_list.proofs.LookUps.{here_node, answered_none}
+use Rattle.md_list.proofs.LookUps.{found_exists, here_node, answered_none}
 use Rattle.md_list.proofs.Marks.{mark_fits}
 use Rattle.md_list.proofs.Removing.{goes_kept, keeps_unlink, marked_by, may_mark, removed, written_for}
-use Rattle.md_list.proofs.Rows.{begun_walks}
+use Rattle.md_list.proofs.Rows.{begun_walks, by_same, found_of}
 use Rattle.md_list.proofs.Steps.{exchanged_ok, exchanged_reads}
 use Rattle.md_list.proofs.Stops.{answers_other, exchange_stops, exchanged_stop, none_stood, note_stops, noted_stop_ok, passed_on, stop_after_ok}
 use Rattle.md_list.proofs.Walked.{stop_leaves}
@@ -34,26 +35,28 @@ use Rattle.md_history.specs.declared.stops.Stop.TheVariants.{Limit as Limited}
 use Rattle.md_list.proofs.removal.remove.Goals as goal
 
 pub find-requires : goal.find-requires
-find-requires g c = record { walking = begun_walks g.T.Theory.meaning (state c.args.tx.now) c.requires.head.0 c.args.key c.args.head c.requires.begun c.requires.head.1 }
+find-requires g c = record { walking = begun_walks g.T.Theory.meaning (state c.args.tx.now) c.requires.head.0 c.args.key c.args.head c.requires.begun c.requires.head.1 c.requires.begun.going.0 c.requires.begun.going.1 }
 
 pub returns-then-not-found-clause-answer : goal.returns-then-not-found-clause-answer
-returns-then-not-found-clause-answer g c map is =
+returns-then-not-found-clause-answer g c map is cs going =
     let M = g.T.Theory.meaning in
     let s = state c.args.tx.now in
     let t = state c.find.new.tx in
     let u = state c.note.new.self in
-    let has = c.in_ok-found.ensures.found in
+    let f = c.in_ok-found.ensures.found (begun_walks g.T.Theory.meaning (state c.args.tx.now) map c.args.key c.args.head c.requires.begun is cs going) in
+    let has = f.0 in
     let noted = noted_ok t u c.in_ok-found.found.prev c.in_ok-found.found.at c.in_ok-note.ensures.noted in
-    answered_none M g.T.Theory.lawful g.met.T.HasLists.has_lists t c.args.head c.args.key c.in_ok-found.found has map
-    (subst (λ x. IsHeadOf x map c.args.key c.args.head) (sym (shape_later s t c.in_ok-found.ensures.leaves.later)) is) u c.in_ok-note.ensures.on.later noted.hand
+    by_same M u has.walking.certificates cs map c.args.key f.1
+    (answered_none M g.T.Theory.lawful g.met.T.HasLists.has_lists t c.args.head c.args.key c.in_ok-found.found has map
+    (subst (λ x. IsHeadOf x map c.args.key c.args.head) (sym (shape_later s t c.in_ok-found.ensures.leaves.on.later)) is) u c.in_ok-note.ensures.on.later noted.hand
     (c.in_ok-note.ensures.on.going has.walking.certificates has.walking.going) noted.slots (is_absent c.in_ok-found.found.here c.if-not-found.true) (omega arith) noted.content
-    (λ m. Remove m c.args.key) (λ d op reply changes records. remove_none op reply changes records)
+    (λ m. Remove m c.args.key) (λ d op reply changes records. remove_none op reply changes records))
 
 pub field_of-value-requires-clause-data : goal.field_of-value-requires-clause-data
 field_of-value-requires-clause-data g c =
     let M = g.T.Theory.meaning in
     let t = state c.find.new.tx in
-    let has = c.in_ok-found.ensures.found in
+    let has = (found_of g.T.Theory.meaning (state c.args.tx.now) (state c.find.new.tx) c.args.head c.args.key c.in_ok-found.found c.in_ok-found.ensures.found c.requires.begun c.requires.head) in
     let n = here_node M g.T.Theory.lawful g.met.T.HasLists.has_lists t c.args.head c.args.key c.in_ok-found.found has (is_there c.in_ok-found.found.here c.if-not-found.false) in
     value_data M g.T.Theory.lawful t c.args.head c.args.key c.in_ok-found.found has n t (record { going = λ cs going. going; later = later_self t }) c.node_value-value_word.result
     (c.node_value-value_word.ensures.place ∙ ap (λ x. address x (node_value c.in_ok-found.found.node)) c.shape.ensures)
@@ -61,21 +64,21 @@ field_of-value-requires-clause-data g c =
 pub overflow_add-found : goal.overflow_add-found
 overflow_add-found g c =
     let t = state c.find.new.tx in
-    let n = here_node g.T.Theory.meaning g.T.Theory.lawful g.met.T.HasLists.has_lists t c.args.head c.args.key c.in_ok-found.found c.in_ok-found.ensures.found (is_there c.in_ok-found.found.here c.if-not-found.false) in
+    let n = here_node g.T.Theory.meaning g.T.Theory.lawful g.met.T.HasLists.has_lists t c.args.head c.args.key c.in_ok-found.found (found_of g.T.Theory.meaning (state c.args.tx.now) (state c.find.new.tx) c.args.head c.args.key c.in_ok-found.found c.in_ok-found.ensures.found c.requires.begun c.requires.head) (is_there c.in_ok-found.found.here c.if-not-found.false) in
     let fits = mark_fits c.in_ok-found.found.next.value n.next.unmarked (omega arith) in
     omega (arith, fits)
 
 pub exchange-requires-clause-going : goal.exchange-requires-clause-going
 exchange-requires-clause-going g c =
-    let w = c.in_ok-found.ensures.found.walking in
+    let w = (found_of g.T.Theory.meaning (state c.args.tx.now) (state c.find.new.tx) c.args.head c.args.key c.in_ok-found.found c.in_ok-found.ensures.found c.requires.begun c.requires.head).walking in
     (w.certificates, c.field_of-value.ensures.on.going w.certificates w.going)
 
 pub exchange-requires-clause-may : goal.exchange-requires-clause-may
 exchange-requires-clause-may g c =
     let M = g.T.Theory.meaning in
     let v = state c.field_of-value.new.self in
-    let has = found_on M g.T.Theory.lawful g.met.T.HasLists.has_lists (state c.find.new.tx) c.args.head c.args.key c.in_ok-found.found c.in_ok-found.ensures.found v
-    c.field_of-value.ensures.on c.field_of-value.ensures.same c.field_of-value.ensures.given in
+    let has = (found_on M g.T.Theory.lawful g.met.T.HasLists.has_lists (state c.find.new.tx) c.args.head c.args.key c.in_ok-found.found (found_of g.T.Theory.meaning (state c.args.tx.now) (state c.find.new.tx) c.args.head c.args.key c.in_ok-found.found c.in_ok-found.ensures.found c.requires.begun c.requires.head) v
+    c.field_of-value.ensures.on c.field_of-value.ensures.same c.field_of-value.ensures.given).0 in
     subst (λ x. MayExchange M v x c.in_ok-found.found.next (c.in_ok-found.found.next.value + 1) Critical) (sym (c.node_next-next_word.ensures.place ∙ ap (λ x. address x (node_next c.in_ok-found.found.node)) c.shape-2.ensures))
     (may_mark M g.T.Theory.lawful g.met.T.HasLists.has_lists v c.args.head c.args.key c.in_ok-found.found has (is_there c.in_ok-found.found.here c.if-not-found.false))
 
@@ -84,8 +87,8 @@ later-requires-clause-written g c =
     let M = g.T.Theory.meaning in
     let v = state c.field_of-value.new.self in
     let u = state c.exchange.new.self in
-    let has = found_on M g.T.Theory.lawful g.met.T.HasLists.has_lists (state c.find.new.tx) c.args.head c.args.key c.in_ok-found.found c.in_ok-found.ensures.found v
-    c.field_of-value.ensures.on c.field_of-value.ensures.same c.field_of-value.ensures.given in
+    let has = (found_on M g.T.Theory.lawful g.met.T.HasLists.has_lists (state c.find.new.tx) c.args.head c.args.key c.in_ok-found.found (found_of g.T.Theory.meaning (state c.args.tx.now) (state c.find.new.tx) c.args.head c.args.key c.in_ok-found.found c.in_ok-found.ensures.found c.requires.begun c.requires.head) v
+    c.field_of-value.ensures.on c.field_of-value.ensures.same c.field_of-value.ensures.given).0 in
     let next_is = c.node_next-next_word.ensures.place ∙ ap (λ x. address x (node_next c.in_ok-found.found.node)) c.shape-2.ensures in
     written_for M g.T.Theory.lawful g.met.T.HasLists.has_lists v c.args.head c.args.key c.in_ok-found.found has (is_there c.in_ok-found.found.here c.if-not-found.false) u c.in_ok-exchange.ensures.on
     c.in_ok-exchange.field-0 (subst (λ x. Gave u x c.in_ok-exchange.field-0) next_is c.in_ok-exchange.ensures.gave)
@@ -93,27 +96,30 @@ later-requires-clause-written g c =
     (exchanged_ok M v u c.node_next-next_word.result c.in_ok-found.found.next (c.in_ok-found.found.next.value + 1) Critical c.in_ok-exchange.field-0 c.in_ok-exchange.ensures.exchanged))
 
 pub returns-clause-answer : goal.returns-clause-answer
-returns-clause-answer g c map is =
+returns-clause-answer g c map is cs going =
     let M = g.T.Theory.meaning in
+    let f = c.in_ok-found.ensures.found (begun_walks g.T.Theory.meaning (state c.args.tx.now) map c.args.key c.args.head c.requires.begun is cs going) in
     let s = state c.args.tx.now in
     let t = state c.find.new.tx in
     let v = state c.field_of-value.new.self in
     let u = state c.exchange.new.self in
     let node = c.in_ok-found.found.node in
-    let has = found_on M g.T.Theory.lawful g.met.T.HasLists.has_lists (state c.find.new.tx) c.args.head c.args.key c.in_ok-found.found c.in_ok-found.ensures.found v
+    let on_value = found_on M g.T.Theory.lawful g.met.T.HasLists.has_lists (state c.find.new.tx) c.args.head c.args.key c.in_ok-found.found f.0 v
     c.field_of-value.ensures.on c.field_of-value.ensures.same c.field_of-value.ensures.given in
+    let has = on_value.0 in
     let next_is = c.node_next-next_word.ensures.place ∙ ap (λ x. address x (node_next c.in_ok-found.found.node)) c.shape-2.ensures in
     let on = c.field_of-value.ensures.on in
     let shape = shape_later t v on.later in
-    removed M g.T.Theory.lawful g.met.T.HasLists.has_lists v c.args.head c.args.key c.in_ok-found.found has (is_there c.in_ok-found.found.here c.if-not-found.false) u c.in_ok-exchange.ensures.on
+    by_same M (state c.later.new.self) has.walking.certificates cs map c.args.key (on_value.1 ∙ f.1)
+    (removed M g.T.Theory.lawful g.met.T.HasLists.has_lists v c.args.head c.args.key c.in_ok-found.found has (is_there c.in_ok-found.found.here c.if-not-found.false) u c.in_ok-exchange.ensures.on
     c.in_ok-exchange.field-0 (subst (λ x. Gave u x c.in_ok-exchange.field-0) next_is c.in_ok-exchange.ensures.gave)
     (subst (λ x. HasExchanged M v x c.in_ok-found.found.next (c.in_ok-found.found.next.value + 1) Critical u c.in_ok-exchange.field-0) next_is
     (exchanged_ok M v u c.node_next-next_word.result c.in_ok-found.found.next (c.in_ok-found.found.next.value + 1) Critical c.in_ok-exchange.field-0 c.in_ok-exchange.ensures.exchanged))
     (state c.later.new.self) c.later.ensures.on c.later.ensures.kept (omega arith) map
-    (subst (λ x. IsHeadOf x map c.args.key c.args.head) (sym (shape_later s v (later_over s t v c.in_ok-found.ensures.leaves.later on.later))) is)
+    (subst (λ x. IsHeadOf x map c.args.key c.args.head) (sym (shape_later s v (later_over s t v c.in_ok-found.ensures.leaves.on.later on.later))) is)
     c.field_of-value.result c.node_value-value_word.result
     (c.node_value-value_word.ensures.place ∙ ap (λ x. address x (node_value node)) (c.shape.ensures ∙ sym shape))
-    (subst (λ x. Known M v (λ w h. data_at h (place_at x c.node_value-value_word.result) ≡ c.field_of-value.result)) (sym shape) c.field_of-value.ensures.known)
+    (subst (λ x. Known M v (λ w h. data_at h (place_at x c.node_value-value_word.result) ≡ c.field_of-value.result)) (sym shape) c.field_of-value.ensures.known))
 
 pub returns-in_err-found-clause-leaves : goal.returns-in_err-found-clause-leaves
 returns-in_err-found-clause-leaves g c = leaves_within g.T.Theory.meaning (state c.args.tx.now) (state c.find.new.tx) 0 0 0 1 1 0 (omega arith) (omega arith) (omega arith) c.in_err-found.ensures.leaves
@@ -201,20 +207,27 @@ returns-clause-leaves g c =
     let u = state c.exchange.new.self in
     let x = state c.later.new.self in
     let found = c.in_ok-found.found in
-    let has = found_on M g.T.Theory.lawful g.met.T.HasLists.has_lists t c.args.head c.args.key found c.in_ok-found.ensures.found v
-    c.field_of-value.ensures.on c.field_of-value.ensures.same c.field_of-value.ensures.given in
+    let has = (found_on M g.T.Theory.lawful g.met.T.HasLists.has_lists t c.args.head c.args.key found (found_of g.T.Theory.meaning (state c.args.tx.now) (state c.find.new.tx) c.args.head c.args.key c.in_ok-found.found c.in_ok-found.ensures.found c.requires.begun c.requires.head) v
+    c.field_of-value.ensures.on c.field_of-value.ensures.same c.field_of-value.ensures.given).0 in
     let next_is = c.node_next-next_word.ensures.place ∙ ap (λ x. address x (node_next found.node)) c.shape-2.ensures in
     let here = is_there found.here c.if-not-found.false in
     let gave = subst (λ x. Gave u x c.in_ok-exchange.field-0) next_is c.in_ok-exchange.ensures.gave in
     let changed = subst (λ x. HasExchanged M v x found.next (found.next.value + 1) Critical u c.in_ok-exchange.field-0) next_is
     (exchanged_ok M v u c.node_next-next_word.result found.next (found.next.value + 1) Critical c.in_ok-exchange.field-0 c.in_ok-exchange.ensures.exchanged) in
     let did = marked_by M g.T.Theory.lawful g.met.T.HasLists.has_lists v c.args.head c.args.key found has here u c.in_ok-exchange.ensures.on c.in_ok-exchange.field-0 gave changed in
-    let goes = goes_kept M g.T.Theory.lawful g.met.T.HasLists.has_lists v c.args.head c.args.key found has here u c.in_ok-exchange.ensures.on c.in_ok-exchange.field-0 gave changed
-    x c.later.ensures.on in
+    let on = c.field_of-value.ensures.on in
+    let goes : GoesOn M s x = record {
+      going = λ cs going.
+          let f = c.in_ok-found.ensures.found (begun_walks M s c.requires.head.0 c.args.key c.args.head c.requires.begun c.requires.head.1 cs going) in
+          let h = found_on M g.T.Theory.lawful g.met.T.HasLists.has_lists t c.args.head c.args.key found f.0 v on c.field_of-value.ensures.same c.field_of-value.ensures.given in
+          subst (IsGoing M x) (h.1 ∙ f.1) (goes_kept M g.T.Theory.lawful g.met.T.HasLists.has_lists v c.args.head c.args.key found h.0 here u c.in_ok-exchange.ensures.on c.in_ok-exchange.field-0
+          gave changed x c.later.ensures.on);
+      later = later_over s u x (later_over s v u (later_over s t v c.in_ok-found.ensures.leaves.on.later on.later) c.in_ok-exchange.ensures.on.later) c.later.ensures.on.later;
+    } in
     let value_read = leaves_more M s t v 0 0 0 0 0 0 c.in_ok-found.ensures.leaves c.field_of-value.ensures.on (adds_steps t v c.field_of-value.ensures.same) in
     let marked = leaves_more M s v u 0 0 0 0 1 0 value_read c.in_ok-exchange.ensures.on (adds_change M v (next_word (shape_in v) found.node) found.next (found.next.value + 1) u c.in_ok-exchange.field-0 did) in
     leaves_within M s x 0 1 0 1 1 0 (omega arith) (omega arith) (omega arith)
-    (leaves_kept M s u x 0 1 0 (Unlink found.prev found.node) marked goes c.later.ensures.on.later c.later.ensures.kept)
+    (leaves_on M s u x 0 1 0 0 0 0 marked goes (adds_cleanup u x (Unlink found.prev found.node) c.later.ensures.kept))
 
 pub returns-clause-marked : goal.returns-clause-marked
 returns-clause-marked g c =
@@ -228,7 +241,7 @@ returns-clause-marked g c =
     ap (λ x. x.reads) c.later.ensures.kept
     ∙ exchanged_reads M v u c.node_next-next_word.result found.next (found.next.value + 1) Critical c.in_ok-exchange.field-0
     (exchanged_ok M v u c.node_next-next_word.result found.next (found.next.value + 1) Critical c.in_ok-exchange.field-0 c.in_ok-exchange.ensures.exchanged)
-    ∙ ap (λ x. x.reads) c.field_of-value.ensures.same ∙ on_by_none s.reads t.reads leaves.later.reads leaves.reads_few
+    ∙ ap (λ x. x.reads) c.field_of-value.ensures.same ∙ on_by_none s.reads t.reads leaves.on.later.reads leaves.reads_few
 
 pub returns-clause-unlink : goal.returns-clause-unlink
 returns-clause-unlink g c =
@@ -238,8 +251,8 @@ returns-clause-unlink g c =
     let u = state c.exchange.new.self in
     let x = state c.later.new.self in
     let found = c.in_ok-found.found in
-    let has = found_on M g.T.Theory.lawful g.met.T.HasLists.has_lists t c.args.head c.args.key found c.in_ok-found.ensures.found v
-    c.field_of-value.ensures.on c.field_of-value.ensures.same c.field_of-value.ensures.given in
+    let has = (found_on M g.T.Theory.lawful g.met.T.HasLists.has_lists t c.args.head c.args.key found (found_of g.T.Theory.meaning (state c.args.tx.now) (state c.find.new.tx) c.args.head c.args.key c.in_ok-found.found c.in_ok-found.ensures.found c.requires.begun c.requires.head) v
+    c.field_of-value.ensures.on c.field_of-value.ensures.same c.field_of-value.ensures.given).0 in
     let next_is = c.node_next-next_word.ensures.place ∙ ap (λ x. address x (node_next found.node)) c.shape-2.ensures in
     keeps_unlink M g.T.Theory.lawful g.met.T.HasLists.has_lists v c.args.head c.args.key found has (is_there found.here c.if-not-found.false) u c.in_ok-exchange.ensures.on
     c.in_ok-exchange.field-0 (subst (λ x. Gave u x c.in_ok-exchange.field-0) next_is c.in_ok-exchange.ensures.gave)
@@ -262,3 +275,18 @@ returns-clause-stops g c =
     ∙ exchanged_stop M v u c.node_next-next_word.result found.next (found.next.value + 1) Critical c.in_ok-exchange.field-0
     (exchanged_ok M v u c.node_next-next_word.result found.next (found.next.value + 1) Critical c.in_ok-exchange.field-0 c.in_ok-exchange.ensures.exchanged)
     ∙ ap (λ y. y.stop) c.field_of-value.ensures.same ∙ none.1)
+
+pub note-requires-clause-gave : goal.note-requires-clause-gave
+note-requires-clause-gave g c = (found_of g.T.Theory.meaning (state c.args.tx.now) (state c.find.new.tx) c.args.head c.args.key c.in_ok-found.found c.in_ok-found.ensures.found c.requires.begun c.requires.head).place.at.gave
+
+pub note-requires-clause-found : goal.note-requires-clause-found
+note-requires-clause-found g c = (found_of g.T.Theory.meaning (state c.args.tx.now) (state c.find.new.tx) c.args.head c.args.key c.in_ok-found.found c.in_ok-found.ensures.found c.requires.begun c.requires.head).place.at.there
+
+pub node_value-value_word-requires : goal.node_value-value_word-requires
+node_value-value_word-requires g c = found_exists g.T.Theory.meaning g.T.Theory.lawful g.met.T.HasLists.has_lists (state c.args.tx.now) (state c.find.new.tx) c.args.head c.args.key c.in_ok-found.found c.in_ok-found.ensures.found c.requires.begun
+    c.requires.head (is_there c.in_ok-found.found.here c.if-not-found.false) c.shape.result.now c.shape.ensures
+
+pub node_next-next_word-requires : goal.node_next-next_word-requires
+node_next-next_word-requires g c = found_exists g.T.Theory.meaning g.T.Theory.lawful g.met.T.HasLists.has_lists (state c.args.tx.now) (state c.find.new.tx) c.args.head c.args.key c.in_ok-found.found c.in_ok-found.ensures.found c.requires.begun
+    c.requires.head (is_there c.in_ok-found.found.here c.if-not-found.false) c.shape-2.result.now
+    (c.shape-2.ensures ∙ shape_later (state c.find.new.tx) (state c.field_of-value.new.self) c.field_of-value.ensures.on.later)

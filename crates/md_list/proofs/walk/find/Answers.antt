@@ -14,6 +14,7 @@ use Rattle.md_list.proofs.Steps.{exchanged_ok, head_counted, head_looked, key_da
 use Rattle.md_list.proofs.Stops.{answers_other, exchange_stops, exchanged_stop, look_other, look_stops, none_stood, ok_unstopped, passed_on}
 use Rattle.md_list.proofs.Walked.{has_stop, stop_leaves, walk_leaves, walked_one}
 use Rattle.md_list.proofs.Adding.{leaves_none}
+use Rattle.md_list.proofs.At.{found_over}
 use Rattle.md_list.specs.declared.walk.Found.{Found}
 use Rattle.md_history.specs.declared.stops.Limit.TheVariants.{Nodes}
 use Rattle.md_history.specs.declared.stops.Stop.TheVariants.{Limit as Limited}
@@ -37,11 +38,11 @@ loop-init g c =
     let is = looked_ok M t u c.args.head c.in_ok-at.at c.in_ok-at.ensures.looked in
     record {
       pass = c.in_ok-at.ensures.pass;
-      walked = walked_one M t (c.requires.walking.certificates, c.requires.walking.going) c.requires.walking.operates u c.in_ok-at.ensures.on is.0;
+      walked = walked_one M t c.requires.walking.operates u c.in_ok-at.ensures.on is.0;
       unstopped = ok_unstopped Seen t u t.stop c.in_ok-at.at (Looked M t u c.args.head (Ok c.in_ok-at.at)) c.in_ok-at.ensures.looked;
       still = ap (λ x. x.stop) is.0 ∙ ok_unstopped Seen t u t.stop c.in_ok-at.at (Looked M t u c.args.head (Ok c.in_ok-at.at)) c.in_ok-at.ensures.looked;
       visited = [];
-      stands = head_looked M g.T.Theory.lawful g.met.T.HasLists.has_lists t u c.args.head c.args.key c.in_ok-at.ensures.on c.requires.walking c.in_ok-at.at c.in_ok-at.ensures.looked;
+      stands = λ w. head_looked M g.T.Theory.lawful g.met.T.HasLists.has_lists t u c.args.head c.args.key c.in_ok-at.ensures.on w c.in_ok-at.at c.in_ok-at.ensures.looked;
       charges = charges_none M t c.args.head u (ap (λ x. x.slots) is.0);
       turns = refl;
       small = omega arith;
@@ -53,16 +54,16 @@ node_next-next_word-requires g c =
     let t = state c.loop.tx in
     let i = c.loop.invariant in
     node_is (shape_in t) c.shape.result.now c.loop.at.value c.shape.ensures
-    (named_exists M g.T.Theory.lawful g.met.T.HasLists.has_lists t c.args.head c.args.key i.visited c.loop.prev c.loop.at i.stands (λ e. c.if-node-eq0.false (sym (halved c.loop.at.value) ∙ e)))
+    (named_exists M g.T.Theory.lawful g.met.T.HasLists.has_lists t c.args.head c.args.key i.visited c.loop.prev c.loop.at (i.stands c.requires.walking).0 (λ e. c.if-node-eq0.false (sym (halved c.loop.at.value) ∙ e)))
 
 pub load-requires-in-loop-clause-going : goal.load-requires-in-loop-clause-going
-load-requires-in-loop-clause-going g c = c.loop.invariant.walked.going
+load-requires-in-loop-clause-going g c = let w = c.requires.walking in (w.certificates, c.loop.invariant.walked.on.going w.certificates w.going)
 
 pub load-requires-in-loop-clause-counted : goal.load-requires-in-loop-clause-counted
 load-requires-in-loop-clause-counted g c =
     let t = state c.loop.tx in
     let i = c.loop.invariant in
-    let exists = named_exists g.T.Theory.meaning g.T.Theory.lawful g.met.T.HasLists.has_lists t c.args.head c.args.key i.visited c.loop.prev c.loop.at i.stands (λ e. c.if-node-eq0.false (sym (halved c.loop.at.value) ∙ e)) in
+    let exists = named_exists g.T.Theory.meaning g.T.Theory.lawful g.met.T.HasLists.has_lists t c.args.head c.args.key i.visited c.loop.prev c.loop.at (i.stands c.requires.walking).0 (λ e. c.if-node-eq0.false (sym (halved c.loop.at.value) ∙ e)) in
     subst (IsCounted (shape_in t)) (sym (next_is (shape_in t) c.shape.result.now c.loop.at.value c.node_next-next_word.result c.node_next-next_word.ensures.place c.shape.ensures))
     (next_counted (shape_in t) (linked_node c.loop.at.value) exists)
 
@@ -71,8 +72,8 @@ returns-in_err-next-clause-pass g c = c.in_err-next.ensures.pass ∙ c.loop.inva
 
 pub exchange-requires-clause-going : goal.exchange-requires-clause-going
 exchange-requires-clause-going g c =
-    let under = c.loop.invariant.walked.going in
-    (under.0, c.in_ok-next.ensures.on.going under.0 under.1)
+    let w = c.requires.walking in
+    (w.certificates, c.in_ok-next.ensures.on.going w.certificates (c.loop.invariant.walked.on.going w.certificates w.going))
 
 pub exchange-requires-clause-may : goal.exchange-requires-clause-may
 exchange-requires-clause-may g c =
@@ -80,10 +81,10 @@ exchange-requires-clause-may g c =
     let t = state c.loop.tx in
     let u = state c.load-in-loop.new.self in
     let i = c.loop.invariant in
-    let on = next_looked M g.T.Theory.lawful g.met.T.HasLists.has_lists t u c.args.head c.args.key c.in_ok-next.ensures.on i.visited c.loop.prev c.loop.at i.stands
+    let on = (next_looked M g.T.Theory.lawful g.met.T.HasLists.has_lists t u c.args.head c.args.key c.in_ok-next.ensures.on i.visited c.loop.prev c.loop.at (i.stands c.requires.walking).0
     (λ e. c.if-node-eq0.false (sym (halved c.loop.at.value) ∙ e)) c.node_next-next_word.result
     (next_is (shape_in t) c.shape.result.now c.loop.at.value c.node_next-next_word.result c.node_next-next_word.ensures.place c.shape.ensures)
-    c.in_ok-next.next c.in_ok-next.ensures.looked c.in_ok-next.ensures.given in
+    c.in_ok-next.next c.in_ok-next.ensures.looked c.in_ok-next.ensures.given).0 in
     may_unlink M g.T.Theory.lawful g.met.T.HasLists.has_lists u c.args.head c.args.key i.visited c.loop.prev c.loop.at c.in_ok-next.next on
     (odd_is_marked c.in_ok-next.next.value c.if-next-eq1.true) on.stands.walking.operates c.if-next.kind
     (elim c.if-next.branch [ then-next w ↦ λ own. w.kind-is | else-next w ↦ λ own. absurd (true≢false (sym own ∙ w.if-next.false)) ])
@@ -101,9 +102,9 @@ loop-preserved-then-next-eq1 g c =
     let i = c.loop.invariant in
     let some : linked_node c.loop.at.value ≢ 0 = λ e. c.if-node-eq0.false (sym (halved c.loop.at.value) ∙ e) in
     let is = looked_ok M t u c.node_next-next_word.result c.in_ok-next.next c.in_ok-next.ensures.looked in
-    let on = next_looked M g.T.Theory.lawful g.met.T.HasLists.has_lists t u c.args.head c.args.key c.in_ok-next.ensures.on i.visited c.loop.prev c.loop.at i.stands some c.node_next-next_word.result
+    let on = (next_looked M g.T.Theory.lawful g.met.T.HasLists.has_lists t u c.args.head c.args.key c.in_ok-next.ensures.on i.visited c.loop.prev c.loop.at (i.stands c.requires.walking).0 some c.node_next-next_word.result
     (next_is (shape_in t) c.shape.result.now c.loop.at.value c.node_next-next_word.result c.node_next-next_word.ensures.place c.shape.ensures)
-    c.in_ok-next.next c.in_ok-next.ensures.looked c.in_ok-next.ensures.given in
+    c.in_ok-next.next c.in_ok-next.ensures.looked c.in_ok-next.ensures.given).0 in
     let ex = exchanged_ok M u v c.loop.prev c.loop.at (c.in_ok-next.next.value - 1) c.if-next.kind c.in_ok-at-2.at c.in_ok-at-2.ensures.exchanged in
     let turns = i.turns in
     let charged = charges_pass M s c.args.head t i.visited i.charges u is.0 in
@@ -114,11 +115,16 @@ loop-preserved-then-next-eq1 g c =
       unstopped = i.unstopped;
       still = exchanged_stop M u v c.loop.prev c.loop.at (c.in_ok-next.next.value - 1) c.if-next.kind c.in_ok-at-2.at ex ∙ ap (λ x. x.stop) is.0 ∙ i.still;
       visited = linked_node c.loop.at.value ∷ i.visited;
-      stands = unlinked_ok M g.T.Theory.lawful g.met.T.HasLists.has_lists u v c.args.head c.args.key c.in_ok-at-2.ensures.on i.visited c.loop.prev c.loop.at on.stands some c.in_ok-next.next on
+      stands = λ w.
+          let o = (next_looked M g.T.Theory.lawful g.met.T.HasLists.has_lists t u c.args.head c.args.key c.in_ok-next.ensures.on i.visited c.loop.prev c.loop.at (i.stands w).0 some c.node_next-next_word.result
+          (next_is (shape_in t) c.shape.result.now c.loop.at.value c.node_next-next_word.result c.node_next-next_word.ensures.place c.shape.ensures)
+          c.in_ok-next.next c.in_ok-next.ensures.looked c.in_ok-next.ensures.given) in
+          let a = unlinked_ok M g.T.Theory.lawful g.met.T.HasLists.has_lists u v c.args.head c.args.key c.in_ok-at-2.ensures.on i.visited c.loop.prev c.loop.at o.0.stands some c.in_ok-next.next o.0
           (odd_is_marked c.in_ok-next.next.value c.if-next-eq1.true) i.small c.if-next.kind
-          (elim c.if-next.branch [ then-next w ↦ inl w.if-next.true | else-next w ↦ inr w.kind-is ]) c.in_ok-at-2.at c.in_ok-at-2.ensures.gave ex;
+          (elim c.if-next.branch [ then-next b ↦ inl b.if-next.true | else-next b ↦ inr b.kind-is ]) c.in_ok-at-2.at c.in_ok-at-2.ensures.gave ex in
+          (a.0, a.1 ∙ o.1 ∙ (i.stands w).1);
       charges = charges_unlink M g.T.Theory.lawful g.met.T.HasLists.has_lists s c.args.head c.args.key u i.visited c.loop.prev c.loop.at c.in_ok-next.next on some
-          (ap (λ x. x.reads) is.0 ∙ i.walked.reads) (ap (λ x. x.nodes) is.0 ∙ i.walked.nodes) (ap (λ x. shape_in x) is.0 ∙ shape_later s t i.walked.later) charged
+          (ap (λ x. x.reads) is.0 ∙ i.walked.reads) (ap (λ x. x.nodes) is.0 ∙ i.walked.nodes) (ap (λ x. shape_in x) is.0 ∙ shape_later s t i.walked.on.later) charged
           (c.in_ok-next.next.value - 1) c.if-next.kind (elim c.if-next.branch [ then-next w ↦ inl w.if-next.true | else-next w ↦ inr w.kind-is ]) v c.in_ok-at-2.at ex;
       turns = omega (arith, turns);
       small = omega arith;
@@ -131,12 +137,12 @@ node_key-key_word-requires g c =
     let u = state c.load-in-loop.new.self in
     let is = looked_ok g.T.Theory.meaning t u c.node_next-next_word.result c.in_ok-next.next c.in_ok-next.ensures.looked in
     node_is (shape_in t) c.shape-in-loop.result.now c.loop.at.value (c.shape-in-loop.ensures ∙ ap (λ x. shape_in x) is.0)
-    (named_exists g.T.Theory.meaning g.T.Theory.lawful g.met.T.HasLists.has_lists t c.args.head c.args.key i.visited c.loop.prev c.loop.at i.stands (λ e. c.if-node-eq0.false (sym (halved c.loop.at.value) ∙ e)))
+    (named_exists g.T.Theory.meaning g.T.Theory.lawful g.met.T.HasLists.has_lists t c.args.head c.args.key i.visited c.loop.prev c.loop.at (i.stands c.requires.walking).0 (λ e. c.if-node-eq0.false (sym (halved c.loop.at.value) ∙ e)))
 
 pub field_of-node_key-requires-clause-going : goal.field_of-node_key-requires-clause-going
 field_of-node_key-requires-clause-going g c =
-    let under = c.loop.invariant.walked.going in
-    (under.0, c.in_ok-next.ensures.on.going under.0 under.1)
+    let w = c.requires.walking in
+    (w.certificates, c.in_ok-next.ensures.on.going w.certificates (c.loop.invariant.walked.on.going w.certificates w.going))
 
 pub field_of-node_key-requires-clause-data : goal.field_of-node_key-requires-clause-data
 field_of-node_key-requires-clause-data g c =
@@ -144,10 +150,10 @@ field_of-node_key-requires-clause-data g c =
     let t = state c.loop.tx in
     let u = state c.load-in-loop.new.self in
     let i = c.loop.invariant in
-    let on = next_looked M g.T.Theory.lawful g.met.T.HasLists.has_lists t u c.args.head c.args.key c.in_ok-next.ensures.on i.visited c.loop.prev c.loop.at i.stands
+    let on = (next_looked M g.T.Theory.lawful g.met.T.HasLists.has_lists t u c.args.head c.args.key c.in_ok-next.ensures.on i.visited c.loop.prev c.loop.at (i.stands c.requires.walking).0
     (λ e. c.if-node-eq0.false (sym (halved c.loop.at.value) ∙ e)) c.node_next-next_word.result
     (next_is (shape_in t) c.shape.result.now c.loop.at.value c.node_next-next_word.result c.node_next-next_word.ensures.place c.shape.ensures)
-    c.in_ok-next.next c.in_ok-next.ensures.looked c.in_ok-next.ensures.given in
+    c.in_ok-next.next c.in_ok-next.ensures.looked c.in_ok-next.ensures.given).0 in
     key_data M g.T.Theory.lawful g.met.T.HasLists.has_lists u c.args.head c.args.key i.visited c.loop.prev c.loop.at c.in_ok-next.next on c.node_key-key_word.result
     (key_is (shape_in u) c.shape-in-loop.result.now c.loop.at.value c.node_key-key_word.result c.node_key-key_word.ensures.place c.shape-in-loop.ensures)
 
@@ -155,21 +161,23 @@ pub returns-then-node_key-key-clause-pass : goal.returns-then-node_key-key-claus
 returns-then-node_key-key-clause-pass g c = c.field_of-node_key.ensures.pass ∙ c.load-in-loop.ensures.pass ∙ c.loop.invariant.pass
 
 pub returns-then-node_key-key-clause-found : goal.returns-then-node_key-key-clause-found
-returns-then-node_key-key-clause-found g c =
+returns-then-node_key-key-clause-found g c w =
     let M = g.T.Theory.meaning in
     let t = state c.loop.tx in
     let u = state c.load-in-loop.new.self in
     let v = state c.field_of-node_key.new.self in
     let i = c.loop.invariant in
     let some : linked_node c.loop.at.value ≢ 0 = λ e. c.if-node-eq0.false (sym (halved c.loop.at.value) ∙ e) in
-    let on = next_looked M g.T.Theory.lawful g.met.T.HasLists.has_lists t u c.args.head c.args.key c.in_ok-next.ensures.on i.visited c.loop.prev c.loop.at i.stands some c.node_next-next_word.result
+    let o = (next_looked M g.T.Theory.lawful g.met.T.HasLists.has_lists t u c.args.head c.args.key c.in_ok-next.ensures.on i.visited c.loop.prev c.loop.at (i.stands w).0 some c.node_next-next_word.result
     (next_is (shape_in t) c.shape.result.now c.loop.at.value c.node_next-next_word.result c.node_next-next_word.ensures.place c.shape.ensures)
-    c.in_ok-next.next c.in_ok-next.ensures.looked c.in_ok-next.ensures.given in
-    key_finds M g.T.Theory.lawful g.met.T.HasLists.has_lists u v c.args.head c.args.key i.visited c.loop.prev c.loop.at c.in_ok-next.next on some
+    c.in_ok-next.next c.in_ok-next.ensures.looked c.in_ok-next.ensures.given) in
+    found_over M v c.args.head c.args.key _ o.0.stands.walking.certificates w.certificates
+    (key_finds M g.T.Theory.lawful g.met.T.HasLists.has_lists u v c.args.head c.args.key i.visited c.loop.prev c.loop.at c.in_ok-next.next o.0 some
     (even_is_unmarked c.in_ok-next.next.value c.if-next-eq1.false) c.field_of-node_key.ensures.on c.field_of-node_key.ensures.same c.field_of-node_key.ensures.given
     c.node_key-key_word.result
     (key_is (shape_in u) c.shape-in-loop.result.now c.loop.at.value c.node_key-key_word.result c.node_key-key_word.ensures.place c.shape-in-loop.ensures)
-    c.field_of-node_key.result c.field_of-node_key.ensures.known _ refl refl (sym (halved c.loop.at.value)) refl refl (omega arith)
+    c.field_of-node_key.result c.field_of-node_key.ensures.known _ refl refl (sym (halved c.loop.at.value)) refl refl (omega arith))
+    (o.1 ∙ (i.stands w).1)
 
 pub loop-preserved : goal.loop-preserved
 loop-preserved g c =
@@ -182,8 +190,6 @@ loop-preserved g c =
     let some : linked_node c.loop.at.value ≢ 0 = λ e. c.if-node-eq0.false (sym (halved c.loop.at.value) ∙ e) in
     let is = looked_ok M t u c.node_next-next_word.result c.in_ok-next.next c.in_ok-next.ensures.looked in
     let is_next = next_is (shape_in t) c.shape.result.now c.loop.at.value c.node_next-next_word.result c.node_next-next_word.ensures.place c.shape.ensures in
-    let on = next_looked M g.T.Theory.lawful g.met.T.HasLists.has_lists t u c.args.head c.args.key c.in_ok-next.ensures.on i.visited c.loop.prev c.loop.at i.stands some c.node_next-next_word.result is_next
-    c.in_ok-next.next c.in_ok-next.ensures.looked c.in_ok-next.ensures.given in
     let turns = i.turns in
     record {
       pass = c.field_of-node_key.ensures.pass ∙ c.load-in-loop.ensures.pass ∙ i.pass;
@@ -191,11 +197,17 @@ loop-preserved g c =
       unstopped = i.unstopped;
       still = ap (λ x. x.stop) c.field_of-node_key.ensures.same ∙ ap (λ x. x.stop) is.0 ∙ i.still;
       visited = linked_node c.loop.at.value ∷ i.visited;
-      stands = key_walks M g.T.Theory.lawful g.met.T.HasLists.has_lists u v c.args.head c.args.key i.visited c.loop.prev c.loop.at c.in_ok-next.next on some
+      stands = λ w.
+          let o = (next_looked M g.T.Theory.lawful g.met.T.HasLists.has_lists t u c.args.head c.args.key c.in_ok-next.ensures.on i.visited c.loop.prev c.loop.at (i.stands w).0 some c.node_next-next_word.result
+          (next_is (shape_in t) c.shape.result.now c.loop.at.value c.node_next-next_word.result c.node_next-next_word.ensures.place c.shape.ensures)
+          c.in_ok-next.next c.in_ok-next.ensures.looked c.in_ok-next.ensures.given) in
+          let a = key_walks M g.T.Theory.lawful g.met.T.HasLists.has_lists u v c.args.head c.args.key i.visited c.loop.prev c.loop.at c.in_ok-next.next o.0 some
           (even_is_unmarked c.in_ok-next.next.value c.if-next-eq1.false) c.field_of-node_key.ensures.on c.field_of-node_key.ensures.same c.field_of-node_key.ensures.given
           c.node_key-key_word.result
           (key_is (shape_in u) c.shape-in-loop.result.now c.loop.at.value c.node_key-key_word.result c.node_key-key_word.ensures.place c.shape-in-loop.ensures)
-          c.field_of-node_key.result c.field_of-node_key.ensures.known (omega arith) c.node_next-next_word.result (is_next ∙ ap (λ x. next_word (shape_in x) (linked_node c.loop.at.value)) (sym is.0) ∙ ap (λ x. next_word (shape_in x) (linked_node c.loop.at.value)) (sym c.field_of-node_key.ensures.same));
+          c.field_of-node_key.result c.field_of-node_key.ensures.known (omega arith) c.node_next-next_word.result
+          (is_next ∙ ap (λ x. next_word (shape_in x) (linked_node c.loop.at.value)) (sym is.0) ∙ ap (λ x. next_word (shape_in x) (linked_node c.loop.at.value)) (sym c.field_of-node_key.ensures.same)) in
+          (a.0, a.1 ∙ o.1 ∙ (i.stands w).1);
       charges = charges_more M s c.args.head v i.visited (linked_node c.loop.at.value) (charges_pass M s c.args.head u i.visited (charges_pass M s c.args.head t i.visited i.charges u is.0) v c.field_of-node_key.ensures.same);
       turns = omega (arith, turns);
       small = omega arith;
@@ -207,7 +219,7 @@ returns-after-loop-clause-pass g c = c.loop.invariant.pass
 pub returns-after-loop-clause-found : goal.returns-after-loop-clause-found
 returns-after-loop-clause-found g c =
     let i = c.loop.invariant in
-    let few = few_visited g.T.Theory.meaning (state c.loop.tx) c.args.head c.args.key i.visited c.loop.prev c.loop.at i.stands in
+    let few = few_visited g.T.Theory.meaning (state c.loop.tx) c.args.head c.args.key i.visited c.loop.prev c.loop.at (i.stands c.requires.walking).0 in
     let turns = i.turns in
     absurd (omega (arith, few, turns))
 
@@ -215,13 +227,14 @@ pub returns-then-node-eq0-clause-pass : goal.returns-then-node-eq0-clause-pass
 returns-then-node-eq0-clause-pass g c = c.loop.invariant.pass
 
 pub returns-then-node-eq0-clause-found : goal.returns-then-node-eq0-clause-found
-returns-then-node-eq0-clause-found g c =
-    finds_none g.T.Theory.meaning (state c.loop.tx) c.args.head c.args.key c.loop.invariant.visited c.loop.prev c.loop.at c.loop.invariant.stands
-    (halved c.loop.at.value ∙ c.if-node-eq0.true) _ refl refl refl refl refl
+returns-then-node-eq0-clause-found g c w =
+    let a = c.loop.invariant.stands w in
+    found_over g.T.Theory.meaning (state c.loop.tx) c.args.head c.args.key _ a.0.walking.certificates w.certificates
+    (finds_none g.T.Theory.meaning (state c.loop.tx) c.args.head c.args.key c.loop.invariant.visited c.loop.prev c.loop.at a.0
+    (halved c.loop.at.value ∙ c.if-node-eq0.true) _ refl refl refl refl refl) a.1
 
 pub returns-in_err-at-clause-pass : goal.returns-in_err-at-clause-pass
 returns-in_err-at-clause-pass g c = c.in_err-at.ensures.pass
-
 
 pub returns-in_err-at-clause-leaves : goal.returns-in_err-at-clause-leaves
 returns-in_err-at-clause-leaves g c =
@@ -230,7 +243,7 @@ returns-in_err-at-clause-leaves g c =
     let u = state c.load.new.self in
     let w = c.requires.walking in
     let stop = c.in_err-at.field-0.0 in
-    stop_leaves M t t u stop (leaves_none M t (w.certificates, w.going) w.operates) c.in_err-at.ensures.on (look_refused M t u stop c.args.head c.in_err-at.ensures.looked)
+    stop_leaves M t t u stop (leaves_none M t w.operates) c.in_err-at.ensures.on (look_refused M t u stop c.args.head c.in_err-at.ensures.looked)
 
 pub returns-in_err-at-clause-stops : goal.returns-in_err-at-clause-stops
 returns-in_err-at-clause-stops g c =

@@ -1,6 +1,7 @@
 use Rattle.std.proofs.Common.{◌≡◌, ◌<◌, ◌^◌, ℕ, List, None, length}
 use Rattle.md_nbtc.specs.State.{state}
-use Rattle.md_list.proofs.At.{IsAt}
+use Rattle.md_list.specs.Walking.{IsWalking}
+use Rattle.md_list.proofs.At.{IsAtBy}
 use Rattle.md_list.proofs.Charged.{Charges}
 use Rattle.md_list.proofs.Walked.{WalkedFrom}
 use Rattle.md_list.proofs.walk.find.Given as goal
@@ -12,7 +13,7 @@ invariant-loop g l = record {
   unstopped : (state l.fn.tx).stop ≡ None;
   still : (state l.tx).stop ≡ None;
   visited : List ℕ;
-  stands : IsAt g.T.Theory.meaning (state l.tx) l.head l.key visited l.prev l.at;
+  stands : (w : IsWalking g.T.Theory.meaning (state l.fn.tx) l.head) → IsAtBy g.T.Theory.meaning (state l.tx) w.certificates l.head l.key visited l.prev l.at;
   charges : Charges g.T.Theory.meaning (state l.fn.tx) l.head (state l.tx) visited;
   turns : length visited ≡ l.counter;
   small : l.at.count < 2 ^ 32;
