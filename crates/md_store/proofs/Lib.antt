@@ -1,4 +1,3 @@
-pub mod Laws
 pub mod Splitting
 pub mod Opening
 pub mod Joining
@@ -11,4 +10,4 @@ pub mod Settlement
 pub mod Closed
 pub mod Rooms
 pub mod Renewing
-pub mod FreshPasses
+pub mod AllLanes
