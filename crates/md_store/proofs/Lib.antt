@@ -1,4 +1,3 @@
-pub mod Laws
 pub mod Splitting
 pub mod Opening
 pub mod Joining
@@ -14,3 +13,4 @@ pub mod Renewing
 pub mod FreshPasses
 pub mod Runs
 pub mod Attempts
+pub mod AllLanes

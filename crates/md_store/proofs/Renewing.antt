@@ -14,7 +14,7 @@ use Rattle.md_store_law.specs.Store.{state_of_store}
 use Rattle.md_store.specs.Ending.{Leaves, Renews}
 use Rattle.md_store.specs.Store.{IsPassOf, IsUnused, all_lanes, front_in, limits_of, room_of, start_of}
 use Rattle.md_store.proofs.Closed.{same_numbers}
-use Rattle.md_store.proofs.Laws.{fresh_is}
+use Rattle.md_store.specs.Laws.{fresh_is}
 use Rattle.md_store.proofs.Opening.{opened_fresh, opened_of, start_is}
 use Rattle.md_store.proofs.Rooms.{room_fits, same_lanes, same_limits}
 
@@ -43,6 +43,7 @@ module _ (f : FieldView) (before last : PassState) (words : List ℕ) (left : Le
           start = start ∙ left.contents;
           lanes = ap all_lanes shape ∙ same_lanes f.origin.shape fresh (needed (contents_of f.origin.shape words)) c.numbers;
           limits = ap limits_of shape ∙ same_limits f.origin.shape fresh (needed (contents_of f.origin.shape words)) c.numbers;
+          base = ap (λ (x : Shape). x.base) shape ∙ c.numbers.2 ∙ ap needed left.contents;
           of = is_of;
           fresh = new;
           begun = (fresh_is g first is_of new).1;

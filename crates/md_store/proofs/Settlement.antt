@@ -30,7 +30,7 @@ use Rattle.md_store_law.specs.Store.{store}
 use Rattle.md_store.specs.Settling.{IsSettled, SettlesFirst}
 use Rattle.md_store.specs.Store.{IsPassOf, all_lanes, front_in, start_of}
 use Rattle.md_store.proofs.Closing.{may_close}
-use Rattle.md_store.proofs.Laws.{of_is}
+use Rattle.md_store.specs.Laws.{of_is}
 use Rattle.md_store.proofs.SettledLanes.{stands_fated}
 
 -- of a lane without entries nothing is committed

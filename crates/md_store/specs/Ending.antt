@@ -1,6 +1,6 @@
 -- What the end of a field of a store leaves.
 use Rattle.std.specs.Prelude.{◌≡◌, ℕ, List}
-use Rattle.md_history.specs.Engine.{SettlesFrom}
+use Rattle.md_history.specs.Engine.{SettlesFrom, needed}
 use Rattle.md_history.specs.Front.{replay_of}
 use Rattle.md_history.specs.State.{HaveSameNumbers, State}
 use Rattle.md_rule.specs.Views.{FieldView, PassState}
@@ -14,11 +14,13 @@ pub record Leaves (f : FieldView) (before : PassState) (words : List ℕ) (last 
   pub store : IsStoreField f.origin.shape words
   pub contents : contents_of f.origin.shape words ≡ replay_of (start_of f) (front_in last)
 
--- a field was renewed: one with this state and a fresh pass takes its place, with the same lanes and limits
+-- a field was renewed: one with this state and a fresh pass takes its place, with the same lanes and limits, and with as
+-- many base nodes as the state needs
 pub record Renews (f renewed : FieldView) (first : PassState) (s : State) : Type 0 where
   pub start : start_of renewed ≡ s
   pub lanes : all_lanes renewed.origin.shape ≡ all_lanes f.origin.shape
   pub limits : limits_of renewed.origin.shape ≡ limits_of f.origin.shape
+  pub base : renewed.origin.shape.base ≡ needed s
   pub of : IsPassOf renewed first
   pub fresh : IsFresh first
   pub begun : begun_by first ≡ 0

@@ -66,8 +66,8 @@ pub(crate) fn renewed(
     ensures renews { IfOk result (λ r. Renews field r.0 r.1 (replay_of (start_of field) (front_in r.2))) }
 {
     let shape = *field.shape();
-    let Closed { words, front } = ended(field, alloc, pass)?;
-    let (fresh, row) = compact(alloc, &shape, words)?;
+    let Closed { words: used, front } = ended(field, alloc, pass)?;
+    let (fresh, row) = compact(alloc, &shape, used)?;
     let (renewed, first) = Field::open(alloc, fresh, row)?;
     Ok((renewed, first, front))
 }

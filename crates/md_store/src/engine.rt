@@ -19,7 +19,7 @@ use std::alloc::AllocError;
 
 impl Store {
     /// Gives the last half of the lanes, rounded down, to a new pass, which has seen what the old
-    /// one has. `None` exactly if the pass holds one lane. It takes no memory.
+    /// one has. `None` exactly if the pass holds one lane. Two steps, or none; it takes no memory.
     pub fn split(&self, pass: &mut Pass<StoreTheory>) -> Option<Pass<StoreTheory>>
         requires { IsPassOf self.now pass.old }
         ensures none { IsNone result ↔ (length (front_in pass.old).lanes ≡ 1) }
@@ -34,7 +34,8 @@ impl Store {
         moves::split(&self.field, pass)
     }
 
-    /// Takes the lanes of another pass of the store, and what it has seen. It takes no memory.
+    /// Takes the lanes of another pass of the store, and what it has seen. Two steps; it takes no
+    /// memory.
     pub fn join(&self, pass: &mut Pass<StoreTheory>, other: Pass<StoreTheory>)
         requires of { IsPassOf self.now pass.old }
         requires of_other { IsPassOf self.now other }
@@ -64,6 +65,9 @@ impl Store {
     /// Settles the store and ends it. Returns its contents, and the front of its last pass with
     /// every fate decided. The pass holds all lanes. `AllocError` if memory runs out; then the
     /// store has ended, and its contents are lost.
+    ///
+    /// The steps of a settling, then time linear in the words and nodes, but for one sort of each
+    /// map's pairs.
     pub fn close(
         self,
         pass: Pass<StoreTheory>,
@@ -83,6 +87,8 @@ impl Store {
     /// again. Its base nodes are those that the contents need. Returns the front of the old pass
     /// with every fate decided, too. `AllocError` if memory runs out; then the store has ended, and
     /// its contents are lost.
+    ///
+    /// The steps of a settling, then time linear in the words and nodes of both fields.
     pub fn renew(
         self,
         pass: Pass<StoreTheory>,

@@ -10,16 +10,16 @@ use Rattle.md_store.proofs.ending.renewed.Goals as goal
 
 pub compact-requires-clause-base : goal.compact-requires-clause-base
 compact-requires-clause-base c =
-    let words = c.in_ok-words.field-0.words.items in
+    let words = c.in_ok-used.field-0.words.items in
     subst (λ (s : Shape). MayHaveBase s (needed (contents_of s words))) (sym c.shape.ensures)
-    (has_base c.args.field c.args.pass c.in_ok-words.field-0.front words c.in_ok-words.ensures.leaves c.requires.room)
+    (has_base c.args.field c.args.pass c.in_ok-used.field-0.front words c.in_ok-used.ensures.leaves c.requires.room)
 
 pub returns-clause-renews : goal.returns-clause-renews
 returns-clause-renews c =
-    let words = c.in_ok-words.field-0.words.items in
+    let words = c.in_ok-used.field-0.words.items in
     let first = c.in_ok-renewed.first in
     let pass = c.in_ok-renewed.ensures.pass in
-    renews c.args.field c.args.pass c.in_ok-words.field-0.front words c.in_ok-words.ensures.leaves c.in_ok-fresh.fresh c.in_ok-fresh.row.items
+    renews c.args.field c.args.pass c.in_ok-used.field-0.front words c.in_ok-used.ensures.leaves c.in_ok-fresh.fresh c.in_ok-fresh.row.items
     (subst (λ (s : Shape). IsCompacted s words c.in_ok-fresh.fresh c.in_ok-fresh.row.items) c.shape.ensures c.in_ok-fresh.ensures)
     c.in_ok-renewed.renewed first c.in_ok-renewed.ensures.field pass.0 pass.1
     (λ lane. share_is_unused (share_at first.shares lane) (ap (λ l. share_at l lane) pass.2 ∙ share_unused 64 lane))
