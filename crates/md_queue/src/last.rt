@@ -99,9 +99,9 @@ fn find_last<'a, T: HasQueues>(tx: &mut Txn<'a, T>, queue: u32) -> Result<End, S
 ///
 /// Eleven steps if the tail names the last node: a look at the tail and at the next word, one for
 /// the rank, four for the new node and four for its link. Two more for each node by which the tail
-/// is behind, and three more if the first of these moves is a part of the transaction. A look costs
-/// more where another's descriptor stands (`Txn::load`). The move of the tail after the commit takes
-/// at most two. It takes no memory.
+/// is behind, and three more once if the tail becomes a word of the transaction by that. A look
+/// costs more where another's descriptor stands (`Txn::load`). The move of the tail after the
+/// commit takes at most two. It takes no memory.
 ///
 /// After M. M. Michael and M. L. Scott, "Simple, Fast, and Practical Non-Blocking and Blocking
 /// Concurrent Queue Algorithms" (1996), with four differences. The tail is moved to the new node
