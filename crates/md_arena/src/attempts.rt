@@ -14,8 +14,8 @@ use md_rule::Pass;
 /// lane has then begun one more. The answer is `Limit::Tries` exactly if each lane has begun all
 /// of its attempts. Nothing but that lane's share is changed.
 ///
-/// It takes constant time where the lowest lane has an attempt left. Otherwise it goes over the
-/// lanes below one that has, and takes time in the order of the square of their number.
+/// It takes constant time if the pass's first lane has an attempt left. Otherwise it looks at the
+/// lanes up to the first that has one, and takes time quadratic in their number.
 pub fn take_descriptor<T: Theory>(pass: &mut Pass<T>) -> Result<u32, Limit>
     ensures takes { IfOk result (λ desc. TakesDesc pass.old desc pass.new) }
     ensures own { IfOk result (HasDesc pass.old.shape pass.old.view) }

@@ -13,11 +13,11 @@ use md_machine::Theory;
 use md_rule::Pass;
 
 /// Takes the lowest node that is left of the pass's lanes: the next one of its lowest lane that
-/// has one left. The pass knows that it is free. The answer is `Limit::Nodes` exactly if none has
-/// one left. Nothing but that lane's share is changed.
+/// has one left. The pass knows that it is free. The answer is `Limit::Nodes` exactly if no lane
+/// has a node left. Nothing but that lane's share is changed.
 ///
-/// It takes constant time where the lowest lane has a node left. Otherwise it goes over the lanes
-/// below one that has, and takes time in the order of the square of their number.
+/// It takes constant time if the pass's first lane has a node left. Otherwise it looks at the lanes
+/// up to the first that has one, and takes time quadratic in their number.
 pub fn take_node<T: Theory>(pass: &mut Pass<T>) -> Result<u32, Limit>
     ensures takes { IfOk result (λ node. TakesNode pass.old node pass.new) }
     ensures own { IfOk result (HasNode pass.old.shape pass.old.view) }

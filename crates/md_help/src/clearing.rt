@@ -30,9 +30,9 @@ pub struct Cleared {
 
 /// Takes a descriptor out of a word in which it was found, and settles its attempt first, in at
 /// most `3r + 6` steps of this pass, whatever others do; `r` is the number of the attempt's reads.
-/// An attempt that isn't ready is aborted. One that is ready is committed where all its reads
-/// stand, and else aborted. It is Gone exactly where the word didn't hold `found` when it was
-/// looked at again, before the settling, or after it found another attempt's status. In each case
+/// An attempt that isn't ready is aborted. One that is ready is committed if all its reads stand,
+/// and aborted otherwise. It is Gone exactly if the word didn't hold `found` when it was looked at
+/// again, before the settling, or after it found another attempt's status. In each case
 /// the word doesn't hold `found` afterwards.
 ///
 /// The word is a counted word, and `found` has an odd count; a step of this pass found it there

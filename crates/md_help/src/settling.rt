@@ -30,7 +30,7 @@ pub enum End {
 
 /// Decides the attempt whose status the first step finds, in at most `3r + 3` steps of this pass,
 /// whatever others do; `r` is the number of its reads. An attempt that isn't ready is aborted. One
-/// that is ready is committed where all its reads stand, and else aborted. It is Gone exactly where
+/// that is ready is committed if all its reads stand, and aborted otherwise. It is Gone exactly if
 /// a later step finds another attempt's status: never if the descriptor is of one of the pass's
 /// lanes, since nobody else begins its attempts.
 ///
@@ -75,7 +75,7 @@ pub(crate) fn settle<T: Theory>(field: &Field<T>, pass: &mut Pass<T>, desc: u32,
     }
 }
 
-// Aborts an attempt that isn't ready, and goes on from the newer status where that loses.
+// Aborts an attempt that isn't ready, and goes on from the newer status if that loses.
 fn abort_unready<T: Theory>(field: &Field<T>, pass: &mut Pass<T>, desc: u32, status: u64) -> End
     requires field { IsOf pass.old field.now }
     requires exists { desc < desc_count field.now.origin.shape }
@@ -124,7 +124,7 @@ fn settle_newer<T: Theory>(
     settle_ready(field, pass, desc, newer)
 }
 
-// From a status that is ready: decides it by its reads, where it isn't decided yet.
+// From a status that is ready: decides it by its reads, unless it is decided already.
 fn settle_ready<T: Theory>(field: &Field<T>, pass: &mut Pass<T>, desc: u32, status: u64) -> End
     requires field { IsOf pass.old field.now }
     requires stands { Stands T.meaning field.now.origin pass.old.view }

@@ -2,7 +2,8 @@
 
 use std::marker::Brand;
 
-/// Of which kind certificates are. Each call of `Pass::ready` picks it.
+/// Of which kind certificates are. Each call of `Pass::ready` picks it. `Brand` is the kind of which
+/// every certificate is.
 pub trait Certifying {
     ghost use Rattle.std.specs.Prelude.{List};
     ghost use Rattle.md_machine.specs.declared.certificate.Certificate.{Certificate};

@@ -65,8 +65,8 @@ impl<T: Theory> Pass<T> {
         }
     }
 
-    /// The numbers of its field. It holds one at least of the lanes that they say, and keeps what
-    /// `KeepsLanes` says of each.
+    /// The numbers of its field. The contract also lends what every pass keeps: it holds at least
+    /// one of the field's lanes, and of each what `KeepsLanes` says. Constant time; it makes no step.
     pub fn shape(&self) -> &Shape
         ensures shape { result.now ≡ self.now.shape }
         ensures lanes { AreLanes self.now.shape self.now.view.lanes }
@@ -77,7 +77,7 @@ impl<T: Theory> Pass<T> {
         &self.shape
     }
 
-    /// How many lanes it holds: 1 to 64. It makes no step.
+    /// How many lanes it holds: 1 to 64. Takes time linear in them. It makes no step.
     pub fn lanes(&self) -> u32
         ensures { result ≡ length self.now.view.lanes }
     {
@@ -85,7 +85,7 @@ impl<T: Theory> Pass<T> {
     }
 
     /// The lane at a place of its lanes, in rising order from 0. The place is below `lanes()`.
-    /// Takes time in the order of the place. It makes no step.
+    /// Takes time linear in the place. It makes no step.
     pub fn lane(&self, place: u32) -> u32
         requires { place < length self.now.view.lanes }
         ensures lane { result ≡ slice_index self.now.view.lanes place }
@@ -94,7 +94,8 @@ impl<T: Theory> Pass<T> {
         self.lanes.at(place)
     }
 
-    /// Whether it holds all lanes of the field, which is its own. It makes no step.
+    /// Whether it holds all lanes of the field, which is its own. Takes time linear in the lanes. It
+    /// makes no step.
     pub fn holds_all(&self, field: &Field<T>) -> bool
         requires { IsOf self.now field.now }
         ensures { IsTrue result ↔ HoldsAll field.now.origin.shape self.now.view }
