@@ -27,7 +27,7 @@ use Rattle.md_rule.specs.declared.shares.Share.{Share}
 use Rattle.md_store_law.specs.Store.{store}
 use Rattle.md_store.specs.Running.{IsRunning, WasAborted, WasCommitted, WasLost, WasUnready}
 use Rattle.md_store.specs.Store.{IsPassOf, MayStop, all_lanes, begun_by, front_in}
-use Rattle.md_store.proofs.Laws.{of_is}
+use Rattle.md_store.specs.Laws.{of_is}
 use Rattle.md_store.proofs.Settlement.{holds_all}
 
 -- a sum over rising numbers in which one more is counted at one of them

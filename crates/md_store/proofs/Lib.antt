@@ -10,7 +10,6 @@ pub mod Settlement
 pub mod Closed
 pub mod Rooms
 pub mod Renewing
-pub mod FreshPasses
 pub mod Runs
 pub mod Attempts
 pub mod AllLanes

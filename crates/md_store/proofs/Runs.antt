@@ -80,7 +80,10 @@ module _ (before : PassState) (t s : TxnState) (b : Option Broken) (whole : b �
   running : IsRunning before t None
   running = subst (λ (x : Option Broken). IsRunning before t (refusal_of x)) whole run
 
-  -- so no stop stood when the operation began
+  -- so the operation that was begun is under way, and no stop stood
+  pub started : IsUnderWay store s
+  started = (run.going.0, start.on.going run.going.0 run.going.1)
+
   pub none_stood : s.stop ≡ None
   none_stood = ap (λ (x : TxnState). x.stop) start.is ∙ running.stop
 
@@ -99,12 +102,12 @@ module _ (before : PassState) (t s : TxnState) (b : Option Broken) (whole : b �
       (λ none. absurd (some_none (record { stop = why; op = op }) none))
 
 -- operations of lists
-module _ (s u : TxnState) (reads writes nodes : ℕ) (leaves : LeavesList store s u reads writes nodes) where
+module _ (s u : TxnState) (under : IsUnderWay store s) (reads writes nodes : ℕ) (leaves : LeavesList store s u reads writes nodes) where
   pub list_answered : (op : Op) (reply : Reply) → u.stop ≡ None → MayAnswer store u op reply → WasAnswered s u op reply
-  list_answered op reply none may = record { later = leaves.later; stop = none; may = may }
+  list_answered op reply none may = record { later = leaves.on.later; stop = none; may = may }
 
   pub list_refused : (why : Stop) → u.stop ≡ Some why → WasRefused s u why
-  list_refused why is = record { going = leaves.going; later = leaves.later; stop = is }
+  list_refused why is = record { going = (under.0, leaves.on.going under.0 under.1); later = leaves.on.later; stop = is }
 
 -- and of queues
 pub queue_begun : (t s : TxnState) (queue : ℕ) → IsUnderWay store t → IsStarted t s → queue < (shape_in t).queues → IsBegunQueue store s queue
