@@ -5,9 +5,9 @@ ghost use Rattle.md_history.specs.declared.acts.Op.TheVariants.{Dequeue, Front};
 ghost use Rattle.md_history.specs.declared.acts.Reply.TheVariants.{Value};
 ghost use Rattle.md_nbtc.specs.State.{state};
 ghost use Rattle.md_queue.specs.Operations.{Answered, GoesBy, IsBegun, RefusedOtherwise};
-ghost use Rattle.md_queue.specs.Operations.{LeavesDummy, StaysStopped, TailDiffers};
+ghost use Rattle.md_queue.specs.Operations.{LeavesDummy, RecordsAmong, StaysStopped, TailDiffers};
 ghost use Rattle.md_queue.specs.Operations.{dequeue_reads, dequeue_writes};
-ghost use Rattle.md_queue.specs.Working.{NotedFirst, SeesFirst};
+ghost use Rattle.md_queue.specs.Working.{NotedFirst, SeesFirst, first_words};
 
 use crate::words::{load_next, move_tail, note_next, value_of};
 use md_history::Stop;
@@ -41,6 +41,8 @@ fn note_first<'a, T: HasQueues>(tx: &mut Txn<'a, T>, queue: u32, first: First) -
     requires sees { SeesFirst T.meaning (state tx.old) queue first.head first.next }
     ensures pass { tx.new.pass.ghost_name ≡ tx.old.pass.ghost_name }
     ensures goes { IfOk result (λ done. GoesBy T.meaning (state tx.old) (state tx.new) 2 0 0) }
+    ensures among { IfOk result (λ done. RecordsAmong (state tx.old) (state tx.new)
+        (first_words (state tx.old) queue first.head)) }
     ensures noted { IfOk result (λ done. NotedFirst T.meaning (state tx.new) queue first.head
         first.next) }
     ensures stop { IfErr result (RefusedOtherwise T.meaning (state tx.old) (state tx.new) 2 0) }
