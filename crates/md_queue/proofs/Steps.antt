@@ -160,8 +160,8 @@ module _ (M : Meaning) where
     -- it records that word alone
     among_by : (c : NoteCase) (word : ℕ) (seen : Seen) → Notes c t u word seen (Ok tt) → RecordsAmong t u (word ∷ [])
     among_by noted word seen is r among = inl (subst (λ (x : TxnState). Contains x.reads r) is.1 among)
-    among_by (recorded held) word seen is = ok_is_err _ is.0
-    among_by full word seen is = ok_is_err _ is.0
+    among_by (recorded held) word seen is r among = ok_is_err _ is.0
+    among_by full word seen is r among = ok_is_err _ is.0
     among_by unread word seen is r among =
         let new : Read = record { word = word; content = seen_content seen; stood = true } in
         ⊎_elim inl

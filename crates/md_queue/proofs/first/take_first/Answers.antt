@@ -1,4 +1,4 @@
-use Rattle.std.proofs.Common.{◌≡◌, ◌/◌, [], ◌∷◌, ap, sym, subst, ◌∙◌, arith, rules}
+use Rattle.std.proofs.Common.{◌≡◌, ◌/◌, ◌<◌, ◌^◌, [], ◌∷◌, ap, sym, subst, ◌∙◌, arith, rules}
 use Rattle.md_words.specs.Layout.{IsNode, address}
 use Rattle.md_words.specs.Link.{linked_node}
 use Rattle.md_words.specs.Place.{node_next, queue_head}
@@ -123,6 +123,8 @@ returns-clause-answer g c =
     let x = state c.exchange.new.self in
     let s = c.requires.sees in
     let first = c.args.first in
+    let fits : first.head.count < 2 ^ 32 = omega arith in
+    let next_fits : first.next.count < 2 ^ 32 = omega arith in
     let on = c.in_ok-note_next.ensures.on in
     let going = on.going s.certificates s.working.going in
     let over = c.value_of-value.ensures.on in
@@ -131,7 +133,7 @@ returns-clause-answer g c =
     let seen = c.in_ok-exchange.field-0 in
     let half = half_is first.head.value in
     let noted = note_ok M t u (s.certificates, s.working.going) on (next_at t (first.head.value / 2)) first.next c.in_ok-note_next.ensures.noted in
-    let k = taking_noted M g.T.Theory.lawful g.met.T.HasQueues.has_queues c.args.queue first.head first.next c.requires.some t u s on (omega arith)
+    let k = taking_noted M g.T.Theory.lawful g.met.T.HasQueues.has_queues c.args.queue first.head first.next c.requires.some t u s on next_fits
     (subst (λ x. HasNoted t u (next_at t x) first.next) half noted) (subst (λ x. KeepsGiven t u (next_at t x)) half c.in_ok-note_next.ensures.given) in
     let l = taking_on M g.T.Theory.lawful g.met.T.HasQueues.has_queues c.args.queue first.head first.next c.requires.some u v k over c.value_of-value.ensures.same c.value_of-value.ensures.given in
     let place = c.queue_head-head_word.ensures.place ∙ ap (λ x. address x (queue_head c.args.queue)) c.shape.ensures in
@@ -145,7 +147,7 @@ returns-clause-answer g c =
     (among_to M t u v 0 0 words (note_among M t u (s.certificates, s.working.going) on (next_at t (first.head.value / 2)) first.next c.in_ok-note_next.ensures.noted) read) changed in
     answered (next_at x (linked_node first.head.value) ∷ []) goes
     (may_answer_taken M g.T.Theory.lawful g.met.T.HasQueues.has_queues c.args.queue first.head first.next c.requires.some v l c.value_of-value.result
-    (subst (λ y. Known M v (λ w h. h.words.value_of_node y ≡ c.value_of-value.result)) (half_is first.next.value) c.value_of-value.ensures.known) x last (omega arith) seen
+    (subst (λ y. Known M v (λ w h. h.words.value_of_node y ≡ c.value_of-value.result)) (half_is first.next.value) c.value_of-value.ensures.known) x last fits seen
     (subst (λ w. HasExchanged M v w first.head first.next.value Critical x seen) place ex))
     (subst (λ w. RecordsAmong t x (w ∷ [])) (ap (λ n. next_at t n) half ∙ ap (λ y. address y (node_next (linked_node first.head.value))) (sym (shape_later t x goes.leaves.later))) among)
 
