@@ -20,7 +20,7 @@ use Rattle.md_machine.specs.Certified.{after_wholes}
 use Rattle.md_machine.specs.LogicalHeap.{Holds}
 use Rattle.md_machine.specs.Meaning.{Lawful, Meaning}
 use Rattle.md_nbtc.specs.declared.seen.Seen.{Seen}
-use Rattle.md_nbtc.specs.Calls.{GoesOn, MayAnswer}
+use Rattle.md_nbtc.specs.Calls.{GoesOn}
 use Rattle.md_nbtc.specs.Known.{IsLater, Known}
 use Rattle.md_nbtc.specs.Seeing.{Looks}
 use Rattle.md_nbtc.specs.State.{TxnState, shape_in}
@@ -33,7 +33,7 @@ use Rattle.md_queue_law.specs.QueueShape.{link}
 use Rattle.md_queue_law.proofs.Facts.{look_goes_on}
 use Rattle.md_queue.specs.Along.{HasLooked, HasLookedToEnd}
 use Rattle.md_queue.specs.Words.{head_at, next_at}
-use Rattle.md_queue.specs.Working.{IsRecorded, IsWorking, KnowsOf, NamesNode, SeesNext}
+use Rattle.md_queue.specs.Working.{IsRecorded, IsWorking, NamesNode, SeesNext}
 use Rattle.md_queue.proofs.Among.{AnswersBy}
 use Rattle.md_queue.proofs.Firsts.{SeesHead, value_known}
 use Rattle.md_queue.proofs.Looking.{head_named, next_looked, next_named}

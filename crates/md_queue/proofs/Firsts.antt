@@ -1,5 +1,5 @@
 -- A look at the first value of a queue: its steps, and its certificates.
-use Rattle.std.proofs.Common.{◌≡◌, ◌≢◌, ◌<◌, ◌^◌, ℕ, true, false, List, [], ◌∷◌, Option, Some, None, refl, sym, ap, ◌∙◌, subst, inl, inr}
+use Rattle.std.proofs.Common.{◌≡◌, ◌≢◌, ◌<◌, ◌^◌, ℕ, List, [], ◌∷◌, Some, None, refl, sym, ap, subst, inl, inr}
 use Rattle.std.proofs.lemmas.List.Elements.{All-cons, All-nil}
 use Rattle.std.specs.List.{All}
 use Rattle.md_words.specs.declared.shape.Shape.{Shape}
@@ -15,20 +15,19 @@ use Rattle.md_machine.specs.declared.certificate.TidyChange.{TidyChange}
 use Rattle.md_machine.specs.declared.certificate.WordValue.{WordValue}
 use Rattle.md_machine.specs.declared.node.Structure.TheVariants.{Queue}
 use Rattle.md_machine.specs.Certified.{after_wholes}
-use Rattle.md_machine.specs.LogicalHeap.{Holds, LogicalHeap}
+use Rattle.md_machine.specs.LogicalHeap.{Holds}
 use Rattle.md_machine.specs.Meaning.{Lawful, Meaning}
 use Rattle.md_nbtc.specs.declared.seen.Seen.{Seen}
-use Rattle.md_nbtc.specs.Calls.{GoesOn, MayAnswer}
+use Rattle.md_nbtc.specs.Calls.{GoesOn}
 use Rattle.md_nbtc.specs.Known.{IsLater, Known}
-use Rattle.md_nbtc.specs.Prepared.{IsPrepared}
-use Rattle.md_nbtc.specs.Seeing.{Gave, KeepsGiven, Looks}
+use Rattle.md_nbtc.specs.Seeing.{KeepsGiven, Looks}
 use Rattle.md_nbtc.specs.State.{TxnState, shape_in}
 use Rattle.md_nbtc.proofs.structures.Growing.{tidied_none}
 use Rattle.md_nbtc.proofs.structures.NodesKnown.{data_known, shape_later}
 use Rattle.md_nbtc.proofs.structures.Noting.{HasNoted}
 use Rattle.md_nbtc.proofs.structures.Reading.{reading}
 use Rattle.md_queue_law.specs.Laws.Words.{head_not_next}
-use Rattle.md_queue_law.specs.QueueCertificates.{CertifiesQueue, FindsFirst, FindsNone, has_value, head_is, next_is}
+use Rattle.md_queue_law.specs.QueueCertificates.{FindsNone, has_value, head_is, next_is}
 use Rattle.md_queue_law.specs.QueueMeaning.{HasQueuesOf}
 use Rattle.md_queue_law.specs.QueueShape.{link}
 use Rattle.md_queue.specs.Operations.{GoesBy, IsBegun, RecordsAmong}

@@ -1,13 +1,12 @@
 -- A new node is put behind the last one: when that may be done, and its certificate.
-use Rattle.std.proofs.Common.{◌≡◌, ◌≢◌, ◌<◌, ◌+◌, ◌*◌, ◌^◌, ◌++◌, ℕ, suc, true, false, List, [], ◌∷◌, map, Option, Some, None, refl, sym, ap, ◌∙◌, subst, inl, inr, ⊎_elim, IfSome, arith, is_some}
-use Rattle.std.proofs.lemmas.Bool.{cases_Bool, true≢false}
-use Rattle.std.proofs.lemmas.List.Elements.{All-contains, All-cons, All-head, All-nil, Contains-append_right}
-use Rattle.std.specs.List.{All, Contains}
+use Rattle.std.proofs.Common.{◌≡◌, ◌<◌, ◌+◌, ◌*◌, ◌^◌, ◌++◌, ℕ, true, false, List, [], ◌∷◌, Option, Some, None, refl, sym, ap, ◌∙◌, subst, inl, inr, ⊎_elim, IfSome, arith, is_some}
+use Rattle.std.proofs.lemmas.Bool.{true≢false}
+use Rattle.std.proofs.lemmas.List.Elements.{All-contains, All-cons, All-nil, Contains-append_right}
+use Rattle.std.specs.List.{Contains}
 use Rattle.md_words.specs.declared.shape.Shape.{Shape}
 use Rattle.md_words.specs.Layout.{IsNode, address, node_count}
 use Rattle.md_words.specs.Link.{is_marked, link_value, linked_node}
 use Rattle.md_words.specs.Place.{node_next, queue_tail}
-use Rattle.md_words.specs.PlaceAt.{IsCounted}
 use Rattle.md_words.proofs.Places.{counted_by_place}
 use Rattle.md_history.specs.declared.acts.Op.TheVariants.{Enqueue}
 use Rattle.md_history.specs.declared.acts.Reply.TheVariants.{Nothing}
@@ -21,7 +20,7 @@ use Rattle.md_machine.specs.declared.node.PlacedNode.{PlacedNode}
 use Rattle.md_machine.specs.declared.node.Structure.{Structure}
 use Rattle.md_machine.specs.declared.node.Structure.TheVariants.{Queue}
 use Rattle.md_machine.specs.Certified.{after_wholes, all_nodes, first_content, is_written, placed_by}
-use Rattle.md_machine.specs.LogicalHeap.{Holds, LogicalHeap}
+use Rattle.md_machine.specs.LogicalHeap.{Holds}
 use Rattle.md_machine.specs.Meaning.{Lawful, Meaning}
 use Rattle.md_machine.proofs.chain.SameNodes.{next_alone, next_counted}
 use Rattle.md_machine.proofs.lists.Rising.{here, map_in}
@@ -30,16 +29,16 @@ use Rattle.md_nbtc.specs.declared.seen.Cleanup.TheVariants.{MoveTail, Unlink}
 use Rattle.md_nbtc.specs.declared.seen.Kind.TheVariants.{Critical}
 use Rattle.md_nbtc.specs.declared.seen.Seen.{Seen}
 use Rattle.md_nbtc.specs.declared.sets.Slot.{Slot}
-use Rattle.md_nbtc.specs.Calls.{Freshens, GoesOn, Keeps, MayAnswer, MayExchange}
-use Rattle.md_nbtc.specs.Cleaning.{CleanupsStay, FitsCleanup, IsFactLater, IsKeptCleanup, IsPlacedIn, IsWrittenFor, MayTidyLater, with_cleanup_kept}
+use Rattle.md_nbtc.specs.Calls.{Freshens, GoesOn, Keeps, MayExchange}
+use Rattle.md_nbtc.specs.Cleaning.{FitsCleanup, IsFactLater, IsKeptCleanup, IsPlacedIn, IsWrittenFor, MayTidyLater, with_cleanup_kept}
 use Rattle.md_nbtc.specs.Course.{IsStoredNode}
 use Rattle.md_nbtc.specs.Going.{IsGoing}
 use Rattle.md_nbtc.specs.Known.{IsLater, Known, KnowsPlaced, found_by}
 use Rattle.md_nbtc.specs.Seeing.{Gave, IsOwnPlaced, KeepsGiven, MayChange}
 use Rattle.md_nbtc.specs.State.{OwnNode, TxnState, seen_content, shape_in, writes_in}
-use Rattle.md_nbtc.specs.Tidied.{HasTidied, tidied}
+use Rattle.md_nbtc.specs.Tidied.{tidied}
 use Rattle.md_nbtc.proofs.preparing.Heaps.{known_now}
-use Rattle.md_nbtc.proofs.preparing.Later.{known_later, later_over}
+use Rattle.md_nbtc.proofs.preparing.Later.{later_over}
 use Rattle.md_nbtc.proofs.ready.Lookups.{all_of, one_of, written_there}
 use Rattle.md_nbtc.proofs.structures.Exchanging.{HasExchanged, may_exchange_so}
 use Rattle.md_nbtc.proofs.structures.FoundLater.{found_later}
@@ -51,11 +50,11 @@ use Rattle.md_queue_law.specs.QueueCertificates.{CertifiesQueue, has_key, has_ne
 use Rattle.md_queue_law.specs.QueueMeaning.{HasQueuesOf}
 use Rattle.md_queue_law.specs.QueueShape.{IsOf, link}
 use Rattle.md_queue.specs.Words.{next_at, tail_at}
-use Rattle.md_queue.specs.Working.{IsWorking, KnowsOf, SeesAt, SeesEnd, SeesNext}
+use Rattle.md_queue.specs.Working.{IsWorking, KnowsOf, SeesEnd, SeesNext}
 use Rattle.md_queue.proofs.Among.{AnswersBy}
 use Rattle.md_queue.proofs.Changing.{changing, exchanged_first, exchanged_hand, exchanged_nodes, exchanged_own, may_end_changing}
 use Rattle.md_queue.proofs.FreshNode.{apart_from_fresh, fresh_after, fresh_unwritten, own_placed}
-use Rattle.md_queue.proofs.Passing.{next_on, of_on, there_on, working_on}
+use Rattle.md_queue.proofs.Passing.{next_on, of_on, working_on}
 use Rattle.md_queue.proofs.Ranks.{rank_fits}
 
 -- a link as the code makes it

@@ -1,11 +1,9 @@
 -- A word that was recorded has its value for good, as the transaction sees it; and operations that only look are answered
 -- by the words that they recorded.
-use Rattle.std.proofs.Common.{◌≡◌, ◌<◌, ◌^◌, ◌≢◌, ℕ, true, false, List, [], ◌∷◌, map, Option, Some, None, refl, sym, ap, ◌∙◌, subst, inl, inr, ⊎_elim, is_some}
+use Rattle.std.proofs.Common.{◌≡◌, ◌<◌, ◌^◌, ℕ, false, List, map, Some, None, refl, sym, ap, ◌∙◌, ⊎_elim, is_some}
 use Rattle.std.proofs.lemmas.Bool.{cases_Bool}
-use Rattle.std.proofs.lemmas.List.Elements.{All-cons, All-nil}
 use Rattle.std.specs.List.{All}
 use Rattle.std.specs.Prelude.{get_or}
-use Rattle.md_words.specs.declared.shape.Shape.{Shape}
 use Rattle.md_history.specs.declared.acts.Op.{Op}
 use Rattle.md_history.specs.declared.acts.Reply.{Reply}
 use Rattle.md_machine.specs.declared.certificate.Certificate.{Certificate}
@@ -13,11 +11,10 @@ use Rattle.md_machine.specs.declared.certificate.Fact.{Fact}
 use Rattle.md_machine.specs.declared.certificate.TidyChange.{TidyChange}
 use Rattle.md_machine.specs.declared.certificate.WordValue.{WordValue}
 use Rattle.md_machine.specs.Certified.{after_wholes, content_replaced, first_content, is_written}
-use Rattle.md_machine.specs.LogicalHeap.{Holds, LogicalHeap}
+use Rattle.md_machine.specs.LogicalHeap.{Holds}
 use Rattle.md_machine.specs.Meaning.{Lawful, Meaning}
 use Rattle.md_machine.specs.Resolution.{or_else}
 use Rattle.md_nbtc.specs.declared.seen.Seen.{Seen}
-use Rattle.md_nbtc.specs.Calls.{MayAnswer}
 use Rattle.md_nbtc.specs.Known.{IsLater, Known, found_by}
 use Rattle.md_nbtc.specs.Prepared.{IsPrepared}
 use Rattle.md_nbtc.specs.State.{TxnState, seen_content, shape_in, writes_in}

@@ -1,45 +1,43 @@
 -- The first value is taken: the tail doesn't stay behind, and the certificate.
-use Rattle.std.proofs.Common.{◌≡◌, ◌≢◌, ◌<◌, ◌^◌, ◌++◌, ℕ, true, false, List, [], ◌∷◌, Option, Some, None, refl, sym, ap, ◌∙◌, subst, inl, inr}
+use Rattle.std.proofs.Common.{◌≡◌, ◌≢◌, ◌<◌, ◌^◌, ◌++◌, ℕ, false, List, [], ◌∷◌, Some, None, refl, sym, ap, ◌∙◌, subst, inl}
 use Rattle.std.proofs.lemmas.List.Elements.{All-cons, All-head, All-nil}
 use Rattle.std.specs.List.{All}
-use Rattle.std.specs.Prelude.{get_or}
 use Rattle.md_words.specs.declared.shape.Shape.{Shape}
-use Rattle.md_words.specs.Layout.{IsNode, address}
+use Rattle.md_words.specs.Layout.{address}
 use Rattle.md_words.specs.Link.{linked_node}
 use Rattle.md_words.specs.Place.{node_next, queue_head, queue_tail}
 use Rattle.md_history.specs.declared.acts.Op.TheVariants.{Dequeue}
 use Rattle.md_history.specs.declared.acts.Reply.TheVariants.{Value}
 use Rattle.md_machine.specs.declared.certificate.Certificate.{Certificate}
 use Rattle.md_machine.specs.declared.certificate.Change.{Change}
-use Rattle.md_machine.specs.declared.certificate.Fact.{Fact}
 use Rattle.md_machine.specs.declared.certificate.NewNode.{NewNode}
 use Rattle.md_machine.specs.declared.certificate.TidyChange.{TidyChange}
 use Rattle.md_machine.specs.declared.certificate.WordValue.{WordValue}
-use Rattle.md_machine.specs.Certified.{after_wholes, first_content, is_written}
-use Rattle.md_machine.specs.LogicalHeap.{Holds, LogicalHeap}
+use Rattle.md_machine.specs.Certified.{after_wholes, is_written}
+use Rattle.md_machine.specs.LogicalHeap.{Holds}
 use Rattle.md_machine.specs.Meaning.{Lawful, Meaning}
 use Rattle.md_nbtc.specs.declared.seen.Kind.TheVariants.{Critical}
 use Rattle.md_nbtc.specs.declared.seen.Seen.{Seen}
-use Rattle.md_nbtc.specs.Calls.{GoesOn, MayAnswer, MayExchange}
+use Rattle.md_nbtc.specs.Calls.{GoesOn, MayExchange}
 use Rattle.md_nbtc.specs.Course.{IsStoredNode}
 use Rattle.md_nbtc.specs.Known.{IsLater, Known, found_by}
 use Rattle.md_nbtc.specs.Seeing.{Gave, KeepsGiven}
-use Rattle.md_nbtc.specs.State.{TxnState, seen_content, shape_in, writes_in}
+use Rattle.md_nbtc.specs.State.{TxnState, shape_in, writes_in}
 use Rattle.md_nbtc.specs.Tidied.{tidied}
-use Rattle.md_nbtc.proofs.preparing.Later.{known_later, later_over}
+use Rattle.md_nbtc.proofs.preparing.Later.{later_over}
 use Rattle.md_nbtc.proofs.structures.Exchanging.{HasExchanged, may_exchange_so}
 use Rattle.md_nbtc.proofs.structures.NodesKnown.{shape_later}
 use Rattle.md_nbtc.proofs.structures.Noting.{HasNoted}
 use Rattle.md_nbtc.proofs.structures.SeenValues.{seen_value}
 use Rattle.md_nbtc.proofs.structures.Tidying.{bare_holds}
 use Rattle.std.proofs.lemmas.Bool.{true≢false}
-use Rattle.md_queue_law.specs.Laws.Words.{head_not_next, head_not_tail, tail_not_next}
+use Rattle.md_queue_law.specs.Laws.Words.{head_not_next, head_not_tail}
 use Rattle.md_queue_law.specs.QueueCertificates.{CertifiesQueue, has_value, head_change, next_is}
 use Rattle.md_queue_law.specs.QueueMeaning.{HasQueuesOf}
 use Rattle.md_queue_law.specs.QueueShape.{link}
 use Rattle.md_queue.specs.Operations.{LeavesDummy, TailDiffers}
 use Rattle.md_queue.specs.Words.{head_at, next_at, tail_at}
-use Rattle.md_queue.specs.Working.{IsRecorded, IsWorking, KnowsOf, NamesNode, SeesAt, SeesFirst, SeesNext}
+use Rattle.md_queue.specs.Working.{IsRecorded, IsWorking, NamesNode, SeesAt, SeesFirst}
 use Rattle.md_queue.proofs.Among.{AnswersBy}
 use Rattle.md_queue.proofs.Changing.{changing, exchanged_first, exchanged_hand, may_end_changing}
 use Rattle.md_queue.proofs.Firsts.{value_known}

@@ -19,7 +19,7 @@ use Rattle.md_queue.proofs.Among.{among_to, answered}
 use Rattle.md_queue.proofs.Data.{half_is}
 use Rattle.md_queue.proofs.Looking.{node_readable}
 use Rattle.md_queue.proofs.Steps.{exchange_goes, exchange_ok, exchange_stops, goes_then, note_among, note_goes, note_ok, note_stops, pass_goes, refused_then, refused_up}
-use Rattle.md_queue.proofs.Takings.{IsTaking, differs_on, leaves_dummy, may_answer_taken, may_take, taking_noted, taking_on}
+use Rattle.md_queue.proofs.Takings.{differs_on, leaves_dummy, may_answer_taken, may_take, taking_noted, taking_on}
 use Rattle.md_queue.proofs.first.take_first.Goals as goal
 
 pub note_next-requires : goal.note_next-requires

@@ -1,4 +1,4 @@
-use Rattle.std.proofs.Common.{◌≡◌, ◌<◌, ◌+◌, ◌++◌, [], ◌∷◌, length, map, Some, None, refl, sym, ap, ◌∙◌, subst, arith}
+use Rattle.std.proofs.Common.{◌≡◌, ◌+◌, ◌++◌, [], ◌∷◌, length, Some, None, refl, sym, ap, ◌∙◌, subst, arith}
 use Rattle.std.proofs.lemmas.List.{length-append, length-map, map-append}
 use Rattle.md_words.specs.declared.shape.Shape.{Shape}
 use Rattle.md_words.specs.Layout.{address}
@@ -14,7 +14,7 @@ use Rattle.md_queue.specs.Operations.{RecordsAmong}
 use Rattle.md_queue.specs.Words.{next_at}
 use Rattle.md_queue.proofs.Along.{looked_enough, looked_to_end, words_along, words_more}
 use Rattle.md_queue.proofs.Among.{AnswersBy, among_then, answered}
-use Rattle.md_queue.proofs.Lined.{HasLine, line_more, values_of}
+use Rattle.md_queue.proofs.Lined.{line_more, values_of}
 use Rattle.md_queue.proofs.Steps.{goes_then, goes_up}
 use Rattle.md_queue.proofs.lines.line.Goals as goal
 

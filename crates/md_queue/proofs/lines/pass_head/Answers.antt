@@ -1,9 +1,8 @@
-use Rattle.std.proofs.Common.{◌≡◌, ◌/◌, [], ◌∷◌, ap, sym, subst, ◌∙◌, arith, rules}
+use Rattle.std.proofs.Common.{[], ◌∷◌, ap, sym, subst, ◌∙◌, arith, rules}
 use Rattle.md_words.specs.Layout.{address}
 use Rattle.md_words.specs.Place.{queue_head}
 use Rattle.md_words.specs.PlaceAt.{IsCounted}
 use Rattle.md_nbtc.specs.Going.{IsFoundThere}
-use Rattle.md_nbtc.specs.Seeing.{Gave}
 use Rattle.md_nbtc.specs.State.{shape_in, state}
 use Rattle.md_nbtc.proofs.structures.Noting.{HasNoted}
 use Rattle.md_queue.specs.Along.{HasLooked}
@@ -15,7 +14,7 @@ use Rattle.md_queue.proofs.Data.{half_is}
 use Rattle.md_queue.proofs.Firsts.{begun_working, sees_head}
 use Rattle.md_queue.proofs.Looking.{head_counted}
 use Rattle.md_queue.proofs.Passing.{shape_head}
-use Rattle.md_queue.proofs.Steps.{goes_then, look_goes, look_ok, look_stopped, look_stops, look_unstopped, note_among, note_goes, note_ok, note_stops, refused_then, refused_up}
+use Rattle.md_queue.proofs.Steps.{goes_then, look_goes, look_ok, look_stops, note_among, note_goes, note_ok, note_stops, refused_then, refused_up}
 use Rattle.md_queue.proofs.lines.pass_head.Goals as goal
 
 pub load-requires-clause-counted : goal.load-requires-clause-counted

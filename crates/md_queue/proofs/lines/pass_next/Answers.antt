@@ -1,10 +1,10 @@
-use Rattle.std.proofs.Common.{◌≡◌, ◌/◌, ◌++◌, [], ◌∷◌, ap, sym, subst, ◌∙◌, arith, rules}
+use Rattle.std.proofs.Common.{◌≡◌, ◌++◌, [], ◌∷◌, ap, sym, subst, ◌∙◌, arith, rules}
 use Rattle.md_words.specs.declared.shape.Shape.{Shape}
 use Rattle.md_words.specs.Layout.{address}
 use Rattle.md_words.specs.Link.{linked_node}
 use Rattle.md_words.specs.Place.{node_next}
 use Rattle.md_nbtc.specs.Known.{Known}
-use Rattle.md_nbtc.specs.State.{shape_in, state}
+use Rattle.md_nbtc.specs.State.{state}
 use Rattle.md_nbtc.proofs.structures.NodesKnown.{shape_later}
 use Rattle.md_queue_law.specs.QueueCertificates.{Seen}
 use Rattle.md_queue.specs.Along.{HasLooked}
