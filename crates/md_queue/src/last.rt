@@ -81,13 +81,13 @@ fn find_last<'a, T: HasQueues>(tx: &mut Txn<'a, T>, queue: u32) -> Result<End, S
 ///
 /// It looks for the last node from the tail on, and moves the tail along. Then it takes a node for
 /// the value and puts it into the last node's next word, as a part of the transaction: others meet
-/// it once the transaction has committed. The transaction itself meets it at once, so a second
-/// enqueue goes behind the first; it moves the tail to the first one's node as a part of the
+/// it once the transaction has committed. The transaction itself meets it at once. So its second
+/// enqueue goes behind the first, and moves the tail to the first one's node as a part of the
 /// transaction too.
 ///
 /// No more words are recorded, at most two more are written (the last node's next word and the
 /// tail), and one node is taken. `Err` is the refusal of the first call that was refused; the
-/// transaction keeps it. It is
+/// transaction keeps it:
 ///
 /// - `Conflict` if a word moved under the transaction: another pass is live then;
 /// - `Limit(Nodes)` if no lane of the pass has a node left;
@@ -95,24 +95,22 @@ fn find_last<'a, T: HasQueues>(tx: &mut Txn<'a, T>, queue: u32) -> Result<End, S
 /// - `Limit(Worn)` if the count of the tail, or of the next word of the last node or of the new
 ///   one, is 4,294,967,292 or more.
 ///
-/// After a stop it is the same stop, and nothing is done.
+/// After a stop the answer is the same stop and nothing is done.
 ///
-/// Eleven steps if the tail names the last node and no other descriptor is met: a look at the tail,
-/// at the next word and at the rank, four for the new node and four for its link. Two steps more
-/// for each node by which the tail is behind, and three more once if the transaction changes the
-/// tail itself. The move of the tail after the commit takes at most two. It takes no memory.
+/// Eleven steps if the tail names the last node: a look at the tail and at the next word, one for
+/// the rank, four for the new node and four for its link. Two more for each node by which the tail
+/// is behind, and three more once if the tail becomes a word of the transaction by that. A look
+/// costs more where another's descriptor stands (`Txn::load`). The move of the tail after the
+/// commit takes at most two. It takes no memory.
 ///
 /// After M. M. Michael and M. L. Scott, "Simple, Fast, and Practical Non-Blocking and Blocking
-/// Concurrent Queue Algorithms" (1996), with these differences:
-///
-/// - The tail is moved to the new node only after the commit, if nobody did, since others mustn't
-///   follow it to a node that isn't in the queue yet.
-/// - The node gets a rank, one more than that of the node before it, and so is taken after that
-///   one was found. By the ranks a walk along next words ends, even if the transaction meets words
-///   that never stood together.
-/// - It doesn't look at the tail again after it read the next word: a next word that isn't 0 never
-///   changes, and the link is made only if it is 0 still.
-/// - A lost exchange isn't tried again, since the transaction then stops.
+/// Concurrent Queue Algorithms" (1996), with four differences. The tail is moved to the new node
+/// only after the commit, if nobody did, since others mustn't follow it to a node that isn't in the
+/// queue yet. The node gets a rank, one more than that of the node before it, and so is taken after
+/// that one was found: by the ranks a walk along next words ends, even if the transaction meets
+/// words that never stood together. It doesn't look at the tail again after it read the next word:
+/// a next word that isn't 0 never changes, and the link is made only if it is 0 still. And a lost
+/// exchange isn't tried again, since the transaction then stops.
 pub fn enqueue<'a, T: HasQueues>(tx: &mut Txn<'a, T>, queue: u32, value: u64) -> Result<(), Stop>
     requires begun { IsBegun T.meaning (state tx.old) queue }
     ensures pass { tx.new.pass.ghost_name ≡ tx.old.pass.ghost_name }
