@@ -140,8 +140,7 @@ fn take_first<'a, T: HasQueues>(tx: &mut Txn<'a, T>, queue: u32, first: First) -
 /// it read the next word, nor at whether the tail is where the head is before it finds the queue
 /// empty: the words that it rests on are recorded or changed, and the transaction commits only if
 /// they still stand. A lost exchange isn't tried again, since the transaction then stops. And the
-/// node that the head leaves isn't freed: it stays taken until the field is renewed, so that no
-/// count has to tell one use of it from another.
+/// node that the head leaves isn't freed: it stays taken until the field is renewed.
 pub fn dequeue<'a, T: HasQueues>(tx: &mut Txn<'a, T>, queue: u32) -> Result<Option<u64>, Stop>
     requires begun { IsBegun T.meaning (state tx.old) queue }
     ensures pass { tx.new.pass.ghost_name ≡ tx.old.pass.ghost_name }
