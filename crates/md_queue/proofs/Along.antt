@@ -1,13 +1,13 @@
 -- A look along a queue: what each step leaves of it, and its certificate.
 use Rattle.std.proofs.Common.{◌≡◌, ◌≢◌, ◌<◌, ◌^◌, ◌++◌, ◌⊎◌, ℕ, List, [], ◌∷◌, map, length, None, refl, sym, ap, ◌∙◌, subst, inl, inr}
-use Rattle.std.proofs.lemmas.List.{map-append}
+use Rattle.std.proofs.lemmas.List.{append-nil, map-append}
 use Rattle.std.proofs.lemmas.List.Elements.{All-append, All-cons, All-map, All-nil}
 use Rattle.std.specs.List.{All}
 use Rattle.std.specs.Prelude.{get_or}
 use Rattle.md_words.specs.declared.shape.Shape.{Shape}
 use Rattle.md_words.specs.Layout.{IsNode, address}
 use Rattle.md_words.specs.Link.{linked_node}
-use Rattle.md_words.specs.Place.{node_next}
+use Rattle.md_words.specs.Place.{node_next, queue_head}
 use Rattle.md_history.specs.declared.acts.Op.TheVariants.{Line}
 use Rattle.md_history.specs.declared.acts.Reply.{Reply}
 use Rattle.md_history.specs.declared.acts.Reply.TheVariants.{Line as TheLine}
@@ -20,7 +20,7 @@ use Rattle.md_machine.specs.Certified.{after_wholes}
 use Rattle.md_machine.specs.LogicalHeap.{Holds}
 use Rattle.md_machine.specs.Meaning.{Lawful, Meaning}
 use Rattle.md_nbtc.specs.declared.seen.Seen.{Seen}
-use Rattle.md_nbtc.specs.Calls.{GoesOn, MayAnswer}
+use Rattle.md_nbtc.specs.Calls.{GoesOn}
 use Rattle.md_nbtc.specs.Known.{IsLater, Known}
 use Rattle.md_nbtc.specs.Seeing.{Looks}
 use Rattle.md_nbtc.specs.State.{TxnState, shape_in}
@@ -33,16 +33,28 @@ use Rattle.md_queue_law.specs.QueueShape.{link}
 use Rattle.md_queue_law.proofs.Facts.{look_goes_on}
 use Rattle.md_queue.specs.Along.{HasLooked, HasLookedToEnd}
 use Rattle.md_queue.specs.Words.{head_at, next_at}
-use Rattle.md_queue.specs.Working.{IsRecorded, IsWorking, KnowsOf, NamesNode, SeesNext}
+use Rattle.md_queue.specs.Working.{IsRecorded, IsWorking, NamesNode, SeesNext}
+use Rattle.md_queue.proofs.Among.{AnswersBy}
 use Rattle.md_queue.proofs.Firsts.{SeesHead, value_known}
 use Rattle.md_queue.proofs.Looking.{head_named, next_looked, next_named}
 use Rattle.md_queue.proofs.Passing.{names_on, of_on, working_on}
 use Rattle.md_queue.proofs.Recording.{may_answer_reading, noted_recorded, recorded_on}
 
+-- the words that a look along a queue records: the head, and the next words on the way
+abbrev pub words_along : Shape → (queue dummy : ℕ) → List Passed → List ℕ
+words_along shape queue dummy seen = address shape (queue_head queue) ∷ map (λ (r : WordValue). r.word) (next_words shape dummy seen)
+
+-- with one more node, one more
+pub words_more : (shape : Shape) (queue dummy : ℕ) (seen : List Passed) (p : Passed)
+    → words_along shape queue dummy seen ++ address shape (node_next (last_seen dummy seen)) ∷ [] ≡ words_along shape queue dummy (seen ++ p ∷ [])
+words_more shape queue dummy seen p = ap (λ ws. address shape (queue_head queue) ∷ ws)
+    (sym (map-append (λ (r : WordValue). r.word) (next_words shape dummy seen) (next_is shape (last_seen dummy seen) (link p.node) ∷ []))
+    ∙ ap (map (λ (r : WordValue). r.word)) (sym (look_goes_on shape dummy seen p).0))
+
 module _ (M : Meaning) (lawful : Lawful M) (queues : HasQueuesOf M) (t : TxnState) (queue : ℕ) where
   -- the look begins with a note of the head
   pub head_passed : (head : Seen) → SeesHead M t queue head → (u : TxnState) → GoesOn M t u → head.count < 2 ^ 32 → HasNoted t u (head_at t queue) head
-      → HasLooked M u queue (linked_node head.value) []
+      → HasLooked M u queue (linked_node head.value) (linked_node head.value) []
   head_passed head s u on fits noted =
       let cs = s.certificates in
       let ts = s.changes in
@@ -52,7 +64,6 @@ module _ (M : Meaning) (lawful : Lawful M) (queues : HasQueuesOf M) (t : TxnStat
         certificates = cs;
         changes = ts;
         working = working_on M t u on.later queue cs ts on noted.hand s.working;
-        dummy = linked_node head.value;
         last = refl;
         exists = subst (λ (x : Shape). IsNode x (linked_node head.value)) (sym shape) named.exists;
         placed = of_on M t u on.later cs queue (linked_node head.value) named.placed;
@@ -63,7 +74,7 @@ module _ (M : Meaning) (lawful : Lawful M) (queues : HasQueuesOf M) (t : TxnStat
         values = λ v later prepared h of. All-nil (Holds (after_wholes h cs));
       }
 
-  module _ (node : ℕ) (seen : List Passed) (s : HasLooked M t queue node seen) where
+  module _ (dummy node : ℕ) (seen : List Passed) (s : HasLooked M t queue dummy node seen) where
     abbrev cs : List Certificate
     cs = s.certificates
 
@@ -99,25 +110,24 @@ module _ (M : Meaning) (lawful : Lawful M) (queues : HasQueuesOf M) (t : TxnStat
 
     module _ (v : TxnState) (later : IsLater t v) (working : IsWorking M v queue cs ts) where
       -- what was recorded stays recorded
-      head_kept : IsRecorded M v cs ts (head_is (shape_in v) queue (link s.dummy))
-      head_kept = recorded_on M t v later working.going.prepared cs ts (head_is (shape_in v) queue (link s.dummy))
-          (subst (λ (x : Shape). IsRecorded M t cs ts (head_is x queue (link s.dummy))) (sym (shape_later t v later)) s.head_noted)
+      head_kept : IsRecorded M v cs ts (head_is (shape_in v) queue (link dummy))
+      head_kept = recorded_on M t v later working.going.prepared cs ts (head_is (shape_in v) queue (link dummy))
+          (subst (λ (x : Shape). IsRecorded M t cs ts (head_is x queue (link dummy))) (sym (shape_later t v later)) s.head_noted)
 
-      nexts_kept : All (IsRecorded M v cs ts) (next_words (shape_in v) s.dummy seen)
-      nexts_kept i d below = recorded_on M t v later working.going.prepared cs ts (get_or (next_words (shape_in v) s.dummy seen) i d)
-          (subst (λ (x : Shape). All (IsRecorded M t cs ts) (next_words x s.dummy seen)) (sym (shape_later t v later)) s.nexts_noted i d below)
+      nexts_kept : All (IsRecorded M v cs ts) (next_words (shape_in v) dummy seen)
+      nexts_kept i d below = recorded_on M t v later working.going.prepared cs ts (get_or (next_words (shape_in v) dummy seen) i d)
+          (subst (λ (x : Shape). All (IsRecorded M t cs ts) (next_words x dummy seen)) (sym (shape_later t v later)) s.nexts_noted i d below)
 
       values_kept : Known M v (λ u h. All (Holds (after_wholes h cs)) (map value_fact seen))
       values_kept = known_later M (λ u h. All (Holds (after_wholes h cs)) (map value_fact seen)) t v later s.values
 
     -- there it ends
-    pub ended : (v : TxnState) (next : Seen) → NotedNext v next → next.value ≡ 0 → HasLookedToEnd M v queue node seen
+    pub ended : (v : TxnState) (next : Seen) → NotedNext v next → next.value ≡ 0 → HasLookedToEnd M v queue dummy node seen
     ended v next n zero = record {
       looked = record {
         certificates = cs;
         changes = ts;
         working = n.working;
-        dummy = s.dummy;
         last = s.last;
         exists = subst (λ (x : Shape). IsNode x node) (sym (shape_later t v n.later)) s.exists;
         placed = of_on M t v n.later cs queue node s.placed;
@@ -131,64 +141,69 @@ module _ (M : Meaning) (lawful : Lawful M) (queues : HasQueuesOf M) (t : TxnStat
     -- or it comes to one more node
     pub further : (v : TxnState) (next : Seen) → NotedNext v next → next.value ≢ 0 → (w : TxnState) → GoesOn M v w → w ≡ record v { pass = w.pass } → (value : ℕ)
         → Known M w (λ x h. h.words.value_of_node (linked_node next.value) ≡ value)
-        → HasLooked M w queue (linked_node next.value) (seen ++ record { node = linked_node next.value; value = value } ∷ [])
+        → HasLooked M w queue dummy (linked_node next.value) (seen ++ record { node = linked_node next.value; value = value } ∷ [])
     further v next n some w over same value is =
         let first = linked_node next.value in
         let p : Passed = record { node = first; value = value } in
         let later = later_over t v w n.later over.later in
         let working = working_on M v w over.later queue cs ts over (ap (λ x. x.hand) same) n.working in
         let named = names_on M v w over.later cs queue next.value (n.named some) in
-        let along = look_goes_on (shape_in w) s.dummy seen p in
+        let along = look_goes_on (shape_in w) dummy seen p in
         let noted = recorded_on M v w over.later working.going.prepared cs ts (next_is (shape_in w) node next.value)
         (subst (λ (x : Shape). IsRecorded M v cs ts (next_is x node next.value)) (sym (shape_later v w over.later)) n.noted) in
-        let noted_last : IsRecorded M w cs ts (next_is (shape_in w) (last_seen s.dummy seen) (link first))
+        let noted_last : IsRecorded M w cs ts (next_is (shape_in w) (last_seen dummy seen) (link first))
         = subst (λ x. IsRecorded M w cs ts (next_is (shape_in w) x (link first))) s.last
         (subst (λ x. IsRecorded M w cs ts (next_is (shape_in w) node x)) named.is noted) in
         record {
           certificates = cs;
           changes = ts;
           working = working;
-          dummy = s.dummy;
           last = sym along.1;
           exists = named.exists;
           placed = named.placed;
           head_noted = head_kept w later working;
           nexts_noted = subst (All (IsRecorded M w cs ts)) (sym along.0)
-              (All-append (IsRecorded M w cs ts) (next_words (shape_in w) s.dummy seen) (next_is (shape_in w) (last_seen s.dummy seen) (link first) ∷ []) (nexts_kept w later working)
-              (All-cons (IsRecorded M w cs ts) (next_is (shape_in w) (last_seen s.dummy seen) (link first)) [] noted_last (All-nil (IsRecorded M w cs ts))));
+              (All-append (IsRecorded M w cs ts) (next_words (shape_in w) dummy seen) (next_is (shape_in w) (last_seen dummy seen) (link first) ∷ []) (nexts_kept w later working)
+              (All-cons (IsRecorded M w cs ts) (next_is (shape_in w) (last_seen dummy seen) (link first)) [] noted_last (All-nil (IsRecorded M w cs ts))));
           values = λ x over_w prepared h of. subst (All (Holds (after_wholes h cs))) (sym (map-append value_fact seen (p ∷ [])))
               (All-append (Holds (after_wholes h cs)) (map value_fact seen) (value_fact p ∷ []) (values_kept w later working x over_w prepared h of)
               (value_known M lawful w queue cs ts working first value named.exists named.placed is x over_w prepared h of));
         }
 
     -- the certificate, with what is recorded at the end
-    module _ (ending : List WordValue) (n : ℕ) (ends : LooksEnough n seen ending ⊎ LooksToEnd (shape_in t) s.dummy n seen ending) (noted : All (IsRecorded M t cs ts) ending) where
+    module _ (ending : List WordValue) (n : ℕ) (ends : LooksEnough n seen ending ⊎ LooksToEnd (shape_in t) dummy n seen ending) (noted : All (IsRecorded M t cs ts) ending) where
       abbrev words : List WordValue
-      words = head_is (shape_in t) queue (link s.dummy) ∷ (next_words (shape_in t) s.dummy seen ++ ending)
+      words = head_is (shape_in t) queue (link dummy) ∷ (next_words (shape_in t) dummy seen ++ ending)
 
       abbrev reply : Reply
       reply = TheLine (line_of (map (λ (p : Passed). p.value) seen))
 
-      answers : MayAnswer M t (Line queue n) reply
+      answers : AnswersBy M t (Line queue n) reply (map (λ (r : WordValue). r.word) words)
       answers = may_answer_reading M queues t queue cs ts s.working (Line queue n) reply words (map value_fact seen) (
         s.working.within,
-        record { dummy = s.dummy; seen = seen; ending = ending; ends = ends; reply = refl; recorded = refl; changes = refl; nodes = refl; facts = refl },
+        record { dummy = dummy; seen = seen; ending = ending; ends = ends; reply = refl; recorded = refl; changes = refl; nodes = refl; facts = refl },
       )
-          (All-cons (IsRecorded M t cs ts) (head_is (shape_in t) queue (link s.dummy)) (next_words (shape_in t) s.dummy seen ++ ending) s.head_noted
-          (All-append (IsRecorded M t cs ts) (next_words (shape_in t) s.dummy seen) ending s.nexts_noted noted))
+          (All-cons (IsRecorded M t cs ts) (head_is (shape_in t) queue (link dummy)) (next_words (shape_in t) dummy seen ++ ending) s.head_noted
+          (All-append (IsRecorded M t cs ts) (next_words (shape_in t) dummy seen) ending s.nexts_noted noted))
           s.values
           (All-map (λ (f : Fact). f.next ≡ None) value_fact seen (λ i d below. refl))
 
     -- as many values as were asked for
-    pub looked_enough : MayAnswer M t (Line queue (length seen)) (TheLine (line_of (map (λ (p : Passed). p.value) seen)))
-    looked_enough = answers [] (length seen) (inl (record { all = refl; is = refl })) (All-nil (IsRecorded M t cs ts))
+    pub looked_enough : AnswersBy M t (Line queue (length seen)) (TheLine (line_of (map (λ (p : Passed). p.value) seen))) (words_along (shape_in t) queue dummy seen)
+    looked_enough = subst (λ ws. AnswersBy M t (Line queue (length seen)) reply_is (address (shape_in t) (queue_head queue) ∷ map (λ (r : WordValue). r.word) ws)) (append-nil (next_words (shape_in t) dummy seen))
+        (answers [] (length seen) (inl (record { all = refl; is = refl })) (All-nil (IsRecorded M t cs ts)))
+      where
+        reply_is : Reply
+        reply_is = TheLine (line_of (map (λ (p : Passed). p.value) seen))
 
   -- or all that there are
-  pub looked_to_end : (node : ℕ) (seen : List Passed) (s : HasLookedToEnd M t queue node seen) (n : ℕ) → length seen < n
-      → MayAnswer M t (Line queue n) (TheLine (line_of (map (λ (p : Passed). p.value) seen)))
-  looked_to_end node seen s n fewer =
+  pub looked_to_end : (dummy node : ℕ) (seen : List Passed) (s : HasLookedToEnd M t queue dummy node seen) (n : ℕ) → length seen < n
+      → AnswersBy M t (Line queue n) (TheLine (line_of (map (λ (p : Passed). p.value) seen))) (words_along (shape_in t) queue dummy seen ++ next_at t (last_seen dummy seen) ∷ [])
+  looked_to_end dummy node seen s n fewer =
       let l = s.looked in
-      let end = next_is (shape_in t) (last_seen l.dummy seen) 0 in
-      answers node seen l (end ∷ []) n (inr (record { fewer = fewer; is = refl }))
+      let end = next_is (shape_in t) (last_seen dummy seen) 0 in
+      subst (λ ws. AnswersBy M t (Line queue n) (TheLine (line_of (map (λ (p : Passed). p.value) seen))) (address (shape_in t) (queue_head queue) ∷ ws))
+      (map-append (λ (r : WordValue). r.word) (next_words (shape_in t) dummy seen) (end ∷ []))
+      (answers dummy node seen l (end ∷ []) n (inr (record { fewer = fewer; is = refl }))
       (All-cons (IsRecorded M t l.certificates l.changes) end []
-      (subst (λ x. IsRecorded M t l.certificates l.changes (next_is (shape_in t) x 0)) l.last s.end_noted) (All-nil (IsRecorded M t l.certificates l.changes)))
+      (subst (λ x. IsRecorded M t l.certificates l.changes (next_is (shape_in t) x 0)) l.last s.end_noted) (All-nil (IsRecorded M t l.certificates l.changes))))

@@ -1,13 +1,12 @@
 -- The tail, and the next word of its node: what is seen there, and after the tail was moved.
-use Rattle.std.proofs.Common.{◌≡◌, ◌≢◌, ◌<◌, ◌≤◌, ◌+◌, ◌^◌, ◌++◌, ℕ, suc, true, false, List, [], ◌∷◌, length, map, refl, sym, ap, ◌∙◌, subst, if◌then◌else◌, arith, ⊎_elim}
+use Rattle.std.proofs.Common.{◌≡◌, ◌≢◌, ◌<◌, ◌≤◌, ◌+◌, ◌^◌, ℕ, true, false, List, [], ◌∷◌, length, refl, sym, ap, ◌∙◌, subst, if◌then◌else◌, arith, ⊎_elim}
 use Rattle.std.proofs.lemmas.Bool.{cases_Bool}
 use Rattle.std.proofs.lemmas.List.{length-append, length-map}
 use Rattle.md_words.specs.declared.shape.Shape.{Shape}
-use Rattle.md_words.specs.Layout.{IsNode, address, node_count}
+use Rattle.md_words.specs.Layout.{address, node_count}
 use Rattle.md_words.specs.Link.{link_value, linked_node}
-use Rattle.md_words.specs.Place.{node_next, queue_tail}
+use Rattle.md_words.specs.Place.{queue_tail}
 use Rattle.md_words.proofs.Places.{nodes_fit_values}
-use Rattle.md_history.specs.declared.stops.Stop.{Stop}
 use Rattle.md_machine.specs.declared.certificate.Certificate.{Certificate}
 use Rattle.md_machine.specs.declared.certificate.TidyChange.{TidyChange}
 use Rattle.md_machine.specs.Certified.{after_wholes}
@@ -15,8 +14,6 @@ use Rattle.md_machine.specs.Meaning.{Lawful, Meaning}
 use Rattle.md_nbtc.specs.declared.seen.Kind.{Kind}
 use Rattle.md_nbtc.specs.declared.seen.Seen.{Seen}
 use Rattle.md_nbtc.specs.Calls.{GoesOn, MayExchange, new_slot}
-use Rattle.md_nbtc.specs.Going.{IsUnderWay}
-use Rattle.md_nbtc.specs.Known.{IsLater, Known}
 use Rattle.md_nbtc.specs.Seeing.{Gave, KeepsGiven, Looks}
 use Rattle.md_nbtc.specs.Sets.{with_new}
 use Rattle.md_nbtc.specs.State.{TxnState, shape_in}
@@ -26,9 +23,9 @@ use Rattle.md_nbtc.proofs.structures.Exchanging.{HasExchanged, changed_own, chan
 use Rattle.md_nbtc.proofs.structures.NodesKnown.{shape_later}
 use Rattle.md_queue_law.specs.Laws.Words.{tail_not_next}
 use Rattle.md_queue_law.specs.QueueMeaning.{HasQueuesOf}
-use Rattle.md_queue.specs.Operations.{GoesBy, IsBegun, RefusedOtherwise}
+use Rattle.md_queue.specs.Operations.{GoesBy, IsBegun}
 use Rattle.md_queue.specs.Words.{move_kind, next_at, tail_at}
-use Rattle.md_queue.specs.Working.{IsWorking, NamesNode, SeesAt, SeesEnd, SeesNext, SeesTail, other_count, own_count}
+use Rattle.md_queue.specs.Working.{SeesAt, SeesEnd, SeesTail, other_count, own_count}
 use Rattle.md_queue.proofs.Firsts.{begun_working}
 use Rattle.md_queue.proofs.Looking.{next_looked, next_rank, tail_looked, tail_named}
 use Rattle.md_queue.proofs.Moving.{may_move, moved}

@@ -1,5 +1,5 @@
 -- What the calls of an enqueue leave of the transaction: a node is taken, its link is made, and the move of the tail is kept.
-use Rattle.std.proofs.Common.{◌≡◌, ◌==◌, ◌≤◌, ◌+◌, ◌++◌, ℕ, true, List, [], ◌∷◌, length, map, Option, Some, Result, Err, refl, sym, ap, ◌∙◌, subst, if◌then◌else◌, eq-eqb, arith}
+use Rattle.std.proofs.Common.{◌≡◌, ◌≤◌, ◌+◌, ◌++◌, ℕ, true, List, [], ◌∷◌, length, Some, Result, Err, refl, sym, ap, ◌∙◌, subst, if◌then◌else◌, eq-eqb, arith}
 use Rattle.std.proofs.lemmas.List.{append-nil, length-append, length-map}
 use Rattle.std.specs.List.{Contains}
 use Rattle.md_words.specs.declared.shape.Shape.{Shape}

@@ -1,5 +1,5 @@
 -- A look at the first value of a queue: its steps, and its certificates.
-use Rattle.std.proofs.Common.{◌≡◌, ◌≢◌, ◌<◌, ◌^◌, ℕ, true, false, List, [], ◌∷◌, Option, Some, None, refl, sym, ap, ◌∙◌, subst, inl, inr}
+use Rattle.std.proofs.Common.{◌≡◌, ◌≢◌, ◌<◌, ◌^◌, ℕ, List, [], ◌∷◌, Some, None, refl, sym, ap, subst, inl, inr}
 use Rattle.std.proofs.lemmas.List.Elements.{All-cons, All-nil}
 use Rattle.std.specs.List.{All}
 use Rattle.md_words.specs.declared.shape.Shape.{Shape}
@@ -15,25 +15,25 @@ use Rattle.md_machine.specs.declared.certificate.TidyChange.{TidyChange}
 use Rattle.md_machine.specs.declared.certificate.WordValue.{WordValue}
 use Rattle.md_machine.specs.declared.node.Structure.TheVariants.{Queue}
 use Rattle.md_machine.specs.Certified.{after_wholes}
-use Rattle.md_machine.specs.LogicalHeap.{Holds, LogicalHeap}
+use Rattle.md_machine.specs.LogicalHeap.{Holds}
 use Rattle.md_machine.specs.Meaning.{Lawful, Meaning}
 use Rattle.md_nbtc.specs.declared.seen.Seen.{Seen}
-use Rattle.md_nbtc.specs.Calls.{GoesOn, MayAnswer}
+use Rattle.md_nbtc.specs.Calls.{GoesOn}
 use Rattle.md_nbtc.specs.Known.{IsLater, Known}
-use Rattle.md_nbtc.specs.Prepared.{IsPrepared}
-use Rattle.md_nbtc.specs.Seeing.{Gave, KeepsGiven, Looks}
+use Rattle.md_nbtc.specs.Seeing.{KeepsGiven, Looks}
 use Rattle.md_nbtc.specs.State.{TxnState, shape_in}
 use Rattle.md_nbtc.proofs.structures.Growing.{tidied_none}
 use Rattle.md_nbtc.proofs.structures.NodesKnown.{data_known, shape_later}
 use Rattle.md_nbtc.proofs.structures.Noting.{HasNoted}
 use Rattle.md_nbtc.proofs.structures.Reading.{reading}
 use Rattle.md_queue_law.specs.Laws.Words.{head_not_next}
-use Rattle.md_queue_law.specs.QueueCertificates.{CertifiesQueue, FindsFirst, FindsNone, has_value, head_is, next_is}
+use Rattle.md_queue_law.specs.QueueCertificates.{FindsNone, has_value, head_is, next_is}
 use Rattle.md_queue_law.specs.QueueMeaning.{HasQueuesOf}
 use Rattle.md_queue_law.specs.QueueShape.{link}
-use Rattle.md_queue.specs.Operations.{IsBegun}
+use Rattle.md_queue.specs.Operations.{GoesBy, IsBegun, RecordsAmong}
 use Rattle.md_queue.specs.Words.{head_at, next_at}
-use Rattle.md_queue.specs.Working.{IsRecorded, IsWorking, KnowsOf, NamesNode, NotedFirst, SeesAt, SeesFirst, SeesNext}
+use Rattle.md_queue.specs.Working.{IsRecorded, IsWorking, KnowsOf, NamesNode, NotedFirst, SeesAt, SeesFirst, SeesNext, first_words}
+use Rattle.md_queue.proofs.Among.{AnswersBy, among_from}
 use Rattle.md_queue.proofs.Looking.{head_looked, head_named, next_looked, next_named}
 use Rattle.md_queue.proofs.Passing.{names_on, next_on, sees_on, working_on}
 use Rattle.md_queue.proofs.Recording.{may_answer_reading, noted_recorded, recorded_on}
@@ -146,13 +146,18 @@ module _ (M : Meaning) (lawful : Lawful M) (queues : HasQueuesOf M) (t : TxnStat
     finds_none op = record { dummy = linked_node head.value; reply = refl; recorded = refl; changes = refl; nodes = refl; facts = refl }
 
     -- the queue was found empty
-    pub front_none : next.value ≡ 0 → MayAnswer M t (Front queue) (Value None)
+    pub front_none : next.value ≡ 0 → AnswersBy M t (Front queue) (Value None) (first_words t queue head)
     front_none zero = may_answer_reading M queues t queue n.certificates n.changes n.working (Front queue) (Value None) (words 0) []
         (n.working.within, inr (finds_none (Front queue))) (words_recorded 0 zero) no_facts (All-nil (λ (f : Fact). f.next ≡ None))
 
-    pub dequeue_none : next.value ≡ 0 → MayAnswer M t (Dequeue queue) (Value None)
+    pub dequeue_none : next.value ≡ 0 → AnswersBy M t (Dequeue queue) (Value None) (first_words t queue head)
     dequeue_none zero = may_answer_reading M queues t queue n.certificates n.changes n.working (Dequeue queue) (Value None) (words 0) []
         (n.working.within, inr (finds_none (Dequeue queue))) (words_recorded 0 zero) no_facts (All-nil (λ (f : Fact). f.next ≡ None))
+
+-- after a look at both words, and then a note of both, these alone are recorded more
+pub first_among : (M : Meaning) (s t u : TxnState) (queue : ℕ) (head : Seen) → GoesBy M s t 0 0 0 → IsLater t u → RecordsAmong t u (first_words t queue head) → RecordsAmong s u (first_words u queue head)
+first_among M s t u queue head goes later among = subst (λ (x : Shape). RecordsAmong s u (address x (queue_head queue) ∷ address x (node_next (linked_node head.value)) ∷ [])) (sym (shape_later t u later))
+    (among_from M s t u 0 0 (first_words t queue head) goes among)
 
 -- what is known of the value of a node of the queue
 pub value_known : (M : Meaning) (lawful : Lawful M) (t : TxnState) (queue : ℕ) (cs : List Certificate) (ts : List TidyChange) → IsWorking M t queue cs ts → (node value : ℕ)
@@ -164,7 +169,7 @@ value_known M lawful t queue cs ts w node value exists placed is u later prepare
 -- a value was found
 pub front_some : (M : Meaning) (lawful : Lawful M) (queues : HasQueuesOf M) (t u : TxnState) (queue : ℕ) (head next : Seen) → NotedFirst M t queue head next → next.value ≢ 0
     → GoesOn M t u → u ≡ record t { pass = u.pass } → (value : ℕ) → Known M u (λ v h. h.words.value_of_node (linked_node next.value) ≡ value)
-    → MayAnswer M u (Front queue) (Value (Some value))
+    → AnswersBy M u (Front queue) (Value (Some value)) (first_words u queue head)
 front_some M lawful queues t u queue head next n some on same value is =
     let first = linked_node next.value in
     let shape = shape_later t u on.later in

@@ -1,5 +1,5 @@
 -- The tail is looked at, and doesn't stay behind the head.
-use Rattle.std.proofs.Common.{◌≡◌, ◌≢◌, ◌<◌, ◌^◌, ℕ, suc, arith, refl, sym, ap, ◌∙◌, subst}
+use Rattle.std.proofs.Common.{◌≡◌, ◌≢◌, ◌<◌, ◌^◌, ℕ, suc, arith, sym, ap, ◌∙◌, subst}
 use Rattle.md_words.specs.declared.shape.Shape.{Shape}
 use Rattle.md_words.specs.Layout.{address}
 use Rattle.md_words.specs.Link.{linked_node}
@@ -17,7 +17,7 @@ use Rattle.md_queue_law.specs.Laws.Words.{head_not_tail, tail_not_next}
 use Rattle.md_queue_law.specs.QueueMeaning.{HasQueuesOf}
 use Rattle.md_queue.specs.Operations.{TailDiffers}
 use Rattle.md_queue.specs.Words.{head_at, move_kind, next_at, tail_at}
-use Rattle.md_queue.specs.Working.{IsWorking, SeesAt, SeesFirst}
+use Rattle.md_queue.specs.Working.{SeesAt, SeesFirst}
 use Rattle.md_queue.proofs.Looking.{next_rank, tail_looked}
 use Rattle.md_queue.proofs.Moving.{may_move, moved}
 use Rattle.md_queue.proofs.Passing.{working_on}

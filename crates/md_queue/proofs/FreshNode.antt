@@ -16,7 +16,7 @@ use Rattle.md_nbtc.specs.Course.{IsStoredNode, stored_words}
 use Rattle.md_nbtc.specs.Going.{IsGoing, IsUnplaced}
 use Rattle.md_nbtc.specs.Known.{Known, KnowsPlaced}
 use Rattle.md_nbtc.specs.Seeing.{IsOwnPlaced, MayChange}
-use Rattle.md_nbtc.specs.State.{OwnNode, TxnState, shape_in, writes_in}
+use Rattle.md_nbtc.specs.State.{OwnNode, TxnState, writes_in}
 use Rattle.md_nbtc.specs.Tidied.{tidied}
 use Rattle.md_nbtc.proofs.preparing.Heaps.{known_now}
 use Rattle.md_nbtc.proofs.ready.Lookups.{written_found}

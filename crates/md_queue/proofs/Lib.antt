@@ -4,6 +4,7 @@ pub mod Ranks
 pub mod Passing
 pub mod Looking
 pub mod Steps
+pub mod Among
 pub mod Recording
 pub mod Firsts
 pub mod Moving

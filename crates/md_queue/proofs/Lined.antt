@@ -6,10 +6,11 @@ use Rattle.md_history.specs.declared.acts.Line.{Line}
 use Rattle.md_history.specs.declared.acts.TheConstants.{MAX_LINE}
 use Rattle.md_history.specs.State.{line_of}
 use Rattle.md_machine.specs.Meaning.{Meaning}
-use Rattle.md_nbtc.specs.State.{TxnState}
+use Rattle.md_nbtc.specs.State.{TxnState, shape_in}
 use Rattle.md_queue_law.specs.QueueCertificates.{Seen}
 use Rattle.md_queue.specs.Along.{HasLooked}
-use Rattle.md_queue.specs.Operations.{GoesBy}
+use Rattle.md_queue.specs.Operations.{GoesBy, RecordsAmong}
+use Rattle.md_queue.proofs.Along.{words_along}
 
 -- the values of the nodes that were passed
 abbrev pub values_of : List Seen → List ℕ
@@ -18,10 +19,12 @@ values_of seen = map (λ s. s.value) seen
 -- since it stood so, the look came to a node over as many as are counted, and the line has their values
 pub record HasLine (M : Meaning) (s t : TxnState) (queue node count : ℕ) (line : Line) : Type 0 where
   pub goes : GoesBy M s t (count + 1) 0 0
+  pub dummy : ℕ
   pub seen : List Seen
   pub counted : length seen ≡ count
   pub is : line ≡ line_of (values_of seen)
-  pub looked : HasLooked M t queue node seen
+  pub looked : HasLooked M t queue dummy node seen
+  pub among : RecordsAmong s t (words_along (shape_in t) queue dummy seen)
 
 zeros_more : (m i : ℕ) → i < m → replicate {A = ℕ} (m - i) 0 ≡ 0 ∷ replicate {A = ℕ} (m - (i + 1)) 0
 zeros_more m i below = let e : m - i ≡ suc (m - (i + 1)) = omega arith in rw e refl

@@ -1,12 +1,12 @@
 -- What a look at a word of a queue gives: at the head or the tail a node of the queue, and at the next word of a node 0
 -- or another node.
-use Rattle.std.proofs.Common.{◌≡◌, ◌≢◌, ◌<◌, ◌⊎◌, ℕ, suc, true, false, List, Option, Some, None, refl, sym, ap, ◌∙◌, subst, inl, inr, ⊎_elim}
+use Rattle.std.proofs.Common.{◌≡◌, ◌≢◌, ◌⊎◌, ℕ, suc, List, Some, refl, sym, ap, ◌∙◌, subst, inl, inr, ⊎_elim}
 use Rattle.std.proofs.lemmas.List.Elements.{All-contains}
 use Rattle.std.specs.List.{Contains}
 use Rattle.md_words.specs.declared.shape.Shape.{Shape}
-use Rattle.md_words.specs.Layout.{Exists, IsNode, address}
+use Rattle.md_words.specs.Layout.{IsNode, address}
 use Rattle.md_words.specs.Link.{linked_node}
-use Rattle.md_words.specs.Place.{Place, node_next, queue_head, queue_tail}
+use Rattle.md_words.specs.Place.{node_next, queue_head, queue_tail}
 use Rattle.md_words.specs.PlaceAt.{IsCounted}
 use Rattle.md_words.proofs.Places.{counted_by_place}
 use Rattle.md_machine.specs.declared.certificate.Certificate.{Certificate}
@@ -14,22 +14,20 @@ use Rattle.md_machine.specs.declared.certificate.NewNode.{NewNode}
 use Rattle.md_machine.specs.declared.certificate.TidyChange.{TidyChange}
 use Rattle.md_machine.specs.declared.node.Structure.TheVariants.{Queue}
 use Rattle.md_machine.specs.Certified.{after_wholes, all_nodes}
-use Rattle.md_machine.specs.LogicalHeap.{LogicalHeap}
 use Rattle.md_machine.specs.Meaning.{Lawful, Meaning}
 use Rattle.md_machine.specs.events.Exchange.{FoundNext}
 use Rattle.md_machine.proofs.chain.SameNodes.{next_alone}
 use Rattle.md_nbtc.specs.declared.seen.Seen.{Seen}
 use Rattle.md_nbtc.specs.Calls.{GoesOn}
 use Rattle.md_nbtc.specs.Course.{IsStoredNode, stored_words}
-use Rattle.md_nbtc.specs.Going.{IsFoundThere}
 use Rattle.md_nbtc.specs.Known.{Known, KnowsPlaced}
-use Rattle.md_nbtc.specs.Seeing.{IsInPlace, IsNextOf, Looks, MayChange}
+use Rattle.md_nbtc.specs.Seeing.{IsInPlace, IsNextOf, Looks}
 use Rattle.md_nbtc.specs.State.{OwnNode, TxnState, shape_in}
 use Rattle.md_nbtc.proofs.preparing.Heaps.{heap_valid, known_now}
 use Rattle.md_nbtc.proofs.structures.NodesKnown.{new_exist, placed_or_own, shape_known}
 use Rattle.md_queue_law.specs.Laws.Words.{head_not_next, linked_node-link as named_link, tail_not_next}
 use Rattle.md_queue_law.specs.QueueMeaning.{HasQueuesOf}
-use Rattle.md_queue_law.specs.QueueShape.{IsOf, NamesOneOf, link}
+use Rattle.md_queue_law.specs.QueueShape.{NamesOneOf, link}
 use Rattle.md_queue_law.specs.Rising.{NamesRank}
 use Rattle.md_queue.specs.Nodes.{IsReadable}
 use Rattle.md_queue.specs.Words.{head_at, next_at, tail_at}

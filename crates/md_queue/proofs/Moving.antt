@@ -1,21 +1,20 @@
 -- The tail follows a next word that isn't 0: when that is tidy, and what it leaves.
-use Rattle.std.proofs.Common.{◌≡◌, ◌≢◌, ◌==◌, ◌<◌, ◌^◌, ◌⊎◌, ◌++◌, ℕ, Bool, not, true, false, List, [], ◌∷◌, Option, Some, None, refl, sym, ap, ◌∙◌, subst, inl, inr, ⊎_elim, IsTrue, IfSome, map, eqb-true, ne_eqb, if◌then◌else◌}
+use Rattle.std.proofs.Common.{◌≡◌, ◌≢◌, ◌==◌, ◌<◌, ◌^◌, ◌++◌, ℕ, Bool, not, true, false, List, [], ◌∷◌, Option, Some, None, refl, sym, ap, ◌∙◌, subst, inr, ⊎_elim, IsTrue, IfSome, eqb-true, ne_eqb, if◌then◌else◌}
 use Rattle.std.proofs.lemmas.Bool.{cases_Bool, true≢false}
 use Rattle.std.proofs.lemmas.List.Elements.{All-contains, All-cons, All-nil, Contains-append_right}
-use Rattle.std.specs.List.{All, Contains, list_any}
+use Rattle.std.specs.List.{All, Contains}
 use Rattle.md_words.specs.declared.shape.Shape.{Shape}
-use Rattle.md_words.specs.Layout.{IsNode, address}
+use Rattle.md_words.specs.Layout.{address}
 use Rattle.md_words.specs.Link.{linked_node}
 use Rattle.md_words.specs.Place.{node_next, queue_tail}
 use Rattle.md_machine.specs.declared.attempt.Write.{Write}
 use Rattle.md_machine.specs.declared.certificate.Certificate.{Certificate}
 use Rattle.md_machine.specs.declared.certificate.Fact.{Fact}
-use Rattle.md_machine.specs.declared.certificate.NewNode.{NewNode}
 use Rattle.md_machine.specs.declared.certificate.TidyChange.{TidyChange}
 use Rattle.md_machine.specs.declared.node.Structure.{Structure}
 use Rattle.md_machine.specs.declared.node.Structure.TheVariants.{Queue}
 use Rattle.md_machine.specs.Certified.{after_wholes, all_nodes, first_content}
-use Rattle.md_machine.specs.LogicalHeap.{Holds, LogicalHeap, is_settled, next_of}
+use Rattle.md_machine.specs.LogicalHeap.{Holds, is_settled}
 use Rattle.md_machine.specs.Meaning.{Lawful, Meaning}
 use Rattle.md_machine.specs.events.Exchange.{FoundFact, FoundNext}
 use Rattle.md_machine.proofs.chain.Agree.{tidies_shape, wholes_shape}
@@ -27,12 +26,12 @@ use Rattle.md_nbtc.specs.declared.seen.Seen.{Seen}
 use Rattle.md_nbtc.specs.declared.sets.Slot.{Slot}
 use Rattle.md_nbtc.specs.Calls.{GoesOn, MayExchange, is_critical, new_slot}
 use Rattle.md_nbtc.specs.Cleaning.{CleanupsStay, FitsCleanup, IsKeptCleanup}
-use Rattle.md_nbtc.specs.Course.{IsStoredNode, stored_words}
+use Rattle.md_nbtc.specs.Course.{IsStoredNode}
 use Rattle.md_nbtc.specs.Going.{IsUnplaced}
 use Rattle.md_nbtc.specs.Known.{Known, KnowsFact, Met, WasThere, found_by}
 use Rattle.md_nbtc.specs.Seeing.{Gave, IsNextOf, IsTidyNow, MayChange}
 use Rattle.md_nbtc.specs.State.{OwnNode, TxnState, seen_content, shape_in, writes_in}
-use Rattle.md_nbtc.specs.Tidied.{HasTidied, tidied}
+use Rattle.md_nbtc.specs.Tidied.{tidied}
 use Rattle.md_nbtc.proofs.preparing.Heaps.{known_now}
 use Rattle.md_nbtc.proofs.preparing.Later.{later_over}
 use Rattle.md_nbtc.proofs.ready.Lookups.{all_of}
@@ -45,7 +44,7 @@ use Rattle.md_queue_law.specs.QueueCertificates.{has_next}
 use Rattle.md_queue_law.specs.QueueMeaning.{HasQueuesOf}
 use Rattle.md_queue_law.specs.QueueShape.{IsOf, link}
 use Rattle.md_queue.specs.Words.{move_kind, next_at, tail_at}
-use Rattle.md_queue.specs.Working.{IsWorking, KnowsOf, NamesNode, SeesAt, SeesNext}
+use Rattle.md_queue.specs.Working.{IsWorking, SeesAt, SeesNext}
 use Rattle.md_queue.proofs.Looking.{next_named, tail_counted, tail_looked, tail_named, tail_no_next}
 use Rattle.md_queue.proofs.Ranks.{met_node}
 

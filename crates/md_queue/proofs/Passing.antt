@@ -1,5 +1,5 @@
 -- What a transaction sees of a queue stays so over calls that keep what was given.
-use Rattle.std.proofs.Common.{◌≡◌, ◌<◌, ◌⊎◌, ◌++◌, ◌∷◌, [], ℕ, List, refl, sym, ap, ◌∙◌, subst, inl, inr, ⊎_elim}
+use Rattle.std.proofs.Common.{◌≡◌, ◌<◌, ◌∷◌, [], ℕ, List, sym, ap, ◌∙◌, subst, inl, inr, ⊎_elim}
 use Rattle.std.proofs.lemmas.List.Elements.{Contains-append_cases, Contains-append_left, Contains-append_right}
 use Rattle.std.specs.List.{Contains}
 use Rattle.md_words.specs.Layout.{IsNode, address}
@@ -22,7 +22,7 @@ use Rattle.md_nbtc.specs.State.{OwnNode, TxnState, shape_in}
 use Rattle.md_nbtc.proofs.preparing.Later.{known_later}
 use Rattle.md_nbtc.proofs.structures.Growing.{tidied_later}
 use Rattle.md_nbtc.proofs.structures.NodesKnown.{shape_later}
-use Rattle.md_queue_law.specs.QueueShape.{IsOf, link}
+use Rattle.md_queue_law.specs.QueueShape.{IsOf}
 use Rattle.md_queue.specs.Words.{head_at, next_at}
 use Rattle.md_queue.specs.Working.{IsWorking, KnowsOf, NamesNode, SeesAt, SeesNext}
 

@@ -1,13 +1,12 @@
 -- A new node is put behind the last one: when that may be done, and its certificate.
-use Rattle.std.proofs.Common.{◌≡◌, ◌≢◌, ◌<◌, ◌+◌, ◌*◌, ◌^◌, ◌++◌, ℕ, suc, true, false, List, [], ◌∷◌, map, Option, Some, None, refl, sym, ap, ◌∙◌, subst, inl, inr, ⊎_elim, IfSome, arith, is_some}
-use Rattle.std.proofs.lemmas.Bool.{cases_Bool, true≢false}
-use Rattle.std.proofs.lemmas.List.Elements.{All-contains, All-cons, All-head, All-nil, Contains-append_right}
-use Rattle.std.specs.List.{All, Contains}
+use Rattle.std.proofs.Common.{◌≡◌, ◌<◌, ◌+◌, ◌*◌, ◌^◌, ◌++◌, ℕ, true, false, List, [], ◌∷◌, Option, Some, None, refl, sym, ap, ◌∙◌, subst, inl, inr, ⊎_elim, IfSome, arith, is_some}
+use Rattle.std.proofs.lemmas.Bool.{true≢false}
+use Rattle.std.proofs.lemmas.List.Elements.{All-contains, All-cons, All-nil, Contains-append_right}
+use Rattle.std.specs.List.{Contains}
 use Rattle.md_words.specs.declared.shape.Shape.{Shape}
 use Rattle.md_words.specs.Layout.{IsNode, address, node_count}
 use Rattle.md_words.specs.Link.{is_marked, link_value, linked_node}
 use Rattle.md_words.specs.Place.{node_next, queue_tail}
-use Rattle.md_words.specs.PlaceAt.{IsCounted}
 use Rattle.md_words.proofs.Places.{counted_by_place}
 use Rattle.md_history.specs.declared.acts.Op.TheVariants.{Enqueue}
 use Rattle.md_history.specs.declared.acts.Reply.TheVariants.{Nothing}
@@ -21,7 +20,7 @@ use Rattle.md_machine.specs.declared.node.PlacedNode.{PlacedNode}
 use Rattle.md_machine.specs.declared.node.Structure.{Structure}
 use Rattle.md_machine.specs.declared.node.Structure.TheVariants.{Queue}
 use Rattle.md_machine.specs.Certified.{after_wholes, all_nodes, first_content, is_written, placed_by}
-use Rattle.md_machine.specs.LogicalHeap.{Holds, LogicalHeap}
+use Rattle.md_machine.specs.LogicalHeap.{Holds}
 use Rattle.md_machine.specs.Meaning.{Lawful, Meaning}
 use Rattle.md_machine.proofs.chain.SameNodes.{next_alone, next_counted}
 use Rattle.md_machine.proofs.lists.Rising.{here, map_in}
@@ -30,16 +29,16 @@ use Rattle.md_nbtc.specs.declared.seen.Cleanup.TheVariants.{MoveTail, Unlink}
 use Rattle.md_nbtc.specs.declared.seen.Kind.TheVariants.{Critical}
 use Rattle.md_nbtc.specs.declared.seen.Seen.{Seen}
 use Rattle.md_nbtc.specs.declared.sets.Slot.{Slot}
-use Rattle.md_nbtc.specs.Calls.{Freshens, GoesOn, Keeps, MayAnswer, MayExchange}
-use Rattle.md_nbtc.specs.Cleaning.{CleanupsStay, FitsCleanup, IsFactLater, IsKeptCleanup, IsPlacedIn, IsWrittenFor, MayTidyLater, with_cleanup_kept}
+use Rattle.md_nbtc.specs.Calls.{Freshens, GoesOn, Keeps, MayExchange}
+use Rattle.md_nbtc.specs.Cleaning.{FitsCleanup, IsFactLater, IsKeptCleanup, IsPlacedIn, IsWrittenFor, MayTidyLater, with_cleanup_kept}
 use Rattle.md_nbtc.specs.Course.{IsStoredNode}
 use Rattle.md_nbtc.specs.Going.{IsGoing}
 use Rattle.md_nbtc.specs.Known.{IsLater, Known, KnowsPlaced, found_by}
 use Rattle.md_nbtc.specs.Seeing.{Gave, IsOwnPlaced, KeepsGiven, MayChange}
 use Rattle.md_nbtc.specs.State.{OwnNode, TxnState, seen_content, shape_in, writes_in}
-use Rattle.md_nbtc.specs.Tidied.{HasTidied, tidied}
+use Rattle.md_nbtc.specs.Tidied.{tidied}
 use Rattle.md_nbtc.proofs.preparing.Heaps.{known_now}
-use Rattle.md_nbtc.proofs.preparing.Later.{known_later, later_over}
+use Rattle.md_nbtc.proofs.preparing.Later.{later_over}
 use Rattle.md_nbtc.proofs.ready.Lookups.{all_of, one_of, written_there}
 use Rattle.md_nbtc.proofs.structures.Exchanging.{HasExchanged, may_exchange_so}
 use Rattle.md_nbtc.proofs.structures.FoundLater.{found_later}
@@ -47,14 +46,15 @@ use Rattle.md_nbtc.proofs.structures.NodesKnown.{data_known, own_known, placed_o
 use Rattle.md_nbtc.proofs.structures.SeenValues.{seen_value}
 use Rattle.md_nbtc.proofs.structures.Tidying.{bare_holds}
 use Rattle.md_queue_law.specs.Laws.Words.{link_not_zero, tail_not_next}
-use Rattle.md_queue_law.specs.QueueCertificates.{has_key, has_next, new_node, next_change}
+use Rattle.md_queue_law.specs.QueueCertificates.{CertifiesQueue, has_key, has_next, new_node, next_change}
 use Rattle.md_queue_law.specs.QueueMeaning.{HasQueuesOf}
 use Rattle.md_queue_law.specs.QueueShape.{IsOf, link}
 use Rattle.md_queue.specs.Words.{next_at, tail_at}
-use Rattle.md_queue.specs.Working.{IsWorking, KnowsOf, SeesAt, SeesEnd, SeesNext}
+use Rattle.md_queue.specs.Working.{IsWorking, KnowsOf, SeesEnd, SeesNext}
+use Rattle.md_queue.proofs.Among.{AnswersBy}
 use Rattle.md_queue.proofs.Changing.{changing, exchanged_first, exchanged_hand, exchanged_nodes, exchanged_own, may_end_changing}
 use Rattle.md_queue.proofs.FreshNode.{apart_from_fresh, fresh_after, fresh_unwritten, own_placed}
-use Rattle.md_queue.proofs.Passing.{next_on, of_on, there_on, working_on}
+use Rattle.md_queue.proofs.Passing.{next_on, of_on, working_on}
 use Rattle.md_queue.proofs.Ranks.{rank_fits}
 
 -- a link as the code makes it
@@ -249,7 +249,7 @@ module _ (M : Meaning) (lawful : Lawful M) (queues : HasQueuesOf M) (queue : ℕ
           later_last = later_over t u x on.later (later_over u v x over.later keeps.later)
 
           -- the operation may be ended
-          pub may_answer_put : MayAnswer M x (Enqueue queue value) Nothing
+          pub may_answer_put : AnswersBy M x (Enqueue queue value) Nothing []
           may_answer_put =
               let shape = shape_later t x later_last in
               let shape_v = shape_later u v over.later ∙ shape_later t u on.later in
@@ -264,33 +264,38 @@ module _ (M : Meaning) (lawful : Lawful M) (queues : HasQueuesOf M) (queue : ℕ
               let stored = ap (λ h. h.stored) hand ∙ stored_is in
               let in_stored = subst (λ l. Contains l new) (sym stored) (here new []) in
               let at_x = ap (λ (s : Shape). address s (node_next node)) (sym shape) in
+              let certifies : CertifiesQueue (shape_in x) c = (
+                subst (λ (s : Shape). queue < s.queues) (sym shape) w.within,
+                record { last = node; rank = rank; node = new; exists = subst (λ (s : Shape). IsNode s new) (sym shape) f.exists; reply = refl; recorded = refl; changes = refl; nodes = refl; facts = refl },
+              ) in
               record {
-                earlier = cs;
-                going = going_last;
-                certificate = c;
-                of = (refl, refl);
-                may = may_end_changing M t cs ts w.tidied x later_last (Enqueue queue value) Nothing [] change (new_one ∷ []) (fact ∷ [])
-                    (queues.certifies (shape_in x) c (
-                      subst (λ (s : Shape). queue < s.queues) (sym shape) w.within,
-                      record { last = node; rank = rank; node = new; exists = subst (λ (s : Shape). IsNode s new) (sym shape) f.exists; reply = refl; recorded = refl; changes = refl; nodes = refl; facts = refl },
-                    ))
-                    (ap (λ h. h.changes) hand ∙ ap (λ (y : TxnState). y.hand.changes ++ record { word = next_at u node; old = next.value; new = link new } ∷ []) f.new
-                    ∙ ap (λ (d : Change). t.hand.changes ++ d ∷ [])
-                    (ap (λ a. record { word = a; old = next.value; new = link new }) (ap (λ (s : Shape). address s (node_next node)) (shape_later t u on.later) ∙ at_x)
-                    ∙ ap (λ o. record { word = next_at x node; old = o; new = link new }) p.zero))
-                    (sym stored)
-                    (All-cons (IsStoredNode x) new_one [] (record { own = among; unsettled = refl }) (All-nil (IsStoredNode x)))
-                    (All-cons (λ (n : NewNode). is_written (writes_in x) (address (shape_in x) (node_next n.node)) ≡ false) new_one [] (fresh_unwritten M lawful x cs going_last own among in_stored)
-                    (All-nil (λ (n : NewNode). is_written (writes_in x) (address (shape_in x) (node_next n.node)) ≡ false)))
-                    (All-nil (λ (r : WordValue). is_some (first_content x.reads (writes_in x) r.word) ≡ true))
-                    (λ y after prepared h of. All-nil (λ (r : WordValue). (tidied (found_by y h) cs ts).words.value r.word ≡ r.value))
-                    (λ y after prepared h of. subst (λ a. (tidied (found_by y h) cs ts).words.value a ≡ 0) at_x
-                    (seen_value M lawful t cs w.going ts w.tidied (next_at t node) next p.sees.at.gave p.sees.at.there fits x later_last
-                    (λ other. subst (λ a. first_content x.reads (writes_in x) a ≡ Some (seen_content next)) (ap (λ (s : Shape). address s (node_next node)) (shape_later t u on.later))
-                    (found_later v x keeps.later going_last.prepared (next_at u node) (seen_content next)
-                    (exchanged_first M u v (next_at u node) next (link new) seen ex (over.going cs going_then).prepared sees_then.at.gave other))) y after prepared h of ∙ p.zero))
-                    (λ y after prepared h of. All-cons (Holds (tidied h cs ts)) fact []
-                    (bare_holds (after_wholes h cs) ts w.tidied.bare fact refl (p.ranked y (later_over t x y later_last after) prepared h of)) (All-nil (Holds (tidied h cs ts))))
-                    (λ y after prepared h of. All-cons (λ (n : NewNode). (tidied h cs ts).placed n.node ≡ None) new_one []
-                    (fresh_after M lawful x cs going_last own among in_stored ts w.tidied.bare y after prepared h of) (All-nil (λ (n : NewNode). (tidied h cs ts).placed n.node ≡ None)));
+                may = record {
+                  earlier = cs;
+                  going = going_last;
+                  certificate = c;
+                  of = (refl, refl);
+                  may = may_end_changing M t cs ts w.tidied x later_last (Enqueue queue value) Nothing [] change (new_one ∷ []) (fact ∷ [])
+                      (queues.certifies (shape_in x) c certifies)
+                      (ap (λ h. h.changes) hand ∙ ap (λ (y : TxnState). y.hand.changes ++ record { word = next_at u node; old = next.value; new = link new } ∷ []) f.new
+                      ∙ ap (λ (d : Change). t.hand.changes ++ d ∷ [])
+                      (ap (λ a. record { word = a; old = next.value; new = link new }) (ap (λ (s : Shape). address s (node_next node)) (shape_later t u on.later) ∙ at_x)
+                      ∙ ap (λ o. record { word = next_at x node; old = o; new = link new }) p.zero))
+                      (sym stored)
+                      (All-cons (IsStoredNode x) new_one [] (record { own = among; unsettled = refl }) (All-nil (IsStoredNode x)))
+                      (All-cons (λ (n : NewNode). is_written (writes_in x) (address (shape_in x) (node_next n.node)) ≡ false) new_one [] (fresh_unwritten M lawful x cs going_last own among in_stored)
+                      (All-nil (λ (n : NewNode). is_written (writes_in x) (address (shape_in x) (node_next n.node)) ≡ false)))
+                      (All-nil (λ (r : WordValue). is_some (first_content x.reads (writes_in x) r.word) ≡ true))
+                      (λ y after prepared h of. All-nil (λ (r : WordValue). (tidied (found_by y h) cs ts).words.value r.word ≡ r.value))
+                      (λ y after prepared h of. subst (λ a. (tidied (found_by y h) cs ts).words.value a ≡ 0) at_x
+                      (seen_value M lawful t cs w.going ts w.tidied (next_at t node) next p.sees.at.gave p.sees.at.there fits x later_last
+                      (λ other. subst (λ a. first_content x.reads (writes_in x) a ≡ Some (seen_content next)) (ap (λ (s : Shape). address s (node_next node)) (shape_later t u on.later))
+                      (found_later v x keeps.later going_last.prepared (next_at u node) (seen_content next)
+                      (exchanged_first M u v (next_at u node) next (link new) seen ex (over.going cs going_then).prepared sees_then.at.gave other))) y after prepared h of ∙ p.zero))
+                      (λ y after prepared h of. All-cons (Holds (tidied h cs ts)) fact []
+                      (bare_holds (after_wholes h cs) ts w.tidied.bare fact refl (p.ranked y (later_over t x y later_last after) prepared h of)) (All-nil (Holds (tidied h cs ts))))
+                      (λ y after prepared h of. All-cons (λ (n : NewNode). (tidied h cs ts).placed n.node ≡ None) new_one []
+                      (fresh_after M lawful x cs going_last own among in_stored ts w.tidied.bare y after prepared h of) (All-nil (λ (n : NewNode). (tidied h cs ts).placed n.node ≡ None)));
+                };
+                row = certifies;
+                are = refl;
               }

@@ -1,20 +1,19 @@
 -- What a transaction sees in a word of a queue: the head and the tail name nodes of the queue, and the next word of a
 -- node of the queue is 0 or names one of the next rank, after the ended operations. So it is also for a transaction that
 -- can no longer commit.
-use Rattle.std.proofs.Common.{◌≡◌, ◌≢◌, ◌<◌, ℕ, suc, List, Some, None, Option, refl, sym, ap, ◌∙◌, subst, inl, inr, ⊎_elim}
+use Rattle.std.proofs.Common.{◌≡◌, ◌<◌, ℕ, suc, List, Some, Option, refl, sym, ap, ◌∙◌, subst, inl, inr, ⊎_elim}
 use Rattle.std.proofs.lemmas.List.Elements.{All-contains}
 use Rattle.std.specs.List.{All}
 use Rattle.md_words.specs.declared.shape.Shape.{Shape}
 use Rattle.md_words.specs.Content.{value_of}
 use Rattle.md_words.specs.Layout.{IsNode, address, node_count}
-use Rattle.md_words.specs.Link.{linked_node}
 use Rattle.md_words.specs.Place.{node_next, queue_head, queue_tail}
 use Rattle.md_machine.specs.declared.certificate.Certificate.{Certificate}
 use Rattle.md_machine.specs.declared.certificate.TidyChange.{TidyChange}
 use Rattle.md_machine.specs.declared.node.Structure.{Structure}
 use Rattle.md_machine.specs.declared.node.Structure.TheVariants.{Queue}
-use Rattle.md_machine.specs.Certified.{after_wholes, first_content}
-use Rattle.md_machine.specs.LogicalHeap.{Holds, LogicalHeap, next_of}
+use Rattle.md_machine.specs.Certified.{after_wholes}
+use Rattle.md_machine.specs.LogicalHeap.{LogicalHeap}
 use Rattle.md_machine.specs.Meaning.{Lawful, Meaning}
 use Rattle.md_machine.proofs.chain.Agree.{tidies_shape, wholes_shape}
 use Rattle.md_machine.proofs.chain.SameNodes.{next_alone}
@@ -22,7 +21,7 @@ use Rattle.md_nbtc.specs.declared.seen.Seen.{Seen}
 use Rattle.md_nbtc.specs.Going.{IsFoundThere, IsGoing, IsUnplaced}
 use Rattle.md_nbtc.specs.Known.{Known, WasThere, found_by}
 use Rattle.md_nbtc.specs.Seeing.{Gave}
-use Rattle.md_nbtc.specs.State.{OwnNode, TxnState, shape_in, writes_in}
+use Rattle.md_nbtc.specs.State.{TxnState, shape_in, writes_in}
 use Rattle.md_nbtc.specs.Tidied.{HasTidied, tidied}
 use Rattle.md_nbtc.proofs.preparing.Heaps.{heap_valid}
 use Rattle.md_nbtc.proofs.structures.NodesKnown.{fact_after, shape_known}
@@ -32,11 +31,11 @@ use Rattle.md_nbtc.proofs.structures.Tidying.{bare_keys, bare_placed}
 use Rattle.md_queue_law.specs.Laws.Words.{head_not_next, tail_not_next}
 use Rattle.md_queue_law.specs.QueueCertificates.{has_key}
 use Rattle.md_queue_law.specs.QueueMeaning.{HasQueuesOf}
-use Rattle.md_queue_law.specs.QueueShape.{IsOf, NamesOneOf, link}
-use Rattle.md_queue_law.specs.Rising.{FoundRanks, NamesRank, QueueRises, RanksLink}
+use Rattle.md_queue_law.specs.QueueShape.{IsOf, NamesOneOf}
+use Rattle.md_queue_law.specs.Rising.{FoundRanks, NamesRank, QueueRises}
 use Rattle.md_queue_law.proofs.RisingAlong.{rises_along, rises_at_first, rises_tidied, seen_ranks_fit}
 use Rattle.md_queue.specs.Words.{head_at, next_at, tail_at}
-use Rattle.md_queue.proofs.MetInQueues.{met_in_head, met_in_next, met_in_tail, named_node, node_fact, placed_then}
+use Rattle.md_queue.proofs.MetInQueues.{met_in_head, met_in_next, met_in_tail, node_fact, placed_then}
 
 module _ (M : Meaning) (lawful : Lawful M) (queues : HasQueuesOf M) (t : TxnState) (queue : ℕ) (within : queue < (shape_in t).queues)
     (cs : List Certificate) (going : IsGoing M t cs) where

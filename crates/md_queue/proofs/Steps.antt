@@ -1,23 +1,27 @@
 -- What each call leaves of a transaction, and how that adds up.
-use Rattle.std.proofs.Common.{◌≡◌, ◌≤◌, ◌+◌, ℕ, Option, Some, None, true, Result, Ok, Err, length, map, [], ◌∷◌, refl, sym, ap, ◌∙◌, subst, arith}
+use Rattle.std.proofs.Common.{◌≡◌, ◌≤◌, ◌+◌, ℕ, Option, Some, None, true, Result, Ok, Err, length, [], ◌∷◌, refl, sym, ap, ◌∙◌, subst, inl, inr, ⊎_elim, arith}
 use Rattle.std.proofs.lemmas.List.{length-append, length-map}
-use Rattle.md_history.specs.declared.stops.Limit.TheVariants.{Nodes, Reads, Worn, Writes}
+use Rattle.std.proofs.lemmas.List.Elements.{Contains-append_cases}
+use Rattle.std.specs.List.{Contains}
+use Rattle.md_history.specs.declared.stops.Limit.TheVariants.{Nodes}
 use Rattle.md_history.specs.declared.stops.Shown.{Shown}
 use Rattle.md_history.specs.declared.stops.Stop.{Stop}
 use Rattle.md_history.specs.declared.stops.Stop.TheVariants.{Conflict, Limit as Limited}
+use Rattle.md_machine.specs.declared.attempt.Read.{Read}
 use Rattle.md_machine.specs.Meaning.{Meaning}
+use Rattle.md_machine.proofs.lists.Rising.{here, in_cons, in_none}
 use Rattle.md_nbtc.specs.declared.seen.Kind.{Kind}
 use Rattle.md_nbtc.specs.declared.seen.Seen.{Seen}
 use Rattle.md_nbtc.specs.Calls.{AfterStop, Exchanges, GoesOn, Looked, NoteCase, Notes, exchange_case, full, new_slot, note_case, noted, recorded, unread}
 use Rattle.md_nbtc.specs.Going.{IsUnderWay}
 use Rattle.md_nbtc.specs.Seeing.{Looks}
 use Rattle.md_nbtc.specs.Sets.{with_new}
-use Rattle.md_nbtc.specs.State.{TxnState}
+use Rattle.md_nbtc.specs.State.{TxnState, seen_content}
 use Rattle.md_nbtc.proofs.preparing.Later.{later_over}
 use Rattle.md_nbtc.proofs.structures.Answering.{IsStopped, after_ok, exchange_refused, look_refused, note_refused}
 use Rattle.md_nbtc.proofs.structures.Exchanging.{HasExchanged, changed_own, changed_plainly, exchange_so, exchanged_so, installed}
 use Rattle.md_nbtc.proofs.structures.Noting.{HasNoted, has_noted}
-use Rattle.md_queue.specs.Operations.{GoesBy, Leaves, Refused, RefusedOtherwise, StaysStopped}
+use Rattle.md_queue.specs.Operations.{GoesBy, Leaves, RecordsAmong, RefusedOtherwise, StaysStopped}
 
 module _ (M : Meaning) where
   -- one after another
@@ -152,6 +156,23 @@ module _ (M : Meaning) where
           leaves = stepped_leaves 1 0 0 (ap (λ x. x.acts) noted.hand) (ap (λ x. x.operating) noted.hand) operates noted.few (let l = ap (λ x. length x) noted.slots in omega (arith, l)) (let l = ap (λ x. length x) noted.nodes in omega (arith, l));
           same_stop = noted_stop (note_case t word seen) word seen (after_ok (Unit {0}) t u t.stop tt (Notes (note_case t word seen) t u word seen (Ok tt)) is);
         }
+
+    -- it records that word alone
+    among_by : (c : NoteCase) (word : ℕ) (seen : Seen) → Notes c t u word seen (Ok tt) → RecordsAmong t u (word ∷ [])
+    among_by noted word seen is r among = inl (subst (λ (x : TxnState). Contains x.reads r) is.1 among)
+    among_by (recorded held) word seen is r among = ok_is_err _ is.0
+    among_by full word seen is r among = ok_is_err _ is.0
+    among_by unread word seen is r among =
+        let new : Read = record { word = word; content = seen_content seen; stood = true } in
+        ⊎_elim inl
+        (λ last. inr (⊎_elim
+        (λ same. subst (λ w. Contains (word ∷ []) w) (ap (λ (x : Read). x.word) same) (here word []))
+        (λ none. absurd (in_none r none))
+        (in_cons new [] r last)))
+        (Contains-append_cases t.reads (new ∷ []) r (subst (λ l. Contains l r) (ap (λ (x : TxnState). x.reads) is.1) among))
+
+    pub note_among : (word : ℕ) (seen : Seen) → AfterStop t.stop t u (let r : Result (Unit {0}) Stop = Ok tt in r) (Notes (note_case t word seen) t u word seen (Ok tt)) → RecordsAmong t u (word ∷ [])
+    note_among word seen is = among_by (note_case t word seen) word seen (after_ok (Unit {0}) t u t.stop tt (Notes (note_case t word seen) t u word seen (Ok tt)) is)
 
     note_no_nodes : (stop : Stop) (c : NoteCase) (word : ℕ) (seen : Seen) → Notes c t u word seen (Err stop) → stop ≡ Limited Nodes → ⊥
     note_no_nodes stop noted word seen is nodes = let e = is.0 in cc e

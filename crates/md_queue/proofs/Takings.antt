@@ -1,45 +1,44 @@
 -- The first value is taken: the tail doesn't stay behind, and the certificate.
-use Rattle.std.proofs.Common.{◌≡◌, ◌≢◌, ◌<◌, ◌^◌, ◌++◌, ℕ, true, false, List, [], ◌∷◌, Option, Some, None, refl, sym, ap, ◌∙◌, subst, inl, inr}
+use Rattle.std.proofs.Common.{◌≡◌, ◌≢◌, ◌<◌, ◌^◌, ◌++◌, ℕ, false, List, [], ◌∷◌, Some, None, refl, sym, ap, ◌∙◌, subst, inl}
 use Rattle.std.proofs.lemmas.List.Elements.{All-cons, All-head, All-nil}
 use Rattle.std.specs.List.{All}
-use Rattle.std.specs.Prelude.{get_or}
 use Rattle.md_words.specs.declared.shape.Shape.{Shape}
-use Rattle.md_words.specs.Layout.{IsNode, address}
+use Rattle.md_words.specs.Layout.{address}
 use Rattle.md_words.specs.Link.{linked_node}
 use Rattle.md_words.specs.Place.{node_next, queue_head, queue_tail}
 use Rattle.md_history.specs.declared.acts.Op.TheVariants.{Dequeue}
 use Rattle.md_history.specs.declared.acts.Reply.TheVariants.{Value}
 use Rattle.md_machine.specs.declared.certificate.Certificate.{Certificate}
 use Rattle.md_machine.specs.declared.certificate.Change.{Change}
-use Rattle.md_machine.specs.declared.certificate.Fact.{Fact}
 use Rattle.md_machine.specs.declared.certificate.NewNode.{NewNode}
 use Rattle.md_machine.specs.declared.certificate.TidyChange.{TidyChange}
 use Rattle.md_machine.specs.declared.certificate.WordValue.{WordValue}
-use Rattle.md_machine.specs.Certified.{after_wholes, first_content, is_written}
-use Rattle.md_machine.specs.LogicalHeap.{Holds, LogicalHeap}
+use Rattle.md_machine.specs.Certified.{after_wholes, is_written}
+use Rattle.md_machine.specs.LogicalHeap.{Holds}
 use Rattle.md_machine.specs.Meaning.{Lawful, Meaning}
 use Rattle.md_nbtc.specs.declared.seen.Kind.TheVariants.{Critical}
 use Rattle.md_nbtc.specs.declared.seen.Seen.{Seen}
-use Rattle.md_nbtc.specs.Calls.{GoesOn, MayAnswer, MayExchange}
+use Rattle.md_nbtc.specs.Calls.{GoesOn, MayExchange}
 use Rattle.md_nbtc.specs.Course.{IsStoredNode}
 use Rattle.md_nbtc.specs.Known.{IsLater, Known, found_by}
 use Rattle.md_nbtc.specs.Seeing.{Gave, KeepsGiven}
-use Rattle.md_nbtc.specs.State.{TxnState, seen_content, shape_in, writes_in}
+use Rattle.md_nbtc.specs.State.{TxnState, shape_in, writes_in}
 use Rattle.md_nbtc.specs.Tidied.{tidied}
-use Rattle.md_nbtc.proofs.preparing.Later.{known_later, later_over}
+use Rattle.md_nbtc.proofs.preparing.Later.{later_over}
 use Rattle.md_nbtc.proofs.structures.Exchanging.{HasExchanged, may_exchange_so}
 use Rattle.md_nbtc.proofs.structures.NodesKnown.{shape_later}
 use Rattle.md_nbtc.proofs.structures.Noting.{HasNoted}
 use Rattle.md_nbtc.proofs.structures.SeenValues.{seen_value}
 use Rattle.md_nbtc.proofs.structures.Tidying.{bare_holds}
 use Rattle.std.proofs.lemmas.Bool.{true≢false}
-use Rattle.md_queue_law.specs.Laws.Words.{head_not_next, head_not_tail, tail_not_next}
+use Rattle.md_queue_law.specs.Laws.Words.{head_not_next, head_not_tail}
 use Rattle.md_queue_law.specs.QueueCertificates.{CertifiesQueue, has_value, head_change, next_is}
 use Rattle.md_queue_law.specs.QueueMeaning.{HasQueuesOf}
 use Rattle.md_queue_law.specs.QueueShape.{link}
 use Rattle.md_queue.specs.Operations.{LeavesDummy, TailDiffers}
 use Rattle.md_queue.specs.Words.{head_at, next_at, tail_at}
-use Rattle.md_queue.specs.Working.{IsRecorded, IsWorking, KnowsOf, NamesNode, SeesAt, SeesFirst, SeesNext}
+use Rattle.md_queue.specs.Working.{IsRecorded, IsWorking, NamesNode, SeesAt, SeesFirst}
+use Rattle.md_queue.proofs.Among.{AnswersBy}
 use Rattle.md_queue.proofs.Changing.{changing, exchanged_first, exchanged_hand, may_end_changing}
 use Rattle.md_queue.proofs.Firsts.{value_known}
 use Rattle.md_queue.proofs.Looking.{head_counted, head_named, head_no_next, next_named}
@@ -145,7 +144,7 @@ module _ (M : Meaning) (lawful : Lawful M) (queues : HasQueuesOf M) (queue : ℕ
 
     -- and the operation is ended with the value
     pub may_answer_taken : (value : ℕ) → Known M t (λ v h. h.words.value_of_node (linked_node next.value) ≡ value) → (u : TxnState) → GoesOn M t u → head.count < 2 ^ 32 → (seen : Seen)
-        → HasExchanged M t (head_at t queue) head next.value Critical u seen → MayAnswer M u (Dequeue queue) (Value (Some value))
+        → HasExchanged M t (head_at t queue) head next.value Critical u seen → AnswersBy M u (Dequeue queue) (Value (Some value)) (next_at u (linked_node head.value) ∷ [])
     may_answer_taken value is u on fits seen ex =
         let cs = k.certificates in
         let ts = k.changes in
@@ -165,33 +164,38 @@ module _ (M : Meaning) (lawful : Lawful M) (queues : HasQueuesOf M) (queue : ℕ
         let facts = has_value queue first value ∷ [] in
         let c = changing (Dequeue queue) (Value (Some value)) ts words change [] facts in
         let known = value_known M lawful t queue cs ts w first value k.named.exists k.named.placed is in
+        let certifies : CertifiesQueue (shape_in u) c = (
+          subst (λ (s : Shape). queue < s.queues) (sym shape) w.within,
+          inl (record { dummy = dummy; first = first; value = value; reply = refl; recorded = refl; changes = refl; nodes = refl; facts = refl }),
+        ) in
         record {
-          earlier = cs;
-          going = going;
-          certificate = c;
-          of = (refl, refl);
-          may = may_end_changing M t cs ts w.tidied u on.later (Dequeue queue) (Value (Some value)) words change [] facts
-              (queues.certifies (shape_in u) c (
-                subst (λ (s : Shape). queue < s.queues) (sym shape) w.within,
-                inl (record { dummy = dummy; first = first; value = value; reply = refl; recorded = refl; changes = refl; nodes = refl; facts = refl }),
-              ))
-              (ap (λ x. x.changes) hand ∙ ap (λ (d : Change). t.hand.changes ++ d ∷ [])
-              (ap (λ a. record { word = a; old = head.value; new = next.value }) at_u
-              ∙ ap (λ v. record { word = head_at u queue; old = v; new = next.value }) of_head.is
-              ∙ ap (λ v. record { word = head_at u queue; old = link dummy; new = v }) k.named.is))
-              (sym (ap (λ x. x.stored) hand ∙ w.tidied.stored))
-              (All-nil (IsStoredNode u))
-              (All-nil (λ (n : NewNode). is_written (writes_in u) (address (shape_in u) (node_next n.node)) ≡ false))
-              (λ i d below. (one recorded i d below).found)
-              (λ v over prepared h of i d below. (one recorded i d below).value v over prepared h of)
-              (λ v over prepared h of. subst (λ a. (tidied (found_by v h) cs ts).words.value a ≡ link dummy) at_u
-              (seen_value M lawful t cs w.going ts w.tidied (head_at t queue) head k.head_sees.gave k.head_sees.there fits u on.later
-              (exchanged_first M t u (head_at t queue) head next.value seen ex going.prepared k.head_sees.gave) v over prepared h of ∙ of_head.is))
-              (λ v over prepared h of. All-cons (Holds (tidied h cs ts)) (has_value queue first value) []
-              (bare_holds (after_wholes h cs) ts w.tidied.bare (has_value queue first value) refl
-              (All-head (Holds (after_wholes h cs)) (has_value queue first value) [] (known v (later_over t u v on.later over) prepared h of)))
-              (All-nil (Holds (tidied h cs ts))))
-              (λ v over prepared h of. All-nil (λ (n : NewNode). (tidied h cs ts).placed n.node ≡ None));
+          may = record {
+            earlier = cs;
+            going = going;
+            certificate = c;
+            of = (refl, refl);
+            may = may_end_changing M t cs ts w.tidied u on.later (Dequeue queue) (Value (Some value)) words change [] facts
+                (queues.certifies (shape_in u) c certifies)
+                (ap (λ x. x.changes) hand ∙ ap (λ (d : Change). t.hand.changes ++ d ∷ [])
+                (ap (λ a. record { word = a; old = head.value; new = next.value }) at_u
+                ∙ ap (λ v. record { word = head_at u queue; old = v; new = next.value }) of_head.is
+                ∙ ap (λ v. record { word = head_at u queue; old = link dummy; new = v }) k.named.is))
+                (sym (ap (λ x. x.stored) hand ∙ w.tidied.stored))
+                (All-nil (IsStoredNode u))
+                (All-nil (λ (n : NewNode). is_written (writes_in u) (address (shape_in u) (node_next n.node)) ≡ false))
+                (λ i d below. (one recorded i d below).found)
+                (λ v over prepared h of i d below. (one recorded i d below).value v over prepared h of)
+                (λ v over prepared h of. subst (λ a. (tidied (found_by v h) cs ts).words.value a ≡ link dummy) at_u
+                (seen_value M lawful t cs w.going ts w.tidied (head_at t queue) head k.head_sees.gave k.head_sees.there fits u on.later
+                (exchanged_first M t u (head_at t queue) head next.value seen ex going.prepared k.head_sees.gave) v over prepared h of ∙ of_head.is))
+                (λ v over prepared h of. All-cons (Holds (tidied h cs ts)) (has_value queue first value) []
+                (bare_holds (after_wholes h cs) ts w.tidied.bare (has_value queue first value) refl
+                (All-head (Holds (after_wholes h cs)) (has_value queue first value) [] (known v (later_over t u v on.later over) prepared h of)))
+                (All-nil (Holds (tidied h cs ts))))
+                (λ v over prepared h of. All-nil (λ (n : NewNode). (tidied h cs ts).placed n.node ≡ None));
+          };
+          row = certifies;
+          are = refl;
         }
       where
         one : {r : WordValue} → IsRecorded M u k.certificates k.changes r → All (IsRecorded M u k.certificates k.changes) (r ∷ [])

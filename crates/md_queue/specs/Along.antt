@@ -17,14 +17,13 @@ use Rattle.md_queue.specs.Working.{IsRecorded, IsWorking, KnowsOf}
 abbrev pub seen_as : Passed → Seen
 seen_as p = record { node = p.node; value = p.value }
 
-module _ (M : Meaning) (t : TxnState) (queue node : ℕ) (seen : List Seen) where
+module _ (M : Meaning) (t : TxnState) (queue dummy node : ℕ) (seen : List Seen) where
   -- a look came from the head's node, the dummy, over these nodes to this one: the head and the next words on the way
   -- are recorded, and the values are known
   pub record HasLooked : Type 0 where
     pub certificates : List Certificate
     pub changes : List TidyChange
     pub working : IsWorking M t queue certificates changes
-    pub dummy : ℕ
     pub last : node ≡ last_seen dummy seen
     pub exists : IsNode (shape_in t) node
     pub placed : KnowsOf M t certificates queue node
@@ -38,6 +37,6 @@ module _ (M : Meaning) (t : TxnState) (queue node : ℕ) (seen : List Seen) wher
     pub end_noted : IsRecorded M t looked.certificates looked.changes (next_is (shape_in t) node 0)
 
 -- the look went on to one more node, or ended
-abbrev pub LooksFurther : Meaning → TxnState → (queue node : ℕ) → List Seen → Option Passed → Type 0
-LooksFurther M t queue node seen (Some p) = HasLooked M t queue p.node (seen ++ seen_as p ∷ [])
-LooksFurther M t queue node seen None = HasLookedToEnd M t queue node seen
+abbrev pub LooksFurther : Meaning → TxnState → (queue dummy node : ℕ) → List Seen → Option Passed → Type 0
+LooksFurther M t queue dummy node seen (Some p) = HasLooked M t queue dummy p.node (seen ++ seen_as p ∷ [])
+LooksFurther M t queue dummy node seen None = HasLookedToEnd M t queue dummy node seen

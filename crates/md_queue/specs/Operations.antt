@@ -1,10 +1,11 @@
 -- What the operations of a queue ask, and what they leave.
-use Rattle.std.specs.Prelude.{◌≡◌, ◌≢◌, ◌≤◌, ◌<◌, ◌+◌, ℕ, true, List, [], ◌∷◌, ◌++◌, Contains, Option, Some, None, Result, Err, length}
+use Rattle.std.specs.Prelude.{◌≡◌, ◌≢◌, ◌≤◌, ◌<◌, ◌+◌, ℕ, true, List, [], ◌∷◌, ◌++◌, ◌⊎◌, map, Contains, Option, Some, None, Result, Err, length}
 use Rattle.md_history.specs.declared.acts.Op.{Op}
 use Rattle.md_history.specs.declared.acts.Reply.{Reply}
 use Rattle.md_history.specs.declared.stops.Limit.TheVariants.{Nodes}
 use Rattle.md_history.specs.declared.stops.Stop.{Stop}
 use Rattle.md_history.specs.declared.stops.Stop.TheVariants.{Limit as Limited}
+use Rattle.md_machine.specs.declared.attempt.Read.{Read}
 use Rattle.md_machine.specs.declared.certificate.Change.{Change}
 use Rattle.md_machine.specs.Meaning.{Meaning}
 use Rattle.md_nbtc.specs.declared.seen.Cleanup.TheVariants.{MoveTail}
@@ -15,7 +16,7 @@ use Rattle.md_nbtc.specs.Going.{IsUnderWay}
 use Rattle.md_nbtc.specs.Known.{IsLater}
 use Rattle.md_nbtc.specs.Seeing.{Gave}
 use Rattle.md_nbtc.specs.State.{OwnNode, TxnState, shape_in}
-use Rattle.md_queue_law.specs.QueueCertificates.{head_change}
+use Rattle.md_queue_law.specs.QueueCertificates.{CertifiesOp, head_change}
 use Rattle.md_queue_law.specs.QueueShape.{link}
 use Rattle.md_queue.specs.Words.{next_at, tail_at}
 
@@ -57,10 +58,17 @@ pub record RefusedOtherwise (M : Meaning) (t u : TxnState) (reads writes : ℕ) 
   pub refused : Refused M t u reads writes 0 s
   pub no_nodes : s ≡ Limited Nodes → t.stop ≡ Some s
 
--- an operation went on so, and may be ended with the reply
+-- each word that is recorded more is one of these
+abbrev pub RecordsAmong : (t u : TxnState) → (words : List ℕ) → Type 0
+RecordsAmong t u words = (r : Read) → Contains u.reads r → Contains t.reads r ⊎ Contains words r.word
+
+-- an operation went on so, and may be ended with the reply, by a certificate of its row in the table of queues. Each word
+-- that is recorded more is one that this certificate records
 pub record Answered (M : Meaning) (t u : TxnState) (op : Op) (reply : Reply) (reads writes nodes : ℕ) : Type 0 where
   pub goes : GoesBy M t u reads writes nodes
   pub may : MayAnswer M u op reply
+  pub row : CertifiesOp (shape_in u) op may.certificate
+  pub recorded : RecordsAmong t u (map (λ r. r.word) may.certificate.recorded)
 
 -- how many words a dequeue records more, and writes more, by what it answers
 abbrev pub dequeue_reads : Option ℕ → ℕ

@@ -1,5 +1,5 @@
 -- The words of a queue, as a transaction names them.
-use Rattle.std.specs.Prelude.{ℕ, Bool, if◌then◌else◌}
+use Rattle.std.specs.Prelude.{ℕ, if◌then◌else◌}
 use Rattle.md_words.specs.Layout.{address}
 use Rattle.md_words.specs.Place.{node_next, queue_head, queue_tail}
 use Rattle.md_nbtc.specs.declared.seen.Kind.{Kind}

@@ -1,5 +1,5 @@
 -- What a transaction sees of a queue while one of its operations is under way.
-use Rattle.std.specs.Prelude.{◌≡◌, ◌≢◌, ◌≤◌, ◌<◌, ◌⊎◌, ℕ, true, false, List, Contains, is_some, if◌then◌else◌}
+use Rattle.std.specs.Prelude.{◌≡◌, ◌≢◌, ◌≤◌, ◌<◌, ◌⊎◌, ℕ, true, false, List, [], ◌∷◌, Contains, is_some, if◌then◌else◌}
 use Rattle.md_words.specs.Layout.{IsNode}
 use Rattle.md_words.specs.Link.{linked_node}
 use Rattle.md_machine.specs.declared.certificate.Certificate.{Certificate}
@@ -54,6 +54,10 @@ module _ (M : Meaning) (t : TxnState) (cs : List Certificate) (queue : ℕ) wher
 pub record IsRecorded (M : Meaning) (t : TxnState) (cs : List Certificate) (ts : List TidyChange) (r : WordValue) : Type 0 where
   pub found : is_some (first_content t.reads (writes_in t) r.word) ≡ true
   pub value : Known M t (λ u h. (tidied (found_by u h) cs ts).words.value r.word ≡ r.value)
+
+-- the words that show the first value: the head, and the next word of its node
+abbrev pub first_words : TxnState → (queue : ℕ) → (head : Seen) → List ℕ
+first_words t queue head = head_at t queue ∷ next_at t (linked_node head.value) ∷ []
 
 module _ (M : Meaning) (t : TxnState) (queue : ℕ) (head next : Seen) where
   -- what was seen in the head, and in the next word of its node

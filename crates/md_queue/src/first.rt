@@ -5,9 +5,9 @@ ghost use Rattle.md_history.specs.declared.acts.Op.TheVariants.{Dequeue, Front};
 ghost use Rattle.md_history.specs.declared.acts.Reply.TheVariants.{Value};
 ghost use Rattle.md_nbtc.specs.State.{state};
 ghost use Rattle.md_queue.specs.Operations.{Answered, GoesBy, IsBegun, RefusedOtherwise};
-ghost use Rattle.md_queue.specs.Operations.{LeavesDummy, StaysStopped, TailDiffers};
+ghost use Rattle.md_queue.specs.Operations.{LeavesDummy, RecordsAmong, StaysStopped, TailDiffers};
 ghost use Rattle.md_queue.specs.Operations.{dequeue_reads, dequeue_writes};
-ghost use Rattle.md_queue.specs.Working.{NotedFirst, SeesFirst};
+ghost use Rattle.md_queue.specs.Working.{NotedFirst, SeesFirst, first_words};
 
 use crate::words::{load_next, move_tail, note_next, value_of};
 use md_history::Stop;
@@ -41,6 +41,8 @@ fn note_first<'a, T: HasQueues>(tx: &mut Txn<'a, T>, queue: u32, first: First) -
     requires sees { SeesFirst T.meaning (state tx.old) queue first.head first.next }
     ensures pass { tx.new.pass.ghost_name ≡ tx.old.pass.ghost_name }
     ensures goes { IfOk result (λ done. GoesBy T.meaning (state tx.old) (state tx.new) 2 0 0) }
+    ensures among { IfOk result (λ done. RecordsAmong (state tx.old) (state tx.new)
+        (first_words (state tx.old) queue first.head)) }
     ensures noted { IfOk result (λ done. NotedFirst T.meaning (state tx.new) queue first.head
         first.next) }
     ensures stop { IfErr result (RefusedOtherwise T.meaning (state tx.old) (state tx.new) 2 0) }
@@ -138,8 +140,7 @@ fn take_first<'a, T: HasQueues>(tx: &mut Txn<'a, T>, queue: u32, first: First) -
 /// it read the next word, nor at whether the tail is where the head is before it finds the queue
 /// empty: the words that it rests on are recorded or changed, and the transaction commits only if
 /// they still stand. A lost exchange isn't tried again, since the transaction then stops. And the
-/// node that the head leaves isn't freed: it stays taken until the field is renewed, so that no
-/// count has to tell one use of it from another.
+/// node that the head leaves isn't freed: it stays taken until the field is renewed.
 pub fn dequeue<'a, T: HasQueues>(tx: &mut Txn<'a, T>, queue: u32) -> Result<Option<u64>, Stop>
     requires begun { IsBegun T.meaning (state tx.old) queue }
     ensures pass { tx.new.pass.ghost_name ≡ tx.old.pass.ghost_name }

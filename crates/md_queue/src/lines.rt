@@ -1,6 +1,6 @@
 //! The first values of a queue.
 
-ghost use Rattle.std.specs.Prelude.{◌≡◌, ◌+◌, [], ℕ, List, IfOk, IfErr};
+ghost use Rattle.std.specs.Prelude.{◌≡◌, ◌+◌, [], ◌∷◌, ℕ, List, IfOk, IfErr};
 ghost use Rattle.md_history.specs.declared.acts.Op.TheVariants.{Line as LineOf};
 ghost use Rattle.md_history.specs.declared.acts.Reply.TheVariants.{Line as TheLine};
 ghost use Rattle.md_history.specs.Calls.{IsLineLength};
@@ -8,7 +8,8 @@ ghost use Rattle.md_nbtc.specs.State.{state};
 ghost use Rattle.md_queue_law.specs.QueueCertificates.{Seen};
 ghost use Rattle.md_queue.specs.Along.{HasLooked, LooksFurther};
 ghost use Rattle.md_queue.specs.Operations.{Answered, GoesBy, IsBegun, RefusedOtherwise};
-ghost use Rattle.md_queue.specs.Operations.{StaysStopped};
+ghost use Rattle.md_queue.specs.Operations.{RecordsAmong, StaysStopped};
+ghost use Rattle.md_queue.specs.Words.{head_at, next_at};
 
 use crate::words::{load_next, note_next, value_of};
 use md_history::{Line, MAX_LINE, Stop};
@@ -27,7 +28,9 @@ fn pass_head<'a, T: HasQueues>(tx: &mut Txn<'a, T>, queue: u32) -> Result<u32, S
     requires begun { IsBegun T.meaning (state tx.old) queue }
     ensures pass { tx.new.pass.ghost_name ≡ tx.old.pass.ghost_name }
     ensures goes { IfOk result (λ node. GoesBy T.meaning (state tx.old) (state tx.new) 1 0 0) }
-    ensures looked { IfOk result (λ node. HasLooked T.meaning (state tx.new) queue node []) }
+    ensures among { IfOk result (λ node. RecordsAmong (state tx.old) (state tx.new)
+        (head_at (state tx.old) queue ∷ [])) }
+    ensures looked { IfOk result (λ node. HasLooked T.meaning (state tx.new) queue node node []) }
     ensures stop { IfErr result (RefusedOtherwise T.meaning (state tx.old) (state tx.new) 1 0) }
     ensures stopped { StaysStopped (state tx.old) (state tx.new) result }
 {
@@ -39,13 +42,15 @@ fn pass_head<'a, T: HasQueues>(tx: &mut Txn<'a, T>, queue: u32) -> Result<u32, S
 
 // Looks at the next word of a node, and records it. The node that it names with its value, if any.
 fn pass_next<'a, T: HasQueues>(tx: &mut Txn<'a, T>, node: u32) -> Result<Option<Passed>, Stop>
-    requires looked { (queue : ℕ) × (seen : List Seen)
-        × HasLooked T.meaning (state tx.old) queue node seen }
+    requires looked { (queue : ℕ) × (dummy : ℕ) × (seen : List Seen)
+        × HasLooked T.meaning (state tx.old) queue dummy node seen }
     ensures pass { tx.new.pass.ghost_name ≡ tx.old.pass.ghost_name }
     ensures goes { IfOk result (λ passed. GoesBy T.meaning (state tx.old) (state tx.new) 1 0 0) }
-    ensures further { IfOk result (λ passed. (queue : ℕ) (seen : List Seen)
-        → HasLooked T.meaning (state tx.old) queue node seen
-        → LooksFurther T.meaning (state tx.new) queue node seen passed) }
+    ensures among { IfOk result (λ passed. RecordsAmong (state tx.old) (state tx.new)
+        (next_at (state tx.old) node ∷ [])) }
+    ensures further { IfOk result (λ passed. (queue dummy : ℕ) (seen : List Seen)
+        → HasLooked T.meaning (state tx.old) queue dummy node seen
+        → LooksFurther T.meaning (state tx.new) queue dummy node seen passed) }
     ensures stop { IfErr result (RefusedOtherwise T.meaning (state tx.old) (state tx.new) 1 0) }
 {
     let next = load_next(tx, node)?;

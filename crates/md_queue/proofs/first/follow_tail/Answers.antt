@@ -1,4 +1,4 @@
-use Rattle.std.proofs.Common.{◌≡◌, ap, sym, subst, ◌∙◌, arith, rules}
+use Rattle.std.proofs.Common.{ap, sym, subst, ◌∙◌, arith, rules}
 use Rattle.md_words.specs.Layout.{address}
 use Rattle.md_words.specs.Place.{queue_tail}
 use Rattle.md_words.specs.PlaceAt.{IsCounted}

@@ -1,9 +1,17 @@
-use Rattle.std.proofs.Common.{◌≡◌, ◌/◌, ap, sym, subst, ◌∙◌, arith}
+use Rattle.std.proofs.Common.{◌≡◌, [], ◌∷◌, sym, subst, arith}
+use Rattle.md_words.specs.declared.shape.Shape.{Shape}
+use Rattle.md_words.specs.Layout.{address}
+use Rattle.md_words.specs.Link.{linked_node}
+use Rattle.md_words.specs.Place.{node_next, queue_head}
 use Rattle.md_nbtc.specs.Known.{Known}
 use Rattle.md_nbtc.specs.State.{state}
+use Rattle.md_nbtc.proofs.structures.NodesKnown.{shape_later}
 use Rattle.md_queue.specs.Nodes.{IsReadable}
+use Rattle.md_queue.specs.Operations.{RecordsAmong}
+use Rattle.md_queue.specs.Working.{first_words}
+use Rattle.md_queue.proofs.Among.{among_to, answered}
 use Rattle.md_queue.proofs.Data.{half_is}
-use Rattle.md_queue.proofs.Firsts.{front_none, front_some}
+use Rattle.md_queue.proofs.Firsts.{first_among, front_none, front_some}
 use Rattle.md_queue.proofs.Looking.{node_readable}
 use Rattle.md_queue.proofs.Steps.{goes_then, pass_goes, unstopped}
 use Rattle.md_queue.proofs.first.front.Goals as goal
@@ -14,10 +22,11 @@ returns-then-first-eq0-clause-answer g c =
     let s = state c.args.tx.now in
     let t = state c.load_first.new.tx in
     let u = state c.note_first.new.tx in
-    record {
-      goes = goes_then M s t u 0 0 0 2 0 0 2 0 0 c.in_ok-first.ensures.goes (λ _. c.in_ok-note_first.ensures.goes) (omega arith) (omega arith) (omega arith);
-      may = front_none M g.T.Theory.lawful g.met.T.HasQueues.has_queues u c.args.queue c.in_ok-first.first.head c.in_ok-first.first.next c.in_ok-note_first.ensures.noted c.if-first-eq0.true;
-    }
+    let head = c.in_ok-first.first.head in
+    let goes = goes_then M s t u 0 0 0 2 0 0 2 0 0 c.in_ok-first.ensures.goes (λ _. c.in_ok-note_first.ensures.goes) (omega arith) (omega arith) (omega arith) in
+    answered (first_words u c.args.queue head) goes
+    (front_none M g.T.Theory.lawful g.met.T.HasQueues.has_queues u c.args.queue head c.in_ok-first.first.next c.in_ok-note_first.ensures.noted c.if-first-eq0.true)
+    (first_among M s t u c.args.queue head c.in_ok-first.ensures.goes c.in_ok-note_first.ensures.goes.leaves.later c.in_ok-note_first.ensures.among)
 
 pub value_of-requires : goal.value_of-requires
 value_of-requires g c =
@@ -42,13 +51,15 @@ returns-clause-answer g c =
     let v = state c.value_of.new.tx in
     let n = c.in_ok-note_first.ensures.noted in
     let next = c.in_ok-first.first.next in
-    record {
-      goes = goes_then M s u v 2 0 0 0 0 0 2 0 0
-          (goes_then M s t u 0 0 0 2 0 0 2 0 0 c.in_ok-first.ensures.goes (λ _. c.in_ok-note_first.ensures.goes) (omega arith) (omega arith) (omega arith))
-          (pass_goes M u v (n.certificates, n.working.going) c.value_of.ensures.on c.value_of.ensures.same) (omega arith) (omega arith) (omega arith);
-      may = front_some M g.T.Theory.lawful g.met.T.HasQueues.has_queues u v c.args.queue c.in_ok-first.first.head next n c.if-first-eq0.false c.value_of.ensures.on c.value_of.ensures.same
-          c.value_of.result (subst (λ x. Known M v (λ w h. h.words.value_of_node x ≡ c.value_of.result)) (half_is next.value) c.value_of.ensures.known);
-    }
+    let head = c.in_ok-first.first.head in
+    let noted = goes_then M s t u 0 0 0 2 0 0 2 0 0 c.in_ok-first.ensures.goes (λ _. c.in_ok-note_first.ensures.goes) (omega arith) (omega arith) (omega arith) in
+    let read = pass_goes M u v (n.certificates, n.working.going) c.value_of.ensures.on c.value_of.ensures.same noted.leaves.operates in
+    let among = first_among M s t u c.args.queue head c.in_ok-first.ensures.goes c.in_ok-note_first.ensures.goes.leaves.later c.in_ok-note_first.ensures.among in
+    answered (first_words v c.args.queue head) (goes_then M s u v 2 0 0 0 0 0 2 0 0 noted (λ _. read) (omega arith) (omega arith) (omega arith))
+    (front_some M g.T.Theory.lawful g.met.T.HasQueues.has_queues u v c.args.queue head next n c.if-first-eq0.false c.value_of.ensures.on c.value_of.ensures.same
+    c.value_of.result (subst (λ x. Known M v (λ w h. h.words.value_of_node x ≡ c.value_of.result)) (half_is next.value) c.value_of.ensures.known))
+    (subst (λ (x : Shape). RecordsAmong s v (address x (queue_head c.args.queue) ∷ address x (node_next (linked_node head.value)) ∷ [])) (sym (shape_later u v read.leaves.later))
+    (among_to M s u v 0 0 (first_words u c.args.queue head) among read))
 
 pub returns-then-first-eq0-clause-stopped : goal.returns-then-first-eq0-clause-stopped
 returns-then-first-eq0-clause-stopped g c s is = unstopped (state c.args.tx.now) (state c.load_first.new.tx) c.in_ok-first.first c.in_ok-first.ensures.stopped s is

@@ -1,15 +1,18 @@
-use Rattle.std.proofs.Common.{◌≡◌, ◌/◌, ap, sym, subst, ◌∙◌, arith, rules}
+use Rattle.std.proofs.Common.{◌/◌, [], ◌∷◌, ap, sym, subst, ◌∙◌, arith, rules}
 use Rattle.md_words.specs.Layout.{IsNode, address}
-use Rattle.md_words.specs.Place.{queue_head}
+use Rattle.md_words.specs.Link.{linked_node}
+use Rattle.md_words.specs.Place.{node_next, queue_head}
 use Rattle.md_nbtc.specs.Going.{IsFoundThere}
 use Rattle.md_nbtc.specs.Seeing.{Gave}
 use Rattle.md_nbtc.specs.State.{shape_in, state}
+use Rattle.md_nbtc.proofs.structures.NodesKnown.{shape_later}
 use Rattle.md_nbtc.proofs.structures.Noting.{HasNoted}
-use Rattle.md_queue.specs.Operations.{RefusedOtherwise}
-use Rattle.md_queue.specs.Words.{next_at}
+use Rattle.md_queue.specs.Operations.{RecordsAmong, RefusedOtherwise}
+use Rattle.md_queue.specs.Words.{head_at, next_at}
+use Rattle.md_queue.proofs.Among.{among_then}
 use Rattle.md_queue.proofs.Data.{half_is}
 use Rattle.md_queue.proofs.Firsts.{noted_first, noted_head}
-use Rattle.md_queue.proofs.Steps.{goes_then, note_goes, note_ok, note_stops, refused_then, refused_up}
+use Rattle.md_queue.proofs.Steps.{goes_then, note_among, note_goes, note_ok, note_stops, refused_then, refused_up}
 use Rattle.md_queue.proofs.first.note_first.Goals as goal
 
 pub note-requires-clause-found : goal.note-requires-clause-found
@@ -95,3 +98,19 @@ returns-clause-noted g c =
     let noted_next = note_ok M u v (s.certificates, n.working.going) c.in_ok-note_next.ensures.on (next_at u (first.head.value / 2)) first.next c.in_ok-note_next.ensures.noted in
     noted_first M g.T.Theory.lawful g.met.T.HasQueues.has_queues t c.args.queue first.head first.next s u on (omega arith) n v c.in_ok-note_next.ensures.on (omega arith)
     (subst (λ x. HasNoted u v (next_at u x) first.next) (half_is first.head.value) noted_next)
+
+pub returns-clause-among : goal.returns-clause-among
+returns-clause-among g c =
+    let M = g.T.Theory.meaning in
+    let t = state c.args.tx.now in
+    let u = state c.note.new.self in
+    let v = state c.note_next.new.tx in
+    let s = c.requires.sees in
+    let first = c.args.first in
+    let on = c.in_ok-note.ensures.on in
+    let dummy = linked_node first.head.value in
+    let head_noted = note_among M t u (s.certificates, s.working.going) on c.queue_head-head_word.result first.head c.in_ok-note.ensures.noted in
+    let next_noted = note_among M u v (s.certificates, on.going s.certificates s.working.going) c.in_ok-note_next.ensures.on (next_at u (first.head.value / 2)) first.next c.in_ok-note_next.ensures.noted in
+    among_then t u v (head_at t c.args.queue ∷ []) (next_at t dummy ∷ [])
+    (subst (λ w. RecordsAmong t u (w ∷ [])) (c.queue_head-head_word.ensures.place ∙ ap (λ x. address x (queue_head c.args.queue)) c.shape.ensures) head_noted)
+    (subst (λ w. RecordsAmong u v (w ∷ [])) (ap (λ n. next_at u n) (half_is first.head.value) ∙ ap (λ x. address x (node_next dummy)) (shape_later t u on.later)) next_noted)

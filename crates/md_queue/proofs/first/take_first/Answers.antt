@@ -1,7 +1,7 @@
-use Rattle.std.proofs.Common.{◌≡◌, ◌/◌, ap, sym, subst, ◌∙◌, arith, rules}
+use Rattle.std.proofs.Common.{◌≡◌, ◌/◌, ◌<◌, ◌^◌, [], ◌∷◌, ap, sym, subst, ◌∙◌, arith, rules}
 use Rattle.md_words.specs.Layout.{IsNode, address}
 use Rattle.md_words.specs.Link.{linked_node}
-use Rattle.md_words.specs.Place.{queue_head}
+use Rattle.md_words.specs.Place.{node_next, queue_head}
 use Rattle.md_nbtc.specs.declared.seen.Kind.TheVariants.{Critical}
 use Rattle.md_nbtc.specs.Calls.{MayExchange}
 use Rattle.md_nbtc.specs.Going.{IsFoundThere, IsUnderWay}
@@ -9,15 +9,17 @@ use Rattle.md_nbtc.specs.Known.{Known}
 use Rattle.md_nbtc.specs.Seeing.{Gave, KeepsGiven}
 use Rattle.md_nbtc.specs.State.{shape_in, state}
 use Rattle.md_nbtc.proofs.structures.Exchanging.{HasExchanged}
+use Rattle.md_nbtc.proofs.structures.NodesKnown.{shape_later}
 use Rattle.md_nbtc.proofs.structures.Noting.{HasNoted}
 use Rattle.md_queue_law.specs.Laws.Words.{head_not_tail, tail_not_next}
 use Rattle.md_queue.specs.Nodes.{IsReadable}
-use Rattle.md_queue.specs.Operations.{RefusedOtherwise}
+use Rattle.md_queue.specs.Operations.{RecordsAmong, RefusedOtherwise}
 use Rattle.md_queue.specs.Words.{head_at, next_at}
+use Rattle.md_queue.proofs.Among.{among_to, answered}
 use Rattle.md_queue.proofs.Data.{half_is}
 use Rattle.md_queue.proofs.Looking.{node_readable}
-use Rattle.md_queue.proofs.Steps.{exchange_goes, exchange_ok, exchange_stops, goes_then, note_goes, note_ok, note_stops, pass_goes, refused_then, refused_up}
-use Rattle.md_queue.proofs.Takings.{IsTaking, differs_on, leaves_dummy, may_answer_taken, may_take, taking_noted, taking_on}
+use Rattle.md_queue.proofs.Steps.{exchange_goes, exchange_ok, exchange_stops, goes_then, note_among, note_goes, note_ok, note_stops, pass_goes, refused_then, refused_up}
+use Rattle.md_queue.proofs.Takings.{differs_on, leaves_dummy, may_answer_taken, may_take, taking_noted, taking_on}
 use Rattle.md_queue.proofs.first.take_first.Goals as goal
 
 pub note_next-requires : goal.note_next-requires
@@ -121,6 +123,8 @@ returns-clause-answer g c =
     let x = state c.exchange.new.self in
     let s = c.requires.sees in
     let first = c.args.first in
+    let fits : first.head.count < 2 ^ 32 = omega arith in
+    let next_fits : first.next.count < 2 ^ 32 = omega arith in
     let on = c.in_ok-note_next.ensures.on in
     let going = on.going s.certificates s.working.going in
     let over = c.value_of-value.ensures.on in
@@ -129,20 +133,23 @@ returns-clause-answer g c =
     let seen = c.in_ok-exchange.field-0 in
     let half = half_is first.head.value in
     let noted = note_ok M t u (s.certificates, s.working.going) on (next_at t (first.head.value / 2)) first.next c.in_ok-note_next.ensures.noted in
-    let k = taking_noted M g.T.Theory.lawful g.met.T.HasQueues.has_queues c.args.queue first.head first.next c.requires.some t u s on (omega arith)
+    let k = taking_noted M g.T.Theory.lawful g.met.T.HasQueues.has_queues c.args.queue first.head first.next c.requires.some t u s on next_fits
     (subst (λ x. HasNoted t u (next_at t x) first.next) half noted) (subst (λ x. KeepsGiven t u (next_at t x)) half c.in_ok-note_next.ensures.given) in
     let l = taking_on M g.T.Theory.lawful g.met.T.HasQueues.has_queues c.args.queue first.head first.next c.requires.some u v k over c.value_of-value.ensures.same c.value_of-value.ensures.given in
     let place = c.queue_head-head_word.ensures.place ∙ ap (λ x. address x (queue_head c.args.queue)) c.shape.ensures in
     let ex = exchange_ok M v x under last c.queue_head-head_word.result first.head first.next.value Critical seen c.in_ok-exchange.ensures.exchanged in
-    let goes = goes_then M t u v 1 0 0 0 0 0 1 0 0
-    (note_goes M t u (s.certificates, s.working.going) on (next_at t (first.head.value / 2)) first.next c.in_ok-note_next.ensures.noted s.working.operates)
-    (pass_goes M u v (s.certificates, going) over c.value_of-value.ensures.same) (omega arith) (omega arith) (omega arith) in
-    record {
-      goes = goes_then M t v x 1 0 0 0 1 0 1 1 0 goes (exchange_goes M v x under last c.queue_head-head_word.result first.head first.next.value Critical seen ex) (omega arith) (omega arith) (omega arith);
-      may = may_answer_taken M g.T.Theory.lawful g.met.T.HasQueues.has_queues c.args.queue first.head first.next c.requires.some v l c.value_of-value.result
-          (subst (λ y. Known M v (λ w h. h.words.value_of_node y ≡ c.value_of-value.result)) (half_is first.next.value) c.value_of-value.ensures.known) x last (omega arith) seen
-          (subst (λ w. HasExchanged M v w first.head first.next.value Critical x seen) place ex);
-    }
+    let kept = note_goes M t u (s.certificates, s.working.going) on (next_at t (first.head.value / 2)) first.next c.in_ok-note_next.ensures.noted s.working.operates in
+    let read = pass_goes M u v (s.certificates, going) over c.value_of-value.ensures.same kept.leaves.operates in
+    let changed = exchange_goes M v x under last c.queue_head-head_word.result first.head first.next.value Critical seen ex read.leaves.operates in
+    let goes = goes_then M t v x 1 0 0 0 1 0 1 1 0 (goes_then M t u v 1 0 0 0 0 0 1 0 0 kept (λ _. read) (omega arith) (omega arith) (omega arith)) (λ _. changed) (omega arith) (omega arith) (omega arith) in
+    let words = next_at t (first.head.value / 2) ∷ [] in
+    let among = among_to M t v x 1 0 words
+    (among_to M t u v 0 0 words (note_among M t u (s.certificates, s.working.going) on (next_at t (first.head.value / 2)) first.next c.in_ok-note_next.ensures.noted) read) changed in
+    answered (next_at x (linked_node first.head.value) ∷ []) goes
+    (may_answer_taken M g.T.Theory.lawful g.met.T.HasQueues.has_queues c.args.queue first.head first.next c.requires.some v l c.value_of-value.result
+    (subst (λ y. Known M v (λ w h. h.words.value_of_node y ≡ c.value_of-value.result)) (half_is first.next.value) c.value_of-value.ensures.known) x last fits seen
+    (subst (λ w. HasExchanged M v w first.head first.next.value Critical x seen) place ex))
+    (subst (λ w. RecordsAmong t x (w ∷ [])) (ap (λ n. next_at t n) half ∙ ap (λ y. address y (node_next (linked_node first.head.value))) (sym (shape_later t x goes.leaves.later))) among)
 
 pub returns-clause-tail : goal.returns-clause-tail
 returns-clause-tail g c =

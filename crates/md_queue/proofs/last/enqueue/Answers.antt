@@ -1,4 +1,4 @@
-use Rattle.std.proofs.Common.{◌≡◌, ◌<◌, ◌+◌, ◌*◌, ◌/◌, ◌^◌, ◌++◌, ◌∷◌, [], ℕ, Ok, false, sym, ap, subst, ◌∙◌, arith, rules}
+use Rattle.std.proofs.Common.{◌≡◌, ◌+◌, ◌*◌, ◌/◌, ◌++◌, ◌∷◌, [], ℕ, Ok, false, sym, ap, subst, ◌∙◌, arith, rules}
 use Rattle.md_words.specs.declared.shape.Shape.{Shape}
 use Rattle.md_words.specs.Layout.{IsNode, address}
 use Rattle.md_words.specs.Link.{linked_node}
@@ -21,6 +21,7 @@ use Rattle.md_queue.specs.Nodes.{IsReadable}
 use Rattle.md_queue.specs.Operations.{GoesBy, Refused}
 use Rattle.md_queue.specs.Words.{next_at, tail_at}
 use Rattle.md_queue.proofs.Changing.{exchanged_nodes}
+use Rattle.md_queue.proofs.Among.{among_none, answered}
 use Rattle.md_queue.proofs.Data.{half_is}
 use Rattle.md_queue.proofs.Ends.{node_limit}
 use Rattle.md_queue.proofs.Enqueuing.{fresh_goes, fresh_stops, keeps_goes, no_more_nodes, puts_last, refused_after}
@@ -260,12 +261,12 @@ returns-clause-answer g c =
     let kept = subst (λ (m : Cleanup). x ≡ record v { slots = with_cleanup_kept v m }) (move_is g (goal.at.returns-clause-answer g c).After-queue_tail-tail) c.later.ensures.kept in
     let may = may_keep M g.T.Theory.lawful g.met.T.HasQueues.has_queues c.args.queue end.next t node c.rank_of-rank.result p u on c.args.value c.in_ok-node.node f
     c.in_ok-node.ensures.given v over seen gave made in
-    record {
-      goes = goes_then M (state c.args.tx.now) v x 0 2 1 0 0 0 0 2 1 (linked_goes g (goal.at.returns-clause-answer g c).After-queue_tail-tail is goes)
-          (keeps_goes M v x move_kept p.certificates (over.going p.certificates going) may keeps kept) (omega arith) (omega arith) (omega arith);
-      may = may_answer_put M g.T.Theory.lawful g.met.T.HasQueues.has_queues c.args.queue end.next t node c.rank_of-rank.result p u on c.args.value c.in_ok-node.node f
-          c.in_ok-node.ensures.given v over seen gave made x keeps kept (omega arith);
-    }
+    let goes_last = goes_then M (state c.args.tx.now) v x 0 2 1 0 0 0 0 2 1 (linked_goes g (goal.at.returns-clause-answer g c).After-queue_tail-tail is goes)
+    (keeps_goes M v x move_kept p.certificates (over.going p.certificates going) may keeps kept) (omega arith) (omega arith) (omega arith) in
+    answered [] goes_last
+    (may_answer_put M g.T.Theory.lawful g.met.T.HasQueues.has_queues c.args.queue end.next t node c.rank_of-rank.result p u on c.args.value c.in_ok-node.node f
+    c.in_ok-node.ensures.given v over seen gave made x keeps kept (omega arith))
+    (among_none M (state c.args.tx.now) x 2 1 goes_last)
 
 pub returns-clause-puts : goal.returns-clause-puts
 returns-clause-puts g c =

@@ -1,6 +1,5 @@
-use Rattle.std.proofs.Common.{◌≡◌, ◌/◌, ◌≤◌, ◌+◌, length, ap, sym, subst, ◌∙◌, arith, rules}
+use Rattle.std.proofs.Common.{◌/◌, ◌+◌, length, ap, sym, subst, arith, rules}
 use Rattle.md_words.specs.Layout.{IsNode}
-use Rattle.md_words.specs.Link.{linked_node}
 use Rattle.md_nbtc.specs.Going.{IsUnderWay}
 use Rattle.md_nbtc.specs.Seeing.{KeepsGiven, Looks}
 use Rattle.md_nbtc.specs.State.{shape_in, state}

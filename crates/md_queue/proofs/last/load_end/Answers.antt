@@ -1,9 +1,7 @@
-use Rattle.std.proofs.Common.{◌≡◌, ◌/◌, [], ap, sym, subst, ◌∙◌, arith, rules}
+use Rattle.std.proofs.Common.{◌/◌, [], ap, sym, subst, ◌∙◌, arith, rules}
 use Rattle.md_words.specs.Layout.{IsNode, address}
-use Rattle.md_words.specs.Link.{linked_node}
 use Rattle.md_words.specs.Place.{queue_tail}
 use Rattle.md_words.specs.PlaceAt.{IsCounted}
-use Rattle.md_history.specs.declared.stops.Stop.{Stop}
 use Rattle.md_nbtc.specs.Seeing.{KeepsGiven, Looks}
 use Rattle.md_nbtc.specs.State.{shape_in, state}
 use Rattle.md_queue.specs.Operations.{RefusedOtherwise}
@@ -12,7 +10,7 @@ use Rattle.md_queue.proofs.Data.{half_is}
 use Rattle.md_queue.proofs.Ends.{end_seen, tail_seen}
 use Rattle.md_queue.proofs.Firsts.{begun_working}
 use Rattle.md_queue.proofs.Looking.{tail_counted, tail_named}
-use Rattle.md_queue.proofs.Steps.{goes_then, look_goes, look_ok, look_stopped, look_stops, look_unstopped, refused_then}
+use Rattle.md_queue.proofs.Steps.{goes_then, look_goes, look_ok, look_stopped, look_stops, refused_then}
 use Rattle.md_queue.proofs.last.load_end.Goals as goal
 
 pub load-requires-clause-counted : goal.load-requires-clause-counted

@@ -1,27 +1,42 @@
-use Rattle.std.proofs.Common.{◌≡◌, ◌<◌, ◌+◌, ◌++◌, [], ◌∷◌, length, map, Some, None, refl, sym, ap, ◌∙◌, subst, arith}
+use Rattle.std.proofs.Common.{◌≡◌, ◌+◌, ◌++◌, [], ◌∷◌, length, Some, None, refl, sym, ap, ◌∙◌, subst, arith}
 use Rattle.std.proofs.lemmas.List.{length-append, length-map, map-append}
+use Rattle.md_words.specs.declared.shape.Shape.{Shape}
+use Rattle.md_words.specs.Layout.{address}
+use Rattle.md_words.specs.Place.{node_next, queue_head}
 use Rattle.md_history.specs.declared.acts.Op.TheVariants.{Line as LineOf}
 use Rattle.md_history.specs.declared.acts.Reply.TheVariants.{Line as TheLine}
 use Rattle.md_history.specs.State.{line_of}
-use Rattle.md_nbtc.specs.Calls.{MayAnswer}
-use Rattle.md_nbtc.specs.State.{state}
-use Rattle.md_queue_law.specs.QueueCertificates.{Seen}
+use Rattle.md_nbtc.specs.State.{shape_in, state}
+use Rattle.md_nbtc.proofs.structures.NodesKnown.{shape_later}
+use Rattle.md_queue_law.specs.QueueCertificates.{Seen, last_seen}
 use Rattle.md_queue.specs.Along.{LooksFurther, seen_as}
-use Rattle.md_queue.proofs.Along.{looked_enough, looked_to_end}
-use Rattle.md_queue.proofs.Lined.{HasLine, line_more, values_of}
+use Rattle.md_queue.specs.Operations.{RecordsAmong}
+use Rattle.md_queue.specs.Words.{next_at}
+use Rattle.md_queue.proofs.Along.{looked_enough, looked_to_end, words_along, words_more}
+use Rattle.md_queue.proofs.Among.{AnswersBy, among_then, answered}
+use Rattle.md_queue.proofs.Lined.{line_more, values_of}
 use Rattle.md_queue.proofs.Steps.{goes_then, goes_up}
 use Rattle.md_queue.proofs.lines.line.Goals as goal
 
 pub loop-i-init : goal.loop-i-init
 loop-i-init g c = record {
   pass = c.in_ok-node.ensures.pass;
-  has = record { goes = c.in_ok-node.ensures.goes; seen = []; counted = refl; is = refl; looked = c.in_ok-node.ensures.looked };
+  has = record {
+    goes = c.in_ok-node.ensures.goes;
+    dummy = c.in_ok-node.node;
+    seen = [];
+    counted = refl;
+    is = refl;
+    looked = c.in_ok-node.ensures.looked;
+    among = subst (λ (x : Shape). RecordsAmong (state c.args.tx.now) (state c.pass_head.new.tx) (address x (queue_head c.args.queue) ∷ []))
+        (sym (shape_later (state c.args.tx.now) (state c.pass_head.new.tx) c.in_ok-node.ensures.goes.leaves.later)) c.in_ok-node.ensures.among;
+  };
 }
 
 pub pass_next-requires : goal.pass_next-requires
 pass_next-requires g c =
     let h = c.loop-i.invariant.has in
-    record { looked = (c.args.queue, h.seen, h.looked) }
+    record { looked = (c.args.queue, h.dummy, h.seen, h.looked) }
 
 pub loop-i-preserved : goal.loop-i-preserved
 loop-i-preserved g c =
@@ -33,17 +48,25 @@ loop-i-preserved g c =
     let i = c.loop-i.i in
     let passed = c.in-Some.passed in
     let p = seen_as passed in
-    let further : LooksFurther M u c.args.queue c.loop-i.node h.seen (Some passed)
-    = subst (LooksFurther M u c.args.queue c.loop-i.node h.seen) c.in-Some.is (c.in_ok-passed.ensures.further c.args.queue h.seen h.looked) in
+    let further : LooksFurther M u c.args.queue h.dummy c.loop-i.node h.seen (Some passed)
+    = subst (LooksFurther M u c.args.queue h.dummy c.loop-i.node h.seen) c.in-Some.is (c.in_ok-passed.ensures.further c.args.queue h.dummy h.seen h.looked) in
+    let last = ap (λ n. next_at t n) h.looked.last in
+    let more : RecordsAmong s u (words_along (shape_in u) c.args.queue h.dummy h.seen ++ next_at u (last_seen h.dummy h.seen) ∷ [])
+    = subst (λ (x : Shape). RecordsAmong s u (words_along x c.args.queue h.dummy h.seen ++ address x (node_next (last_seen h.dummy h.seen)) ∷ []))
+    (sym (shape_later t u c.in_ok-passed.ensures.goes.leaves.later))
+    (among_then s t u (words_along (shape_in t) c.args.queue h.dummy h.seen) (next_at t (last_seen h.dummy h.seen) ∷ []) h.among
+    (subst (λ w. RecordsAmong t u (w ∷ [])) last c.in_ok-passed.ensures.among)) in
     record {
       pass = c.in_ok-passed.ensures.pass ∙ c.loop-i.invariant.pass;
       has = record {
         goes = goes_then M s t u (i + 1) 0 0 1 0 0 (i + 1 + 1) 0 0 h.goes (λ _. c.in_ok-passed.ensures.goes) (omega arith) (omega arith) (omega arith);
+        dummy = h.dummy;
         seen = h.seen ++ p ∷ [];
         counted = length-append h.seen (p ∷ []) ∙ ap (λ k. k + 1) h.counted;
         is = line_more (values_of h.seen) i passed.value (length-map h.seen (λ (x : Seen). x.value) ∙ h.counted) (omega arith) c.loop-i.line.values (ap (λ l. l.values) h.is)
             ∙ ap line_of (sym (map-append (λ (x : Seen). x.value) h.seen (p ∷ [])));
         looked = further;
+        among = subst (RecordsAmong s u) (words_more (shape_in u) c.args.queue h.dummy h.seen p) more;
       };
     }
 
@@ -53,12 +76,11 @@ returns-after-loop-i-clause-answer g c =
     let t = state c.loop-i.tx in
     let h = c.loop-i.invariant.has in
     let all : length h.seen ≡ c.args.n = h.counted ∙ omega arith in
-    record {
-      goes = goes_up M (state c.args.tx.now) t (c.loop-i.i + 1) 0 0 (c.args.n + 1) 0 0 h.goes (omega arith) (omega arith) (omega arith);
-      may = subst (λ k. MayAnswer M t (LineOf c.args.queue k) (TheLine c.loop-i.line)) all
-          (subst (λ l. MayAnswer M t (LineOf c.args.queue (length h.seen)) (TheLine l)) (sym h.is)
-          (looked_enough M g.T.Theory.lawful g.met.T.HasQueues.has_queues t c.args.queue c.loop-i.node h.seen h.looked));
-    }
+    let by = subst (λ k. AnswersBy M t (LineOf c.args.queue k) (TheLine c.loop-i.line) (words_along (shape_in t) c.args.queue h.dummy h.seen)) all
+    (subst (λ l. AnswersBy M t (LineOf c.args.queue (length h.seen)) (TheLine l) (words_along (shape_in t) c.args.queue h.dummy h.seen)) (sym h.is)
+    (looked_enough M g.T.Theory.lawful g.met.T.HasQueues.has_queues t c.args.queue h.dummy c.loop-i.node h.seen h.looked)) in
+    answered (words_along (shape_in t) c.args.queue h.dummy h.seen)
+    (goes_up M (state c.args.tx.now) t (c.loop-i.i + 1) 0 0 (c.args.n + 1) 0 0 h.goes (omega arith) (omega arith) (omega arith)) by h.among
 
 pub returns-in_default-clause-answer : goal.returns-in_default-clause-answer
 returns-in_default-clause-answer g c =
@@ -68,10 +90,16 @@ returns-in_default-clause-answer g c =
     let u = state c.pass_next.new.tx in
     let h = c.loop-i.invariant.has in
     let counted = h.counted in
-    let end : LooksFurther M u c.args.queue c.loop-i.node h.seen None
-    = subst (LooksFurther M u c.args.queue c.loop-i.node h.seen) c.in_default.is (c.in_ok-passed.ensures.further c.args.queue h.seen h.looked) in
-    record {
-      goes = goes_then M s t u (c.loop-i.i + 1) 0 0 1 0 0 (c.args.n + 1) 0 0 h.goes (λ _. c.in_ok-passed.ensures.goes) (omega arith) (omega arith) (omega arith);
-      may = subst (λ l. MayAnswer M u (LineOf c.args.queue c.args.n) (TheLine l)) (sym h.is)
-          (looked_to_end M g.T.Theory.lawful g.met.T.HasQueues.has_queues u c.args.queue c.loop-i.node h.seen end c.args.n (omega (arith, counted)));
-    }
+    let end : LooksFurther M u c.args.queue h.dummy c.loop-i.node h.seen None
+    = subst (LooksFurther M u c.args.queue h.dummy c.loop-i.node h.seen) c.in_default.is (c.in_ok-passed.ensures.further c.args.queue h.dummy h.seen h.looked) in
+    let last = ap (λ n. next_at t n) h.looked.last in
+    let more : RecordsAmong s u (words_along (shape_in u) c.args.queue h.dummy h.seen ++ next_at u (last_seen h.dummy h.seen) ∷ [])
+    = subst (λ (x : Shape). RecordsAmong s u (words_along x c.args.queue h.dummy h.seen ++ address x (node_next (last_seen h.dummy h.seen)) ∷ []))
+    (sym (shape_later t u c.in_ok-passed.ensures.goes.leaves.later))
+    (among_then s t u (words_along (shape_in t) c.args.queue h.dummy h.seen) (next_at t (last_seen h.dummy h.seen) ∷ []) h.among
+    (subst (λ w. RecordsAmong t u (w ∷ [])) last c.in_ok-passed.ensures.among)) in
+    let words = words_along (shape_in u) c.args.queue h.dummy h.seen ++ next_at u (last_seen h.dummy h.seen) ∷ [] in
+    answered words
+    (goes_then M s t u (c.loop-i.i + 1) 0 0 1 0 0 (c.args.n + 1) 0 0 h.goes (λ _. c.in_ok-passed.ensures.goes) (omega arith) (omega arith) (omega arith))
+    (subst (λ l. AnswersBy M u (LineOf c.args.queue c.args.n) (TheLine l) words) (sym h.is)
+    (looked_to_end M g.T.Theory.lawful g.met.T.HasQueues.has_queues u c.args.queue h.dummy c.loop-i.node h.seen end c.args.n (omega (arith, counted)))) more

@@ -1,20 +1,20 @@
-use Rattle.std.proofs.Common.{◌≡◌, ◌/◌, [], ap, sym, subst, ◌∙◌, arith, rules}
+use Rattle.std.proofs.Common.{[], ◌∷◌, ap, sym, subst, ◌∙◌, arith, rules}
 use Rattle.md_words.specs.Layout.{address}
 use Rattle.md_words.specs.Place.{queue_head}
 use Rattle.md_words.specs.PlaceAt.{IsCounted}
 use Rattle.md_nbtc.specs.Going.{IsFoundThere}
-use Rattle.md_nbtc.specs.Seeing.{Gave}
 use Rattle.md_nbtc.specs.State.{shape_in, state}
 use Rattle.md_nbtc.proofs.structures.Noting.{HasNoted}
 use Rattle.md_queue.specs.Along.{HasLooked}
-use Rattle.md_queue.specs.Operations.{RefusedOtherwise}
+use Rattle.md_queue.specs.Operations.{RecordsAmong, RefusedOtherwise}
 use Rattle.md_queue.specs.Words.{head_at}
 use Rattle.md_queue.proofs.Along.{head_passed}
+use Rattle.md_queue.proofs.Among.{among_from}
 use Rattle.md_queue.proofs.Data.{half_is}
 use Rattle.md_queue.proofs.Firsts.{begun_working, sees_head}
 use Rattle.md_queue.proofs.Looking.{head_counted}
 use Rattle.md_queue.proofs.Passing.{shape_head}
-use Rattle.md_queue.proofs.Steps.{goes_then, look_goes, look_ok, look_stopped, look_stops, look_unstopped, note_goes, note_ok, note_stops, refused_then, refused_up}
+use Rattle.md_queue.proofs.Steps.{goes_then, look_goes, look_ok, look_stops, note_among, note_goes, note_ok, note_stops, refused_then, refused_up}
 use Rattle.md_queue.proofs.lines.pass_head.Goals as goal
 
 pub load-requires-clause-counted : goal.load-requires-clause-counted
@@ -101,6 +101,20 @@ returns-clause-looked g c =
     let is = look_ok M t u under on c.queue_head-head_word.result head c.in_ok-head.ensures.looked in
     let s = sees_head M g.T.Theory.lawful g.met.T.HasQueues.has_queues t u c.args.queue on is.0 c.requires.begun c.queue_head-head_word.result place head is.1 in
     let noted = note_ok M u v (under.0, on.going under.0 under.1) over c.queue_head-head_word.result head c.in_ok-note.ensures.noted in
-    subst (λ n. HasLooked M v c.args.queue n []) (sym (half_is head.value))
+    subst (λ n. HasLooked M v c.args.queue n n []) (sym (half_is head.value))
     (head_passed M g.T.Theory.lawful g.met.T.HasQueues.has_queues u c.args.queue head s v over (omega arith)
     (subst (λ w. HasNoted u v w head) (place ∙ sym (shape_head M t u on.later c.args.queue)) noted))
+
+pub returns-clause-among : goal.returns-clause-among
+returns-clause-among g c =
+    let M = g.T.Theory.meaning in
+    let t = state c.args.tx.now in
+    let u = state c.load.new.self in
+    let v = state c.note.new.self in
+    let under = c.requires.begun.going in
+    let on = c.in_ok-head.ensures.on in
+    let head = c.in_ok-head.head in
+    let place = c.queue_head-head_word.ensures.place ∙ ap (λ s. address s (queue_head c.args.queue)) c.shape.ensures in
+    among_from M t u v 0 0 (head_at t c.args.queue ∷ []) (look_goes M t u under on c.queue_head-head_word.result head c.in_ok-head.ensures.looked c.requires.begun.operates)
+    (subst (λ w. RecordsAmong u v (w ∷ [])) place
+    (note_among M u v (under.0, on.going under.0 under.1) c.in_ok-note.ensures.on c.queue_head-head_word.result head c.in_ok-note.ensures.noted))

@@ -1,21 +1,26 @@
-use Rattle.std.proofs.Common.{◌≡◌, ◌/◌, ◌++◌, [], ◌∷◌, ap, sym, subst, ◌∙◌, arith, rules}
+use Rattle.std.proofs.Common.{◌≡◌, ◌++◌, [], ◌∷◌, ap, sym, subst, ◌∙◌, arith, rules}
+use Rattle.md_words.specs.declared.shape.Shape.{Shape}
+use Rattle.md_words.specs.Layout.{address}
 use Rattle.md_words.specs.Link.{linked_node}
+use Rattle.md_words.specs.Place.{node_next}
 use Rattle.md_nbtc.specs.Known.{Known}
-use Rattle.md_nbtc.specs.State.{shape_in, state}
+use Rattle.md_nbtc.specs.State.{state}
+use Rattle.md_nbtc.proofs.structures.NodesKnown.{shape_later}
 use Rattle.md_queue_law.specs.QueueCertificates.{Seen}
 use Rattle.md_queue.specs.Along.{HasLooked}
 use Rattle.md_queue.specs.Nodes.{IsReadable}
-use Rattle.md_queue.specs.Operations.{RefusedOtherwise}
+use Rattle.md_queue.specs.Operations.{RecordsAmong, RefusedOtherwise}
 use Rattle.md_queue.specs.Words.{next_at}
 use Rattle.md_queue.proofs.Along.{ended, further, next_looked_at, next_noted}
+use Rattle.md_queue.proofs.Among.{among_from, among_to}
 use Rattle.md_queue.proofs.Data.{half_is}
 use Rattle.md_queue.proofs.Looking.{node_readable}
-use Rattle.md_queue.proofs.Steps.{goes_then, look_goes, look_ok, look_stops, note_goes, note_ok, note_stops, pass_goes, refused_then, refused_up}
+use Rattle.md_queue.proofs.Steps.{goes_then, look_goes, look_ok, look_stops, note_among, note_goes, note_ok, note_stops, pass_goes, refused_then, refused_up}
 use Rattle.md_queue.proofs.lines.pass_next.Goals as goal
 
 pub load_next-requires : goal.load_next-requires
 load_next-requires g c =
-    let s = c.requires.looked.2 in
+    let s = c.requires.looked.3 in
     record { may = record { going = (s.certificates, s.working.going); exists = s.exists } }
 
 pub returns-in_err-next-clause-stop : goal.returns-in_err-next-clause-stop
@@ -23,7 +28,7 @@ returns-in_err-next-clause-stop g c =
     let M = g.T.Theory.meaning in
     let t = state c.args.tx.now in
     let u = state c.load_next.new.tx in
-    let s = c.requires.looked.2 in
+    let s = c.requires.looked.3 in
     let stop = c.in_err-next.field-0.0 in
     let refused : RefusedOtherwise M t u 1 0 stop = refused_up M t u 0 0 1 0 stop
     (look_stops M t u (s.certificates, s.working.going) c.in_err-next.ensures.on (next_at t c.args.node) stop c.in_err-next.ensures.looked s.working.operates) (omega arith) (omega arith) in
@@ -35,12 +40,13 @@ note_next-requires g c =
     let t = state c.args.tx.now in
     let u = state c.load_next.new.tx in
     let queue = c.requires.looked.0 in
-    let seen = c.requires.looked.1 in
-    let s = c.requires.looked.2 in
+    let dummy = c.requires.looked.1 in
+    let seen = c.requires.looked.2 in
+    let s = c.requires.looked.3 in
     let on = c.in_ok-next.ensures.on in
     let next = c.in_ok-next.next in
     let is = look_ok M t u (s.certificates, s.working.going) on (next_at t c.args.node) next c.in_ok-next.ensures.looked in
-    let sees = next_looked_at M g.T.Theory.lawful g.met.T.HasQueues.has_queues t queue c.args.node seen s u on is.0 next is.1 in
+    let sees = next_looked_at M g.T.Theory.lawful g.met.T.HasQueues.has_queues t queue dummy c.args.node seen s u on is.0 next is.1 in
     record {
       may = record {
         going = (s.certificates, on.going s.certificates s.working.going);
@@ -57,7 +63,7 @@ returns-in_err-note_next-clause-stop g c =
     let t = state c.args.tx.now in
     let u = state c.load_next.new.tx in
     let v = state c.note_next.new.tx in
-    let s = c.requires.looked.2 in
+    let s = c.requires.looked.3 in
     let on = c.in_ok-next.ensures.on in
     let next = c.in_ok-next.next in
     let stop = c.in_err-note_next.field-0.0 in
@@ -72,7 +78,7 @@ returns-then-next-eq0-clause-goes g c =
     let t = state c.args.tx.now in
     let u = state c.load_next.new.tx in
     let v = state c.note_next.new.tx in
-    let s = c.requires.looked.2 in
+    let s = c.requires.looked.3 in
     let on = c.in_ok-next.ensures.on in
     let next = c.in_ok-next.next in
     goes_then M t u v 0 0 0 1 0 0 1 0 0
@@ -80,7 +86,7 @@ returns-then-next-eq0-clause-goes g c =
     (note_goes M u v (s.certificates, on.going s.certificates s.working.going) c.in_ok-note_next.ensures.on (next_at u c.args.node) next c.in_ok-note_next.ensures.noted) (omega arith) (omega arith) (omega arith)
 
 pub returns-then-next-eq0-clause-further : goal.returns-then-next-eq0-clause-further
-returns-then-next-eq0-clause-further g c queue seen s =
+returns-then-next-eq0-clause-further g c queue dummy seen s =
     let M = g.T.Theory.meaning in
     let t = state c.args.tx.now in
     let u = state c.load_next.new.tx in
@@ -90,8 +96,8 @@ returns-then-next-eq0-clause-further g c queue seen s =
     let next = c.in_ok-next.next in
     let is = look_ok M t u (s.certificates, s.working.going) on (next_at t c.args.node) next c.in_ok-next.ensures.looked in
     let noted = note_ok M u v (s.certificates, on.going s.certificates s.working.going) over (next_at u c.args.node) next c.in_ok-note_next.ensures.noted in
-    ended M g.T.Theory.lawful g.met.T.HasQueues.has_queues t queue c.args.node seen s v next
-    (next_noted M g.T.Theory.lawful g.met.T.HasQueues.has_queues t queue c.args.node seen s u on is.0 next is.1 v over (omega arith) noted) c.if-next-eq0.true
+    ended M g.T.Theory.lawful g.met.T.HasQueues.has_queues t queue dummy c.args.node seen s v next
+    (next_noted M g.T.Theory.lawful g.met.T.HasQueues.has_queues t queue dummy c.args.node seen s u on is.0 next is.1 v over (omega arith) noted) c.if-next-eq0.true
 
 pub value_of-value-requires : goal.value_of-value-requires
 value_of-value-requires g c =
@@ -100,14 +106,15 @@ value_of-value-requires g c =
     let u = state c.load_next.new.tx in
     let v = state c.note_next.new.tx in
     let queue = c.requires.looked.0 in
-    let seen = c.requires.looked.1 in
-    let s = c.requires.looked.2 in
+    let dummy = c.requires.looked.1 in
+    let seen = c.requires.looked.2 in
+    let s = c.requires.looked.3 in
     let on = c.in_ok-next.ensures.on in
     let over = c.in_ok-note_next.ensures.on in
     let next = c.in_ok-next.next in
     let is = look_ok M t u (s.certificates, s.working.going) on (next_at t c.args.node) next c.in_ok-next.ensures.looked in
     let noted = note_ok M u v (s.certificates, on.going s.certificates s.working.going) over (next_at u c.args.node) next c.in_ok-note_next.ensures.noted in
-    let n = next_noted M g.T.Theory.lawful g.met.T.HasQueues.has_queues t queue c.args.node seen s u on is.0 next is.1 v over (omega arith) noted in
+    let n = next_noted M g.T.Theory.lawful g.met.T.HasQueues.has_queues t queue dummy c.args.node seen s u on is.0 next is.1 v over (omega arith) noted in
     record {
       may = record {
         going = (s.certificates, n.working.going);
@@ -123,7 +130,7 @@ returns-clause-goes g c =
     let u = state c.load_next.new.tx in
     let v = state c.note_next.new.tx in
     let w = state c.value_of-value.new.tx in
-    let s = c.requires.looked.2 in
+    let s = c.requires.looked.3 in
     let on = c.in_ok-next.ensures.on in
     let over = c.in_ok-note_next.ensures.on in
     let next = c.in_ok-next.next in
@@ -135,7 +142,7 @@ returns-clause-goes g c =
     (pass_goes M v w (s.certificates, over.going s.certificates going) c.value_of-value.ensures.on c.value_of-value.ensures.same) (omega arith) (omega arith) (omega arith)
 
 pub returns-clause-further : goal.returns-clause-further
-returns-clause-further g c queue seen s =
+returns-clause-further g c queue dummy seen s =
     let M = g.T.Theory.meaning in
     let t = state c.args.tx.now in
     let u = state c.load_next.new.tx in
@@ -147,7 +154,43 @@ returns-clause-further g c queue seen s =
     let value = c.value_of-value.result in
     let is = look_ok M t u (s.certificates, s.working.going) on (next_at t c.args.node) next c.in_ok-next.ensures.looked in
     let noted = note_ok M u v (s.certificates, on.going s.certificates s.working.going) over (next_at u c.args.node) next c.in_ok-note_next.ensures.noted in
-    let n = next_noted M g.T.Theory.lawful g.met.T.HasQueues.has_queues t queue c.args.node seen s u on is.0 next is.1 v over (omega arith) noted in
-    subst (λ x. HasLooked M w queue x (seen ++ (let p : Seen = record { node = x; value = value } in p) ∷ [])) (sym (half_is next.value))
-    (further M g.T.Theory.lawful g.met.T.HasQueues.has_queues t queue c.args.node seen s v next n c.if-next-eq0.false w c.value_of-value.ensures.on c.value_of-value.ensures.same value
+    let n = next_noted M g.T.Theory.lawful g.met.T.HasQueues.has_queues t queue dummy c.args.node seen s u on is.0 next is.1 v over (omega arith) noted in
+    subst (λ x. HasLooked M w queue dummy x (seen ++ (let p : Seen = record { node = x; value = value } in p) ∷ [])) (sym (half_is next.value))
+    (further M g.T.Theory.lawful g.met.T.HasQueues.has_queues t queue dummy c.args.node seen s v next n c.if-next-eq0.false w c.value_of-value.ensures.on c.value_of-value.ensures.same value
     (subst (λ x. Known M w (λ y h. h.words.value_of_node x ≡ value)) (half_is next.value) c.value_of-value.ensures.known))
+
+pub returns-then-next-eq0-clause-among : goal.returns-then-next-eq0-clause-among
+returns-then-next-eq0-clause-among g c =
+    let M = g.T.Theory.meaning in
+    let t = state c.args.tx.now in
+    let u = state c.load_next.new.tx in
+    let v = state c.note_next.new.tx in
+    let s = c.requires.looked.3 in
+    let on = c.in_ok-next.ensures.on in
+    let over = c.in_ok-note_next.ensures.on in
+    let next = c.in_ok-next.next in
+    let going = on.going s.certificates s.working.going in
+    let looked = look_goes M t u (s.certificates, s.working.going) on (next_at t c.args.node) next c.in_ok-next.ensures.looked s.working.operates in
+    let among = among_from M t u v 0 0 (next_at t c.args.node ∷ []) looked
+    (subst (λ w. RecordsAmong u v (w ∷ [])) (ap (λ (x : Shape). address x (node_next c.args.node)) (shape_later t u on.later))
+    (note_among M u v (s.certificates, going) over (next_at u c.args.node) next c.in_ok-note_next.ensures.noted)) in
+    among
+
+pub returns-clause-among : goal.returns-clause-among
+returns-clause-among g c =
+    let M = g.T.Theory.meaning in
+    let t = state c.args.tx.now in
+    let u = state c.load_next.new.tx in
+    let v = state c.note_next.new.tx in
+    let s = c.requires.looked.3 in
+    let on = c.in_ok-next.ensures.on in
+    let over = c.in_ok-note_next.ensures.on in
+    let next = c.in_ok-next.next in
+    let going = on.going s.certificates s.working.going in
+    let looked = look_goes M t u (s.certificates, s.working.going) on (next_at t c.args.node) next c.in_ok-next.ensures.looked s.working.operates in
+    let among = among_from M t u v 0 0 (next_at t c.args.node ∷ []) looked
+    (subst (λ w. RecordsAmong u v (w ∷ [])) (ap (λ (x : Shape). address x (node_next c.args.node)) (shape_later t u on.later))
+    (note_among M u v (s.certificates, going) over (next_at u c.args.node) next c.in_ok-note_next.ensures.noted)) in
+    let noted = note_goes M u v (s.certificates, going) over (next_at u c.args.node) next c.in_ok-note_next.ensures.noted looked.leaves.operates in
+    among_to M t v (state c.value_of-value.new.tx) 0 0 (next_at t c.args.node ∷ []) among
+    (pass_goes M v (state c.value_of-value.new.tx) (s.certificates, over.going s.certificates going) c.value_of-value.ensures.on c.value_of-value.ensures.same noted.leaves.operates)
