@@ -72,3 +72,13 @@ returns-in_err-follow_tail-clause-stopped g c s is = unstopped (state c.args.tx.
 
 pub returns-in_err-value-clause-stopped : goal.returns-in_err-value-clause-stopped
 returns-in_err-value-clause-stopped g c s is = unstopped (state c.args.tx.now) (state c.load_first.new.tx) c.in_ok-first.first c.in_ok-first.ensures.stopped s is
+
+pub returns-in_err-note_first-clause-stop : goal.returns-in_err-note_first-clause-stop
+returns-in_err-note_first-clause-stop g c =
+    let M = g.T.Theory.meaning in
+    let s = state c.args.tx.now in
+    let t = state c.load_first.new.tx in
+    let u = state c.note_first.new.tx in
+    let stop = c.in_err-note_first.field-0.0 in
+    let refused : RefusedOtherwise M s u 2 2 stop = refused_then M s t u 0 0 2 0 2 2 stop c.in_ok-first.ensures.goes (λ _. c.in_err-note_first.ensures.stop) (omega arith) (omega arith) in
+    search rules

@@ -1,4 +1,4 @@
-use Rattle.std.proofs.Common.{◌≡◌, [], ◌∷◌, sym, subst, arith}
+use Rattle.std.proofs.Common.{rules, ◌≡◌, [], ◌∷◌, sym, subst, arith}
 use Rattle.md_words.specs.declared.shape.Shape.{Shape}
 use Rattle.md_words.specs.Layout.{address}
 use Rattle.md_words.specs.Link.{linked_node}
@@ -7,13 +7,13 @@ use Rattle.md_nbtc.specs.Known.{Known}
 use Rattle.md_nbtc.specs.State.{state}
 use Rattle.md_nbtc.proofs.structures.NodesKnown.{shape_later}
 use Rattle.md_queue.specs.Nodes.{IsReadable}
-use Rattle.md_queue.specs.Operations.{RecordsAmong}
+use Rattle.md_queue.specs.Operations.{RecordsAmong, RefusedOtherwise}
 use Rattle.md_queue.specs.Working.{first_words}
 use Rattle.md_queue.proofs.Among.{among_to, answered}
 use Rattle.md_queue.proofs.Data.{half_is}
 use Rattle.md_queue.proofs.Firsts.{first_among, front_none, front_some}
 use Rattle.md_queue.proofs.Looking.{node_readable}
-use Rattle.md_queue.proofs.Steps.{goes_then, pass_goes, unstopped}
+use Rattle.md_queue.proofs.Steps.{goes_then, pass_goes, refused_then, unstopped}
 use Rattle.md_queue.proofs.first.front.Goals as goal
 
 pub returns-then-first-eq0-clause-answer : goal.returns-then-first-eq0-clause-answer
@@ -69,3 +69,13 @@ returns-clause-stopped g c s is = unstopped (state c.args.tx.now) (state c.load_
 
 pub returns-in_err-note_first-clause-stopped : goal.returns-in_err-note_first-clause-stopped
 returns-in_err-note_first-clause-stopped g c s is = unstopped (state c.args.tx.now) (state c.load_first.new.tx) c.in_ok-first.first c.in_ok-first.ensures.stopped s is
+
+pub returns-in_err-note_first-clause-stop : goal.returns-in_err-note_first-clause-stop
+returns-in_err-note_first-clause-stop g c =
+    let M = g.T.Theory.meaning in
+    let s = state c.args.tx.now in
+    let t = state c.load_first.new.tx in
+    let u = state c.note_first.new.tx in
+    let stop = c.in_err-note_first.field-0.0 in
+    let refused : RefusedOtherwise M s u 2 0 stop = refused_then M s t u 0 0 2 0 2 0 stop c.in_ok-first.ensures.goes (λ _. c.in_err-note_first.ensures.stop) (omega arith) (omega arith) in
+    search rules

@@ -1,4 +1,4 @@
-use Rattle.std.proofs.Common.{◌≡◌, ◌+◌, ◌++◌, [], ◌∷◌, length, Some, None, refl, sym, ap, ◌∙◌, subst, arith}
+use Rattle.std.proofs.Common.{rules, ◌≡◌, ◌+◌, ◌++◌, [], ◌∷◌, length, Some, None, refl, sym, ap, ◌∙◌, subst, arith}
 use Rattle.std.proofs.lemmas.List.{length-append, length-map, map-append}
 use Rattle.md_words.specs.declared.shape.Shape.{Shape}
 use Rattle.md_words.specs.Layout.{address}
@@ -10,12 +10,12 @@ use Rattle.md_nbtc.specs.State.{shape_in, state}
 use Rattle.md_nbtc.proofs.structures.NodesKnown.{shape_later}
 use Rattle.md_queue_law.specs.QueueCertificates.{Seen, last_seen}
 use Rattle.md_queue.specs.Along.{LooksFurther, seen_as}
-use Rattle.md_queue.specs.Operations.{RecordsAmong}
+use Rattle.md_queue.specs.Operations.{RecordsAmong, RefusedOtherwise}
 use Rattle.md_queue.specs.Words.{next_at}
 use Rattle.md_queue.proofs.Along.{looked_enough, looked_to_end, words_along, words_more}
 use Rattle.md_queue.proofs.Among.{AnswersBy, among_then, answered}
 use Rattle.md_queue.proofs.Lined.{line_more, values_of}
-use Rattle.md_queue.proofs.Steps.{goes_then, goes_up}
+use Rattle.md_queue.proofs.Steps.{goes_then, goes_up, refused_then}
 use Rattle.md_queue.proofs.lines.line.Goals as goal
 
 pub loop-i-init : goal.loop-i-init
@@ -103,3 +103,15 @@ returns-in_default-clause-answer g c =
     (goes_then M s t u (c.loop-i.i + 1) 0 0 1 0 0 (c.args.n + 1) 0 0 h.goes (λ _. c.in_ok-passed.ensures.goes) (omega arith) (omega arith) (omega arith))
     (subst (λ l. AnswersBy M u (LineOf c.args.queue c.args.n) (TheLine l) words) (sym h.is)
     (looked_to_end M g.T.Theory.lawful g.met.T.HasQueues.has_queues u c.args.queue h.dummy c.loop-i.node h.seen end c.args.n (omega (arith, counted)))) more
+
+pub returns-in_err-passed-clause-stop : goal.returns-in_err-passed-clause-stop
+returns-in_err-passed-clause-stop g c =
+    let M = g.T.Theory.meaning in
+    let s = state c.args.tx.now in
+    let t = state c.loop-i.tx in
+    let u = state c.pass_next.new.tx in
+    let i = c.loop-i.i in
+    let stop = c.in_err-passed.field-0.0 in
+    let refused : RefusedOtherwise M s u (c.args.n + 1) 0 stop = refused_then M s t u (i + 1) 0 1 0 (c.args.n + 1) 0 stop c.loop-i.invariant.has.goes (λ _. c.in_err-passed.ensures.stop)
+    (omega arith) (omega arith) in
+    search rules
