@@ -1,12 +1,11 @@
 -- What each call adds to a transaction, and what several calls leave of it together.
-use Rattle.std.proofs.Common.{◌≡◌, ◌≤◌, ◌+◌, ◌++◌, ℕ, true, List, [], ◌∷◌, length, map, refl, sym, ap, ◌∙◌, arith}
+use Rattle.std.proofs.Common.{◌≡◌, ◌≤◌, ◌+◌, ◌++◌, ℕ, true, List, [], ◌∷◌, length, refl, ap, ◌∙◌, arith}
 use Rattle.std.proofs.lemmas.List.{append-nil, length-append, length-map}
 use Rattle.md_history.specs.Front.{IsPrefix}
 use Rattle.md_history.specs.declared.stops.Stop.{Stop}
 use Rattle.md_machine.specs.Meaning.{Meaning}
 use Rattle.md_nbtc.specs.declared.seen.Cleanup.{Cleanup}
 use Rattle.md_nbtc.specs.declared.seen.Seen.{Seen}
-use Rattle.md_nbtc.specs.declared.sets.Slot.{Slot}
 use Rattle.md_words.specs.Layout.{address}
 use Rattle.md_words.specs.Place.{node_next}
 use Rattle.md_nbtc.specs.Calls.{Freshens, GoesOn}

@@ -1,8 +1,8 @@
 -- How few words a walk writes: each is charged to a word that was recorded or written before, or to an own node.
-use Rattle.std.proofs.Common.{◌≡◌, ◌≢◌, ◌==◌, ◌||◌, ◌≤◌, ◌+◌, ◌++◌, ◌⊎◌, ℕ, Bool, not, true, false, List, [], ◌∷◌, length, map, filter, refl, sym, ap, ◌∙◌, subst, inl, inr, ⊎_elim, eq-eqb, eqb-true, arith}
-use Rattle.std.proofs.lemmas.Bool.{cases_Bool, true≢false}
+use Rattle.std.proofs.Common.{◌≡◌, ◌≢◌, ◌==◌, ◌||◌, ◌≤◌, ◌+◌, ◌++◌, ◌⊎◌, ℕ, Bool, not, true, false, List, [], ◌∷◌, length, map, refl, sym, ap, ◌∙◌, subst, inl, inr, ⊎_elim, eq-eqb, eqb-true, arith}
+use Rattle.std.proofs.lemmas.Bool.{cases_Bool}
 use Rattle.std.proofs.lemmas.List.{length-append, length-map, map-append}
-use Rattle.std.proofs.lemmas.List.Elements.{All-cons, All-contains, All-nil, All-weaker, Contains-append_left, Contains-append_right}
+use Rattle.std.proofs.lemmas.List.Elements.{All-cons, All-nil, All-weaker, Contains-append_left, Contains-append_right}
 use Rattle.std.proofs.lemmas.List.Kept.{AllPairs-cons}
 use Rattle.std.specs.List.{All, AllPairs, Contains}
 use Rattle.md_machine.specs.declared.attempt.Read.{Read}
@@ -10,13 +10,13 @@ use Rattle.md_machine.specs.declared.attempt.Write.{Write}
 use Rattle.md_machine.specs.Certified.{is_written}
 use Rattle.md_machine.specs.Meaning.{Meaning}
 use Rattle.md_machine.proofs.lists.Differ.{no_pairs}
-use Rattle.md_machine.proofs.lists.Rising.{filter_in, here, map_in, there as further}
+use Rattle.md_machine.proofs.lists.Rising.{filter_in, map_in, there as further}
 use Rattle.md_nbtc.specs.declared.sets.Slot.{Slot}
 use Rattle.md_nbtc.specs.State.{OwnNode, TxnState, shape_in, writes_in}
 use Rattle.md_nbtc.proofs.exchanging.MoreSlots.{written_push}
 use Rattle.md_nbtc.proofs.ready.Lookups.{written_found}
 use Rattle.md_list_law.specs.ListShape.{next_word}
-use Rattle.md_list.specs.Written.{WritesFew, touched, unwritten_reads}
+use Rattle.md_list.specs.Written.{WritesFew, unwritten_reads}
 use Rattle.md_list.proofs.At.{IsBehind}
 use Rattle.md_list.proofs.Counting.{few_among}
 

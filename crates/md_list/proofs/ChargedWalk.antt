@@ -1,26 +1,21 @@
 -- A step of a walk writes a word only if it can be charged.
-use Rattle.std.proofs.Common.{◌≡◌, ◌≢◌, ◌==◌, ◌||◌, ◌-◌, ◌⊎◌, ◌++◌, ℕ, Bool, true, false, List, [], ◌∷◌, Option, Some, None, is_some, length, map, refl, sym, ap, ◌∙◌, subst, inl, inr, ⊎_elim, eqb-true}
+use Rattle.std.proofs.Common.{◌≡◌, ◌≢◌, ◌⊎◌, ◌++◌, ℕ, true, false, List, [], ◌∷◌, length, refl, sym, ap, ◌∙◌, subst, inl, inr, ⊎_elim}
 use Rattle.std.proofs.lemmas.Bool.{cases_Bool, true≢false}
 use Rattle.std.proofs.lemmas.List.{length-map}
 use Rattle.std.proofs.lemmas.List.Elements.{All-contains}
-use Rattle.std.specs.List.{All, Contains, list_any}
+use Rattle.std.specs.List.{Contains}
 use Rattle.md_words.specs.Layout.{IsNode}
 use Rattle.md_words.specs.Link.{linked_node}
-use Rattle.md_machine.specs.declared.attempt.Read.{Read}
-use Rattle.md_machine.specs.declared.attempt.Write.{Write}
-use Rattle.md_machine.specs.Certified.{content_read, is_written}
+use Rattle.md_machine.specs.Certified.{is_written}
 use Rattle.md_machine.specs.Meaning.{Lawful, Meaning}
 use Rattle.md_machine.proofs.chain.SameNodes.{next_alone}
-use Rattle.md_machine.proofs.lists.Rising.{here, in_map, there as further}
+use Rattle.md_machine.proofs.lists.Rising.{here, there as further}
 use Rattle.md_nbtc.specs.declared.seen.Kind.{Kind}
 use Rattle.md_nbtc.specs.declared.seen.Kind.TheVariants.{Plain}
 use Rattle.md_nbtc.specs.declared.seen.Seen.{Seen}
-use Rattle.md_nbtc.specs.declared.sets.Slot.{Slot}
-use Rattle.md_nbtc.specs.Calls.{is_critical, is_next_word, new_slot}
+use Rattle.md_nbtc.specs.Calls.{is_critical, new_slot}
 use Rattle.md_nbtc.specs.Sets.{with_new}
-use Rattle.md_nbtc.specs.State.{OwnNode, TxnState, shape_in, writes_in}
-use Rattle.md_nbtc.proofs.exchanging.OwnSlots.{any_found}
-use Rattle.md_nbtc.proofs.exchanging.Refused.{read_there}
+use Rattle.md_nbtc.specs.State.{TxnState, shape_in, writes_in}
 use Rattle.md_nbtc.proofs.exchanging.Renewed.{is_renewed, renew, renewed_writes, same_written}
 use Rattle.md_nbtc.proofs.ready.Lookups.{all_of}
 use Rattle.md_nbtc.proofs.structures.Exchanging.{HasExchanged, changed_own, changed_plainly, installed}

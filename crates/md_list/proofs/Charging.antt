@@ -1,10 +1,10 @@
 -- The reasons why unlinks are parts of the transaction stay, and a walk's next unlink has one.
-use Rattle.std.proofs.Common.{◌≡◌, ◌≢◌, ◌==◌, ◌||◌, ◌+◌, ◌-◌, ◌++◌, ◌⊎◌, ℕ, Bool, true, false, List, [], ◌∷◌, map, Option, Some, None, is_some, refl, sym, ap, ◌∙◌, subst, inl, inr, ⊎_elim, eqb-true, ne_eqb, append_assoc, if◌then◌else◌}
+use Rattle.std.proofs.Common.{◌≡◌, ◌≢◌, ◌==◌, ◌||◌, ◌++◌, ◌⊎◌, ℕ, true, false, List, [], ◌∷◌, map, Option, Some, None, is_some, refl, sym, ap, ◌∙◌, subst, inl, inr, ⊎_elim, eqb-true, ne_eqb, append_assoc, if◌then◌else◌}
 use Rattle.std.proofs.lemmas.Bool.{cases_Bool, true≢false}
 use Rattle.std.proofs.lemmas.List.{append-nil}
 use Rattle.std.proofs.lemmas.List.Elements.{Contains-append_left}
 use Rattle.std.specs.List.{AllPairs, Contains, list_any}
-use Rattle.md_words.specs.Link.{is_marked, link_value}
+use Rattle.md_words.specs.Link.{is_marked}
 use Rattle.md_machine.specs.declared.attempt.Read.{Read}
 use Rattle.md_machine.specs.declared.attempt.Write.{Write}
 use Rattle.md_machine.specs.declared.certificate.Certificate.{Certificate}
@@ -31,8 +31,7 @@ use Rattle.md_nbtc.proofs.structures.Exchanging.{HasExchanged, changed_own, chan
 use Rattle.md_nbtc.proofs.structures.NodesKnown.{shape_later}
 use Rattle.std.proofs.lemmas.List.{map-append}
 use Rattle.md_list_law.specs.ListShape.{next_word}
-use Rattle.md_list.specs.Charged.{AreCharged, IsCharged, RemovesItself, changed, own_next, own_remove, recorded}
-use Rattle.md_list.proofs.Marks.{marked_again}
+use Rattle.md_list.specs.Charged.{AreCharged, IsCharged, changed, own_next, own_remove, recorded}
 
 -- the marks that the transaction made stay as they are
 abbrev pub KeepsMarks : (t u : TxnState) → Type 0

@@ -55,7 +55,7 @@ use Rattle.md_nbtc.proofs.structures.Exchanging.{HasExchanged, changed_own, chan
 use Rattle.md_nbtc.proofs.structures.Growing.{tidied_later, tidied_more, tidy_stands}
 use Rattle.md_nbtc.proofs.structures.NodesKnown.{data_known}
 use Rattle.md_nbtc.proofs.structures.SeenValues.{seen_value}
-use Rattle.md_list.specs.Walking.{Gives, HasFound, KnowsAfter}
+use Rattle.md_list.specs.Walking.{Gives, KnowsAfter}
 use Rattle.md_list.specs.declared.walk.Found.{Found}
 use Rattle.md_list.proofs.At.{HasFoundBy, IsAtBy, IsBehind, NamesPast, found_stays, looked_there, stepped, walking_on}
 use Rattle.md_list.proofs.Counting.{few_below}

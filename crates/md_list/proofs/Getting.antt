@@ -1,5 +1,5 @@
 -- What a look-up has after each of its calls.
-use Rattle.std.proofs.Common.{◌≡◌, ◌≤◌, ◌+◌, ◌<◌, ℕ, Bool, not, false, true, length, Result, Ok, refl, sym, ap, ◌∙◌, subst, inl, inr, ⊎_elim, arith}
+use Rattle.std.proofs.Common.{◌≡◌, ◌<◌, ℕ, Bool, not, false, true, Result, Ok, refl, sym, ap, ◌∙◌, subst, inl, inr, ⊎_elim}
 use Rattle.std.proofs.lemmas.List.Elements.{All-contains}
 use Rattle.md_words.specs.Layout.{IsNode, address, words_of}
 use Rattle.md_machine.specs.declared.node.Structure.TheVariants.{Bucket}
@@ -15,7 +15,7 @@ use Rattle.md_nbtc.specs.declared.seen.Seen.{Seen}
 use Rattle.md_nbtc.specs.Calls.{AfterStop, GoesOn, IsData, Notes, note_case}
 use Rattle.md_nbtc.specs.State.{TxnState, shape_in}
 use Rattle.md_nbtc.proofs.preparing.Later.{later_over}
-use Rattle.md_nbtc.proofs.structures.Answering.{IsStopped, after_ok}
+use Rattle.md_nbtc.proofs.structures.Answering.{after_ok}
 use Rattle.md_nbtc.proofs.structures.Noting.{HasNoted, has_noted}
 use Rattle.md_list.specs.Walking.{FindsNode, HasFound}
 use Rattle.md_list.specs.declared.walk.Found.{Found}

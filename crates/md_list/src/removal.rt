@@ -62,7 +62,8 @@ pub fn remove<'a, T: HasLists>(
     let value = tx.field_of(value_word);
     let next_word = tx.shape().node_next(found.node);
     tx.exchange(next_word, found.next, found.next.value + 1, Kind::Critical)?;
-    // Michael's remove unlinks the node here. The mark isn't decided yet, so the unlink waits.
+    // Michael's remove unlinks the node here. The mark isn't decided yet, so the unlink waits for
+    // the commit.
     tx.later(Cleanup::Unlink {
         prev: found.prev,
         node: found.node,

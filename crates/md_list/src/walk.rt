@@ -67,7 +67,7 @@ pub fn find<'a, T: HasLists>(tx: &mut Txn<'a, T>, head: u32, key: u64) -> Result
         let next_word = tx.shape().node_next(node);
         let next = tx.load(next_word)?;
         if next.value % 2 == 1 {
-            // A mark of the transaction's own isn't decided, and neither may its unlink be.
+            // An own mark isn't decided yet, so its unlink must be a part of the transaction too.
             let kind = if next.own {
                 Kind::Critical
             } else {
