@@ -4,13 +4,11 @@ use Rattle.std.specs.List.{range_with_len}
 use Rattle.std.proofs.lemmas.List.{length-map}
 use Rattle.md_words.specs.declared.shape.Shape.{Shape}
 use Rattle.md_history.specs.Engine.{SettlesFrom}
-use Rattle.md_history.specs.Front.{replay_of}
 use Rattle.md_history.specs.State.{HaveSameNumbers}
 use Rattle.md_machine.specs.Event.{opened}
 use Rattle.md_machine.specs.LogicalHeap.{LogicalWords}
 use Rattle.md_rule.specs.Closing.{LeavesReplay}
 use Rattle.md_rule.specs.Views.{FieldView, PassState}
-use Rattle.md_store_law.specs.Compacted.{contents_of}
 use Rattle.md_hash_law.specs.HashTable.{pairs_of_map}
 use Rattle.md_list_law.specs.Walk.{map_of_pairs}
 use Rattle.md_queue_law.specs.QueueValues.{queue_values}

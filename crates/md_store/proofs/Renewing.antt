@@ -1,7 +1,7 @@
 -- A field of a store is renewed.
 use Rattle.std.proofs.Common.{◌≡◌, ◌≤◌, ℕ, List, refl, sym, ap, ◌∙◌, subst}
 use Rattle.md_words.specs.declared.shape.Shape.{Shape}
-use Rattle.md_history.specs.Engine.{HasRoom, SettlesFrom, needed}
+use Rattle.md_history.specs.Engine.{HasRoom, needed}
 use Rattle.md_history.specs.Front.{replay_of}
 use Rattle.md_history.specs.State.{HaveSameNumbers, State}
 use Rattle.md_machine.specs.Event.{first_pass}
@@ -10,7 +10,6 @@ use Rattle.md_rule.specs.Shares.{share_at}
 use Rattle.md_rule.specs.Views.{FieldView, IsOf, Origin, PassState}
 use Rattle.md_store_law.specs.Compacted.{IsCompacted, MayHaveBase, contents_of}
 use Rattle.md_store_law.specs.Field.{logical_words}
-use Rattle.md_store_law.specs.Store.{state_of_store}
 use Rattle.md_store.specs.Ending.{Leaves, Renews}
 use Rattle.md_store.specs.Store.{IsPassOf, IsUnused, all_lanes, front_in, limits_of, room_of, start_of}
 use Rattle.md_store.proofs.Closed.{same_numbers}

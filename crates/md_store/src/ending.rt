@@ -35,7 +35,8 @@ pub(crate) fn contents(
 ) -> Result<(Contents, Front<Pass<StoreTheory>>), AllocError>
     requires of { IsPassOf field pass }
     requires all { (front_in pass).lanes ≡ all_lanes field.origin.shape }
-    ensures settled { IfOk result (λ r. SettlesFrom (start_of field) (front_in pass) (front_in r.1)) }
+    ensures settled { IfOk result (λ r.
+        SettlesFrom (start_of field) (front_in pass) (front_in r.1)) }
     ensures contents { IfOk result (λ r. r.0 ≡ replay_of (start_of field) (front_in r.1)) }
     ensures numbers { IfOk result (λ r. HaveSameNumbers r.0 (start_of field)) }
 {
@@ -62,8 +63,10 @@ pub(crate) fn renewed(
     requires of { IsPassOf field pass }
     requires all { (front_in pass).lanes ≡ all_lanes field.origin.shape }
     requires room { HasRoom (start_of field) (room_of field.origin.shape) (front_in pass) }
-    ensures settled { IfOk result (λ r. SettlesFrom (start_of field) (front_in pass) (front_in r.2)) }
-    ensures renews { IfOk result (λ r. Renews field r.0 r.1 (replay_of (start_of field) (front_in r.2))) }
+    ensures settled { IfOk result (λ r.
+        SettlesFrom (start_of field) (front_in pass) (front_in r.2)) }
+    ensures renews { IfOk result (λ r.
+        Renews field r.0 r.1 (replay_of (start_of field) (front_in r.2))) }
 {
     let shape = *field.shape();
     let Closed { words: used, front } = ended(field, alloc, pass)?;

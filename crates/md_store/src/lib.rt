@@ -1,5 +1,10 @@
 //! The concurrent store: maps and queues in one field of shared words, used by several passes at
 //! once.
+//!
+//! `Store::open` lays contents out in a field, and gives the pass that holds all lanes. `split` and
+//! `join` divide passes and put them together. `settle` decides what transactions left open.
+//! `close` gives the contents that are left, and `renew` a new store with them, in which all nodes
+//! and attempts can be used again. Only `open`, `close` and `renew` take memory.
 #![tactic(auto)]
 
 pub use store::{OpenFault, Store};

@@ -43,10 +43,7 @@ fn opened(
 }
 
 // Renews a store whose pass has seen nothing.
-fn renewed(
-    store: Store,
-    pass: Pass<StoreTheory>,
-) -> Result<(Store, Pass<StoreTheory>), AllocError>
+fn renewed(store: Store, pass: Pass<StoreTheory>) -> Result<(Store, Pass<StoreTheory>), AllocError>
     requires of { IsPassOf store pass }
     requires fresh { IsFresh pass }
     requires room { needed (start_of store) ≤ room_of store.origin.shape }
@@ -62,12 +59,12 @@ fn renewed(
 fn closed(store: Store, mut pass: Pass<StoreTheory>) -> Result<Option<Contents>, AllocError>
     requires { IsPassOf store pass }
 {
-    if !pass.holds_all(&store.field) {
-        return Ok(None);
+    if pass.holds_all(&store.field) {
+        store.settle(&mut pass);
+        let (contents, _) = store.close(pass)?;
+        return Ok(Some(contents));
     }
-    store.settle(&mut pass);
-    let (contents, _) = store.close(pass)?;
-    Ok(Some(contents))
+    Ok(None)
 }
 
 #[test]
