@@ -50,6 +50,15 @@ fn churn(
     (won, pass)
 }
 
+// The lanes of a pass, as a set of bits.
+fn lane_bits(pass: &Pass<CellTheory>) -> u64 {
+    let mut bits = 0;
+    for place in 0..pass.lanes() {
+        bits |= 1u64 << pass.lane(place);
+    }
+    bits
+}
+
 // Splits a pass in two that are put behind those left; a pass of one lane is put behind the singles.
 fn split_one(
     field: &Field<CellTheory>,
@@ -130,11 +139,25 @@ fn two_passes_change_one_word_at_once(rt: HostRuntime) -> Result<(), Fail> {
 }
 
 #[test]
+fn two_lanes_are_split_once(rt: HostRuntime) -> Result<(), Fail> {
+    let shape = Shape::new(2, 16, 1, 4, 1, 64, 1)?;
+    let (field, mut first) = blank(rt.alloc(), shape)?;
+    let mut second = first.split(&field).expect(&rt, "two lanes");
+    assert_eq!(rt; lane_bits(&first), 0b01);
+    assert_eq!(rt; lane_bits(&second), 0b10);
+    assert!(rt; first.split(&field).is_none());
+    assert!(rt; second.split(&field).is_none());
+    Ok(())
+}
+
+#[test]
 fn eight_lanes_are_split_and_joined(rt: HostRuntime) -> Result<(), Fail> {
     let shape = Shape::new(8, 1, 0, 1, 1, 1, 0)?;
     let (field, mut a) = blank(rt.alloc(), shape)?;
     assert!(rt; a.holds_all(&field));
     let mut b = a.split(&field).expect(&rt, "eight lanes");
+    assert_eq!(rt; lane_bits(&a), 0b0000_1111);
+    assert_eq!(rt; lane_bits(&b), 0b1111_0000);
     let mut c = a.split(&field).expect(&rt, "four lanes");
     let d = c.split(&field).expect(&rt, "two lanes");
     assert!(rt; c.split(&field).is_none());
