@@ -81,11 +81,11 @@ module _ (M : Meaning) (o : Origin) (desc : ℕ) where
       ),
     )
 
-    pub begins : (tag : ℕ) (q : PassView) → Stepped M o (λ pass. mark_begin pass desc tag) p q → Begins o.shape desc p q
-    begins tag q s =
+    pub begins : (q : PassView) → Stepped M o (λ pass. mark_begin pass desc 0) p q → Begins o.shape desc p q
+    begins q s =
         let m = s.machine in
         let k = is_kept M o m s.admitted in
-        let e = (told_begin M o p q desc tag s).1 in
+        let e = (told_begin M o p q desc 0 s).1 in
         let mark : Step = step_of m p Load 0 (content m 0) in
         let makes : MakesStep mark p q = record { past = ap (λ (x : PassView). x.past) e; trail = ap (λ (x : PassView). x.trail) e } in
         let prefix = (k.fronts s.pass p s.acts.at).seen in record {
@@ -93,14 +93,17 @@ module _ (M : Meaning) (o : Origin) (desc : ℕ) where
           makes = makes;
           first = record {
             exists = subst (λ (h : Shape). desc < desc_count h) s.admitted.shape (own_exists m p desc (own_desc m k s.pass p s.acts.at desc own));
-            hand = new_hand (present m desc) tag;
+            hand = new_hand (present m desc) 0;
             held = ap (λ (x : PassView). x.hand) e;
             of = present_is m s.admitted s.pass s.acts;
             unready = λ x c is. false≢true (sym (never m s.admitted s.pass s.acts) ∙ subst (λ a. was_begun m.begun a ≡ true) is
                 (k.serials.begun x (subst (λ h. Contains h x) (sym prefix.is) (Contains-append_left p.seen prefix.rest x (subst (λ l. Contains l x) (ap (λ (v : PassView). v.seen) e) c)))));
             uninstalled = every_more (λ x. ¬ WonInstall first x) mark p q makes (λ won. let is = won.kind in cc)
                 (λ segment c x i won. new.steps segment c x i won.attempt);
+            nodes = every_more _ mark p q makes (λ node is stores. let is = stores.kind in cc)
+                (λ segment c x i node is stores. new.steps segment c x i stores.attempt);
           };
+          new = ap (λ a. new_hand a 0) (present_is m s.admitted s.pass s.acts);
         }
 
   -- while it is in hand, it didn't join the history, and installed no slot

@@ -2,3 +2,5 @@ mod First
 mod Trails
 mod Slots
 mod Looking
+mod Inserted
+mod Entering

@@ -2,8 +2,9 @@
 use Rattle.std.specs.Prelude.{◌≡◌, ◌≢◌, ◌<◌, ◌++◌, ◌∷◌, ℕ, Bool, true, false, [], Some}
 use Rattle.std.specs.List.{Contains}
 use Rattle.md_words.specs.declared.shape.Shape.{Shape}
-use Rattle.md_words.specs.Layout.{address, desc_count}
-use Rattle.md_words.specs.Place.{Place, slot_new, slot_old, slot_word}
+use Rattle.md_words.specs.Content.{value_of}
+use Rattle.md_words.specs.Layout.{IsNode, address, desc_count}
+use Rattle.md_words.specs.Place.{Place, node_next, slot_new, slot_old, slot_word}
 use Rattle.md_machine.specs.declared.attempt.Hand.{Hand}
 use Rattle.md_machine.specs.declared.attempt.HistoryEntry.{HistoryEntry}
 use Rattle.md_machine.specs.declared.pass.PassView.{PassView}
@@ -12,6 +13,7 @@ use Rattle.md_machine.specs.declared.step.Step.{Step}
 use Rattle.md_machine.specs.Machine.{attempt_of}
 use Rattle.md_machine.specs.Trail.{EveryStepOf, LastStored, StoresFor}
 use Rattle.md_machine.specs.events.Install.{installed_word}
+use Rattle.md_machine.specs.events.Mark.{new_hand}
 use Rattle.md_machine.specs.events.Start.{WonInstall}
 use Rattle.md_cell.specs.CellMeaning.{cell_word}
 use Rattle.md_rule.specs.Kept.{IsNew, MetNoLater}
@@ -30,7 +32,12 @@ pub record TakesFirst (p : PassState) (desc : ℕ) (q : PassState) : Type 0 wher
   pub serial : MetNoLater p.shape p.view desc 0
   pub taken : (share_at q.shares desc).tries_taken ≡ 1
 
--- the first attempt of a descriptor is in hand. It didn't join the history, and no step won an install for it
+-- no step stored to the next word of a node for the first attempt of a descriptor
+abbrev pub StoresNoNext : Shape → (desc : ℕ) → PassView → Type 0
+StoresNoNext shape desc view = EveryStepOf view (λ s. (node : ℕ) → IsNode shape node → ¬ StoresFor (attempt_of desc 0) (address shape (node_next node)) s)
+
+-- the first attempt of a descriptor is in hand. It didn't join the history, no step won an install for it, and none
+-- stored to a node for it
 pub record HasFirst (shape : Shape) (view : PassView) (desc : ℕ) : Type 0 where
   pub exists : desc < desc_count shape
   pub hand : Hand
@@ -38,6 +45,7 @@ pub record HasFirst (shape : Shape) (view : PassView) (desc : ℕ) : Type 0 wher
   pub of : hand.attempt ≡ attempt_of desc 0
   pub unready : (e : HistoryEntry) → Contains view.seen e → e.attempt ≢ attempt_of desc 0
   pub uninstalled : EveryStepOf view (λ s. ¬ WonInstall (attempt_of desc 0) s)
+  pub nodes : StoresNoNext shape desc view
 
 -- a pass made one more step
 pub record MakesStep (s : Step) (before after : PassView) : Type 0 where
@@ -49,6 +57,7 @@ pub record Begins (shape : Shape) (desc : ℕ) (before after : PassView) : Type 
   pub mark : Step
   pub makes : MakesStep mark before after
   pub first : HasFirst shape after desc
+  pub new : first.hand ≡ new_hand (attempt_of desc 0) 0
 
 -- a step stored this for the first attempt of a descriptor, in the word of a place
 pub record StoresAt (shape : Shape) (desc : ℕ) (place : Place) (held : ℕ) (s : Step) : Type 0 where
@@ -86,6 +95,14 @@ pub record PutsIn (shape : Shape) (desc from : ℕ) (won : Bool) (before after :
   pub put : Step
   pub makes : MakesStep put before after
   pub is : IsPut shape desc from won put
+  pub for : put.attempt ≡ Some (attempt_of desc 0)
+
+-- an install that won is a change of the transaction in hand, to the value that it stored last in the slot
+abbrev pub AddsChange : Shape → (desc from : ℕ) → (won : Bool) → (before after : PassView) → Type 0
+AddsChange shape desc from true before after = (h : Hand) → before.hand ≡ Some h
+    → (new : ℕ) → LastStored before (attempt_of desc 0) (address shape (slot_new desc 0)) new
+    → after.hand ≡ Some (record h { changes = h.changes ++ record { word = cell_word shape; old = value_of from; new = new } ∷ [] })
+AddsChange shape desc from false before after = after.hand ≡ before.hand
 
 -- six steps: the first attempt of a descriptor was put in hand, its slot 0 was stored and installed in the cell's word,
 -- and it was left

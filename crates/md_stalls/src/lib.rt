@@ -7,6 +7,8 @@
 pub use meeting::{Met, meet};
 pub use stalling::stall;
 
+#[cfg(test)]
+mod inserting;
 mod meeting;
 mod stalling;
 #[cfg(test)]

@@ -6,8 +6,8 @@ ghost use Rattle.md_machine.specs.declared.step.TheConstants.{LAST_COUNT};
 ghost use Rattle.md_rule.specs.Kept.{KeepsLanes};
 ghost use Rattle.md_rule.specs.Lanes.{AreLanes};
 ghost use Rattle.md_rule.specs.Views.{IsOf};
-ghost use Rattle.md_stalls.specs.Stalled.{Begins, HasFirst, HasNoFirst, HoldsSlot, PutsIn};
-ghost use Rattle.md_stalls.specs.Stalled.{Stalls, StoresSlot, TakesFirst};
+ghost use Rattle.md_stalls.specs.Stalled.{AddsChange, Begins, HasFirst, HasNoFirst, HoldsSlot};
+ghost use Rattle.md_stalls.specs.Stalled.{PutsIn, Stalls, StoresSlot, TakesFirst};
 
 use md_arena::take_descriptor;
 use md_cell::CellTheory;
@@ -49,7 +49,7 @@ pub fn stall(
 }
 
 // Puts the first attempt of a lane in hand. Its descriptor.
-fn begin(field: &Field<CellTheory>, pass: &mut Pass<CellTheory>) -> Option<u32>
+pub(crate) fn begin(field: &Field<CellTheory>, pass: &mut Pass<CellTheory>) -> Option<u32>
     requires field { IsOf pass.old field.now }
     requires idle { pass.old.view.hand ≡ None }
     ensures field { IsOf pass.new field.now }
@@ -90,7 +90,7 @@ fn kept(pass: &Pass<CellTheory>)
 }
 
 // Stores the cell's word, its content and the new value in the slot 0 of the descriptor in hand.
-fn store_slot(
+pub(crate) fn store_slot(
     field: &Field<CellTheory>,
     pass: &mut Pass<CellTheory>,
     desc: u32,
@@ -101,6 +101,7 @@ fn store_slot(
     requires first { HasFirst field.now.origin.shape pass.old.view desc }
     ensures same { pass.new ≡ record pass.old { view = pass.new.view } }
     ensures first { HasFirst field.now.origin.shape pass.new.view desc }
+    ensures hand { pass.new.view.hand ≡ pass.old.view.hand }
     ensures stores { StoresSlot field.now.origin.shape desc (word_of found) value pass.old.view
         pass.new.view }
 {
@@ -111,7 +112,12 @@ fn store_slot(
 }
 
 // Installs the slot 0 of the descriptor in hand in the cell's word. Whether that won.
-fn put(field: &Field<CellTheory>, pass: &mut Pass<CellTheory>, desc: u32, found: Content) -> bool
+pub(crate) fn put(
+    field: &Field<CellTheory>,
+    pass: &mut Pass<CellTheory>,
+    desc: u32,
+    found: Content,
+) -> bool
     requires field { IsOf pass.old field.now }
     requires first { HasFirst field.now.origin.shape pass.old.view desc }
     requires slot { HoldsSlot field.now.origin.shape desc (word_of found) pass.old.view }
@@ -119,6 +125,8 @@ fn put(field: &Field<CellTheory>, pass: &mut Pass<CellTheory>, desc: u32, found:
     requires room { found.count ≤ LAST_COUNT }
     ensures field { IsOf pass.new field.now }
     ensures puts { PutsIn field.now.origin.shape desc (word_of found) result pass.old.view
+        pass.new.view }
+    ensures hand { AddsChange field.now.origin.shape desc (word_of found) result pass.old.view
         pass.new.view }
 {
     let to = Spot { desc, slot: 0 };

@@ -2,9 +2,11 @@
 
 ghost use Rattle.std.specs.Prelude.{◌≡◌, ◌+◌, ◌<◌, ◌≤◌, IfSome, None, true};
 ghost use Rattle.md_words.specs.Content.{is_even};
+ghost use Rattle.md_words.specs.Layout.{words_of};
 ghost use Rattle.md_machine.specs.declared.step.TheConstants.{LAST_COUNT};
 ghost use Rattle.md_rule.specs.Views.{IsOf};
 
+use crate::inserting::insert;
 use crate::{Met, meet, stall};
 use md_cell::CellTheory;
 use md_help::{Cleared, End};
@@ -175,6 +177,16 @@ fn slot(field: &Field<CellTheory>, pass: &mut Pass<CellTheory>) -> [(u32, u64); 
     ]
 }
 
+// What a word holds. Nothing is in hand, before and afterwards.
+fn held(field: &Field<CellTheory>, pass: &mut Pass<CellTheory>, word: u32) -> u64
+    requires field { IsOf pass.old field.now × (word < words_of field.now.origin.shape) }
+    requires idle { pass.old.view.hand ≡ None }
+    ensures field { IsOf pass.new field.now }
+    ensures idle { pass.new.view.hand ≡ None }
+{
+    pass.load(field, word)
+}
+
 #[test]
 fn a_transaction_that_stalls_is_aborted_and_taken_out(rt: HostRuntime) -> Result<(), Fail> {
     let shape = Shape::new(2, 16, 1, 4, 1, 64, 1)?;
@@ -193,6 +205,49 @@ fn a_transaction_that_stalls_is_aborted_and_taken_out(rt: HostRuntime) -> Result
     let status = field.shape().status(field.shape().desc_of(0));
     assert_eq!(rt; (status, b.load(&field, status)), (166, 3));
     assert_eq!(rt; b.load(&field, word), 2);
+    Ok(())
+}
+
+#[test]
+fn a_transaction_is_committed_by_its_pass(rt: HostRuntime) -> Result<(), Fail> {
+    let shape = Shape::new(2, 16, 1, 4, 1, 64, 1)?;
+    let (field, mut a) = dispenser(rt.alloc(), shape)?;
+    let found = plain(&field, &mut a).expect(&rt, "no descriptor");
+    assert!(rt; insert(&field, &mut a, found, 6, true));
+    let status = field.shape().status(field.shape().desc_of(0));
+    assert_eq!(rt; held(&field, &mut a, status), 2);
+    let word = ticket_word(&field);
+    assert_eq!(rt;
+        held(&field, &mut a, word),
+        Content { value: 0, count: 1 }.word()
+    );
+    let after = Content { value: 7, count: 2 };
+    let cleared = Cleared {
+        end: End::Committed,
+        left: after.word(),
+    };
+    assert_eq!(rt; meet(&field, &mut a), Met::Cleared(cleared));
+    assert_eq!(rt; meet(&field, &mut a), Met::Plain(after));
+    Ok(())
+}
+
+#[test]
+fn another_pass_commits_a_ready_transaction(rt: HostRuntime) -> Result<(), Fail> {
+    let shape = Shape::new(2, 16, 1, 4, 1, 64, 1)?;
+    let (field, mut a) = dispenser(rt.alloc(), shape)?;
+    let mut b = a.split(&field).expect(&rt, "two lanes");
+    let found = plain(&field, &mut a).expect(&rt, "no descriptor");
+    assert!(rt; insert(&field, &mut a, found, 6, false));
+    let status = field.shape().status(field.shape().desc_of(0));
+    assert_eq!(rt; held(&field, &mut b, status), 1);
+    let after = Content { value: 7, count: 2 };
+    let cleared = Cleared {
+        end: End::Committed,
+        left: after.word(),
+    };
+    assert_eq!(rt; meet(&field, &mut b), Met::Cleared(cleared));
+    assert_eq!(rt; held(&field, &mut b, status), 2);
+    assert_eq!(rt; meet(&field, &mut a), Met::Plain(after));
     Ok(())
 }
 

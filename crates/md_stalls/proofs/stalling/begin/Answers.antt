@@ -24,5 +24,5 @@ returns-clause-some c =
     let p = c.args.pass.now in
     let t = c.in-Some.ensures.some in
     let at : c.first_attempt.new.pass.view ≡ p.view = ap (λ (x : PassState). x.view) c.first_attempt.ensures.same in
-    begins cell_meaning o c.in-Some.desc p.view t.own t.new (subst (λ (h : Shape). MetNoLater h p.view c.in-Some.desc 0) c.requires.field.shape t.serial) 0 c.mark_begin.new.self.view
+    begins cell_meaning o c.in-Some.desc p.view t.own t.new (subst (λ (h : Shape). MetNoLater h p.view c.in-Some.desc 0) c.requires.field.shape t.serial) c.mark_begin.new.self.view
     (subst (λ (v : PassView). Stepped cell_meaning o (λ pass. mark_begin pass c.in-Some.desc 0) v c.mark_begin.new.self.view) at c.mark_begin.ensures.step)

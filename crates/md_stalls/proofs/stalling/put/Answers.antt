@@ -3,7 +3,7 @@ use Rattle.md_words.specs.Content.{word_of}
 use Rattle.md_machine.specs.Event.{install}
 use Rattle.md_cell.specs.CellMeaning.{cell_meaning, cell_word}
 use Rattle.md_rule.specs.Steps.{May, SteppedFrom}
-use Rattle.md_stalls.proofs.Slots.{may_install, no_next, put_lost, put_won}
+use Rattle.md_stalls.proofs.Slots.{adds_lost, adds_won, may_install, no_next, put_lost, put_won}
 use Rattle.md_stalls.proofs.stalling.put.Goals as goal
 
 pub install-requires-clause-taken : goal.install-requires-clause-taken
@@ -35,4 +35,24 @@ returns-in-Err-clause-puts c =
     let q = c.install.new.self.view in
     let from = word_of c.args.found in
     put_lost cell_meaning o desc p c.requires.first from q c.in-Err.field-0 c.in-Err.ensures.step.0
+    (subst (λ w. SteppedFrom cell_meaning o (λ pass. install pass w from (record { desc = desc; slot = 0 })) w c.in-Err.field-0 p q) c.ticket_word.ensures.place c.in-Err.ensures.step.1)
+
+pub returns-in-Ok-clause-hand : goal.returns-in-Ok-clause-hand
+returns-in-Ok-clause-hand c =
+    let o = c.args.field.now.origin in
+    let desc = c.args.desc in
+    let p = c.args.pass.now.view in
+    let q = c.install.new.self.view in
+    let from = word_of c.args.found in
+    adds_won cell_meaning o desc p c.requires.first from q
+    (subst (λ w. SteppedFrom cell_meaning o (λ pass. install pass w from (record { desc = desc; slot = 0 })) w from p q) c.ticket_word.ensures.place c.in-Ok.ensures.step)
+
+pub returns-in-Err-clause-hand : goal.returns-in-Err-clause-hand
+returns-in-Err-clause-hand c =
+    let o = c.args.field.now.origin in
+    let desc = c.args.desc in
+    let p = c.args.pass.now.view in
+    let q = c.install.new.self.view in
+    let from = word_of c.args.found in
+    adds_lost cell_meaning o desc p c.requires.first from q c.in-Err.field-0 c.in-Err.ensures.step.0
     (subst (λ w. SteppedFrom cell_meaning o (λ pass. install pass w from (record { desc = desc; slot = 0 })) w c.in-Err.field-0 p q) c.ticket_word.ensures.place c.in-Err.ensures.step.1)

@@ -9,7 +9,7 @@ use Rattle.md_cell.specs.CellMeaning.{cell_meaning, cell_word}
 use Rattle.md_rule.specs.Steps.{Stepped}
 use Rattle.md_rule.specs.Views.{Origin}
 use Rattle.md_stalls.specs.Stalled.{HasFirst, StoresAt, StoresSlot}
-use Rattle.md_stalls.proofs.Slots.{Stored, may_store_new, may_store_old, may_store_word, stored}
+use Rattle.md_stalls.proofs.Slots.{Stored, keeps_new, keeps_old, keeps_word, may_store_new, may_store_old, may_store_word, stored}
 use Rattle.md_stalls.proofs.Trails.{three_more}
 use Rattle.md_stalls.proofs.stalling.store_slot.Goals as goal
 
@@ -29,7 +29,7 @@ store-requires-2-clause-may c =
     let desc = c.args.desc in
     let at = word_is _ _ o.shape (slot_word desc 0) c.slot_word.ensures.place c.shape.ensures in
     let at_old = word_is _ _ o.shape (slot_old desc 0) c.slot_old.ensures.place c.shape-2.ensures in
-    let one = stored cell_meaning o desc c.args.pass.now.view c.requires.first (slot_word desc 0) c.slot_word.result c.ticket_word-word.result c.store.new.self.view at c.store.ensures.step in
+    let one = stored cell_meaning o desc c.args.pass.now.view c.requires.first (slot_word desc 0) (keeps_word cell_meaning o desc c.args.pass.now.view c.requires.first) c.slot_word.result c.ticket_word-word.result c.store.new.self.view at c.store.ensures.step in
     may_store_old cell_meaning o desc c.store.new.self.view one.first c.slot_old.result c.word.result at_old
 
 pub store-requires-3-clause-may : goal.store-requires-3-clause-may
@@ -39,8 +39,8 @@ store-requires-3-clause-may c =
     let at = word_is _ _ o.shape (slot_word desc 0) c.slot_word.ensures.place c.shape.ensures in
     let at_old = word_is _ _ o.shape (slot_old desc 0) c.slot_old.ensures.place c.shape-2.ensures in
     let at_new = word_is _ _ o.shape (slot_new desc 0) c.slot_new.ensures.place c.shape-3.ensures in
-    let one = stored cell_meaning o desc c.args.pass.now.view c.requires.first (slot_word desc 0) c.slot_word.result c.ticket_word-word.result c.store.new.self.view at c.store.ensures.step in
-    let two = stored cell_meaning o desc c.store.new.self.view one.first (slot_old desc 0) c.slot_old.result c.word.result c.store-2.new.self.view at_old c.store-2.ensures.step in
+    let one = stored cell_meaning o desc c.args.pass.now.view c.requires.first (slot_word desc 0) (keeps_word cell_meaning o desc c.args.pass.now.view c.requires.first) c.slot_word.result c.ticket_word-word.result c.store.new.self.view at c.store.ensures.step in
+    let two = stored cell_meaning o desc c.store.new.self.view one.first (slot_old desc 0) (keeps_old cell_meaning o desc c.store.new.self.view one.first) c.slot_old.result c.word.result c.store-2.new.self.view at_old c.store-2.ensures.step in
     let fits = c.ranges.value.fits in
     may_store_new cell_meaning o desc c.store-2.new.self.view two.first c.slot_new.result c.args.value at_new (omega (arith, fits))
 
@@ -50,16 +50,19 @@ module _ (o : Origin) (desc w held value from : ℕ) (p q r s : PassView) (f : H
     (one : Stepped cell_meaning o (λ pass. store pass at w) p q) (two : Stepped cell_meaning o (λ pass. store pass at_old held) q r)
     (three : Stepped cell_meaning o (λ pass. store pass at_new value) r s) where
   a : Stored o.shape desc (slot_word desc 0) w p q
-  a = stored cell_meaning o desc p f (slot_word desc 0) at w q is one
+  a = stored cell_meaning o desc p f (slot_word desc 0) (keeps_word cell_meaning o desc p f) at w q is one
 
   b : Stored o.shape desc (slot_old desc 0) held q r
-  b = stored cell_meaning o desc q a.first (slot_old desc 0) at_old held r is_old two
+  b = stored cell_meaning o desc q a.first (slot_old desc 0) (keeps_old cell_meaning o desc q a.first) at_old held r is_old two
 
   c : Stored o.shape desc (slot_new desc 0) value r s
-  c = stored cell_meaning o desc r b.first (slot_new desc 0) at_new value s is_new three
+  c = stored cell_meaning o desc r b.first (slot_new desc 0) (keeps_new cell_meaning o desc r b.first) at_new value s is_new three
 
   first_still : HasFirst o.shape s desc
   first_still = c.first
+
+  same_hand : s.hand ≡ p.hand
+  same_hand = c.hand ∙ b.hand ∙ a.hand
 
   all_stored : w ≡ cell_word o.shape → held ≡ from → StoresSlot o.shape desc from value p s
   all_stored cell same = let goes = three_more a.step b.step c.step p q r s a.makes b.makes c.makes in record {
@@ -96,3 +99,15 @@ returns-clause-stores c =
     (word_is _ _ o.shape (slot_old desc 0) c.slot_old.ensures.place c.shape-2.ensures)
     (word_is _ _ o.shape (slot_new desc 0) c.slot_new.ensures.place c.shape-3.ensures)
     c.store.ensures.step c.store-2.ensures.step c.store-3.ensures.step c.ticket_word-word.ensures.place c.word.ensures.whole
+
+pub returns-clause-hand : goal.returns-clause-hand
+returns-clause-hand c =
+    let o = c.args.field.now.origin in
+    let desc = c.args.desc in
+    same_hand o desc c.ticket_word-word.result c.word.result c.args.value (word_of c.args.found)
+    c.args.pass.now.view c.store.new.self.view c.store-2.new.self.view c.store-3.new.self.view c.requires.first
+    c.slot_word.result c.slot_old.result c.slot_new.result
+    (word_is _ _ o.shape (slot_word desc 0) c.slot_word.ensures.place c.shape.ensures)
+    (word_is _ _ o.shape (slot_old desc 0) c.slot_old.ensures.place c.shape-2.ensures)
+    (word_is _ _ o.shape (slot_new desc 0) c.slot_new.ensures.place c.shape-3.ensures)
+    c.store.ensures.step c.store-2.ensures.step c.store-3.ensures.step

@@ -1,0 +1,45 @@
+use Rattle.std.proofs.Common.{sym, subst, refl}
+use Rattle.md_words.specs.declared.shape.Shape.{Shape}
+use Rattle.md_words.specs.Layout.{address}
+use Rattle.md_words.specs.Place.{desc_status}
+use Rattle.md_machine.specs.Event.{ready}
+use Rattle.md_cell.specs.CellMeaning.{cell_meaning}
+use Rattle.md_rule.specs.Steps.{SteppedFrom}
+use Rattle.md_stalls.specs.Inserting.{Inserts, inserted}
+use Rattle.md_stalls.proofs.Entering.{may_enter, stored_none}
+use Rattle.md_stalls.proofs.Inserted.{since}
+use Rattle.md_stalls.proofs.inserting.enter.Goals as goal
+
+pub ready-requires-clause-hand : goal.ready-requires-clause-hand
+ready-requires-clause-hand c =
+    let x = c.requires.inserted in record {
+      hand = inserted c.args.desc x.1;
+      held = x.2.hand;
+      of = refl;
+      status = sym c.first_status-unready.ensures;
+    }
+
+pub ready-requires-clause-taken : goal.ready-requires-clause-taken
+ready-requires-clause-taken c =
+    let x = c.requires.inserted in
+    stored_none c.args.pass.now c.args.desc x.0 x.1 (subst (λ (s : Shape). Inserts s c.args.desc x.0 x.1 c.args.pass.now.view) (sym c.requires.field.shape) x.2)
+
+pub ready-requires-clause-may : goal.ready-requires-clause-may
+ready-requires-clause-may c =
+    let x = c.requires.inserted in
+    may_enter c.args.field.now.origin c.args.desc x.0 x.1 c.args.pass.now.view x.2
+
+pub returns-in-Ok-clause-exists : goal.returns-in-Ok-clause-exists
+returns-in-Ok-clause-exists c = c.requires.inserted.2.put.exists
+
+pub returns-in-Err-clause-exists : goal.returns-in-Err-clause-exists
+returns-in-Err-clause-exists c = c.requires.inserted.2.put.exists
+
+pub returns-in-Ok-clause-since : goal.returns-in-Ok-clause-since
+returns-in-Ok-clause-since c won =
+    let o = c.args.field.now.origin in
+    let x = c.requires.inserted in
+    let p = c.args.pass.now.view in
+    let q = c.ready.new.self.view in
+    since o c.args.desc p q (inserted c.args.desc x.1) x.2.hand refl
+    (subst (λ w. SteppedFrom cell_meaning o (λ pass. ready pass 0) (address o.shape (desc_status c.args.desc)) w p q) c.first_status-unready.ensures c.in-Ok.ensures.step)

@@ -1,0 +1,125 @@
+//! A transaction that inserts a value into the cell, and goes as far as it is told.
+
+ghost use Rattle.std.specs.Prelude.{◌≡◌, ◌+◌, ◌<◌, ◌≤◌, ◌^◌, IfNone, IfSome, None, true};
+ghost use Rattle.md_words.specs.declared.status.Status.TheVariants.{InProg};
+ghost use Rattle.md_words.specs.Content.{is_even, word_of};
+ghost use Rattle.md_words.specs.Layout.{desc_count};
+ghost use Rattle.md_words.specs.Status.{status_word};
+ghost use Rattle.md_machine.specs.declared.step.TheConstants.{LAST_COUNT};
+ghost use Rattle.md_machine.specs.events.Decide.{SinceStatus};
+ghost use Rattle.md_rule.specs.Views.{IsOf};
+ghost use Rattle.md_stalls.specs.Inserting.{HasInserted};
+
+use crate::stalling::{begin, put, store_slot};
+use md_cell::CellTheory;
+use md_history::{Op, Reply};
+use md_rule::{Field, Pass};
+use md_words::{Content, Status, StatusWord};
+use std::marker::Brand;
+use std::snapshot::Snapshot;
+
+// Inserts a value into a cell that has none, as an operation of a transaction, which is in hand
+// then. Its descriptor; None if no lane has its first attempt, or if another step changed the word
+// first. Then nothing is in hand.
+fn operate(
+    field: &Field<CellTheory>,
+    pass: &mut Pass<CellTheory>,
+    found: Content,
+    value: u32,
+) -> Option<u32>
+    requires field { IsOf pass.old field.now }
+    requires idle { pass.old.view.hand ≡ None }
+    requires even { is_even found.count ≡ true }
+    requires room { found.count ≤ LAST_COUNT }
+    requires none { found.value ≡ 0 }
+    requires fits { value + 1 < 2 ^ 32 }
+    ensures field { IsOf pass.new field.now }
+    ensures some { IfSome result (λ desc. HasInserted field.now.origin.shape desc pass.new.view) }
+    ensures none { IfNone result (pass.new.view.hand ≡ None) }
+{
+    let Some(desc) = begin(field, pass) else {
+        return None;
+    };
+    pass.mark_start(field);
+    store_slot(field, pass, desc, found, value + 1);
+    if !put(field, pass, desc, found) {
+        pass.mark_leave(field);
+        return None;
+    }
+    let insert = Op::Insert {
+        map: 0,
+        key: 0,
+        value: value as u64,
+    };
+    pass.mark_act(field, insert, Reply::Flag(true));
+    Some(desc)
+}
+
+// The status of a lane's first attempt, without reads.
+fn first_status(status: Status) -> u64
+    ensures { result ≡ status_word status 0 0 }
+{
+    StatusWord {
+        status,
+        reads: 0,
+        serial: 0,
+    }
+    .word()
+}
+
+// Makes the transaction in hand ready. Whether that won.
+fn enter(field: &Field<CellTheory>, pass: &mut Pass<CellTheory>, desc: u32) -> bool
+    requires field { IsOf pass.old field.now }
+    requires inserted { HasInserted field.now.origin.shape desc pass.old.view }
+    ensures field { IsOf pass.new field.now }
+    ensures exists { desc < desc_count field.now.origin.shape }
+    ensures since { result ≡ true → SinceStatus field.now.origin.shape pass.new.view desc
+        (status_word InProg 0 0) }
+{
+    let unready = first_status(Status::InPrep);
+    match pass.ready::<Brand, _>(field, desc, unready, 0, Snapshot::of(&())) {
+        Ok(()) => true,
+        Err(_) => false,
+    }
+}
+
+// Commits the attempt, which has no reads. Whether that won.
+fn commit(field: &Field<CellTheory>, pass: &mut Pass<CellTheory>, desc: u32) -> bool
+    requires field { IsOf pass.old field.now }
+    requires exists { desc < desc_count field.now.origin.shape }
+    requires since { SinceStatus field.now.origin.shape pass.old.view desc (status_word InProg 0 0) }
+    ensures field { IsOf pass.new field.now }
+{
+    pass.commit(field, desc, first_status(Status::InProg))
+        .is_ok()
+}
+
+// A transaction of a lane's first attempt inserts a value, becomes ready, and is committed if
+// `decides` says so. It is left there. Whether each step won.
+pub(crate) fn insert(
+    field: &Field<CellTheory>,
+    pass: &mut Pass<CellTheory>,
+    found: Content,
+    value: u32,
+    decides: bool,
+) -> bool
+    requires field { IsOf pass.old field.now }
+    requires idle { pass.old.view.hand ≡ None }
+    requires even { is_even found.count ≡ true }
+    requires room { found.count ≤ LAST_COUNT }
+    ensures field { IsOf pass.new field.now }
+    ensures idle { pass.new.view.hand ≡ None }
+{
+    if found.value != 0 || value == u32::MAX {
+        return false;
+    }
+    let Some(desc) = operate(field, pass, found, value) else {
+        return false;
+    };
+    let mut won = enter(field, pass, desc);
+    if won && decides {
+        won = commit(field, pass, desc);
+    }
+    pass.mark_leave(field);
+    won
+}
