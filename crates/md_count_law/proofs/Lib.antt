@@ -1,0 +1,3 @@
+pub mod Pigeons
+pub mod Different
+pub mod Placing
