@@ -1,3 +1,4 @@
+pub mod Lists
 pub mod Pigeons
 pub mod Different
 pub mod Placing
@@ -5,3 +6,5 @@ pub mod HeapAfter
 pub mod Doing
 pub mod Charges
 pub mod Covering
+pub mod Chaining
+pub mod Recording

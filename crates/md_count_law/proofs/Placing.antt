@@ -21,7 +21,7 @@ use Rattle.md_store_law.specs.Store.{store}
 use Rattle.md_count_law.specs.Few.{PlacedAreCounted, acts_of}
 
 -- one node for an operation that added a pair or a value
-abbrev one_if : Bool → ℕ
+abbrev pub one_if : Bool → ℕ
 one_if b = cond b 1 0
 
 row_places : (shape : Shape) (list : Structure) (head map key : ℕ) (c : Certificate) → IsRow shape list head map key c
@@ -43,7 +43,7 @@ queue_places shape (Insert m k v) c is = absurd is
 queue_places shape (Remove m k) c is = absurd is
 
 -- a tidy change places none
-tidy_places : (shape : Shape) (t : TidyChange) → store.tidies shape t → t.nodes ≡ []
+pub tidy_places : (shape : Shape) (t : TidyChange) → store.tidies shape t → t.nodes ≡ []
 tidy_places shape t is = ⊎_elim (λ unlink. unlink.4.nodes) (λ move. move.nodes) is
 
 pub tidies_place : (shape : Shape) (ts : List TidyChange) → All (store.tidies shape) ts → flat_map (λ (t : TidyChange). t.nodes) ts ≡ []
