@@ -40,7 +40,7 @@ abbrev pub IsQueueWord : Shape → LogicalHeap → (word : ℕ) → Type 0
 IsQueueWord shape k word = (queue : ℕ) × (queue < shape.queues)
     × ((word ≡ address shape (queue_head queue)) ⊎ ((node : ℕ) × IsOf k queue node × (word ≡ next_word shape node)))
 
-itself : (k : LogicalHeap) → SameValues k k
+pub itself : (k : LogicalHeap) → SameValues k k
 itself k = record { shape = refl; value = λ word. refl }
 
 -- a node that is placed in a heap is placed in each that keeps its facts
@@ -103,7 +103,8 @@ module _ (h : LogicalHeap) (valid : IsStore h) (nexts notes : List ℕ) (Keys : 
   paid sofar noted_all k done r keeps t old (again i) tidies = inl (r.covered t.change.word i)
   paid sofar noted_all k done r keeps t old (passes i) tidies = inr i
 
-  tidies_reach : (sofar : List Certificate) → AreNoted sofar → (ts : List TidyChange) (k : LogicalHeap) (done : List Change) → Reaches k done
+  -- tidy changes
+  pub tidies_reach : (sofar : List Certificate) → AreNoted sofar → (ts : List TidyChange) (k : LogicalHeap) (done : List Change) → Reaches k done
       → All (store.tidies shape) ts → TidiesStandBy k k ts → KeepsFacts (after_tidies k ts) last → TidyCharged shape sofar done ts
       → Reaches (after_tidies k ts) (done ++ changes_of_tidy ts)
   tidies_reach sofar noted_all [] k done r tidies stand keeps charged = subst (Reaches k) (sym (append-nil done)) r
@@ -114,7 +115,6 @@ module _ (h : LogicalHeap) (valid : IsStore h) (nexts notes : List ℕ) (Keys : 
       let follows = store_lawful.tidy k t r.valid_now is stand.0 in
       let none = tidy_places shape t (All-head (store.tidies shape) t ts tidies) in
       let kind = subst (λ s. Tidies s k t.change) r.same_shape (tidies_of k t is stand.0) in
-
       let more = reached_more h valid nexts notes Keys Queues k done r t.change stand.0.old t.nodes
       (inr (kind, paid sofar noted_all k done r keeps_now t stand.0.old charged.0 kind))
       (λ n i. absurd (in_none n (subst (λ l. Contains l n) none i)))

@@ -242,40 +242,57 @@ module _ (h : LogicalHeap) (valid : IsStore h) (nexts notes : List ℕ) (Keys : 
       })
 
       -- an unlink of a node whose next word was changed before
-      cover_unlink : (map bucket node : ℕ) → Unlinked shape k map bucket node c → Contains (words_of_changes done) (next node) → Covered c.word
-      cover_unlink map bucket node u passed =
-          let of = valid.buckets map bucket u.is_map u.is_bucket in
-          let value : h.words.value c.word ≡ link_value node false = sym same ∙ old ∙ u.old in
-          let linked : linked_node (h.words.value c.word) ≡ node = ap linked_node value ∙ linked_node-link_value node false in
-          let i : IsIn h (Bucket map bucket) node = ⊎_elim
-          (λ none. let low = (exists node _ u.is_in).0 in let zero : node ≡ 0 = sym linked ∙ none in absurd (omega (arith, low, zero)))
-          (λ j. subst (IsIn h (Bucket map bucket)) linked j)
-          (names map bucket u.is_map u.is_bucket u.word) in
-          let plain = r.met (next node) passed map bucket node i refl in
-          let changed = r.marked map bucket node i plain u.marked in
-          let at : bucket_of shape (h.words.key_of node) ≡ bucket = of.keys node i in
-          at_place map (h.words.key_of node) changed (record {
-            is_map = u.is_map;
-            unmarked = ap is_marked value ∙ is_marked-link_value node false;
-            after = ⊎_elim
-                (λ e. inl (e ∙ ap (head_word shape map) (sym at)))
-                (λ t. let j = was_there t.0 _ t.1 t.2 in
-                inr (
-                  t.0,
-                  subst (λ b. IsIn h (Bucket map b) t.0) (sym at) j,
-                  ⊎_elim
-                      (λ none. let low = (exists node _ u.is_in).0 in
-                      let zero : node ≡ 0 = sym linked ∙ ap (λ w. linked_node (h.words.value w)) t.2 ∙ none in absurd (omega (arith, low, zero)))
-                      (λ above. subst (λ n. h.words.key_of t.0 < h.words.key_of n) (ap (λ w. linked_node (h.words.value w)) (sym t.2) ∙ linked) above.1)
-                      (of.list.rises t.0 j),
-                  t.2,
-                ))
-                u.word;
-            before = inr (
-              subst (λ b. IsIn h (Bucket map b) (linked_node (h.words.value c.word))) (sym at) (subst (IsIn h (Bucket map bucket)) (sym linked) i),
-              (let e = ap h.words.key_of linked in omega (arith, e)),
-            );
-          })
+      module _ (map bucket node : ℕ) (u : Unlinked shape k map bucket node c) where
+        was_value : h.words.value c.word ≡ link_value node false
+        was_value = sym same ∙ old ∙ u.old
+
+        was_linked : linked_node (h.words.value c.word) ≡ node
+        was_linked = ap linked_node was_value ∙ linked_node-link_value node false
+
+        not_null : node ≢ 0
+        not_null zero = let low = (exists node _ u.is_in).0 in omega (arith, low, zero)
+
+        unlinked_was : IsIn h (Bucket map bucket) node
+        unlinked_was = ⊎_elim
+            (λ none. absurd (not_null (sym was_linked ∙ none)))
+            (λ i. subst (IsIn h (Bucket map bucket)) was_linked i)
+            (names map bucket u.is_map u.is_bucket u.word)
+
+        home : bucket_of shape (h.words.key_of node) ≡ bucket
+        home = (valid.buckets map bucket u.is_map u.is_bucket).keys node unlinked_was
+
+        -- the node before it has a smaller key
+        less_before : (first : ℕ) → IsIn h (Bucket map bucket) first → c.word ≡ next first → h.words.key_of first < h.words.key_of node
+        less_before first i word = ⊎_elim
+            (λ none. absurd (not_null (sym was_linked ∙ ap (λ w. linked_node (h.words.value w)) word ∙ none)))
+            (λ above. subst (λ n. h.words.key_of first < h.words.key_of n) (ap (λ w. linked_node (h.words.value w)) (sym word) ∙ was_linked) above.1)
+            ((valid.buckets map bucket u.is_map u.is_bucket).list.rises first i)
+
+        abbrev place_list : Structure
+        place_list = Bucket map (bucket_of shape (h.words.key_of node))
+
+        after_place : (c.word ≡ head_word shape map (bucket_of shape (h.words.key_of node)))
+            ⊎ ((first : ℕ) × IsIn h place_list first × (h.words.key_of first < h.words.key_of node) × (c.word ≡ next first))
+        after_place = ⊎_elim
+            (λ e. inl (e ∙ ap (head_word shape map) (sym home)))
+            (λ t. let i = was_there t.0 _ t.1 t.2 in inr (t.0, subst (λ b. IsIn h (Bucket map b) t.0) (sym home) i, less_before t.0 i t.2, t.2))
+            u.word
+
+        before_place : IsIn h place_list (linked_node (h.words.value c.word)) × (h.words.key_of node ≤ h.words.key_of (linked_node (h.words.value c.word)))
+        before_place = (
+          subst (λ b. IsIn h (Bucket map b) (linked_node (h.words.value c.word))) (sym home) (subst (IsIn h (Bucket map bucket)) (sym was_linked) unlinked_was),
+          let e = ap h.words.key_of was_linked in omega (arith, e),
+        )
+
+        cover_unlink : Contains (words_of_changes done) (next node) → Covered c.word
+        cover_unlink passed = at_place map (h.words.key_of node)
+            (r.marked map bucket node unlinked_was (r.met (next node) passed map bucket node unlinked_was refl) u.marked)
+            (record {
+              is_map = u.is_map;
+              unmarked = ap is_marked was_value ∙ is_marked-link_value node false;
+              after = after_place;
+              before = inr before_place;
+            })
 
       cover_first : IsDone → Covered c.word
       cover_first is = ⊎_elim does (λ t. ⊎_elim (λ covered. covered) (tidies t.0) t.1) is

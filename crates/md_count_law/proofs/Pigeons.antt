@@ -29,19 +29,19 @@ without (x ∷ xs) a c = ⊎_elim
     })
     (in_cons x xs a c)
 
-module _ {A : Type 0} (Takes : ℕ → A → Type 0) (one : (x y : ℕ) (a : A) → Takes x a → Takes y a → x ≡ y) where
+module _ {A : Type 0} (Takes : ℕ → A → Type 0) where
   -- a word is charged to an element of the list
   abbrev pub ChargedTo : List A → ℕ → Type 0
   ChargedTo es x = (a : A) × Contains es a × Takes x a
 
-  pub pigeons : (xs : List ℕ) (es : List A) → AllPairs (λ (x y : ℕ). x ≢ y) xs → ((x : ℕ) → Contains xs x → ChargedTo es x)
-      → length xs ≤ length es
-  pigeons [] es differ each = omega arith
-  pigeons (x ∷ xs) es differ each =
+  pub pigeons : ((x y : ℕ) (a : A) → Takes x a → Takes y a → x ≡ y) → (xs : List ℕ) (es : List A) → AllPairs (λ (x y : ℕ). x ≢ y) xs
+      → ((x : ℕ) → Contains xs x → ChargedTo es x) → length xs ≤ length es
+  pigeons one [] es differ each = omega arith
+  pigeons one (x ∷ xs) es differ each =
       let mine = each x (here x xs) in
       let w = without es mine.0 mine.1 in
       let fewer = w.fewer in
-      let less = pigeons xs w.rest (pairs_tail (λ (x y : ℕ). x ≢ y) x xs differ) (λ y c.
+      let less = pigeons one xs w.rest (pairs_tail (λ (x y : ℕ). x ≢ y) x xs differ) (λ y c.
       let other = each y (there x xs y c) in
       ⊎_elim
       (λ same. absurd (All-contains (λ (z : ℕ). x ≢ z) xs y (pairs_head (λ (x y : ℕ). x ≢ y) x xs differ) c

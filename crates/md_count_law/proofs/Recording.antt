@@ -88,36 +88,39 @@ module _ (k : LogicalHeap) (valid : IsStore k) (c : Certificate) (stands : Stand
   -- a look that recorded the head and the next word of its node
   module _ (queue dummy next : ℕ) (within : queue < of_k.queues) (is : c.recorded ≡ head_is of_k queue (link dummy) ∷ next_is of_k dummy next ∷ []) where
     head_named : k.words.value (head_at of_k queue) ≡ link dummy
-    head_named = has (head_is of_k queue (link dummy)) (subst (λ l. Contains l (head_is of_k queue (link dummy))) (sym is) (here _ _))
+    head_named = has (head_is of_k queue (link dummy)) (subst (λ l. Contains l (head_is of_k queue (link dummy))) (sym is)
+        (here (head_is of_k queue (link dummy)) (next_is of_k dummy next ∷ [])))
 
     two_front : (op : Op) → asked_queue op c.reply ≡ Some queue → Records of_k k op c
     two_front op asked = record {
       more = [];
       few = omega arith;
-      each = λ word i. inr (queue, asked, within, ⊎_elim inl (λ e. inr (e ∙ front_of queue dummy head_named)) (two_recorded c _ _ is word i));
+      each = λ word i. inr (queue, asked, within, ⊎_elim inl (λ e. inr (e ∙ front_of queue dummy head_named)) (two_recorded c (head_is of_k queue (link dummy)) (next_is of_k dummy next) is word i));
     }
 
     two_words : (word : ℕ) → Contains (recorded_by c) word → IsQueueWord of_k k word
-    two_words word i = (queue, within, ⊎_elim inl (λ e. inr (dummy, dummy_of queue dummy within head_named, e)) (two_recorded c _ _ is word i))
+    two_words word i = (queue, within, ⊎_elim inl (λ e. inr (dummy, dummy_of queue dummy within head_named, e)) (two_recorded c (head_is of_k queue (link dummy)) (next_is of_k dummy next) is word i))
 
   module _ (queue : ℕ) (within : queue < of_k.queues) (d : Dequeues of_k queue c) where
     taken_head : k.words.value (head_at of_k queue) ≡ link d.dummy
     taken_head = All-contains (λ (x : Change). k.words.value x.word ≡ x.old) c.changes (head_change of_k queue (link d.dummy) (link d.first)) stands.old
-        (subst (λ l. Contains l (head_change of_k queue (link d.dummy) (link d.first))) (sym d.changes) (here _ _))
+        (subst (λ l. Contains l (head_change of_k queue (link d.dummy) (link d.first))) (sym d.changes)
+        (here (head_change of_k queue (link d.dummy) (link d.first)) []))
 
     dequeue_front : Records of_k k (Dequeue queue) c
     dequeue_front = record {
       more = [];
       few = omega arith;
-      each = λ word i. inr (queue, refl, within, inr (one_recorded c _ d.recorded word i ∙ front_of queue d.dummy taken_head));
+      each = λ word i. inr (queue, refl, within, inr (one_recorded c (next_is of_k d.dummy (link d.first)) d.recorded word i ∙ front_of queue d.dummy taken_head));
     }
 
     dequeue_words : (word : ℕ) → Contains (recorded_by c) word → IsQueueWord of_k k word
-    dequeue_words word i = (queue, within, inr (d.dummy, dummy_of queue d.dummy within taken_head, one_recorded c _ d.recorded word i))
+    dequeue_words word i = (queue, within, inr (d.dummy, dummy_of queue d.dummy within taken_head, one_recorded c (next_is of_k d.dummy (link d.first)) d.recorded word i))
 
   module _ (queue n : ℕ) (within : queue < of_k.queues) (l : LooksAlong of_k queue n c) where
     looked_head : k.words.value (head_at of_k queue) ≡ link l.dummy
-    looked_head = has (head_is of_k queue (link l.dummy)) (subst (λ x. Contains x (head_is of_k queue (link l.dummy))) (sym l.recorded) (here _ _))
+    looked_head = has (head_is of_k queue (link l.dummy)) (subst (λ x. Contains x (head_is of_k queue (link l.dummy))) (sym l.recorded)
+        (here (head_is of_k queue (link l.dummy)) (next_words of_k l.dummy l.seen ++ l.ending)))
 
     after_head : List ℕ
     after_head = map (λ (x : WordValue). x.word) (next_words of_k l.dummy l.seen ++ l.ending)
@@ -165,23 +168,27 @@ module _ (k : LogicalHeap) (valid : IsStore k) (c : Certificate) (stands : Stand
 
     line_words_of : (word : ℕ) → Contains (recorded_by c) word → IsQueueWord of_k k word
     unfolding after_head
-    line_words_of word i = (queue, within, ⊎_elim inl
-        (λ later.
-        let r = in_map (λ (x : WordValue). x.word) (next_words of_k l.dummy l.seen ++ l.ending) word later in
-        let dummy = dummy_of queue l.dummy within looked_head in
-        inr (⊎_elim
-        (λ j. let x = along l.dummy l.seen dummy seen_of r.0 j in (x.0, x.1, sym r.2 ∙ x.2))
-        (λ j. ⊎_elim
-        (λ (e : LooksEnough n l.seen l.ending). absurd (in_none r.0 (subst (λ z. Contains z r.0) e.is j)))
-        (λ (e : LooksToEnd of_k l.dummy n l.seen l.ending). ⊎_elim
-        (λ same. (last_seen l.dummy l.seen, last_of l.dummy l.seen dummy seen_of, sym r.2 ∙ ap (λ (x : WordValue). x.word) (sym same)))
-        (λ none. absurd (in_none r.0 none))
-        (in_cons (next_is of_k (last_seen l.dummy l.seen) 0) [] r.0 (subst (λ z. Contains z r.0) e.is j)))
-        l.ends)
-        (Contains-append_cases (next_words of_k l.dummy l.seen) l.ending r.0 r.1)))
-        (head_or_after word i))
+    line_words_of word i = (
+      queue,
+      within,
+      ⊎_elim inl
+          (λ later.
+          let r = in_map (λ (x : WordValue). x.word) (next_words of_k l.dummy l.seen ++ l.ending) word later in
+          let dummy = dummy_of queue l.dummy within looked_head in
+          inr (⊎_elim
+          (λ j. let x = along l.dummy l.seen dummy seen_of r.0 j in (x.0, x.1, sym r.2 ∙ x.2))
+          (λ j. ⊎_elim
+          (λ (e : LooksEnough n l.seen l.ending). absurd (in_none r.0 (subst (λ z. Contains z r.0) e.is j)))
+          (λ (e : LooksToEnd of_k l.dummy n l.seen l.ending). ⊎_elim
+          (λ same. (last_seen l.dummy l.seen, last_of l.dummy l.seen dummy seen_of, sym r.2 ∙ ap (λ (x : WordValue). x.word) (sym same)))
+          (λ none. absurd (in_none r.0 none))
+          (in_cons (next_is of_k (last_seen l.dummy l.seen) 0) [] r.0 (subst (λ z. Contains z r.0) e.is j)))
+          l.ends)
+          (Contains-append_cases (next_words of_k l.dummy l.seen) l.ending r.0 r.1)))
+          (head_or_after word i),
+    )
 
-  queue_records : (op : Op) → CertifiesOp of_k op c → Records of_k k op c
+  pub queue_records : (op : Op) → CertifiesOp of_k op c → Records of_k k op c
   queue_records (Enqueue q v) (within, is) = record { more = []; few = omega arith; each = λ word i. absurd (none_recorded c is.recorded word i) }
   queue_records (Dequeue q) (within, is) = ⊎_elim (dequeue_front q within) (λ n. two_front q n.dummy 0 within n.recorded (Dequeue q) refl) is
   queue_records (Front q) (within, is) = ⊎_elim
@@ -194,21 +201,11 @@ module _ (k : LogicalHeap) (valid : IsStore k) (c : Certificate) (stands : Stand
   queue_records (Remove m key) is = absurd is
 
   -- a word that an operation on a queue records is a queue's
-  queue_words : (op : Op) → CertifiesOp of_k op c → (word : ℕ) → Contains (recorded_by c) word → IsQueueWord of_k k word
-  queue_words (Enqueue q v) (within, is) word i = absurd (none_recorded c is.recorded word i)
+  pub queue_words : (op : Op) → CertifiesOp of_k op c → (word : ℕ) → Contains (recorded_by c) word → IsQueueWord of_k k word
+  queue_words (Enqueue q v) (within, is) = λ word i. absurd (none_recorded c is.recorded word i)
   queue_words (Dequeue q) (within, is) = ⊎_elim (dequeue_words q within) (λ n. two_words q n.dummy 0 within n.recorded) is
   queue_words (Front q) (within, is) = ⊎_elim (λ f. two_words q f.dummy (link f.first) within f.recorded) (λ n. two_words q n.dummy 0 within n.recorded) is
   queue_words (Line q n) (within, is) = line_words_of q n within is
-  queue_words (Get m key) is word i = absurd is
-  queue_words (Insert m key v) is word i = absurd is
-  queue_words (Remove m key) is word i = absurd is
-
-  -- the operations of a table's certificates are on maps
-  map_op : (op : Op) → is_of_map op ≡ true → CertifiesOp of_k op c → ⊥
-  map_op (Get m key) e is = is
-  map_op (Insert m key v) e is = is
-  map_op (Remove m key) e is = is
-  map_op (Enqueue q v) e is = false≢true e
-  map_op (Dequeue q) e is = false≢true e
-  map_op (Front q) e is = false≢true e
-  map_op (Line q n) e is = false≢true e
+  queue_words (Get m key) is = absurd is
+  queue_words (Insert m key v) is = absurd is
+  queue_words (Remove m key) is = absurd is

@@ -12,7 +12,7 @@ use Rattle.md_history.specs.Counts.{changed_nothing, reads, writes, nodes}
 use Rattle.md_machine.specs.declared.certificate.Certificate.{Certificate}
 use Rattle.md_machine.specs.declared.certificate.Change.{Change}
 use Rattle.md_machine.specs.declared.certificate.TidyChange.{TidyChange}
-use Rattle.md_machine.specs.Certified.{AllStandBy, all_changes, all_nodes}
+use Rattle.md_machine.specs.Certified.{AllStandBy, TidiesStandBy, after_wholes, all_changes, all_nodes, changes_of_tidy}
 use Rattle.md_machine.specs.LogicalHeap.{LogicalHeap}
 use Rattle.md_list_law.specs.ListShape.{next_word}
 use Rattle.md_store_law.specs.Store.{store}
@@ -51,7 +51,7 @@ is_of_map (Insert map key value) = true
 is_of_map (Remove map key) = true
 is_of_map op = false
 
--- of operations on maps, those that changed nothing record one word, and others none
+-- of operations on maps, those that changed nothing record one word at most, and others none
 abbrev pub RecordsOne : Certificate → Type 0
 RecordsOne c = is_of_map c.op ≡ true → length c.recorded ≤ (if changed_nothing c.op c.reply then 1 else 0)
 
@@ -91,3 +91,14 @@ RecordedAreFew = (h : LogicalHeap) (cs : List Certificate) → StandFrom h cs �
 abbrev pub WrittenAreFew : Type 0
 WrittenAreFew = (h : LogicalHeap) (cs : List Certificate) → StandFrom h cs → All RecordsOne cs → AllCharged h.words.shape [] cs
     → AtMost (writes (acts_of cs)) (Contains (changed_words cs))
+
+-- so it is after tidy changes of an operation that goes on
+pub record TidyFrom (h : LogicalHeap) (cs : List Certificate) (ts : List TidyChange) : Type 0 where
+  pub tidies : All (store.tidies h.words.shape) ts
+  pub stand : TidiesStandBy (after_wholes h cs) (after_wholes h cs) ts
+  pub charged : TidyCharged h.words.shape cs (all_changes cs) ts
+
+abbrev pub TidiedAreFew : Type 0
+TidiedAreFew = (h : LogicalHeap) (cs : List Certificate) (ts : List TidyChange) → StandFrom h cs → All RecordsOne cs
+    → AllCharged h.words.shape [] cs → TidyFrom h cs ts
+    → AtMost (writes (acts_of cs)) (Contains (words_of_changes (all_changes cs ++ changes_of_tidy ts)))

@@ -1,6 +1,6 @@
 //! The bounds on words and nodes by the counts of acts.
 
-ghost use Rattle.md_count_law.specs.Few.{PlacedAreCounted, RecordedAreFew, WrittenAreFew};
+ghost use Rattle.md_count_law.specs.Few.{PlacedAreCounted, RecordedAreFew, TidiedAreFew, WrittenAreFew};
 
 /// It does nothing: its contract is that certificates which stand one after another from a valid
 /// store name no more words and nodes than their acts count.
@@ -8,4 +8,5 @@ pub fn certificates_are_few()
     ensures placed { PlacedAreCounted }
     ensures recorded { RecordedAreFew }
     ensures written { WrittenAreFew }
+    ensures tidied { TidiedAreFew }
 {}
