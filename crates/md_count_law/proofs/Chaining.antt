@@ -1,11 +1,10 @@
 -- Certificates that stand one after another reach a heap in which each word that they changed is charged.
-use Rattle.std.proofs.Common.{◌≡◌, ◌⊎◌, ◌<◌, ◌++◌, ◌∙◌, ℕ, List, [], ◌∷◌, Option, Some, None, refl, sym, ap, subst, inl, inr, ⊎_elim, map as map_list}
-use Rattle.std.specs.List.{All, Contains, flat_map}
+use Rattle.std.proofs.Common.{◌≡◌, ◌⊎◌, ◌<◌, ◌++◌, ◌∙◌, ℕ, List, [], ◌∷◌, Some, None, refl, sym, ap, subst, inl, inr, ⊎_elim, map as map_list}
+use Rattle.std.specs.List.{All, Contains}
 use Rattle.std.proofs.lemmas.List.{append-nil, append_assoc, map-append}
 use Rattle.std.proofs.lemmas.List.Concat.{flat_map-append}
 use Rattle.std.proofs.lemmas.List.Elements.{All-contains, All-head, All-tail, Contains-append_left, Contains-append_right}
 use Rattle.md_words.specs.declared.shape.Shape.{Shape}
-use Rattle.md_words.specs.Link.{linked_node}
 use Rattle.md_words.specs.Place.{bucket_head, queue_head, queue_tail, node_next}
 use Rattle.md_words.specs.Layout.{address, IsNode}
 use Rattle.md_words.proofs.Places.{address_differs}
@@ -19,17 +18,17 @@ use Rattle.md_machine.specs.declared.node.Structure.TheVariants.{Bucket, Queue}
 use Rattle.md_machine.specs.Certified.{AllStandBy, TidiesStandBy, after_tidies, after_whole, after_wholes, all_changes, all_nodes, changes_of_tidy, whole_changes, whole_nodes}
 use Rattle.md_machine.specs.LogicalHeap.{LogicalHeap}
 use Rattle.md_machine.specs.Meaning.{KeepsFacts, Stands, after_certificate, after_tidy}
-use Rattle.md_machine.proofs.chain.Agree.{SameValues, tidies_shape, tidy_shape, whole_shape}
+use Rattle.md_machine.proofs.chain.Agree.{SameValues, tidies_shape, whole_shape}
 use Rattle.md_machine.proofs.chain.Follow.{tidies_follow, whole_follows, wholes_follow}
 use Rattle.md_machine.proofs.chain.SameNodes.{next_alone}
-use Rattle.md_machine.proofs.lists.Rising.{here, in_none, there}
+use Rattle.md_machine.proofs.lists.Rising.{here, in_none}
 use Rattle.md_list_law.specs.ListShape.{next_word}
 use Rattle.md_list_law.proofs.Changing.{heap_after}
 use Rattle.md_queue_law.specs.QueueShape.{IsOf}
 use Rattle.md_store_law.specs.Store.{IsStore, store}
 use Rattle.md_store_law.specs.Laws.Nodes.{placed_exist}
 use Rattle.md_store_law.specs.Laws.StoreLaws.{store_lawful}
-use Rattle.md_count_law.specs.Few.{AllCharged, IsCharged, TidyCharged, again, passes, placed, placed_nexts, recorded, recorded_by, recorded_words, words_of_changes}
+use Rattle.md_count_law.specs.Few.{AllCharged, IsCharged, TidyCharged, again, passes, placed, placed_nexts, recorded, recorded_by, recorded_words}
 use Rattle.md_count_law.proofs.Charges.{noted, own}
 use Rattle.md_count_law.proofs.Covering.{IsPaid, Reached, reached_more}
 use Rattle.md_count_law.proofs.Doing.{Effect, Tidies, changes, effect_of, moves, new_nodes, still, tidies_of, unlinks}

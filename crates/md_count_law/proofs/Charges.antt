@@ -1,6 +1,6 @@
 -- To what a changed word is charged: to a new node, to a word that was recorded, to a changed queue, or to a key that was
 -- changed. Of a queue three words are charged to it, and of a key two.
-use Rattle.std.proofs.Common.{◌≡◌, ◌⊎◌, ◌<◌, ◌≤◌, ◌∙◌, ℕ, false, List, Some, None, refl, sym, ap, subst, inl, inr, ⊎_elim, arith}
+use Rattle.std.proofs.Common.{◌≡◌, ◌⊎◌, ◌<◌, ◌≤◌, ◌∙◌, ℕ, false, List, sym, ap, inl, inr, ⊎_elim, arith}
 use Rattle.std.specs.List.{Contains}
 use Rattle.std.proofs.lemmas.Bool.{cases_eq, cases_lt}
 use Rattle.md_words.specs.Link.{linked_node, is_marked}

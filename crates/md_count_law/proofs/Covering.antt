@@ -1,5 +1,5 @@
 -- Along certificates that stand one after another, each changed word is charged.
-use Rattle.std.proofs.Common.{◌≡◌, ◌≢◌, ◌⊎◌, ◌<◌, ◌≤◌, ◌++◌, ◌∙◌, ℕ, true, false, List, [], ◌∷◌, Option, Some, None, refl, sym, ap, subst, inl, inr, ⊎_elim, map as map_list, arith, not, eqb}
+use Rattle.std.proofs.Common.{◌≡◌, ◌≢◌, ◌⊎◌, ◌<◌, ◌≤◌, ◌++◌, ◌∙◌, ℕ, true, false, List, [], ◌∷◌, Some, None, refl, sym, ap, subst, inl, inr, ⊎_elim, arith}
 use Rattle.std.specs.List.{Contains}
 use Rattle.std.proofs.lemmas.Bool.{both_ways, cases_Bool, cases_eq}
 use Rattle.std.proofs.lemmas.List.{map-append}
@@ -7,7 +7,7 @@ use Rattle.std.proofs.lemmas.List.Elements.{Contains-append_cases, Contains-appe
 use Rattle.md_words.specs.declared.shape.Shape.{Shape}
 use Rattle.md_words.specs.Link.{link_value, linked_node, is_marked}
 use Rattle.md_words.specs.Place.{bucket_head, queue_head, queue_tail, node_next}
-use Rattle.md_words.specs.Layout.{address, bucket_of, IsNode}
+use Rattle.md_words.specs.Layout.{bucket_of, IsNode}
 use Rattle.md_words.proofs.Places.{address_differs, bucket_of_below}
 use Rattle.md_words.proofs.Words.{is_marked-link_value, linked_node-link_value}
 use Rattle.md_machine.specs.declared.certificate.Change.{Change}
@@ -22,12 +22,12 @@ use Rattle.md_machine.proofs.lists.Rising.{here, in_cons, in_none, there}
 use Rattle.md_list_law.specs.ListShape.{head_word, next_word, IsIn, Names}
 use Rattle.md_list_law.specs.Certificates.{key_fact, next_fact}
 use Rattle.md_list_law.proofs.Changing.{heap_after}
-use Rattle.md_queue_law.specs.QueueShape.{IsOf, link}
+use Rattle.md_queue_law.specs.QueueShape.{IsOf}
 use Rattle.md_store_law.specs.Store.{IsStore}
 use Rattle.md_store_law.specs.Laws.Nodes.{placed_exist}
 use Rattle.md_count_law.specs.Few.{words_of_changes}
 use Rattle.md_count_law.proofs.Doing.{Does, Gap, IsBucketWord, Tidies, Unlinked, dequeues, enqueues, inserts, marks, moves, unlinks}
-use Rattle.md_count_law.proofs.Charges.{IsCovered, HasKey, IsLast, Leads, at_head, at_key, at_last, at_place, at_tail, noted, own}
+use Rattle.md_count_law.proofs.Charges.{IsCovered, at_head, at_key, at_last, at_place, at_tail, own}
 use Rattle.md_count_law.proofs.HeapAfter.{placed_or_new, shape_stays, word_changes, word_stays}
 
 decide_in : (xs : List ℕ) (x : ℕ) → Contains xs x ⊎ (Contains xs x → ⊥)

@@ -1,17 +1,15 @@
 -- What a change of a certificate of the store, and a tidy change, is: an insert, a mark or an unlink in a bucket, or an
 -- enqueue, a dequeue or a move of the tail of a queue.
-use Rattle.std.proofs.Common.{◌≡◌, ◌⊎◌, ◌<◌, ◌+◌, ◌∙◌, ℕ, true, false, List, [], ◌∷◌, Some, None, refl, sym, ap, subst, inl, inr, ⊎_elim}
+use Rattle.std.proofs.Common.{◌≡◌, ◌⊎◌, ◌<◌, ◌+◌, ◌∙◌, ℕ, true, false, List, [], ◌∷◌, Some, refl, sym, ap, subst, inl, inr, ⊎_elim}
 use Rattle.std.specs.List.{All, Contains}
-use Rattle.std.proofs.lemmas.List.Elements.{All-contains, All-head}
+use Rattle.std.proofs.lemmas.List.Elements.{All-contains}
 use Rattle.md_words.specs.declared.shape.Shape.{Shape}
 use Rattle.md_words.specs.Link.{link_value, linked_node, is_marked}
 use Rattle.md_words.specs.Place.{queue_head, queue_tail}
 use Rattle.md_words.specs.Layout.{address, bucket_of, IsNode}
-use Rattle.md_words.proofs.Words.{is_marked-link_value, linked_node-link_value}
+use Rattle.md_words.proofs.Words.{is_marked-link_value}
 use Rattle.md_history.specs.declared.acts.Op.{Op}
 use Rattle.md_history.specs.declared.acts.Op.TheVariants.{Get, Insert, Remove, Enqueue, Dequeue, Front, Line}
-use Rattle.md_history.specs.declared.acts.Reply.{Reply}
-use Rattle.md_history.specs.declared.acts.Reply.TheVariants.{Value, Flag}
 use Rattle.md_history.specs.Counts.{changed_key, changed_queue, dequeued}
 use Rattle.md_machine.specs.declared.certificate.Certificate.{Certificate}
 use Rattle.md_machine.specs.declared.certificate.Change.{Change}
@@ -23,7 +21,7 @@ use Rattle.md_machine.specs.declared.node.Structure.TheVariants.{Bucket, Queue}
 use Rattle.md_machine.specs.LogicalHeap.{Holds, LogicalHeap}
 use Rattle.md_machine.specs.Meaning.{Stands, TidyStands}
 use Rattle.md_machine.proofs.lists.Rising.{here, in_cons, in_none}
-use Rattle.md_list_law.specs.Certificates.{IsPlaceOf, IsRow, IsUnlink, get_some, get_none, insert_false, insert_true, key_fact, node_fact, pair_fact, next_fact, remove_none, remove_some}
+use Rattle.md_list_law.specs.Certificates.{IsPlaceOf, IsRow, get_some, get_none, insert_false, insert_true, key_fact, node_fact, pair_fact, next_fact, remove_none, remove_some}
 use Rattle.md_list_law.specs.ListShape.{head_word, next_word, IsIn, NamesAbove}
 use Rattle.md_queue_law.specs.QueueShape.{IsOf, link}
 use Rattle.md_queue_law.specs.QueueCertificates.{CertifiesOp, has_key, has_next, head_change, new_node, next_change}

@@ -1,6 +1,6 @@
 -- What certificates leave of the heads of queues, and how few different words they record.
-use Rattle.std.proofs.Common.{◌≡◌, ◌≢◌, ◌⊎◌, ◌<◌, ◌≤◌, ◌+◌, ◌*◌, ◌++◌, ◌∙◌, ℕ, Bool, true, false, List, [], ◌∷◌, Some, None, length, map, cond, refl, sym, ap, subst, inl, inr, ⊎_elim, arith, eqb-true, nat_eq}
-use Rattle.std.specs.List.{All, AllPairs, Contains, count_by, filter_map, flat_map, sum_by}
+use Rattle.std.proofs.Common.{◌≡◌, ◌≢◌, ◌⊎◌, ◌<◌, ◌≤◌, ◌+◌, ◌++◌, ◌∙◌, ℕ, true, List, [], ◌∷◌, Some, length, map, refl, sym, ap, subst, inl, inr, ⊎_elim, arith, eqb-true, nat_eq}
+use Rattle.std.specs.List.{All, Contains, count_by, filter_map, flat_map, sum_by}
 use Rattle.std.proofs.lemmas.Bool.{cases_eq}
 use Rattle.std.proofs.lemmas.List.{length-append, length-map}
 use Rattle.std.proofs.lemmas.List.Elements.{All-contains, All-head, All-tail, Contains-append_cases, Contains-append_left, Contains-append_right}
@@ -8,13 +8,13 @@ use Rattle.std.proofs.lemmas.List.Sums.{sum_by-cons}
 use Rattle.md_words.specs.declared.shape.Shape.{Shape}
 use Rattle.md_words.specs.Link.{linked_node}
 use Rattle.md_words.specs.Place.{bucket_head, queue_head, queue_tail, node_next}
-use Rattle.md_words.specs.Layout.{address, IsNode, bucket_of}
+use Rattle.md_words.specs.Layout.{IsNode, bucket_of}
 use Rattle.md_words.proofs.Places.{address_differs, bucket_of_below}
 use Rattle.md_history.specs.declared.acts.Act.{Act}
 use Rattle.md_history.specs.declared.acts.Op.{Op}
 use Rattle.md_history.specs.declared.acts.Reply.{Reply}
 use Rattle.md_history.specs.Act.{act_of}
-use Rattle.md_history.specs.Counts.{asked_queue, changed_nothing, dequeued, different, line_words}
+use Rattle.md_history.specs.Counts.{asked_queue, changed_nothing, dequeued, line_words}
 use Rattle.md_machine.specs.declared.certificate.Certificate.{Certificate}
 use Rattle.md_machine.specs.declared.certificate.Change.{Change}
 use Rattle.md_machine.specs.declared.certificate.NewNode.{NewNode}
@@ -39,7 +39,7 @@ use Rattle.md_count_law.proofs.HeapAfter.{word_stays}
 use Rattle.md_count_law.proofs.Lists.{filter_map_in, flat_in, length_flat}
 use Rattle.md_count_law.proofs.Pigeons.{pigeons}
 use Rattle.md_count_law.proofs.Placing.{one_if, tidy_places}
-use Rattle.md_count_law.proofs.Recording.{IsFront, Records, first_next, head_at, more_words, queue_records}
+use Rattle.md_count_law.proofs.Recording.{Records, first_next, head_at, queue_records}
 
 -- operations on maps
 pub row_map : (shape : Shape) (list : Structure) (head map key : ℕ) (c : Certificate) → IsRow shape list head map key c → is_of_map c.op ≡ true

@@ -1,5 +1,5 @@
 -- Elements of lists that are made of others, and their lengths.
-use Rattle.std.proofs.Common.{◌≡◌, ◌+◌, ◌*◌, ◌++◌, ◌∙◌, ℕ, List, [], ◌∷◌, Option, Some, None, length, refl, sym, ap, subst, inl, inr, ⊎_elim, arith}
+use Rattle.std.proofs.Common.{◌≡◌, ◌*◌, ◌∙◌, ℕ, List, [], ◌∷◌, Option, Some, None, length, sym, ap, subst, ⊎_elim, arith}
 use Rattle.std.specs.List.{Contains, cons_option, filter_map, flat_map}
 use Rattle.std.proofs.Math.Nat.{mul-suc, mul-zero}
 use Rattle.std.proofs.lemmas.List.{length-append}

@@ -1,35 +1,30 @@
 -- How few different words certificates record.
-use Rattle.std.proofs.Common.{◌≡◌, ◌≢◌, ◌⊎◌, ◌<◌, ◌≤◌, ◌+◌, ◌*◌, ◌++◌, ◌∙◌, ℕ, suc, Bool, true, false, List, [], ◌∷◌, Option, Some, None, length, map, cond, refl, sym, ap, subst, inl, inr, ⊎_elim, arith}
-use Rattle.std.specs.List.{All, AllPairs, Contains, count_by, filter_map, flat_map, sum_by}
-use Rattle.std.proofs.lemmas.Bool.{cases_Bool, cases_eq, false≢true}
-use Rattle.std.proofs.lemmas.List.{length-append, length-map, map-append}
-use Rattle.std.proofs.lemmas.List.Elements.{All-contains, All-head, All-tail, Contains-append_cases, Contains-append_left, Contains-append_right}
-use Rattle.std.proofs.lemmas.List.Sums.{sum_by-cons}
+use Rattle.std.proofs.Common.{◌≡◌, ◌⊎◌, ◌<◌, ◌≤◌, ◌+◌, ◌++◌, ◌∙◌, ℕ, suc, List, [], ◌∷◌, Some, length, map, refl, sym, ap, subst, inl, inr, ⊎_elim, arith}
+use Rattle.std.specs.List.{Contains}
+use Rattle.std.proofs.lemmas.List.{length-append, length-map}
+use Rattle.std.proofs.lemmas.List.Elements.{All-contains, Contains-append_cases}
 use Rattle.md_words.specs.declared.shape.Shape.{Shape}
 use Rattle.md_words.specs.Link.{linked_node}
 use Rattle.md_words.specs.Place.{queue_head}
 use Rattle.md_words.specs.Layout.{address}
-use Rattle.md_history.specs.declared.acts.Act.{Act}
 use Rattle.md_history.specs.declared.acts.Op.{Op}
 use Rattle.md_history.specs.declared.acts.Op.TheVariants.{Get, Insert, Remove, Enqueue, Dequeue, Front, Line}
 use Rattle.md_history.specs.declared.acts.Reply.{Reply}
-use Rattle.md_history.specs.Counts.{asked_queue, changed_nothing, dequeued, line_words}
+use Rattle.md_history.specs.Counts.{asked_queue, changed_nothing, line_words}
 use Rattle.md_machine.specs.declared.certificate.Certificate.{Certificate}
 use Rattle.md_machine.specs.declared.certificate.Change.{Change}
 use Rattle.md_machine.specs.declared.certificate.Fact.{Fact}
 use Rattle.md_machine.specs.declared.certificate.WordValue.{WordValue}
-use Rattle.md_machine.specs.declared.node.Structure.{Structure}
-use Rattle.md_machine.specs.declared.node.Structure.TheVariants.{Queue}
 use Rattle.md_machine.specs.LogicalHeap.{Holds, LogicalHeap}
 use Rattle.md_machine.specs.Meaning.{Stands}
 use Rattle.md_machine.proofs.lists.Rising.{here, in_cons, in_map, in_none, map_in, there}
 use Rattle.md_list_law.specs.ListShape.{next_word}
 use Rattle.md_queue_law.specs.QueueShape.{IsOf, head_of, link}
-use Rattle.md_queue_law.specs.QueueCertificates.{CertifiesOp, Dequeues, FindsFirst, FindsNone, LooksAlong, LooksEnough, LooksToEnd, Seen, has_value, head_change, head_is, last_seen, next_is, next_words}
+use Rattle.md_queue_law.specs.QueueCertificates.{CertifiesOp, Dequeues, LooksAlong, LooksEnough, LooksToEnd, Seen, has_value, head_change, head_is, last_seen, next_is, next_words}
 use Rattle.md_queue_law.specs.Laws.Named.{named_is_of}
 use Rattle.md_queue_law.specs.Laws.Words.{linked_node-link}
-use Rattle.md_store_law.specs.Store.{IsStore, store}
-use Rattle.md_count_law.specs.Few.{RecordsOne, is_of_map, recorded_by}
+use Rattle.md_store_law.specs.Store.{IsStore}
+use Rattle.md_count_law.specs.Few.{recorded_by}
 use Rattle.md_count_law.proofs.Chaining.{IsQueueWord}
 use Rattle.md_count_law.proofs.Placing.{one_if}
 

@@ -1,5 +1,5 @@
 -- How few different words certificates change.
-use Rattle.std.proofs.Common.{◌≡◌, ◌≢◌, ◌⊎◌, ◌<◌, ◌≤◌, ◌+◌, ◌*◌, ◌++◌, ◌∙◌, ◌&&◌, ◌==◌, ℕ, Bool, true, false, List, [], ◌∷◌, Some, None, length, map as map_list, cond, refl, sym, ap, subst, inl, inr, ⊎_elim, arith, eqb-true, nat_eq}
+use Rattle.std.proofs.Common.{◌≡◌, ◌⊎◌, ◌≤◌, ◌+◌, ◌*◌, ◌++◌, ◌∙◌, ◌==◌, ℕ, true, false, List, [], ◌∷◌, length, map as map_list, cond, refl, sym, ap, subst, inl, inr, ⊎_elim, arith, eqb-true, nat_eq}
 use Rattle.std.specs.List.{All, Contains, count_by, filter_map, flat_map}
 use Rattle.std.proofs.lemmas.Bool.{and_parts, cases_Bool, cond-true, cond-false}
 use Rattle.std.proofs.lemmas.List.{append-nil, length-append, length-map}
@@ -10,7 +10,7 @@ use Rattle.md_words.specs.Place.{queue_tail}
 use Rattle.md_words.specs.Layout.{address}
 use Rattle.md_history.specs.declared.acts.Act.{Act}
 use Rattle.md_history.specs.Act.{act_of}
-use Rattle.md_history.specs.Counts.{changed_key, changed_nothing, changed_queue, different, nodes, same_key}
+use Rattle.md_history.specs.Counts.{changed_key, changed_nothing, changed_queue, same_key}
 use Rattle.md_machine.specs.declared.certificate.Certificate.{Certificate}
 use Rattle.md_machine.specs.declared.certificate.Change.{Change}
 use Rattle.md_machine.specs.declared.certificate.NewNode.{NewNode}
@@ -19,8 +19,8 @@ use Rattle.md_machine.specs.Certified.{AllStandBy, after_tidies, after_whole, af
 use Rattle.md_machine.specs.LogicalHeap.{LogicalHeap}
 use Rattle.md_machine.specs.Meaning.{KeepsFacts}
 use Rattle.md_machine.proofs.chain.Agree.{tidies_shape, whole_shape, wholes_shape}
-use Rattle.md_machine.proofs.chain.Follow.{tidies_follow, whole_follows, wholes_follow}
-use Rattle.md_machine.proofs.lists.Rising.{here, in_cons, in_none, map_in, there}
+use Rattle.md_machine.proofs.chain.Follow.{tidies_follow, wholes_follow}
+use Rattle.md_machine.proofs.lists.Rising.{here, in_none, map_in, there}
 use Rattle.md_list_law.specs.ListShape.{next_word}
 use Rattle.md_store_law.specs.Store.{IsStore, store}
 use Rattle.md_store_law.specs.Laws.StoreLaws.{store_lawful}
@@ -30,7 +30,7 @@ use Rattle.md_count_law.proofs.Charges.{HasKey, IsCovered, IsLast, Leads, at_hea
 use Rattle.md_count_law.proofs.Covering.{reached_first}
 use Rattle.md_count_law.proofs.Different.{once}
 use Rattle.md_count_law.proofs.Fronts.{row_map}
-use Rattle.md_count_law.proofs.Lists.{filter_map_in, flat_in, in_flat, length_flat}
+use Rattle.md_count_law.proofs.Lists.{filter_map_in, flat_in, length_flat}
 use Rattle.md_count_law.proofs.Pigeons.{ChargedTo, pigeons}
 use Rattle.md_count_law.proofs.Placing.{one_if, places}
 use Rattle.md_count_law.proofs.Recording.{head_at, queue_words}
