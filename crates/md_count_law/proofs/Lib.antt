@@ -11,3 +11,4 @@ pub mod Recording
 pub mod Fronts
 pub mod Writing
 pub mod Appending
+pub mod RowsHold

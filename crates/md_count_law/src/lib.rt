@@ -13,7 +13,7 @@
 //!    other tidy changes by plain exchanges, which are in no certificate.
 #![tactic(auto)]
 
-pub use counts::certificates_are_few;
+pub use counts::{certificates_are_few, worked_counts};
 
 mod counts;
 #[cfg(test)]

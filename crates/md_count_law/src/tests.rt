@@ -1,8 +1,9 @@
-//! The law is one that a caller can name.
+//! The laws and the worked certificates are ones that a caller can name.
 
-use crate::certificates_are_few;
+use crate::{certificates_are_few, worked_counts};
 
 #[test]
 fn certificates_name_few() {
     certificates_are_few();
+    worked_counts();
 }
