@@ -1,0 +1,14 @@
+pub mod Lists
+pub mod Pigeons
+pub mod Different
+pub mod Placing
+pub mod HeapAfter
+pub mod Doing
+pub mod Charges
+pub mod Covering
+pub mod Chaining
+pub mod Recording
+pub mod Fronts
+pub mod Writing
+pub mod Appending
+pub mod RowsHold
