@@ -40,7 +40,7 @@ use Rattle.md_list.specs.Walking.{Gives, HasFound, IsBefore, IsHead, IsHeadOf, I
 use Rattle.md_list.proofs.Changing.{changing, may_end_changing}
 use Rattle.md_list.proofs.Critical.{ChangedCritically, changed_critically}
 use Rattle.md_list.proofs.FreshNode.{apart_from_fresh, fresh_after, fresh_unwritten}
-use Rattle.md_list.proofs.Laters.{before_later, head_later, there_later}
+use Rattle.md_list.proofs.FoundOn.{before_later, head_later, there_later}
 use Rattle.md_list.proofs.ListWords.{cleanups_stay, may_change}
 use Rattle.md_list.proofs.LookUps.{Gap, gap}
 use Rattle.md_list.proofs.Charging.{KeepsMarks, charged_later, marks_kept, marks_over, marks_slots}

@@ -22,7 +22,6 @@ pub mod Critical
 pub mod Changing
 pub mod UnlinkLater
 pub mod Removing
-pub mod Laters
 pub mod FreshNode
 pub mod Inserting
 pub mod Charged

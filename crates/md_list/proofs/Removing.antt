@@ -48,7 +48,7 @@ use Rattle.md_list.specs.Operations.{IsAnswered, KeepsUnlink}
 use Rattle.md_list_law.proofs.Links.{head_is_no_next}
 use Rattle.md_list.proofs.Changing.{changing, may_end_changing}
 use Rattle.md_list.proofs.Critical.{ChangedCritically, changed_critically}
-use Rattle.md_list.proofs.Laters.{before_later, head_later}
+use Rattle.md_list.proofs.FoundOn.{before_later, head_later}
 use Rattle.md_list.proofs.ListWords.{mark_stays, next_may_change}
 use Rattle.md_list.proofs.LookUps.{here_node, pair_known}
 use Rattle.md_list.proofs.Marks.{mark_set}
