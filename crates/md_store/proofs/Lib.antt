@@ -10,6 +10,4 @@ pub mod Settlement
 pub mod Closed
 pub mod Rooms
 pub mod Renewing
-pub mod Runs
-pub mod Attempts
 pub mod AllLanes

@@ -1,5 +1,4 @@
 pub mod Store
 pub mod Settling
 pub mod Ending
-pub mod Running
 pub mod Laws

@@ -8,19 +8,11 @@
 #![tactic(auto)]
 
 pub use store::{OpenFault, Store};
-pub use txn::StoreTxn;
 
-mod attempt;
-mod begin;
-mod broken;
-mod calls;
 mod ending;
 mod engine;
 mod moves;
-mod on_maps;
-mod on_queues;
 mod settling;
 mod store;
-mod txn;
 #[cfg(test)]
 mod tests;
