@@ -10,3 +10,4 @@ pub mod StoodThen
 pub mod Tells
 pub mod Shows
 pub mod Outcome
+pub mod Ended

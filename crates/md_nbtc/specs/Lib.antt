@@ -11,6 +11,7 @@ pub mod Going
 pub mod Looking
 pub mod Calls
 pub mod Ending
+pub mod Ended
 pub mod Deciding
 pub mod Beginning
 pub mod Withdrawing

@@ -5,9 +5,10 @@ ghost use Rattle.md_words.specs.declared.status.Status.TheVariants.{InPrep, InPr
 ghost use Rattle.md_words.specs.Status.{status_word};
 ghost use Rattle.md_nbtc.specs.Ending.{Aborts, Commits, HasEntry, IsReady, IsShown, Readies, Stopped};
 ghost use Rattle.md_nbtc.specs.Ending.{TellsWhy, receipt_of};
+ghost use Rattle.md_nbtc.specs.Ended.{WasCommitted, WasLost};
 ghost use Rattle.md_nbtc.specs.Ending.{ready_state, shown_unready};
 ghost use Rattle.md_nbtc.specs.Going.{IsUnderWay};
-ghost use Rattle.md_nbtc.specs.State.{state};
+ghost use Rattle.md_nbtc.specs.State.{state, state_of};
 
 use crate::deciding::{settle, validate};
 use crate::receipt::Receipt;
@@ -113,6 +114,48 @@ impl<'a, T: Theory> Txn<'a, T> {
     }
 }
 
+impl<'a, T: Theory> Txn<'a, T> {
+    /// Makes the transaction ready and decides it at once, as `ready` and `decide` in turn do. It
+    /// has their conditions, steps and answers, but gives no receipt, and takes no memory.
+    pub fn commit(self) -> Result<(), Shown>
+        requires going { IsUnderWay T.meaning (state self) }
+        requires between { (state self).hand.operating ≡ false }
+        requires runs { (state self).stop ≡ None }
+        ensures committed { IfOk result (λ _. WasCommitted T.meaning (state self.entry)
+            self.exit.0.now) }
+        ensures lost { IfErr result (WasLost T.meaning (state self.entry) self.exit.0.now) }
+    {
+        let about = Snapshot::of(&self);
+        let Txn {
+            pass,
+            field,
+            began,
+            desc,
+            serial,
+            tag,
+            reads,
+            slots,
+            lots,
+            stop: _,
+        } = self;
+        let from = unready(serial);
+        match pass.ready::<Brand, _>(field, desc, from, reads.len(), about) {
+            Ok(()) => decided(
+                pass, field, &began, desc, serial, tag, &reads, &slots, &lots,
+            ),
+            Err(found) => {
+                let attempt = AttemptId { desc, serial };
+                withdraw(pass, field, attempt, &slots, &lots, &began);
+                Err(Shown {
+                    word: field.shape().status(desc),
+                    was: from,
+                    now: found,
+                })
+            }
+        }
+    }
+}
+
 // The status word of an attempt that isn't ready.
 fn unready(serial: u64) -> u64
     requires { serial < 2 ^ 54 }
@@ -158,30 +201,12 @@ impl<'a, T: Theory> Ready<'a, T> {
             slots,
             lots,
         } = self;
-        let attempt = AttemptId { desc, serial };
-        let moved = validate(pass, field, desc, &reads);
-        let from = in_progress(reads.len(), serial);
-        match settle(pass, field, attempt, from, moved) {
-            Ok(()) => {
-                finish(pass, field, attempt, &slots);
-                Ok(Receipt::of(tag, &reads, &slots))
-            }
-            Err(shown) => {
-                withdraw(pass, field, attempt, &slots, &lots, &began);
-                Err(shown)
-            }
+        match decided(
+            pass, field, &began, desc, serial, tag, &reads, &slots, &lots,
+        ) {
+            Ok(()) => Ok(Receipt::of(tag, &reads, &slots)),
+            Err(shown) => Err(shown),
         }
-    }
-
-    /// Leaves the transaction undecided, and the pass as it is. Dropping it does the same, and
-    /// tells nothing of the pass. Another pass that meets its descriptor in a word validates it,
-    /// and commits or aborts it. Else the lane's next `begin` does. Its cleanups are never made,
-    /// and its nodes stay taken for good, also after an abort. No step.
-    pub fn leave(self)
-        ensures { self.exit.0.now ≡ self.entry.pass.now }
-    {
-        let Ready { pass, .. } = self;
-        let _ = pass;
     }
 }
 
@@ -196,4 +221,45 @@ fn in_progress(reads: u8, serial: u64) -> u64
         serial,
     }
     .word()
+}
+
+// Decides a transaction that is ready. What moved, if it is aborted.
+fn decided<T: Theory>(
+    pass: &mut Pass<T>,
+    field: &Field<T>,
+    began: &Snapshot<Pass<T>>,
+    desc: u32,
+    serial: u64,
+    tag: u64,
+    reads: &Reads,
+    slots: &Slots,
+    lots: &Lots,
+) -> Result<(), Shown>
+    requires { IsReady T.meaning (state_of field.now pass.old began.now.value reads.now slots.now None
+        desc serial tag lots.now) }
+    ensures committed { IfOk result (λ _. (e : HasEntry (state_of field.now pass.old began.now.value
+        reads.now slots.now None desc serial tag lots.now))
+        × Commits T.meaning (state_of field.now pass.old began.now.value reads.now slots.now None
+        desc serial tag lots.now) e pass.new) }
+    ensures aborted { IfErr result (λ shown. Aborts T.meaning (state_of field.now pass.old
+        began.now.value reads.now slots.now None desc serial tag lots.now) pass.new
+        × IsShown (state_of field.now pass.old began.now.value reads.now slots.now None desc serial
+        tag lots.now) pass.new shown
+        × TellsWhy (state_of field.now pass.old began.now.value reads.now slots.now None desc serial
+        tag lots.now) pass.new shown) }
+{
+    let _ = tag;
+    let attempt = AttemptId { desc, serial };
+    let moved = validate(pass, field, desc, reads);
+    let from = in_progress(reads.len(), serial);
+    match settle(pass, field, attempt, from, moved) {
+        Ok(()) => {
+            finish(pass, field, attempt, slots);
+            Ok(())
+        }
+        Err(shown) => {
+            withdraw(pass, field, attempt, slots, lots, began);
+            Err(shown)
+        }
+    }
 }
