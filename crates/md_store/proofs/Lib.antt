@@ -11,3 +11,5 @@ pub mod Closed
 pub mod Rooms
 pub mod Renewing
 pub mod AllLanes
+pub mod Runs
+pub mod Attempts

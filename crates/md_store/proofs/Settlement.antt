@@ -59,7 +59,7 @@ all_own f p h all none lane =
     (cases_Bool (is_lane_of g.lanes lane))
 
 -- all lanes are held
-holds_all : (shape : Shape) (p : PassView) → p.lanes ≡ all_lanes shape → HoldsAll shape p
+pub holds_all : (shape : Shape) (p : PassView) → p.lanes ≡ all_lanes shape → HoldsAll shape p
 holds_all shape p all lane less = subst (λ l. Contains l lane) (sym all) (range_in 0 shape.lanes lane (omega arith) (omega (arith, less)))
 
 -- a pass put down what it had in hand

@@ -2,3 +2,4 @@ pub mod Store
 pub mod Settling
 pub mod Ending
 pub mod Laws
+pub mod Running

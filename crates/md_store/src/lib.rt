@@ -9,10 +9,16 @@
 
 pub use store::{OpenFault, Store};
 
+mod attempt;
+mod broken;
+mod calls;
 mod ending;
 mod engine;
 mod moves;
+mod on_maps;
+mod on_queues;
 mod settling;
 mod store;
 #[cfg(test)]
 mod tests;
+mod txn;

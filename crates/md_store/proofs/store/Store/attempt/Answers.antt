@@ -1,0 +1,285 @@
+use Rattle.std.proofs.Common.{None, Some, ap, refl, subst, sym, ◌∙◌}
+use Rattle.md_machine.specs.declared.attempt.Hand.{Hand}
+use Rattle.md_nbtc.specs.Ending.{BeginsNot}
+use Rattle.md_nbtc.specs.State.{state}
+use Rattle.md_rule.specs.Views.{FieldView, PassState}
+use Rattle.md_store_law.specs.Store.{store}
+use Rattle.md_store.specs.Running.{BrokeWith, IsRunning}
+use Rattle.md_store.specs.Store.{IsPassOf, begun_by, front_in, start_of}
+use Rattle.md_history.specs.Attempt.{Commits, Stops}
+use Rattle.md_history.specs.Engine.{IsNoConflict}
+use Rattle.md_history.specs.Front.{LegalFrom}
+use Rattle.md_store.proofs.Attempts.{RunOf, alone_lost, at_err, at_ok, begun_committed, begun_lost, begun_runs, begun_stopped, counted_if, front_committed, front_lost, front_stopped, legal_of, of_committed, of_lost, of_stopped, on_err, refused_to, unbegun_counts, unbegun_front, unbegun_of}
+use Rattle.md_store.proofs.store.Store.attempt.Goals as goal
+
+pub returns-in-Err-clause-stopped : goal.returns-in-Err-clause-stopped
+returns-in-Err-clause-stopped g c =
+    let p = c.args.pass.now in
+    let f = c.args.self.now in
+    let q = c.begin.follows.lender-at-none in
+    let none : BeginsNot store p f.origin q = subst (λ (x : FieldView). BeginsNot store p x.origin q) c.self.view_is
+    (on_err c.begin.result c.in-Err.limit (BeginsNot store p c.self.inside.field.origin q) c.in-Err.is c.begin.follows.holds-at-none) in
+    unbegun_front f p q c.requires.of none c.args.tag
+
+pub returns-in-Err-clause-legal : goal.returns-in-Err-clause-legal
+returns-in-Err-clause-legal g c =
+    let p = c.args.pass.now in
+    let f = c.args.self.now in
+    let q = c.begin.follows.lender-at-none in
+    let none : BeginsNot store p f.origin q = subst (λ (x : FieldView). BeginsNot store p x.origin q) c.self.view_is
+    (on_err c.begin.result c.in-Err.limit (BeginsNot store p c.self.inside.field.origin q) c.in-Err.is c.begin.follows.holds-at-none) in
+    legal_of f q (unbegun_of f p q c.requires.of none)
+
+pub returns-in-Err-clause-of : goal.returns-in-Err-clause-of
+returns-in-Err-clause-of g c =
+    let p = c.args.pass.now in
+    let f = c.args.self.now in
+    let q = c.begin.follows.lender-at-none in
+    let none : BeginsNot store p f.origin q = subst (λ (x : FieldView). BeginsNot store p x.origin q) c.self.view_is
+    (on_err c.begin.result c.in-Err.limit (BeginsNot store p c.self.inside.field.origin q) c.in-Err.is c.begin.follows.holds-at-none) in
+    unbegun_of f p q c.requires.of none
+
+pub returns-in-Err-clause-begun : goal.returns-in-Err-clause-begun
+returns-in-Err-clause-begun g c =
+    let p = c.args.pass.now in
+    let f = c.args.self.now in
+    let q = c.begin.follows.lender-at-none in
+    let none : BeginsNot store p f.origin q = subst (λ (x : FieldView). BeginsNot store p x.origin q) c.self.view_is
+    (on_err c.begin.result c.in-Err.limit (BeginsNot store p c.self.inside.field.origin q) c.in-Err.is c.begin.follows.holds-at-none) in
+    unbegun_counts f p q c.requires.of none
+
+pub returns-in-Ok-commit-clause-of : goal.returns-in-Ok-commit-clause-of
+returns-in-Ok-commit-clause-of g c =
+    let p = c.args.pass.now in
+    let f = c.args.self.now in
+    let u = state c.run-txn.result in
+    let q = c.commit.new.self.0 in
+    let told = at_ok c.run-txn.new.out c.in-Ok-out.reply _ c.in-Ok-out.is c.run-txn.ensures.ok in
+    let x : RunOf f p c.args.tag u None = record {
+      running = subst (λ (b : PassState). IsRunning b u None) c.of-before.ensures told.0;
+      field = c.run-txn.ensures.field ∙ c.in-Ok.ensures.field ∙ c.self.view_is;
+      tagged = c.run-txn.ensures.tag ∙ ap (λ (h : Hand). h.tag) c.in-Ok.ensures.begun.hand;
+    } in
+    let was = c.in-Ok-commit.ensures.committed in
+    let same = c.pass-in-Ok-out-1.given.1 (sym (c.run-txn.ensures.pass ∙ c.in-Ok.ensures.pass)) in
+    subst (IsPassOf f) (sym same) (of_committed f p c.requires.of c.args.tag u None x q was)
+
+pub returns-in-Ok-commit-clause-legal : goal.returns-in-Ok-commit-clause-legal
+returns-in-Ok-commit-clause-legal g c =
+    let p = c.args.pass.now in
+    let f = c.args.self.now in
+    let u = state c.run-txn.result in
+    let q = c.commit.new.self.0 in
+    let told = at_ok c.run-txn.new.out c.in-Ok-out.reply _ c.in-Ok-out.is c.run-txn.ensures.ok in
+    let x : RunOf f p c.args.tag u None = record {
+      running = subst (λ (b : PassState). IsRunning b u None) c.of-before.ensures told.0;
+      field = c.run-txn.ensures.field ∙ c.in-Ok.ensures.field ∙ c.self.view_is;
+      tagged = c.run-txn.ensures.tag ∙ ap (λ (h : Hand). h.tag) c.in-Ok.ensures.begun.hand;
+    } in
+    let was = c.in-Ok-commit.ensures.committed in
+    let same = c.pass-in-Ok-out-1.given.1 (sym (c.run-txn.ensures.pass ∙ c.in-Ok.ensures.pass)) in
+    subst (λ (z : PassState). LegalFrom (start_of f) (front_in z)) (sym same) (legal_of f q (of_committed f p c.requires.of c.args.tag u None x q was))
+
+pub returns-in-Ok-commit-clause-begun : goal.returns-in-Ok-commit-clause-begun
+returns-in-Ok-commit-clause-begun g c =
+    let p = c.args.pass.now in
+    let f = c.args.self.now in
+    let u = state c.run-txn.result in
+    let q = c.commit.new.self.0 in
+    let told = at_ok c.run-txn.new.out c.in-Ok-out.reply _ c.in-Ok-out.is c.run-txn.ensures.ok in
+    let x : RunOf f p c.args.tag u None = record {
+      running = subst (λ (b : PassState). IsRunning b u None) c.of-before.ensures told.0;
+      field = c.run-txn.ensures.field ∙ c.in-Ok.ensures.field ∙ c.self.view_is;
+      tagged = c.run-txn.ensures.tag ∙ ap (λ (h : Hand). h.tag) c.in-Ok.ensures.begun.hand;
+    } in
+    let was = c.in-Ok-commit.ensures.committed in
+    let same = c.pass-in-Ok-out-1.given.1 (sym (c.run-txn.ensures.pass ∙ c.in-Ok.ensures.pass)) in
+    ap begun_by same ∙ begun_committed f p c.requires.of c.args.tag u None x q was
+
+pub returns-in-Ok-commit-clause-committed : goal.returns-in-Ok-commit-clause-committed
+returns-in-Ok-commit-clause-committed g c =
+    let p = c.args.pass.now in
+    let f = c.args.self.now in
+    let u = state c.run-txn.result in
+    let q = c.commit.new.self.0 in
+    let told = at_ok c.run-txn.new.out c.in-Ok-out.reply _ c.in-Ok-out.is c.run-txn.ensures.ok in
+    let x : RunOf f p c.args.tag u None = record {
+      running = subst (λ (b : PassState). IsRunning b u None) c.of-before.ensures told.0;
+      field = c.run-txn.ensures.field ∙ c.in-Ok.ensures.field ∙ c.self.view_is;
+      tagged = c.run-txn.ensures.tag ∙ ap (λ (h : Hand). h.tag) c.in-Ok.ensures.begun.hand;
+    } in
+    let was = c.in-Ok-commit.ensures.committed in
+    let same = c.pass-in-Ok-out-1.given.1 (sym (c.run-txn.ensures.pass ∙ c.in-Ok.ensures.pass)) in
+    subst (λ (z : PassState). Commits (g.B.Body.did c.args.body.now) c.args.tag c.in-Ok-out.reply (front_in p) (front_in z)) (sym same)
+    (front_committed f p c.requires.of c.args.tag u None x q (g.B.Body.did c.args.body.now) c.in-Ok-out.reply told.1 was)
+
+pub run-txn-requires-clause-running : goal.run-txn-requires-clause-running
+run-txn-requires-clause-running g c =
+    let t = state c.in-Ok.txn in
+    subst (λ (b : PassState). IsRunning b t None) (sym c.of-before.ensures)
+    (begun_runs c.args.pass.now c.args.tag t c.in-Ok.ensures.begun c.in-Ok.ensures.going)
+
+pub returns-in-Err-commit-clause-stopped : goal.returns-in-Err-commit-clause-stopped
+returns-in-Err-commit-clause-stopped g c =
+    let p = c.args.pass.now in
+    let f = c.args.self.now in
+    let u = state c.run-txn.result in
+    let q = c.commit.new.self.0 in
+    let told = at_ok c.run-txn.new.out c.in-Ok-out.reply _ c.in-Ok-out.is c.run-txn.ensures.ok in
+    let x : RunOf f p c.args.tag u None = record {
+      running = subst (λ (b : PassState). IsRunning b u None) c.of-before.ensures told.0;
+      field = c.run-txn.ensures.field ∙ c.in-Ok.ensures.field ∙ c.self.view_is;
+      tagged = c.run-txn.ensures.tag ∙ ap (λ (h : Hand). h.tag) c.in-Ok.ensures.begun.hand;
+    } in
+    let lost = c.in-Err-commit.ensures.lost in
+    let shown = c.in-Err-commit.shown in
+    let same = c.pass-in-Ok-out-1.given.1 (sym (c.run-txn.ensures.pass ∙ c.in-Ok.ensures.pass)) in
+    subst (λ (z : PassState). Stops c.args.tag (front_in p) (front_in z)) (sym same) (front_lost f p c.requires.of c.args.tag u None x q shown lost)
+
+pub returns-in-Err-commit-clause-legal : goal.returns-in-Err-commit-clause-legal
+returns-in-Err-commit-clause-legal g c =
+    let p = c.args.pass.now in
+    let f = c.args.self.now in
+    let u = state c.run-txn.result in
+    let q = c.commit.new.self.0 in
+    let told = at_ok c.run-txn.new.out c.in-Ok-out.reply _ c.in-Ok-out.is c.run-txn.ensures.ok in
+    let x : RunOf f p c.args.tag u None = record {
+      running = subst (λ (b : PassState). IsRunning b u None) c.of-before.ensures told.0;
+      field = c.run-txn.ensures.field ∙ c.in-Ok.ensures.field ∙ c.self.view_is;
+      tagged = c.run-txn.ensures.tag ∙ ap (λ (h : Hand). h.tag) c.in-Ok.ensures.begun.hand;
+    } in
+    let lost = c.in-Err-commit.ensures.lost in
+    let shown = c.in-Err-commit.shown in
+    let same = c.pass-in-Ok-out-1.given.1 (sym (c.run-txn.ensures.pass ∙ c.in-Ok.ensures.pass)) in
+    subst (λ (z : PassState). LegalFrom (start_of f) (front_in z)) (sym same) (legal_of f q (of_lost f p c.requires.of c.args.tag u None x q shown lost))
+
+pub returns-in-Err-commit-clause-of : goal.returns-in-Err-commit-clause-of
+returns-in-Err-commit-clause-of g c =
+    let p = c.args.pass.now in
+    let f = c.args.self.now in
+    let u = state c.run-txn.result in
+    let q = c.commit.new.self.0 in
+    let told = at_ok c.run-txn.new.out c.in-Ok-out.reply _ c.in-Ok-out.is c.run-txn.ensures.ok in
+    let x : RunOf f p c.args.tag u None = record {
+      running = subst (λ (b : PassState). IsRunning b u None) c.of-before.ensures told.0;
+      field = c.run-txn.ensures.field ∙ c.in-Ok.ensures.field ∙ c.self.view_is;
+      tagged = c.run-txn.ensures.tag ∙ ap (λ (h : Hand). h.tag) c.in-Ok.ensures.begun.hand;
+    } in
+    let lost = c.in-Err-commit.ensures.lost in
+    let shown = c.in-Err-commit.shown in
+    let same = c.pass-in-Ok-out-1.given.1 (sym (c.run-txn.ensures.pass ∙ c.in-Ok.ensures.pass)) in
+    subst (IsPassOf f) (sym same) (of_lost f p c.requires.of c.args.tag u None x q shown lost)
+
+pub returns-in-Err-commit-clause-begun : goal.returns-in-Err-commit-clause-begun
+returns-in-Err-commit-clause-begun g c =
+    let p = c.args.pass.now in
+    let f = c.args.self.now in
+    let u = state c.run-txn.result in
+    let q = c.commit.new.self.0 in
+    let told = at_ok c.run-txn.new.out c.in-Ok-out.reply _ c.in-Ok-out.is c.run-txn.ensures.ok in
+    let x : RunOf f p c.args.tag u None = record {
+      running = subst (λ (b : PassState). IsRunning b u None) c.of-before.ensures told.0;
+      field = c.run-txn.ensures.field ∙ c.in-Ok.ensures.field ∙ c.self.view_is;
+      tagged = c.run-txn.ensures.tag ∙ ap (λ (h : Hand). h.tag) c.in-Ok.ensures.begun.hand;
+    } in
+    let lost = c.in-Err-commit.ensures.lost in
+    let shown = c.in-Err-commit.shown in
+    let same = c.pass-in-Ok-out-1.given.1 (sym (c.run-txn.ensures.pass ∙ c.in-Ok.ensures.pass)) in
+    ap begun_by same ∙ begun_lost f p c.requires.of c.args.tag u None x q shown lost
+
+pub returns-in-Err-commit-clause-alone : goal.returns-in-Err-commit-clause-alone
+returns-in-Err-commit-clause-alone g c =
+    let p = c.args.pass.now in
+    let f = c.args.self.now in
+    let u = state c.run-txn.result in
+    let q = c.commit.new.self.0 in
+    let told = at_ok c.run-txn.new.out c.in-Ok-out.reply _ c.in-Ok-out.is c.run-txn.ensures.ok in
+    let x : RunOf f p c.args.tag u None = record {
+      running = subst (λ (b : PassState). IsRunning b u None) c.of-before.ensures told.0;
+      field = c.run-txn.ensures.field ∙ c.in-Ok.ensures.field ∙ c.self.view_is;
+      tagged = c.run-txn.ensures.tag ∙ ap (λ (h : Hand). h.tag) c.in-Ok.ensures.begun.hand;
+    } in
+    let lost = c.in-Err-commit.ensures.lost in
+    let shown = c.in-Err-commit.shown in
+    let same = c.pass-in-Ok-out-1.given.1 (sym (c.run-txn.ensures.pass ∙ c.in-Ok.ensures.pass)) in
+    alone_lost f p c.requires.of c.args.tag u None x q shown lost
+
+pub returns-in-Err-out-clause-stopped : goal.returns-in-Err-out-clause-stopped
+returns-in-Err-out-clause-stopped g c =
+    let p = c.args.pass.now in
+    let f = c.args.self.now in
+    let u = state c.run-txn.result in
+    let q = c.stop.new.self.0 in
+    let told : BrokeWith c.of-before.result.value u c.in-Err-out.stop = at_err c.run-txn.new.out c.in-Err-out.stop _ c.in-Err-out.is c.run-txn.ensures.err in
+    let x : RunOf f p c.args.tag u (Some told.refusal) = record {
+      running = subst (λ (b : PassState). IsRunning b u (Some told.refusal)) c.of-before.ensures told.running;
+      field = c.run-txn.ensures.field ∙ c.in-Ok.ensures.field ∙ c.self.view_is;
+      tagged = c.run-txn.ensures.tag ∙ ap (λ (h : Hand). h.tag) c.in-Ok.ensures.begun.hand;
+    } in
+    let gone = c.stop.ensures in
+    let same = c.pass-in-Err-out-1.given.1 (sym (c.run-txn.ensures.pass ∙ c.in-Ok.ensures.pass)) in
+    subst (λ (z : PassState). Stops c.args.tag (front_in p) (front_in z)) (sym same) (front_stopped f p c.requires.of c.args.tag u (Some told.refusal) x q gone)
+
+pub returns-in-Err-out-clause-legal : goal.returns-in-Err-out-clause-legal
+returns-in-Err-out-clause-legal g c =
+    let p = c.args.pass.now in
+    let f = c.args.self.now in
+    let u = state c.run-txn.result in
+    let q = c.stop.new.self.0 in
+    let told : BrokeWith c.of-before.result.value u c.in-Err-out.stop = at_err c.run-txn.new.out c.in-Err-out.stop _ c.in-Err-out.is c.run-txn.ensures.err in
+    let x : RunOf f p c.args.tag u (Some told.refusal) = record {
+      running = subst (λ (b : PassState). IsRunning b u (Some told.refusal)) c.of-before.ensures told.running;
+      field = c.run-txn.ensures.field ∙ c.in-Ok.ensures.field ∙ c.self.view_is;
+      tagged = c.run-txn.ensures.tag ∙ ap (λ (h : Hand). h.tag) c.in-Ok.ensures.begun.hand;
+    } in
+    let gone = c.stop.ensures in
+    let same = c.pass-in-Err-out-1.given.1 (sym (c.run-txn.ensures.pass ∙ c.in-Ok.ensures.pass)) in
+    subst (λ (z : PassState). LegalFrom (start_of f) (front_in z)) (sym same) (legal_of f q (of_stopped f p c.requires.of c.args.tag u (Some told.refusal) x q gone))
+
+pub returns-in-Err-out-clause-of : goal.returns-in-Err-out-clause-of
+returns-in-Err-out-clause-of g c =
+    let p = c.args.pass.now in
+    let f = c.args.self.now in
+    let u = state c.run-txn.result in
+    let q = c.stop.new.self.0 in
+    let told : BrokeWith c.of-before.result.value u c.in-Err-out.stop = at_err c.run-txn.new.out c.in-Err-out.stop _ c.in-Err-out.is c.run-txn.ensures.err in
+    let x : RunOf f p c.args.tag u (Some told.refusal) = record {
+      running = subst (λ (b : PassState). IsRunning b u (Some told.refusal)) c.of-before.ensures told.running;
+      field = c.run-txn.ensures.field ∙ c.in-Ok.ensures.field ∙ c.self.view_is;
+      tagged = c.run-txn.ensures.tag ∙ ap (λ (h : Hand). h.tag) c.in-Ok.ensures.begun.hand;
+    } in
+    let gone = c.stop.ensures in
+    let same = c.pass-in-Err-out-1.given.1 (sym (c.run-txn.ensures.pass ∙ c.in-Ok.ensures.pass)) in
+    subst (IsPassOf f) (sym same) (of_stopped f p c.requires.of c.args.tag u (Some told.refusal) x q gone)
+
+pub returns-in-Err-out-clause-begun : goal.returns-in-Err-out-clause-begun
+returns-in-Err-out-clause-begun g c =
+    let p = c.args.pass.now in
+    let f = c.args.self.now in
+    let u = state c.run-txn.result in
+    let q = c.stop.new.self.0 in
+    let told : BrokeWith c.of-before.result.value u c.in-Err-out.stop = at_err c.run-txn.new.out c.in-Err-out.stop _ c.in-Err-out.is c.run-txn.ensures.err in
+    let x : RunOf f p c.args.tag u (Some told.refusal) = record {
+      running = subst (λ (b : PassState). IsRunning b u (Some told.refusal)) c.of-before.ensures told.running;
+      field = c.run-txn.ensures.field ∙ c.in-Ok.ensures.field ∙ c.self.view_is;
+      tagged = c.run-txn.ensures.tag ∙ ap (λ (h : Hand). h.tag) c.in-Ok.ensures.begun.hand;
+    } in
+    let gone = c.stop.ensures in
+    let same = c.pass-in-Err-out-1.given.1 (sym (c.run-txn.ensures.pass ∙ c.in-Ok.ensures.pass)) in
+    counted_if c.in-Err-out.stop (begun_by p) _ (ap begun_by same ∙ begun_stopped f p c.requires.of c.args.tag u (Some told.refusal) x q gone)
+
+pub returns-in-Err-out-clause-alone : goal.returns-in-Err-out-clause-alone
+returns-in-Err-out-clause-alone g c =
+    let p = c.args.pass.now in
+    let f = c.args.self.now in
+    let u = state c.run-txn.result in
+    let q = c.stop.new.self.0 in
+    let told : BrokeWith c.of-before.result.value u c.in-Err-out.stop = at_err c.run-txn.new.out c.in-Err-out.stop _ c.in-Err-out.is c.run-txn.ensures.err in
+    let x : RunOf f p c.args.tag u (Some told.refusal) = record {
+      running = subst (λ (b : PassState). IsRunning b u (Some told.refusal)) c.of-before.ensures told.running;
+      field = c.run-txn.ensures.field ∙ c.in-Ok.ensures.field ∙ c.self.view_is;
+      tagged = c.run-txn.ensures.tag ∙ ap (λ (h : Hand). h.tag) c.in-Ok.ensures.begun.hand;
+    } in
+    let gone = c.stop.ensures in
+    let same = c.pass-in-Err-out-1.given.1 (sym (c.run-txn.ensures.pass ∙ c.in-Ok.ensures.pass)) in
+    λ all. subst IsNoConflict told.same (refused_to f p c.requires.of u (Some told.refusal) x.running x.field told.refusal refl all)

@@ -1,0 +1,88 @@
+//! Attempts: a body that is run once, as a transaction of the store.
+
+ghost use Rattle.std.specs.Prelude.{◌≡◌, [], IfErr, IfOk, None};
+ghost use Rattle.md_history.specs.Attempt.{Commits, IfCommitted, IfStopped, IsCounted, Stops};
+ghost use Rattle.md_history.specs.Engine.{IsNoConflict};
+ghost use Rattle.md_history.specs.Front.{LegalFrom};
+ghost use Rattle.md_nbtc.specs.State.{shape_in, state};
+ghost use Rattle.md_store.specs.Running.{BrokeWith, IsRunning};
+ghost use Rattle.md_store.specs.Store.{IsPassOf, MayStop, all_lanes, begun_by, front_in, start_of};
+
+use crate::store::Store;
+use crate::txn::StoreTxn;
+use md_history::{Attempt, Body, Stop};
+use md_nbtc::Txn;
+use md_rule::Pass;
+use md_store_law::StoreTheory;
+use std::snapshot::Snapshot;
+
+// Runs a body over a transaction that was just begun. The transaction as it stands then; `out` is
+// what the body returned.
+fn run<'a, B: Body>(
+    txn: Txn<'a, StoreTheory>,
+    before: Snapshot<Pass<StoreTheory>>,
+    body: &B,
+    out: &mut Result<B::Reply, Stop>,
+) -> Txn<'a, StoreTheory>
+    requires running { IsRunning before.value (state txn) None }
+    requires none { (state txn).hand.acts ≡ [] }
+    requires fits { B.fits body.now (shape_in (state txn)).maps (shape_in (state txn)).queues }
+    ensures pass { result.pass.ghost_name ≡ txn.entry.pass.ghost_name }
+    ensures field { (state result).field ≡ (state txn.entry).field }
+    ensures tag { (state result).hand.tag ≡ (state txn.entry).hand.tag }
+    ensures ok { IfOk out.new (λ r. IsRunning before.value (state result) None
+        × B.did body.now (state result).hand.acts r) }
+    ensures err { IfErr out.new (λ why. BrokeWith before.value (state result) why) }
+{
+    let mut running = StoreTxn {
+        txn,
+        before,
+        broken: None,
+    };
+    *out = body.go(&mut running);
+    let StoreTxn { txn, .. } = running;
+    txn
+}
+
+impl Store {
+    /// Runs a body once, as a transaction with a tag. It takes effect as a whole, as the last entry
+    /// of the history, or not at all. It takes no memory.
+    ///
+    /// A pass that holds all lanes meets no conflict.
+    pub fn attempt<B: Body>(
+        &self,
+        pass: &mut Pass<StoreTheory>,
+        tag: u64,
+        body: &B,
+    ) -> Attempt<B::Reply>
+        requires of { IsPassOf self.now pass.old }
+        requires fits { B.fits body.now self.now.origin.shape.maps self.now.origin.shape.queues }
+        ensures committed { IfCommitted result (λ r.
+            Commits (B.did body.now) tag r (front_in pass.old) (front_in pass.new)) }
+        ensures stopped { IfStopped result (λ _. Stops tag (front_in pass.old) (front_in pass.new)) }
+        ensures legal { LegalFrom (start_of self.now) (front_in pass.new) }
+        ensures of { IsPassOf self.now pass.new }
+        ensures begun { IsCounted result (begun_by pass.old) (begun_by pass.new) }
+        ensures may_stop { IfStopped result MayStop }
+        ensures alone { (front_in pass.old).lanes ≡ all_lanes self.now.origin.shape
+            → IfStopped result IsNoConflict }
+    {
+        let before = Snapshot::of(&*pass);
+        let txn = match Txn::begin(pass, &self.field, tag) {
+            Ok(txn) => txn,
+            Err(limit) => return Attempt::Stopped(Stop::Limit(limit)),
+        };
+        let mut out = Err(Stop::NoMemory);
+        let txn = run(txn, before, body, &mut out);
+        match out {
+            Ok(reply) => match txn.commit() {
+                Ok(()) => Attempt::Committed(reply),
+                Err(shown) => Attempt::Stopped(Stop::Conflict(shown)),
+            },
+            Err(stop) => {
+                txn.stop();
+                Attempt::Stopped(stop)
+            }
+        }
+    }
+}
