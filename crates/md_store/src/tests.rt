@@ -1,5 +1,5 @@
 //! Stores that are opened, divided, put together again, settled, renewed and closed, without
-//! transactions.
+//! transactions; `attempts` runs bodies.
 
 ghost use Rattle.std.specs.Prelude.{◌≤◌, IfOk};
 ghost use Rattle.md_history.specs.Engine.{needed};
@@ -12,6 +12,8 @@ use md_store_law::StoreTheory;
 use md_words::Shape;
 use std::alloc::{AllocError, Global};
 use std::test::Fail;
+
+mod attempts;
 
 // Two pairs in two maps, and three values in two queues.
 fn pairs_and_values(alloc: Global) -> Result<Contents, AllocError> {
