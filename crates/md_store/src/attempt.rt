@@ -45,10 +45,18 @@ fn run<'a, B: Body>(
 }
 
 impl Store {
-    /// Runs a body once, as a transaction with a tag. It takes effect as a whole, as the last entry
-    /// of the history, or not at all. It takes no memory.
+    /// Runs a body once, as a transaction with a tag, by the pass's lowest lane that has an
+    /// attempt left. The body must fit the store's numbers of maps and queues.
     ///
-    /// A pass that holds all lanes meets no conflict.
+    /// `Committed` has the body's reply: the transaction took effect as a whole, as the last entry
+    /// of the history that the pass has seen. `Stopped` means that it took no effect. A limit comes
+    /// if no lane has an attempt left, before the body runs, or from the first of its calls that was
+    /// refused. A conflict comes from such a call, or from the decision: a word that was read
+    /// has changed, or another transaction aborted this one. A pass that holds all lanes meets no
+    /// conflict. `NoMemory` never comes: no call takes memory.
+    ///
+    /// The cost is that of the body's calls, of which md_list and md_queue tell the steps, and of
+    /// `Txn::begin`, `Txn::commit` and `Txn::stop`.
     pub fn attempt<B: Body>(
         &self,
         pass: &mut Pass<StoreTheory>,
