@@ -208,6 +208,17 @@ impl<'a, T: Theory> Ready<'a, T> {
             Err(shown) => Err(shown),
         }
     }
+
+    /// Leaves the transaction undecided, and the pass as it is. Dropping it does the same, and
+    /// tells nothing of the pass. Another pass that meets its descriptor in a word validates it,
+    /// and commits or aborts it. Else the lane's next `begin` does. Its cleanups are never made,
+    /// and its nodes stay taken for good, also after an abort. No step.
+    pub fn leave(self)
+        ensures { self.exit.0.now ≡ self.entry.pass.now }
+    {
+        let Ready { pass, .. } = self;
+        let _ = pass;
+    }
 }
 
 // The status word of an attempt that is ready.
