@@ -17,7 +17,7 @@ use Rattle.md_machine.proofs.chain.Agree.{SameValues, same_tidies, same_tidy, sa
 use Rattle.md_list_law.specs.ListShape.{next_word}
 use Rattle.md_count_law.specs.Few.{AllCharged, IsCharged, TidyCharged, again, passes, placed, placed_nexts, recorded, recorded_by, recorded_words}
 
-tidies_by_itself : (own h : LogicalHeap) → SameValues own h → (ts : List TidyChange) → TidiesStandBy own h ts → TidiesStandBy h h ts
+pub tidies_by_itself : (own h : LogicalHeap) → SameValues own h → (ts : List TidyChange) → TidiesStandBy own h ts → TidiesStandBy h h ts
 tidies_by_itself own h same [] stand = tt
 tidies_by_itself own h same (t ∷ ts) stand = (
   record { old = sym (same.value t.change.word) ∙ stand.0.old; facts = stand.0.facts; fresh = stand.0.fresh },

@@ -1,5 +1,5 @@
 -- What the calls of a transaction do, answered or refused.
-use Rattle.std.specs.Prelude.{◌≡◌, ◌<◌, ◌≤◌, ◌^◌, ℕ, List, [], ◌∷◌, ◌++◌, Option, Some, None, unwrap_or, length, All}
+use Rattle.std.specs.Prelude.{◌≡◌, ◌≤◌, ℕ, List, [], ◌∷◌, ◌++◌, Option, Some, None, unwrap_or, length}
 use Rattle.md_history.specs.declared.acts.Op.{Op}
 use Rattle.md_history.specs.declared.acts.Op.TheVariants.{Get, Insert, Remove, Enqueue, Dequeue, Front, Line}
 use Rattle.md_history.specs.declared.acts.Line.{Line as Values}
@@ -41,21 +41,16 @@ pub record IsLineLength (n : ℕ) : Type 0 where
 pub record IsLineOf (n : ℕ) (l : Values) : Type 0 where
   pub shown : List ℕ
   pub few : length shown ≤ n
-  pub fit : All (λ v. v < 2 ^ 64) shown
   pub is : l ≡ line_of shown
 
--- the replies that an operation can have
+-- the replies of an operation's kind
 abbrev pub MayReply : Op → Reply → Type 0
 MayReply (Insert m k v) (Flag b) = Unit {0}
 MayReply (Enqueue q v) Nothing = Unit {0}
-MayReply (Get m k) (Value None) = Unit {0}
-MayReply (Get m k) (Value (Some v)) = v < 2 ^ 64
-MayReply (Remove m k) (Value None) = Unit {0}
-MayReply (Remove m k) (Value (Some v)) = v < 2 ^ 64
-MayReply (Dequeue q) (Value None) = Unit {0}
-MayReply (Dequeue q) (Value (Some v)) = v < 2 ^ 64
-MayReply (Front q) (Value None) = Unit {0}
-MayReply (Front q) (Value (Some v)) = v < 2 ^ 64
+MayReply (Get m k) (Value v) = Unit {0}
+MayReply (Remove m k) (Value v) = Unit {0}
+MayReply (Dequeue q) (Value v) = Unit {0}
+MayReply (Front q) (Value v) = Unit {0}
 MayReply (Line q n) (TheLine l) = IsLineOf n l
 MayReply _ _ = ⊥
 

@@ -15,12 +15,14 @@ use Rattle.md_nbtc.proofs.preparing.Heaps.{later_self}
 use Rattle.md_nbtc.proofs.preparing.Later.{later_over}
 use Rattle.md_nbtc.proofs.structures.Answering.{IsStopped}
 use Rattle.md_nbtc.proofs.structures.Noting.{HasNoted}
-use Rattle.md_list.specs.Operations.{Leaves}
+use Rattle.md_list.specs.Operations.{Leaves, SlotsStay}
+use Rattle.md_list.proofs.Staying.{KeepsNone, slots_kept, slots_over, slots_same}
 
--- one call adds so much at most, and leaves the acts and that an operation is begun
+-- one call adds so much at most, and leaves the acts, the slots, and that an operation is begun
 pub record Adds (t u : TxnState) (reads writes nodes : ℕ) : Type 0 where
   pub acts : u.hand.acts ≡ t.hand.acts
   pub operates : u.hand.operating ≡ t.hand.operating
+  pub slots : SlotsStay t u
   pub reads_few : length u.reads ≤ length t.reads + reads
   pub slots_few : length u.slots ≤ length t.slots + writes
   pub nodes_few : length u.nodes ≤ length t.nodes + nodes
@@ -31,6 +33,7 @@ module _ (t u : TxnState) where
   adds_steps same = record {
     acts = ap (λ (x : TxnState). x.hand.acts) same;
     operates = ap (λ (x : TxnState). x.hand.operating) same;
+    slots = slots_same t u (ap (λ (x : TxnState). x.slots) same);
     reads_few = let l = ap (λ (x : TxnState). length x.reads) same in omega (arith, l);
     slots_few = let l = ap (λ (x : TxnState). length x.slots) same in omega (arith, l);
     nodes_few = let l = ap (λ (x : TxnState). length x.nodes) same in omega (arith, l);
@@ -40,6 +43,7 @@ module _ (t u : TxnState) where
   adds_stop s is = record {
     acts = ap (λ (x : TxnState). x.hand.acts) is;
     operates = ap (λ (x : TxnState). x.hand.operating) is;
+    slots = slots_same t u (ap (λ (x : TxnState). x.slots) is);
     reads_few = let l = ap (λ (x : TxnState). length x.reads) is in omega (arith, l);
     slots_few = let l = ap (λ (x : TxnState). length x.slots) is in omega (arith, l);
     nodes_few = let l = ap (λ (x : TxnState). length x.nodes) is in omega (arith, l);
@@ -50,6 +54,7 @@ module _ (t u : TxnState) where
   adds_note word seen noted = record {
     acts = ap (λ h. h.acts) noted.hand;
     operates = ap (λ h. h.operating) noted.hand;
+    slots = slots_same t u noted.slots;
     reads_few = noted.few;
     slots_few = let l = ap (λ ss. length ss) noted.slots in omega (arith, l);
     nodes_few = let l = ap (λ ns. length ns) noted.nodes in omega (arith, l);
@@ -62,16 +67,18 @@ module _ (t u : TxnState) where
       record {
         acts = ap (λ (x : TxnState). x.hand.acts) fresh.new;
         operates = ap (λ (x : TxnState). x.hand.operating) fresh.new;
+        slots = slots_same t u (ap (λ (x : TxnState). x.slots) fresh.new);
         reads_few = let l = ap (λ (x : TxnState). length x.reads) fresh.new in omega (arith, l);
         slots_few = let l = ap (λ (x : TxnState). length x.slots) fresh.new in omega (arith, l);
         nodes_few = let l = ap (λ (x : TxnState). length x.nodes) fresh.new in omega (arith, l, length-append t.nodes (own ∷ []));
       }
 
   -- a cleanup adds nothing
-  pub adds_cleanup : (c : Cleanup) → u ≡ record t { slots = with_cleanup_kept t c } → Adds t u 0 0 0
-  adds_cleanup c kept = record {
+  pub adds_cleanup : (c : Cleanup) → KeepsNone t (address (shape_in t) (node_next (cleanup_node c))) → u ≡ record t { slots = with_cleanup_kept t c } → Adds t u 0 0 0
+  adds_cleanup c none kept = record {
     acts = ap (λ (x : TxnState). x.hand.acts) kept;
     operates = ap (λ (x : TxnState). x.hand.operating) kept;
+    slots = slots_kept t u (address (shape_in t) (node_next (cleanup_node c))) c none (ap (λ (x : TxnState). x.slots) kept);
     reads_few = let l = ap (λ (x : TxnState). length x.reads) kept in omega (arith, l);
     slots_few = let l = ap (λ (x : TxnState). length x.slots) kept in omega (arith, l, length-map t.slots (with_cleanup (address (shape_in t) (node_next (cleanup_node c))) c));
     nodes_few = let l = ap (λ (x : TxnState). length x.nodes) kept in omega (arith, l);
@@ -88,6 +95,7 @@ module _ (M : Meaning) (s : TxnState) where
     on = record { going = λ cs going. going; later = later_self s };
     acts = refl;
     operates = operates;
+    slots = slots_same s s refl;
     reads_few = omega arith;
     writes_few = omega arith;
     nodes_few = omega arith;
@@ -99,6 +107,7 @@ module _ (M : Meaning) (s : TxnState) where
     on = goes;
     acts = adds.acts ∙ leaves.acts;
     operates = adds.operates ∙ leaves.operates;
+    slots = slots_over s t u leaves.slots adds.slots;
     reads_few = let x = leaves.reads_few in let y = adds.reads_few in omega (arith, x, y);
     writes_few = let x = leaves.writes_few in let y = adds.slots_few in omega (arith, x, y);
     nodes_few = let x = leaves.nodes_few in let y = adds.nodes_few in omega (arith, x, y);
@@ -113,6 +122,7 @@ module _ (M : Meaning) (s : TxnState) where
     on = leaves.on;
     acts = leaves.acts;
     operates = leaves.operates;
+    slots = leaves.slots;
     reads_few = let x = leaves.reads_few in omega (arith, x, one);
     writes_few = let x = leaves.writes_few in omega (arith, x, two);
     nodes_few = let x = leaves.nodes_few in omega (arith, x, three);
@@ -124,5 +134,13 @@ module _ {A : Type 0} (xs : List A) where
   by_rest [] none = append-nil xs
   by_rest (x ∷ rest) none = absurd (let l = length-append xs (x ∷ rest) in omega (arith, l, none))
 
-  pub on_by_none : (ys : List A) → IsPrefix xs ys → length ys ≤ length xs + 0 → ys ≡ xs
+  on_by_none : (ys : List A) → IsPrefix xs ys → length ys ≤ length xs + 0 → ys ≡ xs
   on_by_none ys on few = on.is ∙ by_rest on.rest (let l = ap (λ l. length l) on.is in omega (arith, l, few))
+
+-- so an operation that records no word, or takes no node, leaves those
+module _ (M : Meaning) (s t : TxnState) where
+  pub reads_kept : (writes nodes : ℕ) → Leaves M s t 0 writes nodes → t.reads ≡ s.reads
+  reads_kept writes nodes leaves = on_by_none s.reads t.reads leaves.on.later.reads leaves.reads_few
+
+  pub nodes_kept : (reads writes : ℕ) → Leaves M s t reads writes 0 → t.nodes ≡ s.nodes
+  nodes_kept reads writes leaves = on_by_none s.nodes t.nodes leaves.on.later.nodes leaves.nodes_few

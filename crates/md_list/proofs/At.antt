@@ -96,7 +96,7 @@ module _ (M : Meaning) where
       changes = w.changes;
       tidied = tidied_later M t w.certificates w.changes w.tidied (stepped t p) on.later refl;
       unlinks = w.unlinks;
-      charged = charged_later t (stepped t p) on.later (λ w among marked. among) (all_changes w.certificates) w.changes w.charged;
+      charged = charged_later t (stepped t p) on.later (all_changes w.certificates) w.changes w.charged;
     }
 
     -- what is known after the ended operations stays known

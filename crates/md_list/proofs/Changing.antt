@@ -21,11 +21,16 @@ use Rattle.md_nbtc.specs.State.{TxnState, shape_in, writes_in}
 use Rattle.md_nbtc.specs.Tidied.{HasTidied, tidied}
 use Rattle.md_nbtc.proofs.preparing.Later.{known_later}
 use Rattle.md_nbtc.proofs.structures.NodesKnown.{shape_later}
-use Rattle.md_nbtc.proofs.structures.Tidying.{bare_nodes}
+use Rattle.md_nbtc.proofs.structures.Tidying.{IsBare, bare_nodes}
 
 -- a certificate that makes one change and places some nodes, after tidy changes
 abbrev pub changing : Op → Reply → List TidyChange → Change → List NewNode → List Fact → Certificate
 changing op reply ts change nodes facts = record { op = op; reply = reply; tidy = ts; recorded = []; changes = change ∷ []; nodes = nodes; facts = facts }
+
+-- if those place none, it places its own nodes alone
+pub places_own : (op : Op) (reply : Reply) (ts : List TidyChange) (change : Change) (nodes : List NewNode) (facts : List Fact) → All IsBare ts
+    → map (λ (n : NewNode). n.node) (whole_nodes (changing op reply ts change nodes facts)) ≡ map (λ (n : NewNode). n.node) nodes
+places_own op reply ts change nodes facts bare = ap (λ l. map (λ (n : NewNode). n.node) (l ++ nodes)) (bare_nodes ts bare)
 
 module _ (M : Meaning) (t : TxnState) (cs : List Certificate) (ts : List TidyChange) (has : HasTidied M t cs ts) (v : TxnState) (later : IsLater t v)
     (op : Op) (reply : Reply) (change : Change) (nodes : List NewNode) (facts : List Fact) where

@@ -4,7 +4,7 @@ use Rattle.std.proofs.lemmas.Bool.{cases_Bool, true≢false}
 use Rattle.std.proofs.lemmas.List.{append-nil}
 use Rattle.std.proofs.lemmas.List.Elements.{Contains-append_left}
 use Rattle.std.specs.List.{AllPairs, Contains, list_any}
-use Rattle.md_words.specs.Link.{is_marked}
+use Rattle.md_words.specs.Link.{linked_node}
 use Rattle.md_machine.specs.declared.attempt.Read.{Read}
 use Rattle.md_machine.specs.declared.attempt.Write.{Write}
 use Rattle.md_machine.specs.declared.certificate.Certificate.{Certificate}
@@ -31,34 +31,16 @@ use Rattle.md_nbtc.proofs.structures.Exchanging.{HasExchanged, changed_own, chan
 use Rattle.md_nbtc.proofs.structures.NodesKnown.{shape_later}
 use Rattle.std.proofs.lemmas.List.{map-append}
 use Rattle.md_list_law.specs.ListShape.{next_word}
-use Rattle.md_list.specs.Charged.{AreCharged, IsCharged, changed, own_next, own_remove, recorded}
+use Rattle.md_list.specs.Charged.{AreCharged, IsCharged, changed, own_next, passes, recorded}
 
--- the marks that the transaction made stay as they are
-abbrev pub KeepsMarks : (t u : TxnState) → Type 0
-KeepsMarks t u = (w : Write) → Contains (writes_in t) w → is_marked w.new ≡ true → Contains (writes_in u) w
-
-pub marks_same : (t u : TxnState) → writes_in u ≡ writes_in t → KeepsMarks t u
-marks_same t u same w among marked = subst (λ ws. Contains ws w) (sym same) among
-
-pub marks_slots : (t u : TxnState) → u.slots ≡ t.slots → KeepsMarks t u
-marks_slots t u same = marks_same t u (ap (λ ss. map (λ (s : Slot). s.write) ss) same)
-
-pub marks_over : (t u v : TxnState) → KeepsMarks t u → KeepsMarks u v → KeepsMarks t v
-marks_over t u v a b w among marked = b w (a w among marked) marked
-
-module _ (t u : TxnState) (later : IsLater t u) (marks : KeepsMarks t u) where
-  one_charged : (earlier : List Change) (c : TidyChange) → IsCharged t earlier c → IsCharged u earlier c
+module _ (t u : TxnState) (later : IsLater t u) where
+  pub one_charged : (earlier : List Change) (c : TidyChange) → IsCharged t earlier c → IsCharged u earlier c
   one_charged earlier c (changed is) = changed is
   one_charged earlier c (recorded r among is) = recorded r (subst (λ l. Contains l r) (sym later.reads.is) (Contains-append_left t.reads later.reads.rest r among)) is
   one_charged earlier c (own_next n among is) = own_next n (subst (λ l. Contains l n) (sym later.nodes.is) (Contains-append_left t.nodes later.nodes.rest n among))
       (is ∙ ap (λ s. next_word s n.node) (sym (shape_later t u later)))
-  one_charged earlier c (own_remove node old is) = own_remove node old (record {
-    write = is.write;
-    among = marks is.write is.among (ap is_marked is.new ∙ is.marked);
-    word = is.word ∙ ap (λ s. next_word s node) (sym (shape_later t u later));
-    new = is.new;
-    marked = is.marked;
-  })
+  one_charged earlier c (passes is) = passes (subst (λ s. list_any (λ (x : Change). x.word == next_word s (linked_node c.change.old)) earlier ≡ true)
+      (sym (shape_later t u later)) is)
 
   -- reasons stay
   pub charged_later : (earlier : List Change) (cs : List TidyChange) → AreCharged t earlier cs → AreCharged u earlier cs
@@ -91,23 +73,6 @@ known_of u word critical = ⊎_elim
     some_of : (o : Option ℕ) → is_some o ≡ true → (x : ℕ) × (o ≡ Some x)
     some_of None some = absurd (cc some)
     some_of (Some x) some = (x, refl)
-
-module _ (M : Meaning) (t : TxnState) (word : ℕ) (from : Seen) (to : ℕ) (kind : Kind) (u : TxnState) (seen : Seen) where
-  renew_apart : (w : Write) → w.word ≢ word → renew word to w ≡ w
-  renew_apart w apart = ap (λ b. if b then record w { new = to } else w) (ne_eqb w.word word apart)
-
-  -- a change of a word that had no mark leaves all marks
-  pub marks_kept : Gave t word from → is_marked from.value ≡ false → AllPairs (λ (a b : Write). a.word ≢ b.word) (writes_in t) → HasExchanged M t word from to kind u seen → KeepsMarks t u
-  marks_kept gave unmarked once (changed_own e) w among marked =
-      let slot : SeesSlot t word from = gave.slot (gave.own ∙ e.written) in
-      let apart : w.word ≢ word = λ same. true≢false (sym marked
-      ∙ ap (λ (x : Write). is_marked x.new) (one_of (λ (x : Write). x.word) (writes_in t) once w slot.write among slot.among (same ∙ sym slot.there)) ∙ ap is_marked slot.value ∙ unmarked) in
-      subst (λ ws. Contains ws w) (sym (ap (λ (x : TxnState). writes_in x) e.state_is ∙ renewed_writes word to t.slots))
-      (subst (Contains (map (renew word to) (writes_in t))) (renew_apart w apart) (map_in (renew word to) (writes_in t) w among))
-  marks_kept gave unmarked once (installed e) w among marked = subst (λ ws. Contains ws w)
-      (sym (ap (λ (x : TxnState). writes_in x) e.state_is ∙ map-append (λ (s : Slot). s.write) t.slots (new_slot t word from to ∷ [])))
-      (Contains-append_left (writes_in t) ((new_slot t word from to).write ∷ []) w among)
-  marks_kept gave unmarked once (changed_plainly e) w among marked = subst (λ ws. Contains ws w) (sym (ap (λ (x : TxnState). writes_in x) e.state_is)) among
 
 -- a written word was changed before
 pub changed_before : (M : Meaning) (t : TxnState) (cs : List Certificate) → IsGoing M t cs → (ts : List TidyChange) → HasTidied M t cs ts → (word : ℕ) → is_written (writes_in t) word ≡ true

@@ -17,7 +17,9 @@ use Rattle.md_nbtc.specs.Going.{IsGoing}
 use Rattle.md_nbtc.specs.Seeing.{Gave}
 use Rattle.md_nbtc.specs.Sets.{with_new}
 use Rattle.md_nbtc.specs.State.{TxnState, seen_content, writes_in}
+use Rattle.md_list.specs.Operations.{SlotsStay}
 use Rattle.md_list.proofs.Adding.{Adds}
+use Rattle.md_list.proofs.Staying.{slots_changed}
 use Rattle.md_nbtc.proofs.structures.Exchanging.{HasExchanged, changed_own, changed_plainly, installed}
 
 module _ (M : Meaning) (t : TxnState) (word : ℕ) (from : Seen) (to : ℕ) (u : TxnState) (seen : Seen) where
@@ -29,11 +31,13 @@ module _ (M : Meaning) (t : TxnState) (word : ℕ) (from : Seen) (to : ℕ) (u :
     pub reads : u.reads ≡ t.reads
     pub nodes : u.nodes ≡ t.nodes
     pub stop : u.stop ≡ t.stop
+    pub slots : SlotsStay t u
     pub few : length u.slots ≤ length t.slots + 1
     pub first : from.own ≡ false → first_content u.reads (writes_in u) word ≡ Some (seen_content from)
 
   pub changed_critically : Gave t word from → (cs : List Certificate) → IsGoing M u cs → HasExchanged M t word from to Critical u seen → ChangedCritically
   changed_critically gave cs going (changed_own e) = record {
+    slots = slots_changed M t word from to Critical u seen (changed_own e);
     own = ap (λ (s : Seen). s.own) e.seen_is;
     value = ap (λ (s : Seen). s.value) e.seen_is;
     hand = ap (λ (x : TxnState). x.hand) e.state_is;
@@ -47,6 +51,7 @@ module _ (M : Meaning) (t : TxnState) (word : ℕ) (from : Seen) (to : ℕ) (u :
       let slot = new_slot t word from to in
       let there = subst (λ l. Contains l slot) (sym (ap (λ (x : TxnState). x.slots) e.state_is)) (Contains-append_right t.slots (slot ∷ []) slot (here slot [])) in
       record {
+        slots = slots_changed M t word from to Critical u seen (installed e);
         own = ap (λ (s : Seen). s.own) e.seen_is;
         value = ap (λ (s : Seen). s.value) e.seen_is;
         hand = ap (λ (x : TxnState). x.hand) e.state_is;
@@ -64,6 +69,7 @@ module _ (M : Meaning) (t : TxnState) (word : ℕ) (from : Seen) (to : ℕ) (u :
   adds_change did = record {
     acts = ap (λ h. h.acts) did.hand;
     operates = ap (λ h. h.operating) did.hand;
+    slots = did.slots;
     reads_few = let l = ap (λ rs. length rs) did.reads in omega (arith, l);
     slots_few = did.few;
     nodes_few = let l = ap (λ ns. length ns) did.nodes in omega (arith, l);

@@ -16,7 +16,6 @@ use Rattle.md_machine.specs.Meaning.{Lawful, Meaning}
 use Rattle.md_machine.proofs.lists.Rising.{here, map_in, there as further}
 use Rattle.md_nbtc.specs.declared.seen.Kind.{Kind}
 use Rattle.md_nbtc.specs.declared.seen.Kind.TheVariants.{Plain}
-use Rattle.md_words.proofs.Words.{link_value-parts}
 use Rattle.md_nbtc.specs.declared.seen.Seen.{Seen}
 use Rattle.md_nbtc.specs.declared.sets.Slot.{Slot}
 use Rattle.md_nbtc.specs.Known.{Known}
@@ -28,9 +27,9 @@ use Rattle.md_list_law.specs.HasLists.{HasListsOf}
 use Rattle.md_list_law.specs.ListShape.{IsIn, next_word}
 use Rattle.md_list.specs.Walking.{IsBefore}
 use Rattle.md_list.proofs.At.{IsAt}
-use Rattle.md_list.specs.Charged.{AreCharged, IsCharged, changed as was_changed, own_next, own_remove, recorded}
-use Rattle.md_list.proofs.Charging.{KeepsMarks, changed_before, charged_later, charged_push, known_of, marks_kept}
-use Rattle.md_list.proofs.Marks.{mark_gone, marked_again}
+use Rattle.md_list.specs.Charged.{AreCharged, IsCharged, changed as was_changed}
+use Rattle.md_list.proofs.Charging.{changed_before, charged_later, charged_push, one_charged}
+use Rattle.md_list.proofs.Marks.{mark_gone}
 use Rattle.md_list.proofs.OnNode.{IsOn}
 use Rattle.md_list.proofs.ListWords.{prev_place}
 use Rattle.std.proofs.Common.{◌^◌, ◌++◌, ◌≤◌, map, length, arith}
@@ -60,7 +59,7 @@ use Rattle.md_list.specs.declared.walk.Found.{Found}
 use Rattle.md_list.proofs.At.{HasFoundBy, IsAtBy, IsBehind, NamesPast, found_stays, looked_there, stepped, walking_on}
 use Rattle.md_list.proofs.Counting.{few_below}
 use Rattle.md_list.proofs.Marks.{node_kept}
-use Rattle.md_list.proofs.MarkedNext.{facts_hold, is_unlink, unlink, unlink_tidies}
+use Rattle.md_list.proofs.MarkedNext.{facts_hold, is_unlink, unlink, unlink_charged, unlink_tidies}
 use Rattle.md_list.proofs.OnNode.{not_visited, stands_on}
 use Rattle.md_list.proofs.Rising.{next_names}
 
@@ -160,28 +159,16 @@ module _ (M : Meaning) (lawful : Lawful M) (lists : HasListsOf M) (t : TxnState)
           (is_unlink M lawful lists t head key visited prev at next on marked)
 
       -- and it is charged, as those before are still
-      module _ (marks : KeepsMarks t u) where
-        still_charged : AreCharged u (all_changes cs) stands.walking.changes
-        still_charged = charged_later t u goes.later marks (all_changes cs) stands.walking.changes stands.walking.charged
+      still_charged : AreCharged u (all_changes cs) stands.walking.changes
+      still_charged = charged_later t u goes.later (all_changes cs) stands.walking.changes stands.walking.charged
 
-        more_charged : IsCharged u (all_changes cs ++ changes_of_tidy stands.walking.changes) (unlink M lawful lists t head key visited prev at next on marked)
-            → AreCharged u (all_changes cs) (stands.walking.changes ++ unlink M lawful lists t head key visited prev at next on marked ∷ [])
-        more_charged = charged_push u (all_changes cs) stands.walking.changes (unlink M lawful lists t head key visited prev at next on marked) still_charged
+      more_charged : IsCharged u (all_changes cs ++ changes_of_tidy stands.walking.changes) (unlink M lawful lists t head key visited prev at next on marked)
+          → AreCharged u (all_changes cs) (stands.walking.changes ++ unlink M lawful lists t head key visited prev at next on marked ∷ [])
+      more_charged = charged_push u (all_changes cs) stands.walking.changes (unlink M lawful lists t head key visited prev at next on marked) still_charged
 
-        by_mark : next.own ≡ true → IsCharged u (all_changes cs ++ changes_of_tidy stands.walking.changes) (unlink M lawful lists t head key visited prev at next on marked)
-        by_mark own =
-            let slot = on.gave.slot own in
-            let again = marked_again next.value marked in
-            own_remove node (sym (link_value-parts at.value) ∙ ap (link_value node) stands.gives.unmarked) (record {
-              write = slot.write;
-              among = marks slot.write slot.among (ap is_marked slot.value ∙ marked);
-              word = slot.there;
-              new = slot.value ∙ sym again;
-              marked = ap is_marked again ∙ marked;
-            })
-
-        by_word : is_critical t prev Plain ≡ true → IsCharged u (all_changes cs ++ changes_of_tidy stands.walking.changes) (unlink M lawful lists t head key visited prev at next on marked)
-        by_word critical = ⊎_elim (λ r. recorded r.0 r.1 r.2) (λ n. own_next n.0 n.1 n.2) (known_of t prev critical)
+      why_charged : (next.own ≡ true) ⊎ (is_critical t prev Plain ≡ true) → IsCharged u (all_changes cs ++ changes_of_tidy stands.walking.changes) (unlink M lawful lists t head key visited prev at next on marked)
+      why_charged why = one_charged t u goes.later (all_changes cs ++ changes_of_tidy stands.walking.changes) (unlink M lawful lists t head key visited prev at next on marked)
+          (unlink_charged M lawful lists t head key visited prev at next on marked why)
 
     -- whichever case of the exchange applied; it was asked to be a part of the transaction if the mark is own
     pub unlinked : at.count < 2 ^ 32 → (kind : Kind) → ((next.own ≡ true) ⊎ (kind ≡ Plain)) → (u : TxnState) (seen : Seen) → GoesOn M t u → Gave u prev seen
@@ -190,13 +177,12 @@ module _ (M : Meaning) (lawful : Lawful M) (lists : HasListsOf M) (t : TxnState)
         let hand = with_change t.hand prev at.value (next.value - 1) in
         let slots = map (with_new prev (next.value - 1)) t.slots in
         let goes_on = subst (GoesOn M t) e.state_is goes in
-        let marks = subst (KeepsMarks t) e.state_is (marks_kept M t prev at (next.value - 1) kind u seen stands.gives.gave stands.gives.unmarked stands.walking.going.prepared.has.written_once (changed_own e)) in
         subst (λ x. IsAtBy M x cs head key (node ∷ visited) prev seen) (sym e.state_is)
         (stands_unlinked u.pass hand slots goes_on stands.walking.operates (stands.walking.changes ++ unlink M lawful lists t head key visited prev at next on marked ∷ [])
         (grown u.pass hand slots goes_on stands.walking.operates fits refl refl
         (λ other. absurd (true≢false (sym (stands.gives.gave.own ∙ e.written) ∙ other))))
         (one_more u.pass hand slots goes_on stands.walking.operates)
-        (more_charged u.pass hand slots goes_on stands.walking.operates marks (was_changed (changed_before M t cs stands.walking.going stands.walking.changes stands.walking.tidied prev e.written)))
+        (more_charged u.pass hand slots goes_on stands.walking.operates (was_changed (changed_before M t cs stands.walking.going stands.walking.changes stands.walking.tidied prev e.written)))
         seen (subst (λ x. Gave x prev seen) e.state_is gave)
         (λ other. absurd (true≢false (ap (λ (s : Seen). s.own) (sym e.seen_is) ∙ other))) (ap (λ (s : Seen). s.value) e.seen_is))
     unlinked fits kind why u seen goes gave (installed e) =
@@ -206,15 +192,14 @@ module _ (M : Meaning) (lawful : Lawful M) (lists : HasListsOf M) (t : TxnState)
         let goes_on = subst (GoesOn M t) e.state_is goes in
         let v : TxnState = record t { pass = u.pass; hand = hand; slots = slots } in
         let prepared = (goes_on.going cs stands.walking.going).prepared in
-        let marks = subst (KeepsMarks t) e.state_is (marks_kept M t prev at (next.value - 1) kind u seen stands.gives.gave stands.gives.unmarked stands.walking.going.prepared.has.written_once (installed e)) in
         subst (λ x. IsAtBy M x cs head key (node ∷ visited) prev seen) (sym e.state_is)
         (stands_unlinked u.pass hand slots goes_on stands.walking.operates (stands.walking.changes ++ unlink M lawful lists t head key visited prev at next on marked ∷ [])
         (grown u.pass hand slots goes_on stands.walking.operates fits refl refl
         (λ other. All-contains (λ (w : Write). first_content v.reads (writes_in v) w.word ≡ Some w.old) (writes_in v) slot.write prepared.has.replaced
         (map_in (λ (s : Slot). s.write) slots slot (Contains-append_right t.slots (slot ∷ []) slot (here slot [])))))
         (one_more u.pass hand slots goes_on stands.walking.operates)
-        (more_charged u.pass hand slots goes_on stands.walking.operates marks (⊎_elim (by_mark u.pass hand slots goes_on stands.walking.operates marks)
-        (λ plain. by_word u.pass hand slots goes_on stands.walking.operates marks (ap (is_critical t prev) (sym plain) ∙ e.critical)) why))
+        (more_charged u.pass hand slots goes_on stands.walking.operates (why_charged u.pass hand slots goes_on stands.walking.operates
+        (⊎_elim inl (λ plain. inr (ap (is_critical t prev) (sym plain) ∙ e.critical)) why)))
         seen (subst (λ x. Gave x prev seen) e.state_is gave)
         (λ other. absurd (true≢false (ap (λ (s : Seen). s.own) (sym e.seen_is) ∙ other))) (ap (λ (s : Seen). s.value) e.seen_is))
     unlinked fits kind why u seen goes gave (changed_plainly e) =
@@ -222,7 +207,7 @@ module _ (M : Meaning) (lawful : Lawful M) (lists : HasListsOf M) (t : TxnState)
         subst (λ x. IsAtBy M x cs head key (node ∷ visited) prev seen) (sym e.state_is)
         (stands_unlinked u.pass t.hand t.slots goes_on stands.walking.operates stands.walking.changes
         (tidied_later M t cs stands.walking.changes stands.walking.tidied (stepped t u.pass) goes_on.later refl) stands.walking.unlinks
-        (still_charged u.pass t.hand t.slots goes_on stands.walking.operates (λ w among marked. among)) seen
+        (still_charged u.pass t.hand t.slots goes_on stands.walking.operates) seen
         (subst (λ x. Gave x prev seen) e.state_is gave)
         (looked_there M t u.pass prev seen (subst (λ x. Looks M t x prev seen) e.state_is e.looks) (prev_place M lawful lists t cs stands.walking.going stands.walking.map stands.walking.bucket head key prev stands.walking.is_head stands.before))
         (ap (λ (s : Seen). s.value) e.seen_is))

@@ -1,5 +1,5 @@
 -- The insert of a key that is absent: its place may be changed to a fresh node, and the operation ended.
-use Rattle.std.proofs.Common.{◌≡◌, ◌≢◌, ◌<◌, ◌^◌, ◌++◌, ℕ, true, false, List, [], ◌∷◌, None, get_or, refl, sym, ap, ◌∙◌, subst}
+use Rattle.std.proofs.Common.{◌≡◌, ◌≢◌, ◌<◌, ◌^◌, ◌++◌, ℕ, true, false, List, [], ◌∷◌, None, get_or, refl, sym, ap, ◌∙◌, subst, inl, arith}
 use Rattle.std.proofs.lemmas.Bool.{true≢false}
 use Rattle.std.proofs.lemmas.List.Elements.{All-cons, All-nil, Contains-append_right}
 use Rattle.std.specs.List.{All, Contains}
@@ -36,15 +36,17 @@ use Rattle.md_list_law.specs.HasLists.{HasListsOf}
 use Rattle.md_list_law.specs.ListShape.{next_word}
 use Rattle.md_list.specs.declared.walk.Found.{Found}
 use Rattle.md_list.specs.Operations.{IsAnswered}
+use Rattle.md_list.specs.Refusals.{OneMoreChange}
 use Rattle.md_list.specs.Walking.{Gives, HasFound, IsBefore, IsHead, IsHeadOf, IsWalking}
-use Rattle.md_list.proofs.Changing.{changing, may_end_changing}
+use Rattle.md_list.proofs.Changing.{changing, may_end_changing, places_own}
 use Rattle.md_list.proofs.Critical.{ChangedCritically, changed_critically}
 use Rattle.md_list.proofs.FreshNode.{apart_from_fresh, fresh_after, fresh_unwritten}
 use Rattle.md_list.proofs.FoundOn.{before_later, head_later, there_later}
 use Rattle.md_list.proofs.ListWords.{cleanups_stay, may_change}
 use Rattle.md_list.proofs.LookUps.{Gap, gap}
-use Rattle.md_list.proofs.Charging.{KeepsMarks, charged_later, marks_kept, marks_over, marks_slots}
+use Rattle.md_list.proofs.Charging.{charged_later}
 use Rattle.md_list.proofs.Rows.{one_head, row_certifies, row_of_map}
+use Rattle.md_list.proofs.Would.{would_change}
 
 module _ (M : Meaning) (lawful : Lawful M) (lists : HasListsOf M) (t : TxnState) (head key : ℕ) (found : Found) (has : HasFound M t head key found) (absent : found.here ≡ false)
     (value : ℕ) (u : TxnState) (goes : GoesOn M t u) (node : ℕ) (fresh : Freshens t u key value found.at.value node) (given : KeepsGiven t u (address (shape_in t) (node_next node))) where
@@ -105,6 +107,53 @@ module _ (M : Meaning) (lawful : Lawful M) (lists : HasListsOf M) (t : TxnState)
         (λ unwritten plain. absurd (true≢false plain));
   }
 
+  -- the certificate
+  abbrev change : Change
+  change = record { word = found.prev; old = found.at.value; new = link_value node false }
+
+  abbrev new : NewNode
+  new = record { node = node; structure = list; key = key; value = value; next = found.at.value }
+
+  abbrev g : Gap M lawful lists t head key found has
+  g = gap M lawful lists t head key found has absent
+
+  abbrev c : Certificate
+  c = changing (Insert w.map key value) (Flag true) w.changes change (new ∷ []) g.facts
+
+  row : IsRow (shape_in t) list head w.map key c
+  row = insert_true value refl refl (record {
+    word = found.prev;
+    old = found.at.value;
+    node = node;
+    place = g.place;
+    is_node = fresh.exists;
+    changes = refl;
+    nodes = refl;
+  })
+
+  facts_known : Known M t (λ x h. All (Holds (tidied h cs w.changes)) g.facts)
+  facts_known x over prepared h of i d below = bare_holds (after_wholes h cs) w.changes w.tidied.bare (get_or g.facts i d) (g.plain i d below) (g.known x over prepared h of i d below)
+
+  new_fresh : Known M u (λ x h. All (λ (n : NewNode). (tidied h cs w.changes).placed n.node ≡ None) (new ∷ []))
+  new_fresh x over prepared h of = All-cons (λ (n : NewNode). (tidied h cs w.changes).placed n.node ≡ None) new []
+      (fresh_after M lawful u cs going_u own own_there stored_there w.changes w.tidied.bare x over prepared h of) (All-nil _)
+
+  -- where no slot is left for the change, it would stand
+  pub needs_link : found.at.count < 2 ^ 32 → is_written (writes_in u) found.prev ≡ false → (map : ℕ) → IsHeadOf (shape_in t) map key head → OneMoreChange M u cs map key (Insert map key value)
+  needs_link fits unwritten map is =
+      let own_head = one_head (shape_in t) w.map w.bucket map (bucket_of (shape_in t) key) head w.is_head is in
+      subst (λ m. OneMoreChange M u cs m key (Insert m key value)) own_head.0 (record {
+        change = change;
+        seen = found.at;
+        unwritten = unwritten;
+        reply = Flag true;
+        certificate = c;
+        changes = ap (λ l. l ++ change ∷ []) (w.tidied.changes ∙ sym (ap (λ (x : TxnState). x.hand.changes) fresh.new));
+        nodes = places_own (Insert w.map key value) (Flag true) w.changes change (new ∷ []) g.facts w.tidied.bare ∙ sym stored_is;
+        would = would_change M lawful lists t head key w own_head.1 (Insert w.map key value) (Flag true) change (new ∷ []) g.facts found.at has.place.at fits refl row facts_known
+            u goes.later gives_u.gave new_fresh;
+      })
+
   module _ (v : TxnState) (goes_v : GoesOn M u v) (seen : Seen) (changed : HasExchanged M u found.prev found.at (link_value node false) Critical v seen) where
     abbrev going_v : IsGoing M v cs
     going_v = goes_v.going cs going_u
@@ -124,49 +173,15 @@ module _ (M : Meaning) (lawful : Lawful M) (lists : HasListsOf M) (t : TxnState)
     stored_there_v : Contains v.hand.stored node
     stored_there_v = subst (λ l. Contains l node) (sym stored_v) (here node [])
 
-    abbrev change : Change
-    change = record { word = found.prev; old = found.at.value; new = link_value node false }
-
-    abbrev new : NewNode
-    new = record { node = node; structure = list; key = key; value = value; next = found.at.value }
-
-    abbrev g : Gap M lawful lists t head key found has
-    g = gap M lawful lists t head key found has absent
-
-    abbrev c : Certificate
-    c = changing (Insert w.map key value) (Flag true) w.changes change (new ∷ []) g.facts
-
-    marks : KeepsMarks t v
-    marks = marks_over t u v (marks_slots t u (ap (λ (x : TxnState). x.slots) fresh.new))
-        (marks_kept M u found.prev found.at (link_value node false) Critical v seen gives_u.gave gives_u.unmarked going_u.prepared.has.written_once changed)
-
     module _ (fits : found.at.count < 2 ^ 32) (map : ℕ) (is : IsHeadOf (shape_in t) map key head) where
       own_head : (w.map ≡ map) × (w.bucket ≡ bucket_of (shape_in t) key)
       own_head = one_head (shape_in t) w.map w.bucket map (bucket_of (shape_in t) key) head w.is_head is
 
-      row : IsRow (shape_in t) list head w.map key c
-      row = insert_true value refl refl (record {
-        word = found.prev;
-        old = found.at.value;
-        node = node;
-        place = g.place;
-        is_node = fresh.exists;
-        changes = refl;
-        nodes = refl;
-      })
-
       stored_node : IsStoredNode v new
       stored_node = record { own = own_v; unsettled = has.place.at.unmarked }
 
-      facts_known : Known M t (λ x h. All (Holds (tidied h cs w.changes)) g.facts)
-      facts_known x over prepared h of i d below = bare_holds (after_wholes h cs) w.changes w.tidied.bare (get_or g.facts i d) (g.plain i d below) (g.known x over prepared h of i d below)
-
-      new_fresh : Known M v (λ x h. All (λ (n : NewNode). (tidied h cs w.changes).placed n.node ≡ None) (new ∷ []))
-      new_fresh x over prepared h of = All-cons (λ (n : NewNode). (tidied h cs w.changes).placed n.node ≡ None) new []
-          (fresh_after M lawful v cs going_v own own_v stored_there_v w.changes w.tidied.bare x over prepared h of) (All-nil _)
-
-      pub inserted : IsAnswered M v cs map key (Insert map key value) (Flag true)
-      inserted = subst (λ m. IsAnswered M v cs m key (Insert m key value) (Flag true)) own_head.0 (record {
+      pub inserted : IsAnswered M t v cs map key (Insert map key value) (Flag true)
+      inserted = subst (λ m. IsAnswered M t v cs m key (Insert m key value) (Flag true)) own_head.0 (record {
         certificate = c;
         of = (refl, refl);
         may = may_end_changing M t cs w.changes w.tidied v later_v (Insert w.map key value) (Flag true) change (new ∷ []) g.facts
@@ -177,7 +192,9 @@ module _ (M : Meaning) (lawful : Lawful M) (lists : HasListsOf M) (t : TxnState)
             (fresh_unwritten M lawful v cs going_v own own_v stored_there_v) (All-nil _))
             (seen_value M lawful t cs w.going w.changes w.tidied found.prev found.at has.place.at.gave has.place.at.there fits v later_v linked.first)
             (known_later M _ t v later_v facts_known)
-            new_fresh;
+            (known_later M _ u v goes_v.later new_fresh);
         row = row_of_map M lists t head key w own_head.1 v later_v c row w.unlinks;
-        charged = charged_later t v later_v marks (all_changes cs) w.changes w.charged;
+        charged = charged_later t v later_v (all_changes cs) w.changes w.charged;
+        few = omega arith;
+        recorded = λ r among. inl (subst (λ l. Contains l r) (linked.reads ∙ ap (λ (x : TxnState). x.reads) fresh.new) among);
       })

@@ -2,6 +2,7 @@ pub mod Charging
 pub mod MetInBuckets
 pub mod Rising
 pub mod At
+pub mod Staying
 pub mod Adding
 pub mod Stops
 pub mod Walked
@@ -14,12 +15,15 @@ pub mod Counting
 pub mod Further
 pub mod Steps
 pub mod Keyed
+pub mod Noted
 pub mod Rows
 pub mod LookUps
 pub mod Getting
 pub mod FoundOn
 pub mod Critical
 pub mod Changing
+pub mod Would
+pub mod Refused
 pub mod UnlinkLater
 pub mod Removing
 pub mod FreshNode

@@ -1,6 +1,6 @@
 -- The words of a list, its head and the next words of its nodes, may be looked at and changed, and no cleanup of a queue
 -- is kept with them.
-use Rattle.std.proofs.Common.{◌≡◌, ◌≢◌, ◌⊎◌, ℕ, true, List, Option, Some, None, refl, sym, ap, ◌∙◌, subst, inl, inr, ⊎_elim, IfSome, map}
+use Rattle.std.proofs.Common.{◌≡◌, ◌≢◌, ◌==◌, ◌⊎◌, ℕ, true, false, List, Option, Some, None, refl, sym, ap, ◌∙◌, subst, inl, inr, ⊎_elim, IfSome, map, eq-eqb}
 use Rattle.std.proofs.lemmas.Bool.{true≢false}
 use Rattle.std.proofs.lemmas.List.Elements.{All-contains}
 use Rattle.std.specs.List.{AllPairs, Contains}
@@ -26,8 +26,9 @@ use Rattle.md_nbtc.specs.Cleaning.{CleanupsStay, FitsCleanup, IsKeptCleanup, IsP
 use Rattle.md_nbtc.specs.Course.{IsStoredNode, stored_words}
 use Rattle.md_nbtc.specs.Going.{IsGoing}
 use Rattle.md_nbtc.specs.Known.{Known, KnowsPlaced}
-use Rattle.md_nbtc.specs.Seeing.{IsInPlace, IsNextOf, IsOwnPlaced, MayChange}
+use Rattle.md_nbtc.specs.Seeing.{Gave, IsInPlace, IsNextOf, IsOwnPlaced, MayChange}
 use Rattle.md_nbtc.specs.State.{OwnNode, TxnState, shape_in, writes_in}
+use Rattle.md_nbtc.proofs.exchanging.OwnSlots.{any_has}
 use Rattle.md_nbtc.proofs.preparing.Heaps.{known_now}
 use Rattle.md_nbtc.proofs.ready.Lookups.{all_of, one_of}
 use Rattle.md_nbtc.proofs.ready.Standing.{pairs_map}
@@ -38,6 +39,7 @@ use Rattle.md_list_law.specs.ListShape.{IsIn, next_word}
 use Rattle.md_list_law.proofs.Links.{head_is_no_next}
 use Rattle.md_list.specs.Walking.{Gives, IsBefore, IsHead}
 use Rattle.md_list.proofs.At.{head_in_place, node_exists, placed_after}
+use Rattle.md_list.proofs.Staying.{KeepsNone}
 
 -- a node has one structure
 one_structure : (s r : Structure) (o : Option Structure) → o ≡ Some s → o ≡ Some r → s ≡ r
@@ -92,6 +94,23 @@ module _ (M : Meaning) (lawful : Lawful M) (lists : HasListsOf M) (t : TxnState)
         let both = known_now M lawful (λ u h. IsIn (after_wholes h cs) list node × ((after_wholes h cs).placed from ≡ Some (Queue kept.may.of.0))) t cs going
         (λ u later prepared h of. (placed u later prepared h of, from_placed u later prepared h of)) in
         no_queue map_of bucket kept.may.of.0 (one_structure list (Queue kept.may.of.0) ((after_wholes both.0 cs).placed node) both.2.0 (ap (after_wholes both.0 cs).placed same ∙ both.2.1))
+
+    -- while it is unmarked no cleanup is kept with it
+    pub next_keeps_none : (seen : Seen) → Gave t (next_word (shape_in t) node) seen → is_marked seen.value ≡ false → KeepsNone t (next_word (shape_in t) node)
+    next_keeps_none seen gave unmarked s among is =
+        let write = map_in (λ (x : Slot). x.write) t.slots s among in
+        let slot = gave.slot (gave.own ∙ any_has (λ (w : Write). w.word == next_word (shape_in t) node) (writes_in t) s.write write (eq-eqb s.write.word (next_word (shape_in t) node) is)) in
+        let same = one_of (λ (w : Write). w.word) (writes_in t) going.prepared.has.written_once s.write slot.write write slot.among (is ∙ sym slot.there) in
+        none_of (ap (λ (w : Write). is_marked w.new) same ∙ ap is_marked slot.value ∙ unmarked) s.cleanup
+        (All-contains (λ (x : Slot). IfSome x.cleanup (IsKeptCleanup M t cs x.write)) t.slots s going.cleanups among)
+      where
+        not_kept : is_marked s.write.new ≡ false → (c : Cleanup) → IsKeptCleanup M t cs s.write c → ⊥
+        not_kept new (Unlink from other) kept = true≢false (sym kept.fits ∙ new)
+        not_kept new (MoveTail tail from to) kept = next_no_move s.write is tail from to kept
+
+        none_of : is_marked s.write.new ≡ false → (o : Option Cleanup) → IfSome o (IsKeptCleanup M t cs s.write) → o ≡ None
+        none_of new None kept = refl
+        none_of new (Some c) kept = absurd (not_kept new c kept)
 
     -- the mark spoils no cleanup that is kept with it
     pub mark_stays : (to : ℕ) → is_marked to ≡ true → CleanupsStay t (next_word (shape_in t) node) to

@@ -9,7 +9,9 @@ use Rattle.md_words.specs.PlaceAt.{place_at}
 use Rattle.md_words.proofs.Places.{place_at-address}
 use Rattle.md_history.specs.declared.acts.Op.{Op}
 use Rattle.md_history.specs.declared.acts.Op.TheVariants.{Get, Insert}
+use Rattle.md_history.specs.declared.acts.Reply.{Reply}
 use Rattle.md_history.specs.declared.acts.Reply.TheVariants.{Flag, Value}
+use Rattle.md_history.specs.Counts.{changed_nothing}
 use Rattle.md_machine.specs.declared.certificate.Certificate.{Certificate}
 use Rattle.md_machine.specs.declared.certificate.Fact.{Fact}
 use Rattle.md_machine.specs.declared.node.Structure.{Structure}
@@ -18,21 +20,27 @@ use Rattle.md_machine.specs.Certified.{after_wholes, content_read, is_written}
 use Rattle.md_machine.specs.LogicalHeap.{Holds, LogicalHeap}
 use Rattle.md_machine.specs.Meaning.{Lawful, Meaning}
 use Rattle.md_machine.proofs.lists.Rising.{here, there}
-use Rattle.md_nbtc.specs.Calls.{data_at}
+use Rattle.md_nbtc.specs.declared.seen.Seen.{Seen}
+use Rattle.md_nbtc.specs.Calls.{GoesOn, data_at}
 use Rattle.md_nbtc.specs.Going.{IsGoing}
 use Rattle.md_nbtc.specs.Known.{IsLater, Known}
-use Rattle.md_nbtc.specs.State.{TxnState, seen_content, shape_in, writes_in}
+use Rattle.md_nbtc.specs.State.{TxnState, shape_in, writes_in}
+use Rattle.md_nbtc.proofs.preparing.Heaps.{later_self}
 use Rattle.md_nbtc.proofs.preparing.Later.{known_later}
 use Rattle.md_nbtc.proofs.structures.NodesKnown.{data_known, shape_later}
+use Rattle.md_nbtc.proofs.structures.Noting.{HasNoted}
 use Rattle.md_nbtc.proofs.structures.Reading.{reading}
-use Rattle.md_list_law.specs.Certificates.{ChangesNothing, IsPlaceOf, IsRow, RecordsPlace, get_some, insert_false, key_fact, pair_fact}
+use Rattle.md_list_law.specs.Certificates.{ChangesNothing, IsPlaceOf, IsRow, RecordsPlace, get_none, get_some, insert_false, key_fact, pair_fact}
 use Rattle.md_list_law.specs.HasLists.{HasListsOf}
 use Rattle.md_list_law.specs.ListShape.{next_word}
 use Rattle.md_words.specs.declared.shape.Shape.{Shape}
 use Rattle.md_list.specs.Operations.{IsAnswered, IsBegun}
+use Rattle.md_list.specs.Refusals.{IsAbsent, OneMoreRead}
 use Rattle.md_list.specs.Walking.{FindsFrom, FindsNode, HasFound, IsHeadOf, IsWalking, KnowsAfter}
 use Rattle.md_list.specs.declared.walk.Found.{Found}
-use Rattle.md_list.proofs.Rows.{found_of, answered_reading, one_head}
+use Rattle.md_list.proofs.Noted.{NotesOnly}
+use Rattle.md_list.proofs.Rows.{ShowsReply, answered_reading, found_of, one_head, shown}
+use Rattle.md_list.proofs.Would.{would_read}
 
 module _ (M : Meaning) (lawful : Lawful M) (lists : HasListsOf M) (t : TxnState) (head key : ℕ) (found : Found) (has : HasFound M t head key found) where
   abbrev w : IsWalking M t head
@@ -133,70 +141,106 @@ module _ (M : Meaning) (lawful : Lawful M) (lists : HasListsOf M) (t : TxnState)
     pair_known u over prepared h of = merge (after_wholes h w.certificates) n.found_key (here_key is_here)
         (known_later M (λ u h. Holds (after_wholes h w.certificates) (key_fact list found.node n.found_key)) t v later n.known u over prepared h of) (value_known u over prepared h of)
 
-  module _ (map : ℕ) (is : IsHeadOf (shape_in t) map key head) (v : TxnState) (later : IsLater t v) (same : v.hand ≡ t.hand) (going : IsGoing M v w.certificates) (slots : v.slots ≡ t.slots) where
-    one_known_of : (f : Fact) → KnowsAfter M v w.certificates f → Known M v (λ u h. All (Holds (after_wholes h w.certificates)) (f ∷ []))
-    one_known_of f known u over prepared h of = All-cons (Holds (after_wholes h w.certificates)) f [] (known u over prepared h of) (All-nil (Holds (after_wholes h w.certificates)))
+  one_known_of : (f : Fact) → KnowsAfter M t w.certificates f → Known M t (λ u h. All (Holds (after_wholes h w.certificates)) (f ∷ []))
+  one_known_of f known u over prepared h of = All-cons (Holds (after_wholes h w.certificates)) f [] (known u over prepared h of) (All-nil (Holds (after_wholes h w.certificates)))
 
-    own_head : (w.map ≡ map) × (w.bucket ≡ bucket_of (shape_in t) key)
-    own_head = one_head (shape_in t) w.map w.bucket map (bucket_of (shape_in t) key) head w.is_head is
+  one_plain : (f : Fact) → f.next ≡ None → All (λ (g : Fact). g.next ≡ None) (f ∷ [])
+  one_plain f plain = All-cons (λ (g : Fact). g.next ≡ None) f [] plain (All-nil (λ (g : Fact). g.next ≡ None))
 
-    -- of a key that is there
-    pub got_some : (is_here : found.here ≡ true) → found.next.count < 2 ^ 32
-        → (is_written (writes_in t) (next_word (shape_in t) found.node) ≡ false → content_read v.reads (next_word (shape_in t) found.node) ≡ Some (seen_content found.next))
-        → (value word : ℕ) → word ≡ address (shape_in t) (node_value found.node) → Known M v (λ u h. data_at h (place_at (shape_in t) word) ≡ value)
-        → IsAnswered M v w.certificates map key (Get map key) (Value (Some value))
-    got_some is_here fits noted value word word_is data_is =
-        let n = here_node is_here in
-        let fact = pair_fact list found.node key value in
-        subst (λ m. IsAnswered M v w.certificates m key (Get m key) (Value (Some value))) own_head.0
-        (answered_reading M lawful lists t head key w own_head.1 v later same going (next_word (shape_in t) found.node) found.next n.next fits slots noted
-        (Get w.map key) (Value (Some value)) (fact ∷ [])
-        (get_some found.node value refl refl (record { changes = refl; nodes = refl }) (record {
+  -- of a key that is there
+  pub shows_value : (is_here : found.here ≡ true) → (value word : ℕ) → word ≡ address (shape_in t) (node_value found.node) → Known M t (λ u h. data_at h (place_at (shape_in t) word) ≡ value)
+      → ShowsReply M t head key w (Get w.map key) (Value (Some value)) (next_word (shape_in t) found.node) found.next
+  shows_value is_here value word word_is data_is =
+      let n = here_node is_here in
+      let fact = pair_fact list found.node key value in
+      record {
+        nothing = refl;
+        gives = n.next;
+        facts = fact ∷ [];
+        row = get_some found.node value refl refl (record { changes = refl; nodes = refl }) (record {
           fact = here fact [];
           next = found.next.value;
           unmarked = n.next.unmarked;
           recorded = here (record { word = next_word (shape_in t) found.node; value = found.next.value }) [];
-        }))
-        (one_known_of fact (pair_known v later going is_here value word word_is data_is))
-        (All-cons (λ (f : Fact). f.next ≡ None) fact [] refl (All-nil (λ (f : Fact). f.next ≡ None))))
+        });
+        known = one_known_of fact (pair_known t (later_self t) w.going is_here value word word_is data_is);
+        plain = one_plain fact refl;
+      }
 
-    -- an insert of a key that is there answers false
-    pub inserted_none : (is_here : found.here ≡ true) → found.next.count < 2 ^ 32
-        → (is_written (writes_in t) (next_word (shape_in t) found.node) ≡ false → content_read v.reads (next_word (shape_in t) found.node) ≡ Some (seen_content found.next))
-        → (value : ℕ) → IsAnswered M v w.certificates map key (Insert map key value) (Flag false)
-    inserted_none is_here fits noted value =
-        let n = here_node is_here in
-        let fact = key_fact list found.node key in
-        subst (λ m. IsAnswered M v w.certificates m key (Insert m key value) (Flag false)) own_head.0
-        (answered_reading M lawful lists t head key w own_head.1 v later same going (next_word (shape_in t) found.node) found.next n.next fits slots noted
-        (Insert w.map key value) (Flag false) (fact ∷ [])
-        (insert_false found.node value refl refl (record { changes = refl; nodes = refl }) (record {
+  -- an insert of a key that is there answers false
+  pub shows_there : (is_here : found.here ≡ true) → (value : ℕ) → ShowsReply M t head key w (Insert w.map key value) (Flag false) (next_word (shape_in t) found.node) found.next
+  shows_there is_here value =
+      let n = here_node is_here in
+      let fact = key_fact list found.node key in
+      record {
+        nothing = refl;
+        gives = n.next;
+        facts = fact ∷ [];
+        row = insert_false found.node value refl refl (record { changes = refl; nodes = refl }) (record {
           fact = here fact [];
           next = found.next.value;
           unmarked = n.next.unmarked;
           recorded = here (record { word = next_word (shape_in t) found.node; value = found.next.value }) [];
-        }))
-        (one_known_of fact (subst (λ k. KnowsAfter M v w.certificates (key_fact list found.node k)) (here_key is_here)
-        (known_later M (λ u h. Holds (after_wholes h w.certificates) (key_fact list found.node n.found_key)) t v later n.known)))
-        (All-cons (λ (f : Fact). f.next ≡ None) fact [] refl (All-nil (λ (f : Fact). f.next ≡ None))))
+        });
+        known = one_known_of fact (subst (λ k. KnowsAfter M t w.certificates (key_fact list found.node k)) (here_key is_here) n.known);
+        plain = one_plain fact refl;
+      }
 
-    -- of a key that is absent
-    pub answered_none : found.here ≡ false → found.at.count < 2 ^ 32
-        → (is_written (writes_in t) found.prev ≡ false → content_read v.reads found.prev ≡ Some (seen_content found.at))
-        → (op : ℕ → Op) → ((c : Certificate) → c.op ≡ op w.map → c.reply ≡ Value None → ChangesNothing c → RecordsPlace (shape_in t) list head c key → IsRow (shape_in t) list head w.map key c)
-        → IsAnswered M v w.certificates map key (op map) (Value None)
-    answered_none absent fits noted op row =
-        let g = gap absent in
-        let c = reading (op w.map) (Value None) w.changes (record { word = found.prev; value = found.at.value } ∷ []) g.facts in
-        subst (λ m. IsAnswered M v w.certificates m key (op m) (Value None)) own_head.0
-        (answered_reading M lawful lists t head key w own_head.1 v later same going found.prev found.at has.place.at fits slots noted (op w.map) (Value None) g.facts
-        (row c refl refl (record { changes = refl; nodes = refl }) (record {
+  -- of a key that is absent
+  pub shows_absent : found.here ≡ false → (op : Op) → changed_nothing op (Value None) ≡ true
+      → ((c : Certificate) → c.op ≡ op → c.reply ≡ Value None → ChangesNothing c → RecordsPlace (shape_in t) list head c key → IsRow (shape_in t) list head w.map key c)
+      → ShowsReply M t head key w op (Value None) found.prev found.at
+  shows_absent absent op nothing row =
+      let g = gap absent in
+      record {
+        nothing = nothing;
+        gives = has.place.at;
+        facts = g.facts;
+        row = row (reading op (Value None) w.changes (record { word = found.prev; value = found.at.value } ∷ []) g.facts) refl refl (record { changes = refl; nodes = refl }) (record {
           word = found.prev;
           value = found.at.value;
           place = g.place;
           recorded = here (record { word = found.prev; value = found.at.value }) [];
-        }))
-        (known_later M (λ u h. All (Holds (after_wholes h w.certificates)) g.facts) t v later g.known) g.plain)
+        });
+        known = g.known;
+        plain = g.plain;
+      }
+
+  -- so the operation is answered, once what was seen is noted
+  module _ (map : ℕ) (is : IsHeadOf (shape_in t) map key head) (op : ℕ → Op) (reply : Reply) (word : ℕ) (seen : Seen) (shows : ShowsReply M t head key w (op w.map) reply word seen)
+      (fits : seen.count < 2 ^ 32) where
+    own_head : (w.map ≡ map) × (w.bucket ≡ bucket_of (shape_in t) key)
+    own_head = one_head (shape_in t) w.map w.bucket map (bucket_of (shape_in t) key) head w.is_head is
+
+    pub answered_so : (v : TxnState) → GoesOn M t v → HasNoted t v word seen → NotesOnly t v word → IsAnswered M t v w.certificates map key (op map) reply
+    answered_so v goes noted among = subst (λ m. IsAnswered M t v w.certificates m key (op m) reply) own_head.0
+        (answered_reading M lawful lists t head key w own_head.1 (op w.map) reply word seen shows fits v goes noted among)
+
+    -- where no read is left for the word, it would be
+    pub needs_read : is_written (writes_in t) word ≡ false → content_read t.reads word ≡ None → OneMoreRead M t w.certificates map key (op map)
+    needs_read unwritten unread = subst (λ m. OneMoreRead M t w.certificates m key (op m)) own_head.0 (record {
+      word = word;
+      seen = seen;
+      unwritten = unwritten;
+      unread = unread;
+      reply = reply;
+      nothing = shows.nothing;
+      certificate = shown M lawful lists t head key w own_head.1 (op w.map) reply word seen shows fits;
+      recorded = refl;
+      would = would_read M lawful lists t head key w own_head.1 (op w.map) reply word seen shows fits;
+    })
+
+  -- a look-up that finds no such key would stand
+  pub is_absent_there : found.here ≡ false → found.at.count < 2 ^ 32 → (map : ℕ) → IsHeadOf (shape_in t) map key head → IsAbsent M t w.certificates map key
+  is_absent_there absent fits map is =
+      let own_head = one_head (shape_in t) w.map w.bucket map (bucket_of (shape_in t) key) head w.is_head is in
+      let shows = shows_absent absent (Get w.map key) refl (λ c op reply changes records. get_none op reply changes records) in
+      subst (λ m. IsAbsent M t w.certificates m key) own_head.0 (record {
+        word = found.prev;
+        seen = found.at;
+        certificate = shown M lawful lists t head key w own_head.1 (Get w.map key) (Value None) found.prev found.at shows fits;
+        would = would_read M lawful lists t head key w own_head.1 (Get w.map key) (Value None) found.prev found.at shows fits;
+      })
 
 -- the node that was found for an operation that was just begun is one of the field, however its shape is read
 pub found_exists : (M : Meaning) (lawful : Lawful M) (lists : HasListsOf M) (s t : TxnState) (head key : ℕ) (found : Found) → FindsFrom M s t head key found → IsBegun M s

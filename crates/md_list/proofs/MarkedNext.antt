@@ -1,5 +1,5 @@
 -- A marked next word: its node is known to be placed, or the word is an own one. So the node may be unlinked.
-use Rattle.std.proofs.Common.{◌≡◌, ◌≢◌, ◌-◌, ℕ, true, false, List, Option, Some, None, refl, sym, ap, ◌∙◌, subst, inr, ⊎_elim}
+use Rattle.std.proofs.Common.{◌≡◌, ◌≢◌, ◌-◌, ◌++◌, ◌⊎◌, ℕ, true, false, List, Option, Some, None, refl, sym, ap, ◌∙◌, subst, inr, ⊎_elim}
 use Rattle.std.proofs.lemmas.Bool.{cases_Bool, true≢false}
 use Rattle.std.proofs.lemmas.List.Elements.{All-contains}
 use Rattle.std.specs.List.{All, Contains}
@@ -10,7 +10,7 @@ use Rattle.md_machine.specs.declared.certificate.Certificate.{Certificate}
 use Rattle.md_machine.specs.declared.certificate.TidyChange.{TidyChange}
 use Rattle.md_machine.specs.declared.node.Structure.{Structure}
 use Rattle.md_machine.specs.declared.node.Structure.TheVariants.{Bucket}
-use Rattle.md_machine.specs.Certified.{all_nodes, after_wholes}
+use Rattle.md_machine.specs.Certified.{all_changes, all_nodes, after_wholes, changes_of_tidy}
 use Rattle.md_machine.specs.LogicalHeap.{Holds, is_settled}
 use Rattle.md_machine.specs.Meaning.{Lawful, Meaning}
 use Rattle.md_machine.specs.events.Exchange.{FoundFact, FoundNext}
@@ -24,7 +24,8 @@ use Rattle.md_nbtc.specs.Course.{IsStoredNode, stored_words}
 use Rattle.md_nbtc.specs.Going.{IsUnplaced}
 use Rattle.md_nbtc.specs.Known.{Known, KnowsFact, Met, WasThere}
 use Rattle.md_nbtc.specs.Seeing.{IsTidyNow}
-use Rattle.md_nbtc.specs.State.{OwnNode, TxnState, shape_in}
+use Rattle.md_nbtc.specs.State.{OwnNode, TxnState, shape_in, writes_in}
+use Rattle.md_nbtc.proofs.ready.Lookups.{written_there}
 use Rattle.md_nbtc.specs.Tidied.{tidied}
 use Rattle.md_nbtc.proofs.exchanging.PlainWords.{foreign}
 use Rattle.md_nbtc.proofs.preparing.Heaps.{known_now}
@@ -35,7 +36,9 @@ use Rattle.md_nbtc.proofs.structures.Tidying.{bare_holds, bare_placed}
 use Rattle.md_list_law.specs.Certificates.{IsUnlink, next_fact, node_fact}
 use Rattle.md_list_law.specs.HasLists.{HasListsOf}
 use Rattle.md_list_law.specs.ListShape.{IsIn, next_word}
+use Rattle.md_list.specs.Charged.{IsCharged, own_next, passes, recorded}
 use Rattle.md_list.proofs.At.{IsAt}
+use Rattle.md_list.proofs.Charging.{changed_before, known_of}
 use Rattle.md_list.proofs.OnNode.{IsOn}
 use Rattle.md_list.proofs.Rising.{met_node}
 use Rattle.md_list.proofs.ListWords.{cleanups_stay, may_change}
@@ -153,6 +156,15 @@ module _ (M : Meaning) (lawful : Lawful M) (lists : HasListsOf M) (t : TxnState)
   facts_hold u later prepared h of = all_facts M t cs stands.walking.map stands.walking.bucket head key prev stands.before node next.value (Holds (tidied h cs stands.walking.changes)) (next_fact_holds u later prepared h of)
       (λ other less exists known is. bare_holds (after_wholes h cs) stands.walking.changes stands.walking.tidied.bare (node_fact list other) refl
       (record { placed = (known u later prepared h of).placed; key = tt; value = tt; next = tt }))
+
+  -- it is charged where the mark is the transaction's own, or the word is critical all the same
+  pub unlink_charged : (next.own ≡ true) ⊎ (is_critical t prev Plain ≡ true) → IsCharged t (all_changes cs ++ changes_of_tidy stands.walking.changes) unlink
+  unlink_charged = ⊎_elim
+      (λ is_own.
+      let slot = on.gave.slot is_own in
+      passes (changed_before M t cs stands.walking.going stands.walking.changes stands.walking.tidied next_at
+      (written_there (writes_in t) slot.write slot.among next_at slot.there)))
+      (λ critical. ⊎_elim (λ r. recorded r.0 r.1 r.2) (λ n. own_next n.0 n.1 n.2) (known_of t prev critical))
 
   -- a plain unlink is tidy
   pub tidy_now : next.own ≡ false → (kind : Kind) → is_critical t prev kind ≡ false → IsTidyNow M t prev at.value (next.value - 1)

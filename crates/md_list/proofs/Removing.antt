@@ -1,5 +1,5 @@
 -- The remove of a key that was found: its node's next word may be marked, the unlink put off, and the operation ended.
-use Rattle.std.proofs.Common.{◌≡◌, ◌≢◌, ◌<◌, ◌^◌, ◌+◌, ◌++◌, ℕ, true, [], ◌∷◌, Some, map, arith, refl, sym, ap, ◌∙◌, subst, ⊎_elim, eq-eqb, if◌then◌else◌}
+use Rattle.std.proofs.Common.{◌≡◌, ◌≢◌, ◌<◌, ◌^◌, ◌+◌, ◌++◌, ℕ, true, false, [], ◌∷◌, Some, map, arith, refl, sym, ap, ◌∙◌, subst, inl, ⊎_elim, eq-eqb, if◌then◌else◌}
 use Rattle.std.proofs.lemmas.Bool.{true≢false}
 use Rattle.std.proofs.lemmas.List.Elements.{All-cons, All-nil}
 use Rattle.std.specs.List.{All, Contains}
@@ -15,7 +15,7 @@ use Rattle.md_machine.specs.declared.certificate.Fact.{Fact}
 use Rattle.md_machine.specs.declared.node.Structure.{Structure}
 use Rattle.md_machine.specs.declared.node.Structure.TheVariants.{Bucket}
 use Rattle.md_machine.specs.declared.attempt.Write.{Write}
-use Rattle.md_machine.specs.Certified.{after_wholes, all_changes}
+use Rattle.md_machine.specs.Certified.{after_wholes, all_changes, is_written}
 use Rattle.md_machine.specs.LogicalHeap.{Holds}
 use Rattle.md_machine.specs.Meaning.{Lawful, Meaning}
 use Rattle.md_machine.proofs.chain.SameNodes.{next_alone}
@@ -45,16 +45,19 @@ use Rattle.md_list_law.specs.ListShape.{IsIn, next_word}
 use Rattle.md_list.specs.declared.walk.Found.{Found}
 use Rattle.md_list.specs.Walking.{FindsNode, HasFound, IsHeadOf, IsWalking}
 use Rattle.md_list.specs.Operations.{IsAnswered, KeepsUnlink}
+use Rattle.md_list.specs.Refusals.{OneMoreChange}
 use Rattle.md_list_law.proofs.Links.{head_is_no_next}
-use Rattle.md_list.proofs.Changing.{changing, may_end_changing}
+use Rattle.md_list.proofs.Changing.{changing, may_end_changing, places_own}
 use Rattle.md_list.proofs.Critical.{ChangedCritically, changed_critically}
 use Rattle.md_list.proofs.FoundOn.{before_later, head_later}
-use Rattle.md_list.proofs.ListWords.{mark_stays, next_may_change}
+use Rattle.md_list.proofs.ListWords.{mark_stays, next_keeps_none, next_may_change}
 use Rattle.md_list.proofs.LookUps.{here_node, pair_known}
 use Rattle.md_list.proofs.Marks.{mark_set}
-use Rattle.md_list.proofs.Charging.{KeepsMarks, charged_later, marks_kept, marks_over, marks_same}
+use Rattle.md_list.proofs.Charging.{charged_later}
 use Rattle.md_list.proofs.Rows.{one_head, row_certifies, row_of_map}
+use Rattle.md_list.proofs.Staying.{KeepsNone, none_changed}
 use Rattle.md_list.proofs.UnlinkLater.{may_unlink_later}
+use Rattle.md_list.proofs.Would.{would_change}
 
 module _ (M : Meaning) (lawful : Lawful M) (lists : HasListsOf M) (t : TxnState) (head key : ℕ) (found : Found) (has : HasFound M t head key found) (is_here : found.here ≡ true) where
   abbrev w : IsWalking M t head
@@ -78,6 +81,10 @@ module _ (M : Meaning) (lawful : Lawful M) (lists : HasListsOf M) (t : TxnState)
   node_placed : Known M t (λ u h. IsIn (after_wholes h w.certificates) list found.node)
   node_placed u later prepared h of = (n.known u later prepared h of).placed
 
+  -- no cleanup is kept with its next word
+  none_kept : KeepsNone t next_at
+  none_kept = next_keeps_none M lawful lists t w.certificates w.going w.map w.bucket found.node n.exists node_placed found.next n.next.gave n.next.unmarked
+
   -- its next word may be marked
   pub may_mark : MayExchange M t next_at found.next marked Critical
   may_mark = record {
@@ -91,6 +98,42 @@ module _ (M : Meaning) (lawful : Lawful M) (lists : HasListsOf M) (t : TxnState)
         (λ unwritten plain. absurd (true≢false plain));
   }
 
+  -- the certificate, with the value that is removed
+  abbrev change : Change
+  change = record { word = next_at; old = found.next.value; new = marked }
+
+  module _ (value word : ℕ) (word_is : word ≡ address (shape_in t) (node_value found.node)) (data_is : Known M t (λ u h. data_at h (place_at (shape_in t) word) ≡ value)) where
+    abbrev fact : Fact
+    fact = pair_fact list found.node key value
+
+    abbrev c : Certificate
+    c = changing (Remove w.map key) (Value (Some value)) w.changes change [] (fact ∷ [])
+
+    row : IsRow (shape_in t) list head w.map key c
+    row = remove_some value refl refl (record { node = found.node; old = found.next.value; fact = here fact []; unmarked = n.next.unmarked; changes = refl; nodes = refl })
+
+    facts_known : Known M t (λ u h. All (Holds (tidied h w.certificates w.changes)) (fact ∷ []))
+    facts_known x over prepared h of = All-cons (Holds (tidied h w.certificates w.changes)) fact []
+        (bare_holds (after_wholes h w.certificates) w.changes w.tidied.bare fact refl
+        (pair_known M lawful lists t head key found has t (later_self t) w.going is_here value word word_is data_is x over prepared h of)) (All-nil (Holds (tidied h w.certificates w.changes)))
+
+    -- where no slot is left for the mark, it would stand
+    pub needs_mark : found.next.count < 2 ^ 32 → is_written (writes_in t) next_at ≡ false → (map : ℕ) → IsHeadOf (shape_in t) map key head
+        → OneMoreChange M t w.certificates map key (Remove map key)
+    needs_mark fits unwritten map is =
+        let own_head = one_head (shape_in t) w.map w.bucket map (bucket_of (shape_in t) key) head w.is_head is in
+        subst (λ m. OneMoreChange M t w.certificates m key (Remove m key)) own_head.0 (record {
+          change = change;
+          seen = found.next;
+          unwritten = unwritten;
+          reply = Value (Some value);
+          certificate = c;
+          changes = ap (λ l. l ++ change ∷ []) w.tidied.changes;
+          nodes = places_own (Remove w.map key) (Value (Some value)) w.changes change [] (fact ∷ []) w.tidied.bare ∙ sym w.tidied.stored;
+          would = would_change M lawful lists t head key w own_head.1 (Remove w.map key) (Value (Some value)) change [] (fact ∷ []) found.next n.next fits refl row facts_known
+              t (later_self t) n.next.gave (λ x over prepared h of. All-nil _);
+        })
+
   module _ (u : TxnState) (goes : GoesOn M t u) (seen : Seen) (gave : Gave u next_at seen) (changed : HasExchanged M t next_at found.next marked Critical u seen) where
     pub marked_by : ChangedCritically M t next_at found.next marked u seen
     marked_by = changed_critically M t next_at found.next marked u seen n.next.gave w.certificates (goes.going w.certificates w.going) changed
@@ -100,6 +143,10 @@ module _ (M : Meaning) (lawful : Lawful M) (lists : HasListsOf M) (t : TxnState)
 
     exists_still : IsNode (shape_in u) found.node
     exists_still = subst (λ s. IsNode s found.node) (sym shape_is) n.exists
+
+    -- nor is one after the mark
+    pub none_yet : KeepsNone u (next_word (shape_in u) found.node)
+    none_yet = subst (λ s. KeepsNone u (next_word s found.node)) (sym shape_is) (none_changed M t next_at found.next marked Critical u seen none_kept changed)
 
     -- the unlink may be put off
     pub written_for : IsWrittenFor u cleanup
@@ -128,12 +175,6 @@ module _ (M : Meaning) (lawful : Lawful M) (lists : HasListsOf M) (t : TxnState)
 
       writes_same : writes_in v ≡ writes_in u
       writes_same = ap (λ (x : TxnState). writes_in x) kept ∙ same_writes (next_word (shape_in u) found.node) cleanup u.slots
-
-      marks : KeepsMarks t v
-      marks = marks_over t u v (marks_kept M t next_at found.next marked Critical u seen n.next.gave n.next.unmarked w.going.prepared.has.written_once changed) (marks_same u v writes_same)
-
-      abbrev change : Change
-      change = record { word = next_at; old = found.next.value; new = marked }
 
       hand_is : v.hand ≡ u.hand
       hand_is = ap (λ (x : TxnState). x.hand) kept
@@ -189,34 +230,22 @@ module _ (M : Meaning) (lawful : Lawful M) (lists : HasListsOf M) (t : TxnState)
 
       module _ (fits : found.next.count < 2 ^ 32) (map : ℕ) (is : IsHeadOf (shape_in t) map key head) (value word : ℕ) (word_is : word ≡ address (shape_in t) (node_value found.node))
           (data_is : Known M t (λ u h. data_at h (place_at (shape_in t) word) ≡ value)) where
-        abbrev fact : Fact
-        fact = pair_fact list found.node key value
-
-        abbrev c : Certificate
-        c = changing (Remove w.map key) (Value (Some value)) w.changes change [] (fact ∷ [])
-
         own_head : (w.map ≡ map) × (w.bucket ≡ bucket_of (shape_in t) key)
         own_head = one_head (shape_in t) w.map w.bucket map (bucket_of (shape_in t) key) head w.is_head is
 
-        row : IsRow (shape_in t) list head w.map key c
-        row = remove_some value refl refl (record { node = found.node; old = found.next.value; fact = here fact []; unmarked = n.next.unmarked; changes = refl; nodes = refl })
-
-        facts_known : Known M t (λ u h. All (Holds (tidied h w.certificates w.changes)) (fact ∷ []))
-        facts_known x over prepared h of = All-cons (Holds (tidied h w.certificates w.changes)) fact []
-            (bare_holds (after_wholes h w.certificates) w.changes w.tidied.bare fact refl
-            (pair_known M lawful lists t head key found has t (later_self t) w.going is_here value word word_is data_is x over prepared h of)) (All-nil (Holds (tidied h w.certificates w.changes)))
-
-        pub removed : IsAnswered M v w.certificates map key (Remove map key) (Value (Some value))
-        removed = subst (λ m. IsAnswered M v w.certificates m key (Remove m key) (Value (Some value))) own_head.0 (record {
-          certificate = c;
+        pub removed : IsAnswered M t v w.certificates map key (Remove map key) (Value (Some value))
+        removed = subst (λ m. IsAnswered M t v w.certificates m key (Remove m key) (Value (Some value))) own_head.0 (record {
+          certificate = c value word word_is data_is;
           of = (refl, refl);
-          may = may_end_changing M t w.certificates w.changes w.tidied v later_v (Remove w.map key) (Value (Some value)) change [] (fact ∷ [])
-              (row_certifies M lists t head key w own_head.1 v later_v c row w.unlinks)
+          may = may_end_changing M t w.certificates w.changes w.tidied v later_v (Remove w.map key) (Value (Some value)) change [] (fact value word word_is data_is ∷ [])
+              (row_certifies M lists t head key w own_head.1 v later_v (c value word word_is data_is) (row value word word_is data_is) w.unlinks)
               (ap (λ h. h.changes) (hand_is ∙ marked_by.hand)) (sym (ap (λ h. h.stored) (hand_is ∙ marked_by.hand) ∙ w.tidied.stored)) (All-nil _) (All-nil _)
               (known_later M _ u v keeps.later
               (seen_value M lawful t w.certificates w.going w.changes w.tidied next_at found.next n.next.gave n.next.there fits u goes.later marked_by.first))
-              (known_later M _ t v later_v facts_known)
+              (known_later M _ t v later_v (facts_known value word word_is data_is))
               (λ x over prepared h of. All-nil _);
-          row = row_of_map M lists t head key w own_head.1 v later_v c row w.unlinks;
-          charged = charged_later t v later_v marks (all_changes w.certificates) w.changes w.charged;
+          row = row_of_map M lists t head key w own_head.1 v later_v (c value word word_is data_is) (row value word word_is data_is) w.unlinks;
+          charged = charged_later t v later_v (all_changes w.certificates) w.changes w.charged;
+          few = omega arith;
+          recorded = λ r among. inl (subst (λ l. Contains l r) (ap (λ (x : TxnState). x.reads) kept ∙ marked_by.reads) among);
         })

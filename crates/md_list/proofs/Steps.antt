@@ -28,6 +28,7 @@ use Rattle.md_list.proofs.At.{IsAt, IsAtBy, stepped}
 use Rattle.md_list.proofs.Further.{unlinked}
 use Rattle.md_list.proofs.Marks.{halved}
 use Rattle.md_list.proofs.OnNode.{IsOn, IsOnBy, begins, looks_on}
+use Rattle.md_list.proofs.Staying.{slots_changed, slots_same}
 use Rattle.md_list.proofs.Walked.{WalkedFrom, walked_more}
 
 -- the head is a counted word
@@ -62,14 +63,15 @@ module _ (M : Meaning) (t u : TxnState) (word : ℕ) where
 -- what a walk leaves after one more call
 module _ (M : Meaning) (s t u : TxnState) (walked : WalkedFrom M s t) (goes : GoesOn M t u) where
   pub walked_same : u ≡ record t { pass = u.pass } → WalkedFrom M s u
-  walked_same same = walked_more M s t u walked goes (ap (λ (x : TxnState). x.hand.acts) same) (ap (λ (x : TxnState). x.hand.operating) same) (ap (λ (x : TxnState). x.reads) same)
+  walked_same same = walked_more M s t u walked goes (ap (λ (x : TxnState). x.hand.acts) same) (ap (λ (x : TxnState). x.hand.operating) same) (slots_same t u (ap (λ (x : TxnState). x.slots) same))
+      (ap (λ (x : TxnState). x.reads) same)
       (ap (λ (x : TxnState). x.nodes) same)
 
   pub walked_exchange : (word : ℕ) (from : Seen) (to : ℕ) (kind : Kind) (seen : Seen) → HasExchanged M t word from to kind u seen → WalkedFrom M s u
   walked_exchange word from to kind seen (changed_own e) = walked_more M s t u walked goes (ap (λ (x : TxnState). x.hand.acts) e.state_is) (ap (λ (x : TxnState). x.hand.operating) e.state_is)
-      (ap (λ (x : TxnState). x.reads) e.state_is) (ap (λ (x : TxnState). x.nodes) e.state_is)
+      (slots_changed M t word from to kind u seen (changed_own e)) (ap (λ (x : TxnState). x.reads) e.state_is) (ap (λ (x : TxnState). x.nodes) e.state_is)
   walked_exchange word from to kind seen (installed e) = walked_more M s t u walked goes (ap (λ (x : TxnState). x.hand.acts) e.state_is) (ap (λ (x : TxnState). x.hand.operating) e.state_is)
-      (ap (λ (x : TxnState). x.reads) e.state_is) (ap (λ (x : TxnState). x.nodes) e.state_is)
+      (slots_changed M t word from to kind u seen (installed e)) (ap (λ (x : TxnState). x.reads) e.state_is) (ap (λ (x : TxnState). x.nodes) e.state_is)
   walked_exchange word from to kind seen (changed_plainly e) = walked_same e.state_is
 
 module _ (M : Meaning) (lawful : Lawful M) (lists : HasListsOf M) (t u : TxnState) (head key : ℕ) (goes : GoesOn M t u) where

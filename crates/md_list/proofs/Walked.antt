@@ -5,15 +5,17 @@ use Rattle.md_machine.specs.Meaning.{Meaning}
 use Rattle.md_nbtc.specs.Calls.{GoesOn}
 use Rattle.md_nbtc.specs.State.{TxnState}
 use Rattle.md_nbtc.proofs.structures.Answering.{IsStopped}
-use Rattle.md_list.specs.Operations.{Leaves}
+use Rattle.md_list.specs.Operations.{Leaves, SlotsStay}
 use Rattle.md_list.specs.Written.{WritesFew}
 use Rattle.md_list.proofs.Adding.{adds_stop, goes_over, leaves_more}
+use Rattle.md_list.proofs.Staying.{slots_over, slots_same}
 
--- it goes on with the same certificates, and recorded no word and took no node
+-- it goes on with the same certificates and slots, and recorded no word and took no node
 pub record WalkedFrom (M : Meaning) (t u : TxnState) : Type 0 where
   pub on : GoesOn M t u
   pub acts : u.hand.acts ≡ t.hand.acts
   pub operates : u.hand.operating ≡ true
+  pub slots : SlotsStay t u
   pub reads : u.reads ≡ t.reads
   pub nodes : u.nodes ≡ t.nodes
 
@@ -24,17 +26,19 @@ module _ (M : Meaning) (t : TxnState) where
     on = goes;
     acts = ap (λ (x : TxnState). x.hand.acts) same;
     operates = ap (λ (x : TxnState). x.hand.operating) same ∙ operates;
+    slots = slots_same t u (ap (λ (x : TxnState). x.slots) same);
     reads = ap (λ (x : TxnState). x.reads) same;
     nodes = ap (λ (x : TxnState). x.nodes) same;
   }
 
   -- and after one more
-  pub walked_more : (u v : TxnState) → WalkedFrom M t u → GoesOn M u v → v.hand.acts ≡ u.hand.acts → v.hand.operating ≡ u.hand.operating → v.reads ≡ u.reads → v.nodes ≡ u.nodes
+  pub walked_more : (u v : TxnState) → WalkedFrom M t u → GoesOn M u v → v.hand.acts ≡ u.hand.acts → v.hand.operating ≡ u.hand.operating → SlotsStay u v → v.reads ≡ u.reads → v.nodes ≡ u.nodes
       → WalkedFrom M t v
-  walked_more u v walked goes acts operates reads nodes = record {
+  walked_more u v walked goes acts operates slots reads nodes = record {
     on = goes_over M t u v walked.on goes;
     acts = acts ∙ walked.acts;
     operates = operates ∙ walked.operates;
+    slots = slots_over t u v walked.slots slots;
     reads = reads ∙ walked.reads;
     nodes = nodes ∙ walked.nodes;
   }
@@ -45,6 +49,7 @@ module _ (M : Meaning) (t : TxnState) where
     on = walked.on;
     acts = walked.acts;
     operates = walked.operates;
+    slots = walked.slots;
     reads_few = let l = ap (λ rs. length rs) walked.reads in omega (arith, l);
     writes_few = few;
     nodes_few = let l = ap (λ ns. length ns) walked.nodes in omega (arith, l);

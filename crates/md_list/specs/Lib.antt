@@ -2,3 +2,4 @@ pub mod Walking
 pub mod Written
 pub mod Charged
 pub mod Operations
+pub mod Refusals

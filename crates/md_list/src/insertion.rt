@@ -3,9 +3,11 @@
 ghost use Rattle.std.specs.Prelude.{◌≡◌, ℕ, IfOk, false, true};
 ghost use Rattle.md_history.specs.declared.acts.Op.TheVariants.{Insert};
 ghost use Rattle.md_history.specs.declared.acts.Reply.TheVariants.{Flag};
+ghost use Rattle.md_history.specs.declared.stops.Limit.TheVariants.{Nodes, Reads, Writes};
 ghost use Rattle.md_nbtc.specs.Calls.{AfterStop};
 ghost use Rattle.md_nbtc.specs.State.{shape_in, state};
 ghost use Rattle.md_list.specs.Operations.{Answers, HasStop, IsBegun, Leaves};
+ghost use Rattle.md_list.specs.Refusals.{NeedsNode, NeedsRead, NeedsSlot, RefusedBy};
 ghost use Rattle.md_list.specs.Walking.{IsHeadOf};
 
 use crate::walk::find;
@@ -26,8 +28,9 @@ use md_nbtc::{Kind, Txn};
 /// `Err` is the refusal of the first call that was refused, and the transaction keeps it: those of
 /// [`find`]; of the note `Conflict` and `Limit::Reads`, as in [`get`](crate::get); of the taking
 /// `Limit::Nodes`, if no lane of the pass has a node left, and `Limit::Worn` of the node's next
-/// word; of the last exchange `Conflict`, `Limit::Writes` and `Limit::Worn`. After a stop the
-/// answer is the same stop, and nothing is done.
+/// word; of the last exchange `Conflict`, `Limit::Writes` and `Limit::Worn`. `Limit::Reads`,
+/// `Limit::Writes` and `Limit::Nodes` come only if the operation needs one more word, or one more
+/// node. After a stop the answer is the same stop, and nothing is done.
 ///
 /// One [`find`], and two steps for a note; or four for the node, and four for the change, one if
 /// its word is an own one. It takes no memory.
@@ -53,6 +56,12 @@ pub fn insert<'a, T: HasLists>(
         (λ map. Insert map key value) (Flag absent)) }
     ensures stops { AfterStop (state tx.old).stop (state tx.old) (state tx.new) result
         (HasStop (state tx.new) result) }
+    ensures no_read { RefusedBy Reads T.meaning (state tx.old) (state tx.new) result
+        (NeedsRead T.meaning (state tx.old) head key (λ map. Insert map key value)) }
+    ensures no_slot { RefusedBy Writes T.meaning (state tx.old) (state tx.new) result
+        (NeedsSlot T.meaning (state tx.old) head key (λ map. Insert map key value)) }
+    ensures no_node { RefusedBy Nodes T.meaning (state tx.old) (state tx.new) result
+        (NeedsNode T.meaning (state tx.old) head key) }
 {
     let found = find(tx, head, key)?;
     if found.here {

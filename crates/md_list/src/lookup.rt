@@ -3,9 +3,11 @@
 ghost use Rattle.std.specs.Prelude.{◌≡◌, ℕ, IfOk};
 ghost use Rattle.md_history.specs.declared.acts.Op.TheVariants.{Get};
 ghost use Rattle.md_history.specs.declared.acts.Reply.TheVariants.{Value};
+ghost use Rattle.md_history.specs.declared.stops.Limit.TheVariants.{Reads, Writes};
 ghost use Rattle.md_nbtc.specs.Calls.{AfterStop};
 ghost use Rattle.md_nbtc.specs.State.{shape_in, state};
 ghost use Rattle.md_list.specs.Operations.{Answers, HasStopButNodes, IsBegun, Leaves};
+ghost use Rattle.md_list.specs.Refusals.{NeedsRead, NeedsUnlink, RefusedBy};
 ghost use Rattle.md_list.specs.Walking.{IsHeadOf};
 
 use crate::walk::find;
@@ -22,10 +24,11 @@ use md_nbtc::Txn;
 ///
 /// `Err` is the refusal of the first call that was refused, and the transaction keeps it: those of
 /// [`find`]; and of the note `Conflict`, if the word is recorded with another content, and
-/// `Limit::Reads`, if it must be recorded and 128 words are. It is never `Limit::Nodes`. After a
-/// stop the answer is the same stop, and nothing is done.
+/// `Limit::Reads`, if it must be recorded and 128 words are. It is never `Limit::Nodes`.
+/// `Limit::Reads` and `Limit::Writes` come only if the operation needs one more word. After a stop
+/// the answer is the same stop, and nothing is done.
 ///
-/// One [`find`], two steps if the word is recorded now, and one for the value. It takes no memory.
+/// One [`find`], one step for the value, and two if the word is recorded now. It takes no memory.
 ///
 /// After M. M. Michael, "High Performance Dynamic Lock-Free Hash Tables and List-Based Sets"
 /// (2002). It differs from Michael's search in one way: it records the word on which its answer
@@ -39,14 +42,20 @@ pub fn get<'a, T: HasLists>(tx: &mut Txn<'a, T>, head: u32, key: u64) -> Result<
         (λ map. Get map key) (Value value)) }
     ensures stops { AfterStop (state tx.old).stop (state tx.old) (state tx.new) result
         (HasStopButNodes (state tx.new) result) }
+    ensures no_read { RefusedBy Reads T.meaning (state tx.old) (state tx.new) result
+        (NeedsRead T.meaning (state tx.old) head key (λ map. Get map key)) }
+    ensures no_slot { RefusedBy Writes T.meaning (state tx.old) (state tx.new) result
+        (NeedsUnlink T.meaning (state tx.old) head key) }
 {
     let found = find(tx, head, key)?;
     if !found.here {
         tx.note(found.prev, found.at)?;
         return Ok(None);
     }
+    // The value is read first, so that a refused note tells the whole answer.
+    let value_word = tx.shape().node_value(found.node);
+    let value = tx.field_of(value_word);
     let next_word = tx.shape().node_next(found.node);
     tx.note(next_word, found.next)?;
-    let value_word = tx.shape().node_value(found.node);
-    Ok(Some(tx.field_of(value_word)))
+    Ok(Some(value))
 }

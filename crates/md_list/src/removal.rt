@@ -3,9 +3,11 @@
 ghost use Rattle.std.specs.Prelude.{◌≡◌, ℕ, IfOk, IfSome};
 ghost use Rattle.md_history.specs.declared.acts.Op.TheVariants.{Remove};
 ghost use Rattle.md_history.specs.declared.acts.Reply.TheVariants.{Value};
+ghost use Rattle.md_history.specs.declared.stops.Limit.TheVariants.{Reads, Writes};
 ghost use Rattle.md_nbtc.specs.Calls.{AfterStop};
 ghost use Rattle.md_nbtc.specs.State.{shape_in, state};
 ghost use Rattle.md_list.specs.Operations.{Answers, HasStopButNodes, IsBegun, KeepsUnlink, Leaves};
+ghost use Rattle.md_list.specs.Refusals.{NeedsRead, NeedsSlot, RefusedBy};
 ghost use Rattle.md_list.specs.Walking.{IsHeadOf};
 
 use crate::walk::find;
@@ -25,8 +27,9 @@ use md_nbtc::{Cleanup, Kind, Txn};
 ///
 /// `Err` is the refusal of the first call that was refused, and the transaction keeps it: those of
 /// [`find`]; of the note `Conflict` and `Limit::Reads`, as in [`get`](crate::get); of the exchange
-/// that marks `Conflict`, `Limit::Writes` and `Limit::Worn`. It is never `Limit::Nodes`. After a
-/// stop the answer is the same stop, and nothing is done.
+/// that marks `Conflict`, `Limit::Writes` and `Limit::Worn`. It is never `Limit::Nodes`.
+/// `Limit::Reads` and `Limit::Writes` come only if the operation needs one more word. After a stop
+/// the answer is the same stop, and nothing is done.
 ///
 /// One [`find`], and two steps for a note; or one for the value and four for the mark, one if the
 /// word is an own one. It takes no memory.
@@ -52,6 +55,10 @@ pub fn remove<'a, T: HasLists>(
         (λ map. Remove map key) (Value value)) }
     ensures stops { AfterStop (state tx.old).stop (state tx.old) (state tx.new) result
         (HasStopButNodes (state tx.new) result) }
+    ensures no_read { RefusedBy Reads T.meaning (state tx.old) (state tx.new) result
+        (NeedsRead T.meaning (state tx.old) head key (λ map. Remove map key)) }
+    ensures no_slot { RefusedBy Writes T.meaning (state tx.old) (state tx.new) result
+        (NeedsSlot T.meaning (state tx.old) head key (λ map. Remove map key)) }
 {
     let found = find(tx, head, key)?;
     if !found.here {

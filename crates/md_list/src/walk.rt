@@ -1,9 +1,11 @@
 //! How a key is looked for.
 
 ghost use Rattle.std.specs.Prelude.{◌≡◌, IfOk};
+ghost use Rattle.md_history.specs.declared.stops.Limit.TheVariants.{Reads, Writes};
 ghost use Rattle.md_nbtc.specs.Calls.{AfterStop};
 ghost use Rattle.md_nbtc.specs.State.{state};
 ghost use Rattle.md_list.specs.Operations.{HasStopButNodes, Leaves};
+ghost use Rattle.md_list.specs.Refusals.{NotRefusedBy, RefusedBy, WalkNeedsSlot};
 ghost use Rattle.md_list.specs.Walking.{FindsFrom, IsWalking};
 
 use md_history::Stop;
@@ -35,7 +37,9 @@ pub struct Found {
 /// `Err` is the refusal of the first load or exchange that was refused, and the transaction keeps
 /// it: `Conflict` if a word moved, `Limit::Writes` if an unlink needs a slot and 128 are written,
 /// `Limit::Worn` if the word of an unlink has a count of 4,294,967,292 or more. It is never
-/// `Limit::Nodes`. After a stop the answer is the same stop, and nothing is done.
+/// `Limit::Nodes` or `Limit::Reads`. `Limit::Writes` comes only if an unlink needs one more word,
+/// and would stand after those that were made. After a stop the answer is the same stop, and
+/// nothing is done.
 ///
 /// One load of the head; for each node that stands, one load of its next word and one step to read
 /// its key; for each removed node, one load of its next word and one exchange, of one step if it is
@@ -55,6 +59,9 @@ pub fn find<'a, T: HasLists>(tx: &mut Txn<'a, T>, head: u32, key: u64) -> Result
     ensures found { IfOk result (FindsFrom T.meaning (state tx.old) (state tx.new) head key) }
     ensures stops { AfterStop (state tx.old).stop (state tx.old) (state tx.new) result
         (HasStopButNodes (state tx.new) result) }
+    ensures no_read { NotRefusedBy Reads (state tx.old) result }
+    ensures no_slot { RefusedBy Writes T.meaning (state tx.old) (state tx.new) result
+        (WalkNeedsSlot T.meaning (state tx.old) head) }
 {
     let mut prev = head;
     let mut at = tx.load(prev)?;

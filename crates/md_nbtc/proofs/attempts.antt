@@ -1,2 +1,3 @@
 pub mod OwnAfter
 pub mod Fronts
+pub mod Alone

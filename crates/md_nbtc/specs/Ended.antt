@@ -3,7 +3,7 @@ use Rattle.std.specs.Prelude.{◌⊎◌}
 use Rattle.md_history.specs.declared.stops.Shown.{Shown}
 use Rattle.md_machine.specs.Meaning.{Meaning}
 use Rattle.md_rule.specs.Views.{PassState}
-use Rattle.md_nbtc.specs.Ending.{Aborts, Commits, HasEntry, IsShown, Readies, Stopped}
+use Rattle.md_nbtc.specs.Ending.{Aborts, Commits, HasEntry, IsShown, Readies, Stopped, TellsWhy}
 use Rattle.md_nbtc.specs.State.{TxnState}
 
 module _ (M : Meaning) where
@@ -15,13 +15,14 @@ module _ (M : Meaning) where
     pub answered : HasEntry ready
     pub commits : Commits M ready answered q
 
-  -- it became ready and was aborted, and this is shown
+  -- it became ready and was aborted, and this is shown: a read that moved, or that another aborted it
   pub record WasAborted (t : TxnState) (q : PassState) (shown : Shown) : Type 0 where
     pub ready : TxnState
     pub entry : HasEntry ready
     pub readies : Readies t ready entry
     pub aborts : Aborts M ready q
     pub is_shown : IsShown ready q shown
+    pub tells : TellsWhy ready q shown
 
   -- another had aborted it before
   pub record WasUnready (t : TxnState) (q : PassState) (shown : Shown) : Type 0 where

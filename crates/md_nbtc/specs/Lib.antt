@@ -18,3 +18,4 @@ pub mod Withdrawing
 pub mod Exchanging
 pub mod Withdrawn
 pub mod Tested
+pub mod LeftReady

@@ -56,6 +56,16 @@ pub record LeftLast (word held : ℕ) (steps : List Step) : Type 0 where
   pub leaves : Leaves word held step
   pub unchanged : All (λ s. s.word ≡ word → s.before ≡ s.after) later
 
+-- exactly one of these steps is a store for the attempt to the word
+pub record StoredOnce (a : AttemptId) (word : ℕ) (steps : List Step) : Type 0 where
+  pub earlier : List Step
+  pub step : Step
+  pub later : List Step
+  pub order : steps ≡ earlier ++ step ∷ later
+  pub stores : StoresFor a word step
+  pub before : All (λ s. ¬ StoresFor a word s) earlier
+  pub since : All (λ s. ¬ StoresFor a word s) later
+
 -- a read is stored in the descriptor, by an own step: its word is a counted one, in which an own step left the recorded
 -- content, even
 pub record IsRecorded (t : TxnState) (i : ℕ) (r : Read) : Type 0 where
@@ -86,12 +96,13 @@ abbrev pub EachFrom : {A : Type 0} → (ℕ → A → Type 0) → ℕ → List A
 EachFrom P i [] = Unit {0}
 EachFrom P i (x ∷ xs) = P i x × EachFrom P (i + 1) xs
 
--- an own node is one of the pass's lanes that no entry places. It was stored for the attempt, and its words are there;
--- its next word has an even count where the transaction hasn't installed its descriptor
+-- an own node is one of the pass's lanes that no entry places. Its next word was stored for the attempt, and only once.
+-- Its words are there; its next word has an even count where the transaction hasn't installed its descriptor
 pub record IsPreparedNode (t : TxnState) (n : OwnNode) : Type 0 where
   pub own : HasNode (shape_in t) t.pass.view n.node
   pub unplaced : IsFreeBy t.pass.view.seen t.pass.view.known n.node
   pub stored : SomeStepOf t.pass.view (StoresFor (attempt_in t) (address (shape_in t) (node_next n.node)))
+  pub once : StoredOnce (attempt_in t) (address (shape_in t) (node_next n.node)) t.pass.view.trail
   pub key : LeftLast (address (shape_in t) (node_key n.node)) n.key t.pass.view.trail
   pub value : LeftLast (address (shape_in t) (node_value n.node)) n.value t.pass.view.trail
   pub next : is_written (writes_in t) (address (shape_in t) (node_next n.node)) ≡ false

@@ -5,7 +5,8 @@ ghost use Rattle.md_words.specs.declared.status.Status.TheVariants.{InPrep, InPr
 ghost use Rattle.md_words.specs.Status.{status_word};
 ghost use Rattle.md_nbtc.specs.Ending.{Aborts, Commits, HasEntry, IsReady, IsShown, Readies, Stopped};
 ghost use Rattle.md_nbtc.specs.Ending.{TellsWhy, receipt_of};
-ghost use Rattle.md_nbtc.specs.Ended.{WasCommitted, WasLost};
+ghost use Rattle.md_nbtc.specs.Ended.{WasCommitted, WasLost, WasUnready};
+ghost use Rattle.md_nbtc.specs.LeftReady.{WasLeftReady};
 ghost use Rattle.md_nbtc.specs.Ending.{ready_state, shown_unready};
 ghost use Rattle.md_nbtc.specs.Going.{IsUnderWay};
 ghost use Rattle.md_nbtc.specs.State.{state, state_of};
@@ -143,6 +144,46 @@ impl<'a, T: Theory> Txn<'a, T> {
             Ok(()) => decided(
                 pass, field, &began, desc, serial, tag, &reads, &slots, &lots,
             ),
+            Err(found) => {
+                let attempt = AttemptId { desc, serial };
+                withdraw(pass, field, attempt, &slots, &lots, &began);
+                Err(Shown {
+                    word: field.shape().status(desc),
+                    was: from,
+                    now: found,
+                })
+            }
+        }
+    }
+}
+
+impl<'a, T: Theory> Txn<'a, T> {
+    /// Makes the transaction ready and leaves it undecided, as `ready` and `Ready::leave` in turn
+    /// do. It has their conditions, steps and answers, and takes no memory.
+    pub fn leave_ready(self) -> Result<(), Shown>
+        requires going { IsUnderWay T.meaning (state self) }
+        requires between { (state self).hand.operating ≡ false }
+        requires runs { (state self).stop ≡ None }
+        ensures left { IfOk result (λ _. WasLeftReady T.meaning (state self.entry)
+            self.exit.0.now) }
+        ensures refused { IfErr result (WasUnready T.meaning (state self.entry) self.exit.0.now) }
+    {
+        let about = Snapshot::of(&self);
+        let Txn {
+            pass,
+            field,
+            began,
+            desc,
+            serial,
+            tag: _,
+            reads,
+            slots,
+            lots,
+            stop: _,
+        } = self;
+        let from = unready(serial);
+        match pass.ready::<Brand, _>(field, desc, from, reads.len(), about) {
+            Ok(()) => Ok(()),
             Err(found) => {
                 let attempt = AttemptId { desc, serial };
                 withdraw(pass, field, attempt, &slots, &lots, &began);

@@ -2,6 +2,7 @@
 
 ghost use Rattle.std.specs.Prelude.{◌≡◌, ℕ, false, true};
 ghost use Rattle.md_words.specs.PlaceAt.{place_at};
+ghost use Rattle.md_rule.specs.Kept.{KeepsLanes};
 ghost use Rattle.md_nbtc.specs.Calls.{Ends, GoesOn, IsData, MayAnswer};
 ghost use Rattle.md_nbtc.specs.Calls.{data_at, with_act, with_operation};
 ghost use Rattle.md_nbtc.specs.Going.{IsUnderWay};
@@ -39,6 +40,14 @@ impl<'a, T: Theory> Txn<'a, T> {
         ensures { result.now ≡ shape_in (state self.now) }
     {
         self.field.shape()
+    }
+
+    /// It does nothing: its contract lends what the pass keeps of its lanes.
+    pub fn kept(&self)
+        ensures lanes { KeepsLanes (state self.now).pass.shape (state self.now).pass.view
+            (state self.now).pass.shares }
+    {
+        let _ = self.pass.shape();
     }
 
     /// Begins an operation. None is begun yet. One step.

@@ -31,7 +31,7 @@ use Rattle.md_queue_law.specs.QueueCertificates.{Seen as Passed, LooksEnough, Lo
 use Rattle.md_queue_law.specs.QueueMeaning.{HasQueuesOf}
 use Rattle.md_queue_law.specs.QueueShape.{link}
 use Rattle.md_queue_law.proofs.Facts.{look_goes_on}
-use Rattle.md_queue.specs.Along.{HasLooked, HasLookedToEnd}
+use Rattle.md_queue.specs.Along.{HasLooked, HasLookedToEnd, words_along}
 use Rattle.md_queue.specs.Words.{head_at, next_at}
 use Rattle.md_queue.specs.Working.{IsRecorded, IsWorking, NamesNode, SeesNext}
 use Rattle.md_queue.proofs.Among.{AnswersBy}
@@ -40,28 +40,22 @@ use Rattle.md_queue.proofs.Looking.{head_named, next_looked, next_named}
 use Rattle.md_queue.proofs.Passing.{names_on, of_on, working_on}
 use Rattle.md_queue.proofs.Recording.{may_answer_reading, noted_recorded, recorded_on}
 
--- the words that a look along a queue records: the head, and the next words on the way
-abbrev pub words_along : Shape → (queue dummy : ℕ) → List Passed → List ℕ
-words_along shape queue dummy seen = address shape (queue_head queue) ∷ map (λ (r : WordValue). r.word) (next_words shape dummy seen)
-
--- with one more node, one more
+-- the words that a look records, with those of one more node
 pub words_more : (shape : Shape) (queue dummy : ℕ) (seen : List Passed) (p : Passed)
     → words_along shape queue dummy seen ++ address shape (node_next (last_seen dummy seen)) ∷ [] ≡ words_along shape queue dummy (seen ++ p ∷ [])
 words_more shape queue dummy seen p = ap (λ ws. address shape (queue_head queue) ∷ ws)
     (sym (map-append (λ (r : WordValue). r.word) (next_words shape dummy seen) (next_is shape (last_seen dummy seen) (link p.node) ∷ []))
     ∙ ap (map (λ (r : WordValue). r.word)) (sym (look_goes_on shape dummy seen p).0))
 
-module _ (M : Meaning) (lawful : Lawful M) (queues : HasQueuesOf M) (t : TxnState) (queue : ℕ) where
+module _ (M : Meaning) (lawful : Lawful M) (queues : HasQueuesOf M) (t : TxnState) (queue : ℕ) (cs : List Certificate) where
   -- the look begins with a note of the head
-  pub head_passed : (head : Seen) → SeesHead M t queue head → (u : TxnState) → GoesOn M t u → head.count < 2 ^ 32 → HasNoted t u (head_at t queue) head
-      → HasLooked M u queue (linked_node head.value) (linked_node head.value) []
+  pub head_passed : (head : Seen) → SeesHead M t queue cs head → (u : TxnState) → GoesOn M t u → head.count < 2 ^ 32 → HasNoted t u (head_at t queue) head
+      → HasLooked M u queue cs (linked_node head.value) (linked_node head.value) []
   head_passed head s u on fits noted =
-      let cs = s.certificates in
       let ts = s.changes in
       let shape = shape_later t u on.later in
       let named = head_named M lawful queues t queue cs ts s.working head s.head_sees in
       record {
-        certificates = cs;
         changes = ts;
         working = working_on M t u on.later queue cs ts on noted.hand s.working;
         last = refl;
@@ -74,10 +68,7 @@ module _ (M : Meaning) (lawful : Lawful M) (queues : HasQueuesOf M) (t : TxnStat
         values = λ v later prepared h of. All-nil (Holds (after_wholes h cs));
       }
 
-  module _ (dummy node : ℕ) (seen : List Passed) (s : HasLooked M t queue dummy node seen) where
-    abbrev cs : List Certificate
-    cs = s.certificates
-
+  module _ (dummy node : ℕ) (seen : List Passed) (s : HasLooked M t queue cs dummy node seen) where
     abbrev ts : List TidyChange
     ts = s.changes
 
@@ -85,15 +76,15 @@ module _ (M : Meaning) (lawful : Lawful M) (queues : HasQueuesOf M) (t : TxnStat
     value_fact p = has_value queue p.node p.value
 
     -- a look at the next word
-    pub next_looked_at : (u : TxnState) → GoesOn M t u → u ≡ record t { pass = u.pass } → (next : Seen) → Looks M t u (next_at t node) next → SeesNext M u s.certificates queue node next
+    pub next_looked_at : (u : TxnState) → GoesOn M t u → u ≡ record t { pass = u.pass } → (next : Seen) → Looks M t u (next_at t node) next → SeesNext M u cs queue node next
     next_looked_at u on same next looks = next_looked M lawful queues t queue cs ts s.working u on next node s.placed looks same
 
     -- and a note of it
     pub record NotedNext (v : TxnState) (next : Seen) : Type 0 where
       pub later : IsLater t v
-      pub working : IsWorking M v queue s.certificates s.changes
-      pub noted : IsRecorded M v s.certificates s.changes (next_is (shape_in v) node next.value)
-      pub named : next.value ≢ 0 → NamesNode M v s.certificates queue next.value
+      pub working : IsWorking M v queue cs s.changes
+      pub noted : IsRecorded M v cs s.changes (next_is (shape_in v) node next.value)
+      pub named : next.value ≢ 0 → NamesNode M v cs queue next.value
 
     pub next_noted : (u : TxnState) → GoesOn M t u → u ≡ record t { pass = u.pass } → (next : Seen) → Looks M t u (next_at t node) next → (v : TxnState) → GoesOn M u v
         → next.count < 2 ^ 32 → HasNoted u v (next_at u node) next → NotedNext v next
@@ -121,27 +112,31 @@ module _ (M : Meaning) (lawful : Lawful M) (queues : HasQueuesOf M) (t : TxnStat
       values_kept : Known M v (λ u h. All (Holds (after_wholes h cs)) (map value_fact seen))
       values_kept = known_later M (λ u h. All (Holds (after_wholes h cs)) (map value_fact seen)) t v later s.values
 
+    -- so the look stays where it came to
+    pub looked_on : (v : TxnState) → IsLater t v → IsWorking M v queue cs s.changes → HasLooked M v queue cs dummy node seen
+    looked_on v later working = record {
+      changes = ts;
+      working = working;
+      last = s.last;
+      exists = subst (λ (x : Shape). IsNode x node) (sym (shape_later t v later)) s.exists;
+      placed = of_on M t v later cs queue node s.placed;
+      head_noted = head_kept v later working;
+      nexts_noted = nexts_kept v later working;
+      values = values_kept v later working;
+    }
+
     -- there it ends
-    pub ended : (v : TxnState) (next : Seen) → NotedNext v next → next.value ≡ 0 → HasLookedToEnd M v queue dummy node seen
+    pub ended : (v : TxnState) (next : Seen) → NotedNext v next → next.value ≡ 0 → HasLookedToEnd M v queue cs dummy node seen
+    unfolding looked_on
     ended v next n zero = record {
-      looked = record {
-        certificates = cs;
-        changes = ts;
-        working = n.working;
-        last = s.last;
-        exists = subst (λ (x : Shape). IsNode x node) (sym (shape_later t v n.later)) s.exists;
-        placed = of_on M t v n.later cs queue node s.placed;
-        head_noted = head_kept v n.later n.working;
-        nexts_noted = nexts_kept v n.later n.working;
-        values = values_kept v n.later n.working;
-      };
+      looked = looked_on v n.later n.working;
       end_noted = subst (λ x. IsRecorded M v cs ts (next_is (shape_in v) node x)) zero n.noted;
     }
 
     -- or it comes to one more node
     pub further : (v : TxnState) (next : Seen) → NotedNext v next → next.value ≢ 0 → (w : TxnState) → GoesOn M v w → w ≡ record v { pass = w.pass } → (value : ℕ)
         → Known M w (λ x h. h.words.value_of_node (linked_node next.value) ≡ value)
-        → HasLooked M w queue dummy (linked_node next.value) (seen ++ record { node = linked_node next.value; value = value } ∷ [])
+        → HasLooked M w queue cs dummy (linked_node next.value) (seen ++ record { node = linked_node next.value; value = value } ∷ [])
     further v next n some w over same value is =
         let first = linked_node next.value in
         let p : Passed = record { node = first; value = value } in
@@ -155,7 +150,6 @@ module _ (M : Meaning) (lawful : Lawful M) (queues : HasQueuesOf M) (t : TxnStat
         = subst (λ x. IsRecorded M w cs ts (next_is (shape_in w) x (link first))) s.last
         (subst (λ x. IsRecorded M w cs ts (next_is (shape_in w) node x)) named.is noted) in
         record {
-          certificates = cs;
           changes = ts;
           working = working;
           last = sym along.1;
@@ -178,7 +172,7 @@ module _ (M : Meaning) (lawful : Lawful M) (queues : HasQueuesOf M) (t : TxnStat
       abbrev reply : Reply
       reply = TheLine (line_of (map (λ (p : Passed). p.value) seen))
 
-      answers : AnswersBy M t (Line queue n) reply (map (λ (r : WordValue). r.word) words)
+      answers : AnswersBy M t cs (Line queue n) reply (map (λ (r : WordValue). r.word) words)
       answers = may_answer_reading M queues t queue cs ts s.working (Line queue n) reply words (map value_fact seen) (
         s.working.within,
         record { dummy = dummy; seen = seen; ending = ending; ends = ends; reply = refl; recorded = refl; changes = refl; nodes = refl; facts = refl },
@@ -189,21 +183,21 @@ module _ (M : Meaning) (lawful : Lawful M) (queues : HasQueuesOf M) (t : TxnStat
           (All-map (λ (f : Fact). f.next ≡ None) value_fact seen (λ i d below. refl))
 
     -- as many values as were asked for
-    pub looked_enough : AnswersBy M t (Line queue (length seen)) (TheLine (line_of (map (λ (p : Passed). p.value) seen))) (words_along (shape_in t) queue dummy seen)
-    looked_enough = subst (λ ws. AnswersBy M t (Line queue (length seen)) reply_is (address (shape_in t) (queue_head queue) ∷ map (λ (r : WordValue). r.word) ws)) (append-nil (next_words (shape_in t) dummy seen))
+    pub looked_enough : AnswersBy M t cs (Line queue (length seen)) (TheLine (line_of (map (λ (p : Passed). p.value) seen))) (words_along (shape_in t) queue dummy seen)
+    looked_enough = subst (λ ws. AnswersBy M t cs (Line queue (length seen)) reply_is (address (shape_in t) (queue_head queue) ∷ map (λ (r : WordValue). r.word) ws)) (append-nil (next_words (shape_in t) dummy seen))
         (answers [] (length seen) (inl (record { all = refl; is = refl })) (All-nil (IsRecorded M t cs ts)))
       where
         reply_is : Reply
         reply_is = TheLine (line_of (map (λ (p : Passed). p.value) seen))
 
   -- or all that there are
-  pub looked_to_end : (dummy node : ℕ) (seen : List Passed) (s : HasLookedToEnd M t queue dummy node seen) (n : ℕ) → length seen < n
-      → AnswersBy M t (Line queue n) (TheLine (line_of (map (λ (p : Passed). p.value) seen))) (words_along (shape_in t) queue dummy seen ++ next_at t (last_seen dummy seen) ∷ [])
+  pub looked_to_end : (dummy node : ℕ) (seen : List Passed) (s : HasLookedToEnd M t queue cs dummy node seen) (n : ℕ) → length seen < n
+      → AnswersBy M t cs (Line queue n) (TheLine (line_of (map (λ (p : Passed). p.value) seen))) (words_along (shape_in t) queue dummy seen ++ next_at t (last_seen dummy seen) ∷ [])
   looked_to_end dummy node seen s n fewer =
       let l = s.looked in
       let end = next_is (shape_in t) (last_seen dummy seen) 0 in
-      subst (λ ws. AnswersBy M t (Line queue n) (TheLine (line_of (map (λ (p : Passed). p.value) seen))) (address (shape_in t) (queue_head queue) ∷ ws))
+      subst (λ ws. AnswersBy M t cs (Line queue n) (TheLine (line_of (map (λ (p : Passed). p.value) seen))) (address (shape_in t) (queue_head queue) ∷ ws))
       (map-append (λ (r : WordValue). r.word) (next_words (shape_in t) dummy seen) (end ∷ []))
       (answers dummy node seen l (end ∷ []) n (inr (record { fewer = fewer; is = refl }))
-      (All-cons (IsRecorded M t l.certificates l.changes) end []
-      (subst (λ x. IsRecorded M t l.certificates l.changes (next_is (shape_in t) x 0)) l.last s.end_noted) (All-nil (IsRecorded M t l.certificates l.changes))))
+      (All-cons (IsRecorded M t cs l.changes) end []
+      (subst (λ x. IsRecorded M t cs l.changes (next_is (shape_in t) x 0)) l.last s.end_noted) (All-nil (IsRecorded M t cs l.changes))))

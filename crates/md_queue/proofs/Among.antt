@@ -1,21 +1,27 @@
 -- Which words an operation records more, and by which certificate it is answered.
-use Rattle.std.proofs.Common.{◌≡◌, ◌≤◌, ◌++◌, ℕ, List, [], ◌∷◌, map, length, sym, ap, ◌∙◌, subst, inl, inr, ⊎_elim, arith}
+use Rattle.std.proofs.Common.{◌≡◌, ◌≤◌, ◌++◌, ℕ, List, [], ◌∷◌, length, sym, ap, ◌∙◌, subst, inl, inr, ⊎_elim, arith}
 use Rattle.std.proofs.lemmas.List.{append-nil, length-append}
 use Rattle.std.proofs.lemmas.List.Elements.{Contains-append_left, Contains-append_right}
 use Rattle.std.specs.List.{Contains}
 use Rattle.md_history.specs.declared.acts.Op.{Op}
 use Rattle.md_history.specs.declared.acts.Reply.{Reply}
 use Rattle.md_machine.specs.declared.attempt.Read.{Read}
+use Rattle.md_machine.specs.declared.certificate.Certificate.{Certificate}
+use Rattle.md_machine.specs.Certified.{all_changes}
 use Rattle.md_machine.specs.Meaning.{Meaning}
+use Rattle.md_rule.specs.Steps.{IsOf as IsOfAct}
 use Rattle.md_nbtc.specs.Calls.{MayAnswer}
+use Rattle.md_nbtc.specs.Course.{MayEnd}
+use Rattle.md_nbtc.specs.Going.{IsGoing, IsUnderWay}
 use Rattle.md_nbtc.specs.State.{TxnState, shape_in}
 use Rattle.md_queue_law.specs.QueueCertificates.{CertifiesOp}
-use Rattle.md_queue.specs.Operations.{Answered, GoesBy, RecordsAmong}
+use Rattle.md_queue.specs.Charged.{AreCharged}
+use Rattle.md_queue.specs.Operations.{Answered, GoesBy, IsAnswered, RecordsAmong, words_recorded}
 
 -- where no word more is recorded, the recorded words are the same
 pub no_more_reads : (M : Meaning) (t u : TxnState) (writes nodes : ℕ) → GoesBy M t u 0 writes nodes → u.reads ≡ t.reads
 no_more_reads M t u writes nodes goes =
-    let first = goes.leaves.later.reads in
+    let first = goes.leaves.on.later.reads in
     let few = goes.leaves.reads_few in
     first.is ∙ none first.rest (let l = ap (λ (x : List Read). length x) first.is ∙ length-append t.reads first.rest in omega (arith, l, few))
   where
@@ -41,11 +47,33 @@ among_then s t u xs ys one two r in_u = ⊎_elim
     (two r in_u)
 
 -- an operation may be ended by a certificate of its row, which records these words
-pub record AnswersBy (M : Meaning) (t : TxnState) (op : Op) (reply : Reply) (words : List ℕ) : Type 0 where
-  pub may : MayAnswer M t op reply
-  pub row : CertifiesOp (shape_in t) op may.certificate
-  pub are : map (λ r. r.word) may.certificate.recorded ≡ words
+pub record AnswersBy (M : Meaning) (t : TxnState) (cs : List Certificate) (op : Op) (reply : Reply) (words : List ℕ) : Type 0 where
+  pub certificate : Certificate
+  pub of : IsOfAct op reply certificate
+  pub may : MayEnd M t cs certificate
+  pub row : CertifiesOp (shape_in t) op certificate
+  pub are : words_recorded certificate ≡ words
+  pub charged : AreCharged t (all_changes cs) certificate.tidy
 
+pub is_answered : {M : Meaning} {t u : TxnState} {cs : List Certificate} {op : Op} {reply : Reply} (words : List ℕ)
+    → AnswersBy M u cs op reply words → RecordsAmong t u words → IsAnswered M t u cs op reply
+is_answered {M} {t} {u} words by among = record {
+  certificate = by.certificate;
+  of = by.of;
+  may = by.may;
+  row = by.row;
+  recorded = subst (RecordsAmong t u) (sym by.are) among;
+  charged = by.charged;
+}
+
+-- so it is answered, whatever the certificates are
 pub answered : {M : Meaning} {t u : TxnState} {op : Op} {reply : Reply} {reads writes nodes : ℕ} (words : List ℕ)
-    → GoesBy M t u reads writes nodes → AnswersBy M u op reply words → RecordsAmong t u words → Answered M t u op reply reads writes nodes
-answered {M} {t} {u} words goes by among = record { goes = goes; may = by.may; row = by.row; recorded = subst (RecordsAmong t u) (sym by.are) among }
+    → GoesBy M t u reads writes nodes → ((cs : List Certificate) → IsGoing M t cs → AnswersBy M u cs op reply words) → RecordsAmong t u words
+    → Answered M t u op reply reads writes nodes
+answered words goes by among = record { goes = goes; by = λ cs going. is_answered words (by cs going) among }
+
+-- and may be ended
+pub may_answer : (M : Meaning) (t u : TxnState) (op : Op) (reply : Reply) (reads writes nodes : ℕ) → IsUnderWay M t → Answered M t u op reply reads writes nodes → MayAnswer M u op reply
+may_answer M t u op reply reads writes nodes under a =
+    let by = a.by under.0 under.1 in
+    record { earlier = under.0; going = a.goes.leaves.on.going under.0 under.1; certificate = by.certificate; of = by.of; may = by.may }

@@ -9,14 +9,16 @@ use Rattle.md_words.specs.Place.{queue_tail}
 use Rattle.md_words.proofs.Places.{nodes_fit_values}
 use Rattle.md_machine.specs.declared.certificate.Certificate.{Certificate}
 use Rattle.md_machine.specs.declared.certificate.TidyChange.{TidyChange}
-use Rattle.md_machine.specs.Certified.{after_wholes}
+use Rattle.md_machine.specs.Certified.{after_wholes, is_written}
 use Rattle.md_machine.specs.Meaning.{Lawful, Meaning}
+use Rattle.md_machine.specs.clauses.passes.Alone.{HoldsAll}
 use Rattle.md_nbtc.specs.declared.seen.Kind.{Kind}
 use Rattle.md_nbtc.specs.declared.seen.Seen.{Seen}
-use Rattle.md_nbtc.specs.Calls.{GoesOn, MayExchange, new_slot}
+use Rattle.md_nbtc.specs.Calls.{GoesOn, MayExchange, is_critical, new_slot}
+use Rattle.md_nbtc.specs.Going.{IsGoing}
 use Rattle.md_nbtc.specs.Seeing.{Gave, KeepsGiven, Looks}
 use Rattle.md_nbtc.specs.Sets.{with_new}
-use Rattle.md_nbtc.specs.State.{TxnState, shape_in}
+use Rattle.md_nbtc.specs.State.{TxnState, shape_in, writes_in}
 use Rattle.md_nbtc.proofs.preparing.Heaps.{known_now}
 use Rattle.md_nbtc.proofs.preparing.Later.{known_later, later_over}
 use Rattle.md_nbtc.proofs.structures.Exchanging.{HasExchanged, changed_own, changed_plainly, installed}
@@ -24,66 +26,66 @@ use Rattle.md_nbtc.proofs.structures.NodesKnown.{shape_later}
 use Rattle.md_queue_law.specs.Laws.Words.{tail_not_next}
 use Rattle.md_queue_law.specs.QueueMeaning.{HasQueuesOf}
 use Rattle.md_queue.specs.Operations.{GoesBy, IsBegun}
+use Rattle.md_queue.specs.Refusals.{WasToMove}
 use Rattle.md_queue.specs.Words.{move_kind, next_at, tail_at}
 use Rattle.md_queue.specs.Working.{SeesAt, SeesEnd, SeesTail, other_count, own_count}
 use Rattle.md_queue.proofs.Firsts.{begun_working}
 use Rattle.md_queue.proofs.Looking.{next_looked, next_rank, tail_looked, tail_named}
-use Rattle.md_queue.proofs.Moving.{may_move, moved}
+use Rattle.md_queue.proofs.Moving.{may_move, moved, was_to_move}
 use Rattle.md_queue.proofs.Passing.{sees_on, working_on}
 use Rattle.md_queue.proofs.Ranks.{rank_fits}
 use Rattle.md_queue.proofs.Steps.{goes_then}
 
-module _ (M : Meaning) (lawful : Lawful M) (queues : HasQueuesOf M) (t u : TxnState) (queue : ℕ) (on : GoesOn M t u) (same : u ≡ record t { pass = u.pass }) where
+module _ (M : Meaning) (lawful : Lawful M) (queues : HasQueuesOf M) (t u : TxnState) (queue : ℕ) (cs : List Certificate) (on : GoesOn M t u) (same : u ≡ record t { pass = u.pass }) where
   shape_is : shape_in u ≡ shape_in t
   shape_is = shape_later t u on.later
 
-  pub tail_seen : IsBegun M t queue → (word : ℕ) → word ≡ tail_at t queue → (tail : Seen) → Looks M t u word tail → SeesTail M u queue tail 0
-  tail_seen begun word is tail looks =
-      let w = begun_working M t queue begun in
+  pub tail_seen : IsBegun M t queue → IsGoing M t cs → (word : ℕ) → word ≡ tail_at t queue → (tail : Seen) → Looks M t u word tail → SeesTail M u queue cs tail 0
+  tail_seen begun going word is tail looks =
+      let w = begun_working M t queue begun cs going in
       record {
-        certificates = begun.going.0;
         changes = [];
-        working = working_on M t u on.later queue begun.going.0 [] on (ap (λ x. x.hand) same) w;
+        working = working_on M t u on.later queue cs [] on (ap (λ x. x.hand) same) w;
         tail_sees = subst (λ (s : Shape). SeesAt M u (address s (queue_tail queue)) tail) (sym shape_is)
-            (tail_looked M lawful queues t queue begun.going.0 [] w u on tail (subst (λ x. Looks M t u x tail) is looks));
+            (tail_looked M lawful queues t queue cs [] w u on tail (subst (λ x. Looks M t u x tail) is looks));
         rank = λ v later prepared h of. omega arith;
       }
 
   -- and at the next word of its node
-  pub end_seen : (tail next : Seen) (least : ℕ) → SeesTail M t queue tail least → KeepsGiven t u (next_at t (linked_node tail.value)) → Looks M t u (next_at t (linked_node tail.value)) next
-      → SeesEnd M u queue tail next least
+  pub end_seen : (tail next : Seen) (least : ℕ) → SeesTail M t queue cs tail least → KeepsGiven t u (next_at t (linked_node tail.value)) → Looks M t u (next_at t (linked_node tail.value)) next
+      → SeesEnd M u queue cs tail next least
   end_seen tail next least s given looks =
-      let named = tail_named M lawful queues t queue s.certificates s.changes s.working tail s.tail_sees in
+      let named = tail_named M lawful queues t queue cs s.changes s.working tail s.tail_sees in
       record {
         sees_tail = record {
-          certificates = s.certificates;
           changes = s.changes;
-          working = working_on M t u on.later queue s.certificates s.changes on (ap (λ x. x.hand) same) s.working;
+          working = working_on M t u on.later queue cs s.changes on (ap (λ x. x.hand) same) s.working;
           tail_sees = subst (λ (x : Shape). SeesAt M u (address x (queue_tail queue)) tail) (sym shape_is)
               (sees_on M t u on.later (tail_at t queue) tail s.tail_sees
               (given (tail_at t queue) tail (tail_not_next (shape_in t) queue (linked_node tail.value) s.working.within named.exists) s.tail_sees.gave));
-          rank = known_later M (λ v h. least ≤ (after_wholes h s.certificates).words.key_of (linked_node tail.value)) t u on.later s.rank;
+          rank = known_later M (λ v h. least ≤ (after_wholes h cs).words.key_of (linked_node tail.value)) t u on.later s.rank;
         };
-        next_sees = next_looked M lawful queues t queue s.certificates s.changes s.working u on next (linked_node tail.value) named.placed looks same;
+        next_sees = next_looked M lawful queues t queue cs s.changes s.working u on next (linked_node tail.value) named.placed looks same;
       }
 
-module _ (M : Meaning) (lawful : Lawful M) (queues : HasQueuesOf M) (t : TxnState) (queue : ℕ) (tail next : Seen) (least : ℕ) (s : SeesEnd M t queue tail next least) where
-  abbrev cs : List Certificate
-  cs = s.sees_tail.certificates
-
+module _ (M : Meaning) (lawful : Lawful M) (queues : HasQueuesOf M) (t : TxnState) (queue : ℕ) (cs : List Certificate) (tail next : Seen) (least : ℕ) (s : SeesEnd M t queue cs tail next least) where
   abbrev ts : List TidyChange
   ts = s.sees_tail.changes
 
   pub may_follow : next.value ≢ 0 → MayExchange M t (tail_at t queue) tail next.value (move_kind next)
   may_follow some = may_move M lawful queues t queue cs ts s.sees_tail.working (linked_node tail.value) next s.next_sees some tail s.sees_tail.tail_sees refl
 
+  -- if that is refused by the limit of writes, it would stand next
+  pub end_refused : next.value ≢ 0 → HoldsAll (shape_in t) t.pass.view → tail.count < 2 ^ 32 → is_written (writes_in t) (tail_at t queue) ≡ false
+      → is_critical t (tail_at t queue) (move_kind next) ≡ true → WasToMove M t cs t queue
+  end_refused some = was_to_move M lawful queues t queue cs ts s.sees_tail.working (linked_node tail.value) next s.next_sees some tail s.sees_tail.tail_sees refl t refl
+
   -- the tail was moved by one rank
   pub followed : next.value ≢ 0 → (u : TxnState) → GoesOn M t u → tail.count < 2 ^ 32 → (seen : Seen) → Gave u (tail_at t queue) seen
-      → HasExchanged M t (tail_at t queue) tail next.value (move_kind next) u seen → SeesTail M u queue seen (least + 1)
+      → HasExchanged M t (tail_at t queue) tail next.value (move_kind next) u seen → SeesTail M u queue cs seen (least + 1)
   followed some u on fits seen gave ex =
       let m = moved M lawful queues t queue cs ts s.sees_tail.working (linked_node tail.value) next s.next_sees some tail s.sees_tail.tail_sees refl u on fits seen gave ex in
       record {
-        certificates = cs;
         changes = m.changes;
         working = m.working;
         tail_sees = m.sees_tail;
@@ -137,8 +139,8 @@ module _ (M : Meaning) (t u : TxnState) (word : ℕ) (from : Seen) (to : ℕ) (k
 pub goes_within : (M : Meaning) (t u : TxnState) (a x : ℕ) → GoesBy M t u 0 a 0 → length u.slots ≤ length t.slots + x → GoesBy M t u 0 x 0
 goes_within M t u a x g writes = record {
   leaves = record {
-    going = g.leaves.going;
-    later = g.leaves.later;
+    on = g.leaves.on;
+    stay = g.leaves.stay;
     acts = g.leaves.acts;
     operates = g.leaves.operates;
     reads_few = g.leaves.reads_few;

@@ -1,11 +1,17 @@
 -- What the calls of an enqueue leave of the transaction: a node is taken, its link is made, and the move of the tail is kept.
-use Rattle.std.proofs.Common.{◌≡◌, ◌≤◌, ◌+◌, ◌++◌, ℕ, true, List, [], ◌∷◌, length, Some, Result, Err, refl, sym, ap, ◌∙◌, subst, if◌then◌else◌, eq-eqb, arith}
+use Rattle.std.proofs.Common.{◌≡◌, ◌≢◌, ◌==◌, ◌≤◌, ◌+◌, ◌++◌, ℕ, true, List, [], ◌∷◌, length, Option, Some, None, Result, Err, refl, sym, ap, ◌∙◌, subst, ⊎_elim, if◌then◌else◌, eq-eqb, eqb-true, arith}
+use Rattle.std.proofs.lemmas.Bool.{cond_both}
+use Rattle.std.proofs.lemmas.Option.{none-some}
 use Rattle.std.proofs.lemmas.List.{append-nil, length-append, length-map}
 use Rattle.std.specs.List.{Contains}
 use Rattle.md_words.specs.declared.shape.Shape.{Shape}
+use Rattle.md_words.specs.Content.{count_of}
 use Rattle.md_words.specs.Layout.{address}
 use Rattle.md_words.specs.Place.{node_next, queue_tail}
+use Rattle.md_history.specs.declared.stops.Limit.{Limit}
+use Rattle.md_history.specs.declared.stops.Limit.TheVariants.{Nodes, Worn}
 use Rattle.md_history.specs.declared.stops.Stop.{Stop}
+use Rattle.md_history.specs.declared.stops.Stop.TheVariants.{Limit as Limited}
 use Rattle.md_history.specs.Front.{IsPrefix}
 use Rattle.md_machine.specs.declared.attempt.Write.{Write}
 use Rattle.md_machine.specs.declared.certificate.Certificate.{Certificate}
@@ -14,22 +20,24 @@ use Rattle.md_machine.proofs.lists.Rising.{in_map, map_in}
 use Rattle.md_nbtc.specs.declared.seen.Cleanup.{Cleanup}
 use Rattle.md_nbtc.specs.declared.seen.Cleanup.TheVariants.{MoveTail}
 use Rattle.md_nbtc.specs.declared.sets.Slot.{Slot}
-use Rattle.md_nbtc.specs.Calls.{AfterStop, Freshened, Freshens, GoesOn, Keeps}
+use Rattle.md_nbtc.specs.Calls.{AfterStop, Freshened, Freshens, GoesOn, Keeps, NoFresh}
 use Rattle.md_nbtc.specs.Cleaning.{IsWrittenFor, MayTidyLater, cleanup_node, with_cleanup, with_cleanup_kept}
-use Rattle.md_nbtc.specs.Going.{IsGoing, IsUnderWay}
+use Rattle.md_nbtc.specs.Going.{IsGoing}
 use Rattle.md_nbtc.specs.State.{OwnNode, TxnState, shape_in}
+use Rattle.md_nbtc.proofs.preparing.Later.{later_over}
 use Rattle.md_nbtc.proofs.structures.Answering.{fresh_refused}
-use Rattle.md_queue.specs.Operations.{GoesBy, PutsLast, Refused}
+use Rattle.md_queue.specs.Operations.{GoesBy, IsNotBy, PutsLast, Refused, StaysIn}
 use Rattle.md_queue.specs.Words.{tail_at}
+use Rattle.md_queue.proofs.Slots.{stay_same, stay_then}
 use Rattle.md_queue.proofs.Steps.{leaves_then}
 
-module _ (M : Meaning) (t u : TxnState) (under : IsUnderWay M t) (on : GoesOn M t u) (operates : t.hand.operating ≡ true) where
+module _ (M : Meaning) (t u : TxnState) (on : GoesOn M t u) (operates : t.hand.operating ≡ true) where
   -- one node more is taken
   pub fresh_goes : (key value next new : ℕ) → Freshens t u key value next new → GoesBy M t u 0 0 1
   fresh_goes key value next new f = record {
     leaves = record {
-      going = (under.0, on.going under.0 under.1);
-      later = on.later;
+      on = on;
+      stay = stay_same t u (ap (λ (x : TxnState). x.slots) f.new);
       acts = ap (λ (x : TxnState). x.hand.acts) f.new;
       operates = ap (λ (x : TxnState). x.hand.operating) f.new ∙ operates;
       reads_few = let l = ap (λ (x : TxnState). length x.reads) f.new in omega (arith, l);
@@ -42,14 +50,34 @@ module _ (M : Meaning) (t u : TxnState) (under : IsUnderWay M t) (on : GoesOn M 
     same_stop = ap (λ (x : TxnState). x.stop) f.new;
   }
 
-  -- or none, and the stop is kept
+  -- or none, by no limit but those of nodes and of counts
+  pub fresh_not_by : (limit : Limit) → limit ≢ Nodes → ((word count : ℕ) → limit ≢ Worn word count) → (key value next : ℕ) (stop : Stop)
+      → AfterStop t.stop t u (let r : Result ℕ Stop = Err stop in r) (Freshened t u key value next (Err stop)) → IsNotBy t limit stop
+  fresh_not_by limit nodes worn key value next stop fresh = by_stop t.stop refl fresh
+    where
+      no_limit : NoFresh t u stop → stop ≡ Limited limit → ⊥
+      no_limit none by = ⊎_elim
+          (λ no_node. let e = no_node.0 in let same : limit ≡ Nodes = cc (e, by) in nodes same)
+          (λ is_worn.
+          let word = address (shape_in t) (node_next is_worn.0) in
+          let count = count_of is_worn.1 in
+          let e = is_worn.5 in
+          let same : limit ≡ Worn word count = cc (e, by) in
+          worn word count same)
+          none
+
+      by_stop : (o : Option Stop) → t.stop ≡ o → AfterStop o t u (let r : Result ℕ Stop = Err stop in r) (Freshened t u key value next (Err stop)) → IsNotBy t limit stop
+      by_stop None is none by = absurd (no_limit none.1 by)
+      by_stop (Some r) is old by = let e = old.0 in let same : r ≡ stop = cc e in is ∙ ap (λ x. Some x) same
+
+  -- the stop is kept then
   pub fresh_stops : (key value next : ℕ) (stop : Stop) → AfterStop t.stop t u (let r : Result ℕ Stop = Err stop in r) (Freshened t u key value next (Err stop)) → Refused M t u 0 0 0 stop
   fresh_stops key value next stop fresh =
       let is = fresh_refused M t u stop key value next fresh in
       record {
         leaves = record {
-          going = (under.0, on.going under.0 under.1);
-          later = on.later;
+          on = on;
+          stay = stay_same t u (ap (λ (x : TxnState). x.slots) is);
           acts = ap (λ (x : TxnState). x.hand.acts) is;
           operates = ap (λ (x : TxnState). x.hand.operating) is ∙ operates;
           reads_few = let l = ap (λ (x : TxnState). length x.reads) is in omega (arith, l);
@@ -59,23 +87,43 @@ module _ (M : Meaning) (t u : TxnState) (under : IsUnderWay M t) (on : GoesOn M 
         kept = ap (λ (x : TxnState). x.stop) is;
       }
 
--- a cleanup is kept, and nothing more is recorded, written or taken
-pub keeps_goes : (M : Meaning) (t u : TxnState) (c : Cleanup) (cs : List Certificate) → IsGoing M t cs → MayTidyLater M t cs c → Keeps M t u c
-    → u ≡ record t { slots = with_cleanup_kept t c } → t.hand.operating ≡ true → GoesBy M t u 0 0 0
-keeps_goes M t u c cs going may keeps kept operates = record {
-  leaves = record {
-    going = (cs, keeps.going cs going may);
-    later = keeps.later;
-    acts = ap (λ (x : TxnState). x.hand.acts) kept;
-    operates = ap (λ (x : TxnState). x.hand.operating) kept ∙ operates;
-    reads_few = let l = ap (λ (x : TxnState). length x.reads) kept in omega (arith, l);
-    writes_few =
-        let l = ap (λ (x : TxnState). length x.slots) kept ∙ length-map t.slots (with_cleanup (address (shape_in t) (node_next (cleanup_node c))) c) in
-        omega (arith, l);
-    nodes_few = let l = ap (λ (x : TxnState). length x.nodes) kept in omega (arith, l);
-  };
-  same_stop = ap (λ (x : TxnState). x.stop) kept;
-}
+-- a cleanup is kept with a slot that kept none, and nothing more is recorded, written or taken
+module _ (M : Meaning) (s t u : TxnState) (c : Cleanup) (bare : (x : Slot) → Contains t.slots x → x.write.word ≡ address (shape_in t) (node_next (cleanup_node c)) → x.cleanup ≡ None)
+    (kept : u ≡ record t { slots = with_cleanup_kept t c }) where
+  abbrev at : ℕ
+  at = address (shape_in t) (node_next (cleanup_node c))
+
+  stay_kept : (x : Slot) → Contains t.slots x → StaysIn u x
+  stay_kept x among = cond_both (x.write.word == at) (record x { cleanup = Some c }) x (λ y. Contains u.slots y → StaysIn u x)
+      (λ this there. record {
+        now = record x { cleanup = Some c };
+        among = there;
+        place = refl;
+        word = refl;
+        old = refl;
+        cleanup = λ d is. absurd (none-some d (sym (bare x among (eqb-true x.write.word at this)) ∙ is));
+      })
+      (λ _ there. record { now = x; among = there; place = refl; word = refl; old = refl; cleanup = λ d is. is })
+      (subst (λ l. Contains l (with_cleanup at c x)) (sym (ap (λ (y : TxnState). y.slots) kept)) (map_in (with_cleanup at c) t.slots x among))
+
+  pub keeps_goes : (a b d : ℕ) → GoesBy M s t a b d → ((cs : List Certificate) → IsGoing M s cs → MayTidyLater M t cs c) → Keeps M t u c → GoesBy M s u a b d
+  keeps_goes a b d goes may keeps =
+      let l = goes.leaves in
+      record {
+        leaves = record {
+          on = record {
+            going = λ cs going. keeps.going cs (l.on.going cs going) (may cs going);
+            later = later_over s t u l.on.later keeps.later;
+          };
+          stay = stay_then s t u l.stay stay_kept;
+          acts = ap (λ (x : TxnState). x.hand.acts) kept ∙ l.acts;
+          operates = ap (λ (x : TxnState). x.hand.operating) kept ∙ l.operates;
+          reads_few = subst (λ n. n ≤ length s.reads + a) (ap (λ (x : TxnState). length x.reads) (sym kept)) l.reads_few;
+          writes_few = subst (λ n. n ≤ length s.slots + b) (sym (length-map t.slots (with_cleanup at c)) ∙ ap (λ (x : TxnState). length x.slots) (sym kept)) l.writes_few;
+          nodes_few = subst (λ n. n ≤ length s.nodes + d) (ap (λ (x : TxnState). length x.nodes) (sym kept)) l.nodes_few;
+        };
+        same_stop = ap (λ (x : TxnState). x.stop) kept ∙ goes.same_stop;
+      }
 
 -- a refusal after what went on
 pub refused_after : (M : Meaning) (s t u : TxnState) (a b c d e f x y z : ℕ) (stop : Stop) → GoesBy M s t a b c → (t.hand.operating ≡ true → Refused M t u d e f stop)

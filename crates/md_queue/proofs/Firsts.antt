@@ -19,6 +19,7 @@ use Rattle.md_machine.specs.LogicalHeap.{Holds}
 use Rattle.md_machine.specs.Meaning.{Lawful, Meaning}
 use Rattle.md_nbtc.specs.declared.seen.Seen.{Seen}
 use Rattle.md_nbtc.specs.Calls.{GoesOn}
+use Rattle.md_nbtc.specs.Going.{IsGoing}
 use Rattle.md_nbtc.specs.Known.{IsLater, Known}
 use Rattle.md_nbtc.specs.Seeing.{KeepsGiven, Looks}
 use Rattle.md_nbtc.specs.State.{TxnState, shape_in}
@@ -39,119 +40,116 @@ use Rattle.md_queue.proofs.Passing.{names_on, next_on, sees_on, working_on}
 use Rattle.md_queue.proofs.Recording.{may_answer_reading, noted_recorded, recorded_on}
 
 -- the operation has done nothing yet
-pub begun_working : (M : Meaning) (t : TxnState) (queue : ℕ) (begun : IsBegun M t queue) → IsWorking M t queue begun.going.0 []
-begun_working M t queue begun = record {
+pub begun_working : (M : Meaning) (t : TxnState) (queue : ℕ) → IsBegun M t queue → (cs : List Certificate) → IsGoing M t cs → IsWorking M t queue cs []
+begun_working M t queue begun cs going = record {
   operates = begun.operates;
   within = begun.within;
-  going = begun.going.1;
-  tidied = tidied_none M t begun.going.0 begun.changes begun.stored;
+  going = going;
+  tidied = tidied_none M t cs begun.changes begun.stored;
+  charged = tt;
 }
 
 -- it looked at the head
-pub record SeesHead (M : Meaning) (t : TxnState) (queue : ℕ) (head : Seen) : Type 0 where
-  pub certificates : List Certificate
+pub record SeesHead (M : Meaning) (t : TxnState) (queue : ℕ) (cs : List Certificate) (head : Seen) : Type 0 where
   pub changes : List TidyChange
-  pub working : IsWorking M t queue certificates changes
+  pub working : IsWorking M t queue cs changes
   pub head_sees : SeesAt M t (head_at t queue) head
 
-module _ (M : Meaning) (lawful : Lawful M) (queues : HasQueuesOf M) (t u : TxnState) (queue : ℕ) (on : GoesOn M t u) (same : u ≡ record t { pass = u.pass }) where
+module _ (M : Meaning) (lawful : Lawful M) (queues : HasQueuesOf M) (t u : TxnState) (queue : ℕ) (cs : List Certificate) (on : GoesOn M t u) (same : u ≡ record t { pass = u.pass }) where
   shape_is : shape_in u ≡ shape_in t
   shape_is = shape_later t u on.later
 
-  pub sees_head : IsBegun M t queue → (word : ℕ) → word ≡ head_at t queue → (head : Seen) → Looks M t u word head → SeesHead M u queue head
-  sees_head begun word is head looks =
-      let w = begun_working M t queue begun in
+  pub sees_head : IsBegun M t queue → IsGoing M t cs → (word : ℕ) → word ≡ head_at t queue → (head : Seen) → Looks M t u word head → SeesHead M u queue cs head
+  sees_head begun going word is head looks =
+      let w = begun_working M t queue begun cs going in
       record {
-        certificates = begun.going.0;
         changes = [];
-        working = working_on M t u on.later queue begun.going.0 [] on (ap (λ x. x.hand) same) w;
+        working = working_on M t u on.later queue cs [] on (ap (λ x. x.hand) same) w;
         head_sees = subst (λ s. SeesAt M u (address s (queue_head queue)) head) (sym shape_is)
-            (head_looked M lawful queues t queue begun.going.0 [] w u on head (subst (λ x. Looks M t u x head) is looks));
+            (head_looked M lawful queues t queue cs [] w u on head (subst (λ x. Looks M t u x head) is looks));
       }
 
   -- and at the next word of its node
-  pub sees_first : (head next : Seen) → SeesHead M t queue head → KeepsGiven t u (next_at t (linked_node head.value)) → Looks M t u (next_at t (linked_node head.value)) next
-      → SeesFirst M u queue head next
+  pub sees_first : (head next : Seen) → SeesHead M t queue cs head → KeepsGiven t u (next_at t (linked_node head.value)) → Looks M t u (next_at t (linked_node head.value)) next
+      → SeesFirst M u queue cs head next
   sees_first head next s given looks =
-      let named = head_named M lawful queues t queue s.certificates s.changes s.working head s.head_sees in
+      let named = head_named M lawful queues t queue cs s.changes s.working head s.head_sees in
       record {
-        certificates = s.certificates;
         changes = s.changes;
-        working = working_on M t u on.later queue s.certificates s.changes on (ap (λ x. x.hand) same) s.working;
+        working = working_on M t u on.later queue cs s.changes on (ap (λ x. x.hand) same) s.working;
         head_sees = subst (λ x. SeesAt M u (address x (queue_head queue)) head) (sym shape_is)
             (sees_on M t u on.later (head_at t queue) head s.head_sees
             (given (head_at t queue) head (head_not_next (shape_in t) queue (linked_node head.value) s.working.within named.exists) s.head_sees.gave));
-        next_sees = next_looked M lawful queues t queue s.certificates s.changes s.working u on next (linked_node head.value) named.placed looks same;
+        next_sees = next_looked M lawful queues t queue cs s.changes s.working u on next (linked_node head.value) named.placed looks same;
       }
 
-module _ (M : Meaning) (lawful : Lawful M) (queues : HasQueuesOf M) (t : TxnState) (queue : ℕ) (head next : Seen) where
-  pub first_exists : SeesFirst M t queue head next → IsNode (shape_in t) (linked_node head.value)
+module _ (M : Meaning) (lawful : Lawful M) (queues : HasQueuesOf M) (t : TxnState) (queue : ℕ) (cs : List Certificate) (head next : Seen) where
+  pub first_exists : SeesFirst M t queue cs head next → IsNode (shape_in t) (linked_node head.value)
   first_exists s = s.next_sees.exists
 
   -- after a note of the head, and one of the next word
-  module _ (s : SeesFirst M t queue head next) (u : TxnState) (on : GoesOn M t u) (fits : head.count < 2 ^ 32) where
+  module _ (s : SeesFirst M t queue cs head next) (u : TxnState) (on : GoesOn M t u) (fits : head.count < 2 ^ 32) where
     pub record NotedHead : Type 0 where
-      pub working : IsWorking M u queue s.certificates s.changes
-      pub head_named : NamesNode M u s.certificates queue head.value
-      pub head_noted : IsRecorded M u s.certificates s.changes (head_is (shape_in u) queue head.value)
-      pub next_sees : SeesNext M u s.certificates queue (linked_node head.value) next
+      pub working : IsWorking M u queue cs s.changes
+      pub head_named : NamesNode M u cs queue head.value
+      pub head_noted : IsRecorded M u cs s.changes (head_is (shape_in u) queue head.value)
+      pub next_sees : SeesNext M u cs queue (linked_node head.value) next
 
     pub noted_head : (word : ℕ) → word ≡ head_at t queue → HasNoted t u word head → KeepsGiven t u word → NotedHead
     noted_head word is noted given =
         let shape = shape_later t u on.later in
         let there = head_at t queue in
         record {
-          working = working_on M t u on.later queue s.certificates s.changes on noted.hand s.working;
-          head_named = names_on M t u on.later s.certificates queue head.value
-              (head_named M lawful queues t queue s.certificates s.changes s.working head s.head_sees);
-          head_noted = subst (λ x. IsRecorded M u s.certificates s.changes (head_is x queue head.value)) (sym shape)
-              (noted_recorded M lawful t queue s.certificates s.changes s.working u on.later there head s.head_sees fits (subst (λ x. HasNoted t u x head) is noted));
-          next_sees = next_on M t u on.later s.certificates queue (linked_node head.value) next s.next_sees
+          working = working_on M t u on.later queue cs s.changes on noted.hand s.working;
+          head_named = names_on M t u on.later cs queue head.value
+              (head_named M lawful queues t queue cs s.changes s.working head s.head_sees);
+          head_noted = subst (λ x. IsRecorded M u cs s.changes (head_is x queue head.value)) (sym shape)
+              (noted_recorded M lawful t queue cs s.changes s.working u on.later there head s.head_sees fits (subst (λ x. HasNoted t u x head) is noted));
+          next_sees = next_on M t u on.later cs queue (linked_node head.value) next s.next_sees
               (subst (λ x. KeepsGiven t u x) is given (next_at t (linked_node head.value)) next
               (λ e. head_not_next (shape_in t) queue (linked_node head.value) s.working.within s.next_sees.exists (sym e)) s.next_sees.at.gave);
         }
 
-    pub noted_first : NotedHead → (v : TxnState) → GoesOn M u v → next.count < 2 ^ 32 → HasNoted u v (next_at u (linked_node head.value)) next → NotedFirst M v queue head next
+    pub noted_first : NotedHead → (v : TxnState) → GoesOn M u v → next.count < 2 ^ 32 → HasNoted u v (next_at u (linked_node head.value)) next → NotedFirst M v queue cs head next
     noted_first n v over small noted =
         let shape = shape_later u v over.later in
-        let working = working_on M u v over.later queue s.certificates s.changes over noted.hand n.working in
+        let working = working_on M u v over.later queue cs s.changes over noted.hand n.working in
         record {
-          certificates = s.certificates;
           changes = s.changes;
           working = working;
-          head_named = names_on M u v over.later s.certificates queue head.value n.head_named;
-          head_noted = recorded_on M u v over.later working.going.prepared s.certificates s.changes (head_is (shape_in v) queue head.value)
-              (subst (λ x. IsRecorded M u s.certificates s.changes (head_is x queue head.value)) (sym shape) n.head_noted);
-          next_noted = subst (λ x. IsRecorded M v s.certificates s.changes (next_is x (linked_node head.value) next.value)) (sym shape)
-              (noted_recorded M lawful u queue s.certificates s.changes n.working v over.later (next_at u (linked_node head.value)) next n.next_sees.at small noted);
-          next_named = λ some. names_on M u v over.later s.certificates queue next.value
-              (next_named M lawful queues u queue s.certificates s.changes n.working (linked_node head.value) next n.next_sees some);
+          head_named = names_on M u v over.later cs queue head.value n.head_named;
+          head_noted = recorded_on M u v over.later working.going.prepared cs s.changes (head_is (shape_in v) queue head.value)
+              (subst (λ x. IsRecorded M u cs s.changes (head_is x queue head.value)) (sym shape) n.head_noted);
+          next_noted = subst (λ x. IsRecorded M v cs s.changes (next_is x (linked_node head.value) next.value)) (sym shape)
+              (noted_recorded M lawful u queue cs s.changes n.working v over.later (next_at u (linked_node head.value)) next n.next_sees.at small noted);
+          next_named = λ some. names_on M u v over.later cs queue next.value
+              (next_named M lawful queues u queue cs s.changes n.working (linked_node head.value) next n.next_sees some);
         }
 
-  module _ (n : NotedFirst M t queue head next) where
+  module _ (n : NotedFirst M t queue cs head next) where
     abbrev words : (value : ℕ) → List WordValue
     words value = head_is (shape_in t) queue (link (linked_node head.value)) ∷ next_is (shape_in t) (linked_node head.value) value ∷ []
 
-    words_recorded : (value : ℕ) → next.value ≡ value → All (IsRecorded M t n.certificates n.changes) (words value)
-    words_recorded value is = All-cons (IsRecorded M t n.certificates n.changes) (head_is (shape_in t) queue (link (linked_node head.value))) (next_is (shape_in t) (linked_node head.value) value ∷ [])
-        (subst (λ v. IsRecorded M t n.certificates n.changes (head_is (shape_in t) queue v)) n.head_named.is n.head_noted)
-        (All-cons (IsRecorded M t n.certificates n.changes) (next_is (shape_in t) (linked_node head.value) value) []
-        (subst (λ v. IsRecorded M t n.certificates n.changes (next_is (shape_in t) (linked_node head.value) v)) is n.next_noted)
-        (All-nil (IsRecorded M t n.certificates n.changes)))
+    words_recorded : (value : ℕ) → next.value ≡ value → All (IsRecorded M t cs n.changes) (words value)
+    words_recorded value is = All-cons (IsRecorded M t cs n.changes) (head_is (shape_in t) queue (link (linked_node head.value))) (next_is (shape_in t) (linked_node head.value) value ∷ [])
+        (subst (λ v. IsRecorded M t cs n.changes (head_is (shape_in t) queue v)) n.head_named.is n.head_noted)
+        (All-cons (IsRecorded M t cs n.changes) (next_is (shape_in t) (linked_node head.value) value) []
+        (subst (λ v. IsRecorded M t cs n.changes (next_is (shape_in t) (linked_node head.value) v)) is n.next_noted)
+        (All-nil (IsRecorded M t cs n.changes)))
 
-    no_facts : Known M t (λ u h. All (Holds (after_wholes h n.certificates)) [])
-    no_facts u later prepared h of = All-nil (Holds (after_wholes h n.certificates))
+    no_facts : Known M t (λ u h. All (Holds (after_wholes h cs)) [])
+    no_facts u later prepared h of = All-nil (Holds (after_wholes h cs))
 
     finds_none : (op : Op) → FindsNone (shape_in t) queue (reading op (Value None) n.changes (words 0) [])
     finds_none op = record { dummy = linked_node head.value; reply = refl; recorded = refl; changes = refl; nodes = refl; facts = refl }
 
     -- the queue was found empty
-    pub front_none : next.value ≡ 0 → AnswersBy M t (Front queue) (Value None) (first_words t queue head)
-    front_none zero = may_answer_reading M queues t queue n.certificates n.changes n.working (Front queue) (Value None) (words 0) []
+    pub front_none : next.value ≡ 0 → AnswersBy M t cs (Front queue) (Value None) (first_words t queue head)
+    front_none zero = may_answer_reading M queues t queue cs n.changes n.working (Front queue) (Value None) (words 0) []
         (n.working.within, inr (finds_none (Front queue))) (words_recorded 0 zero) no_facts (All-nil (λ (f : Fact). f.next ≡ None))
 
-    pub dequeue_none : next.value ≡ 0 → AnswersBy M t (Dequeue queue) (Value None) (first_words t queue head)
-    dequeue_none zero = may_answer_reading M queues t queue n.certificates n.changes n.working (Dequeue queue) (Value None) (words 0) []
+    pub dequeue_none : next.value ≡ 0 → AnswersBy M t cs (Dequeue queue) (Value None) (first_words t queue head)
+    dequeue_none zero = may_answer_reading M queues t queue cs n.changes n.working (Dequeue queue) (Value None) (words 0) []
         (n.working.within, inr (finds_none (Dequeue queue))) (words_recorded 0 zero) no_facts (All-nil (λ (f : Fact). f.next ≡ None))
 
 -- after a look at both words, and then a note of both, these alone are recorded more
@@ -167,27 +165,26 @@ value_known M lawful t queue cs ts w node value exists placed is u later prepare
     (data_known M lawful t cs w.going node (Queue queue) None (Some value) exists placed (λ v over prep k of_k. tt) is u later prepared h of) (All-nil (Holds (after_wholes h cs)))
 
 -- a value was found
-pub front_some : (M : Meaning) (lawful : Lawful M) (queues : HasQueuesOf M) (t u : TxnState) (queue : ℕ) (head next : Seen) → NotedFirst M t queue head next → next.value ≢ 0
+pub front_some : (M : Meaning) (lawful : Lawful M) (queues : HasQueuesOf M) (t u : TxnState) (queue : ℕ) (cs : List Certificate) (head next : Seen) → NotedFirst M t queue cs head next → next.value ≢ 0
     → GoesOn M t u → u ≡ record t { pass = u.pass } → (value : ℕ) → Known M u (λ v h. h.words.value_of_node (linked_node next.value) ≡ value)
-    → AnswersBy M u (Front queue) (Value (Some value)) (first_words u queue head)
-front_some M lawful queues t u queue head next n some on same value is =
+    → AnswersBy M u cs (Front queue) (Value (Some value)) (first_words u queue head)
+front_some M lawful queues t u queue cs head next n some on same value is =
     let first = linked_node next.value in
     let shape = shape_later t u on.later in
-    let w = working_on M t u on.later queue n.certificates n.changes on (ap (λ x. x.hand) same) n.working in
-    let named = names_on M t u on.later n.certificates queue next.value (n.next_named some) in
-    let after : NotedFirst M u queue head next = record {
-      certificates = n.certificates;
+    let w = working_on M t u on.later queue cs n.changes on (ap (λ x. x.hand) same) n.working in
+    let named = names_on M t u on.later cs queue next.value (n.next_named some) in
+    let after : NotedFirst M u queue cs head next = record {
       changes = n.changes;
       working = w;
-      head_named = names_on M t u on.later n.certificates queue head.value n.head_named;
-      head_noted = recorded_on M t u on.later w.going.prepared n.certificates n.changes (head_is (shape_in u) queue head.value)
-          (subst (λ x. IsRecorded M t n.certificates n.changes (head_is x queue head.value)) (sym shape) n.head_noted);
-      next_noted = recorded_on M t u on.later w.going.prepared n.certificates n.changes (next_is (shape_in u) (linked_node head.value) next.value)
-          (subst (λ x. IsRecorded M t n.certificates n.changes (next_is x (linked_node head.value) next.value)) (sym shape) n.next_noted);
+      head_named = names_on M t u on.later cs queue head.value n.head_named;
+      head_noted = recorded_on M t u on.later w.going.prepared cs n.changes (head_is (shape_in u) queue head.value)
+          (subst (λ x. IsRecorded M t cs n.changes (head_is x queue head.value)) (sym shape) n.head_noted);
+      next_noted = recorded_on M t u on.later w.going.prepared cs n.changes (next_is (shape_in u) (linked_node head.value) next.value)
+          (subst (λ x. IsRecorded M t cs n.changes (next_is x (linked_node head.value) next.value)) (sym shape) n.next_noted);
       next_named = λ _. named;
     } in
-    may_answer_reading M queues u queue n.certificates n.changes w (Front queue) (Value (Some value)) (words M lawful queues u queue head next after (link first)) (has_value queue first value ∷ [])
+    may_answer_reading M queues u queue cs n.changes w (Front queue) (Value (Some value)) (words M lawful queues u queue cs head next after (link first)) (has_value queue first value ∷ [])
     (w.within, inl (record { dummy = linked_node head.value; first = first; value = value; reply = refl; recorded = refl; changes = refl; nodes = refl; facts = refl }))
-    (words_recorded M lawful queues u queue head next after (link first) named.is)
-    (value_known M lawful u queue n.certificates n.changes w first value named.exists named.placed is)
+    (words_recorded M lawful queues u queue cs head next after (link first) named.is)
+    (value_known M lawful u queue cs n.changes w first value named.exists named.placed is)
     (All-cons (λ (f : Fact). f.next ≡ None) (has_value queue first value) [] refl (All-nil (λ (f : Fact). f.next ≡ None)))

@@ -1,29 +1,32 @@
 -- The tail is looked at, and doesn't stay behind the head.
-use Rattle.std.proofs.Common.{◌≡◌, ◌≢◌, ◌<◌, ◌^◌, ℕ, suc, arith, sym, ap, ◌∙◌, subst}
+use Rattle.std.proofs.Common.{◌≡◌, ◌≢◌, ◌<◌, ◌^◌, ℕ, suc, true, false, List, arith, sym, ap, ◌∙◌, subst}
 use Rattle.md_words.specs.declared.shape.Shape.{Shape}
 use Rattle.md_words.specs.Layout.{address}
 use Rattle.md_words.specs.Link.{linked_node}
 use Rattle.md_words.specs.Place.{queue_tail}
-use Rattle.md_machine.specs.Certified.{after_wholes}
+use Rattle.md_machine.specs.declared.certificate.Certificate.{Certificate}
+use Rattle.md_machine.specs.Certified.{after_wholes, is_written}
 use Rattle.md_machine.specs.Meaning.{Lawful, Meaning}
+use Rattle.md_machine.specs.clauses.passes.Alone.{HoldsAll}
 use Rattle.md_nbtc.specs.declared.seen.Seen.{Seen}
-use Rattle.md_nbtc.specs.Calls.{GoesOn, MayExchange}
+use Rattle.md_nbtc.specs.Calls.{GoesOn, MayExchange, is_critical}
 use Rattle.md_nbtc.specs.Seeing.{Gave, KeepsGiven, Looks}
-use Rattle.md_nbtc.specs.State.{TxnState, shape_in}
+use Rattle.md_nbtc.specs.State.{TxnState, shape_in, writes_in}
 use Rattle.md_nbtc.proofs.preparing.Heaps.{known_now}
 use Rattle.md_nbtc.proofs.structures.Exchanging.{HasExchanged}
 use Rattle.md_nbtc.proofs.structures.NodesKnown.{shape_later}
 use Rattle.md_queue_law.specs.Laws.Words.{head_not_tail, tail_not_next}
 use Rattle.md_queue_law.specs.QueueMeaning.{HasQueuesOf}
 use Rattle.md_queue.specs.Operations.{TailDiffers}
+use Rattle.md_queue.specs.Refusals.{WasToMove}
 use Rattle.md_queue.specs.Words.{head_at, move_kind, next_at, tail_at}
 use Rattle.md_queue.specs.Working.{SeesAt, SeesFirst}
 use Rattle.md_queue.proofs.Looking.{next_rank, tail_looked}
-use Rattle.md_queue.proofs.Moving.{may_move, moved}
+use Rattle.md_queue.proofs.Moving.{may_move, moved, was_to_move}
 use Rattle.md_queue.proofs.Passing.{working_on}
 use Rattle.md_queue.proofs.Takings.{first_on}
 
-module _ (M : Meaning) (lawful : Lawful M) (queues : HasQueuesOf M) (t : TxnState) (queue : ℕ) (head next : Seen) (s : SeesFirst M t queue head next) where
+module _ (M : Meaning) (lawful : Lawful M) (queues : HasQueuesOf M) (t : TxnState) (queue : ℕ) (cs : List Certificate) (head next : Seen) (s : SeesFirst M t queue cs head next) where
   -- the tail is another word
   apart : head_at t queue ≢ tail_at t queue
   apart = head_not_tail (shape_in t) queue queue s.working.within s.working.within
@@ -33,13 +36,13 @@ module _ (M : Meaning) (lawful : Lawful M) (queues : HasQueuesOf M) (t : TxnStat
 
   -- after a look at it
   module _ (u : TxnState) (on : GoesOn M t u) (same : u ≡ record t { pass = u.pass }) (word : ℕ) (is : word ≡ tail_at t queue) (given : KeepsGiven t u word) where
-    pub first_stays : SeesFirst M u queue head next
-    first_stays = first_on M t u queue head next s on.later (tail_at t queue) (subst (λ x. KeepsGiven t u x) is given) apart next_apart s.changes
-        (working_on M t u on.later queue s.certificates s.changes on (ap (λ x. x.hand) same) s.working)
+    pub first_stays : SeesFirst M u queue cs head next
+    first_stays = first_on M t u queue cs head next s on.later (tail_at t queue) (subst (λ x. KeepsGiven t u x) is given) apart next_apart s.changes
+        (working_on M t u on.later queue cs s.changes on (ap (λ x. x.hand) same) s.working)
 
     pub tail_seen : (tail : Seen) → Looks M t u word tail → SeesAt M u (tail_at u queue) tail
     tail_seen tail looks = subst (λ (x : Shape). SeesAt M u (address x (queue_tail queue)) tail) (sym (shape_later t u on.later))
-        (tail_looked M lawful queues t queue s.certificates s.changes s.working u on tail (subst (λ x. Looks M t u x tail) is looks))
+        (tail_looked M lawful queues t queue cs s.changes s.working u on tail (subst (λ x. Looks M t u x tail) is looks))
 
   module _ (some : next.value ≢ 0) (tail : Seen) (sees : SeesAt M t (tail_at t queue) tail) (same : tail.value ≡ head.value) where
     one_node : linked_node head.value ≡ linked_node tail.value
@@ -48,25 +51,30 @@ module _ (M : Meaning) (lawful : Lawful M) (queues : HasQueuesOf M) (t : TxnStat
     -- the next node is another one
     next_differs : next.value ≢ head.value
     next_differs e =
-        let now = known_now M lawful (λ u h. (after_wholes h s.certificates).words.key_of (linked_node next.value) ≡ suc ((after_wholes h s.certificates).words.key_of (linked_node head.value)))
-        t s.certificates s.working.going
-        (next_rank M lawful queues t queue s.certificates s.changes s.working (linked_node head.value) next s.next_sees some) in
-        let key = sym (ap (λ v. (after_wholes now.0 s.certificates).words.key_of (linked_node v)) e) ∙ now.2 in
+        let now = known_now M lawful (λ u h. (after_wholes h cs).words.key_of (linked_node next.value) ≡ suc ((after_wholes h cs).words.key_of (linked_node head.value)))
+        t cs s.working.going
+        (next_rank M lawful queues t queue cs s.changes s.working (linked_node head.value) next s.next_sees some) in
+        let key = sym (ap (λ v. (after_wholes now.0 cs).words.key_of (linked_node v)) e) ∙ now.2 in
         absurd (omega (arith, key))
 
     pub may_follow : MayExchange M t (tail_at t queue) tail next.value (move_kind next)
-    may_follow = may_move M lawful queues t queue s.certificates s.changes s.working (linked_node head.value) next s.next_sees some tail sees one_node
+    may_follow = may_move M lawful queues t queue cs s.changes s.working (linked_node head.value) next s.next_sees some tail sees one_node
+
+    -- if that is refused by the limit of writes, it would stand next
+    pub follow_refused : (before : TxnState) → t.reads ≡ before.reads → HoldsAll (shape_in t) t.pass.view → tail.count < 2 ^ 32 → is_written (writes_in t) (tail_at t queue) ≡ false
+        → is_critical t (tail_at t queue) (move_kind next) ≡ true → WasToMove M t cs before queue
+    follow_refused = was_to_move M lawful queues t queue cs s.changes s.working (linked_node head.value) next s.next_sees some tail sees one_node
 
     -- and after it was moved
     pub first_moved : (u : TxnState) → GoesOn M t u → KeepsGiven t u (tail_at t queue) → tail.count < 2 ^ 32 → (seen : Seen) → Gave u (tail_at t queue) seen
-        → HasExchanged M t (tail_at t queue) tail next.value (move_kind next) u seen → SeesFirst M u queue head next
+        → HasExchanged M t (tail_at t queue) tail next.value (move_kind next) u seen → SeesFirst M u queue cs head next
     first_moved u on given fits seen gave ex =
-        let m = moved M lawful queues t queue s.certificates s.changes s.working (linked_node head.value) next s.next_sees some tail sees one_node u on fits seen gave ex in
-        first_on M t u queue head next s on.later (tail_at t queue) given apart next_apart m.changes m.working
+        let m = moved M lawful queues t queue cs s.changes s.working (linked_node head.value) next s.next_sees some tail sees one_node u on fits seen gave ex in
+        first_on M t u queue cs head next s on.later (tail_at t queue) given apart next_apart m.changes m.working
 
     -- and isn't where the head is
     pub moved_apart : (u : TxnState) → GoesOn M t u → tail.count < 2 ^ 32 → (seen : Seen) → Gave u (tail_at t queue) seen
         → HasExchanged M t (tail_at t queue) tail next.value (move_kind next) u seen → TailDiffers u queue head.value
     moved_apart u on fits seen gave ex =
-        let m = moved M lawful queues t queue s.certificates s.changes s.working (linked_node head.value) next s.next_sees some tail sees one_node u on fits seen gave ex in
+        let m = moved M lawful queues t queue cs s.changes s.working (linked_node head.value) next s.next_sees some tail sees one_node u on fits seen gave ex in
         (seen, m.sees_tail.gave, λ e. next_differs (sym m.value ∙ e))

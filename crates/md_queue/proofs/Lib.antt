@@ -1,10 +1,14 @@
 pub mod Data
 pub mod MetInQueues
 pub mod Ranks
+pub mod Charging
 pub mod Passing
 pub mod Looking
+pub mod Slots
 pub mod Steps
 pub mod Among
+pub mod Alone
+pub mod Refusing
 pub mod Recording
 pub mod Firsts
 pub mod Moving
@@ -12,6 +16,8 @@ pub mod Changing
 pub mod Takings
 pub mod Along
 pub mod Lined
+pub mod Standing
+pub mod Full
 pub mod Following
 pub mod Ends
 pub mod FreshNode

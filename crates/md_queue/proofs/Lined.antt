@@ -5,12 +5,13 @@ use Rattle.std.specs.Prelude.{replicate}
 use Rattle.md_history.specs.declared.acts.Line.{Line}
 use Rattle.md_history.specs.declared.acts.TheConstants.{MAX_LINE}
 use Rattle.md_history.specs.State.{line_of}
+use Rattle.md_machine.specs.declared.certificate.Certificate.{Certificate}
 use Rattle.md_machine.specs.Meaning.{Meaning}
+use Rattle.md_nbtc.specs.Going.{IsGoing}
 use Rattle.md_nbtc.specs.State.{TxnState, shape_in}
 use Rattle.md_queue_law.specs.QueueCertificates.{Seen}
-use Rattle.md_queue.specs.Along.{HasLooked}
+use Rattle.md_queue.specs.Along.{HasLooked, words_along}
 use Rattle.md_queue.specs.Operations.{GoesBy, RecordsAmong}
-use Rattle.md_queue.proofs.Along.{words_along}
 
 -- the values of the nodes that were passed
 abbrev pub values_of : List Seen → List ℕ
@@ -23,7 +24,7 @@ pub record HasLine (M : Meaning) (s t : TxnState) (queue node count : ℕ) (line
   pub seen : List Seen
   pub counted : length seen ≡ count
   pub is : line ≡ line_of (values_of seen)
-  pub looked : HasLooked M t queue dummy node seen
+  pub looked : (cs : List Certificate) → IsGoing M s cs → HasLooked M t queue cs dummy node seen
   pub among : RecordsAmong s t (words_along (shape_in t) queue dummy seen)
 
 zeros_more : (m i : ℕ) → i < m → replicate {A = ℕ} (m - i) 0 ≡ 0 ∷ replicate {A = ℕ} (m - (i + 1)) 0

@@ -13,9 +13,10 @@ use Rattle.md_machine.specs.declared.certificate.Fact.{Fact}
 use Rattle.md_machine.specs.declared.certificate.TidyChange.{TidyChange}
 use Rattle.md_machine.specs.declared.node.Structure.{Structure}
 use Rattle.md_machine.specs.declared.node.Structure.TheVariants.{Queue}
-use Rattle.md_machine.specs.Certified.{after_wholes, all_nodes, first_content}
-use Rattle.md_machine.specs.LogicalHeap.{Holds, is_settled}
-use Rattle.md_machine.specs.Meaning.{Lawful, Meaning}
+use Rattle.md_machine.specs.Certified.{TidiesStandBy, after_tidies, after_wholes, all_changes, all_nodes, changes_of_tidy, first_content, is_written}
+use Rattle.md_machine.specs.LogicalHeap.{Holds, LogicalHeap, is_settled}
+use Rattle.md_machine.specs.Meaning.{Lawful, Meaning, TidyStandsBy, after_tidy}
+use Rattle.md_machine.specs.clauses.passes.Alone.{HoldsAll}
 use Rattle.md_machine.specs.events.Exchange.{FoundFact, FoundNext}
 use Rattle.md_machine.proofs.chain.Agree.{tidies_shape, wholes_shape}
 use Rattle.md_machine.proofs.chain.SameNodes.{next_alone}
@@ -32,7 +33,7 @@ use Rattle.md_nbtc.specs.Known.{Known, KnowsFact, Met, WasThere, found_by}
 use Rattle.md_nbtc.specs.Seeing.{Gave, IsNextOf, IsTidyNow, MayChange}
 use Rattle.md_nbtc.specs.State.{OwnNode, TxnState, seen_content, shape_in, writes_in}
 use Rattle.md_nbtc.specs.Tidied.{tidied}
-use Rattle.md_nbtc.proofs.preparing.Heaps.{known_now}
+use Rattle.md_nbtc.proofs.preparing.Heaps.{known_now, later_self}
 use Rattle.md_nbtc.proofs.preparing.Later.{later_over}
 use Rattle.md_nbtc.proofs.ready.Lookups.{all_of}
 use Rattle.md_nbtc.proofs.structures.Exchanging.{HasExchanged, changed_own, changed_plainly, installed, may_exchange_so}
@@ -40,11 +41,15 @@ use Rattle.md_nbtc.proofs.structures.Growing.{tidied_later, tidied_more, tidy_st
 use Rattle.md_nbtc.proofs.structures.NodesKnown.{fact_tidied, own_is_new, own_known, shape_known, shape_later}
 use Rattle.md_nbtc.proofs.structures.SeenValues.{own_value, seen_value}
 use Rattle.md_nbtc.proofs.structures.Tidying.{bare_placed}
-use Rattle.md_queue_law.specs.QueueCertificates.{has_next}
+use Rattle.md_queue_law.specs.QueueCertificates.{MovesTail, has_next}
 use Rattle.md_queue_law.specs.QueueMeaning.{HasQueuesOf}
 use Rattle.md_queue_law.specs.QueueShape.{IsOf, link}
+use Rattle.md_queue.specs.Charged.{IsCharged}
+use Rattle.md_queue.specs.Refusals.{WasToMove}
 use Rattle.md_queue.specs.Words.{move_kind, next_at, tail_at}
 use Rattle.md_queue.specs.Working.{IsWorking, SeesAt, SeesNext}
+use Rattle.md_queue.proofs.Alone.{alone_sees, seen_stands}
+use Rattle.md_queue.proofs.Charging.{charged_critical, charged_on, charged_push, charged_written}
 use Rattle.md_queue.proofs.Looking.{next_named, tail_counted, tail_looked, tail_named, tail_no_next}
 use Rattle.md_queue.proofs.Ranks.{met_node}
 
@@ -60,6 +65,12 @@ module _ (M : Meaning) (t : TxnState) (cs : List Certificate) (word : ℕ) (no_n
 
   pub root_change : MayChange M t word
   root_change node next = absurd (no_next node next)
+
+-- one more tidy change that stands after others
+tidies_push : (own h : LogicalHeap) (ts : List TidyChange) (c : TidyChange) → TidiesStandBy own h ts → TidyStandsBy (after_tidies own ts) (after_tidies h ts) c
+    → TidiesStandBy own h (ts ++ c ∷ [])
+tidies_push own h [] c all one = (one, tt)
+tidies_push own h (d ∷ ts) c all one = (all.0, tidies_push (after_tidy own d) (after_tidy h d) ts c all.1 one)
 
 -- a change is plain only where the next word isn't own
 pub plain_other : (t : TxnState) (word : ℕ) (next : Seen) → is_critical t word (move_kind next) ≡ false → next.own ≡ false
@@ -153,11 +164,11 @@ module _ (M : Meaning) (lawful : Lawful M) (queues : HasQueuesOf M) (t : TxnStat
     abbrev pub move : TidyChange
     move = record { change = record { word = tail_at t queue; old = tail.value; new = next.value }; nodes = []; facts = fact ∷ [] }
 
-    move_tidies : M.tidies (shape_in t) move
-    move_tidies =
+    moves_tail : MovesTail (shape_in t) move
+    moves_tail =
         let from = tail_named M lawful queues t queue cs ts w tail sees in
         let to = next_named M lawful queues t queue cs ts w node next nx some in
-        queues.tidies (shape_in t) move (record {
+        record {
           queue = queue;
           from = node;
           to = linked_node next.value;
@@ -166,7 +177,38 @@ module _ (M : Meaning) (lawful : Lawful M) (queues : HasQueuesOf M) (t : TxnStat
               ∙ ap (λ v. record { word = tail_at t queue; old = link node; new = v }) to.is;
           nodes = refl;
           facts = ap (λ v. has_next queue node v ∷ []) to.is;
-        })
+        }
+
+    move_tidies : M.tidies (shape_in t) move
+    move_tidies = queues.tidies (shape_in t) move moves_tail
+
+    -- a move that is a part of the transaction is charged
+    pub move_charged : is_critical t (tail_at t queue) (move_kind next) ≡ true → IsCharged t (all_changes cs ++ changes_of_tidy ts) move
+    move_charged critical = charged_critical M t cs w.going ts w.tidied move next critical
+        (λ own. subst (λ n. is_written (writes_in t) (next_at t n) ≡ true) at_node (sym nx.at.gave.own ∙ own))
+        (tail_no_next M lawful queues t queue cs ts w)
+
+    -- if it is refused by the limit of writes, it would stand next
+    pub was_to_move : (s : TxnState) → t.reads ≡ s.reads → HoldsAll (shape_in t) t.pass.view → tail.count < 2 ^ 32 → is_written (writes_in t) (tail_at t queue) ≡ false
+        → is_critical t (tail_at t queue) (move_kind next) ≡ true → WasToMove M t cs s queue
+    was_to_move s reads all fits unwritten critical =
+        let self = later_self t in
+        let prepared = w.going.prepared in
+        record {
+          earlier = ts;
+          move = move;
+          reads = reads;
+          tidied = w.tidied;
+          moves = moves_tail;
+          tidies = move_tidies;
+          of_queue = refl;
+          unwritten = unwritten;
+          charged = charged_push t (all_changes cs) ts move w.charged (move_charged critical);
+          would = λ h of. tidies_push (after_wholes (found_by t h) cs) (after_wholes h cs) ts move (w.tidied.stand t self prepared h of)
+              (tidy_stands M t cs ts w.tidied t self (tidied (found_by t h) cs ts) (tidied h cs ts) move refl
+              (seen_stands M lawful t cs w.going ts w.tidied t self prepared h of (tail_at t queue) tail sees (alone_sees M t prepared all h of (tail_at t queue) tail sees.gave fits))
+              (All-cons (Holds (tidied h cs ts)) fact [] (next_fact_holds t self prepared h of) (All-nil (Holds (tidied h cs ts)))));
+        }
 
     tidy_now : next.own ≡ false → IsTidyNow M t (tail_at t queue) tail.value next.value
     tidy_now other = record {
@@ -201,9 +243,9 @@ module _ (M : Meaning) (lawful : Lawful M) (queues : HasQueuesOf M) (t : TxnStat
       pub value : seen.value ≡ next.value
 
     module _ (u : TxnState) (on : GoesOn M t u) (fits : tail.count < 2 ^ 32) where
-      grown : u.hand.operating ≡ t.hand.operating → u.hand.changes ≡ t.hand.changes ++ move.change ∷ [] → u.hand.stored ≡ t.hand.stored
+      grown : IsCharged t (all_changes cs ++ changes_of_tidy ts) move → u.hand.operating ≡ t.hand.operating → u.hand.changes ≡ t.hand.changes ++ move.change ∷ [] → u.hand.stored ≡ t.hand.stored
           → (tail.own ≡ false → first_content u.reads (writes_in u) (tail_at t queue) ≡ Some (seen_content tail)) → IsWorking M u queue cs (ts ++ move ∷ [])
-      grown operates changes stored first = record {
+      grown why operates changes stored first = record {
         operates = operates ∙ w.operates;
         within = subst (λ (s : Shape). queue < s.queues) (sym (shape_later t u on.later)) w.within;
         going = on.going cs w.going;
@@ -211,6 +253,7 @@ module _ (M : Meaning) (lawful : Lawful M) (queues : HasQueuesOf M) (t : TxnStat
             (λ v later prepared h of. tidy_stands M t cs ts w.tidied u on.later (tidied (found_by v h) cs ts) (tidied h cs ts) move refl
             (seen_value M lawful t cs w.going ts w.tidied (tail_at t queue) tail sees.gave sees.there fits u on.later first v later prepared h of)
             (All-cons (Holds (tidied h cs ts)) fact [] (next_fact_holds v (later_over t u v on.later later) prepared h of) (All-nil (Holds (tidied h cs ts)))));
+        charged = charged_on t u on.later (all_changes cs) (ts ++ move ∷ []) (charged_push t (all_changes cs) ts move w.charged why);
       }
 
       sees_new : (seen : Seen) → SeesAt M u (tail_at t queue) seen → SeesAt M u (tail_at u queue) seen
@@ -219,7 +262,7 @@ module _ (M : Meaning) (lawful : Lawful M) (queues : HasQueuesOf M) (t : TxnStat
       pub moved : (seen : Seen) → Gave u (tail_at t queue) seen → HasExchanged M t (tail_at t queue) tail next.value (move_kind next) u seen → HasMoved u seen
       moved seen gave (changed_own e) = record {
         changes = ts ++ move ∷ [];
-        working = grown (ap (λ x. x.hand.operating) e.state_is) (ap (λ x. x.hand.changes) e.state_is) (ap (λ x. x.hand.stored) e.state_is)
+        working = grown (charged_written M t cs w.going ts w.tidied move e.written) (ap (λ x. x.hand.operating) e.state_is) (ap (λ x. x.hand.changes) e.state_is) (ap (λ x. x.hand.stored) e.state_is)
             (λ other. absurd (true≢false (sym (sees.gave.own ∙ e.written) ∙ other)));
         sees_tail = sees_new seen (record { gave = gave; there = λ other. absurd (true≢false (ap (λ (s : Seen). s.own) (sym e.seen_is) ∙ other)) });
         value = ap (λ (s : Seen). s.value) e.seen_is;
@@ -229,7 +272,7 @@ module _ (M : Meaning) (lawful : Lawful M) (queues : HasQueuesOf M) (t : TxnStat
           let prepared = (on.going cs w.going).prepared in
           record {
             changes = ts ++ move ∷ [];
-            working = grown (ap (λ x. x.hand.operating) e.state_is) (ap (λ x. x.hand.changes) e.state_is) (ap (λ x. x.hand.stored) e.state_is)
+            working = grown (move_charged e.critical) (ap (λ x. x.hand.operating) e.state_is) (ap (λ x. x.hand.changes) e.state_is) (ap (λ x. x.hand.stored) e.state_is)
                 (λ other. All-contains (λ (x : Write). first_content u.reads (writes_in u) x.word ≡ Some x.old) (writes_in u) slot.write prepared.has.replaced
                 (subst (λ (x : TxnState). Contains (writes_in x) slot.write) (sym e.state_is)
                 (map_in (λ (s : Slot). s.write) (t.slots ++ slot ∷ []) slot (Contains-append_right t.slots (slot ∷ []) slot (here slot [])))));
@@ -243,6 +286,7 @@ module _ (M : Meaning) (lawful : Lawful M) (queues : HasQueuesOf M) (t : TxnStat
           within = subst (λ (s : Shape). queue < s.queues) (sym (shape_later t u on.later)) w.within;
           going = on.going cs w.going;
           tidied = tidied_later M t cs ts w.tidied u on.later (ap (λ x. x.hand) e.state_is);
+          charged = charged_on t u on.later (all_changes cs) ts w.charged;
         };
         sees_tail = sees_new seen (tail_looked M lawful queues t queue cs ts w u on seen e.looks);
         value = ap (λ (s : Seen). s.value) e.seen_is;

@@ -8,7 +8,7 @@ use Rattle.md_words.specs.Place.{node_next, queue_head}
 use Rattle.md_machine.specs.declared.certificate.Certificate.{Certificate}
 use Rattle.md_machine.specs.declared.certificate.TidyChange.{TidyChange}
 use Rattle.md_machine.specs.declared.step.Step.{Step}
-use Rattle.md_machine.specs.Certified.{after_wholes}
+use Rattle.md_machine.specs.Certified.{after_wholes, all_changes}
 use Rattle.md_machine.specs.Meaning.{Meaning}
 use Rattle.md_machine.specs.Trail.{SomeStepOf}
 use Rattle.md_machine.specs.events.Exchange.{FoundNext}
@@ -25,6 +25,7 @@ use Rattle.md_nbtc.proofs.structures.NodesKnown.{shape_later}
 use Rattle.md_queue_law.specs.QueueShape.{IsOf}
 use Rattle.md_queue.specs.Words.{head_at, next_at}
 use Rattle.md_queue.specs.Working.{IsWorking, KnowsOf, NamesNode, SeesAt, SeesNext}
+use Rattle.md_queue.proofs.Charging.{charged_on}
 
 module _ (M : Meaning) (t u : TxnState) (later : IsLater t u) where
   -- a step of the pass stays one
@@ -111,4 +112,5 @@ module _ (M : Meaning) (t u : TxnState) (later : IsLater t u) where
     within = subst (λ s. queue < s.queues) (sym shape) w.within;
     going = on.going cs w.going;
     tidied = tidied_later M t cs ts w.tidied u later same;
+    charged = charged_on t u later (all_changes cs) ts w.charged;
   }

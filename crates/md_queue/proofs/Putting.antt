@@ -1,7 +1,7 @@
 -- A new node is put behind the last one: when that may be done, and its certificate.
 use Rattle.std.proofs.Common.{◌≡◌, ◌<◌, ◌+◌, ◌*◌, ◌^◌, ◌++◌, ℕ, true, false, List, [], ◌∷◌, Option, Some, None, refl, sym, ap, ◌∙◌, subst, inl, inr, ⊎_elim, IfSome, arith, is_some}
 use Rattle.std.proofs.lemmas.Bool.{true≢false}
-use Rattle.std.proofs.lemmas.List.Elements.{All-contains, All-cons, All-nil, Contains-append_right}
+use Rattle.std.proofs.lemmas.List.Elements.{All-contains, All-cons, All-nil, Contains-append_cases, Contains-append_right}
 use Rattle.std.specs.List.{Contains}
 use Rattle.md_words.specs.declared.shape.Shape.{Shape}
 use Rattle.md_words.specs.Layout.{IsNode, address, node_count}
@@ -19,28 +19,30 @@ use Rattle.md_machine.specs.declared.certificate.WordValue.{WordValue}
 use Rattle.md_machine.specs.declared.node.PlacedNode.{PlacedNode}
 use Rattle.md_machine.specs.declared.node.Structure.{Structure}
 use Rattle.md_machine.specs.declared.node.Structure.TheVariants.{Queue}
-use Rattle.md_machine.specs.Certified.{after_wholes, all_nodes, first_content, is_written, placed_by}
+use Rattle.md_machine.specs.Certified.{after_wholes, all_changes, all_nodes, first_content, is_written, placed_by}
 use Rattle.md_machine.specs.LogicalHeap.{Holds}
 use Rattle.md_machine.specs.Meaning.{Lawful, Meaning}
+use Rattle.md_machine.specs.clauses.passes.Alone.{HoldsAll}
 use Rattle.md_machine.proofs.chain.SameNodes.{next_alone, next_counted}
-use Rattle.md_machine.proofs.lists.Rising.{here, map_in}
+use Rattle.md_machine.proofs.lists.Rising.{here, in_cons, in_map, in_none, map_in}
 use Rattle.md_nbtc.specs.declared.seen.Cleanup.{Cleanup}
 use Rattle.md_nbtc.specs.declared.seen.Cleanup.TheVariants.{MoveTail, Unlink}
 use Rattle.md_nbtc.specs.declared.seen.Kind.TheVariants.{Critical}
 use Rattle.md_nbtc.specs.declared.seen.Seen.{Seen}
 use Rattle.md_nbtc.specs.declared.sets.Slot.{Slot}
-use Rattle.md_nbtc.specs.Calls.{Freshens, GoesOn, Keeps, MayExchange}
+use Rattle.md_nbtc.specs.Calls.{Freshens, GoesOn, Keeps, MayExchange, new_slot}
 use Rattle.md_nbtc.specs.Cleaning.{FitsCleanup, IsFactLater, IsKeptCleanup, IsPlacedIn, IsWrittenFor, MayTidyLater, with_cleanup_kept}
 use Rattle.md_nbtc.specs.Course.{IsStoredNode}
 use Rattle.md_nbtc.specs.Going.{IsGoing}
 use Rattle.md_nbtc.specs.Known.{IsLater, Known, KnowsPlaced, found_by}
 use Rattle.md_nbtc.specs.Seeing.{Gave, IsOwnPlaced, KeepsGiven, MayChange}
+use Rattle.md_nbtc.specs.Sets.{with_new}
 use Rattle.md_nbtc.specs.State.{OwnNode, TxnState, seen_content, shape_in, writes_in}
 use Rattle.md_nbtc.specs.Tidied.{tidied}
-use Rattle.md_nbtc.proofs.preparing.Heaps.{known_now}
+use Rattle.md_nbtc.proofs.preparing.Heaps.{known_now, later_self}
 use Rattle.md_nbtc.proofs.preparing.Later.{later_over}
 use Rattle.md_nbtc.proofs.ready.Lookups.{all_of, one_of, written_there}
-use Rattle.md_nbtc.proofs.structures.Exchanging.{HasExchanged, may_exchange_so}
+use Rattle.md_nbtc.proofs.structures.Exchanging.{HasExchanged, changed_own, changed_plainly, installed, may_exchange_so}
 use Rattle.md_nbtc.proofs.structures.FoundLater.{found_later}
 use Rattle.md_nbtc.proofs.structures.NodesKnown.{data_known, own_known, placed_or_own, shape_later}
 use Rattle.md_nbtc.proofs.structures.SeenValues.{seen_value}
@@ -49,13 +51,19 @@ use Rattle.md_queue_law.specs.Laws.Words.{link_not_zero, tail_not_next}
 use Rattle.md_queue_law.specs.QueueCertificates.{CertifiesQueue, has_key, has_next, new_node, next_change}
 use Rattle.md_queue_law.specs.QueueMeaning.{HasQueuesOf}
 use Rattle.md_queue_law.specs.QueueShape.{IsOf, link}
+use Rattle.md_queue.specs.Operations.{RecordsAmong}
+use Rattle.md_queue.specs.Refusals.{WasToChange}
 use Rattle.md_queue.specs.Words.{next_at, tail_at}
 use Rattle.md_queue.specs.Working.{IsWorking, KnowsOf, SeesEnd, SeesNext}
+use Rattle.md_queue.proofs.Alone.{alone_sees, seen_stands}
 use Rattle.md_queue.proofs.Among.{AnswersBy}
+use Rattle.md_queue.proofs.Charging.{charged_on}
 use Rattle.md_queue.proofs.Changing.{changing, exchanged_first, exchanged_hand, exchanged_nodes, exchanged_own, may_end_changing}
 use Rattle.md_queue.proofs.FreshNode.{apart_from_fresh, fresh_after, fresh_unwritten, own_placed}
 use Rattle.md_queue.proofs.Passing.{next_on, of_on, working_on}
 use Rattle.md_queue.proofs.Ranks.{rank_fits}
+use Rattle.md_queue.proofs.Slots.{renewed_keeps}
+use Rattle.md_queue.proofs.Standing.{behind, would_stand}
 
 -- a link as the code makes it
 pub double_is : (node : ℕ) → node * 2 ≡ link node
@@ -118,36 +126,31 @@ module _ (M : Meaning) (lawful : Lawful M) (t : TxnState) (queue : ℕ) (cs : Li
   }
 
 -- the last node was found, and its rank
-pub record IsPutting (M : Meaning) (t : TxnState) (queue node rank : ℕ) (next : Seen) : Type 0 where
-  pub certificates : List Certificate
+pub record IsPutting (M : Meaning) (t : TxnState) (queue : ℕ) (cs : List Certificate) (node rank : ℕ) (next : Seen) : Type 0 where
   pub changes : List TidyChange
-  pub working : IsWorking M t queue certificates changes
-  pub sees : SeesNext M t certificates queue node next
+  pub working : IsWorking M t queue cs changes
+  pub sees : SeesNext M t cs queue node next
   pub zero : next.value ≡ 0
-  pub ranked : Known M t (λ u h. Holds (after_wholes h certificates) (has_key queue node rank))
+  pub ranked : Known M t (λ u h. Holds (after_wholes h cs) (has_key queue node rank))
 
-module _ (M : Meaning) (lawful : Lawful M) (queues : HasQueuesOf M) (queue : ℕ) (next : Seen) where
-  pub putting : (t u : TxnState) (tail : Seen) (least : ℕ) (s : SeesEnd M t queue tail next least) → next.value ≡ 0 → GoesOn M t u → u ≡ record t { pass = u.pass }
-      → ((other : ℕ) → KeepsGiven t u other) → (rank : ℕ) → Known M u (λ v h. h.words.key_of (linked_node tail.value) ≡ rank) → IsPutting M u queue (linked_node tail.value) rank next
+module _ (M : Meaning) (lawful : Lawful M) (queues : HasQueuesOf M) (queue : ℕ) (cs : List Certificate) (next : Seen) where
+  pub putting : (t u : TxnState) (tail : Seen) (least : ℕ) (s : SeesEnd M t queue cs tail next least) → next.value ≡ 0 → GoesOn M t u → u ≡ record t { pass = u.pass }
+      → ((other : ℕ) → KeepsGiven t u other) → (rank : ℕ) → Known M u (λ v h. h.words.key_of (linked_node tail.value) ≡ rank) → IsPutting M u queue cs (linked_node tail.value) rank next
   putting t u tail least s zero on same given rank is =
       let st = s.sees_tail in
       let node = linked_node tail.value in
-      let w = working_on M t u on.later queue st.certificates st.changes on (ap (λ x. x.hand) same) st.working in
-      let sees = next_on M t u on.later st.certificates queue node next s.next_sees
+      let w = working_on M t u on.later queue cs st.changes on (ap (λ x. x.hand) same) st.working in
+      let sees = next_on M t u on.later cs queue node next s.next_sees
       (given (tail_at t queue) (next_at t node) next (λ e. tail_not_next (shape_in t) queue node st.working.within s.next_sees.exists (sym e)) s.next_sees.at.gave) in
       record {
-        certificates = st.certificates;
         changes = st.changes;
         working = w;
         sees = sees;
         zero = zero;
-        ranked = data_known M lawful u st.certificates w.going node (Queue queue) (Some rank) None sees.exists sees.placed is (λ v later prepared h of. tt);
+        ranked = data_known M lawful u cs w.going node (Queue queue) (Some rank) None sees.exists sees.placed is (λ v later prepared h of. tt);
       }
 
-  module _ (t : TxnState) (node rank : ℕ) (p : IsPutting M t queue node rank next) where
-    abbrev cs : List Certificate
-    cs = p.certificates
-
+  module _ (t : TxnState) (node rank : ℕ) (p : IsPutting M t queue cs node rank next) where
     abbrev ts : List TidyChange
     ts = p.changes
 
@@ -203,6 +206,15 @@ module _ (M : Meaning) (lawful : Lawful M) (queues : HasQueuesOf M) (queue : ℕ
           is_own : (s : Slot) → Contains u.slots s → s.write.word ≡ next_at u node → is_written (writes_in u) (next_at u node) ≡ true
           is_own s among is = written_there (writes_in u) s.write (map_in (λ (x : Slot). x.write) u.slots s among) (next_at u node) is
 
+      -- so it keeps no cleanup
+      slot_bare : (s : Slot) → Contains u.slots s → s.write.word ≡ next_at u node → s.cleanup ≡ None
+      slot_bare s among is = by_kept s.cleanup refl
+        where
+          by_kept : (o : Option Cleanup) → s.cleanup ≡ o → s.cleanup ≡ None
+          by_kept None same = same
+          by_kept (Some c) same = absurd (zero_fits_none c 0 refl (slot_zero s among is 0 (Some c)
+              (subst (λ o. IfSome o (IsKeptCleanup M u cs s.write)) same (All-contains (λ (x : Slot). IfSome x.cleanup (IsKeptCleanup M u cs x.write)) u.slots s going_then.cleanups among))))
+
       -- so the new node may be put there
       pub may_put : (to : ℕ) → MayExchange M u (next_at u node) next to Critical
       may_put to = record {
@@ -217,6 +229,39 @@ module _ (M : Meaning) (lawful : Lawful M) (queues : HasQueuesOf M) (queue : ℕ
             (λ unwritten plain. absurd (true≢false plain));
       }
 
+      -- if that is refused by the limit of writes, the value would be put next
+      pub was_to_put : (before : TxnState) → RecordsAmong before u [] → HoldsAll (shape_in u) u.pass.view → next.count < 2 ^ 32 → is_written (writes_in u) (next_at u node) ≡ false → WasToChange M u cs before (Enqueue queue value)
+      was_to_put before among all fits unwritten =
+          let w = p.working in
+          let shape = shape_later t u on.later in
+          let prepared = going_then.prepared in
+          let change = next_change (shape_in u) node 0 (link new) in
+          let new_one = new_node queue new (rank + 1) value in
+          let fact = has_key queue node rank in
+          let at_u = ap (λ (s : Shape). address s (node_next node)) (sym shape) in
+          record {
+            certificate = behind ts (Enqueue queue value) Nothing [] (change ∷ []) (new_one ∷ []) (fact ∷ []);
+            last = change;
+            op_is = refl;
+            changes = ap (λ l. l ++ change ∷ []) (w.tidied.changes ∙ ap (λ (x : TxnState). x.hand.changes) (sym f.new));
+            among = among;
+            unwritten = unwritten;
+            would = λ h of. would_stand M queues t queue cs ts w u on.later prepared h of (Enqueue queue value) Nothing [] (change ∷ []) (new_one ∷ []) (fact ∷ []) (
+              subst (λ (s : Shape). queue < s.queues) (sym shape) w.within,
+              record { last = node; rank = rank; node = new; exists = subst (λ (s : Shape). IsNode s new) (sym shape) f.exists; reply = refl; recorded = refl; changes = refl; nodes = refl; facts = refl },
+            )
+                (All-nil (λ (r : WordValue). (tidied (found_by u h) cs ts).words.value r.word ≡ r.value))
+                (All-cons (λ (c : Change). (tidied (found_by u h) cs ts).words.value c.word ≡ c.old) change []
+                (subst (λ a. (tidied (found_by u h) cs ts).words.value a ≡ 0) at_u
+                (seen_stands M lawful t cs w.going ts w.tidied u on.later prepared h of (next_at t node) next p.sees.at
+                (λ other. subst (λ a. (found_by u h).words.value a ≡ next.value) (sym at_u) (alone_sees M u prepared all h of (next_at u node) next sees_then.at.gave fits other)) ∙ p.zero))
+                (All-nil (λ (c : Change). (tidied (found_by u h) cs ts).words.value c.word ≡ c.old)))
+                (All-cons (Holds (tidied h cs ts)) fact [] (bare_holds (after_wholes h cs) ts w.tidied.bare fact refl (p.ranked u on.later prepared h of)) (All-nil (Holds (tidied h cs ts))))
+                (All-cons (λ (n : NewNode). (tidied h cs ts).placed n.node ≡ None) new_one []
+                (fresh_after M lawful u cs going_then own own_among own_stored ts w.tidied.bare u (later_self u) prepared h of)
+                (All-nil (λ (n : NewNode). (tidied h cs ts).placed n.node ≡ None)));
+          }
+
       module _ (v : TxnState) (over : GoesOn M u v) (seen : Seen) (gave : Gave v (next_at u node) seen) (ex : HasExchanged M u (next_at u node) next (link new) Critical v seen) where
         -- and the move of the tail be put off
         pub may_keep : MayTidyLater M v cs (MoveTail (tail_at v queue) node new)
@@ -224,6 +269,23 @@ module _ (M : Meaning) (lawful : Lawful M) (queues : HasQueuesOf M) (queue : ℕ
             let shape = shape_later u v over.later ∙ shape_later t u on.later in
             may_move_later M lawful v queue cs (over.going cs going_then) node (subst (λ (s : Shape). IsNode s node) (sym shape) p.sees.exists)
             (of_on M t v (later_over t u v on.later over.later) cs queue node p.sees.placed) queues (subst (λ (s : Shape). queue < s.queues) (sym shape) p.working.within) new
+
+        -- no cleanup was kept with that word
+        put_bare : HasExchanged M u (next_at u node) next (link new) Critical v seen → (s : Slot) → Contains v.slots s → s.write.word ≡ next_at u node → s.cleanup ≡ None
+        put_bare (changed_own e) s among is =
+            let old = in_map (with_new (next_at u node) (link new)) u.slots s (subst (λ l. Contains l s) (ap (λ (x : TxnState). x.slots) e.state_is) among) in
+            let keeps = renewed_keeps (next_at u node) (link new) old.0 in
+            ap (λ (x : Slot). x.cleanup) (sym old.2) ∙ keeps.1 ∙ slot_bare old.0 old.1 (sym keeps.0 ∙ ap (λ (x : Slot). x.write.word) old.2 ∙ is)
+        put_bare (installed e) s among is =
+            let slot = new_slot u (next_at u node) next (link new) in
+            ⊎_elim
+            (λ before. slot_bare s before is)
+            (λ last. ⊎_elim (λ same. ap (λ (x : Slot). x.cleanup) (sym same)) (λ none. absurd (in_none s none)) (in_cons slot [] s last))
+            (Contains-append_cases u.slots (slot ∷ []) s (subst (λ l. Contains l s) (ap (λ (x : TxnState). x.slots) e.state_is) among))
+        put_bare (changed_plainly e) s among is = absurd (true≢false e.plain)
+
+        pub bare_then : (s : Slot) → Contains v.slots s → s.write.word ≡ next_at v node → s.cleanup ≡ None
+        bare_then s among is = put_bare ex s among (is ∙ ap (λ (x : Shape). address x (node_next node)) (shape_later u v over.later))
 
         seen_own : (seen.own ≡ true) × (seen.value ≡ link new)
         seen_own = exchanged_own M u v (next_at u node) next (link new) seen ex
@@ -249,7 +311,7 @@ module _ (M : Meaning) (lawful : Lawful M) (queues : HasQueuesOf M) (queue : ℕ
           later_last = later_over t u x on.later (later_over u v x over.later keeps.later)
 
           -- the operation may be ended
-          pub may_answer_put : AnswersBy M x (Enqueue queue value) Nothing []
+          pub may_answer_put : AnswersBy M x cs (Enqueue queue value) Nothing []
           may_answer_put =
               let shape = shape_later t x later_last in
               let shape_v = shape_later u v over.later ∙ shape_later t u on.later in
@@ -269,33 +331,30 @@ module _ (M : Meaning) (lawful : Lawful M) (queues : HasQueuesOf M) (queue : ℕ
                 record { last = node; rank = rank; node = new; exists = subst (λ (s : Shape). IsNode s new) (sym shape) f.exists; reply = refl; recorded = refl; changes = refl; nodes = refl; facts = refl },
               ) in
               record {
-                may = record {
-                  earlier = cs;
-                  going = going_last;
-                  certificate = c;
-                  of = (refl, refl);
-                  may = may_end_changing M t cs ts w.tidied x later_last (Enqueue queue value) Nothing [] change (new_one ∷ []) (fact ∷ [])
-                      (queues.certifies (shape_in x) c certifies)
-                      (ap (λ h. h.changes) hand ∙ ap (λ (y : TxnState). y.hand.changes ++ record { word = next_at u node; old = next.value; new = link new } ∷ []) f.new
-                      ∙ ap (λ (d : Change). t.hand.changes ++ d ∷ [])
-                      (ap (λ a. record { word = a; old = next.value; new = link new }) (ap (λ (s : Shape). address s (node_next node)) (shape_later t u on.later) ∙ at_x)
-                      ∙ ap (λ o. record { word = next_at x node; old = o; new = link new }) p.zero))
-                      (sym stored)
-                      (All-cons (IsStoredNode x) new_one [] (record { own = among; unsettled = refl }) (All-nil (IsStoredNode x)))
-                      (All-cons (λ (n : NewNode). is_written (writes_in x) (address (shape_in x) (node_next n.node)) ≡ false) new_one [] (fresh_unwritten M lawful x cs going_last own among in_stored)
-                      (All-nil (λ (n : NewNode). is_written (writes_in x) (address (shape_in x) (node_next n.node)) ≡ false)))
-                      (All-nil (λ (r : WordValue). is_some (first_content x.reads (writes_in x) r.word) ≡ true))
-                      (λ y after prepared h of. All-nil (λ (r : WordValue). (tidied (found_by y h) cs ts).words.value r.word ≡ r.value))
-                      (λ y after prepared h of. subst (λ a. (tidied (found_by y h) cs ts).words.value a ≡ 0) at_x
-                      (seen_value M lawful t cs w.going ts w.tidied (next_at t node) next p.sees.at.gave p.sees.at.there fits x later_last
-                      (λ other. subst (λ a. first_content x.reads (writes_in x) a ≡ Some (seen_content next)) (ap (λ (s : Shape). address s (node_next node)) (shape_later t u on.later))
-                      (found_later v x keeps.later going_last.prepared (next_at u node) (seen_content next)
-                      (exchanged_first M u v (next_at u node) next (link new) seen ex (over.going cs going_then).prepared sees_then.at.gave other))) y after prepared h of ∙ p.zero))
-                      (λ y after prepared h of. All-cons (Holds (tidied h cs ts)) fact []
-                      (bare_holds (after_wholes h cs) ts w.tidied.bare fact refl (p.ranked y (later_over t x y later_last after) prepared h of)) (All-nil (Holds (tidied h cs ts))))
-                      (λ y after prepared h of. All-cons (λ (n : NewNode). (tidied h cs ts).placed n.node ≡ None) new_one []
-                      (fresh_after M lawful x cs going_last own among in_stored ts w.tidied.bare y after prepared h of) (All-nil (λ (n : NewNode). (tidied h cs ts).placed n.node ≡ None)));
-                };
+                certificate = c;
+                of = (refl, refl);
+                may = may_end_changing M t cs ts w.tidied x later_last (Enqueue queue value) Nothing [] change (new_one ∷ []) (fact ∷ [])
+                    (queues.certifies (shape_in x) c certifies)
+                    (ap (λ h. h.changes) hand ∙ ap (λ (y : TxnState). y.hand.changes ++ record { word = next_at u node; old = next.value; new = link new } ∷ []) f.new
+                    ∙ ap (λ (d : Change). t.hand.changes ++ d ∷ [])
+                    (ap (λ a. record { word = a; old = next.value; new = link new }) (ap (λ (s : Shape). address s (node_next node)) (shape_later t u on.later) ∙ at_x)
+                    ∙ ap (λ o. record { word = next_at x node; old = o; new = link new }) p.zero))
+                    (sym stored)
+                    (All-cons (IsStoredNode x) new_one [] (record { own = among; unsettled = refl }) (All-nil (IsStoredNode x)))
+                    (All-cons (λ (n : NewNode). is_written (writes_in x) (address (shape_in x) (node_next n.node)) ≡ false) new_one [] (fresh_unwritten M lawful x cs going_last own among in_stored)
+                    (All-nil (λ (n : NewNode). is_written (writes_in x) (address (shape_in x) (node_next n.node)) ≡ false)))
+                    (All-nil (λ (r : WordValue). is_some (first_content x.reads (writes_in x) r.word) ≡ true))
+                    (λ y after prepared h of. All-nil (λ (r : WordValue). (tidied (found_by y h) cs ts).words.value r.word ≡ r.value))
+                    (λ y after prepared h of. subst (λ a. (tidied (found_by y h) cs ts).words.value a ≡ 0) at_x
+                    (seen_value M lawful t cs w.going ts w.tidied (next_at t node) next p.sees.at.gave p.sees.at.there fits x later_last
+                    (λ other. subst (λ a. first_content x.reads (writes_in x) a ≡ Some (seen_content next)) (ap (λ (s : Shape). address s (node_next node)) (shape_later t u on.later))
+                    (found_later v x keeps.later going_last.prepared (next_at u node) (seen_content next)
+                    (exchanged_first M u v (next_at u node) next (link new) seen ex (over.going cs going_then).prepared sees_then.at.gave other))) y after prepared h of ∙ p.zero))
+                    (λ y after prepared h of. All-cons (Holds (tidied h cs ts)) fact []
+                    (bare_holds (after_wholes h cs) ts w.tidied.bare fact refl (p.ranked y (later_over t x y later_last after) prepared h of)) (All-nil (Holds (tidied h cs ts))))
+                    (λ y after prepared h of. All-cons (λ (n : NewNode). (tidied h cs ts).placed n.node ≡ None) new_one []
+                    (fresh_after M lawful x cs going_last own among in_stored ts w.tidied.bare y after prepared h of) (All-nil (λ (n : NewNode). (tidied h cs ts).placed n.node ≡ None)));
                 row = certifies;
                 are = refl;
+                charged = charged_on t x later_last (all_changes cs) ts w.charged;
               }

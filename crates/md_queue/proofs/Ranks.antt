@@ -73,7 +73,7 @@ module _ (M : Meaning) (lawful : Lawful M) (queues : HasQueuesOf M) (t : TxnStat
 
   module _ (ts : List TidyChange) (has : HasTidied M t cs ts) where
     -- so ranks rise along all links that the transaction leaves
-    queue_rises : Known M t (λ u h. QueueRises (tidied (found_by t h) cs ts) (tidied h cs ts) queue)
+    pub queue_rises : Known M t (λ u h. QueueRises (tidied (found_by t h) cs ts) (tidied h cs ts) queue)
     queue_rises u later prepared h of =
         let shape = shape_known M lawful t u later prepared h of in
         let after = wholes_shape h cs ∙ shape in

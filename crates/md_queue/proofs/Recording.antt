@@ -64,18 +64,15 @@ recorded_on M t u later prepared cs ts r is =
 module _ (M : Meaning) (queues : HasQueuesOf M) (t : TxnState) (queue : ℕ) (cs : List Certificate) (ts : List TidyChange) (w : IsWorking M t queue cs ts) where
   -- an operation that looked at recorded words may be answered by them, and by what is known of nodes
   pub may_answer_reading : (op : Op) (reply : Reply) (words : List WordValue) (facts : List Fact) → CertifiesQueue (shape_in t) (reading op reply ts words facts)
-      → All (IsRecorded M t cs ts) words → Known M t (λ u h. All (Holds (after_wholes h cs)) facts) → All (λ (f : Fact). f.next ≡ None) facts → AnswersBy M t op reply (map (λ (r : WordValue). r.word) words)
+      → All (IsRecorded M t cs ts) words → Known M t (λ u h. All (Holds (after_wholes h cs)) facts) → All (λ (f : Fact). f.next ≡ None) facts → AnswersBy M t cs op reply (map (λ (r : WordValue). r.word) words)
   may_answer_reading op reply words facts certifies recorded known plain = record {
-    may = record {
-      earlier = cs;
-      going = w.going;
-      certificate = reading op reply ts words facts;
-      of = (refl, refl);
-      may = may_end_reading M t cs ts w.tidied op reply words facts (queues.certifies (shape_in t) (reading op reply ts words facts) certifies)
-          (λ i d below. (recorded i d below).found)
-          (λ u later prepared h of i d below. (recorded i d below).value u later prepared h of)
-          (λ u later prepared h of i d below. bare_holds (after_wholes h cs) ts w.tidied.bare (get_or facts i d) (plain i d below) (known u later prepared h of i d below));
-    };
+    certificate = reading op reply ts words facts;
+    of = (refl, refl);
+    may = may_end_reading M t cs ts w.tidied op reply words facts (queues.certifies (shape_in t) (reading op reply ts words facts) certifies)
+        (λ i d below. (recorded i d below).found)
+        (λ u later prepared h of i d below. (recorded i d below).value u later prepared h of)
+        (λ u later prepared h of i d below. bare_holds (after_wholes h cs) ts w.tidied.bare (get_or facts i d) (plain i d below) (known u later prepared h of i d below));
     row = certifies;
     are = refl;
+    charged = w.charged;
   }

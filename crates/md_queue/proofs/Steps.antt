@@ -1,9 +1,10 @@
 -- What each call leaves of a transaction, and how that adds up.
-use Rattle.std.proofs.Common.{◌≡◌, ◌≤◌, ◌+◌, ℕ, Option, Some, None, true, Result, Ok, Err, length, [], ◌∷◌, refl, sym, ap, ◌∙◌, subst, inl, inr, ⊎_elim, arith}
+use Rattle.std.proofs.Common.{◌≡◌, ◌≢◌, ◌≤◌, ◌+◌, ℕ, Option, Some, None, true, Result, Ok, Err, length, [], ◌∷◌, refl, sym, ap, ◌∙◌, subst, inl, inr, ⊎_elim, arith}
 use Rattle.std.proofs.lemmas.List.{length-append, length-map}
 use Rattle.std.proofs.lemmas.List.Elements.{Contains-append_cases}
 use Rattle.std.specs.List.{Contains}
-use Rattle.md_history.specs.declared.stops.Limit.TheVariants.{Nodes}
+use Rattle.md_history.specs.declared.stops.Limit.{Limit}
+use Rattle.md_history.specs.declared.stops.Limit.TheVariants.{Nodes, Reads, Worn, Writes}
 use Rattle.md_history.specs.declared.stops.Shown.{Shown}
 use Rattle.md_history.specs.declared.stops.Stop.{Stop}
 use Rattle.md_history.specs.declared.stops.Stop.TheVariants.{Conflict, Limit as Limited}
@@ -13,7 +14,7 @@ use Rattle.md_machine.proofs.lists.Rising.{here, in_cons, in_none}
 use Rattle.md_nbtc.specs.declared.seen.Kind.{Kind}
 use Rattle.md_nbtc.specs.declared.seen.Seen.{Seen}
 use Rattle.md_nbtc.specs.Calls.{AfterStop, Exchanges, GoesOn, Looked, NoteCase, Notes, exchange_case, full, new_slot, note_case, noted, recorded, unread}
-use Rattle.md_nbtc.specs.Going.{IsUnderWay}
+use Rattle.md_nbtc.specs.declared.sets.Slot.{Slot}
 use Rattle.md_nbtc.specs.Seeing.{Looks}
 use Rattle.md_nbtc.specs.Sets.{with_new}
 use Rattle.md_nbtc.specs.State.{TxnState, seen_content}
@@ -21,9 +22,16 @@ use Rattle.md_nbtc.proofs.preparing.Later.{later_over}
 use Rattle.md_nbtc.proofs.structures.Answering.{IsStopped, after_ok, exchange_refused, look_refused, note_refused}
 use Rattle.md_nbtc.proofs.structures.Exchanging.{HasExchanged, changed_own, changed_plainly, exchange_so, exchanged_so, installed}
 use Rattle.md_nbtc.proofs.structures.Noting.{HasNoted, has_noted}
-use Rattle.md_queue.specs.Operations.{GoesBy, Leaves, RecordsAmong, RefusedOtherwise, StaysStopped}
+use Rattle.md_queue.specs.Operations.{GoesBy, IsNotBy, Leaves, RecordsAmong, RefusedOtherwise, StaysIn, StaysStopped}
+use Rattle.md_queue.proofs.Slots.{stay_before, stay_renewed, stay_same, stay_then}
 
 module _ (M : Meaning) where
+  pub goes_over : (s t u : TxnState) → GoesOn M s t → GoesOn M t u → GoesOn M s u
+  goes_over s t u one two = record {
+    going = λ cs going. two.going cs (one.going cs going);
+    later = later_over s t u one.later two.later;
+  }
+
   -- one after another
   pub leaves_then : (s t u : TxnState) (a b c d e f x y z : ℕ) → Leaves M s t a b c → Leaves M t u d e f → a + d ≤ x → b + e ≤ y → c + f ≤ z → Leaves M s u x y z
   leaves_then s t u a b c d e f x y z one two reads writes nodes =
@@ -34,8 +42,8 @@ module _ (M : Meaning) where
       let n = one.nodes_few in
       let nn = two.nodes_few in
       record {
-        going = two.going;
-        later = later_over s t u one.later two.later;
+        on = goes_over s t u one.on two.on;
+        stay = stay_then s t u one.stay two.stay;
         acts = two.acts ∙ one.acts;
         operates = two.operates;
         reads_few = omega (arith, r, rr, reads);
@@ -65,11 +73,11 @@ module _ (M : Meaning) where
         no_nodes = λ is. sym one.same_stop ∙ two.no_nodes is;
       }
 
-  module _ (t u : TxnState) (under : IsUnderWay M t) (on : GoesOn M t u) where
-    stepped_leaves : (a b c : ℕ) → u.hand.acts ≡ t.hand.acts → u.hand.operating ≡ t.hand.operating → t.hand.operating ≡ true → length u.reads ≤ length t.reads + a → length u.slots ≤ length t.slots + b → length u.nodes ≤ length t.nodes + c → Leaves M t u a b c
-    stepped_leaves a b c acts operating operates reads writes nodes = record {
-      going = (under.0, on.going under.0 under.1);
-      later = on.later;
+  module _ (t u : TxnState) (on : GoesOn M t u) where
+    stepped_leaves : (a b c : ℕ) → ((s : Slot) → Contains t.slots s → StaysIn u s) → u.hand.acts ≡ t.hand.acts → u.hand.operating ≡ t.hand.operating → t.hand.operating ≡ true → length u.reads ≤ length t.reads + a → length u.slots ≤ length t.slots + b → length u.nodes ≤ length t.nodes + c → Leaves M t u a b c
+    stepped_leaves a b c stay acts operating operates reads writes nodes = record {
+      on = on;
+      stay = stay;
       acts = acts;
       operates = operating ∙ operates;
       reads_few = reads;
@@ -80,17 +88,17 @@ module _ (M : Meaning) where
     -- steps of the pass alone
     pub pass_goes : u ≡ record t { pass = u.pass } → t.hand.operating ≡ true → GoesBy M t u 0 0 0
     pass_goes same operates = record {
-      leaves = stepped_leaves 0 0 0 (ap (λ (x : TxnState). x.hand.acts) same) (ap (λ (x : TxnState). x.hand.operating) same) operates
+      leaves = stepped_leaves 0 0 0 (stay_same t u (ap (λ (x : TxnState). x.slots) same)) (ap (λ (x : TxnState). x.hand.acts) same) (ap (λ (x : TxnState). x.hand.operating) same) operates
           (let l = ap (λ (x : TxnState). length x.reads) same in omega (arith, l))
           (let l = ap (λ (x : TxnState). length x.slots) same in omega (arith, l))
           (let l = ap (λ (x : TxnState). length x.nodes) same in omega (arith, l));
       same_stop = ap (λ (x : TxnState). x.stop) same;
     }
 
-    halted : (stop : Stop) → IsStopped t u stop → (stop ≡ Limited Nodes → t.stop ≡ Some stop) → t.hand.operating ≡ true → RefusedOtherwise M t u 0 0 stop
+    halted : (stop : Stop) → IsStopped t u stop → IsNotBy t Nodes stop → t.hand.operating ≡ true → RefusedOtherwise M t u 0 0 stop
     halted stop is others operates = record {
       refused = record {
-        leaves = stepped_leaves 0 0 0 (ap (λ (x : TxnState). x.hand.acts) is) (ap (λ (x : TxnState). x.hand.operating) is) operates
+        leaves = stepped_leaves 0 0 0 (stay_same t u (ap (λ (x : TxnState). x.slots) is)) (ap (λ (x : TxnState). x.hand.acts) is) (ap (λ (x : TxnState). x.hand.operating) is) operates
             (let l = ap (λ (x : TxnState). length x.reads) is in omega (arith, l))
             (let l = ap (λ (x : TxnState). length x.slots) is in omega (arith, l))
             (let l = ap (λ (x : TxnState). length x.nodes) is in omega (arith, l));
@@ -99,17 +107,17 @@ module _ (M : Meaning) where
       no_nodes = others;
     }
 
-    -- a refusal that isn't one for want of nodes, unless it is an old one
+    -- a refusal that isn't one by a limit, unless it is an old one
     module _ (A : Type 0) (stop : Stop) where
       err_same : (r : Stop) → (let e : Result A Stop = Err stop in e) ≡ Err r → r ≡ stop
       err_same r e = cc e
 
-      old_stop : (o : Option Stop) → t.stop ≡ o → (P : Type 0) → (P → stop ≡ Limited Nodes → ⊥) → AfterStop o t u (let r : Result A Stop = Err stop in r) P → stop ≡ Limited Nodes → t.stop ≡ Some stop
-      old_stop None is P others p nodes = absurd (others p nodes)
-      old_stop (Some r) is P others p nodes = is ∙ ap (λ x. Some x) (err_same r p.0)
+      old_stop : (limit : Limit) (o : Option Stop) → t.stop ≡ o → (P : Type 0) → (P → stop ≡ Limited limit → ⊥) → AfterStop o t u (let r : Result A Stop = Err stop in r) P → IsNotBy t limit stop
+      old_stop limit None is P others p by = absurd (others p by)
+      old_stop limit (Some r) is P others p by = is ∙ ap (λ x. Some x) (err_same r p.0)
 
-    conflict_no_nodes : (stop : Stop) (shown : Shown) → stop ≡ Conflict shown → stop ≡ Limited Nodes → ⊥
-    conflict_no_nodes stop shown is nodes = cc (is, nodes)
+    conflict_not_by : (limit : Limit) (stop : Stop) (shown : Shown) → stop ≡ Conflict shown → stop ≡ Limited limit → ⊥
+    conflict_not_by limit stop shown is by = cc (is, by)
 
     -- a look
     pub look_ok : (word : ℕ) (seen : Seen) → AfterStop t.stop t u (let r : Result Seen Stop = Ok seen in r) (Looked M t u word (Ok seen)) → (u ≡ record t { pass = u.pass }) × Looks M t u word seen
@@ -118,9 +126,12 @@ module _ (M : Meaning) where
     pub look_goes : (word : ℕ) (seen : Seen) → AfterStop t.stop t u (let r : Result Seen Stop = Ok seen in r) (Looked M t u word (Ok seen)) → t.hand.operating ≡ true → GoesBy M t u 0 0 0
     look_goes word seen looked = pass_goes (look_ok word seen looked).0
 
+    -- is refused by no limit
+    pub look_not_by : (word : ℕ) (stop : Stop) → AfterStop t.stop t u (let r : Result Seen Stop = Err stop in r) (Looked M t u word (Err stop)) → (limit : Limit) → IsNotBy t limit stop
+    look_not_by word stop looked limit = old_stop Seen stop limit t.stop refl (Looked M t u word (Err stop)) (λ is by. conflict_not_by limit stop is.1.0 is.1.1 by) looked
+
     pub look_stops : (word : ℕ) (stop : Stop) → AfterStop t.stop t u (let r : Result Seen Stop = Err stop in r) (Looked M t u word (Err stop)) → t.hand.operating ≡ true → RefusedOtherwise M t u 0 0 stop
-    look_stops word stop looked = halted stop (look_refused M t u stop word looked)
-        (old_stop Seen stop t.stop refl (Looked M t u word (Err stop)) (λ is nodes. conflict_no_nodes stop is.1.0 is.1.1 nodes) looked)
+    look_stops word stop looked = halted stop (look_refused M t u stop word looked) (look_not_by word stop looked Nodes)
 
     -- after a stop the same stop, and nothing is done
     pub look_stopped : (word : ℕ) (stop : Stop) → AfterStop t.stop t u (let r : Result Seen Stop = Err stop in r) (Looked M t u word (Err stop))
@@ -153,7 +164,7 @@ module _ (M : Meaning) where
     note_goes word seen is operates =
         let noted = note_ok word seen is in
         record {
-          leaves = stepped_leaves 1 0 0 (ap (λ x. x.acts) noted.hand) (ap (λ x. x.operating) noted.hand) operates noted.few (let l = ap (λ x. length x) noted.slots in omega (arith, l)) (let l = ap (λ x. length x) noted.nodes in omega (arith, l));
+          leaves = stepped_leaves 1 0 0 (stay_same t u noted.slots) (ap (λ x. x.acts) noted.hand) (ap (λ x. x.operating) noted.hand) operates noted.few (let l = ap (λ x. length x) noted.slots in omega (arith, l)) (let l = ap (λ x. length x) noted.nodes in omega (arith, l));
           same_stop = noted_stop (note_case t word seen) word seen (after_ok (Unit {0}) t u t.stop tt (Notes (note_case t word seen) t u word seen (Ok tt)) is);
         }
 
@@ -174,15 +185,20 @@ module _ (M : Meaning) where
     pub note_among : (word : ℕ) (seen : Seen) → AfterStop t.stop t u (let r : Result (Unit {0}) Stop = Ok tt in r) (Notes (note_case t word seen) t u word seen (Ok tt)) → RecordsAmong t u (word ∷ [])
     note_among word seen is = among_by (note_case t word seen) word seen (after_ok (Unit {0}) t u t.stop tt (Notes (note_case t word seen) t u word seen (Ok tt)) is)
 
-    note_no_nodes : (stop : Stop) (c : NoteCase) (word : ℕ) (seen : Seen) → Notes c t u word seen (Err stop) → stop ≡ Limited Nodes → ⊥
-    note_no_nodes stop noted word seen is nodes = let e = is.0 in cc e
-    note_no_nodes stop (recorded held) word seen is nodes = let e = is.0 in cc (e, nodes)
-    note_no_nodes stop full word seen is nodes = let e = is.0 in cc (e, nodes)
-    note_no_nodes stop unread word seen is nodes = let e = is.0 in cc e
+    -- is refused by no limit but that of reads
+    note_apart : (limit : Limit) → limit ≢ Reads → (stop : Stop) (c : NoteCase) (word : ℕ) (seen : Seen) → Notes c t u word seen (Err stop) → stop ≡ Limited limit → ⊥
+    note_apart limit apart stop noted word seen is by = let e = is.0 in cc e
+    note_apart limit apart stop (recorded held) word seen is by = let e = is.0 in cc (e, by)
+    note_apart limit apart stop full word seen is by = let e = is.0 in let same : limit ≡ Reads = cc (e, by) in apart same
+    note_apart limit apart stop unread word seen is by = let e = is.0 in cc e
+
+    pub note_not_by : (word : ℕ) (seen : Seen) (stop : Stop) → AfterStop t.stop t u (let r : Result (Unit {0}) Stop = Err stop in r) (Notes (note_case t word seen) t u word seen (Err stop))
+        → (limit : Limit) → limit ≢ Reads → IsNotBy t limit stop
+    note_not_by word seen stop is limit apart = old_stop (Unit {0}) stop limit t.stop refl (Notes (note_case t word seen) t u word seen (Err stop))
+        (note_apart limit apart stop (note_case t word seen) word seen) is
 
     pub note_stops : (word : ℕ) (seen : Seen) (stop : Stop) → AfterStop t.stop t u (let r : Result (Unit {0}) Stop = Err stop in r) (Notes (note_case t word seen) t u word seen (Err stop)) → t.hand.operating ≡ true → RefusedOtherwise M t u 0 0 stop
-    note_stops word seen stop is = halted stop (note_refused M t u stop (note_case t word seen) word seen is)
-        (old_stop (Unit {0}) stop t.stop refl (Notes (note_case t word seen) t u word seen (Err stop)) (note_no_nodes stop (note_case t word seen) word seen) is)
+    note_stops word seen stop is = halted stop (note_refused M t u stop (note_case t word seen) word seen is) (note_not_by word seen stop is Nodes (λ e. cc e))
 
     -- an exchange
     pub exchange_ok : (word : ℕ) (from : Seen) (to : ℕ) (kind : Kind) (seen : Seen)
@@ -192,41 +208,52 @@ module _ (M : Meaning) where
 
     pub exchange_goes : (word : ℕ) (from : Seen) (to : ℕ) (kind : Kind) (seen : Seen) → HasExchanged M t word from to kind u seen → t.hand.operating ≡ true → GoesBy M t u 0 1 0
     exchange_goes word from to kind seen (changed_own e) operates = record {
-      leaves = stepped_leaves 0 1 0 (ap (λ (x : TxnState). x.hand.acts) e.state_is) (ap (λ (x : TxnState). x.hand.operating) e.state_is) operates
+      leaves = stepped_leaves 0 1 0 (stay_renewed t u word to (ap (λ (x : TxnState). x.slots) e.state_is)) (ap (λ (x : TxnState). x.hand.acts) e.state_is) (ap (λ (x : TxnState). x.hand.operating) e.state_is) operates
           (let l = ap (λ (x : TxnState). length x.reads) e.state_is in omega (arith, l))
           (let l = ap (λ (x : TxnState). length x.slots) e.state_is ∙ length-map t.slots (with_new word to) in omega (arith, l))
           (let l = ap (λ (x : TxnState). length x.nodes) e.state_is in omega (arith, l));
       same_stop = ap (λ (x : TxnState). x.stop) e.state_is;
     }
     exchange_goes word from to kind seen (installed e) operates = record {
-      leaves = stepped_leaves 0 1 0 (ap (λ (x : TxnState). x.hand.acts) e.state_is) (ap (λ (x : TxnState). x.hand.operating) e.state_is) operates
+      leaves = stepped_leaves 0 1 0 (stay_before t u (new_slot t word from to) (ap (λ (x : TxnState). x.slots) e.state_is)) (ap (λ (x : TxnState). x.hand.acts) e.state_is) (ap (λ (x : TxnState). x.hand.operating) e.state_is) operates
           (let l = ap (λ (x : TxnState). length x.reads) e.state_is in omega (arith, l))
           (let l = ap (λ (x : TxnState). length x.slots) e.state_is ∙ length-append t.slots (new_slot t word from to ∷ []) in omega (arith, l))
           (let l = ap (λ (x : TxnState). length x.nodes) e.state_is in omega (arith, l));
       same_stop = ap (λ (x : TxnState). x.stop) e.state_is;
     }
     exchange_goes word from to kind seen (changed_plainly e) operates = record {
-      leaves = stepped_leaves 0 1 0 (ap (λ (x : TxnState). x.hand.acts) e.state_is) (ap (λ (x : TxnState). x.hand.operating) e.state_is) operates
+      leaves = stepped_leaves 0 1 0 (stay_same t u (ap (λ (x : TxnState). x.slots) e.state_is)) (ap (λ (x : TxnState). x.hand.acts) e.state_is) (ap (λ (x : TxnState). x.hand.operating) e.state_is) operates
           (let l = ap (λ (x : TxnState). length x.reads) e.state_is in omega (arith, l))
           (let l = ap (λ (x : TxnState). length x.slots) e.state_is in omega (arith, l))
           (let l = ap (λ (x : TxnState). length x.nodes) e.state_is in omega (arith, l));
       same_stop = ap (λ (x : TxnState). x.stop) e.state_is;
     }
 
-    err_no_nodes : (stop r : Stop) → (let e : Result Seen Stop = Err stop in e) ≡ Err r → (r ≡ Limited Nodes → ⊥) → stop ≡ Limited Nodes → ⊥
-    err_no_nodes stop r same others nodes = others (err_same Seen stop r same ∙ nodes)
+    -- is refused by no limit but those of writes and of counts
+    module _ (limit : Limit) (writes : limit ≢ Writes) (worn : (word count : ℕ) → limit ≢ Worn word count) where
+      err_apart : (stop r : Stop) → (let e : Result Seen Stop = Err stop in e) ≡ Err r → (r ≡ Limited limit → ⊥) → stop ≡ Limited limit → ⊥
+      err_apart stop r same others by = others (err_same Seen stop r same ∙ by)
 
-    exchange_no_nodes : (word : ℕ) (from : Seen) (to : ℕ) (kind : Kind) (stop : Stop) → Exchanges (exchange_case t word from kind) M t u word from to (Err stop) → stop ≡ Limited Nodes → ⊥
-    exchange_no_nodes word from to kind stop = exchange_so (λ c. Exchanges c M t u word from to (Err stop) → stop ≡ Limited Nodes → ⊥)
-        (λ held is. err_no_nodes stop _ is.0 (λ e. cc e)) (λ is. err_no_nodes stop _ is.0 (λ e. cc e)) (λ is. err_no_nodes stop _ is.0 (λ e. cc e)) t word from kind
-        (λ written is nodes. let e = is.0 in cc e)
-        (λ unwritten critical is. conflict_no_nodes stop _ is.1.1)
-        (λ unwritten plain is. conflict_no_nodes stop _ is.1.1)
+      exchange_apart : (word : ℕ) (from : Seen) (to : ℕ) (kind : Kind) (stop : Stop) → Exchanges (exchange_case t word from kind) M t u word from to (Err stop) → stop ≡ Limited limit → ⊥
+      exchange_apart word from to kind stop = exchange_so (λ c. Exchanges c M t u word from to (Err stop) → stop ≡ Limited limit → ⊥)
+          (λ held is. err_apart stop _ is.0 (λ e. cc e))
+          (λ is. err_apart stop _ is.0 (λ e. let same : limit ≡ Writes = cc e in writes same))
+          (λ is. err_apart stop _ is.0 (λ e. let same : limit ≡ Worn word from.count = cc e in worn word from.count same)) t word from kind
+          (λ written is by. let e = is.0 in cc e)
+          (λ unwritten critical is. conflict_not_by limit stop _ is.1.1)
+          (λ unwritten plain is. conflict_not_by limit stop _ is.1.1)
+
+      pub exchange_not_by : (word : ℕ) (from : Seen) (to : ℕ) (kind : Kind) (stop : Stop)
+          → AfterStop t.stop t u (let r : Result Seen Stop = Err stop in r) (Exchanges (exchange_case t word from kind) M t u word from to (Err stop)) → IsNotBy t limit stop
+      exchange_not_by word from to kind stop is = old_stop Seen stop limit t.stop refl (Exchanges (exchange_case t word from kind) M t u word from to (Err stop)) (exchange_apart word from to kind stop) is
+
+    pub exchange_no_reads : (word : ℕ) (from : Seen) (to : ℕ) (kind : Kind) (stop : Stop)
+        → AfterStop t.stop t u (let r : Result Seen Stop = Err stop in r) (Exchanges (exchange_case t word from kind) M t u word from to (Err stop)) → IsNotBy t Reads stop
+    exchange_no_reads = exchange_not_by Reads (λ e. cc e) (λ word count e. cc e)
 
     pub exchange_stops : (word : ℕ) (from : Seen) (to : ℕ) (kind : Kind) (stop : Stop)
         → AfterStop t.stop t u (let r : Result Seen Stop = Err stop in r) (Exchanges (exchange_case t word from kind) M t u word from to (Err stop)) → t.hand.operating ≡ true → RefusedOtherwise M t u 0 0 stop
-    exchange_stops word from to kind stop is = halted stop (exchange_refused M t u stop word from to kind is)
-        (old_stop Seen stop t.stop refl (Exchanges (exchange_case t word from kind) M t u word from to (Err stop)) (exchange_no_nodes word from to kind stop) is)
+    exchange_stops word from to kind stop is = halted stop (exchange_refused M t u stop word from to kind is) (exchange_not_by Nodes (λ e. cc e) (λ word count e. cc e) word from to kind stop is)
 
 -- an Ok doesn't come after a stop
 pub unstopped : {A B : Type 0} (t u : TxnState) (x : A) → StaysStopped t u (let r : Result A Stop = Ok x in r) → (s : Stop) → t.stop ≡ Some s → B
@@ -240,8 +267,8 @@ refused_up M t u a b x y stop is reads writes =
     record {
       refused = record {
         leaves = record {
-          going = is.refused.leaves.going;
-          later = is.refused.leaves.later;
+          on = is.refused.leaves.on;
+          stay = is.refused.leaves.stay;
           acts = is.refused.leaves.acts;
           operates = is.refused.leaves.operates;
           reads_few = omega (arith, r, reads);
@@ -260,8 +287,8 @@ goes_up M t u a b c x y z is reads writes nodes =
     let n = is.leaves.nodes_few in
     record {
       leaves = record {
-        going = is.leaves.going;
-        later = is.leaves.later;
+        on = is.leaves.on;
+        stay = is.leaves.stay;
         acts = is.leaves.acts;
         operates = is.leaves.operates;
         reads_few = omega (arith, r, reads);

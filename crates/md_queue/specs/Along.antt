@@ -1,6 +1,8 @@
 -- What a look along a queue has seen and recorded, while an operation is under way.
 use Rattle.std.specs.Prelude.{◌≡◌, ◌++◌, ℕ, List, [], ◌∷◌, map, All, Option, Some, None}
-use Rattle.md_words.specs.Layout.{IsNode}
+use Rattle.md_words.specs.declared.shape.Shape.{Shape}
+use Rattle.md_words.specs.Layout.{IsNode, address}
+use Rattle.md_words.specs.Place.{queue_head}
 use Rattle.md_machine.specs.declared.certificate.Certificate.{Certificate}
 use Rattle.md_machine.specs.declared.certificate.TidyChange.{TidyChange}
 use Rattle.md_machine.specs.Certified.{after_wholes}
@@ -17,26 +19,29 @@ use Rattle.md_queue.specs.Working.{IsRecorded, IsWorking, KnowsOf}
 abbrev pub seen_as : Passed → Seen
 seen_as p = record { node = p.node; value = p.value }
 
-module _ (M : Meaning) (t : TxnState) (queue dummy node : ℕ) (seen : List Seen) where
+-- the words that a look along a queue records: the head, and the next words on the way
+abbrev pub words_along : Shape → (queue dummy : ℕ) → List Seen → List ℕ
+words_along shape queue dummy seen = address shape (queue_head queue) ∷ map (λ r. r.word) (next_words shape dummy seen)
+
+module _ (M : Meaning) (t : TxnState) (queue : ℕ) (cs : List Certificate) (dummy node : ℕ) (seen : List Seen) where
   -- a look came from the head's node, the dummy, over these nodes to this one: the head and the next words on the way
   -- are recorded, and the values are known
   pub record HasLooked : Type 0 where
-    pub certificates : List Certificate
     pub changes : List TidyChange
-    pub working : IsWorking M t queue certificates changes
+    pub working : IsWorking M t queue cs changes
     pub last : node ≡ last_seen dummy seen
     pub exists : IsNode (shape_in t) node
-    pub placed : KnowsOf M t certificates queue node
-    pub head_noted : IsRecorded M t certificates changes (head_is (shape_in t) queue (link dummy))
-    pub nexts_noted : All (IsRecorded M t certificates changes) (next_words (shape_in t) dummy seen)
-    pub values : Known M t (λ u h. All (Holds (after_wholes h certificates)) (map (λ s. has_value queue s.node s.value) seen))
+    pub placed : KnowsOf M t cs queue node
+    pub head_noted : IsRecorded M t cs changes (head_is (shape_in t) queue (link dummy))
+    pub nexts_noted : All (IsRecorded M t cs changes) (next_words (shape_in t) dummy seen)
+    pub values : Known M t (λ u h. All (Holds (after_wholes h cs)) (map (λ s. has_value queue s.node s.value) seen))
 
   -- and this node is the last one: its next word, which is 0, is recorded too
   pub record HasLookedToEnd : Type 0 where
     pub looked : HasLooked
-    pub end_noted : IsRecorded M t looked.certificates looked.changes (next_is (shape_in t) node 0)
+    pub end_noted : IsRecorded M t cs looked.changes (next_is (shape_in t) node 0)
 
 -- the look went on to one more node, or ended
-abbrev pub LooksFurther : Meaning → TxnState → (queue dummy node : ℕ) → List Seen → Option Passed → Type 0
-LooksFurther M t queue dummy node seen (Some p) = HasLooked M t queue dummy p.node (seen ++ seen_as p ∷ [])
-LooksFurther M t queue dummy node seen None = HasLookedToEnd M t queue dummy node seen
+abbrev pub LooksFurther : Meaning → TxnState → (queue : ℕ) → List Certificate → (dummy node : ℕ) → List Seen → Option Passed → Type 0
+LooksFurther M t queue cs dummy node seen (Some p) = HasLooked M t queue cs dummy p.node (seen ++ seen_as p ∷ [])
+LooksFurther M t queue cs dummy node seen None = HasLookedToEnd M t queue cs dummy node seen

@@ -2,22 +2,28 @@
 use Rattle.std.specs.Prelude.{◌≡◌, ◌≢◌, ◌≤◌, ◌<◌, ◌+◌, ℕ, true, List, [], ◌∷◌, ◌++◌, ◌⊎◌, map, Contains, Option, Some, None, Result, Err, length}
 use Rattle.md_history.specs.declared.acts.Op.{Op}
 use Rattle.md_history.specs.declared.acts.Reply.{Reply}
+use Rattle.md_history.specs.declared.stops.Limit.{Limit}
 use Rattle.md_history.specs.declared.stops.Limit.TheVariants.{Nodes}
 use Rattle.md_history.specs.declared.stops.Stop.{Stop}
 use Rattle.md_history.specs.declared.stops.Stop.TheVariants.{Limit as Limited}
 use Rattle.md_machine.specs.declared.attempt.Read.{Read}
+use Rattle.md_machine.specs.declared.certificate.Certificate.{Certificate}
 use Rattle.md_machine.specs.declared.certificate.Change.{Change}
+use Rattle.md_machine.specs.Certified.{all_changes}
 use Rattle.md_machine.specs.Meaning.{Meaning}
+use Rattle.md_rule.specs.Steps.{IsOf as IsOfAct}
+use Rattle.md_nbtc.specs.declared.seen.Cleanup.{Cleanup}
 use Rattle.md_nbtc.specs.declared.seen.Cleanup.TheVariants.{MoveTail}
 use Rattle.md_nbtc.specs.declared.seen.Seen.{Seen}
 use Rattle.md_nbtc.specs.declared.sets.Slot.{Slot}
-use Rattle.md_nbtc.specs.Calls.{MayAnswer}
-use Rattle.md_nbtc.specs.Going.{IsUnderWay}
-use Rattle.md_nbtc.specs.Known.{IsLater}
+use Rattle.md_nbtc.specs.Calls.{GoesOn}
+use Rattle.md_nbtc.specs.Course.{MayEnd}
+use Rattle.md_nbtc.specs.Going.{IsGoing, IsUnderWay}
 use Rattle.md_nbtc.specs.Seeing.{Gave}
 use Rattle.md_nbtc.specs.State.{OwnNode, TxnState, shape_in}
 use Rattle.md_queue_law.specs.QueueCertificates.{CertifiesOp, head_change}
 use Rattle.md_queue_law.specs.QueueShape.{link}
+use Rattle.md_queue.specs.Charged.{AreCharged}
 use Rattle.md_queue.specs.Words.{next_at, tail_at}
 
 -- an operation was begun, and nothing was done since; the queue is one of the field
@@ -28,11 +34,20 @@ pub record IsBegun (M : Meaning) (t : TxnState) (queue : ℕ) : Type 0 where
   pub changes : t.hand.changes ≡ []
   pub stored : t.hand.stored ≡ []
 
--- what is left of the transaction: it is under way and later, in the same operation, and at most so many words are
--- recorded more, and written more, and so many nodes taken
+-- a slot stays in the transaction with its word, its old content and the cleanup that it keeps, if any
+pub record StaysIn (u : TxnState) (s : Slot) : Type 0 where
+  pub now : Slot
+  pub among : Contains u.slots now
+  pub place : now.write.slot ≡ s.write.slot
+  pub word : now.write.word ≡ s.write.word
+  pub old : now.write.old ≡ s.write.old
+  pub cleanup : (c : Cleanup) → s.cleanup ≡ Some c → now.cleanup ≡ Some c
+
+-- what is left of the transaction: it goes on with the same certificates, in the same operation, and its slots stay. At
+-- most so many words are recorded more, and written more, and so many nodes taken
 pub record Leaves (M : Meaning) (t u : TxnState) (reads writes nodes : ℕ) : Type 0 where
-  pub going : IsUnderWay M u
-  pub later : IsLater t u
+  pub on : GoesOn M t u
+  pub stay : (s : Slot) → Contains t.slots s → StaysIn u s
   pub acts : u.hand.acts ≡ t.hand.acts
   pub operates : u.hand.operating ≡ true
   pub reads_few : length u.reads ≤ length t.reads + reads
@@ -53,22 +68,37 @@ pub record Refused (M : Meaning) (t u : TxnState) (reads writes nodes : ℕ) (s 
   pub leaves : Leaves M t u reads writes nodes
   pub kept : u.stop ≡ Some s
 
--- not for want of nodes, unless it was stopped so before
+-- not by a limit, unless it was stopped so before
+abbrev pub IsNotBy : TxnState → Limit → Stop → Type 0
+IsNotBy t limit s = s ≡ Limited limit → t.stop ≡ Some s
+
+-- it was refused, but not for want of nodes
 pub record RefusedOtherwise (M : Meaning) (t u : TxnState) (reads writes : ℕ) (s : Stop) : Type 0 where
   pub refused : Refused M t u reads writes 0 s
-  pub no_nodes : s ≡ Limited Nodes → t.stop ≡ Some s
+  pub no_nodes : IsNotBy t Nodes s
 
 -- each word that is recorded more is one of these
 abbrev pub RecordsAmong : (t u : TxnState) → (words : List ℕ) → Type 0
 RecordsAmong t u words = (r : Read) → Contains u.reads r → Contains t.reads r ⊎ Contains words r.word
 
--- an operation went on so, and may be ended with the reply, by a certificate of its row in the table of queues. Each word
--- that is recorded more is one that this certificate records
+-- the words that a certificate records
+abbrev pub words_recorded : Certificate → List ℕ
+words_recorded c = map (λ r. r.word) c.recorded
+
+-- an operation may be ended with the reply, after ended operations with these certificates: by a certificate of its row in
+-- the table of queues, whose moves of the tail are charged. Each word that is recorded more is one that it records
+pub record IsAnswered (M : Meaning) (t u : TxnState) (cs : List Certificate) (op : Op) (reply : Reply) : Type 0 where
+  pub certificate : Certificate
+  pub of : IsOfAct op reply certificate
+  pub may : MayEnd M u cs certificate
+  pub row : CertifiesOp (shape_in u) op certificate
+  pub recorded : RecordsAmong t u (words_recorded certificate)
+  pub charged : AreCharged u (all_changes cs) certificate.tidy
+
+-- an operation went on so, and may be ended so, whatever the certificates of the ended operations are
 pub record Answered (M : Meaning) (t u : TxnState) (op : Op) (reply : Reply) (reads writes nodes : ℕ) : Type 0 where
   pub goes : GoesBy M t u reads writes nodes
-  pub may : MayAnswer M u op reply
-  pub row : CertifiesOp (shape_in u) op may.certificate
-  pub recorded : RecordsAmong t u (map (λ r. r.word) may.certificate.recorded)
+  pub by : (cs : List Certificate) → IsGoing M t cs → IsAnswered M t u cs op reply
 
 -- how many words a dequeue records more, and writes more, by what it answers
 abbrev pub dequeue_reads : Option ℕ → ℕ

@@ -5,7 +5,7 @@ use Rattle.md_words.specs.Link.{linked_node}
 use Rattle.md_machine.specs.declared.certificate.Certificate.{Certificate}
 use Rattle.md_machine.specs.declared.certificate.TidyChange.{TidyChange}
 use Rattle.md_machine.specs.declared.certificate.WordValue.{WordValue}
-use Rattle.md_machine.specs.Certified.{after_wholes, first_content}
+use Rattle.md_machine.specs.Certified.{after_wholes, all_changes, first_content}
 use Rattle.md_machine.specs.Meaning.{Meaning}
 use Rattle.md_machine.specs.events.Exchange.{FoundNext}
 use Rattle.md_nbtc.specs.declared.seen.Seen.{Seen}
@@ -16,6 +16,7 @@ use Rattle.md_nbtc.specs.State.{OwnNode, TxnState, shape_in, writes_in}
 use Rattle.md_nbtc.specs.Tidied.{HasTidied, tidied}
 use Rattle.md_queue_law.specs.QueueCertificates.{head_is, next_is}
 use Rattle.md_queue_law.specs.QueueShape.{IsOf, link}
+use Rattle.md_queue.specs.Charged.{AreCharged}
 use Rattle.md_queue.specs.Words.{head_at, next_at, tail_at}
 
 module _ (M : Meaning) (t : TxnState) where
@@ -24,12 +25,14 @@ module _ (M : Meaning) (t : TxnState) where
     pub gave : Gave t word seen
     pub there : IsFoundThere M t word seen
 
-  -- the operation that was begun has made tidy changes alone, after ended operations with these certificates
+  -- the operation that was begun has made tidy changes alone, which are charged, after ended operations with these
+  -- certificates
   pub record IsWorking (queue : ℕ) (cs : List Certificate) (ts : List TidyChange) : Type 0 where
     pub operates : t.hand.operating ≡ true
     pub within : queue < (shape_in t).queues
     pub going : IsGoing M t cs
     pub tidied : HasTidied M t cs ts
+    pub charged : AreCharged t (all_changes cs) ts
 
 module _ (M : Meaning) (t : TxnState) (cs : List Certificate) (queue : ℕ) where
   -- after the ended operations the node is one of the queue
@@ -59,38 +62,35 @@ pub record IsRecorded (M : Meaning) (t : TxnState) (cs : List Certificate) (ts :
 abbrev pub first_words : TxnState → (queue : ℕ) → (head : Seen) → List ℕ
 first_words t queue head = head_at t queue ∷ next_at t (linked_node head.value) ∷ []
 
-module _ (M : Meaning) (t : TxnState) (queue : ℕ) (head next : Seen) where
+module _ (M : Meaning) (t : TxnState) (queue : ℕ) (cs : List Certificate) (head next : Seen) where
   -- what was seen in the head, and in the next word of its node
   pub record SeesFirst : Type 0 where
-    pub certificates : List Certificate
     pub changes : List TidyChange
-    pub working : IsWorking M t queue certificates changes
+    pub working : IsWorking M t queue cs changes
     pub head_sees : SeesAt M t (head_at t queue) head
-    pub next_sees : SeesNext M t certificates queue (linked_node head.value) next
+    pub next_sees : SeesNext M t cs queue (linked_node head.value) next
 
   -- both were recorded, or written
   pub record NotedFirst : Type 0 where
-    pub certificates : List Certificate
     pub changes : List TidyChange
-    pub working : IsWorking M t queue certificates changes
-    pub head_named : NamesNode M t certificates queue head.value
-    pub head_noted : IsRecorded M t certificates changes (head_is (shape_in t) queue head.value)
-    pub next_noted : IsRecorded M t certificates changes (next_is (shape_in t) (linked_node head.value) next.value)
-    pub next_named : next.value ≢ 0 → NamesNode M t certificates queue next.value
+    pub working : IsWorking M t queue cs changes
+    pub head_named : NamesNode M t cs queue head.value
+    pub head_noted : IsRecorded M t cs changes (head_is (shape_in t) queue head.value)
+    pub next_noted : IsRecorded M t cs changes (next_is (shape_in t) (linked_node head.value) next.value)
+    pub next_named : next.value ≢ 0 → NamesNode M t cs queue next.value
 
-module _ (M : Meaning) (t : TxnState) (queue : ℕ) (tail : Seen) where
+module _ (M : Meaning) (t : TxnState) (queue : ℕ) (cs : List Certificate) (tail : Seen) where
   -- what was seen in the tail, whose node has at least this rank
   pub record SeesTail (least : ℕ) : Type 0 where
-    pub certificates : List Certificate
     pub changes : List TidyChange
-    pub working : IsWorking M t queue certificates changes
+    pub working : IsWorking M t queue cs changes
     pub tail_sees : SeesAt M t (tail_at t queue) tail
-    pub rank : Known M t (λ u h. least ≤ (after_wholes h certificates).words.key_of (linked_node tail.value))
+    pub rank : Known M t (λ u h. least ≤ (after_wholes h cs).words.key_of (linked_node tail.value))
 
   -- and what was seen in the next word of its node
   pub record SeesEnd (next : Seen) (least : ℕ) : Type 0 where
     pub sees_tail : SeesTail least
-    pub next_sees : SeesNext M t sees_tail.certificates queue (linked_node tail.value) next
+    pub next_sees : SeesNext M t cs queue (linked_node tail.value) next
 
 -- a word that was seen as an own one counts once, and what is left of one word
 abbrev pub own_count : Seen → ℕ

@@ -1,12 +1,19 @@
 //! The first value of a queue.
 
-ghost use Rattle.std.specs.Prelude.{◌≡◌, ◌≢◌, IfOk, IfErr, IfSome, Some};
+ghost use Rattle.std.specs.Prelude.{◌≡◌, ◌≢◌, IfOk, IfErr, IfSome, List, Some};
 ghost use Rattle.md_history.specs.declared.acts.Op.TheVariants.{Dequeue, Front};
 ghost use Rattle.md_history.specs.declared.acts.Reply.TheVariants.{Value};
+ghost use Rattle.md_history.specs.declared.stops.Limit.{Limit};
+ghost use Rattle.md_history.specs.declared.stops.Limit.TheVariants.{Reads, Writes};
+ghost use Rattle.md_machine.specs.declared.certificate.Certificate.{Certificate};
+ghost use Rattle.md_nbtc.specs.Going.{IsGoing};
 ghost use Rattle.md_nbtc.specs.State.{state};
-ghost use Rattle.md_queue.specs.Operations.{Answered, GoesBy, IsBegun, RefusedOtherwise};
+ghost use Rattle.md_queue.specs.Operations.{Answered, GoesBy, IsAnswered, IsBegun, IsNotBy};
+ghost use Rattle.md_queue.specs.Operations.{RefusedOtherwise};
 ghost use Rattle.md_queue.specs.Operations.{LeavesDummy, RecordsAmong, StaysStopped, TailDiffers};
 ghost use Rattle.md_queue.specs.Operations.{dequeue_reads, dequeue_writes};
+ghost use Rattle.md_queue.specs.Refusals.{AsksFront, ChangeRefused, IfBy, MoveRefused};
+ghost use Rattle.md_queue.specs.Refusals.{ReadRefused, RefusesReads, RefusesWrites};
 ghost use Rattle.md_queue.specs.Working.{NotedFirst, SeesFirst, first_words};
 
 use crate::words::{load_next, move_tail, note_next, value_of};
@@ -25,9 +32,11 @@ fn load_first<'a, T: HasQueues>(tx: &mut Txn<'a, T>, queue: u32) -> Result<First
     requires begun { IsBegun T.meaning (state tx.old) queue }
     ensures pass { tx.new.pass.ghost_name ≡ tx.old.pass.ghost_name }
     ensures goes { IfOk result (λ first. GoesBy T.meaning (state tx.old) (state tx.new) 0 0 0) }
-    ensures sees { IfOk result (λ first. SeesFirst T.meaning (state tx.new) queue first.head
-        first.next) }
+    ensures sees { IfOk result (λ first. (cs : List Certificate)
+        → IsGoing T.meaning (state tx.old) cs
+        → SeesFirst T.meaning (state tx.new) queue cs first.head first.next) }
     ensures stop { IfErr result (RefusedOtherwise T.meaning (state tx.old) (state tx.new) 0 0) }
+    ensures limits { IfErr result (λ s. (limit : Limit) → IsNotBy (state tx.old) limit s) }
     ensures stopped { StaysStopped (state tx.old) (state tx.new) result }
 {
     let head_word = tx.shape().queue_head(queue);
@@ -38,14 +47,20 @@ fn load_first<'a, T: HasQueues>(tx: &mut Txn<'a, T>, queue: u32) -> Result<First
 
 // Records both.
 fn note_first<'a, T: HasQueues>(tx: &mut Txn<'a, T>, queue: u32, first: First) -> Result<(), Stop>
-    requires sees { SeesFirst T.meaning (state tx.old) queue first.head first.next }
+    requires sees { (cs : List Certificate)
+        × SeesFirst T.meaning (state tx.old) queue cs first.head first.next }
     ensures pass { tx.new.pass.ghost_name ≡ tx.old.pass.ghost_name }
     ensures goes { IfOk result (λ done. GoesBy T.meaning (state tx.old) (state tx.new) 2 0 0) }
     ensures among { IfOk result (λ done. RecordsAmong (state tx.old) (state tx.new)
         (first_words (state tx.old) queue first.head)) }
-    ensures noted { IfOk result (λ done. NotedFirst T.meaning (state tx.new) queue first.head
-        first.next) }
+    ensures noted { IfOk result (λ done. (cs : List Certificate)
+        → SeesFirst T.meaning (state tx.old) queue cs first.head first.next
+        → NotedFirst T.meaning (state tx.new) queue cs first.head first.next) }
     ensures stop { IfErr result (RefusedOtherwise T.meaning (state tx.old) (state tx.new) 2 0) }
+    ensures reads { IfErr result (λ s. IfBy Reads (state tx.old) s ((cs : List Certificate)
+        → SeesFirst T.meaning (state tx.old) queue cs first.head first.next
+        → ReadRefused T.meaning (state tx.old) (state tx.new) cs (AsksFront queue))) }
+    ensures no_writes { IfErr result (IsNotBy (state tx.old) Writes) }
 {
     let head_word = tx.shape().queue_head(queue);
     tx.note(head_word, first.head)?;
@@ -60,8 +75,8 @@ fn note_first<'a, T: HasQueues>(tx: &mut Txn<'a, T>, queue: u32, first: First) -
 ///
 /// At most two more words are recorded: the head, and the next word of its node. No word is written
 /// and no node is taken. `Err` is the refusal of the first call that was refused: a load, or a note.
-/// The transaction keeps it, and it is no want of nodes. After a stop the answer is the same stop
-/// and nothing is done.
+/// The transaction keeps it, and it is never `Limit(Nodes)` or `Limit(Writes)`. After a stop the
+/// answer is the same stop and nothing is done.
 ///
 /// Seven steps: two loads, two notes of two steps, and the value; six if the queue is empty. A load
 /// costs more where another's descriptor stands (`Txn::load`). It takes no memory.
@@ -73,6 +88,9 @@ pub fn front<'a, T: HasQueues>(tx: &mut Txn<'a, T>, queue: u32) -> Result<Option
     ensures answer { IfOk result (λ value. Answered T.meaning (state tx.old) (state tx.new)
         (Front queue) (Value value) 2 0 0) }
     ensures stop { IfErr result (RefusedOtherwise T.meaning (state tx.old) (state tx.new) 2 0) }
+    ensures reads { IfErr result (RefusesReads T.meaning (state tx.old) (state tx.new)
+        (AsksFront queue)) }
+    ensures no_writes { IfErr result (IsNotBy (state tx.old) Writes) }
     ensures stopped { StaysStopped (state tx.old) (state tx.new) result }
 {
     let first = load_first(tx, queue)?;
@@ -85,14 +103,20 @@ pub fn front<'a, T: HasQueues>(tx: &mut Txn<'a, T>, queue: u32) -> Result<Option
 
 // Moves the tail from the head's node to the next one, if it is still there.
 fn follow_tail<'a, T: HasQueues>(tx: &mut Txn<'a, T>, queue: u32, first: First) -> Result<(), Stop>
-    requires sees { SeesFirst T.meaning (state tx.old) queue first.head first.next }
+    requires sees { (cs : List Certificate)
+        × SeesFirst T.meaning (state tx.old) queue cs first.head first.next }
     requires some { first.next.value ≢ 0 }
     ensures pass { tx.new.pass.ghost_name ≡ tx.old.pass.ghost_name }
     ensures goes { IfOk result (λ done. GoesBy T.meaning (state tx.old) (state tx.new) 0 1 0) }
-    ensures sees { IfOk result (λ done. SeesFirst T.meaning (state tx.new) queue first.head
-        first.next) }
+    ensures sees { IfOk result (λ done. (cs : List Certificate)
+        → SeesFirst T.meaning (state tx.old) queue cs first.head first.next
+        → SeesFirst T.meaning (state tx.new) queue cs first.head first.next) }
     ensures apart { IfOk result (λ done. TailDiffers (state tx.new) queue first.head.value) }
     ensures stop { IfErr result (RefusedOtherwise T.meaning (state tx.old) (state tx.new) 0 1) }
+    ensures writes { IfErr result (λ s. IfBy Writes (state tx.old) s ((cs : List Certificate)
+        → SeesFirst T.meaning (state tx.old) queue cs first.head first.next
+        → MoveRefused T.meaning (state tx.old) (state tx.new) cs queue)) }
+    ensures no_reads { IfErr result (IsNotBy (state tx.old) Reads) }
 {
     let tail_word = tx.shape().queue_tail(queue);
     let tail = tx.load(tail_word)?;
@@ -104,14 +128,24 @@ fn follow_tail<'a, T: HasQueues>(tx: &mut Txn<'a, T>, queue: u32, first: First) 
 
 // Moves the head to the next node, and returns its value.
 fn take_first<'a, T: HasQueues>(tx: &mut Txn<'a, T>, queue: u32, first: First) -> Result<u64, Stop>
-    requires sees { SeesFirst T.meaning (state tx.old) queue first.head first.next }
+    requires sees { (cs : List Certificate)
+        × SeesFirst T.meaning (state tx.old) queue cs first.head first.next }
     requires some { first.next.value ≢ 0 }
     requires apart { TailDiffers (state tx.old) queue first.head.value }
     ensures pass { tx.new.pass.ghost_name ≡ tx.old.pass.ghost_name }
-    ensures answer { IfOk result (λ value. Answered T.meaning (state tx.old) (state tx.new)
-        (Dequeue queue) (Value (Some value)) 1 1 0) }
+    ensures goes { IfOk result (λ value. GoesBy T.meaning (state tx.old) (state tx.new) 1 1 0) }
+    ensures answer { IfOk result (λ value. (cs : List Certificate)
+        → SeesFirst T.meaning (state tx.old) queue cs first.head first.next
+        → IsAnswered T.meaning (state tx.old) (state tx.new) cs (Dequeue queue)
+        (Value (Some value))) }
     ensures tail { IfOk result (λ value. LeavesDummy (state tx.new) queue) }
     ensures stop { IfErr result (RefusedOtherwise T.meaning (state tx.old) (state tx.new) 1 1) }
+    ensures reads { IfErr result (λ s. IfBy Reads (state tx.old) s ((cs : List Certificate)
+        → SeesFirst T.meaning (state tx.old) queue cs first.head first.next
+        → ReadRefused T.meaning (state tx.old) (state tx.new) cs (AsksFront queue))) }
+    ensures writes { IfErr result (λ s. IfBy Writes (state tx.old) s ((cs : List Certificate)
+        → SeesFirst T.meaning (state tx.old) queue cs first.head first.next
+        → ChangeRefused T.meaning (state tx.old) (state tx.new) cs (Dequeue queue))) }
 {
     note_next(tx, first.head.value / 2, first.next)?;
     let value = value_of(tx, first.next.value / 2);
@@ -148,6 +182,10 @@ pub fn dequeue<'a, T: HasQueues>(tx: &mut Txn<'a, T>, queue: u32) -> Result<Opti
         (Dequeue queue) (Value value) (dequeue_reads value) (dequeue_writes value) 0) }
     ensures tail { IfOk result (λ value. IfSome value (λ v. LeavesDummy (state tx.new) queue)) }
     ensures stop { IfErr result (RefusedOtherwise T.meaning (state tx.old) (state tx.new) 2 2) }
+    ensures reads { IfErr result (RefusesReads T.meaning (state tx.old) (state tx.new)
+        (AsksFront queue)) }
+    ensures writes { IfErr result (RefusesWrites T.meaning (state tx.old) (state tx.new) queue
+        (Dequeue queue)) }
     ensures stopped { StaysStopped (state tx.old) (state tx.new) result }
 {
     let first = load_first(tx, queue)?;

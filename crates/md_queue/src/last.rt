@@ -1,11 +1,16 @@
 //! The last node of a queue, and a new one behind it.
 
-ghost use Rattle.std.specs.Prelude.{◌≡◌, ◌≢◌, ◌≤◌, ◌+◌, ℕ, IfOk, IfErr, Some, length};
+ghost use Rattle.std.specs.Prelude.{◌≡◌, ◌≢◌, ◌≤◌, ◌+◌, ℕ, IfOk, IfErr, List, Some, length};
 ghost use Rattle.md_history.specs.declared.acts.Op.TheVariants.{Enqueue};
 ghost use Rattle.md_history.specs.declared.acts.Reply.TheVariants.{Nothing};
+ghost use Rattle.md_history.specs.declared.stops.Limit.{Limit};
+ghost use Rattle.md_history.specs.declared.stops.Limit.TheVariants.{Reads, Writes};
+ghost use Rattle.md_machine.specs.declared.certificate.Certificate.{Certificate};
+ghost use Rattle.md_nbtc.specs.Going.{IsGoing};
 ghost use Rattle.md_nbtc.specs.State.{state};
-ghost use Rattle.md_queue.specs.Operations.{Answered, GoesBy, IsBegun, PutsLast, Refused};
-ghost use Rattle.md_queue.specs.Operations.{RefusedOtherwise, StaysStopped};
+ghost use Rattle.md_queue.specs.Operations.{Answered, GoesBy, IsBegun, IsNotBy, PutsLast};
+ghost use Rattle.md_queue.specs.Operations.{Refused, RefusedOtherwise, StaysStopped};
+ghost use Rattle.md_queue.specs.Refusals.{IfBy, MoveRefused, RefusesWrites, TakesNone};
 ghost use Rattle.md_queue.specs.Working.{SeesEnd, other_count, own_count};
 
 use crate::words::{load_next, move_tail, rank_of};
@@ -24,8 +29,10 @@ fn load_end<'a, T: HasQueues>(tx: &mut Txn<'a, T>, queue: u32) -> Result<End, St
     requires begun { IsBegun T.meaning (state tx.old) queue }
     ensures pass { tx.new.pass.ghost_name ≡ tx.old.pass.ghost_name }
     ensures goes { IfOk result (λ end. GoesBy T.meaning (state tx.old) (state tx.new) 0 0 0) }
-    ensures sees { IfOk result (λ end. SeesEnd T.meaning (state tx.new) queue end.tail end.next 0) }
+    ensures sees { IfOk result (λ end. (cs : List Certificate) → IsGoing T.meaning (state tx.old) cs
+        → SeesEnd T.meaning (state tx.new) queue cs end.tail end.next 0) }
     ensures stop { IfErr result (RefusedOtherwise T.meaning (state tx.old) (state tx.new) 0 0) }
+    ensures limits { IfErr result (λ s. (limit : Limit) → IsNotBy (state tx.old) limit s) }
     ensures stopped { StaysStopped (state tx.old) (state tx.new) result }
 {
     let tail_word = tx.shape().queue_tail(queue);
@@ -36,18 +43,23 @@ fn load_end<'a, T: HasQueues>(tx: &mut Txn<'a, T>, queue: u32) -> Result<End, St
 
 // Moves the tail to the next node.
 fn follow<'a, T: HasQueues>(tx: &mut Txn<'a, T>, queue: u32, end: End) -> Result<End, Stop>
-    requires sees { (least : ℕ) × SeesEnd T.meaning (state tx.old) queue end.tail end.next least }
+    requires sees { (cs : List Certificate) × (least : ℕ)
+        × SeesEnd T.meaning (state tx.old) queue cs end.tail end.next least }
     requires some { end.next.value ≢ 0 }
     ensures pass { tx.new.pass.ghost_name ≡ tx.old.pass.ghost_name }
     ensures goes { IfOk result (λ after. GoesBy T.meaning (state tx.old) (state tx.new) 0
         (other_count end.tail) 0) }
     ensures counts { IfOk result (λ after. length (state tx.new).slots + own_count end.tail
         ≤ length (state tx.old).slots + own_count after.tail) }
-    ensures sees { IfOk result (λ after. (least : ℕ)
-        → SeesEnd T.meaning (state tx.old) queue end.tail end.next least
-        → SeesEnd T.meaning (state tx.new) queue after.tail after.next (least + 1)) }
+    ensures sees { IfOk result (λ after. (cs : List Certificate) (least : ℕ)
+        → SeesEnd T.meaning (state tx.old) queue cs end.tail end.next least
+        → SeesEnd T.meaning (state tx.new) queue cs after.tail after.next (least + 1)) }
     ensures stop { IfErr result (RefusedOtherwise T.meaning (state tx.old) (state tx.new) 0
         (other_count end.tail)) }
+    ensures writes { IfErr result (λ s. IfBy Writes (state tx.old) s ((cs : List Certificate)
+        (least : ℕ) → SeesEnd T.meaning (state tx.old) queue cs end.tail end.next least
+        → MoveRefused T.meaning (state tx.old) (state tx.new) cs queue)) }
+    ensures no_reads { IfErr result (IsNotBy (state tx.old) Reads) }
 {
     let tail = move_tail(tx, queue, end.tail, end.next)?;
     let next = load_next(tx, tail.value / 2)?;
@@ -59,10 +71,15 @@ fn find_last<'a, T: HasQueues>(tx: &mut Txn<'a, T>, queue: u32) -> Result<End, S
     requires begun { IsBegun T.meaning (state tx.old) queue }
     ensures pass { tx.new.pass.ghost_name ≡ tx.old.pass.ghost_name }
     ensures goes { IfOk result (λ end. GoesBy T.meaning (state tx.old) (state tx.new) 0 1 0) }
-    ensures sees { IfOk result (λ end. (least : ℕ)
-        × SeesEnd T.meaning (state tx.new) queue end.tail end.next least) }
+    ensures sees { IfOk result (λ end. (least : ℕ) × ((cs : List Certificate)
+        → IsGoing T.meaning (state tx.old) cs
+        → SeesEnd T.meaning (state tx.new) queue cs end.tail end.next least)) }
     ensures last { IfOk result (λ end. end.next.value ≡ 0) }
     ensures stop { IfErr result (RefusedOtherwise T.meaning (state tx.old) (state tx.new) 0 1) }
+    ensures writes { IfErr result (λ s. IfBy Writes (state tx.old) s ((cs : List Certificate)
+        → IsGoing T.meaning (state tx.old) cs
+        → MoveRefused T.meaning (state tx.old) (state tx.new) cs queue)) }
+    ensures no_reads { IfErr result (IsNotBy (state tx.old) Reads) }
     ensures stopped { StaysStopped (state tx.old) (state tx.new) result }
 {
     let mut end = load_end(tx, queue)?;
@@ -118,6 +135,10 @@ pub fn enqueue<'a, T: HasQueues>(tx: &mut Txn<'a, T>, queue: u32, value: u64) ->
         (Enqueue queue value) Nothing 0 2 1) }
     ensures puts { IfOk result (λ done. PutsLast (state tx.old) (state tx.new) queue value) }
     ensures stop { IfErr result (Refused T.meaning (state tx.old) (state tx.new) 0 2 1) }
+    ensures writes { IfErr result (RefusesWrites T.meaning (state tx.old) (state tx.new) queue
+        (Enqueue queue value)) }
+    ensures no_node { IfErr result (TakesNone (state tx.old) (state tx.new)) }
+    ensures no_reads { IfErr result (IsNotBy (state tx.old) Reads) }
     ensures stopped { StaysStopped (state tx.old) (state tx.new) result }
 {
     let end = find_last(tx, queue)?;

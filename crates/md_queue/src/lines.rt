@@ -3,12 +3,16 @@
 ghost use Rattle.std.specs.Prelude.{◌≡◌, ◌+◌, [], ◌∷◌, ℕ, List, IfOk, IfErr};
 ghost use Rattle.md_history.specs.declared.acts.Op.TheVariants.{Line as LineOf};
 ghost use Rattle.md_history.specs.declared.acts.Reply.TheVariants.{Line as TheLine};
+ghost use Rattle.md_history.specs.declared.stops.Limit.TheVariants.{Writes};
 ghost use Rattle.md_history.specs.Calls.{IsLineLength};
+ghost use Rattle.md_machine.specs.declared.certificate.Certificate.{Certificate};
+ghost use Rattle.md_nbtc.specs.Going.{IsGoing};
 ghost use Rattle.md_nbtc.specs.State.{state};
 ghost use Rattle.md_queue_law.specs.QueueCertificates.{Seen};
 ghost use Rattle.md_queue.specs.Along.{HasLooked, LooksFurther};
-ghost use Rattle.md_queue.specs.Operations.{Answered, GoesBy, IsBegun, RefusedOtherwise};
-ghost use Rattle.md_queue.specs.Operations.{RecordsAmong, StaysStopped};
+ghost use Rattle.md_queue.specs.Operations.{Answered, GoesBy, IsBegun, IsNotBy};
+ghost use Rattle.md_queue.specs.Operations.{RecordsAmong, RefusedOtherwise, StaysStopped};
+ghost use Rattle.md_queue.specs.Refusals.{AsksLine, RefusesNext, RefusesReads};
 ghost use Rattle.md_queue.specs.Words.{head_at, next_at};
 
 use crate::words::{load_next, note_next, value_of};
@@ -30,8 +34,13 @@ fn pass_head<'a, T: HasQueues>(tx: &mut Txn<'a, T>, queue: u32) -> Result<u32, S
     ensures goes { IfOk result (λ node. GoesBy T.meaning (state tx.old) (state tx.new) 1 0 0) }
     ensures among { IfOk result (λ node. RecordsAmong (state tx.old) (state tx.new)
         (head_at (state tx.old) queue ∷ [])) }
-    ensures looked { IfOk result (λ node. HasLooked T.meaning (state tx.new) queue node node []) }
+    ensures looked { IfOk result (λ node. (cs : List Certificate)
+        → IsGoing T.meaning (state tx.old) cs
+        → HasLooked T.meaning (state tx.new) queue cs node node []) }
     ensures stop { IfErr result (RefusedOtherwise T.meaning (state tx.old) (state tx.new) 1 0) }
+    ensures reads { IfErr result (RefusesReads T.meaning (state tx.old) (state tx.new)
+        (AsksLine queue 1)) }
+    ensures no_writes { IfErr result (IsNotBy (state tx.old) Writes) }
     ensures stopped { StaysStopped (state tx.old) (state tx.new) result }
 {
     let head_word = tx.shape().queue_head(queue);
@@ -42,16 +51,18 @@ fn pass_head<'a, T: HasQueues>(tx: &mut Txn<'a, T>, queue: u32) -> Result<u32, S
 
 // Looks at the next word of a node, and records it. The node that it names with its value, if any.
 fn pass_next<'a, T: HasQueues>(tx: &mut Txn<'a, T>, node: u32) -> Result<Option<Passed>, Stop>
-    requires looked { (queue : ℕ) × (dummy : ℕ) × (seen : List Seen)
-        × HasLooked T.meaning (state tx.old) queue dummy node seen }
+    requires looked { (queue : ℕ) × (cs : List Certificate) × (dummy : ℕ) × (seen : List Seen)
+        × HasLooked T.meaning (state tx.old) queue cs dummy node seen }
     ensures pass { tx.new.pass.ghost_name ≡ tx.old.pass.ghost_name }
     ensures goes { IfOk result (λ passed. GoesBy T.meaning (state tx.old) (state tx.new) 1 0 0) }
     ensures among { IfOk result (λ passed. RecordsAmong (state tx.old) (state tx.new)
         (next_at (state tx.old) node ∷ [])) }
-    ensures further { IfOk result (λ passed. (queue dummy : ℕ) (seen : List Seen)
-        → HasLooked T.meaning (state tx.old) queue dummy node seen
-        → LooksFurther T.meaning (state tx.new) queue dummy node seen passed) }
+    ensures further { IfOk result (λ passed. (queue : ℕ) (cs : List Certificate) (dummy : ℕ)
+        (seen : List Seen) → HasLooked T.meaning (state tx.old) queue cs dummy node seen
+        → LooksFurther T.meaning (state tx.new) queue cs dummy node seen passed) }
     ensures stop { IfErr result (RefusedOtherwise T.meaning (state tx.old) (state tx.new) 1 0) }
+    ensures reads { IfErr result (RefusesNext T.meaning (state tx.old) (state tx.new) node) }
+    ensures no_writes { IfErr result (IsNotBy (state tx.old) Writes) }
 {
     let next = load_next(tx, node)?;
     note_next(tx, node, next)?;
@@ -69,8 +80,8 @@ fn pass_next<'a, T: HasQueues>(tx: &mut Txn<'a, T>, node: u32) -> Result<Option<
 ///
 /// At most `n + 1` more words are recorded: the head, and the next words of the nodes on the way,
 /// the last of which is 0 if there are fewer values. No word is written and no node is taken. `Err`
-/// is the refusal of the first call that was refused; the transaction keeps it, and it is no want
-/// of nodes. After a stop the answer is the same stop and nothing is done.
+/// is the refusal of the first call that was refused; the transaction keeps it, and it is never
+/// `Limit(Nodes)` or `Limit(Writes)`. After a stop the answer is the same stop and nothing is done.
 ///
 /// Three steps for the head, a load and a note of two; four for each value, a load, a note of two
 /// and the value; and three for a next word that is 0. A load costs more where another's descriptor
@@ -85,6 +96,9 @@ pub fn line<'a, T: HasQueues>(tx: &mut Txn<'a, T>, queue: u32, n: u8) -> Result<
         (LineOf queue n) (TheLine line) (n + 1) 0 0) }
     ensures stop { IfErr result (RefusedOtherwise T.meaning (state tx.old) (state tx.new) (n + 1)
         0) }
+    ensures reads { IfErr result (RefusesReads T.meaning (state tx.old) (state tx.new)
+        (AsksLine queue n)) }
+    ensures no_writes { IfErr result (IsNotBy (state tx.old) Writes) }
     ensures stopped { StaysStopped (state tx.old) (state tx.new) result }
 {
     let mut node = pass_head(tx, queue)?;

@@ -8,6 +8,7 @@ use Rattle.md_machine.specs.Event.{first_pass}
 use Rattle.md_rule.specs.Closing.{plain_words}
 use Rattle.md_rule.specs.Shares.{share_at}
 use Rattle.md_rule.specs.Views.{FieldView, IsOf, Origin, PassState}
+use Rattle.md_store_law.specs.Untouched.{IsUntouched}
 use Rattle.md_store_law.specs.Compacted.{IsCompacted, MayHaveBase, contents_of}
 use Rattle.md_store_law.specs.Field.{logical_words}
 use Rattle.md_store.specs.Ending.{Leaves, Renews}
@@ -45,6 +46,7 @@ module _ (f : FieldView) (before last : PassState) (words : List ℕ) (left : Le
           base = ap (λ (x : Shape). x.base) shape ∙ c.numbers.2 ∙ ap needed left.contents;
           of = is_of;
           fresh = new;
+          untouched = subst (λ (x : Origin). IsUntouched x.shape x.words) (sym field) c.untouched;
           begun = (fresh_is g first is_of new).1;
           numbers = subst (λ (s : State). HaveSameNumbers s (start_of f)) (sym start) left_numbers;
         }

@@ -6,6 +6,7 @@ use Rattle.md_history.specs.State.{HaveSameNumbers, State}
 use Rattle.md_rule.specs.Views.{FieldView, PassState}
 use Rattle.md_store_law.specs.Compacted.{contents_of}
 use Rattle.md_store_law.specs.Field.{IsStoreField}
+use Rattle.md_store_law.specs.Untouched.{IsUntouched}
 use Rattle.md_store.specs.Store.{IsFresh, IsPassOf, all_lanes, begun_by, front_in, limits_of, start_of}
 
 -- the words of a store that holds the replay of the front of its last pass, which settles that of the pass before
@@ -14,8 +15,8 @@ pub record Leaves (f : FieldView) (before : PassState) (words : List ℕ) (last 
   pub store : IsStoreField f.origin.shape words
   pub contents : contents_of f.origin.shape words ≡ replay_of (start_of f) (front_in last)
 
--- a field was renewed: one with this state and a fresh pass takes its place, with the same lanes and limits, and with as
--- many base nodes as the state needs
+-- a field was renewed: one with this state and a fresh pass, in whose words nothing was changed yet, takes its place, with
+-- the same lanes and limits, and with as many base nodes as the state needs
 pub record Renews (f renewed : FieldView) (first : PassState) (s : State) : Type 0 where
   pub start : start_of renewed ≡ s
   pub lanes : all_lanes renewed.origin.shape ≡ all_lanes f.origin.shape
@@ -23,5 +24,6 @@ pub record Renews (f renewed : FieldView) (first : PassState) (s : State) : Type
   pub base : renewed.origin.shape.base ≡ needed s
   pub of : IsPassOf renewed first
   pub fresh : IsFresh first
+  pub untouched : IsUntouched renewed.origin.shape renewed.origin.words
   pub begun : begun_by first ≡ 0
   pub numbers : HaveSameNumbers (start_of renewed) (start_of f)

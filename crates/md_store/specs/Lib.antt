@@ -1,4 +1,5 @@
 pub mod Store
+pub mod Counted
 pub mod Settling
 pub mod Ending
 pub mod Laws

@@ -1,21 +1,33 @@
 -- A transaction of the store under way, as the calls of transactions see it.
-use Rattle.std.specs.Prelude.{◌≡◌, ℕ, false, Option, None, Some, option_map}
+use Rattle.std.specs.Prelude.{◌≡◌, ◌⊎◌, ℕ, false, List, [], ◌∷◌, ◌++◌, Option, None, Some, option_map}
+use Rattle.md_arena.specs.Left.{HasTryLeft, NoLane}
+use Rattle.md_history.specs.declared.stops.Limit.TheVariants.{Tries}
+use Rattle.md_history.specs.declared.stops.Shown.{Shown}
 use Rattle.md_history.specs.declared.stops.Stop.{Stop}
-use Rattle.md_history.specs.Calls.{Refusal}
-use Rattle.md_nbtc.specs.Ending.{Begins}
-use Rattle.md_nbtc.specs.Going.{IsUnderWay}
+use Rattle.md_history.specs.declared.stops.Stop.TheVariants.{Conflict, Limit}
+use Rattle.md_history.specs.declared.acts.Act.{Act}
+use Rattle.md_history.specs.declared.acts.Reply.{Reply}
+use Rattle.md_history.specs.Act.{act_of}
+use Rattle.md_history.specs.Calls.{MayReply, Refusal}
+use Rattle.md_machine.specs.declared.certificate.Certificate.{Certificate}
+use Rattle.md_nbtc.specs.Ended.{WasLost}
+use Rattle.md_nbtc.specs.Ending.{Begins, Stopped}
+use Rattle.md_nbtc.specs.Going.{HasCause, IsUnderWay}
 use Rattle.md_nbtc.specs.Known.{IsLater}
 use Rattle.md_nbtc.specs.State.{TxnState}
 use Rattle.md_rule.specs.Views.{FieldView, PassState}
 use Rattle.md_store.specs.declared.broken.Broken.{Broken}
 use Rattle.md_store_law.specs.Store.{store}
+use Rattle.md_store.specs.Counted.{Exceeds, IsCountLimit, IsCounted}
+use Rattle.md_store.specs.Store.{IsFresh, IsPassOf}
 
 -- why a transaction stopped, and the operation that was refused first
 abbrev pub refusal_of : Option Broken → Option Refusal
 refusal_of broken = option_map (λ b. record { stop = b.stop; op = b.op }) broken
 
--- a transaction that began with this pass goes on since, and keeps the stop of its refusal; while it has none, no operation
--- is begun between two calls
+-- a transaction that began with this pass goes on since, and keeps the stop of its refusal. While it has none, no operation
+-- is begun between two calls, and its certificates are counted. A limit that refused an operation after a fresh pass is
+-- exceeded by the acts with that operation
 pub record IsRunning (before : PassState) (t : TxnState) (refused : Option Refusal) : Type 0 where
   pub start : TxnState
   pub begins : Begins before t.hand.tag start
@@ -23,6 +35,9 @@ pub record IsRunning (before : PassState) (t : TxnState) (refused : Option Refus
   pub going : IsUnderWay store t
   pub stop : t.stop ≡ option_map (λ r. r.stop) refused
   pub between : refused ≡ None → t.hand.operating ≡ false
+  pub counted : refused ≡ None → (cs : List Certificate) × IsCounted t cs
+  pub exceeds : (refusal : Refusal) → refused ≡ Some refusal → IsPassOf t.field before → IsFresh before → IsCountLimit refusal.stop
+      → Exceeds t.field t.hand.acts refusal.op
 
 -- after a call it runs still, on the same field and with the same tag
 pub record RunsOn (before : PassState) (t u : TxnState) (refused : Option Refusal) : Type 0 where
@@ -48,3 +63,31 @@ pub record BrokeWith (before : PassState) (t : TxnState) (why : Stop) : Type 0 w
   pub refusal : Refusal
   pub same : refusal.stop ≡ why
   pub running : IsRunning before t (Some refusal)
+
+-- and whatever the refused operation would have answered, the acts so far and this one are such as a body makes
+pub record BreaksOff (makes : List Act → Type 0) (before : PassState) (t : TxnState) (why : Stop) : Type 0 where
+  pub broke : BrokeWith before t why
+  pub made : (r : Reply) → MayReply broke.refusal.op r → makes (t.hand.acts ++ act_of broke.refusal.op r ∷ [])
+
+-- the body's transaction, begun with this pass on this field, was stopped: one of its calls was refused so, for this cause
+pub record WasRefused (f : FieldView) (before after : PassState) (why : Stop) : Type 0 where
+  pub txn : TxnState
+  pub field : txn.field ≡ f
+  pub broke : BrokeWith before txn why
+  pub cause : HasCause txn why
+  pub stopped : Stopped store txn after
+
+-- or no call was refused, and it didn't commit, with a conflict that shows why
+pub record WasBeaten (f : FieldView) (before after : PassState) (why : Stop) : Type 0 where
+  pub txn : TxnState
+  pub field : txn.field ≡ f
+  pub running : IsRunning before txn None
+  pub shown : Shown
+  pub same : why ≡ Conflict shown
+  pub lost : WasLost store txn after shown
+
+-- why an attempt stops: no lane of the pass has an attempt left; or a call of the body was refused; or the transaction
+-- didn't commit
+abbrev pub StopsBy : FieldView → (before after : PassState) → Stop → Type 0
+StopsBy f before after why = ((why ≡ Limit Tries) × NoLane before (HasTryLeft before))
+    ⊎ (WasRefused f before after why ⊎ WasBeaten f before after why)

@@ -1,9 +1,10 @@
 -- What contracts see of a store and of its passes, in the words of engines.
-use Rattle.std.specs.Prelude.{◌≡◌, ◌-◌, ◌/◌, ℕ, false, List, min}
+use Rattle.std.specs.Prelude.{◌≡◌, ◌≢◌, ◌-◌, ◌/◌, ℕ, false, List, min}
 use Rattle.std.specs.List.{range_with_len, sum_by}
 use Rattle.md_words.specs.declared.limits.TheConstants.{MAX_BASE, MAX_WORDS, SET}
 use Rattle.md_words.specs.declared.shape.Shape.{Shape}
 use Rattle.md_words.specs.Limits.{count_of_words}
+use Rattle.md_history.specs.declared.stops.Limit.TheVariants.{Worn}
 use Rattle.md_history.specs.declared.stops.Stop.{Stop}
 use Rattle.md_history.specs.declared.stops.Stop.TheVariants.{Conflict, Limit, NoMemory}
 use Rattle.md_history.specs.Engine.{Limits}
@@ -17,6 +18,7 @@ use Rattle.md_rule.specs.Shares.{share_at}
 use Rattle.md_rule.specs.Views.{FieldView, IsOf, PassState}
 use Rattle.md_rule.specs.declared.shares.Share.{Share}
 use Rattle.md_store_law.specs.Store.{state_of_store, store}
+use Rattle.md_store_law.specs.Untouched.{IsUntouched}
 
 -- the state of the words with which the field was opened, and all lanes of its shape
 abbrev pub start_of : FieldView → State
@@ -38,6 +40,10 @@ abbrev pub MayStop : Stop → Type 0
 MayStop (Conflict shown) = Unit {0}
 MayStop (Limit limit) = Unit {0}
 MayStop NoMemory = ⊥
+
+-- it doesn't tell of a worn word
+abbrev pub IsUnworn : Stop → Type 0
+IsUnworn s = (word count : ℕ) → s ≢ Limit (Worn word count)
 
 -- the front of a pass, and how many attempts its lanes have begun
 abbrev pub front_in : PassState → Front
@@ -62,3 +68,7 @@ pub record IsUnused (s : Share) : Type 0 where
 pub record IsFresh (p : PassState) : Type 0 where
   pub view : p.view ≡ first_pass p.shape
   pub unused : (lane : ℕ) → IsUnused (share_at p.shares lane)
+
+-- the pass is fresh, and nothing was changed in the field's words since they were laid
+abbrev pub IsNew : FieldView → PassState → Type 0
+IsNew f p = IsFresh p × IsUntouched f.origin.shape f.origin.words

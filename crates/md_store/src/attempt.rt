@@ -1,12 +1,15 @@
 //! Attempts: a body that is run once, as a transaction of the store.
 
-ghost use Rattle.std.specs.Prelude.{◌≡◌, [], IfErr, IfOk, None};
+ghost use Rattle.std.specs.Prelude.{◌≡◌, ◌≤◌, [], IfErr, IfOk, None};
 ghost use Rattle.md_history.specs.Attempt.{Commits, IfCommitted, IfStopped, IsCounted, Stops};
-ghost use Rattle.md_history.specs.Engine.{IsNoConflict};
+ghost use Rattle.md_history.specs.Counts.{IsSmall};
+ghost use Rattle.md_history.specs.Engine.{IsNoConflict, bounds_in};
 ghost use Rattle.md_history.specs.Front.{LegalFrom};
 ghost use Rattle.md_nbtc.specs.State.{shape_in, state};
-ghost use Rattle.md_store.specs.Running.{BrokeWith, IsRunning};
-ghost use Rattle.md_store.specs.Store.{IsPassOf, MayStop, all_lanes, begun_by, front_in, start_of};
+ghost use Rattle.md_store.specs.Running.{BreaksOff, IsRunning, StopsBy};
+ghost use Rattle.md_store.specs.Store.{IsFresh, IsPassOf, IsUnworn, MayStop};
+ghost use Rattle.md_store.specs.Store.{all_lanes, begun_by, front_in, limits_of, start_of};
+ghost use Rattle.md_store_law.specs.Untouched.{IsUntouched};
 
 use crate::store::Store;
 use crate::txn::StoreTxn;
@@ -32,7 +35,7 @@ fn run<'a, B: Body>(
     ensures tag { (state result).hand.tag ≡ (state txn.entry).hand.tag }
     ensures ok { IfOk out.new (λ r. IsRunning before.value (state result) None
         × B.did body.now (state result).hand.acts r) }
-    ensures err { IfErr out.new (λ why. BrokeWith before.value (state result) why) }
+    ensures err { IfErr out.new (λ why. BreaksOff (B.makes body.now) before.value (state result) why) }
 {
     let mut running = StoreTxn {
         txn,
@@ -53,7 +56,9 @@ impl Store {
     /// if no lane has an attempt left, before the body runs, or from the first of its calls that was
     /// refused. A conflict comes from such a call, or from the decision: a word that was read
     /// has changed, or another transaction aborted this one. A pass that holds all lanes meets no
-    /// conflict. `NoMemory` never comes: no call takes memory.
+    /// conflict. `NoMemory` never comes: no call takes memory. The first attempt of a store that was
+    /// just opened or renewed meets no worn word. If also all acts that the body can make from the
+    /// store's start count no more words and nodes than `limits_of` allows, it is committed.
     ///
     /// The cost is that of the body's calls, of which md_list and md_queue tell the steps, and of
     /// `Txn::begin`, `Txn::commit` and `Txn::stop`.
@@ -71,9 +76,17 @@ impl Store {
         ensures legal { LegalFrom (start_of self.now) (front_in pass.new) }
         ensures of { IsPassOf self.now pass.new }
         ensures begun { IsCounted result (begun_by pass.old) (begun_by pass.new) }
+        ensures cause { IfStopped result (StopsBy self.now pass.old pass.new) }
         ensures may_stop { IfStopped result MayStop }
         ensures alone { (front_in pass.old).lanes ≡ all_lanes self.now.origin.shape
             → IfStopped result IsNoConflict }
+        ensures unworn { IsFresh pass.old → IsUntouched self.now.origin.shape self.now.origin.words
+            → IfStopped result IsUnworn }
+        ensures small { IsFresh pass.old → IsUntouched self.now.origin.shape self.now.origin.words
+            → 1 ≤ (limits_of self.now.origin.shape).tries
+            → IsSmall (bounds_in (limits_of self.now.origin.shape)) (B.makes body.now)
+                (start_of self.now)
+            → IfStopped result (λ _. ⊥) }
     {
         let before = Snapshot::of(&*pass);
         let txn = match Txn::begin(pass, &self.field, tag) {
@@ -88,6 +101,7 @@ impl Store {
                 Err(shown) => Attempt::Stopped(Stop::Conflict(shown)),
             },
             Err(stop) => {
+                txn.kept();
                 txn.stop();
                 Attempt::Stopped(stop)
             }

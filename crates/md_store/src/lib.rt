@@ -14,6 +14,7 @@ mod broken;
 mod calls;
 mod ending;
 mod engine;
+mod lawful;
 mod moves;
 mod on_maps;
 mod on_queues;

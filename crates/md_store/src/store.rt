@@ -5,6 +5,7 @@ ghost use Rattle.md_history.specs.Engine.{needed};
 ghost use Rattle.md_store.specs.Store.{IsFresh, IsPassOf, start_of};
 ghost use Rattle.md_store_law.specs.Laid.{HasMapsAndQueues};
 ghost use Rattle.md_store_law.specs.Needed.{capped};
+ghost use Rattle.md_store_law.specs.Untouched.{IsUntouched};
 
 use md_history::Contents;
 use md_rule::{Field, Pass};
@@ -55,6 +56,8 @@ impl Store {
         ensures start { IfOk result (λ r. start_of r.0 ≡ start.now) }
         ensures of { IfOk result (λ r. IsPassOf r.0 r.1) }
         ensures fresh { IfOk result (λ r. IsFresh r.1) }
+        ensures untouched { IfOk result
+            (λ r. IsUntouched r.0.origin.shape r.0.origin.words) }
         ensures no_room { shape.base < needed start.now
             → result ≡ Err (OpenFault.NoRoom (capped (needed start.now)) shape.base) }
         ensures room { needed start.now ≤ shape.base
@@ -72,6 +75,13 @@ impl Store {
             Err(_) => Err(OpenFault::NoMemory),
         }
     }
+
+    /// The field, on which a pass of the store may begin transactions of its own.
+    pub fn field(&self) -> &Field<StoreTheory>
+        ensures { result.now ≡ self.now }
+    {
+        &self.field
+    }
 }
 
 // Lays the contents out and opens the field.
@@ -86,6 +96,7 @@ fn opened(
     ensures start { IfOk result (λ r. start_of r.0 ≡ start.now) }
     ensures of { IfOk result (λ r. IsPassOf r.0 r.1) }
     ensures fresh { IfOk result (λ r. IsFresh r.1) }
+    ensures untouched { IfOk result (λ r. IsUntouched r.0.origin.shape r.0.origin.words) }
 {
     let words = lay(alloc, &shape, start)?;
     let (field, pass) = Field::open(alloc, shape, words)?;

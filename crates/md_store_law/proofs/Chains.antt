@@ -23,7 +23,7 @@ use Rattle.md_store_law.specs.Laid.{LaidNode, Chained, HaveFields, numbers_from,
 pub value_of-naming : (node : ℕ) → value_of (naming node) ≡ link node
 value_of-naming node = value_of-counted_word (link_value node false) 0 (omega arith)
 
-value_of-zero : value_of 0 ≡ 0
+pub value_of-zero : value_of 0 ≡ 0
 unfolding value_of
 value_of-zero = refl
 

@@ -22,6 +22,7 @@ use Rattle.md_store_law.proofs.LaidContents.{flat_map_same}
 use Rattle.md_store_law.proofs.PairCounts.{length-pieces, len-map, keys_rise, keys_home}
 use Rattle.md_store_law.proofs.Stores.{StandFor, AreSorted, pairs_laid, values_laid}
 use Rattle.md_store_law.proofs.Entries.{nodes_stand}
+use Rattle.md_store_law.proofs.Untouched.{laid_untouched}
 use Rattle.md_store_law.proofs.Opening.{store_field, laid_opens}
 
 pub living_count : (shape : Shape) (words : List ℕ) → IsStoreField shape words → length (living_nodes shape words) ≡ needed (contents_of shape words)
@@ -114,5 +115,6 @@ module _ (shape fresh : Shape) (words row : List ℕ) (f : IsStoreField shape wo
     numbers = is;
     laid = laid;
     store = store_field fresh row (nodes_by fresh pairs values) pairs values anew for sorted;
+    untouched = laid_untouched fresh row (nodes_by fresh pairs values) pairs values anew for;
     opens = laid_opens fresh row (nodes_by fresh pairs values) pairs values anew for sorted (contents_of shape words) same_state;
   }

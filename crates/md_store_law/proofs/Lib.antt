@@ -18,6 +18,7 @@ pub mod Chains
 pub mod Stores
 pub mod Entries
 pub mod Opening
+pub mod Untouched
 pub mod Copying
 pub mod Buckets
 pub mod LaidContents

@@ -52,7 +52,7 @@ placed_node k [] i d below = absurd (omega arith)
 placed_node k (n ∷ nodes) zero d below = omega arith
 placed_node k (n ∷ nodes) (suc i) d below = let e = placed_node (k + 1) nodes i d (omega arith) in omega (arith, e)
 
-placed_some : (k : ℕ) (nodes : List LaidNode) (node : ℕ) → k ≤ node → node < k + length nodes → (s : Structure) × (structure_in (placed_from k nodes) node ≡ Some s)
+pub placed_some : (k : ℕ) (nodes : List LaidNode) (node : ℕ) → k ≤ node → node < k + length nodes → (s : Structure) × (structure_in (placed_from k nodes) node ≡ Some s)
 placed_some k [] node low high = absurd (omega arith)
 placed_some k (n ∷ nodes) node low high = ⊎_elim
     (λ e. (n.structure, cond-true _ (Some n.structure) (structure_in (placed_from (k + 1) nodes) node) (eq-eqb k node e)))

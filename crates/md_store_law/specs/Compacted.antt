@@ -13,6 +13,7 @@ use Rattle.md_history.specs.Engine.{needed}
 use Rattle.md_store_law.specs.Field.{logical_words, IsStoreField}
 use Rattle.md_store_law.specs.Laid.{LaidNode, IsLaid, nodes_by}
 use Rattle.md_store_law.specs.Opens.{OpensWith}
+use Rattle.md_store_law.specs.Untouched.{IsUntouched}
 use Rattle.md_store_law.specs.Below.{maps_below}
 
 -- with so many base nodes the shape is in range
@@ -46,6 +47,7 @@ pub record IsCompacted (shape : Shape) (words : List ℕ) (fresh : Shape) (row :
   pub numbers : IsWithBase shape (needed (contents_of shape words)) fresh
   pub laid : IsLaid fresh row (living_nodes shape words)
   pub store : IsStoreField fresh row
+  pub untouched : IsUntouched fresh row
   pub opens : OpensWith fresh row (contents_of shape words)
 
 -- words are a field's, and another shape has base nodes for all that lives in it

@@ -6,6 +6,7 @@ pub mod UsedRow
 pub mod Needed
 pub mod Laid
 pub mod Opens
+pub mod Untouched
 pub mod Below
 pub mod Compacted
 pub mod Laws

@@ -7,6 +7,7 @@ ghost use Rattle.md_history.specs.Contents.{table_of};
 ghost use Rattle.md_store_law.specs.Field.{IsStoreField};
 ghost use Rattle.md_history.specs.Engine.{needed};
 ghost use Rattle.md_store_law.specs.Opens.{OpensWith};
+ghost use Rattle.md_store_law.specs.Untouched.{IsUntouched};
 ghost use Rattle.md_store_law.specs.Below.{LaidUpTo, maps_below};
 ghost use Rattle.md_store_law.specs.Laid.{IsLaid, HasMapsAndQueues, laid_nodes};
 ghost use Rattle.md_store_law.specs.Laid.{dummies, bucket_pairs, pairs_at};
@@ -32,6 +33,7 @@ pub fn lay(alloc: Global, shape: &Shape, contents: &Contents) -> Result<Vec<u64>
     ensures store { IfOk result (λ words. IsStoreField shape.now words.items) }
     ensures laid { IfOk result
         (λ words. IsLaid shape.now words.items (laid_nodes shape.now contents.now)) }
+    ensures untouched { IfOk result (λ words. IsUntouched shape.now words.items) }
 {
     let mut words = empty_field(alloc, shape)?;
     lay_contents(alloc, &mut words, shape, contents)?;

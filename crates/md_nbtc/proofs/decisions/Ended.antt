@@ -15,4 +15,4 @@ module _ (M : Meaning) (t w : TxnState) (e : HasEntry w) (readies : Readies t w 
 
   pub lost_if : (result : Result (Unit {0}) Shown) → IfErr result (λ shown. Aborts M w q × IsShown w q shown × TellsWhy w q shown) → IfErr result (WasLost M t q)
   lost_if (Ok done) is = tt
-  lost_if (Err shown) is = inl (record { ready = w; entry = e; readies = readies; aborts = is.0; is_shown = is.1 })
+  lost_if (Err shown) is = inl (record { ready = w; entry = e; readies = readies; aborts = is.0; is_shown = is.1; tells = is.2 })

@@ -29,11 +29,11 @@ use Rattle.md_help.specs.After.{IsAfter}
 use Rattle.md_help.proofs.Deciding.{some_after}
 use Rattle.md_nbtc.specs.declared.sets.Lot.{Lot}
 use Rattle.md_nbtc.specs.declared.sets.Slot.{Slot}
-use Rattle.md_nbtc.specs.Prepared.{EachFrom, IsHeld, IsPrepared, IsPreparedNode, IsRecorded, InstallsFrom, IsWritten, LastOn, LeftLast, LeftThere, TakenInTurn}
+use Rattle.md_nbtc.specs.Prepared.{EachFrom, IsHeld, IsPrepared, IsPreparedNode, IsRecorded, InstallsFrom, IsWritten, LastOn, LeftLast, LeftThere, StoredOnce, TakenInTurn}
 use Rattle.md_nbtc.specs.State.{OwnNode, TxnState, attempt_in, lot_of_lane, lots_since, own_steps, shape_in, writes_in}
 use Rattle.md_nbtc.proofs.nodes.GrownPrepared.{each_on}
 use Rattle.md_nbtc.proofs.preparing.GoingOn.{own_grows}
-use Rattle.md_nbtc.proofs.preparing.Quiet.{earlier_still, every_still, last_longer, last_on, last_still, left_same, some_was}
+use Rattle.md_nbtc.proofs.preparing.Quiet.{earlier_still, every_still, last_longer, last_on, last_still, left_same, once_still, some_was}
 use Rattle.md_nbtc.proofs.ready.Lookups.{all_of}
 use Rattle.md_machine.specs.Stepping.{attempt_in_hand}
 use Rattle.md_nbtc.proofs.preparing.Out.{out_on}
@@ -237,6 +237,8 @@ module _ (t : TxnState) (base : PassView) (s : Step) (after : IsAfter (shape_in 
             own = (x.own.0, subst (λ l. Contains l x.own.0) (sym lanes_same) x.own.1, x.own.2);
             unplaced = rest.free n.node x.unplaced;
             stored = some_after _ (shape_in t) (s ∷ []) t.pass.view base after x.stored;
+            once = subst (StoredOnce _ _) (sym trail_is) (once_still _ _ t.pass.view.trail (s ∷ [])
+                (one (λ y. ¬ StoresFor (attempt_in t) (address (shape_in t) (node_next n.node)) y) (rest.nexts n.node exists)) x.once);
             key = last_then _ _ (rest.keys n c exists) x.key;
             value = last_then _ _ (rest.values n c exists) x.value;
             next = λ none. let was = rest.next_words n c exists none in let y = x.next was.0 in (y.0, y.1, y.2, last_then _ _ was.1 y.3);

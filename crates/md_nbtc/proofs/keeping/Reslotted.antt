@@ -66,6 +66,7 @@ module _ (t : TxnState) (slots : List Slot) (same : map (λ (s : Slot). s.write)
     own = x.own;
     unplaced = x.unplaced;
     stored = x.stored;
+    once = x.once;
     key = x.key;
     value = x.value;
     next = λ none. x.next (ap (λ ws. is_written ws (address (shape_in t) (node_next n.node))) (sym same) ∙ none);

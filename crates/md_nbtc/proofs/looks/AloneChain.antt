@@ -38,14 +38,14 @@ ChainsFrom earlier (s ∷ steps) = LastHeld earlier s.word s.before × ChainsFro
 abbrev pub HoldersChain : Machine → Type 0
 HoldersChain m = (pass : ℕ) (p : PassView) → At m.passes pass p → HoldsAll (shape_of m) p → ChainsFrom [] p.trail
 
-held_of : (m : Machine) (steps : List Step) (word held : ℕ) → content m word ≡ held → LastStand m steps → LastHeld steps word held
+pub held_of : (m : Machine) (steps : List Step) (word held : ℕ) → content m word ≡ held → LastStand m steps → LastHeld steps word held
 held_of m [] word held is last = tt
 held_of m (s ∷ steps) word held is last = (
   (λ there none. sym is ∙ ap (content m) (sym there) ∙ last.0 (λ t c e. none t c (e ∙ there))),
   held_of m steps word held is last.1,
 )
 
-chain_push : (earlier steps : List Step) (s : Step) → ChainsFrom earlier steps → LastHeld (earlier ++ steps) s.word s.before → ChainsFrom earlier (steps ++ s ∷ [])
+pub chain_push : (earlier steps : List Step) (s : Step) → ChainsFrom earlier steps → LastHeld (earlier ++ steps) s.word s.before → ChainsFrom earlier (steps ++ s ∷ [])
 chain_push earlier [] s chain last = (subst (λ l. LastHeld l s.word s.before) (append-nil earlier) last, tt)
 chain_push earlier (x ∷ xs) s chain last = (
   chain.0,

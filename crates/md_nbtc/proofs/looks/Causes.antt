@@ -66,7 +66,7 @@ room_of value count below odd fits = ⊎_elim
     absurd (true≢false (sym zero_even ∙ ap is_even (sym (count_wraps value) ∙ ap (λ n. count_of (counted_word value n)) (sym e)) ∙ odd)))
     (cases_lt (count + 1) (2 ^ 32))
 
-none_is : (o : Option ℕ) → is_some o ≡ false → o ≡ None
+pub none_is : (o : Option ℕ) → is_some o ≡ false → o ≡ None
 none_is None e = refl
 none_is (Some x) e = absurd (true≢false e)
 

@@ -52,7 +52,7 @@ module _ (t : TxnState) (prepared : IsPrepared t) (kept_stop : Stop) where
   }
 
   node_halted : (n : OwnNode) → IsPreparedNode t n → IsPreparedNode halted n
-  node_halted n x = record { own = x.own; unplaced = x.unplaced; stored = x.stored; key = x.key; value = x.value; next = x.next }
+  node_halted n x = record { own = x.own; unplaced = x.unplaced; stored = x.stored; once = x.once; key = x.key; value = x.value; next = x.next }
 
   pub halted_prepared : IsPrepared halted
   halted_prepared = let h = prepared.has in record {

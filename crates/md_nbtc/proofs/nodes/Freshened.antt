@@ -1,7 +1,7 @@
 -- A transaction that took a node and stored its words goes on with it.
 use Rattle.std.proofs.Common.{◌≡◌, ◌≢◌, ◌==◌, ◌++◌, ◌∷◌, ◌+◌, ℕ, true, false, List, [], length, map, Option, Some, refl, sym, ap, ◌∙◌, subst, inl, inr, ⊎_elim, append_assoc, eq-eqb, if◌then◌else◌, unwrap_or}
 use Rattle.std.proofs.lemmas.List.{append-nil, map-append}
-use Rattle.std.proofs.lemmas.List.Elements.{All-cons, All-contains, All-head, All-nil, All-tail, All-weaker, Contains-append_left, Contains-append_right, Contains-push}
+use Rattle.std.proofs.lemmas.List.Elements.{All-append, All-cons, All-contains, All-head, All-nil, All-tail, All-weaker, Contains-append_left, Contains-append_right, Contains-push}
 use Rattle.std.specs.List.{All, Contains}
 use Rattle.md_words.specs.Content.{count_of, is_even, value_of}
 use Rattle.md_words.specs.Layout.{Exists, IsNode, address}
@@ -13,6 +13,7 @@ use Rattle.md_machine.specs.declared.attempt.Read.{Read}
 use Rattle.md_machine.specs.declared.attempt.Write.{Write}
 use Rattle.md_machine.specs.declared.certificate.Certificate.{Certificate}
 use Rattle.md_machine.specs.declared.pass.PassView.{PassView}
+use Rattle.md_machine.specs.declared.step.Kind.TheVariants.{Load, Store}
 use Rattle.md_machine.specs.declared.step.Step.{Step}
 use Rattle.md_machine.specs.Certified.{first_content}
 use Rattle.md_machine.specs.FreeToReturn.{KnowsFree}
@@ -30,7 +31,7 @@ use Rattle.md_nbtc.specs.declared.sets.Lot.{Lot}
 use Rattle.md_nbtc.specs.Calls.{GoesOn}
 use Rattle.md_nbtc.specs.Going.{IsGoing}
 use Rattle.md_nbtc.specs.Known.{IsLater}
-use Rattle.md_nbtc.specs.Prepared.{IsPrepared, IsPreparedNode, IsRecorded, IsWritten, LeftLast, TakenInTurn}
+use Rattle.md_nbtc.specs.Prepared.{IsPrepared, IsPreparedNode, IsRecorded, IsWritten, LeftLast, StoredOnce, TakenInTurn}
 use Rattle.md_nbtc.specs.Seeing.{Gave}
 use Rattle.md_nbtc.specs.State.{OwnNode, SameFront, TxnState, attempt_in, last_stored, lots_since, own_steps, shape_in, writes_in}
 use Rattle.md_nbtc.proofs.looks.Given.{gave_same}
@@ -40,7 +41,7 @@ use Rattle.md_nbtc.proofs.nodes.Grown.{grown, grown_going}
 use Rattle.md_nbtc.proofs.nodes.GrownPrepared.{IsOnNode, grown_pass, grown_prepared, in_node, node_in}
 use Rattle.md_nbtc.proofs.nodes.NewNode.{counted_apart, found_apart, stored_last}
 use Rattle.md_nbtc.proofs.nodes.StoredNodes.{Goes, StoredThree, goes_on, with_node}
-use Rattle.md_nbtc.proofs.nodes.TookNode.{left_was, took_in_turn, took_more, took_new}
+use Rattle.md_nbtc.proofs.nodes.TookNode.{left_was, took_in_turn, took_more, took_new, was_left}
 use Rattle.md_nbtc.proofs.nodes.Unplaced.{own_unplaced}
 use Rattle.md_nbtc.proofs.nodes.TookNode.{took_no_try}
 use Rattle.md_nbtc.proofs.preparing.Fronts.{front_after, front_in_hand}
@@ -186,6 +187,28 @@ module _ (M : Meaning) (lawful : Lawful M) (t : TxnState) (cs : List Certificate
     unchanged = All-nil (Same _);
   }
 
+  -- the next word was stored once: the node was left before, so it wasn't stored to for the attempt
+  next_once : StoredOnce (attempt_in t) (address (shape_in t) (node_next node)) e.trail
+  next_once = record {
+    earlier = t.pass.view.trail ++ look ∷ three.first ∷ three.second ∷ [];
+    step = three.third;
+    later = [];
+    order = trail_is ∙ sym (append_assoc t.pass.view.trail (look ∷ three.first ∷ three.second ∷ []) (three.third ∷ []));
+    stores = record { kind = three.kinds.2; attempt = three.attempt; there = three.there.2 };
+    before = All-append None t.pass.view.trail (look ∷ three.first ∷ three.second ∷ [])
+        (all_of None t.pass.view.trail (λ s c is. prepared.has.stored node (was_left t prepared node a takes e lanes_same) (t.pass.view.trail, Contains-push t.pass.view.past t.pass.view.trail, (s, c, is))))
+        (All-cons None look (three.first ∷ three.second ∷ []) (λ is. load_no_store (sym looks.kind ∙ is.kind))
+        (All-cons None three.first (three.second ∷ []) (λ is. key_next (sym three.there.0 ∙ is.there))
+        (All-cons None three.second [] (λ is. value_next (sym three.there.1 ∙ is.there)) (All-nil None))));
+    since = All-nil None;
+  }
+    where
+      None : Step → Type 0
+      None s = ¬ StoresFor (attempt_in t) (address (shape_in t) (node_next node)) s
+
+      load_no_store : Load ≡ Store → ⊥
+      load_no_store is = cc
+
   -- and they were stored last
   abbrev Off : (word : ℕ) → Step → Type 0
   Off word s = s.word ≢ word
@@ -228,6 +251,7 @@ module _ (M : Meaning) (lawful : Lawful M) (t : TxnState) (cs : List Certificate
           record { kind = three.kinds.2; attempt = three.attempt; there = three.there.2 },
         ),
       );
+      once = next_once;
       key = key_last;
       value = value_last;
       next = λ _. (stored, value_is, even, next_last);

@@ -32,13 +32,13 @@ use Rattle.md_help.specs.After.{IsAfter}
 use Rattle.md_help.proofs.Deciding.{some_after}
 use Rattle.md_nbtc.specs.declared.sets.Lot.{Lot}
 use Rattle.md_nbtc.specs.declared.sets.Slot.{Slot}
-use Rattle.md_nbtc.specs.Prepared.{EachFrom, InstallsFrom, IsHeld, IsPrepared, IsPreparedNode, IsRecorded, IsWritten, LastOn, LeftLast, LeftThere, TakenInTurn}
+use Rattle.md_nbtc.specs.Prepared.{EachFrom, InstallsFrom, IsHeld, IsPrepared, IsPreparedNode, IsRecorded, IsWritten, LastOn, LeftLast, LeftThere, StoredOnce, TakenInTurn}
 use Rattle.md_nbtc.specs.State.{OwnNode, TxnState, attempt_in, lots_since, own_steps, shape_in, writes_in}
 use Rattle.md_nbtc.proofs.preparing.GoingOn.{own_grows}
 use Rattle.md_nbtc.proofs.ready.Lookups.{all_of}
 use Rattle.md_nbtc.proofs.looks.Loaded.{IsLook}
 use Rattle.md_nbtc.proofs.preparing.Out.{out_on}
-use Rattle.md_nbtc.proofs.preparing.Quiet.{earlier_still, every_still, last_longer, last_on, last_still, left_same, some_was}
+use Rattle.md_nbtc.proofs.preparing.Quiet.{earlier_still, every_still, last_longer, last_on, last_still, left_same, once_still, some_was}
 
 -- each of a list with its place has one thing where it has another, by its place and by being one of them
 pub each_on : {A : Type 0} (P Q : ℕ → A → Type 0) (from : ℕ) (xs : List A) → ((i : ℕ) (x : A) → i < from + length xs → Contains xs x → P i x → Q i x)
@@ -196,6 +196,7 @@ module _ (t : TxnState) (prepared : IsPrepared t) (operates : t.hand.operating �
           own = node_then k.node x.own;
           unplaced = free k c x;
           stored = some_after _ (shape_in t) steps t.pass.view base after x.stored;
+          once = subst (StoredOnce _ _) (sym trail_is) (once_still _ _ t.pass.view.trail steps (no_store (node_next k.node) there (other (node_next k.node) (inr refl))) x.once);
           key = last_then (node_key k.node) there (other (node_key k.node) (inl (inl refl))) k.key x.key;
           value = last_then (node_value k.node) there (other (node_value k.node) (inl (inr refl))) k.value x.value;
           next = λ none. let y = x.next none in (y.0, y.1, y.2, last_then (node_next k.node) there (other (node_next k.node) (inr refl)) y.0 y.3);

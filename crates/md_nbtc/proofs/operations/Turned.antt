@@ -72,7 +72,7 @@ module _ (t : TxnState) (prepared : IsPrepared t) (acts : List Act) (operating :
   }
 
   node_turned : (n : OwnNode) → IsPreparedNode t n → IsPreparedNode turned n
-  node_turned n x = record { own = x.own; unplaced = x.unplaced; stored = x.stored; key = x.key; value = x.value; next = x.next }
+  node_turned n x = record { own = x.own; unplaced = x.unplaced; stored = x.stored; once = x.once; key = x.key; value = x.value; next = x.next }
 
   pub turned_prepared : IsPrepared turned
   turned_prepared = let h = prepared.has in record {

@@ -10,7 +10,7 @@ use Rattle.md_machine.specs.declared.step.Kind.TheVariants.{Install, Uninstall}
 use Rattle.md_machine.specs.Moved.{TakesOther, holds_other}
 use Rattle.md_machine.specs.Trail.{EveryStepOf, LastStored, SomeStepOf, StoresFor, is_store, segments}
 use Rattle.md_help.specs.After.{IsAfter}
-use Rattle.md_nbtc.specs.Prepared.{LastOn, LeftLast, LeftThere}
+use Rattle.md_nbtc.specs.Prepared.{LastOn, LeftLast, LeftThere, StoredOnce}
 
 -- a step that neither stores nor installs; it changes at most what isn't the word, or takes another's descriptor out
 pub record IsQuiet (s : Step) : Type 0 where
@@ -75,6 +75,18 @@ module _ (shape : Shape) (steps : List Step) (p q : PassView) (after : IsAfter s
         last = All-append (λ s. ¬ StoresFor a word s) l.store.later steps l.last (All-weaker IsQuiet (λ s. ¬ StoresFor a word s) (quiet_store a word) steps quiet);
       })
       (Contains-push_cases p.past p.trail (l.store.earlier ++ l.store.step ∷ l.store.later) l.store.segment)
+
+-- what was stored once was so still, if no step stored there again
+pub once_still : (a : AttemptId) (word : ℕ) (trail steps : List Step) → All (λ s. ¬ StoresFor a word s) steps → StoredOnce a word trail → StoredOnce a word (trail ++ steps)
+once_still a word trail steps none x = record {
+  earlier = x.earlier;
+  step = x.step;
+  later = x.later ++ steps;
+  order = ap (λ l. l ++ steps) x.order ∙ append_assoc x.earlier (x.step ∷ x.later) steps;
+  stores = x.stores;
+  before = x.before;
+  since = All-append (λ s. ¬ StoresFor a word s) x.later steps x.since none;
+}
 
 -- what was left in a word is there still, if nothing changed it
 pub last_still : (word held : ℕ) (trail steps : List Step) → All (λ s. s.word ≡ word → s.before ≡ s.after) steps → LeftLast word held trail → LeftLast word held (trail ++ steps)

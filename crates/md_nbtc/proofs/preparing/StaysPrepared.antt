@@ -22,12 +22,12 @@ use Rattle.md_rule.specs.Kept.{IsLeft}
 use Rattle.md_rule.specs.Views.{PassState}
 use Rattle.md_help.specs.After.{IsAfter}
 use Rattle.md_help.proofs.Deciding.{some_after}
-use Rattle.md_nbtc.specs.Prepared.{EachFrom, IsHeld, IsPrepared, IsPreparedNode, IsRecorded, InstallsFrom, IsWritten, LastOn, LeftLast, LeftThere}
+use Rattle.md_nbtc.specs.Prepared.{EachFrom, IsHeld, IsPrepared, IsPreparedNode, IsRecorded, InstallsFrom, IsWritten, LastOn, LeftLast, LeftThere, StoredOnce}
 use Rattle.md_nbtc.specs.State.{OwnNode, TxnState, attempt_in, lot_of_lane, own_steps, shape_in, writes_in}
 use Rattle.md_nbtc.proofs.preparing.GoingOn.{own_grows}
 use Rattle.md_nbtc.proofs.preparing.Out.{out_on}
 use Rattle.md_nbtc.proofs.ready.Lookups.{all_of}
-use Rattle.md_nbtc.proofs.preparing.Quiet.{IsQuiet, IsStill, every_still, last_on, last_still, left_still, quiet_store, some_was, stored_still}
+use Rattle.md_nbtc.proofs.preparing.Quiet.{IsQuiet, IsStill, every_still, last_on, last_still, left_still, once_still, quiet_store, some_was, stored_still}
 
 -- each of a list has one thing where it has another
 pub each_weaker : {A : Type 0} (P Q : ℕ → A → Type 0) → ((i : ℕ) (x : A) → P i x → Q i x) → (from : ℕ) (xs : List A) → EachFrom P from xs → EachFrom Q from xs
@@ -131,6 +131,7 @@ module _ (t : TxnState) (prepared : IsPrepared t) (q : PassView) (steps : List S
         own = node_then n.node x.own;
         unplaced = free n.node x.own x.unplaced;
         stored = some_after _ (shape_in t) steps t.pass.view q after x.stored;
+        once = subst (StoredOnce _ _) (sym (ap (λ (y : PassView). y.trail) after.1)) (once_still _ _ t.pass.view.trail steps (no_store _) x.once);
         key = last_then _ _ (nodes n among (node_key n.node) (inl (inl refl))) x.key;
         value = last_then _ _ (nodes n among (node_value n.node) (inl (inr refl))) x.value;
         next = λ none. let y = x.next none in (y.0, y.1, y.2, last_then _ _ (nodes n among (node_next n.node) (inr refl)) y.3);

@@ -33,10 +33,10 @@ use Rattle.md_rule.specs.Views.{PassState}
 use Rattle.md_help.specs.After.{IsAfter}
 use Rattle.md_help.proofs.Deciding.{some_after}
 use Rattle.md_nbtc.specs.declared.sets.Slot.{Slot}
-use Rattle.md_nbtc.specs.Prepared.{EachFrom, InstallsFrom, IsHeld, IsPrepared, IsPreparedNode, IsRecorded, IsWritten, LastOn, LeftLast, LeftThere}
+use Rattle.md_nbtc.specs.Prepared.{EachFrom, InstallsFrom, IsHeld, IsPrepared, IsPreparedNode, IsRecorded, IsWritten, LastOn, LeftLast, LeftThere, StoredOnce}
 use Rattle.md_nbtc.specs.State.{OwnNode, TxnState, attempt_in, lot_of_lane, own_steps, shape_in, writes_in}
 use Rattle.md_nbtc.proofs.preparing.GoingOn.{own_grows}
-use Rattle.md_nbtc.proofs.preparing.Quiet.{earlier_still, every_still, last_longer, last_on, last_still, left_same, some_was}
+use Rattle.md_nbtc.proofs.preparing.Quiet.{earlier_still, every_still, last_longer, last_on, last_still, left_same, once_still, some_was}
 use Rattle.md_nbtc.proofs.nodes.GrownPrepared.{each_on}
 use Rattle.md_nbtc.proofs.ready.Lookups.{all_of, replaced_there, written_replaced}
 use Rattle.md_nbtc.proofs.recording.ReadSets.{first_other, first_this, read_apart}
@@ -304,6 +304,7 @@ module _ (t : TxnState) (prepared : IsPrepared t) (word held : ℕ) (first secon
       own = (x.own.0, subst (λ l. Contains l x.own.0) (sym lanes_same) x.own.1, x.own.2);
       unplaced = free x.own.0 x.own.1 n.node x.unplaced;
       stored = some_after _ (shape_in t) steps t.pass.view q after x.stored;
+      once = subst (StoredOnce _ _) (sym trail_is) (once_still _ _ t.pass.view.trail steps (not_stored _ (node_off n.node x.own (node_next n.node) (inr refl))) x.once);
       key = last_then _ _ (node_off n.node x.own (node_key n.node) (inl (inl refl))) x.key;
       value = last_then _ _ (node_off n.node x.own (node_value n.node) (inl (inr refl))) x.value;
       next = λ none. let y = x.next none in (y.0, y.1, y.2, last_then _ _ (node_off n.node x.own (node_next n.node) (inr refl)) y.3);

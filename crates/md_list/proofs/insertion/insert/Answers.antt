@@ -1,4 +1,7 @@
-use Rattle.std.proofs.Common.{◌≡◌, ◌≢◌, ◌∙◌, ◌*◌, ℕ, Bool, false, sym, ap, subst, arith, None, Some, Err, Ok}
+use Rattle.std.proofs.Common.{◌≡◌, ◌≢◌, ◌∙◌, ◌*◌, ℕ, Bool, false, sym, ap, subst, inl, inr, arith, None, Some, Err, Ok}
+use Rattle.md_history.specs.declared.acts.Op.TheVariants.{Insert}
+use Rattle.md_history.specs.declared.acts.Reply.TheVariants.{Flag}
+use Rattle.md_list_law.specs.ListShape.{next_word}
 use Rattle.md_words.specs.Link.{link_value}
 use Rattle.md_words.specs.Layout.{address}
 use Rattle.md_words.specs.Place.{node_next}
@@ -13,20 +16,23 @@ use Rattle.md_nbtc.proofs.structures.Answering.{after_ok, exchange_refused, fres
 use Rattle.md_nbtc.proofs.structures.Exchanging.{HasExchanged}
 use Rattle.md_nbtc.proofs.structures.NodesKnown.{shape_later}
 use Rattle.md_machine.specs.Certified.{content_read}
-use Rattle.md_nbtc.specs.State.{seen_content}
+use Rattle.md_nbtc.proofs.structures.Noting.{HasNoted}
+use Rattle.md_list.specs.Refusals.{IsAbsent, NeedsNode, NeedsRead, NeedsSlot, OneMoreChange, OneMoreRead, WalkNeedsSlot}
 use Rattle.md_list.specs.Walking.{IsHeadOf}
-use Rattle.md_list.proofs.Adding.{adds_node, adds_note, adds_stop, leaves_more, leaves_within, on_by_none}
+use Rattle.md_list.proofs.Adding.{adds_node, adds_note, adds_stop, goes_over, leaves_more, leaves_within, nodes_kept, reads_kept}
 use Rattle.md_list.proofs.Critical.{adds_change}
 use Rattle.md_list.proofs.Getting.{noted_ok}
-use Rattle.md_list.proofs.Inserting.{inserted, linked, may_link}
-use Rattle.md_list.proofs.LookUps.{found_exists, here_node, inserted_none}
+use Rattle.md_list.proofs.Inserting.{inserted, linked, may_link, needs_link}
+use Rattle.md_list.proofs.LookUps.{answered_so, found_exists, here_node, is_absent_there, needs_read, shows_there}
+use Rattle.md_list.proofs.Noted.{NotesOnly, notes_only}
+use Rattle.md_list.proofs.Refused.{exchange_full, exchange_reads, exchange_unstopped, fresh_limit, note_full, note_limit, note_unstopped, reads_or_writes, refused_by, refused_else, refused_never, refused_within}
 use Rattle.md_list.proofs.Marks.{link_is}
 use Rattle.md_list.proofs.Rows.{begun_walks, by_same, found_of}
 use Rattle.md_list.proofs.Steps.{exchanged_ok, exchanged_reads}
-use Rattle.md_list.proofs.Stops.{answers_any, exchanged_stop, none_stood, note_stops, noted_stop_ok, passed_on, stop_after_ok}
+use Rattle.md_list.proofs.Stops.{answers_any, exchange_stops, exchanged_stop, none_stands, none_stood, note_stops, noted_stop_ok, passed_on, stop_after_ok}
 use Rattle.md_list.proofs.Walked.{has_stop, stop_leaves}
 use Rattle.md_list.specs.declared.walk.Found.{Found}
-use Rattle.md_history.specs.declared.stops.Limit.TheVariants.{Nodes}
+use Rattle.md_history.specs.declared.stops.Limit.TheVariants.{Nodes, Reads, Writes}
 use Rattle.md_history.specs.declared.stops.Stop.TheVariants.{Limit as Limited}
 use Rattle.md_list.proofs.insertion.insert.Goals as goal
 
@@ -51,16 +57,17 @@ returns-then-found-clause-answer g c map is cs going =
     let s = state c.args.tx.now in
     let t = state c.find.new.tx in
     let u = state c.note.new.self in
-    let f = c.in_ok-found.ensures.found (begun_walks g.T.Theory.meaning (state c.args.tx.now) map c.args.key c.args.head c.requires.begun is cs going) in
-    let has = f.0 in
-    let noted = noted_ok t u c.node_next-next_word.result c.in_ok-found.found.next c.in_ok-note.ensures.noted in
-    let next_is = c.node_next-next_word.ensures.place ∙ ap (λ x. address x (node_next c.in_ok-found.found.node)) c.shape.ensures in
-    by_same M u has.walking.certificates cs map c.args.key f.1
-    (inserted_none M g.T.Theory.lawful g.met.T.HasLists.has_lists t c.args.head c.args.key c.in_ok-found.found has map
-    (subst (λ x. IsHeadOf x map c.args.key c.args.head) (sym (shape_later s t c.in_ok-found.ensures.leaves.on.later)) is) u c.in_ok-note.ensures.on.later noted.hand
-    (c.in_ok-note.ensures.on.going has.walking.certificates has.walking.going) noted.slots c.if-found.true (omega arith)
-    (λ other. subst (λ x. content_read u.reads x ≡ Some (seen_content c.in_ok-found.found.next)) next_is (noted.content (ap (is_written (writes_in t)) next_is ∙ other)))
-    c.args.value)
+    let found = c.in_ok-found.found in
+    let f = c.in_ok-found.ensures.found (begun_walks M s map c.args.key c.args.head c.requires.begun is cs going) in
+    let word = c.node_next-next_word.result in
+    let word_is = c.node_next-next_word.ensures.place ∙ ap (λ x. address x (node_next found.node)) c.shape.ensures in
+    by_same M s t u f.0.walking.certificates cs map c.args.key f.1 (reads_kept M s t 0 0 c.in_ok-found.ensures.leaves)
+    (answered_so M g.T.Theory.lawful g.met.T.HasLists.has_lists t c.args.head c.args.key found f.0 map
+    (subst (λ x. IsHeadOf x map c.args.key c.args.head) (sym (shape_later s t c.in_ok-found.ensures.leaves.on.later)) is)
+    (λ m. Insert m c.args.key c.args.value) (Flag false) (next_word (shape_in t) found.node) found.next
+    (shows_there M g.T.Theory.lawful g.met.T.HasLists.has_lists t c.args.head c.args.key found f.0 c.if-found.true c.args.value) (omega arith) u c.in_ok-note.ensures.on
+    (subst (λ x. HasNoted t u x found.next) word_is (noted_ok t u word found.next c.in_ok-note.ensures.noted))
+    (subst (NotesOnly t u) word_is (notes_only t u word found.next c.in_ok-note.ensures.noted)))
 
 pub overflow_mul-node : goal.overflow_mul-node
 overflow_mul-node g c =
@@ -136,7 +143,7 @@ returns-then-found-clause-there g c absent =
     let t = state c.find.new.tx in
     let u = state c.note.new.self in
     let leaves = c.in_ok-found.ensures.leaves in
-    (noted_ok t u c.node_next-next_word.result c.in_ok-found.found.next c.in_ok-note.ensures.noted).nodes ∙ on_by_none s.nodes t.nodes leaves.on.later.nodes leaves.nodes_few
+    (noted_ok t u c.node_next-next_word.result c.in_ok-found.found.next c.in_ok-note.ensures.noted).nodes ∙ nodes_kept g.T.Theory.meaning s t 0 0 leaves
 
 pub returns-then-found-clause-stops : goal.returns-then-found-clause-stops
 returns-then-found-clause-stops g c =
@@ -226,7 +233,7 @@ returns-clause-placed g c absent =
     let fresh = after_ok ℕ t u t.stop node (Freshened t u c.args.key c.args.value found.at.value (Ok node)) c.in_ok-node.ensures.fresh in
     exchanged_reads M u v found.prev found.at (node * 2) Critical c.in_ok-exchange.field-0
     (exchanged_ok M u v found.prev found.at (node * 2) Critical c.in_ok-exchange.field-0 c.in_ok-exchange.ensures.exchanged)
-    ∙ ap (λ x. x.reads) fresh.new ∙ on_by_none s.reads t.reads leaves.on.later.reads leaves.reads_few
+    ∙ ap (λ x. x.reads) fresh.new ∙ reads_kept M s t 0 0 leaves
 
 pub returns-clause-stops : goal.returns-clause-stops
 returns-clause-stops g c =
@@ -254,7 +261,7 @@ returns-clause-answer g c map is cs going =
     let node = c.in_ok-node.node in
     let seen = c.in_ok-exchange.field-0 in
     let fresh = after_ok ℕ t u t.stop node (Freshened t u c.args.key c.args.value found.at.value (Ok node)) c.in_ok-node.ensures.fresh in
-    by_same M v f.0.walking.certificates cs map c.args.key f.1
+    by_same M s t v f.0.walking.certificates cs map c.args.key f.1 (reads_kept M s t 0 0 c.in_ok-found.ensures.leaves)
     (inserted M g.T.Theory.lawful g.met.T.HasLists.has_lists t c.args.head c.args.key found f.0 c.if-found.false c.args.value u c.in_ok-node.ensures.on
     node fresh c.in_ok-node.ensures.given v c.in_ok-exchange.ensures.on seen
     (subst (λ x. HasExchanged M u found.prev found.at x Critical v seen) (sym (link_is node)) (exchanged_ok M u v found.prev found.at (node * 2) Critical seen c.in_ok-exchange.ensures.exchanged))
@@ -263,3 +270,176 @@ returns-clause-answer g c map is cs going =
 pub node_next-next_word-requires : goal.node_next-next_word-requires
 node_next-next_word-requires g c = found_exists g.T.Theory.meaning g.T.Theory.lawful g.met.T.HasLists.has_lists (state c.args.tx.now) (state c.find.new.tx) c.args.head c.args.key c.in_ok-found.found c.in_ok-found.ensures.found c.requires.begun
     c.requires.head c.if-found.true c.shape.result.now c.shape.ensures
+
+pub returns-in_err-found-clause-no_read : goal.returns-in_err-found-clause-no_read
+returns-in_err-found-clause-no_read g c =
+    let s = state c.args.tx.now in
+    refused_never g.T.Theory.meaning Bool s (state c.find.new.tx) c.from_residual.result c.in_err-found.field-0.0 c.from_residual.ensures.1 Reads
+    (NeedsRead g.T.Theory.meaning s c.args.head c.args.key (λ map. Insert map c.args.key c.args.value)) c.in_err-found.ensures.no_read
+
+pub returns-in_err-found-clause-no_slot : goal.returns-in_err-found-clause-no_slot
+returns-in_err-found-clause-no_slot g c =
+    let M = g.T.Theory.meaning in
+    let s = state c.args.tx.now in
+    refused_within M Bool s (state c.find.new.tx) c.from_residual.result c.in_err-found.field-0.0 c.from_residual.ensures.1 Writes
+    (WalkNeedsSlot M s c.args.head) (NeedsSlot M s c.args.head c.args.key (λ map. Insert map c.args.key c.args.value)) c.in_err-found.ensures.no_slot
+    (λ x needs map is cs going. inl (needs (begun_walks M s map c.args.key c.args.head c.requires.begun is cs going)))
+
+pub returns-in_err-found-clause-no_node : goal.returns-in_err-found-clause-no_node
+returns-in_err-found-clause-no_node g c =
+    let M = g.T.Theory.meaning in
+    let s = state c.args.tx.now in
+    let t = state c.find.new.tx in
+    let stop = c.in_err-found.field-0.0 in
+    refused_else M Bool s t c.from_residual.result stop c.from_residual.ensures.1 Nodes (NeedsNode M s c.args.head c.args.key)
+    (λ none. (none_stands Found s t (Err stop) ((t.stop ≡ Some stop) × (stop ≢ Limited Nodes)) none c.in_err-found.ensures.stops).1)
+
+pub returns-in_err-note-clause-no_read : goal.returns-in_err-note-clause-no_read
+returns-in_err-note-clause-no_read g c =
+    let M = g.T.Theory.meaning in
+    let s = state c.args.tx.now in
+    let t = state c.find.new.tx in
+    let u = state c.note.new.self in
+    let stop = c.in_err-note.field-0.0 in
+    let found = c.in_ok-found.found in
+    let on = c.in_ok-found.ensures.leaves.on in
+    let none = stop_after_ok Found s t found c.in_ok-found.ensures.stops in
+    let noted = c.in_err-note.ensures.noted in
+    let word = c.node_next-next_word.result in
+    let word_is = c.node_next-next_word.ensures.place ∙ ap (λ x. address x (node_next found.node)) c.shape.ensures in
+    refused_by M Bool s u c.from_residual-in_err-note.result stop c.from_residual-in_err-note.ensures.1 Reads (NeedsRead M s c.args.head c.args.key (λ map. Insert map c.args.key c.args.value)) t on
+    (reads_kept M s t 0 0 c.in_ok-found.ensures.leaves) (note_refused M t u stop (note_case t word found.next) word found.next noted)
+    (λ by map is cs going.
+    let f = c.in_ok-found.ensures.found (begun_walks M s map c.args.key c.args.head c.requires.begun is cs going) in
+    let full = note_full M t u stop word found.next by (note_unstopped t u stop word found.next none.1 noted) in
+    subst (λ ds. OneMoreRead M t ds map c.args.key (Insert map c.args.key c.args.value)) f.1
+    (needs_read M g.T.Theory.lawful g.met.T.HasLists.has_lists t c.args.head c.args.key found f.0 map (subst (λ x. IsHeadOf x map c.args.key c.args.head) (sym (shape_later s t on.later)) is)
+    (λ m. Insert m c.args.key c.args.value) (Flag false) (next_word (shape_in t) found.node) found.next
+    (shows_there M g.T.Theory.lawful g.met.T.HasLists.has_lists t c.args.head c.args.key found f.0 c.if-found.true c.args.value) (omega arith)
+    (ap (is_written (writes_in t)) (sym word_is) ∙ full.0) (ap (content_read t.reads) (sym word_is) ∙ full.1)))
+
+pub returns-in_err-note-clause-no_slot : goal.returns-in_err-note-clause-no_slot
+returns-in_err-note-clause-no_slot g c =
+    let M = g.T.Theory.meaning in
+    let s = state c.args.tx.now in
+    let t = state c.find.new.tx in
+    let u = state c.note.new.self in
+    let stop = c.in_err-note.field-0.0 in
+    let word = c.node_next-next_word.result in
+    let next = c.in_ok-found.found.next in
+    let none = stop_after_ok Found s t c.in_ok-found.found c.in_ok-found.ensures.stops in
+    refused_else M Bool s u c.from_residual-in_err-note.result stop c.from_residual-in_err-note.ensures.1 Writes (NeedsSlot M s c.args.head c.args.key (λ map. Insert map c.args.key c.args.value))
+    (λ _ by. reads_or_writes (note_limit M t u stop word next Writes (note_unstopped t u stop word next none.1 c.in_err-note.ensures.noted) by))
+
+pub returns-in_err-note-clause-no_node : goal.returns-in_err-note-clause-no_node
+returns-in_err-note-clause-no_node g c =
+    let M = g.T.Theory.meaning in
+    let s = state c.args.tx.now in
+    let t = state c.find.new.tx in
+    let u = state c.note.new.self in
+    let stop = c.in_err-note.field-0.0 in
+    let none = stop_after_ok Found s t c.in_ok-found.found c.in_ok-found.ensures.stops in
+    refused_else M Bool s u c.from_residual-in_err-note.result stop c.from_residual-in_err-note.ensures.1 Nodes (NeedsNode M s c.args.head c.args.key)
+    (λ _. (note_stops M t u stop none.1 c.node_next-next_word.result c.in_ok-found.found.next c.in_err-note.ensures.noted).1)
+
+pub returns-in_err-node-clause-no_read : goal.returns-in_err-node-clause-no_read
+returns-in_err-node-clause-no_read g c =
+    let M = g.T.Theory.meaning in
+    let s = state c.args.tx.now in
+    let t = state c.find.new.tx in
+    let u = state c.fresh.new.self in
+    let stop = c.in_err-node.field-0.0 in
+    let found = c.in_ok-found.found in
+    let none = stop_after_ok Found s t found c.in_ok-found.ensures.stops in
+    refused_else M Bool s u c.from_residual-in_err-node.result stop c.from_residual-in_err-node.ensures.1 Reads (NeedsRead M s c.args.head c.args.key (λ map. Insert map c.args.key c.args.value))
+    (λ _. (fresh_limit M t u stop c.args.key c.args.value found.at.value
+    (none_stands ℕ t u (Err stop) (Freshened t u c.args.key c.args.value found.at.value (Err stop)) none.1 c.in_err-node.ensures.fresh)).0)
+
+pub returns-in_err-node-clause-no_slot : goal.returns-in_err-node-clause-no_slot
+returns-in_err-node-clause-no_slot g c =
+    let M = g.T.Theory.meaning in
+    let s = state c.args.tx.now in
+    let t = state c.find.new.tx in
+    let u = state c.fresh.new.self in
+    let stop = c.in_err-node.field-0.0 in
+    let found = c.in_ok-found.found in
+    let none = stop_after_ok Found s t found c.in_ok-found.ensures.stops in
+    refused_else M Bool s u c.from_residual-in_err-node.result stop c.from_residual-in_err-node.ensures.1 Writes (NeedsSlot M s c.args.head c.args.key (λ map. Insert map c.args.key c.args.value))
+    (λ _. (fresh_limit M t u stop c.args.key c.args.value found.at.value
+    (none_stands ℕ t u (Err stop) (Freshened t u c.args.key c.args.value found.at.value (Err stop)) none.1 c.in_err-node.ensures.fresh)).1)
+
+pub returns-in_err-node-clause-no_node : goal.returns-in_err-node-clause-no_node
+returns-in_err-node-clause-no_node g c =
+    let M = g.T.Theory.meaning in
+    let s = state c.args.tx.now in
+    let t = state c.find.new.tx in
+    let u = state c.fresh.new.self in
+    let stop = c.in_err-node.field-0.0 in
+    let found = c.in_ok-found.found in
+    let leaves = c.in_ok-found.ensures.leaves in
+    refused_by M Bool s u c.from_residual-in_err-node.result stop c.from_residual-in_err-node.ensures.1 Nodes (NeedsNode M s c.args.head c.args.key) t leaves.on
+    (reads_kept M s t 0 0 leaves) (fresh_refused M t u stop c.args.key c.args.value found.at.value c.in_err-node.ensures.fresh)
+    (λ by. (
+      nodes_kept M s t 0 0 leaves,
+      λ map is cs going.
+          let f = c.in_ok-found.ensures.found (begun_walks M s map c.args.key c.args.head c.requires.begun is cs going) in
+          subst (λ ds. IsAbsent M t ds map c.args.key) f.1
+          (is_absent_there M g.T.Theory.lawful g.met.T.HasLists.has_lists t c.args.head c.args.key found f.0 c.if-found.false (omega arith) map
+          (subst (λ x. IsHeadOf x map c.args.key c.args.head) (sym (shape_later s t leaves.on.later)) is)),
+    ))
+
+pub returns-in_err-exchange-clause-no_read : goal.returns-in_err-exchange-clause-no_read
+returns-in_err-exchange-clause-no_read g c =
+    let M = g.T.Theory.meaning in
+    let s = state c.args.tx.now in
+    let t = state c.find.new.tx in
+    let u = state c.fresh.new.self in
+    let v = state c.exchange.new.self in
+    let stop = c.in_err-exchange.field-0.0 in
+    let found = c.in_ok-found.found in
+    let node = c.in_ok-node.node in
+    let none = stop_after_ok Found s t found c.in_ok-found.ensures.stops in
+    let fresh = after_ok ℕ t u t.stop node (Freshened t u c.args.key c.args.value found.at.value (Ok node)) c.in_ok-node.ensures.fresh in
+    refused_else M Bool s v c.from_residual-in_err-exchange.result stop c.from_residual-in_err-exchange.ensures.1 Reads (NeedsRead M s c.args.head c.args.key (λ map. Insert map c.args.key c.args.value))
+    (λ _. exchange_reads M u v stop found.prev found.at (node * 2) Critical
+    (exchange_unstopped M u v stop found.prev found.at (node * 2) Critical (ap (λ x. x.stop) fresh.new ∙ none.1) c.in_err-exchange.ensures.exchanged))
+
+pub returns-in_err-exchange-clause-no_slot : goal.returns-in_err-exchange-clause-no_slot
+returns-in_err-exchange-clause-no_slot g c =
+    let M = g.T.Theory.meaning in
+    let s = state c.args.tx.now in
+    let t = state c.find.new.tx in
+    let u = state c.fresh.new.self in
+    let v = state c.exchange.new.self in
+    let stop = c.in_err-exchange.field-0.0 in
+    let found = c.in_ok-found.found in
+    let node = c.in_ok-node.node in
+    let leaves = c.in_ok-found.ensures.leaves in
+    let none = stop_after_ok Found s t found c.in_ok-found.ensures.stops in
+    let fresh = after_ok ℕ t u t.stop node (Freshened t u c.args.key c.args.value found.at.value (Ok node)) c.in_ok-node.ensures.fresh in
+    let exchanged = c.in_err-exchange.ensures.exchanged in
+    refused_by M Bool s v c.from_residual-in_err-exchange.result stop c.from_residual-in_err-exchange.ensures.1 Writes (NeedsSlot M s c.args.head c.args.key (λ map. Insert map c.args.key c.args.value)) u
+    (goes_over M s t u leaves.on c.in_ok-node.ensures.on) (ap (λ x. x.reads) fresh.new ∙ reads_kept M s t 0 0 leaves)
+    (exchange_refused M u v stop found.prev found.at (node * 2) Critical exchanged)
+    (λ by map is cs going.
+    let f = c.in_ok-found.ensures.found (begun_walks M s map c.args.key c.args.head c.requires.begun is cs going) in
+    let full = exchange_full M u v stop found.prev found.at (node * 2) Critical by
+    (exchange_unstopped M u v stop found.prev found.at (node * 2) Critical (ap (λ x. x.stop) fresh.new ∙ none.1) exchanged) in
+    inr (subst (λ ds. OneMoreChange M u ds map c.args.key (Insert map c.args.key c.args.value)) f.1
+    (needs_link M g.T.Theory.lawful g.met.T.HasLists.has_lists t c.args.head c.args.key found f.0 c.if-found.false c.args.value u c.in_ok-node.ensures.on node fresh c.in_ok-node.ensures.given
+    (omega arith) full.0 map (subst (λ x. IsHeadOf x map c.args.key c.args.head) (sym (shape_later s t leaves.on.later)) is))))
+
+pub returns-in_err-exchange-clause-no_node : goal.returns-in_err-exchange-clause-no_node
+returns-in_err-exchange-clause-no_node g c =
+    let M = g.T.Theory.meaning in
+    let s = state c.args.tx.now in
+    let t = state c.find.new.tx in
+    let u = state c.fresh.new.self in
+    let v = state c.exchange.new.self in
+    let stop = c.in_err-exchange.field-0.0 in
+    let found = c.in_ok-found.found in
+    let node = c.in_ok-node.node in
+    let none = stop_after_ok Found s t found c.in_ok-found.ensures.stops in
+    let fresh = after_ok ℕ t u t.stop node (Freshened t u c.args.key c.args.value found.at.value (Ok node)) c.in_ok-node.ensures.fresh in
+    refused_else M Bool s v c.from_residual-in_err-exchange.result stop c.from_residual-in_err-exchange.ensures.1 Nodes (NeedsNode M s c.args.head c.args.key)
+    (λ _. (exchange_stops M u v stop (ap (λ x. x.stop) fresh.new ∙ none.1) found.prev found.at (node * 2) Critical c.in_err-exchange.ensures.exchanged).1)

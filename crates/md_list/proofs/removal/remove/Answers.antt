@@ -1,4 +1,6 @@
-use Rattle.std.proofs.Common.{◌≡◌, ◌≢◌, ◌∙◌, ◌+◌, ℕ, sym, ap, subst, arith, Option, None, Some, Err}
+use Rattle.std.proofs.Common.{◌≡◌, ◌≢◌, ◌∙◌, ◌+◌, ℕ, refl, sym, ap, subst, inl, inr, arith, Option, None, Some, Err}
+use Rattle.md_history.specs.declared.acts.Reply.TheVariants.{Value}
+use Rattle.md_machine.specs.Certified.{is_written}
 use Rattle.md_history.specs.declared.acts.Op.TheVariants.{Remove}
 use Rattle.md_words.specs.Layout.{address}
 use Rattle.md_words.specs.Place.{node_next, node_value}
@@ -9,28 +11,31 @@ use Rattle.md_nbtc.specs.Going.{IsGoing}
 use Rattle.md_nbtc.specs.Known.{Known}
 use Rattle.md_nbtc.specs.declared.seen.Cleanup.TheVariants.{Unlink}
 use Rattle.md_nbtc.specs.Seeing.{Gave, KeepsGiven}
-use Rattle.md_nbtc.specs.State.{shape_in, state}
+use Rattle.md_nbtc.specs.State.{shape_in, state, writes_in}
 use Rattle.md_nbtc.proofs.preparing.Heaps.{later_self}
 use Rattle.md_nbtc.proofs.preparing.Later.{later_over}
 use Rattle.md_nbtc.proofs.structures.Answering.{exchange_refused, note_refused}
 use Rattle.md_nbtc.proofs.structures.Exchanging.{HasExchanged}
 use Rattle.md_nbtc.proofs.structures.NodesKnown.{shape_later}
 use Rattle.md_list_law.specs.Certificates.{remove_none}
+use Rattle.md_list.specs.Refusals.{NeedsRead, NeedsSlot, OneMoreChange, OneMoreRead, WalkNeedsSlot}
 use Rattle.md_list.specs.Walking.{IsHeadOf}
 use Rattle.md_list.proofs.FoundOn.{found_on}
-use Rattle.md_list.proofs.Adding.{adds_cleanup, adds_note, adds_steps, leaves_more, leaves_on, leaves_within, on_by_none}
+use Rattle.md_list.proofs.Adding.{adds_cleanup, adds_note, adds_steps, goes_over, leaves_more, leaves_on, leaves_within, reads_kept}
 use Rattle.md_list.proofs.Critical.{adds_change}
 use Rattle.md_list.proofs.Getting.{is_absent, is_there, noted_ok, value_data}
 use Rattle.md_list_law.specs.ListShape.{next_word}
-use Rattle.md_list.proofs.LookUps.{found_exists, here_node, answered_none}
+use Rattle.md_list.proofs.LookUps.{answered_so, found_exists, here_node, needs_read, shows_absent}
 use Rattle.md_list.proofs.Marks.{mark_fits}
-use Rattle.md_list.proofs.Removing.{goes_kept, keeps_unlink, marked_by, may_mark, removed, written_for}
+use Rattle.md_list.proofs.Removing.{goes_kept, keeps_unlink, marked_by, may_mark, needs_mark, none_yet, removed, written_for}
+use Rattle.md_list.proofs.Noted.{notes_only}
+use Rattle.md_list.proofs.Refused.{exchange_full, exchange_reads, exchange_unstopped, note_full, note_limit, note_unstopped, reads_or_writes, refused_by, refused_else, refused_never, refused_within}
 use Rattle.md_list.proofs.Rows.{begun_walks, by_same, found_of}
 use Rattle.md_list.proofs.Steps.{exchanged_ok, exchanged_reads}
 use Rattle.md_list.proofs.Stops.{answers_other, exchange_stops, exchanged_stop, none_stood, note_stops, noted_stop_ok, passed_on, stop_after_ok}
 use Rattle.md_list.proofs.Walked.{stop_leaves}
 use Rattle.md_list.specs.declared.walk.Found.{Found}
-use Rattle.md_history.specs.declared.stops.Limit.TheVariants.{Nodes}
+use Rattle.md_history.specs.declared.stops.Limit.TheVariants.{Nodes, Reads, Writes}
 use Rattle.md_history.specs.declared.stops.Stop.TheVariants.{Limit as Limited}
 use Rattle.md_list.proofs.removal.remove.Goals as goal
 
@@ -43,14 +48,14 @@ returns-then-not-found-clause-answer g c map is cs going =
     let s = state c.args.tx.now in
     let t = state c.find.new.tx in
     let u = state c.note.new.self in
-    let f = c.in_ok-found.ensures.found (begun_walks g.T.Theory.meaning (state c.args.tx.now) map c.args.key c.args.head c.requires.begun is cs going) in
-    let has = f.0 in
-    let noted = noted_ok t u c.in_ok-found.found.prev c.in_ok-found.found.at c.in_ok-note.ensures.noted in
-    by_same M u has.walking.certificates cs map c.args.key f.1
-    (answered_none M g.T.Theory.lawful g.met.T.HasLists.has_lists t c.args.head c.args.key c.in_ok-found.found has map
-    (subst (λ x. IsHeadOf x map c.args.key c.args.head) (sym (shape_later s t c.in_ok-found.ensures.leaves.on.later)) is) u c.in_ok-note.ensures.on.later noted.hand
-    (c.in_ok-note.ensures.on.going has.walking.certificates has.walking.going) noted.slots (is_absent c.in_ok-found.found.here c.if-not-found.true) (omega arith) noted.content
-    (λ m. Remove m c.args.key) (λ d op reply changes records. remove_none op reply changes records))
+    let found = c.in_ok-found.found in
+    let f = c.in_ok-found.ensures.found (begun_walks M s map c.args.key c.args.head c.requires.begun is cs going) in
+    by_same M s t u f.0.walking.certificates cs map c.args.key f.1 (reads_kept M s t 0 0 c.in_ok-found.ensures.leaves)
+    (answered_so M g.T.Theory.lawful g.met.T.HasLists.has_lists t c.args.head c.args.key found f.0 map
+    (subst (λ x. IsHeadOf x map c.args.key c.args.head) (sym (shape_later s t c.in_ok-found.ensures.leaves.on.later)) is) (λ m. Remove m c.args.key) (Value None) found.prev found.at
+    (shows_absent M g.T.Theory.lawful g.met.T.HasLists.has_lists t c.args.head c.args.key found f.0 (is_absent found.here c.if-not-found.true) (Remove f.0.walking.map c.args.key) refl
+    (λ d op reply changes records. remove_none op reply changes records))
+    (omega arith) u c.in_ok-note.ensures.on (noted_ok t u found.prev found.at c.in_ok-note.ensures.noted) (notes_only t u found.prev found.at c.in_ok-note.ensures.noted))
 
 pub field_of-value-requires-clause-data : goal.field_of-value-requires-clause-data
 field_of-value-requires-clause-data g c =
@@ -110,7 +115,8 @@ returns-clause-answer g c map is cs going =
     let next_is = c.node_next-next_word.ensures.place ∙ ap (λ x. address x (node_next c.in_ok-found.found.node)) c.shape-2.ensures in
     let on = c.field_of-value.ensures.on in
     let shape = shape_later t v on.later in
-    by_same M (state c.later.new.self) has.walking.certificates cs map c.args.key (on_value.1 ∙ f.1)
+    by_same M s v (state c.later.new.self) has.walking.certificates cs map c.args.key (on_value.1 ∙ f.1)
+    (ap (λ x. x.reads) c.field_of-value.ensures.same ∙ reads_kept M s t 0 0 c.in_ok-found.ensures.leaves)
     (removed M g.T.Theory.lawful g.met.T.HasLists.has_lists v c.args.head c.args.key c.in_ok-found.found has (is_there c.in_ok-found.found.here c.if-not-found.false) u c.in_ok-exchange.ensures.on
     c.in_ok-exchange.field-0 (subst (λ x. Gave u x c.in_ok-exchange.field-0) next_is c.in_ok-exchange.ensures.gave)
     (subst (λ x. HasExchanged M v x c.in_ok-found.found.next (c.in_ok-found.found.next.value + 1) Critical u c.in_ok-exchange.field-0) next_is
@@ -227,7 +233,8 @@ returns-clause-leaves g c =
     let value_read = leaves_more M s t v 0 0 0 0 0 0 c.in_ok-found.ensures.leaves c.field_of-value.ensures.on (adds_steps t v c.field_of-value.ensures.same) in
     let marked = leaves_more M s v u 0 0 0 0 1 0 value_read c.in_ok-exchange.ensures.on (adds_change M v (next_word (shape_in v) found.node) found.next (found.next.value + 1) u c.in_ok-exchange.field-0 did) in
     leaves_within M s x 0 1 0 1 1 0 (omega arith) (omega arith) (omega arith)
-    (leaves_on M s u x 0 1 0 0 0 0 marked goes (adds_cleanup u x (Unlink found.prev found.node) c.later.ensures.kept))
+    (leaves_on M s u x 0 1 0 0 0 0 marked goes (adds_cleanup u x (Unlink found.prev found.node)
+    (none_yet M g.T.Theory.lawful g.met.T.HasLists.has_lists v c.args.head c.args.key found has here u c.in_ok-exchange.ensures.on c.in_ok-exchange.field-0 gave changed) c.later.ensures.kept))
 
 pub returns-clause-marked : goal.returns-clause-marked
 returns-clause-marked g c =
@@ -241,7 +248,7 @@ returns-clause-marked g c =
     ap (λ x. x.reads) c.later.ensures.kept
     ∙ exchanged_reads M v u c.node_next-next_word.result found.next (found.next.value + 1) Critical c.in_ok-exchange.field-0
     (exchanged_ok M v u c.node_next-next_word.result found.next (found.next.value + 1) Critical c.in_ok-exchange.field-0 c.in_ok-exchange.ensures.exchanged)
-    ∙ ap (λ x. x.reads) c.field_of-value.ensures.same ∙ on_by_none s.reads t.reads leaves.on.later.reads leaves.reads_few
+    ∙ ap (λ x. x.reads) c.field_of-value.ensures.same ∙ reads_kept M s t 0 0 leaves
 
 pub returns-clause-unlink : goal.returns-clause-unlink
 returns-clause-unlink g c =
@@ -290,3 +297,98 @@ pub node_next-next_word-requires : goal.node_next-next_word-requires
 node_next-next_word-requires g c = found_exists g.T.Theory.meaning g.T.Theory.lawful g.met.T.HasLists.has_lists (state c.args.tx.now) (state c.find.new.tx) c.args.head c.args.key c.in_ok-found.found c.in_ok-found.ensures.found c.requires.begun
     c.requires.head (is_there c.in_ok-found.found.here c.if-not-found.false) c.shape-2.result.now
     (c.shape-2.ensures ∙ shape_later (state c.find.new.tx) (state c.field_of-value.new.self) c.field_of-value.ensures.on.later)
+
+pub returns-in_err-found-clause-no_read : goal.returns-in_err-found-clause-no_read
+returns-in_err-found-clause-no_read g c =
+    let s = state c.args.tx.now in
+    refused_never g.T.Theory.meaning (Option ℕ) s (state c.find.new.tx) c.from_residual.result c.in_err-found.field-0.0 c.from_residual.ensures.1 Reads
+    (NeedsRead g.T.Theory.meaning s c.args.head c.args.key (λ map. Remove map c.args.key)) c.in_err-found.ensures.no_read
+
+pub returns-in_err-found-clause-no_slot : goal.returns-in_err-found-clause-no_slot
+returns-in_err-found-clause-no_slot g c =
+    let M = g.T.Theory.meaning in
+    let s = state c.args.tx.now in
+    refused_within M (Option ℕ) s (state c.find.new.tx) c.from_residual.result c.in_err-found.field-0.0 c.from_residual.ensures.1 Writes
+    (WalkNeedsSlot M s c.args.head) (NeedsSlot M s c.args.head c.args.key (λ map. Remove map c.args.key)) c.in_err-found.ensures.no_slot
+    (λ x needs map is cs going. inl (needs (begun_walks M s map c.args.key c.args.head c.requires.begun is cs going)))
+
+pub returns-in_err-note-clause-no_read : goal.returns-in_err-note-clause-no_read
+returns-in_err-note-clause-no_read g c =
+    let M = g.T.Theory.meaning in
+    let s = state c.args.tx.now in
+    let t = state c.find.new.tx in
+    let u = state c.note.new.self in
+    let stop = c.in_err-note.field-0.0 in
+    let found = c.in_ok-found.found in
+    let on = c.in_ok-found.ensures.leaves.on in
+    let none = stop_after_ok Found s t found c.in_ok-found.ensures.stops in
+    let noted = c.in_err-note.ensures.noted in
+    refused_by M (Option ℕ) s u c.from_residual-in_err-note.result stop c.from_residual-in_err-note.ensures.1 Reads (NeedsRead M s c.args.head c.args.key (λ map. Remove map c.args.key)) t on
+    (reads_kept M s t 0 0 c.in_ok-found.ensures.leaves) (note_refused M t u stop (note_case t found.prev found.at) found.prev found.at noted)
+    (λ by map is cs going.
+    let f = c.in_ok-found.ensures.found (begun_walks M s map c.args.key c.args.head c.requires.begun is cs going) in
+    let full = note_full M t u stop found.prev found.at by (note_unstopped t u stop found.prev found.at none.1 noted) in
+    subst (λ ds. OneMoreRead M t ds map c.args.key (Remove map c.args.key)) f.1
+    (needs_read M g.T.Theory.lawful g.met.T.HasLists.has_lists t c.args.head c.args.key found f.0 map (subst (λ x. IsHeadOf x map c.args.key c.args.head) (sym (shape_later s t on.later)) is)
+    (λ m. Remove m c.args.key) (Value None) found.prev found.at
+    (shows_absent M g.T.Theory.lawful g.met.T.HasLists.has_lists t c.args.head c.args.key found f.0 (is_absent found.here c.if-not-found.true) (Remove f.0.walking.map c.args.key) refl
+    (λ d op reply changes records. remove_none op reply changes records)) (omega arith) full.0 full.1))
+
+pub returns-in_err-note-clause-no_slot : goal.returns-in_err-note-clause-no_slot
+returns-in_err-note-clause-no_slot g c =
+    let M = g.T.Theory.meaning in
+    let s = state c.args.tx.now in
+    let t = state c.find.new.tx in
+    let u = state c.note.new.self in
+    let stop = c.in_err-note.field-0.0 in
+    let found = c.in_ok-found.found in
+    let none = stop_after_ok Found s t found c.in_ok-found.ensures.stops in
+    refused_else M (Option ℕ) s u c.from_residual-in_err-note.result stop c.from_residual-in_err-note.ensures.1 Writes (NeedsSlot M s c.args.head c.args.key (λ map. Remove map c.args.key))
+    (λ _ by. reads_or_writes (note_limit M t u stop found.prev found.at Writes (note_unstopped t u stop found.prev found.at none.1 c.in_err-note.ensures.noted) by))
+
+pub returns-in_err-exchange-clause-no_read : goal.returns-in_err-exchange-clause-no_read
+returns-in_err-exchange-clause-no_read g c =
+    let M = g.T.Theory.meaning in
+    let s = state c.args.tx.now in
+    let t = state c.find.new.tx in
+    let v = state c.field_of-value.new.self in
+    let u = state c.exchange.new.self in
+    let stop = c.in_err-exchange.field-0.0 in
+    let word = c.node_next-next_word.result in
+    let next = c.in_ok-found.found.next in
+    let none = stop_after_ok Found s t c.in_ok-found.found c.in_ok-found.ensures.stops in
+    refused_else M (Option ℕ) s u c.from_residual-in_err-exchange.result stop c.from_residual-in_err-exchange.ensures.1 Reads (NeedsRead M s c.args.head c.args.key (λ map. Remove map c.args.key))
+    (λ _. exchange_reads M v u stop word next (next.value + 1) Critical
+    (exchange_unstopped M v u stop word next (next.value + 1) Critical (ap (λ x. x.stop) c.field_of-value.ensures.same ∙ none.1) c.in_err-exchange.ensures.exchanged))
+
+pub returns-in_err-exchange-clause-no_slot : goal.returns-in_err-exchange-clause-no_slot
+returns-in_err-exchange-clause-no_slot g c =
+    let M = g.T.Theory.meaning in
+    let s = state c.args.tx.now in
+    let t = state c.find.new.tx in
+    let v = state c.field_of-value.new.self in
+    let u = state c.exchange.new.self in
+    let stop = c.in_err-exchange.field-0.0 in
+    let found = c.in_ok-found.found in
+    let same = c.field_of-value.ensures.same in
+    let on = c.field_of-value.ensures.on in
+    let leaves = c.in_ok-found.ensures.leaves in
+    let goes = goes_over M s t v leaves.on on in
+    let none = stop_after_ok Found s t found c.in_ok-found.ensures.stops in
+    let word = c.node_next-next_word.result in
+    let word_is = c.node_next-next_word.ensures.place ∙ ap (λ x. address x (node_next found.node)) c.shape-2.ensures in
+    let shape = shape_later t v on.later in
+    let exchanged = c.in_err-exchange.ensures.exchanged in
+    refused_by M (Option ℕ) s u c.from_residual-in_err-exchange.result stop c.from_residual-in_err-exchange.ensures.1 Writes (NeedsSlot M s c.args.head c.args.key (λ map. Remove map c.args.key)) v goes
+    (ap (λ x. x.reads) same ∙ reads_kept M s t 0 0 leaves) (exchange_refused M v u stop word found.next (found.next.value + 1) Critical exchanged)
+    (λ by map is cs going.
+    let f = c.in_ok-found.ensures.found (begun_walks M s map c.args.key c.args.head c.requires.begun is cs going) in
+    let h = found_on M g.T.Theory.lawful g.met.T.HasLists.has_lists t c.args.head c.args.key found f.0 v on same c.field_of-value.ensures.given in
+    let full = exchange_full M v u stop word found.next (found.next.value + 1) Critical by
+    (exchange_unstopped M v u stop word found.next (found.next.value + 1) Critical (ap (λ x. x.stop) same ∙ none.1) exchanged) in
+    inr (subst (λ ds. OneMoreChange M v ds map c.args.key (Remove map c.args.key)) (h.1 ∙ f.1)
+    (needs_mark M g.T.Theory.lawful g.met.T.HasLists.has_lists v c.args.head c.args.key found h.0 (is_there found.here c.if-not-found.false) c.field_of-value.result c.node_value-value_word.result
+    (c.node_value-value_word.ensures.place ∙ ap (λ x. address x (node_value found.node)) (c.shape.ensures ∙ sym shape))
+    (subst (λ x. Known M v (λ w k. data_at k (place_at x c.node_value-value_word.result) ≡ c.field_of-value.result)) (sym shape) c.field_of-value.ensures.known)
+    (omega arith) (ap (is_written (writes_in v)) (sym word_is) ∙ full.0) map
+    (subst (λ x. IsHeadOf x map c.args.key c.args.head) (sym (shape_later s v goes.later)) is))))

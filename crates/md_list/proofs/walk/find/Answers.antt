@@ -11,15 +11,18 @@ use Rattle.md_list.proofs.Marks.{even_is_unmarked, halved, odd_is_marked}
 use Rattle.md_list.proofs.MarkedNext.{may_unlink}
 use Rattle.md_list.proofs.OnNode.{named_exists}
 use Rattle.md_list.proofs.Steps.{exchanged_ok, head_counted, head_looked, key_data, key_is, looked_ok, next_is, next_looked, node_is, unlinked_ok, walked_exchange, walked_same}
-use Rattle.md_list.proofs.Stops.{answers_other, exchange_stops, exchanged_stop, look_other, look_stops, none_stood, ok_unstopped, passed_on}
+use Rattle.md_list.proofs.Stops.{answers_other, exchange_stops, exchanged_stop, look_other, look_stops, none_stands, none_stood, ok_unstopped, passed_on}
+use Rattle.md_list.proofs.Refused.{exchange_full, exchange_reads, look_unlimited, never_refused, refused_by, refused_else}
+use Rattle.md_list.proofs.Would.{needs_unlink, unlink_of_walk}
 use Rattle.md_list.proofs.Walked.{has_stop, stop_leaves, walk_leaves, walked_one}
-use Rattle.md_list.proofs.Adding.{leaves_none}
+use Rattle.md_list.proofs.Adding.{goes_over, leaves_none}
+use Rattle.md_list.specs.Refusals.{WalkNeedsSlot}
 use Rattle.md_list.proofs.At.{found_over}
 use Rattle.md_list.specs.declared.walk.Found.{Found}
-use Rattle.md_history.specs.declared.stops.Limit.TheVariants.{Nodes}
+use Rattle.md_history.specs.declared.stops.Limit.TheVariants.{Nodes, Reads, Writes}
 use Rattle.md_history.specs.declared.stops.Stop.TheVariants.{Limit as Limited}
 use Rattle.md_nbtc.specs.declared.seen.Seen.{Seen}
-use Rattle.md_nbtc.specs.Calls.{Looked}
+use Rattle.md_nbtc.specs.Calls.{Exchanges, Looked, exchange_case}
 use Rattle.md_words.specs.PlaceAt.{IsCounted}
 use Rattle.md_machine.proofs.chain.SameNodes.{next_counted}
 use Rattle.md_list_law.specs.ListShape.{next_word}
@@ -338,3 +341,83 @@ returns-then-node-eq0-clause-leaves g c =
 
 pub returns-then-node-eq0-clause-stops : goal.returns-then-node-eq0-clause-stops
 returns-then-node-eq0-clause-stops g c = none_stood Found (state c.args.tx.now) (state c.loop.tx) _ ((state c.loop.tx).stop ≡ None) c.loop.invariant.unstopped c.loop.invariant.still
+
+pub returns-in_err-at-clause-no_read : goal.returns-in_err-at-clause-no_read
+returns-in_err-at-clause-no_read g c =
+    let M = g.T.Theory.meaning in
+    let t = state c.args.tx.now in
+    let u = state c.load.new.self in
+    let stop = c.in_err-at.field-0.0 in
+    never_refused M Found t u c.from_residual.result stop c.from_residual.ensures.1 Reads
+    (λ none. look_unlimited M t u stop c.args.head Reads (none_stands Seen t u (Err stop) (Looked M t u c.args.head (Err stop)) none c.in_err-at.ensures.looked))
+
+pub returns-in_err-at-clause-no_slot : goal.returns-in_err-at-clause-no_slot
+returns-in_err-at-clause-no_slot g c =
+    let M = g.T.Theory.meaning in
+    let t = state c.args.tx.now in
+    let u = state c.load.new.self in
+    let stop = c.in_err-at.field-0.0 in
+    refused_else M Found t u c.from_residual.result stop c.from_residual.ensures.1 Writes (WalkNeedsSlot M t c.args.head)
+    (λ none. look_unlimited M t u stop c.args.head Writes (none_stands Seen t u (Err stop) (Looked M t u c.args.head (Err stop)) none c.in_err-at.ensures.looked))
+
+pub returns-in_err-next-clause-no_read : goal.returns-in_err-next-clause-no_read
+returns-in_err-next-clause-no_read g c =
+    let M = g.T.Theory.meaning in
+    let t = state c.loop.tx in
+    let u = state c.load-in-loop.new.self in
+    let stop = c.in_err-next.field-0.0 in
+    let word = c.node_next-next_word.result in
+    never_refused M Found (state c.args.tx.now) u c.from_residual-in_err-next.result stop c.from_residual-in_err-next.ensures.1 Reads
+    (λ _. look_unlimited M t u stop word Reads (none_stands Seen t u (Err stop) (Looked M t u word (Err stop)) c.loop.invariant.still c.in_err-next.ensures.looked))
+
+pub returns-in_err-next-clause-no_slot : goal.returns-in_err-next-clause-no_slot
+returns-in_err-next-clause-no_slot g c =
+    let M = g.T.Theory.meaning in
+    let s = state c.args.tx.now in
+    let t = state c.loop.tx in
+    let u = state c.load-in-loop.new.self in
+    let stop = c.in_err-next.field-0.0 in
+    let word = c.node_next-next_word.result in
+    refused_else M Found s u c.from_residual-in_err-next.result stop c.from_residual-in_err-next.ensures.1 Writes (WalkNeedsSlot M s c.args.head)
+    (λ _. look_unlimited M t u stop word Writes (none_stands Seen t u (Err stop) (Looked M t u word (Err stop)) c.loop.invariant.still c.in_err-next.ensures.looked))
+
+pub returns-in_err-at-2-clause-no_read : goal.returns-in_err-at-2-clause-no_read
+returns-in_err-at-2-clause-no_read g c =
+    let M = g.T.Theory.meaning in
+    let t = state c.loop.tx in
+    let u = state c.load-in-loop.new.self in
+    let v = state c.exchange.new.self in
+    let stop = c.in_err-at-2.field-0.0 in
+    let to = c.in_ok-next.next.value - 1 in
+    let is = looked_ok M t u c.node_next-next_word.result c.in_ok-next.next c.in_ok-next.ensures.looked in
+    never_refused M Found (state c.args.tx.now) v c.from_residual-in_err-at-2.result stop c.from_residual-in_err-at-2.ensures.1 Reads
+    (λ _. exchange_reads M u v stop c.loop.prev c.loop.at to c.if-next.kind
+    (none_stands Seen u v (Err stop) (Exchanges (exchange_case u c.loop.prev c.loop.at c.if-next.kind) M u v c.loop.prev c.loop.at to (Err stop)) (ap (λ x. x.stop) is.0 ∙ c.loop.invariant.still)
+    c.in_err-at-2.ensures.exchanged))
+
+pub returns-in_err-at-2-clause-no_slot : goal.returns-in_err-at-2-clause-no_slot
+returns-in_err-at-2-clause-no_slot g c =
+    let M = g.T.Theory.meaning in
+    let s = state c.args.tx.now in
+    let t = state c.loop.tx in
+    let u = state c.load-in-loop.new.self in
+    let v = state c.exchange.new.self in
+    let i = c.loop.invariant in
+    let stop = c.in_err-at-2.field-0.0 in
+    let prev = c.loop.prev in
+    let at = c.loop.at in
+    let next = c.in_ok-next.next in
+    let kind = c.if-next.kind in
+    let is = looked_ok M t u c.node_next-next_word.result next c.in_ok-next.ensures.looked in
+    let goes = goes_over M s t u i.walked.on c.in_ok-next.ensures.on in
+    let exchanged = none_stands Seen u v (Err stop) (Exchanges (exchange_case u prev at kind) M u v prev at (next.value - 1) (Err stop)) (ap (λ x. x.stop) is.0 ∙ i.still) c.in_err-at-2.ensures.exchanged in
+    refused_by M Found s v c.from_residual-in_err-at-2.result stop c.from_residual-in_err-at-2.ensures.1 Writes (WalkNeedsSlot M s c.args.head) u goes (ap (λ x. x.reads) is.0 ∙ i.walked.reads)
+    (exchange_refused M u v stop prev at (next.value - 1) kind c.in_err-at-2.ensures.exchanged)
+    (λ by w.
+    let o = next_looked M g.T.Theory.lawful g.met.T.HasLists.has_lists t u c.args.head c.args.key c.in_ok-next.ensures.on i.visited prev at (i.stands w).0 (λ e. c.if-node-eq0.false (sym (halved at.value) ∙ e))
+    c.node_next-next_word.result (next_is (shape_in t) c.shape.result.now at.value c.node_next-next_word.result c.node_next-next_word.ensures.place c.shape.ensures)
+    next c.in_ok-next.ensures.looked c.in_ok-next.ensures.given in
+    let full = exchange_full M u v stop prev at (next.value - 1) kind by exchanged in
+    unlink_of_walk M s u c.args.head goes.later w o.0.stands.walking (o.1 ∙ (i.stands w).1)
+    (needs_unlink M g.T.Theory.lawful g.met.T.HasLists.has_lists u c.args.head c.args.key i.visited prev at next o.0 (odd_is_marked next.value c.if-next-eq1.true) i.small kind
+    (elim c.if-next.branch [ then-next b ↦ inl b.if-next.true | else-next b ↦ inr b.kind-is ]) full.0 full.1))

@@ -1,12 +1,30 @@
-use Rattle.std.proofs.Common.{map, arith, rules}
-use Rattle.md_machine.specs.declared.certificate.WordValue.{WordValue}
+use Rattle.std.proofs.Common.{arith, rules}
 use Rattle.md_nbtc.specs.State.{state}
-use Rattle.md_queue.specs.Operations.{RefusedOtherwise}
+use Rattle.md_queue.specs.Operations.{RefusedOtherwise, words_recorded}
 use Rattle.md_queue.specs.Working.{first_words}
 use Rattle.md_queue.proofs.Among.{among_from, answered}
 use Rattle.md_queue.proofs.Firsts.{dequeue_none, first_among}
 use Rattle.md_queue.proofs.Steps.{goes_then, refused_then, unstopped}
+use Rattle.std.proofs.Common.{inl, inr}
+use Rattle.md_history.specs.declared.acts.Op.TheVariants.{Dequeue}
+use Rattle.md_queue.specs.Refusals.{AsksFront}
+use Rattle.md_queue.proofs.Refusing.{began_on, change_from, move_from, not_by, read_from, if_err}
 use Rattle.md_queue.proofs.first.dequeue.Goals as goal
+
+pub note_first-requires : goal.note_first-requires
+note_first-requires g c =
+    let under = c.requires.begun.going in
+    record { sees = (under.0, c.in_ok-first.ensures.sees under.0 under.1) }
+
+pub follow_tail-requires-clause-sees : goal.follow_tail-requires-clause-sees
+follow_tail-requires-clause-sees g c =
+    let under = c.requires.begun.going in
+    (under.0, c.in_ok-first.ensures.sees under.0 under.1)
+
+pub take_first-requires-clause-sees : goal.take_first-requires-clause-sees
+take_first-requires-clause-sees g c =
+    let under = c.requires.begun.going in
+    (under.0, c.in_ok-follow_tail.ensures.sees under.0 (c.in_ok-first.ensures.sees under.0 under.1))
 
 pub returns-then-first-eq0-clause-answer : goal.returns-then-first-eq0-clause-answer
 returns-then-first-eq0-clause-answer g c =
@@ -17,8 +35,9 @@ returns-then-first-eq0-clause-answer g c =
     let head = c.in_ok-first.first.head in
     let goes = goes_then M s t u 0 0 0 2 0 0 2 0 0 c.in_ok-first.ensures.goes (λ _. c.in_ok-note_first.ensures.goes) (omega arith) (omega arith) (omega arith) in
     answered (first_words u c.args.queue head) goes
-    (dequeue_none M g.T.Theory.lawful g.met.T.HasQueues.has_queues u c.args.queue head c.in_ok-first.first.next c.in_ok-note_first.ensures.noted c.if-first-eq0.true)
-    (first_among M s t u c.args.queue head c.in_ok-first.ensures.goes c.in_ok-note_first.ensures.goes.leaves.later c.in_ok-note_first.ensures.among)
+    (λ cs going. dequeue_none M g.T.Theory.lawful g.met.T.HasQueues.has_queues u c.args.queue cs head c.in_ok-first.first.next
+    (c.in_ok-note_first.ensures.noted cs (c.in_ok-first.ensures.sees cs going)) c.if-first-eq0.true)
+    (first_among M s t u c.args.queue head c.in_ok-first.ensures.goes c.in_ok-note_first.ensures.goes.leaves.on.later c.in_ok-note_first.ensures.among)
 
 pub returns-in_err-follow_tail-clause-stop : goal.returns-in_err-follow_tail-clause-stop
 returns-in_err-follow_tail-clause-stop g c =
@@ -50,12 +69,18 @@ returns-clause-answer g c =
     let u = state c.follow_tail.new.tx in
     let v = state c.take_first.new.tx in
     let followed = goes_then M s t u 0 0 0 0 1 0 0 1 0 c.in_ok-first.ensures.goes (λ _. c.in_ok-follow_tail.ensures.goes) (omega arith) (omega arith) (omega arith) in
-    let taken = c.in_ok-value.ensures.answer in
     record {
-      goes = goes_then M s u v 0 1 0 1 1 0 1 2 0 followed (λ _. taken.goes) (omega arith) (omega arith) (omega arith);
-      may = taken.may;
-      row = taken.row;
-      recorded = among_from M s u v 1 0 (map (λ (r : WordValue). r.word) taken.may.certificate.recorded) followed taken.recorded;
+      goes = goes_then M s u v 0 1 0 1 1 0 1 2 0 followed (λ _. c.in_ok-value.ensures.goes) (omega arith) (omega arith) (omega arith);
+      by = λ cs going.
+          let taken = c.in_ok-value.ensures.answer cs (c.in_ok-follow_tail.ensures.sees cs (c.in_ok-first.ensures.sees cs going)) in
+          record {
+            certificate = taken.certificate;
+            of = taken.of;
+            may = taken.may;
+            row = taken.row;
+            recorded = among_from M s u v 1 0 (words_recorded taken.certificate) followed taken.recorded;
+            charged = taken.charged;
+          };
     }
 
 pub returns-then-first-eq0-clause-stopped : goal.returns-then-first-eq0-clause-stopped
@@ -82,3 +107,67 @@ returns-in_err-note_first-clause-stop g c =
     let stop = c.in_err-note_first.field-0.0 in
     let refused : RefusedOtherwise M s u 2 2 stop = refused_then M s t u 0 0 2 0 2 2 stop c.in_ok-first.ensures.goes (λ _. c.in_err-note_first.ensures.stop) (omega arith) (omega arith) in
     search rules
+
+pub returns-in_err-note_first-clause-reads : goal.returns-in_err-note_first-clause-reads
+returns-in_err-note_first-clause-reads g c =
+    let M = g.T.Theory.meaning in
+    let t = state c.args.tx.now in
+    let u = state c.load_first.new.tx in
+    let v = state c.note_first.new.tx in
+    let goes = c.in_ok-first.ensures.goes in
+    let stop = c.in_err-note_first.field-0.0 in
+    if_err c.from_residual-in_err-note_first.result stop _ c.from_residual-in_err-note_first.ensures.1 (λ limit began cs going. read_from M t u v 0 0 cs (AsksFront c.args.queue) goes
+    (c.in_err-note_first.ensures.reads limit (began_on M t u 0 0 0 goes began) cs (c.in_ok-first.ensures.sees cs going)))
+
+pub returns-in_err-follow_tail-clause-writes : goal.returns-in_err-follow_tail-clause-writes
+returns-in_err-follow_tail-clause-writes g c =
+    let M = g.T.Theory.meaning in
+    let t = state c.args.tx.now in
+    let u = state c.load_first.new.tx in
+    let v = state c.follow_tail.new.tx in
+    let goes = c.in_ok-first.ensures.goes in
+    let stop = c.in_err-follow_tail.field-0.0 in
+    if_err c.from_residual-in_err-follow_tail.result stop _ c.from_residual-in_err-follow_tail.ensures.1 (λ limit began cs going. inl (move_from M t u v 0 0 cs c.args.queue goes
+    (c.in_err-follow_tail.ensures.writes limit (began_on M t u 0 0 0 goes began) cs (c.in_ok-first.ensures.sees cs going))))
+
+pub returns-in_err-value-clause-reads : goal.returns-in_err-value-clause-reads
+returns-in_err-value-clause-reads g c =
+    let M = g.T.Theory.meaning in
+    let s = state c.args.tx.now in
+    let t = state c.load_first.new.tx in
+    let u = state c.follow_tail.new.tx in
+    let v = state c.take_first.new.tx in
+    let goes = goes_then M s t u 0 0 0 0 1 0 0 1 0 c.in_ok-first.ensures.goes (λ _. c.in_ok-follow_tail.ensures.goes) (omega arith) (omega arith) (omega arith) in
+    let stop = c.in_err-value.field-0.0 in
+    if_err c.from_residual-in_err-value.result stop _ c.from_residual-in_err-value.ensures.1 (λ limit began cs going. read_from M s u v 1 0 cs (AsksFront c.args.queue) goes
+    (c.in_err-value.ensures.reads limit (began_on M s u 0 1 0 goes began) cs (c.in_ok-follow_tail.ensures.sees cs (c.in_ok-first.ensures.sees cs going))))
+
+pub returns-in_err-value-clause-writes : goal.returns-in_err-value-clause-writes
+returns-in_err-value-clause-writes g c =
+    let M = g.T.Theory.meaning in
+    let s = state c.args.tx.now in
+    let t = state c.load_first.new.tx in
+    let u = state c.follow_tail.new.tx in
+    let v = state c.take_first.new.tx in
+    let goes = goes_then M s t u 0 0 0 0 1 0 0 1 0 c.in_ok-first.ensures.goes (λ _. c.in_ok-follow_tail.ensures.goes) (omega arith) (omega arith) (omega arith) in
+    let stop = c.in_err-value.field-0.0 in
+    if_err c.from_residual-in_err-value.result stop _ c.from_residual-in_err-value.ensures.1 (λ limit began cs going. inr (change_from M s u v 1 0 cs (Dequeue c.args.queue) goes
+    (c.in_err-value.ensures.writes limit (began_on M s u 0 1 0 goes began) cs (c.in_ok-follow_tail.ensures.sees cs (c.in_ok-first.ensures.sees cs going)))))
+
+pub returns-in_err-note_first-clause-writes : goal.returns-in_err-note_first-clause-writes
+returns-in_err-note_first-clause-writes g c =
+    let M = g.T.Theory.meaning in
+    let t = state c.args.tx.now in
+    let u = state c.load_first.new.tx in
+    let stop = c.in_err-note_first.field-0.0 in
+    if_err c.from_residual-in_err-note_first.result stop _ c.from_residual-in_err-note_first.ensures.1
+    (λ limit began. not_by u stop (began_on M t u 0 0 0 c.in_ok-first.ensures.goes began).unstopped (c.in_err-note_first.ensures.no_writes limit))
+
+pub returns-in_err-follow_tail-clause-reads : goal.returns-in_err-follow_tail-clause-reads
+returns-in_err-follow_tail-clause-reads g c =
+    let M = g.T.Theory.meaning in
+    let t = state c.args.tx.now in
+    let u = state c.load_first.new.tx in
+    let stop = c.in_err-follow_tail.field-0.0 in
+    if_err c.from_residual-in_err-follow_tail.result stop _ c.from_residual-in_err-follow_tail.ensures.1
+    (λ limit began. not_by u stop (began_on M t u 0 0 0 c.in_ok-first.ensures.goes began).unstopped (c.in_err-follow_tail.ensures.no_reads limit))

@@ -14,7 +14,14 @@ use Rattle.md_queue.proofs.Data.{half_is}
 use Rattle.md_queue.proofs.Firsts.{first_among, front_none, front_some}
 use Rattle.md_queue.proofs.Looking.{node_readable}
 use Rattle.md_queue.proofs.Steps.{goes_then, pass_goes, refused_then, unstopped}
+use Rattle.md_queue.specs.Refusals.{AsksFront}
+use Rattle.md_queue.proofs.Refusing.{began_on, read_from, if_err}
 use Rattle.md_queue.proofs.first.front.Goals as goal
+
+pub note_first-requires : goal.note_first-requires
+note_first-requires g c =
+    let under = c.requires.begun.going in
+    record { sees = (under.0, c.in_ok-first.ensures.sees under.0 under.1) }
 
 pub returns-then-first-eq0-clause-answer : goal.returns-then-first-eq0-clause-answer
 returns-then-first-eq0-clause-answer g c =
@@ -25,20 +32,22 @@ returns-then-first-eq0-clause-answer g c =
     let head = c.in_ok-first.first.head in
     let goes = goes_then M s t u 0 0 0 2 0 0 2 0 0 c.in_ok-first.ensures.goes (λ _. c.in_ok-note_first.ensures.goes) (omega arith) (omega arith) (omega arith) in
     answered (first_words u c.args.queue head) goes
-    (front_none M g.T.Theory.lawful g.met.T.HasQueues.has_queues u c.args.queue head c.in_ok-first.first.next c.in_ok-note_first.ensures.noted c.if-first-eq0.true)
-    (first_among M s t u c.args.queue head c.in_ok-first.ensures.goes c.in_ok-note_first.ensures.goes.leaves.later c.in_ok-note_first.ensures.among)
+    (λ cs going. front_none M g.T.Theory.lawful g.met.T.HasQueues.has_queues u c.args.queue cs head c.in_ok-first.first.next
+    (c.in_ok-note_first.ensures.noted cs (c.in_ok-first.ensures.sees cs going)) c.if-first-eq0.true)
+    (first_among M s t u c.args.queue head c.in_ok-first.ensures.goes c.in_ok-note_first.ensures.goes.leaves.on.later c.in_ok-note_first.ensures.among)
 
 pub value_of-requires : goal.value_of-requires
 value_of-requires g c =
     let M = g.T.Theory.meaning in
     let u = state c.note_first.new.tx in
-    let n = c.in_ok-note_first.ensures.noted in
+    let under = c.requires.begun.going in
+    let n = c.in_ok-note_first.ensures.noted under.0 (c.in_ok-first.ensures.sees under.0 under.1) in
     let next = c.in_ok-first.first.next in
     record {
       may = record {
-        going = (n.certificates, n.working.going);
+        going = (under.0, n.working.going);
         readable = subst (IsReadable M u) (sym (half_is next.value))
-            (node_readable M g.T.Theory.lawful g.met.T.HasQueues.has_queues u c.args.queue n.certificates n.changes n.working _ (n.next_named c.if-first-eq0.false).placed);
+            (node_readable M g.T.Theory.lawful g.met.T.HasQueues.has_queues u c.args.queue under.0 n.changes n.working _ (n.next_named c.if-first-eq0.false).placed);
       };
     }
 
@@ -49,16 +58,15 @@ returns-clause-answer g c =
     let t = state c.load_first.new.tx in
     let u = state c.note_first.new.tx in
     let v = state c.value_of.new.tx in
-    let n = c.in_ok-note_first.ensures.noted in
     let next = c.in_ok-first.first.next in
     let head = c.in_ok-first.first.head in
     let noted = goes_then M s t u 0 0 0 2 0 0 2 0 0 c.in_ok-first.ensures.goes (λ _. c.in_ok-note_first.ensures.goes) (omega arith) (omega arith) (omega arith) in
-    let read = pass_goes M u v (n.certificates, n.working.going) c.value_of.ensures.on c.value_of.ensures.same noted.leaves.operates in
-    let among = first_among M s t u c.args.queue head c.in_ok-first.ensures.goes c.in_ok-note_first.ensures.goes.leaves.later c.in_ok-note_first.ensures.among in
+    let read = pass_goes M u v c.value_of.ensures.on c.value_of.ensures.same noted.leaves.operates in
+    let among = first_among M s t u c.args.queue head c.in_ok-first.ensures.goes c.in_ok-note_first.ensures.goes.leaves.on.later c.in_ok-note_first.ensures.among in
     answered (first_words v c.args.queue head) (goes_then M s u v 2 0 0 0 0 0 2 0 0 noted (λ _. read) (omega arith) (omega arith) (omega arith))
-    (front_some M g.T.Theory.lawful g.met.T.HasQueues.has_queues u v c.args.queue head next n c.if-first-eq0.false c.value_of.ensures.on c.value_of.ensures.same
+    (λ cs going. front_some M g.T.Theory.lawful g.met.T.HasQueues.has_queues u v c.args.queue cs head next (c.in_ok-note_first.ensures.noted cs (c.in_ok-first.ensures.sees cs going)) c.if-first-eq0.false c.value_of.ensures.on c.value_of.ensures.same
     c.value_of.result (subst (λ x. Known M v (λ w h. h.words.value_of_node x ≡ c.value_of.result)) (half_is next.value) c.value_of.ensures.known))
-    (subst (λ (x : Shape). RecordsAmong s v (address x (queue_head c.args.queue) ∷ address x (node_next (linked_node head.value)) ∷ [])) (sym (shape_later u v read.leaves.later))
+    (subst (λ (x : Shape). RecordsAmong s v (address x (queue_head c.args.queue) ∷ address x (node_next (linked_node head.value)) ∷ [])) (sym (shape_later u v read.leaves.on.later))
     (among_to M s u v 0 0 (first_words u c.args.queue head) among read))
 
 pub returns-then-first-eq0-clause-stopped : goal.returns-then-first-eq0-clause-stopped
@@ -79,3 +87,14 @@ returns-in_err-note_first-clause-stop g c =
     let stop = c.in_err-note_first.field-0.0 in
     let refused : RefusedOtherwise M s u 2 0 stop = refused_then M s t u 0 0 2 0 2 0 stop c.in_ok-first.ensures.goes (λ _. c.in_err-note_first.ensures.stop) (omega arith) (omega arith) in
     search rules
+
+pub returns-in_err-note_first-clause-reads : goal.returns-in_err-note_first-clause-reads
+returns-in_err-note_first-clause-reads g c =
+    let M = g.T.Theory.meaning in
+    let t = state c.args.tx.now in
+    let u = state c.load_first.new.tx in
+    let v = state c.note_first.new.tx in
+    let goes = c.in_ok-first.ensures.goes in
+    let stop = c.in_err-note_first.field-0.0 in
+    if_err c.from_residual-in_err-note_first.result stop _ c.from_residual-in_err-note_first.ensures.1 (λ limit began cs going. read_from M t u v 0 0 cs (AsksFront c.args.queue) goes
+    (c.in_err-note_first.ensures.reads limit (began_on M t u 0 0 0 goes began) cs (c.in_ok-first.ensures.sees cs going)))

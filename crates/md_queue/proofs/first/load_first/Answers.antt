@@ -17,7 +17,7 @@ load-requires-clause-counted g c =
     let t = state c.args.tx.now in
     subst (IsCounted (shape_in t)) (sym (c.queue_head-head_word.ensures.place ∙ ap (λ s. address s (queue_head c.args.queue)) c.shape.ensures))
     (head_counted g.T.Theory.meaning g.T.Theory.lawful g.met.T.HasQueues.has_queues t c.args.queue c.requires.begun.going.0 []
-    (begun_working g.T.Theory.meaning t c.args.queue c.requires.begun))
+    (begun_working g.T.Theory.meaning t c.args.queue c.requires.begun c.requires.begun.going.0 c.requires.begun.going.1))
 
 pub load_next-requires : goal.load_next-requires
 load_next-requires g c =
@@ -25,14 +25,14 @@ load_next-requires g c =
     let t = state c.args.tx.now in
     let u = state c.load.new.self in
     let on = c.in_ok-head.ensures.on in
-    let is = look_ok M t u c.requires.begun.going on c.queue_head-head_word.result c.in_ok-head.head c.in_ok-head.ensures.looked in
-    let s = sees_head M g.T.Theory.lawful g.met.T.HasQueues.has_queues t u c.args.queue on is.0 c.requires.begun c.queue_head-head_word.result
+    let is = look_ok M t u on c.queue_head-head_word.result c.in_ok-head.head c.in_ok-head.ensures.looked in
+    let s = sees_head M g.T.Theory.lawful g.met.T.HasQueues.has_queues t u c.args.queue c.requires.begun.going.0 on is.0 c.requires.begun c.requires.begun.going.1 c.queue_head-head_word.result
     (c.queue_head-head_word.ensures.place ∙ ap (λ s. address s (queue_head c.args.queue)) c.shape.ensures) c.in_ok-head.head is.1 in
     record {
       may = record {
-        going = (s.certificates, s.working.going);
+        going = (c.requires.begun.going.0, s.working.going);
         exists = subst (IsNode (shape_in u)) (sym (half_is c.in_ok-head.head.value))
-            (head_named M g.T.Theory.lawful g.met.T.HasQueues.has_queues u c.args.queue s.certificates s.changes s.working c.in_ok-head.head s.head_sees).exists;
+            (head_named M g.T.Theory.lawful g.met.T.HasQueues.has_queues u c.args.queue c.requires.begun.going.0 s.changes s.working c.in_ok-head.head s.head_sees).exists;
       };
     }
 
@@ -42,12 +42,11 @@ returns-in_err-next-clause-stop g c =
     let t = state c.args.tx.now in
     let u = state c.load.new.self in
     let v = state c.load_next.new.tx in
-    let under = c.requires.begun.going in
     let on = c.in_ok-head.ensures.on in
     let stop = c.in_err-next.field-0.0 in
     let refused : RefusedOtherwise M t v 0 0 stop = refused_then M t u v 0 0 0 0 0 0 stop
-    (look_goes M t u under on c.queue_head-head_word.result c.in_ok-head.head c.in_ok-head.ensures.looked c.requires.begun.operates)
-    (look_stops M u v (under.0, on.going under.0 under.1) c.in_err-next.ensures.on (next_at u (c.in_ok-head.head.value / 2)) stop c.in_err-next.ensures.looked) (omega arith) (omega arith) in
+    (look_goes M t u on c.queue_head-head_word.result c.in_ok-head.head c.in_ok-head.ensures.looked c.requires.begun.operates)
+    (look_stops M u v c.in_err-next.ensures.on (next_at u (c.in_ok-head.head.value / 2)) stop c.in_err-next.ensures.looked) (omega arith) (omega arith) in
     search rules
 
 pub returns-clause-goes : goal.returns-clause-goes
@@ -56,14 +55,13 @@ returns-clause-goes g c =
     let t = state c.args.tx.now in
     let u = state c.load.new.self in
     let v = state c.load_next.new.tx in
-    let under = c.requires.begun.going in
     let on = c.in_ok-head.ensures.on in
-    goes_then M t u v 0 0 0 0 0 0 0 0 0 (look_goes M t u under on c.queue_head-head_word.result c.in_ok-head.head c.in_ok-head.ensures.looked c.requires.begun.operates)
-    (look_goes M u v (under.0, on.going under.0 under.1) c.in_ok-next.ensures.on (next_at u (c.in_ok-head.head.value / 2)) c.in_ok-next.next c.in_ok-next.ensures.looked)
+    goes_then M t u v 0 0 0 0 0 0 0 0 0 (look_goes M t u on c.queue_head-head_word.result c.in_ok-head.head c.in_ok-head.ensures.looked c.requires.begun.operates)
+    (look_goes M u v c.in_ok-next.ensures.on (next_at u (c.in_ok-head.head.value / 2)) c.in_ok-next.next c.in_ok-next.ensures.looked)
     (omega arith) (omega arith) (omega arith)
 
 pub returns-clause-sees : goal.returns-clause-sees
-returns-clause-sees g c =
+returns-clause-sees g c cs going =
     let M = g.T.Theory.meaning in
     let t = state c.args.tx.now in
     let u = state c.load.new.self in
@@ -71,11 +69,10 @@ returns-clause-sees g c =
     let head = c.in_ok-head.head in
     let next = c.in_ok-next.next in
     let on = c.in_ok-head.ensures.on in
-    let under = c.requires.begun.going in
-    let is = look_ok M t u under on c.queue_head-head_word.result head c.in_ok-head.ensures.looked in
-    let s = sees_head M g.T.Theory.lawful g.met.T.HasQueues.has_queues t u c.args.queue on is.0 c.requires.begun c.queue_head-head_word.result
+    let is = look_ok M t u on c.queue_head-head_word.result head c.in_ok-head.ensures.looked in
+    let s = sees_head M g.T.Theory.lawful g.met.T.HasQueues.has_queues t u c.args.queue cs on is.0 c.requires.begun going c.queue_head-head_word.result
     (c.queue_head-head_word.ensures.place ∙ ap (λ s. address s (queue_head c.args.queue)) c.shape.ensures) head is.1 in
-    let next_is = look_ok M u v (under.0, on.going under.0 under.1) c.in_ok-next.ensures.on (next_at u (head.value / 2)) next c.in_ok-next.ensures.looked in
-    sees_first M g.T.Theory.lawful g.met.T.HasQueues.has_queues u v c.args.queue c.in_ok-next.ensures.on next_is.0 head next s
+    let next_is = look_ok M u v c.in_ok-next.ensures.on (next_at u (head.value / 2)) next c.in_ok-next.ensures.looked in
+    sees_first M g.T.Theory.lawful g.met.T.HasQueues.has_queues u v c.args.queue cs c.in_ok-next.ensures.on next_is.0 head next s
     (subst (λ n. KeepsGiven u v (next_at u n)) (half_is head.value) c.in_ok-next.ensures.given)
     (subst (λ n. Looks M u v (next_at u n) next) (half_is head.value) next_is.1)

@@ -13,23 +13,29 @@ use Rattle.md_queue.proofs.Among.{among_then}
 use Rattle.md_queue.proofs.Data.{half_is}
 use Rattle.md_queue.proofs.Firsts.{noted_first, noted_head}
 use Rattle.md_queue.proofs.Steps.{goes_then, note_among, note_goes, note_ok, note_stops, refused_then, refused_up}
+use Rattle.md_history.specs.declared.stops.Limit.TheVariants.{Reads}
+use Rattle.md_history.specs.declared.stops.Stop.TheVariants.{Limit as Limited}
+use Rattle.std.proofs.Common.{◌<◌, ◌^◌, refl}
+use Rattle.md_nbtc.proofs.preparing.Heaps.{later_self}
+use Rattle.md_queue.proofs.Full.{head_full, next_full}
+use Rattle.md_queue.proofs.Refusing.{began_on, note_unread, note_unwritten, note_was, was_after, if_err}
 use Rattle.md_queue.proofs.first.note_first.Goals as goal
 
 pub note-requires-clause-found : goal.note-requires-clause-found
 note-requires-clause-found g c =
     let t = state c.args.tx.now in
     subst (λ w. IsFoundThere g.T.Theory.meaning t w c.args.first.head) (sym (c.queue_head-head_word.ensures.place ∙ ap (λ s. address s (queue_head c.args.queue)) c.shape.ensures))
-    c.requires.sees.head_sees.there
+    c.requires.sees.1.head_sees.there
 
 pub returns-in_err-note-clause-stop : goal.returns-in_err-note-clause-stop
 returns-in_err-note-clause-stop g c =
     let M = g.T.Theory.meaning in
     let t = state c.args.tx.now in
     let u = state c.note.new.self in
-    let s = c.requires.sees in
+    let s = c.requires.sees.1 in
     let stop = c.in_err-note.field-0.0 in
     let refused : RefusedOtherwise M t u 2 0 stop = refused_up M t u 0 0 2 0 stop
-    (note_stops M t u (s.certificates, s.working.going) c.in_err-note.ensures.on c.queue_head-head_word.result c.args.first.head stop c.in_err-note.ensures.noted s.working.operates) (omega arith) (omega arith) in
+    (note_stops M t u c.in_err-note.ensures.on c.queue_head-head_word.result c.args.first.head stop c.in_err-note.ensures.noted s.working.operates) (omega arith) (omega arith) in
     search rules
 
 pub note_next-requires : goal.note_next-requires
@@ -37,16 +43,16 @@ note_next-requires g c =
     let M = g.T.Theory.meaning in
     let t = state c.args.tx.now in
     let u = state c.note.new.self in
-    let s = c.requires.sees in
+    let s = c.requires.sees.1 in
     let first = c.args.first in
     let on = c.in_ok-note.ensures.on in
-    let noted = note_ok M t u (s.certificates, s.working.going) on c.queue_head-head_word.result first.head c.in_ok-note.ensures.noted in
-    let n = noted_head M g.T.Theory.lawful g.met.T.HasQueues.has_queues t c.args.queue first.head first.next s u on (omega arith) c.queue_head-head_word.result
+    let noted = note_ok M t u on c.queue_head-head_word.result first.head c.in_ok-note.ensures.noted in
+    let n = noted_head M g.T.Theory.lawful g.met.T.HasQueues.has_queues t c.args.queue c.requires.sees.0 first.head first.next s u on (omega arith) c.queue_head-head_word.result
     (c.queue_head-head_word.ensures.place ∙ ap (λ s. address s (queue_head c.args.queue)) c.shape.ensures) noted c.in_ok-note.ensures.given in
     let half = sym (half_is first.head.value) in
     record {
       may = record {
-        going = (s.certificates, n.working.going);
+        going = (c.requires.sees.0, n.working.going);
         exists = subst (IsNode (shape_in u)) half n.next_sees.exists;
         operates = n.working.operates;
         gave = subst (λ x. Gave u (next_at u x) first.next) half n.next_sees.at.gave;
@@ -60,13 +66,13 @@ returns-in_err-note_next-clause-stop g c =
     let t = state c.args.tx.now in
     let u = state c.note.new.self in
     let v = state c.note_next.new.tx in
-    let s = c.requires.sees in
+    let s = c.requires.sees.1 in
     let first = c.args.first in
     let on = c.in_ok-note.ensures.on in
     let stop = c.in_err-note_next.field-0.0 in
     let refused : RefusedOtherwise M t v 2 0 stop = refused_then M t u v 1 0 0 0 2 0 stop
-    (note_goes M t u (s.certificates, s.working.going) on c.queue_head-head_word.result first.head c.in_ok-note.ensures.noted s.working.operates)
-    (note_stops M u v (s.certificates, on.going s.certificates s.working.going) c.in_err-note_next.ensures.on (next_at u (first.head.value / 2)) first.next stop c.in_err-note_next.ensures.noted)
+    (note_goes M t u on c.queue_head-head_word.result first.head c.in_ok-note.ensures.noted s.working.operates)
+    (note_stops M u v c.in_err-note_next.ensures.on (next_at u (first.head.value / 2)) first.next stop c.in_err-note_next.ensures.noted)
     (omega arith) (omega arith) in
     search rules
 
@@ -76,27 +82,26 @@ returns-clause-goes g c =
     let t = state c.args.tx.now in
     let u = state c.note.new.self in
     let v = state c.note_next.new.tx in
-    let s = c.requires.sees in
+    let s = c.requires.sees.1 in
     let first = c.args.first in
     let on = c.in_ok-note.ensures.on in
-    goes_then M t u v 1 0 0 1 0 0 2 0 0 (note_goes M t u (s.certificates, s.working.going) on c.queue_head-head_word.result first.head c.in_ok-note.ensures.noted s.working.operates)
-    (note_goes M u v (s.certificates, on.going s.certificates s.working.going) c.in_ok-note_next.ensures.on (next_at u (first.head.value / 2)) first.next c.in_ok-note_next.ensures.noted)
+    goes_then M t u v 1 0 0 1 0 0 2 0 0 (note_goes M t u on c.queue_head-head_word.result first.head c.in_ok-note.ensures.noted s.working.operates)
+    (note_goes M u v c.in_ok-note_next.ensures.on (next_at u (first.head.value / 2)) first.next c.in_ok-note_next.ensures.noted)
     (omega arith) (omega arith) (omega arith)
 
 pub returns-clause-noted : goal.returns-clause-noted
-returns-clause-noted g c =
+returns-clause-noted g c cs s =
     let M = g.T.Theory.meaning in
     let t = state c.args.tx.now in
     let u = state c.note.new.self in
     let v = state c.note_next.new.tx in
-    let s = c.requires.sees in
     let first = c.args.first in
     let on = c.in_ok-note.ensures.on in
-    let noted = note_ok M t u (s.certificates, s.working.going) on c.queue_head-head_word.result first.head c.in_ok-note.ensures.noted in
-    let n = noted_head M g.T.Theory.lawful g.met.T.HasQueues.has_queues t c.args.queue first.head first.next s u on (omega arith) c.queue_head-head_word.result
+    let noted = note_ok M t u on c.queue_head-head_word.result first.head c.in_ok-note.ensures.noted in
+    let n = noted_head M g.T.Theory.lawful g.met.T.HasQueues.has_queues t c.args.queue cs first.head first.next s u on (omega arith) c.queue_head-head_word.result
     (c.queue_head-head_word.ensures.place ∙ ap (λ s. address s (queue_head c.args.queue)) c.shape.ensures) noted c.in_ok-note.ensures.given in
-    let noted_next = note_ok M u v (s.certificates, n.working.going) c.in_ok-note_next.ensures.on (next_at u (first.head.value / 2)) first.next c.in_ok-note_next.ensures.noted in
-    noted_first M g.T.Theory.lawful g.met.T.HasQueues.has_queues t c.args.queue first.head first.next s u on (omega arith) n v c.in_ok-note_next.ensures.on (omega arith)
+    let noted_next = note_ok M u v c.in_ok-note_next.ensures.on (next_at u (first.head.value / 2)) first.next c.in_ok-note_next.ensures.noted in
+    noted_first M g.T.Theory.lawful g.met.T.HasQueues.has_queues t c.args.queue cs first.head first.next s u on (omega arith) n v c.in_ok-note_next.ensures.on (omega arith)
     (subst (λ x. HasNoted u v (next_at u x) first.next) (half_is first.head.value) noted_next)
 
 pub returns-clause-among : goal.returns-clause-among
@@ -105,12 +110,59 @@ returns-clause-among g c =
     let t = state c.args.tx.now in
     let u = state c.note.new.self in
     let v = state c.note_next.new.tx in
-    let s = c.requires.sees in
+    let s = c.requires.sees.1 in
     let first = c.args.first in
     let on = c.in_ok-note.ensures.on in
     let dummy = linked_node first.head.value in
-    let head_noted = note_among M t u (s.certificates, s.working.going) on c.queue_head-head_word.result first.head c.in_ok-note.ensures.noted in
-    let next_noted = note_among M u v (s.certificates, on.going s.certificates s.working.going) c.in_ok-note_next.ensures.on (next_at u (first.head.value / 2)) first.next c.in_ok-note_next.ensures.noted in
+    let head_noted = note_among M t u on c.queue_head-head_word.result first.head c.in_ok-note.ensures.noted in
+    let next_noted = note_among M u v c.in_ok-note_next.ensures.on (next_at u (first.head.value / 2)) first.next c.in_ok-note_next.ensures.noted in
     among_then t u v (head_at t c.args.queue ∷ []) (next_at t dummy ∷ [])
     (subst (λ w. RecordsAmong t u (w ∷ [])) (c.queue_head-head_word.ensures.place ∙ ap (λ x. address x (queue_head c.args.queue)) c.shape.ensures) head_noted)
     (subst (λ w. RecordsAmong u v (w ∷ [])) (ap (λ n. next_at u n) (half_is first.head.value) ∙ ap (λ x. address x (node_next dummy)) (shape_later t u on.later)) next_noted)
+
+pub returns-in_err-note-clause-reads : goal.returns-in_err-note-clause-reads
+returns-in_err-note-clause-reads g c =
+    let M = g.T.Theory.meaning in
+    let t = state c.args.tx.now in
+    let u = state c.note.new.self in
+    let first = c.args.first in
+    let queue = c.args.queue in
+    let word = c.queue_head-head_word.result in
+    let stop = c.in_err-note.field-0.0 in
+    let place = c.queue_head-head_word.ensures.place ∙ ap (λ s. address s (queue_head c.args.queue)) c.shape.ensures in
+    let told = c.in_err-note.ensures.noted in
+    if_err c.from_residual.result stop _ c.from_residual.ensures.1 (λ limit began cs s. (
+      t,
+      note_was M t u stop began.unstopped word first.head limit cs s.working.going told,
+      head_full M g.T.Theory.lawful g.met.T.HasQueues.has_queues t queue cs s.changes s.working t word place
+          (note_unread M t u stop began.unstopped word first.head limit told) (note_unwritten M t u stop began.unstopped word first.head limit told) refl,
+    ))
+
+pub returns-in_err-note_next-clause-reads : goal.returns-in_err-note_next-clause-reads
+returns-in_err-note_next-clause-reads g c =
+    let M = g.T.Theory.meaning in
+    let t = state c.args.tx.now in
+    let u = state c.note.new.self in
+    let v = state c.note_next.new.tx in
+    let first = c.args.first in
+    let queue = c.args.queue in
+    let on = c.in_ok-note.ensures.on in
+    let stop = c.in_err-note_next.field-0.0 in
+    let place = c.queue_head-head_word.ensures.place ∙ ap (λ s. address s (queue_head c.args.queue)) c.shape.ensures in
+    let noted = note_ok M t u on c.queue_head-head_word.result first.head c.in_ok-note.ensures.noted in
+    let among = note_among M t u on c.queue_head-head_word.result first.head c.in_ok-note.ensures.noted in
+    let told = c.in_err-note_next.ensures.noted in
+    let word = next_at u (first.head.value / 2) in
+    let dummy = linked_node first.head.value in
+    let fits : first.head.count < 2 ^ 32 = omega arith in
+    if_err c.from_residual-in_err-note_next.result stop _ c.from_residual-in_err-note_next.ensures.1 (λ limit began cs s.
+    let n = noted_head M g.T.Theory.lawful g.met.T.HasQueues.has_queues t queue cs first.head first.next s u on fits c.queue_head-head_word.result place noted c.in_ok-note.ensures.given in
+    let none = (began_on M t u 1 0 0 (note_goes M t u on c.queue_head-head_word.result first.head c.in_ok-note.ensures.noted s.working.operates) began).unstopped in
+    let at_u = place ∙ ap (λ x. address x (queue_head queue)) (sym (shape_later t u on.later)) in (
+      u,
+      was_after M t u v u cs (Limited Reads) on.later (note_was M u v stop none word first.next limit cs n.working.going told),
+      next_full M g.T.Theory.lawful g.met.T.HasQueues.has_queues u queue cs s.changes n.working t dummy word (ap (λ x. next_at u x) (half_is first.head.value))
+          (note_unread M u v stop none word first.next limit told) (note_unwritten M u v stop none word first.next limit told)
+          (λ h of. n.head_noted.value u (later_self u) n.working.going.prepared h of ∙ n.head_named.is)
+          (subst (λ w. RecordsAmong t u (w ∷ [])) at_u among),
+    ))

@@ -1,19 +1,20 @@
-use Rattle.std.proofs.Common.{◌≡◌, ◌+◌, ◌*◌, ◌/◌, ◌++◌, ◌∷◌, [], ℕ, Ok, false, sym, ap, subst, ◌∙◌, arith, rules}
+use Rattle.std.proofs.Common.{◌≡◌, ◌+◌, ◌*◌, ◌/◌, ◌<◌, ◌^◌, ◌++◌, ◌∷◌, [], ℕ, List, Ok, false, sym, ap, subst, ◌∙◌, arith, rules}
 use Rattle.md_words.specs.declared.shape.Shape.{Shape}
 use Rattle.md_words.specs.Layout.{IsNode, address}
 use Rattle.md_words.specs.Link.{linked_node}
 use Rattle.md_words.specs.Place.{node_next, queue_tail}
 use Rattle.md_words.proofs.Places.{nodes_fit_values}
+use Rattle.md_machine.specs.declared.certificate.Certificate.{Certificate}
 use Rattle.md_nbtc.specs.declared.seen.Cleanup.{Cleanup}
 use Rattle.md_nbtc.specs.declared.seen.Cleanup.TheVariants.{MoveTail}
 use Rattle.md_nbtc.specs.declared.seen.Kind.TheVariants.{Critical}
 use Rattle.md_nbtc.specs.Calls.{Freshened, Freshens, Keeps, MayExchange}
 use Rattle.md_nbtc.specs.Cleaning.{IsWrittenFor, with_cleanup_kept}
-use Rattle.md_nbtc.specs.Going.{IsUnderWay}
+use Rattle.md_nbtc.specs.Going.{IsGoing}
 use Rattle.md_nbtc.specs.Known.{Known}
 use Rattle.md_nbtc.specs.Seeing.{Gave}
 use Rattle.md_nbtc.specs.State.{OwnNode, TxnState, shape_in, state}
-use Rattle.md_nbtc.proofs.structures.Answering.{after_ok}
+use Rattle.md_nbtc.proofs.structures.Answering.{after_ok, fresh_refused}
 use Rattle.md_nbtc.proofs.structures.Exchanging.{HasExchanged}
 use Rattle.md_nbtc.proofs.structures.NodesKnown.{shape_later}
 use Rattle.md_queue_law.specs.QueueShape.{link}
@@ -26,36 +27,50 @@ use Rattle.md_queue.proofs.Data.{half_is}
 use Rattle.md_queue.proofs.Ends.{node_limit}
 use Rattle.md_queue.proofs.Enqueuing.{fresh_goes, fresh_stops, keeps_goes, no_more_nodes, puts_last, refused_after}
 use Rattle.md_queue.proofs.Looking.{node_readable}
-use Rattle.md_queue.proofs.Putting.{IsPutting, double_is, may_answer_put, may_keep, may_put, putting, rank_low, written_for}
+use Rattle.md_queue.proofs.Putting.{IsPutting, bare_then, double_is, may_answer_put, may_keep, may_put, putting, rank_low, written_for}
 use Rattle.md_queue.proofs.Steps.{exchange_goes, exchange_ok, exchange_stops, goes_then, pass_goes}
 use Rattle.md_queue.proofs.last.enqueue.Given.{Over}
 use Rattle.md_queue.proofs.last.enqueue.Goals.{After-node_next-next_word, After-queue_tail-tail, After-rank_of-rank}
+use Rattle.md_history.specs.declared.stops.Limit.TheVariants.{Writes}
+use Rattle.md_history.specs.declared.stops.Stop.TheVariants.{Limit as Limited}
+use Rattle.std.proofs.Common.{inl, inr}
+use Rattle.md_machine.specs.Certified.{is_written}
+use Rattle.md_nbtc.specs.State.{writes_in}
+use Rattle.md_queue.proofs.Enqueuing.{fresh_not_by}
+use Rattle.md_queue.proofs.Putting.{was_to_put}
+use Rattle.md_queue.proofs.Refusing.{began_on, exchange_unwritten, exchange_was, not_by, was_after, if_err}
 use Rattle.md_queue.proofs.last.enqueue.Goals as goal
 
 pub rank_of-rank-requires : goal.rank_of-rank-requires
 rank_of-rank-requires g c =
     let t = state c.find_last.new.tx in
     let tail = c.in_ok-end.end.tail in
-    let s = c.in_ok-end.ensures.sees.1 in
+    let under = c.requires.begun.going in
+    let s = c.in_ok-end.ensures.sees.1 under.0 under.1 in
     let st = s.sees_tail in
     record {
       may = record {
-        going = (st.certificates, st.working.going);
+        going = (under.0, st.working.going);
         readable = subst (IsReadable g.T.Theory.meaning t) (sym (half_is tail.value))
-            (node_readable g.T.Theory.meaning g.T.Theory.lawful g.met.T.HasQueues.has_queues t c.args.queue st.certificates st.changes st.working (linked_node tail.value) s.next_sees.placed);
+            (node_readable g.T.Theory.meaning g.T.Theory.lawful g.met.T.HasQueues.has_queues t c.args.queue under.0 st.changes st.working (linked_node tail.value) s.next_sees.placed);
       };
     }
 
 -- the last node was found, and its rank
-found : (g : Over) (c : After-rank_of-rank g) → IsPutting g.T.Theory.meaning (state c.rank_of-rank.new.tx) c.args.queue (linked_node c.in_ok-end.end.tail.value) c.rank_of-rank.result c.in_ok-end.end.next
-found g c =
+found : (g : Over) (c : After-rank_of-rank g) (cs : List Certificate) → IsGoing g.T.Theory.meaning (state c.args.tx.now) cs
+    → IsPutting g.T.Theory.meaning (state c.rank_of-rank.new.tx) c.args.queue cs (linked_node c.in_ok-end.end.tail.value) c.rank_of-rank.result c.in_ok-end.end.next
+found g c cs going =
     let M = g.T.Theory.meaning in
     let u = state c.rank_of-rank.new.tx in
     let end = c.in_ok-end.end in
     let rank = c.rank_of-rank.result in
     let told = c.rank_of-rank.ensures in
-    putting M g.T.Theory.lawful g.met.T.HasQueues.has_queues c.args.queue end.next (state c.find_last.new.tx) u end.tail c.in_ok-end.ensures.sees.0 c.in_ok-end.ensures.sees.1
+    putting M g.T.Theory.lawful g.met.T.HasQueues.has_queues c.args.queue cs end.next (state c.find_last.new.tx) u end.tail c.in_ok-end.ensures.sees.0 (c.in_ok-end.ensures.sees.1 cs going)
     c.in_ok-end.ensures.last told.on told.same told.given rank (subst (λ n. Known M u (λ v h. h.words.key_of n ≡ rank)) (half_is end.tail.value) told.known)
+
+some_found : (g : Over) (c : After-rank_of-rank g)
+    → IsPutting g.T.Theory.meaning (state c.rank_of-rank.new.tx) c.args.queue c.requires.begun.going.0 (linked_node c.in_ok-end.end.tail.value) c.rank_of-rank.result c.in_ok-end.end.next
+some_found g c = found g c c.requires.begun.going.0 c.requires.begun.going.1
 
 found_goes : (g : Over) (c : After-rank_of-rank g) → GoesBy g.T.Theory.meaning (state c.args.tx.now) (state c.rank_of-rank.new.tx) 0 1 0
 found_goes g c =
@@ -63,21 +78,21 @@ found_goes g c =
     let u = state c.rank_of-rank.new.tx in
     let goes = c.in_ok-end.ensures.goes in
     goes_then g.T.Theory.meaning (state c.args.tx.now) t u 0 1 0 0 0 0 0 1 0 goes
-    (pass_goes g.T.Theory.meaning t u goes.leaves.going c.rank_of-rank.ensures.on c.rank_of-rank.ensures.same) (omega arith) (omega arith) (omega arith)
+    (pass_goes g.T.Theory.meaning t u c.rank_of-rank.ensures.on c.rank_of-rank.ensures.same) (omega arith) (omega arith) (omega arith)
 
 pub overflow_add-rank : goal.overflow_add-rank
 overflow_add-rank g c =
     let t = state c.rank_of-rank.new.tx in
     let end = c.in_ok-end.end in
-    let low = rank_low g.T.Theory.meaning g.T.Theory.lawful g.met.T.HasQueues.has_queues c.args.queue end.next t (linked_node end.tail.value) c.rank_of-rank.result
-    (found g (goal.at.overflow_add-rank g c).After-rank_of-rank) in
+    let low = rank_low g.T.Theory.meaning g.T.Theory.lawful g.met.T.HasQueues.has_queues c.args.queue c.requires.begun.going.0 end.next t (linked_node end.tail.value) c.rank_of-rank.result
+    (some_found g (goal.at.overflow_add-rank g c).After-rank_of-rank) in
     let limit = node_limit (shape_in t) in
     omega (arith, low, limit)
 
 pub fresh-requires-clause-going : goal.fresh-requires-clause-going
 fresh-requires-clause-going g c =
-    let p = found g (goal.at.fresh-requires-clause-going g c).After-rank_of-rank in
-    (p.certificates, p.working.going)
+    let p = some_found g (goal.at.fresh-requires-clause-going g c).After-rank_of-rank in
+    (c.requires.begun.going.0, p.working.going)
 
 pub returns-in_err-node-clause-stop : goal.returns-in_err-node-clause-stop
 returns-in_err-node-clause-stop g c =
@@ -85,10 +100,10 @@ returns-in_err-node-clause-stop g c =
     let s = state c.args.tx.now in
     let t = state c.rank_of-rank.new.tx in
     let u = state c.fresh.new.self in
-    let p = found g (goal.at.returns-in_err-node-clause-stop g c).After-rank_of-rank in
+    let p = some_found g (goal.at.returns-in_err-node-clause-stop g c).After-rank_of-rank in
     let stop = c.in_err-node.field-0.0 in
     let refused : Refused M s u 0 2 1 stop = refused_after M s t u 0 1 0 0 0 0 0 2 1 stop (found_goes g (goal.at.returns-in_err-node-clause-stop g c).After-rank_of-rank)
-    (λ operates. fresh_stops M t u (p.certificates, p.working.going) c.in_err-node.ensures.on operates (c.rank_of-rank.result + 1) c.args.value 0 stop c.in_err-node.ensures.fresh)
+    (λ operates. fresh_stops M t u c.in_err-node.ensures.on operates (c.rank_of-rank.result + 1) c.args.value 0 stop c.in_err-node.ensures.fresh)
     (omega arith) (omega arith) (omega arith) in
     search rules
 
@@ -102,7 +117,7 @@ node_next-next_word-requires g c =
     let t = state c.rank_of-rank.new.tx in
     let u = state c.fresh.new.self in
     let value = c.in_ok-end.end.tail.value in
-    let p = found g (goal.at.node_next-next_word-requires g c).After-rank_of-rank in
+    let p = some_found g (goal.at.node_next-next_word-requires g c).After-rank_of-rank in
     subst (λ (x : Shape). IsNode x (value / 2)) (sym (c.shape.ensures ∙ shape_later t u c.in_ok-node.ensures.on.later))
     (subst (IsNode (shape_in t)) (sym (half_is value)) p.sees.exists)
 
@@ -113,14 +128,13 @@ taken g c =
     let u = state c.fresh.new.self in
     after_ok ℕ t u t.stop c.in_ok-node.node (Freshened t u (c.rank_of-rank.result + 1) c.args.value 0 (Ok c.in_ok-node.node)) c.in_ok-node.ensures.fresh
 
-taken_goes : (g : Over) (c : After-node_next-next_word g) → IsUnderWay g.T.Theory.meaning (state c.rank_of-rank.new.tx)
-    → GoesBy g.T.Theory.meaning (state c.args.tx.now) (state c.rank_of-rank.new.tx) 0 1 0 → GoesBy g.T.Theory.meaning (state c.args.tx.now) (state c.fresh.new.self) 0 1 1
-taken_goes g c under goes =
+taken_goes : (g : Over) (c : After-node_next-next_word g) → GoesBy g.T.Theory.meaning (state c.args.tx.now) (state c.rank_of-rank.new.tx) 0 1 0 → GoesBy g.T.Theory.meaning (state c.args.tx.now) (state c.fresh.new.self) 0 1 1
+taken_goes g c goes =
     let M = g.T.Theory.meaning in
     let t = state c.rank_of-rank.new.tx in
     let u = state c.fresh.new.self in
     goes_then M (state c.args.tx.now) t u 0 1 0 0 0 1 0 1 1 goes
-    (λ operates. fresh_goes M t u under c.in_ok-node.ensures.on operates (c.rank_of-rank.result + 1) c.args.value 0 c.in_ok-node.node (taken g c))
+    (λ operates. fresh_goes M t u c.in_ok-node.ensures.on operates (c.rank_of-rank.result + 1) c.args.value 0 c.in_ok-node.node (taken g c))
     (omega arith) (omega arith) (omega arith)
 
 next_is : (g : Over) (c : After-node_next-next_word g) → c.node_next-next_word.result ≡ next_at (state c.fresh.new.self) (linked_node c.in_ok-end.end.tail.value)
@@ -138,8 +152,8 @@ overflow_mul-node g c =
 
 pub exchange-requires-clause-going : goal.exchange-requires-clause-going
 exchange-requires-clause-going g c =
-    let p = found g (goal.at.exchange-requires-clause-going g c).After-rank_of-rank in
-    (p.certificates, c.in_ok-node.ensures.on.going p.certificates p.working.going)
+    let p = some_found g (goal.at.exchange-requires-clause-going g c).After-rank_of-rank in
+    (c.requires.begun.going.0, c.in_ok-node.ensures.on.going c.requires.begun.going.0 p.working.going)
 
 pub exchange-requires-clause-may : goal.exchange-requires-clause-may
 exchange-requires-clause-may g c =
@@ -149,11 +163,11 @@ exchange-requires-clause-may g c =
     let end = c.in_ok-end.end in
     let node = linked_node end.tail.value in
     let new = c.in_ok-node.node in
-    let p = found g (goal.at.exchange-requires-clause-may g c).After-rank_of-rank in
+    let p = some_found g (goal.at.exchange-requires-clause-may g c).After-rank_of-rank in
     let f = taken g (goal.at.exchange-requires-clause-may g c).After-node_next-next_word in
     subst (λ w. MayExchange M u w end.next (new * 2) Critical) (sym (next_is g (goal.at.exchange-requires-clause-may g c).After-node_next-next_word))
     (subst (λ x. MayExchange M u (next_at u node) end.next x Critical) (sym (double_is new))
-    (may_put M g.T.Theory.lawful g.met.T.HasQueues.has_queues c.args.queue end.next t node c.rank_of-rank.result p u c.in_ok-node.ensures.on c.args.value new f c.in_ok-node.ensures.given (link new)))
+    (may_put M g.T.Theory.lawful g.met.T.HasQueues.has_queues c.args.queue c.requires.begun.going.0 end.next t node c.rank_of-rank.result p u c.in_ok-node.ensures.on c.args.value new f c.in_ok-node.ensures.given (link new)))
 
 pub returns-in_err-exchange-clause-stop : goal.returns-in_err-exchange-clause-stop
 returns-in_err-exchange-clause-stop g c =
@@ -161,28 +175,28 @@ returns-in_err-exchange-clause-stop g c =
     let s = state c.args.tx.now in
     let u = state c.fresh.new.self in
     let v = state c.exchange.new.self in
-    let p = found g (goal.at.returns-in_err-exchange-clause-stop g c).After-rank_of-rank in
-    let goes = taken_goes g (goal.at.returns-in_err-exchange-clause-stop g c).After-node_next-next_word (p.certificates, p.working.going)
+    let p = some_found g (goal.at.returns-in_err-exchange-clause-stop g c).After-rank_of-rank in
+    let goes = taken_goes g (goal.at.returns-in_err-exchange-clause-stop g c).After-node_next-next_word
     (found_goes g (goal.at.returns-in_err-exchange-clause-stop g c).After-rank_of-rank) in
     let stop = c.in_err-exchange.field-0.0 in
     let refused : Refused M s v 0 2 1 stop = refused_after M s u v 0 1 1 0 0 0 0 2 1 stop goes
-    (λ operates. (exchange_stops M u v goes.leaves.going c.in_err-exchange.ensures.on c.node_next-next_word.result c.in_ok-end.end.next (c.in_ok-node.node * 2) Critical stop
+    (λ operates. (exchange_stops M u v c.in_err-exchange.ensures.on c.node_next-next_word.result c.in_ok-end.end.next (c.in_ok-node.node * 2) Critical stop
     c.in_err-exchange.ensures.exchanged operates).refused)
     (omega arith) (omega arith) (omega arith) in
     search rules
 
 -- its link was made
 linked : (g : Over) (c : After-queue_tail-tail g) → c.node_next-next_word.result ≡ next_at (state c.fresh.new.self) (linked_node c.in_ok-end.end.tail.value)
-    → IsUnderWay g.T.Theory.meaning (state c.fresh.new.self) → (let u = state c.fresh.new.self in
+    → (let u = state c.fresh.new.self in
     HasExchanged g.T.Theory.meaning u (next_at u (linked_node c.in_ok-end.end.tail.value)) c.in_ok-end.end.next (link c.in_ok-node.node) Critical (state c.exchange.new.self) c.in_ok-exchange.field-0)
-linked g c is under =
+linked g c is =
     let M = g.T.Theory.meaning in
     let u = state c.fresh.new.self in
     let v = state c.exchange.new.self in
     let next = c.in_ok-end.end.next in
     let new = c.in_ok-node.node in
     let seen = c.in_ok-exchange.field-0 in
-    let ex = exchange_ok M u v under c.in_ok-exchange.ensures.on c.node_next-next_word.result next (new * 2) Critical seen c.in_ok-exchange.ensures.exchanged in
+    let ex = exchange_ok M u v c.in_ok-exchange.ensures.on c.node_next-next_word.result next (new * 2) Critical seen c.in_ok-exchange.ensures.exchanged in
     subst (λ w. HasExchanged M u w next (link new) Critical v seen) is
     (subst (λ x. HasExchanged M u c.node_next-next_word.result next x Critical v seen) (double_is new) ex)
 
@@ -197,8 +211,8 @@ linked_goes g c is goes =
     let u = state c.fresh.new.self in
     let v = state c.exchange.new.self in
     goes_then M (state c.args.tx.now) u v 0 1 1 0 1 0 0 2 1 goes
-    (exchange_goes M u v goes.leaves.going c.in_ok-exchange.ensures.on (next_at u (linked_node c.in_ok-end.end.tail.value)) c.in_ok-end.end.next (link c.in_ok-node.node) Critical
-    c.in_ok-exchange.field-0 (linked g c is goes.leaves.going))
+    (exchange_goes M u v c.in_ok-exchange.ensures.on (next_at u (linked_node c.in_ok-end.end.tail.value)) c.in_ok-end.end.next (link c.in_ok-node.node) Critical
+    c.in_ok-exchange.field-0 (linked g c is))
     (omega arith) (omega arith) (omega arith)
 
 -- the move of the tail that is kept
@@ -214,8 +228,8 @@ move_is g c =
 
 pub later-requires-clause-operates : goal.later-requires-clause-operates
 later-requires-clause-operates g c =
-    let p = found g (goal.at.later-requires-clause-operates g c).After-rank_of-rank in
-    let goes = taken_goes g (goal.at.later-requires-clause-operates g c).After-node_next-next_word (p.certificates, p.working.going)
+    let p = some_found g (goal.at.later-requires-clause-operates g c).After-rank_of-rank in
+    let goes = taken_goes g (goal.at.later-requires-clause-operates g c).After-node_next-next_word
     (found_goes g (goal.at.later-requires-clause-operates g c).After-rank_of-rank) in
     (linked_goes g (goal.at.later-requires-clause-operates g c).After-queue_tail-tail (next_is g (goal.at.later-requires-clause-operates g c).After-node_next-next_word) goes).leaves.operates
 
@@ -226,15 +240,15 @@ later-requires-clause-written g c =
     let u = state c.fresh.new.self in
     let v = state c.exchange.new.self in
     let end = c.in_ok-end.end in
-    let p = found g (goal.at.later-requires-clause-written g c).After-rank_of-rank in
+    let p = some_found g (goal.at.later-requires-clause-written g c).After-rank_of-rank in
     let f = taken g (goal.at.later-requires-clause-written g c).After-node_next-next_word in
     let is = next_is g (goal.at.later-requires-clause-written g c).After-node_next-next_word in
     let on = c.in_ok-node.ensures.on in
     subst (IsWrittenFor v) (sym (move_is g (goal.at.later-requires-clause-written g c).After-queue_tail-tail))
-    (written_for M g.T.Theory.lawful g.met.T.HasQueues.has_queues c.args.queue end.next t (linked_node end.tail.value) c.rank_of-rank.result p u on c.args.value c.in_ok-node.node f
+    (written_for M g.T.Theory.lawful g.met.T.HasQueues.has_queues c.args.queue c.requires.begun.going.0 end.next t (linked_node end.tail.value) c.rank_of-rank.result p u on c.args.value c.in_ok-node.node f
     c.in_ok-node.ensures.given v c.in_ok-exchange.ensures.on c.in_ok-exchange.field-0
     (linked_gave g (goal.at.later-requires-clause-written g c).After-queue_tail-tail is)
-    (linked g (goal.at.later-requires-clause-written g c).After-queue_tail-tail is (p.certificates, on.going p.certificates p.working.going)))
+    (linked g (goal.at.later-requires-clause-written g c).After-queue_tail-tail is))
 
 pub returns-clause-answer : goal.returns-clause-answer
 returns-clause-answer g c =
@@ -246,26 +260,28 @@ returns-clause-answer g c =
     let end = c.in_ok-end.end in
     let node = linked_node end.tail.value in
     let seen = c.in_ok-exchange.field-0 in
-    let p = found g (goal.at.returns-clause-answer g c).After-rank_of-rank in
+    let p = some_found g (goal.at.returns-clause-answer g c).After-rank_of-rank in
     let f = taken g (goal.at.returns-clause-answer g c).After-node_next-next_word in
     let is = next_is g (goal.at.returns-clause-answer g c).After-node_next-next_word in
     let on = c.in_ok-node.ensures.on in
     let over = c.in_ok-exchange.ensures.on in
-    let going = on.going p.certificates p.working.going in
-    let made = linked g (goal.at.returns-clause-answer g c).After-queue_tail-tail is (p.certificates, going) in
+    let made = linked g (goal.at.returns-clause-answer g c).After-queue_tail-tail is in
     let gave = linked_gave g (goal.at.returns-clause-answer g c).After-queue_tail-tail is in
-    let goes = taken_goes g (goal.at.returns-clause-answer g c).After-node_next-next_word (p.certificates, p.working.going)
+    let goes = taken_goes g (goal.at.returns-clause-answer g c).After-node_next-next_word
     (found_goes g (goal.at.returns-clause-answer g c).After-rank_of-rank) in
     let move_kept = move g (goal.at.returns-clause-answer g c).After-queue_tail-tail in
     let keeps : Keeps M v x move_kept = subst (Keeps M v x) (move_is g (goal.at.returns-clause-answer g c).After-queue_tail-tail) c.later.ensures.on in
     let kept = subst (λ (m : Cleanup). x ≡ record v { slots = with_cleanup_kept v m }) (move_is g (goal.at.returns-clause-answer g c).After-queue_tail-tail) c.later.ensures.kept in
-    let may = may_keep M g.T.Theory.lawful g.met.T.HasQueues.has_queues c.args.queue end.next t node c.rank_of-rank.result p u on c.args.value c.in_ok-node.node f
+    let bare = bare_then M g.T.Theory.lawful g.met.T.HasQueues.has_queues c.args.queue c.requires.begun.going.0 end.next t node c.rank_of-rank.result p u on c.args.value c.in_ok-node.node f
     c.in_ok-node.ensures.given v over seen gave made in
-    let goes_last = goes_then M (state c.args.tx.now) v x 0 2 1 0 0 0 0 2 1 (linked_goes g (goal.at.returns-clause-answer g c).After-queue_tail-tail is goes)
-    (keeps_goes M v x move_kept p.certificates (over.going p.certificates going) may keeps kept) (omega arith) (omega arith) (omega arith) in
+    let fits : end.next.count < 2 ^ 32 = omega arith in
+    let goes_last = keeps_goes M (state c.args.tx.now) v x move_kept bare kept 0 2 1 (linked_goes g (goal.at.returns-clause-answer g c).After-queue_tail-tail is goes)
+    (λ cs going. may_keep M g.T.Theory.lawful g.met.T.HasQueues.has_queues c.args.queue cs end.next t node c.rank_of-rank.result
+    (found g (goal.at.returns-clause-answer g c).After-rank_of-rank cs going) u on c.args.value c.in_ok-node.node f c.in_ok-node.ensures.given v over seen gave made)
+    keeps in
     answered [] goes_last
-    (may_answer_put M g.T.Theory.lawful g.met.T.HasQueues.has_queues c.args.queue end.next t node c.rank_of-rank.result p u on c.args.value c.in_ok-node.node f
-    c.in_ok-node.ensures.given v over seen gave made x keeps kept (omega arith))
+    (λ cs going. may_answer_put M g.T.Theory.lawful g.met.T.HasQueues.has_queues c.args.queue cs end.next t node c.rank_of-rank.result
+    (found g (goal.at.returns-clause-answer g c).After-rank_of-rank cs going) u on c.args.value c.in_ok-node.node f c.in_ok-node.ensures.given v over seen gave made x keeps kept fits)
     (among_none M (state c.args.tx.now) x 2 1 goes_last)
 
 pub returns-clause-puts : goal.returns-clause-puts
@@ -279,18 +295,97 @@ returns-clause-puts g c =
     let end = c.in_ok-end.end in
     let node = linked_node end.tail.value in
     let seen = c.in_ok-exchange.field-0 in
-    let p = found g (goal.at.returns-clause-puts g c).After-rank_of-rank in
+    let p = some_found g (goal.at.returns-clause-puts g c).After-rank_of-rank in
     let f = taken g (goal.at.returns-clause-puts g c).After-node_next-next_word in
     let is = next_is g (goal.at.returns-clause-puts g c).After-node_next-next_word in
     let on = c.in_ok-node.ensures.on in
-    let made = linked g (goal.at.returns-clause-puts g c).After-queue_tail-tail is (p.certificates, on.going p.certificates p.working.going) in
+    let made = linked g (goal.at.returns-clause-puts g c).After-queue_tail-tail is in
     let gave = linked_gave g (goal.at.returns-clause-puts g c).After-queue_tail-tail is in
     let own : OwnNode = record { node = c.in_ok-node.node; key = c.rank_of-rank.result + 1; value = c.args.value; next = 0 } in
     let kept = subst (λ (m : Cleanup). x ≡ record v { slots = with_cleanup_kept v m }) (move_is g (goal.at.returns-clause-puts g c).After-queue_tail-tail) c.later.ensures.kept in
     let leaves = c.in_ok-end.ensures.goes.leaves in
-    let same : t.nodes ≡ s.nodes = ap (λ (y : TxnState). y.nodes) c.rank_of-rank.ensures.same ∙ no_more_nodes s (state c.find_last.new.tx) leaves.later.nodes leaves.nodes_few in
+    let same : t.nodes ≡ s.nodes = ap (λ (y : TxnState). y.nodes) c.rank_of-rank.ensures.same ∙ no_more_nodes s (state c.find_last.new.tx) leaves.on.later.nodes leaves.nodes_few in
     puts_last s v x c.args.queue node own
-    (written_for M g.T.Theory.lawful g.met.T.HasQueues.has_queues c.args.queue end.next t node c.rank_of-rank.result p u on c.args.value c.in_ok-node.node f
+    (written_for M g.T.Theory.lawful g.met.T.HasQueues.has_queues c.args.queue c.requires.begun.going.0 end.next t node c.rank_of-rank.result p u on c.args.value c.in_ok-node.node f
     c.in_ok-node.ensures.given v c.in_ok-exchange.ensures.on seen gave made) kept
     (ap (λ (y : TxnState). y.nodes) kept ∙ exchanged_nodes M u v (next_at u node) end.next (link c.in_ok-node.node) seen made
     ∙ ap (λ (y : TxnState). y.nodes) f.new ∙ ap (λ l. l ++ own ∷ []) same)
+
+pub returns-in_err-end-clause-writes : goal.returns-in_err-end-clause-writes
+returns-in_err-end-clause-writes g c =
+    let M = g.T.Theory.meaning in
+    let s = state c.args.tx.now in
+    let t = state c.find_last.new.tx in
+    let stop = c.in_err-end.field-0.0 in
+    if_err c.from_residual.result stop _ c.from_residual.ensures.1 (λ limit began cs going. inl (c.in_err-end.ensures.writes limit began cs going))
+
+pub returns-in_err-node-clause-writes : goal.returns-in_err-node-clause-writes
+returns-in_err-node-clause-writes g c =
+    let M = g.T.Theory.meaning in
+    let s = state c.args.tx.now in
+    let t = state c.rank_of-rank.new.tx in
+    let u = state c.fresh.new.self in
+    let goes = found_goes g (goal.at.returns-in_err-node-clause-writes g c).After-rank_of-rank in
+    let stop = c.in_err-node.field-0.0 in
+    if_err c.from_residual-in_err-node.result stop _ c.from_residual-in_err-node.ensures.1 (λ limit began. not_by t stop (began_on M s t 0 1 0 goes began).unstopped
+    (fresh_not_by M t u c.in_err-node.ensures.on goes.leaves.operates Writes (λ e. cc e) (λ word count e. cc e) (c.rank_of-rank.result + 1) c.args.value 0 stop c.in_err-node.ensures.fresh limit))
+
+pub returns-in_err-exchange-clause-writes : goal.returns-in_err-exchange-clause-writes
+returns-in_err-exchange-clause-writes g c =
+    let M = g.T.Theory.meaning in
+    let s = state c.args.tx.now in
+    let t = state c.rank_of-rank.new.tx in
+    let u = state c.fresh.new.self in
+    let v = state c.exchange.new.self in
+    let end = c.in_ok-end.end in
+    let queue = c.args.queue in
+    let word = c.node_next-next_word.result in
+    let to = c.in_ok-node.node * 2 in
+    let on = c.in_ok-node.ensures.on in
+    let f = taken g (goal.at.returns-in_err-exchange-clause-writes g c).After-node_next-next_word in
+    let is = next_is g (goal.at.returns-in_err-exchange-clause-writes g c).After-node_next-next_word in
+    let goes = taken_goes g (goal.at.returns-in_err-exchange-clause-writes g c).After-node_next-next_word
+    (found_goes g (goal.at.returns-in_err-exchange-clause-writes g c).After-rank_of-rank) in
+    let told = c.in_err-exchange.ensures.exchanged in
+    let fits : end.next.count < 2 ^ 32 = omega arith in
+    let stop = c.in_err-exchange.field-0.0 in
+    if_err c.from_residual-in_err-exchange.result stop _ c.from_residual-in_err-exchange.ensures.1 (λ limit began cs going.
+    let p = found g (goal.at.returns-in_err-exchange-clause-writes g c).After-rank_of-rank cs going in
+    let now = began_on M s u 0 1 1 goes began in
+    inr (
+      u,
+      was_after M s u v u cs (Limited Writes) goes.leaves.on.later (exchange_was M u v stop now.unstopped word end.next to Critical limit cs (on.going cs p.working.going) told),
+      was_to_put M g.T.Theory.lawful g.met.T.HasQueues.has_queues queue cs end.next t (linked_node end.tail.value) c.rank_of-rank.result p u on c.args.value c.in_ok-node.node f c.in_ok-node.ensures.given
+          s (among_none M s u 1 1 goes) now.alone fits (subst (λ w. is_written (writes_in u) w ≡ false) is (exchange_unwritten M u v stop now.unstopped word end.next to Critical limit told)),
+    ))
+
+pub returns-in_err-end-clause-no_node : goal.returns-in_err-end-clause-no_node
+returns-in_err-end-clause-no_node g c =
+    let s = state c.args.tx.now in
+    let stop = c.in_err-end.field-0.0 in
+    if_err c.from_residual.result stop _ c.from_residual.ensures.1 (λ limit none. not_by s stop none (c.in_err-end.ensures.stop.no_nodes limit))
+
+pub returns-in_err-node-clause-no_node : goal.returns-in_err-node-clause-no_node
+returns-in_err-node-clause-no_node g c =
+    let M = g.T.Theory.meaning in
+    let s = state c.args.tx.now in
+    let t = state c.rank_of-rank.new.tx in
+    let u = state c.fresh.new.self in
+    let leaves = (found_goes g (goal.at.returns-in_err-node-clause-no_node g c).After-rank_of-rank).leaves in
+    let stop = c.in_err-node.field-0.0 in
+    if_err c.from_residual-in_err-node.result stop _ c.from_residual-in_err-node.ensures.1
+    (λ limit none. ap (λ (x : TxnState). x.nodes) (fresh_refused M t u stop (c.rank_of-rank.result + 1) c.args.value 0 c.in_err-node.ensures.fresh)
+    ∙ no_more_nodes s t leaves.on.later.nodes leaves.nodes_few)
+
+pub returns-in_err-exchange-clause-no_node : goal.returns-in_err-exchange-clause-no_node
+returns-in_err-exchange-clause-no_node g c =
+    let M = g.T.Theory.meaning in
+    let s = state c.args.tx.now in
+    let u = state c.fresh.new.self in
+    let v = state c.exchange.new.self in
+    let goes = taken_goes g (goal.at.returns-in_err-exchange-clause-no_node g c).After-node_next-next_word
+    (found_goes g (goal.at.returns-in_err-exchange-clause-no_node g c).After-rank_of-rank) in
+    let stop = c.in_err-exchange.field-0.0 in
+    if_err c.from_residual-in_err-exchange.result stop _ c.from_residual-in_err-exchange.ensures.1 (λ limit none. not_by u stop (goes.same_stop ∙ none)
+    ((exchange_stops M u v c.in_err-exchange.ensures.on c.node_next-next_word.result c.in_ok-end.end.next (c.in_ok-node.node * 2) Critical stop
+    c.in_err-exchange.ensures.exchanged goes.leaves.operates).no_nodes limit))

@@ -4,6 +4,7 @@ use Rattle.md_queue.specs.Operations.{RefusedOtherwise}
 use Rattle.md_queue.specs.Working.{other_count, own_count}
 use Rattle.md_queue.proofs.Ends.{counts_one, end_fits, goes_moved, node_limit}
 use Rattle.md_queue.proofs.Steps.{goes_up, refused_then}
+use Rattle.md_queue.proofs.Refusing.{began_on, move_from, if_err}
 use Rattle.md_queue.proofs.last.find_last.Goals as goal
 
 pub loop-init : goal.loop-init
@@ -14,7 +15,9 @@ loop-init g c = record {
 }
 
 pub follow-requires : goal.follow-requires
-follow-requires g c = record { sees = (c.loop.counter, c.loop.invariant.sees); some = c.if-end-eq0.false }
+follow-requires g c =
+    let under = c.requires.begun.going in
+    record { sees = (under.0, c.loop.counter, c.loop.invariant.sees under.0 under.1); some = c.if-end-eq0.false }
 
 pub returns-in_err-end-2-clause-stop : goal.returns-in_err-end-2-clause-stop
 returns-in_err-end-2-clause-stop g c =
@@ -39,7 +42,7 @@ loop-preserved g c =
     record {
       pass = e.pass ∙ i.pass;
       goes = goes_moved M s t u (own_count c.loop.end.tail) (other_count c.loop.end.tail) (own_count c.in_ok-end-2.end.tail) i.goes e.goes e.counts;
-      sees = e.sees c.loop.counter i.sees;
+      sees = λ cs going. e.sees cs c.loop.counter (i.sees cs going);
     }
 
 pub returns-then-end-eq0-clause-goes : goal.returns-then-end-eq0-clause-goes
@@ -60,7 +63,9 @@ returns-after-loop-clause-sees g c = (c.loop.counter, c.loop.invariant.sees)
 
 pub returns-after-loop-clause-last : goal.returns-after-loop-clause-last
 returns-after-loop-clause-last g c =
-    let few = end_fits g.T.Theory.meaning g.T.Theory.lawful g.met.T.HasQueues.has_queues (state c.loop.tx) c.args.queue c.loop.end.tail c.loop.end.next c.loop.counter c.loop.invariant.sees in
+    let under = c.requires.begun.going in
+    let few = end_fits g.T.Theory.meaning g.T.Theory.lawful g.met.T.HasQueues.has_queues (state c.loop.tx) c.args.queue under.0 c.loop.end.tail c.loop.end.next c.loop.counter
+    (c.loop.invariant.sees under.0 under.1) in
     let limit = node_limit (shape_in (state c.loop.tx)) in
     absurd (omega (arith, few, limit))
 
@@ -73,3 +78,15 @@ pub returns-after-loop-clause-stopped : goal.returns-after-loop-clause-stopped
 returns-after-loop-clause-stopped g c s is =
     let e = (c.in_ok-end.ensures.stopped s is).0 in
     absurd (cc e)
+
+pub returns-in_err-end-2-clause-writes : goal.returns-in_err-end-2-clause-writes
+returns-in_err-end-2-clause-writes g c =
+    let M = g.T.Theory.meaning in
+    let s = state c.args.tx.now in
+    let t = state c.loop.tx in
+    let u = state c.follow.new.tx in
+    let i = c.loop.invariant in
+    let own = own_count c.loop.end.tail in
+    let stop = c.in_err-end-2.field-0.0 in
+    if_err c.from_residual-in_err-end-2.result stop _ c.from_residual-in_err-end-2.ensures.1 (λ limit began cs going. move_from M s t u own 0 cs c.args.queue i.goes
+    (c.in_err-end-2.ensures.writes limit (began_on M s t 0 own 0 i.goes began) cs c.loop.counter (i.sees cs going)))

@@ -1,4 +1,6 @@
-use Rattle.std.proofs.Common.{◌≡◌}
+use Rattle.std.proofs.Common.{◌≡◌, List}
+use Rattle.md_machine.specs.declared.certificate.Certificate.{Certificate}
+use Rattle.md_nbtc.specs.Going.{IsGoing}
 use Rattle.md_nbtc.specs.State.{state}
 use Rattle.md_queue.specs.Operations.{GoesBy}
 use Rattle.md_queue.specs.Working.{SeesEnd, own_count}
@@ -8,5 +10,5 @@ abbrev pub invariant-loop : goal.invariant-loop
 invariant-loop g l = record {
   pass : l.tx.pass.ghost_name ≡ l.fn.tx.pass.ghost_name;
   goes : GoesBy g.T.Theory.meaning (state l.fn.tx) (state l.tx) 0 (own_count l.end.tail) 0;
-  sees : SeesEnd g.T.Theory.meaning (state l.tx) l.queue l.end.tail l.end.next l.counter;
+  sees : (cs : List Certificate) → IsGoing g.T.Theory.meaning (state l.fn.tx) cs → SeesEnd g.T.Theory.meaning (state l.tx) l.queue cs l.end.tail l.end.next l.counter;
 }

@@ -1,6 +1,5 @@
 use Rattle.std.proofs.Common.{◌/◌, ◌+◌, length, ap, sym, subst, arith, rules}
 use Rattle.md_words.specs.Layout.{IsNode}
-use Rattle.md_nbtc.specs.Going.{IsUnderWay}
 use Rattle.md_nbtc.specs.Seeing.{KeepsGiven, Looks}
 use Rattle.md_nbtc.specs.State.{shape_in, state}
 use Rattle.md_queue.specs.Operations.{RefusedOtherwise}
@@ -10,16 +9,19 @@ use Rattle.md_queue.proofs.Data.{half_is}
 use Rattle.md_queue.proofs.Ends.{end_seen, followed, goes_within, may_follow, moved_counts}
 use Rattle.md_queue.proofs.Looking.{tail_named}
 use Rattle.md_queue.proofs.Steps.{exchange_goes, exchange_ok, exchange_stops, goes_then, look_goes, look_ok, look_stops, refused_then, refused_up}
+use Rattle.std.proofs.Common.{◌<◌, ◌^◌}
+use Rattle.md_queue.proofs.Ends.{end_refused}
+use Rattle.md_queue.proofs.Refusing.{exchange_critical, exchange_unwritten, exchange_was, if_err}
 use Rattle.md_queue.proofs.last.follow.Goals as goal
 
 pub move_tail-requires : goal.move_tail-requires
 move_tail-requires g c =
-    let s = c.requires.sees.1 in
+    let s = c.requires.sees.2 in
     record {
       may = record {
-        going = (s.sees_tail.certificates, s.sees_tail.working.going);
+        going = (c.requires.sees.0, s.sees_tail.working.going);
         within = s.sees_tail.working.within;
-        may = may_follow g.T.Theory.meaning g.T.Theory.lawful g.met.T.HasQueues.has_queues (state c.args.tx.now) c.args.queue c.args.end.tail c.args.end.next c.requires.sees.0 s c.requires.some;
+        may = may_follow g.T.Theory.meaning g.T.Theory.lawful g.met.T.HasQueues.has_queues (state c.args.tx.now) c.args.queue c.requires.sees.0 c.args.end.tail c.args.end.next c.requires.sees.1 s c.requires.some;
       };
     }
 
@@ -28,11 +30,11 @@ returns-in_err-tail-clause-stop g c =
     let M = g.T.Theory.meaning in
     let t = state c.args.tx.now in
     let u = state c.move_tail.new.tx in
-    let s = c.requires.sees.1 in
+    let s = c.requires.sees.2 in
     let end = c.args.end in
     let stop = c.in_err-tail.field-0.0 in
     let refused : RefusedOtherwise M t u 0 (other_count end.tail) stop = refused_up M t u 0 0 0 (other_count end.tail) stop
-    (exchange_stops M t u (s.sees_tail.certificates, s.sees_tail.working.going) c.in_err-tail.ensures.on (tail_at t c.args.queue) end.tail end.next.value (move_kind end.next) stop c.in_err-tail.ensures.exchanged s.sees_tail.working.operates)
+    (exchange_stops M t u c.in_err-tail.ensures.on (tail_at t c.args.queue) end.tail end.next.value (move_kind end.next) stop c.in_err-tail.ensures.exchanged s.sees_tail.working.operates)
     (omega arith) (omega arith) in
     search rules
 
@@ -41,17 +43,17 @@ load_next-requires g c =
     let M = g.T.Theory.meaning in
     let t = state c.args.tx.now in
     let u = state c.move_tail.new.tx in
-    let s = c.requires.sees.1 in
+    let s = c.requires.sees.2 in
     let end = c.args.end in
     let tail = c.in_ok-tail.tail in
     let on = c.in_ok-tail.ensures.on in
-    let ex = exchange_ok M t u (s.sees_tail.certificates, s.sees_tail.working.going) on (tail_at t c.args.queue) end.tail end.next.value (move_kind end.next) tail c.in_ok-tail.ensures.exchanged in
-    let f = followed M g.T.Theory.lawful g.met.T.HasQueues.has_queues t c.args.queue end.tail end.next c.requires.sees.0 s c.requires.some u on (omega arith) tail c.in_ok-tail.ensures.gave ex in
+    let ex = exchange_ok M t u on (tail_at t c.args.queue) end.tail end.next.value (move_kind end.next) tail c.in_ok-tail.ensures.exchanged in
+    let f = followed M g.T.Theory.lawful g.met.T.HasQueues.has_queues t c.args.queue c.requires.sees.0 end.tail end.next c.requires.sees.1 s c.requires.some u on (omega arith) tail c.in_ok-tail.ensures.gave ex in
     record {
       may = record {
-        going = (f.certificates, f.working.going);
+        going = (c.requires.sees.0, f.working.going);
         exists = subst (IsNode (shape_in u)) (sym (half_is tail.value))
-            (tail_named M g.T.Theory.lawful g.met.T.HasQueues.has_queues u c.args.queue f.certificates f.changes f.working tail f.tail_sees).exists;
+            (tail_named M g.T.Theory.lawful g.met.T.HasQueues.has_queues u c.args.queue c.requires.sees.0 f.changes f.working tail f.tail_sees).exists;
       };
     }
 
@@ -61,18 +63,17 @@ returns-in_err-next-clause-stop g c =
     let t = state c.args.tx.now in
     let u = state c.move_tail.new.tx in
     let v = state c.load_next.new.tx in
-    let s = c.requires.sees.1 in
-    let under : IsUnderWay M t = (s.sees_tail.certificates, s.sees_tail.working.going) in
+    let s = c.requires.sees.2 in
     let end = c.args.end in
     let tail = c.in_ok-tail.tail in
     let on = c.in_ok-tail.ensures.on in
-    let ex = exchange_ok M t u under on (tail_at t c.args.queue) end.tail end.next.value (move_kind end.next) tail c.in_ok-tail.ensures.exchanged in
-    let goes = exchange_goes M t u under on (tail_at t c.args.queue) end.tail end.next.value (move_kind end.next) tail ex s.sees_tail.working.operates in
+    let ex = exchange_ok M t u on (tail_at t c.args.queue) end.tail end.next.value (move_kind end.next) tail c.in_ok-tail.ensures.exchanged in
+    let goes = exchange_goes M t u on (tail_at t c.args.queue) end.tail end.next.value (move_kind end.next) tail ex s.sees_tail.working.operates in
     let counts = moved_counts M t u (tail_at t c.args.queue) end.tail end.next.value (move_kind end.next) tail ex s.sees_tail.tail_sees.gave in
     let stop = c.in_err-next.field-0.0 in
     let refused : RefusedOtherwise M t v 0 (other_count end.tail) stop = refused_then M t u v 0 (other_count end.tail) 0 0 0 (other_count end.tail) stop
     (goes_within M t u 1 (other_count end.tail) goes counts.1)
-    (look_stops M u v (under.0, on.going under.0 under.1) c.in_err-next.ensures.on (next_at u (tail.value / 2)) stop c.in_err-next.ensures.looked) (omega arith) (omega arith) in
+    (look_stops M u v c.in_err-next.ensures.on (next_at u (tail.value / 2)) stop c.in_err-next.ensures.looked) (omega arith) (omega arith) in
     search rules
 
 pub returns-clause-goes : goal.returns-clause-goes
@@ -81,16 +82,15 @@ returns-clause-goes g c =
     let t = state c.args.tx.now in
     let u = state c.move_tail.new.tx in
     let v = state c.load_next.new.tx in
-    let s = c.requires.sees.1 in
-    let under : IsUnderWay M t = (s.sees_tail.certificates, s.sees_tail.working.going) in
+    let s = c.requires.sees.2 in
     let end = c.args.end in
     let tail = c.in_ok-tail.tail in
     let on = c.in_ok-tail.ensures.on in
-    let ex = exchange_ok M t u under on (tail_at t c.args.queue) end.tail end.next.value (move_kind end.next) tail c.in_ok-tail.ensures.exchanged in
-    let goes = exchange_goes M t u under on (tail_at t c.args.queue) end.tail end.next.value (move_kind end.next) tail ex s.sees_tail.working.operates in
+    let ex = exchange_ok M t u on (tail_at t c.args.queue) end.tail end.next.value (move_kind end.next) tail c.in_ok-tail.ensures.exchanged in
+    let goes = exchange_goes M t u on (tail_at t c.args.queue) end.tail end.next.value (move_kind end.next) tail ex s.sees_tail.working.operates in
     let counts = moved_counts M t u (tail_at t c.args.queue) end.tail end.next.value (move_kind end.next) tail ex s.sees_tail.tail_sees.gave in
     goes_then M t u v 0 (other_count end.tail) 0 0 0 0 0 (other_count end.tail) 0 (goes_within M t u 1 (other_count end.tail) goes counts.1)
-    (look_goes M u v (under.0, on.going under.0 under.1) c.in_ok-next.ensures.on (next_at u (tail.value / 2)) c.in_ok-next.next c.in_ok-next.ensures.looked) (omega arith) (omega arith) (omega arith)
+    (look_goes M u v c.in_ok-next.ensures.on (next_at u (tail.value / 2)) c.in_ok-next.next c.in_ok-next.ensures.looked) (omega arith) (omega arith) (omega arith)
 
 pub returns-clause-counts : goal.returns-clause-counts
 returns-clause-counts g c =
@@ -98,32 +98,49 @@ returns-clause-counts g c =
     let t = state c.args.tx.now in
     let u = state c.move_tail.new.tx in
     let v = state c.load_next.new.tx in
-    let s = c.requires.sees.1 in
-    let under : IsUnderWay M t = (s.sees_tail.certificates, s.sees_tail.working.going) in
+    let s = c.requires.sees.2 in
     let end = c.args.end in
     let tail = c.in_ok-tail.tail in
     let on = c.in_ok-tail.ensures.on in
-    let ex = exchange_ok M t u under on (tail_at t c.args.queue) end.tail end.next.value (move_kind end.next) tail c.in_ok-tail.ensures.exchanged in
+    let ex = exchange_ok M t u on (tail_at t c.args.queue) end.tail end.next.value (move_kind end.next) tail c.in_ok-tail.ensures.exchanged in
     let counts = moved_counts M t u (tail_at t c.args.queue) end.tail end.next.value (move_kind end.next) tail ex s.sees_tail.tail_sees.gave in
-    let is = look_ok M u v (under.0, on.going under.0 under.1) c.in_ok-next.ensures.on (next_at u (tail.value / 2)) c.in_ok-next.next c.in_ok-next.ensures.looked in
+    let is = look_ok M u v c.in_ok-next.ensures.on (next_at u (tail.value / 2)) c.in_ok-next.next c.in_ok-next.ensures.looked in
     let l = ap (λ x. length x.slots) is.0 in
     let few = counts.0 in
     omega (arith, l, few)
 
 pub returns-clause-sees : goal.returns-clause-sees
-returns-clause-sees g c least s =
+returns-clause-sees g c cs least s =
     let M = g.T.Theory.meaning in
     let t = state c.args.tx.now in
     let u = state c.move_tail.new.tx in
     let v = state c.load_next.new.tx in
-    let under : IsUnderWay M t = (s.sees_tail.certificates, s.sees_tail.working.going) in
     let end = c.args.end in
     let tail = c.in_ok-tail.tail in
     let next = c.in_ok-next.next in
     let on = c.in_ok-tail.ensures.on in
-    let ex = exchange_ok M t u under on (tail_at t c.args.queue) end.tail end.next.value (move_kind end.next) tail c.in_ok-tail.ensures.exchanged in
-    let f = followed M g.T.Theory.lawful g.met.T.HasQueues.has_queues t c.args.queue end.tail end.next least s c.requires.some u on (omega arith) tail c.in_ok-tail.ensures.gave ex in
-    let is = look_ok M u v (under.0, on.going under.0 under.1) c.in_ok-next.ensures.on (next_at u (tail.value / 2)) next c.in_ok-next.ensures.looked in
-    end_seen M g.T.Theory.lawful g.met.T.HasQueues.has_queues u v c.args.queue c.in_ok-next.ensures.on is.0 tail next (least + 1) f
+    let ex = exchange_ok M t u on (tail_at t c.args.queue) end.tail end.next.value (move_kind end.next) tail c.in_ok-tail.ensures.exchanged in
+    let f = followed M g.T.Theory.lawful g.met.T.HasQueues.has_queues t c.args.queue cs end.tail end.next least s c.requires.some u on (omega arith) tail c.in_ok-tail.ensures.gave ex in
+    let is = look_ok M u v c.in_ok-next.ensures.on (next_at u (tail.value / 2)) next c.in_ok-next.ensures.looked in
+    end_seen M g.T.Theory.lawful g.met.T.HasQueues.has_queues u v c.args.queue cs c.in_ok-next.ensures.on is.0 tail next (least + 1) f
     (subst (λ n. KeepsGiven u v (next_at u n)) (half_is tail.value) c.in_ok-next.ensures.given)
     (subst (λ n. Looks M u v (next_at u n) next) (half_is tail.value) is.1)
+
+pub returns-in_err-tail-clause-writes : goal.returns-in_err-tail-clause-writes
+returns-in_err-tail-clause-writes g c =
+    let M = g.T.Theory.meaning in
+    let t = state c.args.tx.now in
+    let u = state c.move_tail.new.tx in
+    let queue = c.args.queue in
+    let tail = c.args.end.tail in
+    let next = c.args.end.next in
+    let stop = c.in_err-tail.field-0.0 in
+    let told = c.in_err-tail.ensures.exchanged in
+    let fits : tail.count < 2 ^ 32 = omega arith in
+    if_err c.from_residual.result stop _ c.from_residual.ensures.1 (λ limit began cs least s. (
+      t,
+      exchange_was M t u stop began.unstopped (tail_at t queue) tail next.value (move_kind next) limit cs s.sees_tail.working.going told,
+      end_refused M g.T.Theory.lawful g.met.T.HasQueues.has_queues t queue cs tail next least s c.requires.some began.alone fits
+          (exchange_unwritten M t u stop began.unstopped (tail_at t queue) tail next.value (move_kind next) limit told)
+          (exchange_critical M t u stop began.unstopped (tail_at t queue) tail next.value (move_kind next) limit told),
+    ))

@@ -18,7 +18,7 @@ load-requires-clause-counted g c =
     let t = state c.args.tx.now in
     subst (IsCounted (shape_in t)) (sym (c.queue_tail-tail_word.ensures.place ∙ ap (λ s. address s (queue_tail c.args.queue)) c.shape.ensures))
     (tail_counted g.T.Theory.meaning g.T.Theory.lawful g.met.T.HasQueues.has_queues t c.args.queue c.requires.begun.going.0 []
-    (begun_working g.T.Theory.meaning t c.args.queue c.requires.begun))
+    (begun_working g.T.Theory.meaning t c.args.queue c.requires.begun c.requires.begun.going.0 c.requires.begun.going.1))
 
 pub load_next-requires : goal.load_next-requires
 load_next-requires g c =
@@ -26,14 +26,14 @@ load_next-requires g c =
     let t = state c.args.tx.now in
     let u = state c.load.new.self in
     let on = c.in_ok-tail.ensures.on in
-    let is = look_ok M t u c.requires.begun.going on c.queue_tail-tail_word.result c.in_ok-tail.tail c.in_ok-tail.ensures.looked in
-    let s = tail_seen M g.T.Theory.lawful g.met.T.HasQueues.has_queues t u c.args.queue on is.0 c.requires.begun c.queue_tail-tail_word.result
+    let is = look_ok M t u on c.queue_tail-tail_word.result c.in_ok-tail.tail c.in_ok-tail.ensures.looked in
+    let s = tail_seen M g.T.Theory.lawful g.met.T.HasQueues.has_queues t u c.args.queue c.requires.begun.going.0 on is.0 c.requires.begun c.requires.begun.going.1 c.queue_tail-tail_word.result
     (c.queue_tail-tail_word.ensures.place ∙ ap (λ s. address s (queue_tail c.args.queue)) c.shape.ensures) c.in_ok-tail.tail is.1 in
     record {
       may = record {
-        going = (s.certificates, s.working.going);
+        going = (c.requires.begun.going.0, s.working.going);
         exists = subst (IsNode (shape_in u)) (sym (half_is c.in_ok-tail.tail.value))
-            (tail_named M g.T.Theory.lawful g.met.T.HasQueues.has_queues u c.args.queue s.certificates s.changes s.working c.in_ok-tail.tail s.tail_sees).exists;
+            (tail_named M g.T.Theory.lawful g.met.T.HasQueues.has_queues u c.args.queue c.requires.begun.going.0 s.changes s.working c.in_ok-tail.tail s.tail_sees).exists;
       };
     }
 
@@ -43,12 +43,11 @@ returns-in_err-next-clause-stop g c =
     let t = state c.args.tx.now in
     let u = state c.load.new.self in
     let v = state c.load_next.new.tx in
-    let under = c.requires.begun.going in
     let on = c.in_ok-tail.ensures.on in
     let stop = c.in_err-next.field-0.0 in
     let refused : RefusedOtherwise M t v 0 0 stop = refused_then M t u v 0 0 0 0 0 0 stop
-    (look_goes M t u under on c.queue_tail-tail_word.result c.in_ok-tail.tail c.in_ok-tail.ensures.looked c.requires.begun.operates)
-    (look_stops M u v (under.0, on.going under.0 under.1) c.in_err-next.ensures.on (next_at u (c.in_ok-tail.tail.value / 2)) stop c.in_err-next.ensures.looked) (omega arith) (omega arith) in
+    (look_goes M t u on c.queue_tail-tail_word.result c.in_ok-tail.tail c.in_ok-tail.ensures.looked c.requires.begun.operates)
+    (look_stops M u v c.in_err-next.ensures.on (next_at u (c.in_ok-tail.tail.value / 2)) stop c.in_err-next.ensures.looked) (omega arith) (omega arith) in
     search rules
 
 pub returns-clause-goes : goal.returns-clause-goes
@@ -57,14 +56,13 @@ returns-clause-goes g c =
     let t = state c.args.tx.now in
     let u = state c.load.new.self in
     let v = state c.load_next.new.tx in
-    let under = c.requires.begun.going in
     let on = c.in_ok-tail.ensures.on in
-    goes_then M t u v 0 0 0 0 0 0 0 0 0 (look_goes M t u under on c.queue_tail-tail_word.result c.in_ok-tail.tail c.in_ok-tail.ensures.looked c.requires.begun.operates)
-    (look_goes M u v (under.0, on.going under.0 under.1) c.in_ok-next.ensures.on (next_at u (c.in_ok-tail.tail.value / 2)) c.in_ok-next.next c.in_ok-next.ensures.looked)
+    goes_then M t u v 0 0 0 0 0 0 0 0 0 (look_goes M t u on c.queue_tail-tail_word.result c.in_ok-tail.tail c.in_ok-tail.ensures.looked c.requires.begun.operates)
+    (look_goes M u v c.in_ok-next.ensures.on (next_at u (c.in_ok-tail.tail.value / 2)) c.in_ok-next.next c.in_ok-next.ensures.looked)
     (omega arith) (omega arith) (omega arith)
 
 pub returns-clause-sees : goal.returns-clause-sees
-returns-clause-sees g c =
+returns-clause-sees g c cs going =
     let M = g.T.Theory.meaning in
     let t = state c.args.tx.now in
     let u = state c.load.new.self in
@@ -72,12 +70,11 @@ returns-clause-sees g c =
     let tail = c.in_ok-tail.tail in
     let next = c.in_ok-next.next in
     let on = c.in_ok-tail.ensures.on in
-    let under = c.requires.begun.going in
-    let is = look_ok M t u under on c.queue_tail-tail_word.result tail c.in_ok-tail.ensures.looked in
-    let s = tail_seen M g.T.Theory.lawful g.met.T.HasQueues.has_queues t u c.args.queue on is.0 c.requires.begun c.queue_tail-tail_word.result
+    let is = look_ok M t u on c.queue_tail-tail_word.result tail c.in_ok-tail.ensures.looked in
+    let s = tail_seen M g.T.Theory.lawful g.met.T.HasQueues.has_queues t u c.args.queue cs on is.0 c.requires.begun going c.queue_tail-tail_word.result
     (c.queue_tail-tail_word.ensures.place ∙ ap (λ s. address s (queue_tail c.args.queue)) c.shape.ensures) tail is.1 in
-    let next_is = look_ok M u v (under.0, on.going under.0 under.1) c.in_ok-next.ensures.on (next_at u (tail.value / 2)) next c.in_ok-next.ensures.looked in
-    end_seen M g.T.Theory.lawful g.met.T.HasQueues.has_queues u v c.args.queue c.in_ok-next.ensures.on next_is.0 tail next 0 s
+    let next_is = look_ok M u v c.in_ok-next.ensures.on (next_at u (tail.value / 2)) next c.in_ok-next.ensures.looked in
+    end_seen M g.T.Theory.lawful g.met.T.HasQueues.has_queues u v c.args.queue cs c.in_ok-next.ensures.on next_is.0 tail next 0 s
     (subst (λ n. KeepsGiven u v (next_at u n)) (half_is tail.value) c.in_ok-next.ensures.given)
     (subst (λ n. Looks M u v (next_at u n) next) (half_is tail.value) next_is.1)
 
@@ -87,5 +84,5 @@ returns-in_err-tail-clause-stopped g c s is =
     let t = state c.args.tx.now in
     let u = state c.load.new.self in
     let stop = c.in_err-tail.field-0.0 in
-    let same = look_stopped M t u c.requires.begun.going c.in_err-tail.ensures.on c.queue_tail-tail_word.result stop c.in_err-tail.ensures.looked s is in
+    let same = look_stopped M t u c.in_err-tail.ensures.on c.queue_tail-tail_word.result stop c.in_err-tail.ensures.looked s is in
     search rules

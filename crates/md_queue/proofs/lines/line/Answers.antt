@@ -1,4 +1,4 @@
-use Rattle.std.proofs.Common.{rules, ◌≡◌, ◌+◌, ◌++◌, [], ◌∷◌, length, Some, None, refl, sym, ap, ◌∙◌, subst, arith}
+use Rattle.std.proofs.Common.{rules, ◌≡◌, ◌<◌, ◌+◌, ◌++◌, [], ◌∷◌, List, length, Some, None, refl, sym, ap, ◌∙◌, subst, arith}
 use Rattle.std.proofs.lemmas.List.{length-append, length-map, map-append}
 use Rattle.md_words.specs.declared.shape.Shape.{Shape}
 use Rattle.md_words.specs.Layout.{address}
@@ -6,16 +6,21 @@ use Rattle.md_words.specs.Place.{node_next, queue_head}
 use Rattle.md_history.specs.declared.acts.Op.TheVariants.{Line as LineOf}
 use Rattle.md_history.specs.declared.acts.Reply.TheVariants.{Line as TheLine}
 use Rattle.md_history.specs.State.{line_of}
+use Rattle.md_machine.specs.declared.certificate.Certificate.{Certificate}
+use Rattle.md_nbtc.specs.Going.{IsGoing}
 use Rattle.md_nbtc.specs.State.{shape_in, state}
 use Rattle.md_nbtc.proofs.structures.NodesKnown.{shape_later}
 use Rattle.md_queue_law.specs.QueueCertificates.{Seen, last_seen}
-use Rattle.md_queue.specs.Along.{LooksFurther, seen_as}
+use Rattle.md_queue.specs.Along.{LooksFurther, seen_as, words_along}
 use Rattle.md_queue.specs.Operations.{RecordsAmong, RefusedOtherwise}
 use Rattle.md_queue.specs.Words.{next_at}
-use Rattle.md_queue.proofs.Along.{looked_enough, looked_to_end, words_along, words_more}
+use Rattle.md_queue.proofs.Along.{looked_enough, looked_to_end, words_more}
 use Rattle.md_queue.proofs.Among.{AnswersBy, among_then, answered}
 use Rattle.md_queue.proofs.Lined.{line_more, values_of}
 use Rattle.md_queue.proofs.Steps.{goes_then, goes_up, refused_then}
+use Rattle.std.proofs.Common.{◌≤◌}
+use Rattle.md_queue.proofs.Refusing.{began_on, line_asks, if_err}
+use Rattle.md_queue.proofs.Steps.{unstopped}
 use Rattle.md_queue.proofs.lines.line.Goals as goal
 
 pub loop-i-init : goal.loop-i-init
@@ -29,14 +34,15 @@ loop-i-init g c = record {
     is = refl;
     looked = c.in_ok-node.ensures.looked;
     among = subst (λ (x : Shape). RecordsAmong (state c.args.tx.now) (state c.pass_head.new.tx) (address x (queue_head c.args.queue) ∷ []))
-        (sym (shape_later (state c.args.tx.now) (state c.pass_head.new.tx) c.in_ok-node.ensures.goes.leaves.later)) c.in_ok-node.ensures.among;
+        (sym (shape_later (state c.args.tx.now) (state c.pass_head.new.tx) c.in_ok-node.ensures.goes.leaves.on.later)) c.in_ok-node.ensures.among;
   };
 }
 
 pub pass_next-requires : goal.pass_next-requires
 pass_next-requires g c =
     let h = c.loop-i.invariant.has in
-    record { looked = (c.args.queue, h.dummy, h.seen, h.looked) }
+    let under = c.requires.begun.going in
+    record { looked = (c.args.queue, under.0, h.dummy, h.seen, h.looked under.0 under.1) }
 
 pub loop-i-preserved : goal.loop-i-preserved
 loop-i-preserved g c =
@@ -48,12 +54,13 @@ loop-i-preserved g c =
     let i = c.loop-i.i in
     let passed = c.in-Some.passed in
     let p = seen_as passed in
-    let further : LooksFurther M u c.args.queue h.dummy c.loop-i.node h.seen (Some passed)
-    = subst (LooksFurther M u c.args.queue h.dummy c.loop-i.node h.seen) c.in-Some.is (c.in_ok-passed.ensures.further c.args.queue h.dummy h.seen h.looked) in
-    let last = ap (λ n. next_at t n) h.looked.last in
+    let under = c.requires.begun.going in
+    let further : (cs : List Certificate) → IsGoing M s cs → LooksFurther M u c.args.queue cs h.dummy c.loop-i.node h.seen (Some passed)
+    = λ cs going. subst (LooksFurther M u c.args.queue cs h.dummy c.loop-i.node h.seen) c.in-Some.is (c.in_ok-passed.ensures.further c.args.queue cs h.dummy h.seen (h.looked cs going)) in
+    let last = ap (λ n. next_at t n) (h.looked under.0 under.1).last in
     let more : RecordsAmong s u (words_along (shape_in u) c.args.queue h.dummy h.seen ++ next_at u (last_seen h.dummy h.seen) ∷ [])
     = subst (λ (x : Shape). RecordsAmong s u (words_along x c.args.queue h.dummy h.seen ++ address x (node_next (last_seen h.dummy h.seen)) ∷ []))
-    (sym (shape_later t u c.in_ok-passed.ensures.goes.leaves.later))
+    (sym (shape_later t u c.in_ok-passed.ensures.goes.leaves.on.later))
     (among_then s t u (words_along (shape_in t) c.args.queue h.dummy h.seen) (next_at t (last_seen h.dummy h.seen) ∷ []) h.among
     (subst (λ w. RecordsAmong t u (w ∷ [])) last c.in_ok-passed.ensures.among)) in
     record {
@@ -76,9 +83,11 @@ returns-after-loop-i-clause-answer g c =
     let t = state c.loop-i.tx in
     let h = c.loop-i.invariant.has in
     let all : length h.seen ≡ c.args.n = h.counted ∙ omega arith in
-    let by = subst (λ k. AnswersBy M t (LineOf c.args.queue k) (TheLine c.loop-i.line) (words_along (shape_in t) c.args.queue h.dummy h.seen)) all
-    (subst (λ l. AnswersBy M t (LineOf c.args.queue (length h.seen)) (TheLine l) (words_along (shape_in t) c.args.queue h.dummy h.seen)) (sym h.is)
-    (looked_enough M g.T.Theory.lawful g.met.T.HasQueues.has_queues t c.args.queue h.dummy c.loop-i.node h.seen h.looked)) in
+    let by : (cs : List Certificate) → IsGoing M (state c.args.tx.now) cs
+    → AnswersBy M t cs (LineOf c.args.queue c.args.n) (TheLine c.loop-i.line) (words_along (shape_in t) c.args.queue h.dummy h.seen)
+    = λ cs going. subst (λ k. AnswersBy M t cs (LineOf c.args.queue k) (TheLine c.loop-i.line) (words_along (shape_in t) c.args.queue h.dummy h.seen)) all
+    (subst (λ l. AnswersBy M t cs (LineOf c.args.queue (length h.seen)) (TheLine l) (words_along (shape_in t) c.args.queue h.dummy h.seen)) (sym h.is)
+    (looked_enough M g.T.Theory.lawful g.met.T.HasQueues.has_queues t c.args.queue cs h.dummy c.loop-i.node h.seen (h.looked cs going))) in
     answered (words_along (shape_in t) c.args.queue h.dummy h.seen)
     (goes_up M (state c.args.tx.now) t (c.loop-i.i + 1) 0 0 (c.args.n + 1) 0 0 h.goes (omega arith) (omega arith) (omega arith)) by h.among
 
@@ -90,19 +99,21 @@ returns-in_default-clause-answer g c =
     let u = state c.pass_next.new.tx in
     let h = c.loop-i.invariant.has in
     let counted = h.counted in
-    let end : LooksFurther M u c.args.queue h.dummy c.loop-i.node h.seen None
-    = subst (LooksFurther M u c.args.queue h.dummy c.loop-i.node h.seen) c.in_default.is (c.in_ok-passed.ensures.further c.args.queue h.dummy h.seen h.looked) in
-    let last = ap (λ n. next_at t n) h.looked.last in
+    let fewer : length h.seen < c.args.n = omega (arith, counted) in
+    let under = c.requires.begun.going in
+    let end : (cs : List Certificate) → IsGoing M s cs → LooksFurther M u c.args.queue cs h.dummy c.loop-i.node h.seen None
+    = λ cs going. subst (LooksFurther M u c.args.queue cs h.dummy c.loop-i.node h.seen) c.in_default.is (c.in_ok-passed.ensures.further c.args.queue cs h.dummy h.seen (h.looked cs going)) in
+    let last = ap (λ n. next_at t n) (h.looked under.0 under.1).last in
     let more : RecordsAmong s u (words_along (shape_in u) c.args.queue h.dummy h.seen ++ next_at u (last_seen h.dummy h.seen) ∷ [])
     = subst (λ (x : Shape). RecordsAmong s u (words_along x c.args.queue h.dummy h.seen ++ address x (node_next (last_seen h.dummy h.seen)) ∷ []))
-    (sym (shape_later t u c.in_ok-passed.ensures.goes.leaves.later))
+    (sym (shape_later t u c.in_ok-passed.ensures.goes.leaves.on.later))
     (among_then s t u (words_along (shape_in t) c.args.queue h.dummy h.seen) (next_at t (last_seen h.dummy h.seen) ∷ []) h.among
     (subst (λ w. RecordsAmong t u (w ∷ [])) last c.in_ok-passed.ensures.among)) in
     let words = words_along (shape_in u) c.args.queue h.dummy h.seen ++ next_at u (last_seen h.dummy h.seen) ∷ [] in
     answered words
     (goes_then M s t u (c.loop-i.i + 1) 0 0 1 0 0 (c.args.n + 1) 0 0 h.goes (λ _. c.in_ok-passed.ensures.goes) (omega arith) (omega arith) (omega arith))
-    (subst (λ l. AnswersBy M u (LineOf c.args.queue c.args.n) (TheLine l) words) (sym h.is)
-    (looked_to_end M g.T.Theory.lawful g.met.T.HasQueues.has_queues u c.args.queue h.dummy c.loop-i.node h.seen end c.args.n (omega (arith, counted)))) more
+    (λ cs going. subst (λ l. AnswersBy M u cs (LineOf c.args.queue c.args.n) (TheLine l) words) (sym h.is)
+    (looked_to_end M g.T.Theory.lawful g.met.T.HasQueues.has_queues u c.args.queue cs h.dummy c.loop-i.node h.seen (end cs going) c.args.n fewer)) more
 
 pub returns-in_err-passed-clause-stop : goal.returns-in_err-passed-clause-stop
 returns-in_err-passed-clause-stop g c =
@@ -115,3 +126,31 @@ returns-in_err-passed-clause-stop g c =
     let refused : RefusedOtherwise M s u (c.args.n + 1) 0 stop = refused_then M s t u (i + 1) 0 1 0 (c.args.n + 1) 0 stop c.loop-i.invariant.has.goes (λ _. c.in_err-passed.ensures.stop)
     (omega arith) (omega arith) in
     search rules
+
+pub returns-in_default-clause-stopped : goal.returns-in_default-clause-stopped
+returns-in_default-clause-stopped g c s is = unstopped (state c.args.tx.now) (state c.pass_head.new.tx) c.in_ok-node.node c.in_ok-node.ensures.stopped s is
+
+pub returns-in_err-node-clause-reads : goal.returns-in_err-node-clause-reads
+returns-in_err-node-clause-reads g c =
+    let M = g.T.Theory.meaning in
+    let s = state c.args.tx.now in
+    let t = state c.pass_head.new.tx in
+    let n = c.args.n in
+    let some = c.requires.few.some in
+    let stop = c.in_err-node.field-0.0 in
+    if_err c.from_residual.result stop _ c.from_residual.ensures.1 (λ limit began cs going. line_asks M s t cs c.args.queue 1 n some (c.in_err-node.ensures.reads limit began cs going))
+
+pub returns-in_err-passed-clause-reads : goal.returns-in_err-passed-clause-reads
+returns-in_err-passed-clause-reads g c =
+    let M = g.T.Theory.meaning in
+    let s = state c.args.tx.now in
+    let t = state c.loop-i.tx in
+    let u = state c.pass_next.new.tx in
+    let h = c.loop-i.invariant.has in
+    let queue = c.args.queue in
+    let n = c.args.n in
+    let counted = h.counted in
+    let few : length h.seen + 1 ≤ n = omega (arith, counted) in
+    let stop = c.in_err-passed.field-0.0 in
+    if_err c.from_residual-in_err-passed.result stop _ c.from_residual-in_err-passed.ensures.1 (λ limit began cs going. line_asks M s u cs queue (length h.seen + 1) n few
+    (c.in_err-passed.ensures.reads limit (began_on M s t (c.loop-i.i + 1) 0 0 h.goes began) s queue cs h.dummy h.seen h.goes.leaves.on.later (h.looked cs going) h.among))

@@ -15,6 +15,10 @@ use Rattle.md_queue.proofs.Firsts.{begun_working, sees_head}
 use Rattle.md_queue.proofs.Looking.{head_counted}
 use Rattle.md_queue.proofs.Passing.{shape_head}
 use Rattle.md_queue.proofs.Steps.{goes_then, look_goes, look_ok, look_stops, note_among, note_goes, note_ok, note_stops, refused_then, refused_up}
+use Rattle.md_history.specs.declared.stops.Limit.TheVariants.{Reads}
+use Rattle.md_history.specs.declared.stops.Stop.TheVariants.{Limit as Limited}
+use Rattle.md_queue.proofs.Full.{line_head_full}
+use Rattle.md_queue.proofs.Refusing.{began_on, note_unread, note_unwritten, note_was, was_after, if_err}
 use Rattle.md_queue.proofs.lines.pass_head.Goals as goal
 
 pub load-requires-clause-counted : goal.load-requires-clause-counted
@@ -22,21 +26,21 @@ load-requires-clause-counted g c =
     let t = state c.args.tx.now in
     subst (IsCounted (shape_in t)) (sym (c.queue_head-head_word.ensures.place ∙ ap (λ s. address s (queue_head c.args.queue)) c.shape.ensures))
     (head_counted g.T.Theory.meaning g.T.Theory.lawful g.met.T.HasQueues.has_queues t c.args.queue c.requires.begun.going.0 []
-    (begun_working g.T.Theory.meaning t c.args.queue c.requires.begun))
+    (begun_working g.T.Theory.meaning t c.args.queue c.requires.begun c.requires.begun.going.0 c.requires.begun.going.1))
 
 pub note-requires-clause-operates : goal.note-requires-clause-operates
 note-requires-clause-operates g c =
     let M = g.T.Theory.meaning in
     let t = state c.args.tx.now in
     let u = state c.load.new.self in
-    (look_goes M t u c.requires.begun.going c.in_ok-head.ensures.on c.queue_head-head_word.result c.in_ok-head.head c.in_ok-head.ensures.looked c.requires.begun.operates).leaves.operates
+    (look_goes M t u c.in_ok-head.ensures.on c.queue_head-head_word.result c.in_ok-head.head c.in_ok-head.ensures.looked c.requires.begun.operates).leaves.operates
 
 pub note-requires-clause-gave : goal.note-requires-clause-gave
 note-requires-clause-gave g c =
     let M = g.T.Theory.meaning in
     let t = state c.args.tx.now in
     let u = state c.load.new.self in
-    (look_ok M t u c.requires.begun.going c.in_ok-head.ensures.on c.queue_head-head_word.result c.in_ok-head.head c.in_ok-head.ensures.looked).1.gave
+    (look_ok M t u c.in_ok-head.ensures.on c.queue_head-head_word.result c.in_ok-head.head c.in_ok-head.ensures.looked).1.gave
 
 pub note-requires-clause-found : goal.note-requires-clause-found
 note-requires-clause-found g c =
@@ -45,8 +49,8 @@ note-requires-clause-found g c =
     let u = state c.load.new.self in
     let on = c.in_ok-head.ensures.on in
     let place = c.queue_head-head_word.ensures.place ∙ ap (λ s. address s (queue_head c.args.queue)) c.shape.ensures in
-    let is = look_ok M t u c.requires.begun.going on c.queue_head-head_word.result c.in_ok-head.head c.in_ok-head.ensures.looked in
-    let s = sees_head M g.T.Theory.lawful g.met.T.HasQueues.has_queues t u c.args.queue on is.0 c.requires.begun c.queue_head-head_word.result place c.in_ok-head.head is.1 in
+    let is = look_ok M t u on c.queue_head-head_word.result c.in_ok-head.head c.in_ok-head.ensures.looked in
+    let s = sees_head M g.T.Theory.lawful g.met.T.HasQueues.has_queues t u c.args.queue c.requires.begun.going.0 on is.0 c.requires.begun c.requires.begun.going.1 c.queue_head-head_word.result place c.in_ok-head.head is.1 in
     subst (λ w. IsFoundThere M u w c.in_ok-head.head) (shape_head M t u on.later c.args.queue ∙ sym place) s.head_sees.there
 
 pub returns-in_err-head-clause-stop : goal.returns-in_err-head-clause-stop
@@ -56,7 +60,7 @@ returns-in_err-head-clause-stop g c =
     let u = state c.load.new.self in
     let stop = c.in_err-head.field-0.0 in
     let refused : RefusedOtherwise M t u 1 0 stop = refused_up M t u 0 0 1 0 stop
-    (look_stops M t u c.requires.begun.going c.in_err-head.ensures.on c.queue_head-head_word.result stop c.in_err-head.ensures.looked c.requires.begun.operates) (omega arith) (omega arith) in
+    (look_stops M t u c.in_err-head.ensures.on c.queue_head-head_word.result stop c.in_err-head.ensures.looked c.requires.begun.operates) (omega arith) (omega arith) in
     search rules
 
 pub returns-in_err-note-clause-stop : goal.returns-in_err-note-clause-stop
@@ -65,13 +69,12 @@ returns-in_err-note-clause-stop g c =
     let t = state c.args.tx.now in
     let u = state c.load.new.self in
     let v = state c.note.new.self in
-    let under = c.requires.begun.going in
     let on = c.in_ok-head.ensures.on in
     let head = c.in_ok-head.head in
     let stop = c.in_err-note.field-0.0 in
     let refused : RefusedOtherwise M t v 1 0 stop = refused_then M t u v 0 0 0 0 1 0 stop
-    (look_goes M t u under on c.queue_head-head_word.result head c.in_ok-head.ensures.looked c.requires.begun.operates)
-    (note_stops M u v (under.0, on.going under.0 under.1) c.in_err-note.ensures.on c.queue_head-head_word.result head stop c.in_err-note.ensures.noted) (omega arith) (omega arith) in
+    (look_goes M t u on c.queue_head-head_word.result head c.in_ok-head.ensures.looked c.requires.begun.operates)
+    (note_stops M u v c.in_err-note.ensures.on c.queue_head-head_word.result head stop c.in_err-note.ensures.noted) (omega arith) (omega arith) in
     search rules
 
 pub returns-clause-goes : goal.returns-clause-goes
@@ -80,29 +83,27 @@ returns-clause-goes g c =
     let t = state c.args.tx.now in
     let u = state c.load.new.self in
     let v = state c.note.new.self in
-    let under = c.requires.begun.going in
     let on = c.in_ok-head.ensures.on in
     let head = c.in_ok-head.head in
     goes_then M t u v 0 0 0 1 0 0 1 0 0
-    (look_goes M t u under on c.queue_head-head_word.result head c.in_ok-head.ensures.looked c.requires.begun.operates)
-    (note_goes M u v (under.0, on.going under.0 under.1) c.in_ok-note.ensures.on c.queue_head-head_word.result head c.in_ok-note.ensures.noted) (omega arith) (omega arith) (omega arith)
+    (look_goes M t u on c.queue_head-head_word.result head c.in_ok-head.ensures.looked c.requires.begun.operates)
+    (note_goes M u v c.in_ok-note.ensures.on c.queue_head-head_word.result head c.in_ok-note.ensures.noted) (omega arith) (omega arith) (omega arith)
 
 pub returns-clause-looked : goal.returns-clause-looked
-returns-clause-looked g c =
+returns-clause-looked g c cs going =
     let M = g.T.Theory.meaning in
     let t = state c.args.tx.now in
     let u = state c.load.new.self in
     let v = state c.note.new.self in
-    let under = c.requires.begun.going in
     let on = c.in_ok-head.ensures.on in
     let over = c.in_ok-note.ensures.on in
     let head = c.in_ok-head.head in
     let place = c.queue_head-head_word.ensures.place ∙ ap (λ s. address s (queue_head c.args.queue)) c.shape.ensures in
-    let is = look_ok M t u under on c.queue_head-head_word.result head c.in_ok-head.ensures.looked in
-    let s = sees_head M g.T.Theory.lawful g.met.T.HasQueues.has_queues t u c.args.queue on is.0 c.requires.begun c.queue_head-head_word.result place head is.1 in
-    let noted = note_ok M u v (under.0, on.going under.0 under.1) over c.queue_head-head_word.result head c.in_ok-note.ensures.noted in
-    subst (λ n. HasLooked M v c.args.queue n n []) (sym (half_is head.value))
-    (head_passed M g.T.Theory.lawful g.met.T.HasQueues.has_queues u c.args.queue head s v over (omega arith)
+    let is = look_ok M t u on c.queue_head-head_word.result head c.in_ok-head.ensures.looked in
+    let s = sees_head M g.T.Theory.lawful g.met.T.HasQueues.has_queues t u c.args.queue cs on is.0 c.requires.begun going c.queue_head-head_word.result place head is.1 in
+    let noted = note_ok M u v over c.queue_head-head_word.result head c.in_ok-note.ensures.noted in
+    subst (λ n. HasLooked M v c.args.queue cs n n []) (sym (half_is head.value))
+    (head_passed M g.T.Theory.lawful g.met.T.HasQueues.has_queues u c.args.queue cs head s v over (omega arith)
     (subst (λ w. HasNoted u v w head) (place ∙ sym (shape_head M t u on.later c.args.queue)) noted))
 
 pub returns-clause-among : goal.returns-clause-among
@@ -111,10 +112,33 @@ returns-clause-among g c =
     let t = state c.args.tx.now in
     let u = state c.load.new.self in
     let v = state c.note.new.self in
-    let under = c.requires.begun.going in
     let on = c.in_ok-head.ensures.on in
     let head = c.in_ok-head.head in
     let place = c.queue_head-head_word.ensures.place ∙ ap (λ s. address s (queue_head c.args.queue)) c.shape.ensures in
-    among_from M t u v 0 0 (head_at t c.args.queue ∷ []) (look_goes M t u under on c.queue_head-head_word.result head c.in_ok-head.ensures.looked c.requires.begun.operates)
+    among_from M t u v 0 0 (head_at t c.args.queue ∷ []) (look_goes M t u on c.queue_head-head_word.result head c.in_ok-head.ensures.looked c.requires.begun.operates)
     (subst (λ w. RecordsAmong u v (w ∷ [])) place
-    (note_among M u v (under.0, on.going under.0 under.1) c.in_ok-note.ensures.on c.queue_head-head_word.result head c.in_ok-note.ensures.noted))
+    (note_among M u v c.in_ok-note.ensures.on c.queue_head-head_word.result head c.in_ok-note.ensures.noted))
+
+pub returns-in_err-note-clause-reads : goal.returns-in_err-note-clause-reads
+returns-in_err-note-clause-reads g c =
+    let M = g.T.Theory.meaning in
+    let t = state c.args.tx.now in
+    let u = state c.load.new.self in
+    let v = state c.note.new.self in
+    let queue = c.args.queue in
+    let on = c.in_ok-head.ensures.on in
+    let head = c.in_ok-head.head in
+    let word = c.queue_head-head_word.result in
+    let stop = c.in_err-note.field-0.0 in
+    let told = c.in_err-note.ensures.noted in
+    let place = c.queue_head-head_word.ensures.place ∙ ap (λ s. address s (queue_head c.args.queue)) c.shape.ensures in
+    let is = look_ok M t u on word head c.in_ok-head.ensures.looked in
+    let goes = look_goes M t u on word head c.in_ok-head.ensures.looked c.requires.begun.operates in
+    if_err c.from_residual-in_err-note.result stop _ c.from_residual-in_err-note.ensures.1 (λ limit began cs going.
+    let s = sees_head M g.T.Theory.lawful g.met.T.HasQueues.has_queues t u queue cs on is.0 c.requires.begun going word place head is.1 in
+    let none = (began_on M t u 0 0 0 goes began).unstopped in (
+      u,
+      was_after M t u v u cs (Limited Reads) on.later (note_was M u v stop none word head limit cs s.working.going told),
+      line_head_full M g.T.Theory.lawful g.met.T.HasQueues.has_queues u queue cs s.changes s.working t word (place ∙ sym (shape_head M t u on.later queue))
+          (note_unread M u v stop none word head limit told) (note_unwritten M u v stop none word head limit told) (ap (λ x. x.reads) is.0),
+    ))

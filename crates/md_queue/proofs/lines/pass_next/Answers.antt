@@ -16,22 +16,31 @@ use Rattle.md_queue.proofs.Among.{among_from, among_to}
 use Rattle.md_queue.proofs.Data.{half_is}
 use Rattle.md_queue.proofs.Looking.{node_readable}
 use Rattle.md_queue.proofs.Steps.{goes_then, look_goes, look_ok, look_stops, note_among, note_goes, note_ok, note_stops, pass_goes, refused_then, refused_up}
+use Rattle.md_history.specs.declared.stops.Limit.TheVariants.{Reads}
+use Rattle.md_history.specs.declared.stops.Stop.TheVariants.{Limit as Limited}
+use Rattle.std.proofs.Common.{refl}
+use Rattle.md_nbtc.specs.State.{shape_in}
+use Rattle.md_queue.specs.Along.{words_along}
+use Rattle.md_queue.proofs.Along.{looked_on}
+use Rattle.md_queue.proofs.Full.{line_next_full}
+use Rattle.md_queue.proofs.Passing.{working_on}
+use Rattle.md_queue.proofs.Refusing.{began_on, note_unread, note_unwritten, note_was, was_after, if_err}
 use Rattle.md_queue.proofs.lines.pass_next.Goals as goal
 
 pub load_next-requires : goal.load_next-requires
 load_next-requires g c =
-    let s = c.requires.looked.3 in
-    record { may = record { going = (s.certificates, s.working.going); exists = s.exists } }
+    let s = c.requires.looked.4 in
+    record { may = record { going = (c.requires.looked.1, s.working.going); exists = s.exists } }
 
 pub returns-in_err-next-clause-stop : goal.returns-in_err-next-clause-stop
 returns-in_err-next-clause-stop g c =
     let M = g.T.Theory.meaning in
     let t = state c.args.tx.now in
     let u = state c.load_next.new.tx in
-    let s = c.requires.looked.3 in
+    let s = c.requires.looked.4 in
     let stop = c.in_err-next.field-0.0 in
     let refused : RefusedOtherwise M t u 1 0 stop = refused_up M t u 0 0 1 0 stop
-    (look_stops M t u (s.certificates, s.working.going) c.in_err-next.ensures.on (next_at t c.args.node) stop c.in_err-next.ensures.looked s.working.operates) (omega arith) (omega arith) in
+    (look_stops M t u c.in_err-next.ensures.on (next_at t c.args.node) stop c.in_err-next.ensures.looked s.working.operates) (omega arith) (omega arith) in
     search rules
 
 pub note_next-requires : goal.note_next-requires
@@ -40,16 +49,16 @@ note_next-requires g c =
     let t = state c.args.tx.now in
     let u = state c.load_next.new.tx in
     let queue = c.requires.looked.0 in
-    let dummy = c.requires.looked.1 in
-    let seen = c.requires.looked.2 in
-    let s = c.requires.looked.3 in
+    let dummy = c.requires.looked.2 in
+    let seen = c.requires.looked.3 in
+    let s = c.requires.looked.4 in
     let on = c.in_ok-next.ensures.on in
     let next = c.in_ok-next.next in
-    let is = look_ok M t u (s.certificates, s.working.going) on (next_at t c.args.node) next c.in_ok-next.ensures.looked in
-    let sees = next_looked_at M g.T.Theory.lawful g.met.T.HasQueues.has_queues t queue dummy c.args.node seen s u on is.0 next is.1 in
+    let is = look_ok M t u on (next_at t c.args.node) next c.in_ok-next.ensures.looked in
+    let sees = next_looked_at M g.T.Theory.lawful g.met.T.HasQueues.has_queues t queue c.requires.looked.1 dummy c.args.node seen s u on is.0 next is.1 in
     record {
       may = record {
-        going = (s.certificates, on.going s.certificates s.working.going);
+        going = (c.requires.looked.1, on.going c.requires.looked.1 s.working.going);
         exists = sees.exists;
         operates = ap (λ x. x.hand.operating) is.0 ∙ s.working.operates;
         gave = sees.at.gave;
@@ -63,13 +72,13 @@ returns-in_err-note_next-clause-stop g c =
     let t = state c.args.tx.now in
     let u = state c.load_next.new.tx in
     let v = state c.note_next.new.tx in
-    let s = c.requires.looked.3 in
+    let s = c.requires.looked.4 in
     let on = c.in_ok-next.ensures.on in
     let next = c.in_ok-next.next in
     let stop = c.in_err-note_next.field-0.0 in
     let refused : RefusedOtherwise M t v 1 0 stop = refused_then M t u v 0 0 0 0 1 0 stop
-    (look_goes M t u (s.certificates, s.working.going) on (next_at t c.args.node) next c.in_ok-next.ensures.looked s.working.operates)
-    (note_stops M u v (s.certificates, on.going s.certificates s.working.going) c.in_err-note_next.ensures.on (next_at u c.args.node) next stop c.in_err-note_next.ensures.noted) (omega arith) (omega arith) in
+    (look_goes M t u on (next_at t c.args.node) next c.in_ok-next.ensures.looked s.working.operates)
+    (note_stops M u v c.in_err-note_next.ensures.on (next_at u c.args.node) next stop c.in_err-note_next.ensures.noted) (omega arith) (omega arith) in
     search rules
 
 pub returns-then-next-eq0-clause-goes : goal.returns-then-next-eq0-clause-goes
@@ -78,15 +87,15 @@ returns-then-next-eq0-clause-goes g c =
     let t = state c.args.tx.now in
     let u = state c.load_next.new.tx in
     let v = state c.note_next.new.tx in
-    let s = c.requires.looked.3 in
+    let s = c.requires.looked.4 in
     let on = c.in_ok-next.ensures.on in
     let next = c.in_ok-next.next in
     goes_then M t u v 0 0 0 1 0 0 1 0 0
-    (look_goes M t u (s.certificates, s.working.going) on (next_at t c.args.node) next c.in_ok-next.ensures.looked s.working.operates)
-    (note_goes M u v (s.certificates, on.going s.certificates s.working.going) c.in_ok-note_next.ensures.on (next_at u c.args.node) next c.in_ok-note_next.ensures.noted) (omega arith) (omega arith) (omega arith)
+    (look_goes M t u on (next_at t c.args.node) next c.in_ok-next.ensures.looked s.working.operates)
+    (note_goes M u v c.in_ok-note_next.ensures.on (next_at u c.args.node) next c.in_ok-note_next.ensures.noted) (omega arith) (omega arith) (omega arith)
 
 pub returns-then-next-eq0-clause-further : goal.returns-then-next-eq0-clause-further
-returns-then-next-eq0-clause-further g c queue dummy seen s =
+returns-then-next-eq0-clause-further g c queue cs dummy seen s =
     let M = g.T.Theory.meaning in
     let t = state c.args.tx.now in
     let u = state c.load_next.new.tx in
@@ -94,10 +103,10 @@ returns-then-next-eq0-clause-further g c queue dummy seen s =
     let on = c.in_ok-next.ensures.on in
     let over = c.in_ok-note_next.ensures.on in
     let next = c.in_ok-next.next in
-    let is = look_ok M t u (s.certificates, s.working.going) on (next_at t c.args.node) next c.in_ok-next.ensures.looked in
-    let noted = note_ok M u v (s.certificates, on.going s.certificates s.working.going) over (next_at u c.args.node) next c.in_ok-note_next.ensures.noted in
-    ended M g.T.Theory.lawful g.met.T.HasQueues.has_queues t queue dummy c.args.node seen s v next
-    (next_noted M g.T.Theory.lawful g.met.T.HasQueues.has_queues t queue dummy c.args.node seen s u on is.0 next is.1 v over (omega arith) noted) c.if-next-eq0.true
+    let is = look_ok M t u on (next_at t c.args.node) next c.in_ok-next.ensures.looked in
+    let noted = note_ok M u v over (next_at u c.args.node) next c.in_ok-note_next.ensures.noted in
+    ended M g.T.Theory.lawful g.met.T.HasQueues.has_queues t queue cs dummy c.args.node seen s v next
+    (next_noted M g.T.Theory.lawful g.met.T.HasQueues.has_queues t queue cs dummy c.args.node seen s u on is.0 next is.1 v over (omega arith) noted) c.if-next-eq0.true
 
 pub value_of-value-requires : goal.value_of-value-requires
 value_of-value-requires g c =
@@ -106,20 +115,20 @@ value_of-value-requires g c =
     let u = state c.load_next.new.tx in
     let v = state c.note_next.new.tx in
     let queue = c.requires.looked.0 in
-    let dummy = c.requires.looked.1 in
-    let seen = c.requires.looked.2 in
-    let s = c.requires.looked.3 in
+    let dummy = c.requires.looked.2 in
+    let seen = c.requires.looked.3 in
+    let s = c.requires.looked.4 in
     let on = c.in_ok-next.ensures.on in
     let over = c.in_ok-note_next.ensures.on in
     let next = c.in_ok-next.next in
-    let is = look_ok M t u (s.certificates, s.working.going) on (next_at t c.args.node) next c.in_ok-next.ensures.looked in
-    let noted = note_ok M u v (s.certificates, on.going s.certificates s.working.going) over (next_at u c.args.node) next c.in_ok-note_next.ensures.noted in
-    let n = next_noted M g.T.Theory.lawful g.met.T.HasQueues.has_queues t queue dummy c.args.node seen s u on is.0 next is.1 v over (omega arith) noted in
+    let is = look_ok M t u on (next_at t c.args.node) next c.in_ok-next.ensures.looked in
+    let noted = note_ok M u v over (next_at u c.args.node) next c.in_ok-note_next.ensures.noted in
+    let n = next_noted M g.T.Theory.lawful g.met.T.HasQueues.has_queues t queue c.requires.looked.1 dummy c.args.node seen s u on is.0 next is.1 v over (omega arith) noted in
     record {
       may = record {
-        going = (s.certificates, n.working.going);
+        going = (c.requires.looked.1, n.working.going);
         readable = subst (IsReadable M v) (sym (half_is next.value))
-            (node_readable M g.T.Theory.lawful g.met.T.HasQueues.has_queues v queue s.certificates s.changes n.working (linked_node next.value) (n.named c.if-next-eq0.false).placed);
+            (node_readable M g.T.Theory.lawful g.met.T.HasQueues.has_queues v queue c.requires.looked.1 s.changes n.working (linked_node next.value) (n.named c.if-next-eq0.false).placed);
       };
     }
 
@@ -130,19 +139,19 @@ returns-clause-goes g c =
     let u = state c.load_next.new.tx in
     let v = state c.note_next.new.tx in
     let w = state c.value_of-value.new.tx in
-    let s = c.requires.looked.3 in
+    let s = c.requires.looked.4 in
     let on = c.in_ok-next.ensures.on in
     let over = c.in_ok-note_next.ensures.on in
     let next = c.in_ok-next.next in
-    let going = on.going s.certificates s.working.going in
+    let going = on.going c.requires.looked.1 s.working.going in
     goes_then M t v w 1 0 0 0 0 0 1 0 0
     (goes_then M t u v 0 0 0 1 0 0 1 0 0
-    (look_goes M t u (s.certificates, s.working.going) on (next_at t c.args.node) next c.in_ok-next.ensures.looked s.working.operates)
-    (note_goes M u v (s.certificates, going) over (next_at u c.args.node) next c.in_ok-note_next.ensures.noted) (omega arith) (omega arith) (omega arith))
-    (pass_goes M v w (s.certificates, over.going s.certificates going) c.value_of-value.ensures.on c.value_of-value.ensures.same) (omega arith) (omega arith) (omega arith)
+    (look_goes M t u on (next_at t c.args.node) next c.in_ok-next.ensures.looked s.working.operates)
+    (note_goes M u v over (next_at u c.args.node) next c.in_ok-note_next.ensures.noted) (omega arith) (omega arith) (omega arith))
+    (pass_goes M v w c.value_of-value.ensures.on c.value_of-value.ensures.same) (omega arith) (omega arith) (omega arith)
 
 pub returns-clause-further : goal.returns-clause-further
-returns-clause-further g c queue dummy seen s =
+returns-clause-further g c queue cs dummy seen s =
     let M = g.T.Theory.meaning in
     let t = state c.args.tx.now in
     let u = state c.load_next.new.tx in
@@ -152,11 +161,11 @@ returns-clause-further g c queue dummy seen s =
     let over = c.in_ok-note_next.ensures.on in
     let next = c.in_ok-next.next in
     let value = c.value_of-value.result in
-    let is = look_ok M t u (s.certificates, s.working.going) on (next_at t c.args.node) next c.in_ok-next.ensures.looked in
-    let noted = note_ok M u v (s.certificates, on.going s.certificates s.working.going) over (next_at u c.args.node) next c.in_ok-note_next.ensures.noted in
-    let n = next_noted M g.T.Theory.lawful g.met.T.HasQueues.has_queues t queue dummy c.args.node seen s u on is.0 next is.1 v over (omega arith) noted in
-    subst (λ x. HasLooked M w queue dummy x (seen ++ (let p : Seen = record { node = x; value = value } in p) ∷ [])) (sym (half_is next.value))
-    (further M g.T.Theory.lawful g.met.T.HasQueues.has_queues t queue dummy c.args.node seen s v next n c.if-next-eq0.false w c.value_of-value.ensures.on c.value_of-value.ensures.same value
+    let is = look_ok M t u on (next_at t c.args.node) next c.in_ok-next.ensures.looked in
+    let noted = note_ok M u v over (next_at u c.args.node) next c.in_ok-note_next.ensures.noted in
+    let n = next_noted M g.T.Theory.lawful g.met.T.HasQueues.has_queues t queue cs dummy c.args.node seen s u on is.0 next is.1 v over (omega arith) noted in
+    subst (λ x. HasLooked M w queue cs dummy x (seen ++ (let p : Seen = record { node = x; value = value } in p) ∷ [])) (sym (half_is next.value))
+    (further M g.T.Theory.lawful g.met.T.HasQueues.has_queues t queue cs dummy c.args.node seen s v next n c.if-next-eq0.false w c.value_of-value.ensures.on c.value_of-value.ensures.same value
     (subst (λ x. Known M w (λ y h. h.words.value_of_node x ≡ value)) (half_is next.value) c.value_of-value.ensures.known))
 
 pub returns-then-next-eq0-clause-among : goal.returns-then-next-eq0-clause-among
@@ -165,15 +174,15 @@ returns-then-next-eq0-clause-among g c =
     let t = state c.args.tx.now in
     let u = state c.load_next.new.tx in
     let v = state c.note_next.new.tx in
-    let s = c.requires.looked.3 in
+    let s = c.requires.looked.4 in
     let on = c.in_ok-next.ensures.on in
     let over = c.in_ok-note_next.ensures.on in
     let next = c.in_ok-next.next in
-    let going = on.going s.certificates s.working.going in
-    let looked = look_goes M t u (s.certificates, s.working.going) on (next_at t c.args.node) next c.in_ok-next.ensures.looked s.working.operates in
+    let going = on.going c.requires.looked.1 s.working.going in
+    let looked = look_goes M t u on (next_at t c.args.node) next c.in_ok-next.ensures.looked s.working.operates in
     let among = among_from M t u v 0 0 (next_at t c.args.node ∷ []) looked
     (subst (λ w. RecordsAmong u v (w ∷ [])) (ap (λ (x : Shape). address x (node_next c.args.node)) (shape_later t u on.later))
-    (note_among M u v (s.certificates, going) over (next_at u c.args.node) next c.in_ok-note_next.ensures.noted)) in
+    (note_among M u v over (next_at u c.args.node) next c.in_ok-note_next.ensures.noted)) in
     among
 
 pub returns-clause-among : goal.returns-clause-among
@@ -182,15 +191,41 @@ returns-clause-among g c =
     let t = state c.args.tx.now in
     let u = state c.load_next.new.tx in
     let v = state c.note_next.new.tx in
-    let s = c.requires.looked.3 in
+    let s = c.requires.looked.4 in
     let on = c.in_ok-next.ensures.on in
     let over = c.in_ok-note_next.ensures.on in
     let next = c.in_ok-next.next in
-    let going = on.going s.certificates s.working.going in
-    let looked = look_goes M t u (s.certificates, s.working.going) on (next_at t c.args.node) next c.in_ok-next.ensures.looked s.working.operates in
+    let going = on.going c.requires.looked.1 s.working.going in
+    let looked = look_goes M t u on (next_at t c.args.node) next c.in_ok-next.ensures.looked s.working.operates in
     let among = among_from M t u v 0 0 (next_at t c.args.node ∷ []) looked
     (subst (λ w. RecordsAmong u v (w ∷ [])) (ap (λ (x : Shape). address x (node_next c.args.node)) (shape_later t u on.later))
-    (note_among M u v (s.certificates, going) over (next_at u c.args.node) next c.in_ok-note_next.ensures.noted)) in
-    let noted = note_goes M u v (s.certificates, going) over (next_at u c.args.node) next c.in_ok-note_next.ensures.noted looked.leaves.operates in
+    (note_among M u v over (next_at u c.args.node) next c.in_ok-note_next.ensures.noted)) in
+    let noted = note_goes M u v over (next_at u c.args.node) next c.in_ok-note_next.ensures.noted looked.leaves.operates in
     among_to M t v (state c.value_of-value.new.tx) 0 0 (next_at t c.args.node ∷ []) among
-    (pass_goes M v (state c.value_of-value.new.tx) (s.certificates, over.going s.certificates going) c.value_of-value.ensures.on c.value_of-value.ensures.same noted.leaves.operates)
+    (pass_goes M v (state c.value_of-value.new.tx) c.value_of-value.ensures.on c.value_of-value.ensures.same noted.leaves.operates)
+
+pub returns-in_err-note_next-clause-reads : goal.returns-in_err-note_next-clause-reads
+returns-in_err-note_next-clause-reads g c =
+    let M = g.T.Theory.meaning in
+    let t = state c.args.tx.now in
+    let u = state c.load_next.new.tx in
+    let v = state c.note_next.new.tx in
+    let node = c.args.node in
+    let on = c.in_ok-next.ensures.on in
+    let next = c.in_ok-next.next in
+    let stop = c.in_err-note_next.field-0.0 in
+    let told = c.in_err-note_next.ensures.noted in
+    let is = look_ok M t u on (next_at t node) next c.in_ok-next.ensures.looked in
+    let word = next_at u node in
+    if_err c.from_residual-in_err-note_next.result stop _ c.from_residual-in_err-note_next.ensures.1 (λ limit began before queue cs dummy seen since s among.
+    let goes = look_goes M t u on (next_at t node) next c.in_ok-next.ensures.looked s.working.operates in
+    let none = (began_on M t u 0 0 0 goes began).unstopped in
+    let l = looked_on M g.T.Theory.lawful g.met.T.HasQueues.has_queues t queue cs dummy node seen s u on.later
+    (working_on M t u on.later queue cs s.changes on (ap (λ x. x.hand) is.0) s.working) in
+    let along = subst (λ (x : Shape). RecordsAmong before u (words_along x queue dummy seen)) (sym (shape_later t u on.later))
+    (among_to M before t u 0 0 (words_along (shape_in t) queue dummy seen) among goes) in (
+      u,
+      was_after M before t v u cs (Limited Reads) since (was_after M t u v u cs (Limited Reads) on.later (note_was M u v stop none word next limit cs l.working.going told)),
+      line_next_full M g.T.Theory.lawful g.met.T.HasQueues.has_queues u queue cs dummy node seen l before word refl
+          (note_unread M u v stop none word next limit told) (note_unwritten M u v stop none word next limit told) along,
+    ))

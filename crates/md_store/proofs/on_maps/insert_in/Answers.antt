@@ -1,12 +1,10 @@
-use Rattle.std.proofs.Common.{ap, Bool, Result, Ok, Err}
+use Rattle.std.proofs.Common.{ap, Bool, refl, Result, Ok, Err}
 use Rattle.md_history.specs.declared.stops.Stop.{Stop}
 use Rattle.md_history.specs.declared.acts.Op.TheVariants.{Insert}
 use Rattle.md_history.specs.declared.acts.Reply.TheVariants.{Flag}
 use Rattle.md_nbtc.specs.State.{shape_in, state}
 use Rattle.md_list.specs.Operations.{HasStop}
-use Rattle.md_list.proofs.Answered.{may_answer}
-use Rattle.md_store_law.specs.Store.{store}
-use Rattle.md_store.proofs.Runs.{IsStarted, answered_runs, is_head_of, list_answered, list_refused, none_stood, refused_runs, started, unstopped}
+use Rattle.md_store.proofs.Runs.{IsStarted, answered_runs, is_head_of, list_ends, list_runs, may_end, none_stood, unstopped}
 use Rattle.md_store.proofs.on_maps.insert_in.Goals as goal
 
 pub insert-requires-clause-head : goal.insert-requires-clause-head
@@ -20,10 +18,15 @@ pub end_op-requires-clause-may : goal.end_op-requires-clause-may
 end_op-requires-clause-may c =
     let t = state c.args.txn.now in
     let s = state c.start_op.new.self in
+    let u = state c.insert.new.tx in
     let start : IsStarted t s = record { on = c.start_op.ensures.on; is = c.start_op.ensures.begun } in
-    may_answer store s (state c.insert.new.tx) 1 1 1 c.insert.ensures.leaves (started c.args.before.now.value t s c.args.broken.now c.in_default.is c.requires.running start) c.map_head-head.result c.args.key (λ map. Insert map c.args.key c.args.value) (Flag c.in-Ok.absent)
-    c.in-Ok.ensures.answer c.args.map (is_head_of (shape_in t) (shape_in s) c.shape.result.now c.args.map c.args.key
-    c.map_head-head.result (ap shape_in c.start_op.ensures.begun) c.shape.ensures c.requires.map c.map_head-head.ensures.place)
+    let none = none_stood c.args.before.now.value t s c.args.broken.now c.in_default.is c.requires.running start in
+    let is_head = is_head_of (shape_in t) (shape_in s) c.shape.result.now c.args.map c.args.key
+    c.map_head-head.result (ap shape_in c.start_op.ensures.begun) c.shape.ensures c.requires.map c.map_head-head.ensures.place in
+    let ends = list_ends c.args.before.now.value t s c.args.broken.now c.in_default.is c.requires.running start u 1 1 1 c.insert.ensures.leaves
+    c.map_head-head.result c.args.key (λ map. Insert map c.args.key c.args.value) (Flag c.in-Ok.absent) c.in-Ok.ensures.answer c.args.map is_head
+    (unstopped s u (Ok c.in-Ok.absent) (HasStop u (Ok c.in-Ok.absent)) none c.in-Ok.ensures.stops) in
+    may_end c.args.before.now.value t s c.args.broken.now c.in_default.is c.requires.running start u (Insert c.args.map c.args.key c.args.value) (Flag c.in-Ok.absent) ends
 
 pub returns-in-Ok-clause-runs : goal.returns-in-Ok-clause-runs
 returns-in-Ok-clause-runs c =
@@ -32,13 +35,13 @@ returns-in-Ok-clause-runs c =
     let u = state c.insert.new.tx in
     let start : IsStarted t s = record { on = c.start_op.ensures.on; is = c.start_op.ensures.begun } in
     let none = none_stood c.args.before.now.value t s c.args.broken.now c.in_default.is c.requires.running start in
-    answered_runs c.args.before.now.value t s c.args.broken.now c.in_default.is c.requires.running start u (state c.end_op.new.self) (Insert c.args.map c.args.key c.args.value) (Flag c.in-Ok.absent)
-    (list_answered s u (started c.args.before.now.value t s c.args.broken.now c.in_default.is c.requires.running start) 1 1 1 c.insert.ensures.leaves (Insert c.args.map c.args.key c.args.value) (Flag c.in-Ok.absent)
-    (unstopped s u (Ok c.in-Ok.absent) (HasStop u (Ok c.in-Ok.absent)) none c.in-Ok.ensures.stops)
-    (may_answer store s (state c.insert.new.tx) 1 1 1 c.insert.ensures.leaves (started c.args.before.now.value t s c.args.broken.now c.in_default.is c.requires.running start) c.map_head-head.result c.args.key (λ map. Insert map c.args.key c.args.value) (Flag c.in-Ok.absent)
-    c.in-Ok.ensures.answer c.args.map (is_head_of (shape_in t) (shape_in s) c.shape.result.now c.args.map c.args.key
-    c.map_head-head.result (ap shape_in c.start_op.ensures.begun) c.shape.ensures c.requires.map c.map_head-head.ensures.place)))
-    (record { on = c.end_op.ensures.on; is = c.end_op.ensures.ended })
+    let is_head = is_head_of (shape_in t) (shape_in s) c.shape.result.now c.args.map c.args.key
+    c.map_head-head.result (ap shape_in c.start_op.ensures.begun) c.shape.ensures c.requires.map c.map_head-head.ensures.place in
+    let ends = list_ends c.args.before.now.value t s c.args.broken.now c.in_default.is c.requires.running start u 1 1 1 c.insert.ensures.leaves
+    c.map_head-head.result c.args.key (λ map. Insert map c.args.key c.args.value) (Flag c.in-Ok.absent) c.in-Ok.ensures.answer c.args.map is_head
+    (unstopped s u (Ok c.in-Ok.absent) (HasStop u (Ok c.in-Ok.absent)) none c.in-Ok.ensures.stops) in
+    answered_runs c.args.before.now.value t s c.args.broken.now c.in_default.is c.requires.running start u (state c.end_op.new.self)
+    (Insert c.args.map c.args.key c.args.value) (Flag c.in-Ok.absent) ends (record { on = c.end_op.ensures.on; is = c.end_op.ensures.ended })
 
 pub returns-in-Err-clause-runs : goal.returns-in-Err-clause-runs
 returns-in-Err-clause-runs c =
@@ -47,6 +50,12 @@ returns-in-Err-clause-runs c =
     let u = state c.insert.new.tx in
     let start : IsStarted t s = record { on = c.start_op.ensures.on; is = c.start_op.ensures.begun } in
     let none = none_stood c.args.before.now.value t s c.args.broken.now c.in_default.is c.requires.running start in
-    refused_runs c.args.before.now.value t s c.args.broken.now c.in_default.is c.requires.running start u (Insert c.args.map c.args.key c.args.value) c.in-Err.stop
-    (list_refused s u (started c.args.before.now.value t s c.args.broken.now c.in_default.is c.requires.running start) 1 1 1 c.insert.ensures.leaves c.in-Err.stop
-    (let r : Result Bool Stop = Err c.in-Err.stop in unstopped s u r (HasStop u r) none c.in-Err.ensures.stops))
+    let is_head = is_head_of (shape_in t) (shape_in s) c.shape.result.now c.args.map c.args.key
+    c.map_head-head.result (ap shape_in c.start_op.ensures.begun) c.shape.ensures c.requires.map c.map_head-head.ensures.place in
+    let stops = (let r : Result Bool Stop = Err c.in-Err.stop in unstopped s u r (HasStop u r) none c.in-Err.ensures.stops) in
+    list_runs c.args.before.now.value t s c.args.broken.now c.in_default.is c.requires.running start u 1 1 1 c.insert.ensures.leaves refl
+    c.map_head-head.result c.args.key (λ map. Insert map c.args.key c.args.value) c.args.map is_head c.in-Err.stop stops (record {
+      reads = λ is. c.in-Err.ensures.no_read none (ap Err is);
+      writes = λ is. c.in-Err.ensures.no_slot none (ap Err is);
+      nodes = λ is. (c.args.value, (λ map. refl), c.in-Err.ensures.no_node none (ap Err is));
+    })

@@ -1,7 +1,10 @@
+use Rattle.std.proofs.Common.{refl}
 use Rattle.md_history.specs.declared.acts.Op.TheVariants.{Front}
 use Rattle.md_history.specs.declared.acts.Reply.TheVariants.{Value}
 use Rattle.md_nbtc.specs.State.{state}
-use Rattle.md_store.proofs.Runs.{IsStarted, answered_runs, none_stood, queue_answered, queue_begun, queue_refused, refused_runs}
+use Rattle.md_queue.specs.Refusals.{AsksFront}
+use Rattle.md_store.proofs.QueueRefusals.{front_by_front}
+use Rattle.md_store.proofs.Runs.{IsStarted, answered_runs, counted, cs, may_end, none_stood, queue_begun, queue_ends, queue_runs, stands_not}
 use Rattle.md_store.proofs.on_queues.front_in.Goals as goal
 
 pub front-requires : goal.front-requires
@@ -11,7 +14,13 @@ front-requires c = record {
 }
 
 pub end_op-requires-clause-may : goal.end_op-requires-clause-may
-end_op-requires-clause-may c = c.in-Ok.ensures.answer.may
+end_op-requires-clause-may c =
+    let t = state c.args.txn.now in
+    let s = state c.start_op.new.self in
+    let u = state c.front.new.tx in
+    let start : IsStarted t s = record { on = c.start_op.ensures.on; is = c.start_op.ensures.begun } in
+    let ends = queue_ends c.args.before.now.value t s c.args.broken.now c.in_default.is c.requires.running start u 2 0 0 (Front c.args.queue) (Value c.in-Ok.value) refl c.in-Ok.ensures.answer in
+    may_end c.args.before.now.value t s c.args.broken.now c.in_default.is c.requires.running start u (Front c.args.queue) (Value c.in-Ok.value) ends
 
 pub returns-in-Ok-clause-runs : goal.returns-in-Ok-clause-runs
 returns-in-Ok-clause-runs c =
@@ -19,10 +28,9 @@ returns-in-Ok-clause-runs c =
     let s = state c.start_op.new.self in
     let u = state c.front.new.tx in
     let start : IsStarted t s = record { on = c.start_op.ensures.on; is = c.start_op.ensures.begun } in
-    let none = none_stood c.args.before.now.value t s c.args.broken.now c.in_default.is c.requires.running start in
-    answered_runs c.args.before.now.value t s c.args.broken.now c.in_default.is c.requires.running start u (state c.end_op.new.self) (Front c.args.queue) (Value c.in-Ok.value)
-    (queue_answered s u 2 0 0 (Front c.args.queue) (Value c.in-Ok.value) none c.in-Ok.ensures.answer)
-    (record { on = c.end_op.ensures.on; is = c.end_op.ensures.ended })
+    let ends = queue_ends c.args.before.now.value t s c.args.broken.now c.in_default.is c.requires.running start u 2 0 0 (Front c.args.queue) (Value c.in-Ok.value) refl c.in-Ok.ensures.answer in
+    answered_runs c.args.before.now.value t s c.args.broken.now c.in_default.is c.requires.running start u (state c.end_op.new.self)
+    (Front c.args.queue) (Value c.in-Ok.value) ends (record { on = c.end_op.ensures.on; is = c.end_op.ensures.ended })
 
 pub returns-in-Err-clause-runs : goal.returns-in-Err-clause-runs
 returns-in-Err-clause-runs c =
@@ -30,5 +38,11 @@ returns-in-Err-clause-runs c =
     let s = state c.start_op.new.self in
     let u = state c.front.new.tx in
     let start : IsStarted t s = record { on = c.start_op.ensures.on; is = c.start_op.ensures.begun } in
-    refused_runs c.args.before.now.value t s c.args.broken.now c.in_default.is c.requires.running start u (Front c.args.queue) c.in-Err.stop
-    (queue_refused s u 2 0 0 c.in-Err.stop c.in-Err.ensures.stop.refused)
+    let none = none_stood c.args.before.now.value t s c.args.broken.now c.in_default.is c.requires.running start in
+    queue_runs c.args.before.now.value t s c.args.broken.now c.in_default.is c.requires.running start u 2 0 0 refl
+    c.args.queue (Front c.args.queue) (AsksFront c.args.queue) c.in-Err.stop c.in-Err.ensures.stop.refused (record {
+      other = refl;
+      reads = λ is alone. (front_by_front c.args.queue, c.in-Err.ensures.reads is alone (cs c.args.before.now.value t s c.args.broken.now c.in_default.is c.requires.running start) (counted c.args.before.now.value t s c.args.broken.now c.in_default.is c.requires.running start).going);
+      writes = λ is alone. absurd (stands_not none (c.in-Err.ensures.no_writes is));
+      nodes = λ is. absurd (stands_not none (c.in-Err.ensures.stop.no_nodes is));
+    })

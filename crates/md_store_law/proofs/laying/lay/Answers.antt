@@ -6,6 +6,8 @@ use Rattle.md_store_law.specs.Opens.{OpensWith}
 use Rattle.md_store_law.specs.Laid.{IsLaid, laid_nodes, pairs_at}
 use Rattle.md_store_law.proofs.Entries.{nodes_stand}
 use Rattle.md_store_law.proofs.Opening.{store_field, laid_opens}
+use Rattle.md_store_law.specs.Untouched.{IsUntouched}
+use Rattle.md_store_law.proofs.Untouched.{laid_untouched}
 use Rattle.md_store_law.proofs.LaidContents.{contents_sorted, nodes_count, contents_are}
 use Rattle.md_store_law.proofs.laying.lay.Goals as goal
 
@@ -34,3 +36,13 @@ returns-clause-store c =
     let stand = nodes_stand shape (pairs_at shape s) (queue_at s) (omega (arith, nodes_count shape s c.requires.numbers, c.requires.room)) in
     subst (IsStoreField shape) (sym row)
     (store_field shape new (laid_nodes shape s) (pairs_at shape s) (queue_at s) laid stand (contents_sorted shape s c.requires.numbers))
+
+pub returns-clause-untouched : goal.returns-clause-untouched
+returns-clause-untouched c =
+    let shape = c.args.shape.now in
+    let s = c.args.contents.now in
+    let new = c.lay_contents.new.words in
+    let laid : IsLaid shape new (laid_nodes shape s) = c.in_ok-lay_contents.ensures in
+    let row = with_items_is c.in_ok-words.words new (laid.field ∙ sym c.in_ok-words.ensures.field ∙ sym c.in_ok-words.words.ok.0) in
+    let stand = nodes_stand shape (pairs_at shape s) (queue_at s) (omega (arith, nodes_count shape s c.requires.numbers, c.requires.room)) in
+    subst (IsUntouched shape) (sym row) (laid_untouched shape new (laid_nodes shape s) (pairs_at shape s) (queue_at s) laid stand)

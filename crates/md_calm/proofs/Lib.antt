@@ -1,0 +1,4 @@
+pub mod Counting
+pub mod Agreeing
+pub mod Low
+pub mod FirstAttempts

@@ -1,0 +1,3 @@
+mod Acted
+mod Ended
+mod Looked

@@ -1,0 +1,153 @@
+//! Stores whose passes make transactions at the same time.
+
+ghost use Rattle.std.specs.Prelude.{◌≡◌, IfOk, OnOk};
+ghost use Rattle.md_interleavings.specs.Acting.{IsActing};
+ghost use Rattle.md_nbtc.specs.State.{state};
+ghost use Rattle.md_store.specs.Store.{IsPassOf};
+
+use super::*;
+use md_history::{Contents, Limit, Line, Op, Reply, Shown, Stop};
+use md_nbtc::Txn;
+use md_rule::Pass;
+use md_store::{OpenFault, Store};
+use md_store_law::StoreTheory;
+use md_words::{Shape, ShapeFault};
+use std::alloc::{AllocError, AllocGlobal, Global};
+use std::process::Abort;
+use std::test::Fail;
+
+mod at_random;
+mod limits;
+mod rows;
+mod stalled;
+
+// Two lanes with 16 nodes and four attempts each, a map with 64 buckets, and a queue.
+fn small(base: u32) -> Result<Shape, ShapeFault> {
+    Shape::new(2, 16, base, 4, 1, 64, 1)
+}
+
+// A map with these pairs, and a queue with nothing in it.
+fn pairs(alloc: Global, pairs: &[(u64, u64)]) -> Result<Contents, AllocError> {
+    let mut contents = Contents::empty(alloc, 1, 1)?;
+    for (key, value) in pairs {
+        contents.put(0, *key, *value)?;
+    }
+    Ok(contents)
+}
+
+// Opens a store, if the contents have as many maps and queues as the shape.
+fn opened(
+    alloc: Global,
+    shape: Shape,
+    start: &Contents,
+) -> Result<(Store, Pass<StoreTheory>), OpenFault>
+    ensures { IfOk result (λ r. IsPassOf r.0 r.1) }
+{
+    let maps = start.maps().len() == shape.maps as usize;
+    let queues = start.queues().len() == shape.queues as usize;
+    if !maps || !queues {
+        return Err(OpenFault::NoMemory);
+    }
+    Store::open(alloc, shape, start)
+}
+
+// Settles a store and closes it, if the pass holds all lanes.
+fn closed(store: Store, mut pass: Pass<StoreTheory>) -> Result<Option<Contents>, AllocError>
+    requires { IsPassOf store pass }
+{
+    if pass.holds_all(store.field()) {
+        store.settle(&mut pass);
+        let (contents, _) = store.close(pass)?;
+        return Ok(Some(contents));
+    }
+    Ok(None)
+}
+
+// Makes operations one after another, as one transaction: the replies, and how it ended.
+fn all(
+    store: &Store,
+    pass: &mut Pass<StoreTheory>,
+    ops: &[Op],
+    replies: &mut Vec<Reply>,
+) -> Result<Result<(), Stop>, Fail>
+    requires { IsPassOf store.now pass.old }
+    ensures { OnOk result (IsPassOf store.now pass.new) }
+{
+    let mut txn = begin(store, pass, 5)?;
+    let mut why = None;
+    all_in(&mut txn, &mut why, store, ops, replies)?;
+    Ok(commit(txn, why, store))
+}
+
+// Makes operations of a transaction, and keeps their replies.
+fn all_in(
+    txn: &mut Txn<'_, StoreTheory>,
+    why: &mut Option<Stop>,
+    store: &Store,
+    ops: &[Op],
+    replies: &mut Vec<Reply>,
+) -> Result<(), Fail>
+    requires { IsActing store.now (state txn.old) why.old }
+    ensures pass { txn.new.pass.ghost_name ≡ txn.old.pass.ghost_name }
+    ensures acting { OnOk result (IsActing store.now (state txn.new) why.new) }
+{
+    for op in ops {
+        if let Ok(reply) = act(txn, why, store, *op) {
+            replies.push(reply)?;
+        }
+    }
+    Ok(())
+}
+
+// Makes one operation, as a transaction of its own: its reply, if it committed.
+fn one(store: &Store, pass: &mut Pass<StoreTheory>, op: Op) -> Result<Result<Reply, Stop>, Limit>
+    requires { IsPassOf store.now pass.old }
+    ensures { OnOk result (IsPassOf store.now pass.new) }
+{
+    let mut txn = begin(store, pass, 6)?;
+    let mut why = None;
+    let reply = act(&mut txn, &mut why, store, op);
+    match commit(txn, why, store) {
+        Ok(()) => Ok(reply),
+        Err(stop) => Ok(Err(stop)),
+    }
+}
+
+// Joins two passes, inserts key 3, and closes: what is left are these pairs.
+fn ends_with<R: Abort + AllocGlobal>(
+    rt: &R,
+    store: Store,
+    mut pass: Pass<StoreTheory>,
+    other: Pass<StoreTheory>,
+    left: &[(u64, u64)],
+) -> Result<(), Fail>
+    requires of { IsPassOf store pass }
+    requires of_other { IsPassOf store other }
+{
+    store.join(&mut pass, other);
+    assert_eq!(rt;
+        one(&store, &mut pass, insert(3, 30))?,
+        Ok(Reply::Flag(true))
+    );
+    let back = closed(store, pass)?.expect(rt, "all lanes");
+    let want = pairs(rt.alloc(), left)?;
+    assert_eq!(rt; back.maps(), want.maps());
+    assert_eq!(rt; back.queues(), want.queues());
+    Ok(())
+}
+
+fn get(key: u64) -> Op {
+    Op::Get { map: 0, key }
+}
+
+fn insert(key: u64, value: u64) -> Op {
+    Op::Insert { map: 0, key, value }
+}
+
+fn remove(key: u64) -> Op {
+    Op::Remove { map: 0, key }
+}
+
+fn enqueue(value: u64) -> Op {
+    Op::Enqueue { queue: 0, value }
+}

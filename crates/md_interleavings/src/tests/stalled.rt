@@ -1,0 +1,203 @@
+//! Transactions that are left at each of their stages, and what the next one finds.
+
+ghost use Rattle.std.specs.Prelude.{OnOk};
+ghost use Rattle.md_store.specs.Store.{IsPassOf};
+
+use super::*;
+
+// What the next transaction finds of one that was left: the value of key 1, and then the head of
+// that key's bucket, and the word of the status of the one that was left, with what stands there.
+#[derive(Clone, Copy)]
+struct Found {
+    value: Option<u64>,
+    head: u64,
+    status: (u32, u64),
+}
+
+// Makes operations of a transaction, and leaves it, ready or not. Whether it is ready.
+fn left(
+    alloc: Global,
+    store: &Store,
+    pass: &mut Pass<StoreTheory>,
+    ops: &[Op],
+    ready: bool,
+) -> Result<bool, Fail>
+    requires { IsPassOf store.now pass.old }
+    ensures { OnOk result (IsPassOf store.now pass.new) }
+{
+    let mut txn = begin(store, pass, 7)?;
+    let mut why = None;
+    let mut replies = Vec::new(alloc);
+    all_in(&mut txn, &mut why, store, ops, &mut replies)?;
+    if ready {
+        return Ok(leave_ready(txn, why, store));
+    }
+    leave(txn, why, store);
+    Ok(false)
+}
+
+// A transaction looks at key 2, another inserts it, and the first one inserts key 1 and is left
+// ready. Whether all went so.
+fn overtaken(
+    store: &Store,
+    pass: &mut Pass<StoreTheory>,
+    other: &mut Pass<StoreTheory>,
+) -> Result<bool, Limit>
+    requires of { IsPassOf store.now pass.old }
+    requires of_other { IsPassOf store.now other.old }
+    ensures of { OnOk result (IsPassOf store.now pass.new) }
+    ensures of_other { OnOk result (IsPassOf store.now other.new) }
+{
+    let mut txn = begin(store, pass, 7)?;
+    let mut why = None;
+    let seen = act(&mut txn, &mut why, store, get(2)) == Ok(Reply::Value(None));
+    let overtook = one(store, other, insert(2, 20))? == Ok(Reply::Flag(true));
+    let done = act(&mut txn, &mut why, store, insert(1, 10)) == Ok(Reply::Flag(true));
+    let ready = leave_ready(txn, why, store);
+    Ok(ready & seen & overtook & done)
+}
+
+// Looks at key 1 by the pass `other`, then goes on with both passes joined.
+fn looked<R: Abort + AllocGlobal>(
+    rt: &R,
+    store: Store,
+    pass: Pass<StoreTheory>,
+    mut other: Pass<StoreTheory>,
+    found: &Found,
+    left: &[(u64, u64)],
+) -> Result<(), Fail>
+    requires of { IsPassOf store pass }
+    requires of_other { IsPassOf store other }
+{
+    let seen = one(&store, &mut other, get(1))?;
+    assert_eq!(rt; seen, Ok(Reply::Value(found.value)));
+    assert_eq!(rt; word(&mut other, &store, 2), found.head);
+    assert_eq!(rt; word(&mut other, &store, found.status.0), found.status.1);
+    ends_with(rt, store, pass, other, left)
+}
+
+// A transaction with these operations is left over these pairs.
+fn stalled<R: Abort + AllocGlobal>(
+    rt: &R,
+    start: &[(u64, u64)],
+    ops: &[Op],
+    ready: bool,
+    found: &Found,
+    end: &[(u64, u64)],
+) -> Result<(), Fail> {
+    let shape = small(if start.is_empty() { 1 } else { 2 })?;
+    let (store, mut a) = opened(rt.alloc(), shape, &pairs(rt.alloc(), start)?)?;
+    let b = store.split(&mut a).expect(rt, "two lanes");
+    assert_eq!(rt; left(rt.alloc(), &store, &mut a, ops, ready)?, ready);
+    looked(rt, store, a, b, found, end)
+}
+
+#[test]
+fn one_that_has_begun_leaves_nothing(rt: HostRuntime) -> Result<(), Fail> {
+    let found = Found {
+        value: None,
+        head: 0,
+        status: (166, 0),
+    };
+    stalled(&rt, &[], &[], false, &found, &[(3, 30)])
+}
+
+#[test]
+fn an_insert_is_aborted(rt: HostRuntime) -> Result<(), Fail> {
+    let found = Found {
+        value: None,
+        head: 2,
+        status: (166, 3),
+    };
+    stalled(&rt, &[], &[insert(1, 10)], false, &found, &[(3, 30)])
+}
+
+#[test]
+fn an_insert_that_is_ready_is_committed(rt: HostRuntime) -> Result<(), Fail> {
+    let found = Found {
+        value: Some(10),
+        head: 17_179_869_186,
+        status: (166, 2),
+    };
+    let end = [(1, 10), (3, 30)];
+    stalled(&rt, &[], &[insert(1, 10)], true, &found, &end)
+}
+
+#[test]
+fn a_look_that_still_holds_is_committed(rt: HostRuntime) -> Result<(), Fail> {
+    let found = Found {
+        value: Some(10),
+        head: 17_179_869_186,
+        status: (166, 6),
+    };
+    let end = [(1, 10), (3, 30)];
+    stalled(&rt, &[], &[get(2), insert(1, 10)], true, &found, &end)
+}
+
+#[test]
+fn a_look_that_was_overtaken_is_aborted(rt: HostRuntime) -> Result<(), Fail> {
+    let (store, mut a) = opened(rt.alloc(), small(1)?, &pairs(rt.alloc(), &[])?)?;
+    let mut b = store.split(&mut a).expect(&rt, "two lanes");
+    assert!(rt; overtaken(&store, &mut a, &mut b)?);
+    let found = Found {
+        value: None,
+        head: 2,
+        status: (166, 7),
+    };
+    looked(&rt, store, a, b, &found, &[(2, 20), (3, 30)])
+}
+
+#[test]
+fn a_remove_that_is_ready_is_committed(rt: HostRuntime) -> Result<(), Fail> {
+    let found = Found {
+        value: None,
+        head: 2,
+        status: (169, 2),
+    };
+    stalled(&rt, &[(1, 10)], &[remove(1)], true, &found, &[(3, 30)])
+}
+
+// Leaves an insert of one pass that holds all lanes: what is left at the end.
+fn left_alone<R: Abort + AllocGlobal>(rt: &R, ready: bool, end: &[(u64, u64)]) -> Result<(), Fail> {
+    let (store, mut pass) = opened(rt.alloc(), small(1)?, &pairs(rt.alloc(), &[])?)?;
+    assert_eq!(rt;
+        left(rt.alloc(), &store, &mut pass, &[insert(1, 10)], ready)?,
+        ready
+    );
+    let back = closed(store, pass)?.expect(rt, "all lanes");
+    assert_eq!(rt; back.maps(), pairs(rt.alloc(), end)?.maps());
+    Ok(())
+}
+
+#[test]
+fn closing_settles_what_was_left(rt: HostRuntime) -> Result<(), Fail> {
+    left_alone(&rt, false, &[])?;
+    left_alone(&rt, true, &[(1, 10)])
+}
+
+#[test]
+fn the_next_transaction_of_the_lane_settles_it(rt: HostRuntime) -> Result<(), Fail> {
+    let (store, mut a) = opened(rt.alloc(), small(1)?, &pairs(rt.alloc(), &[])?)?;
+    let mut b = store.split(&mut a).expect(&rt, "two lanes");
+    assert!(rt; !left(rt.alloc(), &store, &mut a, &[insert(1, 10)], false)?);
+    let mut txn = begin(&store, &mut a, 8)?;
+    let mut why = None;
+    let seen = act(&mut txn, &mut why, &store, get(1));
+    assert_eq!(rt; seen, Ok(Reply::Value(None)));
+    assert_eq!(rt; word(&mut b, &store, 2), 2);
+    assert_eq!(rt; word(&mut b, &store, 166), 1024);
+    let done = act(&mut txn, &mut why, &store, insert(1, 11));
+    assert_eq!(rt; done, Ok(Reply::Flag(true)));
+    assert_eq!(rt; commit(txn, why, &store), Ok(()));
+    assert_eq!(rt; word(&mut b, &store, 2), 25_769_803_780);
+    Ok(())
+}
+
+#[test]
+fn the_next_transaction_of_the_lane_commits_it(rt: HostRuntime) -> Result<(), Fail> {
+    let (store, mut a) = opened(rt.alloc(), small(1)?, &pairs(rt.alloc(), &[])?)?;
+    let b = store.split(&mut a).expect(&rt, "two lanes");
+    assert!(rt; left(rt.alloc(), &store, &mut a, &[insert(1, 10)], true)?);
+    assert_eq!(rt; one(&store, &mut a, get(1))?, Ok(Reply::Value(Some(10))));
+    ends_with(&rt, store, a, b, &[(1, 10), (3, 30)])
+}

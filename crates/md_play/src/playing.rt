@@ -1,0 +1,72 @@
+//! How scripts are played over a store of their own.
+
+ghost use Rattle.std.specs.Prelude.{◌≡◌, ◌≤◌, ℕ, IfOk, OnOk, length, map};
+ghost use Rattle.md_words.specs.Layout.{HasNumbers};
+ghost use Rattle.md_book.specs.Book.{Book};
+ghost use Rattle.md_book.specs.Stands.{StandsFor};
+ghost use Rattle.md_rounds.specs.OrderLines.{line_count_of};
+ghost use Rattle.md_rounds.specs.Replay.{IsPlayed};
+ghost use Rattle.md_store.specs.Store.{front_in};
+
+use md_book::{COMMAND_NODES, LEVELS, MAPS};
+use md_history::Contents;
+use md_many::Gate;
+use md_orders::Scripts;
+use md_rounds::{Outcome, run_all};
+use md_rule::Pass;
+use md_store::Store;
+use md_store_law::StoreTheory;
+use md_words::Shape;
+use std::alloc::{AllocError, Global};
+use std::thread::Threads;
+
+/// The most nodes that a lane of the store may be given.
+pub const MAX_LANE_NODES: u32 = 262_144;
+
+// The buckets of each map.
+const BUCKETS: u32 = 65_536;
+
+// The shape of a store without orders: a lane for each caller, and a base node for each level's
+// queue.
+fn shape_of(callers: u32, nodes: u32, tries: u32) -> Shape
+    requires callers { (1 ≤ callers) × (callers ≤ 64) }
+    requires nodes { (1 ≤ nodes) × (nodes ≤ MAX_LANE_NODES) }
+    requires tries { 1 ≤ tries }
+    ensures { HasNumbers result callers nodes LEVELS tries MAPS BUCKETS LEVELS }
+{
+    Shape::new(callers, nodes, LEVELS, tries, MAPS, BUCKETS, LEVELS).unwrap()
+}
+
+/// Plays the scripts of all callers, 1 to 64, over a store without orders, in threads, and closes
+/// it. Each caller has a lane with so many nodes, 16 to `MAX_LANE_NODES`, and so many attempts, at
+/// least one, until the store is renewed. `run_all` of md_rounds says what the playing leaves: all
+/// lines are committed, each once, with the replies of the book, whatever the threads do.
+///
+/// `AllocError` if memory runs out.
+pub fn play_on_store<R, G>(
+    rt: &R,
+    alloc: Global,
+    scripts: &Scripts,
+    nodes: u32,
+    tries: u32,
+    gate: &G,
+) -> Result<Outcome<Pass<StoreTheory>>, AllocError>
+where
+    R: Threads + Sync,
+    G: Gate + Sync,
+    requires callers { (1 ≤ length scripts.now) × (length scripts.now ≤ 64) }
+    requires nodes { (COMMAND_NODES ≤ nodes) × (nodes ≤ MAX_LANE_NODES) }
+    requires tries { 1 ≤ tries }
+    ensures played { IfOk result (λ o. (book : Book) × StandsFor o.contents book
+        × IsPlayed scripts.now (map front_in o.fronts.items) o.replies.replies book) }
+    ensures gate { OnOk result ((caller line : ℕ) → 1 ≤ line
+        → line ≤ line_count_of scripts.now caller → G.after_called gate.now caller line) }
+{
+    let shape = shape_of(scripts.callers(), nodes, tries);
+    let start = Contents::empty(alloc, MAPS, LEVELS)?;
+    // There is a base node for each queue, so room is never wanting.
+    let Ok((store, pass)) = Store::open(alloc, shape, &start) else {
+        return Err(AllocError);
+    };
+    run_all(rt, alloc, store, pass, scripts, tries, gate)
+}

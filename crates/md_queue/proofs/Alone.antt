@@ -1,0 +1,143 @@
+-- A pass that holds all lanes: what a transaction saw in a word stands there.
+use Rattle.std.proofs.Common.{◌≡◌, ◌<◌, ◌^◌, ◌++◌, ℕ, true, false, List, [], ◌∷◌, Option, Some, None, is_some, refl, sym, ap, ◌∙◌, subst, ⊎_elim, append_assoc}
+use Rattle.std.proofs.lemmas.Bool.{cases_Bool, true≢false}
+use Rattle.std.proofs.lemmas.List.Elements.{All-contains, All-cons, All-weaker}
+use Rattle.std.specs.List.{All, Contains}
+use Rattle.std.specs.Prelude.{option_map, unwrap_or}
+use Rattle.md_words.specs.declared.shape.Shape.{Shape}
+use Rattle.md_words.specs.Content.{count_of, is_even, value_of}
+use Rattle.md_words.specs.Layout.{IsNode, address}
+use Rattle.md_words.specs.Place.{node_next}
+use Rattle.md_words.specs.PlaceAt.{IsCounted}
+use Rattle.md_words.proofs.Words.{count_of-counted_word, value_of-counted_word}
+use Rattle.md_machine.specs.declared.certificate.Certificate.{Certificate}
+use Rattle.md_machine.specs.declared.certificate.NewNode.{NewNode}
+use Rattle.md_machine.specs.declared.certificate.TidyChange.{TidyChange}
+use Rattle.md_machine.specs.declared.step.Step.{Step}
+use Rattle.md_machine.specs.Certified.{all_nodes, content_read, content_replaced, is_written}
+use Rattle.md_machine.specs.LogicalHeap.{LogicalHeap}
+use Rattle.md_machine.specs.Machine.{Machine, content}
+use Rattle.md_machine.specs.Meaning.{Lawful, Meaning}
+use Rattle.md_machine.specs.Resolution.{or_else}
+use Rattle.md_machine.specs.clauses.passes.Alone.{HoldsAll, IsAlone, LastStand}
+use Rattle.md_machine.proofs.chain.Values.{value_even}
+use Rattle.md_machine.proofs.lists.Rising.{here}
+use Rattle.md_rule.proofs.Moves.{is_kept}
+use Rattle.md_nbtc.specs.declared.seen.Seen.{Seen}
+use Rattle.md_nbtc.specs.Going.{IsGoing}
+use Rattle.md_nbtc.specs.Known.{IsHeapOf, IsLater, Met, found_by}
+use Rattle.md_nbtc.specs.Prepared.{IsPrepared, LeftThere}
+use Rattle.md_nbtc.specs.Seeing.{Gave, SeesContent}
+use Rattle.md_nbtc.specs.State.{OwnNode, TxnState, attempt_in, own_steps, seen_content, shape_in, writes_in}
+use Rattle.md_nbtc.specs.Tidied.{HasTidied, tidied}
+use Rattle.md_nbtc.proofs.Values.{IsApart}
+use Rattle.md_nbtc.proofs.exchanging.Refused.{read_there}
+use Rattle.md_nbtc.proofs.looks.AloneChain.{ChainsFrom, chain_later, chained, last_at, stays_held}
+use Rattle.md_nbtc.proofs.ready.Lookups.{all_of, written_replaced}
+use Rattle.md_nbtc.proofs.ready.Lost.{began_then, last_part, on_word, one_stands}
+use Rattle.md_nbtc.proofs.structures.FoundLater.{found_value}
+use Rattle.md_nbtc.proofs.structures.NodesKnown.{new_differ, new_exist, new_free, own_is_new, shape_known}
+use Rattle.md_nbtc.proofs.structures.SeenValues.{own_value}
+use Rattle.md_nbtc.proofs.structures.Words.{stored_value, unwritten_value}
+use Rattle.md_queue.specs.Working.{SeesAt}
+
+module _ (M : Meaning) (t : TxnState) (prepared : IsPrepared t) (all : HoldsAll (shape_in t) t.pass.view) (h : LogicalHeap) (of : IsHeapOf M t h) where
+  abbrev m : Machine
+  m = of.machine
+
+  alone : IsAlone m of.pass t.pass.view
+  alone = (is_kept M t.field.origin m of.admitted).alone of.pass t.pass.view of.acts.at (subst (λ (s : Shape). HoldsAll s t.pass.view) (sym of.admitted.shape) all)
+
+  -- what own steps left in a word stands there
+  left_stands : (word held : ℕ) → LeftThere (attempt_in t).desc word held (own_steps t) → content m word ≡ held
+  left_stands word held l =
+      let before : List Step = t.began.view.trail ++ l.earlier in
+      let trail : t.pass.view.trail ≡ before ++ l.step ∷ l.later = began_then t.began.view.trail t.pass.view.trail prepared.has.since ∙ ap (λ x. t.began.view.trail ++ x) l.order
+      ∙ sym (append_assoc t.began.view.trail l.earlier (l.step ∷ l.later)) in
+      let chain = subst (ChainsFrom []) trail (chained M t.field.origin m of.admitted of.pass t.pass.view of.acts all) in
+      let kept = stays_held (attempt_in t).desc word held (before ++ l.step ∷ []) l.later (λ x last. last_at before l.step word x l.leaves.there last ∙ l.leaves.after)
+      (chain_later [] before (l.step ∷ l.later) chain).1 l.unchanged in
+      one_stands m word held (l.step ∷ l.later) (last_part m before (l.step ∷ l.later) (subst (LastStand m) trail alone.words))
+      (All-cons Left l.step l.later (λ _. l.leaves.after) (All-weaker Both Left (λ s is there. (is there).1) l.later kept))
+      (on_word word (l.step ∷ l.later) l.step (here l.step l.later) l.leaves.there)
+    where
+      Left : Step → Type 0
+      Left s = s.word ≡ word → s.after ≡ held
+
+      Both : Step → Type 0
+      Both s = s.word ≡ word → (s.before ≡ held) × (s.after ≡ held)
+
+  module _ (word : ℕ) (seen : Seen) (gave : Gave t word seen) (fits : seen.count < 2 ^ 32) (other : seen.own ≡ false) where
+    abbrev sees : SeesContent t word seen
+    sees = gave.content other
+
+    even_there : is_even (count_of (seen_content seen)) ≡ true
+    even_there = ap is_even (count_of-counted_word seen.value seen.count fits) ∙ sees.even
+
+    value_there : h.words.value word ≡ seen.value
+    value_there =
+        let stands = left_stands word (seen_content seen) sees.left in
+        ap (λ (k : LogicalHeap). k.words.value word) of.is
+        ∙ value_even m of.choice word (subst (λ (s : Shape). IsCounted s word) (sym of.admitted.shape) gave.counted) (ap (λ c. is_even (count_of c)) stands ∙ even_there)
+        ∙ ap value_of stands ∙ value_of-counted_word seen.value seen.count fits
+
+    by_read : (o : Option ℕ) → content_read t.reads word ≡ o → (found_by t h).words.value word ≡ seen.value
+    by_read (Some held) is =
+        let r = read_there t.reads word held is in
+        let same : r.0.content ≡ seen_content seen = ⊎_elim (λ e. e) (λ moved. absurd (moved.1 all)) (sees.moved r.0 r.1 r.2) in
+        found_value t h word (seen_content seen) (ap (λ o. or_else o (content_replaced (writes_in t) word)) (is ∙ ap (λ n. Some n) (sym r.3 ∙ same)))
+        ∙ value_of-counted_word seen.value seen.count fits
+    by_read None is =
+        let none = no_content (content_replaced (writes_in t) word) (sym (written_replaced (writes_in t) word) ∙ sym gave.own ∙ other) in
+        ap (λ o. unwrap_or (option_map value_of (or_else o (content_replaced (writes_in t) word))) (h.words.value word)) is
+        ∙ ap (λ o. unwrap_or (option_map value_of o) (h.words.value word)) none ∙ value_there
+      where
+        no_content : (o : Option ℕ) → is_some o ≡ false → o ≡ None
+        no_content None is = refl
+        no_content (Some x) is = absurd (true≢false is)
+
+    -- so does what was seen in a word that isn't written
+    pub alone_sees : (found_by t h).words.value word ≡ seen.value
+    alone_sees = by_read (content_read t.reads word) refl
+
+module _ (M : Meaning) (lawful : Lawful M) (t : TxnState) (cs : List Certificate) (going : IsGoing M t cs) (ts : List TidyChange) (has : HasTidied M t cs ts)
+    (v : TxnState) (later : IsLater t v) (prepared : IsPrepared v) (h : LogicalHeap) (of : IsHeapOf M v h) where
+  shape_is : h.words.shape ≡ shape_in t
+  shape_is = shape_known M lawful t v later prepared h of
+
+  -- a word in which a value was met is no own node's next word
+  met_apart : (word value : ℕ) → Met M t word value → All (IsApart (shape_in t) word) (all_nodes cs)
+  met_apart word value met =
+      let was = met v later prepared h of in
+      all_of (IsApart (shape_in t) word) (all_nodes cs) (λ n among same.
+      let shape = was.shape ∙ shape_is in
+      let placed = was.rooted n.node (subst (λ (s : Shape). IsNode s n.node) (sym shape) (All-contains (λ (x : NewNode). IsNode (shape_in t) x.node) (all_nodes cs) n (new_exist M lawful t cs going) among))
+      (same ∙ ap (λ (s : Shape). address s (node_next n.node)) (sym shape)) in
+      let now = (was.facts (record { node = n.node; structure = placed.0; key = None; value = None; next = None })
+      (record { placed = placed.1; key = tt; value = tt; next = tt })).placed in
+      let free = new_free M lawful t cs going n among v later prepared h of in
+      absurd (cc (now, free)))
+
+  -- an own node's next word that isn't written has what was stored there
+  node_there : (word value : ℕ) → is_written (writes_in t) word ≡ false → (n : OwnNode) → Contains t.nodes n → word ≡ address (shape_in t) (node_next n.node) → value ≡ n.next
+      → (tidied (found_by v h) cs ts).words.value word ≡ value
+  node_there word value unwritten n among at is =
+      let new = own_is_new M lawful t cs going has.stored n among in
+      let there = at ∙ ap (λ (x : OwnNode). address (shape_in t) (node_next x.node)) (sym new.2) in
+      ap (tidied (found_by v h) cs ts).words.value there
+      ∙ stored_value M t cs going.course ts has (new_exist M lawful t cs going) (new_differ M lawful t cs going) new.0 new.1 (found_by v h) shape_is
+      (new_free M lawful t cs going new.0 new.1 v later prepared h of)
+      (ap (is_written (writes_in t)) (sym there) ∙ unwritten)
+      ∙ ap (λ (x : OwnNode). x.next) new.2 ∙ sym is
+
+  -- what was seen stands, as the transaction sees it after its ended operations and the tidy changes since, if it is
+  -- found in the word
+  pub seen_stands : (word : ℕ) (seen : Seen) → SeesAt M t word seen → (seen.own ≡ false → (found_by v h).words.value word ≡ seen.value)
+      → (tidied (found_by v h) cs ts).words.value word ≡ seen.value
+  seen_stands word seen sees found = ⊎_elim
+      (λ own. own_value M lawful t cs going ts has word seen (sees.gave.slot own) (found_by v h) shape_is)
+      (λ other. ⊎_elim
+      (λ node. node_there word seen.value (sym sees.gave.own ∙ other) node.0 node.1 node.2.1 node.3)
+      (λ met. unwritten_value M t cs going.course ts has (found_by v h) shape_is word (sym sees.gave.own ∙ other) (met_apart word seen.value met) ∙ found other)
+      (sees.there other))
+      (cases_Bool seen.own)
