@@ -31,7 +31,7 @@ inside-both : (low high n : ℕ) → (nat_le low n && nat_le n high) ≡ true �
 inside-both low high n h = (grind (arith, nat_tests), grind (arith, nat_tests))
 
 -- a number that was taken within a range is in it
-within-inv : (low high n m : ℕ) → within low high n ≡ Some m → (low ≤ m) × (m ≤ high)
+pub within-inv : (low high n m : ℕ) → within low high n ≡ Some m → (low ≤ m) × (m ≤ high)
 within-inv low high n m e = elim (cases_Bool (nat_le low n && nat_le n high)) [
   | inl inside ↦ let same : n ≡ m = cc (rw inside at e) in subst (λ k. (low ≤ k) × (k ≤ high)) same (inside-both low high n inside)
   | inr outside ↦ cc (rw outside at e)
