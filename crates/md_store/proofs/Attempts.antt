@@ -248,12 +248,15 @@ begun_runs p tag t begins going = record {
   going = ([], going);
   stop = begins.stop;
   between = λ none. ap (λ (h : Hand). h.operating) begins.hand;
-  counted = λ none. ([], record {
-    going = going;
-    few = All-nil RecordsOne;
-    charged = tt;
-    reads = λ r among. absurd (in_none r (subst (λ l. Contains l r) begins.reads among));
-  });
+  counted = λ none. (
+    [],
+    record {
+      going = going;
+      few = All-nil RecordsOne;
+      charged = tt;
+      reads = λ r among. absurd (in_none r (subst (λ l. Contains l r) begins.reads among));
+    },
+  );
   exceeds = λ refusal some. absurd (no_refusal refusal some);
 }
 

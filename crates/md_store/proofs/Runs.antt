@@ -140,9 +140,15 @@ module _ (before : PassState) (t s : TxnState) (b : Option Broken) (whole : b �
       (runs_later before t v None None running (later_over t s v start.on.later (later_over s u v by.later ends.on.later))
       (cs ++ c ∷ [], going)
       (ap (λ (x : TxnState). x.stop) ends.is ∙ by.stop)
-      (λ none. (ap (λ (x : TxnState). x.hand.operating) ends.is, (cs ++ c ∷ [], counted_more s u cs counted c by.recorded v going
-      (ap (λ (x : TxnState). x.reads) ends.is) (ap shape_in ends.is ∙ shape) by.few
-      (subst (λ k. TidyCharged k (cs ++ c ∷ []) (all_changes cs) c.tidy) shape by.charged))))
+      (λ none. (
+        ap (λ (x : TxnState). x.hand.operating) ends.is,
+        (
+          cs ++ c ∷ [],
+          counted_more s u cs counted c by.recorded v going
+              (ap (λ (x : TxnState). x.reads) ends.is) (ap shape_in ends.is ∙ shape) by.few
+              (subst (λ k. TidyCharged k (cs ++ c ∷ []) (all_changes cs) c.tidy) shape by.charged),
+        ),
+      ))
       (λ refusal some. absurd (some_none refusal (sym some))))
 
   -- of an operation that was refused by a limit: the acts with it exceed the limit

@@ -85,7 +85,7 @@ impl Store {
         ensures small { IsFresh pass.old → IsUntouched self.now.origin.shape self.now.origin.words
             → 1 ≤ (limits_of self.now.origin.shape).tries
             → IsSmall (bounds_in (limits_of self.now.origin.shape)) (B.makes body.now)
-                (start_of self.now)
+            (start_of self.now)
             → IfStopped result (λ _. ⊥) }
     {
         let before = Snapshot::of(&*pass);

@@ -77,7 +77,7 @@ impl Engine for Store {
             → IfStopped result IsNoConflict }
         ensures small { IsNew self.now pass.old → 1 ≤ (limits_of self.now.origin.shape).tries
             → IsSmall (bounds_in (limits_of self.now.origin.shape)) (B.makes body.now)
-                (start_of self.now)
+            (start_of self.now)
             → IfStopped result (λ _. ⊥) }
     {
         self.attempt(pass, tag, body)
