@@ -2,3 +2,6 @@ pub mod Pieces
 pub mod Complete
 pub mod Unread
 pub mod Settings
+pub mod Ranges
+pub mod Asked
+pub mod Ran

@@ -1,6 +1,6 @@
 -- The options that words write.
-use Rattle.std.specs.Prelude.{◌≡◌, ℕ, nat_le, Bool, true, false, if◌then◌else◌, Option, Some, None, List, [], ◌∷◌, ◌++◌}
-use Rattle.std.specs.Prelude.{map, filter, flat_map, codes, unwrap_or}
+use Rattle.std.specs.Prelude.{◌≡◌, ◌≤◌, ℕ, nat_le, Bool, true, false, if◌then◌else◌, Option, Some, None, List, [], ◌∷◌, ◌++◌}
+use Rattle.std.specs.Prelude.{map, filter, flat_map, codes, unwrap_or, IfSome}
 use Rattle.std.specs.Option.{option_map}
 use Rattle.md_book.specs.declared.limits.TheConstants.{MAX_CALLER, MAX_SCRIPT_LINE}
 use Rattle.md_orders.specs.declared.generator.TheConstants.{MAX_MADE_CALLERS}
@@ -98,3 +98,15 @@ pub record Write (words : List (List ℕ)) (options : Options) : Type 0 where
   pub given : Given
   pub are_given : AreGiven words given
   pub are : options_of given ≡ Some options
+
+-- a number that was given is in the range of its name
+abbrev pub IsWithin : Name → Option ℕ → Type 0
+IsWithin name number = IfSome number (λ n. (lowest name ≤ n) × (n ≤ highest name))
+
+-- what each option may be
+pub record AreInRange (options : Options) : Type 0 where
+  pub callers : (lowest Callers ≤ options.callers) × (options.callers ≤ highest Callers)
+  pub nodes : IsWithin Nodes options.nodes
+  pub tries : IsWithin Tries options.tries
+  pub lines : IfSome options.make (λ m. (lowest Lines ≤ m.lines) × (m.lines ≤ highest Lines))
+  pub makers : IfSome options.make (λ _. options.callers ≤ MAX_MADE_CALLERS)

@@ -9,7 +9,9 @@ use Rattle.md_orders.specs.Grammar.{first_bad}
 use Rattle.medley.specs.declared.status.Status.{Status}
 use Rattle.medley.specs.declared.status.Status.TheVariants.{Done, Usage, BadLine, ReadFault, WriteFault, NoMemory}
 use Rattle.medley.specs.declared.status.Status.TheVariants.{TooLong, TooMany}
-use Rattle.medley.specs.Replay.{IsReplay}
+use Rattle.medley.specs.declared.words.Making.{Making}
+use Rattle.medley.specs.declared.words.Options.{Options}
+use Rattle.medley.specs.Replay.{IsReplay, IsSummed}
 
 -- the most bytes that an input may have
 abbrev pub max_bytes : ℕ
@@ -72,11 +74,11 @@ module _ {I : Type 0} (gives : Step I) (left : I → Option (List ℕ)) (faults 
     pub short : length bytes ≤ max_bytes
     pub rose : Rose (faults old) (faults new)
 
--- the bytes are within the limits, and none of their records is bad
-pub record IsGood (bytes : List ℕ) : Type 0 where
+-- the bytes are within the limits, and none of their records is bad for so many callers
+pub record IsGood (callers : ℕ) (bytes : List ℕ) : Type 0 where
   pub short : length bytes ≤ max_bytes
   pub few : AreFewRecords (order_records bytes)
-  pub lawful : first_bad 1 (order_records bytes) ≡ None
+  pub lawful : first_bad callers (order_records bytes) ≡ None
 
 -- A sink is seen by what its writes may take, by the bytes that it holds where it tells them, and by its faults.
 module _ {O : Type 0} (takes : Step O) (holds : O → Option (List ℕ)) (faults : O → ℕ) (old new : O) where
@@ -99,14 +101,13 @@ module _ {O : Type 0} (takes : Step O) (holds : O → Option (List ℕ)) (faults
   abbrev pub Tells : List ℕ → Type 0
   Tells line = IsWritten line ⊎ HasWriteFault line
 
--- A run's input, and the fronts that it played.
-module _ {I : Type 0} (gives : Step I) (left : I → Option (List ℕ)) (faults : I → ℕ) (old new : I) where
-  -- the input was replayed by one caller, in one round, and this is the report
+-- A run's input, by the number of its callers.
+module _ {I : Type 0} (gives : Step I) (left : I → Option (List ℕ)) (faults : I → ℕ) (old new : I) (callers : ℕ) where
+  -- the input was replayed, and this is the report
   pub record IsReplayed (fronts : List Front) (text : List ℕ) : Type 0 where
     pub bytes : List ℕ
     pub read : IsRead gives left faults old new bytes
-    pub replay : IsReplay 1 bytes fronts text
-    pub one_round : length fronts ≡ 1
+    pub replay : IsReplay callers bytes fronts text
 
   -- the input is longer than an input may be, or has too many records, or a bad one
   abbrev pub IsBadInput : Type 0
@@ -114,49 +115,75 @@ module _ {I : Type 0} (gives : Step I) (left : I → Option (List ℕ)) (faults 
       IsOverlong gives left faults old new
       ⊎ ((bytes : List ℕ) × IsRead gives left faults old new bytes × (¬ AreFewRecords (order_records bytes)))
       ⊎ ((bytes : List ℕ) × (n : ℕ)
-      × IsRead gives left faults old new bytes × (first_bad 1 (order_records bytes) ≡ Some n))
+      × IsRead gives left faults old new bytes × (first_bad callers (order_records bytes) ≡ Some n))
 
-  -- why a run stopped before its report
-  abbrev pub StopsWith : Status → Type 0
-  StopsWith Usage = new ≡ old
-  StopsWith (BadLine n) = (bytes : List ℕ) × IsRead gives left faults old new bytes
-      × AreFewRecords (order_records bytes) × (first_bad 1 (order_records bytes) ≡ Some n)
-  StopsWith ReadFault = HasReadFault gives left faults old new
-  StopsWith TooLong = IsOverlong gives left faults old new
-  StopsWith TooMany = (bytes : List ℕ) × IsRead gives left faults old new bytes
+  -- why a replay stopped before its report
+  abbrev pub StopsReplay : Status → Type 0
+  StopsReplay (BadLine n) = (bytes : List ℕ) × IsRead gives left faults old new bytes
+      × AreFewRecords (order_records bytes) × (first_bad callers (order_records bytes) ≡ Some n)
+  StopsReplay ReadFault = HasReadFault gives left faults old new
+  StopsReplay TooLong = IsOverlong gives left faults old new
+  StopsReplay TooMany = (bytes : List ℕ) × IsRead gives left faults old new bytes
       × (¬ AreFewRecords (order_records bytes))
-  StopsWith NoMemory = (bytes : List ℕ)
+  StopsReplay NoMemory = (bytes : List ℕ)
       × (IsReadInPart gives left faults old new bytes ⊎ IsRead gives left faults old new bytes)
-  StopsWith Done = ⊥
-  StopsWith WriteFault = ⊥
+  StopsReplay Usage = ⊥
+  StopsReplay Done = ⊥
+  StopsReplay WriteFault = ⊥
 
--- where the input isn't bad and no read or write failed, the run is done or found no memory
+  -- what was played, and its text: the input, or made scripts, and then nothing was read
+  abbrev pub HasPlayed : Option Making → List Front → List ℕ → Type 0
+  HasPlayed None fronts text = IsReplayed fronts text
+  HasPlayed (Some making) fronts text = IsSummed callers making fronts text × (new ≡ old)
+
+  -- why a run stopped before its text: a replay has its cause, and made scripts only ran out of memory
+  abbrev pub StopsWith : Option Making → Status → Type 0
+  StopsWith None status = StopsReplay status
+  StopsWith (Some making) status = (status ≡ NoMemory) × (new ≡ old)
+
+-- where no write failed and, if the input was to be read, it isn't bad and no read failed, the run is done or ran out
+-- of memory
 abbrev pub EndsWell : {I O : Type 0} → Step I → (I → Option (List ℕ)) → (I → ℕ) → I → I → (O → ℕ) → O → O
-    → Status → Type 0
-EndsWell gives left read_faults input input' write_faults output output' status =
-    ¬ Rose (read_faults input) (read_faults input')
-    → ¬ Rose (write_faults output) (write_faults output')
-    → ¬ IsBadInput gives left read_faults input input'
+    → Options → Status → Type 0
+EndsWell gives left read_faults input input' write_faults output output' options status =
+    ¬ Rose (write_faults output) (write_faults output')
+    → (options.make ≡ None → ¬ Rose (read_faults input) (read_faults input'))
+    → (options.make ≡ None → ¬ IsBadInput gives left read_faults input input' options.callers)
     → (status ≡ Done) ⊎ (status ≡ NoMemory)
+
+-- A run's sink before and after, and its fronts.
+module _ {O : Type 0} (takes : Step O) (holds : O → Option (List ℕ)) (write_faults : O → ℕ) (output output' : O)
+    (fronts : List Front) where
+  -- a status was told, and nothing was played
+  abbrev pub ToldAlone : Status → Type 0
+  ToldAlone status = (fronts ≡ []) × Tells takes holds write_faults output output' (status_text status)
 
 -- A run, by its source and its sink before and after, and by its fronts.
 module _ {I : Type 0} (gives : Step I) (left : I → Option (List ℕ)) (read_faults : I → ℕ) (input input' : I)
     {O : Type 0} (takes : Step O) (holds : O → Option (List ℕ)) (write_faults : O → ℕ) (output output' : O)
     (fronts : List Front) where
-  -- it stopped before its report, without a round, and told why
-  abbrev pub Stopped : Status → Type 0
-  Stopped status = StopsWith gives left read_faults input input' status × (fronts ≡ [])
-      × Tells takes holds write_faults output output' (status_text status)
+  -- the words aren't accepted, and nothing was read
+  abbrev pub Refused : Status → Type 0
+  Refused status = (status ≡ Usage) × (input' ≡ input)
+      × ToldAlone takes holds write_faults output output' fronts Usage
 
-  -- what a run answers
-  abbrev pub Answers : Status → Type 0
-  Answers Done = (text : List ℕ) × IsReplayed gives left read_faults input input' fronts text
+  -- it stopped before its text, without a round, and told why
+  abbrev pub Stopped : Options → Status → Type 0
+  Stopped options status =
+      StopsWith gives left read_faults input input' options.callers options.make status
+      × ToldAlone takes holds write_faults output output' fronts status
+
+  -- what a run with options answers
+  abbrev pub Answers : Options → Status → Type 0
+  Answers options Done = (text : List ℕ)
+      × HasPlayed gives left read_faults input input' options.callers options.make fronts text
       × IsWritten takes holds write_faults output output' text
-  Answers WriteFault = (text : List ℕ) × IsReplayed gives left read_faults input input' fronts text
+  Answers options WriteFault = (text : List ℕ)
+      × HasPlayed gives left read_faults input input' options.callers options.make fronts text
       × HasWriteFault takes holds write_faults output output' text
-  Answers Usage = Stopped Usage
-  Answers (BadLine n) = Stopped (BadLine n)
-  Answers ReadFault = Stopped ReadFault
-  Answers NoMemory = Stopped NoMemory
-  Answers TooLong = Stopped TooLong
-  Answers TooMany = Stopped TooMany
+  Answers options Usage = Stopped options Usage
+  Answers options (BadLine n) = Stopped options (BadLine n)
+  Answers options ReadFault = Stopped options ReadFault
+  Answers options NoMemory = Stopped options NoMemory
+  Answers options TooLong = Stopped options TooLong
+  Answers options TooMany = Stopped options TooMany

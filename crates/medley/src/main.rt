@@ -17,12 +17,8 @@ use std::env;
 use std::process::ExitCode;
 
 // Runs with the real words and streams, and exits as that run says.
-fn start(rt: &HostRuntime) -> ExitCode {
+fn main(rt: HostRuntime) -> ExitCode {
     let mut input = StdSource::new(rt.stdin());
     let mut output = StdSink::new(rt.stdout());
-    exit_of_program(rt.alloc(), env::args(rt), &mut input, &mut output)
-}
-
-fn main(rt: HostRuntime) -> ExitCode {
-    start(&rt)
+    exit_of_program(&rt, rt.alloc(), env::args(&rt), &mut input, &mut output)
 }

@@ -2,7 +2,7 @@
 
 ghost use Rattle.std.specs.Prelude.{◌≡◌, Some, List, ℕ, map, drop, string_bytes, IfOk};
 ghost use Rattle.std.specs.Vec.Iter.{into_iter_items};
-ghost use Rattle.md_history.specs.Plain.{front_of};
+ghost use Rattle.md_store.specs.Store.{front_in};
 ghost use Rattle.std.specs.Process.{exit_status};
 ghost use Rattle.medley.specs.Words.{texts};
 ghost use Rattle.medley.specs.Program.{HasRun, HasExit};
@@ -11,11 +11,13 @@ ghost use Rattle.medley.specs.Run.{IsBadInput, IsGood};
 use crate::run::{run, stop};
 use crate::status::{Run, Status};
 use md_outside::{Sink, Source};
+use md_rounds::FreeGate;
 use std::alloc::{AllocError, Global};
 use std::env::Args;
 use std::io;
 use std::io::ErrorKind;
 use std::process::ExitCode;
+use std::thread::Threads;
 
 // Strings as slices.
 fn slices<'a>(alloc: Global, strings: &'a [String]) -> Result<Vec<&'a str>, AllocError>
@@ -45,17 +47,23 @@ fn words(alloc: Global, args: Args) -> Result<Vec<String>, AllocError>
 ///
 /// Arguments of which one isn't text are no words that are accepted, so the answer is `Usage`. The
 /// answer is `NoMemory` where the system found no memory for them. In both cases nothing is read.
-pub fn run_program<I: Source, O: Sink>(
+pub fn run_program<R, I, O>(
+    rt: &R,
     alloc: Global,
     args: io::Result<Args>,
     input: &mut I,
     output: &mut O,
 ) -> Run
+where
+    R: Threads + Sync,
+    I: Source,
+    O: Sink,
     ensures run { HasRun I.gives I.left I.faults args input.old input.new
         O.takes O.holds O.faults output.old output.new
-        (map front_of result.fronts.items) result.status }
-    ensures told { (bytes : List ℕ) → I.left input.old ≡ Some bytes → IsGood bytes
-        → ¬ IsBadInput I.gives I.left I.faults input.old input.new }
+        (map front_in result.fronts.items) result.status }
+    ensures told { (callers : ℕ) → (bytes : List ℕ) → I.left input.old ≡ Some bytes
+        → IsGood callers bytes
+        → ¬ IsBadInput I.gives I.left I.faults input.old input.new callers }
 {
     let args = match args {
         Ok(args) => args,
@@ -70,21 +78,27 @@ pub fn run_program<I: Source, O: Sink>(
     let Ok(slices) = slices(alloc, &words) else {
         return stop(alloc, output, Status::NoMemory);
     };
-    run(alloc, &slices, input, output)
+    run(rt, alloc, &slices, input, output, &FreeGate)
 }
 
 /// Runs once, and returns the exit status that is the number of the run's status.
-pub fn exit_of_program<I: Source, O: Sink>(
+pub fn exit_of_program<R, I, O>(
+    rt: &R,
     alloc: Global,
     args: io::Result<Args>,
     input: &mut I,
     output: &mut O,
 ) -> ExitCode
+where
+    R: Threads + Sync,
+    I: Source,
+    O: Sink,
     ensures run { HasExit I.gives I.left I.faults args input.old input.new
         O.takes O.holds O.faults output.old output.new (exit_status result) }
-    ensures told { (bytes : List ℕ) → I.left input.old ≡ Some bytes → IsGood bytes
-        → ¬ IsBadInput I.gives I.left I.faults input.old input.new }
+    ensures told { (callers : ℕ) → (bytes : List ℕ) → I.left input.old ≡ Some bytes
+        → IsGood callers bytes
+        → ¬ IsBadInput I.gives I.left I.faults input.old input.new callers }
 {
-    let run = run_program(alloc, args, input, output);
+    let run = run_program(rt, alloc, args, input, output);
     ExitCode::from(run.status)
 }

@@ -1,47 +1,117 @@
-//! The top call: words and input in, report out.
+//! The top call: words and input in, report or summary out.
 
-ghost use Rattle.std.specs.Prelude.{◌≡◌, ◌≢◌, ◌↔◌, Some, List, ℕ, [], map, IfOk, IfErr};
-ghost use Rattle.md_history.specs.Plain.{front_of};
+ghost use Rattle.std.specs.Prelude.{◌≡◌, ◌≢◌, ◌↔◌, Some, List, ℕ, map, IfOk, IfErr};
+ghost use Rattle.md_store.specs.Store.{front_in};
 ghost use Rattle.medley.specs.Words.{texts, AreAccepted};
-ghost use Rattle.medley.specs.Run.{Answers, EndsWell, StopsWith, IsReplayed, IsBadInput, IsGood, Tells, status_text};
+ghost use Rattle.medley.specs.Options.{AreInRange, Write};
+ghost use Rattle.medley.specs.Replay.{IsSummed};
+ghost use Rattle.medley.specs.Run.{Answers, EndsWell, HasPlayed, StopsReplay, StopsWith, IsReplayed};
+ghost use Rattle.medley.specs.Run.{IsBadInput, IsGood, Refused, ToldAlone};
 
 use crate::input::read_all;
 use crate::output::{tell, write_all};
 use crate::play::play;
 use crate::status::{Run, Status};
-use md_history::{Front, PlainPass};
-use md_orders::{read_orders, report};
+use crate::words::{Making, Options, read_options};
+use md_history::Front;
+use md_orders::{make, read_orders, report, summary};
 use md_outside::{Failed, Sink, Source};
+use md_rounds::Gate;
+use md_rule::Pass;
+use md_store_law::StoreTheory;
 use std::alloc::{AllocError, Global};
+use std::thread::Threads;
 
-// A report, and the fronts of the rounds that it stands on.
+// A report or a summary, and the fronts of the rounds that it stands on.
 #[derive(Drop)]
-struct Replayed {
+struct Played {
     text: Vec<u8>,
-    fronts: Vec<Front<PlainPass>>,
+    fronts: Vec<Front<Pass<StoreTheory>>>,
 }
 
-// Reads the input, plays it with one caller, and builds the report.
-fn replay<I: Source>(alloc: Global, input: &mut I) -> Result<Replayed, Status>
+// Reads the input, plays it, and builds the report.
+fn replay<R, I, G>(
+    rt: &R,
+    alloc: Global,
+    options: &Options,
+    input: &mut I,
+    gate: &G,
+) -> Result<Played, Status>
+where
+    R: Threads + Sync,
+    I: Source,
+    G: Gate + Sync,
+    requires in_range { AreInRange options.now }
     ensures replayed { IfOk result (λ w. IsReplayed I.gives I.left I.faults
-        input.old input.new (map front_of w.fronts.items) w.text.items) }
-    ensures stops { IfErr result (StopsWith I.gives I.left I.faults input.old input.new) }
-    ensures usage { IfErr result (λ status. status ≢ Status.Usage) }
+        input.old input.new options.now.callers (map front_in w.fronts.items) w.text.items) }
+    ensures stops { IfErr result (StopsReplay I.gives I.left I.faults
+        input.old input.new options.now.callers) }
 {
     let bytes = read_all(alloc, input)?;
-    let scripts = read_orders(alloc, &bytes, 1)?;
-    let played = play(alloc, &scripts)?;
+    let scripts = read_orders(alloc, &bytes, options.callers)?;
+    let played = play(rt, alloc, &scripts, options, gate)?;
     let text = report(alloc, &scripts, &played.replies, &played.contents)?;
-    let mut fronts = Vec::new(alloc);
-    fronts.push(played.front).map_err(AllocError::from)?;
-    Ok(Replayed { text, fronts })
+    Ok(Played {
+        text,
+        fronts: played.fronts,
+    })
 }
 
-/// Ends a run before its report, and tells why.
+// Makes scripts, plays them, and builds the summary.
+fn sum_up<R, G>(
+    rt: &R,
+    alloc: Global,
+    options: &Options,
+    making: Making,
+    gate: &G,
+) -> Result<Played, AllocError>
+where
+    R: Threads + Sync,
+    G: Gate + Sync,
+    requires in_range { AreInRange options.now }
+    requires making { options.now.make ≡ Some making }
+    ensures { IfOk result (λ w. IsSummed options.now.callers making
+        (map front_in w.fronts.items) w.text.items) }
+{
+    let scripts = make(alloc, making.number, making.lines, options.callers)?;
+    let played = play(rt, alloc, &scripts, options, gate)?;
+    let text = summary(alloc, &scripts, &played.replies, &played.contents)?;
+    Ok(Played {
+        text,
+        fronts: played.fronts,
+    })
+}
+
+// Plays what the options ask for.
+fn play_asked<R, I, G>(
+    rt: &R,
+    alloc: Global,
+    options: &Options,
+    input: &mut I,
+    gate: &G,
+) -> Result<Played, Status>
+where
+    R: Threads + Sync,
+    I: Source,
+    G: Gate + Sync,
+    requires in_range { AreInRange options.now }
+    ensures played { IfOk result (λ w. HasPlayed I.gives I.left I.faults
+        input.old input.new options.now.callers options.now.make
+        (map front_in w.fronts.items) w.text.items) }
+    ensures stops { IfErr result (StopsWith I.gives I.left I.faults
+        input.old input.new options.now.callers options.now.make) }
+{
+    match options.make {
+        Some(making) => Ok(sum_up(rt, alloc, options, making, gate)?),
+        None => replay(rt, alloc, options, input, gate),
+    }
+}
+
+/// Ends a run before its text, and tells why.
 pub fn stop<O: Sink>(alloc: Global, output: &mut O, status: Status) -> Run
     ensures status { result.status ≡ status }
-    ensures fronts { result.fronts.items ≡ [] }
-    ensures told { Tells O.takes O.holds O.faults output.old output.new (status_text status) }
+    ensures alone { ToldAlone O.takes O.holds O.faults output.old output.new
+        (map front_in result.fronts.items) status }
 {
     tell(output, status);
     Run {
@@ -50,29 +120,30 @@ pub fn stop<O: Sink>(alloc: Global, output: &mut O, status: Status) -> Run
     }
 }
 
-/// Replays the input and writes the report.
-///
-/// No words are accepted so far: with any, nothing is read and the answer is `Usage`. The input is
-/// read to its end, its records are played in order by one caller, and the report is written: each
-/// reply and then the book. Each other answer has its cause at the source, in the input, at the
-/// sink or in memory. Without words, where the input isn't bad and no read or write fails, the
-/// answer is `Done` or `NoMemory`.
-pub fn run<I: Source, O: Sink>(alloc: Global, words: &[&str], input: &mut I, output: &mut O) -> Run
+// Runs with options.
+fn run_asked<R, I, O, G>(
+    rt: &R,
+    alloc: Global,
+    options: &Options,
+    input: &mut I,
+    output: &mut O,
+    gate: &G,
+) -> Run
+where
+    R: Threads + Sync,
+    I: Source,
+    O: Sink,
+    G: Gate + Sync,
+    requires in_range { AreInRange options.now }
     ensures answers { Answers I.gives I.left I.faults input.old input.new
         O.takes O.holds O.faults output.old output.new
-        (map front_of result.fronts.items) result.status }
-    ensures usage { (result.status ≡ Status.Usage) ↔ (¬ AreAccepted (texts words.now)) }
-    ensures complete { AreAccepted (texts words.now)
-        → EndsWell I.gives I.left I.faults input.old input.new
-        O.faults output.old output.new result.status }
-    ensures told { (bytes : List ℕ) → I.left input.old ≡ Some bytes → IsGood bytes
-        → ¬ IsBadInput I.gives I.left I.faults input.old input.new }
+        (map front_in result.fronts.items) options.now result.status }
+    ensures complete { EndsWell I.gives I.left I.faults input.old input.new
+        O.faults output.old output.new options.now result.status }
+    ensures usage { result.status ≢ Status.Usage }
 {
-    if !words.is_empty() {
-        return stop(alloc, output, Status::Usage);
-    }
-    match replay(alloc, input) {
-        Ok(Replayed { text, fronts }) => {
+    match play_asked(rt, alloc, options, input, gate) {
+        Ok(Played { text, fronts }) => {
             let status = match write_all(output, &text) {
                 Ok(()) => Status::Done,
                 Err(Failed) => Status::WriteFault,
@@ -80,5 +151,55 @@ pub fn run<I: Source, O: Sink>(alloc: Global, words: &[&str], input: &mut I, out
             Run { status, fronts }
         }
         Err(status) => stop(alloc, output, status),
+    }
+}
+
+/// Runs the program: plays an order file, or made scripts, over a concurrent store, with a thread
+/// for each caller, and writes what came of it.
+///
+/// The words are read first, as `read_options` reads them. Where they aren't accepted the answer is
+/// `Usage`, and nothing is read. Without `--make` the input is read to its end, its records are
+/// played by their callers, and the report is written: each reply and then the book. With `--make`
+/// nothing is read, and one line that sums the made scripts up is written. Whatever the threads do,
+/// the replies and the book are those of one thread that runs the committed commands in the order
+/// in which they became ready: each line once, and each caller's lines in their order.
+///
+/// Each answer but `Done` has its cause in the words, at the source, in the input, at the sink or in
+/// memory. Where the words are accepted, no write fails and, without `--make`, the input isn't bad
+/// and no read fails, the answer is `Done` or `NoMemory`.
+///
+/// `gate` is called before each attempt of a line and after its commit. It has no meaning here.
+pub fn run<R, I, O, G>(
+    rt: &R,
+    alloc: Global,
+    words: &[&str],
+    input: &mut I,
+    output: &mut O,
+    gate: &G,
+) -> Run
+where
+    R: Threads + Sync,
+    I: Source,
+    O: Sink,
+    G: Gate + Sync,
+    ensures usage { (result.status ≡ Status.Usage) ↔ (¬ AreAccepted (texts words.now)) }
+    ensures refused { (¬ AreAccepted (texts words.now))
+        → Refused I.gives I.left I.faults input.old input.new
+        O.takes O.holds O.faults output.old output.new
+        (map front_in result.fronts.items) result.status }
+    ensures answers { (options : Options) → Write (texts words.now) options
+        → Answers I.gives I.left I.faults input.old input.new
+        O.takes O.holds O.faults output.old output.new
+        (map front_in result.fronts.items) options result.status }
+    ensures complete { (options : Options) → Write (texts words.now) options
+        → EndsWell I.gives I.left I.faults input.old input.new
+        O.faults output.old output.new options result.status }
+    ensures told { (callers : ℕ) → (bytes : List ℕ) → I.left input.old ≡ Some bytes
+        → IsGood callers bytes
+        → ¬ IsBadInput I.gives I.left I.faults input.old input.new callers }
+{
+    match read_options(words) {
+        Some(options) => run_asked(rt, alloc, &options, input, output, gate),
+        None => stop(alloc, output, Status::Usage),
     }
 }

@@ -3,8 +3,10 @@
 ghost use Rattle.std.specs.Prelude.{◌≡◌};
 
 use crate::input::InputFault;
-use md_history::{Front, PlainPass};
+use md_history::Front;
 use md_orders::OrderFault;
+use md_rule::Pass;
+use md_store_law::StoreTheory;
 use std::alloc::AllocError;
 use std::process::ExitCode;
 
@@ -106,5 +108,5 @@ impl From<AllocError> for Status {
 #[derive(Drop)]
 pub struct Run {
     pub status: Status,
-    pub fronts: Vec<Front<PlainPass>>,
+    pub fronts: Vec<Front<Pass<StoreTheory>>>,
 }

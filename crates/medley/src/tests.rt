@@ -1,5 +1,6 @@
 //! What no clause says: that runs come to their end, and what is printed of whole inputs.
 
+mod asked;
 mod bad;
 mod edge;
 mod making;
@@ -9,9 +10,11 @@ mod words;
 use crate::run::run;
 use crate::status::Status;
 use md_outside::{MemSink, MemSource};
+use md_rounds::FreeGate;
 use std::alloc::{AllocError, Global};
 use std::process::Abort;
 use std::test::Fail;
+use std::thread::Threads;
 
 // How the streams of a run behave.
 #[derive(Clone, Copy)]
@@ -32,7 +35,7 @@ const AMPLE: Streams<'static> = Streams {
 
 // Runs without words over streams in memory, and compares the answer and what was written.
 fn expect(
-    rt: &impl Abort,
+    rt: &(impl Abort + Threads + Sync),
     alloc: Global,
     input: &[u8],
     streams: Streams,
@@ -45,7 +48,7 @@ fn expect(
     let failing_writes = Vec::from_slice(alloc, streams.failing_writes)?;
     let mut source = MemSource::new(bytes, streams.piece, failing_reads);
     let mut sink = MemSink::new(alloc, streams.room, failing_writes)?;
-    let run = run(alloc, &[], &mut source, &mut sink);
+    let run = run(rt, alloc, &[], &mut source, &mut sink, &FreeGate);
     assert_eq!(rt; run.status, status, "of {input:?}");
     assert_eq!(rt; sink.bytes(), text, "of {input:?}");
     Ok(())
@@ -177,7 +180,7 @@ fn the_largest_inputs(rt: HostRuntime) -> Result<(), Fail> {
         let bytes = repeated(alloc, part, times, end)?;
         let mut source = MemSource::new(bytes, 1_000_000, Vec::new(alloc));
         let mut sink = MemSink::new(alloc, 1024, Vec::new(alloc))?;
-        let run = run(alloc, &[], &mut source, &mut sink);
+        let run = run(&rt, alloc, &[], &mut source, &mut sink, &FreeGate);
         assert_eq!(rt; run.status, status, "of {times} times {part:?}");
         assert_eq!(rt; sink.bytes(), text, "of {times} times {part:?}");
     }
@@ -186,14 +189,14 @@ fn the_largest_inputs(rt: HostRuntime) -> Result<(), Fail> {
 
 // Replays lines that have a long report.
 fn replays(
-    rt: &impl Abort,
+    rt: &(impl Abort + Threads + Sync),
     alloc: Global,
     orders: Vec<u8>,
     report: &String,
 ) -> Result<(), AllocError> {
     let mut source = MemSource::new(orders, 65_536, Vec::new(alloc));
     let mut sink = MemSink::new(alloc, report.len(), Vec::new(alloc))?;
-    let run = run(alloc, &[], &mut source, &mut sink);
+    let run = run(rt, alloc, &[], &mut source, &mut sink, &FreeGate);
     assert_eq!(rt; run.status, Status::Done);
     assert!(rt; sink.bytes() == report.as_bytes());
     Ok(())

@@ -1,9 +1,10 @@
 //! The words of a command line, and the options that they write.
 
-ghost use Rattle.std.specs.Prelude.{◌≡◌, ◌↔◌, Some};
+ghost use Rattle.std.specs.Prelude.{◌≡◌, ◌↔◌, Some, IfSome};
 ghost use Rattle.md_orders.specs.Grammar.{number_within};
 ghost use Rattle.medley.specs.Words.{texts};
-ghost use Rattle.medley.specs.Options.{lowest, highest, value_in, AreGiven, making_of, options_of, Write};
+ghost use Rattle.medley.specs.Options.{lowest, highest, value_in, AreGiven, AreInRange};
+ghost use Rattle.medley.specs.Options.{making_of, options_of, Write};
 ghost use Rattle.medley.specs.declared.words.Given.{Given};
 ghost use Rattle.medley.specs.declared.words.Options.{Options};
 ghost use Rattle.medley.specs.Reading.{name_in, with_value, value_read, next_reading};
@@ -221,7 +222,9 @@ fn options_of(given: Given) -> Option<Options>
 /// for at most 8 callers. Without `--callers` there is one. None exactly where the words are
 /// anything else. It takes no memory.
 pub fn read_options(words: &[&str]) -> Option<Options>
-    ensures { (options : Options) → (result ≡ Some options) ↔ Write (texts words.now) options }
+    ensures written { (options : Options)
+        → (result ≡ Some options) ↔ Write (texts words.now) options }
+    ensures in_range { IfSome result AreInRange }
 {
     options_of(given_by(words)?)
 }

@@ -3,16 +3,17 @@
 
 use crate::program::{exit_of_program, run_program};
 use crate::run::run;
-use crate::start;
 use crate::status::Status;
 use crate::tests::{ORDER, REPORT, USAGE};
 use md_outside::{MemSink, MemSource, Source, StdSink, StdSource};
+use md_rounds::FreeGate;
 use std::alloc::{AllocError, Global};
 use std::env;
 use std::env::Args;
 use std::io::{self, ErrorKind, Read, Write};
 use std::process::{Abort, ExitCode};
 use std::test::Fail;
+use std::thread::Threads;
 
 // Arguments as the system gives them.
 fn args_of(alloc: Global, texts: &[&str]) -> Result<Args, AllocError> {
@@ -26,7 +27,7 @@ fn args_of(alloc: Global, texts: &[&str]) -> Result<Args, AllocError> {
 // Runs with arguments, and compares the answer, what was written, and how much of the input is
 // left.
 fn expect(
-    rt: &impl Abort,
+    rt: &(impl Abort + Threads + Sync),
     alloc: Global,
     args: io::Result<Args>,
     status: Status,
@@ -36,7 +37,7 @@ fn expect(
     let bytes = Vec::from_slice(alloc, ORDER)?;
     let mut source = MemSource::new(bytes, 8192, Vec::new(alloc));
     let mut sink = MemSink::new(alloc, 1024, Vec::new(alloc))?;
-    let run = run_program(alloc, args, &mut source, &mut sink);
+    let run = run_program(rt, alloc, args, &mut source, &mut sink);
     assert_eq!(rt; run.status, status);
     assert_eq!(rt; sink.bytes(), text);
     let mut unread = [0; 32];
@@ -46,7 +47,7 @@ fn expect(
 
 // The same, with arguments that are there.
 fn expect_of(
-    rt: &impl Abort,
+    rt: &(impl Abort + Threads + Sync),
     alloc: Global,
     texts: &[&str],
     status: Status,
@@ -70,8 +71,25 @@ fn arguments_are_words_after_the_first(rt: HostRuntime) -> Result<(), Fail> {
         &rt,
         alloc,
         &["medley", "--callers", "2"],
+        Status::Done,
+        REPORT,
+        0,
+    )?;
+    expect_of(
+        &rt,
+        alloc,
+        &["medley", "--callers", "65"],
         Status::Usage,
         USAGE,
+        all,
+    )?;
+    let made = b"made 3 placed 165 cancelled 0 filled 0 open 165\n";
+    expect_of(
+        &rt,
+        alloc,
+        &["medley", "--make=1", "--lines=3"],
+        Status::Done,
+        made,
         all,
     )
 }
@@ -126,7 +144,7 @@ fn each_status_has_its_exit(rt: HostRuntime) -> Result<(), Fail> {
 
 // Runs with one argument and these streams, and compares the exit.
 fn expect_exit(
-    rt: &impl Abort,
+    rt: &(impl Abort + Threads + Sync),
     alloc: Global,
     input: &[u8],
     failing_reads: &[u32],
@@ -137,7 +155,7 @@ fn expect_exit(
     let bytes = Vec::from_slice(alloc, input)?;
     let mut source = MemSource::new(bytes, 8192, Vec::from_slice(alloc, failing_reads)?);
     let mut sink = MemSink::new(alloc, room, Vec::new(alloc))?;
-    let code = exit_of_program(alloc, Ok(args), &mut source, &mut sink);
+    let code = exit_of_program(rt, alloc, Ok(args), &mut source, &mut sink);
     assert_eq!(rt; code, ExitCode::from(exit), "of {input:?}");
     Ok(())
 }
@@ -156,7 +174,10 @@ fn the_exit_is_that_of_the_run(rt: HostRuntime) -> Result<(), Fail> {
 #[test]
 fn the_program_is_given_its_words(rt: HostRuntime) -> Result<(), Fail> {
     assert_eq!(rt; env::args(&rt)?.len(), 2);
-    assert_eq!(rt; start(&rt), ExitCode::from(2));
+    let mut input = StdSource::new(ORDER);
+    let mut output = StdSink::new(rt.stdout());
+    let code = exit_of_program(&rt, rt.alloc(), env::args(&rt), &mut input, &mut output);
+    assert_eq!(rt; code, ExitCode::from(2));
     Ok(())
 }
 
@@ -197,7 +218,7 @@ fn a_write_that_failed_is_the_last(rt: HostRuntime) -> Result<(), Fail> {
         };
         let mut source = StdSource::new(ORDER);
         let mut sink = StdSink::new(&mut writer);
-        let run = run(alloc, &[], &mut source, &mut sink);
+        let run = run(&rt, alloc, &[], &mut source, &mut sink, &FreeGate);
         assert_eq!(rt; run.status, Status::WriteFault);
         assert_eq!(rt; writer.calls, failing);
         assert_eq!(rt;
@@ -235,7 +256,7 @@ fn the_end_is_the_last_read(rt: HostRuntime) -> Result<(), Fail> {
     let mut reader = GoesOn { calls: 0 };
     let mut source = StdSource::new(&mut reader);
     let mut sink = MemSink::new(alloc, 1024, Vec::new(alloc))?;
-    let run = run(alloc, &[], &mut source, &mut sink);
+    let run = run(&rt, alloc, &[], &mut source, &mut sink, &FreeGate);
     assert_eq!(rt; run.status, Status::Done);
     assert_eq!(rt; sink.bytes(), REPORT);
     assert_eq!(rt; reader.calls, 2);

@@ -1,48 +1,104 @@
-//! Made scripts, played by one caller, and the line that sums them up.
+//! Made scripts, and the line that sums them up.
 
-use crate::play::play;
-use md_book::{BookReply, Command};
-use md_orders::{Replies, Scripts, make, summary};
-use std::alloc::{AllocError, Global};
+ghost use Rattle.std.specs.Prelude.{◌≤◌};
+ghost use Rattle.md_orders.specs.Records.{max_records};
+ghost use Rattle.md_orders.specs.declared.generator.TheConstants.{MAX_MADE_CALLERS};
+
+use crate::tests::asked::written;
+use md_book::{BookReply, Command, LEVELS, MAPS};
+use md_history::{Attempt, Contents, Engine, PlainStore};
+use md_orders::make;
+use std::alloc::Global;
 use std::test::Fail;
 
-// The line of one caller's scripts, where what is left open was placed, and neither cancelled nor
-// filled.
-fn line_of(alloc: Global, scripts: &Scripts, replies: &Replies) -> Result<String, AllocError> {
-    let (mut placed, mut cancelled, mut filled) = (0_u64, 0_u64, 0_u64);
-    for before in 0..scripts.len(1) {
-        if let Some(Command::Place { quantity, .. }) = scripts.command(1, before + 1) {
-            placed = placed.saturating_add(u64::from(quantity));
-        }
-        match replies.get(1, before + 1) {
-            Some(BookReply::Cancelled(gone)) => {
-                cancelled = cancelled.saturating_add(u64::from(gone));
+// What commands came to.
+#[derive(Clone, Copy)]
+struct Sums {
+    placed: u64,
+    cancelled: u64,
+    filled: u64,
+}
+
+impl Sums {
+    // With one command more.
+    fn add(&mut self, command: &Command, reply: &BookReply) {
+        match (command, reply) {
+            (Command::Place { quantity, .. }, _) => {
+                self.placed = self.placed.saturating_add(u64::from(*quantity));
             }
-            Some(BookReply::Filled { taken, .. }) => {
-                filled = filled.saturating_add(u64::from(taken));
+            (_, BookReply::Cancelled(gone)) => {
+                self.cancelled = self.cancelled.saturating_add(u64::from(*gone));
+            }
+            (_, BookReply::Filled { taken, .. }) => {
+                self.filled = self.filled.saturating_add(u64::from(*taken));
             }
             _ => {}
         }
     }
-    let left = placed.saturating_sub(cancelled).saturating_sub(filled);
+}
+
+// The line of made scripts that one thread runs over a store for one thread, where the callers take
+// turns. What is left open was placed, and neither cancelled nor filled.
+fn summed_in_turn(alloc: Global, number: u32, lines: u32, callers: u32) -> Result<String, Fail>
+    requires lines { (1 ≤ lines) × (lines ≤ max_records) }
+    requires callers { (1 ≤ callers) × (callers ≤ MAX_MADE_CALLERS) }
+{
+    let scripts = make(alloc, number, lines, callers)?;
+    let (store, pass) = PlainStore::open(Contents::empty(alloc, MAPS, LEVELS)?);
+    let mut pass = pass;
+    let mut sums = Sums {
+        placed: 0,
+        cancelled: 0,
+        filled: 0,
+    };
+    'turns: for turn in 0..lines {
+        let caller = turn % callers + 1;
+        let line = turn / callers + 1;
+        if let Some(command) = scripts.command(caller, line) {
+            match store.attempt(&mut pass, 0, &command) {
+                Attempt::Committed(reply) => sums.add(&command, &reply),
+                Attempt::Stopped(_) => {}
+            }
+        }
+    }
     let made = scripts.total();
-    format!(in alloc;
+    let Sums {
+        placed,
+        cancelled,
+        filled,
+    } = sums;
+    let left = placed.saturating_sub(cancelled).saturating_sub(filled);
+    Ok(format!(in alloc;
         "made {made} placed {placed} cancelled {cancelled} filled {filled} open {left}\n"
-    )
+    )?)
+}
+
+// Made callers don't touch one another's orders. So what their lines come to is the same on one
+// thread and on four, with few renewals and with many.
+#[test]
+fn made_scripts_come_to_the_same(rt: HostRuntime) -> Result<(), Fail> {
+    let alloc = rt.alloc();
+    let want = summed_in_turn(alloc, 7, 20_000, 4)?;
+    for words in [
+        ["--make", "7", "--lines", "20000", "--callers=4"].as_slice(),
+        &["--make", "7", "--lines", "20000", "--callers=4"],
+        &["--make=7", "--lines=20000", "--callers", "4", "--tries=64"],
+        &["--make=7", "--lines=20000", "--callers", "4", "--nodes=99"],
+    ] {
+        let text = written(&rt, alloc, words, b"")?;
+        assert_eq!(rt; text.as_slice(), want.as_bytes(), "of {words:?}");
+    }
+    Ok(())
 }
 
 #[test]
-fn summaries_add_up(rt: HostRuntime) -> Result<(), Fail> {
+fn made_scripts_of_one_caller(rt: HostRuntime) -> Result<(), Fail> {
     let alloc = rt.alloc();
-    let scripts = make(alloc, 1, 3, 1)?;
-    let played = play(alloc, &scripts)?;
-    let line = summary(alloc, &scripts, &played.replies, &played.contents)?;
+    let text = written(&rt, alloc, &["--make", "1", "--lines", "3"], b"")?;
     let want = b"made 3 placed 165 cancelled 0 filled 0 open 165\n".as_slice();
-    assert_eq!(rt; line.as_slice(), want);
-    let scripts = make(alloc, 7, 20_000, 1)?;
-    let played = play(alloc, &scripts)?;
-    let line = summary(alloc, &scripts, &played.replies, &played.contents)?;
-    let want = line_of(alloc, &scripts, &played.replies)?;
-    assert_eq!(rt; line.as_slice(), want.as_bytes());
+    assert_eq!(rt; text.as_slice(), want);
+    let want = summed_in_turn(alloc, 7, 20_000, 1)?;
+    let text = written(&rt, alloc, &["--lines=20000", "--make=7"], b"")?;
+    assert_eq!(rt; text.as_slice(), want.as_bytes());
     Ok(())
 }
