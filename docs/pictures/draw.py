@@ -1,0 +1,210 @@
+#!/usr/bin/env python3
+"""Draws the pictures of the documents as SVG files beside this script: `python3 docs/pictures/draw.py`.
+
+The architecture, the life of a descriptor and the words of a transaction are drawn from the texts below. The chart of
+speed is drawn from benches/callers.csv if that file exists. Its first column is the number of callers, and each other
+column is one line of the chart, named by its heading.
+"""
+
+import csv
+import html
+import os
+
+HERE = os.path.dirname(os.path.abspath(__file__))
+FIGURES = os.path.join(HERE, "..", "..", "benches", "callers.csv")
+FONT = "font-family='DejaVu Sans, Verdana, sans-serif'"
+INK, FAINT = "#222222", "#777777"
+COLOURS = {"program": "#dce9f7", "contract": "#fbe8c8", "code": "#ddf0dd", "law": "#eee4f3", "plain": "#ffffff",
+           "odd": "#f9d5d0", "ready": "#fbe8c8", "done": "#ddf0dd", "outside": "#eeeeee"}
+
+# A row of the drawing on each line: boxes `kind: name = what it is`, with `|` between them.
+LAYERS = """
+program: medley = the program|program: your program = bodies, threads
+program: md_orders = order files, reports|program: md_book = commands, the book|program: md_rounds, md_play = order files in threads|program: md_many = lines in rounds
+contract: md_history = bodies, histories, and the contract of a store: the trait Engine
+code: md_store = hash tables and queues, for several threads|code: PlainStore = the store for one thread
+code: md_list = get, insert, remove|code: md_queue = enqueue, dequeue, front, line|law: md_store_law, md_count_law = the store as a theory|law: md_calm = the first attempt
+code: md_nbtc = transactions: begin, load, exchange, ready, decide|law: md_list_law, md_hash_law, md_queue_law = structures as theories
+code: md_arena = takes nodes and attempts|code: md_help = settles attempts, clears descriptors
+code: md_rule = steps on real words, each an event of the machine|law: md_machine = the theorem over all lists of events
+outside: atomic_table = atomic words, of the toolchain|law: md_words = words and their addresses
+"""
+
+KINDS = [("program", "programs and the order book"), ("contract", "a contract between layers"), ("code", "code of the store"),
+         ("law", "definitions and laws")]
+
+# The words of the example in concurrency.md, by moments: who acts, what happens, and what each word has then.
+WORDS = ["word 1: head of bucket 0", "word 7: next word of node 1", "word 4: tail of the queue", "status of A"]
+MOMENTS = """
+ |before|0, 0|0, 0|2, 0|InPrep
+A|installs in word 1|odd: A, slot 0|0, 0|2, 0|InPrep
+A|installs in word 7|odd: A, slot 0|odd: A, slot 1|2, 0|InPrep
+A|ready step|odd: A, slot 0|odd: A, slot 1|2, 0|ready: InProg
+B|commits A|odd: A, slot 0|odd: A, slot 1|2, 0|done: Committed
+B|clears word 1|done: 6, 2|odd: A, slot 1|2, 0|done: Committed
+A|clears word 7|done: 6, 2|done: 8, 2|2, 0|done: Committed
+A|moves the tail|done: 6, 2|done: 8, 2|done: 8, 2|done: Committed
+"""
+
+
+def text(x, y, words, size=13, anchor="middle", colour=INK, weight="normal"):
+    return (f"<text x='{x:.1f}' y='{y:.1f}' font-size='{size}' text-anchor='{anchor}' fill='{colour}' "
+            f"font-weight='{weight}' {FONT}>{html.escape(words)}</text>")
+
+
+def box(x, y, wide, high, kind, corner=5):
+    return (f"<rect x='{x:.1f}' y='{y:.1f}' width='{wide:.1f}' height='{high:.1f}' rx='{corner}' "
+            f"fill='{COLOURS[kind]}' stroke='{FAINT}' stroke-width='1'/>")
+
+
+def path(route, head=True):
+    end = " marker-end='url(#head)'" if head else ""
+    return f"<path d='{route}' fill='none' stroke='{INK}' stroke-width='1.4'{end}/>"
+
+
+def wrap(words, wide, size):
+    """The words in lines that fit, by the width of an average letter."""
+    lines, most = [""], max(1, int(wide / (size * 0.60)))
+    for word in words.split():
+        if lines[-1] and len(lines[-1]) + 1 + len(word) > most:
+            lines.append("")
+        lines[-1] = (lines[-1] + " " + word).strip()
+    return lines
+
+
+def save(name, wide, high, parts, title):
+    head = ("<defs><marker id='head' viewBox='0 0 10 10' refX='9' refY='5' markerWidth='7' markerHeight='7' "
+            f"orient='auto-start-reverse'><path d='M0 0 L10 5 L0 10 z' fill='{INK}'/></marker></defs>")
+    with open(os.path.join(HERE, name), "w", encoding="utf-8") as file:
+        file.write(f"<svg xmlns='http://www.w3.org/2000/svg' width='{wide}' height='{high}' "
+                   f"viewBox='0 0 {wide} {high}' role='img'>\n<title>{html.escape(title)}</title>\n{head}\n"
+                   f"<rect width='{wide}' height='{high}' fill='#ffffff'/>\n" + "\n".join(parts) + "\n</svg>\n")
+
+
+def layer_box(x, y, wide, high, part):
+    kind, rest = part.split(": ", 1)
+    name, what = rest.split(" = ", 1)
+    lines = wrap(what, wide - 14, 12)
+    size = min(13.5, (wide - 14) / (0.7 * len(name)))
+    parts = [box(x, y, wide, high, kind), text(x + wide / 2, y + 20, name, round(size, 1), weight="bold")]
+    return parts + [text(x + wide / 2, y + 37 + 15 * i, line, 12) for i, line in enumerate(lines)]
+
+
+def architecture():
+    wide, high, gap, left = 900, 62, 12, 20
+    parts, y = [], 16
+    for row in LAYERS.strip().splitlines():
+        boxes = row.split("|")
+        each = (wide - 2 * left - gap * (len(boxes) - 1)) / len(boxes)
+        for i, part in enumerate(boxes):
+            parts += layer_box(left + i * (each + gap), y, each, high, part)
+        y += high + gap
+    x = left
+    for kind, means in KINDS:
+        parts += [box(x, y + 2, 16, 16, kind, 2), text(x + 23, y + 15, means, 12, "start")]
+        x += 60 + 7.0 * len(means)
+    save("architecture.svg", wide, y + 34, parts, "The crates in layers: each stands on crates beside it and below it")
+
+
+def state(x, y, name, below, kind):
+    parts = [box(x - 68, y - 26, 136, 52, kind, 24), text(x, y - 2, name, 15, weight="bold")]
+    return parts + [text(x, y + 16, below, 11)]
+
+
+def descriptor():
+    parts = state(90, 130, "InPrep", "serial s", "plain") + state(350, 130, "InProg", "serial s", "ready")
+    parts += state(620, 60, "Committed", "serial s", "done") + state(620, 200, "Aborted", "serial s", "odd")
+    parts += state(880, 130, "InPrep", "serial s + 1", "plain")
+    parts += [path("M158 130 L280 130"), text(219, 121, "ready, by the owner", 11.5)]
+    parts += [path("M404 112 C450 90 490 70 550 62"), text(440, 50, "commit, by anybody:", 11.5),
+              text(440, 65, "all records stand", 11.5)]
+    parts += [path("M404 148 C450 170 490 188 550 197"), text(500, 150, "abort, by anybody:", 11.5),
+              text(500, 165, "a record moved", 11.5)]
+    parts += [path("M90 156 C110 262 400 262 556 216"),
+              text(300, 262, "abort, by anybody who meets it before it is ready", 11.5)]
+    parts += [path("M689 68 C740 76 790 92 828 110"), text(800, 70, "start, by the owner", 11.5)]
+    parts += [path("M689 192 C740 184 790 168 828 150"), text(800, 198, "start, by the owner", 11.5)]
+    notes = ["From its install on, the descriptor stands in each word that the transaction changes.",
+             "Once it is Committed these words stand for their new values, once it is Aborted for their old ones.",
+             "Whoever meets the descriptor in a word may then take it out, and leaves that value there."]
+    parts += [text(22, 300 + 20 * i, note, 12.5, "start") for i, note in enumerate(notes)]
+    save("descriptor.svg", 970, 356, parts, "The life of a descriptor: its statuses and who moves them")
+
+
+def cell(x, y, wide, high, words):
+    kind, value = words.split(": ", 1) if ": " in words else ("plain", words)
+    return [box(x, y, wide, high, kind, 0), text(x + wide / 2, y + high / 2 + 4, value, 12)]
+
+
+def transaction():
+    left, top, wide, high = 200, 62, 98, 36
+    moments = [line.split("|") for line in MOMENTS.strip("\n").splitlines()]
+    parts = [text(left - 10, 24, "thread", 12, "end", FAINT), text(left - 10, 45, "step", 12, "end", FAINT)]
+    for row, word in enumerate(WORDS):
+        parts.append(text(left - 10, top + row * high + high / 2 + 4, word, 12, "end"))
+    for column, (who, does, *values) in enumerate(moments):
+        x = left + column * wide
+        parts.append(text(x + wide / 2, 24, who.strip(), 13, weight="bold"))
+        parts += [text(x + wide / 2, 41 + 13 * i, line, 10.5) for i, line in enumerate(wrap(does, wide, 10.5))]
+        for row, value in enumerate(values):
+            parts += cell(x, top + row * high, wide, high, value)
+    bottom = top + high * len(WORDS)
+    keys = [("odd", "the descriptor stands there"), ("ready", "ready: its place is fixed"), ("done", "new value, or decided")]
+    for i, (kind, means) in enumerate(keys):
+        x = left + i * 250
+        parts += [box(x, bottom + 16, 16, 16, kind, 2), text(x + 23, bottom + 29, means, 12, "start")]
+    end = left + wide * len(moments)
+    parts += [text(end, bottom + 54, "Time goes from left to right. A pair is the value and the count of a word.", 11.5, "end",
+                   FAINT)]
+    save("transaction.svg", end + 20, bottom + 70, parts, "The words of a transaction over time")
+
+
+def nice(most):
+    """A round number that is at least as great."""
+    size = 10 ** (len(str(int(most))) - 1)
+    return next(step * size for step in (1, 1.2, 1.6, 2, 2.4, 3, 4, 5, 6, 8, 10, 20) if step * size >= most)
+
+
+def axis(left, top, wide, high, most, callers, unit):
+    parts = [path(f"M{left} {top} L{left} {top + high} L{left + wide} {top + high}", False)]
+    for i in range(5):
+        y = top + high - high * i / 4
+        parts += [f"<line x1='{left}' x2='{left + wide}' y1='{y}' y2='{y}' stroke='#dddddd'/>",
+                  text(left - 8, y + 4, f"{most * i / 4:,.0f}", 11, "end")]
+    for i, count in enumerate(callers):
+        parts.append(text(left + wide * (i + 0.5) / len(callers), top + high + 18, str(count), 12))
+    return parts + [text(left + wide / 2, top + high + 38, "callers", 12), text(left, top - 12, unit, 12, "start")]
+
+
+def speed(figures, name="speed.svg", unit="lines a second"):
+    """A chart of a CSV file: callers in its first column, one line for each other column."""
+    with open(figures, newline="", encoding="utf-8") as file:
+        heading, *rows = [row for row in csv.reader(file) if row]
+    callers = [int(row[0]) for row in rows]
+    columns = [[float(row[i]) for row in rows] for i in range(1, len(heading))]
+    left, top, wide, high = 90, 40, 560, 260
+    most = nice(max(max(column) for column in columns))
+    parts = axis(left, top, wide, high, most, callers, unit)
+    strokes = ["#1f5fa8", "#b3541e", "#3b7d3b", "#7a4a91", "#555555"]
+    for i, column in enumerate(columns):
+        spots = [(left + wide * (j + 0.5) / len(column), top + high - high * value / most)
+                 for j, value in enumerate(column)]
+        route = " ".join(("M" if j == 0 else "L") + f"{x:.1f} {y:.1f}" for j, (x, y) in enumerate(spots))
+        stroke = strokes[i % len(strokes)]
+        parts.append(f"<path d='{route}' fill='none' stroke='{stroke}' stroke-width='2.2'/>")
+        parts += [f"<circle cx='{x:.1f}' cy='{y:.1f}' r='3.5' fill='{stroke}'/>" for x, y in spots]
+        parts += [f"<rect x='{left + wide + 20}' y='{top + 22 * i}' width='14' height='14' fill='{stroke}'/>",
+                  text(left + wide + 41, top + 12 + 22 * i, heading[i + 1], 12, "start")]
+    save(name, 900, top + high + 54, parts, "Speed by number of callers")
+
+
+def main():
+    architecture()
+    descriptor()
+    transaction()
+    if os.path.exists(FIGURES):
+        speed(FIGURES)
+
+
+if __name__ == "__main__":
+    main()
