@@ -11,7 +11,7 @@ import html
 import os
 
 HERE = os.path.dirname(os.path.abspath(__file__))
-FIGURES = os.path.join(HERE, "..", "..", "benches", "callers.csv")
+FIGURES = os.path.join(HERE, "..", "..", "benches", "figures.csv")
 FONT = "font-family='DejaVu Sans, Verdana, sans-serif'"
 INK, FAINT = "#222222", "#777777"
 COLOURS = {"program": "#dce9f7", "contract": "#fbe8c8", "code": "#ddf0dd", "law": "#eee4f3", "plain": "#ffffff",
@@ -176,26 +176,41 @@ def axis(left, top, wide, high, most, callers, unit):
     return parts + [text(left + wide / 2, top + high + 38, "callers", 12), text(left, top - 12, unit, 12, "start")]
 
 
-def speed(figures, name="speed.svg", unit="lines a second"):
-    """A chart of a CSV file: callers in its first column, one line for each other column."""
+def lines_of(figures, programs, files):
+    """Commands a second by callers, for each program and file: of the rows with most commands, if there are two."""
     with open(figures, newline="", encoding="utf-8") as file:
-        heading, *rows = [row for row in csv.reader(file) if row]
-    callers = [int(row[0]) for row in rows]
-    columns = [[float(row[i]) for row in rows] for i in range(1, len(heading))]
+        rows = [row for row in csv.DictReader(file) if float(row["seconds"]) > 0]
+    lines = {}
+    for program in programs:
+        for name in files:
+            chosen = [row for row in rows if (row["program"], row["file"]) == (program, name)]
+            most = max((int(row["commands"]) for row in chosen), default=0)
+            spots = {int(row["callers"]): most / float(row["seconds"]) for row in chosen if int(row["commands"]) == most}
+            if len(spots) > 1:
+                lines[f"{program}, {name}"] = spots
+    return lines
+
+
+def speed(figures, name="speed.svg", programs=("medley", "mutex", "levels"), files=("spread", "hot")):
+    """A chart of commands a second by callers, from a CSV file: a line for each program and file."""
+    lines = lines_of(figures, programs, files)
+    if not lines:
+        return
+    callers = sorted({count for spots in lines.values() for count in spots})
     left, top, wide, high = 90, 40, 560, 260
-    most = nice(max(max(column) for column in columns))
-    parts = axis(left, top, wide, high, most, callers, unit)
-    strokes = ["#1f5fa8", "#b3541e", "#3b7d3b", "#7a4a91", "#555555"]
-    for i, column in enumerate(columns):
-        spots = [(left + wide * (j + 0.5) / len(column), top + high - high * value / most)
-                 for j, value in enumerate(column)]
+    most = nice(max(max(spots.values()) for spots in lines.values()))
+    parts = axis(left, top, wide, high, most, callers, "commands a second")
+    strokes = ["#1f5fa8", "#6fa8dc", "#b3541e", "#e0a070", "#3b7d3b", "#93c193"]
+    for i, (heading, line) in enumerate(lines.items()):
+        spots = [(left + wide * (callers.index(count) + 0.5) / len(callers), top + high - high * value / most)
+                 for count, value in sorted(line.items())]
         route = " ".join(("M" if j == 0 else "L") + f"{x:.1f} {y:.1f}" for j, (x, y) in enumerate(spots))
         stroke = strokes[i % len(strokes)]
         parts.append(f"<path d='{route}' fill='none' stroke='{stroke}' stroke-width='2.2'/>")
         parts += [f"<circle cx='{x:.1f}' cy='{y:.1f}' r='3.5' fill='{stroke}'/>" for x, y in spots]
         parts += [f"<rect x='{left + wide + 20}' y='{top + 22 * i}' width='14' height='14' fill='{stroke}'/>",
-                  text(left + wide + 41, top + 12 + 22 * i, heading[i + 1], 12, "start")]
-    save(name, 900, top + high + 54, parts, "Speed by number of callers")
+                  text(left + wide + 41, top + 12 + 22 * i, heading, 12, "start")]
+    save(name, 900, top + high + 54, parts, "Commands a second by number of callers")
 
 
 def main():
