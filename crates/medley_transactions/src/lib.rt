@@ -23,12 +23,12 @@
 //! lines ([`LawfulLines`]): what they leave in whatever order they are played, what each counts at
 //! most, and for how many nodes there must be room.
 //!
-//! What is proved is told by **fronts**. A front is what a pass had seen when it was taken: entries,
-//! one for each transaction that became ready, with its tag and its acts, and the fate of each. It
-//! is legal: each reply of a committed entry is the one that it has if the committed entries run one
-//! after another, in this order. The contents at the end are what they leave. So a theorem about a
-//! program is an induction over the committed entries of its fronts. The crate `transfers` is an
-//! example.
+//! What is proved is told by **fronts**. A front is what a pass had seen when it was taken: the
+//! entries, one for each transaction that became ready, with its tag and its acts, and what is known
+//! of their fates. It is legal: each reply of a committed entry is the one that it has if the
+//! committed entries run one after another, in this order. The contents at the end are what they
+//! leave. So a theorem about a program is an induction over the committed entries of its fronts. The
+//! crate `transfers` is an example.
 //!
 //! Clauses cite definitions by the crate where they stand, as `Rattle.md_history.specs.State`. So
 //! the line in `crates.txt` of a crate that has clauses names this crate and all below it.

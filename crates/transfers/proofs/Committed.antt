@@ -1,0 +1,122 @@
+-- What the committed entries of fronts are that hold each line once, one by one and in the order of the history.
+use Rattle.std.proofs.Common.{◌≡◌, ◌+◌, ◌<◌, ◌^◌, ℕ, suc, cond, true, Option, Some, List, [], ◌∷◌, length, refl, sym, ap, subst, ◌∙◌, arith, inl, inr}
+use Rattle.std.specs.Prelude.{◌==◌, ◌/◌, ◌%◌, slice_get}
+use Rattle.std.proofs.lemmas.Bool.{cases_Bool, eq-eqb, eqb-true}
+use Rattle.md_history.specs.declared.acts.Act.{Act}
+use Rattle.md_history.specs.declared.entries.Entry.{Entry}
+use Rattle.md_history.specs.State.{State, run, IsRight}
+use Rattle.md_history.specs.History.{acts_of}
+use Rattle.md_history.specs.HistoryLaws.{committed-right, right-append, run-append}
+use Rattle.md_history.specs.Front.{Front, committed_in, replay_of}
+use Rattle.md_history.proofs.PlainFronts.{acts_of-append}
+use Rattle.md_many.specs.Lines.{AreLines}
+use Rattle.md_many.specs.Rounds.{at_caller, of_caller}
+use Rattle.md_many.specs.Played.{committed_of, state_after, AreDecidedAndLegal, EachLineOnce, line_at}
+use Rattle.md_many.proofs.TagLaws.{line_of_tag}
+use Rattle.md_many.proofs.Standing.{Head, lines-head, caller-own, caller-other}
+
+-- the acts of fronts, one after another, are right
+pub fronts-right : (start : State) (fronts : List Front) → AreDecidedAndLegal start fronts
+    → IsRight start (acts_of (committed_of fronts))
+fronts-right start [] legal = tt
+fronts-right start (f ∷ fs) legal =
+    subst (IsRight start) (sym (acts_of-append (committed_in f) (committed_of fs)))
+    (right-append start (acts_of (committed_in f)) (acts_of (committed_of fs))
+    (committed-right start f.seen f.known legal.0) (fronts-right (replay_of start f) fs legal.2))
+
+-- and leave what the fronts leave
+pub fronts-run : (start : State) (fronts : List Front) → state_after start fronts ≡ run start (acts_of (committed_of fronts))
+fronts-run start [] = refl
+fronts-run start (f ∷ fs) =
+    fronts-run (replay_of start f) fs
+    ∙ sym (ap (run start) (acts_of-append (committed_in f) (committed_of fs))
+    ∙ run-append start (acts_of (committed_in f)) (acts_of (committed_of fs)))
+
+module _ {B R : Type 0} (did : B → List Act → R → Type 0) (body_at : ℕ → ℕ → Option B) (reply_at : ℕ → ℕ → Option R) where
+  -- an entry did the line that its tag names, with the reply that is kept of the line
+  pub record IsReplied (e : Entry) : Type 0 where
+    pub body : B
+    pub reply : R
+    pub there : body_at (e.tag / 2 ^ 32) (e.tag % 2 ^ 32) ≡ Some body
+    pub kept : reply_at (e.tag / 2 ^ 32) (e.tag % 2 ^ 32) ≡ Some reply
+    pub did_it : did body e.acts reply
+
+  abbrev pub AreReplied : List Entry → Type 0
+  AreReplied [] = Unit {0}
+  AreReplied (e ∷ es) = IsReplied e × AreReplied es
+
+  -- of a caller, entries are its lines after its first n, and their replies are kept
+  record PlayedFrom (caller n : ℕ) (es : List Entry) : Type 0 where
+    pub list : List R
+    pub lines : AreLines did body_at caller (of_caller caller es) list n
+    pub kept : (i : ℕ) → i < length list → reply_at caller (n + i + 1) ≡ slice_get list i
+    pub few : n + length list < 2 ^ 32
+
+  walk : (es : List Entry) (n : ℕ → ℕ) → ((caller : ℕ) → PlayedFrom caller (n caller) es) → AreReplied es
+  walk [] n each = tt
+  walk (e ∷ es) n each =
+      let own = e.tag / 2 ^ 32 in
+      let here : (own == own) ≡ true = eq-eqb own own refl in
+      let p = each own in
+      let head : Head did body_at own (n own) e (of_caller own es) p.list =
+      lines-head did body_at own (n own) e (of_caller own es) p.list
+      (subst (λ xs. AreLines did body_at own xs p.list (n own)) (caller-own own e es here) p.lines) in
+      let count : length p.list ≡ suc (length head.rest) = ap length head.is in
+      let small : n own + 1 < 2 ^ 32 = omega (arith, p.few, count) in
+      let line : e.tag % 2 ^ 32 ≡ n own + 1 =
+      ap (λ t. t % 2 ^ 32) head.line.tagged ∙ line_of_tag own (n own + 1) small in
+      let first : n own + 0 + 1 ≡ n own + 1 = omega arith in
+      let n' : ℕ → ℕ = λ caller. cond (own == caller) (n caller + 1) (n caller) in
+      let more : (caller : ℕ) → PlayedFrom caller (n' caller) es = λ caller. elim (cases_Bool (own == caller)) [
+        | inl same ↦
+            let is : own ≡ caller = eqb-true own caller same in
+            subst (λ k. PlayedFrom caller k es) (sym (ap (λ b. cond b (n caller + 1) (n caller)) same))
+            (subst (λ c. PlayedFrom c (n c + 1) es) is
+            (record {
+              list = head.rest;
+              lines = head.more;
+              kept = λ i low.
+                  let next : n own + 1 + i + 1 ≡ n own + suc i + 1 = omega arith in
+                  ap (reply_at own) next ∙ p.kept (suc i) (omega (arith, count))
+                  ∙ ap (λ xs. slice_get xs (suc i)) head.is;
+              few = omega (arith, p.few, count);
+            }))
+        | inr other ↦
+            let q = each caller in
+            subst (λ k. PlayedFrom caller k es) (sym (ap (λ b. cond b (n caller + 1) (n caller)) other))
+            (record {
+              list = q.list;
+              lines = subst (λ xs. AreLines did body_at caller xs q.list (n caller))
+                  (caller-other caller e es other) q.lines;
+              kept = q.kept;
+              few = q.few;
+            })
+      ] in (
+        record {
+          body = head.line.body;
+          reply = head.reply;
+          there = ap (body_at own) line ∙ head.line.there;
+          kept = ap (reply_at own) (line ∙ sym first) ∙ p.kept 0 (omega (arith, count))
+              ∙ ap (λ xs. slice_get xs 0) head.is;
+          did_it = head.line.did_it;
+        },
+        walk es n' more,
+      )
+
+-- Each committed entry of fronts that hold each line once did the line that its tag names, with the reply that is kept
+-- of it.
+pub each-replied : {B R : Type 0} (did : B → List Act → R → Type 0) (body_at : ℕ → ℕ → Option B)
+    (line_count : ℕ → ℕ) (lists : List (List R)) (good : State → List ℕ → Type 0) (opening contents : State)
+    (fronts : List Front) → ((caller : ℕ) → line_count caller < 2 ^ 32)
+    → EachLineOnce did body_at line_count (λ caller rs. at_caller [] lists caller ≡ rs) good opening fronts contents
+    → AreReplied did body_at (line_at lists) (committed_of fronts)
+each-replied did body_at line_count lists good opening contents fronts few once =
+    walk did body_at (line_at lists) (committed_of fronts) (λ caller. 0) (λ caller.
+    let p = once.each caller in
+    record {
+      list = p.replies;
+      lines = p.lines;
+      kept = λ i low. let next : 0 + i + 1 ≡ suc i = omega arith in
+          ap (line_at lists caller) next ∙ ap (λ xs. slice_get xs i) p.kept;
+      few = omega (arith, p.count, few caller);
+    })

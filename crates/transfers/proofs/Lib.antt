@@ -1,0 +1,9 @@
+pub mod Scripts
+pub mod Tables
+pub mod Committed
+pub mod Left
+pub mod Lists
+pub mod Meets
+pub mod Lawful
+pub mod Making
+pub mod Room

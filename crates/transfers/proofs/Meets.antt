@@ -1,0 +1,117 @@
+-- A transfer's right acts do to a bank what one thread does that makes the transfer; and what that keeps.
+use Rattle.std.proofs.Common.{◌≡◌, ◌≢◌, ◌≤◌, ◌+◌, ℕ, cond, List, [], ◌∷◌, length, refl, sym, ap, ◌∙◌, arith, inl, inr}
+use Rattle.std.specs.Prelude.{◌-◌, ◌^◌, ◌==◌, nat_lt, Option, Some, None, Result, Ok, Err, unwrap_or}
+use Rattle.std.specs.Cmp.{nat_cmp_total}
+use Rattle.std.specs.FinMap as fin
+use Rattle.std.proofs.lemmas.Bool.{cases_Bool, eqb-false, ltb-false}
+use Rattle.std.proofs.lemmas.List.{length-append}
+use Rattle.md_history.specs.declared.acts.Act.{Act}
+use Rattle.md_history.specs.declared.acts.Op.TheVariants.{Insert, Remove, Enqueue}
+use Rattle.md_history.specs.State.{State, Table, run, after, IsRight}
+use Rattle.md_history.specs.Script.{Did}
+use Rattle.transfers.specs.declared.bank.Transfer.{Transfer}
+use Rattle.transfers.specs.declared.bank.Refusal.{Refusal}
+use Rattle.transfers.specs.declared.bank.Outcome.{Outcome}
+use Rattle.transfers.specs.declared.bank.TheConstants.{ACCOUNTS, JOURNAL}
+use Rattle.transfers.specs.Bank.{Bank, state_of, total, new_balances, balances_of, after_balances, outcome_of_balances, bank_after, outcome_in, decided, script_of}
+use Rattle.transfers.proofs.Scripts.{played, outcome, did-played}
+use Rattle.transfers.proofs.Tables.{sum-insert, apart, gone, again, has-key}
+
+-- an account gets a balance
+replaced : (m : Table) (xs : List ℕ) (k v : ℕ)
+    → after (after (state_of (record { accounts = m; journal = xs })) (Remove ACCOUNTS k)) (Insert ACCOUNTS k v)
+    ≡ state_of (record { accounts = fin.insert m k v; journal = xs })
+replaced m xs k v =
+    let removed : State = state_of (record { accounts = fin.remove m k; journal = xs }) in
+    let put : State = state_of (record { accounts = fin.insert (fin.remove m k) k v; journal = xs }) in
+    ap (λ b. cond b put removed) (gone m k) ∙ ap (λ t. state_of (record { accounts = t; journal = xs })) (again m k v)
+
+-- what the decided part of a transfer leaves
+decided-leaves : (t : Transfer) (b : Bank) (o : Result (ℕ × ℕ) Refusal)
+    → played (decided t o) (state_of b) ≡ state_of (after_balances b t o)
+decided-leaves t b (Err why) = refl
+decided-leaves t b (Ok new) =
+    ap (λ s. after (after (after s (Remove ACCOUNTS t.to)) (Insert ACCOUNTS t.to new.1)) (Enqueue JOURNAL t.number))
+    (replaced b.accounts b.journal t.from new.0)
+    ∙ ap (λ s. after s (Enqueue JOURNAL t.number)) (replaced (fin.insert b.accounts t.from new.0) b.journal t.to new.1)
+
+decided-replies : (t : Transfer) (s : State) (o : Result (ℕ × ℕ) Refusal) → outcome (decided t o) s ≡ outcome_of_balances o
+decided-replies t s (Err why) = refl
+decided-replies t s (Ok new) = refl
+
+pub record Meets (t : Transfer) (b : Bank) (acts : List Act) (r : Outcome) : Type 0 where
+  pub state : run (state_of b) acts ≡ state_of (bank_after b t)
+  pub reply : r ≡ outcome_in b t
+
+-- right acts of a transfer
+pub meets : (t : Transfer) (b : Bank) (acts : List Act) (r : Outcome) → Did (script_of t) acts r
+    → IsRight (state_of b) acts → Meets t b acts r
+meets t b acts r did right =
+    let p = did-played (script_of t) (state_of b) acts r did right in
+    record {
+      state = p.state ∙ decided-leaves t b (balances_of b t);
+      reply = p.reply ∙ decided-replies t (state_of b) (balances_of b t);
+    }
+
+-- what is so where new balances were found
+record AreNew (t : Transfer) (from to : Option ℕ) (new : ℕ × ℕ) : Type 0 where
+  pub left : ℕ
+  pub there : ℕ
+  pub from_is : from ≡ Some left
+  pub to_is : to ≡ Some there
+  pub other : t.from ≢ t.to
+  pub enough : t.amount ≤ left
+  pub taken : new.0 ≡ left - t.amount
+  pub given : new.1 ≡ there + t.amount
+
+are-new : (t : Transfer) (from to : Option ℕ) (new : ℕ × ℕ) → new_balances t from to ≡ Ok new → AreNew t from to new
+are-new t None to new is = cc
+are-new t (Some x) None new is = cc
+are-new t (Some x) (Some y) new is = elim (cases_Bool (t.from == t.to)) [
+  | inl same ↦ cc (rw same at is)
+  | inr other ↦ elim (cases_Bool (nat_lt x t.amount)) [
+    | inl short ↦ cc (rw short at rw other at is)
+    | inr enough ↦ elim (cases_Bool (nat_lt (y + t.amount) (2 ^ 64))) [
+      | inl fits ↦
+          let e : ◌≡◌ {A = Result (ℕ × ℕ) Refusal} (Ok (x - t.amount, y + t.amount)) (Ok new) = rw fits at rw enough at rw other at is in
+          record {
+            left = x;
+            there = y;
+            from_is = refl;
+            to_is = refl;
+            other = eqb-false t.from t.to other;
+            enough = ltb-false x t.amount enough;
+            taken = cc e;
+            given = cc e;
+          }
+      | inr full ↦ cc (rw full at rw enough at rw other at is)
+    ]
+  ]
+]
+
+-- what a transfer keeps
+pub record Keeps (b b' : Bank) : Type 0 where
+  pub sum : total b' ≡ total b
+  pub accounts : fin.len b'.accounts ≡ fin.len b.accounts
+  pub journal : length b'.journal ≤ length b.journal + 1
+
+after-keeps : (t : Transfer) (b : Bank) (o : Result (ℕ × ℕ) Refusal) → balances_of b t ≡ o → Keeps b (after_balances b t o)
+after-keeps t b (Err why) is = record { sum = refl; accounts = refl; journal = omega arith }
+after-keeps t b (Ok new) is =
+    let n = are-new t (fin.get b.accounts t.from) (fin.get b.accounts t.to) new is in
+    let one = fin.insert b.accounts t.from new.0 in
+    let there : fin.get one t.to ≡ Some n.there =
+    fin.get-insert nat_cmp_total b.accounts t.from new.0 t.to
+    ∙ ap (λ c. cond c (Some new.0) (fin.get b.accounts t.to)) (apart t.to t.from (λ e. n.other (sym e))) ∙ n.to_is in
+    let first = sum-insert b.accounts t.from new.0 in
+    let second = sum-insert one t.to new.1 in
+    let left : unwrap_or (fin.get b.accounts t.from) 0 ≡ n.left = ap (λ o. unwrap_or o 0) n.from_is in
+    let had : unwrap_or (fin.get one t.to) 0 ≡ n.there = ap (λ o. unwrap_or o 0) there in
+    record {
+      sum = omega (arith, first, second, left, had, n.enough, n.taken, n.given);
+      accounts = has-key one t.to new.1 n.there there ∙ has-key b.accounts t.from new.0 n.left n.from_is;
+      journal = omega (arith, length-append b.journal (t.number ∷ []));
+    }
+
+pub transfer-keeps : (t : Transfer) (b : Bank) → Keeps b (bank_after b t)
+transfer-keeps t b = after-keeps t b (balances_of b t) refl

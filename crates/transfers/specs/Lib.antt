@@ -1,0 +1,5 @@
+pub mod Playing
+pub mod Bank
+pub mod Orders
+pub mod OrderLaws
+pub mod Made

@@ -1,0 +1,79 @@
+//! A bank's day, made up: the accounts that there are, and the orders of the tellers.
+
+ghost use Rattle.std.specs.Prelude.{◌≡◌, ◌≤◌, length, IfOk};
+ghost use Rattle.transfers.specs.Bank.{IsBank};
+
+use crate::bank::{ACCOUNTS, Order};
+use medley_transactions::Contents;
+use std::alloc::{AllocError, Global};
+
+/// A bank with accounts from 0 on, each with the same balance, and with an empty journal.
+pub fn open_bank(alloc: Global, accounts: u32, balance: u64) -> Result<Contents, AllocError>
+    ensures { IfOk result IsBank }
+{
+    let mut bank = Contents::empty(alloc, 1, 1)?;
+    'accounts: for account in 0..accounts {
+        bank.put(ACCOUNTS, account as u64, balance)?;
+    }
+    Ok(bank)
+}
+
+// The next random state: that of a linear congruential generator (Knuth, 1997, with MMIX's
+// multiplier).
+fn next_random(random: u64) -> u64 {
+    random
+        .wrapping_mul(6_364_136_223_846_793_005)
+        .wrapping_add(1_442_695_040_888_963_407)
+}
+
+// A number below a bound, by the upper half of a random state.
+fn below(bound: u32, random: u64) -> u64
+    ensures { result ≤ bound }
+{
+    if bound == 0 {
+        return 0;
+    }
+    random / 4_294_967_296 % bound as u64
+}
+
+/// Made-up orders of one teller: each moves 1 to 100 between two of so many accounts, which may be
+/// the same one, but that every tenth asks for more than there is.
+fn orders_of(
+    alloc: Global,
+    teller: u32,
+    accounts: u32,
+    count: u32,
+) -> Result<Vec<Order>, AllocError> {
+    let mut orders = Vec::with_capacity(alloc, count as usize)?;
+    let mut random = teller as u64;
+    for made in 0..count {
+        random = next_random(random);
+        let from = below(accounts, random);
+        random = next_random(random);
+        let to = below(accounts, random);
+        random = next_random(random);
+        let amount = if made % 10 == 9 {
+            u64::MAX
+        } else {
+            1 + below(100, random)
+        };
+        orders.push(Order { from, to, amount })?;
+    }
+    Ok(orders)
+}
+
+/// The made-up orders of so many tellers, so many for each.
+pub fn make_orders(
+    alloc: Global,
+    tellers: u32,
+    accounts: u32,
+    count: u32,
+) -> Result<Vec<Vec<Order>>, AllocError>
+    ensures { IfOk result (λ orders. length orders.items ≡ tellers) }
+{
+    let mut all = Vec::with_capacity(alloc, tellers as usize)?;
+    'tellers: for teller in 0..tellers {
+        all.push(orders_of(alloc, teller, accounts, count)?)?;
+    }
+    Ok(all)
+}

@@ -1,0 +1,70 @@
+//! Transfers between the accounts of a bank, made in threads as transactions.
+#![tactic(auto)]
+
+mod bank;
+mod day;
+mod journal;
+mod lines;
+mod playing;
+mod tellers;
+#[cfg(test)]
+mod tests;
+mod threads;
+
+use day::{make_orders, open_bank};
+use journal::{is_journal_right, moved_in, sum_of};
+use std::alloc::{AllocError, Global};
+use std::process::ExitCode;
+use std::thread::Threads;
+use tellers::Tellers;
+use threads::transfer_in_threads;
+
+const TELLERS: u32 = 4;
+
+const ORDERS: u32 = 2_500;
+
+const ACCOUNT_COUNT: u32 = 16;
+
+// No account runs short: all orders together move no more than this.
+const BALANCE: u64 = 1_000_000;
+
+// What the day came to. None of it depends on the order in which the transfers were made.
+#[derive(Drop)]
+struct Summary {
+    before: u64,
+    after: u64,
+    moved: u64,
+    refused: u64,
+    is_right: bool,
+}
+
+// Makes all orders of the day. `None` if the day can't be made.
+fn run_day<R: Threads + Sync>(rt: &R, alloc: Global) -> Result<Option<Summary>, AllocError> {
+    let start = open_bank(alloc, ACCOUNT_COUNT, BALANCE)?;
+    let orders = make_orders(alloc, TELLERS, ACCOUNT_COUNT, ORDERS)?;
+    let Some(tellers) = Tellers::new(orders) else {
+        return Ok(None);
+    };
+    let Ok(many) = transfer_in_threads(rt, alloc, &start, &tellers) else {
+        return Ok(None);
+    };
+    let moved = moved_in(&many);
+    Ok(Some(Summary {
+        before: sum_of(&start),
+        after: sum_of(&many.contents),
+        moved,
+        refused: (tellers.total() as u64).wrapping_sub(moved),
+        is_right: is_journal_right(alloc, &many)?,
+    }))
+}
+
+fn main(rt: HostRuntime) -> ExitCode {
+    let Ok(Some(day)) = run_day(&rt, rt.alloc()) else {
+        return ExitCode::FAILURE;
+    };
+    let _printed = println!(rt; "before {}", day.before);
+    let _printed = println!(rt; "moved {} refused {}", day.moved, day.refused);
+    let _printed = println!(rt; "after {}", day.after);
+    let _printed = println!(rt; "journal is right: {}", day.is_right);
+    ExitCode::SUCCESS
+}
