@@ -7,24 +7,25 @@ ghost use Rattle.md_store.specs.Store.{IsPassOf};
 
 use crate::operations::made;
 use md_history::{Limit, Op, Reply, Stop};
-use md_nbtc::Txn;
+use md_nbtc::{Sets, Txn};
 use md_rule::Pass;
 use md_store::Store;
 use md_store_law::StoreTheory;
 use md_words::Shape;
 
-/// Begins a transaction of a pass, without a stop.
+/// Begins a transaction of a pass, without a stop. It keeps its words and nodes in `sets`.
 pub fn begin<'a>(
     store: &'a Store,
     pass: &'a mut Pass<StoreTheory>,
     tag: u64,
+    sets: &'a mut Sets,
 ) -> Result<Txn<'a, StoreTheory>, Limit>
     requires { IsPassOf store.now pass.old }
     ensures pass { IfOk result (λ t. t.pass.ghost_name ≡ pass.entry.ghost_name) }
     ensures acting { IfOk result (λ t. IsActing store.now (state t) None) }
 {
-    let txn = Txn::begin(pass, store.field(), tag)?;
-    Ok(txn)
+    let begun = Txn::begin(pass, store.field(), tag)?;
+    Ok(begun.with(sets))
 }
 
 /// Makes an operation from its begin to its end. `stop` is why the transaction stopped, if it did:

@@ -7,7 +7,7 @@ ghost use Rattle.md_store.specs.Store.{IsPassOf};
 
 use super::*;
 use md_history::{Contents, Limit, Line, Op, Reply, Shown, Stop};
-use md_nbtc::Txn;
+use md_nbtc::{Sets, Txn};
 use md_rule::Pass;
 use md_store::{OpenFault, Store};
 use md_store_law::StoreTheory;
@@ -73,7 +73,8 @@ fn all(
     requires { IsPassOf store.now pass.old }
     ensures { OnOk result (IsPassOf store.now pass.new) }
 {
-    let mut txn = begin(store, pass, 5)?;
+    let mut sets = Sets::new();
+    let mut txn = begin(store, pass, 5, &mut sets)?;
     let mut why = None;
     all_in(&mut txn, &mut why, store, ops, replies)?;
     Ok(commit(txn, why, store))
@@ -104,7 +105,8 @@ fn one(store: &Store, pass: &mut Pass<StoreTheory>, op: Op) -> Result<Result<Rep
     requires { IsPassOf store.now pass.old }
     ensures { OnOk result (IsPassOf store.now pass.new) }
 {
-    let mut txn = begin(store, pass, 6)?;
+    let mut sets = Sets::new();
+    let mut txn = begin(store, pass, 6, &mut sets)?;
     let mut why = None;
     let reply = act(&mut txn, &mut why, store, op);
     match commit(txn, why, store) {

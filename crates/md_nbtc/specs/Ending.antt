@@ -128,7 +128,7 @@ pub record HasEntry (t : TxnState) : Type 0 where
   pub acts : entry.entry.acts ≡ t.hand.acts
 
 abbrev pub ready_state : {T : Type 0} → Ready T → TxnState
-ready_state t = state_of t.field.now t.pass.now t.began.value t.reads t.slots None t.desc t.serial t.tag t.lots
+ready_state t = state_of t.field.now t.pass.now t.began.value t.sets.now.reads t.sets.now.slots None t.desc t.serial t.tag t.sets.now.lots
 
 -- a node is placed once the transaction has committed: the pass noted it, or the entry places it
 abbrev pub IsPlacedThen : (t : TxnState) → HasEntry t → (node : ℕ) → Structure → Type 0

@@ -2,7 +2,12 @@
 use Rattle.std.specs.Prelude.{◌==◌, ◌+◌, ◌++◌, ℕ, zero, suc, List, [], ◌∷◌, Option, Some, None, if◌then◌else◌}
 use Rattle.std.specs.List.{list_any}
 use Rattle.md_nbtc.specs.declared.sets.Lot.{Lot}
+use Rattle.md_nbtc.specs.declared.sets.Sets.{Sets}
 use Rattle.md_nbtc.specs.declared.sets.Slot.{Slot}
+
+-- nothing is kept
+abbrev pub no_sets : Sets
+no_sets = record { reads = []; slots = []; lots = [] }
 
 -- the place of the first slot of a word, counted from a number
 abbrev pub place_of : List Slot → (word from : ℕ) → Option ℕ

@@ -1,5 +1,5 @@
 -- What contracts see of a transaction.
-use Rattle.std.specs.Prelude.{◌≡◌, ◌==◌, ◌-◌, ℕ, false, List, [], ◌∷◌, map, drop, length, Option, unwrap_or, if◌then◌else◌, nat_lt}
+use Rattle.std.specs.Prelude.{◌≡◌, ◌==◌, ◌-◌, ℕ, false, List, [], ◌∷◌, map, drop, length, Option, None, unwrap_or, if◌then◌else◌, nat_lt}
 use Rattle.std.specs.List.{flat_map, range_with_len}
 use Rattle.md_words.specs.declared.shape.Shape.{Shape}
 use Rattle.md_words.specs.Content.{counted_word, value_of}
@@ -21,6 +21,7 @@ use Rattle.md_rule.specs.Views.{FieldView, PassState}
 use Rattle.md_nbtc.specs.declared.sets.Lot.{Lot}
 use Rattle.md_nbtc.specs.declared.sets.Slot.{Slot}
 use Rattle.md_nbtc.specs.declared.seen.Seen.{Seen}
+use Rattle.md_nbtc.specs.declared.begin.Begun.{Begun}
 use Rattle.md_nbtc.specs.declared.txn.Txn.{Txn}
 
 -- an own node: one that the transaction took, with the words that it stored there
@@ -120,7 +121,11 @@ state_of field pass began reads slots stop desc serial tag lots = record {
 }
 
 abbrev pub state : {T : Type 0} → Txn T → TxnState
-state t = state_of t.field.now t.pass.now t.began.value t.reads t.slots t.stop t.desc t.serial t.tag t.lots
+state t = state_of t.field.now t.pass.now t.began.value t.sets.now.reads t.sets.now.slots t.stop t.desc t.serial t.tag t.sets.now.lots
+
+-- that of one that was begun, before it has sets
+abbrev pub begun_state : {T : Type 0} → Begun T → TxnState
+begun_state t = state_of t.field.now t.pass.now t.began.value [] [] None t.desc t.serial t.tag []
 
 -- its shape, its attempt, and what its slots write
 abbrev pub shape_in : TxnState → Shape

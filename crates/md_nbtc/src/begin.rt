@@ -21,9 +21,9 @@ ghost use Rattle.md_nbtc.specs.Beginning.{PassesCount, PutsInHand, StandsOwn};
 ghost use Rattle.md_nbtc.specs.Beginning.{HasAttempt, IsTakenLast, KeepsCounts, TakesSlot};
 ghost use Rattle.md_nbtc.specs.Ending.{Begins, BeginsNot};
 ghost use Rattle.md_nbtc.specs.Going.{IsGoing};
-ghost use Rattle.md_nbtc.specs.State.{state, state_of};
+ghost use Rattle.md_nbtc.specs.State.{begun_state, state, state_of};
 
-use crate::sets::{Lots, Reads, Slots};
+use crate::sets::Sets;
 use crate::txn::Txn;
 use md_arena::take_descriptor;
 use md_help::{End, settle_one, slot_value};
@@ -219,6 +219,69 @@ fn put_in_hand<T: Theory>(pass: &mut Pass<T>, field: &Field<T>, desc: u32, tag: 
     serial
 }
 
+/// A transaction that was begun, and has no sets yet: `with` lends it some. If it is dropped, its
+/// attempt stays in hand until the pass begins another one.
+#[derive(Drop)]
+pub struct Begun<'a, T: Theory> {
+    pub(crate) pass: &'a mut Pass<T>,
+    pub(crate) field: &'a Field<T>,
+    pub(crate) began: Snapshot<Pass<T>>,
+    pub(crate) desc: u32,
+    pub(crate) serial: u64,
+    pub(crate) tag: u64,
+}
+
+impl<'a, T: Theory> Begun<'a, T> {
+    fn over(
+        pass: &'a mut Pass<T>,
+        field: &'a Field<T>,
+        began: Snapshot<Pass<T>>,
+        desc: u32,
+        serial: u64,
+        tag: u64,
+    ) -> Begun<'a, T>
+        ensures pass { result.pass.ghost_name ≡ pass.entry.ghost_name }
+        ensures state { begun_state result
+            ≡ state_of field.now pass.old began.value [] [] None desc serial tag [] }
+    {
+        Begun {
+            pass,
+            field,
+            began,
+            desc,
+            serial,
+            tag,
+        }
+    }
+
+    /// The transaction under way. It keeps its words and nodes in these sets, and forgets what they
+    /// held. No step.
+    pub fn with(self, sets: &'a mut Sets) -> Txn<'a, T>
+        ensures pass { result.pass.ghost_name ≡ self.entry.pass.ghost_name }
+        ensures state { state result ≡ begun_state self.entry }
+    {
+        let Begun {
+            pass,
+            field,
+            began,
+            desc,
+            serial,
+            tag,
+        } = self;
+        sets.clear();
+        Txn {
+            pass,
+            field,
+            began,
+            desc,
+            serial,
+            tag,
+            sets,
+            stop: None,
+        }
+    }
+}
+
 impl<'a, T: Theory> Txn<'a, T> {
     /// Begins a transaction with a tag: the attempt of the pass's lowest lane that has one left.
     /// What was in hand is left. If the lane's last transaction was dropped, it is settled and
@@ -228,15 +291,19 @@ impl<'a, T: Theory> Txn<'a, T> {
     /// Three steps at a lane's first attempt, and four later ones. After a dropped transaction, at
     /// most `3r + 3` more, `r` being its reads, and at most four for each word that it wrote; three
     /// more if an attempt was taken and never put in hand.
-    pub fn begin(pass: &'a mut Pass<T>, field: &'a Field<T>, tag: u64) -> Result<Txn<'a, T>, Limit>
+    pub fn begin(
+        pass: &'a mut Pass<T>,
+        field: &'a Field<T>,
+        tag: u64,
+    ) -> Result<Begun<'a, T>, Limit>
         requires of { IsOf pass.old field.now }
         ensures* refused { sem 𝓛 (RestsIfErr (the_row T.row T.Theory) pass.entry
             (λ t. t.pass.ghost_name) result
             (λ q. BeginsNot T.meaning pass.old field.now.origin q)) }
         ensures pass { IfOk result (λ t. t.pass.ghost_name ≡ pass.entry.ghost_name) }
-        ensures field { IfOk result (λ t. (state t).field ≡ field.now) }
-        ensures begun { IfOk result (λ t. Begins pass.old tag (state t)) }
-        ensures going { IfOk result (λ t. IsGoing T.meaning (state t) []) }
+        ensures field { IfOk result (λ t. (begun_state t).field ≡ field.now) }
+        ensures begun { IfOk result (λ t. Begins pass.old tag (begun_state t)) }
+        ensures going { IfOk result (λ t. IsGoing T.meaning (begun_state t) []) }
         ensures none { (result ≡ Err Limit.Tries) ↔ NoLane pass.old (HasTryLeft pass.old) }
         ensures limit { IfErr result (λ limit. limit ≡ Limit.Tries) }
     {
@@ -248,32 +315,6 @@ impl<'a, T: Theory> Txn<'a, T> {
         };
         let began = Snapshot::of(&*pass);
         let serial = put_in_hand(pass, field, desc, tag);
-        Ok(Txn::over(pass, field, began, desc, serial, tag))
-    }
-
-    fn over(
-        pass: &'a mut Pass<T>,
-        field: &'a Field<T>,
-        began: Snapshot<Pass<T>>,
-        desc: u32,
-        serial: u64,
-        tag: u64,
-    ) -> Txn<'a, T>
-        ensures pass { result.pass.ghost_name ≡ pass.entry.ghost_name }
-        ensures state { state result
-            ≡ state_of field.now pass.old began.value [] [] None desc serial tag [] }
-    {
-        Txn {
-            pass,
-            field,
-            began,
-            desc,
-            serial,
-            tag,
-            reads: Reads::new(),
-            slots: Slots::new(),
-            lots: Lots::new(),
-            stop: None,
-        }
+        Ok(Begun::over(pass, field, began, desc, serial, tag))
     }
 }

@@ -41,6 +41,6 @@ impl<'a, T: Theory> Txn<'a, T> {
         ensures given { (other : ℕ) → KeepsGiven (state self.old) (state self.new) other }
     {
         let word = self.field.shape().node_next(node_of(cleanup));
-        self.slots.keep(word, cleanup);
+        self.sets.slots.keep(word, cleanup);
     }
 }

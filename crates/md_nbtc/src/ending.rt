@@ -13,7 +13,7 @@ ghost use Rattle.md_nbtc.specs.State.{state, state_of};
 
 use crate::deciding::{settle, validate};
 use crate::receipt::Receipt;
-use crate::sets::{Lots, Reads, Slots};
+use crate::sets::{Lots, Reads, Sets, Slots};
 use crate::tidying::finish;
 use crate::txn::Txn;
 use crate::withdrawal::withdraw;
@@ -34,9 +34,7 @@ pub struct Ready<'a, T: Theory> {
     pub(crate) desc: u32,
     pub(crate) serial: u64,
     pub(crate) tag: u64,
-    pub(crate) reads: Reads,
-    pub(crate) slots: Slots,
-    pub(crate) lots: Lots,
+    pub(crate) sets: &'a mut Sets,
 }
 
 /// Why a transaction isn't ready: the word that shows it. The pass is free again once this is
@@ -77,13 +75,11 @@ impl<'a, T: Theory> Txn<'a, T> {
             desc,
             serial,
             tag,
-            reads,
-            slots,
-            lots,
+            sets,
             stop: _,
         } = self;
         let from = unready(serial);
-        match pass.ready::<Brand, _>(field, desc, from, reads.len(), about) {
+        match pass.ready::<Brand, _>(field, desc, from, sets.reads.len(), about) {
             Ok(()) => Ok(Ready {
                 pass,
                 field,
@@ -91,17 +87,15 @@ impl<'a, T: Theory> Txn<'a, T> {
                 desc,
                 serial,
                 tag,
-                reads,
-                slots,
-                lots,
+                sets,
             }),
             Err(found) => {
                 withdraw(
                     pass,
                     field,
                     AttemptId { desc, serial },
-                    &slots,
-                    &lots,
+                    &sets.slots,
+                    &sets.lots,
                     &began,
                 );
                 let shown = Shown {
@@ -134,19 +128,25 @@ impl<'a, T: Theory> Txn<'a, T> {
             desc,
             serial,
             tag,
-            reads,
-            slots,
-            lots,
+            sets,
             stop: _,
         } = self;
         let from = unready(serial);
-        match pass.ready::<Brand, _>(field, desc, from, reads.len(), about) {
+        match pass.ready::<Brand, _>(field, desc, from, sets.reads.len(), about) {
             Ok(()) => decided(
-                pass, field, &began, desc, serial, tag, &reads, &slots, &lots,
+                pass,
+                field,
+                &began,
+                desc,
+                serial,
+                tag,
+                &sets.reads,
+                &sets.slots,
+                &sets.lots,
             ),
             Err(found) => {
                 let attempt = AttemptId { desc, serial };
-                withdraw(pass, field, attempt, &slots, &lots, &began);
+                withdraw(pass, field, attempt, &sets.slots, &sets.lots, &began);
                 Err(Shown {
                     word: field.shape().status(desc),
                     was: from,
@@ -176,17 +176,15 @@ impl<'a, T: Theory> Txn<'a, T> {
             desc,
             serial,
             tag: _,
-            reads,
-            slots,
-            lots,
+            sets,
             stop: _,
         } = self;
         let from = unready(serial);
-        match pass.ready::<Brand, _>(field, desc, from, reads.len(), about) {
+        match pass.ready::<Brand, _>(field, desc, from, sets.reads.len(), about) {
             Ok(()) => Ok(()),
             Err(found) => {
                 let attempt = AttemptId { desc, serial };
-                withdraw(pass, field, attempt, &slots, &lots, &began);
+                withdraw(pass, field, attempt, &sets.slots, &sets.lots, &began);
                 Err(Shown {
                     word: field.shape().status(desc),
                     was: from,
@@ -238,14 +236,20 @@ impl<'a, T: Theory> Ready<'a, T> {
             desc,
             serial,
             tag,
-            reads,
-            slots,
-            lots,
+            sets,
         } = self;
         match decided(
-            pass, field, &began, desc, serial, tag, &reads, &slots, &lots,
+            pass,
+            field,
+            &began,
+            desc,
+            serial,
+            tag,
+            &sets.reads,
+            &sets.slots,
+            &sets.lots,
         ) {
-            Ok(()) => Ok(Receipt::of(tag, &reads, &slots)),
+            Ok(()) => Ok(Receipt::of(tag, &sets.reads, &sets.slots)),
             Err(shown) => Err(shown),
         }
     }

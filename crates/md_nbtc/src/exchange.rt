@@ -59,7 +59,7 @@ impl<'a, T: Theory> Txn<'a, T> {
         if let Some(stop) = self.stop {
             return Err(stop);
         }
-        if let Some(place) = self.slots.find(word) {
+        if let Some(place) = self.sets.slots.find(word) {
             return Ok(self.exchange_own(place, word, from, to));
         }
         self.exchange_other(word, from, to, kind)
@@ -115,7 +115,7 @@ impl<'a, T: Theory> Txn<'a, T> {
         let _ = word;
         let slot_new = self.field.shape().slot_new(self.desc, place);
         self.pass.store(self.field, slot_new, to as u64);
-        self.slots.set_new(place, to);
+        self.sets.slots.set_new(place, to);
         Seen {
             value: to,
             count: from.count,
@@ -130,7 +130,7 @@ impl<'a, T: Theory> Txn<'a, T> {
     {
         match kind {
             Kind::Critical => true,
-            Kind::Plain => self.reads.content(word).is_some() || self.is_own_next(word),
+            Kind::Plain => self.sets.reads.content(word).is_some() || self.is_own_next(word),
         }
     }
 
@@ -140,8 +140,8 @@ impl<'a, T: Theory> Txn<'a, T> {
         ensures { result ≡ list_any (is_next_word (shape_in (state self.now)) word) (map (λ n. n.node)
             (state self.now).nodes) }
     {
-        for i in 0..self.lots.len() {
-            if self.is_next_in(self.lots.get(i), word) {
+        for i in 0..self.sets.lots.len() {
+            if self.is_next_in(self.sets.lots.get(i), word) {
                 return true;
             }
         }
@@ -151,7 +151,7 @@ impl<'a, T: Theory> Txn<'a, T> {
     // Whether it is that of a node of a lane that gave some. Next words are three words apart.
     fn is_next_in(&self, lot: Lot, word: u32) -> bool
         requires going { IsUnderWay T.meaning (state self.now) }
-        requires lot { Contains self.now.lots lot }
+        requires lot { Contains self.now.sets.now.lots lot }
         ensures { result ≡ list_any (is_next_word (shape_in (state self.now)) word)
             (taken_of_lane self.now.began.value self.now.pass.now lot.lane) }
     {
@@ -174,7 +174,7 @@ impl<'a, T: Theory> Txn<'a, T> {
             value: from.value,
             count: from.count,
         };
-        if let Some(was) = self.reads.content(word) {
+        if let Some(was) = self.sets.reads.content(word) {
             if was != now.word() {
                 return Some(Stop::Conflict(Shown {
                     word,
@@ -189,9 +189,9 @@ impl<'a, T: Theory> Txn<'a, T> {
     // The limit that refuses it.
     fn limit(&self, word: u32, count: u32, critical: bool) -> Option<Stop>
         ensures { (from : Seen) → from.count ≡ count
-            → result ≡ refusal_by (case_by_count critical (length self.now.slots) count) word from }
+            → result ≡ refusal_by (case_by_count critical (length self.now.sets.now.slots) count) word from }
     {
-        if critical && self.slots.len() == SET {
+        if critical && self.sets.slots.len() == SET {
             return Some(Stop::Limit(Limit::Writes));
         }
         if count >= WORN {
@@ -221,14 +221,14 @@ impl<'a, T: Theory> Txn<'a, T> {
         requires going { IsUnderWay T.meaning (state self.old) }
         requires operates { (state self.old).hand.operating ≡ true }
         requires counted { IsCounted (shape_in (state self.old)) word }
-        requires room { length self.old.slots < SET }
+        requires room { length self.old.sets.now.slots < SET }
         ensures pass { self.new.pass.ghost_name ≡ self.old.pass.ghost_name }
         ensures on { GoesOn T.meaning (state self.old) (state self.new) }
         ensures same { state self.new ≡ record (state self.old) { pass = (state self.new).pass } }
         ensures given { (other : ℕ) → KeepsGiven (state self.old) (state self.new) other }
         ensures holds { HoldsSlot (state self.new) word old new }
     {
-        let slot = self.slots.len();
+        let slot = self.sets.slots.len();
         let at_word = self.field.shape().slot_word(self.desc, slot);
         let at_old = self.field.shape().slot_old(self.desc, slot);
         let at_new = self.field.shape().slot_new(self.desc, slot);
@@ -286,7 +286,7 @@ impl<'a, T: Theory> Txn<'a, T> {
             value: from.value,
             count: from.count,
         };
-        let slot = self.slots.len();
+        let slot = self.sets.slots.len();
         let spot = Spot {
             desc: self.desc,
             slot,
@@ -294,7 +294,7 @@ impl<'a, T: Theory> Txn<'a, T> {
         let _ = self.pass.shape();
         match self.pass.install(self.field, word, old, spot) {
             Ok(()) => {
-                self.slots.push(Slot::of(slot, word, old.word(), to));
+                self.sets.slots.push(Slot::of(slot, word, old.word(), to));
                 Ok(Seen {
                     value: to,
                     count: from.count + 1,

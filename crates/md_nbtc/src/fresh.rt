@@ -65,7 +65,7 @@ impl<'a, T: Theory> Txn<'a, T> {
         self.pass.store(self.field, word, stored.word());
         let lane = (node - shape.base - 1) / shape.nodes;
         let first = self.pass.nodes_taken(lane) - 1;
-        self.lots.keep(Lot { lane, first });
+        self.sets.lots.keep(Lot { lane, first });
         Ok(node)
     }
 }

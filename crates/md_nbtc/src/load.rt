@@ -130,7 +130,7 @@ impl<'a, T: Theory> Txn<'a, T> {
         if let Some(stop) = self.stop {
             return Err(stop);
         }
-        match self.slots.find(word) {
+        match self.sets.slots.find(word) {
             Some(i) => self.load_own(word, i),
             None => self.load_other(word),
         }
@@ -147,7 +147,7 @@ impl<'a, T: Theory> Txn<'a, T> {
         ensures steps { LookSteps (state self.old) (state self.new) word result }
         ensures given { KeepsGiven (state self.old) (state self.new) word }
     {
-        let write = self.slots.get(i).write;
+        let write = self.sets.slots.get(i).write;
         let was = installed(self.desc, write).word();
         let now = self.pass.load(self.field, word);
         if now == was {

@@ -62,13 +62,13 @@ impl<'a, T: Theory> Txn<'a, T> {
             return Ok(());
         }
         let now = content_of(seen);
-        if let Some(was) = self.reads.content(word) {
+        if let Some(was) = self.sets.reads.content(word) {
             if was == now {
                 return Ok(());
             }
             return self.halt(Stop::Conflict(Shown { word, was, now }));
         }
-        if self.reads.len() == SET {
+        if self.sets.reads.len() == SET {
             return self.halt(Stop::Limit(Limit::Reads));
         }
         self.record(word, seen);
@@ -114,11 +114,11 @@ impl<'a, T: Theory> Txn<'a, T> {
             stood: true,
         };
         let shape = self.field.shape();
-        let i = self.reads.len();
+        let i = self.sets.reads.len();
         let word_at = shape.read_word(self.desc, i);
         let content_at = shape.read_content(self.desc, i);
         self.pass.store(self.field, word_at, word as u64);
         self.pass.store(self.field, content_at, read.content);
-        self.reads.push(read);
+        self.sets.reads.push(read);
     }
 }

@@ -8,7 +8,7 @@ ghost use Rattle.md_words.specs.declared.limits.TheConstants.{SET};
 ghost use Rattle.md_machine.specs.Certified.{content_read};
 ghost use Rattle.md_nbtc.specs.declared.sets.TheConstants.{NO_LOT, NO_READ, NO_SLOT};
 ghost use Rattle.md_nbtc.specs.Cleaning.{with_cleanup};
-ghost use Rattle.md_nbtc.specs.Sets.{place_of, renewed_at, with_lot};
+ghost use Rattle.md_nbtc.specs.Sets.{no_sets, place_of, renewed_at, with_lot};
 
 use crate::seen::Cleanup;
 use md_machine::{Read, Write};
@@ -16,10 +16,11 @@ use std::marker::Model;
 
 const ROOM: usize = 128;
 
+// All zero, so that one fill clears a set.
 const NO_READ: Read = Read {
     word: 0,
     content: 0,
-    stood: true,
+    stood: false,
 };
 
 const NO_SLOT: Slot = Slot {
@@ -89,6 +90,12 @@ impl Reads {
         }
     }
 
+    pub(crate) fn clear(&mut self)
+        ensures { self.new ≡ [] }
+    {
+        self.count = 0;
+    }
+
     pub(crate) fn len(&self) -> u8
         ensures { result ≡ length self.now }
     {
@@ -150,6 +157,12 @@ impl Slots {
             items: [NO_SLOT; ROOM],
             count: 0,
         }
+    }
+
+    pub(crate) fn clear(&mut self)
+        ensures { self.new ≡ [] }
+    {
+        self.count = 0;
     }
 
     pub(crate) fn len(&self) -> u8
@@ -241,6 +254,12 @@ impl Lots {
         }
     }
 
+    pub(crate) fn clear(&mut self)
+        ensures { self.new ≡ [] }
+    {
+        self.count = 0;
+    }
+
     pub(crate) fn len(&self) -> u8
         ensures { result ≡ length self.now }
     {
@@ -275,5 +294,37 @@ impl Lots {
             self.items[self.count as usize] = lot;
             self.count += 1;
         }
+    }
+}
+
+/// Room for the words and nodes that a transaction keeps: some 9,800 bytes. A transaction borrows
+/// it, so that a move of the transaction doesn't copy it. One room may serve many transactions, one
+/// after another.
+#[derive(Drop)]
+pub struct Sets {
+    pub(crate) reads: Reads,
+    pub(crate) slots: Slots,
+    pub(crate) lots: Lots,
+}
+
+impl Sets {
+    /// Room in which nothing is kept yet. It takes no memory.
+    pub fn new() -> Sets
+        ensures { result ≡ no_sets }
+    {
+        Sets {
+            reads: Reads::new(),
+            slots: Slots::new(),
+            lots: Lots::new(),
+        }
+    }
+
+    // Forgets what a transaction kept.
+    pub(crate) fn clear(&mut self)
+        ensures { self.new ≡ no_sets }
+    {
+        self.reads.clear();
+        self.slots.clear();
+        self.lots.clear();
     }
 }

@@ -26,14 +26,12 @@ impl<'a, T: Theory> Txn<'a, T> {
             desc,
             serial,
             tag: _,
-            reads: _,
-            slots,
-            lots,
+            sets,
             stop: _,
         } = self;
         let attempt = AttemptId { desc, serial };
         abort_unready(pass, field, attempt);
-        withdraw(pass, field, attempt, &slots, &lots, &began);
+        withdraw(pass, field, attempt, &sets.slots, &sets.lots, &began);
     }
 
     /// Leaves the transaction as it stands, and the pass as it is. Dropping it does the same, and

@@ -6,7 +6,7 @@ ghost use Rattle.md_nbtc.specs.Tested.{IsOpen};
 ghost use Rattle.md_nbtc.specs.State.{state};
 
 use crate::seen::WORN;
-use crate::{Kind, Receipt, Seen, Txn};
+use crate::{Kind, Receipt, Seen, Sets, Txn};
 use md_cell::{CellTheory, cell_rows};
 use md_history::{Limit, Shown, Stop};
 use md_rule::{Field, Pass};
@@ -49,7 +49,9 @@ fn begin_and_leave(
     ensures table { pass.new.table ≡ pass.old.table }
     ensures shape { pass.new.shape ≡ pass.old.shape }
 {
-    let txn = Txn::begin(pass, field, tag)?;
+    let begun = Txn::begin(pass, field, tag)?;
+    let mut sets = Sets::new();
+    let txn = begun.with(&mut sets);
     txn.leave();
     Ok(())
 }
@@ -62,7 +64,9 @@ fn ready_and_leave(
 ) -> Result<bool, Limit>
     requires { IsOf pass.old field.now }
 {
-    let txn = Txn::begin(pass, field, tag)?;
+    let begun = Txn::begin(pass, field, tag)?;
+    let mut sets = Sets::new();
+    let txn = begun.with(&mut sets);
     match txn.ready() {
         Ok(ready) => {
             ready.leave();
@@ -80,7 +84,9 @@ fn commit(
 ) -> Result<Option<Receipt>, Limit>
     requires { IsOf pass.old field.now }
 {
-    let txn = Txn::begin(pass, field, tag)?;
+    let begun = Txn::begin(pass, field, tag)?;
+    let mut sets = Sets::new();
+    let txn = begun.with(&mut sets);
     match txn.ready() {
         Ok(ready) => Ok(ready.decide().ok()),
         Err(_) => Ok(None),
@@ -100,12 +106,14 @@ fn begin<'a>(
     pass: &'a mut Pass<CellTheory>,
     field: &'a Field<CellTheory>,
     tag: u64,
+    sets: &'a mut Sets,
 ) -> Result<Txn<'a, CellTheory>, Limit>
     requires { IsOf pass.old field.now }
     ensures pass { IfOk result (λ t. t.pass.ghost_name ≡ pass.entry.ghost_name) }
     ensures open { IfOk result (λ t. IsOpen field.now (state t)) }
 {
-    let mut txn = Txn::begin(pass, field, tag)?;
+    let begun = Txn::begin(pass, field, tag)?;
+    let mut txn = begun.with(sets);
     txn.start_op();
     Ok(txn)
 }
@@ -252,7 +260,8 @@ fn a_lane_begins_no_more_attempts_than_it_has(rt: HostRuntime) -> Result<(), Fai
 fn a_transaction_records_128_words(rt: HostRuntime) -> Result<(), Fail> {
     let shape = Shape::new(1, 1, 0, 3, 1, 256, 0)?;
     let (field, mut pass) = blank(rt.alloc(), shape)?;
-    let mut txn = begin(&mut pass, &field, 7)?;
+    let mut sets = Sets::new();
+    let mut txn = begin(&mut pass, &field, 7, &mut sets)?;
     let full = Stop::Limit(Limit::Reads);
     assert_eq!(rt; note_many(&mut txn, &field, 128), Ok(128));
     assert_eq!(rt; note_many(&mut txn, &field, 128), Ok(128));
@@ -267,14 +276,15 @@ fn a_transaction_records_128_words(rt: HostRuntime) -> Result<(), Fail> {
 fn a_transaction_changes_128_words(rt: HostRuntime) -> Result<(), Fail> {
     let shape = Shape::new(1, 1, 0, 3, 1, 256, 0)?;
     let (field, mut pass) = blank(rt.alloc(), shape)?;
-    let mut txn = begin(&mut pass, &field, 7)?;
+    let mut sets = Sets::new();
+    let mut txn = begin(&mut pass, &field, 7, &mut sets)?;
     assert_eq!(rt; change_many(&mut txn, &field, 128), Ok(128));
     assert_eq!(rt; change_many(&mut txn, &field, 128), Ok(128));
     let full = Stop::Limit(Limit::Writes);
     assert_eq!(rt; change(&mut txn, &field, 128, 1), Err(full));
     assert_eq!(rt; look(&mut txn, &field, 0), Err(full));
     stop(txn, &field);
-    let mut next = begin(&mut pass, &field, 8)?;
+    let mut next = begin(&mut pass, &field, 8, &mut sets)?;
     assert_eq!(rt; look(&mut next, &field, 127), Ok(plain(0, 2)));
     assert_eq!(rt; look(&mut next, &field, 128), Ok(plain(0, 0)));
     stop(next, &field);
@@ -285,7 +295,8 @@ fn a_transaction_changes_128_words(rt: HostRuntime) -> Result<(), Fail> {
 fn a_transaction_sees_its_own_new_value(rt: HostRuntime) -> Result<(), Fail> {
     let shape = Shape::new(1, 1, 0, 3, 1, 1, 0)?;
     let (field, mut pass) = blank(rt.alloc(), shape)?;
-    let mut txn = begin(&mut pass, &field, 7)?;
+    let mut sets = Sets::new();
+    let mut txn = begin(&mut pass, &field, 7, &mut sets)?;
     let own = |value| Seen {
         value,
         count: 1,
@@ -304,11 +315,12 @@ fn a_transaction_sees_its_own_new_value(rt: HostRuntime) -> Result<(), Fail> {
 fn the_next_transaction_takes_a_left_one_out(rt: HostRuntime) -> Result<(), Fail> {
     let shape = Shape::new(1, 1, 0, 3, 1, 1, 0)?;
     let (field, mut pass) = blank(rt.alloc(), shape)?;
-    let mut txn = begin(&mut pass, &field, 7)?;
+    let mut sets = Sets::new();
+    let mut txn = begin(&mut pass, &field, 7, &mut sets)?;
     assert!(rt; change(&mut txn, &field, 0, 5).is_ok());
     leave(txn, &field);
     assert_eq!(rt; head(&mut pass, &field), 1);
-    let next = begin(&mut pass, &field, 8)?;
+    let next = begin(&mut pass, &field, 8, &mut sets)?;
     leave(next, &field);
     assert_eq!(rt; head(&mut pass, &field), 2);
     Ok(())
@@ -319,9 +331,11 @@ fn a_stalled_transaction_is_aborted_by_another(rt: HostRuntime) -> Result<(), Fa
     let shape = Shape::new(2, 1, 0, 3, 1, 1, 0)?;
     let (field, mut a) = blank(rt.alloc(), shape)?;
     let mut b = a.split(&field).expect(&rt, "two lanes");
-    let mut one = begin(&mut a, &field, 7)?;
+    let mut sets = Sets::new();
+    let mut others = Sets::new();
+    let mut one = begin(&mut a, &field, 7, &mut sets)?;
     assert!(rt; change(&mut one, &field, 0, 5).is_ok());
-    let mut other = begin(&mut b, &field, 8)?;
+    let mut other = begin(&mut b, &field, 8, &mut others)?;
     assert_eq!(rt; look(&mut other, &field, 0), Ok(plain(0, 2)));
     let lost = Stop::Conflict(Shown {
         word: 1,
@@ -341,9 +355,11 @@ fn a_recorded_word_that_moved_is_a_conflict(rt: HostRuntime) -> Result<(), Fail>
     let shape = Shape::new(2, 1, 0, 3, 1, 1, 0)?;
     let (field, mut a) = blank(rt.alloc(), shape)?;
     let mut b = a.split(&field).expect(&rt, "two lanes");
-    let mut one = begin(&mut a, &field, 7)?;
+    let mut sets = Sets::new();
+    let mut others = Sets::new();
+    let mut one = begin(&mut a, &field, 7, &mut sets)?;
     assert_eq!(rt; note(&mut one, &field, 0), Ok(plain(0, 0)));
-    let mut other = begin(&mut b, &field, 8)?;
+    let mut other = begin(&mut b, &field, 8, &mut others)?;
     assert!(rt; change(&mut other, &field, 0, 5).is_ok());
     stop(other, &field);
     let moved = Stop::Conflict(Shown {
@@ -362,14 +378,15 @@ fn a_recorded_word_that_moved_is_a_conflict(rt: HostRuntime) -> Result<(), Fail>
 fn nodes_are_taken_from_the_lowest(rt: HostRuntime) -> Result<(), Fail> {
     let shape = Shape::new(1, 16, 1, 3, 1, 1, 0)?;
     let (field, mut pass) = blank(rt.alloc(), shape)?;
-    let mut txn = begin(&mut pass, &field, 7)?;
+    let mut sets = Sets::new();
+    let mut txn = begin(&mut pass, &field, 7, &mut sets)?;
     assert_eq!(rt; fresh(&mut txn, &field), Ok(2));
     assert_eq!(rt; fresh_many(&mut txn, &field, 15), Ok(17));
     let none = Stop::Limit(Limit::Nodes);
     assert_eq!(rt; fresh(&mut txn, &field), Err(none));
     assert_eq!(rt; look(&mut txn, &field, 0), Err(none));
     stop(txn, &field);
-    let mut next = begin(&mut pass, &field, 8)?;
+    let mut next = begin(&mut pass, &field, 8, &mut sets)?;
     assert_eq!(rt; fresh(&mut next, &field), Ok(2));
     stop(next, &field);
     Ok(())
@@ -391,7 +408,8 @@ fn a_transaction_without_operations_commits(rt: HostRuntime) -> Result<(), Fail>
 fn a_worn_word_is_not_changed(rt: HostRuntime) -> Result<(), Fail> {
     let shape = Shape::new(1, 1, 0, 3, 1, 1, 0)?;
     let (field, mut pass) = worn(rt.alloc(), shape)?;
-    let mut txn = begin(&mut pass, &field, 7)?;
+    let mut sets = Sets::new();
+    let mut txn = begin(&mut pass, &field, 7, &mut sets)?;
     let limit = Stop::Limit(Limit::Worn {
         word: 1,
         count: 4_294_967_292,

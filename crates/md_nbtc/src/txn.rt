@@ -10,7 +10,7 @@ ghost use Rattle.md_nbtc.specs.Known.{Known};
 ghost use Rattle.md_nbtc.specs.Seeing.{KeepsGiven};
 ghost use Rattle.md_nbtc.specs.State.{shape_in, state};
 
-use crate::sets::{Lots, Reads, Slots};
+use crate::sets::Sets;
 use md_history::{Op, Reply, Stop};
 use md_machine::Theory;
 use md_rule::{Field, Pass};
@@ -28,9 +28,7 @@ pub struct Txn<'a, T: Theory> {
     pub(crate) desc: u32,
     pub(crate) serial: u64,
     pub(crate) tag: u64,
-    pub(crate) reads: Reads,
-    pub(crate) slots: Slots,
-    pub(crate) lots: Lots,
+    pub(crate) sets: &'a mut Sets,
     pub(crate) stop: Option<Stop>,
 }
 

@@ -14,7 +14,7 @@ ghost use Rattle.md_store_law.specs.Untouched.{IsUntouched};
 use crate::store::Store;
 use crate::txn::StoreTxn;
 use md_history::{Attempt, Body, Stop};
-use md_nbtc::Txn;
+use md_nbtc::{Sets, Txn};
 use md_rule::Pass;
 use md_store_law::StoreTheory;
 use std::snapshot::Snapshot;
@@ -89,10 +89,12 @@ impl Store {
             → IfStopped result (λ _. ⊥) }
     {
         let before = Snapshot::of(&*pass);
-        let txn = match Txn::begin(pass, &self.field, tag) {
-            Ok(txn) => txn,
+        let begun = match Txn::begin(pass, &self.field, tag) {
+            Ok(begun) => begun,
             Err(limit) => return Attempt::Stopped(Stop::Limit(limit)),
         };
+        let mut sets = Sets::new();
+        let txn = begun.with(&mut sets);
         let mut out = Err(Stop::NoMemory);
         let txn = run(txn, before, body, &mut out);
         match out {

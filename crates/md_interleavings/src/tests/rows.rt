@@ -6,11 +6,13 @@ use super::*;
 fn a_look_aborts_an_insert(rt: HostRuntime) -> Result<(), Fail> {
     let (store, mut a) = opened(rt.alloc(), small(1)?, &pairs(rt.alloc(), &[])?)?;
     let mut b = store.split(&mut a).expect(&rt, "two lanes");
-    let mut inserts = begin(&store, &mut a, 1)?;
+    let mut sets = Sets::new();
+    let mut others = Sets::new();
+    let mut inserts = begin(&store, &mut a, 1, &mut sets)?;
     let mut why = None;
     let done = act(&mut inserts, &mut why, &store, insert(1, 10));
     assert_eq!(rt; done, Ok(Reply::Flag(true)));
-    let mut looks = begin(&store, &mut b, 2)?;
+    let mut looks = begin(&store, &mut b, 2, &mut others)?;
     let mut none = None;
     let seen = act(&mut looks, &mut none, &store, get(1));
     assert_eq!(rt; seen, Ok(Reply::Value(None)));
@@ -30,7 +32,8 @@ fn a_look_aborts_an_insert(rt: HostRuntime) -> Result<(), Fail> {
 fn an_aborted_insert_meets_its_word(rt: HostRuntime) -> Result<(), Fail> {
     let (store, mut a) = opened(rt.alloc(), small(1)?, &pairs(rt.alloc(), &[])?)?;
     let mut b = store.split(&mut a).expect(&rt, "two lanes");
-    let mut inserts = begin(&store, &mut a, 1)?;
+    let mut sets = Sets::new();
+    let mut inserts = begin(&store, &mut a, 1, &mut sets)?;
     let mut why = None;
     let done = act(&mut inserts, &mut why, &store, insert(1, 10));
     assert_eq!(rt; done, Ok(Reply::Flag(true)));
@@ -51,7 +54,8 @@ fn an_aborted_insert_meets_its_word(rt: HostRuntime) -> Result<(), Fail> {
 fn an_insert_overtakes_a_look(rt: HostRuntime) -> Result<(), Fail> {
     let (store, mut a) = opened(rt.alloc(), small(1)?, &pairs(rt.alloc(), &[])?)?;
     let mut b = store.split(&mut a).expect(&rt, "two lanes");
-    let mut looks = begin(&store, &mut a, 1)?;
+    let mut sets = Sets::new();
+    let mut looks = begin(&store, &mut a, 1, &mut sets)?;
     let mut why = None;
     let seen = act(&mut looks, &mut why, &store, get(1));
     assert_eq!(rt; seen, Ok(Reply::Value(None)));

@@ -25,7 +25,8 @@ fn left(
     requires { IsPassOf store.now pass.old }
     ensures { OnOk result (IsPassOf store.now pass.new) }
 {
-    let mut txn = begin(store, pass, 7)?;
+    let mut sets = Sets::new();
+    let mut txn = begin(store, pass, 7, &mut sets)?;
     let mut why = None;
     let mut replies = Vec::new(alloc);
     all_in(&mut txn, &mut why, store, ops, &mut replies)?;
@@ -48,7 +49,8 @@ fn overtaken(
     ensures of { OnOk result (IsPassOf store.now pass.new) }
     ensures of_other { OnOk result (IsPassOf store.now other.new) }
 {
-    let mut txn = begin(store, pass, 7)?;
+    let mut sets = Sets::new();
+    let mut txn = begin(store, pass, 7, &mut sets)?;
     let mut why = None;
     let seen = act(&mut txn, &mut why, store, get(2)) == Ok(Reply::Value(None));
     let overtook = one(store, other, insert(2, 20))? == Ok(Reply::Flag(true));
@@ -180,7 +182,8 @@ fn the_next_transaction_of_the_lane_settles_it(rt: HostRuntime) -> Result<(), Fa
     let (store, mut a) = opened(rt.alloc(), small(1)?, &pairs(rt.alloc(), &[])?)?;
     let mut b = store.split(&mut a).expect(&rt, "two lanes");
     assert!(rt; !left(rt.alloc(), &store, &mut a, &[insert(1, 10)], false)?);
-    let mut txn = begin(&store, &mut a, 8)?;
+    let mut sets = Sets::new();
+    let mut txn = begin(&store, &mut a, 8, &mut sets)?;
     let mut why = None;
     let seen = act(&mut txn, &mut why, &store, get(1));
     assert_eq!(rt; seen, Ok(Reply::Value(None)));

@@ -8,7 +8,7 @@ ghost use Rattle.md_store.specs.Store.{IsPassOf};
 use super::super::*;
 use super::world::{Course, End, World};
 use md_history::Act;
-use md_nbtc::Txn;
+use md_nbtc::{Sets, Txn};
 
 // Learns how the transaction ended that a pass left ready, if it did.
 pub(super) fn learn(pass: &mut Pass<StoreTheory>, store: &Store, world: &mut World)
@@ -161,8 +161,10 @@ pub(super) fn pair(
 {
     let mut one = course(a, store, world);
     let mut two = course(b, store, world);
-    let mut first = begin(store, a, 1)?;
-    let mut second = begin(store, b, 2)?;
+    let mut sets = Sets::new();
+    let mut others = Sets::new();
+    let mut first = begin(store, a, 1, &mut sets)?;
+    let mut second = begin(store, b, 2, &mut others)?;
     turns(&mut first, &mut one, &mut second, &mut two, store, world)?;
     end(first, one, store, world)?;
     steps(&mut second, &mut two, store, world)?;
@@ -210,7 +212,8 @@ pub(super) fn around(
     ensures c { OnOk result (IsPassOf store.now c.new) }
 {
     let mut one = course(a, store, world);
-    let mut txn = begin(store, a, 3)?;
+    let mut sets = Sets::new();
+    let mut txn = begin(store, a, 3, &mut sets)?;
     within(&mut txn, &mut one, store, b, c, world)?;
     end(txn, one, store, world)
 }

@@ -39,7 +39,7 @@ returns-in-Ok-clause-on g c =
     let e = c.in-Ok.ensures in
     let none = unread t c.args.word r.plain in
     let it = won_change M lawful t prepared c.args.word c.args.from c.args.to r.counted r.other r.gave r.fits r.may r.tidy apart q.view e.step in
-    let so = plain_so M lawful x.field.now x.pass.now x.began.value x.reads x.slots x.stop x.desc x.serial x.tag x.lots prepared r.operates c.args.word c.args.from c.args.to r.counted r.other r.gave r.fits none apart q e.same e.step it in
+    let so = plain_so M lawful x.field.now x.pass.now x.began.value x.sets.now.reads x.sets.now.slots x.stop x.desc x.serial x.tag x.sets.now.lots prepared r.operates c.args.word c.args.from c.args.to r.counted r.other r.gave r.fits none apart q e.same e.step it in
     subst (GoesOn M t) (sym so) (plain_on M lawful t prepared r.operates c.args.word c.args.from c.args.to r.counted r.other r.gave r.fits none apart q.view e.step it)
 
 pub returns-in-Ok-clause-exchanged : goal.returns-in-Ok-clause-exchanged
@@ -55,7 +55,7 @@ returns-in-Ok-clause-exchanged g c =
     let e = c.in-Ok.ensures in
     let none = unread t c.args.word r.plain in
     let it = won_change M lawful t prepared c.args.word c.args.from c.args.to r.counted r.other r.gave r.fits r.may r.tidy apart q.view e.step in
-    let so = plain_so M lawful x.field.now x.pass.now x.began.value x.reads x.slots x.stop x.desc x.serial x.tag x.lots prepared r.operates c.args.word c.args.from c.args.to r.counted r.other r.gave r.fits none apart q e.same e.step it in (
+    let so = plain_so M lawful x.field.now x.pass.now x.began.value x.sets.now.reads x.sets.now.slots x.stop x.desc x.serial x.tag x.sets.now.lots prepared r.operates c.args.word c.args.from c.args.to r.counted r.other r.gave r.fits none apart q e.same e.step it in (
       refl,
       so ∙ ap (λ (p : PassState). record t { pass = p }) (sym (ap (λ (u : TxnState). u.pass) so)),
       subst (λ u. Looks M t u c.args.word (record { value = c.args.to; count = c.args.from.count + 2; own = false })) (sym so) (plain_looks M lawful t prepared r.operates c.args.word c.args.from c.args.to r.counted r.other r.gave r.fits none apart q.view e.step it),
@@ -74,7 +74,7 @@ returns-in-Ok-clause-given g c other seen differ gave =
     let e = c.in-Ok.ensures in
     let none = unread t c.args.word r.plain in
     let it = won_change M lawful t prepared c.args.word c.args.from c.args.to r.counted r.other r.gave r.fits r.may r.tidy apart q.view e.step in
-    let so = plain_so M lawful x.field.now x.pass.now x.began.value x.reads x.slots x.stop x.desc x.serial x.tag x.lots prepared r.operates c.args.word c.args.from c.args.to r.counted r.other r.gave r.fits none apart q e.same e.step it in
+    let so = plain_so M lawful x.field.now x.pass.now x.began.value x.sets.now.reads x.sets.now.slots x.stop x.desc x.serial x.tag x.sets.now.lots prepared r.operates c.args.word c.args.from c.args.to r.counted r.other r.gave r.fits none apart q e.same e.step it in
     subst (λ u. Gave u other seen) (sym so) (plain_given M lawful t prepared r.operates c.args.word c.args.from c.args.to r.counted r.other r.gave r.fits none apart q.view e.step it other seen differ gave)
 
 pub returns-in-Ok-clause-gave : goal.returns-in-Ok-clause-gave
@@ -90,7 +90,7 @@ returns-in-Ok-clause-gave g c =
     let e = c.in-Ok.ensures in
     let none = unread t c.args.word r.plain in
     let it = won_change M lawful t prepared c.args.word c.args.from c.args.to r.counted r.other r.gave r.fits r.may r.tidy apart q.view e.step in
-    let so = plain_so M lawful x.field.now x.pass.now x.began.value x.reads x.slots x.stop x.desc x.serial x.tag x.lots prepared r.operates c.args.word c.args.from c.args.to r.counted r.other r.gave r.fits none apart q e.same e.step it in
+    let so = plain_so M lawful x.field.now x.pass.now x.began.value x.sets.now.reads x.sets.now.slots x.stop x.desc x.serial x.tag x.sets.now.lots prepared r.operates c.args.word c.args.from c.args.to r.counted r.other r.gave r.fits none apart q e.same e.step it in
     subst (λ u. Gave u c.args.word (record { value = c.args.to; count = c.args.from.count + 2; own = false })) (sym so) (plain_gave M lawful t prepared r.operates c.args.word c.args.from c.args.to r.counted r.other r.gave r.fits none apart q.view e.step it)
 
 pub returns-in-Err-clause-on : goal.returns-in-Err-clause-on
@@ -107,8 +107,8 @@ returns-in-Err-clause-on g c =
     let e = c.in-Err.ensures in
     let it = lost_change M lawful t prepared c.args.word c.args.from c.args.to r.counted r.other r.gave r.fits r.may r.tidy apart q.view found e.step.0 e.step.1 in
     let stop_is = c.lose.ensures.stop ∙ ap (λ n. Conflict (record { word = c.args.word; was = n; now = found })) c.word.ensures.whole in
-    let so = ap state c.lose.ensures.kept ∙ ap (λ s. state_of x.field.now q x.began.value x.reads x.slots (Some s) x.desc x.serial x.tag x.lots) stop_is
-    ∙ lost_so M x.field.now x.pass.now x.began.value x.reads x.slots x.stop x.desc x.serial x.tag x.lots prepared r.operates c.args.word r.counted c.args.from r.other r.gave Exchange (inr refl) found e.step.0 q e.same it in
+    let so = ap state c.lose.ensures.kept ∙ ap (λ s. state_of x.field.now q x.began.value x.sets.now.reads x.sets.now.slots (Some s) x.desc x.serial x.tag x.sets.now.lots) stop_is
+    ∙ lost_so M x.field.now x.pass.now x.began.value x.sets.now.reads x.sets.now.slots x.stop x.desc x.serial x.tag x.sets.now.lots prepared r.operates c.args.word r.counted c.args.from r.other r.gave Exchange (inr refl) found e.step.0 q e.same it in
     subst (GoesOn M t) (sym so) (lost_on M t prepared r.operates c.args.word r.counted c.args.from r.other r.gave Exchange (inr refl) found e.step.0 q.view it)
 
 pub returns-in-Err-clause-exchanged : goal.returns-in-Err-clause-exchanged
@@ -125,8 +125,8 @@ returns-in-Err-clause-exchanged g c =
     let e = c.in-Err.ensures in
     let it = lost_change M lawful t prepared c.args.word c.args.from c.args.to r.counted r.other r.gave r.fits r.may r.tidy apart q.view found e.step.0 e.step.1 in
     let stop_is = c.lose.ensures.stop ∙ ap (λ n. Conflict (record { word = c.args.word; was = n; now = found })) c.word.ensures.whole in
-    let so = ap state c.lose.ensures.kept ∙ ap (λ s. state_of x.field.now q x.began.value x.reads x.slots (Some s) x.desc x.serial x.tag x.lots) stop_is
-    ∙ lost_so M x.field.now x.pass.now x.began.value x.reads x.slots x.stop x.desc x.serial x.tag x.lots prepared r.operates c.args.word r.counted c.args.from r.other r.gave Exchange (inr refl) found e.step.0 q e.same it in (
+    let so = ap state c.lose.ensures.kept ∙ ap (λ s. state_of x.field.now q x.began.value x.sets.now.reads x.sets.now.slots (Some s) x.desc x.serial x.tag x.sets.now.lots) stop_is
+    ∙ lost_so M x.field.now x.pass.now x.began.value x.sets.now.reads x.sets.now.slots x.stop x.desc x.serial x.tag x.sets.now.lots prepared r.operates c.args.word r.counted c.args.from r.other r.gave Exchange (inr refl) found e.step.0 q e.same it in (
       (
         refl,
         so ∙ ap (λ (p : PassState). record t { pass = p; stop = Some (Conflict (record { word = c.args.word; was = seen_content c.args.from; now = found })) }) (sym (ap (λ (u : TxnState). u.pass) so))
@@ -149,6 +149,6 @@ returns-in-Err-clause-given g c other seen differ gave =
     let e = c.in-Err.ensures in
     let it = lost_change M lawful t prepared c.args.word c.args.from c.args.to r.counted r.other r.gave r.fits r.may r.tidy apart q.view found e.step.0 e.step.1 in
     let stop_is = c.lose.ensures.stop ∙ ap (λ n. Conflict (record { word = c.args.word; was = n; now = found })) c.word.ensures.whole in
-    let so = ap state c.lose.ensures.kept ∙ ap (λ s. state_of x.field.now q x.began.value x.reads x.slots (Some s) x.desc x.serial x.tag x.lots) stop_is
-    ∙ lost_so M x.field.now x.pass.now x.began.value x.reads x.slots x.stop x.desc x.serial x.tag x.lots prepared r.operates c.args.word r.counted c.args.from r.other r.gave Exchange (inr refl) found e.step.0 q e.same it in
+    let so = ap state c.lose.ensures.kept ∙ ap (λ s. state_of x.field.now q x.began.value x.sets.now.reads x.sets.now.slots (Some s) x.desc x.serial x.tag x.sets.now.lots) stop_is
+    ∙ lost_so M x.field.now x.pass.now x.began.value x.sets.now.reads x.sets.now.slots x.stop x.desc x.serial x.tag x.sets.now.lots prepared r.operates c.args.word r.counted c.args.from r.other r.gave Exchange (inr refl) found e.step.0 q e.same it in
     subst (λ u. Gave u other seen) (sym so) (lost_given M t prepared r.operates c.args.word r.counted c.args.from r.other r.gave Exchange (inr refl) found e.step.0 q.view it other seen gave)

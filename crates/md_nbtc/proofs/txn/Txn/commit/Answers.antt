@@ -53,7 +53,7 @@ decided-requires g c =
     let x = c.args.self in
     let r = c.ready.new.self in
     let by = subst (λ y. EnteredBy (IsGoing M (state y)) r.view) c.of-about.ensures c.in-Ok.ensures.by in
-    let now = ready_now M g.T.Theory.lawful x.field.now x.pass.now x.began.value x.reads x.slots x.stop x.desc x.serial x.tag x.lots c.requires.going.0 c.requires.runs c.requires.going.1
+    let now = ready_now M g.T.Theory.lawful x.field.now x.pass.now x.began.value x.sets.now.reads x.sets.now.slots x.stop x.desc x.serial x.tag x.sets.now.lots c.requires.going.0 c.requires.runs c.requires.going.1
     c.requires.between c.unready-from.result c.len.result c.unready-from.ensures c.len.ensures r c.ready.ensures.same c.in-Ok.ensures.step by in
     now.0
 
@@ -63,9 +63,9 @@ returns-in-Ok-clause-committed g c =
     let x = c.args.self in
     let r = c.ready.new.self in
     let by = subst (λ y. EnteredBy (IsGoing M (state y)) r.view) c.of-about.ensures c.in-Ok.ensures.by in
-    let now = ready_now M g.T.Theory.lawful x.field.now x.pass.now x.began.value x.reads x.slots x.stop x.desc x.serial x.tag x.lots c.requires.going.0 c.requires.runs c.requires.going.1
+    let now = ready_now M g.T.Theory.lawful x.field.now x.pass.now x.began.value x.sets.now.reads x.sets.now.slots x.stop x.desc x.serial x.tag x.sets.now.lots c.requires.going.0 c.requires.runs c.requires.going.1
     c.requires.between c.unready-from.result c.len.result c.unready-from.ensures c.len.ensures r c.ready.ensures.same c.in-Ok.ensures.step by in
-    committed_if M (state x) (state_of x.field.now r x.began.value x.reads x.slots None x.desc x.serial x.tag x.lots) now.0.entry now.1 c.decided.new.pass c.decided.result c.decided.ensures.committed
+    committed_if M (state x) (state_of x.field.now r x.began.value x.sets.now.reads x.sets.now.slots None x.desc x.serial x.tag x.sets.now.lots) now.0.entry now.1 c.decided.new.pass c.decided.result c.decided.ensures.committed
 
 pub returns-in-Ok-clause-lost : goal.returns-in-Ok-clause-lost
 returns-in-Ok-clause-lost g c =
@@ -73,9 +73,9 @@ returns-in-Ok-clause-lost g c =
     let x = c.args.self in
     let r = c.ready.new.self in
     let by = subst (λ y. EnteredBy (IsGoing M (state y)) r.view) c.of-about.ensures c.in-Ok.ensures.by in
-    let now = ready_now M g.T.Theory.lawful x.field.now x.pass.now x.began.value x.reads x.slots x.stop x.desc x.serial x.tag x.lots c.requires.going.0 c.requires.runs c.requires.going.1
+    let now = ready_now M g.T.Theory.lawful x.field.now x.pass.now x.began.value x.sets.now.reads x.sets.now.slots x.stop x.desc x.serial x.tag x.sets.now.lots c.requires.going.0 c.requires.runs c.requires.going.1
     c.requires.between c.unready-from.result c.len.result c.unready-from.ensures c.len.ensures r c.ready.ensures.same c.in-Ok.ensures.step by in
-    lost_if M (state x) (state_of x.field.now r x.began.value x.reads x.slots None x.desc x.serial x.tag x.lots) now.0.entry now.1 c.decided.new.pass c.decided.result c.decided.ensures.aborted
+    lost_if M (state x) (state_of x.field.now r x.began.value x.sets.now.reads x.sets.now.slots None x.desc x.serial x.tag x.sets.now.lots) now.0.entry now.1 c.decided.new.pass c.decided.result c.decided.ensures.aborted
 
 pub withdraw-requires-clause-stands : goal.withdraw-requires-clause-stands
 withdraw-requires-clause-stands g c =

@@ -19,7 +19,7 @@ returns-clause-on g c =
     let q = c.mark_act.new.self in
     let step = c.mark_act.ensures.step in
     let view_is = ended_view M t prepared c.requires.operates c.args.op c.args.reply q.view step in
-    subst (λ u. Ends M t u c.args.op c.args.reply) (sym (mark_so M x.field.now x.pass.now x.began.value x.reads x.slots x.stop x.desc x.serial x.tag x.lots prepared
+    subst (λ u. Ends M t u c.args.op c.args.reply) (sym (mark_so M x.field.now x.pass.now x.began.value x.sets.now.reads x.sets.now.slots x.stop x.desc x.serial x.tag x.sets.now.lots prepared
     (ended_acts M t prepared c.requires.operates c.args.op c.args.reply) false (λ pass. mark_act pass step.0) q c.mark_act.ensures.same step.2 view_is))
     (ended_on M t prepared c.requires.operates c.args.op c.args.reply q.view step)
 
@@ -31,6 +31,6 @@ returns-clause-ended g c =
     let prepared = c.requires.may.going.prepared in
     let q = c.mark_act.new.self in
     let step = c.mark_act.ensures.step in
-    mark_is_so M x.field.now x.pass.now x.began.value x.reads x.slots x.stop x.desc x.serial x.tag x.lots prepared
+    mark_is_so M x.field.now x.pass.now x.began.value x.sets.now.reads x.sets.now.slots x.stop x.desc x.serial x.tag x.sets.now.lots prepared
     (ended_acts M t prepared c.requires.operates c.args.op c.args.reply) false (λ pass. mark_act pass step.0) q c.mark_act.ensures.same step.2
     (ended_view M t prepared c.requires.operates c.args.op c.args.reply q.view step)

@@ -51,8 +51,8 @@ returns-clause-on g c =
     let x = c.args.self.now in
     let t = state x in
     let prepared = c.requires.going.1.prepared in
-    let step = at_slot M x.field.now x.pass.now x.began.value x.reads x.slots x.stop x.desc x.serial x.tag x.lots prepared c.requires.operates c.args.word c.args.place c.args.from c.args.to c.requires.found c.requires.gave c.slot_new-slot_new.result (there g c) c.store.new.self c.store.ensures.same c.store.ensures.step c.set_new.new.self c.set_new.ensures in
-    let so = renewed_so M x.field.now x.pass.now x.began.value x.reads x.slots x.stop x.desc x.serial x.tag x.lots prepared c.requires.operates c.args.word c.args.place c.args.from c.args.to c.requires.found c.requires.gave c.slot_new-slot_new.result (there g c) c.store.new.self c.store.ensures.same c.store.ensures.step c.set_new.new.self c.set_new.ensures in
+    let step = at_slot M x.field.now x.pass.now x.began.value x.sets.now.reads x.sets.now.slots x.stop x.desc x.serial x.tag x.sets.now.lots prepared c.requires.operates c.args.word c.args.place c.args.from c.args.to c.requires.found c.requires.gave c.slot_new-slot_new.result (there g c) c.store.new.self c.store.ensures.same c.store.ensures.step c.set_new.new.self c.set_new.ensures in
+    let so = renewed_so M x.field.now x.pass.now x.began.value x.sets.now.reads x.sets.now.slots x.stop x.desc x.serial x.tag x.sets.now.lots prepared c.requires.operates c.args.word c.args.place c.args.from c.args.to c.requires.found c.requires.gave c.slot_new-slot_new.result (there g c) c.store.new.self c.store.ensures.same c.store.ensures.step c.set_new.new.self c.set_new.ensures in
     subst (GoesOn M t) (sym so) (record {
       going = renewed_going M t prepared c.requires.operates c.args.word c.args.place c.args.from c.args.to c.requires.found c.requires.gave c.store.new.self.view step c.requires.stay;
       later = renewed_later M t prepared c.requires.operates c.args.word c.args.place c.args.from c.args.to c.requires.found c.requires.gave c.store.new.self.view step;
@@ -64,9 +64,9 @@ returns-clause-renewed g c =
     let x = c.args.self.now in
     let t = state x in
     let prepared = c.requires.going.1.prepared in
-    let step = at_slot M x.field.now x.pass.now x.began.value x.reads x.slots x.stop x.desc x.serial x.tag x.lots prepared c.requires.operates c.args.word c.args.place c.args.from c.args.to c.requires.found c.requires.gave c.slot_new-slot_new.result (there g c) c.store.new.self c.store.ensures.same c.store.ensures.step c.set_new.new.self c.set_new.ensures in
-    let so = renewed_so M x.field.now x.pass.now x.began.value x.reads x.slots x.stop x.desc x.serial x.tag x.lots prepared c.requires.operates c.args.word c.args.place c.args.from c.args.to c.requires.found c.requires.gave c.slot_new-slot_new.result (there g c) c.store.new.self c.store.ensures.same c.store.ensures.step c.set_new.new.self c.set_new.ensures in
-    so ∙ ap (λ (p : PassState). record t { pass = p; hand = with_change t.hand c.args.word c.args.from.value c.args.to; slots = map (with_new c.args.word c.args.to) x.slots })
+    let step = at_slot M x.field.now x.pass.now x.began.value x.sets.now.reads x.sets.now.slots x.stop x.desc x.serial x.tag x.sets.now.lots prepared c.requires.operates c.args.word c.args.place c.args.from c.args.to c.requires.found c.requires.gave c.slot_new-slot_new.result (there g c) c.store.new.self c.store.ensures.same c.store.ensures.step c.set_new.new.self c.set_new.ensures in
+    let so = renewed_so M x.field.now x.pass.now x.began.value x.sets.now.reads x.sets.now.slots x.stop x.desc x.serial x.tag x.sets.now.lots prepared c.requires.operates c.args.word c.args.place c.args.from c.args.to c.requires.found c.requires.gave c.slot_new-slot_new.result (there g c) c.store.new.self c.store.ensures.same c.store.ensures.step c.set_new.new.self c.set_new.ensures in
+    so ∙ ap (λ (p : PassState). record t { pass = p; hand = with_change t.hand c.args.word c.args.from.value c.args.to; slots = map (with_new c.args.word c.args.to) x.sets.now.slots })
     (sym (ap (λ (u : TxnState). u.pass) so))
 
 pub returns-clause-given : goal.returns-clause-given
@@ -75,8 +75,8 @@ returns-clause-given g c other seen differ gave =
     let x = c.args.self.now in
     let t = state x in
     let prepared = c.requires.going.1.prepared in
-    let step = at_slot M x.field.now x.pass.now x.began.value x.reads x.slots x.stop x.desc x.serial x.tag x.lots prepared c.requires.operates c.args.word c.args.place c.args.from c.args.to c.requires.found c.requires.gave c.slot_new-slot_new.result (there g c) c.store.new.self c.store.ensures.same c.store.ensures.step c.set_new.new.self c.set_new.ensures in
-    let so = renewed_so M x.field.now x.pass.now x.began.value x.reads x.slots x.stop x.desc x.serial x.tag x.lots prepared c.requires.operates c.args.word c.args.place c.args.from c.args.to c.requires.found c.requires.gave c.slot_new-slot_new.result (there g c) c.store.new.self c.store.ensures.same c.store.ensures.step c.set_new.new.self c.set_new.ensures in
+    let step = at_slot M x.field.now x.pass.now x.began.value x.sets.now.reads x.sets.now.slots x.stop x.desc x.serial x.tag x.sets.now.lots prepared c.requires.operates c.args.word c.args.place c.args.from c.args.to c.requires.found c.requires.gave c.slot_new-slot_new.result (there g c) c.store.new.self c.store.ensures.same c.store.ensures.step c.set_new.new.self c.set_new.ensures in
+    let so = renewed_so M x.field.now x.pass.now x.began.value x.sets.now.reads x.sets.now.slots x.stop x.desc x.serial x.tag x.sets.now.lots prepared c.requires.operates c.args.word c.args.place c.args.from c.args.to c.requires.found c.requires.gave c.slot_new-slot_new.result (there g c) c.store.new.self c.store.ensures.same c.store.ensures.step c.set_new.new.self c.set_new.ensures in
     subst (λ u. Gave u other seen) (sym so) (renewed_given M t prepared c.requires.operates c.args.word c.args.place c.args.from c.args.to c.requires.found c.requires.gave c.store.new.self.view step other seen differ gave)
 
 pub returns-clause-gave : goal.returns-clause-gave
@@ -85,6 +85,6 @@ returns-clause-gave g c =
     let x = c.args.self.now in
     let t = state x in
     let prepared = c.requires.going.1.prepared in
-    let step = at_slot M x.field.now x.pass.now x.began.value x.reads x.slots x.stop x.desc x.serial x.tag x.lots prepared c.requires.operates c.args.word c.args.place c.args.from c.args.to c.requires.found c.requires.gave c.slot_new-slot_new.result (there g c) c.store.new.self c.store.ensures.same c.store.ensures.step c.set_new.new.self c.set_new.ensures in
-    let so = renewed_so M x.field.now x.pass.now x.began.value x.reads x.slots x.stop x.desc x.serial x.tag x.lots prepared c.requires.operates c.args.word c.args.place c.args.from c.args.to c.requires.found c.requires.gave c.slot_new-slot_new.result (there g c) c.store.new.self c.store.ensures.same c.store.ensures.step c.set_new.new.self c.set_new.ensures in
+    let step = at_slot M x.field.now x.pass.now x.began.value x.sets.now.reads x.sets.now.slots x.stop x.desc x.serial x.tag x.sets.now.lots prepared c.requires.operates c.args.word c.args.place c.args.from c.args.to c.requires.found c.requires.gave c.slot_new-slot_new.result (there g c) c.store.new.self c.store.ensures.same c.store.ensures.step c.set_new.new.self c.set_new.ensures in
+    let so = renewed_so M x.field.now x.pass.now x.began.value x.sets.now.reads x.sets.now.slots x.stop x.desc x.serial x.tag x.sets.now.lots prepared c.requires.operates c.args.word c.args.place c.args.from c.args.to c.requires.found c.requires.gave c.slot_new-slot_new.result (there g c) c.store.new.self c.store.ensures.same c.store.ensures.step c.set_new.new.self c.set_new.ensures in
     subst (λ u. Gave u c.args.word (record { value = c.args.to; count = c.args.from.count; own = true })) (sym so) (renewed_gave M t prepared c.requires.operates c.args.word c.args.place c.args.from c.args.to c.requires.found c.requires.gave c.store.new.self.view step)

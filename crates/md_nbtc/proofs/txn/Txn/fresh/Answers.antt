@@ -39,7 +39,7 @@ returns-in-Err-clause-on g c =
     let x = c.args.self.now in
     let t = state x in
     let prepared = c.requires.going.1.prepared in
-    subst (λ (p : PassState). GoesOn g.T.Theory.meaning t (state_of x.field.now p x.began.value x.reads x.slots (Some (Limited c.in-Err.limit)) x.desc x.serial x.tag x.lots)) (sym c.in-Err.ensures.limit.1)
+    subst (λ (p : PassState). GoesOn g.T.Theory.meaning t (state_of x.field.now p x.began.value x.sets.now.reads x.sets.now.slots (Some (Limited c.in-Err.limit)) x.desc x.serial x.tag x.sets.now.lots)) (sym c.in-Err.ensures.limit.1)
     (stopped_on g.T.Theory.meaning t c.requires.going (Limited c.in-Err.limit) (subst (λ l. HasCause t (Limited l)) (sym c.in-Err.ensures.limit.0) (nodes_cause t (c.take_node.ensures.none.0 (c.in-Err.is ∙ ap Err c.in-Err.ensures.limit.0)))))
 
 pub returns-in-Err-clause-given : goal.returns-in-Err-clause-given
@@ -47,7 +47,7 @@ returns-in-Err-clause-given g c other word seen differ gave =
     let x = c.args.self.now in
     let t = state x in
     let prepared = c.requires.going.1.prepared in
-    subst (λ (p : PassState). Gave (state_of x.field.now p x.began.value x.reads x.slots (Some (Limited c.in-Err.limit)) x.desc x.serial x.tag x.lots) word seen) (sym c.in-Err.ensures.limit.1)
+    subst (λ (p : PassState). Gave (state_of x.field.now p x.began.value x.sets.now.reads x.sets.now.slots (Some (Limited c.in-Err.limit)) x.desc x.serial x.tag x.sets.now.lots) word seen) (sym c.in-Err.ensures.limit.1)
     (stopped_gave t (Limited c.in-Err.limit) word seen gave)
 
 pub node_next-word-requires : goal.node_next-word-requires
@@ -102,12 +102,12 @@ limit g c = Worn c.node_next-word.result c.of-found.result.count
 
 -- what contracts see of the transaction then
 abbrev worn_now : (g : Over) (c : goal.After-self-then-found-ge-WORN-1 g) → TxnState
-worn_now g c = let x = c.args.self.now in state_of x.field.now c.give_back.new.pass x.began.value x.reads x.slots (Some (Limited (limit g c))) x.desc x.serial x.tag x.lots
+worn_now g c = let x = c.args.self.now in state_of x.field.now c.give_back.new.pass x.began.value x.sets.now.reads x.sets.now.slots (Some (Limited (limit g c))) x.desc x.serial x.tag x.sets.now.lots
 
 worn_so : (g : Over) (c : goal.After-self-then-found-ge-WORN-1 g) → (let t = state c.args.self.now in
     worn_now g c ≡ record t { pass = record t.pass { view = c.give_back.new.pass.view }; stop = Some (Limited (limit g c)) })
 worn_so g c = let x = c.args.self.now in
-    loaded_so g.T.Theory.meaning x.field.now x.pass.now x.began.value x.reads x.slots (Some (Limited (limit g c))) x.desc x.serial x.tag x.lots c.give_back.new.pass
+    loaded_so g.T.Theory.meaning x.field.now x.pass.now x.began.value x.sets.now.reads x.sets.now.slots (Some (Limited (limit g c))) x.desc x.serial x.tag x.sets.now.lots c.give_back.new.pass
     (is_back g c) _ c.load.result (loads g c)
 
 pub returns-then-found-ge-WORN-clause-on : goal.returns-then-found-ge-WORN-clause-on
@@ -133,7 +133,7 @@ returns-then-found-ge-WORN-clause-fresh g c =
     subst (λ o. AfterStop o t (worn_now g c) (Err worn) (Freshened t (worn_now g c) c.args.key c.args.value c.args.next (Err worn))) (sym c.in_default.is) (
       (
         refl,
-        loaded_is M x.field.now x.pass.now x.began.value x.reads x.slots (Some worn) x.desc x.serial x.tag x.lots c.give_back.new.pass (is_back g c) _ c.load.result (loads g c),
+        loaded_is M x.field.now x.pass.now x.began.value x.sets.now.reads x.sets.now.slots (Some worn) x.desc x.serial x.tag x.sets.now.lots c.give_back.new.pass (is_back g c) _ c.load.result (loads g c),
       ),
       inr (
         c.in-Ok.node,
@@ -260,14 +260,14 @@ did g c =
 lane_at : (g : Over) (c : goal.After-nodes_taken-arg-1 g) → (c.in-Ok.node - c.shape.result.now.base - 1) / c.shape.result.now.nodes ≡ (did g c).takes.lane
 lane_at g c =
     let x = c.args.self.now in
-    lane_is g.T.Theory.meaning g.T.Theory.lawful x.field.now x.pass.now x.began.value x.reads x.slots x.stop x.desc x.serial x.tag x.lots
+    lane_is g.T.Theory.meaning g.T.Theory.lawful x.field.now x.pass.now x.began.value x.sets.now.reads x.sets.now.slots x.stop x.desc x.serial x.tag x.sets.now.lots
     c.requires.going.0 c.requires.going.1 c.requires.operates c.args.key c.args.value c.args.next
     c.in-Ok.node c.store-3.new.self (did g c) c.shape.result.now c.shape.ensures.shape
 
 pub nodes_taken-first-requires : goal.nodes_taken-first-requires
 nodes_taken-first-requires g c =
     let x = c.args.self.now in
-    lane_held g.T.Theory.meaning g.T.Theory.lawful x.field.now x.pass.now x.began.value x.reads x.slots x.stop x.desc x.serial x.tag x.lots
+    lane_held g.T.Theory.meaning g.T.Theory.lawful x.field.now x.pass.now x.began.value x.sets.now.reads x.sets.now.slots x.stop x.desc x.serial x.tag x.sets.now.lots
     c.requires.going.0 c.requires.going.1 c.requires.operates c.args.key c.args.value c.args.next
     c.in-Ok.node c.store-3.new.self (did g c) _ (lane_at g c)
 
@@ -275,7 +275,7 @@ nodes_taken-first-requires g c =
 more : (g : Over) (c : goal.After-nodes_taken-first g) → c.nodes_taken-first.result ≡ (share_at c.args.self.now.pass.now.shares (did g c.before).takes.lane).nodes_taken + 1
 more g c =
     let x = c.args.self.now in
-    c.nodes_taken-first.ensures ∙ one_more g.T.Theory.meaning g.T.Theory.lawful x.field.now x.pass.now x.began.value x.reads x.slots x.stop x.desc x.serial x.tag x.lots
+    c.nodes_taken-first.ensures ∙ one_more g.T.Theory.meaning g.T.Theory.lawful x.field.now x.pass.now x.began.value x.sets.now.reads x.sets.now.slots x.stop x.desc x.serial x.tag x.sets.now.lots
     c.requires.going.0 c.requires.going.1 c.requires.operates c.args.key c.args.value c.args.next
     c.in-Ok.node c.store-3.new.self (did g c.before) _ (lane_at g c.before)
 
@@ -285,7 +285,7 @@ overflow_sub-first g c = let is = more g c in omega (arith, is)
 pub keep-requires : goal.keep-requires
 keep-requires g c =
     let x = c.args.self.now in
-    lot_fits g.T.Theory.meaning g.T.Theory.lawful x.field.now x.pass.now x.began.value x.reads x.slots x.stop x.desc x.serial x.tag x.lots
+    lot_fits g.T.Theory.meaning g.T.Theory.lawful x.field.now x.pass.now x.began.value x.sets.now.reads x.sets.now.slots x.stop x.desc x.serial x.tag x.sets.now.lots
     c.requires.going.0 c.requires.going.1 c.requires.operates c.args.key c.args.value c.args.next
     c.in-Ok.node c.store-3.new.self (did g c.before.before) _ (lane_at g c.before.before)
 
@@ -296,7 +296,7 @@ first_is g c = let is = more g c in omega (arith, is)
 pub returns-clause-on : goal.returns-clause-on
 returns-clause-on g c =
     let x = c.args.self.now in
-    goes_on g.T.Theory.meaning g.T.Theory.lawful x.field.now x.pass.now x.began.value x.reads x.slots x.stop x.desc x.serial x.tag x.lots
+    goes_on g.T.Theory.meaning g.T.Theory.lawful x.field.now x.pass.now x.began.value x.sets.now.reads x.sets.now.slots x.stop x.desc x.serial x.tag x.sets.now.lots
     c.requires.going.0 c.requires.going.1 c.requires.operates c.args.key c.args.value c.args.next
     c.in-Ok.node c.store-3.new.self (did g c.before.before.before)
     c.keep.new.self _ _ (lane_at g c.before.before.before) (first_is g c.before.before) c.keep.ensures
@@ -305,9 +305,9 @@ pub returns-clause-fresh : goal.returns-clause-fresh
 returns-clause-fresh g c =
     let x = c.args.self.now in
     let t = state x in
-    let u = state_of x.field.now c.store-3.new.self x.began.value x.reads x.slots x.stop x.desc x.serial x.tag c.keep.new.self in
+    let u = state_of x.field.now c.store-3.new.self x.began.value x.sets.now.reads x.sets.now.slots x.stop x.desc x.serial x.tag c.keep.new.self in
     subst (λ o. AfterStop o t u (Ok c.in-Ok.node) (Freshened t u c.args.key c.args.value c.args.next (Ok c.in-Ok.node))) (sym c.in_default.is)
-    (freshens g.T.Theory.meaning g.T.Theory.lawful x.field.now x.pass.now x.began.value x.reads x.slots x.stop x.desc x.serial x.tag x.lots
+    (freshens g.T.Theory.meaning g.T.Theory.lawful x.field.now x.pass.now x.began.value x.sets.now.reads x.sets.now.slots x.stop x.desc x.serial x.tag x.sets.now.lots
     c.requires.going.0 c.requires.going.1 c.requires.operates c.args.key c.args.value c.args.next
     c.in-Ok.node c.store-3.new.self (did g c.before.before.before)
     c.keep.new.self _ _ (lane_at g c.before.before.before) (first_is g c.before.before) c.keep.ensures)
@@ -315,7 +315,7 @@ returns-clause-fresh g c =
 pub returns-clause-given : goal.returns-clause-given
 returns-clause-given g c =
     let x = c.args.self.now in
-    keeps_given g.T.Theory.meaning g.T.Theory.lawful x.field.now x.pass.now x.began.value x.reads x.slots x.stop x.desc x.serial x.tag x.lots
+    keeps_given g.T.Theory.meaning g.T.Theory.lawful x.field.now x.pass.now x.began.value x.sets.now.reads x.sets.now.slots x.stop x.desc x.serial x.tag x.sets.now.lots
     c.requires.going.0 c.requires.going.1 c.requires.operates c.args.key c.args.value c.args.next
     c.in-Ok.node c.store-3.new.self (did g c.before.before.before)
     c.keep.new.self _ _ (lane_at g c.before.before.before) (first_is g c.before.before) c.keep.ensures

@@ -66,10 +66,10 @@ returns-in-Ok-clause-on g c =
     let prepared = r.going.1.prepared in
     let spot = spot_is t prepared c.len-slot.result c.len-slot.ensures in
     let same = c.in-Ok.ensures.same in
-    let it = it_won M lawful x.field.now x.pass.now x.began.value x.reads x.slots x.stop x.desc x.serial x.tag x.lots prepared r.operates c.args.word c.args.from c.args.to r.counted r.other r.gave r.fits r.may r.holds _ spot c.install.new.self same c.in-Ok.ensures.shares c.in-Ok.ensures.step in
-    let taken = taken_same M lawful x.field.now x.pass.now x.began.value x.reads x.slots x.stop x.desc x.serial x.tag x.lots prepared r.operates c.args.word c.args.from c.args.to r.counted r.other r.gave r.fits r.may r.holds _ spot c.install.new.self same c.in-Ok.ensures.shares c.in-Ok.ensures.step in
-    let so = installed_so M lawful x.field.now x.pass.now x.began.value x.reads x.slots x.stop x.desc x.serial x.tag x.lots prepared r.operates c.args.word c.args.from c.args.to r.counted r.other r.gave r.fits r.may r.holds _ spot c.install.new.self same c.in-Ok.ensures.shares c.in-Ok.ensures.step
-    r.agree c.push.new.self (slots_are t x.slots c.len-slot.result c.of.result c.push.new.self c.args.word c.word.result c.args.from c.args.to c.word.ensures.whole c.len-slot.ensures c.of.ensures c.push.ensures) in
+    let it = it_won M lawful x.field.now x.pass.now x.began.value x.sets.now.reads x.sets.now.slots x.stop x.desc x.serial x.tag x.sets.now.lots prepared r.operates c.args.word c.args.from c.args.to r.counted r.other r.gave r.fits r.may r.holds _ spot c.install.new.self same c.in-Ok.ensures.shares c.in-Ok.ensures.step in
+    let taken = taken_same M lawful x.field.now x.pass.now x.began.value x.sets.now.reads x.sets.now.slots x.stop x.desc x.serial x.tag x.sets.now.lots prepared r.operates c.args.word c.args.from c.args.to r.counted r.other r.gave r.fits r.may r.holds _ spot c.install.new.self same c.in-Ok.ensures.shares c.in-Ok.ensures.step in
+    let so = installed_so M lawful x.field.now x.pass.now x.began.value x.sets.now.reads x.sets.now.slots x.stop x.desc x.serial x.tag x.sets.now.lots prepared r.operates c.args.word c.args.from c.args.to r.counted r.other r.gave r.fits r.may r.holds _ spot c.install.new.self same c.in-Ok.ensures.shares c.in-Ok.ensures.step
+    r.agree c.push.new.self (slots_are t x.sets.now.slots c.len-slot.result c.of.result c.push.new.self c.args.word c.word.result c.args.from c.args.to c.word.ensures.whole c.len-slot.ensures c.of.ensures c.push.ensures) in
     subst (GoesOn M t) (sym so) (installed_on M lawful t prepared r.operates c.args.word c.args.from c.args.to r.counted r.other r.gave r.fits r.may r.holds r.agree c.install.new.self.view it c.install.new.self.shares taken r.first)
 
 pub returns-in-Ok-clause-exchanged : goal.returns-in-Ok-clause-exchanged
@@ -82,10 +82,10 @@ returns-in-Ok-clause-exchanged g c =
     let prepared = r.going.1.prepared in
     let spot = spot_is t prepared c.len-slot.result c.len-slot.ensures in
     let same = c.in-Ok.ensures.same in
-    let it = it_won M lawful x.field.now x.pass.now x.began.value x.reads x.slots x.stop x.desc x.serial x.tag x.lots prepared r.operates c.args.word c.args.from c.args.to r.counted r.other r.gave r.fits r.may r.holds _ spot c.install.new.self same c.in-Ok.ensures.shares c.in-Ok.ensures.step in
-    let taken = taken_same M lawful x.field.now x.pass.now x.began.value x.reads x.slots x.stop x.desc x.serial x.tag x.lots prepared r.operates c.args.word c.args.from c.args.to r.counted r.other r.gave r.fits r.may r.holds _ spot c.install.new.self same c.in-Ok.ensures.shares c.in-Ok.ensures.step in
-    let so = installed_so M lawful x.field.now x.pass.now x.began.value x.reads x.slots x.stop x.desc x.serial x.tag x.lots prepared r.operates c.args.word c.args.from c.args.to r.counted r.other r.gave r.fits r.may r.holds _ spot c.install.new.self same c.in-Ok.ensures.shares c.in-Ok.ensures.step
-    r.agree c.push.new.self (slots_are t x.slots c.len-slot.result c.of.result c.push.new.self c.args.word c.word.result c.args.from c.args.to c.word.ensures.whole c.len-slot.ensures c.of.ensures c.push.ensures) in (
+    let it = it_won M lawful x.field.now x.pass.now x.began.value x.sets.now.reads x.sets.now.slots x.stop x.desc x.serial x.tag x.sets.now.lots prepared r.operates c.args.word c.args.from c.args.to r.counted r.other r.gave r.fits r.may r.holds _ spot c.install.new.self same c.in-Ok.ensures.shares c.in-Ok.ensures.step in
+    let taken = taken_same M lawful x.field.now x.pass.now x.began.value x.sets.now.reads x.sets.now.slots x.stop x.desc x.serial x.tag x.sets.now.lots prepared r.operates c.args.word c.args.from c.args.to r.counted r.other r.gave r.fits r.may r.holds _ spot c.install.new.self same c.in-Ok.ensures.shares c.in-Ok.ensures.step in
+    let so = installed_so M lawful x.field.now x.pass.now x.began.value x.sets.now.reads x.sets.now.slots x.stop x.desc x.serial x.tag x.sets.now.lots prepared r.operates c.args.word c.args.from c.args.to r.counted r.other r.gave r.fits r.may r.holds _ spot c.install.new.self same c.in-Ok.ensures.shares c.in-Ok.ensures.step
+    r.agree c.push.new.self (slots_are t x.sets.now.slots c.len-slot.result c.of.result c.push.new.self c.args.word c.word.result c.args.from c.args.to c.word.ensures.whole c.len-slot.ensures c.of.ensures c.push.ensures) in (
       refl,
       so ∙ ap (λ (p : PassState). record t { pass = p; hand = with_change t.hand c.args.word c.args.from.value c.args.to; slots = t.slots ++ new_slot t c.args.word c.args.from c.args.to ∷ [] })
           (sym (ap (λ (u : TxnState). u.pass) so)),
@@ -101,10 +101,10 @@ returns-in-Ok-clause-given g c other seen differ gave =
     let prepared = r.going.1.prepared in
     let spot = spot_is t prepared c.len-slot.result c.len-slot.ensures in
     let same = c.in-Ok.ensures.same in
-    let it = it_won M lawful x.field.now x.pass.now x.began.value x.reads x.slots x.stop x.desc x.serial x.tag x.lots prepared r.operates c.args.word c.args.from c.args.to r.counted r.other r.gave r.fits r.may r.holds _ spot c.install.new.self same c.in-Ok.ensures.shares c.in-Ok.ensures.step in
-    let taken = taken_same M lawful x.field.now x.pass.now x.began.value x.reads x.slots x.stop x.desc x.serial x.tag x.lots prepared r.operates c.args.word c.args.from c.args.to r.counted r.other r.gave r.fits r.may r.holds _ spot c.install.new.self same c.in-Ok.ensures.shares c.in-Ok.ensures.step in
-    let so = installed_so M lawful x.field.now x.pass.now x.began.value x.reads x.slots x.stop x.desc x.serial x.tag x.lots prepared r.operates c.args.word c.args.from c.args.to r.counted r.other r.gave r.fits r.may r.holds _ spot c.install.new.self same c.in-Ok.ensures.shares c.in-Ok.ensures.step
-    r.agree c.push.new.self (slots_are t x.slots c.len-slot.result c.of.result c.push.new.self c.args.word c.word.result c.args.from c.args.to c.word.ensures.whole c.len-slot.ensures c.of.ensures c.push.ensures) in
+    let it = it_won M lawful x.field.now x.pass.now x.began.value x.sets.now.reads x.sets.now.slots x.stop x.desc x.serial x.tag x.sets.now.lots prepared r.operates c.args.word c.args.from c.args.to r.counted r.other r.gave r.fits r.may r.holds _ spot c.install.new.self same c.in-Ok.ensures.shares c.in-Ok.ensures.step in
+    let taken = taken_same M lawful x.field.now x.pass.now x.began.value x.sets.now.reads x.sets.now.slots x.stop x.desc x.serial x.tag x.sets.now.lots prepared r.operates c.args.word c.args.from c.args.to r.counted r.other r.gave r.fits r.may r.holds _ spot c.install.new.self same c.in-Ok.ensures.shares c.in-Ok.ensures.step in
+    let so = installed_so M lawful x.field.now x.pass.now x.began.value x.sets.now.reads x.sets.now.slots x.stop x.desc x.serial x.tag x.sets.now.lots prepared r.operates c.args.word c.args.from c.args.to r.counted r.other r.gave r.fits r.may r.holds _ spot c.install.new.self same c.in-Ok.ensures.shares c.in-Ok.ensures.step
+    r.agree c.push.new.self (slots_are t x.sets.now.slots c.len-slot.result c.of.result c.push.new.self c.args.word c.word.result c.args.from c.args.to c.word.ensures.whole c.len-slot.ensures c.of.ensures c.push.ensures) in
     subst (λ u. Gave u other seen) (sym so) (installed_given M lawful t prepared r.operates c.args.word c.args.from c.args.to r.counted r.other r.gave r.fits r.may r.holds r.agree c.install.new.self.view it c.install.new.self.shares taken other seen differ gave)
 
 pub returns-in-Ok-clause-gave : goal.returns-in-Ok-clause-gave
@@ -117,10 +117,10 @@ returns-in-Ok-clause-gave g c =
     let prepared = r.going.1.prepared in
     let spot = spot_is t prepared c.len-slot.result c.len-slot.ensures in
     let same = c.in-Ok.ensures.same in
-    let it = it_won M lawful x.field.now x.pass.now x.began.value x.reads x.slots x.stop x.desc x.serial x.tag x.lots prepared r.operates c.args.word c.args.from c.args.to r.counted r.other r.gave r.fits r.may r.holds _ spot c.install.new.self same c.in-Ok.ensures.shares c.in-Ok.ensures.step in
-    let taken = taken_same M lawful x.field.now x.pass.now x.began.value x.reads x.slots x.stop x.desc x.serial x.tag x.lots prepared r.operates c.args.word c.args.from c.args.to r.counted r.other r.gave r.fits r.may r.holds _ spot c.install.new.self same c.in-Ok.ensures.shares c.in-Ok.ensures.step in
-    let so = installed_so M lawful x.field.now x.pass.now x.began.value x.reads x.slots x.stop x.desc x.serial x.tag x.lots prepared r.operates c.args.word c.args.from c.args.to r.counted r.other r.gave r.fits r.may r.holds _ spot c.install.new.self same c.in-Ok.ensures.shares c.in-Ok.ensures.step
-    r.agree c.push.new.self (slots_are t x.slots c.len-slot.result c.of.result c.push.new.self c.args.word c.word.result c.args.from c.args.to c.word.ensures.whole c.len-slot.ensures c.of.ensures c.push.ensures) in
+    let it = it_won M lawful x.field.now x.pass.now x.began.value x.sets.now.reads x.sets.now.slots x.stop x.desc x.serial x.tag x.sets.now.lots prepared r.operates c.args.word c.args.from c.args.to r.counted r.other r.gave r.fits r.may r.holds _ spot c.install.new.self same c.in-Ok.ensures.shares c.in-Ok.ensures.step in
+    let taken = taken_same M lawful x.field.now x.pass.now x.began.value x.sets.now.reads x.sets.now.slots x.stop x.desc x.serial x.tag x.sets.now.lots prepared r.operates c.args.word c.args.from c.args.to r.counted r.other r.gave r.fits r.may r.holds _ spot c.install.new.self same c.in-Ok.ensures.shares c.in-Ok.ensures.step in
+    let so = installed_so M lawful x.field.now x.pass.now x.began.value x.sets.now.reads x.sets.now.slots x.stop x.desc x.serial x.tag x.sets.now.lots prepared r.operates c.args.word c.args.from c.args.to r.counted r.other r.gave r.fits r.may r.holds _ spot c.install.new.self same c.in-Ok.ensures.shares c.in-Ok.ensures.step
+    r.agree c.push.new.self (slots_are t x.sets.now.slots c.len-slot.result c.of.result c.push.new.self c.args.word c.word.result c.args.from c.args.to c.word.ensures.whole c.len-slot.ensures c.of.ensures c.push.ensures) in
     subst (λ u. Gave u c.args.word (record { value = c.args.to; count = c.args.from.count + 1; own = true })) (sym so) (installed_gave M lawful t prepared r.operates c.args.word c.args.from c.args.to r.counted r.other r.gave r.fits r.may r.holds r.agree c.install.new.self.view it c.install.new.self.shares taken)
 
 pub returns-in-Err-clause-on : goal.returns-in-Err-clause-on
@@ -138,9 +138,9 @@ returns-in-Err-clause-on g c =
     (subst (λ s. SteppedFrom M t.field.origin (λ pass. install pass c.args.word (seen_content c.args.from) s) c.args.word found t.pass.view q.view) (spot_is t prepared c.len-slot.result c.len-slot.ensures) e.step.1) in
     let stop_is = c.lose.ensures.stop ∙ ap (λ n. Conflict (record { word = c.args.word; was = n; now = found })) c.word-in-Err.ensures.whole in
     let same = e.same ∙ ap (λ l. record x.pass.now { view = q.view; shares = l }) e.shares in
-    let so = (ap state c.lose.ensures.kept ∙ ap (λ s. state_of x.field.now q x.began.value x.reads x.slots (Some s) x.desc x.serial x.tag x.lots)
+    let so = (ap state c.lose.ensures.kept ∙ ap (λ s. state_of x.field.now q x.began.value x.sets.now.reads x.sets.now.slots (Some s) x.desc x.serial x.tag x.sets.now.lots)
     (c.lose.ensures.stop ∙ ap (λ n. Conflict (record { word = c.args.word; was = n; now = found })) c.word-in-Err.ensures.whole))
-    ∙ lost_so M x.field.now x.pass.now x.began.value x.reads x.slots x.stop x.desc x.serial x.tag x.lots prepared r.operates c.args.word r.counted c.args.from r.other r.gave Install (inl refl) found e.step.0 q same it in
+    ∙ lost_so M x.field.now x.pass.now x.began.value x.sets.now.reads x.sets.now.slots x.stop x.desc x.serial x.tag x.sets.now.lots prepared r.operates c.args.word r.counted c.args.from r.other r.gave Install (inl refl) found e.step.0 q same it in
     subst (GoesOn M t) (sym so) (lost_on M t prepared r.operates c.args.word r.counted c.args.from r.other r.gave Install (inl refl) found e.step.0 q.view it)
 
 pub returns-in-Err-clause-exchanged : goal.returns-in-Err-clause-exchanged
@@ -158,9 +158,9 @@ returns-in-Err-clause-exchanged g c =
     (subst (λ s. SteppedFrom M t.field.origin (λ pass. install pass c.args.word (seen_content c.args.from) s) c.args.word found t.pass.view q.view) (spot_is t prepared c.len-slot.result c.len-slot.ensures) e.step.1) in
     let stop_is = c.lose.ensures.stop ∙ ap (λ n. Conflict (record { word = c.args.word; was = n; now = found })) c.word-in-Err.ensures.whole in
     let same = e.same ∙ ap (λ l. record x.pass.now { view = q.view; shares = l }) e.shares in
-    let so = (ap state c.lose.ensures.kept ∙ ap (λ s. state_of x.field.now q x.began.value x.reads x.slots (Some s) x.desc x.serial x.tag x.lots)
+    let so = (ap state c.lose.ensures.kept ∙ ap (λ s. state_of x.field.now q x.began.value x.sets.now.reads x.sets.now.slots (Some s) x.desc x.serial x.tag x.sets.now.lots)
     (c.lose.ensures.stop ∙ ap (λ n. Conflict (record { word = c.args.word; was = n; now = found })) c.word-in-Err.ensures.whole))
-    ∙ lost_so M x.field.now x.pass.now x.began.value x.reads x.slots x.stop x.desc x.serial x.tag x.lots prepared r.operates c.args.word r.counted c.args.from r.other r.gave Install (inl refl) found e.step.0 q same it in (
+    ∙ lost_so M x.field.now x.pass.now x.began.value x.sets.now.reads x.sets.now.slots x.stop x.desc x.serial x.tag x.sets.now.lots prepared r.operates c.args.word r.counted c.args.from r.other r.gave Install (inl refl) found e.step.0 q same it in (
       (
         refl,
         so ∙ ap (λ (p : PassState). record t { pass = p; stop = Some (Conflict (record { word = c.args.word; was = seen_content c.args.from; now = found })) }) (sym (ap (λ (u : TxnState). u.pass) so))
@@ -184,7 +184,7 @@ returns-in-Err-clause-given g c other seen differ gave =
     (subst (λ s. SteppedFrom M t.field.origin (λ pass. install pass c.args.word (seen_content c.args.from) s) c.args.word found t.pass.view q.view) (spot_is t prepared c.len-slot.result c.len-slot.ensures) e.step.1) in
     let stop_is = c.lose.ensures.stop ∙ ap (λ n. Conflict (record { word = c.args.word; was = n; now = found })) c.word-in-Err.ensures.whole in
     let same = e.same ∙ ap (λ l. record x.pass.now { view = q.view; shares = l }) e.shares in
-    let so = (ap state c.lose.ensures.kept ∙ ap (λ s. state_of x.field.now q x.began.value x.reads x.slots (Some s) x.desc x.serial x.tag x.lots)
+    let so = (ap state c.lose.ensures.kept ∙ ap (λ s. state_of x.field.now q x.began.value x.sets.now.reads x.sets.now.slots (Some s) x.desc x.serial x.tag x.sets.now.lots)
     (c.lose.ensures.stop ∙ ap (λ n. Conflict (record { word = c.args.word; was = n; now = found })) c.word-in-Err.ensures.whole))
-    ∙ lost_so M x.field.now x.pass.now x.began.value x.reads x.slots x.stop x.desc x.serial x.tag x.lots prepared r.operates c.args.word r.counted c.args.from r.other r.gave Install (inl refl) found e.step.0 q same it in
+    ∙ lost_so M x.field.now x.pass.now x.began.value x.sets.now.reads x.sets.now.slots x.stop x.desc x.serial x.tag x.sets.now.lots prepared r.operates c.args.word r.counted c.args.from r.other r.gave Install (inl refl) found e.step.0 q same it in
     subst (λ u. Gave u other seen) (sym so) (lost_given M t prepared r.operates c.args.word r.counted c.args.from r.other r.gave Install (inl refl) found e.step.0 q.view it other seen gave)

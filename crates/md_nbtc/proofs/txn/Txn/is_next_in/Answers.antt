@@ -23,35 +23,35 @@ below s shape is lane first fits = subst (λ n. n < 2 ^ 32) (sym (number s lane 
 pub overflow_mul-lot : goal.overflow_mul-lot
 overflow_mul-lot g c =
     let x = c.args.self.now in
-    let lot = is_lot x.field.now x.pass.now x.began.value x.reads x.slots x.stop x.desc x.serial x.tag x.lots c.requires.going.1.prepared c.args.lot c.requires.lot in
+    let lot = is_lot x.field.now x.pass.now x.began.value x.sets.now.reads x.sets.now.slots x.stop x.desc x.serial x.tag x.sets.now.lots c.requires.going.1.prepared c.args.lot c.requires.lot in
     let b = below c.shape-shape.result.now (shape_in (state x)) c.shape-shape.ensures c.args.lot.lane c.args.lot.first lot.fits in
     omega (arith, b)
 
 pub overflow_add-shape : goal.overflow_add-shape
 overflow_add-shape g c =
     let x = c.args.self.now in
-    let lot = is_lot x.field.now x.pass.now x.began.value x.reads x.slots x.stop x.desc x.serial x.tag x.lots c.requires.going.1.prepared c.args.lot c.requires.lot in
+    let lot = is_lot x.field.now x.pass.now x.began.value x.sets.now.reads x.sets.now.slots x.stop x.desc x.serial x.tag x.sets.now.lots c.requires.going.1.prepared c.args.lot c.requires.lot in
     let b = below c.shape-shape.result.now (shape_in (state x)) c.shape-shape.ensures c.args.lot.lane c.args.lot.first lot.fits in
     omega (arith, b)
 
 pub overflow_add-shape-2 : goal.overflow_add-shape-2
 overflow_add-shape-2 g c =
     let x = c.args.self.now in
-    let lot = is_lot x.field.now x.pass.now x.began.value x.reads x.slots x.stop x.desc x.serial x.tag x.lots c.requires.going.1.prepared c.args.lot c.requires.lot in
+    let lot = is_lot x.field.now x.pass.now x.began.value x.sets.now.reads x.sets.now.slots x.stop x.desc x.serial x.tag x.sets.now.lots c.requires.going.1.prepared c.args.lot c.requires.lot in
     let b = below c.shape-shape.result.now (shape_in (state x)) c.shape-shape.ensures c.args.lot.lane c.args.lot.first lot.fits in
     omega (arith, b)
 
 pub overflow_add-shape-3 : goal.overflow_add-shape-3
 overflow_add-shape-3 g c =
     let x = c.args.self.now in
-    let lot = is_lot x.field.now x.pass.now x.began.value x.reads x.slots x.stop x.desc x.serial x.tag x.lots c.requires.going.1.prepared c.args.lot c.requires.lot in
+    let lot = is_lot x.field.now x.pass.now x.began.value x.sets.now.reads x.sets.now.slots x.stop x.desc x.serial x.tag x.sets.now.lots c.requires.going.1.prepared c.args.lot c.requires.lot in
     let b = below c.shape-shape.result.now (shape_in (state x)) c.shape-shape.ensures c.args.lot.lane c.args.lot.first lot.fits in
     omega (arith, b)
 
 pub node_next-first-requires : goal.node_next-first-requires
 node_next-first-requires g c =
     let x = c.args.self.now in
-    let lot = is_lot x.field.now x.pass.now x.began.value x.reads x.slots x.stop x.desc x.serial x.tag x.lots c.requires.going.1.prepared c.args.lot c.requires.lot in
+    let lot = is_lot x.field.now x.pass.now x.began.value x.sets.now.reads x.sets.now.slots x.stop x.desc x.serial x.tag x.sets.now.lots c.requires.going.1.prepared c.args.lot c.requires.lot in
     let s = c.shape-shape.result.now in
     subst (λ n. IsNode s n) (sym (number s c.args.lot.lane c.args.lot.first)) (subst (λ z. IsNode z (node_of z c.args.lot.lane c.args.lot.first)) (sym c.shape-shape.ensures) lot.node)
 
@@ -61,12 +61,12 @@ first_is s shape is lane first at place = place ∙ ap (λ n. address s (node_ne
 pub nodes_taken-requires : goal.nodes_taken-requires
 nodes_taken-requires g c =
     let x = c.args.self.now in
-    (is_lot x.field.now x.pass.now x.began.value x.reads x.slots x.stop x.desc x.serial x.tag x.lots c.requires.going.1.prepared c.args.lot c.requires.lot).lane
+    (is_lot x.field.now x.pass.now x.began.value x.sets.now.reads x.sets.now.slots x.stop x.desc x.serial x.tag x.sets.now.lots c.requires.going.1.prepared c.args.lot c.requires.lot).lane
 
 pub overflow_sub-result : goal.overflow_sub-result
 overflow_sub-result g c =
     let x = c.args.self.now in
-    let lot = is_lot x.field.now x.pass.now x.began.value x.reads x.slots x.stop x.desc x.serial x.tag x.lots c.requires.going.1.prepared c.args.lot c.requires.lot in
+    let lot = is_lot x.field.now x.pass.now x.began.value x.sets.now.reads x.sets.now.slots x.stop x.desc x.serial x.tag x.sets.now.lots c.requires.going.1.prepared c.args.lot c.requires.lot in
     let less = lot.less in
     let is = c.nodes_taken.ensures in
     omega (arith, less, is)
@@ -76,9 +76,9 @@ returns-then-word-first g c =
     let x = c.args.self.now in
     let t = state x in
     let prepared = c.requires.going.1.prepared in
-    let lot = is_lot x.field.now x.pass.now x.began.value x.reads x.slots x.stop x.desc x.serial x.tag x.lots prepared c.args.lot c.requires.lot in
+    let lot = is_lot x.field.now x.pass.now x.began.value x.sets.now.reads x.sets.now.slots x.stop x.desc x.serial x.tag x.sets.now.lots prepared c.args.lot c.requires.lot in
     let n = (share_at x.pass.now.shares c.args.lot.lane).nodes_taken - c.args.lot.first in
-    let same = lot_nodes x.field.now x.pass.now x.began.value x.reads x.slots x.stop x.desc x.serial x.tag x.lots prepared c.args.lot lot in
+    let same = lot_nodes x.field.now x.pass.now x.began.value x.sets.now.reads x.sets.now.slots x.stop x.desc x.serial x.tag x.sets.now.lots prepared c.args.lot lot in
     let low = first_is c.shape-shape.result.now (shape_in t) c.shape-shape.ensures c.args.lot.lane c.args.lot.first c.node_next-first.result c.node_next-first.ensures.place in
     let its : ℕ → Bool = is_next_word (shape_in t) c.args.word in
     none_below (shape_in t) c.args.lot.lane c.args.lot.first n c.args.word (subst (λ f. c.args.word < f) low c.if-word-first.true) ∙ ap (list_any its) (sym same)
@@ -88,9 +88,9 @@ returns-then-past-eq0 g c =
     let x = c.args.self.now in
     let t = state x in
     let prepared = c.requires.going.1.prepared in
-    let lot = is_lot x.field.now x.pass.now x.began.value x.reads x.slots x.stop x.desc x.serial x.tag x.lots prepared c.args.lot c.requires.lot in
+    let lot = is_lot x.field.now x.pass.now x.began.value x.sets.now.reads x.sets.now.slots x.stop x.desc x.serial x.tag x.sets.now.lots prepared c.args.lot c.requires.lot in
     let n = (share_at x.pass.now.shares c.args.lot.lane).nodes_taken - c.args.lot.first in
-    let same = lot_nodes x.field.now x.pass.now x.began.value x.reads x.slots x.stop x.desc x.serial x.tag x.lots prepared c.args.lot lot in
+    let same = lot_nodes x.field.now x.pass.now x.began.value x.sets.now.reads x.sets.now.slots x.stop x.desc x.serial x.tag x.sets.now.lots prepared c.args.lot lot in
     let low = first_is c.shape-shape.result.now (shape_in t) c.shape-shape.ensures c.args.lot.lane c.args.lot.first c.node_next-first.result c.node_next-first.ensures.place in
     let its : ℕ → Bool = is_next_word (shape_in t) c.args.word in
     ap (λ f. nat_lt ((c.args.word - f) / 3) (c.nodes_taken.result - c.args.lot.first)) low
@@ -103,9 +103,9 @@ returns-else-past-eq0 g c =
     let x = c.args.self.now in
     let t = state x in
     let prepared = c.requires.going.1.prepared in
-    let lot = is_lot x.field.now x.pass.now x.began.value x.reads x.slots x.stop x.desc x.serial x.tag x.lots prepared c.args.lot c.requires.lot in
+    let lot = is_lot x.field.now x.pass.now x.began.value x.sets.now.reads x.sets.now.slots x.stop x.desc x.serial x.tag x.sets.now.lots prepared c.args.lot c.requires.lot in
     let n = (share_at x.pass.now.shares c.args.lot.lane).nodes_taken - c.args.lot.first in
-    let same = lot_nodes x.field.now x.pass.now x.began.value x.reads x.slots x.stop x.desc x.serial x.tag x.lots prepared c.args.lot lot in
+    let same = lot_nodes x.field.now x.pass.now x.began.value x.sets.now.reads x.sets.now.slots x.stop x.desc x.serial x.tag x.sets.now.lots prepared c.args.lot lot in
     let low = first_is c.shape-shape.result.now (shape_in t) c.shape-shape.ensures c.args.lot.lane c.args.lot.first c.node_next-first.result c.node_next-first.ensures.place in
     let its : ℕ → Bool = is_next_word (shape_in t) c.args.word in
     ne_eqb _ _ c.if-past-eq0.false

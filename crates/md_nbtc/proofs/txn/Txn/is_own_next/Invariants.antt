@@ -7,4 +7,4 @@ use Rattle.md_nbtc.proofs.txn.Txn.is_own_next.Given as goal
 
 abbrev pub invariant-loop-i : goal.invariant-loop-i
 invariant-loop-i g l =
-    list_any (λ (x : Lot). list_any (is_next_word (shape_in (state l.self)) l.word) (taken_of_lane l.self.began.value l.self.pass.now x.lane)) (take l.i l.self.lots) ≡ false
+    list_any (λ (x : Lot). list_any (is_next_word (shape_in (state l.self)) l.word) (taken_of_lane l.self.began.value l.self.pass.now x.lane)) (take l.i l.self.sets.now.lots) ≡ false

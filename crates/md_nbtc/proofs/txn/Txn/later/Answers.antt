@@ -12,7 +12,7 @@ use Rattle.md_nbtc.proofs.txn.Txn.later.Given.{Over}
 use Rattle.md_nbtc.proofs.txn.Txn.later.Goals as goal
 
 slots_are : (g : Over) (c : goal.After-keep g) → c.keep.new.self ≡ with_cleanup_kept (state c.args.self.now) c.args.cleanup
-slots_are g c = c.keep.ensures ∙ ap (λ word. map (with_cleanup word c.args.cleanup) c.args.self.now.slots)
+slots_are g c = c.keep.ensures ∙ ap (λ word. map (with_cleanup word c.args.cleanup) c.args.self.now.sets.now.slots)
     (c.node_next-word.ensures.place ∙ ap (λ s. address s (node_next c.node_of.result)) c.shape.ensures ∙ ap (λ n. address c.args.self.now.field.now.origin.shape (node_next n)) c.node_of.ensures)
 
 pub returns-clause-on : goal.returns-clause-on

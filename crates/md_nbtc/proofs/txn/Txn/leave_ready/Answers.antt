@@ -52,9 +52,9 @@ returns-in-Ok-clause-left g c =
     let x = c.args.self in
     let r = c.ready.new.self in
     let by = subst (λ y. EnteredBy (IsGoing M (state y)) r.view) c.of-about.ensures c.in-Ok.ensures.by in
-    let now = ready_now M g.T.Theory.lawful x.field.now x.pass.now x.began.value x.reads x.slots x.stop x.desc x.serial x.tag x.lots c.requires.going.0 c.requires.runs c.requires.going.1
+    let now = ready_now M g.T.Theory.lawful x.field.now x.pass.now x.began.value x.sets.now.reads x.sets.now.slots x.stop x.desc x.serial x.tag x.sets.now.lots c.requires.going.0 c.requires.runs c.requires.going.1
     c.requires.between c.unready-from.result c.len.result c.unready-from.ensures c.len.ensures r c.ready.ensures.same c.in-Ok.ensures.step by in record {
-      ready = state_of x.field.now r x.began.value x.reads x.slots None x.desc x.serial x.tag x.lots;
+      ready = state_of x.field.now r x.began.value x.sets.now.reads x.sets.now.slots None x.desc x.serial x.tag x.sets.now.lots;
       is = now.0;
       readies = now.1;
       left = refl;

@@ -26,7 +26,7 @@ returns-then-is_none-clause-on g c =
     let q = c.look_at-was.new.pass in
     let l = c.look_at-was.ensures.looks in
     let none = slot_none t.slots c.args.word c.requires.none in
-    let is = looked_is x.field.now x.pass.now x.began.value x.reads x.slots x.stop x.desc x.serial x.tag x.lots M c.args.word c.look_at-was.result q c.look_at-was.ensures.same l in
+    let is = looked_is x.field.now x.pass.now x.began.value x.sets.now.reads x.sets.now.slots x.stop x.desc x.serial x.tag x.sets.now.lots M c.args.word c.look_at-was.result q c.look_at-was.ensures.same l in
     subst (GoesOn M t) (sym (is ∙ ap (λ p. record t { pass = p }) c.look_at-was.ensures.same))
     (looked_on M g.T.Theory.lawful t c.requires.going q.view c.args.word c.look_at-was.result l c.requires.counted none)
 
@@ -41,7 +41,7 @@ returns-then-is_none-clause-looked g c =
     let none = slot_none t.slots c.args.word c.requires.none in
     let even = found_even was c.of-found.result c.stands.result c.is_none.result c.of-found.ensures.parts c.stands.ensures.spot c.is_none.ensures c.if-is_none.true in
     let seen = seen_is was c.of-found.result c.seen_of.result c.of-found.ensures.parts c.seen_of.ensures in
-    let is = looked_is x.field.now x.pass.now x.began.value x.reads x.slots x.stop x.desc x.serial x.tag x.lots M c.args.word was q c.look_at-was.ensures.same l in (
+    let is = looked_is x.field.now x.pass.now x.began.value x.sets.now.reads x.sets.now.slots x.stop x.desc x.serial x.tag x.sets.now.lots M c.args.word was q c.look_at-was.ensures.same l in (
       is,
       subst (λ u. Looks M t u c.args.word c.seen_of.result) (sym (is ∙ ap (λ p. record t { pass = p }) c.look_at-was.ensures.same))
           (subst (Looks M t (looked M g.T.Theory.lawful t c.requires.going q.view c.args.word was l c.requires.counted none) c.args.word) seen
@@ -71,7 +71,7 @@ returns-then-is_none-clause-given g c other seen differ gave =
     let q = c.look_at-was.new.pass in
     let l = c.look_at-was.ensures.looks in
     let none = slot_none t.slots c.args.word c.requires.none in
-    let is = looked_is x.field.now x.pass.now x.began.value x.reads x.slots x.stop x.desc x.serial x.tag x.lots M c.args.word c.look_at-was.result q c.look_at-was.ensures.same l in
+    let is = looked_is x.field.now x.pass.now x.began.value x.sets.now.reads x.sets.now.slots x.stop x.desc x.serial x.tag x.sets.now.lots M c.args.word c.look_at-was.result q c.look_at-was.ensures.same l in
     subst (λ u. Gave u other seen) (sym (is ∙ ap (λ p. record t { pass = p }) c.look_at-was.ensures.same))
     (looked_given M g.T.Theory.lawful t c.requires.going q.view c.args.word c.look_at-was.result l c.requires.counted none other seen differ gave)
 
@@ -124,7 +124,7 @@ returns-then-is_none-2-clause-on g c =
     let clears = subst (λ w. Clears (shape_in t) word w result q.view r.view) c.of-found.ensures.inverse c.clear-now.ensures.clears in
     let stands = c.clear-now.ensures.stands in
     let quiet = cleared_quiet M lawful t c.requires.going q.view word was l c.requires.counted none odd r.view result clears stands in
-    let is = cleared_is x.field.now x.pass.now x.began.value x.reads x.slots x.stop x.desc x.serial x.tag x.lots M word was q r c.look_at-was.ensures.same l c.clear-now.ensures.same (clears.ask ∷ clears.look ∷ clears.steps) clears.goes quiet in
+    let is = cleared_is x.field.now x.pass.now x.began.value x.sets.now.reads x.sets.now.slots x.stop x.desc x.serial x.tag x.sets.now.lots M word was q r c.look_at-was.ensures.same l c.clear-now.ensures.same (clears.ask ∷ clears.look ∷ clears.steps) clears.goes quiet in
     subst (GoesOn M t) (sym is) (cleared_goes M lawful t c.requires.going q.view word was l c.requires.counted none odd r.view result clears stands)
 
 pub returns-then-is_none-2-clause-looked : goal.returns-then-is_none-2-clause-looked
@@ -144,7 +144,7 @@ returns-then-is_none-2-clause-looked g c =
     let clears = subst (λ w. Clears (shape_in t) word w result q.view r.view) c.of-found.ensures.inverse c.clear-now.ensures.clears in
     let stands = c.clear-now.ensures.stands in
     let quiet = cleared_quiet M lawful t c.requires.going q.view word was l c.requires.counted none odd r.view result clears stands in
-    let is = cleared_is x.field.now x.pass.now x.began.value x.reads x.slots x.stop x.desc x.serial x.tag x.lots M word was q r c.look_at-was.ensures.same l c.clear-now.ensures.same (clears.ask ∷ clears.look ∷ clears.steps) clears.goes quiet in
+    let is = cleared_is x.field.now x.pass.now x.began.value x.sets.now.reads x.sets.now.slots x.stop x.desc x.serial x.tag x.sets.now.lots M word was q r c.look_at-was.ensures.same l c.clear-now.ensures.same (clears.ask ∷ clears.look ∷ clears.steps) clears.goes quiet in
     let even = found_even result.left c.of-left.result c.stands-2.result c.is_none-2.result c.of-left.ensures.parts c.stands-2.ensures.spot c.is_none-2.ensures c.if-is_none-2.true in
     let seen = seen_is result.left c.of-left.result c.seen_of-then-is_none-2.result c.of-left.ensures.parts c.seen_of-then-is_none-2.ensures in
     let pass : r ≡ record x.pass.now { view = r.view } = c.clear-now.ensures.same ∙ ap (λ (p : PassState). record p { view = r.view }) c.look_at-was.ensures.same in (
@@ -188,7 +188,7 @@ returns-then-is_none-2-clause-given g c other seen differ gave =
     let clears = subst (λ w. Clears (shape_in t) word w result q.view r.view) c.of-found.ensures.inverse c.clear-now.ensures.clears in
     let stands = c.clear-now.ensures.stands in
     let quiet = cleared_quiet M lawful t c.requires.going q.view word was l c.requires.counted none odd r.view result clears stands in
-    let is = cleared_is x.field.now x.pass.now x.began.value x.reads x.slots x.stop x.desc x.serial x.tag x.lots M word was q r c.look_at-was.ensures.same l c.clear-now.ensures.same (clears.ask ∷ clears.look ∷ clears.steps) clears.goes quiet in
+    let is = cleared_is x.field.now x.pass.now x.began.value x.sets.now.reads x.sets.now.slots x.stop x.desc x.serial x.tag x.sets.now.lots M word was q r c.look_at-was.ensures.same l c.clear-now.ensures.same (clears.ask ∷ clears.look ∷ clears.steps) clears.goes quiet in
     subst (λ u. Gave u other seen) (sym is) (cleared_keeps M lawful t c.requires.going q.view word was l c.requires.counted none odd r.view result clears stands other seen differ gave)
 
 pub returns-clause-on : goal.returns-clause-on
@@ -208,7 +208,7 @@ returns-clause-on g c =
     let clears = subst (λ w. Clears (shape_in t) word w result q.view r.view) c.of-found.ensures.inverse c.clear-now.ensures.clears in
     let stands = c.clear-now.ensures.stands in
     let quiet = cleared_quiet M lawful t c.requires.going q.view word was l c.requires.counted none odd r.view result clears stands in
-    let is = cleared_is x.field.now x.pass.now x.began.value x.reads x.slots x.stop x.desc x.serial x.tag x.lots M word was q r c.look_at-was.ensures.same l c.clear-now.ensures.same (clears.ask ∷ clears.look ∷ clears.steps) clears.goes quiet in
+    let is = cleared_is x.field.now x.pass.now x.began.value x.sets.now.reads x.sets.now.slots x.stop x.desc x.serial x.tag x.sets.now.lots M word was q r c.look_at-was.ensures.same l c.clear-now.ensures.same (clears.ask ∷ clears.look ∷ clears.steps) clears.goes quiet in
     let left_odd = found_odd result.left c.of-left.result c.stands-2.result c.is_none-2.result c.of-left.ensures.parts c.stands-2.ensures.spot c.is_none-2.ensures c.if-is_none-2.false in
     let shown : Shown = record { word = word; was = was; now = result.left } in
     subst (λ (v : TxnState). GoesOn M t (record v { stop = Some (Conflict shown) })) (sym is)
@@ -231,7 +231,7 @@ returns-clause-looked g c =
     let clears = subst (λ w. Clears (shape_in t) word w result q.view r.view) c.of-found.ensures.inverse c.clear-now.ensures.clears in
     let stands = c.clear-now.ensures.stands in
     let quiet = cleared_quiet M lawful t c.requires.going q.view word was l c.requires.counted none odd r.view result clears stands in
-    let is = cleared_is x.field.now x.pass.now x.began.value x.reads x.slots x.stop x.desc x.serial x.tag x.lots M word was q r c.look_at-was.ensures.same l c.clear-now.ensures.same (clears.ask ∷ clears.look ∷ clears.steps) clears.goes quiet in
+    let is = cleared_is x.field.now x.pass.now x.began.value x.sets.now.reads x.sets.now.slots x.stop x.desc x.serial x.tag x.sets.now.lots M word was q r c.look_at-was.ensures.same l c.clear-now.ensures.same (clears.ask ∷ clears.look ∷ clears.steps) clears.goes quiet in
     let left_odd = found_odd result.left c.of-left.result c.stands-2.result c.is_none-2.result c.of-left.ensures.parts c.stands-2.ensures.spot c.is_none-2.ensures c.if-is_none-2.false in
     let shown : Shown = record { word = word; was = was; now = result.left } in
     let pass : r ≡ record x.pass.now { view = r.view } = c.clear-now.ensures.same ∙ ap (λ (p : PassState). record p { view = r.view }) c.look_at-was.ensures.same in (
@@ -273,7 +273,7 @@ returns-clause-given g c other seen differ gave =
     let clears = subst (λ w. Clears (shape_in t) word w result q.view r.view) c.of-found.ensures.inverse c.clear-now.ensures.clears in
     let stands = c.clear-now.ensures.stands in
     let quiet = cleared_quiet M lawful t c.requires.going q.view word was l c.requires.counted none odd r.view result clears stands in
-    let is = cleared_is x.field.now x.pass.now x.began.value x.reads x.slots x.stop x.desc x.serial x.tag x.lots M word was q r c.look_at-was.ensures.same l c.clear-now.ensures.same (clears.ask ∷ clears.look ∷ clears.steps) clears.goes quiet in
+    let is = cleared_is x.field.now x.pass.now x.began.value x.sets.now.reads x.sets.now.slots x.stop x.desc x.serial x.tag x.sets.now.lots M word was q r c.look_at-was.ensures.same l c.clear-now.ensures.same (clears.ask ∷ clears.look ∷ clears.steps) clears.goes quiet in
     let shown : Shown = record { word = word; was = was; now = result.left } in
     subst (λ (v : TxnState). Gave (record v { stop = Some (Conflict shown) }) other seen) (sym is)
     (stopped_gave (cleared M lawful t c.requires.going q.view word was l c.requires.counted none odd r.view result clears stands) (Conflict shown) other seen (cleared_keeps M lawful t c.requires.going q.view word was l c.requires.counted none odd r.view result clears stands other seen differ gave))

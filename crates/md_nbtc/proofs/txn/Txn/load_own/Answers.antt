@@ -58,7 +58,7 @@ returns-then-now-was-clause-on g c =
     let t = state x in
     let q = c.load-now.new.self in
     let step = c.load-now.ensures.step in
-    subst (GoesOn M t) (sym (loaded_so M x.field.now x.pass.now x.began.value x.reads x.slots x.stop x.desc x.serial x.tag x.lots q c.load-now.ensures.same c.args.word c.load-now.result step))
+    subst (GoesOn M t) (sym (loaded_so M x.field.now x.pass.now x.began.value x.sets.now.reads x.sets.now.slots x.stop x.desc x.serial x.tag x.sets.now.lots q c.load-now.ensures.same c.args.word c.load-now.result step))
     (loaded_on M t c.requires.going q.view c.args.word c.load-now.result step c.requires.counted)
 
 pub returns-then-now-was-clause-looked : goal.returns-then-now-was-clause-looked
@@ -74,8 +74,8 @@ returns-then-now-was-clause-looked g c =
     let is = was ∙ ap (λ d. installed_word c.get.result.write.old (record { desc = d; slot = c.get.result.write.slot })) (sym prepared.has.numbers.0)
     ∙ sym c.installed.ensures ∙ sym c.word-was.ensures.whole ∙ sym c.if-now-was.true in
     let seen : Seen = record { value = c.get.result.write.new; count = c.of.result.count + 1; own = true } in
-    let so = loaded_so M x.field.now x.pass.now x.began.value x.reads x.slots x.stop x.desc x.serial x.tag x.lots q c.load-now.ensures.same c.args.word c.load-now.result step in (
-      loaded_is M x.field.now x.pass.now x.began.value x.reads x.slots x.stop x.desc x.serial x.tag x.lots q c.load-now.ensures.same c.args.word c.load-now.result step,
+    let so = loaded_so M x.field.now x.pass.now x.began.value x.sets.now.reads x.sets.now.slots x.stop x.desc x.serial x.tag x.sets.now.lots q c.load-now.ensures.same c.args.word c.load-now.result step in (
+      loaded_is M x.field.now x.pass.now x.began.value x.sets.now.reads x.sets.now.slots x.stop x.desc x.serial x.tag x.sets.now.lots q c.load-now.ensures.same c.args.word c.load-now.result step,
       subst (λ u. Looks M t u c.args.word seen) (sym so)
           (subst (λ n. Looks M t (after_load M t prepared q.view c.args.word c.load-now.result step) c.args.word (record { value = c.get.result.write.new; count = n + 1; own = true }))
           (sym (ap (λ (x : Content). x.count) c.of.ensures.parts))
@@ -103,7 +103,7 @@ returns-then-now-was-clause-given g c other seen differ gave =
     let t = state x in
     let q = c.load-now.new.self in
     let step = c.load-now.ensures.step in
-    subst (λ u. Gave u other seen) (sym (loaded_so M x.field.now x.pass.now x.began.value x.reads x.slots x.stop x.desc x.serial x.tag x.lots q c.load-now.ensures.same c.args.word c.load-now.result step))
+    subst (λ u. Gave u other seen) (sym (loaded_so M x.field.now x.pass.now x.began.value x.sets.now.reads x.sets.now.slots x.stop x.desc x.serial x.tag x.sets.now.lots q c.load-now.ensures.same c.args.word c.load-now.result step))
     (loaded_given M t c.requires.going.1.prepared q.view c.args.word c.load-now.result step other seen gave)
 
 pub returns-clause-on : goal.returns-clause-on
@@ -119,7 +119,7 @@ returns-clause-on g c =
     let is = c.word-was.ensures.whole ∙ c.installed.ensures ∙ ap (λ d. installed_word c.get.result.write.old (record { desc = d; slot = c.get.result.write.slot })) prepared.has.numbers.0 in
     let moved = own_moved M t prepared q.view c.args.word c.load-now.result step c.get.result.write slot.among slot.there (λ e. c.if-now-was.false (sym (is ∙ e))) in
     let u = after_load M t prepared q.view c.args.word c.load-now.result step in
-    subst (λ v. GoesOn M t (record v { stop = Some (Conflict shown) })) (sym (loaded_so M x.field.now x.pass.now x.began.value x.reads x.slots x.stop x.desc x.serial x.tag x.lots q c.load-now.ensures.same c.args.word c.load-now.result step))
+    subst (λ v. GoesOn M t (record v { stop = Some (Conflict shown) })) (sym (loaded_so M x.field.now x.pass.now x.began.value x.sets.now.reads x.sets.now.slots x.stop x.desc x.serial x.tag x.sets.now.lots q c.load-now.ensures.same c.args.word c.load-now.result step))
     (stopped_on M t u c.requires.going (loaded_on M t c.requires.going q.view c.args.word c.load-now.result step c.requires.counted) (Conflict shown)
     (conflict_cause u shown (subst (λ w. Moved (shape_in t) (attempt_in t) (own_steps u) (record { word = c.args.word; was = w; now = c.load-now.result })) (sym is) moved.0) moved.1))
 
@@ -136,7 +136,7 @@ returns-clause-looked g c =
     let is = c.word-was.ensures.whole ∙ c.installed.ensures ∙ ap (λ d. installed_word c.get.result.write.old (record { desc = d; slot = c.get.result.write.slot })) prepared.has.numbers.0 in (
       (
         refl,
-        ap (λ (v : TxnState). record v { stop = Some (Conflict shown) }) (loaded_is M x.field.now x.pass.now x.began.value x.reads x.slots x.stop x.desc x.serial x.tag x.lots q c.load-now.ensures.same c.args.word c.load-now.result step),
+        ap (λ (v : TxnState). record v { stop = Some (Conflict shown) }) (loaded_is M x.field.now x.pass.now x.began.value x.sets.now.reads x.sets.now.slots x.stop x.desc x.serial x.tag x.sets.now.lots q c.load-now.ensures.same c.args.word c.load-now.result step),
       ),
       (shown, refl, refl, inl (slot.written, is ∙ sym (slot.installed (attempt_in t).desc))),
     )
@@ -160,5 +160,5 @@ returns-clause-given g c other seen differ gave =
     let step = c.load-now.ensures.step in
     let shown : Shown = record { word = c.args.word; was = c.word-was.result; now = c.load-now.result } in
     let u = after_load M t c.requires.going.1.prepared q.view c.args.word c.load-now.result step in
-    subst (λ v. Gave (record v { stop = Some (Conflict shown) }) other seen) (sym (loaded_so M x.field.now x.pass.now x.began.value x.reads x.slots x.stop x.desc x.serial x.tag x.lots q c.load-now.ensures.same c.args.word c.load-now.result step))
+    subst (λ v. Gave (record v { stop = Some (Conflict shown) }) other seen) (sym (loaded_so M x.field.now x.pass.now x.began.value x.sets.now.reads x.sets.now.slots x.stop x.desc x.serial x.tag x.sets.now.lots q c.load-now.ensures.same c.args.word c.load-now.result step))
     (stopped_gave u (Conflict shown) other seen (loaded_given M t c.requires.going.1.prepared q.view c.args.word c.load-now.result step other seen gave))

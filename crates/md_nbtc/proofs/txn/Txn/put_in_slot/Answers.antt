@@ -34,7 +34,7 @@ returns-clause-on g c =
     let t = state x in
     let prepared = c.requires.going.1.prepared in
     let spare = is_spare M t prepared c.args.at c.args.value c.requires.may in
-    let so = put_so M x.field.now x.pass.now x.began.value x.reads x.slots x.stop x.desc x.serial x.tag x.lots prepared c.requires.operates c.args.at c.args.value spare c.store.new.self c.store.ensures.same c.store.ensures.step in
+    let so = put_so M x.field.now x.pass.now x.began.value x.sets.now.reads x.sets.now.slots x.stop x.desc x.serial x.tag x.sets.now.lots prepared c.requires.operates c.args.at c.args.value spare c.store.new.self c.store.ensures.same c.store.ensures.step in
     subst (GoesOn M t) (sym so) (put_on M t prepared c.requires.operates c.args.at c.args.value spare c.store.new.self.view c.store.ensures.step)
 
 pub returns-clause-same : goal.returns-clause-same
@@ -44,7 +44,7 @@ returns-clause-same g c =
     let t = state x in
     let prepared = c.requires.going.1.prepared in
     let spare = is_spare M t prepared c.args.at c.args.value c.requires.may in
-    let so = put_so M x.field.now x.pass.now x.began.value x.reads x.slots x.stop x.desc x.serial x.tag x.lots prepared c.requires.operates c.args.at c.args.value spare c.store.new.self c.store.ensures.same c.store.ensures.step in
+    let so = put_so M x.field.now x.pass.now x.began.value x.sets.now.reads x.sets.now.slots x.stop x.desc x.serial x.tag x.sets.now.lots prepared c.requires.operates c.args.at c.args.value spare c.store.new.self c.store.ensures.same c.store.ensures.step in
     so ∙ ap (λ (p : PassState). record t { pass = p }) (sym (ap (λ (u : TxnState). u.pass) so))
 
 pub returns-clause-given : goal.returns-clause-given
@@ -54,7 +54,7 @@ returns-clause-given g c word other seen differ gave =
     let t = state x in
     let prepared = c.requires.going.1.prepared in
     let spare = is_spare M t prepared c.args.at c.args.value c.requires.may in
-    let so = put_so M x.field.now x.pass.now x.began.value x.reads x.slots x.stop x.desc x.serial x.tag x.lots prepared c.requires.operates c.args.at c.args.value spare c.store.new.self c.store.ensures.same c.store.ensures.step in
+    let so = put_so M x.field.now x.pass.now x.began.value x.sets.now.reads x.sets.now.slots x.stop x.desc x.serial x.tag x.sets.now.lots prepared c.requires.operates c.args.at c.args.value spare c.store.new.self c.store.ensures.same c.store.ensures.step in
     subst (λ u. Gave u other seen) (sym so) (put_gave M t prepared c.requires.operates c.args.at c.args.value spare c.store.new.self.view c.store.ensures.step other seen gave)
 
 pub returns-clause-stored : goal.returns-clause-stored
@@ -64,7 +64,7 @@ returns-clause-stored g c =
     let t = state x in
     let prepared = c.requires.going.1.prepared in
     let spare = is_spare M t prepared c.args.at c.args.value c.requires.may in
-    let so = put_so M x.field.now x.pass.now x.began.value x.reads x.slots x.stop x.desc x.serial x.tag x.lots prepared c.requires.operates c.args.at c.args.value spare c.store.new.self c.store.ensures.same c.store.ensures.step in
+    let so = put_so M x.field.now x.pass.now x.began.value x.sets.now.reads x.sets.now.slots x.stop x.desc x.serial x.tag x.sets.now.lots prepared c.requires.operates c.args.at c.args.value spare c.store.new.self c.store.ensures.same c.store.ensures.step in
     subst (λ u. Stored u c.args.at c.args.value) (sym so) (put_stored M t prepared c.requires.operates c.args.at c.args.value spare c.store.new.self.view c.store.ensures.step)
 
 pub returns-clause-keeps : goal.returns-clause-keeps
@@ -74,5 +74,5 @@ returns-clause-keeps g c word held differ stored =
     let t = state x in
     let prepared = c.requires.going.1.prepared in
     let spare = is_spare M t prepared c.args.at c.args.value c.requires.may in
-    let so = put_so M x.field.now x.pass.now x.began.value x.reads x.slots x.stop x.desc x.serial x.tag x.lots prepared c.requires.operates c.args.at c.args.value spare c.store.new.self c.store.ensures.same c.store.ensures.step in
+    let so = put_so M x.field.now x.pass.now x.began.value x.sets.now.reads x.sets.now.slots x.stop x.desc x.serial x.tag x.sets.now.lots prepared c.requires.operates c.args.at c.args.value spare c.store.new.self c.store.ensures.same c.store.ensures.step in
     subst (λ u. Stored u word held) (sym so) (put_keeps M t prepared c.requires.operates c.args.at c.args.value spare c.store.new.self.view c.store.ensures.step word held differ stored)

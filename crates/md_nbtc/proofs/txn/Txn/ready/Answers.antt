@@ -52,7 +52,7 @@ returns-in-Ok-clause-ready g c =
     let x = c.args.self in
     let r = c.ready.new.self in
     let by = subst (λ y. EnteredBy (IsGoing M (state y)) r.view) c.of-about.ensures c.in-Ok.ensures.by in
-    ready_now M g.T.Theory.lawful x.field.now x.pass.now x.began.value x.reads x.slots x.stop x.desc x.serial x.tag x.lots c.requires.going.0 c.requires.runs c.requires.going.1
+    ready_now M g.T.Theory.lawful x.field.now x.pass.now x.began.value x.sets.now.reads x.sets.now.slots x.stop x.desc x.serial x.tag x.sets.now.lots c.requires.going.0 c.requires.runs c.requires.going.1
     c.requires.between c.unready-from.result c.len.result c.unready-from.ensures c.len.ensures r c.ready.ensures.same c.in-Ok.ensures.step by
 
 pub withdraw-requires-clause-stands : goal.withdraw-requires-clause-stands

@@ -32,28 +32,28 @@ read_content-content_at-requires g c = exists g c.before
 pub store-requires-clause-may : goal.store-requires-clause-may
 store-requires-clause-may g c =
     let x = c.args.self.now in
-    may_word g.T.Theory.meaning x.field.now x.pass.now x.began.value x.reads x.slots x.stop x.desc x.serial x.tag x.lots c.requires.going.1.prepared c.requires.room c.args.word c.args.seen
+    may_word g.T.Theory.meaning x.field.now x.pass.now x.began.value x.sets.now.reads x.sets.now.slots x.stop x.desc x.serial x.tag x.sets.now.lots c.requires.going.1.prepared c.requires.room c.args.word c.args.seen
     c.read_word-word_at.result
-    (word_found g.T.Theory.meaning x.field.now x.pass.now x.began.value x.reads x.slots x.stop x.desc x.serial x.tag x.lots _ _ _ _ c.shape-shape.ensures c.requires.going.1.prepared.has.numbers.0 c.len-i.ensures c.read_word-word_at.ensures.place) c.requires.gave.counted
+    (word_found g.T.Theory.meaning x.field.now x.pass.now x.began.value x.sets.now.reads x.sets.now.slots x.stop x.desc x.serial x.tag x.sets.now.lots _ _ _ _ c.shape-shape.ensures c.requires.going.1.prepared.has.numbers.0 c.len-i.ensures c.read_word-word_at.ensures.place) c.requires.gave.counted
 
 pub store-requires-2-clause-may : goal.store-requires-2-clause-may
 store-requires-2-clause-may g c =
     let x = c.args.self.now in
-    may_content g.T.Theory.meaning x.field.now x.pass.now x.began.value x.reads x.slots x.stop x.desc x.serial x.tag x.lots c.requires.going.1.prepared c.requires.room c.args.word c.args.seen
+    may_content g.T.Theory.meaning x.field.now x.pass.now x.began.value x.sets.now.reads x.sets.now.slots x.stop x.desc x.serial x.tag x.sets.now.lots c.requires.going.1.prepared c.requires.room c.args.word c.args.seen
     c.read_word-word_at.result
-    (word_found g.T.Theory.meaning x.field.now x.pass.now x.began.value x.reads x.slots x.stop x.desc x.serial x.tag x.lots _ _ _ _ c.shape-shape.ensures c.requires.going.1.prepared.has.numbers.0 c.len-i.ensures c.read_word-word_at.ensures.place)
+    (word_found g.T.Theory.meaning x.field.now x.pass.now x.began.value x.sets.now.reads x.sets.now.slots x.stop x.desc x.serial x.tag x.sets.now.lots _ _ _ _ c.shape-shape.ensures c.requires.going.1.prepared.has.numbers.0 c.len-i.ensures c.read_word-word_at.ensures.place)
     c.store.new.self c.store.ensures.step c.read_content-content_at.result
-    (content_found g.T.Theory.meaning x.field.now x.pass.now x.began.value x.reads x.slots x.stop x.desc x.serial x.tag x.lots _ _ _ _ c.shape-shape.ensures c.requires.going.1.prepared.has.numbers.0 c.len-i.ensures c.read_content-content_at.ensures.place) c.content_of.result c.content_of.ensures.whole
+    (content_found g.T.Theory.meaning x.field.now x.pass.now x.began.value x.sets.now.reads x.sets.now.slots x.stop x.desc x.serial x.tag x.sets.now.lots _ _ _ _ c.shape-shape.ensures c.requires.going.1.prepared.has.numbers.0 c.len-i.ensures c.read_content-content_at.ensures.place) c.content_of.result c.content_of.ensures.whole
 
 -- what the two stores made of the transaction, and that contracts see so much of it
 stored : (g : Over) (c : goal.After-push g) → (let t = state c.args.self.now in let prepared = c.requires.going.1.prepared in
     StoredRead g.T.Theory.meaning t.field.origin t.hand (length t.reads) (next_read t prepared c.requires.room) t.pass.view c.args.word (seen_content c.args.seen) c.store-2.new.self.view)
 stored g c =
     let x = c.args.self.now in
-    both g.T.Theory.meaning x.field.now x.pass.now x.began.value x.reads x.slots x.stop x.desc x.serial x.tag x.lots c.requires.going.1.prepared c.requires.room c.args.word c.args.seen
-    c.read_word-word_at.result (word_found g.T.Theory.meaning x.field.now x.pass.now x.began.value x.reads x.slots x.stop x.desc x.serial x.tag x.lots _ _ _ _ c.shape-shape.ensures c.requires.going.1.prepared.has.numbers.0 c.len-i.ensures c.read_word-word_at.ensures.place)
+    both g.T.Theory.meaning x.field.now x.pass.now x.began.value x.sets.now.reads x.sets.now.slots x.stop x.desc x.serial x.tag x.sets.now.lots c.requires.going.1.prepared c.requires.room c.args.word c.args.seen
+    c.read_word-word_at.result (word_found g.T.Theory.meaning x.field.now x.pass.now x.began.value x.sets.now.reads x.sets.now.slots x.stop x.desc x.serial x.tag x.sets.now.lots _ _ _ _ c.shape-shape.ensures c.requires.going.1.prepared.has.numbers.0 c.len-i.ensures c.read_word-word_at.ensures.place)
     c.store.new.self c.store.ensures.step c.read_content-content_at.result
-    (content_found g.T.Theory.meaning x.field.now x.pass.now x.began.value x.reads x.slots x.stop x.desc x.serial x.tag x.lots _ _ _ _ c.shape-shape.ensures c.requires.going.1.prepared.has.numbers.0 c.len-i.ensures c.read_content-content_at.ensures.place)
+    (content_found g.T.Theory.meaning x.field.now x.pass.now x.began.value x.sets.now.reads x.sets.now.slots x.stop x.desc x.serial x.tag x.sets.now.lots _ _ _ _ c.shape-shape.ensures c.requires.going.1.prepared.has.numbers.0 c.len-i.ensures c.read_content-content_at.ensures.place)
     c.content_of.result c.content_of.ensures.whole c.store-2.new.self c.store-2.ensures.step
 
 after : (g : Over) (c : goal.After-push g) → TxnState
@@ -61,14 +61,14 @@ after g c = let t = state c.args.self.now in
     noted g.T.Theory.meaning t c.requires.going.1.prepared c.args.word c.args.seen c.requires.room c.store-2.new.self.view (stored g c)
 
 seen_so : (g : Over) (c : goal.After-push g)
-    → (let x = c.args.self.now in state_of x.field.now c.store-2.new.self x.began.value c.push.new.self x.slots x.stop x.desc x.serial x.tag x.lots ≡ after g c)
+    → (let x = c.args.self.now in state_of x.field.now c.store-2.new.self x.began.value c.push.new.self x.sets.now.slots x.stop x.desc x.serial x.tag x.sets.now.lots ≡ after g c)
 unfolding after stored
 seen_so g c =
     let x = c.args.self.now in
-    recorded_is g.T.Theory.meaning x.field.now x.pass.now x.began.value x.reads x.slots x.stop x.desc x.serial x.tag x.lots c.requires.going.1.prepared c.requires.room c.args.word c.args.seen
-    c.read_word-word_at.result (word_found g.T.Theory.meaning x.field.now x.pass.now x.began.value x.reads x.slots x.stop x.desc x.serial x.tag x.lots _ _ _ _ c.shape-shape.ensures c.requires.going.1.prepared.has.numbers.0 c.len-i.ensures c.read_word-word_at.ensures.place)
+    recorded_is g.T.Theory.meaning x.field.now x.pass.now x.began.value x.sets.now.reads x.sets.now.slots x.stop x.desc x.serial x.tag x.sets.now.lots c.requires.going.1.prepared c.requires.room c.args.word c.args.seen
+    c.read_word-word_at.result (word_found g.T.Theory.meaning x.field.now x.pass.now x.began.value x.sets.now.reads x.sets.now.slots x.stop x.desc x.serial x.tag x.sets.now.lots _ _ _ _ c.shape-shape.ensures c.requires.going.1.prepared.has.numbers.0 c.len-i.ensures c.read_word-word_at.ensures.place)
     c.store.new.self c.store.ensures.step c.read_content-content_at.result
-    (content_found g.T.Theory.meaning x.field.now x.pass.now x.began.value x.reads x.slots x.stop x.desc x.serial x.tag x.lots _ _ _ _ c.shape-shape.ensures c.requires.going.1.prepared.has.numbers.0 c.len-i.ensures c.read_content-content_at.ensures.place)
+    (content_found g.T.Theory.meaning x.field.now x.pass.now x.began.value x.sets.now.reads x.sets.now.slots x.stop x.desc x.serial x.tag x.sets.now.lots _ _ _ _ c.shape-shape.ensures c.requires.going.1.prepared.has.numbers.0 c.len-i.ensures c.read_content-content_at.ensures.place)
     c.content_of.result c.content_of.ensures.whole c.store-2.new.self c.store-2.ensures.step c.store.ensures.same c.store-2.ensures.same c.push.new.self c.push.ensures
 
 parts : (g : Over) (c : goal.After-push g) → (value_of (seen_content c.args.seen) ≡ c.args.seen.value) × (count_of (seen_content c.args.seen) ≡ c.args.seen.count)
@@ -87,7 +87,7 @@ unfolding after
 returns-clause-recorded g c =
     let x = c.args.self.now in
     let t = state x in
-    seen_so g c ∙ ap (λ (p : PassState). record t { pass = p; reads = x.reads ++ (record { word = c.args.word; content = seen_content c.args.seen; stood = true }) ∷ [] })
+    seen_so g c ∙ ap (λ (p : PassState). record t { pass = p; reads = x.sets.now.reads ++ (record { word = c.args.word; content = seen_content c.args.seen; stood = true }) ∷ [] })
     (sym (c.store-2.ensures.same ∙ ap (λ (p : PassState). record p { view = c.store-2.new.self.view }) c.store.ensures.same))
 
 pub returns-clause-given : goal.returns-clause-given

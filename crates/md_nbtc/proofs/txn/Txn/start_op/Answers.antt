@@ -16,7 +16,7 @@ returns-clause-on g c =
     let prepared = c.requires.going.1.prepared in
     let q = c.mark_start.new.self in
     let step = c.mark_start.ensures.step in
-    subst (GoesOn M (state x)) (sym (mark_so M x.field.now x.pass.now x.began.value x.reads x.slots x.stop x.desc x.serial x.tag x.lots prepared (state x).hand.acts true
+    subst (GoesOn M (state x)) (sym (mark_so M x.field.now x.pass.now x.began.value x.sets.now.reads x.sets.now.slots x.stop x.desc x.serial x.tag x.sets.now.lots prepared (state x).hand.acts true
     (λ pass. mark_start pass) q c.mark_start.ensures.same step (started_view M (state x) prepared c.requires.between q.view step)))
     (started_on M (state x) prepared c.requires.between q.view step)
 
@@ -27,5 +27,5 @@ returns-clause-begun g c =
     let prepared = c.requires.going.1.prepared in
     let q = c.mark_start.new.self in
     let step = c.mark_start.ensures.step in
-    mark_is_so M x.field.now x.pass.now x.began.value x.reads x.slots x.stop x.desc x.serial x.tag x.lots prepared (state x).hand.acts true
+    mark_is_so M x.field.now x.pass.now x.began.value x.sets.now.reads x.sets.now.slots x.stop x.desc x.serial x.tag x.sets.now.lots prepared (state x).hand.acts true
     (λ pass. mark_start pass) q c.mark_start.ensures.same step (started_view M (state x) prepared c.requires.between q.view step)

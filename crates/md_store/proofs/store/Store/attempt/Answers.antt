@@ -4,7 +4,7 @@ use Rattle.md_history.specs.declared.stops.Stop.TheVariants.{Limit}
 use Rattle.md_nbtc.specs.Ended.{WasLost}
 use Rattle.md_nbtc.specs.Ending.{BeginsNot, Stopped}
 use Rattle.md_nbtc.specs.Going.{HasCause}
-use Rattle.md_nbtc.specs.State.{state}
+use Rattle.md_nbtc.specs.State.{TxnState, begun_state, state}
 use Rattle.md_rule.specs.Views.{FieldView, PassState}
 use Rattle.md_store_law.specs.Store.{store}
 use Rattle.md_store.specs.Running.{BrokeWith, IsRunning}
@@ -62,11 +62,11 @@ returns-in-Ok-commit-clause-of g c =
     let told = at_ok c.run-txn.new.out c.in-Ok-out.reply _ c.in-Ok-out.is c.run-txn.ensures.ok in
     let x : RunOf f p c.args.tag u None = record {
       running = subst (λ (b : PassState). IsRunning b u None) c.of-before.ensures told.0;
-      field = c.run-txn.ensures.field ∙ c.in-Ok.ensures.field ∙ c.self.view_is;
-      tagged = c.run-txn.ensures.tag ∙ ap (λ (h : Hand). h.tag) c.in-Ok.ensures.begun.hand;
+      field = c.run-txn.ensures.field ∙ ap (λ (t : TxnState). t.field) c.with-txn.ensures.state ∙ c.in-Ok.ensures.field ∙ c.self.view_is;
+      tagged = c.run-txn.ensures.tag ∙ ap (λ (t : TxnState). t.hand.tag) c.with-txn.ensures.state ∙ ap (λ (h : Hand). h.tag) c.in-Ok.ensures.begun.hand;
     } in
     let was = c.in-Ok-commit.ensures.committed in
-    let same = c.pass-in-Ok-out-1.given.1 (sym (c.run-txn.ensures.pass ∙ c.in-Ok.ensures.pass)) in
+    let same = c.pass-in-Ok-out-1.given.1 (sym (c.run-txn.ensures.pass ∙ c.with-txn.ensures.pass ∙ c.in-Ok.ensures.pass)) in
     subst (IsPassOf f) (sym same) (of_committed f p c.requires.of c.args.tag u None x q was)
 
 pub returns-in-Ok-commit-clause-legal : goal.returns-in-Ok-commit-clause-legal
@@ -78,11 +78,11 @@ returns-in-Ok-commit-clause-legal g c =
     let told = at_ok c.run-txn.new.out c.in-Ok-out.reply _ c.in-Ok-out.is c.run-txn.ensures.ok in
     let x : RunOf f p c.args.tag u None = record {
       running = subst (λ (b : PassState). IsRunning b u None) c.of-before.ensures told.0;
-      field = c.run-txn.ensures.field ∙ c.in-Ok.ensures.field ∙ c.self.view_is;
-      tagged = c.run-txn.ensures.tag ∙ ap (λ (h : Hand). h.tag) c.in-Ok.ensures.begun.hand;
+      field = c.run-txn.ensures.field ∙ ap (λ (t : TxnState). t.field) c.with-txn.ensures.state ∙ c.in-Ok.ensures.field ∙ c.self.view_is;
+      tagged = c.run-txn.ensures.tag ∙ ap (λ (t : TxnState). t.hand.tag) c.with-txn.ensures.state ∙ ap (λ (h : Hand). h.tag) c.in-Ok.ensures.begun.hand;
     } in
     let was = c.in-Ok-commit.ensures.committed in
-    let same = c.pass-in-Ok-out-1.given.1 (sym (c.run-txn.ensures.pass ∙ c.in-Ok.ensures.pass)) in
+    let same = c.pass-in-Ok-out-1.given.1 (sym (c.run-txn.ensures.pass ∙ c.with-txn.ensures.pass ∙ c.in-Ok.ensures.pass)) in
     subst (λ (z : PassState). LegalFrom (start_of f) (front_in z)) (sym same) (legal_of f q (of_committed f p c.requires.of c.args.tag u None x q was))
 
 pub returns-in-Ok-commit-clause-begun : goal.returns-in-Ok-commit-clause-begun
@@ -94,11 +94,11 @@ returns-in-Ok-commit-clause-begun g c =
     let told = at_ok c.run-txn.new.out c.in-Ok-out.reply _ c.in-Ok-out.is c.run-txn.ensures.ok in
     let x : RunOf f p c.args.tag u None = record {
       running = subst (λ (b : PassState). IsRunning b u None) c.of-before.ensures told.0;
-      field = c.run-txn.ensures.field ∙ c.in-Ok.ensures.field ∙ c.self.view_is;
-      tagged = c.run-txn.ensures.tag ∙ ap (λ (h : Hand). h.tag) c.in-Ok.ensures.begun.hand;
+      field = c.run-txn.ensures.field ∙ ap (λ (t : TxnState). t.field) c.with-txn.ensures.state ∙ c.in-Ok.ensures.field ∙ c.self.view_is;
+      tagged = c.run-txn.ensures.tag ∙ ap (λ (t : TxnState). t.hand.tag) c.with-txn.ensures.state ∙ ap (λ (h : Hand). h.tag) c.in-Ok.ensures.begun.hand;
     } in
     let was = c.in-Ok-commit.ensures.committed in
-    let same = c.pass-in-Ok-out-1.given.1 (sym (c.run-txn.ensures.pass ∙ c.in-Ok.ensures.pass)) in
+    let same = c.pass-in-Ok-out-1.given.1 (sym (c.run-txn.ensures.pass ∙ c.with-txn.ensures.pass ∙ c.in-Ok.ensures.pass)) in
     ap begun_by same ∙ begun_committed f p c.requires.of c.args.tag u None x q was
 
 pub returns-in-Ok-commit-clause-committed : goal.returns-in-Ok-commit-clause-committed
@@ -110,19 +110,20 @@ returns-in-Ok-commit-clause-committed g c =
     let told = at_ok c.run-txn.new.out c.in-Ok-out.reply _ c.in-Ok-out.is c.run-txn.ensures.ok in
     let x : RunOf f p c.args.tag u None = record {
       running = subst (λ (b : PassState). IsRunning b u None) c.of-before.ensures told.0;
-      field = c.run-txn.ensures.field ∙ c.in-Ok.ensures.field ∙ c.self.view_is;
-      tagged = c.run-txn.ensures.tag ∙ ap (λ (h : Hand). h.tag) c.in-Ok.ensures.begun.hand;
+      field = c.run-txn.ensures.field ∙ ap (λ (t : TxnState). t.field) c.with-txn.ensures.state ∙ c.in-Ok.ensures.field ∙ c.self.view_is;
+      tagged = c.run-txn.ensures.tag ∙ ap (λ (t : TxnState). t.hand.tag) c.with-txn.ensures.state ∙ ap (λ (h : Hand). h.tag) c.in-Ok.ensures.begun.hand;
     } in
     let was = c.in-Ok-commit.ensures.committed in
-    let same = c.pass-in-Ok-out-1.given.1 (sym (c.run-txn.ensures.pass ∙ c.in-Ok.ensures.pass)) in
+    let same = c.pass-in-Ok-out-1.given.1 (sym (c.run-txn.ensures.pass ∙ c.with-txn.ensures.pass ∙ c.in-Ok.ensures.pass)) in
     subst (λ (z : PassState). Commits (g.B.Body.did c.args.body.now) c.args.tag c.in-Ok-out.reply (front_in p) (front_in z)) (sym same)
     (front_committed f p c.requires.of c.args.tag u None x q (g.B.Body.did c.args.body.now) c.in-Ok-out.reply told.1 was)
 
 pub run-txn-requires-clause-running : goal.run-txn-requires-clause-running
 run-txn-requires-clause-running g c =
-    let t = state c.in-Ok.txn in
-    subst (λ (b : PassState). IsRunning b t None) (sym c.of-before.ensures)
-    (begun_runs c.args.pass.now c.args.tag t c.in-Ok.ensures.begun c.in-Ok.ensures.going)
+    let t = begun_state c.in-Ok.begun in
+    subst (λ (b : PassState). IsRunning b (state c.with-txn.result) None) (sym c.of-before.ensures)
+    (subst (λ (s : TxnState). IsRunning c.args.pass.now s None) (sym c.with-txn.ensures.state)
+    (begun_runs c.args.pass.now c.args.tag t c.in-Ok.ensures.begun c.in-Ok.ensures.going))
 
 pub returns-in-Err-commit-clause-stopped : goal.returns-in-Err-commit-clause-stopped
 returns-in-Err-commit-clause-stopped g c =
@@ -133,12 +134,12 @@ returns-in-Err-commit-clause-stopped g c =
     let told = at_ok c.run-txn.new.out c.in-Ok-out.reply _ c.in-Ok-out.is c.run-txn.ensures.ok in
     let x : RunOf f p c.args.tag u None = record {
       running = subst (λ (b : PassState). IsRunning b u None) c.of-before.ensures told.0;
-      field = c.run-txn.ensures.field ∙ c.in-Ok.ensures.field ∙ c.self.view_is;
-      tagged = c.run-txn.ensures.tag ∙ ap (λ (h : Hand). h.tag) c.in-Ok.ensures.begun.hand;
+      field = c.run-txn.ensures.field ∙ ap (λ (t : TxnState). t.field) c.with-txn.ensures.state ∙ c.in-Ok.ensures.field ∙ c.self.view_is;
+      tagged = c.run-txn.ensures.tag ∙ ap (λ (t : TxnState). t.hand.tag) c.with-txn.ensures.state ∙ ap (λ (h : Hand). h.tag) c.in-Ok.ensures.begun.hand;
     } in
     let lost = c.in-Err-commit.ensures.lost in
     let shown = c.in-Err-commit.shown in
-    let same = c.pass-in-Ok-out-1.given.1 (sym (c.run-txn.ensures.pass ∙ c.in-Ok.ensures.pass)) in
+    let same = c.pass-in-Ok-out-1.given.1 (sym (c.run-txn.ensures.pass ∙ c.with-txn.ensures.pass ∙ c.in-Ok.ensures.pass)) in
     subst (λ (z : PassState). Stops c.args.tag (front_in p) (front_in z)) (sym same) (front_lost f p c.requires.of c.args.tag u None x q shown lost)
 
 pub returns-in-Err-commit-clause-legal : goal.returns-in-Err-commit-clause-legal
@@ -150,12 +151,12 @@ returns-in-Err-commit-clause-legal g c =
     let told = at_ok c.run-txn.new.out c.in-Ok-out.reply _ c.in-Ok-out.is c.run-txn.ensures.ok in
     let x : RunOf f p c.args.tag u None = record {
       running = subst (λ (b : PassState). IsRunning b u None) c.of-before.ensures told.0;
-      field = c.run-txn.ensures.field ∙ c.in-Ok.ensures.field ∙ c.self.view_is;
-      tagged = c.run-txn.ensures.tag ∙ ap (λ (h : Hand). h.tag) c.in-Ok.ensures.begun.hand;
+      field = c.run-txn.ensures.field ∙ ap (λ (t : TxnState). t.field) c.with-txn.ensures.state ∙ c.in-Ok.ensures.field ∙ c.self.view_is;
+      tagged = c.run-txn.ensures.tag ∙ ap (λ (t : TxnState). t.hand.tag) c.with-txn.ensures.state ∙ ap (λ (h : Hand). h.tag) c.in-Ok.ensures.begun.hand;
     } in
     let lost = c.in-Err-commit.ensures.lost in
     let shown = c.in-Err-commit.shown in
-    let same = c.pass-in-Ok-out-1.given.1 (sym (c.run-txn.ensures.pass ∙ c.in-Ok.ensures.pass)) in
+    let same = c.pass-in-Ok-out-1.given.1 (sym (c.run-txn.ensures.pass ∙ c.with-txn.ensures.pass ∙ c.in-Ok.ensures.pass)) in
     subst (λ (z : PassState). LegalFrom (start_of f) (front_in z)) (sym same) (legal_of f q (of_lost f p c.requires.of c.args.tag u None x q shown lost))
 
 pub returns-in-Err-commit-clause-of : goal.returns-in-Err-commit-clause-of
@@ -167,12 +168,12 @@ returns-in-Err-commit-clause-of g c =
     let told = at_ok c.run-txn.new.out c.in-Ok-out.reply _ c.in-Ok-out.is c.run-txn.ensures.ok in
     let x : RunOf f p c.args.tag u None = record {
       running = subst (λ (b : PassState). IsRunning b u None) c.of-before.ensures told.0;
-      field = c.run-txn.ensures.field ∙ c.in-Ok.ensures.field ∙ c.self.view_is;
-      tagged = c.run-txn.ensures.tag ∙ ap (λ (h : Hand). h.tag) c.in-Ok.ensures.begun.hand;
+      field = c.run-txn.ensures.field ∙ ap (λ (t : TxnState). t.field) c.with-txn.ensures.state ∙ c.in-Ok.ensures.field ∙ c.self.view_is;
+      tagged = c.run-txn.ensures.tag ∙ ap (λ (t : TxnState). t.hand.tag) c.with-txn.ensures.state ∙ ap (λ (h : Hand). h.tag) c.in-Ok.ensures.begun.hand;
     } in
     let lost = c.in-Err-commit.ensures.lost in
     let shown = c.in-Err-commit.shown in
-    let same = c.pass-in-Ok-out-1.given.1 (sym (c.run-txn.ensures.pass ∙ c.in-Ok.ensures.pass)) in
+    let same = c.pass-in-Ok-out-1.given.1 (sym (c.run-txn.ensures.pass ∙ c.with-txn.ensures.pass ∙ c.in-Ok.ensures.pass)) in
     subst (IsPassOf f) (sym same) (of_lost f p c.requires.of c.args.tag u None x q shown lost)
 
 pub returns-in-Err-commit-clause-begun : goal.returns-in-Err-commit-clause-begun
@@ -184,12 +185,12 @@ returns-in-Err-commit-clause-begun g c =
     let told = at_ok c.run-txn.new.out c.in-Ok-out.reply _ c.in-Ok-out.is c.run-txn.ensures.ok in
     let x : RunOf f p c.args.tag u None = record {
       running = subst (λ (b : PassState). IsRunning b u None) c.of-before.ensures told.0;
-      field = c.run-txn.ensures.field ∙ c.in-Ok.ensures.field ∙ c.self.view_is;
-      tagged = c.run-txn.ensures.tag ∙ ap (λ (h : Hand). h.tag) c.in-Ok.ensures.begun.hand;
+      field = c.run-txn.ensures.field ∙ ap (λ (t : TxnState). t.field) c.with-txn.ensures.state ∙ c.in-Ok.ensures.field ∙ c.self.view_is;
+      tagged = c.run-txn.ensures.tag ∙ ap (λ (t : TxnState). t.hand.tag) c.with-txn.ensures.state ∙ ap (λ (h : Hand). h.tag) c.in-Ok.ensures.begun.hand;
     } in
     let lost = c.in-Err-commit.ensures.lost in
     let shown = c.in-Err-commit.shown in
-    let same = c.pass-in-Ok-out-1.given.1 (sym (c.run-txn.ensures.pass ∙ c.in-Ok.ensures.pass)) in
+    let same = c.pass-in-Ok-out-1.given.1 (sym (c.run-txn.ensures.pass ∙ c.with-txn.ensures.pass ∙ c.in-Ok.ensures.pass)) in
     ap begun_by same ∙ begun_lost f p c.requires.of c.args.tag u None x q shown lost
 
 pub returns-in-Err-commit-clause-alone : goal.returns-in-Err-commit-clause-alone
@@ -201,12 +202,12 @@ returns-in-Err-commit-clause-alone g c =
     let told = at_ok c.run-txn.new.out c.in-Ok-out.reply _ c.in-Ok-out.is c.run-txn.ensures.ok in
     let x : RunOf f p c.args.tag u None = record {
       running = subst (λ (b : PassState). IsRunning b u None) c.of-before.ensures told.0;
-      field = c.run-txn.ensures.field ∙ c.in-Ok.ensures.field ∙ c.self.view_is;
-      tagged = c.run-txn.ensures.tag ∙ ap (λ (h : Hand). h.tag) c.in-Ok.ensures.begun.hand;
+      field = c.run-txn.ensures.field ∙ ap (λ (t : TxnState). t.field) c.with-txn.ensures.state ∙ c.in-Ok.ensures.field ∙ c.self.view_is;
+      tagged = c.run-txn.ensures.tag ∙ ap (λ (t : TxnState). t.hand.tag) c.with-txn.ensures.state ∙ ap (λ (h : Hand). h.tag) c.in-Ok.ensures.begun.hand;
     } in
     let lost = c.in-Err-commit.ensures.lost in
     let shown = c.in-Err-commit.shown in
-    let same = c.pass-in-Ok-out-1.given.1 (sym (c.run-txn.ensures.pass ∙ c.in-Ok.ensures.pass)) in
+    let same = c.pass-in-Ok-out-1.given.1 (sym (c.run-txn.ensures.pass ∙ c.with-txn.ensures.pass ∙ c.in-Ok.ensures.pass)) in
     alone_lost f p c.requires.of c.args.tag u None x q shown lost
 
 pub returns-in-Err-out-clause-stopped : goal.returns-in-Err-out-clause-stopped
@@ -218,11 +219,11 @@ returns-in-Err-out-clause-stopped g c =
     let told : BrokeWith c.of-before.result.value u c.in-Err-out.stop = (at_err c.run-txn.new.out c.in-Err-out.stop _ c.in-Err-out.is c.run-txn.ensures.err).broke in
     let x : RunOf f p c.args.tag u (Some told.refusal) = record {
       running = subst (λ (b : PassState). IsRunning b u (Some told.refusal)) c.of-before.ensures told.running;
-      field = c.run-txn.ensures.field ∙ c.in-Ok.ensures.field ∙ c.self.view_is;
-      tagged = c.run-txn.ensures.tag ∙ ap (λ (h : Hand). h.tag) c.in-Ok.ensures.begun.hand;
+      field = c.run-txn.ensures.field ∙ ap (λ (t : TxnState). t.field) c.with-txn.ensures.state ∙ c.in-Ok.ensures.field ∙ c.self.view_is;
+      tagged = c.run-txn.ensures.tag ∙ ap (λ (t : TxnState). t.hand.tag) c.with-txn.ensures.state ∙ ap (λ (h : Hand). h.tag) c.in-Ok.ensures.begun.hand;
     } in
     let gone = c.stop.ensures in
-    let same = c.pass-in-Err-out-1.given.1 (sym (c.run-txn.ensures.pass ∙ c.in-Ok.ensures.pass)) in
+    let same = c.pass-in-Err-out-1.given.1 (sym (c.run-txn.ensures.pass ∙ c.with-txn.ensures.pass ∙ c.in-Ok.ensures.pass)) in
     subst (λ (z : PassState). Stops c.args.tag (front_in p) (front_in z)) (sym same) (front_stopped f p c.requires.of c.args.tag u (Some told.refusal) x q gone)
 
 pub returns-in-Err-out-clause-legal : goal.returns-in-Err-out-clause-legal
@@ -234,11 +235,11 @@ returns-in-Err-out-clause-legal g c =
     let told : BrokeWith c.of-before.result.value u c.in-Err-out.stop = (at_err c.run-txn.new.out c.in-Err-out.stop _ c.in-Err-out.is c.run-txn.ensures.err).broke in
     let x : RunOf f p c.args.tag u (Some told.refusal) = record {
       running = subst (λ (b : PassState). IsRunning b u (Some told.refusal)) c.of-before.ensures told.running;
-      field = c.run-txn.ensures.field ∙ c.in-Ok.ensures.field ∙ c.self.view_is;
-      tagged = c.run-txn.ensures.tag ∙ ap (λ (h : Hand). h.tag) c.in-Ok.ensures.begun.hand;
+      field = c.run-txn.ensures.field ∙ ap (λ (t : TxnState). t.field) c.with-txn.ensures.state ∙ c.in-Ok.ensures.field ∙ c.self.view_is;
+      tagged = c.run-txn.ensures.tag ∙ ap (λ (t : TxnState). t.hand.tag) c.with-txn.ensures.state ∙ ap (λ (h : Hand). h.tag) c.in-Ok.ensures.begun.hand;
     } in
     let gone = c.stop.ensures in
-    let same = c.pass-in-Err-out-1.given.1 (sym (c.run-txn.ensures.pass ∙ c.in-Ok.ensures.pass)) in
+    let same = c.pass-in-Err-out-1.given.1 (sym (c.run-txn.ensures.pass ∙ c.with-txn.ensures.pass ∙ c.in-Ok.ensures.pass)) in
     subst (λ (z : PassState). LegalFrom (start_of f) (front_in z)) (sym same) (legal_of f q (of_stopped f p c.requires.of c.args.tag u (Some told.refusal) x q gone))
 
 pub returns-in-Err-out-clause-of : goal.returns-in-Err-out-clause-of
@@ -250,11 +251,11 @@ returns-in-Err-out-clause-of g c =
     let told : BrokeWith c.of-before.result.value u c.in-Err-out.stop = (at_err c.run-txn.new.out c.in-Err-out.stop _ c.in-Err-out.is c.run-txn.ensures.err).broke in
     let x : RunOf f p c.args.tag u (Some told.refusal) = record {
       running = subst (λ (b : PassState). IsRunning b u (Some told.refusal)) c.of-before.ensures told.running;
-      field = c.run-txn.ensures.field ∙ c.in-Ok.ensures.field ∙ c.self.view_is;
-      tagged = c.run-txn.ensures.tag ∙ ap (λ (h : Hand). h.tag) c.in-Ok.ensures.begun.hand;
+      field = c.run-txn.ensures.field ∙ ap (λ (t : TxnState). t.field) c.with-txn.ensures.state ∙ c.in-Ok.ensures.field ∙ c.self.view_is;
+      tagged = c.run-txn.ensures.tag ∙ ap (λ (t : TxnState). t.hand.tag) c.with-txn.ensures.state ∙ ap (λ (h : Hand). h.tag) c.in-Ok.ensures.begun.hand;
     } in
     let gone = c.stop.ensures in
-    let same = c.pass-in-Err-out-1.given.1 (sym (c.run-txn.ensures.pass ∙ c.in-Ok.ensures.pass)) in
+    let same = c.pass-in-Err-out-1.given.1 (sym (c.run-txn.ensures.pass ∙ c.with-txn.ensures.pass ∙ c.in-Ok.ensures.pass)) in
     subst (IsPassOf f) (sym same) (of_stopped f p c.requires.of c.args.tag u (Some told.refusal) x q gone)
 
 pub returns-in-Err-out-clause-begun : goal.returns-in-Err-out-clause-begun
@@ -266,11 +267,11 @@ returns-in-Err-out-clause-begun g c =
     let told : BrokeWith c.of-before.result.value u c.in-Err-out.stop = (at_err c.run-txn.new.out c.in-Err-out.stop _ c.in-Err-out.is c.run-txn.ensures.err).broke in
     let x : RunOf f p c.args.tag u (Some told.refusal) = record {
       running = subst (λ (b : PassState). IsRunning b u (Some told.refusal)) c.of-before.ensures told.running;
-      field = c.run-txn.ensures.field ∙ c.in-Ok.ensures.field ∙ c.self.view_is;
-      tagged = c.run-txn.ensures.tag ∙ ap (λ (h : Hand). h.tag) c.in-Ok.ensures.begun.hand;
+      field = c.run-txn.ensures.field ∙ ap (λ (t : TxnState). t.field) c.with-txn.ensures.state ∙ c.in-Ok.ensures.field ∙ c.self.view_is;
+      tagged = c.run-txn.ensures.tag ∙ ap (λ (t : TxnState). t.hand.tag) c.with-txn.ensures.state ∙ ap (λ (h : Hand). h.tag) c.in-Ok.ensures.begun.hand;
     } in
     let gone = c.stop.ensures in
-    let same = c.pass-in-Err-out-1.given.1 (sym (c.run-txn.ensures.pass ∙ c.in-Ok.ensures.pass)) in
+    let same = c.pass-in-Err-out-1.given.1 (sym (c.run-txn.ensures.pass ∙ c.with-txn.ensures.pass ∙ c.in-Ok.ensures.pass)) in
     counted_if c.in-Err-out.stop (begun_by p) _ (ap begun_by same ∙ begun_stopped f p c.requires.of c.args.tag u (Some told.refusal) x q gone)
 
 pub returns-in-Err-out-clause-alone : goal.returns-in-Err-out-clause-alone
@@ -282,11 +283,11 @@ returns-in-Err-out-clause-alone g c =
     let told : BrokeWith c.of-before.result.value u c.in-Err-out.stop = (at_err c.run-txn.new.out c.in-Err-out.stop _ c.in-Err-out.is c.run-txn.ensures.err).broke in
     let x : RunOf f p c.args.tag u (Some told.refusal) = record {
       running = subst (λ (b : PassState). IsRunning b u (Some told.refusal)) c.of-before.ensures told.running;
-      field = c.run-txn.ensures.field ∙ c.in-Ok.ensures.field ∙ c.self.view_is;
-      tagged = c.run-txn.ensures.tag ∙ ap (λ (h : Hand). h.tag) c.in-Ok.ensures.begun.hand;
+      field = c.run-txn.ensures.field ∙ ap (λ (t : TxnState). t.field) c.with-txn.ensures.state ∙ c.in-Ok.ensures.field ∙ c.self.view_is;
+      tagged = c.run-txn.ensures.tag ∙ ap (λ (t : TxnState). t.hand.tag) c.with-txn.ensures.state ∙ ap (λ (h : Hand). h.tag) c.in-Ok.ensures.begun.hand;
     } in
     let gone = c.stop.ensures in
-    let same = c.pass-in-Err-out-1.given.1 (sym (c.run-txn.ensures.pass ∙ c.in-Ok.ensures.pass)) in
+    let same = c.pass-in-Err-out-1.given.1 (sym (c.run-txn.ensures.pass ∙ c.with-txn.ensures.pass ∙ c.in-Ok.ensures.pass)) in
     λ all. subst IsNoConflict told.same (refused_to f p c.requires.of u (Some told.refusal) x.running x.field told.refusal refl all)
 
 pub returns-in-Err-clause-cause : goal.returns-in-Err-clause-cause
@@ -302,12 +303,12 @@ returns-in-Err-commit-clause-cause g c =
     let told = at_ok c.run-txn.new.out c.in-Ok-out.reply _ c.in-Ok-out.is c.run-txn.ensures.ok in
     let x : RunOf f p c.args.tag u None = record {
       running = subst (λ (b : PassState). IsRunning b u None) c.of-before.ensures told.0;
-      field = c.run-txn.ensures.field ∙ c.in-Ok.ensures.field ∙ c.self.view_is;
-      tagged = c.run-txn.ensures.tag ∙ ap (λ (h : Hand). h.tag) c.in-Ok.ensures.begun.hand;
+      field = c.run-txn.ensures.field ∙ ap (λ (t : TxnState). t.field) c.with-txn.ensures.state ∙ c.in-Ok.ensures.field ∙ c.self.view_is;
+      tagged = c.run-txn.ensures.tag ∙ ap (λ (t : TxnState). t.hand.tag) c.with-txn.ensures.state ∙ ap (λ (h : Hand). h.tag) c.in-Ok.ensures.begun.hand;
     } in
     let lost = c.in-Err-commit.ensures.lost in
     let shown = c.in-Err-commit.shown in
-    let same = c.pass-in-Ok-out-1.given.1 (sym (c.run-txn.ensures.pass ∙ c.in-Ok.ensures.pass)) in
+    let same = c.pass-in-Ok-out-1.given.1 (sym (c.run-txn.ensures.pass ∙ c.with-txn.ensures.pass ∙ c.in-Ok.ensures.pass)) in
     inr (inr (record {
       txn = u;
       field = x.field;
@@ -326,11 +327,11 @@ returns-in-Err-out-clause-cause g c =
     let told : BrokeWith c.of-before.result.value u c.in-Err-out.stop = (at_err c.run-txn.new.out c.in-Err-out.stop _ c.in-Err-out.is c.run-txn.ensures.err).broke in
     let x : RunOf f p c.args.tag u (Some told.refusal) = record {
       running = subst (λ (b : PassState). IsRunning b u (Some told.refusal)) c.of-before.ensures told.running;
-      field = c.run-txn.ensures.field ∙ c.in-Ok.ensures.field ∙ c.self.view_is;
-      tagged = c.run-txn.ensures.tag ∙ ap (λ (h : Hand). h.tag) c.in-Ok.ensures.begun.hand;
+      field = c.run-txn.ensures.field ∙ ap (λ (t : TxnState). t.field) c.with-txn.ensures.state ∙ c.in-Ok.ensures.field ∙ c.self.view_is;
+      tagged = c.run-txn.ensures.tag ∙ ap (λ (t : TxnState). t.hand.tag) c.with-txn.ensures.state ∙ ap (λ (h : Hand). h.tag) c.in-Ok.ensures.begun.hand;
     } in
     let gone = c.stop.ensures in
-    let same = c.pass-in-Err-out-1.given.1 (sym (c.run-txn.ensures.pass ∙ c.in-Ok.ensures.pass)) in
+    let same = c.pass-in-Err-out-1.given.1 (sym (c.run-txn.ensures.pass ∙ c.with-txn.ensures.pass ∙ c.in-Ok.ensures.pass)) in
     inr (inl (record {
       txn = u;
       field = x.field;
@@ -346,7 +347,7 @@ returns-in-Err-out-clause-unworn g c =
     let u = state c.run-txn.result in
     let told : BrokeWith c.of-before.result.value u c.in-Err-out.stop = (at_err c.run-txn.new.out c.in-Err-out.stop _ c.in-Err-out.is c.run-txn.ensures.err).broke in
     let running = subst (λ (b : PassState). IsRunning b u (Some told.refusal)) c.of-before.ensures told.running in
-    let field = c.run-txn.ensures.field ∙ c.in-Ok.ensures.field ∙ c.self.view_is in
+    let field = c.run-txn.ensures.field ∙ ap (λ (t : TxnState). t.field) c.with-txn.ensures.state ∙ c.in-Ok.ensures.field ∙ c.self.view_is in
     λ fresh new. subst IsUnworn told.same (refused_unworn f p c.requires.of fresh new u (Some told.refusal) running field refl c.kept.ensures.lanes told.refusal refl)
 
 pub returns-in-Err-clause-small : goal.returns-in-Err-clause-small
@@ -363,8 +364,8 @@ returns-in-Err-commit-clause-small g c =
     let told = at_ok c.run-txn.new.out c.in-Ok-out.reply _ c.in-Ok-out.is c.run-txn.ensures.ok in
     let x : RunOf f p c.args.tag u None = record {
       running = subst (λ (b : PassState). IsRunning b u None) c.of-before.ensures told.0;
-      field = c.run-txn.ensures.field ∙ c.in-Ok.ensures.field ∙ c.self.view_is;
-      tagged = c.run-txn.ensures.tag ∙ ap (λ (h : Hand). h.tag) c.in-Ok.ensures.begun.hand;
+      field = c.run-txn.ensures.field ∙ ap (λ (t : TxnState). t.field) c.with-txn.ensures.state ∙ c.in-Ok.ensures.field ∙ c.self.view_is;
+      tagged = c.run-txn.ensures.tag ∙ ap (λ (t : TxnState). t.hand.tag) c.with-txn.ensures.state ∙ ap (λ (h : Hand). h.tag) c.in-Ok.ensures.begun.hand;
     } in
     let shown = c.in-Err-commit.shown in
     λ fresh new tries small. alone_lost f p c.requires.of c.args.tag u None x q shown c.in-Err-commit.ensures.lost (holds_lanes f p c.requires.of fresh) shown refl
@@ -377,7 +378,7 @@ returns-in-Err-out-clause-small g c =
     let off = at_err c.run-txn.new.out c.in-Err-out.stop _ c.in-Err-out.is c.run-txn.ensures.err in
     let refusal = off.broke.refusal in
     let running = subst (λ (b : PassState). IsRunning b u (Some refusal)) c.of-before.ensures off.broke.running in
-    let field = c.run-txn.ensures.field ∙ c.in-Ok.ensures.field ∙ c.self.view_is in
+    let field = c.run-txn.ensures.field ∙ ap (λ (t : TxnState). t.field) c.with-txn.ensures.state ∙ c.in-Ok.ensures.field ∙ c.self.view_is in
     λ fresh new tries small. none_refused f p c.requires.of fresh u (Some refusal) running field refusal refl
     (refused_unworn f p c.requires.of fresh new u (Some refusal) running field refl c.kept.ensures.lanes refusal refl)
     (g.B.Body.makes c.args.body.now) small off.made
