@@ -1,0 +1,9 @@
+mod Walking
+mod Leaving
+mod Few
+mod Weights
+mod Keeping
+mod Laws
+mod Counting
+mod Opening
+mod Running

@@ -1,0 +1,4 @@
+pub mod Playing
+pub mod Moves
+pub mod Jobs
+pub mod Shifts

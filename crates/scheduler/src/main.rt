@@ -1,0 +1,48 @@
+//! Jobs that wait by priority, and workers in threads that run them: an example over the library.
+#![tactic(auto)]
+
+ghost use Rattle.std.specs.Prelude.{[]};
+ghost use Rattle.scheduler.specs.Jobs.{Holds, numbered};
+
+mod moves;
+mod places;
+mod run;
+mod shifts;
+#[cfg(test)]
+mod tests;
+
+use md_history::Contents;
+use places::{FINISHED, PRIORITIES, RUNNING};
+use run::{all_waiting, run_shift};
+use std::process::ExitCode;
+
+// How many jobs there are.
+const JOBS: u32 = 100;
+
+// How many workers run them.
+const WORKERS: u32 = 4;
+
+// Prints where the jobs stand.
+fn print(rt: &HostRuntime, contents: &Contents)
+    requires { Holds (numbered JOBS) [] contents.now }
+{
+    let _printed = println!(rt; "{} jobs, {} workers", JOBS, WORKERS);
+    for queue in 0..PRIORITIES {
+        let waiting = contents.queue(queue).len();
+        let _printed = println!(rt; "waiting at priority {}: {}", queue, waiting);
+    }
+    let _printed = println!(rt; "running: {}", contents.map(RUNNING).len());
+    let _printed = println!(rt; "finished: {}", contents.map(FINISHED).len());
+}
+
+fn main(rt: HostRuntime) -> ExitCode {
+    let alloc = rt.alloc();
+    let Ok(start) = all_waiting(alloc, JOBS) else {
+        return ExitCode::FAILURE;
+    };
+    let Ok(done) = run_shift(&rt, alloc, &start, JOBS, WORKERS) else {
+        return ExitCode::FAILURE;
+    };
+    print(&rt, &done.contents);
+    ExitCode::SUCCESS
+}

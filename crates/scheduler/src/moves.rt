@@ -1,0 +1,114 @@
+//! What a worker does with jobs. Each move is one transaction.
+
+ghost use Rattle.std.specs.Prelude.{◌≡◌, ◌≤◌, None, IfOk, IfErr};
+ghost use Rattle.md_history.specs.Script.{Did, Follows};
+ghost use Rattle.scheduler.specs.Playing.{PlaysPart};
+ghost use Rattle.scheduler.specs.Moves.{FitsScheduler, script_of};
+ghost use Rattle.scheduler.specs.Moves.{first_waiting, take, finish, put_back};
+
+use crate::places::{FINISHED, LOWEST, MAPS, PRIORITIES, RUNNING};
+use md_history::{Body, Stop, TxCalls};
+
+/// What a worker may do.
+#[derive(Clone, Copy, Debug, PartialEq, Eq)]
+pub enum Step {
+    /// It takes the first job of the highest priority that has one, unless it runs a job.
+    Take,
+    /// It finishes the job that it runs.
+    Finish,
+    /// It puts the job that it runs back, last in the queue of the lowest priority.
+    PutBack,
+}
+
+/// A worker's step. Its reply is the job that it moved; `None` if it moved none.
+#[derive(Clone, Copy, Debug, PartialEq, Eq, Drop)]
+pub struct Move {
+    /// Whose step it is.
+    pub worker: u32,
+    pub step: Step,
+}
+
+// Takes out the first job of the highest priority that has one.
+fn first_waiting<T: TxCalls>(t: &mut T) -> Result<Option<u64>, Stop>
+    requires going { T.stop t.old ≡ None }
+    requires queues { PRIORITIES ≤ T.queues (T.kept t.old) }
+    ensures plays { PlaysPart (first_waiting PRIORITIES 0) result T.acts T.stop t.old t.new }
+    ensures kept { T.kept t.new ≡ T.kept t.old }
+{
+    for queue in 0..PRIORITIES {
+        if let Some(job) = t.dequeue(queue)? {
+            return Ok(Some(job));
+        }
+    }
+    Ok(None)
+}
+
+// The worker begins to run a job.
+fn take<T: TxCalls>(t: &mut T, worker: u64) -> Result<Option<u64>, Stop>
+    requires going { T.stop t.old ≡ None }
+    requires maps { MAPS ≤ T.maps (T.kept t.old) }
+    requires queues { PRIORITIES ≤ T.queues (T.kept t.old) }
+    ensures plays { PlaysPart (take worker) result T.acts T.stop t.old t.new }
+    ensures kept { T.kept t.new ≡ T.kept t.old }
+{
+    if t.get(RUNNING, worker)?.is_some() {
+        return Ok(None);
+    }
+    let Some(job) = first_waiting(t)? else {
+        return Ok(None);
+    };
+    t.insert(RUNNING, worker, job)?;
+    Ok(Some(job))
+}
+
+// The worker's job is finished.
+fn finish<T: TxCalls>(t: &mut T, worker: u64) -> Result<Option<u64>, Stop>
+    requires going { T.stop t.old ≡ None }
+    requires maps { MAPS ≤ T.maps (T.kept t.old) }
+    ensures plays { PlaysPart (finish worker) result T.acts T.stop t.old t.new }
+    ensures kept { T.kept t.new ≡ T.kept t.old }
+{
+    let Some(job) = t.remove(RUNNING, worker)? else {
+        return Ok(None);
+    };
+    t.insert(FINISHED, job, worker)?;
+    Ok(Some(job))
+}
+
+// The worker's job waits again.
+fn put_back<T: TxCalls>(t: &mut T, worker: u64) -> Result<Option<u64>, Stop>
+    requires going { T.stop t.old ≡ None }
+    requires maps { MAPS ≤ T.maps (T.kept t.old) }
+    requires queues { PRIORITIES ≤ T.queues (T.kept t.old) }
+    ensures plays { PlaysPart (put_back worker) result T.acts T.stop t.old t.new }
+    ensures kept { T.kept t.new ≡ T.kept t.old }
+{
+    let Some(job) = t.remove(RUNNING, worker)? else {
+        return Ok(None);
+    };
+    t.enqueue(LOWEST, job)?;
+    Ok(Some(job))
+}
+
+impl Body for Move {
+    ghost use Rattle.std.specs.Prelude.{Option};
+
+    type Reply = Option<u64>;
+
+    ghost did = { λ m acts r. Did (script_of m) acts r };
+
+    ghost makes = { λ m acts. Follows (script_of m) acts };
+
+    ghost fits = { λ m maps queues. FitsScheduler maps queues };
+
+    fn go<T: TxCalls>(&self, t: &mut T) -> Result<Option<u64>, Stop> {
+        let worker = self.worker as u64;
+        match self.step {
+            Step::Take => take(t, worker),
+            Step::Finish => finish(t, worker),
+            Step::PutBack => put_back(t, worker),
+        }
+    }
+
+    ghost did_makes = { λ m acts r did. did.follows };
+}

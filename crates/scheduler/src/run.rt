@@ -1,0 +1,90 @@
+//! A shift over a store of its own.
+
+ghost use Rattle.std.specs.Prelude.{◌≡◌, ◌≤◌, ◌+◌, ◌<◌, [], ℕ, length, map, IfOk};
+ghost use Rattle.md_words.specs.Layout.{HasNumbers};
+ghost use Rattle.md_many.specs.Played.{lists_in};
+ghost use Rattle.md_store.specs.Store.{front_in};
+ghost use Rattle.scheduler.specs.Jobs.{EachInOnePlace, Holds, numbered};
+ghost use Rattle.scheduler.specs.Shifts.{IsShift};
+
+use crate::places::{MAPS, MAX_JOBS, MAX_WORKERS, PRIORITIES};
+use crate::shifts::Shift;
+use md_history::Contents;
+use md_many::{FreeGate, Many, run_many};
+use md_rule::Pass;
+use md_store::Store;
+use md_store_law::StoreTheory;
+use md_words::Shape;
+use std::alloc::{AllocError, Global};
+use std::thread::Threads;
+
+// How many nodes each worker has until the store is renewed.
+const NODES: u32 = 4_096;
+
+// How many attempts each worker has until the store is renewed.
+const TRIES: u32 = 16_384;
+
+// The buckets of each map.
+const BUCKETS: u32 = 1_024;
+
+/// So many jobs in the waiting queues, numbered from 0, one after another in the queues in turn.
+/// `AllocError` if memory runs out.
+pub fn all_waiting(alloc: Global, jobs: u32) -> Result<Contents, AllocError>
+    ensures { IfOk result (λ c. Holds (numbered jobs) [] c) }
+{
+    let mut contents = Contents::empty(alloc, MAPS, PRIORITIES)?;
+    for job in 0..jobs {
+        contents.push(job % PRIORITIES, job as u64)?;
+    }
+    Ok(contents)
+}
+
+// A lane for each worker, and base nodes for the queues and the jobs.
+fn shape_of(workers: u32, jobs: u32) -> Shape
+    requires workers { (1 ≤ workers) × (workers ≤ MAX_WORKERS) }
+    requires jobs { jobs ≤ MAX_JOBS }
+    ensures { HasNumbers result workers NODES (PRIORITIES + jobs) TRIES MAPS BUCKETS PRIORITIES }
+{
+    Shape::new(
+        workers,
+        NODES,
+        PRIORITIES + jobs,
+        TRIES,
+        MAPS,
+        BUCKETS,
+        PRIORITIES,
+    )
+    .unwrap()
+}
+
+/// Runs a shift of so many workers, 1 to `MAX_WORKERS`, in threads, over a concurrent store with
+/// these contents. So many jobs, at most `MAX_JOBS`, stand in them, each in one place. Each move of
+/// each worker is committed once. Afterwards each job stands in one place again, whatever the
+/// threads do, and another shift may go on with the contents.
+///
+/// `AllocError` if memory runs out.
+pub fn run_shift<R: Threads + Sync>(
+    rt: &R,
+    alloc: Global,
+    start: &Contents,
+    jobs: u32,
+    workers: u32,
+) -> Result<Many<Option<u64>, Pass<StoreTheory>>, AllocError>
+    requires start { Holds (numbered jobs) [] start.now }
+    requires jobs { jobs ≤ MAX_JOBS }
+    requires workers { (1 ≤ workers) × (workers ≤ MAX_WORKERS) }
+    ensures jobs { IfOk result (λ m. EachInOnePlace jobs m.contents) }
+    ensures holds { IfOk result (λ m. Holds (numbered jobs) [] m.contents) }
+    ensures moves { IfOk result (λ m. IsShift workers jobs start.now
+        (map front_in m.fronts.items) (lists_in m.replies.items) m.contents) }
+{
+    let Ok((store, pass)) = Store::open(alloc, shape_of(workers, jobs), start) else {
+        return Err(AllocError);
+    };
+    let shift = Shift {
+        start,
+        jobs,
+        workers,
+    };
+    run_many(rt, alloc, store, pass, &shift, TRIES, &FreeGate)
+}
