@@ -1,6 +1,7 @@
 //! Tellers, each with orders of its own.
 
-ghost use Rattle.std.specs.Prelude.{◌≡◌, ◌<◌, ◌≤◌, [], length, IfSome, IfNone, sum_by};
+ghost use Rattle.std.specs.Prelude.{◌≡◌, ◌<◌, ◌≤◌, [], length, sum_by};
+ghost use Rattle.std.specs.Prelude.{IfNone, IfSome, IsSome};
 ghost use Rattle.md_many.specs.Rounds.{at_caller};
 ghost use Rattle.md_many.specs.Played.{lists_in};
 ghost use Rattle.transfers.specs.Orders.{transfer_at, line_count_of, count_of};
@@ -57,11 +58,17 @@ impl Tellers {
     /// more than `MAX_ORDERS` orders.
     pub fn new(orders: Vec<Vec<Order>>) -> Option<Tellers>
         ensures some { IfSome result (λ t. t ≡ lists_in orders.items) }
+        ensures none { length orders.items ≤ MAX_TELLERS
+            → count_of (lists_in orders.items) ≤ MAX_ORDERS → IsSome result }
+        ensures fits { IfSome result (λ t. (length orders.items ≤ MAX_TELLERS)
+            × (count_of (lists_in orders.items) ≤ MAX_ORDERS)) }
     {
         if orders.len() > MAX_TELLERS {
             return None;
         }
-        let total = counted(&orders)?;
+        let Some(total) = counted(&orders) else {
+            return None;
+        };
         Some(Tellers { orders, total })
     }
 
