@@ -7,7 +7,7 @@ use Rattle.md_machine.specs.declared.attempt.Hand.{Hand}
 use Rattle.md_interleavings.specs.Acting.{IsActing, MayEnd, WasRefused}
 use Rattle.md_list.specs.Operations.{Answers, IsBegun, Leaves}
 use Rattle.md_list.specs.Walking.{IsHeadOf}
-use Rattle.md_list.proofs.Answered.{may_answer}
+use Rattle.md_list.proofs.answers.Answered.{may_answer}
 use Rattle.md_nbtc.specs.Calls.{Ends, GoesOn, with_act, with_operation}
 use Rattle.md_nbtc.specs.Ending.{Begins}
 use Rattle.md_nbtc.specs.Going.{IsGoing, IsUnderWay}

@@ -19,18 +19,18 @@ use Rattle.md_machine.specs.Certified.{content_read}
 use Rattle.md_nbtc.proofs.structures.Noting.{HasNoted}
 use Rattle.md_list.specs.Refusals.{IsAbsent, NeedsNode, NeedsRead, NeedsSlot, OneMoreChange, OneMoreRead, WalkNeedsSlot}
 use Rattle.md_list.specs.Walking.{IsHeadOf}
-use Rattle.md_list.proofs.Adding.{adds_node, adds_note, adds_stop, goes_over, leaves_more, leaves_within, nodes_kept, reads_kept}
-use Rattle.md_list.proofs.Critical.{adds_change}
-use Rattle.md_list.proofs.Getting.{noted_ok}
-use Rattle.md_list.proofs.Inserting.{inserted, linked, may_link, needs_link}
-use Rattle.md_list.proofs.LookUps.{answered_so, found_exists, here_node, is_absent_there, needs_read, shows_there}
-use Rattle.md_list.proofs.Noted.{NotesOnly, notes_only}
-use Rattle.md_list.proofs.Refused.{exchange_full, exchange_reads, exchange_unstopped, fresh_limit, note_full, note_limit, note_unstopped, reads_or_writes, refused_by, refused_else, refused_never, refused_within}
-use Rattle.md_list.proofs.Marks.{link_is}
-use Rattle.md_list.proofs.Rows.{begun_walks, by_same, found_of}
-use Rattle.md_list.proofs.Steps.{exchanged_ok, exchanged_reads}
-use Rattle.md_list.proofs.Stops.{answers_any, exchange_stops, exchanged_stop, none_stands, none_stood, note_stops, noted_stop_ok, passed_on, stop_after_ok}
-use Rattle.md_list.proofs.Walked.{has_stop, stop_leaves}
+use Rattle.md_list.proofs.charges.Adding.{adds_node, adds_note, adds_stop, goes_over, leaves_more, leaves_within, nodes_kept, reads_kept}
+use Rattle.md_list.proofs.changes.Critical.{adds_change}
+use Rattle.md_list.proofs.answers.Getting.{noted_ok}
+use Rattle.md_list.proofs.answers.Inserting.{inserted, linked, may_link, needs_link}
+use Rattle.md_list.proofs.answers.LookUps.{answered_so, found_exists, here_node, is_absent_there, needs_read, shows_there}
+use Rattle.md_list.proofs.changes.Noted.{NotesOnly, notes_only}
+use Rattle.md_list.proofs.refusals.Refused.{exchange_full, exchange_reads, exchange_unstopped, fresh_limit, note_full, note_limit, note_unstopped, reads_or_writes, refused_by, refused_else, refused_never, refused_within}
+use Rattle.md_list.proofs.walking.Marks.{link_is}
+use Rattle.md_list.proofs.answers.Rows.{begun_walks, by_same, found_of}
+use Rattle.md_list.proofs.walking.Steps.{exchanged_ok, exchanged_reads}
+use Rattle.md_list.proofs.refusals.Stops.{answers_any, exchange_stops, exchanged_stop, none_stands, none_stood, note_stops, noted_stop_ok, passed_on, stop_after_ok}
+use Rattle.md_list.proofs.walking.Walked.{has_stop, stop_leaves}
 use Rattle.md_list.specs.declared.walk.Found.{Found}
 use Rattle.md_history.specs.declared.stops.Limit.TheVariants.{Nodes, Reads, Writes}
 use Rattle.md_history.specs.declared.stops.Stop.TheVariants.{Limit as Limited}

@@ -19,15 +19,15 @@ use Rattle.md_nbtc.proofs.structures.NodesKnown.{shape_later}
 use Rattle.md_nbtc.proofs.structures.Noting.{HasNoted}
 use Rattle.md_list.specs.Refusals.{NeedsRead, NeedsUnlink, OneMoreRead, WalkNeedsSlot}
 use Rattle.md_list.specs.Walking.{IsHeadOf}
-use Rattle.md_list.proofs.Adding.{adds_note, adds_steps, goes_over, leaves_more, leaves_within, reads_kept}
-use Rattle.md_list.proofs.FoundOn.{found_on}
-use Rattle.md_list.proofs.Getting.{is_absent, is_there, noted_ok, value_data}
-use Rattle.md_list.proofs.LookUps.{answered_so, found_exists, here_node, needs_read, shows_absent, shows_value}
-use Rattle.md_list.proofs.Noted.{NotesOnly, notes_only}
-use Rattle.md_list.proofs.Refused.{note_full, note_limit, note_unstopped, reads_or_writes, refused_by, refused_else, refused_never, refused_within}
-use Rattle.md_list.proofs.Rows.{begun_walks, by_same, found_of}
-use Rattle.md_list.proofs.Stops.{answers_other, none_stood, note_stops, noted_stop_ok, passed_on, stop_after_ok}
-use Rattle.md_list.proofs.Walked.{stop_leaves}
+use Rattle.md_list.proofs.charges.Adding.{adds_note, adds_steps, goes_over, leaves_more, leaves_within, reads_kept}
+use Rattle.md_list.proofs.answers.FoundOn.{found_on}
+use Rattle.md_list.proofs.answers.Getting.{is_absent, is_there, noted_ok, value_data}
+use Rattle.md_list.proofs.answers.LookUps.{answered_so, found_exists, here_node, needs_read, shows_absent, shows_value}
+use Rattle.md_list.proofs.changes.Noted.{NotesOnly, notes_only}
+use Rattle.md_list.proofs.refusals.Refused.{note_full, note_limit, note_unstopped, reads_or_writes, refused_by, refused_else, refused_never, refused_within}
+use Rattle.md_list.proofs.answers.Rows.{begun_walks, by_same, found_of}
+use Rattle.md_list.proofs.refusals.Stops.{answers_other, none_stood, note_stops, noted_stop_ok, passed_on, stop_after_ok}
+use Rattle.md_list.proofs.walking.Walked.{stop_leaves}
 use Rattle.md_list.specs.declared.walk.Found.{Found}
 use Rattle.md_history.specs.declared.stops.Limit.TheVariants.{Nodes, Reads, Writes}
 use Rattle.md_history.specs.declared.stops.Stop.TheVariants.{Limit as Limited}

@@ -20,20 +20,20 @@ use Rattle.md_nbtc.proofs.structures.NodesKnown.{shape_later}
 use Rattle.md_list_law.specs.Certificates.{remove_none}
 use Rattle.md_list.specs.Refusals.{NeedsRead, NeedsSlot, OneMoreChange, OneMoreRead, WalkNeedsSlot}
 use Rattle.md_list.specs.Walking.{IsHeadOf}
-use Rattle.md_list.proofs.FoundOn.{found_on}
-use Rattle.md_list.proofs.Adding.{adds_cleanup, adds_note, adds_steps, goes_over, leaves_more, leaves_on, leaves_within, reads_kept}
-use Rattle.md_list.proofs.Critical.{adds_change}
-use Rattle.md_list.proofs.Getting.{is_absent, is_there, noted_ok, value_data}
+use Rattle.md_list.proofs.answers.FoundOn.{found_on}
+use Rattle.md_list.proofs.charges.Adding.{adds_cleanup, adds_note, adds_steps, goes_over, leaves_more, leaves_on, leaves_within, reads_kept}
+use Rattle.md_list.proofs.changes.Critical.{adds_change}
+use Rattle.md_list.proofs.answers.Getting.{is_absent, is_there, noted_ok, value_data}
 use Rattle.md_list_law.specs.ListShape.{next_word}
-use Rattle.md_list.proofs.LookUps.{answered_so, found_exists, here_node, needs_read, shows_absent}
-use Rattle.md_list.proofs.Marks.{mark_fits}
-use Rattle.md_list.proofs.Removing.{goes_kept, keeps_unlink, marked_by, may_mark, needs_mark, none_yet, removed, written_for}
-use Rattle.md_list.proofs.Noted.{notes_only}
-use Rattle.md_list.proofs.Refused.{exchange_full, exchange_reads, exchange_unstopped, note_full, note_limit, note_unstopped, reads_or_writes, refused_by, refused_else, refused_never, refused_within}
-use Rattle.md_list.proofs.Rows.{begun_walks, by_same, found_of}
-use Rattle.md_list.proofs.Steps.{exchanged_ok, exchanged_reads}
-use Rattle.md_list.proofs.Stops.{answers_other, exchange_stops, exchanged_stop, none_stood, note_stops, noted_stop_ok, passed_on, stop_after_ok}
-use Rattle.md_list.proofs.Walked.{stop_leaves}
+use Rattle.md_list.proofs.answers.LookUps.{answered_so, found_exists, here_node, needs_read, shows_absent}
+use Rattle.md_list.proofs.walking.Marks.{mark_fits}
+use Rattle.md_list.proofs.answers.Removing.{goes_kept, keeps_unlink, marked_by, may_mark, needs_mark, none_yet, removed, written_for}
+use Rattle.md_list.proofs.changes.Noted.{notes_only}
+use Rattle.md_list.proofs.refusals.Refused.{exchange_full, exchange_reads, exchange_unstopped, note_full, note_limit, note_unstopped, reads_or_writes, refused_by, refused_else, refused_never, refused_within}
+use Rattle.md_list.proofs.answers.Rows.{begun_walks, by_same, found_of}
+use Rattle.md_list.proofs.walking.Steps.{exchanged_ok, exchanged_reads}
+use Rattle.md_list.proofs.refusals.Stops.{answers_other, exchange_stops, exchanged_stop, none_stood, note_stops, noted_stop_ok, passed_on, stop_after_ok}
+use Rattle.md_list.proofs.walking.Walked.{stop_leaves}
 use Rattle.md_list.specs.declared.walk.Found.{Found}
 use Rattle.md_history.specs.declared.stops.Limit.TheVariants.{Nodes, Reads, Writes}
 use Rattle.md_history.specs.declared.stops.Stop.TheVariants.{Limit as Limited}

@@ -4,20 +4,20 @@ use Rattle.md_words.specs.Link.{linked_node}
 use Rattle.md_nbtc.specs.State.{shape_in, state}
 use Rattle.md_nbtc.proofs.structures.Answering.{exchange_refused, look_refused}
 use Rattle.md_nbtc.proofs.structures.NodesKnown.{shape_later}
-use Rattle.md_list.proofs.Charged.{charges_more, charges_none, few_after, few_written}
-use Rattle.md_list.proofs.ChargedWalk.{charges_pass, charges_unlink}
-use Rattle.md_list.proofs.Further.{few_visited, finds_none}
-use Rattle.md_list.proofs.Marks.{even_is_unmarked, halved, odd_is_marked}
-use Rattle.md_list.proofs.MarkedNext.{may_unlink}
-use Rattle.md_list.proofs.OnNode.{named_exists}
-use Rattle.md_list.proofs.Steps.{exchanged_ok, head_counted, head_looked, key_data, key_is, looked_ok, next_is, next_looked, node_is, unlinked_ok, walked_exchange, walked_same}
-use Rattle.md_list.proofs.Stops.{answers_other, exchange_stops, exchanged_stop, look_other, look_stops, none_stands, none_stood, ok_unstopped, passed_on}
-use Rattle.md_list.proofs.Refused.{exchange_full, exchange_reads, look_unlimited, never_refused, refused_by, refused_else}
-use Rattle.md_list.proofs.Would.{needs_unlink, unlink_of_walk}
-use Rattle.md_list.proofs.Walked.{has_stop, stop_leaves, walk_leaves, walked_one}
-use Rattle.md_list.proofs.Adding.{goes_over, leaves_none}
+use Rattle.md_list.proofs.charges.Charged.{charges_more, charges_none, few_after, few_written}
+use Rattle.md_list.proofs.charges.ChargedWalk.{charges_pass, charges_unlink}
+use Rattle.md_list.proofs.walking.Further.{few_visited, finds_none}
+use Rattle.md_list.proofs.walking.Marks.{even_is_unmarked, halved, odd_is_marked}
+use Rattle.md_list.proofs.walking.MarkedNext.{may_unlink}
+use Rattle.md_list.proofs.walking.OnNode.{named_exists}
+use Rattle.md_list.proofs.walking.Steps.{exchanged_ok, head_counted, head_looked, key_data, key_is, looked_ok, next_is, next_looked, node_is, unlinked_ok, walked_exchange, walked_same}
+use Rattle.md_list.proofs.refusals.Stops.{answers_other, exchange_stops, exchanged_stop, look_other, look_stops, none_stands, none_stood, ok_unstopped, passed_on}
+use Rattle.md_list.proofs.refusals.Refused.{exchange_full, exchange_reads, look_unlimited, never_refused, refused_by, refused_else}
+use Rattle.md_list.proofs.refusals.Would.{needs_unlink, unlink_of_walk}
+use Rattle.md_list.proofs.walking.Walked.{has_stop, stop_leaves, walk_leaves, walked_one}
+use Rattle.md_list.proofs.charges.Adding.{goes_over, leaves_none}
 use Rattle.md_list.specs.Refusals.{WalkNeedsSlot}
-use Rattle.md_list.proofs.At.{found_over}
+use Rattle.md_list.proofs.walking.At.{found_over}
 use Rattle.md_list.specs.declared.walk.Found.{Found}
 use Rattle.md_history.specs.declared.stops.Limit.TheVariants.{Nodes, Reads, Writes}
 use Rattle.md_history.specs.declared.stops.Stop.TheVariants.{Limit as Limited}
@@ -26,7 +26,7 @@ use Rattle.md_nbtc.specs.Calls.{Exchanges, Looked, exchange_case}
 use Rattle.md_words.specs.PlaceAt.{IsCounted}
 use Rattle.md_machine.proofs.chain.SameNodes.{next_counted}
 use Rattle.md_list_law.specs.ListShape.{next_word}
-use Rattle.md_list.proofs.Keyed.{key_finds, key_walks}
+use Rattle.md_list.proofs.walking.Keyed.{key_finds, key_walks}
 use Rattle.md_list.proofs.walk.find.Goals.{then-next, else-next}
 use Rattle.md_list.proofs.walk.find.Goals as goal
 

@@ -1,9 +1,9 @@
 use Rattle.std.proofs.Common.{◌≡◌, ◌<◌, ◌^◌, ℕ, List, None, length}
 use Rattle.md_nbtc.specs.State.{state}
 use Rattle.md_list.specs.Walking.{IsWalking}
-use Rattle.md_list.proofs.At.{IsAtBy}
-use Rattle.md_list.proofs.Charged.{Charges}
-use Rattle.md_list.proofs.Walked.{WalkedFrom}
+use Rattle.md_list.proofs.walking.At.{IsAtBy}
+use Rattle.md_list.proofs.charges.Charged.{Charges}
+use Rattle.md_list.proofs.walking.Walked.{WalkedFrom}
 use Rattle.md_list.proofs.walk.find.Given as goal
 
 abbrev pub invariant-loop : goal.invariant-loop

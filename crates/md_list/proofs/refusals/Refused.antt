@@ -17,7 +17,7 @@ use Rattle.md_nbtc.specs.Calls.{AfterStop, Exchanges, Freshened, GoesOn, Looked,
 use Rattle.md_nbtc.specs.State.{TxnState, seen_content, writes_in}
 use Rattle.md_nbtc.proofs.structures.Answering.{IsStopped}
 use Rattle.md_nbtc.proofs.structures.Exchanging.{exchange_so}
-use Rattle.md_list.proofs.Stops.{none_stands}
+use Rattle.md_list.proofs.refusals.Stops.{none_stands}
 use Rattle.md_list.specs.Refusals.{NotRefusedBy, RefusedBy}
 
 module _ (A : Type 0) (s : Stop) where

@@ -43,12 +43,12 @@ use Rattle.md_list_law.specs.Certificates.{IsRow, IsUnlink}
 use Rattle.md_list_law.specs.HasLists.{HasListsOf}
 use Rattle.md_list.specs.Refusals.{HasSeen, OneMoreUnlink, WouldStand}
 use Rattle.md_list.specs.Walking.{Gives, IsWalking}
-use Rattle.md_list.proofs.Changing.{changing}
-use Rattle.md_list.proofs.Charging.{charged_later, charged_push}
-use Rattle.md_list.proofs.FoundOn.{head_later}
-use Rattle.md_list.proofs.MarkedNext.{facts_hold, is_unlink, unlink, unlink_charged, unlink_tidies}
-use Rattle.md_list.proofs.OnNode.{IsOn}
-use Rattle.md_list.proofs.Rows.{ShowsReply, one_head, one_is_few, row_certifies, row_of_map, shown, shown_facts}
+use Rattle.md_list.proofs.changes.Changing.{changing}
+use Rattle.md_list.proofs.charges.Charging.{charged_later, charged_push}
+use Rattle.md_list.proofs.answers.FoundOn.{head_later}
+use Rattle.md_list.proofs.walking.MarkedNext.{facts_hold, is_unlink, unlink, unlink_charged, unlink_tidies}
+use Rattle.md_list.proofs.walking.OnNode.{IsOn}
+use Rattle.md_list.proofs.answers.Rows.{ShowsReply, one_head, one_is_few, row_certifies, row_of_map, shown, shown_facts}
 
 -- wherever a word has what was seen there, it still has it after the ended operations and the tidy changes since
 module _ (M : Meaning) (lawful : Lawful M) (t : TxnState) (cs : List Certificate) (going : IsGoing M t cs) (ts : List TidyChange) (has : HasTidied M t cs ts)

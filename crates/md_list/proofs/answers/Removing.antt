@@ -47,17 +47,17 @@ use Rattle.md_list.specs.Walking.{FindsNode, HasFound, IsHeadOf, IsWalking}
 use Rattle.md_list.specs.Operations.{IsAnswered, KeepsUnlink}
 use Rattle.md_list.specs.Refusals.{OneMoreChange}
 use Rattle.md_list_law.proofs.Links.{head_is_no_next}
-use Rattle.md_list.proofs.Changing.{changing, may_end_changing, places_own}
-use Rattle.md_list.proofs.Critical.{ChangedCritically, changed_critically}
-use Rattle.md_list.proofs.FoundOn.{before_later, head_later}
-use Rattle.md_list.proofs.ListWords.{mark_stays, next_keeps_none, next_may_change}
-use Rattle.md_list.proofs.LookUps.{here_node, pair_known}
-use Rattle.md_list.proofs.Marks.{mark_set}
-use Rattle.md_list.proofs.Charging.{charged_later}
-use Rattle.md_list.proofs.Rows.{one_head, row_certifies, row_of_map}
-use Rattle.md_list.proofs.Staying.{KeepsNone, none_changed}
-use Rattle.md_list.proofs.UnlinkLater.{may_unlink_later}
-use Rattle.md_list.proofs.Would.{would_change}
+use Rattle.md_list.proofs.changes.Changing.{changing, may_end_changing, places_own}
+use Rattle.md_list.proofs.changes.Critical.{ChangedCritically, changed_critically}
+use Rattle.md_list.proofs.answers.FoundOn.{before_later, head_later}
+use Rattle.md_list.proofs.walking.ListWords.{mark_stays, next_keeps_none, next_may_change}
+use Rattle.md_list.proofs.answers.LookUps.{here_node, pair_known}
+use Rattle.md_list.proofs.walking.Marks.{mark_set}
+use Rattle.md_list.proofs.charges.Charging.{charged_later}
+use Rattle.md_list.proofs.answers.Rows.{one_head, row_certifies, row_of_map}
+use Rattle.md_list.proofs.changes.Staying.{KeepsNone, none_changed}
+use Rattle.md_list.proofs.changes.UnlinkLater.{may_unlink_later}
+use Rattle.md_list.proofs.refusals.Would.{would_change}
 
 module _ (M : Meaning) (lawful : Lawful M) (lists : HasListsOf M) (t : TxnState) (head key : ℕ) (found : Found) (has : HasFound M t head key found) (is_here : found.here ≡ true) where
   abbrev w : IsWalking M t head

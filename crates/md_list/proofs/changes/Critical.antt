@@ -18,8 +18,8 @@ use Rattle.md_nbtc.specs.Seeing.{Gave}
 use Rattle.md_nbtc.specs.Sets.{with_new}
 use Rattle.md_nbtc.specs.State.{TxnState, seen_content, writes_in}
 use Rattle.md_list.specs.Operations.{SlotsStay}
-use Rattle.md_list.proofs.Adding.{Adds}
-use Rattle.md_list.proofs.Staying.{slots_changed}
+use Rattle.md_list.proofs.charges.Adding.{Adds}
+use Rattle.md_list.proofs.changes.Staying.{slots_changed}
 use Rattle.md_nbtc.proofs.structures.Exchanging.{HasExchanged, changed_own, changed_plainly, installed}
 
 module _ (M : Meaning) (t : TxnState) (word : ℕ) (from : Seen) (to : ℕ) (u : TxnState) (seen : Seen) where

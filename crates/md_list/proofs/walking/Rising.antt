@@ -33,7 +33,7 @@ use Rattle.md_list_law.specs.ListShape.{IsIn, Names, NamesAbove, head_word, next
 use Rattle.md_list_law.specs.Rising.{FoundRising, LinksRise}
 use Rattle.md_list_law.proofs.Links.{head_is_no_next}
 use Rattle.md_list_law.proofs.RisingAlong.{rises_along, rises_at_first, rises_tidied}
-use Rattle.md_list.proofs.MetInBuckets.{met_in_head, met_in_next, placed_then}
+use Rattle.md_list.proofs.walking.MetInBuckets.{met_in_head, met_in_next, placed_then}
 
 module _ (M : Meaning) (lawful : Lawful M) (lists : HasListsOf M) (t : TxnState) (map bucket : ℕ) (is_map : map < (shape_in t).maps) (is_bucket : bucket < (shape_in t).buckets)
     (cs : List Certificate) (going : IsGoing M t cs) where

@@ -38,15 +38,15 @@ use Rattle.md_list.specs.declared.walk.Found.{Found}
 use Rattle.md_list.specs.Operations.{IsAnswered}
 use Rattle.md_list.specs.Refusals.{OneMoreChange}
 use Rattle.md_list.specs.Walking.{Gives, HasFound, IsBefore, IsHead, IsHeadOf, IsWalking}
-use Rattle.md_list.proofs.Changing.{changing, may_end_changing, places_own}
-use Rattle.md_list.proofs.Critical.{ChangedCritically, changed_critically}
-use Rattle.md_list.proofs.FreshNode.{apart_from_fresh, fresh_after, fresh_unwritten}
-use Rattle.md_list.proofs.FoundOn.{before_later, head_later, there_later}
-use Rattle.md_list.proofs.ListWords.{cleanups_stay, may_change}
-use Rattle.md_list.proofs.LookUps.{Gap, gap}
-use Rattle.md_list.proofs.Charging.{charged_later}
-use Rattle.md_list.proofs.Rows.{one_head, row_certifies, row_of_map}
-use Rattle.md_list.proofs.Would.{would_change}
+use Rattle.md_list.proofs.changes.Changing.{changing, may_end_changing, places_own}
+use Rattle.md_list.proofs.changes.Critical.{ChangedCritically, changed_critically}
+use Rattle.md_list.proofs.changes.FreshNode.{apart_from_fresh, fresh_after, fresh_unwritten}
+use Rattle.md_list.proofs.answers.FoundOn.{before_later, head_later, there_later}
+use Rattle.md_list.proofs.walking.ListWords.{cleanups_stay, may_change}
+use Rattle.md_list.proofs.answers.LookUps.{Gap, gap}
+use Rattle.md_list.proofs.charges.Charging.{charged_later}
+use Rattle.md_list.proofs.answers.Rows.{one_head, row_certifies, row_of_map}
+use Rattle.md_list.proofs.refusals.Would.{would_change}
 
 module _ (M : Meaning) (lawful : Lawful M) (lists : HasListsOf M) (t : TxnState) (head key : ℕ) (found : Found) (has : HasFound M t head key found) (absent : found.here ≡ false)
     (value : ℕ) (u : TxnState) (goes : GoesOn M t u) (node : ℕ) (fresh : Freshens t u key value found.at.value node) (given : KeepsGiven t u (address (shape_in t) (node_next node))) where

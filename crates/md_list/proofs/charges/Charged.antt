@@ -17,8 +17,8 @@ use Rattle.md_nbtc.proofs.exchanging.MoreSlots.{written_push}
 use Rattle.md_nbtc.proofs.ready.Lookups.{written_found}
 use Rattle.md_list_law.specs.ListShape.{next_word}
 use Rattle.md_list.specs.Written.{WritesFew, unwritten_reads}
-use Rattle.md_list.proofs.At.{IsBehind}
-use Rattle.md_list.proofs.Counting.{few_among}
+use Rattle.md_list.proofs.walking.At.{IsBehind}
+use Rattle.md_list.proofs.walking.Counting.{few_among}
 
 module _ (M : Meaning) (t : TxnState) (head : ℕ) where
   -- the word was recorded, or is the next word of an own node

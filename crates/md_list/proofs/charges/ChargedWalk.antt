@@ -22,10 +22,10 @@ use Rattle.md_nbtc.proofs.structures.Exchanging.{HasExchanged, changed_own, chan
 use Rattle.md_list_law.specs.HasLists.{HasListsOf}
 use Rattle.md_list_law.specs.ListShape.{next_word}
 use Rattle.md_list_law.proofs.Links.{head_is_no_next}
-use Rattle.md_list.proofs.At.{IsBehind}
-use Rattle.md_list.proofs.Charging.{known_of}
-use Rattle.md_list.proofs.Charged.{Charges, IsPayer, IsKnown, charges_more, charges_one, charges_same, now_written}
-use Rattle.md_list.proofs.OnNode.{IsOn, not_visited}
+use Rattle.md_list.proofs.walking.At.{IsBehind}
+use Rattle.md_list.proofs.charges.Charging.{known_of}
+use Rattle.md_list.proofs.charges.Charged.{Charges, IsPayer, IsKnown, charges_more, charges_one, charges_same, now_written}
+use Rattle.md_list.proofs.walking.OnNode.{IsOn, not_visited}
 
 -- a word whose change is critical, if it isn't asked for so, was recorded or is an own node's
 known_at_first : (M : Meaning) (t u : TxnState) (head : ℕ) → u.reads ≡ t.reads → u.nodes ≡ t.nodes → shape_in u ≡ shape_in t → (word : ℕ) → is_critical u word Plain ≡ true → IsKnown M t head word

@@ -19,7 +19,7 @@ use Rattle.md_nbtc.proofs.ready.Lookups.{written_found}
 use Rattle.md_nbtc.proofs.structures.NodesKnown.{placed_before}
 use Rattle.md_nbtc.proofs.structures.Tidying.{IsBare, bare_placed}
 use Rattle.md_list_law.specs.ListShape.{next_word}
-use Rattle.md_list.proofs.ListWords.{own_placed}
+use Rattle.md_list.proofs.walking.ListWords.{own_placed}
 
 module _ (M : Meaning) (lawful : Lawful M) (t : TxnState) (cs : List Certificate) (going : IsGoing M t cs) (n : OwnNode) (own : Contains t.nodes n) (stored : Contains t.hand.stored n.node) where
   abbrev unplaced : IsUnplaced M t n

@@ -16,7 +16,7 @@ use Rattle.md_nbtc.proofs.preparing.Later.{later_over}
 use Rattle.md_nbtc.proofs.structures.Answering.{IsStopped}
 use Rattle.md_nbtc.proofs.structures.Noting.{HasNoted}
 use Rattle.md_list.specs.Operations.{Leaves, SlotsStay}
-use Rattle.md_list.proofs.Staying.{KeepsNone, slots_kept, slots_over, slots_same}
+use Rattle.md_list.proofs.changes.Staying.{KeepsNone, slots_kept, slots_over, slots_same}
 
 -- one call adds so much at most, and leaves the acts, the slots, and that an operation is begun
 pub record Adds (t u : TxnState) (reads writes nodes : ℕ) : Type 0 where

@@ -37,12 +37,12 @@ use Rattle.md_list_law.specs.Certificates.{IsUnlink, next_fact, node_fact}
 use Rattle.md_list_law.specs.HasLists.{HasListsOf}
 use Rattle.md_list_law.specs.ListShape.{IsIn, next_word}
 use Rattle.md_list.specs.Charged.{IsCharged, own_next, passes, recorded}
-use Rattle.md_list.proofs.At.{IsAt}
-use Rattle.md_list.proofs.Charging.{changed_before, known_of}
-use Rattle.md_list.proofs.OnNode.{IsOn}
-use Rattle.md_list.proofs.Rising.{met_node}
-use Rattle.md_list.proofs.ListWords.{cleanups_stay, may_change}
-use Rattle.md_list.proofs.Unlinks.{all_facts, is_unlink_from, unlink_from, unlink_from_tidies}
+use Rattle.md_list.proofs.walking.At.{IsAt}
+use Rattle.md_list.proofs.charges.Charging.{changed_before, known_of}
+use Rattle.md_list.proofs.walking.OnNode.{IsOn}
+use Rattle.md_list.proofs.walking.Rising.{met_node}
+use Rattle.md_list.proofs.walking.ListWords.{cleanups_stay, may_change}
+use Rattle.md_list.proofs.walking.Unlinks.{all_facts, is_unlink_from, unlink_from, unlink_from_tidies}
 
 -- a word that may be a plain change's is no own node's next word
 no_own_next : (t : TxnState) (word : ℕ) (kind : Kind) → is_critical t word kind ≡ false → (n : OwnNode) → Contains t.nodes n → word ≢ next_word (shape_in t) n.node

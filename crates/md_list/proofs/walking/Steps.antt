@@ -24,12 +24,12 @@ use Rattle.md_nbtc.proofs.structures.NodesKnown.{placed_or_own}
 use Rattle.md_list_law.specs.HasLists.{HasListsOf}
 use Rattle.md_list_law.specs.ListShape.{next_word}
 use Rattle.md_list.specs.Walking.{IsHead, IsWalking}
-use Rattle.md_list.proofs.At.{IsAt, IsAtBy, stepped}
-use Rattle.md_list.proofs.Further.{unlinked}
-use Rattle.md_list.proofs.Marks.{halved}
-use Rattle.md_list.proofs.OnNode.{IsOn, IsOnBy, begins, looks_on}
-use Rattle.md_list.proofs.Staying.{slots_changed, slots_same}
-use Rattle.md_list.proofs.Walked.{WalkedFrom, walked_more}
+use Rattle.md_list.proofs.walking.At.{IsAt, IsAtBy, stepped}
+use Rattle.md_list.proofs.walking.Further.{unlinked}
+use Rattle.md_list.proofs.walking.Marks.{halved}
+use Rattle.md_list.proofs.walking.OnNode.{IsOn, IsOnBy, begins, looks_on}
+use Rattle.md_list.proofs.changes.Staying.{slots_changed, slots_same}
+use Rattle.md_list.proofs.walking.Walked.{WalkedFrom, walked_more}
 
 -- the head is a counted word
 pub head_counted : (shape : Shape) (map bucket head : ℕ) → IsHead shape map bucket head → IsCounted shape head

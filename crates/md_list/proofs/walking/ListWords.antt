@@ -38,8 +38,8 @@ use Rattle.md_list_law.specs.HasLists.{HasListsOf}
 use Rattle.md_list_law.specs.ListShape.{IsIn, next_word}
 use Rattle.md_list_law.proofs.Links.{head_is_no_next}
 use Rattle.md_list.specs.Walking.{Gives, IsBefore, IsHead}
-use Rattle.md_list.proofs.At.{head_in_place, node_exists, placed_after}
-use Rattle.md_list.proofs.Staying.{KeepsNone}
+use Rattle.md_list.proofs.walking.At.{head_in_place, node_exists, placed_after}
+use Rattle.md_list.proofs.changes.Staying.{KeepsNone}
 
 -- a node has one structure
 one_structure : (s r : Structure) (o : Option Structure) → o ≡ Some s → o ≡ Some r → s ≡ r

@@ -15,8 +15,8 @@ use Rattle.md_nbtc.specs.State.{TxnState, shape_in}
 use Rattle.md_list_law.specs.HasLists.{HasListsOf}
 use Rattle.md_list_law.specs.ListShape.{IsIn}
 use Rattle.md_list.specs.Walking.{IsBefore, IsHead}
-use Rattle.md_list.proofs.ListWords.{may_change, placed_in}
-use Rattle.md_list.proofs.Unlinks.{all_facts, unlink_from, unlink_from_tidies}
+use Rattle.md_list.proofs.walking.ListWords.{may_change, placed_in}
+use Rattle.md_list.proofs.walking.Unlinks.{all_facts, unlink_from, unlink_from_tidies}
 
 pub may_unlink_later : (M : Meaning) (lawful : Lawful M) (lists : HasListsOf M) (t : TxnState) (cs : List Certificate) (going : IsGoing M t cs) (map bucket head key prev : ℕ)
     → IsHead (shape_in t) map bucket head → IsBefore M t cs (Bucket map bucket) head key prev → IsCounted (shape_in t) prev

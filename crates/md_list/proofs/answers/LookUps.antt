@@ -38,9 +38,9 @@ use Rattle.md_list.specs.Operations.{IsAnswered, IsBegun}
 use Rattle.md_list.specs.Refusals.{IsAbsent, OneMoreRead}
 use Rattle.md_list.specs.Walking.{FindsFrom, FindsNode, HasFound, IsHeadOf, IsWalking, KnowsAfter}
 use Rattle.md_list.specs.declared.walk.Found.{Found}
-use Rattle.md_list.proofs.Noted.{NotesOnly}
-use Rattle.md_list.proofs.Rows.{ShowsReply, answered_reading, found_of, one_head, shown}
-use Rattle.md_list.proofs.Would.{would_read}
+use Rattle.md_list.proofs.changes.Noted.{NotesOnly}
+use Rattle.md_list.proofs.answers.Rows.{ShowsReply, answered_reading, found_of, one_head, shown}
+use Rattle.md_list.proofs.refusals.Would.{would_read}
 
 module _ (M : Meaning) (lawful : Lawful M) (lists : HasListsOf M) (t : TxnState) (head key : ℕ) (found : Found) (has : HasFound M t head key found) where
   abbrev w : IsWalking M t head

@@ -19,7 +19,7 @@ use Rattle.md_list_law.specs.Certificates.{IsUnlink, key_fact, next_fact, node_f
 use Rattle.md_list_law.specs.HasLists.{HasListsOf}
 use Rattle.md_list_law.specs.ListShape.{next_word}
 use Rattle.md_list.specs.Walking.{IsBefore, IsHead}
-use Rattle.md_list.proofs.Marks.{mark_gone, marked_again}
+use Rattle.md_list.proofs.walking.Marks.{mark_gone, marked_again}
 
 module _ (M : Meaning) (t : TxnState) (cs : List Certificate) (map bucket head key prev : ℕ) (before : IsBefore M t cs (Bucket map bucket) head key prev) (node next : ℕ) where
   abbrev list : Structure

@@ -25,9 +25,9 @@ use Rattle.md_list_law.specs.HasLists.{HasListsOf}
 use Rattle.md_list_law.specs.ListShape.{IsIn, next_word}
 use Rattle.md_list_law.proofs.Links.{head_is_no_next}
 use Rattle.md_list.specs.Walking.{IsWalking}
-use Rattle.md_list.proofs.At.{IsAt, IsAtBy, NamesPast, before_on, found_stays, head_in_place, looked_there, node_exists, stepped, walking_on}
-use Rattle.md_list.proofs.ListWords.{next_place as list_next_place}
-use Rattle.md_list.proofs.Rising.{head_names}
+use Rattle.md_list.proofs.walking.At.{IsAt, IsAtBy, NamesPast, before_on, found_stays, head_in_place, looked_there, node_exists, stepped, walking_on}
+use Rattle.md_list.proofs.walking.ListWords.{next_place as list_next_place}
+use Rattle.md_list.proofs.walking.Rising.{head_names}
 
 module _ (M : Meaning) where
   -- the walk stands at a word that names a node, and looked at the node's next word

@@ -40,8 +40,8 @@ use Rattle.md_list_law.specs.ListShape.{head_word}
 use Rattle.md_list.specs.Operations.{IsAnswered, IsBegun}
 use Rattle.md_list.specs.declared.walk.Found.{Found}
 use Rattle.md_list.specs.Walking.{FindsFrom, Gives, HasFound, IsHead, IsHeadOf, IsWalking}
-use Rattle.md_list.proofs.Charging.{charged_later}
-use Rattle.md_list.proofs.Noted.{NotesOnly}
+use Rattle.md_list.proofs.charges.Charging.{charged_later}
+use Rattle.md_list.proofs.changes.Noted.{NotesOnly}
 
 -- a head is that of one bucket
 one_bucket : (m b n d : ℕ) → bucket_head m b ≡ bucket_head n d → (m ≡ n) × (b ≡ d)

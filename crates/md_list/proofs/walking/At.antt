@@ -32,7 +32,7 @@ use Rattle.md_list_law.specs.ListShape.{IsIn, NamesNone, next_word}
 use Rattle.md_list_law.proofs.Links.{head_is_no_next}
 use Rattle.md_list.specs.declared.walk.Found.{Found}
 use Rattle.md_list.specs.Walking.{Gives, HasFound, IsBefore, IsHead, IsWalking}
-use Rattle.md_list.proofs.Charging.{charged_later}
+use Rattle.md_list.proofs.charges.Charging.{charged_later}
 
 -- the state after steps that change the pass alone
 abbrev pub stepped : TxnState → PassState → TxnState

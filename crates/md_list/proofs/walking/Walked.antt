@@ -7,8 +7,8 @@ use Rattle.md_nbtc.specs.State.{TxnState}
 use Rattle.md_nbtc.proofs.structures.Answering.{IsStopped}
 use Rattle.md_list.specs.Operations.{Leaves, SlotsStay}
 use Rattle.md_list.specs.Written.{WritesFew}
-use Rattle.md_list.proofs.Adding.{adds_stop, goes_over, leaves_more}
-use Rattle.md_list.proofs.Staying.{slots_over, slots_same}
+use Rattle.md_list.proofs.charges.Adding.{adds_stop, goes_over, leaves_more}
+use Rattle.md_list.proofs.changes.Staying.{slots_over, slots_same}
 
 -- it goes on with the same certificates and slots, and recorded no word and took no node
 pub record WalkedFrom (M : Meaning) (t u : TxnState) : Type 0 where

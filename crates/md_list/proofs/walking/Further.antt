@@ -26,12 +26,12 @@ use Rattle.md_list_law.specs.Certificates.{IsUnlink, key_fact}
 use Rattle.md_list_law.specs.HasLists.{HasListsOf}
 use Rattle.md_list_law.specs.ListShape.{IsIn, next_word}
 use Rattle.md_list.specs.Walking.{IsBefore}
-use Rattle.md_list.proofs.At.{IsAt}
+use Rattle.md_list.proofs.walking.At.{IsAt}
 use Rattle.md_list.specs.Charged.{AreCharged, IsCharged, changed as was_changed}
-use Rattle.md_list.proofs.Charging.{changed_before, charged_later, charged_push, one_charged}
-use Rattle.md_list.proofs.Marks.{mark_gone}
-use Rattle.md_list.proofs.OnNode.{IsOn}
-use Rattle.md_list.proofs.ListWords.{prev_place}
+use Rattle.md_list.proofs.charges.Charging.{changed_before, charged_later, charged_push, one_charged}
+use Rattle.md_list.proofs.walking.Marks.{mark_gone}
+use Rattle.md_list.proofs.walking.OnNode.{IsOn}
+use Rattle.md_list.proofs.walking.ListWords.{prev_place}
 use Rattle.std.proofs.Common.{◌^◌, ◌++◌, ◌≤◌, map, length, arith}
 use Rattle.std.specs.List.{AllPairs}
 use Rattle.std.proofs.lemmas.List.Kept.{AllPairs-cons}
@@ -56,12 +56,12 @@ use Rattle.md_nbtc.proofs.structures.NodesKnown.{data_known}
 use Rattle.md_nbtc.proofs.structures.SeenValues.{seen_value}
 use Rattle.md_list.specs.Walking.{Gives, KnowsAfter}
 use Rattle.md_list.specs.declared.walk.Found.{Found}
-use Rattle.md_list.proofs.At.{HasFoundBy, IsAtBy, IsBehind, NamesPast, found_stays, looked_there, stepped, walking_on}
-use Rattle.md_list.proofs.Counting.{few_below}
-use Rattle.md_list.proofs.Marks.{node_kept}
-use Rattle.md_list.proofs.MarkedNext.{facts_hold, is_unlink, unlink, unlink_charged, unlink_tidies}
-use Rattle.md_list.proofs.OnNode.{not_visited, stands_on}
-use Rattle.md_list.proofs.Rising.{next_names}
+use Rattle.md_list.proofs.walking.At.{HasFoundBy, IsAtBy, IsBehind, NamesPast, found_stays, looked_there, stepped, walking_on}
+use Rattle.md_list.proofs.walking.Counting.{few_below}
+use Rattle.md_list.proofs.walking.Marks.{node_kept}
+use Rattle.md_list.proofs.walking.MarkedNext.{facts_hold, is_unlink, unlink, unlink_charged, unlink_tidies}
+use Rattle.md_list.proofs.walking.OnNode.{not_visited, stands_on}
+use Rattle.md_list.proofs.walking.Rising.{next_names}
 
 -- two values that name the same node
 past_same : (h : LogicalHeap) (list : Structure) (visited : List ℕ) (v w : ℕ) → linked_node v ≡ linked_node w → NamesPast h list visited v → NamesPast h list visited w

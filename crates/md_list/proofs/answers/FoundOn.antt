@@ -11,7 +11,7 @@ use Rattle.md_nbtc.proofs.preparing.Later.{known_later}
 use Rattle.md_list_law.specs.HasLists.{HasListsOf}
 use Rattle.md_list.specs.declared.walk.Found.{Found}
 use Rattle.md_list.specs.Walking.{FindsNode, Gives, HasFound, IsBefore, IsHead}
-use Rattle.md_list.proofs.At.{HasFoundBy, before_on, found_stays, stepped, walking_on}
+use Rattle.md_list.proofs.walking.At.{HasFoundBy, before_on, found_stays, stepped, walking_on}
 use Rattle.std.proofs.lemmas.List.Elements.{Contains-append_left}
 use Rattle.std.specs.List.{Contains}
 use Rattle.md_words.specs.Layout.{IsNode, address}

@@ -13,9 +13,9 @@ use Rattle.md_nbtc.specs.State.{TxnState, shape_in}
 use Rattle.md_list_law.specs.HasLists.{HasListsOf}
 use Rattle.md_list_law.specs.ListShape.{next_word}
 use Rattle.md_list.specs.declared.walk.Found.{Found}
-use Rattle.md_list.proofs.At.{HasFoundBy, IsAtBy, stepped}
-use Rattle.md_list.proofs.Further.{finds, walks_on}
-use Rattle.md_list.proofs.OnNode.{IsOn}
+use Rattle.md_list.proofs.walking.At.{HasFoundBy, IsAtBy, stepped}
+use Rattle.md_list.proofs.walking.Further.{finds, walks_on}
+use Rattle.md_list.proofs.walking.OnNode.{IsOn}
 
 module _ (M : Meaning) (lawful : Lawful M) (lists : HasListsOf M) (t u : TxnState) (head key : ℕ) (visited : List ℕ) (prev : ℕ) (at next : Seen)
     (on : IsOn M t head key visited prev at next) (some : linked_node at.value ≢ 0) (unmarked : is_marked next.value ≡ false) (goes : GoesOn M t u) (same : u ≡ record t { pass = u.pass })

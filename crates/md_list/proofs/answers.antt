@@ -1,0 +1,7 @@
+pub mod Rows
+pub mod LookUps
+pub mod Getting
+pub mod FoundOn
+pub mod Removing
+pub mod Inserting
+pub mod Answered

@@ -1,0 +1,4 @@
+pub mod Charging
+pub mod Adding
+pub mod Charged
+pub mod ChargedWalk

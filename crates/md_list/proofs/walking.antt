@@ -1,0 +1,13 @@
+pub mod MetInBuckets
+pub mod Rising
+pub mod At
+pub mod Walked
+pub mod ListWords
+pub mod OnNode
+pub mod Marks
+pub mod Unlinks
+pub mod MarkedNext
+pub mod Counting
+pub mod Further
+pub mod Steps
+pub mod Keyed
