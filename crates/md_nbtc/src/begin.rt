@@ -55,11 +55,13 @@ fn settled_status<T: Theory>(pass: &mut Pass<T>, field: &Field<T>, desc: u32) ->
     pass.load(field, field.shape().status(desc))
 }
 
-/// The status of an own descriptor, whose attempt is decided; it is settled first if need be. The
-/// pass then knows the fate of the attempt's entry. An attempt of the descriptor was taken, and
-/// nothing is in hand. It takes no memory.
+/// Returns the status word of the descriptor of one of the pass's lanes, with its last attempt
+/// decided. If this attempt is undecided, the call settles it first. Afterwards the pass knows the
+/// fate of the attempt's entry. An attempt of the descriptor was taken before, and the pass has no
+/// attempt in hand. It takes no memory.
 ///
-/// One step if the attempt is decided. Otherwise at most `3r + 5`, `r` being its reads.
+/// It takes one step if the attempt is decided. Otherwise it takes at most `3r + 5`, if the attempt
+/// recorded r words.
 pub fn decided_status<T: Theory>(pass: &mut Pass<T>, field: &Field<T>, desc: u32) -> u64
     requires of { IsOf pass.old field.now }
     requires idle { pass.old.view.hand ≡ None }
@@ -97,7 +99,7 @@ fn restart<T: Theory>(pass: &mut Pass<T>, field: &Field<T>, desc: u32) -> u64
     StatusWord::of(found).serial + 1
 }
 
-// At the lane's first attempt: its descriptor serves it from the beginning. One step.
+// The serial of the lane's first attempt, for which its descriptor was prepared. One step.
 fn first_serial<T: Theory>(pass: &mut Pass<T>, field: &Field<T>, desc: u32) -> u64
     requires of { IsOf pass.old field.now }
     requires idle { pass.old.view.hand ≡ None }
@@ -168,11 +170,12 @@ fn take_slots_out<T: Theory>(pass: &mut Pass<T>, field: &Field<T>, desc: u32)
     }
 }
 
-/// If the lane's last transaction was dropped, settles it and takes its descriptor out of the words
-/// that it wrote. An attempt of the lane was taken, and nothing is in hand. It takes no memory.
+/// If the lane's last transaction was dropped, the call settles it, and takes its descriptor out of
+/// the words that it wrote. An attempt of the lane was taken before, and the pass has no attempt in
+/// hand. It takes no memory.
 ///
-/// No step if the last transaction was ended. Otherwise at most `3r + 3`, `r` being its reads, and
-/// at most four for each word that it wrote.
+/// It takes no step if the last transaction was ended. Otherwise it takes at most `3r + 3`, if the
+/// transaction recorded r words, and at most four for each word that it wrote.
 pub fn take_left_out<T: Theory>(pass: &mut Pass<T>, field: &Field<T>, desc: u32)
     requires of { IsOf pass.old field.now }
     requires idle { pass.old.view.hand ≡ None }
@@ -185,7 +188,7 @@ pub fn take_left_out<T: Theory>(pass: &mut Pass<T>, field: &Field<T>, desc: u32)
     }
 }
 
-// The serial of the lane's next attempt, which its descriptor serves then.
+// Prepares the lane's descriptor for its next attempt, and returns the serial of the attempt.
 fn next_serial<T: Theory>(pass: &mut Pass<T>, field: &Field<T>, desc: u32) -> u64
     requires of { IsOf pass.old field.now }
     requires stands { Stands T.meaning field.now.origin pass.old.view }
@@ -254,8 +257,8 @@ impl<'a, T: Theory> Begun<'a, T> {
         }
     }
 
-    /// The transaction under way. It keeps its words and nodes in these sets, and forgets what they
-    /// held. No step.
+    /// The transaction under way. It keeps its words and nodes in these sets, and first clears
+    /// them. It takes no step.
     pub fn with(self, sets: &'a mut Sets) -> Txn<'a, T>
         ensures pass { result.pass.ghost_name ≡ self.entry.pass.ghost_name }
         ensures state { state result ≡ begun_state self.entry }
@@ -283,14 +286,16 @@ impl<'a, T: Theory> Begun<'a, T> {
 }
 
 impl<'a, T: Theory> Txn<'a, T> {
-    /// Begins a transaction with a tag: the attempt of the pass's lowest lane that has one left.
-    /// What was in hand is left. If the lane's last transaction was dropped, it is settled and
-    /// taken out of the words that it wrote; its nodes stay taken. The answer is `Limit::Tries`
+    /// Begins a transaction with a tag, which may be any number. It uses the next attempt of the
+    /// pass's lowest lane that has one left. If the pass has an attempt in hand, that one is left
+    /// as it stands. If the lane's last transaction was dropped, it is settled, and its descriptor
+    /// is taken out of the words that it wrote; its nodes stay taken. It returns `Limit::Tries`
     /// exactly if each lane has begun all of its attempts. It takes no memory.
     ///
-    /// Three steps at a lane's first attempt, and four later ones. After a dropped transaction, at
-    /// most `3r + 3` more, `r` being its reads, and at most four for each word that it wrote; three
-    /// more if an attempt was taken and never put in hand.
+    /// It takes three steps at a lane's first attempt, and four at later ones. After a dropped
+    /// transaction that recorded r words, it takes at most `3r + 3` more, and at most four for each
+    /// word that the transaction wrote. It takes three more if an attempt was taken and never put
+    /// in hand.
     pub fn begin(
         pass: &'a mut Pass<T>,
         field: &'a Field<T>,

@@ -25,12 +25,13 @@ fn node_of(cleanup: Cleanup) -> u32
 }
 
 impl<'a, T: Theory> Txn<'a, T> {
-    /// Keeps a cleanup until the transaction has committed, with the slot of the next word of its
-    /// node: for an `Unlink` that is `node`, for a `MoveTail` it is `from`. An operation is begun,
-    /// and the transaction has written that word; its new value has the mark for an `Unlink`, and
-    /// names `to` for a `MoveTail`. The cleanup replaces one that was kept there. It is made only
-    /// by `Ready::decide`: not after an abort, and not if another commits the transaction after it
-    /// was left. No step; it searches the slots.
+    /// Keeps a cleanup until the transaction has committed. It is kept in the slot of the next word
+    /// of its node: `node` for an `Unlink`, and `from` for a `MoveTail`. An operation is begun, and
+    /// the transaction has written that word. The new value of the word is marked for an `Unlink`,
+    /// and names `to` for a `MoveTail`. The cleanup replaces one that was kept in the slot.
+    ///
+    /// Only `Ready::decide` makes it: not after an abort, and not if another pass commits the
+    /// transaction after it was left. The call takes no step, and searches at most 128 slots.
     pub fn later(&mut self, cleanup: Cleanup)
         requires operates { (state self.old).hand.operating ≡ true }
         requires written { IsWrittenFor (state self.old) cleanup }

@@ -51,7 +51,7 @@ pub(crate) fn validate<T: Theory>(
     None
 }
 
-// Which fate a later status of the same attempt tells.
+// The fate that a later status of the same attempt shows.
 fn fate_in<T: Theory>(field: &Field<T>, desc: u32, from: u64, found: u64) -> Result<(), Shown>
     requires exists { desc < desc_count field.now.origin.shape }
     requires decided { IsDecided (status_of found) × (found ≡ decided_word (status_of found) from) }
@@ -67,8 +67,8 @@ fn fate_in<T: Theory>(field: &Field<T>, desc: u32, from: u64, found: u64) -> Res
     }
 }
 
-// Commits the attempt in hand if no read moved, and else aborts it: what shows that it's aborted.
-// If another decided it before, that decision stands. One step.
+// Commits the attempt in hand if no recorded word has changed, and otherwise aborts it. The error
+// shows why it is aborted. If another pass decided it before, that decision stands. One step.
 pub(crate) fn settle<T: Theory>(
     pass: &mut Pass<T>,
     field: &Field<T>,

@@ -37,8 +37,8 @@ pub struct Ready<'a, T: Theory> {
     pub(crate) sets: &'a mut Sets,
 }
 
-/// Why a transaction isn't ready: the word that shows it. The pass is free again once this is
-/// dropped.
+/// A transaction that wasn't made ready, and the word that shows why. The pass is free again once
+/// this is dropped.
 #[derive(Drop)]
 pub struct Refused<'a, T: Theory> {
     pass: &'a mut Pass<T>,
@@ -47,13 +47,13 @@ pub struct Refused<'a, T: Theory> {
 
 impl<'a, T: Theory> Txn<'a, T> {
     /// Makes the transaction ready: it joins the history, by certificates of its operations. No
-    /// operation is begun, and none of its calls was answered by a stop.
+    /// operation is begun, and none of its calls returned a stop.
     ///
-    /// It is refused exactly if another had aborted it. It is stopped then as by `stop`, and what
-    /// is shown is its status word, before and after the abort; another pass is live. The refusal
-    /// holds the pass until it is dropped. It takes no memory.
+    /// It returns `Refused` exactly if another pass has aborted the transaction. The transaction is
+    /// then stopped as by `stop`. `shown` has its status word, before and after the abort. Another
+    /// pass is live then. The refusal holds the pass until it is dropped. It takes no memory.
     ///
-    /// One step. If it is refused, one more, and one for each word that it wrote.
+    /// It takes one step. If it is refused, it takes one more, and one for each word that it wrote.
     pub fn ready(self) -> Result<Ready<'a, T>, Refused<'a, T>>
         requires going { IsUnderWay T.meaning (state self) }
         requires between { (state self).hand.operating ≡ false }
@@ -111,7 +111,7 @@ impl<'a, T: Theory> Txn<'a, T> {
 
 impl<'a, T: Theory> Txn<'a, T> {
     /// Makes the transaction ready and decides it at once, as `ready` and `decide` in turn do. It
-    /// has their conditions, steps and answers, but gives no receipt, and takes no memory.
+    /// has their conditions, steps and errors, but returns no receipt. It takes no memory.
     pub fn commit(self) -> Result<(), Shown>
         requires going { IsUnderWay T.meaning (state self) }
         requires between { (state self).hand.operating ≡ false }
@@ -159,7 +159,7 @@ impl<'a, T: Theory> Txn<'a, T> {
 
 impl<'a, T: Theory> Txn<'a, T> {
     /// Makes the transaction ready and leaves it undecided, as `ready` and `Ready::leave` in turn
-    /// do. It has their conditions, steps and answers, and takes no memory.
+    /// do. It has their conditions, steps and errors. It takes no memory.
     pub fn leave_ready(self) -> Result<(), Shown>
         requires going { IsUnderWay T.meaning (state self) }
         requires between { (state self).hand.operating ≡ false }
@@ -209,17 +209,19 @@ fn unready(serial: u64) -> u64
 }
 
 impl<'a, T: Theory> Ready<'a, T> {
-    /// Decides the transaction: it validates its reads, and commits or aborts it. Another may have
-    /// done so before; its decision stands then. The descriptor is taken out of the words that the
-    /// transaction wrote, which have their new values after a commit and their old ones after an
-    /// abort. After a commit the kept cleanups are made, in the order of their slots, and the
-    /// receipt is returned. After an abort the nodes are given back, and what is shown is the read
-    /// that didn't stand, with its recorded and its found content, or the status word before and
-    /// after another's abort. A transaction is aborted only while another pass is live. It takes
-    /// no memory.
+    /// Decides the transaction: it looks at each recorded word, and commits the transaction if all
+    /// still hold what was recorded. Otherwise it aborts it. If another pass decided it before,
+    /// that decision stands. Then the descriptor is taken out of the words that the transaction
+    /// wrote. They have their new values after a commit, and their old ones after an abort.
     ///
-    /// One step for each read, up to the first that doesn't stand, one for the decision, one for
-    /// each word that was written, at most three for each kept cleanup, and one more.
+    /// After a commit the kept cleanups are made, in the order of their slots, and the receipt is
+    /// returned. After an abort the nodes are given back. The error shows either the recorded word
+    /// that has changed, with its recorded and its found content, or the status word before and
+    /// after the abort by another pass. A transaction is aborted only while another pass is live.
+    /// It takes no memory.
+    ///
+    /// It takes one step for each recorded word, up to the first that has changed, one for the
+    /// decision, one for each written word, at most three for each kept cleanup, and one more.
     pub fn decide(self) -> Result<Receipt, Shown>
         requires { IsReady T.meaning (ready_state self) }
         ensures committed { IfOk result (λ receipt. (e : HasEntry (ready_state self.entry))
@@ -254,10 +256,10 @@ impl<'a, T: Theory> Ready<'a, T> {
         }
     }
 
-    /// Leaves the transaction undecided, and the pass as it is. Dropping it does the same, and
-    /// tells nothing of the pass. Another pass that meets its descriptor in a word validates it,
-    /// and commits or aborts it. Else the lane's next `begin` does. Its cleanups are never made,
-    /// and its nodes stay taken for good, also after an abort. No step.
+    /// Leaves the transaction undecided, and the pass as it is. A drop does the same, but no clause
+    /// then speaks of the pass. A pass that meets its descriptor in a word decides it, as does the
+    /// lane's next `begin`. Its cleanups are never made. Its nodes stay taken until the field is
+    /// renewed, even after an abort. It takes no step.
     pub fn leave(self)
         ensures { self.exit.0.now ≡ self.entry.pass.now }
     {

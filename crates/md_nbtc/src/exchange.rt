@@ -27,24 +27,28 @@ use md_machine::Theory;
 use md_words::{Content, SET, Spot};
 
 impl<'a, T: Theory> Txn<'a, T> {
-    /// Changes a word from what was seen there last to another value, and tells what stands there
-    /// then. An operation is begun, and `from` is what the transaction's last load or exchange of
-    /// the word gave. The word is a counted one. If it is the next word of a node, that is known
-    /// to be placed, or an own one that an ended operation placed. A kept cleanup of an own word
-    /// still fits the new value. It does the first of these that applies:
+    /// Changes a word from what was seen there last to another value, and returns what then stands
+    /// there. An operation is begun, and `from` is what the transaction's last load or exchange of
+    /// the word gave. The word is a counted one: a head, a tail or a next word. If it is the next
+    /// word of a node, the node is known to be placed, or an ended operation of this transaction
+    /// placed it. A kept cleanup of an own word still fits the new value. A plain change counts as
+    /// critical if the word is recorded, or is the next word of a node that the transaction took.
+    /// Any other plain change is tidy: it leaves the state as it is, and the caller shows this by
+    /// the theory. The call does the first of these that applies:
     ///
-    /// 1. After a stop it answers the same stop, and does nothing.
-    /// 2. An own word gets a new value in its slot. One step.
-    /// 3. A word that is recorded with another content is `Conflict`, with both. No step.
-    /// 4. A critical change with as many written words as a set has room for is
-    ///    `Limit(Writes)`. No step.
-    /// 5. A count of 4,294,967,292 or more is `Limit(Worn)`. No step.
-    /// 6. A critical change puts the descriptor, at the next slot, into the word. Four steps.
-    /// 7. A plain change is made at once. One step.
+    /// 1. After a stop it returns the same stop, and does nothing.
+    /// 2. If the word is an own one, it gets a new value in its slot. One step.
+    /// 3. If the word is recorded with another content, the call returns `Conflict`, with both. No
+    ///    step.
+    /// 4. If the change is critical and 128 words are written, it returns `Limit(Writes)`. No step.
+    /// 5. If the count is 4,294,967,292 or more, it returns `Limit(Worn)`. No step.
+    /// 6. If the change is critical, it puts the descriptor, at the next slot, into the word. Four
+    ///    steps.
+    /// 7. It makes the plain change at once. One step.
     ///
-    /// A lost step is `Conflict`, with what was seen and what was found. Some other pass is live
-    /// then. A plain change of a word that is recorded, or is an own node's next word, is critical.
-    /// Any other plain change is tidy: the caller shows that by the theory. It takes no memory.
+    /// If the word was changed meanwhile, 6 and 7 return `Conflict`, with what was seen and what
+    /// was found. Another pass is live then. The transaction keeps each stop. The call takes no
+    /// memory, and searches the recorded and the written words.
     pub fn exchange(&mut self, word: u32, from: Seen, to: u32, kind: Kind) -> Result<Seen, Stop>
         requires going { IsUnderWay T.meaning (state self.old) }
         requires may { MayExchange T.meaning (state self.old) word from to kind }

@@ -14,17 +14,17 @@ use md_machine::Theory;
 use md_words::Content;
 
 impl<'a, T: Theory> Txn<'a, T> {
-    /// Takes the lowest node that is left of the pass's lanes, and stores its key, its value and,
-    /// with a count 2 higher, its next word. An operation is begun. Nobody else sees the node
-    /// before the transaction has put it into a structure and committed. The operation's
-    /// certificate names it as a new node, with these words, when the operation ends.
+    /// Takes the lowest node that is left of the pass's lanes, and stores its key, its value and
+    /// its next word, whose count rises by 2. It returns the node. An operation is begun. No other
+    /// transaction sees the node before this one has put it into a structure and committed. When
+    /// the operation ends, its certificate names the node as a new one, with these words.
     ///
-    /// The answer is `Limit::Nodes` exactly if no lane of the pass has a node left, and
-    /// `Limit::Worn` exactly if the count of the node's next word is 4,294,967,292 or more; the
-    /// node is left again then. The transaction keeps this stop. After a stop the answer is the
-    /// same stop and nothing is done.
+    /// It returns `Limit::Nodes` exactly if no lane of the pass has a node left. It returns
+    /// `Limit::Worn` exactly if the count of the node's next word is 4,294,967,292 or more; then
+    /// the node is given back. The transaction keeps this stop. After a stop it returns the same
+    /// stop, and does nothing.
     ///
-    /// Four steps; one if the next word is worn, and none if no node is left.
+    /// It takes four steps. It takes one if the next word is worn, and none if no node is left.
     pub fn fresh(&mut self, key: u64, value: u64, next: u32) -> Result<u32, Stop>
         requires going { IsUnderWay T.meaning (state self.old) }
         requires operates { (state self.old).hand.operating ≡ true }

@@ -1,14 +1,21 @@
 //! Nonblocking transactions over any theory, after Cai, Wen and Scott, "Transactional Composition
 //! of Nonblocking Data Structures" (SPAA 2023). A transaction puts its descriptor into the words
-//! that it changes, becomes ready, and is then committed or aborted by whoever comes by.
+//! that it changes, and becomes ready. Then it is committed or aborted, by its own pass or by any
+//! pass that meets its descriptor.
 //!
-//! `Txn::begin` begins one, and `Begun::with` lends it room for what it keeps (`Sets`). Between
-//! `start_op` and `end_op`, an operation looks at words (`load`, `field_of`), records them
-//! (`note`), changes them (`exchange`), takes new nodes (`fresh`), and puts off what is tidied
-//! after a commit (`later`). `stop` ends the transaction without a trace. `ready` fixes its place
-//! in the history, and `Ready::decide` commits it, with a `Receipt`, or aborts it. Contracts see it
-//! by its state (`specs/State.antt`), and what it knows of the field, whatever others do, by
-//! `Known`.
+//! `Txn::begin` begins a transaction, and `Begun::with` lends it room for what it keeps (`Sets`).
+//! Between `start_op` and `end_op`, an operation looks at words (`load`, `field_of`), records them
+//! (`note`), changes them (`exchange`), takes new nodes (`fresh`), and puts off cleanups until the
+//! commit (`later`). `stop` ends the transaction without effect. `ready` fixes its place in the
+//! history, and `Ready::decide` commits it, with a `Receipt`, or aborts it. Contracts see a
+//! transaction by its state (`specs/State.antt`), and what it knows of the field, whatever others
+//! do, by `Known`.
+//!
+//! The comments use these words. A **step** is one atomic step on a shared word. If a transaction
+//! **records** a word, it commits only if the word still holds what was seen there. If it
+//! **writes** a word, it changes the word when it commits; the word is its **own** until then, and
+//! the change is in a **slot** of its descriptor. A transaction has room for 128 recorded words and
+//! for 128 written words. A pass is **live** until it is joined into another one.
 #![tactic(auto)]
 
 pub use begin::{Begun, decided_status, take_left_out};

@@ -29,7 +29,7 @@ use std::hint::spin_loop;
 const LOOKS: u32 = 300;
 
 // A pause between two looks is at most so long, in turns of the spin hint.
-const LONGEST: u32 = 64;
+const LONGEST: u32 = 2;
 
 fn pause(turns: u32) {
     for _ in 0..turns.min(LONGEST) {

@@ -30,18 +30,19 @@ fn content_of(seen: Seen) -> u64
 }
 
 impl<'a, T: Theory> Txn<'a, T> {
-    /// Records what was seen in a word: the transaction commits only if the word holds it still.
-    /// An operation is begun, and `seen` is what the transaction's last load or exchange of the
-    /// word gave. A word that isn't an own one was found so: it is the next word of no node but one
-    /// that is known to be placed, or an own node's. Nothing is done for a word that the
-    /// transaction changes, or that is recorded with the same content.
+    /// Records what was seen in a word: the transaction commits only if the word still holds it. An
+    /// operation is begun, and `seen` is what the transaction's last load or exchange of the word
+    /// gave. If the word is the next word of a node, the node is known to be placed, or the
+    /// transaction took it. Nothing is done for an own word, or for a word that is recorded with
+    /// the same content.
     ///
-    /// The answer is `Conflict` with the word, the recorded content and the seen one, if the word
-    /// is recorded with another content; and `Limit::Reads` exactly if the word must be recorded
-    /// and 128 words are. The transaction keeps this stop. After a stop the answer is the same stop
-    /// and nothing is done.
+    /// It returns `Conflict`, with the word, the recorded content and the seen one, if the word is
+    /// recorded with another content. It returns `Limit::Reads` exactly if the word must be
+    /// recorded, and 128 words are. The transaction keeps this stop. After a stop it returns the
+    /// same stop, and does nothing.
     ///
-    /// Two steps where the word is recorded, and else none. It searches the recorded words.
+    /// It takes two steps if it records the word, and otherwise none. It searches the recorded
+    /// words.
     pub fn note(&mut self, word: u32, seen: Seen) -> Result<(), Stop>
         requires going { IsUnderWay T.meaning (state self.old) }
         requires operates { (state self.old).hand.operating ≡ true }
@@ -75,7 +76,7 @@ impl<'a, T: Theory> Txn<'a, T> {
         Ok(())
     }
 
-    // Keeps a stop, which has its cause, and answers it.
+    // Keeps a stop, which has its cause, and returns it.
     fn halt(&mut self, stop: Stop) -> Result<(), Stop>
         requires going { IsUnderWay T.meaning (state self.old) }
         requires cause { HasCause (state self.old) stop }

@@ -1,4 +1,4 @@
-//! What a committed transaction tells: its tag, and where its words stood.
+//! The receipt of a committed transaction: its tag, and the counts of its words.
 
 ghost use Rattle.std.specs.Prelude.{◌≡◌, ◌<◌, ◌≤◌, ◌++◌, ◌∷◌, [], All, length, map, true};
 ghost use Rattle.md_words.specs.declared.limits.TheConstants.{SET};
@@ -89,7 +89,7 @@ impl Receipt {
         }
     }
 
-    /// The tag with which the transaction began. No step.
+    /// The tag with which the transaction began. It takes no step.
     pub fn tag(&self) -> u64
         ensures { result ≡ self.now.tag }
     {
@@ -97,8 +97,8 @@ impl Receipt {
     }
 
     /// The words that it recorded, each once, in the order in which it recorded them, with their
-    /// counts: the recorded count, or where the transaction changed the word too, one more. No
-    /// step, and nothing is copied.
+    /// counts. This is the recorded count, or one more if the transaction changed the word too. It
+    /// takes no step, and copies nothing.
     pub fn reads(&self) -> &[(u32, u32)]
         ensures { result.now ≡ self.now.reads }
     {
@@ -106,7 +106,8 @@ impl Receipt {
     }
 
     /// The words that it changed, each once, in the order in which it first changed them, with
-    /// their counts: one more than that of the replaced content. No step, and nothing is copied.
+    /// their counts. This is one more than the count of the replaced content. It takes no step, and
+    /// copies nothing.
     pub fn writes(&self) -> &[(u32, u32)]
         ensures { result.now ≡ self.now.writes }
     {
@@ -127,7 +128,7 @@ fn count_at(read: Read, slots: &Slots) -> u32
     }
 }
 
-// Where the recorded words stood.
+// The recorded words with their counts.
 fn stamps_of_reads(reads: &Reads, slots: &Slots) -> Stamps
     requires { MayTell reads.now (map (λ s. s.write) slots.now) }
     ensures { result ≡ map (read_count (map (λ s. s.write) slots.now)) reads.now }
@@ -140,7 +141,7 @@ fn stamps_of_reads(reads: &Reads, slots: &Slots) -> Stamps
     stamps
 }
 
-// Where the changed words stood.
+// The changed words with their counts.
 fn stamps_of_writes(slots: &Slots) -> Stamps
     requires few { length slots.now ≤ SET }
     requires room { All (λ w. count_of w.old ≤ LAST_COUNT) (map (λ s. s.write) slots.now) }

@@ -7,8 +7,9 @@ pub(crate) const WORN: u32 = 4_294_967_292;
 #[derive(Clone, Copy, Debug, PartialEq, Eq)]
 pub struct Seen {
     pub value: u32,
+    /// The count of the content that stands in the word. It rises with each change of the word.
     pub count: u32,
-    /// The word holds this transaction's descriptor; `value` is its own new value then.
+    /// The word holds this transaction's descriptor. Then `value` is the transaction's new value.
     pub own: bool,
 }
 
@@ -21,11 +22,12 @@ pub enum Kind {
     Plain,
 }
 
-/// What is tidied after a transaction has committed.
+/// A change that is made after a transaction has committed. It leaves the state as it is.
 #[derive(Clone, Copy, Debug, PartialEq, Eq)]
 pub enum Cleanup {
-    /// Takes a removed node out of its list, if the word still names it.
+    /// Takes a removed node out of its list, if the word `prev` still names it.
     Unlink { prev: u32, node: u32 },
-    /// Moves the tail of a queue from a node to the next one, if it still names that node.
+    /// Moves the tail of a queue, the word `tail`, from a node to the next one, if it still names
+    /// the node `from`.
     MoveTail { tail: u32, from: u32, to: u32 },
 }

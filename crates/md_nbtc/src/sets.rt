@@ -35,7 +35,7 @@ const NO_SLOT: Slot = Slot {
 
 const NO_LOT: Lot = Lot { lane: 0, first: 0 };
 
-/// A word that the transaction changes, and what is tidied afterwards.
+/// A word that the transaction writes, and the cleanup that is kept with it.
 #[derive(Clone, Copy)]
 pub struct Slot {
     pub write: Write,
@@ -298,8 +298,8 @@ impl Lots {
 }
 
 /// Room for the words and nodes that a transaction keeps: some 9,800 bytes. A transaction borrows
-/// it, so that a move of the transaction doesn't copy it. One room may serve many transactions, one
-/// after another.
+/// it, so that a move of the transaction doesn't copy it. Many transactions may use the same room,
+/// one after another.
 #[derive(Drop)]
 pub struct Sets {
     pub(crate) reads: Reads,

@@ -10,11 +10,11 @@ use crate::withdrawal::{abort_unready, withdraw};
 use md_machine::{AttemptId, Theory};
 
 impl<'a, T: Theory> Txn<'a, T> {
-    /// Stops the transaction: it is aborted, its descriptor is taken out of the words that it
-    /// wrote, which have their old values then, and its nodes are given back. It leaves nothing,
-    /// and the pass is free for another one. It takes no memory.
+    /// Stops the transaction: it is aborted, and its descriptor is taken out of the words that it
+    /// wrote, which then have their old values. Its nodes are given back. It has no effect, and the
+    /// pass is free for another transaction. It takes no memory.
     ///
-    /// Two steps, and one for each word that it wrote.
+    /// It takes two steps, and one for each word that it wrote.
     pub fn stop(self)
         requires { IsUnderWay T.meaning (state self) }
         ensures { Stopped T.meaning (state self.entry) self.exit.0.now }
@@ -34,10 +34,11 @@ impl<'a, T: Theory> Txn<'a, T> {
         withdraw(pass, field, attempt, &sets.slots, &sets.lots, &began);
     }
 
-    /// Leaves the transaction as it stands, and the pass as it is. Dropping it does the same, and
-    /// tells nothing of the pass. Its descriptor stands in the words that it wrote until another
-    /// pass that meets it there aborts it and takes it out. The lane's next `begin` settles it, and
-    /// takes it out of the words where it still stands. Its nodes stay taken for good. No step.
+    /// Leaves the transaction as it stands, and the pass as it is. A drop does the same, but no
+    /// clause then speaks of the pass. Its descriptor stands in the words that it wrote. A pass
+    /// that meets it there aborts the transaction and takes the descriptor out. The lane's next
+    /// `begin` settles the transaction, and takes the descriptor out of the words where it still
+    /// stands. The nodes stay taken until the field is renewed. It takes no step.
     pub fn leave(self)
         ensures { self.exit.0.now ≡ self.entry.pass.now }
     {

@@ -17,8 +17,8 @@ use md_rule::{Field, Pass};
 use md_words::Shape;
 use std::snapshot::Snapshot;
 
-/// A transaction under way. It ends by `stop`, or by `ready` and `decide`. If it is dropped, its
-/// descriptor stands where it was installed, and its nodes stay taken (`Txn::leave`).
+/// A transaction under way. It ends by `stop`, or by `ready` and `decide`. If it is dropped, it is
+/// left as by `Txn::leave`: its descriptor stands where it was installed, and its nodes stay taken.
 #[derive(Drop)]
 pub struct Txn<'a, T: Theory> {
     pub(crate) pass: &'a mut Pass<T>,
@@ -33,14 +33,14 @@ pub struct Txn<'a, T: Theory> {
 }
 
 impl<'a, T: Theory> Txn<'a, T> {
-    /// The numbers of its field. No step.
+    /// The shape of its field. It takes no step.
     pub fn shape(&self) -> &Shape
         ensures { result.now ≡ shape_in (state self.now) }
     {
         self.field.shape()
     }
 
-    /// It does nothing: its contract lends what the pass keeps of its lanes.
+    /// Lends to a proof what the pass keeps of its lanes. It does nothing when it runs.
     pub fn kept(&self)
         ensures lanes { KeepsLanes (state self.now).pass.shape (state self.now).pass.view
             (state self.now).pass.shares }
@@ -48,7 +48,7 @@ impl<'a, T: Theory> Txn<'a, T> {
         let _ = self.pass.shape();
     }
 
-    /// Begins an operation. None is begun yet. One step.
+    /// Begins an operation. No other is begun. It takes one step.
     pub fn start_op(&mut self)
         requires going { IsUnderWay T.meaning (state self.old) }
         requires between { (state self.old).hand.operating ≡ false }
@@ -62,8 +62,9 @@ impl<'a, T: Theory> Txn<'a, T> {
         self.pass.mark_start(self.field);
     }
 
-    /// Ends the operation that was begun, with its reply. Some certificate of the theory says why:
-    /// its changes and new nodes are those made since, and its words were recorded. One step.
+    /// Ends the operation that was begun, with its reply. The theory has a certificate of the
+    /// operation with this reply: its changes and new nodes are those that were made since the
+    /// operation began, and its words were recorded. It takes one step.
     pub fn end_op(&mut self, op: Op, reply: Reply)
         requires operates { (state self.old).hand.operating ≡ true }
         requires may { MayAnswer T.meaning (state self.old) op reply }
@@ -77,7 +78,9 @@ impl<'a, T: Theory> Txn<'a, T> {
         self.pass.mark_act(self.field, op, reply);
     }
 
-    /// The key or the value of a node that is known to be placed, or of an own one. One step.
+    /// Returns the key or the value of a node. `word` is the word of the key or of the value. The
+    /// node is known to be placed in a structure, or was taken by this transaction. It takes one
+    /// step.
     pub fn field_of(&mut self, word: u32) -> u64
         requires going { IsUnderWay T.meaning (state self.old) }
         requires data { IsData T.meaning (state self.old) word }
