@@ -25,9 +25,9 @@ module _ (shape : Shape) (pairs : ℕ → ℕ → List (ℕ × ℕ)) (values : �
   length-dummies : length (dummies shape.queues) ≡ shape.queues
   length-dummies = length-map-range_with_len {X = LaidNode} (λ q. record { structure = Queue q; key = 0; value = 0 }) 0 shape.queues
 
-  -- at first there are the dummies alone, in a field of any shape
-  pub begin_at : (fresh : Shape) (words : List ℕ) → IsLaid fresh words (dummies shape.queues) → LaidUpTo fresh words (maps_below shape pairs 0) (shape.queues + 1)
-  begin_at fresh words laid = laid_as fresh words _ _ (shape.queues + 1) (append-nil (dummies shape.queues))
+  -- at first there are the dummies alone
+  pub begin_at : (words : List ℕ) → IsLaid shape words (dummies shape.queues) → LaidUpTo shape words (maps_below shape pairs 0) (shape.queues + 1)
+  begin_at words laid = laid_as shape words _ _ (shape.queues + 1) (append-nil (dummies shape.queues))
       (record { laid = laid; first_free = omega (arith, length-dummies) })
 
   -- one more bucket, one more map, one more queue

@@ -1,5 +1,5 @@
 -- A field laid anew from the contents of another one: its nodes are as many as the contents need, and it has those contents.
-use Rattle.std.proofs.Common.{◌≡◌, ℕ, ◌<◌, ◌%◌, ◌++◌, List, length, map as map_list, length-append, refl, sym, ap, ◌∙◌, subst, arith}
+use Rattle.std.proofs.Common.{◌≡◌, ℕ, ◌+◌, ◌*◌, ◌<◌, ◌%◌, ◌++◌, List, length, map as map_list, length-append, refl, sym, ap, ◌∙◌, subst, arith}
 use Rattle.std.specs.List.{flat_map, range_with_len}
 use Rattle.std.specs.FinMap as fin
 use Rattle.std.proofs.lemmas.List.{length-map}
@@ -16,8 +16,12 @@ use Rattle.md_queue_law.specs.QueueValues.{queue_values, queue_lists}
 use Rattle.md_history.specs.Engine.{needed}
 use Rattle.md_store_law.specs.Field.{logical_words, IsStoreField}
 use Rattle.md_store_law.specs.Laid.{LaidNode, IsLaid, dummies, pair_nodes, value_nodes, nodes_of_map, nodes_of_maps, nodes_of_queues, nodes_by}
+use Rattle.md_store_law.specs.declared.gathering.Living.{Living}
+use Rattle.md_store_law.specs.Lists.{between}
+use Rattle.md_store_law.specs.Living.{HasRoomFor, LivesIn, by_number, listed_nodes, pairs_listed, values_listed}
 use Rattle.md_store_law.specs.Compacted.{IsWithBase, IsCompacted, contents_of, pairs_in, values_in, living_nodes}
 use Rattle.md_store_law.proofs.Growing.{length-value_nodes}
+use Rattle.md_store_law.proofs.Joined.{between_is, has_list, number_is, number_below, length-by_number}
 use Rattle.md_store_law.proofs.LaidContents.{flat_map_same}
 use Rattle.md_store_law.proofs.PairCounts.{length-pieces, len-map, keys_rise, keys_home}
 use Rattle.md_store_law.proofs.Stores.{StandFor, AreSorted, pairs_laid, values_laid}
@@ -58,6 +62,53 @@ nodes_same : (shape fresh : Shape) (pairs : ℕ → ℕ → List (ℕ × ℕ)) (
 nodes_same shape fresh pairs values e f g =
     ap (λ n. nodes_at pairs values n fresh.buckets fresh.queues) e
     ∙ ap (λ n. nodes_at pairs values shape.maps n fresh.queues) f ∙ ap (λ n. nodes_at pairs values shape.maps shape.buckets n) g
+
+-- as many nodes are needed as there are queues, pairs and values in the lists
+pub living_needed : (shape : Shape) (words : List ℕ) (living : Living) → IsStoreField shape words → LivesIn shape words living
+    → shape.queues + length living.pairs.joined.items + length living.values.joined.items ≡ needed (contents_of shape words)
+living_needed shape words living f lives =
+    let w = logical_words shape words in
+    let table : ℕ → Table = λ map. map_of_pairs (pairs_of_map w map) in
+    let lists = length-map-range_with_len (values_in shape words) 0 shape.queues in
+    let pairs = ap length lives.pairs.all ∙ length-by_number shape (pairs_in shape words) shape.maps
+    ∙ length-pieces (pairs_of_map w) fin.len table 0 shape.maps (λ map low high. sym (len-map shape words f map (omega (arith, high)))) in
+    let values = ap length lives.values.all ∙ length-pieces (values_in shape words) length (values_in shape words) 0 shape.queues (λ q low high. refl) in
+    omega (arith, lists, pairs, values)
+
+module _ (shape fresh : Shape) (words : List ℕ) (living : Living) (is : IsWithBase shape (needed (contents_of shape words)) fresh)
+    (lives : LivesIn shape words living) where
+  abbrev listed : ℕ → ℕ → ℕ → List (ℕ × ℕ)
+  listed buckets map bucket = between living.pairs.joined.items living.pairs.bounds.items (map * buckets + bucket)
+
+  -- what is listed for a bucket of the new shape is what the bucket has
+  same_pairs : (map bucket : ℕ) → map < shape.maps → bucket < shape.buckets → listed shape.buckets map bucket ≡ pairs_in shape words map bucket
+  same_pairs map bucket m b =
+      between_is (by_number shape (pairs_in shape words)) _ _ _ lives.pairs (map * shape.buckets + bucket) (number_below shape (pairs_in shape words) map bucket m b)
+      ∙ number_is shape (pairs_in shape words) map bucket b
+
+  -- the nodes of what is listed are those of what lives in the field
+  pub listed_living : listed_nodes fresh living ≡ living_nodes shape words
+  listed_living =
+      let maps = nodes_of_maps shape (pairs_in shape words) shape.maps in
+      nodes_same shape fresh (pairs_listed fresh living) (values_listed living) is.4 is.5 is.6
+      ∙ ap (λ buckets. nodes_by shape (listed buckets) (values_listed living)) is.5
+      ∙ ap (λ nodes. (dummies shape.queues ++ nodes) ++ nodes_of_queues (values_listed living) shape.queues)
+      (flat_map_same (nodes_of_map shape (listed shape.buckets)) (nodes_of_map shape (pairs_in shape words)) 0 shape.maps (λ map low high.
+      flat_map_same (λ b. pair_nodes map b (listed shape.buckets map b)) (λ b. pair_nodes map b (pairs_in shape words map b)) 0 shape.buckets (λ b low under.
+      ap (pair_nodes map b) (same_pairs map b (omega (arith, high)) (omega (arith, under))))))
+      ∙ ap (λ nodes. (dummies shape.queues ++ maps) ++ nodes)
+      (flat_map_same (λ q. value_nodes q 1 (values_listed living q)) (λ q. value_nodes q 1 (values_in shape words q)) 0 shape.queues (λ q low high.
+      ap (value_nodes q 1) (between_is (values_in shape words) _ _ _ lives.values q (omega (arith, high)))))
+
+  -- so a shape with as many base nodes as are needed has room
+  pub room_living : IsStoreField shape words → HasRoomFor fresh living
+  room_living f =
+      let numbers = ap (λ n. n * fresh.buckets) is.4 ∙ ap (λ n. shape.maps * n) is.5 in
+      record {
+        pairs = λ number below. has_list (by_number shape (pairs_in shape words)) _ _ _ lives.pairs number (omega (arith, below, numbers));
+        values = λ queue below. has_list (values_in shape words) _ _ _ lives.values queue (omega (arith, below, is.6));
+        fits = omega (arith, ap length listed_living, living_count shape words f, is.2);
+      }
 
 module _ (shape fresh : Shape) (words row : List ℕ) (f : IsStoreField shape words) (is : IsWithBase shape (needed (contents_of shape words)) fresh)
     (laid : IsLaid fresh row (living_nodes shape words)) where

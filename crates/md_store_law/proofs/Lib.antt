@@ -14,6 +14,7 @@ pub mod Dummies
 pub mod PairCounts
 pub mod Prefixes
 pub mod Below
+pub mod Joined
 pub mod Chains
 pub mod Stores
 pub mod Entries

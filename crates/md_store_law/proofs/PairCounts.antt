@@ -11,8 +11,8 @@ use Rattle.std.specs.FinMap as fin
 use Rattle.std.proofs.lemmas.Bool.{cases_eq, cases_Bool, cond-true, cond-false}
 use Rattle.std.proofs.lemmas.List.{map-id}
 use Rattle.std.proofs.lemmas.List.Folds.{length-flat_map-take}
-use Rattle.std.proofs.lemmas.List.FromFn.{take-map-range_with_len, length-range_with_len, get_or-range_with_len, sum_by-map-range_with_len_more}
-use Rattle.std.proofs.lemmas.List.Sums.{sum_by-take-le, sum_by-cons}
+use Rattle.std.proofs.lemmas.List.FromFn.{take-map-range_with_len, length-range_with_len, get_or-range_with_len}
+use Rattle.std.proofs.lemmas.List.Sums.{sum_by-cons}
 use Rattle.md_words.specs.declared.shape.Shape.{Shape}
 use Rattle.md_words.specs.Link.{linked_node, is_marked}
 use Rattle.md_words.specs.Layout.{bucket_of, node_count}
@@ -186,15 +186,6 @@ pieces_fit f k n below =
   where
     zero_plus : 0 + k ≡ k
     zero_plus = omega arith
-
--- a sum over a range with one more number, which is no more than that over all
-pub sums_fit : {X : Type 0} (g : X → ℕ) (f : ℕ → X) (k n : ℕ) → k < n
-    → sum_by g (map_list f (range_with_len 0 k)) + g (f k) ≤ sum_by g (map_list f (range_with_len 0 n))
-sums_fit g f k n below =
-    let more = sum_by-map-range_with_len_more g f 0 k k (omega arith) in
-    let first = ap (sum_by g) (take-map-range_with_len f 0 n (k + 1) (omega arith)) in
-    let fits = sum_by-take-le g (map_list f (range_with_len 0 n)) (k + 1) in
-    omega (arith, more, first, fits)
 
 -- pieces are as long as the sum of their lengths
 pub length-pieces : {X A : Type 0} (f : ℕ → List X) (g : A → ℕ) (t : ℕ → A) (a n : ℕ) → ((b : ℕ) → a ≤ b → b < a + n → length (f b) ≡ g (t b))

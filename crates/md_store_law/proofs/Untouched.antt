@@ -1,5 +1,5 @@
 -- A field whose nodes are laid is untouched.
-use Rattle.std.proofs.Common.{◌≡◌, ◌≤◌, ◌<◌, ◌+◌, ◌⊎◌, ℕ, false, List, [], ◌∷◌, length, get_or, refl, sym, ap, ◌∙◌, subst, inl, inr, ⊎_elim, arith}
+use Rattle.std.proofs.Common.{◌≡◌, ◌≤◌, ◌+◌, ◌⊎◌, ℕ, false, List, [], ◌∷◌, length, get_or, sym, ap, ◌∙◌, subst, inl, inr, ⊎_elim, arith}
 use Rattle.std.specs.Prelude.{IsTrue}
 use Rattle.std.specs.List.{Contains}
 use Rattle.std.proofs.lemmas.Bool.{cases_lt, false≢true}
@@ -8,7 +8,7 @@ use Rattle.md_words.specs.Content.{count_of, value_of}
 use Rattle.md_words.specs.Layout.{Exists, IsNode}
 use Rattle.md_words.specs.Link.{is_marked, link_value, linked_node}
 use Rattle.md_words.specs.Place.{Place, is_counted, base_word, bucket_head, queue_head, queue_tail, node_key, node_value, node_next, desc_status, read_word, read_content, slot_word, slot_old, slot_new}
-use Rattle.md_words.specs.PlaceAt.{place_at, IsCounted}
+use Rattle.md_words.specs.PlaceAt.{place_at}
 use Rattle.md_words.proofs.Places.{address-place_at}
 use Rattle.md_words.proofs.Words.{count_of-counted_word, is_marked-link_value, zero_is_empty}
 use Rattle.md_queue_law.specs.Laws.Words.{linked_node-link}

@@ -1,5 +1,5 @@
 -- A field that holds what another one holds, and no node more.
-use Rattle.std.specs.Prelude.{◌≤◌, ℕ, List, length}
+use Rattle.std.specs.Prelude.{◌≤◌, ℕ, List}
 use Rattle.md_words.specs.declared.shape.Shape.{Shape}
 use Rattle.md_words.specs.declared.limits.TheConstants.{MAX_WORDS}
 use Rattle.md_words.specs.Limits.{InRange, count_of_words}
@@ -14,7 +14,6 @@ use Rattle.md_store_law.specs.Field.{logical_words, IsStoreField}
 use Rattle.md_store_law.specs.Laid.{LaidNode, IsLaid, nodes_by}
 use Rattle.md_store_law.specs.Opens.{OpensWith}
 use Rattle.md_store_law.specs.Untouched.{IsUntouched}
-use Rattle.md_store_law.specs.Below.{maps_below}
 
 -- with so many base nodes the shape is in range
 pub record MayHaveBase (shape : Shape) (base : ℕ) : Type 0 where
@@ -49,13 +48,3 @@ pub record IsCompacted (shape : Shape) (words : List ℕ) (fresh : Shape) (row :
   pub store : IsStoreField fresh row
   pub untouched : IsUntouched fresh row
   pub opens : OpensWith fresh row (contents_of shape words)
-
--- words are a field's, and another shape has base nodes for all that lives in it
-pub record HasRoomFor (fresh shape : Shape) (words : List ℕ) : Type 0 where
-  pub store : IsStoreField shape words
-  pub numbers : IsWithBase shape fresh.base fresh
-  pub fits : length (living_nodes shape words) ≤ fresh.base
-
--- the dummies, and what lives in the maps below a number
-abbrev pub copied_maps : Shape → List ℕ → (map : ℕ) → List LaidNode
-copied_maps shape words map = maps_below shape (pairs_in shape words) map

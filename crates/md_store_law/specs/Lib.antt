@@ -9,4 +9,6 @@ pub mod Opens
 pub mod Untouched
 pub mod Below
 pub mod Compacted
+pub mod Lists
+pub mod Living
 pub mod Laws

@@ -1,15 +1,15 @@
 //! A field laid anew without the nodes that its contents don't need.
 
-ghost use Rattle.std.specs.Prelude.{◌<◌, ◌+◌, IfOk, OnOk};
+ghost use Rattle.std.specs.Prelude.{◌<◌, ◌+◌, IfOk};
 ghost use Rattle.md_store_law.specs.Field.{IsStoreField};
 ghost use Rattle.md_store_law.specs.Laid.{IsLaid, dummies};
 ghost use Rattle.md_history.specs.Engine.{needed};
-ghost use Rattle.md_store_law.specs.Below.{LaidUpTo};
+ghost use Rattle.md_store_law.specs.Below.{LaidUpTo, maps_below};
 ghost use Rattle.md_store_law.specs.Compacted.{MayHaveBase, IsWithBase, IsCompacted, contents_of};
-ghost use Rattle.md_store_law.specs.Compacted.{HasRoomFor, living_nodes, copied_maps};
+ghost use Rattle.md_store_law.specs.Living.{HasRoomFor, listed_nodes, pairs_listed};
 
-use crate::counting::count_living_nodes;
-use crate::{building, walks};
+use crate::building::{append_pairs, append_values, empty_field};
+use crate::gathering::{Living, gather};
 use md_words::Shape;
 use std::alloc::{AllocError, Global};
 
@@ -18,23 +18,22 @@ use std::alloc::{AllocError, Global};
 /// as many base nodes as the contents need, which must be in range. All lanes have their nodes
 /// again. `AllocError` if memory runs out.
 ///
-/// Takes time linear in the words and the nodes. It goes from words to words, a bucket or a queue
-/// at a time: beside the old words and the new ones it keeps the pairs of one bucket or the values
-/// of one queue.
+/// Takes time linear in the words and the nodes. It goes over the old words once, and keeps the
+/// pairs and the values in lists meanwhile. The new words take the memory of the old ones.
 pub fn compact(
     alloc: Global,
     shape: &Shape,
-    words: Vec<u64>,
+    mut words: Vec<u64>,
 ) -> Result<(Shape, Vec<u64>), AllocError>
     requires store { IsStoreField shape.now words.items }
     requires base { MayHaveBase shape.now (needed (contents_of shape.now words.items)) }
     ensures { IfOk result (λ r. IsCompacted shape.now words.items r.0 r.1.items) }
 {
-    let base = count_living_nodes(alloc, shape, &words)?;
-    let fresh = with_base(shape, base);
-    let mut row = building::empty_field(alloc, &fresh)?;
-    copy_contents(alloc, &mut row, &fresh, shape, &words)?;
-    Ok((fresh, row))
+    let living = gather(alloc, shape, &words)?;
+    let fresh = with_base(shape, living.needed(shape));
+    empty_field(&mut words, &fresh)?;
+    lay_living(&mut words, &fresh, &living);
+    Ok((fresh, words))
 }
 
 // The shape with so many base nodes.
@@ -54,70 +53,46 @@ fn with_base(shape: &Shape, base: u32) -> Shape
 }
 
 // Lays the pairs of all maps behind the dummies, and then the values of all queues.
-fn copy_contents(
-    alloc: Global,
-    row: &mut [u64],
-    fresh: &Shape,
-    shape: &Shape,
-    words: &[u64],
-) -> Result<(), AllocError>
-    requires room { HasRoomFor fresh.now shape.now words.now }
-    requires laid { IsLaid fresh.now row.old (dummies shape.now.queues) }
-    ensures { OnOk result (IsLaid fresh.now row.new (living_nodes shape.now words.now)) }
+fn lay_living(words: &mut [u64], shape: &Shape, living: &Living)
+    requires room { HasRoomFor shape.now living.now }
+    requires laid { IsLaid shape.now words.old (dummies shape.now.queues) }
+    ensures { IsLaid shape.now words.new (listed_nodes shape.now living.now) }
 {
     let mut next = shape.queues + 1;
     for map in 0..shape.maps {
-        next = copy_map(alloc, row, fresh, shape, words, map, next)?;
+        next = lay_map(words, shape, living, map, next);
     }
-    copy_queues(alloc, row, fresh, shape, words, next)
+    lay_queues(words, shape, living, next);
 }
 
 // Lays the pairs of a map behind those of the maps before it. Returns the number of the next node.
-fn copy_map(
-    alloc: Global,
-    row: &mut [u64],
-    fresh: &Shape,
-    shape: &Shape,
-    words: &[u64],
-    map: u32,
-    first: u32,
-) -> Result<u32, AllocError>
-    requires room { HasRoomFor fresh.now shape.now words.now }
+fn lay_map(words: &mut [u64], shape: &Shape, living: &Living, map: u32, first: u32) -> u32
+    requires room { HasRoomFor shape.now living.now }
     requires map { map < shape.now.maps }
-    requires laid { LaidUpTo fresh.now row.old (copied_maps shape.now words.now map) first }
-    ensures { IfOk result (λ next.
-        LaidUpTo fresh.now row.new (copied_maps shape.now words.now (map + 1)) next) }
+    requires laid { LaidUpTo shape.now words.old
+        (maps_below shape.now (pairs_listed shape.now living.now) map) first }
+    ensures { LaidUpTo shape.now words.new
+        (maps_below shape.now (pairs_listed shape.now living.now) (map + 1)) result }
 {
     let mut next = first;
-    let mut pairs = Vec::new(alloc);
     for bucket in 0..shape.buckets {
-        pairs.clear();
-        walks::append_pairs(&mut pairs, shape, words, map, bucket)?;
-        next = building::append_pairs(row, fresh, map, bucket, &pairs, next);
+        let number = map * shape.buckets + bucket;
+        let pairs = living.pairs.list(number as usize);
+        next = append_pairs(words, shape, map, bucket, pairs, next);
     }
-    Ok(next)
+    next
 }
 
 // Lays the values of all queues behind the pairs of all maps.
-fn copy_queues(
-    alloc: Global,
-    row: &mut [u64],
-    fresh: &Shape,
-    shape: &Shape,
-    words: &[u64],
-    first: u32,
-) -> Result<(), AllocError>
-    requires room { HasRoomFor fresh.now shape.now words.now }
-    requires laid { LaidUpTo fresh.now row.old
-        (copied_maps shape.now words.now shape.now.maps) first }
-    ensures { OnOk result (IsLaid fresh.now row.new (living_nodes shape.now words.now)) }
+fn lay_queues(words: &mut [u64], shape: &Shape, living: &Living, first: u32)
+    requires room { HasRoomFor shape.now living.now }
+    requires laid { LaidUpTo shape.now words.old
+        (maps_below shape.now (pairs_listed shape.now living.now) shape.now.maps) first }
+    ensures { IsLaid shape.now words.new (listed_nodes shape.now living.now) }
 {
     let mut next = first;
-    let mut values = Vec::new(alloc);
     for queue in 0..shape.queues {
-        values.clear();
-        walks::append_values(&mut values, shape, words, queue)?;
-        next = building::append_values(row, fresh, queue, &values, next);
+        let values = living.values.list(queue as usize);
+        next = append_values(words, shape, queue, values, next);
     }
-    Ok(())
 }

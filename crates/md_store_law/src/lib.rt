@@ -21,11 +21,12 @@ pub use theory::StoreTheory;
 
 mod building;
 mod compacting;
-mod counting;
 mod fields;
+mod gathering;
 mod laying;
 #[cfg(test)]
 mod laying_tests;
+mod lists;
 mod reading;
 mod sizes;
 #[cfg(test)]

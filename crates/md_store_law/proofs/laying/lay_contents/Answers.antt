@@ -8,7 +8,7 @@ use Rattle.md_store_law.proofs.laying.lay_contents.Goals as goal
 pub loop-map-init : goal.loop-map-init
 loop-map-init c =
     let shape = c.args.shape.now in
-    begin_at shape (pairs_at shape c.args.contents.now) (queue_at c.args.contents.now) shape c.args.words.now c.requires.laid
+    begin_at shape (pairs_at shape c.args.contents.now) (queue_at c.args.contents.now) c.args.words.now c.requires.laid
 
 pub lay_queues-requires-clause-laid : goal.lay_queues-requires-clause-laid
 lay_queues-requires-clause-laid c =

@@ -1,0 +1,94 @@
+//! What lives in a field, gathered in one walk.
+
+ghost use Rattle.std.specs.Prelude.{◌≡◌, ◌<◌, ◌+◌, ◌*◌, ◌^◌, length, IfOk, OnOk};
+ghost use Rattle.md_store_law.specs.Field.{IsStoreField};
+ghost use Rattle.md_store_law.specs.Compacted.{pairs_in, values_in};
+ghost use Rattle.md_store_law.specs.Lists.{AreFirst};
+ghost use Rattle.md_store_law.specs.Living.{LivesIn, by_number};
+
+use crate::lists::Lists;
+use crate::walks::{append_pairs, append_values};
+use md_words::Shape;
+use std::alloc::{AllocError, Global};
+
+/// What lives in a field: the pairs of its buckets, by map and bucket, and the values of its
+/// queues.
+#[derive(Drop)]
+pub(crate) struct Living {
+    pub(crate) pairs: Lists<(u64, u64)>,
+    pub(crate) values: Lists<u64>,
+}
+
+impl Living {
+    /// The number of nodes that are needed: one for each queue, each pair and each queued value.
+    pub(crate) fn needed(&self, shape: &Shape) -> u32
+        requires { shape.now.queues + length self.now.pairs.joined.items
+            + length self.now.values.joined.items < 2 ^ 32 }
+        ensures { result ≡ shape.now.queues + length self.now.pairs.joined.items
+            + length self.now.values.joined.items }
+    {
+        shape.queues + self.pairs.joined.len() as u32 + self.values.joined.len() as u32
+    }
+}
+
+/// Gathers what lives in a field, along each bucket and each queue once.
+pub(crate) fn gather(alloc: Global, shape: &Shape, words: &[u64]) -> Result<Living, AllocError>
+    requires { IsStoreField shape.now words.now }
+    ensures { IfOk result (λ living. LivesIn shape.now words.now living) }
+{
+    let pairs = gather_pairs(alloc, shape, words)?;
+    let values = gather_values(alloc, shape, words)?;
+    Ok(Living { pairs, values })
+}
+
+// The pairs of all maps, a list for each bucket.
+fn gather_pairs(
+    alloc: Global,
+    shape: &Shape,
+    words: &[u64],
+) -> Result<Lists<(u64, u64)>, AllocError>
+    requires { IsStoreField shape.now words.now }
+    ensures { IfOk result (λ pairs. AreFirst pairs.joined.items pairs.bounds.items
+        (by_number shape.now (pairs_in shape.now words.now)) (shape.now.maps * shape.now.buckets)) }
+{
+    let mut pairs = Lists::new(alloc)?;
+    for map in 0..shape.maps {
+        gather_map(&mut pairs, shape, words, map)?;
+    }
+    Ok(pairs)
+}
+
+// Gathers the pairs of a map behind those of the maps before it.
+fn gather_map(
+    pairs: &mut Lists<(u64, u64)>,
+    shape: &Shape,
+    words: &[u64],
+    map: u32,
+) -> Result<(), AllocError>
+    requires store { IsStoreField shape.now words.now }
+    requires map { map < shape.now.maps }
+    requires before { AreFirst pairs.old.joined.items pairs.old.bounds.items
+        (by_number shape.now (pairs_in shape.now words.now)) (map * shape.now.buckets) }
+    ensures { OnOk result (AreFirst pairs.new.joined.items pairs.new.bounds.items
+        (by_number shape.now (pairs_in shape.now words.now)) ((map + 1) * shape.now.buckets)) }
+{
+    for bucket in 0..shape.buckets {
+        append_pairs(&mut pairs.joined, shape, words, map, bucket)?;
+        pairs.end()?;
+    }
+    Ok(())
+}
+
+// The values of all queues, a list for each.
+fn gather_values(alloc: Global, shape: &Shape, words: &[u64]) -> Result<Lists<u64>, AllocError>
+    requires { IsStoreField shape.now words.now }
+    ensures { IfOk result (λ values. AreFirst values.joined.items values.bounds.items
+        (values_in shape.now words.now) shape.now.queues) }
+{
+    let mut values = Lists::new(alloc)?;
+    for queue in 0..shape.queues {
+        append_values(&mut values.joined, shape, words, queue)?;
+        values.end()?;
+    }
+    Ok(values)
+}
