@@ -21,21 +21,22 @@ use std::alloc::AllocError;
 /// One caller's part of a round.
 #[derive(Clone, Copy, Debug, PartialEq, Eq)]
 pub struct Turn {
+    /// The caller, counted from 1.
     pub caller: u32,
-    /// How many of the caller's lines were played before.
+    /// How many of the caller's lines were played before, 0 to the number of its lines.
     pub done: u32,
-    /// How many attempts the caller may make.
+    /// How many attempts the caller may make: any number. With 0 it makes none.
     pub tries: u32,
 }
 
 /// Why a turn ended.
 #[derive(Clone, Copy, Debug, PartialEq, Eq)]
 pub enum End {
-    /// The caller has no line left.
+    /// The caller has no line left, and the turn has a try left.
     Lines,
-    /// The caller made as many attempts as the turn has tries.
+    /// The caller made as many attempts as the turn has tries. It may also have no line left.
     Tries,
-    /// An attempt met a limit.
+    /// An attempt met this limit of the engine.
     Limit(Limit),
     /// `MOST_CONFLICTS` attempts, one after another, met a conflict.
     Conflicts,
@@ -44,8 +45,9 @@ pub enum End {
 /// How many conflicts in a row end a turn.
 pub const MOST_CONFLICTS: u32 = 256;
 
-/// Attempts a body once, as a caller's line, with the line's tag. The gate is told before the
-/// attempt, and after it where it was committed.
+/// Attempts a body once, under the tag of a caller's line (`line_tag`). It calls `before` of the
+/// gate, then `Engine::attempt`, and then `after` of the gate if the attempt was committed. It
+/// returns the end of the attempt as the engine gave it.
 pub fn attempt_line<E: Engine, B: Body, G: Gate>(
     engine: &E,
     pass: &mut E::Pass,
@@ -80,7 +82,7 @@ pub fn attempt_line<E: Engine, B: Body, G: Gate>(
     attempt
 }
 
-// Puts a reply where there is room for it.
+// Appends a reply to a list that has room for it.
 fn put<R: Drop>(replies: &mut Vec<R>, reply: R)
     requires { vec_len replies.old < vec_capacity replies.old }
     ensures items { replies.new.items ≡ replies.old.items ++ reply ∷ [] }
@@ -92,17 +94,23 @@ fn put<R: Drop>(replies: &mut Vec<R>, reply: R)
     };
 }
 
-/// Attempts a caller's lines after those that were done, in order, each again after a conflict,
-/// until there is no line left, a limit comes, the caller has made its attempts, or it met
-/// `MOST_CONFLICTS` conflicts in a row. `Ok` says which of these it was. After a conflict it pauses
-/// for a short random time, which doubles with each conflict in a row; no clause speaks of time.
-/// The replies of the lines that it played go into a list that has room for them, so no memory is
-/// taken here.
+/// Plays a caller's turn: it attempts the caller's lines after the first `turn.done`, in order. If
+/// a line is committed, its reply goes to the end of `replies`, and the next line follows. If a
+/// line meets a conflict, it is attempted again. The turn ends when the caller has no line left,
+/// when it has made `turn.tries` attempts, when an attempt meets a limit, or after `MOST_CONFLICTS`
+/// conflicts in a row. `Ok` has the cause (`End`).
 ///
-/// `Err` comes only where an attempt of the engine may want memory, and ends the attempts. Whatever
-/// comes, the pass goes on from what it had seen, and the lines that were played are what its lanes
-/// committed, each under its own tag, in the history's order. A fresh pass plays a line at least,
-/// where the line is small.
+/// `replies` is empty, and has room for a reply to each line that the turn can play. Their number
+/// is the smaller of `turn.tries` and the number of lines left. So this call takes no memory of its
+/// own.
+///
+/// After a conflict it pauses for a random number of turns of the spin hint, below 2^n after n
+/// conflicts in a row and below 4,096. No clause speaks of time.
+///
+/// It returns `AllocError` if an attempt of the engine runs out of memory. This ends the turn too.
+/// In every case the lanes of the pass committed exactly the lines whose replies are in `replies`,
+/// each under its own tag. If the pass is fresh, each lane has an attempt, the turn has a try and a
+/// line, and this line is within the engine's limits, then `Ok` means that a line was played.
 pub fn attempt_lines<E: Engine, L: Lines, G: Gate>(
     engine: &E,
     pass: &mut E::Pass,

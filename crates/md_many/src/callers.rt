@@ -5,9 +5,9 @@ ghost use Rattle.std.specs.Prelude.{◌≡◌, ◌<◌, ◌≤◌, ◌⊎◌, �
 use md_history::Body;
 
 /// The lines of some callers: bodies, each to be run once, those of each caller in order. Callers
-/// and lines are counted from 1.
+/// and lines are counted from 1. `body` is called for each attempt, by several threads at a time.
 pub trait Lines: Sync {
-    /// What a line is.
+    /// The body that a line is.
     type B: Body + Drop;
 
     /// How many callers there are.
@@ -23,11 +23,11 @@ pub trait Lines: Sync {
     fn callers(&self) -> u32
         ensures { result ≡ caller_count self.now };
 
-    /// The number of lines of a caller, 0 for one that there isn't.
+    /// The number of a caller's lines. It is 0 if there is no such caller.
     fn len(&self, caller: u32) -> u32
         ensures { result ≡ line_count self.now caller };
 
-    /// The body of a caller's line. `None` exactly where there is no such line.
+    /// The body of a caller's line. `None` exactly if there is no such line.
     fn body(&self, caller: u32, line: u32) -> Option<Self::B>
         ensures { result ≡ body_at self.now caller line };
 

@@ -2,8 +2,9 @@
 
 ghost use Rattle.std.specs.Prelude.{ℕ};
 
-/// What is called around each attempt at a line. No contract says what it does. Its two facts are
-/// had from its calls alone, so a function over any gate that promises one has made the call.
+/// What is called around each attempt at a line, in the thread that makes the attempt. No contract
+/// says what it does. Only its two calls give its two facts. So if a function over any gate
+/// promises a fact, it has made the call.
 pub trait Gate {
     /// `before` was called for a caller's line.
     ghost before_called: { Self → ℕ → ℕ → Type 0 };
@@ -11,11 +12,11 @@ pub trait Gate {
     /// `after` was called for a caller's line.
     ghost after_called: { Self → ℕ → ℕ → Type 0 };
 
-    /// Is called before each attempt at a caller's line.
+    /// Called before each attempt at a caller's line.
     fn before(&self, caller: u32, line: u32)
         ensures { before_called self.now caller line };
 
-    /// Is called after the attempt that committed the line.
+    /// Called after the attempt that committed the line.
     fn after(&self, caller: u32, line: u32)
         requires { before_called self.now caller line }
         ensures { after_called self.now caller line };

@@ -5,7 +5,9 @@ ghost use Rattle.md_many.specs.Laws.{AllSuit};
 
 use std::alloc::AllocError;
 
-/// Keeps the replies of callers' lines. They come caller by caller, each caller's in order.
+/// Keeps the replies of callers' lines. In each round `play_rounds` hands over the reply of the
+/// first line, and then those of the turns, caller by caller. Each caller's come in order. A list
+/// may be empty.
 pub trait Keeper<R> {
     /// It can keep this reply of a caller's line.
     ghost can_keep: { Self → ℕ → ℕ → R → Type 0 };
@@ -13,8 +15,8 @@ pub trait Keeper<R> {
     /// It keeps these replies of a caller's first lines.
     ghost keeps: { Self → ℕ → List R → Type 0 };
 
-    /// Keeps the replies of a caller's lines after its first `done`. `AllocError` if memory runs
-    /// out.
+    /// Keeps the replies of a caller's lines after its first `done`. The keeper can keep each of
+    /// them, and the lines are numbered below 2^32. `AllocError` if memory runs out.
     fn keep(&mut self, caller: u32, done: u32, replies: Vec<R>) -> Result<(), AllocError>
         requires suit { AllSuit (can_keep self.old caller) done replies.items }
         requires few { done + length replies.items < 2 ^ 32 }

@@ -7,8 +7,9 @@ ghost use Rattle.md_history.specs.Counts.{Bounds};
 use crate::callers::Lines;
 use md_history::Body;
 
-/// Lines, with the words in which their laws are told: whatever order they are played in, they
-/// leave good states. The calls that play them ask for the laws themselves, `AreLawful`.
+/// Lines, with the words in which their laws are stated. The laws (`AreLawful`) say that the lines
+/// leave good states, in whatever order they are played. The calls that play the lines require
+/// them.
 pub trait LawfulLines: Lines {
     /// The state from which they are played.
     ghost opening: { Self → State };
@@ -19,7 +20,7 @@ pub trait LawfulLines: Lines {
     /// The replies that a caller's line can have.
     ghost suits: { Self → ℕ → ℕ → Self.B.Reply → Type 0 };
 
-    /// What a line can read, write and take at most.
+    /// The most words that a line can read and write, and the most nodes that it can take.
     ghost cost: { Self → Bounds };
 
     /// How many nodes the contents of a good state need at most.

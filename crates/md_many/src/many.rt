@@ -16,8 +16,9 @@ use md_history::{Body, Contents, Engine, Front};
 use std::alloc::{AllocError, Global};
 use std::thread::Threads;
 
-/// What the rounds of callers leave: the replies by caller and line, the contents, and the fronts
-/// of the engines in order, one for each renewal and one for the end.
+/// The result of the rounds of callers: the replies in a list for each caller, the contents, and
+/// the fronts of the engines in order, one for each renewal and one for the end. A front takes no
+/// bytes, and is for contracts.
 #[derive(Drop)]
 pub struct Many<R, P> {
     pub replies: Vec<Vec<R>>,
@@ -26,8 +27,7 @@ pub struct Many<R, P> {
 }
 
 impl<R, P> Many<R, P> {
-    /// The reply of a caller's line, both counted from 1. `None` exactly where there is no such
-    /// line.
+    /// The reply of a caller's line, both counted from 1. `None` exactly if there is no such line.
     pub fn reply(&self, caller: u32, line: u32) -> Option<&R>
         ensures { option_map (λ r. r.now) result
             ≡ line_at (lists_in self.now.replies.items) caller line }
@@ -80,9 +80,16 @@ fn empty_lists<R: Drop>(alloc: Global, callers: u32) -> Result<Vec<Vec<R>>, Allo
     Ok(lists)
 }
 
-/// Plays all lines of all callers over an engine, in rounds, as `play_rounds` does, and keeps the
-/// replies by caller and line. The pass holds all lanes, one for each caller. `AllocError` if
-/// memory runs out; then the engine has ended.
+/// Plays all lines of all callers over an engine, closes the engine, and returns the replies by
+/// caller and line. The pass is fresh and holds all lanes, one for each caller. The lines keep
+/// their laws (`AreLawful`), and the engine can run each of them (`CanRun`).
+///
+/// `tries` is the most attempts that a caller makes in its turn of a round: any number, and well
+/// chosen as the attempts that a lane has. `play_rounds` says what a round is, when the engine is
+/// renewed, and what a call costs. The lists of replies grow as the replies come.
+///
+/// `AllocError` if memory runs out, here or in an attempt of the engine. Then the engine has ended,
+/// and its contents are lost.
 pub fn run_many<R, E, L, G>(
     rt: &R,
     alloc: Global,

@@ -27,8 +27,8 @@ const ROUND_REPLIES: u32 = 65_536;
 // How many replies the turn of a single caller has room for.
 const TURN_REPLIES: u32 = 1_024;
 
-/// What rounds leave, beside the replies: the contents, and the fronts of the engines in order,
-/// one for each renewal and one for the end.
+/// The result of rounds, beside the replies: the contents, and the fronts of the engines in order,
+/// one for each renewal and one for the end. A front takes no bytes, and is for contracts.
 #[derive(Drop)]
 pub struct Rounds<P> {
     pub contents: Contents,
@@ -47,7 +47,7 @@ struct Course<E: Engine> {
     worn: bool,
 }
 
-// How many replies the turn of each of so many callers has room for.
+// How many replies the turn of a caller has room for, by the number of callers.
 fn turn_room(callers: u32) -> u32 {
     if callers <= 1 {
         return TURN_REPLIES;
@@ -186,12 +186,12 @@ fn play_first<E: Engine, L: LawfulLines, G: Gate, K: Keeper<<L::B as Body>::Repl
     Ok(course)
 }
 
-// Whether a turn ended by something that the engine has no more of, or by conflicts.
+// Whether a turn ended by something that the engine has no more of.
 fn wears<R>(turns: &[Played<R>], last_tries: bool) -> bool {
     turns.iter().any(|turn| match turn.end {
-        End::Lines => false,
+        End::Lines | End::Conflicts => false,
         End::Tries => last_tries,
-        End::Limit(_) | End::Conflicts => true,
+        End::Limit(_) => true,
     })
 }
 
@@ -331,19 +331,27 @@ fn none_done(alloc: Global, callers: u32) -> Result<Vec<u32>, AllocError>
     Ok(done)
 }
 
-/// Plays all lines of all callers over an engine, in rounds, and closes the engine. The pass holds
-/// all lanes, one for each caller.
+/// Plays all lines of all callers over an engine, in rounds, and closes the engine. The pass is
+/// fresh and holds all lanes, one for each caller. The lines keep their laws (`AreLawful`), the
+/// engine can run each of them (`CanRun`), and the keeper can keep each reply that suits its line.
 ///
-/// In a round the next line of the lowest caller that has one is played alone, by the pass of all
-/// lanes. Then the pass is split, the callers play a turn each, side by side in threads, with at
-/// most `tries` attempts, and the pass is joined again. After that the keeper gets the replies of
-/// the round. Before a round the engine is renewed if the one before met a limit, as many conflicts
-/// in a row as end a turn, or the end of its tries. A turn is also as short as the room for its
-/// replies, 65,536 in a round (1,024 if there is one caller), and that alone renews nothing. Each
-/// renewed round plays a line at least, so there are at most as many renewals as lines.
+/// A round begins with its first line: the pass of all lanes plays the next line of the lowest
+/// caller that has one. If this line meets a limit, the round ends. Otherwise the pass is split,
+/// each caller plays a turn in a thread, and the pass is joined again. The keeper gets the reply of
+/// the first line before the turns, and the replies of the turns after them.
 ///
-/// `AllocError` if memory runs out, here, at the keeper or in an attempt of the engine; then the
-/// engine has ended.
+/// `tries` is the most attempts of a turn: any number. A turn also makes at most 65,536 attempts
+/// divided by the number of callers (at least 1), or 1,024 if there is one caller, so that its
+/// replies have room. With 0 tries no turn plays a line.
+///
+/// The engine is renewed before a round if, in the round before, the first line met a limit, or a
+/// turn ended by a limit or by the end of all `tries` attempts. Conflicts and the end of the room
+/// for replies cause no renewal. If `tries` is the number of attempts of a lane, a turn makes all of
+/// them only if its lane then has none left. A round after a renewal plays at least one line. So
+/// there are at most as many renewals as lines.
+///
+/// `AllocError` if memory runs out, here, at the keeper or in an attempt of the engine. Then the
+/// engine has ended, and its contents are lost.
 pub fn play_rounds<R, E, L, G, K>(
     rt: &R,
     alloc: Global,

@@ -15,14 +15,14 @@ use std::alloc::{AllocError, Global};
 use std::thread;
 use std::thread::Threads;
 
-/// What a caller's turn came to: why it ended, and the replies of the lines that it played.
+/// The result of a caller's turn: why it ended, and the replies of the lines that it played.
 #[derive(Drop)]
 pub struct Played<R> {
     pub end: End,
     pub replies: Vec<R>,
 }
 
-/// A pass, and what the turns on its lanes came to, caller by caller.
+/// A pass, and the results of the turns on its lanes, caller by caller.
 #[derive(Drop)]
 pub struct Turns<P, R> {
     pub pass: P,
@@ -57,7 +57,7 @@ fn play_turn<E: Engine, L: Lines, G: Gate>(
     Ok(Turns { pass, played })
 }
 
-// Takes the lanes of other turns, and what they came to.
+// Takes the lanes of other turns, and their results.
 fn join_turns<E: Engine, R: Drop>(
     engine: &E,
     turns: &mut Turns<E::Pass, R>,
@@ -77,7 +77,7 @@ fn join_turns<E: Engine, R: Drop>(
     turns.played.append(&mut played)
 }
 
-// The numbers of the callers that the pass keeps lanes for at a split, and those of the others.
+// How many lines were done by each caller whose lane the pass keeps at a split, and by the others.
 fn halves<'a, L: Lines>(lines: &L, before: u32, done: &'a [u32]) -> (&'a [u32], &'a [u32])
     requires { AreWithin (L.line_count lines.now) before done.now }
     ensures whole { done.now ≡ result.0.now ++ result.1.now }
@@ -92,11 +92,15 @@ fn halves<'a, L: Lines>(lines: &L, before: u32, done: &'a [u32]) -> (&'a [u32], 
     done.split_at(done.len() - done.len() / 2)
 }
 
-/// Callers play a turn each, side by side in threads: those after the first `before`, as many as
-/// the pass has lanes, each on a lane of its own, with so many tries and after as many lines as it
-/// has `done`. The pass is split until each caller has one lane, and is joined again.
+/// Plays one turn of each of some callers, side by side in threads, each on a lane of its own. The
+/// callers are those after the first `before`, as many as the pass has lanes. `done` has the number
+/// of lines that each of them has played, and `tries` is the most attempts that each makes.
 ///
-/// `Err` comes only where memory ran out; then the pass is lost.
+/// The call splits the pass in two, runs itself on both halves by `thread::join`, and joins them
+/// again. So n callers take n - 1 splits, joins of passes and calls of `thread::join`. For each
+/// caller it takes room for the replies of its turn: the smaller of `tries` and of the lines left.
+///
+/// `AllocError` if memory runs out, here or in an attempt of the engine. Then the pass is lost.
 #[cycle(turns)]
 pub fn play_turns<R: Threads + Sync, E: Engine, L: Lines, G: Gate + Sync>(
     rt: &R,
