@@ -13,7 +13,8 @@ use md_store::Store;
 use md_store_law::StoreTheory;
 use md_words::Shape;
 
-/// Begins a transaction of a pass, without a stop. It keeps its words and nodes in `sets`.
+/// Begins a transaction of a pass, with any tag. It keeps its words and nodes in `sets`. The error
+/// is `Limit::Tries` if each lane of the pass has begun all of its attempts (`Txn::begin`).
 pub fn begin<'a>(
     store: &'a Store,
     pass: &'a mut Pass<StoreTheory>,
@@ -28,9 +29,10 @@ pub fn begin<'a>(
     Ok(begun.with(sets))
 }
 
-/// Makes an operation from its begin to its end. `stop` is why the transaction stopped, if it did:
-/// then the answer is the same stop. An operation on a map or a queue that isn't there is answered
-/// by `NoMemory`, and nothing is done.
+/// Makes an operation from its begin to its end, and returns its reply. `stop` has the stop of the
+/// transaction, if it has stopped. The call sets it if the operation is stopped. If it is set
+/// before, the call returns the same stop and does nothing. If there is no such map or queue, or if
+/// a line has a length that isn't from 1 to 12, it returns `Stop::NoMemory` and does nothing.
 pub fn act<'a>(
     txn: &mut Txn<'a, StoreTheory>,
     stop: &mut Option<Stop>,

@@ -9,7 +9,9 @@ use md_nbtc::Txn;
 use md_store::Store;
 use md_store_law::StoreTheory;
 
-/// Commits a transaction. After a stop it is stopped, and the answer is this stop.
+/// Commits a transaction. `why` is the stop of the transaction, if it has stopped. Then it is ended
+/// by `Txn::stop`, and the error is this stop. The error is `Stop::Conflict` if the transaction was
+/// aborted (`Txn::commit`).
 pub fn commit(txn: Txn<'_, StoreTheory>, why: Option<Stop>, store: &Store) -> Result<(), Stop>
     requires { IsActing store.now (state txn) why }
     ensures { IsPassOf store.now txn.exit.0.now }
@@ -27,7 +29,7 @@ pub fn commit(txn: Txn<'_, StoreTheory>, why: Option<Stop>, store: &Store) -> Re
     }
 }
 
-/// Stops a transaction.
+/// Ends a transaction by `Txn::stop`.
 pub fn stop(txn: Txn<'_, StoreTheory>, why: Option<Stop>, store: &Store)
     requires { IsActing store.now (state txn) why }
     ensures { IsPassOf store.now txn.exit.0.now }
@@ -37,7 +39,7 @@ pub fn stop(txn: Txn<'_, StoreTheory>, why: Option<Stop>, store: &Store)
     txn.stop();
 }
 
-/// Leaves a transaction as it stands.
+/// Leaves a transaction as it stands, by `Txn::leave`.
 pub fn leave(txn: Txn<'_, StoreTheory>, why: Option<Stop>, store: &Store)
     requires { IsActing store.now (state txn) why }
     ensures { IsPassOf store.now txn.exit.0.now }
@@ -47,8 +49,8 @@ pub fn leave(txn: Txn<'_, StoreTheory>, why: Option<Stop>, store: &Store)
     txn.leave();
 }
 
-/// Makes a transaction ready, and leaves it undecided. Whether it became ready. After a stop it is
-/// stopped.
+/// Makes a transaction ready, leaves it undecided (`Txn::leave_ready`), and returns whether it
+/// became ready. If it has stopped, with the stop `why`, it is ended by `Txn::stop`.
 pub fn leave_ready(txn: Txn<'_, StoreTheory>, why: Option<Stop>, store: &Store) -> bool
     requires { IsActing store.now (state txn) why }
     ensures { IsPassOf store.now txn.exit.0.now }

@@ -1,9 +1,9 @@
-//! Transactions of several passes of one store, which a caller interleaves operation by operation:
-//! what the tests of this crate are written with.
+//! Calls for tests that interleave transactions of several passes of one store, operation by
+//! operation.
 //!
-//! `begin` begins a transaction, and `act` makes one operation of it. `commit` and `stop` end it;
-//! `leave` leaves it as it stands, and `leave_ready` once it is ready. `word` shows a word of the
-//! field, and `settled` how a pass's last transaction ended.
+//! `begin` begins a transaction, and `act` makes one operation of it. `commit` and `stop` end it.
+//! `leave` leaves it as it stands, and `leave_ready` makes it ready and leaves it undecided. `word`
+//! returns a word of the field, and `settled` whether a pass's last transaction was committed.
 #![tactic(auto)]
 
 pub use acting::{act, begin};

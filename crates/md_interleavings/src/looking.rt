@@ -1,4 +1,4 @@
-//! What a pass finds between two transactions.
+//! Looks at the field and at a pass between two transactions.
 
 ghost use Rattle.std.specs.Prelude.{◌≡◌, None};
 ghost use Rattle.std.specs.List.{Contains};
@@ -12,7 +12,7 @@ use md_store::Store;
 use md_store_law::StoreTheory;
 use md_words::{Status, StatusWord};
 
-/// What stands in a word of the field. A word that isn't there has the greatest `u64`.
+/// Returns what stands in a word of the field, or `u64::MAX` if there is no such word.
 pub fn word(pass: &mut Pass<StoreTheory>, store: &Store, word: u32) -> u64
     requires { IsPassOf store.now pass.old }
     ensures { IsPassOf store.now pass.new }
@@ -31,7 +31,8 @@ pub fn first_lane(pass: &Pass<StoreTheory>) -> u32
     pass.lane(0)
 }
 
-/// Settles the last transaction of a pass's first lane. Whether it was committed.
+/// Settles the last transaction of a pass's first lane, and returns whether it was committed. It
+/// returns false if the lane has begun no attempt. An attempt that the pass has in hand is left.
 pub fn settled(pass: &mut Pass<StoreTheory>, store: &Store) -> bool
     requires { IsPassOf store.now pass.old }
     ensures { IsPassOf store.now pass.new }

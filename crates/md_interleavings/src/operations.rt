@@ -12,7 +12,7 @@ use md_nbtc::Txn;
 use md_queue::{dequeue, enqueue, front, line};
 use md_store_law::StoreTheory;
 
-// Calls an operation that was begun, of a transaction without a stop.
+// Makes the call of an operation that was begun. The transaction has no stop.
 pub(crate) fn made<'a>(txn: &mut Txn<'a, StoreTheory>, op: Op) -> Result<Reply, Stop>
     requires begun { IsBegun store (state txn.old) }
     requires none { (state txn.old).stop ≡ None }

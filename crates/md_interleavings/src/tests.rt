@@ -9,7 +9,7 @@ use super::*;
 use md_history::{Contents, Limit, Line, Op, Reply, Shown, Stop};
 use md_nbtc::{Sets, Txn};
 use md_rule::Pass;
-use md_store::{OpenFault, Store};
+use md_store::{OpenFault, Store, StorePass};
 use md_store_law::StoreTheory;
 use md_words::{Shape, ShapeFault};
 use std::alloc::{AllocError, AllocGlobal, Global};
@@ -36,11 +36,7 @@ fn pairs(alloc: Global, pairs: &[(u64, u64)]) -> Result<Contents, AllocError> {
 }
 
 // Opens a store, if the contents have as many maps and queues as the shape.
-fn opened(
-    alloc: Global,
-    shape: Shape,
-    start: &Contents,
-) -> Result<(Store, Pass<StoreTheory>), OpenFault>
+fn opened(alloc: Global, shape: Shape, start: &Contents) -> Result<(Store, StorePass), OpenFault>
     ensures { IfOk result (λ r. IsPassOf r.0 r.1) }
 {
     let maps = start.maps().len() == shape.maps as usize;
@@ -52,10 +48,10 @@ fn opened(
 }
 
 // Settles a store and closes it, if the pass holds all lanes.
-fn closed(store: Store, mut pass: Pass<StoreTheory>) -> Result<Option<Contents>, AllocError>
+fn closed(store: Store, mut pass: StorePass) -> Result<Option<Contents>, AllocError>
     requires { IsPassOf store pass }
 {
-    if pass.holds_all(store.field()) {
+    if store.holds_all(&pass) {
         store.settle(&mut pass);
         let (contents, _) = store.close(pass)?;
         return Ok(Some(contents));
@@ -119,8 +115,8 @@ fn one(store: &Store, pass: &mut Pass<StoreTheory>, op: Op) -> Result<Result<Rep
 fn ends_with<R: Abort + AllocGlobal>(
     rt: &R,
     store: Store,
-    mut pass: Pass<StoreTheory>,
-    other: Pass<StoreTheory>,
+    mut pass: StorePass,
+    other: StorePass,
     left: &[(u64, u64)],
 ) -> Result<(), Fail>
     requires of { IsPassOf store pass }
@@ -128,7 +124,7 @@ fn ends_with<R: Abort + AllocGlobal>(
 {
     store.join(&mut pass, other);
     assert_eq!(rt;
-        one(&store, &mut pass, insert(3, 30))?,
+        one(&store, &mut pass.pass, insert(3, 30))?,
         Ok(Reply::Flag(true))
     );
     let back = closed(store, pass)?.expect(rt, "all lanes");

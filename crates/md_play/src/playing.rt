@@ -13,14 +13,12 @@ use md_history::Contents;
 use md_many::Gate;
 use md_orders::Scripts;
 use md_rounds::{Outcome, run_all};
-use md_rule::Pass;
-use md_store::Store;
-use md_store_law::StoreTheory;
+use md_store::{Store, StorePass};
 use md_words::Shape;
 use std::alloc::{AllocError, Global};
 use std::thread::Threads;
 
-/// The most nodes that a lane of the store may be given.
+/// The most nodes that a lane of the store may be given. A node takes 24 bytes.
 pub const MAX_LANE_NODES: u32 = 262_144;
 
 // The buckets of each map.
@@ -37,10 +35,16 @@ fn shape_of(callers: u32, nodes: u32, tries: u32) -> Shape
     Shape::new(callers, nodes, LEVELS, tries, MAPS, BUCKETS, LEVELS).unwrap()
 }
 
-/// Plays the scripts of all callers, 1 to 64, over a store without orders, in threads, and closes
-/// it. Each caller has a lane with so many nodes, 16 to `MAX_LANE_NODES`, and so many attempts, at
-/// least one, until the store is renewed. `run_all` of md_rounds says what the playing leaves: all
-/// lines are committed, each once, with the replies of the book, whatever the threads do.
+/// Opens a store without orders, plays the scripts of all callers over it in threads, and closes
+/// it. There are 1 to 64 callers, and each has a lane of its own. All lines are committed, each
+/// once, with the replies of the book, whatever the threads do. `run_all` of md_rounds says more.
+///
+/// `nodes` is how many nodes a lane has until the store is renewed, `COMMAND_NODES` to
+/// `MAX_LANE_NODES`. `tries` is how many attempts a lane has until then, 1 to 4,294,967,295. It is
+/// also the most attempts that a caller makes in its turn of a round. With fewer nodes or attempts
+/// the store is renewed more often, and all lines are played in any case.
+///
+/// The store has 272,145 words, and 3 * `nodes` + 641 more for each caller. A word takes 8 bytes.
 ///
 /// `AllocError` if memory runs out.
 pub fn play_on_store<R, G>(
@@ -50,7 +54,7 @@ pub fn play_on_store<R, G>(
     nodes: u32,
     tries: u32,
     gate: &G,
-) -> Result<Outcome<Pass<StoreTheory>>, AllocError>
+) -> Result<Outcome<StorePass>, AllocError>
 where
     R: Threads + Sync,
     G: Gate + Sync,
@@ -64,7 +68,8 @@ where
 {
     let shape = shape_of(scripts.callers(), nodes, tries);
     let start = Contents::empty(alloc, MAPS, LEVELS)?;
-    // There is a base node for each queue, so room is never wanting.
+    // Empty contents need one node for each queue, and the store has as many base nodes. So `open`
+    // fails only if memory runs out.
     let Ok((store, pass)) = Store::open(alloc, shape, &start) else {
         return Err(AllocError);
     };

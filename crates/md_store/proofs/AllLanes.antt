@@ -1,11 +1,11 @@
 -- The lanes of a pass that holds each lane of its store.
-use Rattle.std.proofs.Common.{◌≡◌, ◌+◌, ℕ, zero, suc, arith}
+use Rattle.std.proofs.Common.{◌≡◌, ◌+◌, ℕ, List, zero, suc, subst, sym, arith}
 use Rattle.std.specs.List.{Contains, range_with_len}
 use Rattle.std.proofs.lemmas.List.Elements.{All-contains}
 use Rattle.md_history.specs.Engine.{IsRising}
 use Rattle.md_history.specs.LaneLaws.{rising-same}
 use Rattle.md_machine.specs.clauses.passes.Alone.{HoldsAll}
-use Rattle.md_machine.proofs.lists.Rising.{in_range}
+use Rattle.md_machine.proofs.lists.Rising.{in_range, range_in}
 use Rattle.md_rule.specs.Views.{FieldView, PassState}
 use Rattle.md_store.specs.Laws.{of_is}
 use Rattle.md_store.specs.Store.{IsPassOf, all_lanes, front_in}
@@ -24,3 +24,7 @@ held_all f p of all =
     rising-same (front_in p).lanes lanes from.rising (range_rises 0 f.origin.shape.lanes)
     (λ lane c. All-contains (Contains lanes) (front_in p).lanes lane from.within c)
     (λ lane c. let less = in_range 0 f.origin.shape.lanes lane c in all lane (omega (arith, less)))
+
+-- and a pass that holds all lanes holds each of them
+pub all_held : (f : FieldView) (p : PassState) → (front_in p).lanes ≡ all_lanes f.origin.shape → HoldsAll f.origin.shape p.view
+all_held f p same = λ lane less. subst (λ (l : List ℕ). Contains l lane) (sym same) (range_in 0 f.origin.shape.lanes lane (omega arith) (omega (arith, less)))

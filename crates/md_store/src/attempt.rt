@@ -11,6 +11,7 @@ ghost use Rattle.md_store.specs.Store.{IsFresh, IsPassOf, IsUnworn, MayStop};
 ghost use Rattle.md_store.specs.Store.{all_lanes, begun_by, front_in, limits_of, start_of};
 ghost use Rattle.md_store_law.specs.Untouched.{IsUntouched};
 
+use crate::pass::StorePass;
 use crate::store::Store;
 use crate::txn::StoreTxn;
 use md_history::{Attempt, Body, Stop};
@@ -62,9 +63,35 @@ impl Store {
     ///
     /// The cost is that of the body's calls, of which md_list and md_queue tell the steps, and of
     /// `Txn::begin`, `Txn::commit` and `Txn::stop`.
-    pub fn attempt<B: Body>(
+    pub fn attempt<B: Body>(&self, pass: &mut StorePass, tag: u64, body: &B) -> Attempt<B::Reply>
+        requires of { IsPassOf self.now pass.old }
+        requires fits { B.fits body.now self.now.origin.shape.maps self.now.origin.shape.queues }
+        ensures committed { IfCommitted result (λ r.
+            Commits (B.did body.now) tag r (front_in pass.old) (front_in pass.new)) }
+        ensures stopped { IfStopped result (λ _. Stops tag (front_in pass.old) (front_in pass.new)) }
+        ensures legal { LegalFrom (start_of self.now) (front_in pass.new) }
+        ensures of { IsPassOf self.now pass.new }
+        ensures begun { IsCounted result (begun_by pass.old) (begun_by pass.new) }
+        ensures cause { IfStopped result (StopsBy self.now pass.old pass.new) }
+        ensures may_stop { IfStopped result MayStop }
+        ensures alone { (front_in pass.old).lanes ≡ all_lanes self.now.origin.shape
+            → IfStopped result IsNoConflict }
+        ensures unworn { IsFresh pass.old → IsUntouched self.now.origin.shape self.now.origin.words
+            → IfStopped result IsUnworn }
+        ensures small { IsFresh pass.old → IsUntouched self.now.origin.shape self.now.origin.words
+            → 1 ≤ (limits_of self.now.origin.shape).tries
+            → IsSmall (bounds_in (limits_of self.now.origin.shape)) (B.makes body.now)
+            (start_of self.now)
+            → IfStopped result (λ _. ⊥) }
+    {
+        self.attempt_in(&mut pass.pass, &mut pass.sets, tag, body)
+    }
+
+    // An attempt by a pass of the field, which keeps its words and nodes in these sets.
+    fn attempt_in<B: Body>(
         &self,
         pass: &mut Pass<StoreTheory>,
+        sets: &mut Sets,
         tag: u64,
         body: &B,
     ) -> Attempt<B::Reply>
@@ -93,8 +120,7 @@ impl Store {
             Ok(begun) => begun,
             Err(limit) => return Attempt::Stopped(Stop::Limit(limit)),
         };
-        let mut sets = Sets::new();
-        let txn = begun.with(&mut sets);
+        let txn = begun.with(sets);
         let mut out = Err(Stop::NoMemory);
         let txn = run(txn, before, body, &mut out);
         match out {

@@ -7,9 +7,10 @@ ghost use Rattle.md_history.specs.State.{HaveSameNumbers};
 ghost use Rattle.md_store.specs.Ending.{Leaves, Renews};
 ghost use Rattle.md_store.specs.Store.{IsPassOf, all_lanes, front_in, room_of, start_of};
 
+use crate::pass::StorePass;
 use crate::settling::settle;
 use md_history::{Contents, Front};
-use md_rule::{Closed, Field, Pass};
+use md_rule::{Closed, Field};
 use md_store_law::{StoreTheory, compact, read_off};
 use std::alloc::{AllocError, Global};
 
@@ -17,22 +18,25 @@ use std::alloc::{AllocError, Global};
 fn ended(
     field: Field<StoreTheory>,
     alloc: Global,
-    mut pass: Pass<StoreTheory>,
-) -> Result<Closed<StoreTheory>, AllocError>
+    mut pass: StorePass,
+) -> Result<(Vec<u64>, Front<StorePass>), AllocError>
     requires of { IsPassOf field pass }
     requires all { (front_in pass).lanes ≡ all_lanes field.origin.shape }
-    ensures leaves { IfOk result (λ c. Leaves field pass c.words.items c.front) }
+    ensures leaves { IfOk result (λ e. Leaves field pass e.0.items e.1) }
 {
-    settle(&field, &mut pass);
-    field.close(alloc, pass)
+    settle(&field, &mut pass.pass);
+    let front = Front::of(&pass);
+    let StorePass { pass, .. } = pass;
+    let Closed { words, .. } = field.close(alloc, pass)?;
+    Ok((words, front))
 }
 
 // Ends the field, and gives its contents.
 pub(crate) fn contents(
     field: Field<StoreTheory>,
     alloc: Global,
-    pass: Pass<StoreTheory>,
-) -> Result<(Contents, Front<Pass<StoreTheory>>), AllocError>
+    pass: StorePass,
+) -> Result<(Contents, Front<StorePass>), AllocError>
     requires of { IsPassOf field pass }
     requires all { (front_in pass).lanes ≡ all_lanes field.origin.shape }
     ensures settled { IfOk result (λ r.
@@ -41,7 +45,7 @@ pub(crate) fn contents(
     ensures numbers { IfOk result (λ r. HaveSameNumbers r.0 (start_of field)) }
 {
     let shape = *field.shape();
-    let Closed { words, front } = ended(field, alloc, pass)?;
+    let (words, front) = ended(field, alloc, pass)?;
     let contents = read_off(alloc, &shape, &words)?;
     Ok((contents, front))
 }
@@ -51,15 +55,8 @@ pub(crate) fn contents(
 pub(crate) fn renewed(
     field: Field<StoreTheory>,
     alloc: Global,
-    pass: Pass<StoreTheory>,
-) -> Result<
-    (
-        Field<StoreTheory>,
-        Pass<StoreTheory>,
-        Front<Pass<StoreTheory>>,
-    ),
-    AllocError,
->
+    pass: StorePass,
+) -> Result<(Field<StoreTheory>, StorePass, Front<StorePass>), AllocError>
     requires of { IsPassOf field pass }
     requires all { (front_in pass).lanes ≡ all_lanes field.origin.shape }
     requires room { HasRoom (start_of field) (room_of field.origin.shape) (front_in pass) }
@@ -69,8 +66,8 @@ pub(crate) fn renewed(
         Renews field r.0 r.1 (replay_of (start_of field) (front_in r.2))) }
 {
     let shape = *field.shape();
-    let Closed { words: used, front } = ended(field, alloc, pass)?;
+    let (used, front) = ended(field, alloc, pass)?;
     let (fresh, row) = compact(alloc, &shape, used)?;
     let (renewed, first) = Field::open(alloc, fresh, row)?;
-    Ok((renewed, first, front))
+    Ok((renewed, StorePass::of(first), front))
 }

@@ -1,6 +1,6 @@
 //! What a store does as an engine, beside attempts. Each call has the clauses of `Engine`.
 
-ghost use Rattle.std.specs.Prelude.{◌≡◌, ◌+◌, ◌↔◌, IfNone, IfOk, IfSome, IsNone, length};
+ghost use Rattle.std.specs.Prelude.{◌≡◌, ◌+◌, ◌↔◌, IfNone, IfOk, IfSome, IsNone, IsTrue, length};
 ghost use Rattle.std.specs.Prelude.{option_map, unwrap_or};
 ghost use Rattle.md_history.specs.Engine.{HasRoom, Joins, SettlesFrom, Splits};
 ghost use Rattle.md_history.specs.Front.{replay_of};
@@ -10,17 +10,25 @@ ghost use Rattle.md_store_law.specs.Store.{store};
 ghost use Rattle.md_store.specs.Ending.{Renews};
 ghost use Rattle.md_store.specs.Store.{IsPassOf, all_lanes, begun_by, front_in, room_of, start_of};
 
+use crate::pass::StorePass;
 use crate::store::Store;
 use crate::{ending, moves, settling};
 use md_history::{Contents, Front};
-use md_rule::Pass;
-use md_store_law::StoreTheory;
 use std::alloc::AllocError;
 
 impl Store {
+    /// Whether a pass of the store holds all of its lanes, as `settle`, `close` and `renew` require.
+    /// Takes time linear in the lanes. It makes no step.
+    pub fn holds_all(&self, pass: &StorePass) -> bool
+        requires { IsPassOf self.now pass.now }
+        ensures { IsTrue result ↔ ((front_in pass.now).lanes ≡ all_lanes self.now.origin.shape) }
+    {
+        pass.pass.holds_all(&self.field)
+    }
+
     /// Gives the last half of the lanes, rounded down, to a new pass, which has seen what the old
     /// one has. `None` exactly if the pass holds one lane. Two steps, or none; it takes no memory.
-    pub fn split(&self, pass: &mut Pass<StoreTheory>) -> Option<Pass<StoreTheory>>
+    pub fn split(&self, pass: &mut StorePass) -> Option<StorePass>
         requires { IsPassOf self.now pass.old }
         ensures none { IsNone result ↔ (length (front_in pass.old).lanes ≡ 1) }
         ensures same { IfNone result (front_in pass.new ≡ front_in pass.old) }
@@ -31,19 +39,21 @@ impl Store {
         ensures of { IsPassOf self.now pass.new }
         ensures of_other { IfSome result (λ other. IsPassOf self.now other) }
     {
-        moves::split(&self.field, pass)
+        let other = moves::split(&self.field, &mut pass.pass)?;
+        Some(StorePass::of(other))
     }
 
     /// Takes the lanes of another pass of the store, and what it has seen. Two steps; it takes no
     /// memory.
-    pub fn join(&self, pass: &mut Pass<StoreTheory>, other: Pass<StoreTheory>)
+    pub fn join(&self, pass: &mut StorePass, other: StorePass)
         requires of { IsPassOf self.now pass.old }
         requires of_other { IsPassOf self.now other }
         ensures joined { Joins (front_in pass.old) (front_in other) (front_in pass.new) }
         ensures begun { begun_by pass.new ≡ begun_by pass.old + begun_by other }
         ensures of { IsPassOf self.now pass.new }
     {
-        moves::join(&self.field, pass, other);
+        let StorePass { pass: other, .. } = other;
+        moves::join(&self.field, &mut pass.pass, other);
     }
 
     /// Decides whatever was left open, and takes it out of the words: then every fate is known, and
@@ -52,14 +62,14 @@ impl Store {
     /// One step, and one more for each lane whose last transaction was ended. Any other lane that
     /// has begun an attempt takes at most `3r + 5`, `r` being the reads of its last transaction,
     /// and four for each word that it wrote.
-    pub fn settle(&self, pass: &mut Pass<StoreTheory>)
+    pub fn settle(&self, pass: &mut StorePass)
         requires of { IsPassOf self.now pass.old }
         requires all { (front_in pass.old).lanes ≡ all_lanes self.now.origin.shape }
         ensures of { IsPassOf self.now pass.new }
         ensures settles { SettlesFrom (start_of self.now) (front_in pass.old) (front_in pass.new) }
         ensures may { MayClose store self.now.origin pass.new.view }
     {
-        settling::settle(&self.field, pass);
+        settling::settle(&self.field, &mut pass.pass);
     }
 
     /// Settles the store and ends it. Returns its contents, and the front of its last pass with
@@ -68,10 +78,7 @@ impl Store {
     ///
     /// The steps of a settling, then time linear in the words and nodes, but for one sort of each
     /// map's pairs.
-    pub fn close(
-        self,
-        pass: Pass<StoreTheory>,
-    ) -> Result<(Contents, Front<Pass<StoreTheory>>), AllocError>
+    pub fn close(self, pass: StorePass) -> Result<(Contents, Front<StorePass>), AllocError>
         requires of { IsPassOf self pass }
         requires all { (front_in pass).lanes ≡ all_lanes self.origin.shape }
         ensures settled { IfOk result (λ r.
@@ -89,10 +96,7 @@ impl Store {
     /// its contents are lost.
     ///
     /// The steps of a settling, then time linear in the words and nodes of both fields.
-    pub fn renew(
-        self,
-        pass: Pass<StoreTheory>,
-    ) -> Result<(Store, Pass<StoreTheory>, Front<Pass<StoreTheory>>), AllocError>
+    pub fn renew(self, pass: StorePass) -> Result<(Store, StorePass, Front<StorePass>), AllocError>
         requires of { IsPassOf self pass }
         requires all { (front_in pass).lanes ≡ all_lanes self.origin.shape }
         requires room { HasRoom (start_of self) (room_of self.origin.shape) (front_in pass) }

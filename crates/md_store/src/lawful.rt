@@ -12,10 +12,9 @@ ghost use Rattle.md_store.specs.Ending.{Renews};
 ghost use Rattle.md_store.specs.Store.{IsNew, IsPassOf, MayStop, all_lanes, begun_by, front_in};
 ghost use Rattle.md_store.specs.Store.{limits_of, room_of, start_of};
 
+use crate::pass::StorePass;
 use crate::store::Store;
 use md_history::{Attempt, Body, Contents, Engine, Front};
-use md_rule::Pass;
-use md_store_law::StoreTheory;
 use std::alloc::AllocError;
 
 /// Each call is that of `Store` with the same name; `contents` is `close`. An attempt never answers
@@ -25,7 +24,7 @@ impl Engine for Store {
     ghost use Rattle.md_store.specs.Store.{IsNew, IsPassOf, MayStop, all_lanes, begun_by, front_in};
     ghost use Rattle.md_store.specs.Store.{limits_of, start_of};
 
-    type Pass = Pass<StoreTheory>;
+    type Pass = StorePass;
 
     ghost start = { λ s. start_of s };
 
@@ -43,7 +42,7 @@ impl Engine for Store {
 
     ghost may_stop = { λ s stop. MayStop stop };
 
-    fn split(&self, pass: &mut Pass<StoreTheory>) -> Option<Pass<StoreTheory>>
+    fn split(&self, pass: &mut StorePass) -> Option<StorePass>
         requires { IsPassOf self.now pass.old }
         ensures none { IsNone result ↔ (length (front_in pass.old).lanes ≡ 1) }
         ensures same { IfNone result (front_in pass.new ≡ front_in pass.old) }
@@ -57,12 +56,7 @@ impl Engine for Store {
         self.split(pass)
     }
 
-    fn attempt<B: Body>(
-        &self,
-        pass: &mut Pass<StoreTheory>,
-        tag: u64,
-        body: &B,
-    ) -> Attempt<B::Reply>
+    fn attempt<B: Body>(&self, pass: &mut StorePass, tag: u64, body: &B) -> Attempt<B::Reply>
         requires of { IsPassOf self.now pass.old }
         requires fits { B.fits body.now
             (length (start_of self.now).maps) (length (start_of self.now).queues) }
@@ -83,7 +77,7 @@ impl Engine for Store {
         self.attempt(pass, tag, body)
     }
 
-    fn join(&self, pass: &mut Pass<StoreTheory>, other: Pass<StoreTheory>)
+    fn join(&self, pass: &mut StorePass, other: StorePass)
         requires of { IsPassOf self.now pass.old }
         requires of_other { IsPassOf self.now other }
         ensures joined { Joins (front_in pass.old) (front_in other) (front_in pass.new) }
@@ -93,10 +87,7 @@ impl Engine for Store {
         self.join(pass, other);
     }
 
-    fn renew(
-        self,
-        pass: Pass<StoreTheory>,
-    ) -> Result<(Store, Pass<StoreTheory>, Front<Pass<StoreTheory>>), AllocError>
+    fn renew(self, pass: StorePass) -> Result<(Store, StorePass, Front<StorePass>), AllocError>
         requires of { IsPassOf self pass }
         requires all { (front_in pass).lanes ≡ all_lanes self.origin.shape }
         requires room { HasRoom (start_of self) (room_of self.origin.shape) (front_in pass) }
@@ -108,10 +99,7 @@ impl Engine for Store {
         self.renew(pass)
     }
 
-    fn contents(
-        self,
-        pass: Pass<StoreTheory>,
-    ) -> Result<(Contents, Front<Pass<StoreTheory>>), AllocError>
+    fn contents(self, pass: StorePass) -> Result<(Contents, Front<StorePass>), AllocError>
         requires of { IsPassOf self pass }
         requires all { (front_in pass).lanes ≡ all_lanes self.origin.shape }
         ensures settled { IfOk result (λ r.

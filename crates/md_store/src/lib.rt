@@ -7,6 +7,7 @@
 //! and attempts can be used again. Only `open`, `close` and `renew` take memory.
 #![tactic(auto)]
 
+pub use pass::StorePass;
 pub use store::{OpenFault, Store};
 
 mod attempt;
@@ -18,6 +19,7 @@ mod lawful;
 mod moves;
 mod on_maps;
 mod on_queues;
+mod pass;
 mod settling;
 mod store;
 #[cfg(test)]

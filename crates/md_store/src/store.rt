@@ -7,8 +7,9 @@ ghost use Rattle.md_store_law.specs.Laid.{HasMapsAndQueues};
 ghost use Rattle.md_store_law.specs.Needed.{capped};
 ghost use Rattle.md_store_law.specs.Untouched.{IsUntouched};
 
+use crate::pass::StorePass;
 use md_history::Contents;
-use md_rule::{Field, Pass};
+use md_rule::Field;
 use md_store_law::{StoreTheory, lay, needed};
 use md_words::Shape;
 use std::alloc::{AllocError, Global};
@@ -50,7 +51,7 @@ impl Store {
         alloc: Global,
         shape: Shape,
         start: &Contents,
-    ) -> Result<(Store, Pass<StoreTheory>), OpenFault>
+    ) -> Result<(Store, StorePass), OpenFault>
         requires { HasMapsAndQueues shape start.now }
         ensures shape { IfOk result (λ r. r.0.origin.shape ≡ shape) }
         ensures start { IfOk result (λ r. start_of r.0 ≡ start.now) }
@@ -85,11 +86,7 @@ impl Store {
 }
 
 // Lays the contents out and opens the field.
-fn opened(
-    alloc: Global,
-    shape: Shape,
-    start: &Contents,
-) -> Result<(Store, Pass<StoreTheory>), AllocError>
+fn opened(alloc: Global, shape: Shape, start: &Contents) -> Result<(Store, StorePass), AllocError>
     requires numbers { HasMapsAndQueues shape start.now }
     requires room { needed start.now ≤ shape.base }
     ensures shape { IfOk result (λ r. r.0.origin.shape ≡ shape) }
@@ -100,5 +97,5 @@ fn opened(
 {
     let words = lay(alloc, &shape, start)?;
     let (field, pass) = Field::open(alloc, shape, words)?;
-    Ok((Store { field, alloc }, pass))
+    Ok((Store { field, alloc }, StorePass::of(pass)))
 }

@@ -7,8 +7,6 @@ ghost use Rattle.md_store.specs.Store.{IsFresh, IsPassOf, room_of, start_of};
 
 use super::*;
 use md_history::Contents;
-use md_rule::Pass;
-use md_store_law::StoreTheory;
 use md_words::Shape;
 use std::alloc::{AllocError, Global};
 use std::test::Fail;
@@ -27,11 +25,7 @@ fn pairs_and_values(alloc: Global) -> Result<Contents, AllocError> {
 }
 
 // Opens a store, if the contents have as many maps and queues as the shape.
-fn opened(
-    alloc: Global,
-    shape: Shape,
-    start: &Contents,
-) -> Result<(Store, Pass<StoreTheory>), OpenFault>
+fn opened(alloc: Global, shape: Shape, start: &Contents) -> Result<(Store, StorePass), OpenFault>
     ensures of { IfOk result (λ r. IsPassOf r.0 r.1) }
     ensures fresh { IfOk result (λ r. IsFresh r.1) }
     ensures room { IfOk result (λ r. needed (start_of r.0) ≤ room_of r.0.origin.shape) }
@@ -45,7 +39,7 @@ fn opened(
 }
 
 // Renews a store whose pass has seen nothing.
-fn renewed(store: Store, pass: Pass<StoreTheory>) -> Result<(Store, Pass<StoreTheory>), AllocError>
+fn renewed(store: Store, pass: StorePass) -> Result<(Store, StorePass), AllocError>
     requires of { IsPassOf store pass }
     requires fresh { IsFresh pass }
     requires room { needed (start_of store) ≤ room_of store.origin.shape }
@@ -58,10 +52,10 @@ fn renewed(store: Store, pass: Pass<StoreTheory>) -> Result<(Store, Pass<StoreTh
 }
 
 // Settles a store and closes it, if the pass holds all lanes.
-fn closed(store: Store, mut pass: Pass<StoreTheory>) -> Result<Option<Contents>, AllocError>
+fn closed(store: Store, mut pass: StorePass) -> Result<Option<Contents>, AllocError>
     requires { IsPassOf store pass }
 {
-    if pass.holds_all(&store.field) {
+    if store.holds_all(&pass) {
         store.settle(&mut pass);
         let (contents, _) = store.close(pass)?;
         return Ok(Some(contents));
@@ -120,8 +114,8 @@ fn two_lanes_part_and_meet(rt: HostRuntime) -> Result<(), Fail> {
     let shape = Shape::new(2, 1, 7, 1, 2, 4, 2)?;
     let (store, mut first) = opened(rt.alloc(), shape, &start)?;
     let second = store.split(&mut first).expect(&rt, "two lanes");
-    assert_eq!(rt; first.lanes(), 1);
-    assert_eq!(rt; second.lanes(), 1);
+    assert_eq!(rt; first.pass.lanes(), 1);
+    assert_eq!(rt; second.pass.lanes(), 1);
     assert!(rt; store.split(&mut first).is_none());
     store.join(&mut first, second);
     let back = closed(store, first)?.expect(&rt, "both lanes");

@@ -5,8 +5,9 @@ ghost use Rattle.md_trials.specs.Stopped.{HasStopped};
 
 use md_history::{Body, Stop, TxCalls};
 
-/// Adds 1 to the value of a key of the first map, and to its copy, the first value of the first
-/// queue. Its reply has both values that it found.
+/// Adds 1, modulo 2^64, to the value of a key of the first map, and to its copy: it takes the first
+/// value out of the first queue, and appends the sum there. An absent value counts as 0. Its reply
+/// has both values that it found.
 #[derive(Clone, Copy, Drop)]
 pub struct Count {
     pub key: u64,

@@ -1,6 +1,6 @@
-//! Trials of the store. The crate has bodies, and its tests run them over the store beside a store
-//! for one thread, and on several threads. The meanings of the bodies say nothing: tests compare
-//! what they answer and what they leave.
+//! Bodies for tests of the store. The tests of this crate run them over the store beside a store
+//! for one thread, and on several threads. The meanings of the bodies hold of all acts, so no
+//! clause says what they do. The tests compare their replies and the contents that they leave.
 #![tactic(auto)]
 
 pub use counts::Count;

@@ -1,16 +1,18 @@
-//! A body that makes calls by lot.
+//! A body that makes pseudo-random calls.
 
 ghost use Rattle.std.specs.Prelude.{◌≡◌, ◌<◌, IfErr, IfOk, None};
 ghost use Rattle.md_trials.specs.Stopped.{HasStopped};
 
 use md_history::{Body, MAX_LINE, Reply, Stop, TxCalls};
 
-/// The most calls of a body.
+/// The most calls of a `Mix`.
 pub const MOST_CALLS: usize = 10;
 
-/// A body that makes so many calls, at most `MOST_CALLS`, on the first two maps and the first two
-/// queues. A seed tells which, and with which of sixteen keys. Its reply has what each call
-/// answered.
+/// A body that makes pseudo-random calls on the first two maps and the first two queues, with one
+/// of 16 keys each. `calls` is how many, and more than `MOST_CALLS` count as `MOST_CALLS`. The
+/// `seed`, any number, decides which calls. The numbers come from the example of `rand` in the C
+/// standard (ISO/IEC 9899:1990, 7.10.2.2). Its reply has the reply of each call; the others are
+/// `Nothing`.
 #[derive(Clone, Copy, Drop)]
 pub struct Mix {
     pub seed: u32,
@@ -22,7 +24,7 @@ fn drawn(draw: u32) -> u32 {
     draw.wrapping_mul(1_103_515_245).wrapping_add(12_345)
 }
 
-// Makes a call on a map: by lot of eight an insert or a remove thrice each, or a get twice.
+// Makes a call on a map: of 8 draws, 3 are an insert, 3 a remove and 2 a get.
 fn call_map<T: TxCalls>(t: &mut T, draw: u32) -> Result<Reply, Stop>
     requires maps { 1 < T.maps (T.kept t.old) }
     ensures ok { IfOk result (λ _. T.stop t.new ≡ None) }
@@ -38,7 +40,7 @@ fn call_map<T: TxCalls>(t: &mut T, draw: u32) -> Result<Reply, Stop>
     }
 }
 
-// Makes a call on a queue: by lot of eight an enqueue or a dequeue thrice each, or a look.
+// Makes a call on a queue: of 8 draws, 3 are an enqueue, 3 a dequeue, 1 a front and 1 a line.
 fn call_queue<T: TxCalls>(t: &mut T, draw: u32) -> Result<Reply, Stop>
     requires queues { 1 < T.queues (T.kept t.old) }
     ensures ok { IfOk result (λ _. T.stop t.new ≡ None) }
@@ -60,7 +62,7 @@ fn call_queue<T: TxCalls>(t: &mut T, draw: u32) -> Result<Reply, Stop>
     }
 }
 
-// Makes so many calls, at most as many as replies have room.
+// Makes as many calls as the body says, at most as many as there is room for replies.
 fn call_all<T: TxCalls>(t: &mut T, mix: Mix) -> Result<[Reply; MOST_CALLS], Stop>
     requires going { T.stop t.old ≡ None }
     requires maps { 1 < T.maps (T.kept t.old) }

@@ -1,13 +1,11 @@
 //! Trials beside a store for one thread, and on threads.
 
-ghost use Rattle.std.specs.Prelude.{◌≡◌, ◌<◌, IfOk, IsTrue};
-ghost use Rattle.md_store.specs.Store.{IsPassOf, all_lanes};
+ghost use Rattle.std.specs.Prelude.{◌<◌, IfOk};
+ghost use Rattle.md_store.specs.Store.{IsPassOf};
 
 use super::*;
 use md_history::{Contents, Reply};
-use md_rule::Pass;
-use md_store::{OpenFault, Store};
-use md_store_law::StoreTheory;
+use md_store::{OpenFault, Store, StorePass};
 use md_words::Shape;
 use std::alloc::{AllocError, Global};
 use std::test::Fail;
@@ -19,11 +17,7 @@ mod transfers;
 mod turns;
 
 // Opens a store, if the contents have as many maps and queues as the shape, and two of each.
-fn opened(
-    alloc: Global,
-    shape: Shape,
-    start: &Contents,
-) -> Result<(Store, Pass<StoreTheory>), OpenFault>
+fn opened(alloc: Global, shape: Shape, start: &Contents) -> Result<(Store, StorePass), OpenFault>
     ensures of { IfOk result (λ r. IsPassOf r.0 r.1) }
     ensures maps { IfOk result (λ r. 1 < r.0.origin.shape.maps) }
     ensures queues { IfOk result (λ r. 1 < r.0.origin.shape.queues) }
@@ -36,27 +30,11 @@ fn opened(
     Store::open(alloc, shape, start)
 }
 
-// Whether a pass holds all lanes of its field.
-fn holds_all(pass: &Pass<StoreTheory>) -> bool
-    ensures { IsTrue result → pass.now.view.lanes ≡ all_lanes pass.now.shape }
-{
-    let lanes = pass.shape().lanes;
-    if pass.lanes() != lanes {
-        return false;
-    }
-    for lane in 0..lanes {
-        if pass.lane(lane) != lane {
-            return false;
-        }
-    }
-    true
-}
-
 // Closes a store, if the pass holds all lanes.
-fn closed(store: Store, pass: Pass<StoreTheory>) -> Result<Option<Contents>, AllocError>
+fn closed(store: Store, pass: StorePass) -> Result<Option<Contents>, AllocError>
     requires { IsPassOf store pass }
 {
-    if holds_all(&pass) {
+    if store.holds_all(&pass) {
         let (contents, _) = store.close(pass)?;
         return Ok(Some(contents));
     }

@@ -1,12 +1,13 @@
-//! A body that moves value between two keys, or looks at both.
+//! A body that moves an amount between two keys, or looks at both.
 
 ghost use Rattle.std.specs.Prelude.{◌≡◌, ◌<◌, IfErr, IfOk, None};
 ghost use Rattle.md_trials.specs.Stopped.{HasStopped};
 
 use md_history::{Body, Stop, TxCalls};
 
-/// Moves 1 from a key of the first map to another, if there is something to move, or only looks at
-/// both. Its reply has the values that it found.
+/// If `moves`, it moves 1 from the value of a key of the first map to that of another, unless the
+/// first one is 0. Otherwise it looks at both. An absent value counts as 0. Its reply has the
+/// values that it found.
 #[derive(Clone, Copy, Drop)]
 pub struct Transfer {
     pub from: u64,

@@ -8,26 +8,28 @@ use md_history::{Body, Stop, TxCalls};
 /// How many keys of a thread are in the map at once.
 pub const KEPT: u32 = 8;
 
-/// A turn of a thread: its key comes into the first map, and the one that came `KEPT` turns before
-/// goes. Its value comes into the first queue, and, but for each fourth turn, the first value goes.
+/// A turn of a thread: it inserts its key into the first map, and removes the key of the turn that
+/// was `KEPT` turns before. It appends its key to the first queue and, if `number` isn't a multiple
+/// of 4, takes out the first value.
 #[derive(Clone, Copy, Drop)]
 pub struct Turn {
     pub thread: u32,
     pub number: u32,
 }
 
-/// What a turn met.
+/// The reply of a turn.
 #[derive(Clone, Copy, Debug, PartialEq, Eq, Drop)]
 pub struct Turned {
     /// Whether its key was absent.
     pub absent: bool,
-    /// The value of the key that went.
+    /// The value of the key that it removed, if it removed one.
     pub gone: Option<u64>,
-    /// The value that was first in the queue.
+    /// The value that it took out of the queue, if it took one.
     pub first: Option<u64>,
 }
 
-/// The key of a turn, which is its value, too. Those of several threads lie between one another.
+/// The key of a turn, `number * 2^32 + thread`. It is also the value that the turn appends to the
+/// queue. In the order of keys, those of several threads lie between one another.
 pub fn key_of(turn: Turn) -> u64 {
     (turn.number as u64) << 32 | turn.thread as u64
 }

@@ -1,6 +1,6 @@
 //! The order book as plain data, on which commands are tried.
 //!
-//! It is written apart from the commands of md_book, from what docs/order_files.md says of them.
+//! It is written apart from the commands of md_book, from what docs/order-files.md says of them.
 
 use md_book::{BookReply, Command, MAX_PRICE, Side};
 use md_history::Contents;
@@ -20,7 +20,7 @@ pub struct Order {
     pub passed: bool,
 }
 
-/// What an account bought and sold.
+/// The quantities that an account bought and sold in all.
 #[derive(Clone, Copy, Debug, PartialEq, Eq)]
 pub struct Sums {
     pub bought: u64,
@@ -28,8 +28,8 @@ pub struct Sums {
 }
 
 /// A book: its orders, level by level, those of a level in the order in which they were placed, and
-/// the sums of the accounts that traded. Books that differ in nothing that a command can tell are
-/// equal.
+/// the sums of the accounts that traded. In which order orders of different levels were placed
+/// makes no difference to it.
 #[derive(Clone, Debug, PartialEq, Eq, Drop)]
 pub struct Book {
     pub(crate) orders: Vec<Order>,
@@ -74,8 +74,8 @@ impl Book {
         }
     }
 
-    /// Does a command, and returns its reply. `AllocError` if memory runs out; then the book is of
-    /// no more use.
+    /// Does a command, and returns its reply. It goes through all orders. `AllocError` if memory
+    /// runs out; then the book may be changed in part.
     pub fn play(&mut self, command: &Command) -> Result<BookReply, AllocError> {
         match *command {
             Command::Place {
@@ -117,7 +117,7 @@ impl Book {
         }
     }
 
-    /// What an account bought and sold.
+    /// The sums of an account. They are 0 if it hasn't traded.
     pub fn sums(&self, account: u32) -> Sums {
         let none = Sums { bought: 0, sold: 0 };
         self.accounts.get(&account).copied().unwrap_or(none)
@@ -153,7 +153,7 @@ impl Book {
         Ok(BookReply::Placed)
     }
 
-    // Nothing is left of an order.
+    // Takes out what is left of an order.
     fn cancel(&mut self, name: u64) -> BookReply {
         for order in self.orders.iter_mut() {
             if order.name == name && order.left != 0 {

@@ -1,4 +1,4 @@
-//! Small order files from a number.
+//! Small order files that are made from a number.
 
 ghost use Rattle.std.specs.Prelude.{◌≤◌, ◌<◌};
 
@@ -75,9 +75,10 @@ fn write_line(
     }
 }
 
-/// The order file of a number, with `callers_of` that number callers. A caller has 2 to 6 lines, on
-/// two accounts, two prices and small quantities, and cancels orders of all callers. Every other
-/// file is of version 2 and has kills. `AllocError` if memory runs out.
+/// The order file of a number, which may be any. It has `callers_of(number)` callers. A caller has
+/// 2 to 6 lines, on two accounts, two prices and quantities from 1 to 3, and cancels orders of all
+/// callers. About half of the files are of version 2, which may have kills. `AllocError` if memory
+/// runs out.
 pub fn made_file(alloc: Global, number: u64) -> Result<String, AllocError> {
     let mut draws = Draws::from(number);
     let mut text = String::new(alloc);

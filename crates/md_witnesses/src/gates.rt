@@ -3,9 +3,10 @@
 use md_many::Gate;
 use std::sync::atomic::{AtomicBool, Ordering};
 
-/// A gate at which callers meet before the first lines that they play side by side, so that their
-/// lines overlap. The first line of caller 1 is played alone, so its second counts. A caller waits
-/// for the others for so many turns at most.
+/// A gate at which callers wait for one another before the first lines that they play side by side,
+/// so that their lines overlap. Caller 1 waits before its second line, because its first one is
+/// played alone. Each other caller waits before its first line. A caller looks at most `turns`
+/// times whether all came, and then goes on.
 #[derive(Drop)]
 pub struct Meeting {
     here: [AtomicBool; 4],
@@ -14,7 +15,7 @@ pub struct Meeting {
 }
 
 impl Meeting {
-    /// The gate of so many callers, of which four at most wait.
+    /// The gate of callers 1 to `callers`. With more than 4 callers it is never full.
     pub fn of(callers: u32, turns: u32) -> Meeting {
         Meeting {
             here: [
@@ -64,9 +65,9 @@ impl Gate for Meeting {
     }
 }
 
-/// A gate at which callers 1 and 2 each wait, before their second line, until the other one comes to
-/// it too. So caller 2 must have played its first line while caller 1 waits, and the other way
-/// round. A caller waits for so many turns at most.
+/// A gate at which callers 1 and 2 each wait, before their second line, until the other one comes
+/// to its second line too. So if they meet, each had played its first line before either played its
+/// second. A caller looks at most `turns` times for the other, and then goes on.
 #[derive(Drop)]
 pub struct Crossing {
     one: Flag,
@@ -102,6 +103,7 @@ impl Flag {
 }
 
 impl Crossing {
+    /// A gate at which a caller looks at most `turns` times for the other.
     pub fn new(turns: u32) -> Crossing {
         Crossing {
             one: Flag::down(),
@@ -110,7 +112,7 @@ impl Crossing {
         }
     }
 
-    /// Whether callers 1 and 2 met the other, each within its turns.
+    /// Whether caller 1 met caller 2 within its turns, and whether caller 2 met caller 1.
     pub fn met(&self) -> (bool, bool) {
         let one = self.one.met.load(Ordering::SeqCst);
         let two = self.two.met.load(Ordering::SeqCst);

@@ -1,6 +1,6 @@
-//! Small order files whose callers collide, and the search for an order of their lines that explains
-//! what the callers were told. The crate promises no more than that its calls are safe and return:
-//! its tests say what threads did.
+//! Small order files whose callers collide, and a search for an order of their lines that explains
+//! all replies and the book at the end. No clause says what the calls do: they are safe, and they
+//! return. The tests of this crate use them to check what threads did.
 #![tactic(auto)]
 
 mod books;

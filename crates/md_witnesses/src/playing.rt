@@ -1,4 +1,4 @@
-//! Playing scripts on threads over a store that is as narrow as can be.
+//! Playing scripts in threads over a store with one bucket for each map.
 
 ghost use Rattle.std.specs.Prelude.{◌≡◌, ◌≤◌, length};
 ghost use Rattle.md_words.specs.Layout.{HasNumbers};
@@ -8,9 +8,7 @@ use md_history::Contents;
 use md_many::Gate;
 use md_orders::Scripts;
 use md_rounds::{Outcome, run_all};
-use md_rule::Pass;
-use md_store::Store;
-use md_store_law::StoreTheory;
+use md_store::{Store, StorePass};
 use md_words::Shape;
 use std::alloc::{AllocError, Global};
 use std::thread::Threads;
@@ -27,17 +25,17 @@ fn narrow_shape(callers: u32, tries: u32) -> Shape
     Shape::new(callers, NODES, LEVELS, tries, MAPS, 1, LEVELS).unwrap()
 }
 
-/// Plays the scripts of 1 to 64 callers on threads, as `play_on_store` of md_play does, over a store
-/// whose maps have one bucket each: so all keys of a map lie in one list, and callers meet there
-/// whatever their lines are. The store is renewed after so many attempts of a caller, at least one.
-/// `AllocError` if memory runs out.
+/// Plays the scripts of 1 to 64 callers in threads, as `play_on_store` of md_play does, over a
+/// store whose maps have one bucket each. So all keys of a map are in one list, and callers meet
+/// there whatever their lines are. A lane has 64 nodes and `tries` attempts, at least 1, until the
+/// store is renewed. `AllocError` if memory runs out.
 pub fn play_narrow<R, G>(
     rt: &R,
     alloc: Global,
     scripts: &Scripts,
     tries: u32,
     gate: &G,
-) -> Result<Outcome<Pass<StoreTheory>>, AllocError>
+) -> Result<Outcome<StorePass>, AllocError>
 where
     R: Threads + Sync,
     G: Gate + Sync,
@@ -46,7 +44,8 @@ where
 {
     let shape = narrow_shape(scripts.callers(), tries);
     let start = Contents::empty(alloc, MAPS, LEVELS)?;
-    // There is a base node for each queue, so room is never wanting.
+    // Empty contents need one node for each queue, and the store has as many base nodes. So `open`
+    // fails only if memory runs out.
     let Ok((store, pass)) = Store::open(alloc, shape, &start) else {
         return Err(AllocError);
     };

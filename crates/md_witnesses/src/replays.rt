@@ -10,7 +10,7 @@ use md_orders::Scripts;
 use std::alloc::{AllocError, Global};
 use std::marker::Model;
 
-/// What lines that were played one after another came to: those of each caller with their replies,
+/// The result of lines that were played one after another: those of each caller with their replies,
 /// and the contents that they leave.
 #[derive(Drop)]
 pub struct Replayed {
@@ -78,9 +78,9 @@ fn no_lines(alloc: Global, callers: u32) -> Result<Vec<Vec<Told>>, AllocError> {
     Ok(lists)
 }
 
-/// Plays lines on an empty book, one after another on one thread: for each caller that the order
-/// names, the next of its lines, if it has one left. The gate is told of each line before and after
-/// it is played. `AllocError` if memory runs out.
+/// Plays lines on an empty book, one after another in one thread: for each caller that the order
+/// names, counted from 1, the next of its lines, if it has one left. The gate is called before and
+/// after each line. `AllocError` if memory runs out.
 pub fn play_in_order<G: Gate>(
     alloc: Global,
     scripts: &Scripts,

@@ -1,4 +1,4 @@
-//! The search for an order of whole lines that explains replies and a closing book.
+//! The search for an order of whole lines that explains all replies and the book at the end.
 
 use crate::books::{Book, level_of};
 use md_book::{BookReply, Command};
@@ -6,17 +6,17 @@ use md_history::Contents;
 use md_orders::{Replies, Scripts};
 use std::alloc::{AllocError, Global};
 
-/// A line that was played, and the reply that its caller was given.
+/// A line that was played, and the reply that its caller got.
 #[derive(Clone, Copy, Debug, PartialEq, Eq)]
 pub struct Told {
     pub command: Command,
     pub reply: BookReply,
 }
 
-/// The orders that explain what callers were told.
+/// The orders that explain the replies and the book at the end.
 #[derive(Debug, PartialEq, Eq, Drop)]
 pub struct Orders {
-    /// How many there are.
+    /// How many there are, at most `u64::MAX`.
     pub count: u64,
     /// One of them: whose line is the next, from the first to the last. Empty if there is none.
     pub one: Vec<u32>,
@@ -24,7 +24,7 @@ pub struct Orders {
     pub stages: u64,
 }
 
-// What orders of some first lines of each caller came to, if their replies are those that were given.
+// What orders of some first lines of each caller lead to, if the replies are those that were given.
 #[derive(Clone, Drop)]
 struct Stage {
     // How many lines of each caller there are.
@@ -179,14 +179,16 @@ fn first_stage(alloc: Global, callers: &[Vec<Told>]) -> Result<Vec<Stage>, Alloc
     Ok(stages)
 }
 
-/// Looks for orders of all lines, each caller's in its own order, that explain what the callers were
-/// told and the book that is left: played one after another on an empty book, the lines give these
-/// replies and leave these contents. It goes from line to line, and keeps each stage once: how many
-/// lines of each caller were played, and what book they left. So `count` is exact, up to the largest
-/// number, and 0 tells that no order explains them.
+/// Looks for orders of all lines, each caller's in its own order, that explain the replies and the
+/// book at the end: if the lines are played one after another on an empty book, they have these
+/// replies and leave these contents. If `count` is 0, no order explains them.
 ///
-/// `AllocError` if memory runs out. The time is quadratic in the number of stages, which is small
-/// only for a few callers with a few lines.
+/// The search adds one line after another. A stage is how many lines of each caller were played,
+/// and the book that they leave. Each stage is kept once, with the number of orders that lead to
+/// it. The time is quadratic in the number of stages, which is small only for a few callers with a
+/// few lines.
+///
+/// `AllocError` if memory runs out.
 pub fn orders_that_explain(
     alloc: Global,
     callers: &[Vec<Told>],

@@ -4,7 +4,7 @@ use crate::books::{Book, Sums, level_of};
 use md_book::{BookReply, MAX_PARTS, Part, Side};
 use std::alloc::AllocError;
 
-// What was taken from an order, and on which side that rests.
+// What was taken from an order, and the side of the order.
 #[derive(Clone, Copy)]
 struct Trade {
     side: Side,
@@ -47,7 +47,8 @@ impl Book {
         self.add(seller, 0, trade.taken)
     }
 
-    // Takes from the order at a place up to so much, and passes the place if nothing is left there.
+    // Takes at most `rest` from the order at a place, and passes the place if nothing is left
+    // there.
     fn take(&mut self, at: usize, taker: u32, rest: u32) -> Result<Part, AllocError> {
         let Some(order) = self.orders.get_mut(at) else {
             return Ok(Part { name: 0, taken: 0 });
@@ -67,7 +68,7 @@ impl Book {
         Ok(Part { name, taken })
     }
 
-    /// Takes a quantity from a level, the oldest orders first, from so many places at most.
+    /// Takes a quantity from a level, the oldest orders first, from at most `places` places.
     pub(crate) fn fill(
         &mut self,
         account: u32,

@@ -9,16 +9,20 @@ use std::alloc::Global;
 /// Why the input wasn't read to its end.
 #[derive(Clone, Copy, Debug, PartialEq, Eq)]
 pub enum InputFault {
+    /// It has more than 67,108,864 bytes.
     TooLong,
+    /// A read failed.
     ReadFault,
+    /// There is no memory for its bytes.
     NoMemory,
 }
 
 // The most bytes that an input may have.
 const MAX_BYTES: usize = 67_108_864;
 
-/// All the bytes of a source, to its end. One byte at most is read past what an input may have, and
-/// then no memory is asked for it.
+/// Reads a source to its end and returns its bytes, at most 67,108,864. A read takes at most 8,192
+/// bytes. If the source has more bytes than an input may have, the call reads one of them, takes no
+/// memory for it, and returns `TooLong`. `InputFault` has the causes of the other errors.
 pub fn read_all<I: Source>(alloc: Global, input: &mut I) -> Result<Vec<u8>, InputFault>
     ensures read { IfOk result (λ bytes.
         IsRead I.gives I.left I.faults input.old input.new bytes.items) }

@@ -8,7 +8,8 @@ use arrayvec::ArrayString;
 use itoa::Buffer;
 use md_outside::{Failed, Sink};
 
-/// Writes a text, and stops at the first write that fails.
+/// Writes a text. It calls `write` of the sink until all is written. `Failed` if a write fails;
+/// then it writes no more.
 pub fn write_all<O: Sink>(output: &mut O, text: &[u8]) -> Result<(), Failed>
     ensures whole { OnOk result
         (IsWritten O.takes O.holds O.faults output.old output.new text.now) }
@@ -22,7 +23,7 @@ pub fn write_all<O: Sink>(output: &mut O, text: &[u8]) -> Result<(), Failed>
     Ok(())
 }
 
-// Writes a line. A fault doesn't matter any more.
+// Writes a line, and ignores a write that fails.
 fn tell_line<O: Sink>(output: &mut O, line: &[u8])
     ensures { Tells O.takes O.holds O.faults output.old output.new line.now }
 {
@@ -41,7 +42,8 @@ fn bad_line(number: u32) -> ArrayString<32>
     line
 }
 
-/// Writes the line of a status, as far as the sink takes it. It takes no memory.
+/// Writes the line of a status. If a write fails, it writes no more of the line, and says nothing
+/// of it. `Done` and `WriteFault` have no line. It takes no memory.
 pub fn tell<O: Sink>(output: &mut O, status: Status)
     ensures { Tells O.takes O.holds O.faults output.old output.new (status_text status) }
 {

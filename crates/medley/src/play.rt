@@ -1,4 +1,4 @@
-//! Playing scripts over a concurrent store, with the nodes and attempts that options give.
+//! Playing scripts over a concurrent store, with the nodes and attempts that the options give.
 
 ghost use Rattle.std.specs.Prelude.{◌≡◌, ◌≤◌, ℕ, IfOk, length, map};
 ghost use Rattle.md_book.specs.Book.{Book};
@@ -12,15 +12,14 @@ use md_book::COMMAND_NODES;
 use md_orders::Scripts;
 use md_play::{MAX_LANE_NODES, play_on_store};
 use md_rounds::{Gate, Outcome};
-use md_rule::Pass;
-use md_store_law::StoreTheory;
+use md_store::StorePass;
 use std::alloc::{AllocError, Global};
 use std::thread::Threads;
 
-// The nodes of all lanes together, where the options name none: what keeps a store below 300 MB.
+// The nodes of all lanes together, if the options give no number. A node takes 24 bytes.
 const MANY_NODES: u32 = 1_048_576;
 
-// The nodes of a lane, where the options name none. Fewer only make the store renew more often.
+// The nodes of a lane, if the options give no number.
 fn nodes_of(callers: u32) -> u32
     requires { (1 ≤ callers) × (callers ≤ 64) }
     ensures { (COMMAND_NODES ≤ result) × (result ≤ MAX_LANE_NODES) }
@@ -28,18 +27,23 @@ fn nodes_of(callers: u32) -> u32
     (MANY_NODES / callers).min(MAX_LANE_NODES)
 }
 
-/// Plays scripts over an empty store with a lane for each caller.
+/// Plays scripts of 1 to 64 callers over an empty store with a lane for each caller, as
+/// `play_on_store` of md_play does.
 ///
-/// Without numbers in the options a lane has 262,144 nodes, or as many as let all lanes have about
-/// a million, and as many attempts as there are lines: then the store is renewed only where nodes
-/// run out. What is played depends on neither number.
+/// The options give the nodes and the attempts of a lane. If they give no number of nodes, a lane
+/// has the smaller of 262,144 and 1,048,576 divided by the number of callers. If they give no
+/// number of attempts, a lane has as many as all callers together have lines, or 1 if there is no
+/// line. With smaller numbers the store is renewed more often, and all lines are played in any
+/// case.
+///
+/// `AllocError` if memory runs out.
 pub fn play<R, G>(
     rt: &R,
     alloc: Global,
     scripts: &Scripts,
     options: &Options,
     gate: &G,
-) -> Result<Outcome<Pass<StoreTheory>>, AllocError>
+) -> Result<Outcome<StorePass>, AllocError>
 where
     R: Threads + Sync,
     G: Gate + Sync,

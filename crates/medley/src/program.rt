@@ -43,10 +43,12 @@ fn words(alloc: Global, args: Args) -> Result<Vec<String>, AllocError>
     Ok(words)
 }
 
-/// Runs with the words that the system gave: its arguments but for the first, the program's name.
+/// Runs the program with `args`, the arguments that the system gave. The first one is the name of
+/// the program, and the others are the words for `run`.
 ///
-/// Arguments of which one isn't text are no words that are accepted, so the answer is `Usage`. The
-/// answer is `NoMemory` where the system found no memory for them. In both cases nothing is read.
+/// If `args` is an error, nothing is read. The status is `NoMemory` if the error is of the kind
+/// `OutOfMemory`. It is `Usage` for every other error, which comes if an argument isn't text. The
+/// status is also `NoMemory` if there is no memory for the words. `run` has the other statuses.
 pub fn run_program<R, I, O>(
     rt: &R,
     alloc: Global,
@@ -81,7 +83,8 @@ where
     run(rt, alloc, &slices, input, output, &FreeGate)
 }
 
-/// Runs once, and returns the exit status that is the number of the run's status.
+/// Runs the program once by `run_program`, and returns the number of the run's status as the exit
+/// status (`Status::number`).
 pub fn exit_of_program<R, I, O>(
     rt: &R,
     alloc: Global,

@@ -17,16 +17,15 @@ use md_history::Front;
 use md_orders::{make, read_orders, report, summary};
 use md_outside::{Failed, Sink, Source};
 use md_rounds::Gate;
-use md_rule::Pass;
-use md_store_law::StoreTheory;
+use md_store::StorePass;
 use std::alloc::{AllocError, Global};
 use std::thread::Threads;
 
-// A report or a summary, and the fronts of the rounds that it stands on.
+// A report or a summary, and the fronts of the stores that its scripts were played on.
 #[derive(Drop)]
 struct Played {
     text: Vec<u8>,
-    fronts: Vec<Front<Pass<StoreTheory>>>,
+    fronts: Vec<Front<StorePass>>,
 }
 
 // Reads the input, plays it, and builds the report.
@@ -107,7 +106,8 @@ where
     }
 }
 
-/// Ends a run before its text, and tells why.
+/// Ends a run that has no report or summary: it writes the line of the status (`tell`). The run has
+/// this status and no fronts.
 pub fn stop<O: Sink>(alloc: Global, output: &mut O, status: Status) -> Run
     ensures status { result.status ≡ status }
     ensures alone { ToldAlone O.takes O.holds O.faults output.old output.new
@@ -155,20 +155,22 @@ where
 }
 
 /// Runs the program: plays an order file, or made scripts, over a concurrent store, with a thread
-/// for each caller, and writes what came of it.
+/// for each caller, and writes the report or the summary.
 ///
-/// The words are read first, as `read_options` reads them. Where they aren't accepted the answer is
-/// `Usage`, and nothing is read. Without `--make` the input is read to its end, its records are
-/// played by their callers, and the report is written: each reply and then the book. With `--make`
-/// nothing is read, and one line that sums the made scripts up is written. Whatever the threads do,
-/// the replies and the book are those of one thread that runs the committed commands in the order
-/// in which they became ready: each line once, and each caller's lines in their order.
+/// It reads the words first (`read_options`). Without `--make` it reads the input to its end
+/// (`read_all`), reads the records as scripts (`read_orders` of md_orders), plays them, and writes
+/// the report: each reply, and then the book. With `--make` it makes scripts (`make` of md_orders),
+/// plays them, and writes the summary, which is one line. It then reads no input. Whatever the
+/// threads do, the replies and the book are those of one thread that runs the committed commands in
+/// the order in which they became ready. They are all lines, each once, and each caller's in order.
 ///
-/// Each answer but `Done` has its cause in the words, at the source, in the input, at the sink or in
-/// memory. Where the words are accepted, no write fails and, without `--make`, the input isn't bad
-/// and no read fails, the answer is `Done` or `NoMemory`.
+/// If something stops the run before the first write, the line of its status is written in place of
+/// the text. Each status but `Done` has its cause, which `Status` names. The status is `Done` or
+/// `NoMemory` if the words are accepted and no write fails, and if also, without `--make`, no read
+/// fails and the input isn't bad.
 ///
-/// `gate` is called before each attempt of a line and after its commit. It has no meaning here.
+/// `gate` is called before each attempt at a line and after its commit. No clause of this call
+/// speaks of it.
 pub fn run<R, I, O, G>(
     rt: &R,
     alloc: Global,

@@ -5,25 +5,24 @@ ghost use Rattle.std.specs.Prelude.{◌≡◌};
 use crate::input::InputFault;
 use md_history::Front;
 use md_orders::OrderFault;
-use md_rule::Pass;
-use md_store_law::StoreTheory;
+use md_store::StorePass;
 use std::alloc::AllocError;
 use std::process::ExitCode;
 
 /// How a run ended, and the number that the program exits with.
 #[derive(Clone, Copy, Debug, PartialEq, Eq)]
 pub enum Status {
-    /// The report was written whole. 0.
+    /// The report or the summary was written whole. 0.
     Done,
     /// The words aren't accepted. 2.
     Usage,
-    /// The record of this number, from 1, is the first that breaks the grammar. 3.
+    /// The record of this number, counted from 1, is the first that breaks the grammar. 3.
     BadLine(u32),
     /// A read failed. 4.
     ReadFault,
-    /// A write of the report failed. 5.
+    /// A write of the report or the summary failed. 5.
     WriteFault,
-    /// The program is out of memory. 6.
+    /// The program ran out of memory. 6.
     NoMemory,
     /// The input has more than 67,108,864 bytes. 7.
     TooLong,
@@ -51,7 +50,7 @@ impl Status {
     }
 }
 
-/// The exit status that the number is.
+/// The exit status is the number.
 impl From<Status> for ExitCode {
     ghost use Rattle.std.specs.Process.{exit_status};
     ghost use Rattle.medley.specs.Run.{status_number};
@@ -104,9 +103,10 @@ impl From<AllocError> for Status {
     }
 }
 
-/// How a run ended, with the front of each round that it played.
+/// How a run ended, with the fronts of its stores in order, one for each renewal and one for the
+/// end. If the run has no report or summary, there are none.
 #[derive(Drop)]
 pub struct Run {
     pub status: Status,
-    pub fronts: Vec<Front<Pass<StoreTheory>>>,
+    pub fronts: Vec<Front<StorePass>>,
 }

@@ -15,13 +15,15 @@ use md_orders::{MAX_MADE_CALLERS, number_within};
 /// What the words of a command line ask for.
 #[derive(Clone, Copy, Debug, PartialEq, Eq)]
 pub struct Options {
-    /// How many callers there are, 1 to 64.
+    /// How many callers there are, 1 to 64, and at most 8 if scripts are made.
     pub callers: u32,
-    /// How many nodes a caller has, 16 to 262,144. Without a number the program chooses.
+    /// How many nodes a caller has until the store is renewed, 16 to 262,144. If there is no
+    /// number, `play` chooses one.
     pub nodes: Option<u32>,
-    /// How many attempts a caller may begin, 1 to 16,384. Without a number the program chooses.
+    /// How many attempts a caller has until the store is renewed, 1 to 16,384. If there is no
+    /// number, `play` chooses one.
     pub tries: Option<u32>,
-    /// The scripts to make. Without them the input is read.
+    /// The scripts to make. If there are none, the input is read.
     pub make: Option<Making>,
 }
 
@@ -60,7 +62,7 @@ impl Name {
     }
 }
 
-// The name that a text is.
+// The option that a text names.
 fn name_in(text: &str) -> Option<Name>
     ensures { result ≡ name_in text.now }
 {
@@ -74,7 +76,7 @@ fn name_in(text: &str) -> Option<Name>
     }
 }
 
-// The values that options were given.
+// The values that were given to options.
 #[derive(Clone, Copy)]
 struct Given {
     callers: Option<u32>,
@@ -97,8 +99,8 @@ impl Given {
         }
     }
 
-    // Gives an option the value that a text writes. None where it has one, or the text writes none
-    // in its range.
+    // Gives an option the value that a text writes. None if the option has a value, or if the text
+    // writes none in its range.
     fn with(self, name: Name, text: &str) -> Option<Given>
         ensures { result ≡ with_value self name text.now }
     {
@@ -190,7 +192,7 @@ fn given_by(words: &[&str]) -> Option<Given>
     }
 }
 
-// Scripts are made from a number and a number of lines, for eight callers at most.
+// Scripts are made from a number and a number of lines, for at most 8 callers.
 fn making_of(callers: u32, number: Option<u32>, lines: Option<u32>) -> Option<Option<Making>>
     ensures { result ≡ making_of callers number lines }
 {
@@ -217,10 +219,10 @@ fn options_of(given: Given) -> Option<Options>
 }
 
 /// The options that words write: `--callers N`, `--nodes K`, `--tries K`, `--make NUMBER` and
-/// `--lines N`, each in two words, or in one with `=` between, and each at most once. A value is a
-/// number in one to ten ASCII digits, in the range of its option. `--make` comes with `--lines`, and
-/// for at most 8 callers. Without `--callers` there is one. None exactly where the words are
-/// anything else. It takes no memory.
+/// `--lines N`. Each is in two words, or in one word with `=` between, and each comes at most once.
+/// A value is a number in one to ten ASCII digits, in the range of its option (`Options`,
+/// `Making`). `--make` and `--lines` come together, with at most 8 callers. Without `--callers`
+/// there is one caller. `None` exactly if the words are anything else. It takes no memory.
 pub fn read_options(words: &[&str]) -> Option<Options>
     ensures written { (options : Options)
         → (result ≡ Some options) ↔ Write (texts words.now) options }

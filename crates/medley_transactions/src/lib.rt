@@ -1,48 +1,52 @@
-//! Transactions over maps and queues that threads share, without locks: the library's one door.
-//! This crate adds nothing. It names in one place what a program needs of the crates below.
+//! Transactions over maps and queues that threads share without locks. This crate adds nothing. It
+//! names in one place what a program needs of the crates below.
 //!
-//! A **body** is what a transaction does: a type with the trait [`Body`], whose code makes the
-//! seven operations of [`TxCalls`] on maps and queues. Its ghost members tell contracts which acts
-//! it does with which reply. A body must be safe for every reply, since only an attempt that
-//! commits is known to have seen right ones.
+//! A **body** is the code of a transaction: a type with the trait [`Body`], which makes the seven
+//! operations of [`TxCalls`] on maps and queues. Its ghost members tell contracts which acts it
+//! does with which reply. A body must be safe for every reply, since only an attempt that commits
+//! is known to have seen right ones.
 //!
 //! An **engine** is a store that runs bodies: [`Store`], which threads share, or [`PlainStore`],
-//! for one thread. `Store::open` takes a [`Shape`], which says how many lanes, nodes, attempts,
-//! maps and queues there are, and the [`Contents`] to begin with. It gives the store and a
-//! **pass**, which holds all lanes. `split` hands lanes to a new pass, which another thread may
-//! use; `join` puts two passes together. `attempt` runs a body once by a pass: it took effect whole
-//! (`Committed`, with the body's reply), or not at all (`Stopped`, with the cause). After a
-//! conflict the body may be run again. `contents` ends the engine and gives what it holds. `renew`
-//! opens one on the same contents, with all nodes and attempts again. Code that is generic over
-//! [`Engine`] runs over either store.
+//! for one thread. Code that is generic over [`Engine`] runs over either.
 //!
-//! For most programs **rounds** do all that: the trait [`Lines`] tells which bodies each caller
-//! has, its lines, and [`run_many`] plays all lines of all callers, in threads, each once. It
-//! splits and joins passes, runs a line again after a conflict, renews the engine when lanes have
-//! nothing left, closes it, and returns the replies by caller and line. It asks for the laws of the
-//! lines ([`LawfulLines`]): what they leave in whatever order they are played, what each counts at
-//! most, and for how many nodes there must be room.
+//! `Store::open` takes a [`Shape`], which says how many lanes, nodes, attempts, maps and queues
+//! there are, and the [`Contents`] to begin with. It returns the store and a **pass** that holds
+//! all lanes. A lane is one caller's share of the store. These calls use a pass:
 //!
-//! What is proved is told by **fronts**. A front is what a pass had seen when it was taken: the
-//! entries, one for each transaction that became ready, with its tag and its acts, and what is known
-//! of their fates. It is legal: each reply of a committed entry is the one that it has if the
+//! - `split` gives half of the lanes to a new pass, which another thread may use.
+//! - `join` puts two passes together.
+//! - `attempt` runs a body once. Either it took effect as a whole (`Committed`, with the body's
+//!   reply), or it had no effect (`Stopped`, with the cause). After a conflict the body may be run
+//!   again.
+//! - `renew` ends the engine, and opens one on the same contents, with all nodes and attempts
+//!   again.
+//! - `contents` ends the engine, and returns what it holds.
+//!
+//! [`run_many`] makes these calls for most programs. The trait [`Lines`] says which bodies each
+//! caller has, its **lines**. The call plays all lines of all callers, in threads, each once, and
+//! in **rounds**: in each the pass is split, every caller makes some attempts, and the pass is
+//! joined again. It runs a line again after a conflict, renews the engine when it must, closes it,
+//! and returns the replies by caller and line. It requires the laws of the lines ([`LawfulLines`]):
+//! what they leave, in whatever order they are played; how many words and nodes each needs at most;
+//! and for how many nodes a renewal must have room.
+//!
+//! Contracts speak of **fronts**. A front is a pass as it stood. It has the entries that the pass
+//! had seen, one for each transaction that became ready, with its tag and its acts, and what is
+//! known of their fates. It is legal: each reply of a committed entry is the one that it has if the
 //! committed entries run one after another, in this order. The contents at the end are what they
-//! leave. So a theorem about a program is an induction over the committed entries of its fronts. The
-//! crate `transfers` is an example.
+//! leave. So a theorem about a program is an induction over the committed entries of its fronts.
+//! The crate `transfers` is an example.
 //!
-//! Clauses cite definitions by the crate where they stand, as `Rattle.md_history.specs.State`. So
-//! the line in `crates.txt` of a crate that has clauses names this crate and all below it.
+//! Clauses cite definitions by the crate in which they stand, as `Rattle.md_history.specs.State`.
+//! So the line in `crates.txt` of a crate that has clauses names this crate and all below it.
 #![tactic(auto)]
 
-/// The store that threads share, and why it can't be opened.
-pub use md_store::{OpenFault, Store};
+/// The store that threads share, its passes, and why it can't be opened. A pass holds some of the
+/// store's lanes, for one thread to use.
+pub use md_store::{OpenFault, Store, StorePass};
 
-/// A pass of a [`Store`] is `Pass<StoreTheory>`: some of the store's lanes, for one thread to use.
-pub use md_rule::Pass;
-
-/// The type that tells a [`Pass`] of a [`Store`] from those of other fields, and how many base
-/// nodes contents need.
-pub use md_store_law::{StoreTheory, needed};
+/// How many base nodes contents need.
+pub use md_store_law::needed;
 
 /// How many lanes, nodes, attempts, maps, buckets and queues a store has, and which of the numbers
 /// is out of its range.
@@ -58,24 +62,24 @@ pub use md_history::{PlainPass, PlainStore};
 /// when they run.
 pub use md_history::{Engine, fresh_is_empty, pass_is_legal};
 
-/// What a transaction does, and the calls that it makes.
+/// The code of a transaction, and the calls that it makes.
 pub use md_history::{Body, TxCalls};
 
-/// How an attempt ends: with a reply or by a stop, which is a conflict, a limit or want of memory.
+/// How an attempt ends: with a reply, or by a stop. A stop is a conflict, a limit that was met, or
+/// that memory ran out.
 pub use md_history::{Attempt, Limit, Shown, Stop};
 
-/// Ordered maps and queues, as a store begins with them and leaves them.
+/// Ordered maps and queues: what a store begins with, and what it leaves.
 pub use md_history::Contents;
 
 /// Operations, their replies, and lists of both. A line is the first values of a queue.
 pub use md_history::{Act, Acts, Line, MAX_LINE, Op, Reply};
 
-/// What contracts speak of after a run: the entries of a history with their fates, and a pass as it
-/// stood.
+/// For contracts: the entries of a history with their fates, and a pass as it stood.
 pub use md_history::{Entry, Fate, Front};
 
-/// The lines of callers; their laws; and all of them played in threads, with the replies kept by
-/// caller and line.
+/// The lines of callers, and their laws; a call that plays all lines in threads, and its result:
+/// the replies by caller and line, the contents and the fronts.
 pub use md_many::{LawfulLines, Lines, Many, run_many};
 
 /// What is called around each attempt at a line, and a gate that does nothing.
@@ -84,8 +88,7 @@ pub use md_many::{FreeGate, Gate};
 /// Rounds whose replies go to a keeper of the caller's own.
 pub use md_many::{Keeper, Rounds, play_rounds};
 
-/// The lines of one caller, played by a pass that the caller has: one attempt, or attempts until
-/// the turn ends.
+/// The calls that play lines of one caller by a pass: one attempt, or attempts until the turn ends.
 pub use md_many::{End, MOST_CONFLICTS, Turn, attempt_line, attempt_lines};
 
 /// The tag of a caller's line.

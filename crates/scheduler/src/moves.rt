@@ -20,10 +20,12 @@ pub enum Step {
     PutBack,
 }
 
-/// A worker's step. Its reply is the job that it moved; `None` if it moved none.
+/// A worker's step. Its reply is the job that it moved, or `None` if it moved none. As a body it
+/// needs a store with at least `MAPS` maps and `PRIORITIES` queues. It reads at most 20 words,
+/// writes at most 35 and takes at most 5 nodes.
 #[derive(Clone, Copy, Debug, PartialEq, Eq, Drop)]
 pub struct Move {
-    /// Whose step it is.
+    /// The worker whose step it is.
     pub worker: u32,
     pub step: Step,
 }

@@ -3,10 +3,10 @@
 /// How many maps there are.
 pub const MAPS: u32 = 2;
 
-/// The map of running jobs: a worker, and the job that it runs.
+/// The map of running jobs: the key is a worker, and the value is the job that it runs.
 pub const RUNNING: u32 = 0;
 
-/// The map of finished jobs: a job, and the worker that finished it.
+/// The map of finished jobs: the key is a job, and the value is the worker that finished it.
 pub const FINISHED: u32 = 1;
 
 /// How many queues of waiting jobs there are: one for each priority, the highest first.

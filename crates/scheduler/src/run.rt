@@ -11,9 +11,7 @@ use crate::places::{MAPS, MAX_JOBS, MAX_WORKERS, PRIORITIES};
 use crate::shifts::Shift;
 use md_history::Contents;
 use md_many::{FreeGate, Many, run_many};
-use md_rule::Pass;
-use md_store::Store;
-use md_store_law::StoreTheory;
+use md_store::{Store, StorePass};
 use md_words::Shape;
 use std::alloc::{AllocError, Global};
 use std::thread::Threads;
@@ -27,8 +25,8 @@ const TRIES: u32 = 16_384;
 // The buckets of each map.
 const BUCKETS: u32 = 1_024;
 
-/// So many jobs in the waiting queues, numbered from 0, one after another in the queues in turn.
-/// `AllocError` if memory runs out.
+/// Jobs numbered from 0 that wait in the queues: job j is in queue j mod `PRIORITIES`. `AllocError`
+/// if memory runs out.
 pub fn all_waiting(alloc: Global, jobs: u32) -> Result<Contents, AllocError>
     ensures { IfOk result (λ c. Holds (numbered jobs) [] c) }
 {
@@ -57,10 +55,13 @@ fn shape_of(workers: u32, jobs: u32) -> Shape
     .unwrap()
 }
 
-/// Runs a shift of so many workers, 1 to `MAX_WORKERS`, in threads, over a concurrent store with
-/// these contents. So many jobs, at most `MAX_JOBS`, stand in them, each in one place. Each move of
-/// each worker is committed once. Afterwards each job stands in one place again, whatever the
-/// threads do, and another shift may go on with the contents.
+/// Runs a shift of `workers` workers, 1 to `MAX_WORKERS`, in threads, over a concurrent store that
+/// begins with these contents. The contents hold `jobs` jobs, at most `MAX_JOBS`, each in one
+/// place. Each move of each worker is committed once (`Shift`). Afterwards each job stands in one
+/// place again, whatever the threads do. Another shift may begin with the contents that are
+/// returned.
+///
+/// A lane of the store has 4,096 nodes and 16,384 attempts until the store is renewed.
 ///
 /// `AllocError` if memory runs out.
 pub fn run_shift<R: Threads + Sync>(
@@ -69,7 +70,7 @@ pub fn run_shift<R: Threads + Sync>(
     start: &Contents,
     jobs: u32,
     workers: u32,
-) -> Result<Many<Option<u64>, Pass<StoreTheory>>, AllocError>
+) -> Result<Many<Option<u64>, StorePass>, AllocError>
     requires start { Holds (numbered jobs) [] start.now }
     requires jobs { jobs ≤ MAX_JOBS }
     requires workers { (1 ≤ workers) × (workers ≤ MAX_WORKERS) }

@@ -8,11 +8,12 @@ use crate::moves::{Move, Step};
 use md_history::Contents;
 use md_many::{LawfulLines, Lines};
 
-/// The moves of so many workers. Each takes a job and puts it back. Then it takes and finishes a job
-/// as often as there are jobs: so none is left, whatever the others do. No clause promises that.
+/// The moves of all workers, 2 * `jobs` + 2 of each. A worker takes a job and puts it back. Then it
+/// takes and finishes a job as often as there are jobs. So no job is left at the end, whatever the
+/// others do. No clause promises this.
 #[derive(Clone, Copy)]
 pub struct Shift<'a> {
-    /// Where the jobs stand at first.
+    /// The contents at the start, which hold the jobs.
     pub start: &'a Contents,
     /// How many jobs there are, 0 to `MAX_JOBS`.
     pub jobs: u32,

@@ -1,4 +1,4 @@
-//! A bank's day, made up: the accounts that there are, and the orders of the tellers.
+//! An example of a bank's day: accounts and orders that are made up.
 
 ghost use Rattle.std.specs.Prelude.{◌≡◌, ◌≤◌, length, IfOk};
 ghost use Rattle.transfers.specs.Bank.{IsBank};
@@ -7,7 +7,8 @@ use crate::bank::{ACCOUNTS, Order};
 use medley_transactions::Contents;
 use std::alloc::{AllocError, Global};
 
-/// A bank with accounts from 0 on, each with the same balance, and with an empty journal.
+/// A bank with accounts numbered from 0, each with the same balance, and with an empty journal.
+/// Both numbers may be any. `AllocError` if memory runs out.
 pub fn open_bank(alloc: Global, accounts: u32, balance: u64) -> Result<Contents, AllocError>
     ensures { IfOk result IsBank }
 {
@@ -36,8 +37,8 @@ fn below(bound: u32, random: u64) -> u64
     random / 4_294_967_296 % bound as u64
 }
 
-/// Made-up orders of one teller: each moves 1 to 100 between two of so many accounts, which may be
-/// the same one, but that every tenth asks for more than there is.
+/// Makes up `count` orders of one teller between accounts numbered below `accounts`. Both accounts
+/// of an order may be the same. Each order moves 1 to 100, but every tenth asks for 2^64 - 1.
 fn orders_of(
     alloc: Global,
     teller: u32,
@@ -62,7 +63,8 @@ fn orders_of(
     Ok(orders)
 }
 
-/// The made-up orders of so many tellers, so many for each.
+/// Makes up `count` orders for each of `tellers` tellers, between accounts numbered below
+/// `accounts`. Each number may be any. `AllocError` if memory runs out.
 pub fn make_orders(
     alloc: Global,
     tellers: u32,

@@ -1,4 +1,4 @@
-//! What can be seen of a bank after a run.
+//! Sums and checks of a bank after a run.
 
 ghost use Rattle.std.specs.Prelude.{◌≡◌};
 ghost use Rattle.transfers.specs.Bank.{IsBank};
@@ -31,8 +31,9 @@ pub fn moved_in<P>(many: &Many<Outcome, P>) -> u64 {
     moved
 }
 
-/// Whether the journal has the number of each order that moved money, and no other, once, those of
-/// each teller in the teller's order. The journal was empty at first.
+/// Whether the journal has the number of each order that moved money, once, and no other number,
+/// and has the numbers of each teller in the teller's order. The journal was empty at first.
+/// `AllocError` if there is no memory for a number for each teller.
 pub fn is_journal_right<P>(alloc: Global, many: &Many<Outcome, P>) -> Result<bool, AllocError>
     requires { IsBank many.now.contents }
 {

@@ -28,7 +28,7 @@ const ACCOUNT_COUNT: u32 = 16;
 // No account runs short: all orders together move no more than this.
 const BALANCE: u64 = 1_000_000;
 
-// What the day came to. None of it depends on the order in which the transfers were made.
+// The results of the day. None of them depends on the order in which the transfers were made.
 #[derive(Drop)]
 struct Summary {
     before: u64,

@@ -17,10 +17,13 @@ use std::snapshot::Snapshot;
 use std::thread::Threads;
 
 /// Makes all orders of all tellers over an engine that holds a bank, in threads, and closes the
-/// engine. The pass is fresh, and holds all lanes, one for each teller. A teller makes at most
-/// `tries` attempts in a round. `start` is what the engine starts with.
+/// engine. The pass is fresh, and holds all lanes, one for each teller. `start` is what the engine
+/// starts with, and a renewal of the engine has room for this and one node for each order.
 ///
-/// `AllocError` if memory runs out; then the engine has ended.
+/// `tries` is the most attempts that a teller makes in its turn of a round: any number. `run_many`
+/// says what a round is.
+///
+/// `AllocError` if memory runs out. Then the engine has ended, and its contents are lost.
 pub fn transfer_all<R, E>(
     rt: &R,
     alloc: Global,

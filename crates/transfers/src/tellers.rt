@@ -88,7 +88,7 @@ impl Tellers {
         self.total
     }
 
-    // A teller's orders; none for one that there isn't.
+    // A teller's orders. There are none if there is no such teller.
     fn orders(&self, teller: u32) -> &[Order]
         ensures orders { result.now ≡ at_caller [] self.now teller }
         ensures few { length result.now ≤ MAX_ORDERS }
@@ -99,7 +99,7 @@ impl Tellers {
         &self.orders[teller as usize - 1]
     }
 
-    /// How many lines a teller has, 0 for one that there isn't.
+    /// How many lines a teller has. It is 0 if there is no such teller.
     pub fn len(&self, teller: u32) -> u32
         ensures count { result ≡ line_count_of self.now teller }
         ensures few { result ≤ MAX_ORDERS }

@@ -11,12 +11,12 @@ ghost use Rattle.transfers.specs.Made.{AreMade};
 use crate::bank::Outcome;
 use crate::playing::transfer_all;
 use crate::tellers::Tellers;
-use medley_transactions::{Contents, Many, Pass, Shape, Store, StoreTheory, needed};
+use medley_transactions::{Contents, Many, Shape, Store, StorePass, needed};
 use std::alloc::Global;
 use std::snapshot::Snapshot;
 use std::thread::Threads;
 
-/// The most nodes that the contents of a bank may need, one for each account, one for each record
+/// The most nodes that the contents of a bank may need: one for each account, one for each record
 /// of the journal, and one more.
 pub const MAX_NEEDED: u32 = 1_000_000;
 
@@ -47,20 +47,20 @@ fn shape_of(tellers: u32, base: u32) -> Shape
 }
 
 /// Makes all orders of all tellers as transfers, over a concurrent store that begins with these
-/// contents, which are a bank. Each teller has a thread, and makes its orders one after another.
+/// contents, which are a bank. There is at least one teller. Each has a thread, and makes its
+/// orders one after another. After a conflict an order is made again.
 ///
-/// `Ok` has the outcome of each order, by teller and line, and what the bank then contains.
-/// `TooLarge` comes exactly if the contents need more than `MAX_NEEDED` nodes, and `NoMemory` if
+/// `Ok` has the outcome of each order, by teller and line, and the contents of the bank at the end.
+/// `TooLarge` exactly if the contents at the start need more than `MAX_NEEDED` nodes. `NoMemory` if
 /// memory runs out.
 ///
-/// An order looks two accounts up; if it moves money, it also writes both and appends to the
-/// journal. After a conflict it is made again.
+/// A lane of the store has 4,096 nodes and 4,096 attempts until the store is renewed.
 pub fn transfer_in_threads<R: Threads + Sync>(
     rt: &R,
     alloc: Global,
     start: &Contents,
     tellers: &Tellers,
-) -> Result<Many<Outcome, Pass<StoreTheory>>, BankFault>
+) -> Result<Many<Outcome, StorePass>, BankFault>
     requires bank { IsBank start.now }
     requires some { 1 ≤ length tellers.now }
     ensures made { IfOk result (λ m. AreMade tellers.now start.now (map front_in m.fronts.items)

@@ -17,10 +17,7 @@ mod plain;
 mod world;
 
 // Four passes with a lane each.
-fn split(
-    store: &Store,
-    pass: &mut Pass<StoreTheory>,
-) -> Option<(Pass<StoreTheory>, Pass<StoreTheory>, Pass<StoreTheory>)>
+fn split(store: &Store, pass: &mut StorePass) -> Option<(StorePass, StorePass, StorePass)>
     requires { IsPassOf store.now pass.old }
     ensures of { IsPassOf store.now pass.new }
     ensures others { IfSome result (λ r. IsPassOf store.now r.0 × IsPassOf store.now r.1
@@ -117,7 +114,15 @@ fn played(alloc: Global, world: &mut World, count: u64) -> Result<Option<Content
     let (store, mut a) = opened(alloc, shape, &start)?;
     match split(&store, &mut a) {
         Some((mut b, mut c, mut d)) => {
-            rounds(&store, &mut a, &mut b, &mut c, &mut d, world, count)?;
+            rounds(
+                &store,
+                &mut a.pass,
+                &mut b.pass,
+                &mut c.pass,
+                &mut d.pass,
+                world,
+                count,
+            )?;
             store.join(&mut a, b);
             store.join(&mut a, c);
             store.join(&mut a, d);

@@ -11,7 +11,7 @@ fn a_transaction_looks_at_128_absent_keys(rt: HostRuntime) -> Result<(), Fail> {
         ops.push(get(key))?;
     }
     let mut replies = Vec::new(rt.alloc());
-    let end = all(&store, &mut pass, &ops, &mut replies)?;
+    let end = all(&store, &mut pass.pass, &ops, &mut replies)?;
     assert_eq!(rt; end, Err(Stop::Limit(Limit::Reads)));
     assert_eq!(rt; replies.len(), 128);
     assert!(rt; replies.iter().all(|r| *r == Reply::Value(None)));
@@ -27,7 +27,7 @@ fn a_transaction_inserts_128_keys(rt: HostRuntime) -> Result<(), Fail> {
         ops.push(insert(key, key + 1))?;
     }
     let mut replies = Vec::new(rt.alloc());
-    let end = all(&store, &mut pass, &ops, &mut replies)?;
+    let end = all(&store, &mut pass.pass, &ops, &mut replies)?;
     assert_eq!(rt; end, Err(Stop::Limit(Limit::Writes)));
     assert_eq!(rt; replies.len(), 128);
     assert!(rt; replies.iter().all(|r| *r == Reply::Flag(true)));
@@ -42,7 +42,7 @@ fn a_lane_enqueues_as_many_values_as_it_has_nodes(rt: HostRuntime) -> Result<(),
     let b = store.split(&mut a).expect(&rt, "two lanes");
     let ops = [enqueue(7); 17];
     let mut replies = Vec::new(rt.alloc());
-    let end = all(&store, &mut a, &ops, &mut replies)?;
+    let end = all(&store, &mut a.pass, &ops, &mut replies)?;
     assert_eq!(rt; end, Err(Stop::Limit(Limit::Nodes)));
     assert_eq!(rt; replies.len(), 16);
     ends_with(&rt, store, a, b, &[(3, 30)])?;

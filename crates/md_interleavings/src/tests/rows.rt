@@ -8,16 +8,16 @@ fn a_look_aborts_an_insert(rt: HostRuntime) -> Result<(), Fail> {
     let mut b = store.split(&mut a).expect(&rt, "two lanes");
     let mut sets = Sets::new();
     let mut others = Sets::new();
-    let mut inserts = begin(&store, &mut a, 1, &mut sets)?;
+    let mut inserts = begin(&store, &mut a.pass, 1, &mut sets)?;
     let mut why = None;
     let done = act(&mut inserts, &mut why, &store, insert(1, 10));
     assert_eq!(rt; done, Ok(Reply::Flag(true)));
-    let mut looks = begin(&store, &mut b, 2, &mut others)?;
+    let mut looks = begin(&store, &mut b.pass, 2, &mut others)?;
     let mut none = None;
     let seen = act(&mut looks, &mut none, &store, get(1));
     assert_eq!(rt; seen, Ok(Reply::Value(None)));
     assert_eq!(rt; commit(looks, none, &store), Ok(()));
-    assert_eq!(rt; word(&mut b, &store, 2), 2);
+    assert_eq!(rt; word(&mut b.pass, &store, 2), 2);
     let lost = Shown {
         word: 166,
         was: 0,
@@ -33,11 +33,11 @@ fn an_aborted_insert_meets_its_word(rt: HostRuntime) -> Result<(), Fail> {
     let (store, mut a) = opened(rt.alloc(), small(1)?, &pairs(rt.alloc(), &[])?)?;
     let mut b = store.split(&mut a).expect(&rt, "two lanes");
     let mut sets = Sets::new();
-    let mut inserts = begin(&store, &mut a, 1, &mut sets)?;
+    let mut inserts = begin(&store, &mut a.pass, 1, &mut sets)?;
     let mut why = None;
     let done = act(&mut inserts, &mut why, &store, insert(1, 10));
     assert_eq!(rt; done, Ok(Reply::Flag(true)));
-    let seen = one(&store, &mut b, get(1))?;
+    let seen = one(&store, &mut b.pass, get(1))?;
     assert_eq!(rt; seen, Ok(Reply::Value(None)));
     let lost = Stop::Conflict(Shown {
         word: 2,
@@ -55,11 +55,11 @@ fn an_insert_overtakes_a_look(rt: HostRuntime) -> Result<(), Fail> {
     let (store, mut a) = opened(rt.alloc(), small(1)?, &pairs(rt.alloc(), &[])?)?;
     let mut b = store.split(&mut a).expect(&rt, "two lanes");
     let mut sets = Sets::new();
-    let mut looks = begin(&store, &mut a, 1, &mut sets)?;
+    let mut looks = begin(&store, &mut a.pass, 1, &mut sets)?;
     let mut why = None;
     let seen = act(&mut looks, &mut why, &store, get(1));
     assert_eq!(rt; seen, Ok(Reply::Value(None)));
-    let done = one(&store, &mut b, insert(1, 10))?;
+    let done = one(&store, &mut b.pass, insert(1, 10))?;
     assert_eq!(rt; done, Ok(Reply::Flag(true)));
     let moved = Shown {
         word: 2,
@@ -67,7 +67,7 @@ fn an_insert_overtakes_a_look(rt: HostRuntime) -> Result<(), Fail> {
         now: 154_618_822_658,
     };
     assert_eq!(rt; commit(looks, why, &store), Err(Stop::Conflict(moved)));
-    assert_eq!(rt; word(&mut a, &store, 166), 7);
+    assert_eq!(rt; word(&mut a.pass, &store, 166), 7);
     ends_with(&rt, store, a, b, &[(1, 10), (3, 30)])?;
     Ok(())
 }
@@ -79,7 +79,7 @@ fn one_transaction_sees_what_it_did(rt: HostRuntime) -> Result<(), Fail> {
     let pop = Op::Dequeue { queue: 0 };
     let ops = [remove(5), insert(5, 7), enqueue(1), enqueue(2), pop, pop];
     let mut replies = Vec::new(rt.alloc());
-    assert_eq!(rt; all(&store, &mut pass, &ops, &mut replies)?, Ok(()));
+    assert_eq!(rt; all(&store, &mut pass.pass, &ops, &mut replies)?, Ok(()));
     let want = [
         Reply::Value(Some(6)),
         Reply::Flag(true),
@@ -102,7 +102,7 @@ fn a_line_shows_what_was_enqueued(rt: HostRuntime) -> Result<(), Fail> {
     let line = |n| Op::Line { queue: 0, n };
     let ops = [enqueue(1), enqueue(2), line(1), line(12)];
     let mut replies = Vec::new(rt.alloc());
-    assert_eq!(rt; all(&store, &mut pass, &ops, &mut replies)?, Ok(()));
+    assert_eq!(rt; all(&store, &mut pass.pass, &ops, &mut replies)?, Ok(()));
     let short = Line {
         count: 1,
         values: [1, 0, 0, 0, 0, 0, 0, 0, 0, 0, 0, 0],

@@ -63,18 +63,21 @@ fn overtaken(
 fn looked<R: Abort + AllocGlobal>(
     rt: &R,
     store: Store,
-    pass: Pass<StoreTheory>,
-    mut other: Pass<StoreTheory>,
+    pass: StorePass,
+    mut other: StorePass,
     found: &Found,
     left: &[(u64, u64)],
 ) -> Result<(), Fail>
     requires of { IsPassOf store pass }
     requires of_other { IsPassOf store other }
 {
-    let seen = one(&store, &mut other, get(1))?;
+    let seen = one(&store, &mut other.pass, get(1))?;
     assert_eq!(rt; seen, Ok(Reply::Value(found.value)));
-    assert_eq!(rt; word(&mut other, &store, 2), found.head);
-    assert_eq!(rt; word(&mut other, &store, found.status.0), found.status.1);
+    assert_eq!(rt; word(&mut other.pass, &store, 2), found.head);
+    assert_eq!(rt;
+        word(&mut other.pass, &store, found.status.0),
+        found.status.1
+    );
     ends_with(rt, store, pass, other, left)
 }
 
@@ -90,7 +93,7 @@ fn stalled<R: Abort + AllocGlobal>(
     let shape = small(if start.is_empty() { 1 } else { 2 })?;
     let (store, mut a) = opened(rt.alloc(), shape, &pairs(rt.alloc(), start)?)?;
     let b = store.split(&mut a).expect(rt, "two lanes");
-    assert_eq!(rt; left(rt.alloc(), &store, &mut a, ops, ready)?, ready);
+    assert_eq!(rt; left(rt.alloc(), &store, &mut a.pass, ops, ready)?, ready);
     looked(rt, store, a, b, found, end)
 }
 
@@ -140,7 +143,7 @@ fn a_look_that_still_holds_is_committed(rt: HostRuntime) -> Result<(), Fail> {
 fn a_look_that_was_overtaken_is_aborted(rt: HostRuntime) -> Result<(), Fail> {
     let (store, mut a) = opened(rt.alloc(), small(1)?, &pairs(rt.alloc(), &[])?)?;
     let mut b = store.split(&mut a).expect(&rt, "two lanes");
-    assert!(rt; overtaken(&store, &mut a, &mut b)?);
+    assert!(rt; overtaken(&store, &mut a.pass, &mut b.pass)?);
     let found = Found {
         value: None,
         head: 2,
@@ -163,7 +166,7 @@ fn a_remove_that_is_ready_is_committed(rt: HostRuntime) -> Result<(), Fail> {
 fn left_alone<R: Abort + AllocGlobal>(rt: &R, ready: bool, end: &[(u64, u64)]) -> Result<(), Fail> {
     let (store, mut pass) = opened(rt.alloc(), small(1)?, &pairs(rt.alloc(), &[])?)?;
     assert_eq!(rt;
-        left(rt.alloc(), &store, &mut pass, &[insert(1, 10)], ready)?,
+        left(rt.alloc(), &store, &mut pass.pass, &[insert(1, 10)], ready)?,
         ready
     );
     let back = closed(store, pass)?.expect(rt, "all lanes");
@@ -181,18 +184,18 @@ fn closing_settles_what_was_left(rt: HostRuntime) -> Result<(), Fail> {
 fn the_next_transaction_of_the_lane_settles_it(rt: HostRuntime) -> Result<(), Fail> {
     let (store, mut a) = opened(rt.alloc(), small(1)?, &pairs(rt.alloc(), &[])?)?;
     let mut b = store.split(&mut a).expect(&rt, "two lanes");
-    assert!(rt; !left(rt.alloc(), &store, &mut a, &[insert(1, 10)], false)?);
+    assert!(rt; !left(rt.alloc(), &store, &mut a.pass, &[insert(1, 10)], false)?);
     let mut sets = Sets::new();
-    let mut txn = begin(&store, &mut a, 8, &mut sets)?;
+    let mut txn = begin(&store, &mut a.pass, 8, &mut sets)?;
     let mut why = None;
     let seen = act(&mut txn, &mut why, &store, get(1));
     assert_eq!(rt; seen, Ok(Reply::Value(None)));
-    assert_eq!(rt; word(&mut b, &store, 2), 2);
-    assert_eq!(rt; word(&mut b, &store, 166), 1024);
+    assert_eq!(rt; word(&mut b.pass, &store, 2), 2);
+    assert_eq!(rt; word(&mut b.pass, &store, 166), 1024);
     let done = act(&mut txn, &mut why, &store, insert(1, 11));
     assert_eq!(rt; done, Ok(Reply::Flag(true)));
     assert_eq!(rt; commit(txn, why, &store), Ok(()));
-    assert_eq!(rt; word(&mut b, &store, 2), 25_769_803_780);
+    assert_eq!(rt; word(&mut b.pass, &store, 2), 25_769_803_780);
     Ok(())
 }
 
@@ -200,7 +203,10 @@ fn the_next_transaction_of_the_lane_settles_it(rt: HostRuntime) -> Result<(), Fa
 fn the_next_transaction_of_the_lane_commits_it(rt: HostRuntime) -> Result<(), Fail> {
     let (store, mut a) = opened(rt.alloc(), small(1)?, &pairs(rt.alloc(), &[])?)?;
     let b = store.split(&mut a).expect(&rt, "two lanes");
-    assert!(rt; left(rt.alloc(), &store, &mut a, &[insert(1, 10)], true)?);
-    assert_eq!(rt; one(&store, &mut a, get(1))?, Ok(Reply::Value(Some(10))));
+    assert!(rt; left(rt.alloc(), &store, &mut a.pass, &[insert(1, 10)], true)?);
+    assert_eq!(rt;
+        one(&store, &mut a.pass, get(1))?,
+        Ok(Reply::Value(Some(10)))
+    );
     ends_with(&rt, store, a, b, &[(1, 10), (3, 30)])
 }

@@ -50,7 +50,7 @@ impl Body for EachCall {
 // Runs a body, if the store has a map and a queue.
 fn ran(
     store: &Store,
-    pass: &mut Pass<StoreTheory>,
+    pass: &mut StorePass,
     tag: u64,
     body: EachCall,
 ) -> Option<Attempt<Option<u64>>>

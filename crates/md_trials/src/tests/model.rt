@@ -81,13 +81,7 @@ fn count(counter: &mut u64) {
 }
 
 // Runs a body over the store, and, if it was committed, over the store for one thread, too.
-fn run_both(
-    store: &Store,
-    pass: &mut Pass<StoreTheory>,
-    plain: &mut Plain,
-    number: u32,
-    tally: &mut Tally,
-)
+fn run_both(store: &Store, pass: &mut StorePass, plain: &mut Plain, number: u32, tally: &mut Tally)
     requires of { IsPassOf store.now pass.old }
     requires maps { 1 < store.now.origin.shape.maps }
     requires queues { 1 < store.now.origin.shape.queues }
@@ -111,7 +105,7 @@ fn run_both(
 // Runs so many bodies over both, from a number on.
 fn run_all(
     store: &Store,
-    pass: &mut Pass<StoreTheory>,
+    pass: &mut StorePass,
     plain: &mut Plain,
     first: u32,
     count: u32,
@@ -147,12 +141,12 @@ fn run_round(
 // Runs so many times ten bodies, by two passes of a store in turn. The pass of both.
 fn run_in_turn(
     store: &Store,
-    mut one: Pass<StoreTheory>,
-    mut other: Pass<StoreTheory>,
+    mut one: StorePass,
+    mut other: StorePass,
     plain: &mut Plain,
     turns: u32,
     tally: &mut Tally,
-) -> Pass<StoreTheory>
+) -> StorePass
     requires of { IsPassOf store.now one }
     requires of_other { IsPassOf store.now other }
     requires maps { 1 < store.now.origin.shape.maps }

@@ -21,14 +21,14 @@ pub(super) fn one_bucket(lanes: u32) -> Result<Shape, ShapeFault> {
 // What a thread has to do: bodies, to be run in order.
 #[derive(Drop)]
 pub(super) struct Part<'a, B> {
-    pub(super) pass: Pass<StoreTheory>,
+    pub(super) pass: StorePass,
     pub(super) bodies: &'a [B],
 }
 
 // What threads did: what the bodies of each replied, in order, and the pass of all their lanes.
 #[derive(Drop)]
 pub(super) struct Done<R> {
-    pub(super) pass: Pass<StoreTheory>,
+    pub(super) pass: StorePass,
     pub(super) replies: Vec<Vec<R>>,
 }
 
@@ -36,7 +36,7 @@ pub(super) struct Done<R> {
 // it pauses, for twice as long as after the one before.
 fn run_until_committed<B: Body>(
     store: &Store,
-    pass: &mut Pass<StoreTheory>,
+    pass: &mut StorePass,
     tag: u64,
     body: &B,
 ) -> Option<B::Reply>
@@ -65,7 +65,7 @@ fn pause(conflicts: u32) {
 // list.
 fn run_bodies<B: Body>(
     store: &Store,
-    pass: &mut Pass<StoreTheory>,
+    pass: &mut StorePass,
     bodies: &[B],
     replies: &mut Vec<B::Reply>,
 ) -> Result<(), AllocError>

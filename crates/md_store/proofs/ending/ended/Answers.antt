@@ -1,9 +1,13 @@
-use Rattle.md_rule.specs.declared.close.Closed.{Closed}
-use Rattle.md_store_law.specs.declared.theory.StoreTheory.{StoreTheory}
-use Rattle.md_store.proofs.Closed.{ended_leaves}
+use Rattle.std.proofs.Common.{subst}
+use Rattle.md_history.specs.Engine.{SettlesFrom}
+use Rattle.md_rule.specs.Views.{PassState}
+use Rattle.md_store.specs.Store.{front_in, start_of}
+use Rattle.md_store.proofs.Closed.{leaves_contents}
 use Rattle.md_store.proofs.ending.ended.Goals as goal
 
 pub returns : goal.returns
 returns c = record {
-  leaves = ended_leaves (λ (x : Closed StoreTheory). x.words.items) (λ (x : Closed StoreTheory). x.front) c.args.field c.args.pass c.settle.new.pass c.settle.ensures.settles c.close.result c.close.ensures.replayed c.close.ensures.front;
+  leaves = leaves_contents c.args.field c.args.pass c.settle.new.pass c.of-front.result c.in_ok-words.field-0.words.items
+      (subst (λ (p : PassState). SettlesFrom (start_of c.args.field) (front_in p) (front_in c.settle.new.pass)) c.pass.view_is c.settle.ensures.settles)
+      c.in_ok-words.ensures.replayed c.of-front.ensures;
 }

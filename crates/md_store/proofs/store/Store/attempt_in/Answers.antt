@@ -15,7 +15,7 @@ use Rattle.md_history.specs.Engine.{IsNoConflict}
 use Rattle.md_history.specs.Front.{LegalFrom}
 use Rattle.md_store.proofs.Attempts.{RunOf, alone_lost, at_err, at_ok, begun_committed, begun_lost, begun_runs, begun_stopped, cause, counted_if, front_committed, front_lost, front_stopped, legal_of, of_committed, of_lost, of_stopped, on_err, refused_to, unbegun_counts, unbegun_front, unbegun_of}
 use Rattle.md_store.proofs.Small.{has_try, holds_lanes, none_refused}
-use Rattle.md_store.proofs.store.Store.attempt.Goals as goal
+use Rattle.md_store.proofs.store.Store.attempt_in.Goals as goal
 
 pub returns-in-Err-clause-stopped : goal.returns-in-Err-clause-stopped
 returns-in-Err-clause-stopped g c =
