@@ -44,7 +44,7 @@ impl Filling {
     }
 }
 
-/// Looks at up to so many places of a level, as long as something remains.
+/// Looks at up to `places` places of a level, as long as something remains to be taken.
 fn take_parts<T: TxCalls>(
     t: &mut T,
     side: Side,
@@ -75,7 +75,7 @@ fn take_parts<T: TxCalls>(
     Ok(filling)
 }
 
-/// Books what was taken in all: the taker's sum and the depth.
+/// Adds what was taken in all to the taker's sum, and takes it off the depth.
 fn book_taken<T: TxCalls>(
     t: &mut T,
     side: Side,
@@ -96,7 +96,7 @@ fn book_taken<T: TxCalls>(
     Ok(())
 }
 
-/// Takes parts from up to so many places, and then books them in all.
+/// Takes parts from up to `places` places, and then books what was taken in all.
 pub(crate) fn fill<T: TxCalls>(
     t: &mut T,
     account: u32,

@@ -33,7 +33,7 @@ impl Side {
         }
     }
 
-    /// The map where those who take from this side have theirs.
+    /// The map where the accounts that take from this side have their sums.
     pub(crate) fn taker_sums(self) -> u32
         ensures { result ≡ taker_sums self }
     {
@@ -68,7 +68,7 @@ fn put_back<T: TxCalls>(
     Ok(())
 }
 
-/// Takes so much from the order at the front. Its account has then bought or sold it.
+/// Takes a quantity from the order at the front, and adds it to the sums of the order's account.
 fn take_from<T: TxCalls>(
     t: &mut T,
     side: Side,
@@ -92,8 +92,8 @@ fn take_from<T: TxCalls>(
     Ok(Look::Live(Part { name, taken }))
 }
 
-/// Looks at the front place: nobody, or a dead place, which is passed, or an order from which is
-/// taken.
+/// Looks at the front place. If its order was cancelled, it passes the place. Otherwise it takes
+/// from the order as much as there is, at most `rest`.
 pub(crate) fn look_front<T: TxCalls>(
     t: &mut T,
     side: Side,

@@ -20,8 +20,8 @@ fn names_in(line: &Line) -> &[u64]
     &line.values[..count]
 }
 
-/// Whether the orders of these names have so much left in all. It looks one up after another, until
-/// they have.
+/// Whether the orders of these names have the quantity left in all. It looks one up after another,
+/// until they have it.
 fn have_left<T: TxCalls>(t: &mut T, quantity: u32, names: &[u64]) -> Result<bool, Stop>
     requires going { T.stop t.old ≡ None }
     requires maps { MAPS ≤ T.maps (T.kept t.old) }

@@ -8,8 +8,8 @@ use crate::limits::MAX_PRICE;
 use crate::maps::LEVELS;
 
 impl Side {
-    /// The level of a price at this side: those of buy orders come first, by price, and then those
-    /// of sell orders.
+    /// The level of a price, 1 to `MAX_PRICE`, at this side. Levels are numbered from 0: those of
+    /// buy orders come first, by price, and those of sell orders follow.
     pub fn level(self, price: u32) -> u32
         requires { IsPrice price }
         ensures level { result ≡ level_of self price }

@@ -1,4 +1,8 @@
 //! The order book: its commands as transactions over maps and queues, and what they mean.
+//!
+//! The laws are calls that do nothing when they run: the clause of a call is the law. Some speak of
+//! a **day**: a list of commands in range whose orders have different names. They run one after
+//! another, from the book without orders.
 #![tactic(auto)]
 
 mod accounts;

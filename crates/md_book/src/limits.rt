@@ -1,12 +1,12 @@
 //! The limits of commands: the ranges of their numbers, and how much they read, write and take.
 
-/// How many places of a level a fill or a kill of version 1 of the order file looks at.
+/// How many places of a level a fill or a kill of version 1 of the order file looks at, at most.
 pub const PLACES_IN_VERSION_1: u8 = 4;
 
-/// How many places of a level a fill or a kill of version 2 of the order file looks at.
+/// How many places of a level a fill or a kill of version 2 of the order file looks at, at most.
 pub const PLACES_IN_VERSION_2: u8 = 12;
 
-/// How many parts a fill can take: one from each place that it looks at.
+/// The most parts that a fill can take: one from each place that it looks at.
 pub const MAX_PARTS: usize = PLACES_IN_VERSION_2 as usize;
 
 /// The greatest caller. Callers are numbered from 1.

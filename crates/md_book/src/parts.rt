@@ -19,7 +19,7 @@ fn put<T: TxCalls>(t: &mut T, map: u32, key: u64, value: u64) -> Result<(), Stop
     Ok(())
 }
 
-/// Replaces a key's value by one that is larger; it stops at the largest number.
+/// Adds to a key's value, at most up to the largest number. A key without a value counts as 0.
 pub(crate) fn raise<T: TxCalls>(t: &mut T, map: u32, key: u64, by: u64) -> Result<(), Stop>
     requires going { T.stop t.old ≡ None }
     requires map { map < T.maps (T.kept t.old) }
@@ -30,7 +30,7 @@ pub(crate) fn raise<T: TxCalls>(t: &mut T, map: u32, key: u64, by: u64) -> Resul
     put(t, map, key, before.saturating_add(by))
 }
 
-/// Replaces a key's value by one that is smaller; it stops at 0.
+/// Takes off a key's value, at most down to 0. A key whose value becomes 0 is removed.
 pub(crate) fn lower<T: TxCalls>(t: &mut T, map: u32, key: u64, by: u64) -> Result<(), Stop>
     requires going { T.stop t.old ≡ None }
     requires map { map < T.maps (T.kept t.old) }

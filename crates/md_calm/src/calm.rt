@@ -4,9 +4,9 @@ ghost use Rattle.md_calm.specs.Calm.{AlwaysLow};
 
 use md_machine::Theory;
 
-/// It does nothing: its contract is that, in a field whose opening has nothing to tidy, each count
-/// rises by no more than twice the stores and the installs of the pass that has always held all
-/// lanes, as long as no transaction became ready.
+/// Its clause states a law of fields whose opening has nothing to tidy. As long as no transaction
+/// became ready, each count rises by at most twice the number of stores and installs of the pass
+/// that has always held all lanes. The call does nothing when it runs.
 pub fn calm_fields_stay_low<T: Theory>()
     ensures { AlwaysLow T.meaning }
 {}

@@ -4,8 +4,8 @@ ghost use Rattle.md_calm.specs.First.{FirstAttemptsStayLow};
 
 use md_machine::Theory;
 
-/// It does nothing: its contract is that the first attempt of a field whose opening has nothing to
-/// tidy meets no count more than 4 above the opening's.
+/// Its clause states a law of fields whose opening has nothing to tidy: the first attempt meets no
+/// count that is more than 4 above that of the opening. The call does nothing when it runs.
 pub fn first_attempts_stay_low<T: Theory>()
     ensures { FirstAttemptsStayLow T.meaning }
 {}

@@ -1,5 +1,7 @@
-//! What changes a field before any transaction became ready in it, if its opening has nothing to
-//! tidy, and so how far the first attempt raises the counts of its words. Nothing of it runs.
+//! Laws of a field before a transaction becomes ready in it, if its opening has nothing to tidy:
+//! they bound how far the counts of its words have risen. So if the counts of the opening are low,
+//! the first attempt meets no word whose count is too high for a change. The calls do nothing when
+//! they run.
 #![tactic(auto)]
 
 pub use calm::calm_fields_stay_low;

@@ -3,9 +3,10 @@
 ghost use Rattle.md_count_law.specs.Few.{PlacedAreCounted, RecordedAreFew, TidiedAreFew, WrittenAreFew};
 ghost use Rattle.md_count_law.specs.Rows.{WorkedCounts, WorkedExcess};
 
-/// It does nothing: its contract is that certificates which stand one after another from a valid
-/// store name no more words and nodes than their acts count. It also speaks of the tidy changes of
-/// an operation that goes on, which has no certificate yet.
+/// Its clauses state laws of certificates that stand one after another from a valid heap of a
+/// store: they name no more words and nodes than the counts of their acts allow. `tidied` also
+/// covers the tidy changes of an operation that was begun, and has no certificate yet. The call
+/// does nothing when it runs.
 pub fn certificates_are_few()
     ensures placed { PlacedAreCounted }
     ensures recorded { RecordedAreFew }
@@ -13,9 +14,10 @@ pub fn certificates_are_few()
     ensures tidied { TidiedAreFew }
 {}
 
-/// It does nothing: its contract is that worked certificates are such ones, with the words that they
-/// name and the counts of their acts; and that others, with tidy changes that aren't charged, change
-/// more words than their acts count.
+/// Its clauses state examples. `few` has certificates for which the laws hold, with the words that
+/// they name and the counts of their acts. `excess` has certificates with tidy changes that aren't
+/// charged: they change more words than the counts of their acts. The call does nothing when it
+/// runs.
 pub fn worked_counts()
     ensures few { WorkedCounts }
     ensures excess { WorkedExcess }

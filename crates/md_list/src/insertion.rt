@@ -15,29 +15,37 @@ use md_history::Stop;
 use md_list_law::HasLists;
 use md_nbtc::{Kind, Txn};
 
-/// Inserts a key with a value into a map, if the key isn't there, and answers whether it was
-/// absent, as an operation of a transaction that was just begun. `head` is the head of the key's
-/// own bucket. The caller ends the operation with the answer as the reply of an `Insert` of the key
-/// and the value.
+/// Inserts a key with a value into a map if the key isn't there, and returns whether it was absent,
+/// as an operation of a transaction that was just begun. `head` is the head of the key's own
+/// bucket. The caller ends the operation with the result as the reply of an `Insert` of the key and
+/// the value.
 ///
-/// If the key is absent, one node is taken, and the word of the gap in which the key belongs is
-/// changed to it as a part of the transaction; no word is recorded. If the key is there, its value
-/// stays; at most one more word is recorded, the next word of its node, and no node is taken. At
-/// most one word is written beside those of [`find`].
+/// If the key is absent, it takes one node, and records no word. As a part of the transaction it
+/// changes the word before the key's place to name the new node. This word is the head, or the next
+/// word of the last node with a smaller key. If the key is there, its value stays. Then it records
+/// at most one more word, the next word of the key's node, and takes no node. It writes at most one
+/// word beside those of [`find`].
 ///
-/// `Err` is the refusal of the first call that was refused, and the transaction keeps it: those of
-/// [`find`]; of the note `Conflict` and `Limit::Reads`, as in [`get`](crate::get); of the taking
-/// `Limit::Nodes`, if no lane of the pass has a node left, and `Limit::Worn` of the node's next
-/// word; of the last exchange `Conflict`, `Limit::Writes` and `Limit::Worn`. `Limit::Reads`,
-/// `Limit::Writes` and `Limit::Nodes` come only if the operation needs one more word, or one more
-/// node. After a stop the answer is the same stop, and nothing is done.
+/// If a call inside is refused, it returns that stop, and the transaction keeps it:
 ///
-/// One [`find`], and two steps for a note; or four for the node, and four for the change, one if
-/// its word is an own one. It takes no memory.
+/// - the stops of [`find`];
+/// - `Conflict` if a word was changed by another pass, or was recorded with another content before;
+/// - `Limit::Reads` if the operation needs one more recorded word, and 128 are recorded;
+/// - `Limit::Writes` if the operation needs one more written word, and 128 are written;
+/// - `Limit::Nodes` if the key is absent, and no lane of the pass has a node left;
+/// - `Limit::Worn` if the next word of the new node, or the word to be changed, has a count of
+///   4,294,967,292 or more.
+///
+/// If the transaction has stopped before, it returns the same stop and does nothing.
+///
+/// It takes one [`find`]. If the key is there, it takes two steps more if the word is recorded now.
+/// If the key is absent, it takes four steps for the node, and four for the change, or one if the
+/// word is an own one. It takes no memory.
 ///
 /// After M. M. Michael, "High Performance Dynamic Lock-Free Hash Tables and List-Based Sets"
-/// (2002). It differs from Michael's in two ways. A lost exchange isn't tried again, since the
-/// transaction then stops. And a key that is there is recorded, since the answer rests on it.
+/// (2002). It differs from Michael's insert in two ways. A lost exchange isn't tried again, since
+/// the transaction then stops. And if the key is there, a word is recorded, since the reply depends
+/// on it.
 pub fn insert<'a, T: HasLists>(
     tx: &mut Txn<'a, T>,
     head: u32,

@@ -15,24 +15,29 @@ use md_history::Stop;
 use md_list_law::HasLists;
 use md_nbtc::Txn;
 
-/// The value of a key of a map, or `None` if the key isn't there, as an operation of a transaction
-/// that was just begun. `head` is the head of the key's own bucket. The caller ends the operation
-/// with the answer as the reply of a `Get` of the key.
+/// Returns the value of a key of a map, or `None` if the key isn't there, as an operation of a
+/// transaction that was just begun. `head` is the head of the key's own bucket. The caller ends the
+/// operation with the result as the reply of a `Get` of the key.
 ///
-/// At most one more word is recorded: the next word of the key's node, or the word of the gap in
-/// which the key would be. Words are written only by the unlinks of [`find`], and no node is taken.
+/// It records at most one more word. If the key is there, this is the next word of the key's node.
+/// Otherwise it is the word before the key's place: the head, or the next word of the last node
+/// with a smaller key. It writes words only by the unlinks of [`find`], and takes no node.
 ///
-/// `Err` is the refusal of the first call that was refused, and the transaction keeps it: those of
-/// [`find`]; and of the note `Conflict`, if the word is recorded with another content, and
-/// `Limit::Reads`, if it must be recorded and 128 words are. It is never `Limit::Nodes`.
-/// `Limit::Reads` and `Limit::Writes` come only if the operation needs one more word. After a stop
-/// the answer is the same stop, and nothing is done.
+/// If a call inside is refused, it returns that stop, and the transaction keeps it:
 ///
-/// One [`find`], one step for the value, and two if the word is recorded now. It takes no memory.
+/// - the stops of [`find`];
+/// - `Conflict` if the word was recorded with another content before;
+/// - `Limit::Reads` if the operation needs one more recorded word, and 128 are recorded.
+///
+/// It never returns `Limit::Nodes`. If the transaction has stopped before, it returns the same stop
+/// and does nothing.
+///
+/// It takes one [`find`], one step for the value if the key is there, and two more if a word is
+/// recorded now. It takes no memory.
 ///
 /// After M. M. Michael, "High Performance Dynamic Lock-Free Hash Tables and List-Based Sets"
-/// (2002). It differs from Michael's search in one way: it records the word on which its answer
-/// rests, so that the transaction commits only if the answer still holds then.
+/// (2002). It differs from Michael's search in one way: it records the word that its reply depends
+/// on, so that the transaction commits only if the reply still holds then.
 pub fn get<'a, T: HasLists>(tx: &mut Txn<'a, T>, head: u32, key: u64) -> Result<Option<u64>, Stop>
     requires begun { IsBegun T.meaning (state tx.old) }
     requires head { (map : ℕ) × IsHeadOf (shape_in (state tx.old)) map key head }
@@ -52,7 +57,7 @@ pub fn get<'a, T: HasLists>(tx: &mut Txn<'a, T>, head: u32, key: u64) -> Result<
         tx.note(found.prev, found.at)?;
         return Ok(None);
     }
-    // The value is read first, so that a refused note tells the whole answer.
+    // The value is read first, so that the reply is known if the note is refused.
     let value_word = tx.shape().node_value(found.node);
     let value = tx.field_of(value_word);
     let next_word = tx.shape().node_next(found.node);

@@ -15,29 +15,35 @@ use md_history::Stop;
 use md_list_law::HasLists;
 use md_nbtc::{Cleanup, Kind, Txn};
 
-/// Removes a key of a map, and answers the value that it had, or `None` if the key isn't there, as
+/// Removes a key of a map, and returns the value that it had, or `None` if the key isn't there, as
 /// an operation of a transaction that was just begun. `head` is the head of the key's own bucket.
-/// The caller ends the operation with the answer as the reply of a `Remove` of the key.
+/// The caller ends the operation with the result as the reply of a `Remove` of the key.
 ///
-/// If the key is there, the next word of its node is marked as a part of the transaction, and no
-/// word is recorded. The unlink of the node is kept as a cleanup with that word, and is made when
-/// the transaction has committed. If the key isn't there, at most one more word is recorded: that
-/// of the gap in which the key would be. At most one word is written beside those of [`find`], and
-/// no node is taken.
+/// If the key is there, it marks the next word of the key's node as a part of the transaction, and
+/// records no word. The unlink of the node is kept as a cleanup with that word, and is made when
+/// the transaction has committed. If the key isn't there, it records at most one more word, the one
+/// before the key's place: the head, or the next word of the last node with a smaller key. It
+/// writes at most one word beside those of [`find`], and takes no node.
 ///
-/// `Err` is the refusal of the first call that was refused, and the transaction keeps it: those of
-/// [`find`]; of the note `Conflict` and `Limit::Reads`, as in [`get`](crate::get); of the exchange
-/// that marks `Conflict`, `Limit::Writes` and `Limit::Worn`. It is never `Limit::Nodes`.
-/// `Limit::Reads` and `Limit::Writes` come only if the operation needs one more word. After a stop
-/// the answer is the same stop, and nothing is done.
+/// If a call inside is refused, it returns that stop, and the transaction keeps it:
 ///
-/// One [`find`], and two steps for a note; or one for the value and four for the mark, one if the
-/// word is an own one. It takes no memory.
+/// - the stops of [`find`];
+/// - `Conflict` if a word was changed by another pass, or was recorded with another content before;
+/// - `Limit::Reads` if the operation needs one more recorded word, and 128 are recorded;
+/// - `Limit::Writes` if the operation needs one more written word, and 128 are written;
+/// - `Limit::Worn` if the next word of the key's node has a count of 4,294,967,292 or more.
+///
+/// It never returns `Limit::Nodes`. If the transaction has stopped before, it returns the same stop
+/// and does nothing.
+///
+/// It takes one [`find`]. If the key is there, it takes one step for the value, and four for the
+/// mark, or one if the word is an own one. If the key isn't there, it takes two steps more if the
+/// word is recorded now. It takes no memory.
 ///
 /// After M. M. Michael, "High Performance Dynamic Lock-Free Hash Tables and List-Based Sets"
-/// (2002). It differs from Michael's in three ways. A lost exchange isn't tried again, since the
-/// transaction then stops. The node isn't unlinked at once, since the mark holds only if the
-/// transaction commits. And the gap of a key that is absent is recorded, since the answer rests on
+/// (2002). It differs from Michael's delete in three ways. A lost exchange isn't tried again, since
+/// the transaction then stops. The node isn't unlinked at once, since the mark holds only if the
+/// transaction commits. And if the key isn't there, a word is recorded, since the reply depends on
 /// it.
 pub fn remove<'a, T: HasLists>(
     tx: &mut Txn<'a, T>,

@@ -12,45 +12,51 @@ use md_history::Stop;
 use md_list_law::HasLists;
 use md_nbtc::{Kind, Seen, Txn};
 
-/// The place of a key in a list. `prev` is the head or the next word of a node with a smaller key,
-/// and `at` is what it gave last. `node` is the first node whose key isn't smaller, or 0. `next` is
-/// what its next word gave last; without a node it is `at`. `here` says that there is a node and
-/// that its key is the one looked for. Both `at` and `next` are unmarked.
+/// The place of a key in a list. Neither `at` nor `next` is marked.
 #[derive(Clone, Copy, Debug, PartialEq, Eq)]
 pub struct Found {
+    /// The head of the list, or the next word of a node with a smaller key.
     pub prev: u32,
+    /// What the last load or exchange of `prev` gave.
     pub at: Seen,
+    /// The first node whose key isn't smaller than the one looked for, or 0 if there is none.
     pub node: u32,
+    /// What the last load of the node's next word gave. If there is no node, it is `at`.
     pub next: Seen,
+    /// There is a node, and its key is the one looked for.
     pub here: bool,
 }
 
-/// Looks for a key in a list, as a part of an operation that was begun and has changed nothing but
-/// by unlinks of the list. `head` is the head of a bucket.
+/// Looks for a key in a list, as a part of an operation that was begun. The operation has changed
+/// nothing so far, apart from unlinks in this list. `head` is the head of a bucket.
 ///
-/// It unlinks each removed node that it meets: as a part of the transaction if the remove is the
-/// transaction's own, and else at once, by a plain change. A plain change is critical all the same
-/// if its word was recorded or is the next word of a node that the transaction took. So it writes
-/// at most one word more for each word that the transaction had recorded or written, and one for
-/// each node that it had taken. It records no word and takes no node.
+/// It unlinks each removed node that it meets: the word before the node then names the node after
+/// it. The unlink is a part of the transaction if the transaction itself marked the node, if it
+/// recorded or wrote the word before the node, or if this is the next word of a node that it took.
+/// Any other unlink is made at once, by a plain change. So the call writes at most one word more
+/// for each word that the transaction had recorded or written, and one for each node that it had
+/// taken. It records no word and takes no node.
 ///
-/// `Err` is the refusal of the first load or exchange that was refused, and the transaction keeps
-/// it: `Conflict` if a word moved, `Limit::Writes` if an unlink needs a slot and 128 are written,
-/// `Limit::Worn` if the word of an unlink has a count of 4,294,967,292 or more. It is never
-/// `Limit::Nodes` or `Limit::Reads`. `Limit::Writes` comes only if an unlink needs one more word,
-/// and would stand after those that were made. After a stop the answer is the same stop, and
-/// nothing is done.
+/// If a load or an exchange is refused, it returns that stop, and the transaction keeps it:
 ///
-/// One load of the head; for each node that stands, one load of its next word and one step to read
-/// its key; for each removed node, one load of its next word and one exchange, of one step if it is
-/// plain or the word is an own one, and else of four. Keys rise from node to node, so no node is
-/// met twice. It takes no memory.
+/// - `Conflict` if a word was changed by another pass meanwhile (`Txn::load`, `Txn::exchange`);
+/// - `Limit::Writes` if an unlink is a part of the transaction, needs one more written word, and
+///   128 are written;
+/// - `Limit::Worn` if the word of an unlink has a count of 4,294,967,292 or more.
+///
+/// It never returns `Limit::Nodes` or `Limit::Reads`. If the transaction has stopped before, it
+/// returns the same stop and does nothing.
+///
+/// It takes one load of the head. For each node that stands, it takes one load of its next word,
+/// and one step for its key. For each removed node, it takes one load of its next word and one
+/// exchange. The exchange takes one step if it is plain or if its word is an own one, and otherwise
+/// four. Keys rise from node to node, so no node is met twice. It takes no memory.
 ///
 /// After M. M. Michael, "High Performance Dynamic Lock-Free Hash Tables and List-Based Sets"
 /// (2002). It differs from Michael's find in three ways. It doesn't start again after a lost
 /// exchange, since the transaction then stops. It doesn't look at `prev` again before it reads the
 /// key: the operation records or changes what was found, and the transaction commits only if that
-/// still stands. And a node whose remove is the transaction's own isn't unlinked at once, since the
+/// still stands. And a node that the transaction itself marked isn't unlinked at once, since the
 /// mark holds only if the transaction commits.
 pub fn find<'a, T: HasLists>(tx: &mut Txn<'a, T>, head: u32, key: u64) -> Result<Found, Stop>
     requires walking { IsWalking T.meaning (state tx.old) head }

@@ -25,8 +25,8 @@ fn number(field: &[u8]) -> Option<u64>
     Some(value)
 }
 
-/// The number that a text writes in one to ten ASCII digits, if it is from `low` to `high`. Zeros in
-/// front count for nothing.
+/// The number that a text writes in one to ten ASCII digits, if it is from `low` to `high`. The
+/// text may begin with zeros. `None` for any other text.
 pub fn number_within(text: &[u8], low: u32, high: u32) -> Option<u32>
     ensures { result ≡ number_within low high text.now }
 {

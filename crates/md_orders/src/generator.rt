@@ -96,10 +96,13 @@ fn made_command(caller: u32, line: u32, draws: &Draws) -> Command
     }
 }
 
-/// Makes scripts: so many commands from a number, for so many callers in turn. There are 1 to
-/// 1,000,000 commands and 1 to `MAX_MADE_CALLERS` callers. The callers have different prices,
-/// accounts and orders, so no command of one changes a reply to another. `AllocError` if memory
-/// runs out.
+/// Makes scripts from a number: `lines` commands, 1 to 1,000,000, for `callers` callers in turn, 1
+/// to `MAX_MADE_CALLERS`. The number may be any. A fill looks at `PLACES_IN_VERSION_1` places, and
+/// there are no kills. The callers have different prices, accounts and orders, so no command of one
+/// caller changes a reply to another. The numbers come from the example of `rand` in the C standard
+/// (ISO/IEC 9899:1990, 7.10.2.2), five for each command.
+///
+/// `AllocError` if memory runs out.
 pub fn make(alloc: Global, number: u32, lines: u32, callers: u32) -> Result<Scripts, AllocError>
     requires lines { (1 ≤ lines) × (lines ≤ max_records) }
     requires callers { (1 ≤ callers) × (callers ≤ MAX_MADE_CALLERS) }

@@ -6,9 +6,10 @@ ghost use Rattle.md_orders.specs.Rooms.{part_number, part_in};
 
 use md_book::Part;
 
-// The caller and the line stand in a name with this factor between them, and in a number with that.
+// The factor between the caller and the line in a name.
 const NAME_LINES: u64 = 0x1_0000_0000;
 
+// The factor between the caller and the line, and between the line and the quantity, in a number.
 const NUMBER_LINES: u64 = 0x10_0000;
 
 /// The number of a part, whose caller, line and quantity are in range.

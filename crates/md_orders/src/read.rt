@@ -21,9 +21,10 @@ use std::alloc::{AllocError, Global};
 pub enum OrderFault {
     /// There are more than 1,000,000 records.
     TooMany,
-    /// The record of this number, from 1, is the first that breaks the grammar.
+    /// There are at most 1,000,000 records, and the record of this number, counted from 1, is the
+    /// first that breaks the grammar.
     BadLine(u32),
-    /// The program is out of memory.
+    /// Memory ran out.
     NoMemory,
 }
 
@@ -89,10 +90,15 @@ fn note(notes: &mut Notes, callers: u32, number: u32, row: &ByteRecord) -> Resul
     Ok(())
 }
 
-/// Reads the scripts of an order file. `TooMany` comes exactly where there are more than 1,000,000
-/// records, and `BadLine(n)` exactly where there aren't, and the n-th is the first that breaks the
-/// grammar of the file's version: it isn't a command of one of the callers with its numbers in
-/// range, nor the first record of a file of version 2. `NoMemory` is the other refusal.
+/// Reads the scripts of an order file: for each caller, 1 to `callers`, the commands of its
+/// records, in order. There may be 1 to `MAX_CALLER` callers. The page `docs/order-files.md` has
+/// the format.
+///
+/// A record breaks the grammar of the file's version if it isn't a command of one of the callers
+/// with its numbers in range. The first record of a file of version 2 is the one exception. The
+/// result is `TooMany` if there are more than 1,000,000 records, and otherwise `BadLine(n)` if
+/// record n is the first that breaks the grammar. In place of any result it may be `NoMemory`, if
+/// memory runs out. The bytes are read once, up to their end or to record 1,000,001.
 pub fn read_orders(alloc: Global, bytes: &[u8], callers: u32) -> Result<Scripts, OrderFault>
     requires { (1 ≤ callers) × (callers ≤ MAX_CALLER) }
     ensures scripts { IfOk result (λ scripts. AreFewRecords (order_records bytes.now)

@@ -16,9 +16,9 @@ use std::snapshot::Snapshot;
 
 /// A place for the reply of each line of some scripts. Callers and lines are counted from 1.
 ///
-/// A line has as much memory as a reply to its command can need: eight bytes for each part of a
-/// fill or a kill and for each sum, and some fifteen bytes beside them. All of it is taken when the
-/// places are made.
+/// The places take all their memory when they are made. A line takes some 15 bytes, and 8 more for
+/// each number that a reply to its command can need: 1 for a depth, 2 for an account, and for a
+/// fill or a kill 1 and as many as the places that it looks at.
 #[derive(Drop)]
 pub struct Replies {
     of: Snapshot<Scripts>,
@@ -54,7 +54,7 @@ fn all_rooms(alloc: Global, scripts: &Scripts) -> Result<Vec<ReplyRooms>, AllocE
 }
 
 impl Replies {
-    /// The places of scripts, with no reply.
+    /// The places of all lines of scripts, without a reply. `AllocError` if memory runs out.
     pub fn empty(alloc: Global, scripts: &Scripts) -> Result<Replies, AllocError>
         ensures { IfOk result (λ r. r
             ≡ record { scripts = scripts.now; replies = no_replies scripts.now }) }
@@ -67,7 +67,8 @@ impl Replies {
         })
     }
 
-    /// Sets the reply of a line, which suits the line's command. It takes no memory.
+    /// Sets the reply of a line. The line is one of the scripts, and the reply suits its command:
+    /// it is of the command's kind, with numbers in range. It takes no memory.
     pub fn set(&mut self, caller: u32, line: u32, reply: BookReply)
         requires { IsSomeAnd (at_line self.old.scripts caller line) (λ command.
             Suits (command, reply)) }
@@ -78,7 +79,7 @@ impl Replies {
         self.callers[caller as usize - 1].set(line as usize - 1, &reply);
     }
 
-    /// The reply of a line. None exactly where it has no place, or no reply was set there.
+    /// The reply of a line. `None` exactly if there is no such line, or if no reply was set there.
     pub fn get(&self, caller: u32, line: u32) -> Option<BookReply>
         ensures { result ≡ reply_at self.now.replies caller line }
     {

@@ -70,7 +70,7 @@ fn keep_parts(room: &mut [u64], parts: &[Part])
     }
 }
 
-// Keeps a reply in a room, which has room for it, and answers its head.
+// Keeps a reply in a room that is large enough for it, and returns its head.
 fn keep(room: &mut [u64], reply: &BookReply) -> Head
     requires { HasRoom reply.now (length room.old) }
     ensures { reply_in result room.new ≡ Some reply.now }
@@ -102,7 +102,7 @@ fn keep(room: &mut [u64], reply: &BookReply) -> Head
     }
 }
 
-// Keeps a reply in the room of a size that starts at a place of the numbers, and answers its head.
+// Keeps a reply in the room of a size that starts at a place of the numbers, and returns its head.
 fn keep_at(numbers: &mut [u64], start: usize, size: usize, reply: &BookReply) -> Head
     requires inside { start + size ≤ length numbers.old }
     requires room { HasRoom reply.now size }
@@ -168,7 +168,7 @@ fn reply_in(head: Head, room: &[u64]) -> Option<BookReply>
     Some(reply)
 }
 
-// So many zeros.
+// A list of zeros.
 fn zeros(alloc: Global, count: usize) -> Result<Vec<u64>, AllocError>
     ensures { IfOk result (λ zeros. length zeros.items ≡ count) }
 {

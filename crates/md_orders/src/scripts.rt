@@ -10,8 +10,8 @@ use md_book::Command;
 use std::alloc::{AllocError, Global};
 use std::marker::Model;
 
-/// The commands of each caller, in order. Callers and lines are counted from 1. Contracts see a
-/// list of lists.
+/// The commands of each caller, in order. Callers and lines are counted from 1. All callers
+/// together have at most 1,000,000 lines. Contracts see a list of lists.
 #[derive(Drop)]
 pub struct Scripts {
     scripts: Vec<Vec<Command>>,
@@ -31,7 +31,7 @@ impl Model for Scripts {
     ghost invariant = { λ s. AreKept s.total (lists_in s.scripts.items) };
 }
 
-// So many empty lists.
+// A list of empty lists.
 fn empty_lists(alloc: Global, count: u32) -> Result<Vec<Vec<Command>>, AllocError>
     ensures { IfOk result (λ lists. lists_in lists.items ≡ replicate count []) }
 {
@@ -56,7 +56,7 @@ fn push_to(lists: &mut Vec<Vec<Command>>, caller: u32, command: Command) -> Resu
 }
 
 impl Scripts {
-    /// Empty scripts for so many callers.
+    /// Empty scripts for `callers` callers. `AllocError` if memory runs out.
     pub(crate) fn empty(alloc: Global, callers: u32) -> Result<Scripts, AllocError>
         ensures { IfOk result (λ s. s ≡ replicate callers []) }
     {
@@ -64,7 +64,8 @@ impl Scripts {
         Ok(Scripts { scripts, total: 0 })
     }
 
-    /// Adds a command at the end of its caller's script. A refusal changes nothing.
+    /// Adds a command at the end of its caller's script. `AllocError` if memory runs out; then
+    /// nothing changes.
     pub(crate) fn add(&mut self, caller: u32, command: Command) -> Result<(), AllocError>
         requires from_1 { 1 ≤ caller }
         requires there { caller ≤ length self.old }
@@ -80,7 +81,7 @@ impl Scripts {
         Ok(())
     }
 
-    /// A caller's script; of a caller that the scripts don't have, an empty one.
+    /// A caller's script. It is empty if the scripts don't have the caller.
     pub(crate) fn script(&self, caller: u32) -> &[Command]
         ensures script { result.now ≡ list_of self.now caller }
         ensures few { length result.now ≤ max_records }
@@ -99,8 +100,8 @@ impl Scripts {
         self.scripts.len() as u32
     }
 
-    /// The number of lines of a caller, 0 for a caller that the scripts don't have, and at most
-    /// 1,000,000.
+    /// The number of a caller's lines, at most 1,000,000. It is 0 if the scripts don't have the
+    /// caller.
     pub fn len(&self, caller: u32) -> u32
         ensures count { result ≡ length (list_of self.now caller) }
         ensures few { result ≤ max_records }
@@ -116,8 +117,8 @@ impl Scripts {
         self.total
     }
 
-    /// The command of a caller's line, in range, with the name of this line where it places an
-    /// order. None exactly where there is no such line.
+    /// The command of a caller's line. Its numbers are in range, and if it places an order, the
+    /// order has the name of this line. `None` exactly if there is no such line.
     pub fn command(&self, caller: u32, line: u32) -> Option<Command>
         ensures value { result ≡ at_line self.now caller line }
         ensures lawful { IfSome result (λ c. IsCommand c × IsNamed (name_of caller line) c) }
@@ -130,8 +131,8 @@ impl Scripts {
     }
 }
 
-/// What scripts keep of their commands, for a proof to use: each is in range, and an order that it
-/// places has the name of its line. Nothing is worked out.
+/// Lends the law of scripts to a proof: each command is in range, and an order that it places has
+/// the name of its line. It has no effect when it runs.
 pub fn commands_are_named(scripts: &Scripts)
     ensures { AreNamed scripts.now }
 {

@@ -97,7 +97,7 @@ pub(crate) fn all_totals(scripts: &Scripts, replies: &Replies) -> Totals
     all
 }
 
-/// The value of a key, or 0 where it has none.
+/// The value of a key, or 0 if it has none.
 pub(crate) fn sum_at(contents: &Contents, map: u32, key: u64) -> u64
     requires { map < length contents.now.maps }
     ensures { result ≡ value_at contents.now map key }

@@ -53,7 +53,7 @@ fn parts(out: &mut Vec<u8>, parts: &[Part]) -> Result<(), AllocError>
     Ok(())
 }
 
-// Of the parts the first `count` are told.
+// Writes the first `count` parts.
 fn filled(
     out: &mut Vec<u8>,
     taken: u32,
@@ -96,7 +96,7 @@ fn reply(out: &mut Vec<u8>, reply: &BookReply) -> Result<(), AllocError>
     }
 }
 
-// CALLER:LINE REPLY, where there is a reply.
+// CALLER:LINE REPLY, if there is a reply.
 fn answer(
     out: &mut Vec<u8>,
     caller: u32,
@@ -137,7 +137,7 @@ fn scripts(out: &mut Vec<u8>, scripts: &Scripts, replies: &Replies) -> Result<()
     Ok(())
 }
 
-// SIDE PRICE DEPTH, where there is a depth.
+// SIDE PRICE DEPTH, if the depth isn't 0.
 fn level(out: &mut Vec<u8>, side: Side, price: u32, depth: u64) -> Result<(), AllocError>
     ensures { OnOk result (out.new.items ≡ out.old.items ++ level_text side price depth) }
 {
@@ -165,7 +165,7 @@ fn levels(out: &mut Vec<u8>, contents: &Contents, side: Side) -> Result<(), Allo
     Ok(())
 }
 
-// account A bought X sold Y, where it bought or sold.
+// account A bought X sold Y, if it bought or sold.
 fn account(out: &mut Vec<u8>, account: u32, bought: u64, sold: u64) -> Result<(), AllocError>
     ensures { OnOk result (out.new.items ≡ out.old.items ++ account_text account bought sold) }
 {
@@ -199,8 +199,12 @@ fn done(out: &mut Vec<u8>, count: u32) -> Result<(), AllocError>
 }
 
 /// The text of a report: each line's reply, the book that the contents stand for, and the number of
-/// lines. A line without a reply has no text. The contents have the maps of a book; where they
-/// stand for none, the text has what the maps have at each level and account.
+/// lines. The page `docs/order-files.md` has the format. A line without a reply has no text. The
+/// contents have at least the `MAPS` maps of a book. If they stand for no book, the text has what
+/// the maps hold for each level and account.
+///
+/// It looks up each of the `LEVELS` levels once, and each of the `MAX_ACCOUNT` accounts twice.
+/// `AllocError` if memory runs out.
 pub fn report(
     alloc: Global,
     of: &Scripts,
@@ -222,9 +226,12 @@ pub fn report(
     Ok(out)
 }
 
-/// The line that sums a report up: how many commands there were, the quantities that were placed,
-/// cancelled and filled in all, and what is left open in the book. The contents have the maps of a
-/// book; where they stand for none, what is left open is what the map of depths has.
+/// The text of a summary, which is one line: how many commands there were, the quantities that were
+/// placed, cancelled and filled in all, and what is left in the book. The contents have at least
+/// the `MAPS` maps of a book. If they stand for no book, what is left is what the map of depths
+/// holds.
+///
+/// It looks up each of the `LEVELS` levels once. `AllocError` if memory runs out.
 pub fn summary(
     alloc: Global,
     of: &Scripts,

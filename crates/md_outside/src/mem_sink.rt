@@ -12,7 +12,9 @@ use crate::{Failed, Sink};
 use std::alloc::{AllocError, Global};
 use std::marker::Model;
 
-/// A sink in memory, which has room for so many bytes and fails at the calls that it is told.
+/// A sink in memory, for tests. It has room for a fixed number of bytes, and a write takes as many
+/// as fit. A write fails if its number is in a list, or if no room is left. Each failure counts as
+/// a fault. No write takes memory.
 #[derive(Drop)]
 pub struct MemSink {
     bytes: Vec<u8>,
@@ -33,13 +35,13 @@ impl Model for MemSink {
       faults = s.faults;
     } };
 
-    // What room is left lies in memory that the sink has, so no write asks for more.
+    // The sink has memory for all the room that is left, so no write takes more.
     ghost invariant = { λ s. vec_len s.bytes + s.room ≤ vec_capacity s.bytes };
 }
 
 impl MemSink {
-    /// An empty sink with room for `room` bytes, which it reserves. The calls whose numbers, from
-    /// 1, are in `failing` fail. The error is that memory ran out.
+    /// An empty sink with room for `room` bytes, for which it takes the memory. The writes whose
+    /// numbers, counted from 1, are in `failing` fail. `AllocError` if memory runs out.
     pub fn new(alloc: Global, room: usize, failing: Vec<u32>) -> Result<MemSink, AllocError>
         ensures { IfOk result (λ s. s ≡ record {
           held = [];
@@ -81,7 +83,7 @@ impl Sink for MemSink {
         ensures step { MemTakes self.old (bytes_moved result part.now) self.new }
         ensures cause { HasCause self.old.faults self.new.faults result }
 
-        // With `step`, these say all of the answer.
+        // With `step`, these determine the result.
         ensures fails { IsErr result
             ↔ (Contains self.old.failing (next_count self.old.calls) ⊎ (self.old.room ≡ 0)) }
         ensures count { IfOk result (λ n. n ≡ min self.old.room (length part.now)) }

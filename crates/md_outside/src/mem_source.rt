@@ -12,7 +12,8 @@ use crate::listed::is_listed;
 use crate::{Failed, Source};
 use std::marker::Model;
 
-/// A source in memory, which gives its bytes in pieces and fails at the calls that it is told.
+/// A source in memory, for tests. A read gives at most as many bytes as a piece has, and fails if
+/// its number is in a list. Each failure counts as a fault, and takes nothing.
 #[derive(Drop)]
 pub struct MemSource {
     bytes: Vec<u8>,
@@ -38,8 +39,8 @@ impl Model for MemSource {
 }
 
 impl MemSource {
-    /// A source of these bytes, at most `piece` at a call, where `piece` is at least 1. The calls
-    /// whose numbers, from 1, are in `failing` fail.
+    /// A source of these bytes, which gives at most `piece` bytes at a read. `piece` is at least 1.
+    /// The reads whose numbers, counted from 1, are in `failing` fail.
     pub fn new(bytes: Vec<u8>, piece: usize, failing: Vec<u32>) -> MemSource
         requires { 1 ≤ piece }
         ensures { result ≡ record {
@@ -75,7 +76,7 @@ impl Source for MemSource {
         ensures step { MemGives self.old (bytes_moved result buf.new) self.new }
         ensures cause { HasCause self.old.faults self.new.faults result }
 
-        // With `step`, these say all of the answer and of the buffer.
+        // With `step`, these determine the result and the buffer.
         ensures fails { IsErr result ↔ Contains self.old.failing (next_count self.old.calls) }
         ensures count { IfOk result (λ n.
             n ≡ min (min (length self.old.left) self.old.piece) (length buf.old)) }

@@ -12,20 +12,21 @@ pub struct Failed;
 
 /// Bytes that come in, with a count of the reads that failed.
 pub trait Source {
-    /// The bytes that are left, where they are told.
+    /// The bytes that are left, if the source tells them. Otherwise `None`.
     ghost left: { Self → Option (List ℕ) } = { λ _. Option.None };
 
     /// What one read may give, and how it leaves the source: some bytes (none at the end), or
-    /// `None` where it failed.
+    /// `None` if it failed.
     ghost gives: { Self → Option (List ℕ) → Self → Type 0 } = { λ _ _ _. ⊤ };
 
     /// How often it has failed. The count stands still at `u64::MAX`.
     ghost faults: { Self → ℕ };
 
-    /// Reads into the front of `buf`, which may not be empty.
+    /// Reads bytes into the front of `buf`, whose length is at least 1.
     ///
-    /// `Ok(n)` has n from 0 to the length of `buf`, and `Ok(0)` is the end of the input. `Failed`
-    /// takes nothing, and comes only where the count of faults rose in this call.
+    /// `Ok(n)` says that it read n bytes, 0 to the length of `buf`. `Ok(0)` means that the input
+    /// has ended. `Failed` only if the count of faults rose in this call. Then no byte was read, if
+    /// the source tells its bytes.
     fn read(&mut self, buf: &mut [u8]) -> Result<usize, Failed>
         requires { 0 < length buf.old }
         ensures bound { ReadsAtMost result buf.new }
@@ -36,19 +37,19 @@ pub trait Source {
 
 /// Bytes that go out, with a count of the writes that failed.
 pub trait Sink {
-    /// The bytes that it holds, where they are told.
+    /// The bytes that it holds, if the sink tells them. Otherwise `None`.
     ghost holds: { Self → Option (List ℕ) } = { λ _. Option.None };
 
-    /// What one write may take, and how it leaves the sink: some bytes, or `None` where it failed.
+    /// What one write may take, and how it leaves the sink: some bytes, or `None` if it failed.
     ghost takes: { Self → Option (List ℕ) → Self → Type 0 } = { λ _ _ _. ⊤ };
 
     /// How often it has failed. The count stands still at `u64::MAX`.
     ghost faults: { Self → ℕ };
 
-    /// Takes the front of `part`, which may not be empty.
+    /// Writes the front of `part`, whose length is at least 1.
     ///
-    /// `Ok(n)` has n from 1 to the length of `part`. `Failed` comes only where the count of faults
-    /// rose in this call, and then nothing was appended where the bytes are told.
+    /// `Ok(n)` says that it wrote n bytes, 1 to the length of `part`. `Failed` only if the count of
+    /// faults rose in this call. Then no byte was written, if the sink tells its bytes.
     fn write(&mut self, part: &[u8]) -> Result<usize, Failed>
         requires { 0 < length part.now }
         ensures bound { TakesSome result part.now }

@@ -7,8 +7,8 @@ ghost use Rattle.md_outside.specs.Grows.{Grows};
 use crate::{Failed, Sink};
 use std::io::Write;
 
-/// A writer of std, with a count of its faults. It tells no bytes, since a part may have been
-/// written where the flush after it failed.
+/// A writer of std, with a count of its faults. It doesn't tell its bytes, because a part may have
+/// been written even if the flush after it failed.
 #[derive(Drop)]
 pub struct StdSink<W> {
     inner: W,
@@ -18,7 +18,7 @@ pub struct StdSink<W> {
 impl<W: Write> StdSink<W> {
     ghost use Rattle.md_outside.specs.StdSink.{sink_writer, sink_faults};
 
-    /// A sink that writes to `inner`, and has not failed yet.
+    /// A sink that writes to `inner`, with a count of 0 faults.
     pub fn new(inner: W) -> StdSink<W>
         ensures writer { sink_writer result ≡ inner }
         ensures faults { sink_faults result ≡ 0 }
@@ -27,8 +27,8 @@ impl<W: Write> StdSink<W> {
     }
 }
 
-/// One write to the inner writer for each call, and then one flush. Every error of either,
-/// `Interrupted` too, and a write of no byte is `Failed`.
+/// Each call makes one write to the inner writer, and then one flush. It returns `Failed` if either
+/// has an error, `Interrupted` too, or if the write took no byte.
 impl<W: Write> Sink for StdSink<W> {
     ghost use Rattle.md_outside.specs.StdSink.{sink_faults, StdTakes};
 
@@ -47,7 +47,7 @@ impl<W: Write> Sink for StdSink<W> {
     }
 }
 
-// One write and one flush. None where either failed, or no byte was written.
+// One write and one flush. None if either failed, or if no byte was written.
 fn write_through<W: Write>(writer: &mut W, part: &[u8]) -> Option<usize>
     ensures bound { IfSome result (λ n. (1 ≤ n) × (n ≤ length part.now)) }
     ensures written { IfSome result (λ n.

@@ -15,7 +15,7 @@ pub struct StdSource<R> {
 impl<R: Read> StdSource<R> {
     ghost use Rattle.md_outside.specs.StdSource.{source_reader, source_faults};
 
-    /// A source that reads from `inner`, and has not failed yet.
+    /// A source that reads from `inner`, with a count of 0 faults.
     pub fn new(inner: R) -> StdSource<R>
         ensures reader { source_reader result ≡ inner }
         ensures faults { source_faults result ≡ 0 }
@@ -24,7 +24,8 @@ impl<R: Read> StdSource<R> {
     }
 }
 
-/// One read of the inner reader for each call. Every error of it, `Interrupted` too, is `Failed`.
+/// Each call makes one read of the inner reader. It returns `Failed` if this has an error,
+/// `Interrupted` too.
 impl<R: Read> Source for StdSource<R> {
     ghost use Rattle.md_outside.specs.StdSource.{source_reader, source_faults, StdGives};
 

@@ -69,19 +69,26 @@ fn note_first<'a, T: HasQueues>(tx: &mut Txn<'a, T>, queue: u32, first: First) -
     Ok(())
 }
 
-/// The first value of a queue of the field, or `None` if it is empty, as an operation of a
-/// transaction that was just begun. The caller ends the operation with the answer as the reply of a
+/// Returns the first value of a queue of the field, or `None` if it is empty, as an operation of a
+/// transaction that was just begun. The caller ends the operation with the result as the reply of a
 /// `Front`.
 ///
-/// At most two more words are recorded: the head, and the next word of its node. No word is written
-/// and no node is taken. `Err` is the refusal of the first call that was refused: a load, or a note.
-/// The transaction keeps it, and it is never `Limit(Nodes)` or `Limit(Writes)`. After a stop the
-/// answer is the same stop and nothing is done.
+/// It records at most two more words: the head, and the next word of its node. It writes no word
+/// and takes no node.
 ///
-/// Seven steps: two loads, two notes of two steps, and the value; six if the queue is empty. A load
-/// costs more where another's descriptor stands (`Txn::load`). It takes no memory.
+/// If a load or a note is refused, it returns that stop, and the transaction keeps it:
 ///
-/// The original has no such operation: it is its dequeue without the change.
+/// - `Conflict` if a word was changed by another pass, or was recorded with another content before;
+/// - `Limit(Reads)` if one more word must be recorded, and 128 are recorded.
+///
+/// It never returns `Limit(Nodes)` or `Limit(Writes)`. If the transaction has stopped before, it
+/// returns the same stop and does nothing.
+///
+/// It takes seven steps: two loads, two notes of two steps, and the value. If the queue is empty,
+/// it takes six. A note of a word that is recorded already takes no step. A load takes more steps
+/// if another's descriptor stands in the word (`Txn::load`). The call takes no memory.
+///
+/// Michael and Scott's queue has no such operation. It is their dequeue without the change.
 pub fn front<'a, T: HasQueues>(tx: &mut Txn<'a, T>, queue: u32) -> Result<Option<u64>, Stop>
     requires begun { IsBegun T.meaning (state tx.old) queue }
     ensures pass { tx.new.pass.ghost_name ≡ tx.old.pass.ghost_name }
@@ -154,27 +161,40 @@ fn take_first<'a, T: HasQueues>(tx: &mut Txn<'a, T>, queue: u32, first: First) -
     Ok(value)
 }
 
-/// Takes the first value of a queue of the field and answers it, or answers `None` if the queue is
-/// empty, as an operation of a transaction that was just begun. The caller ends the operation with
-/// the answer as the reply of a `Dequeue`.
+/// Takes the first value out of a queue of the field and returns it, or returns `None` if the queue
+/// is empty, as an operation of a transaction that was just begun. The caller ends the operation
+/// with the result as the reply of a `Dequeue`.
 ///
-/// If there is a value, the head is changed to its node as a part of the transaction, and the next
-/// word of the head's old node is recorded. A tail that is still at that node is moved along first,
-/// so that it isn't left behind the head. If there is none, no word is written, and the head and the
-/// next word of its node are recorded. No node is taken. `Err` is the refusal of the first call that
-/// was refused: a load, a note, or an exchange. The transaction keeps it, and it is no want of
-/// nodes; at most two words were recorded then and two written. After a stop the answer is the same
-/// stop and nothing is done.
+/// If there is a value, it changes the head to the value's node as a part of the transaction, and
+/// records the next word of the head's old node. If the tail still names the old node, it first
+/// moves the tail along, so that the tail isn't left behind the head. If there is no value, it
+/// writes no word, and records the head and the next word of its node. It takes no node.
 ///
-/// Ten steps: three loads, a note of two, the value, and four to change the head; six if the queue
-/// is empty. One more moves a tail that lags, or four as a part of the transaction. A load costs
-/// more where another's descriptor stands (`Txn::load`). It takes no memory.
+/// If a load, a note or an exchange is refused, it returns that stop, and the transaction keeps it.
+/// Then it has recorded at most two more words and written at most two:
 ///
-/// After Michael and Scott (1996), with three differences. It doesn't look at the head again after
-/// it read the next word, nor at whether the tail is where the head is before it finds the queue
-/// empty: the words that it rests on are recorded or changed, and the transaction commits only if
-/// they still stand. A lost exchange isn't tried again, since the transaction then stops. And the
-/// node that the head leaves isn't freed: it stays taken until the field is renewed.
+/// - `Conflict` if a word was changed by another pass, or was recorded with another content before;
+/// - `Limit(Reads)` if one more word must be recorded, and 128 are recorded;
+/// - `Limit(Writes)` if one more word must be written, and 128 are written;
+/// - `Limit(Worn)` if the head or the tail must be changed, and has a count of 4,294,967,292 or
+///   more.
+///
+/// It never returns `Limit(Nodes)`. If the transaction has stopped before, it returns the same stop
+/// and does nothing.
+///
+/// It takes ten steps: three loads, two for a note, the value, and four to change the head. If the
+/// queue is empty, it takes six. If the tail must be moved, it takes one more, or four if the move
+/// is a part of the transaction. It takes fewer if a word is recorded already or is an own one. A
+/// load takes more steps if another's descriptor stands in the word (`Txn::load`). The call takes
+/// no memory.
+///
+/// After M. M. Michael and M. L. Scott, "Simple, Fast, and Practical Non-Blocking and Blocking
+/// Concurrent Queue Algorithms" (1996), with three differences. It doesn't look at the head again
+/// after it has read the next word. It doesn't look at the tail before it finds the queue empty. In
+/// place of both looks, the words that the reply depends on are recorded or changed, and the
+/// transaction commits only if they still stand. A lost exchange isn't tried again, since the
+/// transaction then stops. And the node that the head leaves isn't freed: it stays taken until the
+/// field is renewed.
 pub fn dequeue<'a, T: HasQueues>(tx: &mut Txn<'a, T>, queue: u32) -> Result<Option<u64>, Stop>
     requires begun { IsBegun T.meaning (state tx.old) queue }
     ensures pass { tx.new.pass.ghost_name ≡ tx.old.pass.ghost_name }

@@ -94,40 +94,43 @@ fn find_last<'a, T: HasQueues>(tx: &mut Txn<'a, T>, queue: u32) -> Result<End, S
 }
 
 /// Appends a value to a queue of the field, as an operation of a transaction that was just begun.
-/// Any value will do. The caller ends the operation with `Nothing` as the reply of an `Enqueue`.
+/// The value may be any. The caller ends the operation with `Nothing` as the reply of an `Enqueue`.
 ///
 /// It looks for the last node from the tail on, and moves the tail along. Then it takes a node for
-/// the value and puts it into the last node's next word, as a part of the transaction: others meet
-/// it once the transaction has committed. The transaction itself meets it at once. So its second
-/// enqueue goes behind the first, and moves the tail to the first one's node as a part of the
-/// transaction too.
+/// the value, and changes the last node's next word to it as a part of the transaction. Other
+/// transactions meet the node once this one has committed. The transaction itself meets it at once.
+/// So its second enqueue appends behind the first, and moves the tail to the first one's node as a
+/// part of the transaction too.
 ///
-/// No more words are recorded, at most two more are written (the last node's next word and the
-/// tail), and one node is taken. `Err` is the refusal of the first call that was refused; the
-/// transaction keeps it:
+/// It records no word, writes at most two more words (the last node's next word and the tail), and
+/// takes one node.
 ///
-/// - `Conflict` if a word moved under the transaction: another pass is live then;
+/// If a call inside is refused, it returns that stop, and the transaction keeps it:
+///
+/// - `Conflict` if a word was changed by another pass;
 /// - `Limit(Nodes)` if no lane of the pass has a node left;
-/// - `Limit(Writes)` if the transaction has written as many words as a set has room for;
-/// - `Limit(Worn)` if the count of the tail, or of the next word of the last node or of the new
-///   one, is 4,294,967,292 or more.
+/// - `Limit(Writes)` if one more word must be written, and 128 are written;
+/// - `Limit(Worn)` if a word that must be changed has a count of 4,294,967,292 or more: the tail,
+///   the next word of the last node, or that of the new node.
 ///
-/// After a stop the answer is the same stop and nothing is done.
+/// It never returns `Limit(Reads)`. If the transaction has stopped before, it returns the same stop
+/// and does nothing.
 ///
-/// Eleven steps if the tail names the last node: a look at the tail and at the next word, one for
-/// the rank, four for the new node and four for its link. Two more for each node by which the tail
-/// is behind, and three more once if the tail becomes a word of the transaction by that. A look
-/// costs more where another's descriptor stands (`Txn::load`). The move of the tail after the
-/// commit takes at most two. It takes no memory.
+/// It takes eleven steps if the tail names the last node: one load of the tail, one of the next
+/// word, one step for the rank, four for the new node, and four for its link. It takes two more for
+/// each node by which the tail is behind, and three more once if the tail then becomes a word of
+/// the transaction. A load takes more steps if another's descriptor stands in the word
+/// (`Txn::load`). The move of the tail after the commit takes at most two. The call takes no
+/// memory.
 ///
 /// After M. M. Michael and M. L. Scott, "Simple, Fast, and Practical Non-Blocking and Blocking
 /// Concurrent Queue Algorithms" (1996), with four differences. The tail is moved to the new node
-/// only after the commit, if nobody did, since others mustn't follow it to a node that isn't in the
-/// queue yet. The node gets a rank, one more than that of the node before it, and so is taken after
-/// that one was found: by the ranks a walk along next words ends, even if the transaction meets
-/// words that never stood together. It doesn't look at the tail again after it read the next word:
-/// a next word that isn't 0 never changes, and the link is made only if it is 0 still. And a lost
-/// exchange isn't tried again, since the transaction then stops.
+/// only after the commit, if nobody else moved it, since others mustn't follow it to a node that
+/// isn't in the queue yet. The node gets a rank, one more than that of the node before it, and so
+/// it is taken after that node was found. Because ranks rise, a walk along next words ends, even if
+/// the transaction meets words that never stood together. It doesn't look at the tail again after
+/// it has read the next word: a next word that isn't 0 never changes, and the link is made only if
+/// the word is still 0. And a lost exchange isn't tried again, since the transaction then stops.
 pub fn enqueue<'a, T: HasQueues>(tx: &mut Txn<'a, T>, queue: u32, value: u64) -> Result<(), Stop>
     requires begun { IsBegun T.meaning (state tx.old) queue }
     ensures pass { tx.new.pass.ghost_name ≡ tx.old.pass.ghost_name }

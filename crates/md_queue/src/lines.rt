@@ -74,20 +74,27 @@ fn pass_next<'a, T: HasQueues>(tx: &mut Txn<'a, T>, node: u32) -> Result<Option<
     Ok(Some(Passed { node, value }))
 }
 
-/// The first `n` values of a queue of the field, or all if there are fewer, as an operation of a
-/// transaction that was just begun. `n` is from 1 to 12. The caller ends the operation with the
-/// answer as the reply of a `Line`.
+/// Returns the first `n` values of a queue of the field, or all if there are fewer, as an operation
+/// of a transaction that was just begun. `n` is from 1 to 12. The caller ends the operation with
+/// the result as the reply of a `Line`.
 ///
-/// At most `n + 1` more words are recorded: the head, and the next words of the nodes on the way,
-/// the last of which is 0 if there are fewer values. No word is written and no node is taken. `Err`
-/// is the refusal of the first call that was refused; the transaction keeps it, and it is never
-/// `Limit(Nodes)` or `Limit(Writes)`. After a stop the answer is the same stop and nothing is done.
+/// It records at most `n + 1` more words: the head, and the next words of the nodes on the way. If
+/// there are fewer than `n` values, the last next word is 0. It writes no word and takes no node.
 ///
-/// Three steps for the head, a load and a note of two; four for each value, a load, a note of two
-/// and the value; and three for a next word that is 0. A load costs more where another's descriptor
-/// stands (`Txn::load`). It takes no memory.
+/// If a load or a note is refused, it returns that stop, and the transaction keeps it:
 ///
-/// This is Medley's own: the original has no look at more than one value.
+/// - `Conflict` if a word was changed by another pass, or was recorded with another content before;
+/// - `Limit(Reads)` if one more word must be recorded, and 128 are recorded.
+///
+/// It never returns `Limit(Nodes)` or `Limit(Writes)`. If the transaction has stopped before, it
+/// returns the same stop and does nothing.
+///
+/// It takes three steps for the head: a load, and two for the note. It takes four for each value: a
+/// load, two for the note, and the value. It takes three for a next word that is 0. A note of a
+/// word that is recorded already takes no step. A load takes more steps if another's descriptor
+/// stands in the word (`Txn::load`). The call takes no memory.
+///
+/// This is Medley's own. Michael and Scott's queue has no look at more than one value.
 pub fn line<'a, T: HasQueues>(tx: &mut Txn<'a, T>, queue: u32, n: u8) -> Result<Line, Stop>
     requires begun { IsBegun T.meaning (state tx.old) queue }
     requires few { IsLineLength n }

@@ -19,8 +19,9 @@ use md_orders::{Replies, Scripts, commands_are_named};
 use std::alloc::{AllocError, Global};
 use std::thread::Threads;
 
-/// What the playing of all scripts leaves: the replies of the lines, the contents, and the fronts
-/// of the engines in order, one for each renewal and one for the end.
+/// The result of playing all scripts: the replies of the lines, the contents, and the fronts of the
+/// engines in order, one for each renewal and one for the end. A front takes no bytes, and is for
+/// contracts.
 #[derive(Drop)]
 pub struct Outcome<P> {
     pub replies: Replies,
@@ -29,10 +30,18 @@ pub struct Outcome<P> {
 }
 
 /// Plays the scripts of all callers over an engine without orders, in rounds, and closes the
-/// engine. The pass is fresh, and holds all lanes, one for each caller. A caller makes at most
-/// `tries` attempts in a turn. `play_rounds` of md_many says what a round is.
+/// engine. The pass is fresh, and holds all lanes, one for each caller. An attempt of the engine
+/// may read and write as many words as a command does, and a lane has as many nodes as a command
+/// takes (`COMMAND_READS`, `COMMAND_WRITES` and `COMMAND_NODES` of md_book), and at least one
+/// attempt. A renewal has room for contents of 2,024,000 nodes, which are enough for a book of
+/// 1,000,000 orders.
 ///
-/// `AllocError` if memory runs out, here or in an attempt of the engine; then the engine has ended.
+/// `tries` is the most attempts that a caller makes in its turn of a round: any number.
+/// `play_rounds` of md_many says what a round is, and when the engine is renewed. The places of all
+/// replies are made before the first round (`Replies` of md_orders).
+///
+/// `AllocError` if memory runs out, here or in an attempt of the engine. Then the engine has ended,
+/// and its contents are lost.
 pub fn run_all<R, E, G>(
     rt: &R,
     alloc: Global,

@@ -15,11 +15,11 @@ use md_many::{FreeGate, Turn, attempt_lines};
 use md_orders::{Replies, Scripts, commands_are_named};
 use std::alloc::{AllocError, Global};
 
-/// How many lines are played before their replies are put where they are kept.
+// How many lines are played before their replies are put into their places.
 const BATCH: u32 = 1_024;
 
-/// What the playing of scripts leaves: the replies of the lines, the contents, and the front of the
-/// round.
+/// The result of playing one script: the replies of its lines, the contents, and the front of the
+/// engine. A front takes no bytes, and is for contracts.
 #[derive(Drop)]
 pub struct Played<P> {
     pub replies: Replies,
@@ -27,9 +27,12 @@ pub struct Played<P> {
     pub front: Front<P>,
 }
 
-/// Plays the script of one caller over an engine without orders, in one round, and closes the
-/// engine. The pass holds all lanes, and the engine's attempts stop for want of memory alone.
-/// `AllocError` is that.
+/// Plays the script of one caller over an engine without orders, without a renewal, and closes the
+/// engine. The scripts have one caller. The pass holds all lanes and has seen nothing. Attempts of
+/// the engine stop only if memory runs out, as those of `PlainStore` of md_history do. So each line
+/// takes one attempt.
+///
+/// `AllocError` if memory runs out, here or in an attempt of the engine.
 pub fn play_alone<E: Engine>(
     alloc: Global,
     engine: E,

@@ -1,4 +1,4 @@
-//! Replies that are put where they are kept.
+//! Putting replies into their places.
 
 ghost use Rattle.std.specs.Prelude.{◌≡◌, ◌≢◌, ◌<◌, ◌+◌, ◌++◌, ◌^◌, ℕ, List, length, OnOk};
 ghost use Rattle.std.specs.Option.{IsSomeAnd};
@@ -12,7 +12,8 @@ use md_many::Keeper;
 use md_orders::Replies;
 use std::alloc::AllocError;
 
-// Keeps the replies of a caller's lines that come after its first `done`. It takes no memory.
+// Puts the replies of a caller's lines after its first `done` into their places. It takes no
+// memory.
 pub(crate) fn keep(replies: &mut Replies, caller: u32, done: u32, batch: &[BookReply])
     requires suit { AllSuit replies.old.scripts caller done batch.now }
     requires few { done + length batch.now < 2 ^ 32 }
@@ -27,7 +28,7 @@ pub(crate) fn keep(replies: &mut Replies, caller: u32, done: u32, batch: &[BookR
     }
 }
 
-// The places of replies, as the keeper of rounds. It takes no memory.
+// The places of replies, as a keeper for rounds. Keeping takes no memory.
 #[derive(Drop)]
 pub(crate) struct KeptReplies {
     pub(crate) replies: Replies,

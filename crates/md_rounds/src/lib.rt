@@ -1,4 +1,4 @@
-//! Callers that play order commands over any store, and what their rounds come to.
+//! Callers that play order commands over any store, in rounds.
 #![tactic(auto)]
 
 mod all;

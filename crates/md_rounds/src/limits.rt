@@ -2,9 +2,9 @@
 
 ghost use Rattle.md_rounds.specs.Limits.{LimitsOfWords, LimitsOfBooks, SetHoldsCommands};
 
-/// The limits of fields and of books, number by number, and that a transaction's sets hold all that
-/// a command reads and writes. Everywhere else the limits go by their names. There is nothing to
-/// run.
+/// Its clauses state each limit of fields and of books as a number, and that a transaction's sets
+/// hold all that a command reads and writes. All other code and contracts use the names of the
+/// limits. It does nothing when it runs.
 pub fn limits_hold()
     ensures words { LimitsOfWords }
     ensures books { LimitsOfBooks }
