@@ -34,10 +34,11 @@ MOST_SECONDS = 600
 
 
 class Case(NamedTuple):
-    """A program on a file."""
+    """A program on a file, and how many processors it may use: 0 for all."""
 
     program: str
     file: File
+    processors: int = 0
 
 
 class Figures(NamedTuple):
@@ -58,7 +59,7 @@ def all_cases(scale):
         for file in all_files(scale)
         for program in ("medley", "maps", "mutex", "levels")
         if program != "maps" or file.callers == 1
-    ]
+    ] + [Case(program, file, 2) for file in all_files(scale) if file.callers == 64 for program in ("medley", "mutex")]
 
 
 class Bench:
@@ -81,12 +82,12 @@ class Bench:
         return [self.program] if callers == "1" else [self.program, "--callers", callers]
 
     def report(self, case):
-        return os.path.join(self.folder, f"{case.file.stem()}_{case.program}.txt")
+        return os.path.join(self.folder, f"{case.file.stem()}_{case.program}_{case.processors}.txt")
 
     def run(self, case):
         with open(case.file.path(self.folder)) as orders, open(self.report(case), "w") as report:
             start = time.perf_counter()
-            child = subprocess.Popen(self.words(case), stdin=orders, stdout=report, preexec_fn=limit_time)
+            child = subprocess.Popen(self.words(case), stdin=orders, stdout=report, preexec_fn=lambda: limit(case))
             _, status, usage = os.wait4(child.pid, 0)
             seconds = time.perf_counter() - start
         child.returncode = os.waitstatus_to_exitcode(status)
@@ -118,8 +119,11 @@ class Bench:
         return {case: median(figures) for case, figures in taken.items()}
 
 
-def limit_time():
+def limit(case):
+    """Limits what this process may take of the processors."""
     resource.setrlimit(resource.RLIMIT_CPU, (MOST_SECONDS, MOST_SECONDS))
+    if case.processors:
+        os.sched_setaffinity(0, sorted(os.sched_getaffinity(0))[: case.processors])
 
 
 def median(figures):
@@ -156,7 +160,9 @@ def write_figures(path, figures):
     with open(path, "w", newline="") as sink:
         table = csv.writer(sink, lineterminator="\n")
         table.writerow(["program", "file", "commands", "callers", "seconds", "processor_seconds", "peak_mib"])
-        for (program, file), (seconds, processor, memory) in figures.items():
+        for (program, file, processors), (seconds, processor, memory) in figures.items():
+            if processors:
+                continue
             row = [program, file.name, file.count, file.callers]
             table.writerow([*row, f"{seconds:.4f}", f"{processor:.4f}", f"{memory:.1f}"])
 
@@ -227,6 +233,14 @@ def print_hostile(figures):
     print_table("Hostile files", heads, rows)
 
 
+def print_two_processors(figures):
+    rows = []
+    for file in dict.fromkeys(case.file for case in figures if case.processors):
+        ours, mutex = (figures[Case(name, file, 2)].seconds for name in ("medley", "mutex"))
+        rows.append((file.name, f"{file.count:,}", f"{ours:.3f} s", f"{mutex:.3f} s", f"{ours / mutex:.2f}"))
+    print_table("64 callers on two processors", ["File", "Commands", "Program", "mutex", "Over mutex"], rows)
+
+
 def given():
     parser = argparse.ArgumentParser(description="Times the program with one caller and with several.")
     parser.add_argument("program", help="the program medley, built")
@@ -249,6 +263,7 @@ def main():
     print_memory(figures, files)
     print_growth(figures)
     print_hostile(figures)
+    print_two_processors(figures)
 
 
 if __name__ == "__main__":

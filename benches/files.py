@@ -144,7 +144,7 @@ def all_files(scale=1):
         *(File(name, million, callers) for callers in (1, 2, 4) for name in ("spread", "hot")),
         *(File("spread", million // part, callers) for callers in (1, 4) for part in (100, 10)),
         File("six kinds, spread", million - 1, 1, 2),
-        File("six kinds, hot", million - 1, 64, 2),
+        *(File("six kinds, hot", million // part - 1, 64, 2) for part in (10, 1)),
         File("cancelled chains", fewer, 64, 2),
         *(File(name, fewer, 4) for name in HOSTILE if name != "cancelled chains"),
     ]
