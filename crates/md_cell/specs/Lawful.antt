@@ -1,4 +1,4 @@
--- The cell has the five laws. This is a proof, and defines nothing that a contract says.
+-- The cell has the four laws of a theory (`Lawful`). This is a proof, and defines nothing that a contract says.
 use Rattle.std.proofs.Common.{◌≡◌, ℕ, zero, suc, List, [], ◌∷◌, refl, sym, ap, ◌∙◌, subst, ⊎_elim, Bool, true, false, Option, Some, None, cond, is_none, if◌then◌else◌, eq-eqb, IsTrue}
 use Rattle.std.specs.List.{All}
 use Rattle.std.specs.FinMap as fin

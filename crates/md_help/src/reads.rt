@@ -50,8 +50,9 @@ fn check<T: Theory>(field: &Field<T>, pass: &mut Pass<T>, desc: u32, i: u8) -> b
     does_stand(desc, recorded, found)
 }
 
-/// Whether a read of a descriptor stands that recorded one content, where another is found in its
-/// word: the two are the same, or the descriptor itself stands there, one count later.
+/// Whether a read of a descriptor stands. It recorded one content, and another was found in its
+/// word. It stands if the two are the same, or if the descriptor itself was found there, one count
+/// later.
 pub fn does_stand(desc: u32, recorded: u64, found: u64) -> bool
     ensures { result ≡ read_stands desc recorded found }
 {

@@ -22,7 +22,8 @@ pub enum Limit {
     Nodes,
     /// Its pass has no attempt left.
     Tries,
-    /// A word was changed so often that no new transaction may change it.
+    /// A word was changed so often that no new transaction may change it. `word` is the word's
+    /// number in the store's field, and `count` is its count, which a change raises by 1 or 2.
     Worn { word: u32, count: u32 },
 }
 

@@ -2,8 +2,8 @@
 
 use std::marker::Brand;
 
-/// Of which kind certificates are. Each call of `Pass::ready` picks it. `Brand` is the kind of which
-/// every certificate is.
+/// A kind of certificates, which each call of `Pass::ready` picks. Every certificate is of the kind
+/// `Brand`.
 pub trait Certifying {
     ghost use Rattle.std.specs.Prelude.{List};
     ghost use Rattle.md_machine.specs.declared.certificate.Certificate.{Certificate};

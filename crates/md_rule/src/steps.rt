@@ -179,9 +179,9 @@ impl<T: Theory> Pass<T> {
         )
     }
 
-    /// Commits an attempt that is in progress (`from`), whoever's it is: the last part of
-    /// validation. Since the pass met that status, it loaded each read of the attempt, or stored it
-    /// itself, and found each to stand.
+    /// Commits an attempt that is in progress, of any pass. This is the last step of its validation.
+    /// `from` is the status word of the attempt, which the pass has met. Since then the pass has
+    /// loaded each read of the attempt, or has stored it itself, and found that each stands.
     ///
     /// Ok exactly if the word held the expected content, which is changed then. `Err` has what it
     /// held in its place; then nothing is changed. One atomic exchange.
@@ -201,10 +201,10 @@ impl<T: Theory> Pass<T> {
         exchange_word::<Brand, T, _>(&mut self.seat, field, word, from, committed, about)
     }
 
-    /// Aborts an attempt that isn't ready, or one in progress of which a read was found, since the
-    /// pass met that status, that doesn't stand. Its descriptor is of one of the pass's lanes, and
-    /// an attempt of it was taken (`set_tries_taken`); or a step of the pass found it in a counted
-    /// word.
+    /// Aborts an attempt of any pass. The attempt isn't ready; or it is in progress, and the pass
+    /// has found a read of it that doesn't stand, after it had met the status `from`. The pass
+    /// reaches the descriptor in one of two ways: it is that of one of its own lanes, of which an
+    /// attempt was taken (`set_tries_taken`), or a step of the pass found it in a counted word.
     ///
     /// Ok exactly if the word held the expected content, which is changed then. `Err` has what it
     /// held in its place; then nothing is changed. One atomic exchange.
@@ -224,11 +224,11 @@ impl<T: Theory> Pass<T> {
         exchange_word::<Brand, T, _>(&mut self.seat, field, word, from, aborted, about)
     }
 
-    /// Takes a descriptor whose attempt is decided out of a counted word, whoever's it is. The
-    /// value is that of the attempt's fate: the slot's new value after a commit, and the value of
-    /// its old content after an abort. The pass met the present attempt of an own descriptor
-    /// decided; or it met the content, a status, the content again, the slot, and the decided
-    /// status, in the order that `MayUninstall` says.
+    /// Takes a descriptor, of any pass, out of a counted word. Its attempt is decided. `value` is
+    /// what the word then holds: the slot's new value if the attempt was committed, and the value of
+    /// its old content if it was aborted. If the descriptor is an own one, the pass has met its
+    /// present attempt decided. Otherwise the pass has met the content, a status, the content again,
+    /// the slot, and the decided status, in this order (`MayUninstall`).
     ///
     /// Ok exactly if the word held the expected content, which is changed then. `Err` has what it
     /// held in its place; then nothing is changed. The count is one more then. One atomic exchange.

@@ -35,7 +35,7 @@ room_of s = min MAX_BASE ((MAX_WORDS - count_of_words s.lanes s.nodes 0 s.maps s
 abbrev pub limits_of : Shape → Limits
 limits_of s = record { reads = SET; writes = SET; nodes = s.nodes; tries = s.tries; room = room_of s }
 
--- memory is never wanting
+-- an attempt may stop by a conflict or a limit, and never by memory
 abbrev pub MayStop : Stop → Type 0
 MayStop (Conflict shown) = Unit {0}
 MayStop (Limit limit) = Unit {0}

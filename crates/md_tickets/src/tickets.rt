@@ -23,12 +23,12 @@ pub fn ticket_word(field: &Field<CellTheory>) -> u32
     field.shape().map_head(0, 0)
 }
 
-/// Tries once to take a ticket, in at most 2 steps, whatever other threads do. A ticket is an even
-/// number of at most `LAST_COUNT`. If the pass knew all tickets below a number to be taken, it gets
-/// none of them; and it knows so of its ticket and all below it afterwards.
+/// Tries once to take a ticket. A ticket is an even number, at most `LAST_COUNT`. A pass knows that
+/// all tickets below some number are taken, and never gets one of these. After the call it also
+/// knows that its own ticket, and all below it, are taken.
 ///
-/// The answer is `None` only if another thread took the ticket that was found, if none is left, or
-/// if a descriptor stands in the word.
+/// It returns `None` only if another thread took the ticket that was found, if no ticket is left, or
+/// if a descriptor stands in the word. It takes at most 2 steps, whatever other threads do.
 pub fn take_ticket(field: &Field<CellTheory>, pass: &mut Pass<CellTheory>) -> Option<u32>
     requires { IsOf pass.old field.now }
     ensures same { pass.new ≡ record pass.old { view = pass.new.view } }
@@ -51,9 +51,9 @@ pub fn take_ticket(field: &Field<CellTheory>, pass: &mut Pass<CellTheory>) -> Op
     }
 }
 
-/// Exchanges a content of the cell's word for the same value, with a count that is 2 more. The
-/// content is even, and its count is at most `LAST_COUNT`. The answer is that of the exchange: Ok
-/// exactly if the word held the content, and else what it held.
+/// Exchanges a content of the cell's word for the same value with a count that is 2 more. The
+/// content is even, and its count is at most `LAST_COUNT`. It returns `Ok` exactly if the word held
+/// the content, and otherwise `Err` with what the word held. It takes one step.
 pub fn renew(
     field: &Field<CellTheory>,
     pass: &mut Pass<CellTheory>,

@@ -12,7 +12,7 @@ pub const MAX_NODES: u32 = 8_388_608;
 /// The most base nodes.
 pub const MAX_BASE: u32 = 4_194_304;
 
-/// The most tries of a lane. Every `u32` is in this limit.
+/// The most attempts of a lane. Every `u32` is within this limit.
 pub const MAX_TRIES: u32 = 4_294_967_295;
 
 /// The most maps.

@@ -34,14 +34,22 @@ pub struct Shape {
 /// Why numbers make no shape: the first of them that is out of its range, or their sum.
 #[derive(Clone, Copy, Debug, PartialEq, Eq)]
 pub enum ShapeFault {
+    /// The number of lanes isn't from 1 to `LANES`.
     Lanes,
+    /// The number of nodes of a lane isn't from 1 to `MAX_NODES`.
     Nodes,
+    /// The number of base nodes is greater than `MAX_BASE`.
     Base,
+    /// The number of attempts of a lane is 0.
     Tries,
+    /// The number of maps isn't from 1 to `MAX_MAPS`.
     Maps,
+    /// The number of buckets isn't from 1 to `MAX_BUCKETS`.
     Buckets,
+    /// The number of queues is greater than `MAX_QUEUES`.
     Queues,
-    /// Every number is in its range, and the field would have so many words, more than `MAX_WORDS`.
+    /// Every number is in its range, and the field would have this many words, which is more than
+    /// `MAX_WORDS`.
     TooLarge { words: u64 },
 }
 
