@@ -1,5 +1,4 @@
 pub mod Sizes
-pub mod ByValue
 pub mod Lessened
 pub mod PlacedOrders
 pub mod Changes

@@ -1,5 +1,4 @@
 pub mod Lookups
-pub mod Tails
 pub mod Looks
 pub mod Looking
 pub mod AtFront

@@ -1,4 +1,3 @@
-pub mod Plays
 pub mod Fills
 pub mod Kills
 pub mod Costs

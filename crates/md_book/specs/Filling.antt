@@ -2,6 +2,7 @@
 use Rattle.std.specs.Prelude.{ℕ, zero, suc, ◌+◌, ◌-◌, ◌==◌, ◌≤◌, if◌then◌else◌, min, replicate, slice_set}
 use Rattle.md_history.specs.declared.acts.Op.TheVariants.{Get, Insert, Remove, Dequeue, Front}
 use Rattle.md_history.specs.Script.{Script, done, call, bind}
+use Rattle.md_history.specs.Branches.{by_value}
 use Rattle.md_book.specs.declared.commands.Side.{Side}
 use Rattle.md_book.specs.declared.commands.Side.TheVariants.{Buy, Sell}
 use Rattle.md_book.specs.declared.commands.Part.{Part}
@@ -14,7 +15,7 @@ use Rattle.md_book.specs.declared.limits.TheConstants.{MAX_PARTS}
 use Rattle.md_book.specs.declared.maps.TheConstants.{OPEN_ORDERS, DEPTHS, BOUGHT, SOLD}
 use Rattle.md_book.specs.Book.{level_of}
 use Rattle.md_book.specs.Stands.{left_in, account_in}
-use Rattle.md_book.specs.Scripts.{by_value, raise, lower}
+use Rattle.md_book.specs.Scripts.{raise, lower}
 
 -- the map where a side's resting accounts have their sums: at buy orders they bought, at sell orders they sold
 abbrev pub resting_sums : Side → ℕ

@@ -1,6 +1,5 @@
 pub mod Book
 pub mod Stands
-pub mod Playing
 pub mod Scripts
 pub mod Filling
 pub mod Killing

@@ -1,9 +1,10 @@
 -- What commands do to the maps and queues, as scripts: all but filling.
-use Rattle.std.specs.Prelude.{ℕ, ◌+◌, ◌-◌, ◌^◌, ◌==◌, if◌then◌else◌, min, List, [], take, Some, None}
+use Rattle.std.specs.Prelude.{ℕ, ◌+◌, ◌-◌, ◌^◌, ◌==◌, if◌then◌else◌, min, List, [], take, unwrap_or}
 use Rattle.md_history.specs.declared.acts.Op.TheVariants.{Get, Insert, Remove, Enqueue}
 use Rattle.md_history.specs.declared.acts.Reply.{Reply}
 use Rattle.md_history.specs.declared.acts.Reply.TheVariants.{Value, Flag, Nothing, Line}
 use Rattle.md_history.specs.Script.{Script, done, call, bind}
+use Rattle.md_history.specs.Branches.{value_in, by_value}
 use Rattle.md_book.specs.declared.commands.Side.{Side}
 use Rattle.md_book.specs.declared.commands.BookReply.{BookReply}
 use Rattle.md_book.specs.declared.commands.BookReply.TheVariants as reply
@@ -13,11 +14,7 @@ use Rattle.md_book.specs.Stands.{packed, left_in, level_in}
 
 -- the value of a reply, or 0 if there is none
 abbrev pub value_or_0 : Reply → ℕ
-value_or_0 (Value (Some v)) = v
-value_or_0 (Value None) = 0
-value_or_0 (Flag b) = 0
-value_or_0 Nothing = 0
-value_or_0 (Line l) = 0
+value_or_0 r = unwrap_or (value_in r) 0
 
 -- the values of a line, or none if the reply is another
 abbrev pub line_values : Reply → List ℕ
@@ -25,14 +22,6 @@ line_values (Value v) = []
 line_values (Flag b) = []
 line_values Nothing = []
 line_values (Line l) = take l.count l.values
-
--- one way if a reply has no value, another if it has one
-abbrev pub by_value : {R : Type 0} → Reply → Script R → (ℕ → Script R) → Script R
-by_value (Value (Some v)) none some = some v
-by_value (Value None) none some = none
-by_value (Flag b) none some = none
-by_value Nothing none some = none
-by_value (Line l) none some = none
 
 -- a key gets a value, unless that is 0
 abbrev pub put : ℕ → ℕ → ℕ → Script (Unit {0})

@@ -1,7 +1,7 @@
 //! Filling from resting orders.
 
 ghost use Rattle.std.specs.Prelude.{◌≡◌, ◌<◌, ◌≤◌, ◌+◌, None, IfOk, IfErr};
-ghost use Rattle.md_book.specs.Playing.{PlaysPart};
+ghost use Rattle.md_history.specs.Playing.{PlaysPart};
 ghost use Rattle.md_book.specs.Book.{IsPrice};
 ghost use Rattle.md_book.specs.Filling.{unfilled, with_part, take_parts, book_taken, fill};
 

@@ -1,7 +1,7 @@
 //! A look at the front place of a level.
 
 ghost use Rattle.std.specs.Prelude.{◌≡◌, ◌<◌, ◌≤◌, None, IfOk, IfErr};
-ghost use Rattle.md_book.specs.Playing.{PlaysPart};
+ghost use Rattle.md_history.specs.Playing.{PlaysPart};
 ghost use Rattle.md_book.specs.Stands.{left_in};
 ghost use Rattle.md_book.specs.Filling.{put_back, take_from, look_front, resting_sums, taker_sums, TakesAtMost};
 

@@ -1,7 +1,7 @@
 //! Filling from resting orders the whole quantity, or nothing.
 
 ghost use Rattle.std.specs.Prelude.{◌≡◌, ◌≤◌, take, None, IfOk, IfErr};
-ghost use Rattle.md_book.specs.Playing.{PlaysPart};
+ghost use Rattle.md_history.specs.Playing.{PlaysPart};
 ghost use Rattle.md_book.specs.Book.{IsPrice};
 ghost use Rattle.md_book.specs.Killing.{have_left, kill};
 

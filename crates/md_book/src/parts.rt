@@ -1,7 +1,7 @@
 //! Parts that commands have in common.
 
 ghost use Rattle.std.specs.Prelude.{◌≡◌, ◌<◌, None, IfOk, IfErr};
-ghost use Rattle.md_book.specs.Playing.{PlaysPart};
+ghost use Rattle.md_history.specs.Playing.{PlaysPart};
 ghost use Rattle.md_book.specs.Scripts.{put, raise, lower};
 
 use md_history::{Stop, TxCalls};

@@ -1,7 +1,7 @@
 //! Placing an order.
 
 ghost use Rattle.std.specs.Prelude.{◌≡◌, ◌≤◌, None, IfOk, IfErr};
-ghost use Rattle.md_book.specs.Playing.{PlaysPart};
+ghost use Rattle.md_history.specs.Playing.{PlaysPart};
 ghost use Rattle.md_book.specs.Book.{IsPrice};
 ghost use Rattle.md_book.specs.Scripts.{place};
 

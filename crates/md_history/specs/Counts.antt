@@ -109,3 +109,7 @@ pub record AllowAll (most more : Bounds) : Type 0 where
   pub reads : most.reads ≤ more.reads
   pub writes : most.writes ≤ more.writes
   pub nodes : most.nodes ≤ more.nodes
+
+-- bounds that so many calls keep to, if none of them looks at a line
+abbrev pub bounds_of_calls : ℕ → Bounds
+bounds_of_calls n = record { reads = 4 * n; writes = 7 * n; nodes = n }

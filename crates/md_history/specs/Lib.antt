@@ -8,6 +8,8 @@ pub mod Counts
 pub mod CountLaws
 pub mod Script
 pub mod ScriptLaws
+pub mod Branches
+pub mod Playing
 pub mod Attempt
 pub mod Engine
 pub mod Contents

@@ -1,14 +1,12 @@
 -- What operations change in a state, and what stays.
-use Rattle.std.proofs.Common.{◌≡◌, ◌≢◌, ℕ, ◌<◌, true, false, cond, List, [], ◌∷◌, ◌++◌, length, slice_index_or, refl, sym, ap, subst, ◌∙◌, inl, inr, Option, Some, None, drop, arith}
+use Rattle.std.proofs.Common.{◌≡◌, ◌≢◌, ℕ, ◌<◌, cond, List, [], ◌∷◌, ◌++◌, length, slice_index_or, refl, sym, ap, subst, ◌∙◌, inl, inr, Option, Some, None, drop}
 use Rattle.std.specs.Prelude.{is_none}
-use Rattle.std.specs.Ordering.{nat_cmp, eq_by_cmp}
-use Rattle.std.specs.Cmp.{nat_cmp_total}
 use Rattle.std.specs.FinMap as fin
 use Rattle.std.proofs.lemmas.Bool.{cases_eq}
-use Rattle.std.proofs.lemmas.Bool.Decides.{nat_tests}
 use Rattle.std.proofs.lemmas.List.{length-set, get_or-set_same, get_or-set_other}
 use Rattle.md_history.specs.declared.acts.Op.TheVariants.{Insert, Remove, Enqueue, Dequeue}
 use Rattle.md_history.specs.State.{State, Table, map_at, queue_at, with_map, with_queue, after}
+use Rattle.md_history.proofs.Keys.{get-insert_same, get-insert_other, get-remove_same, get-remove_other}
 
 -- one map has this at one key; all else is as it was
 pub record Sets (s t : State) (m k : ℕ) (now : Option ℕ) : Type 0 where
@@ -28,25 +26,6 @@ pub record Lines (s t : State) (q : ℕ) (now : List ℕ) : Type 0 where
 -- what holds at one number and at all others
 pub at_each : (P : ℕ → Type 0) (k : ℕ) → P k → ((q : ℕ) → q ≢ k → P q) → (q : ℕ) → P q
 at_each P k here others q = elim (cases_eq q k) [ inl e ↦ subst P (sym e) here | inr h ↦ others q h ]
-
-same_key : (k : ℕ) → eq_by_cmp nat_cmp k k ≡ true
-same_key k = grind (arith, nat_tests)
-
-other_key : (q k : ℕ) → q ≢ k → eq_by_cmp nat_cmp q k ≡ false
-other_key q k h = grind (arith, nat_tests)
-
-module _ (t : Table) (k : ℕ) where
-  get-insert_same : (v : ℕ) → fin.get (fin.insert t k v) k ≡ Some v
-  get-insert_same v = fin.get-insert nat_cmp_total t k v k ∙ ap (λ b. cond b (Some v) (fin.get t k)) (same_key k)
-
-  get-insert_other : (v q : ℕ) → q ≢ k → fin.get (fin.insert t k v) q ≡ fin.get t q
-  get-insert_other v q h = fin.get-insert nat_cmp_total t k v q ∙ ap (λ b. cond b (Some v) (fin.get t q)) (other_key q k h)
-
-  get-remove_same : fin.get (fin.remove t k) k ≡ None
-  get-remove_same = fin.get-remove nat_cmp_total t k k ∙ ap (λ b. cond b None (fin.get t k)) (same_key k)
-
-  get-remove_other : (q : ℕ) → q ≢ k → fin.get (fin.remove t k) q ≡ fin.get t q
-  get-remove_other q h = fin.get-remove nat_cmp_total t k q ∙ ap (λ b. cond b None (fin.get t q)) (other_key q k h)
 
 -- a map is replaced by one that differs at one key
 with_map-sets : (s : State) (m k : ℕ) (t : Table) (now : Option ℕ) → m < length s.maps → fin.get t k ≡ now → ((q : ℕ) → q ≢ k → fin.get t q ≡ fin.get (map_at s m) q) → Sets s (with_map s m t) m k now

@@ -6,9 +6,9 @@ use Rattle.md_history.specs.declared.acts.Op.TheVariants.{Insert, Remove}
 use Rattle.md_history.specs.declared.acts.Reply.TheVariants.{Value}
 use Rattle.md_history.specs.State.{State, map_at, after}
 use Rattle.md_history.specs.Script.{done, call}
+use Rattle.md_history.proofs.Plays.{played}
 use Rattle.md_book.specs.Stands.{unless_0}
 use Rattle.md_book.specs.Scripts.{value_or_0, put, raise, lower}
-use Rattle.md_book.proofs.steps.Plays.{played}
 use Rattle.md_book.proofs.books.Changes.{Sets, sets-same, sets-again, insert-sets, remove-sets}
 
 pub value_or_0-unless_0 : (n : ℕ) → value_or_0 (Value (unless_0 n)) ≡ n

@@ -9,8 +9,8 @@ use Rattle.md_history.specs.declared.acts.Reply.TheVariants.{Value, Flag}
 use Rattle.md_history.specs.Act.{act_of}
 use Rattle.md_history.specs.State.{State, map_at, after}
 use Rattle.md_history.specs.Script.{done, call}
+use Rattle.md_history.proofs.Plays.{made}
 use Rattle.md_book.specs.Scripts.{put}
-use Rattle.md_book.proofs.steps.Plays.{made}
 use Rattle.md_book.proofs.books.Changes.{remove-sets}
 use Rattle.md_book.proofs.steps.Costs.{Costs, costs-append, costs-more, costs-absent, costs-new, costs-removed, costs-replaced}
 

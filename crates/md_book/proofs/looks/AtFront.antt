@@ -5,6 +5,7 @@ use Rattle.std.proofs.lemmas.List.{length-map}
 use Rattle.md_history.specs.declared.acts.Act.{Act}
 use Rattle.md_history.specs.State.{State}
 use Rattle.md_history.specs.Script.{Script, done, bind}
+use Rattle.md_history.proofs.Plays.{played, outcome, made, ends-bind}
 use Rattle.md_book.specs.declared.commands.Side.{Side}
 use Rattle.md_book.specs.declared.fronts.Look.{Look}
 use Rattle.md_book.specs.declared.fronts.Look.TheVariants.{Live}
@@ -13,7 +14,6 @@ use Rattle.md_book.specs.declared.limits.TheConstants.{MAX_QUANTITY}
 use Rattle.md_book.specs.Book.{Order, Trade, Book, IsAccount, IsPrice, level_of, lessen, front_order, pass, trade, traded}
 use Rattle.md_book.specs.Scripts.{value_or_0, raise}
 use Rattle.md_book.specs.Filling.{resting_sums}
-use Rattle.md_book.proofs.steps.Plays.{played, outcome, made, ends-bind}
 use Rattle.md_book.proofs.books.Raises.{raise-sets}
 use Rattle.md_book.proofs.steps.Costs.{Costs, costs-append, costs-more, costs-none}
 use Rattle.md_book.proofs.books.Replacing.{replace-costs}

@@ -11,12 +11,12 @@ use Rattle.md_history.specs.declared.acts.Act.{Act}
 use Rattle.md_history.specs.declared.acts.Reply.TheVariants.{Value}
 use Rattle.md_history.specs.State.{State, map_at}
 use Rattle.md_history.specs.Script.{Script, done}
+use Rattle.md_history.proofs.Plays.{played, outcome, made}
 use Rattle.md_book.specs.declared.maps.TheConstants.{OPEN_ORDERS}
 use Rattle.md_book.specs.Book.{Order, Book}
 use Rattle.md_book.specs.Stands.{left_in, IsInRange, Shows}
 use Rattle.md_book.specs.Scripts.{value_or_0}
 use Rattle.md_book.specs.Killing.{have_left}
-use Rattle.md_book.proofs.steps.Plays.{played, outcome, made}
 use Rattle.md_book.proofs.steps.Costs.{Costs, costs-append, costs-more, costs-none, costs-get}
 use Rattle.md_book.proofs.books.Lessened.{Has, All-has}
 use Rattle.md_book.proofs.looks.Lookups.{looks_up}

@@ -10,17 +10,17 @@ use Rattle.md_history.specs.declared.acts.Reply.TheVariants.{Value}
 use Rattle.md_history.specs.Act.{act_of}
 use Rattle.md_history.specs.State.{State, map_at, queue_at, after}
 use Rattle.md_history.specs.Script.{Script, done, call}
+use Rattle.md_history.specs.Branches.{by_value}
+use Rattle.md_history.proofs.Plays.{played, outcome, made}
 use Rattle.md_book.specs.declared.commands.Side.{Side}
 use Rattle.md_book.specs.declared.fronts.Look.{Look}
 use Rattle.md_book.specs.declared.fronts.Look.TheVariants.{Nobody, Dead}
 use Rattle.md_book.specs.declared.maps.TheConstants.{LEVELS, OPEN_ORDERS}
 use Rattle.md_book.specs.Book.{Order, Book, IsAccount, IsPrice, level_of, front_order, pass}
 use Rattle.md_book.specs.Stands.{account_in, left_in}
-use Rattle.md_book.specs.Scripts.{by_value}
 use Rattle.md_book.specs.Filling.{take_from, look_front}
 use Rattle.md_book.specs.Places.{places_looked}
 use Rattle.md_book.proofs.books.Places.{look-seen}
-use Rattle.md_book.proofs.steps.Plays.{played, outcome, made}
 use Rattle.md_book.proofs.books.Changes.{dequeue-lines}
 use Rattle.md_book.proofs.steps.Costs.{Costs, costs-append, costs-more, costs-front, costs-get, costs-dequeue}
 use Rattle.md_book.proofs.sums.LookSums.{front-has}

@@ -8,6 +8,8 @@ use Rattle.md_history.specs.declared.acts.Reply.TheVariants.{Value}
 use Rattle.md_history.specs.Act.{act_of}
 use Rattle.md_history.specs.State.{State, after}
 use Rattle.md_history.specs.Script.{Script, done, bind}
+use Rattle.md_history.specs.Branches.{by_value}
+use Rattle.md_history.proofs.Plays.{played, outcome, made, ends-bind}
 use Rattle.md_book.specs.declared.commands.Side.TheVariants.{Buy}
 use Rattle.md_book.specs.declared.commands.Command.TheVariants.{Cancel}
 use Rattle.md_book.specs.declared.commands.BookReply.{BookReply}
@@ -15,9 +17,8 @@ use Rattle.md_book.specs.declared.commands.BookReply.TheVariants as reply
 use Rattle.md_book.specs.declared.maps.TheConstants.{DEPTHS, OPEN_ORDERS}
 use Rattle.md_book.specs.Book.{Order, Book, level_of, depth, sold, find_open, cancel_step}
 use Rattle.md_book.specs.Stands.{packed, left_in, level_in, open_order, unless_0, IsInRange, Shows}
-use Rattle.md_book.specs.Scripts.{by_value, lower, value_or_0}
+use Rattle.md_book.specs.Scripts.{lower, value_or_0}
 use Rattle.md_book.proofs.books.Sizes.{HasRoom}
-use Rattle.md_book.proofs.steps.Plays.{played, outcome, made, ends-bind}
 use Rattle.md_book.proofs.books.Changes.{Sets, remove-sets}
 use Rattle.md_book.proofs.books.Raises.{lower-sets}
 use Rattle.md_book.proofs.steps.Costs.{costs-append, costs-none, costs-absent, costs-removed, few-cost}

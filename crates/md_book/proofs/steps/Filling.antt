@@ -6,6 +6,7 @@ use Rattle.md_history.specs.declared.acts.Act.{Act}
 use Rattle.md_history.specs.Counts.{AreFew}
 use Rattle.md_history.specs.State.{State, map_at}
 use Rattle.md_history.specs.Script.{Script, done, bind}
+use Rattle.md_history.proofs.Plays.{played, outcome, made, ends-bind, did-made}
 use Rattle.md_book.specs.declared.commands.Side.{Side}
 use Rattle.md_book.specs.declared.commands.Command.TheVariants.{Fill}
 use Rattle.md_book.specs.declared.commands.BookReply.{BookReply}
@@ -20,7 +21,6 @@ use Rattle.md_book.specs.Filling.{taker_sums, unfilled, take_parts, book_taken, 
 use Rattle.md_book.specs.Commands.{IsOffer, IsPlaces}
 use Rattle.md_book.specs.Places.{places_looked, bounds_for, FillsAreFew}
 use Rattle.md_book.proofs.books.Sizes.{HasRoom, sized-room}
-use Rattle.md_book.proofs.steps.Plays.{played, outcome, made, ends-bind, did-made}
 use Rattle.md_book.proofs.books.Changes.{Sets}
 use Rattle.md_book.proofs.books.Raises.{raise-sets, lower-sets}
 use Rattle.md_book.proofs.steps.Costs.{Costs, costs-append, costs-more, costs-none, few-cost, reads-cost, writes-cost}

@@ -11,6 +11,7 @@ use Rattle.md_history.specs.declared.acts.TheConstants.{MAX_LINE}
 use Rattle.md_history.specs.Act.{act_of}
 use Rattle.md_history.specs.Script.{Script}
 use Rattle.md_history.specs.State.{State, queue_at, line_of, answer}
+use Rattle.md_history.proofs.Plays.{played, outcome, made, ends-bind}
 use Rattle.md_book.specs.declared.commands.Side.{Side}
 use Rattle.md_book.specs.declared.commands.Command.TheVariants.{Kill}
 use Rattle.md_book.specs.declared.commands.BookReply.{BookReply}
@@ -22,7 +23,6 @@ use Rattle.md_book.specs.Scripts.{line_values}
 use Rattle.md_book.specs.Killing.{have_left, fill_or_kill}
 use Rattle.md_book.specs.Commands.{IsOffer}
 use Rattle.md_book.proofs.books.Sizes.{HasRoom}
-use Rattle.md_book.proofs.steps.Plays.{played, outcome, made, ends-bind}
 use Rattle.md_book.proofs.steps.Costs.{Costs, costs-append, costs-more, costs-none, costs-line, few-cost}
 use Rattle.md_book.proofs.books.Lessened.{Has}
 use Rattle.md_book.proofs.steps.Placing.{level_of-below}

@@ -9,6 +9,7 @@ use Rattle.md_history.specs.State.{State, map_at, queue_at, after}
 use Rattle.md_history.specs.Counts.{AreFew}
 use Rattle.md_history.specs.Script.{done}
 use Rattle.md_history.proofs.Runs.{length-maps}
+use Rattle.md_history.proofs.Plays.{played, made, played-bind, outcome-bind, ends-bind}
 use Rattle.md_book.specs.declared.commands.Side.{Side}
 use Rattle.md_book.specs.declared.commands.Side.TheVariants.{Buy, Sell}
 use Rattle.md_book.specs.declared.commands.Command.TheVariants.{Place}
@@ -20,7 +21,6 @@ use Rattle.md_book.specs.Scripts.{value_or_0, place, raise}
 use Rattle.md_book.specs.Commands.{IsPlace}
 use Rattle.md_book.specs.Meets.{MayTake, command_bounds}
 use Rattle.md_book.proofs.books.Sizes.{HasRoom}
-use Rattle.md_book.proofs.steps.Plays.{played, made, played-bind, outcome-bind, ends-bind}
 use Rattle.md_book.proofs.books.Changes.{at_each, Sets, Lines, insert-sets, enqueue-lines, map_at-lines, queue_at-sets}
 use Rattle.md_book.proofs.books.Raises.{raise-sets}
 use Rattle.md_book.proofs.steps.Costs.{costs-append, costs-none, costs-insert, costs-enqueue, few-cost}

@@ -1,9 +1,9 @@
 -- Commands are few acts.
+use Rattle.md_history.proofs.Plays.{few-made}
 use Rattle.md_book.specs.declared.commands.Command.TheVariants.{Place, Cancel, Fill, Kill, Depth, Account}
 use Rattle.md_book.specs.Commands.{script_of}
 use Rattle.md_book.specs.Meets.{CommandsAreSmall, command_bounds}
 use Rattle.md_book.proofs.books.Sizes.{sized-room}
-use Rattle.md_book.proofs.steps.Plays.{few-made}
 use Rattle.md_book.proofs.looks.Looking.{depth-steps, account-steps}
 use Rattle.md_book.proofs.steps.Cancelling.{cancel-steps}
 use Rattle.md_book.proofs.steps.Placing.{place-few}

@@ -5,13 +5,13 @@ use Rattle.md_history.specs.State.{State, IsRight}
 use Rattle.md_history.specs.Script.{Did}
 use Rattle.md_history.specs.Counts.{AreFew}
 use Rattle.md_history.proofs.Runs.{length-maps-run, length-queues-run}
+use Rattle.md_history.proofs.Plays.{played, outcome, made, did-played, few-made}
 use Rattle.md_book.specs.declared.commands.Command.{Command}
 use Rattle.md_book.specs.declared.commands.BookReply.{BookReply}
 use Rattle.md_book.specs.Book.{Book, Step, book_step}
 use Rattle.md_book.specs.Stands.{Shows, IsBookSized}
 use Rattle.md_book.specs.Commands.{script_of}
 use Rattle.md_book.specs.Meets.{Meets, command_bounds}
-use Rattle.md_book.proofs.steps.Plays.{played, outcome, made, did-played, few-made}
 
 -- a state, a reply and acts are those of a step
 pub record IsStep (step : Step) (t : State) (r : BookReply) (acts : List Act) : Type 0 where

@@ -7,6 +7,7 @@ use Rattle.std.proofs.lemmas.List.Sums.{sum_by_push}
 use Rattle.md_history.specs.declared.acts.Act.{Act}
 use Rattle.md_history.specs.State.{State}
 use Rattle.md_history.specs.Script.{Script, done, bind}
+use Rattle.md_history.proofs.Plays.{played, outcome, made, ends-bind}
 use Rattle.md_book.specs.declared.commands.Side.{Side}
 use Rattle.md_book.specs.declared.commands.Part.{Part}
 use Rattle.md_book.specs.declared.fill.Filling.{Filling}
@@ -17,7 +18,6 @@ use Rattle.md_book.specs.declared.limits.TheConstants.{MAX_PARTS}
 use Rattle.md_book.specs.Book.{Order, Book, IsAccount, IsPrice, level_of, front_order, pass, traded, Looked, ended, first_part, look_at, look, padded}
 use Rattle.md_book.specs.Filling.{look_front, with_part, go_on, take_parts}
 use Rattle.md_book.specs.Places.{places_looked}
-use Rattle.md_book.proofs.steps.Plays.{played, outcome, made, ends-bind}
 use Rattle.md_book.proofs.steps.Costs.{Costs, costs-append, costs-more, costs-none}
 use Rattle.md_book.proofs.books.Places.{PlaceCosts, place-costs-append}
 use Rattle.md_book.proofs.steps.Fills.{take_parts-none}

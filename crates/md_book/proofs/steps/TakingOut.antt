@@ -11,11 +11,11 @@ use Rattle.md_history.specs.declared.acts.Reply.TheVariants.{Value, Flag}
 use Rattle.md_history.specs.Act.{act_of}
 use Rattle.md_history.specs.State.{State, map_at, queue_at, after}
 use Rattle.md_history.specs.Script.{Script, done, call}
+use Rattle.md_history.proofs.Plays.{played, made}
 use Rattle.md_book.specs.declared.commands.Side.{Side}
 use Rattle.md_book.specs.declared.maps.TheConstants.{LEVELS, OPEN_ORDERS}
 use Rattle.md_book.specs.Book.{Order, Book, front_order, pass}
 use Rattle.md_book.specs.Stands.{packed, open_order, IsInRange}
-use Rattle.md_book.proofs.steps.Plays.{played, made}
 use Rattle.md_book.proofs.books.Changes.{Sets, remove-sets, insert-sets, sets-again, dequeue-lines}
 use Rattle.md_book.proofs.steps.Costs.{Costs, costs-append, costs-more, costs-removed, costs-dequeue, costs-replaced}
 use Rattle.md_book.proofs.books.Lessened.{Has, All-has}

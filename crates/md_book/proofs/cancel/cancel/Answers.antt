@@ -1,10 +1,10 @@
 use Rattle.std.proofs.lemmas.Result.{err_from_is_err_and}
 use Rattle.md_history.specs.Script.{done}
 use Rattle.md_history.specs.ScriptLaws.{at-begin, at-more, at-part, at-broke_part, at-done}
+use Rattle.md_history.proofs.Branching.{at-some}
 use Rattle.md_book.specs.declared.commands.BookReply.TheVariants.{Cancelled}
 use Rattle.md_book.specs.Stands.{left_in}
 use Rattle.md_book.specs.Scripts.{cancel}
-use Rattle.md_book.proofs.books.ByValue.{at-some}
 use Rattle.md_book.proofs.cancel.cancel.Goals as goal
 
 pub returns-in_err-lower-clause-plays : goal.returns-in_err-lower-clause-plays

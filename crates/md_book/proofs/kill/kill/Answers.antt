@@ -1,8 +1,8 @@
 use Rattle.std.proofs.Common.{ap}
 use Rattle.std.proofs.lemmas.Result.{err_from_is_err_and}
 use Rattle.md_history.specs.ScriptLaws.{at-begin, at-rest, at-more, at-part, at-done, at-broke_part}
+use Rattle.md_history.proofs.Parts.{tail-plays}
 use Rattle.md_book.specs.Killing.{fill_or_kill, kill}
-use Rattle.md_book.proofs.looks.Tails.{tail-plays}
 use Rattle.md_book.proofs.kill.kill.Goals as goal
 
 pub returns-in_err-have_left-clause-plays : goal.returns-in_err-have_left-clause-plays
