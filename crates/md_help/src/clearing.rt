@@ -38,6 +38,8 @@ pub struct Cleared {
 /// The word is a counted word, and `found` has an odd count; a step of this pass found it there
 /// since the last join. The descriptor that stands there exists, and isn't that of the transaction
 /// in hand. It takes no memory.
+#[cold]
+#[inline(never)]
 pub fn clear<T: Theory>(field: &Field<T>, pass: &mut Pass<T>, word: u32, found: Content) -> Cleared
     requires field { IsOf pass.old field.now }
     requires counted { IsCounted field.now.origin.shape word }

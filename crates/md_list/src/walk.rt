@@ -58,6 +58,7 @@ pub struct Found {
 /// key: the operation records or changes what was found, and the transaction commits only if that
 /// still stands. And a node that the transaction itself marked isn't unlinked at once, since the
 /// mark holds only if the transaction commits.
+#[inline(always)]
 pub fn find<'a, T: HasLists>(tx: &mut Txn<'a, T>, head: u32, key: u64) -> Result<Found, Stop>
     requires walking { IsWalking T.meaning (state tx.old) head }
     ensures pass { tx.new.pass.ghost_name ≡ tx.old.pass.ghost_name }

@@ -7,7 +7,7 @@ use Rattle.md_nbtc.specs.declared.sets.Slot.{Slot}
 
 -- nothing is kept
 abbrev pub no_sets : Sets
-no_sets = record { reads = []; slots = []; lots = [] }
+no_sets = record { reads = []; slots = []; lots = []; lefts = [] }
 
 -- the place of the first slot of a word, counted from a number
 abbrev pub place_of : List Slot → (word from : ℕ) → Option ℕ

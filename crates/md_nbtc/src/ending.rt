@@ -13,7 +13,7 @@ ghost use Rattle.md_nbtc.specs.State.{state, state_of};
 
 use crate::deciding::{settle, validate};
 use crate::receipt::Receipt;
-use crate::sets::{Lots, Reads, Sets, Slots};
+use crate::sets::{Lefts, Lots, Reads, Sets, Slots};
 use crate::tidying::finish;
 use crate::txn::Txn;
 use crate::withdrawal::withdraw;
@@ -143,6 +143,7 @@ impl<'a, T: Theory> Txn<'a, T> {
                 &sets.reads,
                 &sets.slots,
                 &sets.lots,
+                &mut sets.lefts,
             ),
             Err(found) => {
                 let attempt = AttemptId { desc, serial };
@@ -250,6 +251,7 @@ impl<'a, T: Theory> Ready<'a, T> {
             &sets.reads,
             &sets.slots,
             &sets.lots,
+            &mut sets.lefts,
         ) {
             Ok(()) => Ok(Receipt::of(tag, &sets.reads, &sets.slots)),
             Err(shown) => Err(shown),
@@ -292,6 +294,7 @@ fn decided<T: Theory>(
     reads: &Reads,
     slots: &Slots,
     lots: &Lots,
+    lefts: &mut Lefts,
 ) -> Result<(), Shown>
     requires { IsReady T.meaning (state_of field.now pass.old began.now.value reads.now slots.now None
         desc serial tag lots.now) }
@@ -312,7 +315,7 @@ fn decided<T: Theory>(
     let from = in_progress(reads.len(), serial);
     match settle(pass, field, attempt, from, moved) {
         Ok(()) => {
-            finish(pass, field, attempt, slots);
+            finish(pass, field, attempt, slots, lefts);
             Ok(())
         }
         Err(shown) => {

@@ -49,6 +49,7 @@ impl<'a, T: Theory> Txn<'a, T> {
     /// If the word was changed meanwhile, 6 and 7 return `Conflict`, with what was seen and what
     /// was found. Another pass is live then. The transaction keeps each stop. The call takes no
     /// memory, and searches the recorded and the written words.
+    #[inline(always)]
     pub fn exchange(&mut self, word: u32, from: Seen, to: u32, kind: Kind) -> Result<Seen, Stop>
         requires going { IsUnderWay T.meaning (state self.old) }
         requires may { MayExchange T.meaning (state self.old) word from to kind }
@@ -342,6 +343,8 @@ impl<'a, T: Theory> Txn<'a, T> {
     }
 
     // Keeps the conflict that a lost exchange shows.
+    #[cold]
+    #[inline(never)]
     fn lose(&mut self, word: u32, was: u64, now: u64) -> Stop
         ensures pass { self.new.pass.ghost_name ≡ self.old.pass.ghost_name }
         ensures stop { result ≡ Stop.Conflict (record { word = word; was = was; now = now }) }

@@ -25,6 +25,7 @@ impl<'a, T: Theory> Txn<'a, T> {
     /// stop, and does nothing.
     ///
     /// It takes four steps. It takes one if the next word is worn, and none if no node is left.
+    #[inline(always)]
     pub fn fresh(&mut self, key: u64, value: u64, next: u32) -> Result<u32, Stop>
         requires going { IsUnderWay T.meaning (state self.old) }
         requires operates { (state self.old).hand.operating ≡ true }

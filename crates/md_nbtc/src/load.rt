@@ -37,8 +37,10 @@ fn pause(turns: u32) {
     }
 }
 
-// Looks again while the same descriptor stands in the word, with growing pauses. What it found
-// last.
+// Looks again while the same descriptor stands in the word, with short pauses, and returns what it
+// found last.
+#[cold]
+#[inline(never)]
 fn await_other<T: Theory>(pass: &mut Pass<T>, field: &Field<T>, word: u32, found: u64) -> u64
     requires of { IsOf pass.old field.now }
     requires stands { Stands T.meaning field.now.origin pass.old.view }
@@ -59,7 +61,7 @@ fn await_other<T: Theory>(pass: &mut Pass<T>, field: &Field<T>, word: u32, found
     last
 }
 
-// What is found in a word: a descriptor only if it stands there for a while.
+// Looks at a word, and returns what it found: a descriptor only if it stands there for a while.
 fn look_at<T: Theory>(pass: &mut Pass<T>, field: &Field<T>, word: u32) -> u64
     requires of { IsOf pass.old field.now }
     requires stands { Stands T.meaning field.now.origin pass.old.view }
@@ -75,7 +77,7 @@ fn look_at<T: Theory>(pass: &mut Pass<T>, field: &Field<T>, word: u32) -> u64
     }
 }
 
-// What is seen in a word that holds an even content.
+// Returns what is seen in a word that holds an even content.
 fn seen_of(content: Content) -> Seen
     ensures { result ≡ record { value = content.value; count = content.count; own = false } }
 {
@@ -86,7 +88,7 @@ fn seen_of(content: Content) -> Seen
     }
 }
 
-// What a descriptor left in a word when it was installed with this slot.
+// Returns what a descriptor left in a word when it was installed with this slot.
 fn installed(desc: u32, write: Write) -> Content
     requires fits { desc < 2 ^ 24 }
     requires room { count_of write.old ≤ LAST_COUNT }
@@ -104,18 +106,20 @@ fn installed(desc: u32, write: Write) -> Content
 }
 
 impl<'a, T: Theory> Txn<'a, T> {
-    /// What a word stands for: a word that holds an even content stands for its value, and one that
-    /// the transaction wrote for its new value there. Where another's descriptor stands, the word
-    /// is looked at again, at most 300 times with pauses between, and the descriptor is taken out
-    /// by `md_help::clear` if it stands there still. It takes no memory.
+    /// Returns what a word stands for. If the transaction wrote the word, this is its new value
+    /// there. If the word holds an even content, this is its value. If another's descriptor stands
+    /// there, the word is looked at again, at most 300 times with short pauses between, and the
+    /// descriptor is taken out by `md_help::clear` if it stands there still. It takes no memory.
     ///
-    /// The transaction is under way, and the word is a counted one. The answer is a conflict if
+    /// The transaction is under way, and the word is a counted one. The call returns a conflict if
     /// the own descriptor isn't any more where it was installed, or if a descriptor was found again
-    /// after a clearing; never if the pass holds all lanes. A stop is kept: each later call answers
-    /// it and makes no step.
+    /// after a clearing. It never does if the pass holds all lanes. The transaction keeps a stop:
+    /// each later call returns it and makes no step.
     ///
-    /// One step. Where another's descriptor stands: at most 300 looks and `3r + 6` steps more, `r`
-    /// being the reads of the attempt that is cleared. After Cai, Wen and Scott (2023).
+    /// It takes one step. If another's descriptor stands there, it takes at most 300 looks and
+    /// `3r + 6` steps more, where `r` is the number of reads of the attempt that is cleared. After
+    /// Cai, Wen and Scott (2023).
+    #[inline(always)]
     pub fn load(&mut self, word: u32) -> Result<Seen, Stop>
         requires going { IsUnderWay T.meaning (state self.old) }
         requires counted { IsCounted (shape_in (state self.old)) word }
@@ -136,7 +140,8 @@ impl<'a, T: Theory> Txn<'a, T> {
         }
     }
 
-    // Of a word that the transaction wrote.
+    // Looks at a word that the transaction wrote.
+    #[inline(always)]
     fn load_own(&mut self, word: u32, i: u8) -> Result<Seen, Stop>
         requires going { IsUnderWay T.meaning (state self.old) }
         requires counted { IsCounted (shape_in (state self.old)) word }
@@ -162,7 +167,8 @@ impl<'a, T: Theory> Txn<'a, T> {
         Err(stop)
     }
 
-    // Of any other word.
+    // Looks at any other word.
+    #[inline(always)]
     fn load_other(&mut self, word: u32) -> Result<Seen, Stop>
         requires going { IsUnderWay T.meaning (state self.old) }
         requires counted { IsCounted (shape_in (state self.old)) word }

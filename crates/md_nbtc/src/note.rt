@@ -43,6 +43,7 @@ impl<'a, T: Theory> Txn<'a, T> {
     ///
     /// It takes two steps if it records the word, and otherwise none. It searches the recorded
     /// words.
+    #[inline(always)]
     pub fn note(&mut self, word: u32, seen: Seen) -> Result<(), Stop>
         requires going { IsUnderWay T.meaning (state self.old) }
         requires operates { (state self.old).hand.operating ≡ true }
@@ -77,6 +78,8 @@ impl<'a, T: Theory> Txn<'a, T> {
     }
 
     // Keeps a stop, which has its cause, and returns it.
+    #[cold]
+    #[inline(never)]
     fn halt(&mut self, stop: Stop) -> Result<(), Stop>
         requires going { IsUnderWay T.meaning (state self.old) }
         requires cause { HasCause (state self.old) stop }

@@ -297,7 +297,56 @@ impl Lots {
     }
 }
 
-/// Room for the words and nodes that a transaction keeps: some 9,800 bytes. A transaction borrows
+/// The contents that a committed transaction left in the words of its slots, in order.
+#[derive(Drop)]
+pub(crate) struct Lefts {
+    items: [u64; ROOM],
+    count: u8,
+}
+
+impl Model for Lefts {
+    ghost use Rattle.std.specs.Prelude.{◌≡◌, ℕ, List, take, ◌≤◌, length};
+
+    ghost Value = { List ℕ };
+
+    ghost view = { λ r. take r.count r.items };
+
+    ghost invariant = { λ r. (r.count ≤ 128) × (length r.items ≡ 128) };
+}
+
+impl Lefts {
+    pub(crate) fn new() -> Lefts
+        ensures { result ≡ [] }
+    {
+        Lefts {
+            items: [0; ROOM],
+            count: 0,
+        }
+    }
+
+    pub(crate) fn clear(&mut self)
+        ensures { self.new ≡ [] }
+    {
+        self.count = 0;
+    }
+
+    pub(crate) fn get(&self, i: u8) -> u64
+        requires { i < length self.now }
+        ensures { result ≡ get_or self.now i 0 }
+    {
+        self.items[i as usize]
+    }
+
+    pub(crate) fn push(&mut self, left: u64)
+        requires { length self.old < SET }
+        ensures { self.new ≡ self.old ++ left ∷ [] }
+    {
+        self.items[self.count as usize] = left;
+        self.count += 1;
+    }
+}
+
+/// Room for the words and nodes that a transaction keeps: some 10,800 bytes. A transaction borrows
 /// it, so that a move of the transaction doesn't copy it. Many transactions may use the same room,
 /// one after another.
 #[derive(Drop)]
@@ -305,6 +354,7 @@ pub struct Sets {
     pub(crate) reads: Reads,
     pub(crate) slots: Slots,
     pub(crate) lots: Lots,
+    pub(crate) lefts: Lefts,
 }
 
 impl Sets {
@@ -316,6 +366,7 @@ impl Sets {
             reads: Reads::new(),
             slots: Slots::new(),
             lots: Lots::new(),
+            lefts: Lefts::new(),
         }
     }
 
@@ -326,5 +377,6 @@ impl Sets {
         self.reads.clear();
         self.slots.clear();
         self.lots.clear();
+        self.lefts.clear();
     }
 }

@@ -1,6 +1,6 @@
 //! How the cleanups of a committed transaction are made.
 
-ghost use Rattle.std.specs.Prelude.{◌≡◌, ◌≤◌, ◌↔◌, All, IsTrue, List, length, map, take, true};
+ghost use Rattle.std.specs.Prelude.{◌≡◌, ◌≤◌, ◌↔◌, All, IsTrue, List, length, map, true};
 ghost use Rattle.std.specs.List.{AllZip};
 ghost use Rattle.md_words.specs.declared.limits.TheConstants.{SET};
 ghost use Rattle.md_words.specs.declared.status.Status.TheVariants.{Committed};
@@ -18,7 +18,7 @@ ghost use Rattle.md_nbtc.specs.Ending.{IsReason, names_node};
 ghost use Rattle.md_nbtc.specs.Withdrawing.{AreInstalled, HasFate, IsAlwaysPlaced};
 
 use crate::seen::{Cleanup, WORN};
-use crate::sets::{Slot, Slots};
+use crate::sets::{Lefts, Slot, Slots};
 use crate::withdrawing::take_write_out;
 use md_machine::{AttemptId, Theory};
 use md_rule::{Field, Pass};
@@ -167,7 +167,7 @@ pub(crate) fn take_slots_out<T: Theory>(
     field: &Field<T>,
     attempt: AttemptId,
     slots: &Slots,
-    lefts: &mut [u64],
+    lefts: &mut Lefts,
 )
     requires of { IsOf pass.old field.now }
     requires stands { Stands T.meaning field.now.origin pass.old.view }
@@ -175,16 +175,17 @@ pub(crate) fn take_slots_out<T: Theory>(
     requires installed { AreInstalled field.now.origin.shape pass.old.view attempt
         (map (λ s. s.write) slots.now) }
     requires may { All (MayCleanSlot T.meaning field.now.origin pass.old.view) slots.now }
-    requires room { length slots.now ≤ length lefts.old }
+    requires few { length slots.now ≤ SET }
     ensures same { pass.new ≡ record pass.old { view = pass.new.view } }
     ensures stands { Stands T.meaning field.now.origin pass.new.view }
-    ensures takes { TakesSlots field.now.origin.shape attempt slots.now
-        (take (length slots.now) lefts.new) pass.old.view pass.new.view }
+    ensures takes { TakesSlots field.now.origin.shape attempt slots.now lefts.new pass.old.view
+        pass.new.view }
     ensures clean { IsClean pass.new.view attempt }
 {
+    lefts.clear();
     for i in 0..slots.len() {
         let write = slots.get(i).write;
-        lefts[i as usize] = take_write_out(pass, field, attempt, write, Status::Committed);
+        lefts.push(take_write_out(pass, field, attempt, write, Status::Committed));
     }
 }
 
@@ -209,23 +210,24 @@ pub(crate) fn clean_slots<T: Theory>(
     pass: &mut Pass<T>,
     field: &Field<T>,
     slots: &Slots,
-    lefts: &[u64],
+    lefts: &Lefts,
 )
     requires of { IsOf pass.old field.now }
     requires stands { Stands T.meaning field.now.origin pass.old.view }
     requires may { All (MayCleanSlot T.meaning field.now.origin pass.old.view) slots.now }
     requires outs { (outs : List Step)
         × AllZip (TookSlot field.now.origin.shape pass.old.view) slots.now outs
-        × (take (length slots.now) lefts.now ≡ map (λ s. s.after) outs) }
+        × (lefts.now ≡ map (λ s. s.after) outs) }
     ensures same { pass.new ≡ record pass.old { view = pass.new.view } }
     ensures stands { Stands T.meaning field.now.origin pass.new.view }
     ensures cleans { (outs : List Step)
         → AllZip (TookSlot field.now.origin.shape pass.old.view) slots.now outs
-        → take (length slots.now) lefts.now ≡ map (λ s. s.after) outs
+        → lefts.now ≡ map (λ s. s.after) outs
         → CleansSlots field.now.origin.shape slots.now outs pass.old.view pass.new.view }
 {
     for i in 0..slots.len() {
-        clean_slot(pass, field, slots.get(i), lefts[i as usize]);
+        let left = lefts.get(i);
+        clean_slot(pass, field, slots.get(i), left);
     }
 }
 
@@ -237,6 +239,7 @@ pub(crate) fn finish<T: Theory>(
     field: &Field<T>,
     attempt: AttemptId,
     slots: &Slots,
+    lefts: &mut Lefts,
 )
     requires of { IsOf pass.old field.now }
     requires stands { Stands T.meaning field.now.origin pass.old.view }
@@ -248,8 +251,7 @@ pub(crate) fn finish<T: Theory>(
     ensures { Finishes T.meaning field.now.origin pass.old attempt slots.now pass.new }
 {
     let _ = pass.shape();
-    let mut lefts = [0; 128];
-    take_slots_out(pass, field, attempt, slots, &mut lefts);
-    clean_slots(pass, field, slots, &lefts);
+    take_slots_out(pass, field, attempt, slots, lefts);
+    clean_slots(pass, field, slots, lefts);
     pass.mark_end(field, attempt.desc);
 }

@@ -1,6 +1,6 @@
 //! The end of a field.
 
-ghost use Rattle.std.specs.Prelude.{◌≡◌, IfOk};
+ghost use Rattle.std.specs.Prelude.{◌≡◌, IfOk, length};
 ghost use Rattle.std.specs.Mem.Slots.{slots_items, slots_len, IsFull};
 ghost use Rattle.md_rule.specs.Closing.{IsLast, LeavesReplay, MayClose};
 ghost use Rattle.md_rule.specs.Views.{IsOf};
@@ -50,6 +50,18 @@ impl<T: Theory> Field<T> {
     }
 }
 
+// Stores the words of a closed table into a list of as many words, in order.
+fn copy_words(closed: &TableClosed<(), Global>, words: &mut [u64])
+    requires { IsFull closed.now.words × (slots_len closed.now.words ≡ length words.old) }
+    ensures { words.new ≡ slots_items closed.now.words }
+{
+    for i in 0..words.len() {
+        words[i] = closed.word(i);
+    }
+}
+
+// Returns the words of a closed table. The list is made at its full length first, so that the loop
+// over the words has no test of the room in it.
 fn gather(
     alloc: Global,
     closed: &TableClosed<(), Global>,
@@ -58,9 +70,7 @@ fn gather(
     requires { IsFull closed.now.words × (slots_len closed.now.words ≡ count) }
     ensures { IfOk result (λ v. v.items ≡ slots_items closed.now.words) }
 {
-    let mut words = Vec::with_capacity(alloc, count)?;
-    for i in 0..count {
-        words.push(closed.word(i))?;
-    }
+    let mut words = vec![in alloc; 0; count]?;
+    copy_words(closed, &mut words);
     Ok(words)
 }

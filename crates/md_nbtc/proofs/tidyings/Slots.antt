@@ -1,21 +1,19 @@
 -- The slots of a committed transaction are taken out and cleaned, one after another.
-use Rattle.std.proofs.Common.{◌≡◌, ◌<◌, ◌≤◌, ◌+◌, ◌++◌, ◌∷◌, ℕ, zero, suc, false, List, [], Option, None, Some, IfSome, map, length, take, get_or, set, refl, sym, ap, ◌∙◌, subst, inl, inr, arith, append_assoc}
-use Rattle.std.proofs.lemmas.List.{append-nil, get_or-map, get_or-take, length-map, length-take, length-take-le, take_all, take_more, take_more_set}
-use Rattle.std.proofs.lemmas.List.Elements.{All-append, All-cons, All-get_or, All-nil, All-weaker, Contains-append_left, Contains-push}
+use Rattle.std.proofs.Common.{◌≡◌, ◌<◌, ◌≤◌, ◌+◌, ◌++◌, ◌∷◌, ℕ, zero, suc, false, List, [], None, Some, map, length, take, get_or, refl, sym, ap, ◌∙◌, subst, inr, arith, append_assoc}
+use Rattle.std.proofs.lemmas.List.{append-nil, get_or-map, length-map, length-take-le, take_all, take_more}
+use Rattle.std.proofs.lemmas.List.Elements.{All-append, All-cons, All-get_or, All-nil, All-weaker, Contains-push}
 use Rattle.std.proofs.lemmas.Option.{IfSome_then}
 use Rattle.std.specs.List.{All, AllZip, Contains}
 use Rattle.md_words.specs.declared.shape.Shape.{Shape}
 use Rattle.md_words.specs.declared.status.Status.TheVariants.{Committed}
 use Rattle.md_words.specs.Content.{count_of}
-use Rattle.md_words.specs.Layout.{IsNode, address}
-use Rattle.md_words.specs.Place.{node_next}
+use Rattle.md_words.specs.Layout.{IsNode}
 use Rattle.md_machine.specs.declared.attempt.AttemptId.{AttemptId}
 use Rattle.md_machine.specs.declared.attempt.Write.{Write}
 use Rattle.md_machine.specs.declared.pass.PassView.{PassView}
 use Rattle.md_machine.specs.declared.step.Kind.TheVariants.{Load}
 use Rattle.md_machine.specs.declared.step.Step.{Step}
 use Rattle.md_machine.specs.Meaning.{Meaning}
-use Rattle.md_machine.specs.Trail.{MetHigher}
 use Rattle.md_machine.specs.events.Start.{IsClean}
 use Rattle.md_rule.specs.Views.{Origin}
 use Rattle.md_help.specs.After.{IsAfter, Stands}
@@ -29,7 +27,7 @@ use Rattle.md_nbtc.specs.Ending.{CleansAll, CleansKept}
 use Rattle.md_nbtc.specs.Withdrawing.{AreInstalled, IsInstalled, TakesWrite, TakesWriteOut, installed_in}
 use Rattle.md_nbtc.proofs.beginning.TakingOut.{higher_still}
 use Rattle.md_nbtc.proofs.tidyings.Making.{may_still, node_placed, took_still}
-use Rattle.md_nbtc.proofs.withdrawals.AllOut.{IsOut, TakesSome, are_still, all_quiet, takes_all, zip_push}
+use Rattle.md_nbtc.proofs.withdrawals.AllOut.{IsOut, are_still, all_quiet, takes_all, zip_push}
 
 abbrev pub writes_of : List Slot → List Write
 writes_of slots = map (λ (s : Slot). s.write) slots
@@ -111,26 +109,23 @@ cleans_push shape (y ∷ slots) s (x ∷ outs) out steps more many (first, rest,
     (first, rest ++ more, ap (λ l. l ++ more) order ∙ append_assoc first rest more, here, cleans_push shape slots s outs out rest more (omega (arith, many)) later one)
 
 -- the loop that takes the slots out
-module _ (M : Meaning) (o : Origin) (a : AttemptId) (slots : List Slot) (lefts : List ℕ) (i : ℕ) (below : i < length slots) (p q : PassView) (t : TakesTo o.shape a (take i slots) (take i lefts) p q) where
+module _ (M : Meaning) (o : Origin) (a : AttemptId) (slots : List Slot) (lefts : List ℕ) (i : ℕ) (below : i < length slots) (p q : PassView) (t : TakesTo o.shape a (take i slots) lefts p q) where
   pub slot_in : AreInstalled o.shape p a (writes_of slots) → IsInstalled o.shape q a (get_or slots i NO_SLOT).write
   slot_in installed = subst (IsInstalled o.shape q a) (get_or-map (λ (s : Slot). s.write) slots i NO_SLOT NO_SLOT.write below)
       (All-get_or (IsInstalled o.shape q a) (writes_of slots) i NO_SLOT.write
       (let all = length-map slots (λ (s : Slot). s.write) in omega (arith, below, all))
       (are_still o.shape a t.takes.steps p q t.takes.goes (all_quiet a Committed _ t.takes.steps t.takes.each) (writes_of slots) installed).each)
 
-  pub slots_more : length slots ≤ length lefts → Stands M o p → Stands M o q → All (MayCleanSlot M o p) slots → (left : ℕ) (r : PassView) → TakesWriteOut M o a Committed (get_or slots i NO_SLOT).write left q r
-      → TakesTo o.shape a (take (i + 1) slots) (take (i + 1) (set lefts i left)) p r
-  slots_more room one two may left r out =
-      subst (λ ss. TakesTo o.shape a ss (take (i + 1) (set lefts i left)) p r) (sym (take_more slots i NO_SLOT below))
-      (subst (λ ls. TakesTo o.shape a (take i slots ++ get_or slots i NO_SLOT ∷ []) ls p r) (sym (take_more_set lefts i left (omega (arith, below, room))))
-      (takes_to_more M o a (take i slots) (get_or slots i NO_SLOT) (take i lefts) left p q r t
-      (All-get_or (MayCleanSlot M o q) slots i NO_SLOT below (slots_still M o t.takes.steps p q t.takes.goes one two slots may)) out))
+  pub slots_more : Stands M o p → Stands M o q → All (MayCleanSlot M o p) slots → (left : ℕ) (r : PassView) → TakesWriteOut M o a Committed (get_or slots i NO_SLOT).write left q r
+      → TakesTo o.shape a (take (i + 1) slots) (lefts ++ left ∷ []) p r
+  slots_more one two may left r out =
+      subst (λ ss. TakesTo o.shape a ss (lefts ++ left ∷ []) p r) (sym (take_more slots i NO_SLOT below))
+      (takes_to_more M o a (take i slots) (get_or slots i NO_SLOT) lefts left p q r t
+      (All-get_or (MayCleanSlot M o q) slots i NO_SLOT below (slots_still M o t.takes.steps p q t.takes.goes one two slots may)) out)
 
 -- all of them
-pub slots_all : (shape : Shape) (a : AttemptId) (slots : List Slot) (lefts : List ℕ) (i : ℕ) (p q : PassView) → length slots ≡ i → TakesTo shape a (take i slots) (take i lefts) p q → TakesTo shape a slots (take (length slots) lefts) p q
-slots_all shape a slots lefts i p q is t =
-    subst (λ ss. TakesTo shape a ss (take (length slots) lefts) p q) (take_all i slots (omega (arith, is)))
-    (subst (λ n. TakesTo shape a (take i slots) (take n lefts) p q) (sym is) t)
+pub slots_all : (shape : Shape) (a : AttemptId) (slots : List Slot) (lefts : List ℕ) (i : ℕ) (p q : PassView) → length slots ≡ i → TakesTo shape a (take i slots) lefts p q → TakesTo shape a slots lefts p q
+slots_all shape a slots lefts i p q is t = subst (λ ss. TakesTo shape a ss lefts p q) (take_all i slots (omega (arith, is))) t
 
 zip_length : {X Y : Type 0} (R : X → Y → Type 0) (xs : List X) (ys : List Y) → AllZip R xs ys → length xs ≡ length ys
 zip_length R [] [] h = refl
@@ -154,7 +149,7 @@ NO_STEP = record { kind = Load; word = 0; before = 0; after = 0; attempt = None;
 
 -- the loop over the cleanups
 module _ (M : Meaning) (o : Origin) (slots : List Slot) (lefts : List ℕ) (i : ℕ) (below : i < length slots) (outs : List Step) (p q : PassView)
-    (took : AllZip (TookSlot o.shape p) slots outs) (left_by : take (length slots) lefts ≡ map (λ s. s.after) outs) where
+    (took : AllZip (TookSlot o.shape p) slots outs) (left_by : lefts ≡ map (λ s. s.after) outs) where
   abbrev slot : Slot
   slot = get_or slots i NO_SLOT
 
@@ -169,7 +164,7 @@ module _ (M : Meaning) (o : Origin) (slots : List Slot) (lefts : List ℕ) (i : 
 
   -- what was kept of the slot is what its step left
   left_here : get_or lefts i 0 ≡ out.after
-  left_here = sym (get_or-take (length slots) lefts i 0 below) ∙ ap (λ l. get_or l i 0) left_by ∙ get_or-map (λ (s : Step). s.after) outs i NO_STEP 0 i_below
+  left_here = ap (λ l. get_or l i 0) left_by ∙ get_or-map (λ (s : Step). s.after) outs i NO_STEP 0 i_below
 
   more_of : (steps more : List Step) → CleansAll o.shape (take i slots) (take i outs) steps → CleansKept o.shape slot.cleanup out more → CleansAll o.shape (take (i + 1) slots) (take (i + 1) outs) (steps ++ more)
   more_of steps more all one =
@@ -207,9 +202,8 @@ pub cleans_none : (shape : Shape) (p : PassView) → CleansSlots shape [] [] p p
 cleans_none shape p = record { steps = []; goes = none_after shape p; cleans = refl }
 
 -- what was left of each slot was kept
-pub lefts_many : (o : Origin) (slots : List Slot) (lefts : List ℕ) (outs : List Step) (p : PassView) → AllZip (TookSlot o.shape p) slots outs → take (length slots) lefts ≡ map (λ s. s.after) outs → length slots ≤ length lefts
+pub lefts_many : (o : Origin) (slots : List Slot) (lefts : List ℕ) (outs : List Step) (p : PassView) → AllZip (TookSlot o.shape p) slots outs → lefts ≡ map (λ s. s.after) outs → length slots ≤ length lefts
 lefts_many o slots lefts outs p took left =
     let same = zip_length (TookSlot o.shape p) slots outs took in
     let many = ap length left ∙ length-map outs (λ (s : Step). s.after) in
-    let all = length-take (length slots) lefts in
-    omega (arith, same, many, all)
+    omega (arith, same, many)

@@ -1,4 +1,4 @@
-use Rattle.std.proofs.Common.{◌<◌, ◌≤◌, ap, get_or, length, refl, subst, ◌∙◌, arith, sym}
+use Rattle.std.proofs.Common.{◌<◌, ap, get_or, refl, subst, ◌∙◌, arith, sym}
 use Rattle.std.proofs.lemmas.List.Elements.{All-get_or}
 use Rattle.md_rule.specs.Views.{PassState}
 use Rattle.md_nbtc.specs.declared.sets.Slot.{Slot}
@@ -15,8 +15,8 @@ loop-i-init g c = record {
   so_far = λ outs took left. cleans_none c.args.field.now.origin.shape c.args.pass.now.view;
 }
 
-pub bounds-lefts-i : goal.bounds-lefts-i
-bounds-lefts-i g c =
+pub get-left-requires : goal.get-left-requires
+get-left-requires g c =
     let test = c.loop-i-test.true in
     let len = c.len-i-end.ensures in
     let outs = c.requires.outs in
@@ -44,8 +44,8 @@ clean_slot-requires-clause-out g c =
     let below = subst (λ n. c.loop-i.i < n) c.len-i-end.ensures c.loop-i-test.true in
     let out = get_or outs.0 c.loop-i.i NO_STEP in (
       out,
-      subst (λ (s : Slot). TookLeft o.shape c.loop-i.pass.view s (get_or c.args.lefts.now c.loop-i.i 0) out) (sym c.get.ensures)
-          (took_then M o c.args.slots.now c.args.lefts.now c.loop-i.i below outs.0 c.args.pass.now.view c.loop-i.pass.view outs.1 outs.2 done (get_or c.args.lefts.now c.loop-i.i 0) refl),
+      subst (λ (s : Slot). TookLeft o.shape c.loop-i.pass.view s c.get-left.result out) (sym c.get.ensures)
+          (took_then M o c.args.slots.now c.args.lefts.now c.loop-i.i below outs.0 c.args.pass.now.view c.loop-i.pass.view outs.1 outs.2 done c.get-left.result c.get-left.ensures),
     )
 
 pub loop-i-preserved : goal.loop-i-preserved
@@ -57,7 +57,7 @@ loop-i-preserved g c =
     let r = c.clean_slot.new.pass.view in
     let same = c.clean_slot.ensures.same in
     let below = subst (λ n. c.loop-i.i < n) c.len-i-end.ensures c.loop-i-test.true in
-    let left = get_or c.args.lefts.now c.loop-i.i 0 in record {
+    let left = c.get-left.result in record {
       of = record { table = ap (λ (x : PassState). x.table) same ∙ was.of.table; shape = ap (λ (x : PassState). x.shape) same ∙ was.of.shape };
       stands = c.clean_slot.ensures.stands;
       same = same ∙ ap (λ (x : PassState). record x { view = r }) was.same;
@@ -67,7 +67,7 @@ loop-i-preserved g c =
           clean_one M o c.args.slots.now c.args.lefts.now c.loop-i.i below outs c.args.pass.now.view q took is done r
           (subst (λ (s : Slot). CleansSlot o.shape s out q r) c.get.ensures
           (c.clean_slot.ensures.cleans out (subst (λ (s : Slot). TookLeft o.shape q s left out) (sym c.get.ensures)
-          (took_then M o c.args.slots.now c.args.lefts.now c.loop-i.i below outs c.args.pass.now.view q took is done left refl))));
+          (took_then M o c.args.slots.now c.args.lefts.now c.loop-i.i below outs c.args.pass.now.view q took is done left c.get-left.ensures))));
     }
 
 pub returns-clause-cleans : goal.returns-clause-cleans

@@ -1,9 +1,10 @@
-use Rattle.std.proofs.Common.{◌≤◌, ap, length, refl, subst, ◌∙◌, arith, sym}
+use Rattle.std.proofs.Common.{◌+◌, [], ◌∷◌, ap, length, refl, subst, take, ◌∙◌, arith, sym}
+use Rattle.std.proofs.lemmas.List.{length-append}
 use Rattle.md_words.specs.declared.status.Status.TheVariants.{Committed}
 use Rattle.md_rule.specs.Views.{PassState}
 use Rattle.md_nbtc.specs.declared.sets.Slot.{Slot}
 use Rattle.md_nbtc.specs.Withdrawing.{IsInstalled, TakesWriteOut}
-use Rattle.md_nbtc.proofs.tidyings.Slots.{slot_in, slots_all, slots_more, taken_clean, takes_to_none}
+use Rattle.md_nbtc.proofs.tidyings.Slots.{TakesTo, slot_in, slots_all, slots_more, taken_clean, takes_to_none}
 use Rattle.md_nbtc.proofs.withdrawals.AllOut.{fate_still}
 use Rattle.md_nbtc.proofs.tidying.take_slots_out.Goals as goal
 
@@ -11,9 +12,18 @@ pub loop-i-init : goal.loop-i-init
 loop-i-init g c = record {
   of = c.requires.of;
   stands = c.requires.stands;
+  many = ap length c.clear.ensures;
   same = refl;
-  so_far = takes_to_none c.args.field.now.origin.shape c.args.attempt c.args.pass.now.view;
+  so_far = subst (λ ls. TakesTo c.args.field.now.origin.shape c.args.attempt [] ls c.args.pass.now.view c.args.pass.now.view) (sym c.clear.ensures)
+      (takes_to_none c.args.field.now.origin.shape c.args.attempt c.args.pass.now.view);
 }
+
+pub push-requires : goal.push-requires
+push-requires g c =
+    let test = c.loop-i-test.true in
+    let len = c.len-i-end.ensures in
+    let few = c.requires.few in
+    let many = c.loop-i.invariant.many in omega (arith, test, len, few, many)
 
 pub take_write_out-requires-clause-fate : goal.take_write_out-requires-clause-fate
 take_write_out-requires-clause-fate g c =
@@ -36,15 +46,15 @@ loop-i-preserved g c =
     let r = c.take_write_out.new.pass.view in
     let same = c.take_write_out.ensures.same in
     let test = c.loop-i-test.true in
-    let len = c.len-i-end.ensures in
-    let kept = c.loop-i.auto.lefts in
-    let room = c.requires.room in record {
+    let len = c.len-i-end.ensures in record {
       of = record { table = ap (λ (x : PassState). x.table) same ∙ was.of.table; shape = ap (λ (x : PassState). x.shape) same ∙ was.of.shape };
       stands = c.take_write_out.ensures.stands;
       same = same ∙ ap (λ (x : PassState). record x { view = r }) was.same;
-      so_far = slots_more M o c.args.attempt c.args.slots.now c.loop-i.lefts c.loop-i.i (omega (arith, test, len)) c.args.pass.now.view c.loop-i.pass.view was.so_far
-          (omega (arith, kept, room)) c.requires.stands was.stands c.requires.may c.take_write_out.result r
-          (subst (λ (s : Slot). TakesWriteOut M o c.args.attempt Committed s.write c.take_write_out.result c.loop-i.pass.view r) c.get.ensures c.take_write_out.ensures.out);
+      many = ap length c.push.ensures ∙ length-append c.loop-i.lefts (c.take_write_out.result ∷ []) ∙ ap (λ n. n + 1) was.many;
+      so_far = subst (λ ls. TakesTo o.shape c.args.attempt (take (c.loop-i.i + 1) c.args.slots.now) ls c.args.pass.now.view r) (sym c.push.ensures)
+          (slots_more M o c.args.attempt c.args.slots.now c.loop-i.lefts c.loop-i.i (omega (arith, test, len)) c.args.pass.now.view c.loop-i.pass.view was.so_far
+          c.requires.stands was.stands c.requires.may c.take_write_out.result r
+          (subst (λ (s : Slot). TakesWriteOut M o c.args.attempt Committed s.write c.take_write_out.result c.loop-i.pass.view r) c.get.ensures c.take_write_out.ensures.out));
     }
 
 pub returns-clause-takes : goal.returns-clause-takes

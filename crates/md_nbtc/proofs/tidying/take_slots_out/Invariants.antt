@@ -1,4 +1,4 @@
-use Rattle.std.proofs.Common.{◌≡◌, ◌≤◌, length, take}
+use Rattle.std.proofs.Common.{◌≡◌, length, take}
 use Rattle.md_help.specs.After.{Stands}
 use Rattle.md_rule.specs.Views.{IsOf}
 use Rattle.md_nbtc.proofs.tidyings.Slots.{TakesTo}
@@ -8,6 +8,7 @@ abbrev pub invariant-loop-i : goal.invariant-loop-i
 invariant-loop-i g l = record {
   of : IsOf l.pass l.field;
   stands : Stands g.T.Theory.meaning l.field.origin l.pass.view;
+  many : length l.lefts ≡ l.i;
   same : l.pass ≡ record l.fn.pass { view = l.pass.view };
-  so_far : TakesTo l.field.origin.shape l.attempt (take l.i l.slots) (take l.i l.lefts) l.fn.pass.view l.pass.view;
+  so_far : TakesTo l.field.origin.shape l.attempt (take l.i l.slots) l.lefts l.fn.pass.view l.pass.view;
 }
