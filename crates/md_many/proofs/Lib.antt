@@ -1,5 +1,6 @@
 pub mod Joining
 pub mod Playing
+pub mod Retrying
 pub mod Following
 pub mod TagLaws
 pub mod Parting
@@ -7,6 +8,8 @@ pub mod Turning
 pub mod Joined
 pub mod Merging
 pub mod Standing
+pub mod Walking
+pub mod Left
 pub mod Committed
 pub mod Coursing
 pub mod Handing

@@ -14,6 +14,11 @@ caller_of_tag caller line small = div-mul-add caller (2 ^ 32) line small
 pub line_of_tag : (caller line : ℕ) → line < 2 ^ 32 → tag_of caller line % 2 ^ 32 ≡ line
 line_of_tag caller line small = mod-mul-add caller (2 ^ 32) line small
 
+-- so many tags
+pub length-tags_after : (caller n count : ℕ) → length (tags_after caller n count) ≡ count
+length-tags_after caller n zero = refl
+length-tags_after caller n (suc count) = ap suc (length-tags_after caller (n + 1) count)
+
 pub tags_after-append : (caller n j k : ℕ)
     → tags_after caller n (j + k) ≡ tags_after caller n j ++ tags_after caller (n + j) k
 tags_after-append caller n zero k =

@@ -2,7 +2,10 @@ pub mod Tags
 pub mod Joined
 pub mod Lines
 pub mod Turns
+pub mod Until
 pub mod Rounds
 pub mod Laws
 pub mod Played
+pub mod Replied
+pub mod Left
 pub mod Course

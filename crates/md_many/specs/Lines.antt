@@ -44,6 +44,6 @@ AreFitting fits body_at start =
 abbrev pub IsSmallLine : {B : Type 0} → Bounds → (B → List Act → Type 0) → (ℕ → ℕ → Option B) → ℕ → ℕ → State → Type 0
 IsSmallLine most makes body_at caller line start = IfSome (body_at caller line) (λ b. IsSmall most (makes b) start)
 
--- an engine's attempts stop for want of memory alone
+-- an engine's attempts stop only if memory runs out
 abbrev pub StopsForMemory : (Stop → Type 0) → Type 0
 StopsForMemory may_stop = (s : Stop) → may_stop s → s ≡ NoMemory

@@ -14,6 +14,7 @@ mod tags;
 #[cfg(test)]
 mod tests;
 mod turns;
+mod until;
 
 pub use attempts::{End, MOST_CONFLICTS, Turn, attempt_line, attempt_lines};
 pub use callers::Lines;
@@ -23,3 +24,4 @@ pub use laws::LawfulLines;
 pub use many::{Many, run_many};
 pub use rounds::{Rounds, play_rounds};
 pub use tags::line_tag;
+pub use until::attempt_until_committed;

@@ -22,7 +22,7 @@ use std::alloc::{AllocError, Global};
 use std::thread::Threads;
 
 // How many replies the turns of a round have room for, of all callers.
-const ROUND_REPLIES: u32 = 65_536;
+const ROUND_REPLIES: u32 = 131_072;
 
 // How many replies the turn of a single caller has room for.
 const TURN_REPLIES: u32 = 1_024;
@@ -340,7 +340,7 @@ fn none_done(alloc: Global, callers: u32) -> Result<Vec<u32>, AllocError>
 /// each caller plays a turn in a thread, and the pass is joined again. The keeper gets the reply of
 /// the first line before the turns, and the replies of the turns after them.
 ///
-/// `tries` is the most attempts of a turn: any number. A turn also makes at most 65,536 attempts
+/// `tries` is the most attempts of a turn: any number. A turn also makes at most 131,072 attempts
 /// divided by the number of callers (at least 1), or 1,024 if there is one caller, so that its
 /// replies have room. With 0 tries no turn plays a line.
 ///

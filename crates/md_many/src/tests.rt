@@ -6,12 +6,15 @@ mod puts;
 mod refusing;
 mod side_by_side;
 
+ghost use Rattle.std.specs.Prelude.{◌≤◌};
+
 use crate::attempts::{End as TurnEnd, Turn, attempt_lines};
 use crate::gates::{FreeGate, Gate};
 use crate::many::run_many;
+use crate::until::attempt_until_committed;
 use lines::EachLine;
 use looks::Look;
-use md_history::{Contents, Engine, Limit, PlainStore, Shown, Stop};
+use md_history::{Attempt, Contents, Engine, Limit, PlainStore, Shown, Stop};
 use puts::Put;
 use refusing::{Refusing, RefusingPass};
 use side_by_side::two_callers;
@@ -70,6 +73,13 @@ const CONFLICT: Option<Stop> = Some(Stop::Conflict(Shown {
     word: 2,
     was: 1,
     now: 2,
+}));
+
+// Another conflict.
+const LATER: Option<Stop> = Some(Stop::Conflict(Shown {
+    word: 3,
+    was: 4,
+    now: 5,
 }));
 
 const LIMIT: Option<Stop> = Some(Stop::Limit(Limit::Nodes));
@@ -159,6 +169,65 @@ fn attempts_end(rt: HostRuntime) -> Result<(), Fail> {
             attempts,
         };
         assert_eq!(rt; play_three(&rt, rt.alloc(), stops, tries)?, want);
+    }
+    Ok(())
+}
+
+// The tag of a body that is attempted until it is committed, and its number.
+const TAG: u64 = 5;
+
+const NUMBER: u64 = 7;
+
+// Attempts a body until it is committed. If it is, the history has its entry; else it has none.
+// Returns how the last attempt ended, and how many there were.
+fn put_until_committed(
+    rt: &impl Abort,
+    alloc: Global,
+    stops: [Option<Stop>; 4],
+    tries: u32,
+) -> Result<(Attempt<u64>, u64), AllocError>
+    requires { 1 ≤ tries }
+{
+    let (store, pass) = PlainStore::open(Contents::empty(alloc, 0, 1)?);
+    let attempts = AtomicU64::new(0);
+    let engine = Refusing {
+        store,
+        shared: true,
+        attempts: &attempts,
+    };
+    let mut pass = RefusingPass {
+        pass,
+        stops,
+        begun: 0,
+    };
+    let end = attempt_until_committed(&engine, &mut pass, TAG, &Put { number: NUMBER }, tries);
+    let entries = pass.pass.entries();
+    let is_committed = matches!(&end, Attempt::Committed(_));
+    assert_eq!(rt; entries.len(), usize::from(is_committed));
+    for entry in entries {
+        assert_eq!(rt; entry.tag, TAG);
+    }
+    Ok((end, attempts.load(Ordering::SeqCst)))
+}
+
+#[test]
+fn one_body_until_committed(rt: HostRuntime) -> Result<(), Fail> {
+    for (stops, tries, end, attempts) in [
+        ([None; 4], 1, None, 1),
+        ([CONFLICT, CONFLICT, None, None], u32::MAX, None, 3),
+        ([CONFLICT; 4], 5, None, 5),
+        ([CONFLICT, CONFLICT, LATER, None], 3, LATER, 3),
+        ([CONFLICT; 4], 1, CONFLICT, 1),
+        ([CONFLICT, LIMIT, None, None], u32::MAX, LIMIT, 2),
+        ([NO_MEMORY, None, None, None], u32::MAX, NO_MEMORY, 1),
+    ] {
+        let want = match end {
+            None => Attempt::Committed(NUMBER),
+            Some(stop) => Attempt::Stopped(stop),
+        };
+        let (end, made) = put_until_committed(&rt, rt.alloc(), stops, tries)?;
+        assert_eq!(rt; end, want);
+        assert_eq!(rt; made, attempts);
     }
     Ok(())
 }

@@ -8,6 +8,7 @@ use Rattle.std.proofs.lemmas.List.Sums.{sum_by-cons}
 use Rattle.md_book.specs.declared.commands.Command.{Command}
 use Rattle.md_orders.specs.Scripts.{list_of, at_line, count_of}
 use Rattle.md_many.specs.Tags.{tag_of, tags_after}
+use Rattle.md_many.proofs.TagLaws.{length-tags_after}
 use Rattle.md_rounds.specs.Traded.{HasNone, AreDifferent, AreOfLines}
 
 abbrev Has : List ℕ → ℕ → Type 0
@@ -88,10 +89,6 @@ has-right (x ∷ xs) ys t h = elim (cases_Bool (x == t)) [
 all-tags : ℕ → List (List Command) → List ℕ
 all-tags caller [] = []
 all-tags caller (script ∷ scripts) = tags_after caller 0 (length script) ++ all-tags (caller + 1) scripts
-
-length-tags_after : (caller n k : ℕ) → length (tags_after caller n k) ≡ k
-length-tags_after caller n zero = refl
-length-tags_after caller n (suc k) = ap suc (length-tags_after caller (n + 1) k)
 
 all-tags-count : (caller : ℕ) (scripts : List (List Command)) → length (all-tags caller scripts) ≡ count_of scripts
 unfolding all-tags

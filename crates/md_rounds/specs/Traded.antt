@@ -29,6 +29,6 @@ pub record HasTraded (scripts : List (List Command)) (s : State) (tags : List â„
   pub different : AreDifferent tags
   pub stands : StandsFor s (book_after empty_book commands)
 
--- how many nodes their contents need at most: two for each order, and one for each queue, level and account
+-- how many nodes their contents need at most: two for each order and each account, and one for each queue and each level
 abbrev pub MOST_NODES : â„•
 MOST_NODES = 2024000

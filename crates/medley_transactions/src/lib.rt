@@ -17,7 +17,7 @@
 //! - `join` puts two passes together.
 //! - `attempt` runs a body once. Either it took effect as a whole (`Committed`, with the body's
 //!   reply), or it had no effect (`Stopped`, with the cause). After a conflict the body may be run
-//!   again.
+//!   again, and [`attempt_until_committed`] does so.
 //! - `renew` ends the engine, and opens one on the same contents, with all nodes and attempts
 //!   again.
 //! - `contents` ends the engine, and returns what it holds.
@@ -90,6 +90,9 @@ pub use md_many::{Keeper, Rounds, play_rounds};
 
 /// The calls that play lines of one caller by a pass: one attempt, or attempts until the turn ends.
 pub use md_many::{End, MOST_CONFLICTS, Turn, attempt_line, attempt_lines};
+
+/// Attempts at one body until it is committed.
+pub use md_many::attempt_until_committed;
 
 /// The tag of a caller's line.
 pub use md_many::line_tag;

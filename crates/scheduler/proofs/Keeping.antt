@@ -8,9 +8,11 @@ use Rattle.std.proofs.lemmas.List.{length-set}
 use Rattle.std.proofs.lemmas.List.Sums.{sum_by-cons, sum_by_push}
 use Rattle.md_history.specs.declared.acts.Op.TheVariants.{Insert, Remove, Enqueue}
 use Rattle.md_history.specs.State.{State, map_at, queue_at, with_map, with_queue, after}
+use Rattle.md_history.proofs.Keys.{remove-absent}
+use Rattle.md_history.proofs.Weights.{weigh, weigh-insert, weigh-remove}
 use Rattle.scheduler.specs.declared.places.TheConstants.{RUNNING, FINISHED, PRIORITIES}
 use Rattle.scheduler.specs.Jobs.{Holds}
-use Rattle.scheduler.proofs.Weights.{weigh, weigh-insert, weigh-remove, remove-none, queue-changed, running-changed, finished-changed, by-place}
+use Rattle.scheduler.proofs.Weights.{queue-changed, running-changed, finished-changed, by-place}
 
 -- no job is listed twice
 abbrev pub AreDifferent : List ℕ → Type 0
@@ -136,7 +138,7 @@ removed-none jobs s worker holds none =
       same = λ f. omega (
         arith,
         running-changed f s left (omega (arith, holds.maps)),
-        ap (weigh f (λ e. e.1)) (remove-none (map_at s RUNNING) worker none),
+        ap (weigh f (λ e. e.1)) (remove-absent (map_at s RUNNING) worker none),
         holds.same f,
       );
     }

@@ -3,20 +3,20 @@ use Rattle.std.proofs.Common.{◌≡◌, ◌≤◌, ◌+◌, ℕ, zero, suc, Opt
 use Rattle.std.specs.Prelude.{IfSome, IsSome, is_some, slice_get}
 use Rattle.std.specs.FinMap as fin
 use Rattle.md_history.specs.declared.acts.Op.TheVariants.{Insert, Remove, Enqueue}
-use Rattle.md_history.specs.declared.acts.Reply.{Reply}
-use Rattle.md_history.specs.declared.acts.Reply.TheVariants.{Value, Flag, Nothing, Line}
 use Rattle.md_history.specs.State.{State, map_at, queue_at, with_queue, after}
 use Rattle.md_history.specs.Counts.{IsSmall}
-use Rattle.md_history.specs.Script.{Script, done, call, bind, Follows, Did}
+use Rattle.md_history.specs.Script.{done, call, bind, Follows, Did}
+use Rattle.md_history.specs.Branches.{by_option, value_in}
+use Rattle.md_history.proofs.Branching.{by_option-each}
+use Rattle.md_history.proofs.Plays.{Leaves, did-leaves, leaves-bind}
+use Rattle.md_history.proofs.FewCalls.{MakesAtMost, script-few}
 use Rattle.md_many.specs.Laws.{AreLawful}
 use Rattle.scheduler.specs.declared.moves.Step.{Step}
 use Rattle.scheduler.specs.declared.moves.Step.TheVariants.{Take, Finish, PutBack}
 use Rattle.scheduler.specs.declared.moves.Move.{Move}
 use Rattle.scheduler.specs.declared.places.TheConstants.{RUNNING, FINISHED, LOWEST, PRIORITIES}
-use Rattle.scheduler.specs.Moves.{by_job, if_job, first_waiting, start, take, finish, put_back, script_at, script_of, move_bounds, body_of}
+use Rattle.scheduler.specs.Moves.{first_waiting, start, take, finish, put_back, script_at, script_of, move_bounds, body_of}
 use Rattle.scheduler.specs.Jobs.{Holds, numbered}
-use Rattle.scheduler.proofs.Leaving.{Leaves, did-leaves, leaves-bind}
-use Rattle.scheduler.proofs.Few.{IsShort, few-short}
 use Rattle.scheduler.proofs.Keeping.{AreDifferent, dequeued-none, dequeued-job, removed-job, removed-none, started, finished, enqueued}
 use Rattle.scheduler.proofs.Counting.{numbered-different, nodes-needed}
 
@@ -28,13 +28,13 @@ module _ (jobs : List ℕ) (once : AreDifferent jobs) where
   runs s worker = fin.get (map_at s RUNNING) worker
 
   first-stays : (worker left queue : ℕ) (s : State) → left + queue ≤ PRIORITIES → Holds jobs [] s → runs s worker ≡ None
-      → Leaves (λ t found. Leaves Stays (if_job found (done None) (start worker)) t) (first_waiting left queue) s
+      → Leaves (λ t found. Leaves Stays (by_option found (done None) (start worker)) t) (first_waiting left queue) s
   unfolding first_waiting
   first-stays worker zero queue s within holds none = holds
   first-stays worker (suc left) queue s within holds none =
       elim (queue_at s queue) as (λ q. queue_at s queue ≡ q
-      → Leaves (λ t found. Leaves Stays (if_job found (done None) (start worker)) t)
-      (by_job (Value (slice_get q 0)) (first_waiting left (queue + 1)) (λ job. done (Some job)))
+      → Leaves (λ t found. Leaves Stays (by_option found (done None) (start worker)) t)
+      (by_option (slice_get q 0) (first_waiting left (queue + 1)) (λ job. done (Some job)))
       (with_queue s queue (drop 1 q))) [
         | [] ↦ λ is. first-stays worker left (queue + 1) (with_queue s queue []) (omega arith)
             (dequeued-none jobs [] s holds queue (omega arith) is) none
@@ -44,9 +44,9 @@ module _ (jobs : List ℕ) (once : AreDifferent jobs) where
 
   take-stays : (worker : ℕ) (s : State) → Holds jobs [] s → Leaves Stays (take worker) s
   take-stays worker s holds =
-      elim (runs s worker) as (λ o. runs s worker ≡ o → Leaves Stays (by_job (Value o)
-      (bind (first_waiting PRIORITIES 0) (λ found. if_job found (done None) (start worker))) (λ _. done None)) s) [
-        | None ↦ λ none. leaves-bind Stays (first_waiting PRIORITIES 0) (λ found. if_job found (done None) (start worker)) s
+      elim (runs s worker) as (λ o. runs s worker ≡ o → Leaves Stays (by_option o
+      (bind (first_waiting PRIORITIES 0) (λ found. by_option found (done None) (start worker))) (λ _. done None)) s) [
+        | None ↦ λ none. leaves-bind Stays (first_waiting PRIORITIES 0) (λ found. by_option found (done None) (start worker)) s
             (first-stays worker PRIORITIES 0 s (omega arith) holds none)
         | Some job ↦ λ _. holds
       ] refl
@@ -54,7 +54,7 @@ module _ (jobs : List ℕ) (once : AreDifferent jobs) where
   finish-stays : (worker : ℕ) (s : State) → Holds jobs [] s → Leaves Stays (finish worker) s
   finish-stays worker s holds =
       let gone = after s (Remove RUNNING worker) in
-      elim (runs s worker) as (λ o. runs s worker ≡ o → Leaves Stays (by_job (Value o) (done None) (λ job.
+      elim (runs s worker) as (λ o. runs s worker ≡ o → Leaves Stays (by_option o (done None) (λ job.
       call (Insert FINISHED job worker) (λ _. done (Some job)))) gone) [
         | None ↦ λ none. removed-none jobs s worker holds none
         | Some job ↦ λ is. finished jobs gone job (removed-job jobs s job worker holds is) worker once
@@ -63,7 +63,7 @@ module _ (jobs : List ℕ) (once : AreDifferent jobs) where
   put_back-stays : (worker : ℕ) (s : State) → Holds jobs [] s → Leaves Stays (put_back worker) s
   put_back-stays worker s holds =
       let gone = after s (Remove RUNNING worker) in
-      elim (runs s worker) as (λ o. runs s worker ≡ o → Leaves Stays (by_job (Value o) (done None) (λ job.
+      elim (runs s worker) as (λ o. runs s worker ≡ o → Leaves Stays (by_option o (done None) (λ job.
       call (Enqueue LOWEST job) (λ _. done (Some job)))) gone) [
         | None ↦ λ none. removed-none jobs s worker holds none
         | Some job ↦ λ is. enqueued jobs gone job (removed-job jobs s job worker holds is) LOWEST (omega arith)
@@ -75,34 +75,26 @@ module _ (jobs : List ℕ) (once : AreDifferent jobs) where
   move-stays Finish worker s holds = finish-stays worker s holds
   move-stays PutBack worker s holds = put_back-stays worker s holds
 
--- whatever a reply is, by whether it has a job
-by-job : {R : Type 0} (P : Script R → Type 0) (r : Reply) (none : Script R) (some : ℕ → Script R) → P none
-    → ((job : ℕ) → P (some job)) → P (by_job r none some)
-by-job P (Value (Some job)) none some n s = s job
-by-job P (Value None) none some n s = n
-by-job P (Flag b) none some n s = n
-by-job P Nothing none some n s = n
-by-job P (Line l) none some n s = n
-
--- every move is short
-first-short : (worker left queue : ℕ)
-    → IsShort (bind (first_waiting left queue) (λ found. if_job found (done None) (start worker))) (suc left)
+-- every move makes few calls
+first-few : (worker left queue : ℕ)
+    → MakesAtMost (suc left) (bind (first_waiting left queue) (λ found. by_option found (done None) (start worker)))
 unfolding first_waiting
-first-short worker zero queue = tt
-first-short worker (suc left) queue = (
+first-few worker zero queue = tt
+first-few worker (suc left) queue = (
   refl,
-  λ r. by-job (λ p. IsShort (bind p (λ found. if_job found (done None) (start worker))) (suc left)) r _ _
-      (first-short worker left (queue + 1)) (λ job. (refl, λ _. tt)),
+  λ r. by_option-each (λ p. MakesAtMost (suc left) (bind p (λ found. by_option found (done None) (start worker))))
+      (value_in r) _ _
+      (first-few worker left (queue + 1)) (λ job. (refl, λ _. tt)),
 )
 
-move-short : (step : Step) (worker : ℕ) → IsShort (script_at step worker) 5
-move-short Take worker = (refl, λ r. by-job (λ p. IsShort p 4) r _ _ (first-short worker PRIORITIES 0) (λ job. tt))
-move-short Finish worker = (refl, λ r. by-job (λ p. IsShort p 4) r _ _ tt (λ job. (refl, λ _. tt)))
-move-short PutBack worker = (refl, λ r. by-job (λ p. IsShort p 4) r _ _ tt (λ job. (refl, λ _. tt)))
+move-few : (step : Step) (worker : ℕ) → MakesAtMost 5 (script_at step worker)
+move-few Take worker = (refl, λ r. by_option-each (MakesAtMost 4) (value_in r) _ _ (first-few worker PRIORITIES 0) (λ job. tt))
+move-few Finish worker = (refl, λ r. by_option-each (MakesAtMost 4) (value_in r) _ _ tt (λ job. (refl, λ _. tt)))
+move-few PutBack worker = (refl, λ r. by_option-each (MakesAtMost 4) (value_in r) _ _ tt (λ job. (refl, λ _. tt)))
 
 small : (o : Option Move) (s : State) → IfSome o (λ m. IsSmall move_bounds (λ acts. Follows (script_of m) acts) s)
 small None s = tt
-small (Some m) s = λ acts follows right. few-short (script_of m) 5 acts (move-short m.step m.worker) follows
+small (Some m) s = λ acts follows right. script-few 5 (script_of m) acts (move-few m.step m.worker) follows
 
 pub shift-laws : (opening : State) (workers jobs : ℕ) → Holds (numbered jobs) [] opening
     → AreLawful (λ m acts r. Did (script_of m) acts r) (λ m acts. Follows (script_of m) acts) (body_of workers jobs)

@@ -1,6 +1,4 @@
 mod Walking
-mod Leaving
-mod Few
 mod Weights
 mod Keeping
 mod Laws

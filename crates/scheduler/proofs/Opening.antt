@@ -5,9 +5,10 @@ use Rattle.std.specs.Ordering.{nat_cmp}
 use Rattle.std.specs.FinMap as fin
 use Rattle.std.proofs.lemmas.List.Sums.{sum_by-cons}
 use Rattle.md_history.specs.State.{State, Table, empty_state, queue_at, with_queue}
+use Rattle.md_history.proofs.Weights.{weigh}
 use Rattle.scheduler.specs.declared.places.TheConstants.{MAPS, PRIORITIES}
 use Rattle.scheduler.specs.Jobs.{Holds, numbered}
-use Rattle.scheduler.proofs.Weights.{weigh, by-place}
+use Rattle.scheduler.proofs.Weights.{by-place}
 use Rattle.scheduler.proofs.Keeping.{enqueued}
 use Rattle.scheduler.proofs.Counting.{sum-numbered}
 

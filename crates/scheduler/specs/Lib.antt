@@ -1,4 +1,3 @@
-pub mod Playing
 pub mod Moves
 pub mod Jobs
 pub mod Shifts

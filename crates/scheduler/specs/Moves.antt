@@ -1,33 +1,19 @@
 -- The moves of workers as scripts, and which move each of a worker's lines is.
 use Rattle.std.specs.Prelude.{◌≤◌, ◌+◌, ◌*◌, ◌%◌, ◌==◌, ◌&&◌, ℕ, zero, suc, Option, Some, None, if◌then◌else◌, nat_le}
 use Rattle.md_history.specs.declared.acts.Op.TheVariants.{Get, Insert, Remove, Enqueue, Dequeue}
-use Rattle.md_history.specs.declared.acts.Reply.{Reply}
-use Rattle.md_history.specs.declared.acts.Reply.TheVariants.{Value, Flag, Nothing, Line}
 use Rattle.md_history.specs.Script.{Script, done, call, bind}
-use Rattle.md_history.specs.Counts.{Bounds}
+use Rattle.md_history.specs.Branches.{by_option, by_value}
+use Rattle.md_history.specs.Counts.{Bounds, bounds_of_calls}
 use Rattle.scheduler.specs.declared.places.TheConstants.{MAPS, PRIORITIES, RUNNING, FINISHED, LOWEST}
 use Rattle.scheduler.specs.declared.moves.Step.{Step}
 use Rattle.scheduler.specs.declared.moves.Step.TheVariants.{Take, Finish, PutBack}
 use Rattle.scheduler.specs.declared.moves.Move.{Move}
 
--- one way if a reply has no job, another if it has one
-abbrev pub by_job : {R : Type 0} → Reply → Script R → (ℕ → Script R) → Script R
-by_job (Value (Some job)) none some = some job
-by_job (Value None) none some = none
-by_job (Flag b) none some = none
-by_job Nothing none some = none
-by_job (Line l) none some = none
-
--- one way if there is no job, another if there is one
-abbrev pub if_job : {R : Type 0} → Option ℕ → Script R → (ℕ → Script R) → Script R
-if_job None none some = none
-if_job (Some job) none some = some job
-
 -- the first job of the first of so many queues, from a queue on, that has one, is taken out
 unfoldable pub first_waiting : ℕ → ℕ → Script (Option ℕ)
 first_waiting zero queue = done None
 first_waiting (suc left) queue =
-    call (Dequeue queue) (λ r. by_job r (first_waiting left (queue + 1)) (λ job. done (Some job)))
+    call (Dequeue queue) (λ r. by_value r (first_waiting left (queue + 1)) (λ job. done (Some job)))
 
 -- the worker begins to run a job
 abbrev pub start : ℕ → ℕ → Script (Option ℕ)
@@ -36,20 +22,20 @@ start worker job = call (Insert RUNNING worker job) (λ _. done (Some job))
 -- a worker that runs no job takes one
 abbrev pub take : ℕ → Script (Option ℕ)
 take worker =
-    call (Get RUNNING worker) (λ r. by_job r
-    (bind (first_waiting PRIORITIES 0) (λ found. if_job found (done None) (start worker)))
+    call (Get RUNNING worker) (λ r. by_value r
+    (bind (first_waiting PRIORITIES 0) (λ found. by_option found (done None) (start worker)))
     (λ _. done None))
 
 -- the job that the worker runs is finished
 abbrev pub finish : ℕ → Script (Option ℕ)
 finish worker =
-    call (Remove RUNNING worker) (λ r. by_job r (done None) (λ job.
+    call (Remove RUNNING worker) (λ r. by_value r (done None) (λ job.
     call (Insert FINISHED job worker) (λ _. done (Some job))))
 
 -- the job that the worker runs waits again
 abbrev pub put_back : ℕ → Script (Option ℕ)
 put_back worker =
-    call (Remove RUNNING worker) (λ r. by_job r (done None) (λ job.
+    call (Remove RUNNING worker) (λ r. by_value r (done None) (λ job.
     call (Enqueue LOWEST job) (λ _. done (Some job))))
 
 -- the script of a worker's step
@@ -66,9 +52,9 @@ script_of m = script_at m.step m.worker
 abbrev pub FitsScheduler : ℕ → ℕ → Type 0
 FitsScheduler maps queues = (MAPS ≤ maps) × (PRIORITIES ≤ queues)
 
--- how many words a move reads and writes, and how many nodes it takes, at most
+-- what a move reads, writes and takes at most: five calls, so 20 words, 35 words and 5 nodes
 abbrev pub move_bounds : Bounds
-move_bounds = record { reads = 20; writes = 35; nodes = 5 }
+move_bounds = bounds_of_calls 5
 
 -- the step at a line: a worker takes a job and puts it back, and from then on takes and finishes
 abbrev pub step_at : ℕ → Step

@@ -1,8 +1,8 @@
 //! What a worker does with jobs. Each move is one transaction.
 
 ghost use Rattle.std.specs.Prelude.{◌≡◌, ◌≤◌, None, IfOk, IfErr};
+ghost use Rattle.md_history.specs.Playing.{PlaysPart};
 ghost use Rattle.md_history.specs.Script.{Did, Follows};
-ghost use Rattle.scheduler.specs.Playing.{PlaysPart};
 ghost use Rattle.scheduler.specs.Moves.{FitsScheduler, script_of};
 ghost use Rattle.scheduler.specs.Moves.{first_waiting, take, finish, put_back};
 

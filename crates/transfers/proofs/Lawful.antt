@@ -6,17 +6,19 @@ use Rattle.md_history.specs.State.{State, run, IsRight}
 use Rattle.md_history.specs.Counts.{IsSmall}
 use Rattle.md_history.specs.Engine.{needed}
 use Rattle.md_history.specs.Script.{Did, Follows}
+use Rattle.md_history.specs.Branches.{value_in}
+use Rattle.md_history.proofs.FewCalls.{MakesAtMost, script-few}
 use Rattle.md_many.specs.Tags.{tag_of}
 use Rattle.md_many.specs.Laws.{AreLawful, LineKeepsGood}
 use Rattle.md_many.specs.Played.{line_at}
+use Rattle.md_many.specs.Left.{all_tags}
+use Rattle.md_many.proofs.Left.{has-all, left-less, left-most, length-all, none-has}
 use Rattle.transfers.specs.declared.bank.Order.{Order}
 use Rattle.transfers.specs.declared.bank.Transfer.{Transfer}
 use Rattle.transfers.specs.declared.bank.Outcome.{Outcome}
-use Rattle.transfers.specs.Bank.{IsBank, bank_in, state_of, bank_after, script_of, new_balances, value_in, decided, transfer_bounds}
-use Rattle.transfers.specs.Orders.{numbered, transfer_at, count_of, all_tags, IsInDay}
-use Rattle.transfers.proofs.Scripts.{IsAtMost, script-few}
+use Rattle.transfers.specs.Bank.{IsBank, bank_in, state_of, bank_after, script_of, new_balances, decided, transfer_bounds}
+use Rattle.transfers.specs.Orders.{numbered, transfer_at, count_of, IsInDay}
 use Rattle.transfers.proofs.Meets.{meets, transfer-keeps}
-use Rattle.transfers.proofs.Left.{has-all, left-less, left-most, length-all, none-has}
 
 -- maps and queues that are a bank are those of their bank
 pub bank-whole : (s : State) → IsBank s → s ≡ state_of (bank_in s)
@@ -30,10 +32,10 @@ bank-whole s is =
     single (x ∷ y ∷ xs) d one = absurd (omega (arith, one))
 
 -- a transfer makes seven calls at most
-calls-few : (t : Transfer) → IsAtMost 7 (script_of t)
+calls-few : (t : Transfer) → MakesAtMost 7 (script_of t)
 calls-few t = (refl, λ from. (refl, λ to. each (new_balances t (value_in from) (value_in to))))
   where
-    each : (o : _) → IsAtMost 5 (decided t o)
+    each : (o : _) → MakesAtMost 5 (decided t o)
     each (Err why) = tt
     each (Ok new) = (refl, λ _. (refl, λ _. (refl, λ _. (refl, λ _. (refl, λ _. tt)))))
 

@@ -1,7 +1,3 @@
-pub mod Scripts
-pub mod Tables
-pub mod Committed
-pub mod Left
 pub mod Lists
 pub mod Meets
 pub mod Lawful

@@ -13,13 +13,14 @@ use Rattle.md_history.specs.Script.{Did}
 use Rattle.md_many.specs.Tags.{tag_of, IsInterleaving}
 use Rattle.md_many.specs.Rounds.{at_caller}
 use Rattle.md_many.specs.Played.{line_at, tags_of, committed_of, EachLineOnce}
+use Rattle.md_many.specs.Replied.{IsReplied, AreReplied}
+use Rattle.md_many.proofs.Walking.{fronts-right, fronts-run, kept-in, each-replied}
 use Rattle.transfers.specs.declared.bank.Order.{Order}
 use Rattle.transfers.specs.declared.bank.Transfer.{Transfer}
 use Rattle.transfers.specs.declared.bank.Outcome.{Outcome}
 use Rattle.transfers.specs.Bank.{Bank, IsBank, bank_in, state_of, total, bank_after, outcome_in, script_of, after_balances, outcome_of_balances, balances_of}
 use Rattle.transfers.specs.Orders.{numbered, transfer_at, line_count_of, IsInDay}
 use Rattle.transfers.specs.Made.{bank_after_all, outcomes_in, transfers_of, replies_of, is_moved, has_moved, AreMade}
-use Rattle.transfers.proofs.Committed.{fronts-right, fronts-run, IsReplied, AreReplied, each-replied}
 use Rattle.transfers.proofs.Lawful.{bank-whole}
 use Rattle.transfers.proofs.Meets.{meets, transfer-keeps}
 
@@ -100,8 +101,8 @@ module _ (orders : List (List Order)) (replies : List (List Outcome)) where
       let whole = bank-whole start is in
       let b = bank_in start in
       let m = made es b
-      (each-replied did_transfer (transfer_at orders) (line_count_of orders) replies (IsInDay orders start) start contents
-      fronts few once)
+      (each-replied did_transfer (transfer_at orders) (line_at replies) (line_count_of orders)
+      (λ caller rs. at_caller [] replies caller ≡ rs) (IsInDay orders start) start contents fronts few (kept-in replies) once)
       (subst (λ s. IsRight s (acts_of es)) whole (fronts-right start fronts once.legal)) in
       let end = bank_after_all b (transfers_of orders (tags_of es)) in
       let left : contents ≡ state_of end =

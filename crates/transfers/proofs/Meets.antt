@@ -1,7 +1,6 @@
 -- A transfer's right acts do to a bank what one thread does that makes the transfer; and what that keeps.
 use Rattle.std.proofs.Common.{◌≡◌, ◌≢◌, ◌≤◌, ◌+◌, ℕ, cond, List, [], ◌∷◌, length, refl, sym, ap, ◌∙◌, arith, inl, inr}
-use Rattle.std.specs.Prelude.{◌-◌, ◌^◌, ◌==◌, nat_lt, Option, Some, None, Result, Ok, Err, unwrap_or}
-use Rattle.std.specs.Cmp.{nat_cmp_total}
+use Rattle.std.specs.Prelude.{◌-◌, ◌^◌, ◌==◌, nat_lt, Option, Some, None, Result, Ok, Err, is_none, sum}
 use Rattle.std.specs.FinMap as fin
 use Rattle.std.proofs.lemmas.Bool.{cases_Bool, eqb-false, ltb-false}
 use Rattle.std.proofs.lemmas.List.{length-append}
@@ -9,13 +8,14 @@ use Rattle.md_history.specs.declared.acts.Act.{Act}
 use Rattle.md_history.specs.declared.acts.Op.TheVariants.{Insert, Remove, Enqueue}
 use Rattle.md_history.specs.State.{State, Table, run, after, IsRight}
 use Rattle.md_history.specs.Script.{Did}
+use Rattle.md_history.proofs.Plays.{played, outcome, did-played}
+use Rattle.md_history.proofs.Keys.{get-insert_other, get-remove_same, insert-removed, len-replaced}
+use Rattle.md_history.proofs.Weights.{weigh-replaced}
 use Rattle.transfers.specs.declared.bank.Transfer.{Transfer}
 use Rattle.transfers.specs.declared.bank.Refusal.{Refusal}
 use Rattle.transfers.specs.declared.bank.Outcome.{Outcome}
 use Rattle.transfers.specs.declared.bank.TheConstants.{ACCOUNTS, JOURNAL}
 use Rattle.transfers.specs.Bank.{Bank, state_of, total, new_balances, balances_of, after_balances, outcome_of_balances, bank_after, outcome_in, decided, script_of}
-use Rattle.transfers.proofs.Scripts.{played, outcome, did-played}
-use Rattle.transfers.proofs.Tables.{sum-insert, apart, gone, again, has-key}
 
 -- an account gets a balance
 replaced : (m : Table) (xs : List ℕ) (k v : ℕ)
@@ -24,7 +24,8 @@ replaced : (m : Table) (xs : List ℕ) (k v : ℕ)
 replaced m xs k v =
     let removed : State = state_of (record { accounts = fin.remove m k; journal = xs }) in
     let put : State = state_of (record { accounts = fin.insert (fin.remove m k) k v; journal = xs }) in
-    ap (λ b. cond b put removed) (gone m k) ∙ ap (λ t. state_of (record { accounts = t; journal = xs })) (again m k v)
+    ap (λ o. cond (is_none o) put removed) (get-remove_same m k)
+    ∙ ap (λ t. state_of (record { accounts = t; journal = xs })) (insert-removed m k v)
 
 -- what the decided part of a transfer leaves
 decided-leaves : (t : Transfer) (b : Bank) (o : Result (ℕ × ℕ) Refusal)
@@ -101,15 +102,14 @@ after-keeps t b (Ok new) is =
     let n = are-new t (fin.get b.accounts t.from) (fin.get b.accounts t.to) new is in
     let one = fin.insert b.accounts t.from new.0 in
     let there : fin.get one t.to ≡ Some n.there =
-    fin.get-insert nat_cmp_total b.accounts t.from new.0 t.to
-    ∙ ap (λ c. cond c (Some new.0) (fin.get b.accounts t.to)) (apart t.to t.from (λ e. n.other (sym e))) ∙ n.to_is in
-    let first = sum-insert b.accounts t.from new.0 in
-    let second = sum-insert one t.to new.1 in
-    let left : unwrap_or (fin.get b.accounts t.from) 0 ≡ n.left = ap (λ o. unwrap_or o 0) n.from_is in
-    let had : unwrap_or (fin.get one t.to) 0 ≡ n.there = ap (λ o. unwrap_or o 0) there in
+    get-insert_other b.accounts t.from new.0 t.to (λ e. n.other (sym e)) ∙ n.to_is in
+    let first : sum (fin.values one) + n.left ≡ sum (fin.values b.accounts) + new.0 =
+    weigh-replaced (λ x. x) (λ e. e.1) b.accounts t.from new.0 n.left n.from_is in
+    let second : sum (fin.values (fin.insert one t.to new.1)) + n.there ≡ sum (fin.values one) + new.1 =
+    weigh-replaced (λ x. x) (λ e. e.1) one t.to new.1 n.there there in
     record {
-      sum = omega (arith, first, second, left, had, n.enough, n.taken, n.given);
-      accounts = has-key one t.to new.1 n.there there ∙ has-key b.accounts t.from new.0 n.left n.from_is;
+      sum = omega (arith, first, second, n.enough, n.taken, n.given);
+      accounts = len-replaced one t.to new.1 n.there there ∙ len-replaced b.accounts t.from new.0 n.left n.from_is;
       journal = omega (arith, length-append b.journal (t.number ∷ []));
     }
 

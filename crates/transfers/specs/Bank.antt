@@ -2,10 +2,9 @@
 use Rattle.std.specs.Prelude.{◌≡◌, ◌+◌, ◌-◌, ◌^◌, ◌==◌, nat_lt, if◌then◌else◌, ℕ, Option, Some, None, Result, Ok, Err, List, [], ◌∷◌, ◌++◌, length, sum}
 use Rattle.std.specs.FinMap as fin
 use Rattle.md_history.specs.declared.acts.Op.TheVariants.{Get, Insert, Remove, Enqueue}
-use Rattle.md_history.specs.declared.acts.Reply.{Reply}
-use Rattle.md_history.specs.declared.acts.Reply.TheVariants.{Value, Flag, Nothing, Line}
-use Rattle.md_history.specs.Counts.{Bounds}
+use Rattle.md_history.specs.Counts.{Bounds, bounds_of_calls}
 use Rattle.md_history.specs.Script.{Script, done, call}
+use Rattle.md_history.specs.Branches.{value_in}
 use Rattle.md_history.specs.State.{State, Table, map_at, queue_at}
 use Rattle.transfers.specs.declared.bank.Transfer.{Transfer}
 use Rattle.transfers.specs.declared.bank.Refusal.{Refusal}
@@ -68,13 +67,6 @@ bank_after b t = after_balances b t (balances_of b t)
 abbrev pub outcome_in : Bank → Transfer → Outcome
 outcome_in b t = outcome_of_balances (balances_of b t)
 
--- the value that a reply has
-abbrev pub value_in : Reply → Option ℕ
-value_in (Value v) = v
-value_in (Flag b) = None
-value_in Nothing = None
-value_in (Line l) = None
-
 -- what a transfer does as a transaction: it looks both accounts up, and writes both balances and the journal, unless it
 -- is refused
 abbrev pub write_both : Transfer → ℕ → ℕ → Script Outcome
@@ -92,6 +84,6 @@ script_of t =
     call (Get ACCOUNTS t.from) (λ from. call (Get ACCOUNTS t.to) (λ to.
     decided t (new_balances t (value_in from) (value_in to))))
 
--- what a transfer may read, write and take: four words read, seven written and one node taken for each of seven calls
+-- what a transfer reads, writes and takes at most: seven calls, so 28 words, 49 words and 7 nodes
 abbrev pub transfer_bounds : Bounds
-transfer_bounds = record { reads = 28; writes = 49; nodes = 7 }
+transfer_bounds = bounds_of_calls 7

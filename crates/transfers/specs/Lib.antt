@@ -1,4 +1,3 @@
-pub mod Playing
 pub mod Bank
 pub mod Orders
 pub mod OrderLaws

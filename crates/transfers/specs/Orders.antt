@@ -1,10 +1,10 @@
 -- The orders of tellers, and the transfers that they are.
-use Rattle.std.specs.Prelude.{◌≡◌, ◌+◌, ◌≤◌, ◌==◌, ℕ, not, Option, List, [], ◌∷◌, ◌++◌, length, sum_by, option_map}
-use Rattle.std.specs.List.{list_any, count_by}
+use Rattle.std.specs.Prelude.{◌≡◌, ◌+◌, ◌≤◌, ℕ, Option, List, [], length, sum_by, option_map}
 use Rattle.md_history.specs.State.{State, map_at, queue_at}
-use Rattle.md_many.specs.Tags.{tag_of, tags_after}
+use Rattle.md_many.specs.Tags.{tag_of}
 use Rattle.md_many.specs.Rounds.{at_caller}
 use Rattle.md_many.specs.Played.{line_at}
+use Rattle.md_many.specs.Left.{left_of, all_tags}
 use Rattle.std.specs.FinMap as fin
 use Rattle.transfers.specs.declared.bank.Order.{Order}
 use Rattle.transfers.specs.declared.bank.Transfer.{Transfer}
@@ -33,15 +33,6 @@ pub record AreKept (total : ℕ) (orders : List (List Order)) : Type 0 where
   pub counted : total ≡ count_of orders
   pub few : count_of orders ≤ MAX_ORDERS
   pub tellers : length orders ≤ MAX_TELLERS
-
--- the tags of all lines, of the tellers after the first so many
-abbrev pub all_tags : {A : Type 0} → ℕ → List (List A) → List ℕ
-all_tags before [] = []
-all_tags before (list ∷ lists) = tags_after (before + 1) 0 (length list) ++ all_tags (before + 1) lists
-
--- how many of all tags aren't among those that were played
-abbrev pub left_of : List ℕ → List ℕ → ℕ
-left_of all tags = count_by (λ t. not (list_any (λ u. u == t) tags)) all
 
 -- What lines leave, by the tags of those that were played: a bank with the accounts that there were, whose journal has
 -- grown by no more records than there are lines that aren't left.

@@ -1,8 +1,8 @@
 //! A bank: accounts in a map, a journal in a queue, and transfers between accounts.
 
 ghost use Rattle.std.specs.Prelude.{◌≡◌, ◌<◌, None};
+ghost use Rattle.md_history.specs.Playing.{PlaysPart};
 ghost use Rattle.transfers.specs.Bank.{new_balances, write_both};
-ghost use Rattle.transfers.specs.Playing.{PlaysPart};
 
 use medley_transactions::{Body, Stop, TxCalls};
 

@@ -4,9 +4,9 @@ ghost use Rattle.std.specs.Prelude.{IfOk};
 ghost use Rattle.md_store.specs.Store.{IsPassOf};
 
 use super::*;
-use md_history::{Attempt, Body, Stop};
+use md_history::{Attempt, Body};
+use md_many::attempt_until_committed;
 use md_words::ShapeFault;
-use std::hint::spin_loop;
 use std::thread::{Threads, join};
 
 // How many bodies each thread runs.
@@ -32,35 +32,6 @@ pub(super) struct Done<R> {
     pub(super) replies: Vec<Vec<R>>,
 }
 
-// Runs a body until it is committed, or stops for another reason than a conflict. After a conflict
-// it pauses, for twice as long as after the one before.
-fn run_until_committed<B: Body>(
-    store: &Store,
-    pass: &mut StorePass,
-    tag: u64,
-    body: &B,
-) -> Option<B::Reply>
-    requires of { IsPassOf store.now pass.old }
-    requires fits { B.fits body.now store.now.origin.shape.maps store.now.origin.shape.queues }
-    ensures of { IsPassOf store.now pass.new }
-{
-    for conflicts in 0..u32::MAX {
-        match store.attempt(pass, tag, body) {
-            Attempt::Committed(reply) => return Some(reply),
-            Attempt::Stopped(Stop::Conflict(_)) => pause(conflicts),
-            Attempt::Stopped(_) => return None,
-        }
-    }
-    None
-}
-
-// Pauses for 2^conflicts turns of the spin hint, and for no more than 4,096.
-fn pause(conflicts: u32) {
-    for _ in 0..1u32 << conflicts.min(12) {
-        spin_loop();
-    }
-}
-
 // Runs bodies in order, until one stops for another reason than a conflict. Their replies go into a
 // list.
 fn run_bodies<B: Body>(
@@ -74,10 +45,10 @@ fn run_bodies<B: Body>(
     ensures of { IsPassOf store.now pass.new }
 {
     for (tag, body) in bodies.iter().enumerate() {
-        let Some(reply) = run_until_committed(store, pass, tag as u64, body) else {
-            return Ok(());
-        };
-        replies.push(reply)?;
+        match attempt_until_committed(store, pass, tag as u64, body, u32::MAX) {
+            Attempt::Committed(reply) => replies.push(reply)?,
+            Attempt::Stopped(_) => return Ok(()),
+        }
     }
     Ok(())
 }

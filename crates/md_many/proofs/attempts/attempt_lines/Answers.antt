@@ -2,21 +2,10 @@ use Rattle.std.proofs.Common.{◌≡◌, ◌<◌, ◌≤◌, ◌+◌, ℕ, ◌�
 use Rattle.std.specs.Prelude.{IfSome}
 use Rattle.std.proofs.lemmas.Bool.{cases_eq}
 use Rattle.std.proofs.lemmas.List.{length_push}
-use Rattle.md_history.specs.declared.stops.Shown.{Shown}
-use Rattle.md_history.specs.declared.stops.Stop.{Stop}
-use Rattle.md_history.specs.declared.stops.Stop.TheVariants.{Conflict, NoMemory}
-use Rattle.md_history.specs.Attempt.{IsStopCounted}
 use Rattle.md_many.proofs.Playing.{played-none, played-stopped, played-more}
+use Rattle.md_many.proofs.Retrying.{no_conflict, conflict_counted}
 use Rattle.md_many.proofs.attempts.attempt_lines.Goals as goal
 use Rattle.md_many.proofs.attempts.attempt_lines.Goals.{in-Committed, in-Stopped-Conflict+else-conflicts-eq-MOST_CONFLICTS}
-
-no_conflict : {shown : Shown} → Conflict shown ≡ NoMemory → ⊥
-no_conflict same = cc
-
--- an attempt that met a conflict was begun
-conflict_counted : {shown : Shown} (s : Stop) (begun begun' : ℕ) → s ≡ Conflict shown → IsStopCounted s begun begun'
-    → begun' ≡ begun + 1
-conflict_counted s begun begun' is counted = subst (λ t. IsStopCounted t begun begun') is counted
 
 -- what is so of each line up to one, and of the next
 one_more : (P : ℕ → Type 0) (done played : ℕ) → ((line : ℕ) → done < line → line ≤ played → P line) → P (played + 1)

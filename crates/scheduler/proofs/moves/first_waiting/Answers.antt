@@ -1,8 +1,9 @@
 use Rattle.std.proofs.Common.{◌-◌, ◌+◌, ◌∙◌, arith}
 use Rattle.std.proofs.lemmas.Result.{err_from_is_err_and}
 use Rattle.md_history.specs.ScriptLaws.{at-rest, at-more, at-broke, at-done}
+use Rattle.md_history.proofs.Branching.{at-some, at-none}
 use Rattle.scheduler.specs.declared.places.TheConstants.{PRIORITIES}
-use Rattle.scheduler.proofs.Walking.{at-some, at-none, first_waiting-more, first_waiting-last}
+use Rattle.scheduler.proofs.Walking.{first_waiting-more, first_waiting-last}
 use Rattle.scheduler.proofs.moves.first_waiting.Goals as goal
 
 pub returns-in_err-job-clause-plays : goal.returns-in_err-job-clause-plays

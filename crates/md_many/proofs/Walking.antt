@@ -12,6 +12,7 @@ use Rattle.md_history.proofs.PlainFronts.{acts_of-append}
 use Rattle.md_many.specs.Lines.{AreLines}
 use Rattle.md_many.specs.Rounds.{at_caller, of_caller}
 use Rattle.md_many.specs.Played.{committed_of, state_after, AreDecidedAndLegal, EachLineOnce, line_at}
+use Rattle.md_many.specs.Replied.{AreReplied}
 use Rattle.md_many.proofs.TagLaws.{line_of_tag}
 use Rattle.md_many.proofs.Standing.{Head, lines-head, caller-own, caller-other}
 
@@ -33,18 +34,6 @@ fronts-run start (f ∷ fs) =
     ∙ run-append start (acts_of (committed_in f)) (acts_of (committed_of fs)))
 
 module _ {B R : Type 0} (did : B → List Act → R → Type 0) (body_at : ℕ → ℕ → Option B) (reply_at : ℕ → ℕ → Option R) where
-  -- an entry did the line that its tag names, with the reply that is kept of the line
-  pub record IsReplied (e : Entry) : Type 0 where
-    pub body : B
-    pub reply : R
-    pub there : body_at (e.tag / 2 ^ 32) (e.tag % 2 ^ 32) ≡ Some body
-    pub kept : reply_at (e.tag / 2 ^ 32) (e.tag % 2 ^ 32) ≡ Some reply
-    pub did_it : did body e.acts reply
-
-  abbrev pub AreReplied : List Entry → Type 0
-  AreReplied [] = Unit {0}
-  AreReplied (e ∷ es) = IsReplied e × AreReplied es
-
   -- of a caller, entries are its lines after its first n, and their replies are kept
   record PlayedFrom (caller n : ℕ) (es : List Entry) : Type 0 where
     pub list : List R
@@ -52,7 +41,7 @@ module _ {B R : Type 0} (did : B → List Act → R → Type 0) (body_at : ℕ �
     pub kept : (i : ℕ) → i < length list → reply_at caller (n + i + 1) ≡ slice_get list i
     pub few : n + length list < 2 ^ 32
 
-  walk : (es : List Entry) (n : ℕ → ℕ) → ((caller : ℕ) → PlayedFrom caller (n caller) es) → AreReplied es
+  walk : (es : List Entry) (n : ℕ → ℕ) → ((caller : ℕ) → PlayedFrom caller (n caller) es) → AreReplied did body_at reply_at es
   walk [] n each = tt
   walk (e ∷ es) n each =
       let own = e.tag / 2 ^ 32 in
@@ -103,20 +92,29 @@ module _ {B R : Type 0} (did : B → List Act → R → Type 0) (body_at : ℕ �
         walk es n' more,
       )
 
+-- what lists keep of a caller's line
+pub kept-in : {R : Type 0} (lists : List (List R)) (caller : ℕ) (rs : List R) → at_caller [] lists caller ≡ rs
+    → (i : ℕ) → i < length rs → line_at lists caller (i + 1) ≡ slice_get rs i
+kept-in lists caller rs kept i low =
+    let next : i + 1 ≡ suc i = omega arith in
+    ap (line_at lists caller) next ∙ ap (λ xs. slice_get xs i) kept
+
 -- Each committed entry of fronts that hold each line once did the line that its tag names, with the reply that is kept
 -- of it.
 pub each-replied : {B R : Type 0} (did : B → List Act → R → Type 0) (body_at : ℕ → ℕ → Option B)
-    (line_count : ℕ → ℕ) (lists : List (List R)) (good : State → List ℕ → Type 0) (opening contents : State)
-    (fronts : List Front) → ((caller : ℕ) → line_count caller < 2 ^ 32)
-    → EachLineOnce did body_at line_count (λ caller rs. at_caller [] lists caller ≡ rs) good opening fronts contents
-    → AreReplied did body_at (line_at lists) (committed_of fronts)
-each-replied did body_at line_count lists good opening contents fronts few once =
-    walk did body_at (line_at lists) (committed_of fronts) (λ caller. 0) (λ caller.
+    (reply_at : ℕ → ℕ → Option R) (line_count : ℕ → ℕ) (keeps : ℕ → List R → Type 0)
+    (good : State → List ℕ → Type 0) (opening contents : State) (fronts : List Front)
+    → ((caller : ℕ) → line_count caller < 2 ^ 32)
+    → ((caller : ℕ) (rs : List R) → keeps caller rs → (i : ℕ) → i < length rs → reply_at caller (i + 1) ≡ slice_get rs i)
+    → EachLineOnce did body_at line_count keeps good opening fronts contents
+    → AreReplied did body_at reply_at (committed_of fronts)
+each-replied did body_at reply_at line_count keeps good opening contents fronts few kept once =
+    walk did body_at reply_at (committed_of fronts) (λ caller. 0) (λ caller.
     let p = once.each caller in
     record {
       list = p.replies;
       lines = p.lines;
-      kept = λ i low. let next : 0 + i + 1 ≡ suc i = omega arith in
-          ap (line_at lists caller) next ∙ ap (λ xs. slice_get xs i) p.kept;
+      kept = λ i low. let same : 0 + i + 1 ≡ i + 1 = omega arith in
+          ap (reply_at caller) same ∙ kept caller p.replies p.kept i low;
       few = omega (arith, p.count, few caller);
     })

@@ -9,7 +9,8 @@ use Rattle.std.proofs.lemmas.List.Sums.{sum_by-cons, count_by-le-length}
 use Rattle.md_many.specs.Tags.{tag_of, tags_after}
 use Rattle.md_many.specs.Rounds.{at_caller}
 use Rattle.md_many.specs.Played.{line_at}
-use Rattle.transfers.specs.Orders.{left_of, all_tags}
+use Rattle.md_many.specs.Left.{left_of, all_tags}
+use Rattle.md_many.proofs.TagLaws.{length-tags_after}
 
 abbrev Has : List ℕ → ℕ → Type 0
 Has ts t = list_any (λ u. u == t) ts ≡ true
@@ -79,16 +80,12 @@ none-has tags t all = each tags (recursion_from_All (λ u. ¬ (u ≡ t)) tags al
     each [] h = refl
     each (u ∷ us) h = ap (λ b. b || list_any (λ x. x == t) us) (ne_eqb u t h.0) ∙ each us h.1
 
-length-tags : (caller n count : ℕ) → length (tags_after caller n count) ≡ count
-length-tags caller n zero = refl
-length-tags caller n (suc count) = ap suc (length-tags caller (n + 1) count)
-
 -- they are as many as there are lines
 pub length-all : {A : Type 0} (before : ℕ) (lists : List (List A)) → length (all_tags before lists) ≡ sum_by length lists
 length-all before [] = refl
 length-all before (list ∷ lists) =
     length-append (tags_after (before + 1) 0 (length list)) (all_tags (before + 1) lists)
-    ∙ omega (arith, length-tags (before + 1) 0 (length list), length-all (before + 1) lists, sum_by-cons length list lists)
+    ∙ omega (arith, length-tags_after (before + 1) 0 (length list), length-all (before + 1) lists, sum_by-cons length list lists)
 
 has-left : (xs ys : List ℕ) (t : ℕ) → Has xs t → Has (xs ++ ys) t
 has-left [] ys t h = absurd (false≢true h)
