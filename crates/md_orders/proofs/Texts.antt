@@ -1,15 +1,20 @@
 -- Texts one after another.
-use Rattle.std.proofs.Common.{◌≡◌, ◌+◌, ◌∙◌, ◌++◌, ℕ, zero, suc, List, [], Some, None, cond, refl, sym, ap, append_assoc, add-one, inl, inr}
+use Rattle.std.proofs.Common.{◌≡◌, ◌+◌, ◌∙◌, ◌++◌, ℕ, zero, suc, List, [], Option, Some, None, arith, cond, refl, sym, ap, append_assoc, add-one, inl, inr}
 use Rattle.std.specs.Prelude.{◌==◌, unwrap_or}
 use Rattle.std.proofs.lemmas.Bool.{cases_Bool, eqb-true}
 use Rattle.std.proofs.lemmas.List.{append-nil}
 use Rattle.md_history.specs.State.{State}
 use Rattle.md_book.specs.declared.commands.Side.{Side}
+use Rattle.md_book.specs.declared.commands.Side.TheVariants.{Buy, Sell}
+use Rattle.md_book.specs.declared.commands.Command.{Command}
+use Rattle.md_book.specs.declared.commands.BookReply.{BookReply}
 use Rattle.md_book.specs.declared.limits.TheConstants.{MAX_ACCOUNT, MAX_PRICE}
 use Rattle.md_book.specs.declared.maps.TheConstants.{SOLD}
 use Rattle.md_book.specs.Book.{Book, level_of, depth, bought, sold}
 use Rattle.md_book.specs.Stands.{StandsFor, unless_0}
+use Rattle.md_orders.specs.Scripts.{count_of}
 use Rattle.md_orders.specs.Report.{texts_to, level_text, account_text, value_at, levels_text, levels_text_of, accounts_text, accounts_text_of}
+use Rattle.md_orders.specs.Report.{replies_text, done_text, report_text, report_text_of, after_replies_text_of}
 
 -- no text yet
 pub texts_none : (out : List ℕ) (text : ℕ → List ℕ) → out ≡ out ++ texts_to 0 text
@@ -45,7 +50,51 @@ accounts-stand s b stands = texts_to-same MAX_ACCOUNT _ _ (λ account.
     ap (λ n. account_text account n (value_at s SOLD account)) (ap (λ o. unwrap_or o 0) (stands.shows.bought account) ∙ sum-is (bought b account))
     ∙ ap (account_text account (bought b account)) (ap (λ o. unwrap_or o 0) (stands.shows.sold account) ∙ sum-is (sold b account)))
 
--- five texts, one after another
-pub texts_joined : (o o1 o2 o3 o4 o5 a b c d e : List ℕ) → o ≡ [] → o1 ≡ o ++ a → o2 ≡ o1 ++ b → o3 ≡ o2 ++ c → o4 ≡ o3 ++ d → o5 ≡ o4 ++ e → o5 ≡ a ++ b ++ c ++ d ++ e
-texts_joined o o1 o2 o3 o4 o5 a b c d e p p1 p2 p3 p4 p5 =
-    p5 ∙ ap (λ o. o ++ e) (p4 ∙ ap (λ o. o ++ d) (p3 ∙ ap (λ o. o ++ c) (p2 ∙ ap (λ o. o ++ b) (p1 ∙ ap (λ o. o ++ a) p))))
+-- the report from the maps is that of the book
+pub report-stands : (scripts : List (List Command)) (replies : List (List (Option BookReply))) (s : State) (b : Book) → StandsFor s b → report_text_of scripts replies s ≡ report_text scripts replies b
+report-stands scripts replies s b stands =
+    ap (λ t. replies_text scripts replies ++ t ++ levels_text_of Sell s ++ accounts_text_of s ++ done_text (count_of scripts)) (levels-stand s b Buy stands)
+    ∙ ap (λ t. replies_text scripts replies ++ levels_text Buy b ++ t ++ accounts_text_of s ++ done_text (count_of scripts)) (levels-stand s b Sell stands)
+    ∙ ap (λ t. replies_text scripts replies ++ levels_text Buy b ++ levels_text Sell b ++ t ++ done_text (count_of scripts)) (accounts-stand s b stands)
+
+-- the replies, and what follows them
+pub report-is : (scripts : List (List Command)) (replies : List (List (Option BookReply))) (s : State) (count : ℕ) (lines out : List ℕ)
+    → lines ≡ replies_text scripts replies → count ≡ count_of scripts → out ≡ lines ++ after_replies_text_of s count → out ≡ report_text_of scripts replies s
+report-is scripts replies s count lines out lines_are counted more =
+    let r = replies_text scripts replies in
+    let a = levels_text_of Buy s in
+    let b = levels_text_of Sell s in
+    let c = accounts_text_of s in
+    let d = done_text (count_of scripts) in
+    more ∙ ap (λ t. t ++ after_replies_text_of s count) lines_are ∙ ap (λ n. r ++ after_replies_text_of s n) counted
+    ∙ sym (append_assoc r (a ++ b ++ c) d) ∙ ap (λ t. t ++ d) (sym (append_assoc r (a ++ b) c)) ∙ ap (λ t. t ++ c ++ d) (sym (append_assoc r a b))
+
+-- no callers have no text
+pub texts_no_more : (text : ℕ → List ℕ) (before count : ℕ) (out : List ℕ) → count ≡ 0 → out ≡ [] → texts_to (before + count) text ≡ texts_to before text ++ out
+texts_no_more text before count out none is =
+    let same : before + count ≡ before = omega arith in
+    ap (λ n. texts_to n text) same ∙ sym (append-nil (texts_to before text)) ∙ ap (λ t. texts_to before text ++ t) (sym is)
+
+-- the text of one caller
+pub texts_one : (text : ℕ → List ℕ) (before count : ℕ) (out : List ℕ) → count ≡ 1 → out ≡ text (before + 1) → texts_to (before + count) text ≡ texts_to before text ++ out
+unfolding texts_to
+texts_one text before count out one is =
+    let next : before + count ≡ suc before = omega arith in
+    let same : before + 1 ≡ suc before = omega arith in
+    ap (λ n. texts_to n text) next ∙ ap (λ n. texts_to before text ++ text n) (sym same) ∙ ap (λ t. texts_to before text ++ t) (sym is)
+
+-- the texts of two runs of callers, one after the other
+pub texts_halves : (text : ℕ → List ℕ) (before low high middle count : ℕ) (first second out : List ℕ) → middle ≡ before + low → count ≡ low + high
+    → texts_to (before + low) text ≡ texts_to before text ++ first → texts_to (middle + high) text ≡ texts_to middle text ++ second
+    → out ≡ first ++ second → texts_to (before + count) text ≡ texts_to before text ++ out
+texts_halves text before low high middle count first second out mid whole one other joined =
+    let same : before + count ≡ middle + high = omega arith in
+    ap (λ n. texts_to n text) same ∙ other ∙ ap (λ n. texts_to n text ++ second) mid ∙ ap (λ t. t ++ second) one
+    ∙ append_assoc (texts_to before text) first second ∙ ap (λ t. texts_to before text ++ t) (sym joined)
+
+-- the texts of all callers
+pub texts_whole : (text : ℕ → List ℕ) (count total : ℕ) (out : List ℕ) → count ≡ total → texts_to (0 + count) text ≡ texts_to 0 text ++ out → out ≡ texts_to total text
+unfolding texts_to
+texts_whole text count total out same is =
+    let all : 0 + count ≡ total = omega arith in
+    sym is ∙ ap (λ n. texts_to n text) all

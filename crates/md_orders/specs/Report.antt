@@ -58,10 +58,14 @@ texts_to (suc n) text = texts_to n text ++ text (suc n)
 abbrev pub script_text : List (List (Option BookReply)) → ℕ → ℕ → List ℕ
 script_text replies caller lines = texts_to lines (λ line. answer_text caller line (reply_at replies caller line))
 
--- each caller's, in order
+-- those of the callers 1 to n, in order
+abbrev pub callers_text : List (List Command) → List (List (Option BookReply)) → ℕ → List ℕ
+callers_text scripts replies n =
+    texts_to n (λ caller. script_text replies caller (length (list_of scripts caller)))
+
+-- those of every caller
 abbrev pub replies_text : List (List Command) → List (List (Option BookReply)) → List ℕ
-replies_text scripts replies =
-    texts_to (length scripts) (λ caller. script_text replies caller (length (list_of scripts caller)))
+replies_text scripts replies = callers_text scripts replies (length scripts)
 
 -- B or S
 abbrev pub side_text : Side → List ℕ
@@ -116,3 +120,8 @@ abbrev pub report_text_of : List (List Command) → List (List (Option BookReply
 report_text_of scripts replies s =
     replies_text scripts replies ++ levels_text_of Buy s ++ levels_text_of Sell s ++ accounts_text_of s
     ++ done_text (count_of scripts)
+
+-- what of it follows the replies
+abbrev pub after_replies_text_of : State → ℕ → List ℕ
+after_replies_text_of s count =
+    levels_text_of Buy s ++ levels_text_of Sell s ++ accounts_text_of s ++ done_text count

@@ -4,6 +4,7 @@
 mod fields;
 mod generator;
 mod grammar;
+mod in_threads;
 mod parts;
 mod read;
 mod replies;
@@ -17,6 +18,7 @@ mod version;
 
 pub use fields::number_within;
 pub use generator::{MAX_MADE_CALLERS, make};
+pub use in_threads::report_in_threads;
 pub use read::{OrderFault, read_orders};
 pub use replies::Replies;
 pub use scripts::{Scripts, commands_are_named};

@@ -1,5 +1,6 @@
 //! What no clause says: that calls succeed, and bytes, commands and reports from outside.
 
+mod in_threads;
 mod longest;
 mod making;
 mod reading;

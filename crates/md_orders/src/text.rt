@@ -5,7 +5,7 @@ ghost use Rattle.md_book.specs.Book.{Book};
 ghost use Rattle.md_book.specs.Stands.{StandsFor};
 ghost use Rattle.md_orders.specs.Scripts.{list_of};
 ghost use Rattle.md_orders.specs.Summary.{summary_text, summary_text_of};
-ghost use Rattle.md_orders.specs.Report.{name_text, part_text, filled_text, reply_text, line_text, answer_text, script_text, replies_text, level_text, account_text, done_text, report_text, levels_text_of, accounts_text_of, report_text_of};
+ghost use Rattle.md_orders.specs.Report.{name_text, part_text, filled_text, reply_text, line_text, answer_text, script_text, replies_text, level_text, account_text, done_text, report_text, levels_text_of, accounts_text_of, after_replies_text_of, report_text_of};
 
 use crate::sums::{all_totals, open_at, sum_at};
 use crate::{Replies, Scripts};
@@ -14,6 +14,7 @@ use md_book::{BOUGHT, BookReply, DEPTHS, MAPS, MAX_ACCOUNT, MAX_PRICE, Part, SOL
 use md_history::Contents;
 use std::alloc::{AllocError, Global};
 
+#[inline(always)]
 fn number<I: Integer>(out: &mut Vec<u8>, n: I) -> Result<(), AllocError>
     ensures { OnOk result (out.new.items ≡ out.old.items ++ I.text n) }
 {
@@ -21,6 +22,7 @@ fn number<I: Integer>(out: &mut Vec<u8>, n: I) -> Result<(), AllocError>
     out.extend_from_slice(buffer.format(n).as_bytes())
 }
 
+#[inline(always)]
 fn labelled<I: Integer>(out: &mut Vec<u8>, label: &[u8], n: I) -> Result<(), AllocError>
     ensures { OnOk result (out.new.items ≡ out.old.items ++ label.now ++ I.text n) }
 {
@@ -33,15 +35,17 @@ fn name(out: &mut Vec<u8>, name: u64) -> Result<(), AllocError>
     ensures { OnOk result (out.new.items ≡ out.old.items ++ name_text name) }
 {
     number(out, name / 0x1_0000_0000)?;
-    labelled(out, b":", name % 0x1_0000_0000)
+    out.push(b':')?;
+    number(out, name % 0x1_0000_0000)
 }
 
 fn part(out: &mut Vec<u8>, part: &Part) -> Result<(), AllocError>
     ensures { OnOk result (out.new.items ≡ out.old.items ++ part_text part.now) }
 {
-    out.extend_from_slice(b" ")?;
+    out.push(b' ')?;
     name(out, part.name)?;
-    labelled(out, b"=", part.taken)
+    out.push(b'=')?;
+    number(out, part.taken)
 }
 
 fn parts(out: &mut Vec<u8>, parts: &[Part]) -> Result<(), AllocError>
@@ -109,13 +113,21 @@ fn answer(
         return Ok(());
     };
     number(out, caller)?;
-    labelled(out, b":", line)?;
-    out.extend_from_slice(b" ")?;
+    out.push(b':')?;
+    number(out, line)?;
+    out.push(b' ')?;
     reply(out, &answer)?;
-    out.extend_from_slice(b"\n")
+    out.push(b'\n')?;
+    Ok(())
 }
 
-fn script(out: &mut Vec<u8>, replies: &Replies, caller: u32, lines: u32) -> Result<(), AllocError>
+// The lines of one caller.
+pub(crate) fn script(
+    out: &mut Vec<u8>,
+    replies: &Replies,
+    caller: u32,
+    lines: u32,
+) -> Result<(), AllocError>
     ensures { OnOk result (out.new.items
         ≡ out.old.items ++ script_text replies.now.replies caller lines) }
 {
@@ -145,12 +157,15 @@ fn level(out: &mut Vec<u8>, side: Side, price: u32, depth: u64) -> Result<(), Al
         return Ok(());
     }
     match side {
-        Side::Buy => out.extend_from_slice(b"B")?,
-        Side::Sell => out.extend_from_slice(b"S")?,
+        Side::Buy => out.push(b'B')?,
+        Side::Sell => out.push(b'S')?,
     }
-    labelled(out, b" ", price)?;
-    labelled(out, b" ", depth)?;
-    out.extend_from_slice(b"\n")
+    out.push(b' ')?;
+    number(out, price)?;
+    out.push(b' ')?;
+    number(out, depth)?;
+    out.push(b'\n')?;
+    Ok(())
 }
 
 fn levels(out: &mut Vec<u8>, contents: &Contents, side: Side) -> Result<(), AllocError>
@@ -175,7 +190,8 @@ fn account(out: &mut Vec<u8>, account: u32, bought: u64, sold: u64) -> Result<()
     labelled(out, b"account ", account)?;
     labelled(out, b" bought ", bought)?;
     labelled(out, b" sold ", sold)?;
-    out.extend_from_slice(b"\n")
+    out.push(b'\n')?;
+    Ok(())
 }
 
 fn accounts(out: &mut Vec<u8>, contents: &Contents) -> Result<(), AllocError>
@@ -195,7 +211,24 @@ fn done(out: &mut Vec<u8>, count: u32) -> Result<(), AllocError>
     ensures { OnOk result (out.new.items ≡ out.old.items ++ done_text count) }
 {
     labelled(out, b"done ", count)?;
-    out.extend_from_slice(b"\n")
+    out.push(b'\n')?;
+    Ok(())
+}
+
+// What follows the replies: the levels, the accounts, and the number of lines.
+pub(crate) fn after_replies(
+    out: &mut Vec<u8>,
+    contents: &Contents,
+    count: u32,
+) -> Result<(), AllocError>
+    requires { MAPS ≤ length contents.now.maps }
+    ensures { OnOk result (out.new.items
+        ≡ out.old.items ++ after_replies_text_of contents.now count) }
+{
+    levels(out, contents, Side::Buy)?;
+    levels(out, contents, Side::Sell)?;
+    accounts(out, contents)?;
+    done(out, count)
 }
 
 /// The text of a report: each line's reply, the book that the contents stand for, and the number of
@@ -219,10 +252,7 @@ pub fn report(
 {
     let mut out = Vec::new(alloc);
     scripts(&mut out, of, replies)?;
-    levels(&mut out, contents, Side::Buy)?;
-    levels(&mut out, contents, Side::Sell)?;
-    accounts(&mut out, contents)?;
-    done(&mut out, of.total())?;
+    after_replies(&mut out, contents, of.total())?;
     Ok(out)
 }
 
@@ -252,6 +282,6 @@ pub fn summary(
     labelled(&mut out, b" cancelled ", totals.cancelled)?;
     labelled(&mut out, b" filled ", totals.filled)?;
     labelled(&mut out, b" open ", left)?;
-    out.extend_from_slice(b"\n")?;
+    out.push(b'\n')?;
     Ok(out)
 }

@@ -1,0 +1,22 @@
+//! Reports that threads write.
+
+use crate::tests::reports::{contents_of, set_all};
+use crate::{Replies, make, report, report_in_threads};
+use md_book::{BOUGHT, DEPTHS, SOLD};
+use std::test::Fail;
+
+#[test]
+fn threads_write_the_same_report(rt: HostRuntime) -> Result<(), Fail> {
+    let alloc = rt.alloc();
+    let values = [(DEPTHS, 1_999, 7), (BOUGHT, 5, 3), (SOLD, 9_999, 2)];
+    let contents = contents_of(alloc, &values)?;
+    for (callers, lines) in [(1, 40), (2, 81), (5, 203), (5, 3)] {
+        let scripts = make(alloc, 7, lines, callers)?;
+        let mut replies = Replies::empty(alloc, &scripts)?;
+        set_all(&mut replies, &scripts, 4);
+        let want = report(alloc, &scripts, &replies, &contents)?;
+        let text = report_in_threads(&rt, alloc, &scripts, &replies, &contents)?;
+        assert_eq!(rt; text.as_slice(), want.as_slice(), "of {callers}");
+    }
+    Ok(())
+}
