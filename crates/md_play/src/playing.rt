@@ -19,20 +19,39 @@ use std::alloc::{AllocError, Global};
 use std::thread::Threads;
 
 /// The most nodes that a lane of the store may be given. A node takes 24 bytes.
-pub const MAX_LANE_NODES: u32 = 262_144;
+pub const MAX_LANE_NODES: u32 = 524_288;
 
-// The buckets of each map.
-const BUCKETS: u32 = 65_536;
+// The buckets of each map, for few lines and for many. An order's name is `caller * 2^32 + line`,
+// and its bucket is the remainder of the division by this number. 2^32 leaves a fifth of the one
+// number and half of the other, so the orders of several callers at the same lines lie far apart.
+// With a power of two they would all meet in the same buckets.
+const BUCKETS: u32 = 65_819;
+
+const MORE_BUCKETS: u32 = 131_198;
+
+// From so many lines on, shorter chains are worth the time that more buckets take.
+const MANY_LINES: u32 = 500_000;
+
+fn buckets_for(lines: u32) -> u32
+    ensures { (1 ≤ result) × (result ≤ MORE_BUCKETS) }
+{
+    if lines < MANY_LINES {
+        BUCKETS
+    } else {
+        MORE_BUCKETS
+    }
+}
 
 // The shape of a store without orders: a lane for each caller, and a base node for each level's
 // queue.
-fn shape_of(callers: u32, nodes: u32, tries: u32) -> Shape
+fn shape_of(callers: u32, nodes: u32, tries: u32, buckets: u32) -> Shape
     requires callers { (1 ≤ callers) × (callers ≤ 64) }
     requires nodes { (1 ≤ nodes) × (nodes ≤ MAX_LANE_NODES) }
     requires tries { 1 ≤ tries }
-    ensures { HasNumbers result callers nodes LEVELS tries MAPS BUCKETS LEVELS }
+    requires buckets { (1 ≤ buckets) × (buckets ≤ MORE_BUCKETS) }
+    ensures { HasNumbers result callers nodes LEVELS tries MAPS buckets LEVELS }
 {
-    Shape::new(callers, nodes, LEVELS, tries, MAPS, BUCKETS, LEVELS).unwrap()
+    Shape::new(callers, nodes, LEVELS, tries, MAPS, buckets, LEVELS).unwrap()
 }
 
 /// Opens a store without orders, plays the scripts of all callers over it in threads, and closes
@@ -44,7 +63,8 @@ fn shape_of(callers: u32, nodes: u32, tries: u32) -> Shape
 /// also the most attempts that a caller makes in its turn of a round. With fewer nodes or attempts
 /// the store is renewed more often, and all lines are played in any case.
 ///
-/// The store has 272,145 words, and 3 * `nodes` + 641 more for each caller. A word takes 8 bytes.
+/// The store has 273,277 words, and 3 * `nodes` + 641 more for each caller; from 500,000 lines on it
+/// has 261,516 words more, for twice as many buckets. A word takes 8 bytes.
 ///
 /// `AllocError` if memory runs out.
 pub fn play_on_store<R, G>(
@@ -66,7 +86,8 @@ where
     ensures gate { OnOk result ((caller line : ℕ) → 1 ≤ line
         → line ≤ line_count_of scripts.now caller → G.after_called gate.now caller line) }
 {
-    let shape = shape_of(scripts.callers(), nodes, tries);
+    let buckets = buckets_for(scripts.total());
+    let shape = shape_of(scripts.callers(), nodes, tries, buckets);
     let start = Contents::empty(alloc, MAPS, LEVELS)?;
     // Empty contents need one node for each queue, and the store has as many base nodes. So `open`
     // fails only if memory runs out.

@@ -16,25 +16,45 @@ use md_store::StorePass;
 use std::alloc::{AllocError, Global};
 use std::thread::Threads;
 
-// The nodes of all lanes together, if the options give no number. A node takes 24 bytes.
-const MANY_NODES: u32 = 1_048_576;
+// The most nodes of all lanes together, if the options give no number. A node takes 24 bytes.
+const MANY_NODES: u32 = 3_145_728;
 
-// The nodes of a lane, if the options give no number.
-fn nodes_of(callers: u32) -> u32
-    requires { (1 ≤ callers) × (callers ≤ 64) }
+// The fewest nodes of a lane, if the options give no number.
+const FEW_NODES: u32 = 4_096;
+
+// How many nodes a line takes on average, rounded up.
+const LINE_NODES: u32 = 3;
+
+// How many lines the caller with the most lines has.
+fn longest(scripts: &Scripts) -> u32
+    requires { length scripts.now ≤ 64 }
+{
+    let mut most = 0;
+    for before in 0..scripts.callers() {
+        most = most.max(scripts.len(before + 1));
+    }
+    most
+}
+
+// The nodes of a lane, if the options give no number: enough for all lines of a caller, as far as
+// memory sensibly allows.
+fn nodes_for(scripts: &Scripts) -> u32
+    requires { (1 ≤ length scripts.now) × (length scripts.now ≤ 64) }
     ensures { (COMMAND_NODES ≤ result) × (result ≤ MAX_LANE_NODES) }
 {
-    (MANY_NODES / callers).min(MAX_LANE_NODES)
+    let most = (MANY_NODES / scripts.callers()).min(MAX_LANE_NODES);
+    let nodes = longest(scripts).saturating_mul(LINE_NODES);
+    nodes.max(FEW_NODES).min(most)
 }
 
 /// Plays scripts of 1 to 64 callers over an empty store with a lane for each caller, as
 /// `play_on_store` of md_play does.
 ///
 /// The options give the nodes and the attempts of a lane. If they give no number of nodes, a lane
-/// has the smaller of 262,144 and 1,048,576 divided by the number of callers. If they give no
-/// number of attempts, a lane has as many as all callers together have lines, or 1 if there is no
-/// line. With smaller numbers the store is renewed more often, and all lines are played in any
-/// case.
+/// has three for each line of the caller with the most lines, but at least 4,096, and at most the
+/// smaller of 524,288 and 3,145,728 divided by the number of callers. If they give no number of
+/// attempts, a lane has as many as all callers together have lines, or 1 if there is no line. With
+/// smaller numbers the store is renewed more often, and all lines are played in any case.
 ///
 /// `AllocError` if memory runs out.
 pub fn play<R, G>(
@@ -54,7 +74,7 @@ where
 {
     let nodes = match options.nodes {
         Some(nodes) => nodes,
-        None => nodes_of(scripts.callers()),
+        None => nodes_for(scripts),
     };
     let tries = match options.tries {
         Some(tries) => tries,

@@ -14,7 +14,7 @@ use crate::play::play;
 use crate::status::{Run, Status};
 use crate::words::{Making, Options, read_options};
 use md_history::Front;
-use md_orders::{make, read_orders, report, summary};
+use md_orders::{make, read_orders, report_in_threads, summary};
 use md_outside::{Failed, Sink, Source};
 use md_rounds::Gate;
 use md_store::StorePass;
@@ -49,7 +49,7 @@ where
     let bytes = read_all(alloc, input)?;
     let scripts = read_orders(alloc, &bytes, options.callers)?;
     let played = play(rt, alloc, &scripts, options, gate)?;
-    let text = report(alloc, &scripts, &played.replies, &played.contents)?;
+    let text = report_in_threads(rt, alloc, &scripts, &played.replies, &played.contents)?;
     Ok(Played {
         text,
         fronts: played.fronts,
