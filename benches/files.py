@@ -49,8 +49,8 @@ def mixed(count, kinds, prices):
 def cancelled_chains(count):
     """Half of the commands place orders, and the others cancel them in the same order.
 
-    The names of the orders that 64 callers place at a line agree in their last 32 bits. So 64 keys meet in a bucket,
-    and all callers cancel there at about the same time.
+    The names of the orders that 64 callers place at a line agree in their last 32 bits, and all callers cancel them at
+    about the same time. With a number of buckets that is a power of two, these 64 keys would meet in one bucket.
     """
     half = count // 2
     for i in range(half):
