@@ -1,9 +1,9 @@
 -- Replies that are handed over, caller by caller.
-use Rattle.std.proofs.Common.{◌≡◌, ◌≢◌, ◌+◌, ◌<◌, ◌≤◌, ℕ, zero, suc, cond, true, false, List, [], ◌∷◌, ◌++◌, length, take, drop, refl, sym, ap, subst, ◌∙◌, arith, inl, inr, append_assoc}
+use Rattle.std.proofs.Common.{◌≡◌, ◌≢◌, ◌+◌, ◌<◌, ℕ, zero, suc, cond, true, false, List, [], ◌∷◌, ◌++◌, length, take, drop, refl, sym, ap, subst, ◌∙◌, arith, inl, inr, append_assoc}
 use Rattle.std.specs.Prelude.{◌==◌, slice_index_or}
 use Rattle.std.proofs.lemmas.Bool.{cases_Bool, eq-eqb, eqb-true, ne_eqb}
 use Rattle.std.proofs.lemmas.List.{append-nil, length-append, map-append, get_or_past}
-use Rattle.md_many.specs.declared.turns.Played.{Played}
+use Rattle.md_many.specs.declared.batches.Played.{Played}
 use Rattle.md_many.specs.Laws.{AllSuit}
 use Rattle.md_many.specs.Rounds.{at_caller, replies_in}
 use Rattle.md_many.specs.Course.{of_one, KeepsMore}
@@ -92,10 +92,12 @@ kept-then more one all k k' k'' d d' d'' p q is = record {
 }
 
 -- all replies: those that were handed over, the next, and the rest
-pub all-parts : {R : Type 0} (items yielded left more : List (Played R)) (x : Played R) → yielded ++ left ≡ items
-    → left ≡ x ∷ more → replies_in items ≡ replies_in yielded ++ x.replies.items ∷ replies_in more
-all-parts items yielded left more x e e' =
-    ap replies_in (sym e ∙ ap (λ xs. yielded ++ xs) e') ∙ map-append (λ (p : Played _). p.replies.items) yielded (x ∷ more)
+pub all-parts : {T R : Type 0} (listed : T → List R) (items yielded left more : List (Played T)) (x : Played T)
+    → yielded ++ left ≡ items → left ≡ x ∷ more
+    → replies_in listed items ≡ replies_in listed yielded ++ listed x.replies ∷ replies_in listed more
+all-parts listed items yielded left more x e e' =
+    ap (replies_in listed) (sym e ∙ ap (λ xs. yielded ++ xs) e')
+    ∙ map-append (λ (p : Played _). listed p.replies) yielded (x ∷ more)
 
 -- the next caller's replies, of all of them
 module _ {R : Type 0} (all xs ys : List (List R)) (x : List R) (caller : ℕ) (k k' : ℕ → List R → Type 0)
@@ -132,3 +134,9 @@ written-back (x ∷ new) [] len same is = absurd (omega arith)
 pub kept-from : {R : Type 0} {more : ℕ → List R} {k k' : ℕ → List R → Type 0} {d d0 d' : List ℕ}
     → KeepsMore more k k' d d' → d ≡ d0 → KeepsMore more k k' d0 d'
 kept-from {more = more} {k = k} {k' = k'} {d' = d'} kept same = subst (λ ns. KeepsMore more k k' ns d') same kept
+
+-- the same of one caller's replies that are equal
+pub one-from : {R : Type 0} (caller : ℕ) {rs rs' : List R} {k k' : ℕ → List R → Type 0} {d d0 d' : List ℕ}
+    → KeepsMore (of_one caller rs) k k' d d' → rs ≡ rs' → d ≡ d0 → KeepsMore (of_one caller rs') k k' d0 d'
+one-from caller {k = k} {k' = k'} {d0 = d0} {d' = d'} kept is same =
+    subst (λ ss. KeepsMore (of_one caller ss) k k' d0 d') is (kept-from kept same)

@@ -2,6 +2,7 @@ pub mod Joining
 pub mod Playing
 pub mod Retrying
 pub mod Following
+pub mod Ending
 pub mod TagLaws
 pub mod Parting
 pub mod Turning

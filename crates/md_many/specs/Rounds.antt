@@ -3,7 +3,7 @@ use Rattle.std.specs.Prelude.{◌≡◌, ◌<◌, ◌≤◌, ◌+◌, ◌^◌, �
 use Rattle.md_history.specs.declared.acts.Act.{Act}
 use Rattle.md_history.specs.declared.entries.Entry.{Entry}
 use Rattle.md_history.specs.Front.{Front, IsPrefix, AllStay}
-use Rattle.md_many.specs.declared.turns.Played.{Played}
+use Rattle.md_many.specs.declared.batches.Played.{Played}
 use Rattle.md_many.specs.Lines.{AreLines}
 
 -- what a list has for a caller, counted from 1; for who is no caller, another thing
@@ -34,9 +34,9 @@ AreTurns did body_at told old new before (n ∷ done) (lane ∷ lanes) (rs ∷ r
     × AreTurns did body_at told old new (before + 1) done lanes replies
 AreTurns did body_at told old new before done lanes replies = ⊥
 
--- the replies of turns
-abbrev pub replies_in : {R : Type 0} → List (Played R) → List (List R)
-replies_in played = map (λ p. p.replies.items) played
+-- the replies of turns, by what their lists contain
+abbrev pub replies_in : {T R : Type 0} → (T → List R) → List (Played T) → List (List R)
+replies_in listed played = map (λ p. listed p.replies) played
 
 -- From one front to another the callers after the first so many, who had played so many lines each, took a turn each on
 -- the pass's lanes.

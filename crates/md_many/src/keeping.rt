@@ -5,8 +5,9 @@ ghost use Rattle.md_many.specs.Laws.{AllSuit};
 ghost use Rattle.md_many.specs.Rounds.{at_caller, replies_in};
 ghost use Rattle.md_many.specs.Course.{KeepsMore, of_one};
 
+use crate::batches::Played;
 use crate::keepers::Keeper;
-use crate::turns::Played;
+use crate::reply_lists::ReplyList;
 use std::alloc::AllocError;
 
 /// Hands a caller's replies over, and counts them.
@@ -14,21 +15,21 @@ pub(crate) fn keep_lines<R: Drop, K: Keeper<R>>(
     keeper: &mut K,
     done: &mut [u32],
     caller: u32,
-    replies: Vec<R>,
+    replies: K::List,
 ) -> Result<(), AllocError>
     requires from_1 { 1 ≤ caller }
     requires there { caller ≤ length done.old }
     requires suit { AllSuit (K.can_keep keeper.old caller)
-        (at_caller 0 done.old caller) replies.items }
-    requires few { at_caller 0 done.old caller + length replies.items < 2 ^ 32 }
+        (at_caller 0 done.old caller) (K.List.listed replies) }
+    requires few { at_caller 0 done.old caller + length (K.List.listed replies) < 2 ^ 32 }
     ensures can_keep { (other line : ℕ) (r : R) → K.can_keep keeper.old other line r
         → K.can_keep keeper.new other line r }
-    ensures kept { OnOk result (KeepsMore (of_one caller replies.items)
+    ensures kept { OnOk result (KeepsMore (of_one caller (K.List.listed replies))
         (K.keeps keeper.old) (K.keeps keeper.new) done.old done.new) }
 {
     let index = caller as usize - 1;
     let before = done[index];
-    done[index] = before + replies.len() as u32;
+    done[index] = before + replies.len();
     keeper.keep(caller, before, replies)
 }
 
@@ -36,17 +37,17 @@ pub(crate) fn keep_lines<R: Drop, K: Keeper<R>>(
 pub(crate) fn keep_turns<R: Drop, K: Keeper<R>>(
     keeper: &mut K,
     done: &mut [u32],
-    turns: Vec<Played<R>>,
+    turns: Vec<Played<K::List>>,
 ) -> Result<(), AllocError>
     requires callers { length turns.items ≡ length done.old }
     requires few_callers { length done.old < 2 ^ 32 }
     requires suit { (caller : ℕ) → AllSuit (K.can_keep keeper.old caller)
-        (at_caller 0 done.old caller) (at_caller [] (replies_in turns.items) caller) }
+        (at_caller 0 done.old caller) (at_caller [] (replies_in K.List.listed turns.items) caller) }
     requires few { (caller : ℕ) → at_caller 0 done.old caller
-        + length (at_caller [] (replies_in turns.items) caller) < 2 ^ 32 }
+        + length (at_caller [] (replies_in K.List.listed turns.items) caller) < 2 ^ 32 }
     ensures can_keep { (other line : ℕ) (r : R) → K.can_keep keeper.old other line r
         → K.can_keep keeper.new other line r }
-    ensures kept { OnOk result (KeepsMore (at_caller [] (replies_in turns.items))
+    ensures kept { OnOk result (KeepsMore (at_caller [] (replies_in K.List.listed turns.items))
         (K.keeps keeper.old) (K.keeps keeper.new) done.old done.new) }
 {
     let mut caller = 0;

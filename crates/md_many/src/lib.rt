@@ -2,6 +2,7 @@
 #![tactic(auto)]
 
 mod attempts;
+mod batches;
 mod callers;
 mod gates;
 mod keepers;
@@ -9,6 +10,7 @@ mod keeping;
 mod laws;
 mod many;
 mod pauses;
+mod reply_lists;
 mod rounds;
 mod tags;
 #[cfg(test)]
@@ -22,6 +24,7 @@ pub use gates::{FreeGate, Gate};
 pub use keepers::Keeper;
 pub use laws::LawfulLines;
 pub use many::{Many, run_many};
+pub use reply_lists::ReplyList;
 pub use rounds::{Rounds, play_rounds};
 pub use tags::line_tag;
 pub use until::attempt_until_committed;

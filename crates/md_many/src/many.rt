@@ -46,6 +46,8 @@ struct ByCaller<R> {
 }
 
 impl<R: Drop> Keeper<R> for ByCaller<R> {
+    type List = Vec<R>;
+
     ghost can_keep = { λ k caller line r. (1 ≤ caller) × (caller ≤ length k.lists.items) };
 
     ghost keeps = { λ k caller rs. at_caller [] (lists_in k.lists.items) caller ≡ rs };

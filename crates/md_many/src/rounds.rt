@@ -11,21 +11,17 @@ ghost use Rattle.md_many.specs.Played.{EachLineOnce, committed_of, tags_of};
 ghost use Rattle.md_many.specs.Played.{left_after, rounds_left};
 
 use crate::attempts::{End, Turn, attempt_lines};
+use crate::batches::{BATCH, Played};
 use crate::callers::Lines;
 use crate::gates::Gate;
 use crate::keepers::Keeper;
 use crate::keeping::{keep_lines, keep_turns};
 use crate::laws::LawfulLines;
-use crate::turns::{Played, Turns, play_turns};
+use crate::reply_lists::list_of;
+use crate::turns::{Turns, play_turns};
 use md_history::{Body, Contents, Engine, Front, fresh_is_empty, pass_is_legal};
 use std::alloc::{AllocError, Global};
 use std::thread::Threads;
-
-// How many replies the turns of a round have room for, of all callers.
-const ROUND_REPLIES: u32 = 131_072;
-
-// How many replies the turn of a single caller has room for.
-const TURN_REPLIES: u32 = 1_024;
 
 /// The result of rounds, beside the replies: the contents, and the fronts of the engines in order,
 /// one for each renewal and one for the end. A front takes no bytes, and is for contracts.
@@ -47,12 +43,13 @@ struct Course<E: Engine> {
     worn: bool,
 }
 
-// How many replies the turn of a caller has room for, by the number of callers.
-fn turn_room(callers: u32) -> u32 {
+// The most attempts of a turn. A single caller starts no thread, so its turn is one batch, whose
+// replies are put where they are kept while the cache has them.
+fn turn_tries(callers: u32, tries: u32) -> u32 {
     if callers <= 1 {
-        return TURN_REPLIES;
+        return tries.min(BATCH);
     }
-    (ROUND_REPLIES / callers).max(1)
+    tries
 }
 
 // The lowest caller that has a line left.
@@ -182,12 +179,13 @@ fn play_first<E: Engine, L: LawfulLines, G: Gate, K: Keeper<<L::B as Body>::Repl
     )?;
     pass_is_legal(&course.engine, &course.pass);
     course.worn = replies.is_empty();
-    keep_lines(keeper, &mut course.done, caller, replies)?;
+    let list = list_of(alloc, replies)?;
+    keep_lines(keeper, &mut course.done, caller, list)?;
     Ok(course)
 }
 
 // Whether a turn ended by something that the engine has no more of.
-fn wears<R>(turns: &[Played<R>], last_tries: bool) -> bool {
+fn wears<T>(turns: &[Played<T>], last_tries: bool) -> bool {
     turns.iter().any(|turn| match turn.end {
         End::Lines | End::Conflicts => false,
         End::Tries => last_tries,
@@ -213,6 +211,7 @@ where
     <L::B as Body>::Reply: Send,
     G: Gate + Sync,
     K: Keeper<<L::B as Body>::Reply>,
+    K::List: Send,
     requires of { E.of course.engine course.pass }
     requires course { IsInCourse L.B.did L.B.makes L.B.fits (L.body_at lines.now)
         (L.line_count lines.now) (G.after_called gate.now) (K.keeps keeper.old)
@@ -242,21 +241,11 @@ where
         worn: _,
     } = course;
     pass_is_legal(&engine, &pass);
-    let room = turn_room(done.len() as u32);
-    let turns = play_turns(
-        rt,
-        alloc,
-        &engine,
-        pass,
-        lines,
-        gate,
-        0,
-        tries.min(room),
-        &done,
-    )?;
+    let most = turn_tries(done.len() as u32, tries);
+    let turns = play_turns(rt, alloc, &engine, pass, lines, gate, 0, most, &done)?;
     let Turns { pass, played } = turns;
     pass_is_legal(&engine, &pass);
-    let worn = wears(&played, tries <= room);
+    let worn = wears(&played, most == tries);
     keep_turns(keeper, &mut done, played)?;
     Ok(Course {
         engine,
@@ -287,6 +276,7 @@ where
     <L::B as Body>::Reply: Send,
     G: Gate + Sync,
     K: Keeper<<L::B as Body>::Reply>,
+    K::List: Send,
     requires of { E.of course.engine course.pass }
     requires course { IsInCourse L.B.did L.B.makes L.B.fits (L.body_at lines.now)
         (L.line_count lines.now) (G.after_called gate.now) (K.keeps keeper.old)
@@ -340,15 +330,19 @@ fn none_done(alloc: Global, callers: u32) -> Result<Vec<u32>, AllocError>
 /// each caller plays a turn in a thread, and the pass is joined again. The keeper gets the reply of
 /// the first line before the turns, and the replies of the turns after them.
 ///
-/// `tries` is the most attempts of a turn: any number. A turn also makes at most 131,072 attempts
-/// divided by the number of callers (at least 1), or 1,024 if there is one caller, so that its
-/// replies have room. With 0 tries no turn plays a line.
+/// `tries` is the most attempts of a turn: any number. If there is one caller, a turn also makes at
+/// most 1,024 attempts. With 0 tries no turn plays a line.
+///
+/// A turn is played in batches of at most 1,024 attempts. A batch takes one allocation, with room
+/// for its replies, and its replies are then appended to the list of the turn (`Keeper::List`). So a
+/// round takes the memory of its replies in the form of the keeper's lists, and of one batch for
+/// each caller. The lists are handed to the keeper when all turns of the round have ended.
 ///
 /// The engine is renewed before a round if, in the round before, the first line met a limit, or a
-/// turn ended by a limit or by the end of all `tries` attempts. Conflicts and the end of the room
-/// for replies cause no renewal. If `tries` is the number of attempts of a lane, a turn makes all of
-/// them only if its lane then has none left. A round after a renewal plays at least one line. So
-/// there are at most as many renewals as lines.
+/// turn ended by a limit or by the end of all `tries` attempts. Conflicts cause no renewal, and nor
+/// does the end of a single caller's 1,024 attempts if `tries` is greater. If `tries` is the number
+/// of attempts of a lane, a turn makes all of them only if its lane then has none left. A round
+/// after a renewal plays at least one line. So there are at most as many renewals as lines.
 ///
 /// `AllocError` if memory runs out, here, at the keeper or in an attempt of the engine. Then the
 /// engine has ended, and its contents are lost.
@@ -370,6 +364,7 @@ where
     <L::B as Body>::Reply: Send,
     G: Gate + Sync,
     K: Keeper<<L::B as Body>::Reply>,
+    K::List: Send,
     requires of { E.of engine pass }
     requires fresh { E.fresh engine pass }
     requires lanes { length (E.lanes engine) ≡ L.caller_count lines.now }

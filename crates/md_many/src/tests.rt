@@ -9,6 +9,7 @@ mod side_by_side;
 ghost use Rattle.std.specs.Prelude.{◌≤◌};
 
 use crate::attempts::{End as TurnEnd, Turn, attempt_lines};
+use crate::batches::{Played, play_batches};
 use crate::gates::{FreeGate, Gate};
 use crate::many::run_many;
 use crate::until::attempt_until_committed;
@@ -248,8 +249,52 @@ fn callers_in_threads(rt: HostRuntime) -> Result<(), Fail> {
     Ok(())
 }
 
-// One caller over a store with one lane: many rounds, since a turn has room for 1,024 replies, and
-// no renewal. Each reply stands at its line. A caller without lines leaves the store as it was.
+// Plays a turn of a caller's first lines in batches, and returns why it ended, and how many lines it
+// played. Each reply is the tag of its line.
+fn play_some(
+    rt: &impl Abort,
+    alloc: Global,
+    count: u32,
+    tries: u32,
+) -> Result<(TurnEnd, usize), AllocError> {
+    let (store, mut pass) = PlainStore::open(Contents::empty(alloc, 0, 1)?);
+    let lines = EachLine {
+        callers: 3,
+        lines: count,
+        like: Look { number: 0 },
+    };
+    let turn = Turn {
+        caller: 3,
+        done: 0,
+        tries,
+    };
+    let played: Played<Vec<u64>> = play_batches(alloc, &store, &mut pass, &lines, turn, &FreeGate)?;
+    for (number, reply) in played.replies.iter().enumerate() {
+        assert_eq!(rt; *reply, 3 * 4_294_967_296 + number as u64 + 1);
+    }
+    assert_eq!(rt; pass.entries().len(), played.replies.len());
+    Ok((played.end, played.replies.len()))
+}
+
+// A batch makes at most 1,024 attempts. A turn goes on after a batch that had no try left.
+#[test]
+fn turns_in_batches(rt: HostRuntime) -> Result<(), Fail> {
+    for (count, tries, end, played) in [
+        (0, 5, TurnEnd::Lines, 0),
+        (5, 0, TurnEnd::Tries, 0),
+        (1_024, 1_024, TurnEnd::Tries, 1_024),
+        (1_024, 1_025, TurnEnd::Lines, 1_024),
+        (2_500, 1_500, TurnEnd::Tries, 1_500),
+        (2_500, 2_048, TurnEnd::Tries, 2_048),
+        (2_500, u32::MAX, TurnEnd::Lines, 2_500),
+    ] {
+        assert_eq!(rt; play_some(&rt, rt.alloc(), count, tries)?, (end, played));
+    }
+    Ok(())
+}
+
+// One caller over a store with one lane: many rounds, since its turn makes at most 1,024 attempts,
+// and no renewal. Each reply stands at its line. A caller without lines leaves the store as it was.
 #[test]
 fn one_caller_in_rounds(rt: HostRuntime) -> Result<(), Fail> {
     let alloc = rt.alloc();

@@ -7,37 +7,32 @@ ghost use Rattle.md_history.specs.Engine.{AreApart, Joins};
 ghost use Rattle.md_many.specs.Lines.{AreFitting};
 ghost use Rattle.md_many.specs.Rounds.{AreWithin, PlaysTurns, replies_in};
 
-use crate::attempts::{End, Turn, attempt_lines};
+use crate::attempts::Turn;
+use crate::batches::{Played, play_batches};
 use crate::callers::Lines;
 use crate::gates::Gate;
+use crate::reply_lists::ReplyList;
 use md_history::{Body, Engine, pass_is_legal};
 use std::alloc::{AllocError, Global};
 use std::thread;
 use std::thread::Threads;
 
-/// The result of a caller's turn: why it ended, and the replies of the lines that it played.
-#[derive(Drop)]
-pub struct Played<R> {
-    pub end: End,
-    pub replies: Vec<R>,
-}
-
 /// A pass, and the results of the turns on its lanes, caller by caller.
 #[derive(Drop)]
-pub struct Turns<P, R> {
+pub struct Turns<P, T> {
     pub pass: P,
-    pub played: Vec<Played<R>>,
+    pub played: Vec<Played<T>>,
 }
 
-// Plays a turn on the one lane of a pass. The room for its replies is made before its attempts.
-fn play_turn<E: Engine, L: Lines, G: Gate>(
+// Plays a turn on the one lane of a pass.
+fn play_turn<E: Engine, L: Lines, G: Gate, T: ReplyList<<L::B as Body>::Reply>>(
     alloc: Global,
     engine: &E,
     pass: E::Pass,
     lines: &L,
     gate: &G,
     turn: Turn,
-) -> Result<Turns<E::Pass, <L::B as Body>::Reply>, AllocError>
+) -> Result<Turns<E::Pass, T>, AllocError>
     requires of { E.of engine.now pass }
     requires fits { AreFitting L.B.fits (L.body_at lines.now) (E.start engine.now) }
     requires done { turn.done ≤ L.line_count lines.now turn.caller }
@@ -45,23 +40,19 @@ fn play_turn<E: Engine, L: Lines, G: Gate>(
     ensures of { IfOk result (λ t. E.of engine.now t.pass) }
     ensures turns { IfOk result (λ t. (before : ℕ) → turn.caller ≡ before + 1
         → PlaysTurns L.B.did (L.body_at lines.now) (G.after_called gate.now) before (turn.done ∷ [])
-        (E.front pass) (E.front t.pass) (replies_in t.played.items)) }
+        (E.front pass) (E.front t.pass) (replies_in T.listed t.played.items)) }
 {
-    pass_is_legal(engine, &pass);
     let mut pass = pass;
-    let left = lines.len(turn.caller) - turn.done;
-    let mut replies = Vec::with_capacity(alloc, turn.tries.min(left) as usize)?;
     let mut played = Vec::with_capacity(alloc, 1)?;
-    let end = attempt_lines(engine, &mut pass, lines, turn, gate, &mut replies)?;
-    played.push(Played { end, replies })?;
+    played.push(play_batches(alloc, engine, &mut pass, lines, turn, gate)?)?;
     Ok(Turns { pass, played })
 }
 
 // Takes the lanes of other turns, and their results.
-fn join_turns<E: Engine, R: Drop>(
+fn join_turns<E: Engine, T: Drop>(
     engine: &E,
-    turns: &mut Turns<E::Pass, R>,
-    other: Turns<E::Pass, R>,
+    turns: &mut Turns<E::Pass, T>,
+    other: Turns<E::Pass, T>,
 ) -> Result<(), AllocError>
     requires of { E.of engine.now turns.old.pass }
     requires of_other { E.of engine.now other.pass }
@@ -97,12 +88,13 @@ fn halves<'a, L: Lines>(lines: &L, before: u32, done: &'a [u32]) -> (&'a [u32], 
 /// of lines that each of them has played, and `tries` is the most attempts that each makes.
 ///
 /// The call splits the pass in two, runs itself on both halves by `thread::join`, and joins them
-/// again. So n callers take n - 1 splits, joins of passes and calls of `thread::join`. For each
-/// caller it takes room for the replies of its turn: the smaller of `tries` and of the lines left.
+/// again. So n callers take n - 1 splits, joins of passes and calls of `thread::join`. A turn is
+/// played in batches of at most 1,024 attempts. It takes room for the replies of one batch at a
+/// time, beside its list.
 ///
 /// `AllocError` if memory runs out, here or in an attempt of the engine. Then the pass is lost.
 #[cycle(turns)]
-pub fn play_turns<R: Threads + Sync, E: Engine, L: Lines, G: Gate + Sync>(
+pub fn play_turns<R, E, L, G, T>(
     rt: &R,
     alloc: Global,
     engine: &E,
@@ -112,10 +104,15 @@ pub fn play_turns<R: Threads + Sync, E: Engine, L: Lines, G: Gate + Sync>(
     before: u32,
     tries: u32,
     done: &[u32],
-) -> Result<Turns<E::Pass, <L::B as Body>::Reply>, AllocError>
+) -> Result<Turns<E::Pass, T>, AllocError>
 where
+    R: Threads + Sync,
+    E: Engine,
+    L: Lines,
     L::B: Send,
     <L::B as Body>::Reply: Send,
+    G: Gate + Sync,
+    T: ReplyList<<L::B as Body>::Reply> + Send,
     requires of { E.of engine.now pass }
     requires fits { AreFitting L.B.fits (L.body_at lines.now) (E.start engine.now) }
     requires lanes { length done.now ≡ length (E.front pass).lanes }
@@ -124,7 +121,7 @@ where
     ensures of { IfOk result (λ t. E.of engine.now t.pass) }
     ensures turns { IfOk result (λ t. PlaysTurns L.B.did (L.body_at lines.now)
         (G.after_called gate.now) before done.now
-        (E.front pass) (E.front t.pass) (replies_in t.played.items)) }
+        (E.front pass) (E.front t.pass) (replies_in T.listed t.played.items)) }
 {
     pass_is_legal(engine, &pass);
     let mut pass = pass;
@@ -140,7 +137,7 @@ where
     let middle = before + low.len() as u32;
     let (first, second) = thread::join(
         rt,
-        move || -> Result<Turns<E::Pass, <L::B as Body>::Reply>, AllocError>
+        move || -> Result<Turns<E::Pass, T>, AllocError>
             requires sync { IsSync R.row × IsSync G.row }
             requires of { E.of engine.now pass }
             requires fits { AreFitting L.B.fits (L.body_at lines.now) (E.start engine.now) }
@@ -150,9 +147,9 @@ where
             ensures of { IfOk result (λ t. E.of engine.entry.now t.pass) }
             ensures turns { IfOk result (λ t. PlaysTurns L.B.did (L.body_at lines.entry.now)
                 (G.after_called gate.entry.now) before low.entry.now
-                (E.front pass) (E.front t.pass) (replies_in t.played.items)) }
+                (E.front pass) (E.front t.pass) (replies_in T.listed t.played.items)) }
         { play_turns(rt, alloc, engine, pass, lines, gate, before, tries, low) },
-        move || -> Result<Turns<E::Pass, <L::B as Body>::Reply>, AllocError>
+        move || -> Result<Turns<E::Pass, T>, AllocError>
             requires sync { IsSync R.row × IsSync G.row }
             requires of { E.of engine.now other }
             requires fits { AreFitting L.B.fits (L.body_at lines.now) (E.start engine.now) }
@@ -162,7 +159,7 @@ where
             ensures of { IfOk result (λ t. E.of engine.entry.now t.pass) }
             ensures turns { IfOk result (λ t. PlaysTurns L.B.did (L.body_at lines.entry.now)
                 (G.after_called gate.entry.now) middle high.entry.now
-                (E.front other) (E.front t.pass) (replies_in t.played.items)) }
+                (E.front other) (E.front t.pass) (replies_in T.listed t.played.items)) }
         { play_turns(rt, alloc, engine, other, lines, gate, middle, tries, high) },
     );
     let mut turns = first?;

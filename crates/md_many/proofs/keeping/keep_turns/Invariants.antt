@@ -11,6 +11,6 @@ invariant-turns g l = record {
   caller : l.caller ≡ length l.yielded;
   can_keep : (other line : ℕ) (r : g.row.R.Denot) → g.K.Keeper.can_keep l.fn.keeper other line r
       → g.K.Keeper.can_keep l.keeper other line r;
-  kept : KeepsMore (at_caller [] (replies_in l.yielded)) (g.K.Keeper.keeps l.fn.keeper) (g.K.Keeper.keeps l.keeper)
+  kept : KeepsMore (at_caller [] (replies_in g.K.List.ReplyList.listed l.yielded)) (g.K.Keeper.keeps l.fn.keeper) (g.K.Keeper.keeps l.keeper)
       l.fn.done l.done;
 }

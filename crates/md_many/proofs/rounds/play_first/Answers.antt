@@ -1,10 +1,9 @@
-use Rattle.std.proofs.Common.{rules, ◌≡◌, ◌+◌, ◌≤◌, ◌<◌, ◌∷◌, [], ◌++◌, ℕ, zero, suc, List, IsSome, length, refl, sym, ap, subst, ◌∙◌, arith}
+use Rattle.std.proofs.Common.{◌≡◌, ◌+◌, ◌≤◌, ◌<◌, ◌∷◌, [], ℕ, zero, suc, List, length, refl, sym, ap, ◌∙◌, arith}
 use Rattle.std.specs.Prelude.{◌-◌, ◌==◌, Bool, false, slice_index_or}
 use Rattle.std.proofs.lemmas.Bool.{eq-eqb, ne_eqb, false≢true}
 use Rattle.md_many.specs.Rounds.{at_caller}
-use Rattle.md_many.specs.Laws.{AllSuit}
 use Rattle.md_many.proofs.First.{first-suit, first-stands, first-kept, first-less, first-small}
-use Rattle.md_many.proofs.Handing.{suit-wider, written-back, kept-from}
+use Rattle.md_many.proofs.Handing.{suit-wider, written-back, one-from}
 use Rattle.md_many.proofs.rounds.play_first.Goals as goal
 
 same-inside : (xs : List ℕ) (i d e : ℕ) → i < length xs → slice_index_or xs i d ≡ slice_index_or xs i e
@@ -29,7 +28,7 @@ keep_lines-requires-clause-suit g c =
     let done = c.args.course.done.items in
     let at : c.index.result.now ≡ at_caller 0 done c.args.caller =
     by-index done c.args.caller _ c.requires.from_1 c.requires.there c.index.ensures in
-    rw c.deref_mut.ensures.value
+    rw (c.deref_mut.ensures.value, c.in_ok-list.ensures)
     (suit-wider (g.L.LawfulLines.suits c.args.lines.now c.args.caller) (g.K.Keeper.can_keep c.args.keeper.now c.args.caller)
     (c.requires.keeper c.args.caller) _ _
     (first-suit _ _ _ _ _ _ _ _ _ _ _ c.requires.course.laws
@@ -42,14 +41,14 @@ keep_lines-requires-clause-few g c =
     let done = c.args.course.done.items in
     let at : c.index.result.now ≡ at_caller 0 done c.args.caller =
     by-index done c.args.caller _ c.requires.from_1 c.requires.there c.index.ensures in
-    rw c.deref_mut.ensures.value (omega (arith, c.attempt_lines.ensures.few, at))
+    rw c.deref_mut.ensures.value (omega (arith, c.attempt_lines.ensures.few, at, ap length c.in_ok-list.ensures))
 
 pub returns-clause-course : goal.returns-clause-course
 returns-clause-course g c =
     let done = c.args.course.done.items in
     let at : c.index.result.now ≡ at_caller 0 done c.args.caller =
     by-index done c.args.caller _ c.requires.from_1 c.requires.there c.index.ensures in
-    let kept = kept-from c.in_ok-keep_lines.ensures.kept c.deref_mut.ensures.value in
+    let kept = one-from c.args.caller c.in_ok-keep_lines.ensures.kept c.in_ok-list.ensures c.deref_mut.ensures.value in
     let whole = written-back c.keep_lines.new.done done c.args.course.done.len kept.callers c.args.course.done.ok.0 in
     record {
       laws = c.requires.course.laws;
@@ -67,7 +66,7 @@ returns-clause-kept g c =
     let done = c.args.course.done.items in
     let at : c.index.result.now ≡ at_caller 0 done c.args.caller =
     by-index done c.args.caller _ c.requires.from_1 c.requires.there c.index.ensures in
-    let kept = kept-from c.in_ok-keep_lines.ensures.kept c.deref_mut.ensures.value in
+    let kept = one-from c.args.caller c.in_ok-keep_lines.ensures.kept c.in_ok-list.ensures c.deref_mut.ensures.value in
     let whole = written-back c.keep_lines.new.done done c.args.course.done.len kept.callers c.args.course.done.ok.0 in
     rw whole
     (first-kept _ _ _ _ _ _ _ _ _ _ _ c.requires.course.laws
@@ -82,7 +81,7 @@ returns-clause-played g c = λ awake.
     some-of _ _ _ c.is_empty.ensures c.attempt_lines.new.replies.ok.0 awake in
     let at : c.index.result.now ≡ at_caller 0 done c.args.caller =
     by-index done c.args.caller _ c.requires.from_1 c.requires.there c.index.ensures in
-    let kept = kept-from c.in_ok-keep_lines.ensures.kept c.deref_mut.ensures.value in
+    let kept = one-from c.args.caller c.in_ok-keep_lines.ensures.kept c.in_ok-list.ensures c.deref_mut.ensures.value in
     let whole = written-back c.keep_lines.new.done done c.args.course.done.len kept.callers c.args.course.done.ok.0 in
     rw whole
     (first-less _ _ _ _ _ _ _ _ _ _ _ c.requires.course.laws

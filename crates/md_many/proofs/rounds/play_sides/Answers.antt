@@ -1,7 +1,6 @@
-use Rattle.std.proofs.Common.{◌≡◌, ◌+◌, ◌≤◌, ◌<◌, ◌∙◌, [], ℕ, List, IsSome, length, refl, sym, ap, subst, arith}
+use Rattle.std.proofs.Common.{◌∙◌, sym}
 use Rattle.std.proofs.lemmas.List.{length-map}
-use Rattle.md_many.specs.declared.turns.Played.{Played}
-use Rattle.md_many.specs.Rounds.{at_caller, replies_in, PlaysTurns}
+use Rattle.md_many.specs.declared.batches.Played.{Played}
 use Rattle.md_many.proofs.Sides.{sides-count, sides-few, sides-suit, sides-stand, sides-kept, plays-from}
 use Rattle.md_many.proofs.Handing.{suit-wider, written-back, kept-from}
 use Rattle.md_many.proofs.rounds.play_sides.Goals as goal
@@ -10,7 +9,7 @@ pub keep_turns-requires-clause-callers : goal.keep_turns-requires-clause-callers
 keep_turns-requires-clause-callers g c =
     let plays = plays-from c.in_ok-turns.ensures.turns c.deref.ensures.value in
     rw c.deref_mut.ensures.value
-    (sym (length-map c.in_ok-turns.turns.played.items (λ (p : Played _). p.replies.items))
+    (sym (length-map c.in_ok-turns.turns.played.items (λ (p : Played _). g.K.List.ReplyList.listed p.replies))
     ∙ sides-count _ _ _ _ _ _ _ _ _ _ _ c.requires.course.laws
     _ _ _ _ _ c.requires.course.stands c.pass_is_legal.ensures _ c.pass_is_legal-2.ensures _ plays)
 

@@ -1,9 +1,7 @@
-use Rattle.std.proofs.Common.{rules, ◌≡◌, ◌∙◌, ◌++◌, List, ap, sym, subst, arith}
+use Rattle.std.proofs.Common.{arith}
 use Rattle.std.proofs.lemmas.List.{map-append}
 use Rattle.std.proofs.lemmas.Result.{IfOk-at_ok}
-use Rattle.md_many.specs.declared.turns.Played.{Played}
-use Rattle.md_history.specs.Engine.{AreApart}
-use Rattle.md_many.specs.Rounds.{AreWithin, PlaysTurns, replies_in}
+use Rattle.md_many.specs.declared.batches.Played.{Played}
 use Rattle.md_many.proofs.Joined.{turns-joined}
 use Rattle.md_many.proofs.turns.+turns.Goals as goal
 
@@ -21,7 +19,7 @@ returns-clause-turns g t c =
     rw (
       c.halves.ensures.whole,
       c.in_ok-join_turns.ensures.played,
-      map-append (λ (p : Played _). p.replies.items) c.in_ok-turns.turns.played.items c.in_ok-more.more.played.items,
+      map-append (λ (p : Played _). g.T.ReplyList.listed p.replies) c.in_ok-turns.turns.played.items c.in_ok-more.more.played.items,
     )
     (turns-joined _ _ _ _ _ _ _ _ _ c.args.before _ _ _ _ _ c.in-Some.ensures.split one other (omega arith)
     c.join_turns.ensures.joined c.pass_is_legal.ensures.rising c.pass_is_legal-4.ensures.rising)

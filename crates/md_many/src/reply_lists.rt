@@ -1,0 +1,60 @@
+//! Lists of replies, in the form in which a keeper takes them.
+
+ghost use Rattle.std.specs.Prelude.{◌≡◌, ◌<◌, ◌^◌, ◌++◌, [], List, length, IfOk, OnOk};
+
+use std::alloc::{AllocError, Global};
+
+/// A list of replies that grows batch by batch, in whatever form it keeps them.
+pub trait ReplyList<R>: Drop {
+    /// Its replies, in order.
+    ghost listed: { Self → List R };
+
+    /// A list without replies.
+    fn new(alloc: Global) -> Self
+        ensures { listed result ≡ [] };
+
+    /// The number of its replies, which is below 2^32.
+    fn len(&self) -> u32
+        requires { length (listed self.now) < 2 ^ 32 }
+        ensures { result ≡ length (listed self.now) };
+
+    /// Appends replies. `AllocError` if memory runs out.
+    fn append(&mut self, replies: Vec<R>) -> Result<(), AllocError>
+        ensures { OnOk result (listed self.new ≡ listed self.old ++ replies.items) };
+}
+
+/// The first batch is taken as it is, and each later one is moved behind it.
+impl<R: Drop> ReplyList<R> for Vec<R> {
+    ghost listed = { λ list. list.items };
+
+    fn new(alloc: Global) -> Self {
+        Vec::new(alloc)
+    }
+
+    fn len(&self) -> u32 {
+        Vec::len(self) as u32
+    }
+
+    fn append(&mut self, replies: Vec<R>) -> Result<(), AllocError>
+        ensures { OnOk result (self.new.items ≡ self.old.items ++ replies.items) }
+    {
+        if self.is_empty() {
+            *self = replies;
+            return Ok(());
+        }
+        let mut replies = replies;
+        Vec::append(self, &mut replies)
+    }
+}
+
+// A list of some replies.
+pub(crate) fn list_of<R: Drop, T: ReplyList<R>>(
+    alloc: Global,
+    replies: Vec<R>,
+) -> Result<T, AllocError>
+    ensures { IfOk result (λ list. T.listed list ≡ replies.items) }
+{
+    let mut list = T::new(alloc);
+    list.append(replies)?;
+    Ok(list)
+}
