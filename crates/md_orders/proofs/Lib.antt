@@ -4,7 +4,8 @@ pub mod Keeps
 pub mod Lines
 pub mod Apart
 pub mod Rows
-pub mod Packed
+pub mod PartNumbers
+pub mod Unpacked
 pub mod Ones
 pub mod Placed
 pub mod Numbered

@@ -6,6 +6,7 @@ pub mod Scripts
 pub mod Noted
 pub mod Replies
 pub mod Rooms
+pub mod Packed
 pub mod Report
 pub mod Line
 pub mod Generator

@@ -1,7 +1,9 @@
 -- Replies: a place for the reply of each line.
-use Rattle.std.specs.Prelude.{ℕ, Option, Some, None, List, map, length, replicate, option_and_then}
+use Rattle.std.specs.Prelude.{ℕ, ◌+◌, Option, Some, None, List, [], ◌∷◌, map, length, replicate, option_and_then}
+use Rattle.std.specs.Option.{IsSomeAnd}
 use Rattle.md_book.specs.declared.commands.Command.{Command}
 use Rattle.md_book.specs.declared.commands.BookReply.{BookReply}
+use Rattle.md_book.specs.Suits.{Suits}
 use Rattle.md_orders.specs.Scripts.{list_of, with_list, with_line, at_line}
 
 -- the scripts that replies are of, and the reply of each line
@@ -20,3 +22,14 @@ reply_at replies caller line = option_and_then (λ r. r) (at_line replies caller
 -- the replies with that of a line set
 abbrev pub with_reply : List (List (Option BookReply)) → ℕ → ℕ → BookReply → List (List (Option BookReply))
 with_reply replies caller line r = with_list replies caller (with_line (list_of replies caller) line (Some r))
+
+-- the replies with those of a caller's lines after its first n set
+abbrev pub with_replies : List (List (Option BookReply)) → ℕ → ℕ → List BookReply → List (List (Option BookReply))
+with_replies replies caller n [] = replies
+with_replies replies caller n (r ∷ rs) = with_replies (with_reply replies caller (n + 1) r) caller (n + 1) rs
+
+-- each reply suits the command of its line, of a caller's lines after its first n
+abbrev pub AllSuit : List (List Command) → ℕ → ℕ → List BookReply → Type 0
+AllSuit scripts caller n [] = Unit {0}
+AllSuit scripts caller n (r ∷ rs) =
+    IsSomeAnd (at_line scripts caller (n + 1)) (λ c. Suits (c, r)) × AllSuit scripts caller (n + 1) rs

@@ -1,12 +1,13 @@
 //! Replies: a place for the reply of each line.
 
-ghost use Rattle.std.specs.Prelude.{◌≡◌, IfOk};
+ghost use Rattle.std.specs.Prelude.{◌≡◌, ◌<◌, ◌+◌, ◌^◌, length, IfOk};
 ghost use Rattle.std.specs.Option.{IsSomeAnd};
 ghost use Rattle.md_book.specs.Suits.{Suits};
 ghost use Rattle.md_orders.specs.Scripts.{at_line};
-ghost use Rattle.md_orders.specs.Replies.{no_replies, reply_at, with_reply};
+ghost use Rattle.md_orders.specs.Replies.{no_replies, reply_at, with_reply, with_replies, AllSuit};
 ghost use Rattle.md_orders.specs.Rooms.{sizes_of, sizes_in, replies_of};
 
+use crate::packed::PackedReplies;
 use crate::rooms::ReplyRooms;
 use crate::scripts::{Scripts, commands_are_named};
 use md_book::BookReply;
@@ -76,7 +77,30 @@ impl Replies {
           replies = with_reply self.old.replies caller line reply;
         } }
     {
-        self.callers[caller as usize - 1].set(line as usize - 1, &reply);
+        self.set_line(caller, line, &reply);
+    }
+
+    /// Sets the reply of a line, as `set`, from where it stands.
+    pub(crate) fn set_line(&mut self, caller: u32, line: u32, reply: &BookReply)
+        requires { IsSomeAnd (at_line self.old.scripts caller line) (λ command.
+            Suits (command, reply.now)) }
+        ensures { self.new ≡ record self.old {
+          replies = with_reply self.old.replies caller line reply.now;
+        } }
+    {
+        self.callers[caller as usize - 1].set(line as usize - 1, reply);
+    }
+
+    /// Sets the replies of a caller's lines after its first `done`, in order. Each suits the command
+    /// of its line, and the lines are numbered below 2^32. It takes no memory.
+    pub fn set_packed(&mut self, caller: u32, done: u32, replies: &PackedReplies)
+        requires suit { AllSuit self.old.scripts caller done replies.now }
+        requires few { done + length replies.now < 2 ^ 32 }
+        ensures { self.new ≡ record self.old {
+          replies = with_replies self.old.replies caller done replies.now;
+        } }
+    {
+        replies.set_in(self, caller, done);
     }
 
     /// The reply of a line. `None` exactly if there is no such line, or if no reply was set there.

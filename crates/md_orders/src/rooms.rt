@@ -111,8 +111,8 @@ fn keep_at(numbers: &mut [u64], start: usize, size: usize, reply: &BookReply) ->
     keep(&mut numbers[start..start + size], reply)
 }
 
-// The number at a place of a room, or 0 past its end.
-fn number_at(room: &[u64], place: usize) -> u64
+/// The number at a place of a room, or 0 past its end.
+pub(crate) fn number_at(room: &[u64], place: usize) -> u64
     ensures { result ≡ slice_index_or room.now place 0 }
 {
     if place < room.len() { room[place] } else { 0 }
@@ -132,8 +132,8 @@ fn parts_in(count: u8, room: &[u64]) -> [Part; MAX_PARTS]
     parts
 }
 
-// The room of a size that starts at a place of the numbers.
-fn room_at(numbers: &[u64], start: usize, size: usize) -> &[u64]
+/// The room of a size that starts at a place of the numbers.
+pub(crate) fn room_at(numbers: &[u64], start: usize, size: usize) -> &[u64]
     requires { start + size ≤ length numbers.now }
     ensures { result.now ≡ take size (drop start numbers.now) }
 {

@@ -1,6 +1,6 @@
 use Rattle.std.proofs.Common.{◌≡◌, ◌+◌, ◌*◌, ◌/◌, ◌%◌, ◌^◌, ◌∙◌, Some, length, take, drop, map, get_or, ap, sym, arith, get_or-set_same}
 use Rattle.md_orders.specs.Rooms.{part_number}
-use Rattle.md_orders.proofs.Packed.{parts-kept}
+use Rattle.md_orders.proofs.PartNumbers.{parts-kept}
 use Rattle.md_orders.proofs.rooms.keep.Goals as goal
 
 pub returns-in-Filled : goal.returns-in-Filled

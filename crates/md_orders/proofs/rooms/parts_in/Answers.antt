@@ -3,7 +3,7 @@ use Rattle.std.proofs.lemmas.List.{length-drop, get_or-drop}
 use Rattle.md_book.specs.declared.commands.Part.{Part}
 use Rattle.md_book.specs.Book.{padded}
 use Rattle.md_orders.specs.Rooms.{part_in}
-use Rattle.md_orders.proofs.Packed.{parts-more}
+use Rattle.md_orders.proofs.PartNumbers.{parts-more}
 use Rattle.md_orders.proofs.rooms.parts_in.Goals as goal
 
 pub loop-place-preserved : goal.loop-place-preserved

@@ -1,0 +1,146 @@
+-- Packed replies, and what comes of them again.
+use Rattle.std.proofs.Common.{◌≡◌, ◌<◌, ◌≤◌, ◌+◌, ◌-◌, ◌*◌, ◌/◌, ◌%◌, ◌^◌, ◌∙◌, ◌++◌, ◌∷◌, refl, sym, ap, subst, arith, zero, suc}
+use Rattle.std.proofs.Common.{ℕ, List, [], All, length, take, drop, get_or, set, replicate, append_assoc, length-append}
+use Rattle.std.specs.Prelude.{min, sum_by}
+use Rattle.std.proofs.lemmas.List.{length-take, length-take-le, length-replicate, length-drop, get_or-drop, take-append-le, drop-append-le, drop-drop, drop_more, take_more, take_all}
+use Rattle.std.proofs.lemmas.List.Sums.{sum_by-append, sum_by-cons}
+use Rattle.std.proofs.lemmas.List.Elements.{All-head, All-tail}
+use Rattle.md_book.specs.declared.commands.Part.{Part}
+use Rattle.md_book.specs.declared.commands.BookReply.{BookReply}
+use Rattle.md_book.specs.declared.limits.TheConstants.{MAX_PARTS}
+use Rattle.md_book.specs.Book.{padded}
+use Rattle.md_orders.specs.declared.packed.PackedHead.{PackedHead}
+use Rattle.md_orders.specs.Packed.{IsSmall, size_of, numbers_of, part_of, parts_of, unpacked, unpacked_all, ArePacked, IsPacked}
+use Rattle.md_orders.proofs.PartNumbers.{padded-more}
+
+-- so many parts are read
+pub length-parts_of : (kept : ℕ) (numbers : List ℕ) → length (parts_of kept numbers) ≡ kept
+length-parts_of zero numbers = refl
+length-parts_of (suc kept) numbers = ap suc (length-parts_of kept (drop 2 numbers))
+
+-- one part more
+parts_of-more : (kept i j : ℕ) (numbers : List ℕ) → 2 * kept ≡ i → 2 * kept + 1 ≡ j
+    → parts_of (suc kept) numbers ≡ parts_of kept numbers ++ part_of (get_or numbers i 0) (get_or numbers j 0) ∷ []
+parts_of-more zero i j numbers at_i at_j =
+    ap (λ n. part_of (get_or numbers n 0) (get_or numbers 1 0) ∷ []) at_i
+    ∙ ap (λ n. part_of (get_or numbers i 0) (get_or numbers n 0) ∷ []) at_j
+parts_of-more (suc kept) i j numbers at_i at_j =
+    let name : get_or (drop 2 numbers) (2 * kept) 0 ≡ get_or numbers i 0 =
+    let same : 2 + 2 * kept ≡ i = omega arith in
+    get_or-drop 2 numbers (2 * kept) 0 ∙ ap (λ n. get_or numbers n 0) same in
+    let taken : get_or (drop 2 numbers) (2 * kept + 1) 0 ≡ get_or numbers j 0 =
+    let same : 2 + (2 * kept + 1) ≡ j = omega arith in
+    get_or-drop 2 numbers (2 * kept + 1) 0 ∙ ap (λ n. get_or numbers n 0) same in
+    ap (λ ps. part_of (get_or numbers 0 0) (get_or numbers 1 0) ∷ ps)
+    (parts_of-more kept (2 * kept) (2 * kept + 1) (drop 2 numbers) refl refl
+    ∙ ap (λ n. parts_of kept (drop 2 numbers) ++ part_of n (get_or (drop 2 numbers) (2 * kept + 1) 0) ∷ []) name
+    ∙ ap (λ n. parts_of kept (drop 2 numbers) ++ part_of (get_or numbers i 0) n ∷ []) taken)
+
+-- and one part more among the padded ones
+pub padded-next : (place : ℕ) (numbers : List ℕ) → place < MAX_PARTS
+    → set (padded (parts_of place (drop 1 numbers))) place
+    (part_of (get_or numbers (2 * place + 1) 0) (get_or numbers (2 * place + 2) 0))
+    ≡ padded (parts_of (place + 1) (drop 1 numbers))
+padded-next place numbers room =
+    let rest = drop 1 numbers in
+    let name : get_or rest (2 * place) 0 ≡ get_or numbers (2 * place + 1) 0 =
+    let same : 1 + 2 * place ≡ 2 * place + 1 = omega arith in
+    get_or-drop 1 numbers (2 * place) 0 ∙ ap (λ n. get_or numbers n 0) same in
+    let taken : get_or rest (2 * place + 1) 0 ≡ get_or numbers (2 * place + 2) 0 =
+    let same : 1 + (2 * place + 1) ≡ 2 * place + 2 = omega arith in
+    get_or-drop 1 numbers (2 * place + 1) 0 ∙ ap (λ n. get_or numbers n 0) same in
+    let next : suc place ≡ place + 1 = omega arith in
+    padded-more (parts_of place rest) place _ (length-parts_of place rest) room
+    ∙ ap padded (sym (sym (ap (λ k. parts_of k rest) next) ∙ parts_of-more place (2 * place) (2 * place + 1) rest refl refl
+    ∙ ap (λ n. parts_of place rest ++ part_of n (get_or rest (2 * place + 1) 0) ∷ []) name
+    ∙ ap (λ n. parts_of place rest ++ part_of (get_or numbers (2 * place + 1) 0) n ∷ []) taken))
+
+abbrev part_with : ℕ → ℕ → Part
+part_with name taken = record { name = name; taken = taken }
+
+-- the numbers of parts are the parts again
+parts-back : (ps : List Part) → All IsSmall ps → parts_of (length ps) (numbers_of ps) ≡ ps
+parts-back [] small = refl
+parts-back (p ∷ ps) small =
+    let whole : p.taken % 2 ^ 32 ≡ p.taken = let here = All-head IsSmall p ps small in omega arith in
+    ap (λ n. part_with p.name n ∷ parts_of (length ps) (numbers_of ps)) whole
+    ∙ ap (λ qs. p ∷ qs) (parts-back ps (All-tail IsSmall p ps small))
+
+-- parts that are padded fill their places
+length-padded : (kept : ℕ) (parts : List Part) → kept ≤ MAX_PARTS → padded (take kept parts) ≡ parts → length parts ≡ MAX_PARTS
+length-padded kept parts few whole =
+    let zero_part : Part = record { name = 0; taken = 0 } in
+    let first = take kept parts in
+    let short = length-take kept parts in
+    let size = ap length (sym whole) ∙ length-append first (replicate (MAX_PARTS - length first) zero_part) in
+    let left = length-replicate (MAX_PARTS - length first) zero_part in
+    omega arith
+
+pub length-kept : (kept : ℕ) (parts : List Part) → kept ≤ MAX_PARTS → padded (take kept parts) ≡ parts → length (take kept parts) ≡ kept
+length-kept kept parts few whole =
+    let size = length-padded kept parts few whole in
+    length-take-le kept parts (omega arith)
+
+-- so the parts that a fill keeps are its parts again
+pub parts-kept : (kept : ℕ) (parts : List Part) → kept ≤ MAX_PARTS → All IsSmall (take kept parts)
+    → padded (take kept parts) ≡ parts → padded (parts_of (min kept MAX_PARTS) (numbers_of (take kept parts))) ≡ parts
+parts-kept kept parts few small whole =
+    let size = length-kept kept parts few whole in
+    let least : min kept MAX_PARTS ≡ length (take kept parts) = omega arith in
+    ap (λ n. padded (parts_of n (numbers_of (take kept parts)))) least
+    ∙ ap padded (parts-back (take kept parts) small) ∙ whole
+
+pub length-numbers_of : (ps : List Part) → length (numbers_of ps) ≡ 2 * length ps
+length-numbers_of [] = refl
+length-numbers_of (p ∷ ps) = let rest = length-numbers_of ps in omega arith
+
+pub numbers_of-push : (ps : List Part) (p : Part) → numbers_of (ps ++ p ∷ []) ≡ numbers_of ps ++ p.name ∷ p.taken ∷ []
+numbers_of-push [] p = refl
+numbers_of-push (q ∷ ps) p = ap (λ ns. q.name ∷ q.taken ∷ ns) (numbers_of-push ps p)
+
+-- one reply more at the end
+all-push : (hs : List PackedHead) (numbers added : List ℕ) (h : PackedHead) (r : BookReply) → ArePacked hs numbers
+    → length added ≡ size_of h → unpacked h added ≡ r
+    → unpacked_all (hs ++ h ∷ []) (numbers ++ added) ≡ unpacked_all hs numbers ++ r ∷ []
+all-push [] [] added h r packed sized is =
+    let whole : take (size_of h) added ≡ added = take_all (size_of h) added (omega arith) in
+    ap (λ ns. unpacked h ns ∷ []) whole ∙ ap (λ x. x ∷ []) is
+all-push [] (n ∷ ns) added h r packed sized is = absurd (omega arith)
+all-push (x ∷ hs) numbers added h r packed sized is =
+    let sum = sum_by-cons size_of x hs in
+    let inside : size_of x ≤ length numbers = omega arith in
+    let left = drop (size_of x) numbers in
+    let size = length-drop (size_of x) numbers in
+    let later : ArePacked hs left = omega arith in
+    ap (λ ns. unpacked x ns ∷ unpacked_all (hs ++ h ∷ []) (drop (size_of x) (numbers ++ added))) (take-append-le (size_of x) numbers added inside)
+    ∙ ap (λ ns. unpacked x (take (size_of x) numbers) ∷ unpacked_all (hs ++ h ∷ []) ns) (drop-append-le (size_of x) numbers added inside)
+    ∙ ap (λ rs. unpacked x (take (size_of x) numbers) ∷ rs) (all-push hs left added h r later sized is)
+
+pub unpacked_all-push : (hs : List PackedHead) (numbers new : List ℕ) (h : PackedHead) (r : BookReply) → ArePacked hs numbers
+    → IsPacked numbers new h r → unpacked_all (hs ++ h ∷ []) new ≡ unpacked_all hs numbers ++ r ∷ []
+unpacked_all-push hs numbers new h r packed is =
+    ap (unpacked_all (hs ++ h ∷ [])) is.new_is ∙ all-push hs numbers is.added h r packed is.sized is.is
+
+-- a reply a head
+pub length-unpacked_all : (hs : List PackedHead) (numbers : List ℕ) → length (unpacked_all hs numbers) ≡ length hs
+length-unpacked_all [] numbers = refl
+length-unpacked_all (h ∷ hs) numbers = ap suc (length-unpacked_all hs (drop (size_of h) numbers))
+
+-- the numbers of the heads that are left
+pub sum-next : (hs : List PackedHead) (i size : ℕ) (d : PackedHead) → i < length hs → size ≡ size_of (get_or hs i d)
+    → sum_by size_of (drop i hs) ≡ size + sum_by size_of (drop (i + 1) hs)
+sum-next hs i size d inside is =
+    ap (sum_by size_of) (drop_more hs i d inside) ∙ sum_by-cons size_of (get_or hs i d) (drop (i + 1) hs)
+    ∙ ap (λ n. n + sum_by size_of (drop (i + 1) hs)) (sym is)
+
+-- the first of the replies that are left
+pub unpacked-next : (hs : List PackedHead) (numbers room : List ℕ) (i start size : ℕ) (r : BookReply) (d : PackedHead)
+    → i < length hs → size ≡ size_of (get_or hs i d) → room ≡ take size (drop start numbers) → r ≡ unpacked (get_or hs i d) room
+    → unpacked_all (drop i hs) (drop start numbers) ≡ r ∷ unpacked_all (drop (i + 1) hs) (drop (start + size) numbers)
+unpacked-next hs numbers room i start size r d inside size_is room_is reply_is =
+    let h = get_or hs i d in
+    let left = drop start numbers in
+    ap (λ xs. unpacked_all xs left) (drop_more hs i d inside)
+    ∙ ap (λ n. unpacked h (take n left) ∷ unpacked_all (drop (i + 1) hs) (drop n left)) (sym size_is)
+    ∙ ap (λ x. x ∷ unpacked_all (drop (i + 1) hs) (drop size left)) (sym (reply_is ∙ ap (unpacked h) room_is))
+    ∙ ap (λ ns. r ∷ unpacked_all (drop (i + 1) hs) ns) (drop-drop size start numbers)
