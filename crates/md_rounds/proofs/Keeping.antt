@@ -6,11 +6,10 @@ use Rattle.std.proofs.lemmas.Option.{slice_get-get_or}
 use Rattle.md_book.specs.declared.commands.Command.{Command}
 use Rattle.md_book.specs.declared.commands.BookReply.{BookReply}
 use Rattle.md_orders.specs.Scripts.{list_of, with_line}
-use Rattle.md_orders.specs.Replies.{reply_at, with_reply, no_replies}
+use Rattle.md_orders.specs.Replies.{reply_at, with_reply, with_replies, no_replies}
 use Rattle.md_orders.proofs.ByCaller.{list_of-with_list-same, length-with_list}
 use Rattle.md_many.specs.Tags.{tag_of, tags_after}
 use Rattle.md_many.proofs.TagLaws.{caller_of_tag, line_of_tag, tags_after-append}
-use Rattle.md_rounds.specs.Kept.{with_replies}
 use Rattle.md_rounds.specs.Replay.{RepliedEach}
 
 pub length-with_line : {A : Type 0} (xs : List A) (line : ℕ) (x : A) → length (with_line xs line x) ≡ length xs

@@ -13,8 +13,15 @@ use Rattle.md_book.specs.Suits.{Suits, RepliesSuit}
 use Rattle.md_book.specs.Trading.{IsDay, answered}
 use Rattle.md_book.specs.Book.{empty_book, replies_to}
 use Rattle.md_orders.specs.Scripts.{list_of, at_line}
-use Rattle.md_rounds.specs.Kept.{AllSuit}
+use Rattle.md_orders.specs.Replies.{AllSuit}
+use Rattle.md_many.specs.Laws as many
 use Rattle.md_rounds.proofs.CallerLines.{take-drop-more}
+
+-- what suits line by line suits
+pub suits-each : (scripts : List (List Command)) (caller n : ℕ) (rs : List BookReply)
+    → many.AllSuit (λ line r. IsSomeAnd (at_line scripts caller line) (λ c. Suits (c, r))) n rs → AllSuit scripts caller n rs
+suits-each scripts caller n [] all = tt
+suits-each scripts caller n (r ∷ rs) all = (all.0, suits-each scripts caller (n + 1) rs all.1)
 
 -- what suits, at an index
 pub suit-at : (scripts : List (List Command)) (caller : ℕ) (batch : List BookReply) (n i m : ℕ) (d : BookReply) → AllSuit scripts caller n batch → i < length batch → m ≡ n + i + 1

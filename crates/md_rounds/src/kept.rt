@@ -5,7 +5,9 @@ ghost use Rattle.std.specs.Option.{IsSomeAnd};
 ghost use Rattle.md_book.specs.declared.commands.BookReply.{BookReply};
 ghost use Rattle.md_book.specs.Suits.{Suits};
 ghost use Rattle.md_orders.specs.Scripts.{at_line};
-ghost use Rattle.md_rounds.specs.Kept.{AllSuit, HasReplies, with_replies};
+ghost use Rattle.md_many.specs.Laws as many;
+ghost use Rattle.md_orders.specs.Replies.{AllSuit, with_replies};
+ghost use Rattle.md_rounds.specs.Kept.{HasReplies};
 
 use md_book::BookReply;
 use md_many::Keeper;
@@ -41,7 +43,9 @@ impl Keeper<BookReply> for KeptReplies {
     ghost keeps = { λ k caller rs. HasReplies k.replies.scripts k.replies.replies caller rs };
 
     fn keep(&mut self, caller: u32, done: u32, replies: Vec<BookReply>) -> Result<(), AllocError>
-        requires suit { AllSuit self.old.replies.scripts caller done replies.items }
+        requires suit { many.AllSuit (λ line r.
+            IsSomeAnd (at_line self.old.replies.scripts caller line) (λ c. Suits (c, r)))
+            done replies.items }
         requires few { done + length replies.items < 2 ^ 32 }
         ensures can_keep { (other line : ℕ) (r : BookReply)
             → IsSomeAnd (at_line self.old.replies.scripts other line) (λ c. Suits (c, r))

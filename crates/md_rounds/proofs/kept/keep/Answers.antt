@@ -2,7 +2,7 @@ use Rattle.std.proofs.Common.{◌+◌, ◌∙◌, ap, subst, sym, arith}
 use Rattle.md_orders.specs.Replies.{RepliesState}
 use Rattle.md_rounds.proofs.Keeping.{batch-more}
 use Rattle.md_rounds.proofs.Suiting.{suit-at}
-use Rattle.md_rounds.specs.Kept.{AllSuit}
+use Rattle.md_orders.specs.Replies.{AllSuit}
 use Rattle.md_rounds.proofs.kept.keep.Goals as goal
 
 pub set-requires : goal.set-requires
