@@ -14,6 +14,9 @@ use md_book::{BookReply, MAX_PARTS, Part};
 use std::alloc::{AllocError, Global};
 use std::marker::Model;
 
+#[cfg(test)]
+mod tests;
+
 // The factor between the quantities that were taken and that remain, in a number.
 const QUANTITIES: u64 = 0x1_0000_0000;
 

@@ -3,5 +3,6 @@
 mod in_threads;
 mod longest;
 mod making;
+mod packing;
 mod reading;
 mod reports;

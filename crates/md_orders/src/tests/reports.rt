@@ -98,7 +98,7 @@ fn longest_fill() -> BookReply
 
 // A reply that suits a command: of a fill so many parts, where it has the places and the quantity,
 // and the longest where it asks for a million of twelve places.
-fn reply_with(command: Command, count: u8) -> BookReply
+pub(crate) fn reply_with(command: Command, count: u8) -> BookReply
     requires { IsCommand command }
     ensures { Suits (command, result) }
 {
@@ -118,7 +118,13 @@ fn reply_with(command: Command, count: u8) -> BookReply
 }
 
 // Sets such a reply at each line of a caller from a first one on.
-fn set_lines(replies: &mut Replies, scripts: &Scripts, caller: u32, first: u32, count: u8)
+pub(crate) fn set_lines(
+    replies: &mut Replies,
+    scripts: &Scripts,
+    caller: u32,
+    first: u32,
+    count: u8,
+)
     requires first { 1 ≤ first }
     requires same { replies.old.scripts ≡ scripts.now }
     ensures { replies.new.scripts ≡ scripts.now }
