@@ -122,6 +122,15 @@ with_replies-push replies caller [] n m r at =
 with_replies-push replies caller (s ∷ batch) n m r at =
     with_replies-push (with_reply replies caller (n + 1) s) caller batch (n + 1) m r (at ∙ omega arith)
 
+-- some replies after others
+pub with_replies-append : (replies : List (List (Option BookReply))) (caller n m : ℕ) (rs ss : List BookReply)
+    → m ≡ n + length rs
+    → with_replies replies caller n (rs ++ ss) ≡ with_replies (with_replies replies caller n rs) caller m ss
+with_replies-append replies caller n m [] ss at =
+    ap (λ k. with_replies replies caller k ss) (let same : n ≡ m = omega arith in same)
+with_replies-append replies caller n m (r ∷ rs) ss at =
+    with_replies-append (with_reply replies caller (n + 1) r) caller (n + 1) m rs ss (at ∙ omega arith)
+
 -- the next reply of a batch was set
 pub batch-more : (before replies new : List (List (Option BookReply))) (caller : ℕ) (batch : List BookReply) (n i m : ℕ)
     (d : BookReply) → new ≡ with_reply replies caller m (get_or batch i d)

@@ -54,3 +54,8 @@ day-suits law scripts caller rs within day is =
 pub suits-later : (scripts : List (List Command)) (caller n m : ℕ) (rs ss : List BookReply) → m ≡ n + length rs → AllSuit scripts caller n (rs ++ ss) → AllSuit scripts caller m ss
 suits-later scripts caller n m [] ss at all = let here : n ≡ m = omega arith in subst (λ k. AllSuit scripts caller k ss) here all
 suits-later scripts caller n m (r ∷ rs) ss at all = suits-later scripts caller (n + 1) m rs ss (omega arith) all.1
+
+-- the earlier of replies that suit
+pub suits-earlier : (scripts : List (List Command)) (caller n : ℕ) (rs ss : List BookReply) → AllSuit scripts caller n (rs ++ ss) → AllSuit scripts caller n rs
+suits-earlier scripts caller n [] ss all = tt
+suits-earlier scripts caller n (r ∷ rs) ss all = (all.0, suits-earlier scripts caller (n + 1) rs ss all.1)

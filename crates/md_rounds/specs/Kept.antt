@@ -1,9 +1,14 @@
 -- Replies where they are kept.
-use Rattle.std.specs.Prelude.{◌≡◌, ◌<◌, ℕ, ◌+◌, Option, List, length, slice_get}
+use Rattle.std.specs.Prelude.{◌≡◌, ◌<◌, ℕ, ◌+◌, ◌++◌, Option, List, length, slice_get}
 use Rattle.md_book.specs.declared.commands.Command.{Command}
 use Rattle.md_book.specs.declared.commands.BookReply.{BookReply}
 use Rattle.md_orders.specs.Scripts.{list_of}
 use Rattle.md_orders.specs.Replies.{reply_at}
+use Rattle.md_rounds.specs.declared.round_replies.RoundReplies.{RoundReplies}
+
+-- the replies of a turn: those that are packed, and those of the last batch
+abbrev pub all_of : RoundReplies → List BookReply
+all_of list = list.packed ++ list.last.items
 
 -- there is a place for each line, and those of a caller's first lines have these replies
 pub record HasReplies (scripts : List (List Command)) (replies : List (List (Option BookReply))) (caller : ℕ)

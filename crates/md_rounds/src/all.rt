@@ -38,7 +38,9 @@ pub struct Outcome<P> {
 ///
 /// `tries` is the most attempts that a caller makes in its turn of a round: any number.
 /// `play_rounds` of md_many says what a round is, and when the engine is renewed. The places of all
-/// replies are made before the first round (`Replies` of md_orders).
+/// replies are made before the first round (`Replies` of md_orders). Beside them a round takes the
+/// replies of its turns: for each caller the last 1,024 of them as they are, and the others packed
+/// (`PackedReplies` of md_orders).
 ///
 /// `AllocError` if memory runs out, here or in an attempt of the engine. Then the engine has ended,
 /// and its contents are lost.

@@ -7,8 +7,9 @@ ghost use Rattle.md_book.specs.Suits.{Suits};
 ghost use Rattle.md_orders.specs.Scripts.{at_line};
 ghost use Rattle.md_many.specs.Laws as many;
 ghost use Rattle.md_orders.specs.Replies.{AllSuit, with_replies};
-ghost use Rattle.md_rounds.specs.Kept.{HasReplies};
+ghost use Rattle.md_rounds.specs.Kept.{all_of, HasReplies};
 
+use crate::round_replies::RoundReplies;
 use md_book::BookReply;
 use md_many::Keeper;
 use md_orders::Replies;
@@ -30,6 +31,19 @@ pub(crate) fn keep(replies: &mut Replies, caller: u32, done: u32, batch: &[BookR
     }
 }
 
+// Puts the replies of a list into their places, as `keep` those of a batch.
+fn keep_list(replies: &mut Replies, caller: u32, done: u32, list: &RoundReplies)
+    requires suit { AllSuit replies.old.scripts caller done (all_of list.now) }
+    requires few { done + length (all_of list.now) < 2 ^ 32 }
+    ensures { replies.new ≡ record replies.old {
+      replies = with_replies replies.old.replies caller done (all_of list.now);
+    } }
+{
+    replies.set_packed(caller, done, &list.packed);
+    let packed = list.packed.len() as u32;
+    keep(replies, caller, done + packed, &list.last);
+}
+
 // The places of replies, as a keeper for rounds. Keeping takes no memory.
 #[derive(Drop)]
 pub(crate) struct KeptReplies {
@@ -37,16 +51,18 @@ pub(crate) struct KeptReplies {
 }
 
 impl Keeper<BookReply> for KeptReplies {
+    type List = RoundReplies;
+
     ghost can_keep = { λ k caller line r.
         IsSomeAnd (at_line k.replies.scripts caller line) (λ c. Suits (c, r)) };
 
     ghost keeps = { λ k caller rs. HasReplies k.replies.scripts k.replies.replies caller rs };
 
-    fn keep(&mut self, caller: u32, done: u32, replies: Vec<BookReply>) -> Result<(), AllocError>
+    fn keep(&mut self, caller: u32, done: u32, replies: RoundReplies) -> Result<(), AllocError>
         requires suit { many.AllSuit (λ line r.
             IsSomeAnd (at_line self.old.replies.scripts caller line) (λ c. Suits (c, r)))
-            done replies.items }
-        requires few { done + length replies.items < 2 ^ 32 }
+            done (all_of replies) }
+        requires few { done + length (all_of replies) < 2 ^ 32 }
         ensures can_keep { (other line : ℕ) (r : BookReply)
             → IsSomeAnd (at_line self.old.replies.scripts other line) (λ c. Suits (c, r))
             → IsSomeAnd (at_line self.new.replies.scripts other line) (λ c. Suits (c, r)) }
@@ -54,12 +70,12 @@ impl Keeper<BookReply> for KeptReplies {
             → HasReplies self.old.replies.scripts self.old.replies.replies caller rs
             → length rs ≡ done
             → OnOk result (HasReplies self.new.replies.scripts self.new.replies.replies caller
-            (rs ++ replies.items)) }
+            (rs ++ all_of replies)) }
         ensures others { (other : ℕ) (rs : List BookReply) → other ≢ caller
             → HasReplies self.old.replies.scripts self.old.replies.replies other rs
             → OnOk result (HasReplies self.new.replies.scripts self.new.replies.replies other rs) }
     {
-        keep(&mut self.replies, caller, done, &replies);
+        keep_list(&mut self.replies, caller, done, &replies);
         Ok(())
     }
 }

@@ -6,6 +6,7 @@ mod alone;
 mod kept;
 mod limits;
 mod order_lines;
+mod round_replies;
 mod summed;
 #[cfg(test)]
 mod tests;

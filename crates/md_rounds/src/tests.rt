@@ -4,10 +4,11 @@ ghost use Rattle.std.specs.Prelude.{◌≡◌, length, IfOk};
 
 use crate::all::run_all;
 use crate::alone::play_alone;
+use crate::round_replies::RoundReplies;
 use crate::summed::summaries_add_up;
 use md_book::{BookReply, DEPTHS, LEVELS, MAPS, MAX_PARTS, Part, order_name};
 use md_history::{Contents, PlainStore};
-use md_many::FreeGate;
+use md_many::{FreeGate, ReplyList};
 use md_orders::{Scripts, read_orders, summary};
 use md_words::limits::{MAX_MAPS, MAX_QUEUES};
 use std::alloc::{AllocError, Global};
@@ -78,6 +79,20 @@ fn replies_of(first: u32, cycle: u32) -> [BookReply; 7] {
     ]
 }
 
+// The batches of a turn: the last stays as it came, and those before it are packed.
+#[test]
+fn batches_of_a_turn(rt: HostRuntime) -> Result<(), Fail> {
+    let alloc = rt.alloc();
+    let mut list = RoundReplies::new(alloc);
+    for (cycle, packed) in [(0, 0), (1, 7), (2, 14)] {
+        list.append(Vec::from_array(alloc, replies_of(1, cycle))?)?;
+        list.append(Vec::new(alloc))?;
+        assert_eq!(rt; list.packed.len(), packed);
+        assert_eq!(rt; list.last.as_slice(), &replies_of(1, cycle));
+    }
+    Ok(())
+}
+
 // More lines than many batches have, and than 16 bits count: each reply stands at its own line.
 #[test]
 fn batches_of_lines(rt: HostRuntime) -> Result<(), Fail> {
@@ -106,7 +121,7 @@ fn the_largest_contents(rt: HostRuntime) -> Result<(), Fail> {
     Ok(())
 }
 
-// The rounds of one caller, over many more lines than a round has room for, give the replies that
+// The rounds of one caller, over many more lines than one turn plays, give the replies that
 // playing alone gives, and a summary that adds up.
 #[test]
 fn one_caller_in_rounds(rt: HostRuntime) -> Result<(), Fail> {

@@ -1,0 +1,43 @@
+//! The replies of a caller's turn.
+
+ghost use Rattle.std.specs.Prelude.{◌≡◌, ◌<◌, ◌^◌, ◌++◌, length, OnOk};
+ghost use Rattle.md_rounds.specs.Kept.{all_of};
+
+use md_book::BookReply;
+use md_many::ReplyList;
+use md_orders::PackedReplies;
+use std::alloc::{AllocError, Global};
+
+// The replies of a turn. The last batch stays as it came, and those before it are packed. So a turn
+// of one batch packs nothing.
+#[derive(Drop)]
+pub(crate) struct RoundReplies {
+    pub(crate) packed: PackedReplies,
+    pub(crate) last: Vec<BookReply>,
+}
+
+impl ReplyList<BookReply> for RoundReplies {
+    ghost listed = { all_of };
+
+    fn new(alloc: Global) -> RoundReplies {
+        RoundReplies {
+            packed: PackedReplies::new(alloc),
+            last: Vec::new(alloc),
+        }
+    }
+
+    fn len(&self) -> u32 {
+        self.packed.len() as u32 + self.last.len() as u32
+    }
+
+    fn append(&mut self, replies: Vec<BookReply>) -> Result<(), AllocError>
+        ensures { OnOk result (all_of self.new ≡ all_of self.old ++ replies.items) }
+    {
+        if replies.is_empty() {
+            return Ok(());
+        }
+        self.packed.append(&self.last)?;
+        self.last = replies;
+        Ok(())
+    }
+}
