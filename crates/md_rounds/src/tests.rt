@@ -88,7 +88,7 @@ fn batches_of_a_turn(rt: HostRuntime) -> Result<(), Fail> {
         list.append(Vec::from_array(alloc, replies_of(1, cycle))?)?;
         list.append(Vec::new(alloc))?;
         assert_eq!(rt; list.packed.len(), packed);
-        assert_eq!(rt; list.last.as_slice(), &replies_of(1, cycle));
+        assert_eq!(rt; list.last.as_slice(), replies_of(1, cycle).as_slice());
     }
     Ok(())
 }
