@@ -20,13 +20,14 @@ mod tests;
 // The factor between the quantities that were taken and that remain, in a number.
 const QUANTITIES: u64 = 0x1_0000_0000;
 
-// The numbers that a reply can need: one, and two for each part.
+// The most numbers that a reply needs: one, and two for each part.
 const MAX_NUMBERS: usize = 2 * MAX_PARTS + 1;
 
 // What is left out at the end of parts.
 const NO_PART: Part = Part { name: 0, taken: 0 };
 
-// Which reply it is, and what of it is small. A fill keeps its first `kept` parts.
+// Which reply it is, and what of it is small. Of a fill the first `kept` parts are numbers, and the
+// others are zero.
 #[derive(Clone, Copy)]
 enum PackedHead {
     Placed,
@@ -140,7 +141,7 @@ fn pack(numbers: &mut Vec<u64>, reply: &BookReply) -> PackedHead
     }
 }
 
-// So many parts from a place of some numbers on.
+// The parts that a fill keeps, which stand after its first number.
 fn parts_of(kept: u8, numbers: &[u64]) -> [Part; MAX_PARTS]
     ensures { result ≡ padded (parts_of (min kept MAX_PARTS) (drop 1 numbers.now)) }
 {
@@ -237,8 +238,8 @@ impl PackedReplies {
         Ok(())
     }
 
-    /// Appends replies, in order. `AllocError` if memory runs out; then the list has the first of
-    /// them.
+    /// Appends replies, in order. `AllocError` if memory runs out; then only the first of them were
+    /// appended. It takes a fixed time for each reply, unless the list has to move to larger memory.
     pub fn append(&mut self, replies: &[BookReply]) -> Result<(), AllocError>
         ensures ok { OnOk result (self.new ≡ self.old ++ replies.now) }
         ensures err { OnErr result ((n : ℕ) × (self.new ≡ self.old ++ take n replies.now)) }
@@ -249,7 +250,7 @@ impl PackedReplies {
         Ok(())
     }
 
-    /// Sets the replies of a caller's lines after its first `done`, in order.
+    /// Sets the replies of a caller's lines after its first `done`, as `Replies::set_packed`.
     pub(crate) fn set_in(&self, replies: &mut Replies, caller: u32, done: u32)
         requires suit { AllSuit replies.old.scripts caller done self.now }
         requires few { done + length self.now < 2 ^ 32 }

@@ -92,7 +92,8 @@ impl Replies {
     }
 
     /// Sets the replies of a caller's lines after its first `done`, in order. Each suits the command
-    /// of its line, and the lines are numbered below 2^32. It takes no memory.
+    /// of its line, and the lines are numbered below 2^32. It takes no memory, and a fixed time for
+    /// each reply.
     pub fn set_packed(&mut self, caller: u32, done: u32, replies: &PackedReplies)
         requires suit { AllSuit self.old.scripts caller done replies.now }
         requires few { done + length replies.now < 2 ^ 32 }
