@@ -2,7 +2,7 @@ use Rattle.std.proofs.Common.{◌≡◌, ap, sym, arith}
 use Rattle.md_store_law.specs.Below.{maps_below}
 use Rattle.md_store_law.specs.Living.{pairs_listed, values_listed}
 use Rattle.md_store_law.proofs.Below.{laid_as, begin_at}
-use Rattle.md_store_law.proofs.compacting.lay_living.Goals as goal
+use Rattle.md_store_law.proofs.compacting.lay_all.Goals as goal
 
 pub loop-map-init : goal.loop-map-init
 loop-map-init c =
