@@ -26,3 +26,8 @@ pub record PassState : Type 0 where
 pub record IsOf (pass : PassState) (field : FieldView) : Type 0 where
   pub table : pass.table ≡ field.table
   pub shape : pass.shape ≡ field.origin.shape
+
+-- a field that has ended: its words as they stand, and its last pass as it stood
+pub record EndedView : Type 0 where
+  pub words : List ℕ
+  pub front : PassState

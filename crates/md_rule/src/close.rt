@@ -1,7 +1,6 @@
 //! The end of a field.
 
-ghost use Rattle.std.specs.Prelude.{◌≡◌, IfOk, length};
-ghost use Rattle.std.specs.Mem.Slots.{slots_items, slots_len, IsFull};
+ghost use Rattle.std.specs.Prelude.{◌≡◌, ◌<◌, IfOk, length, slice_index};
 ghost use Rattle.md_rule.specs.Closing.{IsLast, LeavesReplay, MayClose};
 ghost use Rattle.md_rule.specs.Views.{IsOf};
 
@@ -11,6 +10,27 @@ use atomic_table::Closed as TableClosed;
 use md_history::Front;
 use md_machine::Theory;
 use std::alloc::{AllocError, Global};
+use std::marker::Model;
+
+/// A field that has ended: no pass can step on it any more, and its words can be read where they
+/// stood. Contracts see the words, and the last pass as it stood. The memory is freed when this is
+/// dropped.
+pub struct Ended<T: Theory> {
+    table: TableClosed<(), Global>,
+    front: Front<Pass<T>>,
+}
+
+impl<T: Theory> Model for Ended<T> {
+    ghost use Rattle.std.specs.Prelude.{◌≡◌};
+    ghost use Rattle.std.specs.Mem.Slots.{slots_items, slots_len, IsFull};
+    ghost use Rattle.md_rule.specs.Views.{EndedView};
+
+    ghost Value = { EndedView };
+
+    ghost view = { λ e. record { words = slots_items e.table.words; front = e.front } };
+
+    ghost invariant = { λ e. IsFull e.table.words × (slots_len e.table.slots ≡ 0) };
+}
 
 /// What a field leaves when it is closed.
 #[derive(Drop)]
@@ -22,12 +42,31 @@ pub struct Closed<T: Theory> {
 }
 
 impl<T: Theory> Field<T> {
+    /// Ends the field, and leaves its words where they stand: a valid heap in which every count is
+    /// even, whose state is the replay of the committed transactions. The pass is of the field,
+    /// holds all its lanes and knows every fate, and no descriptor stands in a word.
+    ///
+    /// Constant time. It takes no memory, and no step of the field is made: no other pass is live.
+    pub fn end(self, pass: Pass<T>) -> Ended<T>
+        requires field { IsOf pass self }
+        requires may { MayClose T.meaning self.origin pass.view }
+        ensures last { IsLast T.meaning self.origin pass.view result.words }
+        ensures replayed { LeavesReplay T.meaning self.origin pass.view result.words }
+        ensures front { result.front ≡ pass }
+    {
+        let front = Front::of(&pass);
+        let (seat, _, _) = pass.into_parts();
+        let table = self.into_table().close_with(seat);
+        Ended { table, front }
+    }
+
     /// Ends the field, and gives its words: a valid heap, whose state is the replay of the
     /// committed transactions. The pass is of the field, holds all its lanes and knows every fate,
     /// and no descriptor stands in a word.
     ///
     /// `AllocError` if memory runs out; then the field and the pass have ended too. Takes time
-    /// linear in the words. No step of the field is made: no other pass is live.
+    /// linear in the words, which are copied: `end` lets them be read without a copy. No step of
+    /// the field is made: no other pass is live.
     pub fn close(self, alloc: Global, pass: Pass<T>) -> Result<Closed<T>, AllocError>
         requires field { IsOf pass self }
         requires may { MayClose T.meaning self.origin pass.view }
@@ -36,41 +75,63 @@ impl<T: Theory> Field<T> {
             LeavesReplay T.meaning self.origin pass.view c.words.items) }
         ensures front { IfOk result (λ c. c.front ≡ pass) }
     {
-        let front = Front::of(&pass);
-        let (seat, _, _) = pass.into_parts();
-        let table = self.into_table();
-        let count = table.word_count();
-        let closed = table.close_with(seat);
-        let words = gather(alloc, &closed, count);
-        closed.free();
-        Ok(Closed {
-            words: words?,
-            front,
-        })
+        let ended = self.end(pass);
+        let words = ended.copied(alloc)?;
+        let front = ended.into_front();
+        Ok(Closed { words, front })
     }
 }
 
-// Stores the words of a closed table into a list of as many words, in order.
-fn copy_words(closed: &TableClosed<(), Global>, words: &mut [u64])
-    requires { IsFull closed.now.words × (slots_len closed.now.words ≡ length words.old) }
-    ensures { words.new ≡ slots_items closed.now.words }
-{
-    for i in 0..words.len() {
-        words[i] = closed.word(i);
+impl<T: Theory> Ended<T> {
+    /// The word at a place, which is below the number of words. Constant time.
+    #[inline]
+    pub fn word(&self, place: usize) -> u64
+        requires { place < length self.now.words }
+        ensures { result ≡ slice_index self.now.words place }
+    {
+        self.table.word(place)
+    }
+
+    // How many words there are.
+    fn count(&self) -> usize
+        ensures { result ≡ length self.now.words }
+    {
+        self.table.words.len()
+    }
+
+    // A copy of the words. The list is made at its full length first, so that the loop over the
+    // words has no test of the room in it.
+    fn copied(&self, alloc: Global) -> Result<Vec<u64>, AllocError>
+        ensures { IfOk result (λ words. words.items ≡ self.now.words) }
+    {
+        let mut words = vec![in alloc; 0; self.count()]?;
+        copy_words(self, &mut words);
+        Ok(words)
+    }
+
+    // Frees the words.
+    fn into_front(self) -> Front<Pass<T>>
+        ensures { result ≡ self.front }
+    {
+        let Ended { table, front } = self;
+        table.free();
+        front
     }
 }
 
-// Returns the words of a closed table. The list is made at its full length first, so that the loop
-// over the words has no test of the room in it.
-fn gather(
-    alloc: Global,
-    closed: &TableClosed<(), Global>,
-    count: usize,
-) -> Result<Vec<u64>, AllocError>
-    requires { IsFull closed.now.words × (slots_len closed.now.words ≡ count) }
-    ensures { IfOk result (λ v. v.items ≡ slots_items closed.now.words) }
+impl<T: Theory> Drop for Ended<T> {
+    fn drop(self) {
+        let Ended { table, front: _ } = self;
+        table.free();
+    }
+}
+
+// Stores the words of a field that has ended into a list of as many words, in order.
+fn copy_words<T: Theory>(ended: &Ended<T>, words: &mut [u64])
+    requires { length words.old ≡ length ended.now.words }
+    ensures { words.new ≡ ended.now.words }
 {
-    let mut words = vec![in alloc; 0; count]?;
-    copy_words(closed, &mut words);
-    Ok(words)
+    for place in 0..words.len() {
+        words[place] = ended.word(place);
+    }
 }

@@ -5,7 +5,7 @@
 #![tactic(auto)]
 
 pub use certifying::Certifying;
-pub use close::Closed;
+pub use close::{Closed, Ended};
 pub use field::Field;
 pub use known::{Known, Parts};
 pub use pass::Pass;

@@ -1,5 +1,5 @@
--- What a closed field of a store holds.
-use Rattle.std.proofs.Common.{◌≡◌, ℕ, List, [], Result, Ok, Err, IfOk, length, sym, ap, ◌∙◌, subst}
+-- What a field of a store holds when it has ended.
+use Rattle.std.proofs.Common.{◌≡◌, ℕ, List, [], length, sym, ap, ◌∙◌, subst}
 use Rattle.std.specs.List.{range_with_len}
 use Rattle.std.proofs.lemmas.List.{length-map}
 use Rattle.md_words.specs.declared.shape.Shape.{Shape}
@@ -17,7 +17,7 @@ use Rattle.md_store_law.proofs.EvenFields.{even_fields_are_stores}
 use Rattle.md_store.specs.Ending.{Leaves}
 use Rattle.md_store.specs.Store.{front_in, start_of}
 
--- a field that was closed after a settling
+-- a field that ended after a settling
 pub leaves_contents : (f : FieldView) (before settled last : PassState) (words : List ℕ) → SettlesFrom (start_of f) (front_in before) (front_in settled)
     → LeavesReplay store f.origin settled.view words → last ≡ settled → Leaves f before words last
 leaves_contents f before settled last words settles left same =
@@ -28,13 +28,6 @@ leaves_contents f before settled last words settles left same =
       store = even.0;
       contents = even.1 ∙ left.state;
     })
-
--- so it is of a call that may be refused
-pub ended_leaves : {A E : Type 0} (words : A → List ℕ) (front : A → PassState) (f : FieldView) (before settled : PassState) → SettlesFrom (start_of f) (front_in before) (front_in settled)
-    → (result : Result A E) → IfOk result (λ c. LeavesReplay store f.origin settled.view (words c)) → IfOk result (λ c. front c ≡ settled)
-    → IfOk result (λ c. Leaves f before (words c) (front c))
-ended_leaves words front f before settled s (Ok c) left same = leaves_contents f before settled (front c) (words c) s left same
-ended_leaves words front f before settled s (Err e) left same = tt
 
 -- two states of fields of one shape have as many maps and queues
 pub same_numbers : (w u : LogicalWords) → w.shape ≡ u.shape → HaveSameNumbers (state_of_store w) (state_of_store u)

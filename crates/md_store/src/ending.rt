@@ -10,25 +10,38 @@ ghost use Rattle.md_store.specs.Store.{IsPassOf, all_lanes, front_in, room_of, s
 use crate::pass::StorePass;
 use crate::settling::settle;
 use md_history::{Contents, Front};
-use md_rule::{Closed, Field};
-use md_store_law::{StoreTheory, compact, read_off};
+use md_rule::{Ended, Field};
+use md_store_law::{FieldWords, StoreTheory, gather, lay_living, read_off_from};
 use std::alloc::{AllocError, Global};
 
+// The words of a field that has ended, which are read where they stand.
+#[derive(Drop)]
+struct EndedWords {
+    field: Ended<StoreTheory>,
+}
+
+impl FieldWords for EndedWords {
+    ghost words = { λ w. w.field.words };
+
+    #[inline]
+    fn word(&self, place: u32) -> u64 {
+        self.field.word(place as usize)
+    }
+}
+
 // Settles what was left open, and ends the field.
-fn ended(
-    field: Field<StoreTheory>,
-    alloc: Global,
-    mut pass: StorePass,
-) -> Result<(Vec<u64>, Front<StorePass>), AllocError>
+fn ended(field: Field<StoreTheory>, mut pass: StorePass) -> (EndedWords, Front<StorePass>)
     requires of { IsPassOf field pass }
     requires all { (front_in pass).lanes ≡ all_lanes field.origin.shape }
-    ensures leaves { IfOk result (λ e. Leaves field pass e.0.items e.1) }
+    ensures { Leaves field pass result.0.field.words result.1 }
 {
     settle(&field, &mut pass.pass);
     let front = Front::of(&pass);
     let StorePass { pass, .. } = pass;
-    let Closed { words, .. } = field.close(alloc, pass)?;
-    Ok((words, front))
+    let words = EndedWords {
+        field: field.end(pass),
+    };
+    (words, front)
 }
 
 // Ends the field, and gives its contents.
@@ -45,13 +58,14 @@ pub(crate) fn contents(
     ensures numbers { IfOk result (λ r. HaveSameNumbers r.0 (start_of field)) }
 {
     let shape = *field.shape();
-    let (words, front) = ended(field, alloc, pass)?;
-    let contents = read_off(alloc, &shape, &words)?;
+    let (words, front) = ended(field, pass);
+    let contents = read_off_from(alloc, &shape, &words)?;
     Ok((contents, front))
 }
 
 // Ends the field, and opens one on its contents, of the same shape but for its base nodes: it has
-// as many as the contents need.
+// as many as the contents need. What lives is gathered from the words where they stand, and they are
+// freed before the new ones are laid.
 pub(crate) fn renewed(
     field: Field<StoreTheory>,
     alloc: Global,
@@ -66,8 +80,10 @@ pub(crate) fn renewed(
         Renews field r.0 r.1 (replay_of (start_of field) (front_in r.2))) }
 {
     let shape = *field.shape();
-    let (used, front) = ended(field, alloc, pass)?;
-    let (fresh, row) = compact(alloc, &shape, used)?;
+    let (words, front) = ended(field, pass);
+    let living = gather(alloc, &shape, &words)?;
+    drop(words);
+    let (fresh, row) = lay_living(alloc, &shape, living)?;
     let (renewed, first) = Field::open(alloc, fresh, row)?;
     Ok((renewed, StorePass::of(first), front))
 }

@@ -3,7 +3,9 @@ use Rattle.std.specs.Prelude.{◌+◌, ◌*◌, ◌/◌, ◌%◌, ◌<◌, ◌�
 use Rattle.md_words.specs.declared.shape.Shape.{Shape}
 use Rattle.md_store_law.specs.declared.gathering.Living.{Living}
 use Rattle.md_store_law.specs.Laid.{LaidNode, nodes_by}
-use Rattle.md_store_law.specs.Compacted.{pairs_in, values_in}
+use Rattle.md_history.specs.Engine.{needed}
+use Rattle.md_store_law.specs.Field.{IsStoreField}
+use Rattle.md_store_law.specs.Compacted.{IsCompacted, MayHaveBase, contents_of, pairs_in, values_in}
 use Rattle.md_store_law.specs.Lists.{HasList, AreFirst, between}
 
 -- what buckets have, by the number of a bucket among those of all maps
@@ -31,3 +33,16 @@ pub record HasRoomFor (shape : Shape) (living : Living) : Type 0 where
   pub pairs : (number : ℕ) → number < shape.maps * shape.buckets → HasList living.pairs.joined.items living.pairs.bounds.items number
   pub values : (queue : ℕ) → queue < shape.queues → HasList living.values.joined.items living.values.bounds.items queue
   pub fits : length (listed_nodes shape living) ≤ shape.base
+
+-- the lists are what lives in the words of some store with even counts, and the shape is in range with as many base nodes
+-- as its contents need
+pub record MayBeLaid (shape : Shape) (living : Living) : Type 0 where
+  pub words : List ℕ
+  pub store : IsStoreField shape words
+  pub lives : LivesIn shape words living
+  pub base : MayHaveBase shape (needed (contents_of shape words))
+
+-- a field is compacted, of whatever words these lists are what lives in
+abbrev pub IsLaidAnew : Shape → Living → Shape → List ℕ → Type 0
+IsLaidAnew shape living fresh row =
+    (words : List ℕ) → IsStoreField shape words → LivesIn shape words living → IsCompacted shape words fresh row

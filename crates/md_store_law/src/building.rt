@@ -1,7 +1,7 @@
 //! A field that is being laid: its nodes are written one after another, each behind the last of its
 //! bucket or its queue.
 
-ghost use Rattle.std.specs.Prelude.{◌≡◌, ◌<◌, ◌≤◌, ◌+◌, ◌^◌, ◌++◌, List, [], ◌∷◌, length, OnOk};
+ghost use Rattle.std.specs.Prelude.{◌≡◌, ◌<◌, ◌≤◌, ◌+◌, ◌^◌, ◌++◌, List, [], ◌∷◌, length, IfOk};
 ghost use Rattle.md_words.specs.Layout.{words_of, IsNode};
 ghost use Rattle.md_words.specs.LayoutLaws.{IsField};
 ghost use Rattle.md_machine.specs.declared.node.Structure.TheVariants.{Bucket, Queue};
@@ -9,23 +9,21 @@ ghost use Rattle.md_store_law.specs.Laid.{LaidNode, IsLaid, numbers_of, naming};
 ghost use Rattle.md_store_law.specs.Laid.{dummies, pair_nodes, value_nodes, appended};
 
 use md_words::{Content, Shape};
-use std::alloc::AllocError;
+use std::alloc::{AllocError, Global};
 
-/// Makes words those of a field without contents: each queue has its dummy, and no other node is
-/// laid. What the words held is lost, and their memory is used again. `AllocError` if memory runs
-/// out.
-pub(crate) fn empty_field(words: &mut Vec<u64>, shape: &Shape) -> Result<(), AllocError>
+/// The words of a field without contents: each queue has its dummy, and no other node is laid.
+/// `AllocError` if memory runs out. The zeros are the allocator's: only what is laid is written.
+pub(crate) fn empty_field(alloc: Global, shape: &Shape) -> Result<Vec<u64>, AllocError>
     requires { shape.now.queues ≤ shape.now.base }
-    ensures { OnOk result (IsLaid shape.now words.new.items (dummies shape.now.queues)) }
+    ensures { IfOk result (λ words. IsLaid shape.now words.items (dummies shape.now.queues)) }
 {
-    words.clear();
-    words.resize(shape.words() as usize, 0)?;
+    let mut words = vec![in alloc; 0; shape.words() as usize]?;
     for queue in 0..shape.queues {
         let dummy = naming(queue + 1);
         words[shape.queue_head(queue) as usize] = dummy;
         words[shape.queue_tail(queue) as usize] = dummy;
     }
-    Ok(())
+    Ok(words)
 }
 
 /// Lays the pairs of a bucket that has none, in rising order of their keys: the first becomes the

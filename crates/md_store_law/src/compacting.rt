@@ -6,7 +6,8 @@ ghost use Rattle.md_store_law.specs.Laid.{IsLaid, dummies};
 ghost use Rattle.md_history.specs.Engine.{needed};
 ghost use Rattle.md_store_law.specs.Below.{LaidUpTo, maps_below};
 ghost use Rattle.md_store_law.specs.Compacted.{MayHaveBase, IsWithBase, IsCompacted, contents_of};
-ghost use Rattle.md_store_law.specs.Living.{HasRoomFor, listed_nodes, pairs_listed};
+ghost use Rattle.md_store_law.specs.Living.{HasRoomFor, IsLaidAnew, MayBeLaid};
+ghost use Rattle.md_store_law.specs.Living.{listed_nodes, pairs_listed};
 
 use crate::building::{append_pairs, append_values, empty_field};
 use crate::gathering::{Living, gather};
@@ -19,20 +20,36 @@ use std::alloc::{AllocError, Global};
 /// again. `AllocError` if memory runs out.
 ///
 /// Takes time linear in the words and the nodes. It goes over the old words once, and keeps the
-/// pairs and the values in lists meanwhile. The new words take the memory of the old ones.
+/// pairs and the values in lists meanwhile. The old words are freed before the new ones are made.
 pub fn compact(
     alloc: Global,
     shape: &Shape,
-    mut words: Vec<u64>,
+    words: Vec<u64>,
 ) -> Result<(Shape, Vec<u64>), AllocError>
     requires store { IsStoreField shape.now words.items }
     requires base { MayHaveBase shape.now (needed (contents_of shape.now words.items)) }
     ensures { IfOk result (λ r. IsCompacted shape.now words.items r.0 r.1.items) }
 {
-    let living = gather(alloc, shape, &words)?;
+    let living = gather(alloc, shape, &words.as_slice())?;
+    drop(words);
+    lay_living(alloc, shape, living)
+}
+
+/// Lays what was gathered from a field as a new one, as `compact` does with the old words: those
+/// may be gone. The shape is that of the old field. `AllocError` if memory runs out.
+///
+/// Takes time linear in the words and the nodes.
+pub fn lay_living(
+    alloc: Global,
+    shape: &Shape,
+    living: Living,
+) -> Result<(Shape, Vec<u64>), AllocError>
+    requires { MayBeLaid shape.now living }
+    ensures { IfOk result (λ r. IsLaidAnew shape.now living r.0 r.1.items) }
+{
     let fresh = with_base(shape, living.needed(shape));
-    empty_field(&mut words, &fresh)?;
-    lay_living(&mut words, &fresh, &living);
+    let mut words = empty_field(alloc, &fresh)?;
+    lay_all(&mut words, &fresh, &living);
     Ok((fresh, words))
 }
 
@@ -53,7 +70,7 @@ fn with_base(shape: &Shape, base: u32) -> Shape
 }
 
 // Lays the pairs of all maps behind the dummies, and then the values of all queues.
-fn lay_living(words: &mut [u64], shape: &Shape, living: &Living)
+fn lay_all(words: &mut [u64], shape: &Shape, living: &Living)
     requires room { HasRoomFor shape.now living.now }
     requires laid { IsLaid shape.now words.old (dummies shape.now.queues) }
     ensures { IsLaid shape.now words.new (listed_nodes shape.now living.now) }

@@ -6,15 +6,16 @@ ghost use Rattle.md_store_law.specs.Compacted.{pairs_in, values_in};
 ghost use Rattle.md_store_law.specs.Lists.{AreFirst};
 ghost use Rattle.md_store_law.specs.Living.{LivesIn, by_number};
 
+use crate::field_words::FieldWords;
 use crate::lists::Lists;
 use crate::walks::{append_pairs, append_values};
 use md_words::Shape;
 use std::alloc::{AllocError, Global};
 
 /// What lives in a field: the pairs of its buckets, by map and bucket, and the values of its
-/// queues.
+/// queues. `lay_living` lays them as a new field.
 #[derive(Drop)]
-pub(crate) struct Living {
+pub struct Living {
     pub(crate) pairs: Lists<(u64, u64)>,
     pub(crate) values: Lists<u64>,
 }
@@ -31,10 +32,15 @@ impl Living {
     }
 }
 
-/// Gathers what lives in a field, along each bucket and each queue once.
-pub(crate) fn gather(alloc: Global, shape: &Shape, words: &[u64]) -> Result<Living, AllocError>
-    requires { IsStoreField shape.now words.now }
-    ensures { IfOk result (λ living. LivesIn shape.now words.now living) }
+/// Gathers what lives in a field in which every count is even: the pairs of the nodes that its
+/// buckets reach, without the removed ones, and the values behind the heads of its queues.
+/// `AllocError` if memory runs out.
+///
+/// Goes along each bucket and each queue once. Takes time linear in the heads and the nodes, and
+/// 16 bytes for each pair and 8 for each value, bucket and queue.
+pub fn gather<W: FieldWords>(alloc: Global, shape: &Shape, words: &W) -> Result<Living, AllocError>
+    requires { IsStoreField shape.now (W.words words.now) }
+    ensures { IfOk result (λ living. LivesIn shape.now (W.words words.now) living) }
 {
     let pairs = gather_pairs(alloc, shape, words)?;
     let values = gather_values(alloc, shape, words)?;
@@ -42,14 +48,15 @@ pub(crate) fn gather(alloc: Global, shape: &Shape, words: &[u64]) -> Result<Livi
 }
 
 // The pairs of all maps, a list for each bucket.
-fn gather_pairs(
+fn gather_pairs<W: FieldWords>(
     alloc: Global,
     shape: &Shape,
-    words: &[u64],
+    words: &W,
 ) -> Result<Lists<(u64, u64)>, AllocError>
-    requires { IsStoreField shape.now words.now }
+    requires { IsStoreField shape.now (W.words words.now) }
     ensures { IfOk result (λ pairs. AreFirst pairs.joined.items pairs.bounds.items
-        (by_number shape.now (pairs_in shape.now words.now)) (shape.now.maps * shape.now.buckets)) }
+        (by_number shape.now (pairs_in shape.now (W.words words.now)))
+        (shape.now.maps * shape.now.buckets)) }
 {
     let mut pairs = Lists::new(alloc)?;
     for map in 0..shape.maps {
@@ -59,18 +66,19 @@ fn gather_pairs(
 }
 
 // Gathers the pairs of a map behind those of the maps before it.
-fn gather_map(
+fn gather_map<W: FieldWords>(
     pairs: &mut Lists<(u64, u64)>,
     shape: &Shape,
-    words: &[u64],
+    words: &W,
     map: u32,
 ) -> Result<(), AllocError>
-    requires store { IsStoreField shape.now words.now }
+    requires store { IsStoreField shape.now (W.words words.now) }
     requires map { map < shape.now.maps }
     requires before { AreFirst pairs.old.joined.items pairs.old.bounds.items
-        (by_number shape.now (pairs_in shape.now words.now)) (map * shape.now.buckets) }
+        (by_number shape.now (pairs_in shape.now (W.words words.now))) (map * shape.now.buckets) }
     ensures { OnOk result (AreFirst pairs.new.joined.items pairs.new.bounds.items
-        (by_number shape.now (pairs_in shape.now words.now)) ((map + 1) * shape.now.buckets)) }
+        (by_number shape.now (pairs_in shape.now (W.words words.now)))
+        ((map + 1) * shape.now.buckets)) }
 {
     for bucket in 0..shape.buckets {
         append_pairs(&mut pairs.joined, shape, words, map, bucket)?;
@@ -80,10 +88,14 @@ fn gather_map(
 }
 
 // The values of all queues, a list for each.
-fn gather_values(alloc: Global, shape: &Shape, words: &[u64]) -> Result<Lists<u64>, AllocError>
-    requires { IsStoreField shape.now words.now }
+fn gather_values<W: FieldWords>(
+    alloc: Global,
+    shape: &Shape,
+    words: &W,
+) -> Result<Lists<u64>, AllocError>
+    requires { IsStoreField shape.now (W.words words.now) }
     ensures { IfOk result (λ values. AreFirst values.joined.items values.bounds.items
-        (values_in shape.now words.now) shape.now.queues) }
+        (values_in shape.now (W.words words.now)) shape.now.queues) }
 {
     let mut values = Lists::new(alloc)?;
     for queue in 0..shape.queues {

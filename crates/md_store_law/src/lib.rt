@@ -1,6 +1,7 @@
 //! The store as a theory of the machine: the hash tables of all maps together with all queues, over
 //! fields of any shape. `lay` lays contents out as the words of a field, `read_off` gives them back
-//! from the words, and `compact` lays them anew without the nodes that they don't need.
+//! from the words, and `compact` lays them anew without the nodes that they don't need. It is
+//! `gather`, which takes what lives from words that stand anywhere, and `lay_living`.
 //!
 //! What follows for a program whose transactions leave these certificates, by `all_schedules`:
 //!
@@ -12,15 +13,18 @@
 //! 5. Every counted word but a next word of an unplaced node names no node, or a placed one.
 #![tactic(auto)]
 
-pub use compacting::compact;
+pub use compacting::{compact, lay_living};
+pub use field_words::FieldWords;
 pub use fields::even_fields_are_stores;
+pub use gathering::{Living, gather};
 pub use laying::lay;
-pub use reading::read_off;
+pub use reading::{read_off, read_off_from};
 pub use sizes::needed;
 pub use theory::StoreTheory;
 
 mod building;
 mod compacting;
+mod field_words;
 mod fields;
 mod gathering;
 mod laying;

@@ -5,8 +5,9 @@ ghost use Rattle.md_history.specs.State.{queue_at, with_queue};
 ghost use Rattle.md_store_law.specs.Store.{state_of_store};
 ghost use Rattle.md_store_law.specs.Field.{logical_words, IsStoreField};
 ghost use Rattle.md_hash_law.specs.HashTable.{pairs_of_map};
-ghost use Rattle.md_queue_law.specs.QueueValues.{queue_values};
+ghost use Rattle.md_store_law.specs.Compacted.{values_in};
 
+use crate::field_words::FieldWords;
 use crate::walks::{append_pairs, append_values};
 use md_history::Contents;
 use md_words::Shape;
@@ -21,6 +22,18 @@ pub fn read_off(alloc: Global, shape: &Shape, words: &[u64]) -> Result<Contents,
     requires { IsStoreField shape.now words.now }
     ensures { IfOk result (λ c. c ≡ state_of_store (logical_words shape.now words.now)) }
 {
+    read_off_from(alloc, shape, &words)
+}
+
+/// The same of words that stand anywhere.
+pub fn read_off_from<W: FieldWords>(
+    alloc: Global,
+    shape: &Shape,
+    words: &W,
+) -> Result<Contents, AllocError>
+    requires { IsStoreField shape.now (W.words words.now) }
+    ensures { IfOk result (λ c. c ≡ state_of_store (logical_words shape.now (W.words words.now))) }
+{
     let mut contents = Contents::empty(alloc, shape.maps, shape.queues)?;
     for map in 0..shape.maps {
         let pairs = pairs_of(alloc, shape, words, map)?;
@@ -34,16 +47,16 @@ pub fn read_off(alloc: Global, shape: &Shape, words: &[u64]) -> Result<Contents,
 }
 
 // The pairs of a map, by bucket and then by key.
-fn pairs_of(
+fn pairs_of<W: FieldWords>(
     alloc: Global,
     shape: &Shape,
-    words: &[u64],
+    words: &W,
     map: u32,
 ) -> Result<Vec<(u64, u64)>, AllocError>
-    requires store { IsStoreField shape.now words.now }
+    requires store { IsStoreField shape.now (W.words words.now) }
     requires map { map < shape.now.maps }
     ensures { IfOk result
-        (λ pairs. pairs.items ≡ pairs_of_map (logical_words shape.now words.now) map) }
+        (λ pairs. pairs.items ≡ pairs_of_map (logical_words shape.now (W.words words.now)) map) }
 {
     let mut pairs = Vec::new(alloc);
     for bucket in 0..shape.buckets {
@@ -53,16 +66,16 @@ fn pairs_of(
 }
 
 // The values of a queue, in order.
-fn values_of(
+fn values_of<W: FieldWords>(
     alloc: Global,
     shape: &Shape,
-    words: &[u64],
+    words: &W,
     queue: u32,
 ) -> Result<Vec<u64>, AllocError>
-    requires store { IsStoreField shape.now words.now }
+    requires store { IsStoreField shape.now (W.words words.now) }
     requires queue { queue < shape.now.queues }
     ensures { IfOk result
-        (λ values. values.items ≡ queue_values (logical_words shape.now words.now) queue) }
+        (λ values. values.items ≡ values_in shape.now (W.words words.now) queue) }
 {
     let mut values = Vec::new(alloc);
     append_values(&mut values, shape, words, queue)?;

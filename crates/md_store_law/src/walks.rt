@@ -5,27 +5,26 @@ ghost use Rattle.md_words.specs.Content.{value_of};
 ghost use Rattle.md_words.specs.Layout.{IsNode, node_count};
 ghost use Rattle.md_words.specs.LayoutLaws.{IsField};
 ghost use Rattle.md_machine.specs.LogicalHeap.{next_of};
-ghost use Rattle.md_list_law.specs.Walk.{pairs_from};
-ghost use Rattle.md_list_law.specs.ListShape.{head_word};
-ghost use Rattle.md_queue_law.specs.QueueValues.{queue_values};
+ghost use Rattle.md_store_law.specs.Compacted.{pairs_in, values_in};
 ghost use Rattle.md_store_law.specs.Field.{logical_words, IsStoreField};
 
+use crate::field_words::FieldWords;
 use md_words::{Content, Shape};
 use std::alloc::AllocError;
 
 /// Appends the pairs of a bucket, in rising order of their keys, without the removed ones.
-pub(crate) fn append_pairs(
+pub(crate) fn append_pairs<W: FieldWords>(
     pairs: &mut Vec<(u64, u64)>,
     shape: &Shape,
-    words: &[u64],
+    words: &W,
     map: u32,
     bucket: u32,
 ) -> Result<(), AllocError>
-    requires store { IsStoreField shape.now words.now }
+    requires store { IsStoreField shape.now (W.words words.now) }
     requires map { map < shape.now.maps }
     requires bucket { bucket < shape.now.buckets }
     ensures { OnOk result (pairs.new.items ≡ pairs.old.items
-        ++ pairs_from (logical_words shape.now words.now) (head_word shape.now map bucket)) }
+        ++ pairs_in shape.now (W.words words.now) map bucket) }
 {
     let mut value = value_at(words, shape.map_head(map, bucket as u64));
     for step in 0..node_count(shape) {
@@ -42,16 +41,16 @@ pub(crate) fn append_pairs(
 }
 
 /// Appends the values of a queue, in order.
-pub(crate) fn append_values(
+pub(crate) fn append_values<W: FieldWords>(
     values: &mut Vec<u64>,
     shape: &Shape,
-    words: &[u64],
+    words: &W,
     queue: u32,
 ) -> Result<(), AllocError>
-    requires store { IsStoreField shape.now words.now }
+    requires store { IsStoreField shape.now (W.words words.now) }
     requires queue { queue < shape.now.queues }
     ensures { OnOk result (values.new.items ≡ values.old.items
-        ++ queue_values (logical_words shape.now words.now) queue) }
+        ++ values_in shape.now (W.words words.now) queue) }
 {
     let mut node = value_at(words, shape.queue_head(queue)) / 2;
     for step in 0..node_count(shape) {
@@ -74,31 +73,34 @@ fn node_count(shape: &Shape) -> u32
 }
 
 // The value of a counted word.
-fn value_at(words: &[u64], word: u32) -> u32
-    requires { word < length words.now }
-    ensures { result ≡ value_of (slice_index words.now word) }
+#[inline]
+fn value_at<W: FieldWords>(words: &W, word: u32) -> u32
+    requires { word < length (W.words words.now) }
+    ensures { result ≡ value_of (slice_index (W.words words.now) word) }
 {
-    Content::of(words[word as usize]).value
+    Content::of(words.word(word)).value
 }
 
 // The value of a node's next word.
-fn next_of(shape: &Shape, words: &[u64], node: u32) -> u32
-    requires field { IsField shape.now words.now }
+#[inline]
+fn next_of<W: FieldWords>(shape: &Shape, words: &W, node: u32) -> u32
+    requires field { IsField shape.now (W.words words.now) }
     requires node { IsNode shape.now node }
-    ensures { result ≡ next_of (logical_words shape.now words.now) node }
+    ensures { result ≡ next_of (logical_words shape.now (W.words words.now)) node }
 {
     value_at(words, shape.node_next(node))
 }
 
 // The key and the value of a node.
-fn pair_of(shape: &Shape, words: &[u64], node: u32) -> (u64, u64)
-    requires field { IsField shape.now words.now }
+#[inline]
+fn pair_of<W: FieldWords>(shape: &Shape, words: &W, node: u32) -> (u64, u64)
+    requires field { IsField shape.now (W.words words.now) }
     requires node { IsNode shape.now node }
-    ensures { let w = logical_words shape.now words.now in
+    ensures { let w = logical_words shape.now (W.words words.now) in
         result ≡ (w.key_of node, w.value_of_node node) }
 {
     (
-        words[shape.node_key(node) as usize],
-        words[shape.node_value(node) as usize],
+        words.word(shape.node_key(node)),
+        words.word(shape.node_value(node)),
     )
 }

@@ -5,5 +5,5 @@ use Rattle.md_store_law.specs.Living.{by_number}
 use Rattle.md_store_law.proofs.gathering.gather_map.Given as goal
 
 abbrev pub invariant-loop-bucket : goal.invariant-loop-bucket
-invariant-loop-bucket l =
-    AreFirst l.pairs.joined.items l.pairs.bounds.items (by_number l.shape (pairs_in l.shape l.words)) (l.map * l.shape.buckets + l.bucket)
+invariant-loop-bucket g l =
+    AreFirst l.pairs.joined.items l.pairs.bounds.items (by_number l.shape (pairs_in l.shape (g.W.FieldWords.words l.words))) (l.map * l.shape.buckets + l.bucket)

@@ -20,7 +20,7 @@ returns-clause-opens c =
     let s = c.args.contents.now in
     let new = c.lay_contents.new.words in
     let laid : IsLaid shape new (laid_nodes shape s) = c.in_ok-lay_contents.ensures in
-    let row = with_items_is c.empty_field.new.words new (laid.field ∙ sym c.in_ok-empty_field.ensures.field ∙ sym c.empty_field.new.words.ok.0) in
+    let row = with_items_is c.in_ok-words.words new (laid.field ∙ sym c.in_ok-words.ensures.field ∙ sym c.in_ok-words.words.ok.0) in
     let stand = nodes_stand shape (pairs_at shape s) (queue_at s) (omega (arith, nodes_count shape s c.requires.numbers, c.requires.room)) in
     subst (λ (words : List ℕ). OpensWith shape words s) (sym row)
     (laid_opens shape new (laid_nodes shape s) (pairs_at shape s) (queue_at s) laid stand (contents_sorted shape s c.requires.numbers) s
@@ -32,7 +32,7 @@ returns-clause-store c =
     let s = c.args.contents.now in
     let new = c.lay_contents.new.words in
     let laid : IsLaid shape new (laid_nodes shape s) = c.in_ok-lay_contents.ensures in
-    let row = with_items_is c.empty_field.new.words new (laid.field ∙ sym c.in_ok-empty_field.ensures.field ∙ sym c.empty_field.new.words.ok.0) in
+    let row = with_items_is c.in_ok-words.words new (laid.field ∙ sym c.in_ok-words.ensures.field ∙ sym c.in_ok-words.words.ok.0) in
     let stand = nodes_stand shape (pairs_at shape s) (queue_at s) (omega (arith, nodes_count shape s c.requires.numbers, c.requires.room)) in
     subst (IsStoreField shape) (sym row)
     (store_field shape new (laid_nodes shape s) (pairs_at shape s) (queue_at s) laid stand (contents_sorted shape s c.requires.numbers))
@@ -43,6 +43,6 @@ returns-clause-untouched c =
     let s = c.args.contents.now in
     let new = c.lay_contents.new.words in
     let laid : IsLaid shape new (laid_nodes shape s) = c.in_ok-lay_contents.ensures in
-    let row = with_items_is c.empty_field.new.words new (laid.field ∙ sym c.in_ok-empty_field.ensures.field ∙ sym c.empty_field.new.words.ok.0) in
+    let row = with_items_is c.in_ok-words.words new (laid.field ∙ sym c.in_ok-words.ensures.field ∙ sym c.in_ok-words.words.ok.0) in
     let stand = nodes_stand shape (pairs_at shape s) (queue_at s) (omega (arith, nodes_count shape s c.requires.numbers, c.requires.room)) in
     subst (IsUntouched shape) (sym row) (laid_untouched shape new (laid_nodes shape s) (pairs_at shape s) (queue_at s) laid stand)

@@ -6,5 +6,5 @@ use Rattle.md_store_law.specs.Field.{logical_words}
 use Rattle.md_store_law.proofs.reading.pairs_of.Given as goal
 
 abbrev pub invariant-loop-bucket : goal.invariant-loop-bucket
-invariant-loop-bucket l =
-    l.pairs.items ≡ flat_map (λ bucket. pairs_from (logical_words l.shape l.words) (head_word l.shape l.map bucket)) (range_with_len 0 l.bucket)
+invariant-loop-bucket g l =
+    l.pairs.items ≡ flat_map (λ bucket. pairs_from (logical_words l.shape (g.W.FieldWords.words l.words)) (head_word l.shape l.map bucket)) (range_with_len 0 l.bucket)

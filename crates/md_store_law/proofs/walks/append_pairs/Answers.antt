@@ -9,9 +9,9 @@ use Rattle.md_store_law.proofs.walks.append_pairs.Goals as goal
 use Rattle.md_store_law.proofs.walks.append_pairs.Goals.{then-value-eq0+in_ok-push, else-value-eq0}
 
 pub loop-step-init : goal.loop-step-init
-loop-step-init c =
+loop-step-init g c =
     let shape = c.args.shape.now in
-    let words = c.args.words.now in
+    let words = g.W.FieldWords.words c.args.words.now in
     let start = c.args.pairs.now.items in
     let head : c.map_head.result ≡ head_word shape c.args.map c.args.bucket =
     c.map_head.ensures.place ∙ ap (λ b. address shape (bucket_head c.args.map b)) (bucket_of_number shape c.args.bucket c.requires.bucket) in (
@@ -23,24 +23,24 @@ loop-step-init c =
 
 pub returns-then-node-eq0 : goal.returns-then-node-eq0
 unfolding linked_node
-returns-then-node-eq0 c = pairs_none c.args.shape.now c.args.words.now c.args.map c.args.bucket c.requires.map c.requires.bucket
+returns-then-node-eq0 g c = pairs_none c.args.shape.now (g.W.FieldWords.words c.args.words.now) c.args.map c.args.bucket c.requires.map c.requires.bucket
     c.args.pairs.now.items c.loop-step.pairs.items _ c.loop-step.value c.loop-step.invariant.1 c.if-node-eq0.true
 
 pub next_of-value-requires-clause-node : goal.next_of-value-requires-clause-node
 unfolding linked_node
-next_of-value-requires-clause-node c = pairs_node c.args.shape.now c.args.words.now c.args.map c.args.bucket c.requires.map c.requires.bucket
+next_of-value-requires-clause-node g c = pairs_node c.args.shape.now (g.W.FieldWords.words c.args.words.now) c.args.map c.args.bucket c.requires.map c.requires.bucket
     c.args.pairs.now.items c.loop-step.pairs.items _ c.loop-step.value c.loop-step.invariant.1 c.if-node-eq0.false c.requires.store
 
 pub pair_of-requires-clause-node : goal.pair_of-requires-clause-node
 unfolding linked_node
-pair_of-requires-clause-node c = pairs_node c.args.shape.now c.args.words.now c.args.map c.args.bucket c.requires.map c.requires.bucket
+pair_of-requires-clause-node g c = pairs_node c.args.shape.now (g.W.FieldWords.words c.args.words.now) c.args.map c.args.bucket c.requires.map c.requires.bucket
     c.args.pairs.now.items c.loop-step.pairs.items _ c.loop-step.value c.loop-step.invariant.1 c.if-node-eq0.false c.requires.store
 
 pub loop-step-preserved : goal.loop-step-preserved
 unfolding linked_node
-loop-step-preserved c =
+loop-step-preserved g c =
     let shape = c.args.shape.now in
-    let words = c.args.words.now in
+    let words = g.W.FieldWords.words c.args.words.now in
     let start = c.args.pairs.now.items in
     let now = c.loop-step.pairs.items in
     let left : ℕ = node_count shape - (c.loop-step.step + 1) in
@@ -62,5 +62,5 @@ loop-step-preserved c =
     )
 
 pub returns : goal.returns
-returns c = pairs_all c.args.shape.now c.args.words.now c.args.map c.args.bucket c.requires.map c.requires.bucket
+returns g c = pairs_all c.args.shape.now (g.W.FieldWords.words c.args.words.now) c.args.map c.args.bucket c.requires.map c.requires.bucket
     c.args.pairs.now.items c.loop-step.pairs.items _ c.loop-step.value c.loop-step.invariant.1 (omega (arith, c.loop-step.invariant.0))

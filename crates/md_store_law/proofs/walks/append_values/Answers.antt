@@ -8,9 +8,9 @@ use Rattle.md_store_law.proofs.walks.append_values.Goals as goal
 
 pub loop-step-init : goal.loop-step-init
 unfolding linked_node
-loop-step-init c =
+loop-step-init g c =
     let shape = c.args.shape.now in
-    let words = c.args.words.now in
+    let words = g.W.FieldWords.words c.args.words.now in
     let start = c.args.values.now.items in (
       c.node_count-step-end.ensures,
       values_moved shape words c.args.queue start start start (node_count shape) _ _ _ refl (omega arith)
@@ -19,27 +19,27 @@ loop-step-init c =
     )
 
 pub next_of-next-requires-clause-node : goal.next_of-next-requires-clause-node
-next_of-next-requires-clause-node c = values_node c.args.shape.now c.args.words.now c.args.queue c.requires.queue
+next_of-next-requires-clause-node g c = values_node c.args.shape.now (g.W.FieldWords.words c.args.words.now) c.args.queue c.requires.queue
     c.args.values.now.items c.loop-step.values.items _ c.loop-step.node c.loop-step.invariant.1 c.requires.store
 
 pub returns-then-next-eq0 : goal.returns-then-next-eq0
-returns-then-next-eq0 c = values_none c.args.shape.now c.args.words.now c.args.queue c.requires.queue
+returns-then-next-eq0 g c = values_none c.args.shape.now (g.W.FieldWords.words c.args.words.now) c.args.queue c.requires.queue
     c.args.values.now.items c.loop-step.values.items _ c.loop-step.node c.loop-step.invariant.1 (sym c.next_of-next.ensures ∙ c.if-next-eq0.true)
 
 pub pair_of-requires-clause-node : goal.pair_of-requires-clause-node
 unfolding linked_node
-pair_of-requires-clause-node c =
+pair_of-requires-clause-node g c =
     let shape = c.args.shape.now in
-    let is = after_node shape c.args.words.now c.args.queue c.requires.queue
+    let is = after_node shape (g.W.FieldWords.words c.args.words.now) c.args.queue c.requires.queue
     c.args.values.now.items c.loop-step.values.items _ c.loop-step.node c.loop-step.invariant.1
     (λ z. c.if-next-eq0.false (c.next_of-next.ensures ∙ z)) c.requires.store in
     rw c.next_of-next.ensures is
 
 pub loop-step-preserved : goal.loop-step-preserved
 unfolding linked_node
-loop-step-preserved c =
+loop-step-preserved g c =
     let shape = c.args.shape.now in
-    let words = c.args.words.now in
+    let words = g.W.FieldWords.words c.args.words.now in
     let start = c.args.values.now.items in
     let now = c.loop-step.values.items in
     let left : ℕ = node_count shape - (c.loop-step.step + 1) in
@@ -54,5 +54,5 @@ loop-step-preserved c =
     )
 
 pub returns : goal.returns
-returns c = values_all c.args.shape.now c.args.words.now c.args.queue c.requires.queue
+returns g c = values_all c.args.shape.now (g.W.FieldWords.words c.args.words.now) c.args.queue c.requires.queue
     c.args.values.now.items c.loop-step.values.items _ c.loop-step.node c.loop-step.invariant.1 (omega (arith, c.loop-step.invariant.0))

@@ -1,9 +1,10 @@
 use Rattle.std.proofs.Common.{◌<◌, length, subst}
+use Rattle.std.specs.Mem.Slots.{slots_items}
 use Rattle.md_rule.specs.Closing.{IsLast}
 use Rattle.md_rule.specs.Views.{Origin}
 use Rattle.md_machine.specs.declared.pass.PassView.{PassView}
 use Rattle.md_rule.proofs.Closes.{last_of, replayed_of}
-use Rattle.md_rule.proofs.field.Field.close.Goals as goal
+use Rattle.md_rule.proofs.field.Field.end.Goals as goal
 
 last : goal.returns-clause-last
 last g c =
@@ -11,11 +12,11 @@ last g c =
     let parts = c.into_parts-seat.ensures in
     let seat = c.into_parts-seat.result.0 in
     let me = parts.seat.1 in
+    let words = slots_items c.close_with-table.result.words in
     let live : 0 < length c.args.pass.view.lanes = rw (← parts.lanes.0) parts.lanes.1.live in
-    let l = last_of M _ seat.id seat.me.0 _ _ c.close_with-closed.ensures.values.2 (rw me live) in
-    subst (λ (o : Origin). IsLast M o c.args.pass.view c.in_ok-words.field-0.items) c.into_table-table.ensures.origin
-    (subst (λ (v : PassView). IsLast M (record { shape = c.into_table-table.result.shared.key.shape; words = c.into_table-table.result.shared.key.words.value.items }) v c.in_ok-words.field-0.items) me
-    (rw c.in_ok-words.ensures l))
+    let l = last_of M _ seat.id seat.me.0 _ _ c.close_with-table.ensures.values.2 (rw me live) in
+    subst (λ (o : Origin). IsLast M o c.args.pass.view words) c.into_table.ensures.origin
+    (subst (λ (v : PassView). IsLast M (record { shape = c.into_table.result.shared.key.shape; words = c.into_table.result.shared.key.words.value.items }) v words) me l)
 
 pub returns-clause-last : goal.returns-clause-last
 returns-clause-last g c = last g c
