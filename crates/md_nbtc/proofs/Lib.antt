@@ -12,6 +12,7 @@ pub mod nodes
 pub mod withdrawals
 pub mod structures
 pub mod Searching
+pub mod Marking
 pub mod Heads
 pub mod Tested
 pub mod WornWords

@@ -1,4 +1,5 @@
 pub mod Sets
+pub mod Marks
 pub mod State
 pub mod Prepared
 pub mod Known

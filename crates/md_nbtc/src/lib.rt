@@ -32,6 +32,7 @@ mod ending;
 mod exchange;
 mod fresh;
 mod load;
+mod marks;
 mod note;
 mod receipt;
 mod seen;

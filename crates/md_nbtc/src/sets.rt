@@ -10,6 +10,7 @@ ghost use Rattle.md_nbtc.specs.declared.sets.TheConstants.{NO_LOT, NO_READ, NO_S
 ghost use Rattle.md_nbtc.specs.Cleaning.{with_cleanup};
 ghost use Rattle.md_nbtc.specs.Sets.{no_sets, place_of, renewed_at, with_lot};
 
+use crate::marks::Marks;
 use crate::seen::Cleanup;
 use md_machine::{Read, Write};
 use std::marker::Model;
@@ -67,17 +68,20 @@ impl Slot {
 pub(crate) struct Reads {
     items: [Read; ROOM],
     count: u8,
+    marks: Marks,
 }
 
 impl Model for Reads {
-    ghost use Rattle.std.specs.Prelude.{◌≡◌, List, take, ◌≤◌, length};
+    ghost use Rattle.std.specs.Prelude.{◌≡◌, List, take, map, ◌≤◌, length};
+    ghost use Rattle.md_nbtc.specs.Marks.{AreMarked};
     ghost use Rattle.md_machine.specs.declared.attempt.Read.{Read};
 
     ghost Value = { List Read };
 
     ghost view = { λ r. take r.count r.items };
 
-    ghost invariant = { λ r. (r.count ≤ 128) × (length r.items ≡ 128) };
+    ghost invariant = { λ r. (r.count ≤ 128) × (length r.items ≡ 128)
+        × AreMarked r.marks (take r.count (map (λ x. x.word) r.items)) };
 }
 
 impl Reads {
@@ -87,6 +91,7 @@ impl Reads {
         Reads {
             items: [NO_READ; ROOM],
             count: 0,
+            marks: Marks::new(),
         }
     }
 
@@ -94,6 +99,7 @@ impl Reads {
         ensures { self.new ≡ [] }
     {
         self.count = 0;
+        self.marks.clear();
     }
 
     pub(crate) fn len(&self) -> u8
@@ -106,6 +112,9 @@ impl Reads {
     pub(crate) fn content(&self, word: u32) -> Option<u64>
         ensures { result ≡ content_read self.now word }
     {
+        if !self.marks.may_have(word) {
+            return None;
+        }
         for i in 0..self.count {
             let read = self.items[i as usize];
             if read.word == word {
@@ -127,6 +136,7 @@ impl Reads {
         ensures { self.new ≡ self.old ++ read ∷ [] }
     {
         self.items[self.count as usize] = read;
+        self.marks.mark(read.word);
         self.count += 1;
     }
 }
@@ -136,17 +146,20 @@ impl Reads {
 pub(crate) struct Slots {
     items: [Slot; ROOM],
     count: u8,
+    marks: Marks,
 }
 
 impl Model for Slots {
-    ghost use Rattle.std.specs.Prelude.{◌≡◌, List, take, ◌≤◌, length};
+    ghost use Rattle.std.specs.Prelude.{◌≡◌, List, take, map, ◌≤◌, length};
+    ghost use Rattle.md_nbtc.specs.Marks.{AreMarked};
     ghost use Rattle.md_nbtc.specs.declared.sets.Slot.{Slot};
 
     ghost Value = { List Slot };
 
     ghost view = { λ r. take r.count r.items };
 
-    ghost invariant = { λ r. (r.count ≤ 128) × (length r.items ≡ 128) };
+    ghost invariant = { λ r. (r.count ≤ 128) × (length r.items ≡ 128)
+        × AreMarked r.marks (take r.count (map (λ x. x.write.word) r.items)) };
 }
 
 impl Slots {
@@ -156,6 +169,7 @@ impl Slots {
         Slots {
             items: [NO_SLOT; ROOM],
             count: 0,
+            marks: Marks::new(),
         }
     }
 
@@ -163,6 +177,7 @@ impl Slots {
         ensures { self.new ≡ [] }
     {
         self.count = 0;
+        self.marks.clear();
     }
 
     pub(crate) fn len(&self) -> u8
@@ -175,6 +190,9 @@ impl Slots {
     pub(crate) fn find(&self, word: u32) -> Option<u8>
         ensures { result ≡ place_of self.now word 0 }
     {
+        if !self.marks.may_have(word) {
+            return None;
+        }
         for i in 0..self.count {
             if self.items[i as usize].write.word == word {
                 return Some(i);
@@ -195,6 +213,7 @@ impl Slots {
         ensures { self.new ≡ self.old ++ slot ∷ [] }
     {
         self.items[self.count as usize] = slot;
+        self.marks.mark(slot.write.word);
         self.count += 1;
     }
 
@@ -346,7 +365,7 @@ impl Lefts {
     }
 }
 
-/// Room for the words and nodes that a transaction keeps: some 10,800 bytes. A transaction borrows
+/// Room for the words and nodes that a transaction keeps: some 10,900 bytes. A transaction borrows
 /// it, so that a move of the transaction doesn't copy it. Many transactions may use the same room,
 /// one after another.
 #[derive(Drop)]

@@ -1,6 +1,7 @@
 use Rattle.std.proofs.Common.{◌∙◌, sym, ap, arith, eq-eqb}
 use Rattle.std.proofs.lemmas.Bool.{ne_eqb}
 use Rattle.md_nbtc.specs.Sets.{place_of}
+use Rattle.md_nbtc.proofs.Marking.{slot_unmarked}
 use Rattle.md_nbtc.proofs.Searching.{slot_first, slot_more}
 use Rattle.md_nbtc.proofs.sets.Slots.find.Goals as goal
 
@@ -8,7 +9,10 @@ pub returns-then-self-i : goal.returns-then-self-i
 returns-then-self-i c =
     let l = c.self.invariant in
     let b = c.loop-i-test.true in
-    sym (ap (λ l. place_of l c.args.word 0) (sym c.self.view_is) ∙ slot_first c.self.inside.items _ c.loop-i.i c.self.inside.count c.args.word b (omega (arith, b, l)) c.loop-i.invariant (eq-eqb _ _ c.if-self-i.true))
+    sym (ap (λ l. place_of l c.args.word 0) (sym c.self.view_is) ∙ slot_first c.self.inside.items _ c.loop-i.i c.self.inside.count c.args.word b (omega (arith, b, l.0, l.1)) c.loop-i.invariant (eq-eqb _ _ c.if-self-i.true))
 
 pub loop-i-preserved : goal.loop-i-preserved
 loop-i-preserved c = slot_more c.self.inside.items _ c.loop-i.i c.args.word c.loop-i.invariant (ne_eqb _ _ c.if-self-i.false)
+
+pub returns-then-not-may_have : goal.returns-then-not-may_have
+returns-then-not-may_have c = sym (ap (λ l. place_of l c.args.word 0) (sym c.self.view_is) ∙ slot_unmarked _ c.self.inside.items c.self.inside.count c.args.word c.self.invariant.2 (sym c.may_have.ensures ∙ c.if-not-may_have.true))

@@ -1,4 +1,4 @@
-use Rattle.std.proofs.Common.{◌≡◌}
+use Rattle.std.proofs.Common.{◌≡◌, map}
 use Rattle.md_nbtc.specs.declared.sets.TheConstants.{NO_SLOT}
 use Rattle.md_nbtc.specs.Cleaning.{with_cleanup}
 use Rattle.md_nbtc.proofs.keeping.Mapping.{changed_to}
@@ -7,3 +7,5 @@ use Rattle.md_nbtc.proofs.sets.Slots.keep.Given as goal
 abbrev pub invariant-loop-i : goal.invariant-loop-i
 invariant-loop-i l = (l.self-inside.items ≡ changed_to (with_cleanup l.word l.cleanup) NO_SLOT l.i l.initial.self-inside.items)
     × (l.self-inside.count ≡ l.initial.self-inside.count)
+    × (map (λ x. x.write.word) l.self-inside.items ≡ map (λ x. x.write.word) l.initial.self-inside.items)
+    × (l.self-inside.marks ≡ l.initial.self-inside.marks)
