@@ -20,6 +20,14 @@ const THREADS: u32 = 4;
 // Fewer lines of a caller are written in one thread.
 const MANY_LINES: u32 = 4_096;
 
+// One text after the other.
+fn joined(mut first: Vec<u8>, second: Vec<u8>) -> Result<Vec<u8>, AllocError>
+    ensures { IfOk result (λ text. text.items ≡ first.items ++ second.items) }
+{
+    first.extend_from_slice(&second)?;
+    Ok(first)
+}
+
 // Adds the lines of a caller after its first `before`, in at most so many ranges, by halves in
 // threads.
 #[cycle(ranges)]
@@ -45,7 +53,7 @@ fn lines_in_ranges<R: Threads + Sync>(
     let high = count / 2;
     let low = count - high;
     let middle = before + low;
-    let (first, second) = thread::join(
+    let (earlier, later) = thread::join(
         rt,
         move || -> Result<Vec<u8>, AllocError>
             requires sync { IsSync R.row }
@@ -63,10 +71,7 @@ fn lines_in_ranges<R: Threads + Sync>(
             lines_in_ranges(rt, alloc, more, replies, caller, middle, high, ranges / 2)
         },
     );
-    let mut out = first?;
-    let mut more = second?;
-    out.append(&mut more)?;
-    Ok(out)
+    joined(earlier?, later?)
 }
 
 // Adds the lines of the `count` callers after the first `before`, by halves in threads, and those of
@@ -114,10 +119,7 @@ fn lines_of_callers<R: Threads + Sync>(
             lines_of_callers(rt, alloc, more, of, replies, middle, high, ranges)
         },
     );
-    let mut out = first?;
-    let mut more = second?;
-    out.append(&mut more)?;
-    Ok(out)
+    joined(first?, second?)
 }
 
 /// The text of a report, as `report` returns it. Threads write the lines of the callers side by
@@ -125,11 +127,12 @@ fn lines_of_callers<R: Threads + Sync>(
 ///
 /// The call takes the callers by halves, in `thread::join`, and joins the texts of the halves. If
 /// there are fewer than four callers, it takes the lines of each by halves too: those of one caller
-/// in four ranges, and those of each of two or three callers in two. A caller or half with fewer
-/// than 4,096 lines is written in one thread. So n callers take n - 1 calls of `thread::join`, and
-/// up to 3 more if they are fewer than four.
+/// in four ranges, and those of each of two or three callers in two. Fewer than 4,096 lines of a
+/// caller are one range. So n callers take n - 1 calls of `thread::join`, and up to 3 more if they
+/// are fewer than four.
 ///
-/// `AllocError` if memory runs out. Where two texts are joined, the second is in memory twice.
+/// `AllocError` if memory runs out. Room for 24 bytes a line is taken at once. Where two texts are
+/// joined, the second is in memory twice.
 pub fn report_in_threads<R: Threads + Sync>(
     rt: &R,
     alloc: Global,
@@ -144,7 +147,7 @@ pub fn report_in_threads<R: Threads + Sync>(
         → text.items ≡ report_text of.now replies.now.replies book) }
 {
     let callers = of.callers();
-    let ranges = if callers == 0 { 1 } else { THREADS.div_ceil(callers) };
+    let ranges = THREADS.div_ceil(callers.max(1));
     let mut out = Vec::new(alloc);
     make_room(&mut out, of.total())?;
     let mut out = lines_of_callers(rt, alloc, out, of, replies, 0, callers, ranges)?;

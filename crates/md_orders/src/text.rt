@@ -2,29 +2,33 @@
 
 mod line_buffer;
 
-ghost use Rattle.std.specs.Prelude.{◌≡◌, ◌++◌, ◌≤◌, ◌<◌, ◌+◌, ◌*◌, ◌^◌, length, take, flat_map, OnOk, IfOk};
+ghost use Rattle.std.specs.Prelude.{◌≡◌, ◌++◌, ◌≤◌, ◌<◌, ◌+◌, ◌/◌, ◌%◌, ◌^◌, length, take, slice_index_or, flat_map, OnOk, IfOk, IfSome};
 ghost use Rattle.md_book.specs.Book.{Book};
 ghost use Rattle.md_book.specs.Stands.{StandsFor};
 ghost use Rattle.md_book.specs.declared.limits.TheConstants.{MAX_PARTS};
+ghost use Rattle.md_orders.specs.Rooms.{parts_in, reply_in};
 ghost use Rattle.md_orders.specs.declared.text.TheConstants.{NAME, PART, PARTS, REPLY};
 ghost use Rattle.md_orders.specs.declared.text.line_buffer.TheConstants.{SIZE};
 ghost use Rattle.md_orders.specs.Summary.{summary_text, summary_text_of};
-ghost use Rattle.md_orders.specs.Report.{name_text, part_text, filled_text, reply_text, line_text, lines_text, replies_text, level_text, account_text, done_text, report_text, levels_text_of, accounts_text_of, after_replies_text_of, report_text_of};
+ghost use Rattle.md_orders.specs.Report.{name_text, part_text, filled_text, reply_text, answer_text, lines_text, replies_text, level_text, account_text, done_text, report_text, levels_text_of, accounts_text_of, after_replies_text_of, report_text_of};
 
+use crate::parts::part_in;
+use crate::rooms::{Head, number_at};
 use crate::sums::{all_totals, open_at, sum_at};
 use crate::text::line_buffer::{DIGITS, LineBuffer};
 use crate::{Replies, Scripts};
 use itoa::{Buffer, Integer};
-use md_book::{
-    BOUGHT, BookReply, DEPTHS, MAPS, MAX_ACCOUNT, MAX_PARTS, MAX_PRICE, Part, SOLD, Side,
-};
+use md_book::{BOUGHT, DEPTHS, MAPS, MAX_ACCOUNT, MAX_PARTS, MAX_PRICE, Part, SOLD, Side};
 use md_history::Contents;
 use std::alloc::{AllocError, Global};
 
 // How many bytes a name, a part, the parts of a fill, and a reply can have.
 const NAME: usize = 2 * DIGITS + 1;
+
 const PART: usize = NAME + DIGITS + 2;
+
 const PARTS: usize = MAX_PARTS * PART;
+
 const REPLY: usize = PARTS + 2 * DIGITS + 18;
 
 // How many bytes a line may well have. Room is made for so many.
@@ -70,76 +74,82 @@ fn part(line: &mut LineBuffer, part: &Part)
     line.byte(b' ');
 }
 
-fn parts(line: &mut LineBuffer, parts: &[Part])
-    requires few { length parts.now ≤ MAX_PARTS }
-    requires room { PARTS + length line.old ≤ SIZE }
-    ensures text { line.new ≡ flat_map part_text parts.now ++ line.old }
+// The first `count` parts of a fill, which a room has after its first number.
+fn parts(line: &mut LineBuffer, count: u8, room: &[u64])
+    requires { PARTS + length line.old ≤ SIZE }
+    ensures text { line.new
+        ≡ flat_map part_text (take count (parts_in count room.now)) ++ line.old }
     ensures short { length line.new ≤ PARTS + length line.old }
 {
-    for after in 0..parts.len() {
-        part(line, &parts[parts.len() - 1 - after]);
+    let told = usize::from(count).min(MAX_PARTS);
+    for after in 0..told {
+        part(line, &part_in(number_at(room, told - after)));
     }
 }
 
-// Writes the first `count` parts.
-fn filled(line: &mut LineBuffer, taken: u32, rest: u32, count: u8, took: &[Part; MAX_PARTS])
+// What a fill took and what remains of it, which the first number of a room has, and its parts.
+fn filled(line: &mut LineBuffer, count: u8, room: &[u64])
     requires { REPLY + length line.old ≤ SIZE }
-    ensures text { line.new ≡ filled_text taken rest (take count took.now) ++ line.old }
+    ensures text { let first = slice_index_or room.now 0 0 in
+        line.new ≡ filled_text (first / 2 ^ 32) (first % 2 ^ 32)
+        (take count (parts_in count room.now)) ++ line.old }
     ensures short { length line.new ≤ REPLY + length line.old }
 {
+    let first = number_at(room, 0);
+    let taken = first / 0x1_0000_0000;
+    let rest = first % 0x1_0000_0000;
     if taken == 0 {
-        line.number(u64::from(rest));
+        line.number(rest);
         line.bytes(b"filled 0 rest ");
         return;
     }
-    let told = took.len().min(count as usize);
-    parts(line, &took[..told]);
+    parts(line, count, room);
     line.bytes(b" from");
-    line.number(u64::from(rest));
+    line.number(rest);
     line.bytes(b" rest ");
-    line.number(u64::from(taken));
+    line.number(taken);
     line.bytes(b"filled ");
 }
 
-fn reply(line: &mut LineBuffer, reply: &BookReply)
+// The reply that a head and a room are, if there is one.
+fn reply(line: &mut LineBuffer, head: Head, room: &[u64])
     requires { REPLY + length line.old ≤ SIZE }
-    ensures text { line.new ≡ reply_text reply.now ++ line.old }
+    ensures text { IfSome (reply_in head room.now) (λ r. line.new ≡ reply_text r ++ line.old) }
     ensures short { length line.new ≤ REPLY + length line.old }
 {
-    match reply {
-        BookReply::Placed => line.bytes(b"placed"),
-        BookReply::Cancelled(left) => {
-            line.number(u64::from(*left));
+    match head {
+        Head::Unset => (),
+        Head::Placed => line.bytes(b"placed"),
+        Head::Cancelled(left) => {
+            line.number(u64::from(left));
             line.bytes(b"cancelled ");
         }
-        BookReply::Gone => line.bytes(b"gone"),
-        BookReply::Killed => line.bytes(b"killed"),
-        BookReply::Filled {
-            taken,
-            rest,
-            count,
-            parts,
-        } => filled(line, *taken, *rest, *count, parts),
-        BookReply::Depth(depth) => {
-            line.number(*depth);
+        Head::Gone => line.bytes(b"gone"),
+        Head::Killed => line.bytes(b"killed"),
+        Head::Filled(count) => filled(line, count, room),
+        Head::Depth => {
+            line.number(number_at(room, 0));
             line.bytes(b"depth ");
         }
-        BookReply::Account { bought, sold } => {
-            line.number(*sold);
+        Head::Account => {
+            line.number(number_at(room, 1));
             line.bytes(b" sold ");
-            line.number(*bought);
+            line.number(number_at(room, 0));
             line.bytes(b"bought ");
         }
     }
 }
 
-// CALLER:LINE REPLY, from its end to its beginning.
-fn whole_line(text: &mut LineBuffer, caller: u32, line: u32, told: &BookReply)
-    ensures { text.new ≡ line_text caller line told.now }
+// CALLER:LINE REPLY, if there is a reply, in a buffer of its own.
+fn answer(text: &mut LineBuffer, caller: u32, line: u32, head: Head, room: &[u64])
+    ensures { text.new ≡ answer_text caller line (reply_in head room.now) }
 {
     text.clear();
+    if matches!(head, Head::Unset) {
+        return;
+    }
     text.byte(b'\n');
-    reply(text, told);
+    reply(text, head, room);
     text.byte(b' ');
     text.number(u64::from(line));
     text.byte(b':');
@@ -168,10 +178,9 @@ pub(crate) fn lines(
     let mut text = LineBuffer::new();
     for done in 0..count {
         let line = before + done + 1;
-        if let Some(told) = replies.get(caller, line) {
-            whole_line(&mut text, caller, line, &told);
-            out.extend_from_slice(text.text())?;
-        }
+        let (head, room) = replies.told(caller, line);
+        answer(&mut text, caller, line, head, room);
+        out.extend_from_slice(text.text())?;
     }
     Ok(())
 }

@@ -15,16 +15,18 @@ returns-then-count-eq1 g t c =
     let caller = c.args.before + 1 in
     IfOk-weaker c.lines_in_ranges.result _ _
     (λ text is. is
-        ∙ ap (λ n. c.args.out.items ++ lines_text c.args.replies.now.replies caller 0 n) c.len.ensures.count
-        ∙ ap (λ x. c.args.out.items ++ x)
-        (texts_after-one (λ caller. script_text c.args.replies.now.replies caller (length (list_of c.args.of.now caller))) c.args.before c.args.count _ c.if-count-eq1.true (texts_after-none _ _)))
+    ∙ ap (λ n. c.args.out.items ++ lines_text c.args.replies.now.replies caller 0 n) c.len.ensures.count
+    ∙ ap (λ x. c.args.out.items ++ x)
+    (texts_after-one (λ caller. script_text c.args.replies.now.replies caller (length (list_of c.args.of.now caller))) c.args.before c.args.count _ c.if-count-eq1.true (texts_after-none _ _)))
     c.lines_in_ranges.ensures
 
 pub returns : goal.returns
 returns g t c =
-    let first = IfOk-at_ok _ c.in_ok-out.was c.join-first.ensures.first in
-    let second = IfOk-at_ok _ c.in_ok-more.was c.join-first.ensures.second in
+    let first = IfOk-at_ok _ c.in_ok-first.was c.join-first.ensures.first in
+    let second = IfOk-at_ok _ c.in_ok-second.was c.join-first.ensures.second in
     let high = c.args.count / 2 in
     let low = c.args.count - high in
-    texts_after-halves (λ caller. script_text c.args.replies.now.replies caller (length (list_of c.args.of.now caller)))
-    c.args.before low high (c.args.before + low) c.args.count _ _ _ _ refl (omega arith) first second c.in_ok-append.ensures.items
+    IfOk-weaker c.joined.result _ _
+    (λ text is. texts_after-halves (λ caller. script_text c.args.replies.now.replies caller (length (list_of c.args.of.now caller)))
+    c.args.before low high (c.args.before + low) c.args.count c.args.out.items _ _ text.items refl (omega arith) first second is)
+    c.joined.ensures

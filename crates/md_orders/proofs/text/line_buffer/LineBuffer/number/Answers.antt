@@ -1,4 +1,4 @@
-use Rattle.std.proofs.Common.{◌≡◌, ◌≤◌, ◌+◌, ◌++◌, ◌∙◌, length, drop, decimal, ap, arith, length-append}
+use Rattle.std.proofs.Common.{◌∙◌, length, drop, decimal, ap, arith, length-append}
 use Rattle.std.proofs.lemmas.Fmt.{length-decimal-le}
 use Rattle.std.proofs.lemmas.List.{length-drop}
 use Rattle.md_orders.proofs.text.line_buffer.LineBuffer.number.Goals as goal
