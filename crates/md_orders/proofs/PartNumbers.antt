@@ -1,14 +1,17 @@
 -- Parts in numbers, and what comes of them again.
-use Rattle.std.proofs.Common.{◌≡◌, ◌<◌, ◌+◌, ◌-◌, ◌*◌, ◌/◌, ◌%◌, ◌^◌, ◌∙◌, ◌++◌, refl, sym, ap, arith}
+use Rattle.std.proofs.Common.{◌≡◌, ◌<◌, ◌≤◌, ◌+◌, ◌-◌, ◌*◌, ◌/◌, ◌%◌, ◌^◌, ◌∙◌, ◌++◌, refl, sym, ap, arith, inl, inr, eq-zero-or-pos}
 use Rattle.std.proofs.Common.{ℕ, suc, List, [], ◌∷◌, All, length, map, take, drop, get_or, set, replicate, append_assoc, length-append}
 use Rattle.std.specs.Prelude.{min}
 use Rattle.std.proofs.lemmas.Grind.{take_at_read}
+use Rattle.std.proofs.Math.ListN.{get_or-map}
 use Rattle.std.proofs.lemmas.List.{length-map, length-replicate, length-take, length-take-le, set-append_right, map-append}
+use Rattle.std.proofs.lemmas.List.{drop_more, get_or-append_right, get_or_append_left, get_or_past, get_or-replicate, get_or-take, get_or-drop}
 use Rattle.std.proofs.lemmas.List.Elements.{All-head, All-tail}
 use Rattle.md_book.specs.declared.commands.Part.{Part}
 use Rattle.md_book.specs.declared.limits.TheConstants.{MAX_PARTS}
 use Rattle.md_book.specs.Book.{padded}
 use Rattle.md_book.specs.Suits.{IsPart}
+use Rattle.md_orders.specs.Packed.{no_part}
 use Rattle.md_orders.specs.Rooms.{IsFilled, part_number, part_in, parts_in}
 
 -- a part's number is that part again
@@ -77,3 +80,48 @@ parts-more numbers place inside room =
     let more : map part_in first ++ part_in next ∷ [] ≡ map part_in (take (place + 1) numbers) =
     sym (ap (map part_in) (take_at_read numbers place 0 inside).1 ∙ map-append part_in first (next ∷ [])) in
     padded-more (map part_in first) place (part_in next) size room ∙ ap padded more
+
+-- a room's parts are as many as a reply has room for
+pub length-parts_in : (count : ℕ) (room : List ℕ) → length (parts_in count room) ≡ MAX_PARTS
+length-parts_in count room =
+    let first = map part_in (take (min count MAX_PARTS) (drop 1 room)) in
+    let size : length first ≡ length (take (min count MAX_PARTS) (drop 1 room)) = length-map (take (min count MAX_PARTS) (drop 1 room)) part_in in
+    let short = length-take (min count MAX_PARTS) (drop 1 room) in
+    let zeros = length-replicate (MAX_PARTS - length first) no_part in
+    let whole = length-append first (replicate (MAX_PARTS - length first) no_part) in
+    omega arith
+
+-- padded parts read past the end of what they have are zero
+padded-at : (parts : List Part) (place : ℕ) → place < MAX_PARTS → get_or (padded parts) place no_part ≡ get_or parts place no_part
+padded-at parts place room = elim (eq-zero-or-pos (length parts - place)) [
+  | inl past ↦
+      let beyond : length parts ≤ place = omega arith in
+      get_or-append_right parts (replicate (MAX_PARTS - length parts) no_part) (length parts) place no_part refl beyond
+      ∙ get_or-replicate (MAX_PARTS - length parts) (place - length parts) no_part no_part (omega arith)
+      ∙ sym (get_or_past parts place no_part beyond)
+  | inr inside ↦ get_or_append_left parts (replicate (MAX_PARTS - length parts) no_part) no_part place (omega arith)
+]
+
+-- each of a room's parts is that of its number
+pub parts_in-at : (count place : ℕ) (room : List ℕ) → place < count → place < MAX_PARTS
+    → get_or (parts_in count room) place no_part ≡ part_in (get_or room (place + 1) 0)
+parts_in-at count place room told few =
+    let shift : 1 + place ≡ place + 1 = omega arith in
+    padded-at (map part_in (take (min count MAX_PARTS) (drop 1 room))) place few
+    ∙ get_or-map part_in (take (min count MAX_PARTS) (drop 1 room)) place 0
+    ∙ ap part_in (get_or-take (min count MAX_PARTS) (drop 1 room) place 0 (omega arith) ∙ get_or-drop 1 room place 0 ∙ ap (λ k. get_or room k 0) shift)
+
+-- the parts that are told from a place on
+pub told-next : (count told after : ℕ) (room : List ℕ) (p : Part) → told ≡ min count MAX_PARTS → after < told → p ≡ part_in (get_or room (told - after) 0)
+    → drop (told - (after + 1)) (take count (parts_in count room)) ≡ p ∷ drop (told - after) (take count (parts_in count room))
+told-next count told after room p least more is =
+    let ps = take count (parts_in count room) in
+    let place = told - (after + 1) in
+    let size = length-parts_in count room in
+    let short = length-take count (parts_in count room) in
+    let next : place + 1 ≡ told - after = omega arith in
+    let inside : place < length ps = omega arith in
+    let here : get_or ps place no_part ≡ p =
+    get_or-take count (parts_in count room) place no_part (omega arith) ∙ parts_in-at count place room (omega arith) (omega arith)
+    ∙ ap (λ k. part_in (get_or room k 0)) next ∙ sym is in
+    drop_more ps place no_part inside ∙ ap (λ q. q ∷ drop (place + 1) ps) here ∙ ap (λ k. p ∷ drop k ps) next

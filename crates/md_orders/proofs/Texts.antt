@@ -13,7 +13,7 @@ use Rattle.md_book.specs.declared.maps.TheConstants.{SOLD}
 use Rattle.md_book.specs.Book.{Book, level_of, depth, bought, sold}
 use Rattle.md_book.specs.Stands.{StandsFor, unless_0}
 use Rattle.md_orders.specs.Scripts.{count_of}
-use Rattle.md_orders.specs.Report.{texts_to, level_text, account_text, value_at, levels_text, levels_text_of, accounts_text, accounts_text_of}
+use Rattle.md_orders.specs.Report.{texts_to, texts_after, level_text, account_text, value_at, levels_text, levels_text_of, accounts_text, accounts_text_of}
 use Rattle.md_orders.specs.Report.{replies_text, done_text, report_text, report_text_of, after_replies_text_of}
 
 -- no text yet
@@ -32,6 +32,18 @@ pub texts_to-same : (n : ℕ) (f g : ℕ → List ℕ) → ((k : ℕ) → f k �
 unfolding texts_to
 texts_to-same zero f g same = refl
 texts_to-same (suc n) f g same = ap (λ out. out ++ f (suc n)) (texts_to-same n f g same) ∙ ap (λ t. texts_to n g ++ t) (same (suc n))
+
+-- the texts of the first numbers, and those of the numbers after them
+pub texts_to-append : (low high : ℕ) (text : ℕ → List ℕ) → texts_to (low + high) text ≡ texts_to low text ++ texts_to high (λ n. text (low + n))
+unfolding texts_to
+texts_to-append low zero text =
+    let same : low + 0 ≡ low = omega arith in
+    ap (λ n. texts_to n text) same ∙ sym (append-nil (texts_to low text))
+texts_to-append low (suc high) text =
+    let next : low + suc high ≡ suc (low + high) = omega arith in
+    ap (λ n. texts_to n text) next ∙ ap (λ t. t ++ text (suc (low + high))) (texts_to-append low high text)
+    ∙ append_assoc (texts_to low text) (texts_to high (λ n. text (low + n))) (text (suc (low + high)))
+    ∙ ap (λ n. texts_to low text ++ (texts_to high (λ n. text (low + n)) ++ text n)) (sym next)
 
 -- a sum that is absent where it is 0
 sum-is : (n : ℕ) → unwrap_or (unless_0 n) 0 ≡ n
@@ -69,32 +81,25 @@ report-is scripts replies s count lines out lines_are counted more =
     more ∙ ap (λ t. t ++ after_replies_text_of s count) lines_are ∙ ap (λ n. r ++ after_replies_text_of s n) counted
     ∙ sym (append_assoc r (a ++ b ++ c) d) ∙ ap (λ t. t ++ d) (sym (append_assoc r (a ++ b) c)) ∙ ap (λ t. t ++ c ++ d) (sym (append_assoc r a b))
 
--- no callers have no text
-pub texts_no_more : (text : ℕ → List ℕ) (before count : ℕ) (out : List ℕ) → count ≡ 0 → out ≡ [] → texts_to (before + count) text ≡ texts_to before text ++ out
-texts_no_more text before count out none is =
-    let same : before + count ≡ before = omega arith in
-    ap (λ n. texts_to n text) same ∙ sym (append-nil (texts_to before text)) ∙ ap (λ t. texts_to before text ++ t) (sym is)
+-- the texts of two runs of numbers, one after the other
+pub texts_after-halves : (text : ℕ → List ℕ) (before low high middle count : ℕ) (out first second whole : List ℕ) → middle ≡ before + low → count ≡ low + high
+    → first ≡ out ++ texts_after before low text → second ≡ texts_after middle high text → whole ≡ first ++ second → whole ≡ out ++ texts_after before count text
+texts_after-halves text before low high middle count out first second whole mid all one other joined =
+    let next : (n : ℕ) → text (middle + n) ≡ text (before + (low + n)) = λ n. let same : middle + n ≡ before + (low + n) = omega arith in ap text same in
+    joined ∙ ap (λ t. t ++ second) one ∙ ap (λ t. (out ++ texts_after before low text) ++ t) (other ∙ texts_to-same high _ _ next)
+    ∙ append_assoc out (texts_after before low text) _
+    ∙ ap (λ t. out ++ t) (sym (texts_to-append low high (λ n. text (before + n))) ∙ ap (λ n. texts_after before n text) (sym all))
 
--- the text of one caller
-pub texts_one : (text : ℕ → List ℕ) (before count : ℕ) (out : List ℕ) → count ≡ 1 → out ≡ text (before + 1) → texts_to (before + count) text ≡ texts_to before text ++ out
+-- no numbers have no text
+pub texts_after-no : (text : ℕ → List ℕ) (before count : ℕ) (out : List ℕ) → count ≡ 0 → out ≡ out ++ texts_after before count text
+texts_after-no text before count out none =
+    texts_none out (λ n. text (before + n)) ∙ ap (λ n. out ++ texts_after before n text) (sym none)
+
+-- the text of one number
+pub texts_after-one : (text : ℕ → List ℕ) (before count : ℕ) (mine : List ℕ) → count ≡ 1 → mine ≡ text (before + 1) → mine ≡ texts_after before count text
 unfolding texts_to
-texts_one text before count out one is =
-    let next : before + count ≡ suc before = omega arith in
-    let same : before + 1 ≡ suc before = omega arith in
-    ap (λ n. texts_to n text) next ∙ ap (λ n. texts_to before text ++ text n) (sym same) ∙ ap (λ t. texts_to before text ++ t) (sym is)
+texts_after-one text before count mine one is = is ∙ sym (ap (λ n. texts_after before n text) one)
 
--- the texts of two runs of callers, one after the other
-pub texts_halves : (text : ℕ → List ℕ) (before low high middle count : ℕ) (first second out : List ℕ) → middle ≡ before + low → count ≡ low + high
-    → texts_to (before + low) text ≡ texts_to before text ++ first → texts_to (middle + high) text ≡ texts_to middle text ++ second
-    → out ≡ first ++ second → texts_to (before + count) text ≡ texts_to before text ++ out
-texts_halves text before low high middle count first second out mid whole one other joined =
-    let same : before + count ≡ middle + high = omega arith in
-    ap (λ n. texts_to n text) same ∙ other ∙ ap (λ n. texts_to n text ++ second) mid ∙ ap (λ t. t ++ second) one
-    ∙ append_assoc (texts_to before text) first second ∙ ap (λ t. texts_to before text ++ t) (sym joined)
-
--- the texts of all callers
-pub texts_whole : (text : ℕ → List ℕ) (count total : ℕ) (out : List ℕ) → count ≡ total → texts_to (0 + count) text ≡ texts_to 0 text ++ out → out ≡ texts_to total text
-unfolding texts_to
-texts_whole text count total out same is =
-    let all : 0 + count ≡ total = omega arith in
-    sym is ∙ ap (λ n. texts_to n text) all
+-- the texts after none are all
+pub texts_after-none : (n : ℕ) (text : ℕ → List ℕ) → texts_after 0 n text ≡ texts_to n text
+texts_after-none n text = texts_to-same n _ _ (λ k. let same : 0 + k ≡ k = omega arith in ap text same)

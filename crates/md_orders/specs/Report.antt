@@ -1,5 +1,5 @@
 -- The text of a report: each command's reply, the book, and the number of commands. Each line ends with a line feed.
-use Rattle.std.specs.Prelude.{ℕ, zero, suc, ◌/◌, ◌%◌, ◌^◌, ◌==◌, ◌&&◌, if◌then◌else◌, Option, Some, None, List, []}
+use Rattle.std.specs.Prelude.{ℕ, zero, suc, ◌+◌, ◌/◌, ◌%◌, ◌^◌, ◌==◌, ◌&&◌, if◌then◌else◌, Option, Some, None, List, []}
 use Rattle.std.specs.Prelude.{◌++◌, length, take, codes, decimal, flat_map, unwrap_or}
 use Rattle.std.specs.FinMap as fin
 use Rattle.md_history.specs.State.{State, map_at}
@@ -54,14 +54,28 @@ unfoldable pub texts_to : ℕ → (ℕ → List ℕ) → List ℕ
 texts_to zero text = []
 texts_to (suc n) text = texts_to n text ++ text (suc n)
 
+-- those of so many numbers after the first `before`
+abbrev pub texts_after : ℕ → ℕ → (ℕ → List ℕ) → List ℕ
+texts_after before count text = texts_to count (λ n. text (before + n))
+
 -- each caller's lines, in order
 abbrev pub script_text : List (List (Option BookReply)) → ℕ → ℕ → List ℕ
 script_text replies caller lines = texts_to lines (λ line. answer_text caller line (reply_at replies caller line))
+
+-- some of them: so many after the first `before`
+abbrev pub lines_text : List (List (Option BookReply)) → ℕ → ℕ → ℕ → List ℕ
+lines_text replies caller before count =
+    texts_after before count (λ line. answer_text caller line (reply_at replies caller line))
 
 -- those of the callers 1 to n, in order
 abbrev pub callers_text : List (List Command) → List (List (Option BookReply)) → ℕ → List ℕ
 callers_text scripts replies n =
     texts_to n (λ caller. script_text replies caller (length (list_of scripts caller)))
+
+-- those of some callers: so many after the first `before`
+abbrev pub callers_text_after : List (List Command) → List (List (Option BookReply)) → ℕ → ℕ → List ℕ
+callers_text_after scripts replies before count =
+    texts_after before count (λ caller. script_text replies caller (length (list_of scripts caller)))
 
 -- those of every caller
 abbrev pub replies_text : List (List Command) → List (List (Option BookReply)) → List ℕ

@@ -4,10 +4,9 @@ ghost use Rattle.std.specs.Prelude.{◌≡◌, ◌<◌, ◌≤◌, ◌+◌, ◌^
 ghost use Rattle.std.specs.Thread.{IsSync};
 ghost use Rattle.md_book.specs.Book.{Book};
 ghost use Rattle.md_book.specs.Stands.{StandsFor};
-ghost use Rattle.md_orders.specs.Scripts.{list_of};
-ghost use Rattle.md_orders.specs.Report.{script_text, callers_text, report_text, report_text_of};
+ghost use Rattle.md_orders.specs.Report.{lines_text, callers_text_after, report_text, report_text_of};
 
-use crate::text::{after_replies, script};
+use crate::text::{after_replies, lines, make_room};
 use crate::{Replies, Scripts};
 use md_book::MAPS;
 use md_history::Contents;
@@ -15,40 +14,89 @@ use std::alloc::{AllocError, Global};
 use std::thread;
 use std::thread::Threads;
 
-// The lines of one caller, in a list of their own.
-fn lines_of(
-    alloc: Global,
-    of: &Scripts,
-    replies: &Replies,
-    caller: u32,
-) -> Result<Vec<u8>, AllocError>
-    ensures { IfOk result (λ text. text.items
-        ≡ script_text replies.now.replies caller (length (list_of of.now caller))) }
+// About how many threads write the lines of fewer callers.
+const THREADS: u32 = 4;
+
+// Fewer lines of a caller are written in one thread.
+const MANY_LINES: u32 = 4_096;
+
+// One text after the other.
+fn joined(mut first: Vec<u8>, second: Vec<u8>) -> Result<Vec<u8>, AllocError>
+    ensures { IfOk result (λ text. text.items ≡ first.items ++ second.items) }
 {
-    let mut out = Vec::new(alloc);
-    script(&mut out, replies, caller, of.len(caller))?;
-    Ok(out)
+    first.extend_from_slice(&second)?;
+    Ok(first)
 }
 
-// The lines of the `count` callers after the first `before`, by halves in threads.
-#[cycle(halves)]
-fn lines_after<R: Threads + Sync>(
+// Adds the lines of a caller after its first `before`, in at most so many ranges, by halves in
+// threads.
+#[cycle(ranges)]
+fn lines_in_ranges<R: Threads + Sync>(
     rt: &R,
     alloc: Global,
+    mut out: Vec<u8>,
+    replies: &Replies,
+    caller: u32,
+    before: u32,
+    count: u32,
+    ranges: u32,
+) -> Result<Vec<u8>, AllocError>
+    requires { before + count < 2 ^ 32 }
+    ensures { IfOk result (λ text. text.items
+        ≡ out.items ++ lines_text replies.now.replies caller before count) }
+{
+    make_room(&mut out, count)?;
+    if ranges <= 1 || count < MANY_LINES {
+        lines(&mut out, replies, caller, before, count)?;
+        return Ok(out);
+    }
+    let high = count / 2;
+    let low = count - high;
+    let middle = before + low;
+    let (earlier, later) = thread::join(
+        rt,
+        move || -> Result<Vec<u8>, AllocError>
+            requires sync { IsSync R.row }
+            requires few { before + low < 2 ^ 32 }
+            ensures { IfOk result (λ text. text.items
+                ≡ out.items ++ lines_text replies.entry.now.replies caller before low) }
+        { lines_in_ranges(rt, alloc, out, replies, caller, before, low, ranges / 2) },
+        move || -> Result<Vec<u8>, AllocError>
+            requires sync { IsSync R.row }
+            requires few { middle + high < 2 ^ 32 }
+            ensures { IfOk result (λ text. text.items
+                ≡ lines_text replies.entry.now.replies caller middle high) }
+        {
+            let more = Vec::new(alloc);
+            lines_in_ranges(rt, alloc, more, replies, caller, middle, high, ranges / 2)
+        },
+    );
+    joined(earlier?, later?)
+}
+
+// Adds the lines of the `count` callers after the first `before`, by halves in threads, and those of
+// each in at most so many ranges.
+#[cycle(halves)]
+fn lines_of_callers<R: Threads + Sync>(
+    rt: &R,
+    alloc: Global,
+    out: Vec<u8>,
     of: &Scripts,
     replies: &Replies,
     before: u32,
     count: u32,
+    ranges: u32,
 ) -> Result<Vec<u8>, AllocError>
     requires { before + count < 2 ^ 32 }
-    ensures { IfOk result (λ text. callers_text of.now replies.now.replies (before + count)
-        ≡ callers_text of.now replies.now.replies before ++ text.items) }
+    ensures { IfOk result (λ text. text.items
+        ≡ out.items ++ callers_text_after of.now replies.now.replies before count) }
 {
     if count == 0 {
-        return Ok(Vec::new(alloc));
+        return Ok(out);
     }
     if count == 1 {
-        return lines_of(alloc, of, replies, before + 1);
+        let caller = before + 1;
+        return lines_in_ranges(rt, alloc, out, replies, caller, 0, of.len(caller), ranges);
     }
     let high = count / 2;
     let low = count - high;
@@ -58,29 +106,33 @@ fn lines_after<R: Threads + Sync>(
         move || -> Result<Vec<u8>, AllocError>
             requires sync { IsSync R.row }
             requires few { before + low < 2 ^ 32 }
-            ensures { IfOk result (λ text.
-                callers_text of.entry.now replies.entry.now.replies (before + low)
-                ≡ callers_text of.entry.now replies.entry.now.replies before ++ text.items) }
-        { lines_after(rt, alloc, of, replies, before, low) },
+            ensures { IfOk result (λ text. text.items ≡ out.items
+                ++ callers_text_after of.entry.now replies.entry.now.replies before low) }
+        { lines_of_callers(rt, alloc, out, of, replies, before, low, ranges) },
         move || -> Result<Vec<u8>, AllocError>
             requires sync { IsSync R.row }
             requires few { middle + high < 2 ^ 32 }
-            ensures { IfOk result (λ text.
-                callers_text of.entry.now replies.entry.now.replies (middle + high)
-                ≡ callers_text of.entry.now replies.entry.now.replies middle ++ text.items) }
-        { lines_after(rt, alloc, of, replies, middle, high) },
+            ensures { IfOk result (λ text. text.items
+                ≡ callers_text_after of.entry.now replies.entry.now.replies middle high) }
+        {
+            let more = Vec::new(alloc);
+            lines_of_callers(rt, alloc, more, of, replies, middle, high, ranges)
+        },
     );
-    let mut out = first?;
-    let mut more = second?;
-    out.append(&mut more)?;
-    Ok(out)
+    joined(first?, second?)
 }
 
-/// The text of a report, as `report` returns it. Threads write the lines of the callers, each those
-/// of one. The call takes the callers by halves, in `thread::join`, and joins the texts of the
-/// halves. So n callers take n - 1 calls of `thread::join`, and one caller takes none.
+/// The text of a report, as `report` returns it. Threads write the lines of the callers side by
+/// side.
 ///
-/// `AllocError` if memory runs out. Where two texts are joined, the second is in memory twice.
+/// The call takes the callers by halves, in `thread::join`, and joins the texts of the halves. If
+/// there are fewer than four callers, it takes the lines of each by halves too: those of one caller
+/// in four ranges, and those of each of two or three callers in two. Fewer than 4,096 lines of a
+/// caller are one range. So n callers take n - 1 calls of `thread::join`, and up to 3 more if they
+/// are fewer than four.
+///
+/// `AllocError` if memory runs out. Room for 24 bytes a line is taken at once. Where two texts are
+/// joined, the second is in memory twice.
 pub fn report_in_threads<R: Threads + Sync>(
     rt: &R,
     alloc: Global,
@@ -94,7 +146,11 @@ pub fn report_in_threads<R: Threads + Sync>(
     ensures book { IfOk result (λ text. (book : Book) → StandsFor contents.now book
         → text.items ≡ report_text of.now replies.now.replies book) }
 {
-    let mut out = lines_after(rt, alloc, of, replies, 0, of.callers())?;
+    let callers = of.callers();
+    let ranges = THREADS.div_ceil(callers.max(1));
+    let mut out = Vec::new(alloc);
+    make_room(&mut out, of.total())?;
+    let mut out = lines_of_callers(rt, alloc, out, of, replies, 0, callers, ranges)?;
     after_replies(&mut out, contents, of.total())?;
     Ok(out)
 }

@@ -5,10 +5,10 @@ ghost use Rattle.std.specs.Option.{IsSomeAnd};
 ghost use Rattle.md_book.specs.Suits.{Suits};
 ghost use Rattle.md_orders.specs.Scripts.{at_line};
 ghost use Rattle.md_orders.specs.Replies.{no_replies, reply_at, with_reply, with_replies, AllSuit};
-ghost use Rattle.md_orders.specs.Rooms.{sizes_of, sizes_in, replies_of};
+ghost use Rattle.md_orders.specs.Rooms.{sizes_of, sizes_in, replies_of, reply_in};
 
 use crate::packed::PackedReplies;
-use crate::rooms::ReplyRooms;
+use crate::rooms::{Head, ReplyRooms, reply_in};
 use crate::scripts::{Scripts, commands_are_named};
 use md_book::BookReply;
 use std::alloc::{AllocError, Global};
@@ -104,17 +104,25 @@ impl Replies {
         replies.set_in(self, caller, done);
     }
 
+    /// The head and the room of a line. They are its reply, if it has one.
+    pub(crate) fn told(&self, caller: u32, line: u32) -> (Head, &[u64])
+        ensures { reply_in result.0 result.1.now ≡ reply_at self.now.replies caller line }
+    {
+        if caller == 0 || caller as usize > self.callers.len() || line == 0 {
+            return (Head::Unset, &[]);
+        }
+        let rooms = &self.callers[caller as usize - 1];
+        if line as usize > rooms.len() {
+            return (Head::Unset, &[]);
+        }
+        rooms.told(line as usize - 1)
+    }
+
     /// The reply of a line. `None` exactly if there is no such line, or if no reply was set there.
     pub fn get(&self, caller: u32, line: u32) -> Option<BookReply>
         ensures { result ≡ reply_at self.now.replies caller line }
     {
-        if caller == 0 || caller as usize > self.callers.len() || line == 0 {
-            return None;
-        }
-        let rooms = &self.callers[caller as usize - 1];
-        if line as usize > rooms.len() {
-            return None;
-        }
-        rooms.get(line as usize - 1)
+        let (head, room) = self.told(caller, line);
+        reply_in(head, room)
     }
 }

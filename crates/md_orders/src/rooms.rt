@@ -10,9 +10,9 @@ use md_book::{BookReply, Command, MAX_PARTS, Part};
 use std::alloc::{AllocError, Global};
 use std::marker::Model;
 
-// Which reply a line has, and what of it is small.
+/// Which reply a line has, and what of it is small.
 #[derive(Clone, Copy)]
-enum Head {
+pub(crate) enum Head {
     Unset,
     Placed,
     Cancelled(u32),
@@ -140,8 +140,8 @@ pub(crate) fn room_at(numbers: &[u64], start: usize, size: usize) -> &[u64]
     &numbers[start..start + size]
 }
 
-// The reply that a head and a room are.
-fn reply_in(head: Head, room: &[u64]) -> Option<BookReply>
+/// The reply that a head and a room are, where there is one.
+pub(crate) fn reply_in(head: Head, room: &[u64]) -> Option<BookReply>
     ensures { result ≡ reply_in head room.now }
 {
     let reply = match head {
@@ -212,14 +212,14 @@ impl ReplyRooms {
         self.sizes.len()
     }
 
-    /// The reply of the line at an index, if one was set.
-    pub(crate) fn get(&self, at: usize) -> Option<BookReply>
+    /// The head and the room of the line at an index. They are its reply, if one was set.
+    pub(crate) fn told(&self, at: usize) -> (Head, &[u64])
         requires { at < length self.now.sizes }
-        ensures { slice_get self.now.replies at ≡ Some result }
+        ensures { slice_get self.now.replies at ≡ Some (reply_in result.0 result.1.now) }
     {
         let start = self.starts[at] as usize;
         let size = usize::from(self.sizes[at]);
-        reply_in(self.heads[at], room_at(&self.numbers, start, size))
+        (self.heads[at], room_at(&self.numbers, start, size))
     }
 
     /// Sets the reply of the line at an index, whose room is enough for it.

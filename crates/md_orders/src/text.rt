@@ -1,18 +1,38 @@
 //! The texts of a report and of a summary, to their last byte.
 
-ghost use Rattle.std.specs.Prelude.{◌≡◌, ◌++◌, ◌≤◌, ◌<◌, length, take, flat_map, OnOk, IfOk};
+mod line_buffer;
+
+ghost use Rattle.std.specs.Prelude.{◌≡◌, ◌++◌, ◌≤◌, ◌<◌, ◌+◌, ◌/◌, ◌%◌, ◌^◌, length, take, slice_index_or, flat_map, OnOk, IfOk, IfSome};
 ghost use Rattle.md_book.specs.Book.{Book};
 ghost use Rattle.md_book.specs.Stands.{StandsFor};
-ghost use Rattle.md_orders.specs.Scripts.{list_of};
+ghost use Rattle.md_book.specs.declared.limits.TheConstants.{MAX_PARTS};
+ghost use Rattle.md_orders.specs.Rooms.{parts_in, reply_in};
+ghost use Rattle.md_orders.specs.declared.text.TheConstants.{NAME, PART, PARTS, REPLY};
+ghost use Rattle.md_orders.specs.declared.text.line_buffer.TheConstants.{SIZE};
 ghost use Rattle.md_orders.specs.Summary.{summary_text, summary_text_of};
-ghost use Rattle.md_orders.specs.Report.{name_text, part_text, filled_text, reply_text, line_text, answer_text, script_text, replies_text, level_text, account_text, done_text, report_text, levels_text_of, accounts_text_of, after_replies_text_of, report_text_of};
+ghost use Rattle.md_orders.specs.Report.{name_text, part_text, filled_text, reply_text, answer_text, lines_text, replies_text, level_text, account_text, done_text, report_text, levels_text_of, accounts_text_of, after_replies_text_of, report_text_of};
 
+use crate::parts::part_in;
+use crate::rooms::{Head, number_at};
 use crate::sums::{all_totals, open_at, sum_at};
+use crate::text::line_buffer::{DIGITS, LineBuffer};
 use crate::{Replies, Scripts};
 use itoa::{Buffer, Integer};
-use md_book::{BOUGHT, BookReply, DEPTHS, MAPS, MAX_ACCOUNT, MAX_PRICE, Part, SOLD, Side};
+use md_book::{BOUGHT, DEPTHS, MAPS, MAX_ACCOUNT, MAX_PARTS, MAX_PRICE, Part, SOLD, Side};
 use md_history::Contents;
 use std::alloc::{AllocError, Global};
+
+// How many bytes a name, a part, the parts of a fill, and a reply can have.
+const NAME: usize = 2 * DIGITS + 1;
+
+const PART: usize = NAME + DIGITS + 2;
+
+const PARTS: usize = MAX_PARTS * PART;
+
+const REPLY: usize = PARTS + 2 * DIGITS + 18;
+
+// How many bytes a line may well have. Room is made for so many.
+const LIKELY_LINE: usize = 24;
 
 #[inline(always)]
 fn number<I: Integer>(out: &mut Vec<u8>, n: I) -> Result<(), AllocError>
@@ -31,109 +51,136 @@ fn labelled<I: Integer>(out: &mut Vec<u8>, label: &[u8], n: I) -> Result<(), All
 }
 
 // CALLER:LINE of an order's name.
-fn name(out: &mut Vec<u8>, name: u64) -> Result<(), AllocError>
-    ensures { OnOk result (out.new.items ≡ out.old.items ++ name_text name) }
+#[inline(always)]
+fn name(line: &mut LineBuffer, name: u64)
+    requires { NAME + length line.old ≤ SIZE }
+    ensures text { line.new ≡ name_text name ++ line.old }
+    ensures short { length line.new ≤ NAME + length line.old }
 {
-    number(out, name / 0x1_0000_0000)?;
-    out.push(b':')?;
-    number(out, name % 0x1_0000_0000)
+    line.number(name % 0x1_0000_0000);
+    line.byte(b':');
+    line.number(name / 0x1_0000_0000);
 }
 
-fn part(out: &mut Vec<u8>, part: &Part) -> Result<(), AllocError>
-    ensures { OnOk result (out.new.items ≡ out.old.items ++ part_text part.now) }
+#[inline(always)]
+fn part(line: &mut LineBuffer, part: &Part)
+    requires { PART + length line.old ≤ SIZE }
+    ensures text { line.new ≡ part_text part.now ++ line.old }
+    ensures short { length line.new ≤ PART + length line.old }
 {
-    out.push(b' ')?;
-    name(out, part.name)?;
-    out.push(b'=')?;
-    number(out, part.taken)
+    line.number(u64::from(part.taken));
+    line.byte(b'=');
+    name(line, part.name);
+    line.byte(b' ');
 }
 
-fn parts(out: &mut Vec<u8>, parts: &[Part]) -> Result<(), AllocError>
-    ensures { OnOk result (out.new.items ≡ out.old.items ++ flat_map part_text parts.now) }
+// The first `count` parts of a fill, which a room has after its first number.
+fn parts(line: &mut LineBuffer, count: u8, room: &[u64])
+    requires { PARTS + length line.old ≤ SIZE }
+    ensures text { line.new
+        ≡ flat_map part_text (take count (parts_in count room.now)) ++ line.old }
+    ensures short { length line.new ≤ PARTS + length line.old }
 {
-    for each in parts {
-        part(out, each)?;
+    let told = usize::from(count).min(MAX_PARTS);
+    for after in 0..told {
+        part(line, &part_in(number_at(room, told - after)));
     }
-    Ok(())
 }
 
-// Writes the first `count` parts.
-fn filled(
-    out: &mut Vec<u8>,
-    taken: u32,
-    rest: u32,
-    count: u8,
-    took: &[Part],
-) -> Result<(), AllocError>
-    ensures { OnOk result (out.new.items
-        ≡ out.old.items ++ filled_text taken rest (take count took.now)) }
+// What a fill took and what remains of it, which the first number of a room has, and its parts.
+fn filled(line: &mut LineBuffer, count: u8, room: &[u64])
+    requires { REPLY + length line.old ≤ SIZE }
+    ensures text { let first = slice_index_or room.now 0 0 in
+        line.new ≡ filled_text (first / 2 ^ 32) (first % 2 ^ 32)
+        (take count (parts_in count room.now)) ++ line.old }
+    ensures short { length line.new ≤ REPLY + length line.old }
 {
+    let first = number_at(room, 0);
+    let taken = first / 0x1_0000_0000;
+    let rest = first % 0x1_0000_0000;
     if taken == 0 {
-        return labelled(out, b"filled 0 rest ", rest);
+        line.number(rest);
+        line.bytes(b"filled 0 rest ");
+        return;
     }
-    labelled(out, b"filled ", taken)?;
-    labelled(out, b" rest ", rest)?;
-    out.extend_from_slice(b" from")?;
-    let told = took.len().min(count as usize);
-    parts(out, &took[..told])
+    parts(line, count, room);
+    line.bytes(b" from");
+    line.number(rest);
+    line.bytes(b" rest ");
+    line.number(taken);
+    line.bytes(b"filled ");
 }
 
-fn reply(out: &mut Vec<u8>, reply: &BookReply) -> Result<(), AllocError>
-    ensures { OnOk result (out.new.items ≡ out.old.items ++ reply_text reply.now) }
+// The reply that a head and a room are, if there is one.
+fn reply(line: &mut LineBuffer, head: Head, room: &[u64])
+    requires { REPLY + length line.old ≤ SIZE }
+    ensures text { IfSome (reply_in head room.now) (λ r. line.new ≡ reply_text r ++ line.old) }
+    ensures short { length line.new ≤ REPLY + length line.old }
 {
-    match reply {
-        BookReply::Placed => out.extend_from_slice(b"placed"),
-        BookReply::Cancelled(left) => labelled(out, b"cancelled ", *left),
-        BookReply::Gone => out.extend_from_slice(b"gone"),
-        BookReply::Killed => out.extend_from_slice(b"killed"),
-        BookReply::Filled {
-            taken,
-            rest,
-            count,
-            parts,
-        } => filled(out, *taken, *rest, *count, parts),
-        BookReply::Depth(depth) => labelled(out, b"depth ", *depth),
-        BookReply::Account { bought, sold } => {
-            labelled(out, b"bought ", *bought)?;
-            labelled(out, b" sold ", *sold)
+    match head {
+        Head::Unset => (),
+        Head::Placed => line.bytes(b"placed"),
+        Head::Cancelled(left) => {
+            line.number(u64::from(left));
+            line.bytes(b"cancelled ");
+        }
+        Head::Gone => line.bytes(b"gone"),
+        Head::Killed => line.bytes(b"killed"),
+        Head::Filled(count) => filled(line, count, room),
+        Head::Depth => {
+            line.number(number_at(room, 0));
+            line.bytes(b"depth ");
+        }
+        Head::Account => {
+            line.number(number_at(room, 1));
+            line.bytes(b" sold ");
+            line.number(number_at(room, 0));
+            line.bytes(b"bought ");
         }
     }
 }
 
-// CALLER:LINE REPLY, if there is a reply.
-fn answer(
-    out: &mut Vec<u8>,
-    caller: u32,
-    line: u32,
-    answer: Option<BookReply>,
-) -> Result<(), AllocError>
-    ensures { OnOk result (out.new.items ≡ out.old.items ++ answer_text caller line answer) }
+// CALLER:LINE REPLY, if there is a reply, in a buffer of its own.
+fn answer(text: &mut LineBuffer, caller: u32, line: u32, head: Head, room: &[u64])
+    ensures { text.new ≡ answer_text caller line (reply_in head room.now) }
 {
-    let Some(answer) = answer else {
-        return Ok(());
-    };
-    number(out, caller)?;
-    out.push(b':')?;
-    number(out, line)?;
-    out.push(b' ')?;
-    reply(out, &answer)?;
-    out.push(b'\n')?;
-    Ok(())
+    text.clear();
+    if matches!(head, Head::Unset) {
+        return;
+    }
+    text.byte(b'\n');
+    reply(text, head, room);
+    text.byte(b' ');
+    text.number(u64::from(line));
+    text.byte(b':');
+    text.number(u64::from(caller));
 }
 
-// The lines of one caller.
-pub(crate) fn script(
+/// Makes room for so many lines, if they are no longer than is likely.
+pub(crate) fn make_room(out: &mut Vec<u8>, lines: u32) -> Result<(), AllocError>
+    ensures { out.new.items ≡ out.old.items }
+{
+    out.reserve(LIKELY_LINE * lines as usize)
+}
+
+/// Adds the lines of a caller after its first `before`, which end before line 2^32.
+pub(crate) fn lines(
     out: &mut Vec<u8>,
     replies: &Replies,
     caller: u32,
-    lines: u32,
+    before: u32,
+    count: u32,
 ) -> Result<(), AllocError>
+    requires { before + count < 2 ^ 32 }
     ensures { OnOk result (out.new.items
-        ≡ out.old.items ++ script_text replies.now.replies caller lines) }
+        ≡ out.old.items ++ lines_text replies.now.replies caller before count) }
 {
-    for before in 0..lines {
-        let line = before + 1;
-        answer(out, caller, line, replies.get(caller, line))?;
+    let mut text = LineBuffer::new();
+    for done in 0..count {
+        let line = before + done + 1;
+        let (head, room) = replies.told(caller, line);
+        answer(&mut text, caller, line, head, room);
+        out.extend_from_slice(text.text())?;
     }
     Ok(())
 }
@@ -144,7 +191,7 @@ fn scripts(out: &mut Vec<u8>, scripts: &Scripts, replies: &Replies) -> Result<()
 {
     for before in 0..scripts.callers() {
         let caller = before + 1;
-        script(out, replies, caller, scripts.len(caller))?;
+        lines(out, replies, caller, 0, scripts.len(caller))?;
     }
     Ok(())
 }
@@ -251,6 +298,7 @@ pub fn report(
         → text.items ≡ report_text of.now replies.now.replies book) }
 {
     let mut out = Vec::new(alloc);
+    make_room(&mut out, of.total())?;
     scripts(&mut out, of, replies)?;
     after_replies(&mut out, contents, of.total())?;
     Ok(out)

@@ -10,7 +10,17 @@ fn threads_write_the_same_report(rt: HostRuntime) -> Result<(), Fail> {
     let alloc = rt.alloc();
     let values = [(DEPTHS, 1_999, 7), (BOUGHT, 5, 3), (SOLD, 9_999, 2)];
     let contents = contents_of(alloc, &values)?;
-    for (callers, lines) in [(1, 40), (2, 81), (5, 203), (5, 3)] {
+    let files = [
+        (1, 40),
+        (1, 4_096),
+        (1, 9_001),
+        (2, 81),
+        (2, 8_193),
+        (3, 12_301),
+        (5, 203),
+        (5, 3),
+    ];
+    for (callers, lines) in files {
         let scripts = make(alloc, 7, lines, callers)?;
         let mut replies = Replies::empty(alloc, &scripts)?;
         set_all(&mut replies, &scripts, 4);

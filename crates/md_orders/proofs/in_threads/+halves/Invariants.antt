@@ -6,5 +6,5 @@ decreases-join+arg2 g l = l.low
 abbrev pub decreases-join+arg3 : goal.decreases-join+arg3
 decreases-join+arg3 g l = l.high
 
-abbrev pub decreases-lines_after : goal.decreases-lines_after
-decreases-lines_after g l = l.count
+abbrev pub decreases-lines_of_callers : goal.decreases-lines_of_callers
+decreases-lines_of_callers g l = l.count

@@ -4,7 +4,7 @@ use Rattle.md_book.specs.declared.commands.BookReply.{BookReply}
 use Rattle.md_orders.specs.Scripts.{list_of}
 use Rattle.md_orders.proofs.ByCaller.{at_line-at, at_line-past}
 use Rattle.md_orders.proofs.Placed.{list_of-map}
-use Rattle.md_orders.proofs.replies.Replies.get.Goals as goal
+use Rattle.md_orders.proofs.replies.Replies.told.Goals as goal
 
 pub returns-then-line-len : goal.returns-then-line-len
 returns-then-line-len c =
@@ -18,4 +18,4 @@ returns c =
     let shown = ap (λ s. s.replies) c.self.view_is in
     let found = list_of-map (λ s. s.replies) c.self.inside.callers.items c.args.caller _ c.index-rooms.result.now (omega arith) (omega (arith, c.len.ensures, c.self.inside.callers.ok.0)) refl c.index-rooms.ensures in
     let mine : c.index-rooms.result.now.replies ≡ list_of c.args.self.now.replies c.args.caller = sym found ∙ ap (λ (rs : List (List (Option BookReply))). list_of rs c.args.caller) shown in
-    sym (ap (option_and_then (λ (o : Option BookReply). o)) (at_line-at c.args.self.now.replies c.args.caller c.args.line _ (omega arith) refl ∙ ap (λ (rs : List (Option BookReply)). slice_get rs (c.args.line - 1)) (sym mine) ∙ c.get.ensures))
+    sym (ap (option_and_then (λ (o : Option BookReply). o)) (at_line-at c.args.self.now.replies c.args.caller c.args.line _ (omega arith) refl ∙ ap (λ (rs : List (Option BookReply)). slice_get rs (c.args.line - 1)) (sym mine) ∙ c.told.ensures))

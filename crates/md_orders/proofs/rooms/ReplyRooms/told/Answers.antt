@@ -2,7 +2,7 @@ use Rattle.std.proofs.Common.{◌≡◌, ◌∙◌, Some, length, take, drop, ge
 use Rattle.std.specs.Prelude.{slice_get, sum}
 use Rattle.md_orders.specs.Rooms.{reply_in}
 use Rattle.md_orders.proofs.Apart.{reply-at, same-lengths, line-at}
-use Rattle.md_orders.proofs.rooms.ReplyRooms.get.Goals as goal
+use Rattle.md_orders.proofs.rooms.ReplyRooms.told.Goals as goal
 
 pub index-requires : goal.index-requires
 index-requires c =
@@ -37,4 +37,4 @@ returns c =
     ∙ ap (λ ns. take (get_or inside.sizes.items c.args.at 0) (drop (sum (take c.args.at inside.sizes.items)) ns)) c.deref.ensures.value in
     sym (ap (λ s. slice_get s.replies c.args.at) c.self.view_is) ∙ found
     ∙ ap (λ h. Some (reply_in h (take (get_or inside.sizes.items c.args.at 0) (drop (sum (take c.args.at inside.sizes.items)) inside.numbers.items)))) (sym head)
-    ∙ ap Some (ap (reply_in c.index-3.result.now) (sym room) ∙ sym c.reply_in.ensures)
+    ∙ ap Some (ap (reply_in c.index-3.result.now) (sym room))
