@@ -1,6 +1,6 @@
 //! How scripts are played over a store of their own.
 
-ghost use Rattle.std.specs.Prelude.{◌≡◌, ◌≤◌, ℕ, IfOk, OnOk, length, map};
+ghost use Rattle.std.specs.Prelude.{◌≡◌, ◌≤◌, ◌*◌, ℕ, IfOk, OnOk, length, map};
 ghost use Rattle.md_words.specs.Layout.{HasNumbers};
 ghost use Rattle.md_book.specs.Book.{Book};
 ghost use Rattle.md_book.specs.Stands.{StandsFor};
@@ -19,7 +19,10 @@ use std::alloc::{AllocError, Global};
 use std::thread::Threads;
 
 /// The most nodes that a lane of the store may be given. A node takes 24 bytes.
-pub const MAX_LANE_NODES: u32 = 524_288;
+pub const MAX_LANE_NODES: u32 = 1_572_864;
+
+/// The most nodes that all lanes of the store together may be given.
+pub const MAX_STORE_NODES: u32 = 33_554_432;
 
 // The buckets of each map, for few lines and for many. An order's name is `caller * 2^32 + line`,
 // and its bucket is the remainder of the division by this number. 2^32 leaves a fifth of the one
@@ -47,6 +50,7 @@ fn buckets_for(lines: u32) -> u32
 fn shape_of(callers: u32, nodes: u32, tries: u32, buckets: u32) -> Shape
     requires callers { (1 ≤ callers) × (callers ≤ 64) }
     requires nodes { (1 ≤ nodes) × (nodes ≤ MAX_LANE_NODES) }
+    requires all { callers * nodes ≤ MAX_STORE_NODES }
     requires tries { 1 ≤ tries }
     requires buckets { (1 ≤ buckets) × (buckets ≤ MORE_BUCKETS) }
     ensures { HasNumbers result callers nodes LEVELS tries MAPS buckets LEVELS }
@@ -59,7 +63,7 @@ fn shape_of(callers: u32, nodes: u32, tries: u32, buckets: u32) -> Shape
 /// once, with the replies of the book, whatever the threads do. `run_all` of md_rounds says more.
 ///
 /// `nodes` is how many nodes a lane has until the store is renewed, `COMMAND_NODES` to
-/// `MAX_LANE_NODES`. `tries` is how many attempts a lane has until then, 1 to 4,294,967,295. It is
+/// `MAX_LANE_NODES`, and at most `MAX_STORE_NODES` for all lanes together. `tries` is how many attempts a lane has until then, 1 to 4,294,967,295. It is
 /// also the most attempts that a caller makes in its turn of a round. With fewer nodes or attempts
 /// the store is renewed more often, and all lines are played in any case.
 ///
@@ -80,6 +84,7 @@ where
     G: Gate + Sync,
     requires callers { (1 ≤ length scripts.now) × (length scripts.now ≤ 64) }
     requires nodes { (COMMAND_NODES ≤ nodes) × (nodes ≤ MAX_LANE_NODES) }
+    requires all { length scripts.now * nodes ≤ MAX_STORE_NODES }
     requires tries { 1 ≤ tries }
     ensures played { IfOk result (λ o. (book : Book) × StandsFor o.contents book
         × IsPlayed scripts.now (map front_in o.fronts.items) o.replies.replies book) }

@@ -1,16 +1,17 @@
 //! Playing scripts over a concurrent store, with the nodes and attempts that the options give.
 
-ghost use Rattle.std.specs.Prelude.{◌≡◌, ◌≤◌, ℕ, IfOk, length, map};
+ghost use Rattle.std.specs.Prelude.{◌≡◌, ◌≤◌, ◌*◌, ℕ, IfOk, length, map};
 ghost use Rattle.md_book.specs.Book.{Book};
 ghost use Rattle.md_book.specs.Stands.{StandsFor};
 ghost use Rattle.md_rounds.specs.Replay.{IsPlayed};
+ghost use Rattle.md_play.specs.declared.playing.TheConstants.{MAX_LANE_NODES, MAX_STORE_NODES};
 ghost use Rattle.md_store.specs.Store.{front_in};
 ghost use Rattle.medley.specs.Options.{AreInRange};
 
 use crate::words::Options;
 use md_book::COMMAND_NODES;
 use md_orders::Scripts;
-use md_play::{MAX_LANE_NODES, play_on_store};
+use md_play::play_on_store;
 use md_rounds::{Gate, Outcome};
 use md_store::StorePass;
 use std::alloc::{AllocError, Global};
@@ -18,6 +19,10 @@ use std::thread::Threads;
 
 // The most nodes of all lanes together, if the options give no number. A node takes 24 bytes.
 const MANY_NODES: u32 = 3_145_728;
+
+// The most nodes of the lane of a single caller, if the options give no number. A renewal takes
+// less time than fresh memory for more nodes: the words of a smaller store stay in the caches.
+const ALONE_NODES: u32 = 524_288;
 
 // The fewest nodes of a lane, if the options give no number.
 const FEW_NODES: u32 = 4_096;
@@ -36,13 +41,27 @@ fn longest(scripts: &Scripts) -> u32
     most
 }
 
+// The most nodes of a lane, by the number of callers.
+fn most_nodes(callers: u32) -> u32
+    requires { (1 ≤ callers) × (callers ≤ 64) }
+    ensures lane { (FEW_NODES ≤ result) × (result ≤ MAX_LANE_NODES) }
+    ensures all { callers * result ≤ MAX_STORE_NODES }
+{
+    if callers == 1 {
+        ALONE_NODES
+    } else {
+        MANY_NODES / callers
+    }
+}
+
 // The nodes of a lane, if the options give no number: enough for all lines of a caller, as far as
 // memory sensibly allows.
 fn nodes_for(scripts: &Scripts) -> u32
     requires { (1 ≤ length scripts.now) × (length scripts.now ≤ 64) }
-    ensures { (COMMAND_NODES ≤ result) × (result ≤ MAX_LANE_NODES) }
+    ensures lane { (COMMAND_NODES ≤ result) × (result ≤ MAX_LANE_NODES) }
+    ensures all { length scripts.now * result ≤ MAX_STORE_NODES }
 {
-    let most = (MANY_NODES / scripts.callers()).min(MAX_LANE_NODES);
+    let most = most_nodes(scripts.callers());
     let nodes = longest(scripts).saturating_mul(LINE_NODES);
     nodes.max(FEW_NODES).min(most)
 }
@@ -51,8 +70,8 @@ fn nodes_for(scripts: &Scripts) -> u32
 /// `play_on_store` of md_play does.
 ///
 /// The options give the nodes and the attempts of a lane. If they give no number of nodes, a lane
-/// has three for each line of the caller with the most lines, but at least 4,096, and at most the
-/// smaller of 524,288 and 3,145,728 divided by the number of callers. If they give no number of
+/// has three for each line of the caller with the most lines, but at least 4,096, and at most
+/// 3,145,728 divided by the number of callers, or 524,288 if there is one. If they give no number of
 /// attempts, a lane has as many as all callers together have lines, or 1 if there is no line. With
 /// smaller numbers the store is renewed more often, and all lines are played in any case.
 ///
