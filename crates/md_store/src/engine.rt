@@ -95,7 +95,8 @@ impl Store {
     /// with every fate decided, too. `AllocError` if memory runs out; then the store has ended, and
     /// its contents are lost.
     ///
-    /// The steps of a settling, then time linear in the words and nodes of both fields.
+    /// The steps of a settling, then time linear in the words and nodes of both fields. The old
+    /// words are freed before the new ones are laid.
     pub fn renew(self, pass: StorePass) -> Result<(Store, StorePass, Front<StorePass>), AllocError>
         requires of { IsPassOf self pass }
         requires all { (front_in pass).lanes ≡ all_lanes self.origin.shape }
