@@ -22,13 +22,16 @@ use md_book::{BOUGHT, DEPTHS, MAPS, MAX_ACCOUNT, MAX_PARTS, MAX_PRICE, Part, SOL
 use md_history::Contents;
 use std::alloc::{AllocError, Global};
 
-// How many bytes a name, a part, the parts of a fill, and a reply can have.
+// How many bytes a name can have: two numbers and a colon.
 const NAME: usize = 2 * DIGITS + 1;
 
+// How many bytes a part can have: a name, a number and two signs.
 const PART: usize = NAME + DIGITS + 2;
 
+// How many bytes the parts of a fill can have.
 const PARTS: usize = MAX_PARTS * PART;
 
+// How many bytes a reply can have: the parts of a fill, two numbers and its words.
 const REPLY: usize = PARTS + 2 * DIGITS + 18;
 
 // How many bytes a line may well have. Room is made for so many.
