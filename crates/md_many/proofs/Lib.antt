@@ -17,3 +17,7 @@ pub mod First
 pub mod Sides
 pub mod Lists
 pub mod Looking
+pub mod Serial
+pub mod Reaching
+pub mod Weighing
+pub mod Bodies
