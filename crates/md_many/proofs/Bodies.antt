@@ -1,12 +1,27 @@
--- Bodies that are scripts are lawful if what their scripts leave is good.
-use Rattle.std.proofs.Common.{◌≡◌, ◌≤◌, ◌+◌, ℕ, List, length}
-use Rattle.md_history.specs.State.{State, HaveSameNumbers}
+-- Bodies that are scripts, and what their scripts leave.
+use Rattle.std.proofs.Common.{◌≡◌, ◌≤◌, ◌+◌, ℕ, Option, Some, None, List, length, refl, ◌∙◌}
+use Rattle.md_history.specs.declared.acts.Op.{Op}
+use Rattle.md_history.specs.State.{State, HaveSameNumbers, after}
 use Rattle.md_history.specs.Counts.{bounds_of_calls}
 use Rattle.md_history.specs.Engine.{needed}
 use Rattle.md_history.specs.Script.{Script, Did, Follows}
+use Rattle.md_history.specs.Branches.{by_option}
 use Rattle.md_history.proofs.Plays.{Leaves, did-leaves}
+use Rattle.md_history.proofs.Runs.{length-maps, length-queues}
 use Rattle.md_history.proofs.FewCalls.{MakesAtMost, script-few}
 use Rattle.md_many.specs.Laws.{AreLawfulBodies}
+
+-- what a script leaves that goes one way or another by a value
+pub leaves-option : {R : Type 0} (P : State → R → Type 0) (o : Option ℕ) (none : Script R) (some : ℕ → Script R)
+    (s : State) → (o ≡ None → Leaves P none s) → ((v : ℕ) → o ≡ Some v → Leaves P (some v) s)
+    → Leaves P (by_option o none some) s
+leaves-option P None none some s n v = n refl
+leaves-option P (Some x) none some s n v = v x refl
+
+-- an operation leaves as many maps and queues as there were
+pub same-after : (s opening : State) (op : Op) → HaveSameNumbers s opening → HaveSameNumbers (after s op) opening
+same-after s opening op same =
+    record { maps = length-maps s op ∙ same.maps; queues = length-queues s op ∙ same.queues }
 
 -- a state is good that is left, and needs no more than so many nodes more
 pub record StaysGood (is_good : State → State → Type 0) (growth : ℕ) (opening s left : State) : Type 0 where

@@ -1,7 +1,8 @@
 -- Runs of lines as one thread makes them.
-use Rattle.std.proofs.Common.{◌≡◌, ℕ, List, [], ◌∷◌, refl, sym, ap, subst, ◌∙◌}
+use Rattle.std.proofs.Common.{◌≡◌, ℕ, List, [], ◌∷◌, ◌++◌, refl, sym, ap, subst, ◌∙◌, append_assoc}
 use Rattle.std.specs.Prelude.{Option}
 use Rattle.std.specs.List.{cons_option}
+use Rattle.std.proofs.lemmas.List.{append-nil}
 use Rattle.md_history.specs.declared.acts.Act.{Act}
 use Rattle.md_history.specs.declared.entries.Entry.{Entry}
 use Rattle.md_history.specs.State.{State, run, IsRight}
@@ -11,7 +12,7 @@ use Rattle.md_history.specs.Front.{Front}
 use Rattle.md_many.specs.Played.{committed_of, tags_of, line_at, EachLineOnce}
 use Rattle.md_many.specs.Rounds.{at_caller}
 use Rattle.md_many.specs.Replied.{IsReplied, AreReplied}
-use Rattle.md_many.specs.Serial.{IsSerialRun, at_tags, after_each, reply_of_each}
+use Rattle.md_many.specs.Serial.{IsSerialRun, at_tags, after_each, reply_of_each, added_by}
 use Rattle.md_many.proofs.Walking.{fronts-right, fronts-run, kept-in, each-replied}
 
 -- the committed entries of fronts that hold each line once are a serial run
@@ -71,3 +72,20 @@ module _ {B R : Type 0} (did : B → List Act → R → Type 0) (body_at : ℕ �
         → (end ≡ state_of (after_each after x (at_tags body_at (tags_of es))))
         × (at_tags reply_at (tags_of es) ≡ reply_of_each after reply x (at_tags body_at (tags_of es)))
     serial-does x es end is = let each = each-does x es is.lines is.right in (is.left ∙ each.0, each.1)
+
+module _ {B S : Type 0} (after : S → B → S) where
+  -- what each body leaves as it was is as it was at first
+  pub each-same : {A : Type 0} (of : S → A) → ((s : S) (b : B) → of (after s b) ≡ of s) → (s : S) (bs : List B)
+      → of (after_each after s bs) ≡ of s
+  each-same of same s [] = refl
+  each-same of same s (b ∷ bs) = each-same of same (after s b) bs ∙ same s b
+
+  -- a list to which each body adds by its reply has what all of them add
+  pub each-adds : {R A : Type 0} (reply : S → B → R) (list : S → List A) (add : B → R → List A)
+      → ((s : S) (b : B) → list (after s b) ≡ list s ++ add b (reply s b)) → (s : S) (bs : List B)
+      → list (after_each after s bs) ≡ list s ++ added_by add bs (reply_of_each after reply s bs)
+  each-adds reply list add adds s [] = sym (append-nil (list s))
+  each-adds reply list add adds s (b ∷ bs) =
+      let more = added_by add bs (reply_of_each after reply (after s b) bs) in
+      each-adds reply list add adds (after s b) bs ∙ ap (λ xs. xs ++ more) (adds s b)
+      ∙ append_assoc (list s) (add b (reply s b)) more

@@ -1,9 +1,11 @@
 -- What maps and queues weigh, if each pair and each value has a weight, and what they weigh after an operation.
-use Rattle.std.proofs.Common.{◌≡◌, ◌<◌, ◌≤◌, ◌+◌, ℕ, zero, suc, Option, Some, None, List, [], ◌∷◌, ◌++◌, length, map, get_or, set, drop, refl, sym, ap, subst, ◌∙◌, cond, is_none, arith}
-use Rattle.std.specs.Prelude.{sum_by}
+use Rattle.std.proofs.Common.{◌≡◌, ◌<◌, ◌≤◌, ◌+◌, ℕ, zero, suc, Option, Some, None, List, [], ◌∷◌, ◌++◌, length, map, get_or, set, drop, refl, sym, ap, ◌∙◌, cond, is_none, arith, inl, inr}
+use Rattle.std.specs.Prelude.{sum_by, slice_get, flat_map}
+use Rattle.std.specs.Ordering.{nat_cmp}
 use Rattle.std.specs.FinMap as fin
-use Rattle.std.proofs.lemmas.List.{length-map}
-use Rattle.std.proofs.lemmas.List.Sums.{sum_by-cons, sum_by_push}
+use Rattle.std.proofs.lemmas.Bool.{cases_lt}
+use Rattle.std.proofs.lemmas.List.{get_or_past, set-get_or}
+use Rattle.std.proofs.lemmas.List.Sums.{sum_by-cons, sum_by-append, sum_by_push}
 use Rattle.md_history.specs.declared.acts.Op.TheVariants.{Insert, Remove, Enqueue, Dequeue}
 use Rattle.md_history.specs.State.{State, Table, map_at, queue_at, with_map, with_queue, after}
 use Rattle.md_history.specs.Engine.{needed}
@@ -66,22 +68,25 @@ module _ (w : Weights) (s : State) where
       ∙ omega (arith, map-changed m more there, weigh-insert (λ n. n) (w.pair m) (map_at s m) k v none)
 
   -- a pair is removed
-  pub weight-remove : (m k v : ℕ) → m < length s.maps → fin.get (map_at s m) k ≡ Some v
+  pub weight-remove : (m k v : ℕ) → fin.get (map_at s m) k ≡ Some v
       → weight w (after s (Remove m k)) + w.pair m (k, v) ≡ weight w s
-  weight-remove m k v there some = omega (
-    arith,
-    map-changed m (fin.remove (map_at s m) k) there,
-    weigh-remove (λ n. n) (w.pair m) (map_at s m) k v some,
-  )
+  weight-remove m k v some = elim (cases_lt m (length s.maps)) [
+    | inl there ↦ omega (
+      arith,
+      map-changed m (fin.remove (map_at s m) k) there,
+      weigh-remove (λ n. n) (w.pair m) (map_at s m) k v some,
+    )
+    | inr past ↦
+        let none : fin.get (map_at s m) k ≡ None =
+        ap (λ t. fin.get t k) (get_or_past s.maps m fin.empty past) ∙ fin.get-empty nat_cmp k in
+        cc (sym some ∙ none)
+  ]
 
   -- there is none to remove
-  pub weight-remove_none : (m k : ℕ) → m < length s.maps → fin.get (map_at s m) k ≡ None
-      → weight w (after s (Remove m k)) ≡ weight w s
-  weight-remove_none m k there none = omega (
-    arith,
-    map-changed m (fin.remove (map_at s m) k) there,
-    ap (weight_of_map (w.pair m)) (remove-absent (map_at s m) k none),
-  )
+  pub weight-remove_none : (m k : ℕ) → fin.get (map_at s m) k ≡ None → weight w (after s (Remove m k)) ≡ weight w s
+  weight-remove_none m k none =
+      ap (λ t. weight w (with_map s m t)) (remove-absent (map_at s m) k none)
+      ∙ ap (λ ms. weight w (record { maps = ms; queues = s.queues })) (set-get_or s.maps m fin.empty)
 
   -- a value is added
   pub weight-enqueue : (q v : ℕ) → q < length s.queues
@@ -90,25 +95,44 @@ module _ (w : Weights) (s : State) where
       omega (arith, queue-changed q (queue_at s q ++ v ∷ []) there, sum_by_push (w.value q) (queue_at s q) v)
 
   -- the first value is taken out
-  pub weight-dequeue : (q v : ℕ) (rest : List ℕ) → q < length s.queues → queue_at s q ≡ v ∷ rest
+  pub weight-dequeue : (q v : ℕ) → slice_get (queue_at s q) 0 ≡ Some v
       → weight w (after s (Dequeue q)) + w.value q v ≡ weight w s
-  weight-dequeue q v rest there is = omega (
-    arith,
-    queue-changed q (drop 1 (queue_at s q)) there,
-    ap (sum_by (w.value q)) is,
-    ap (λ xs. sum_by (w.value q) (drop 1 xs)) is,
-    sum_by-cons (w.value q) v rest,
-  )
+  weight-dequeue q v first = elim (cases_lt q (length s.queues)) [
+    | inl there ↦ each (queue_at s q) refl there
+    | inr past ↦
+        let none : slice_get (queue_at s q) 0 ≡ None = ap (λ xs. slice_get xs 0) (get_or_past s.queues q [] past) in
+        cc (sym first ∙ none)
+  ]
+    where
+      each : (xs : List ℕ) → queue_at s q ≡ xs → q < length s.queues
+          → weight w (after s (Dequeue q)) + w.value q v ≡ weight w s
+      each [] is there =
+          let none : slice_get (queue_at s q) 0 ≡ None = ap (λ xs. slice_get xs 0) is in
+          cc (sym first ∙ none)
+      each (x ∷ xs) is there =
+          let here : slice_get (queue_at s q) 0 ≡ Some x = ap (λ ys. slice_get ys 0) is in
+          let same : x ≡ v = cc (sym here ∙ first) in
+          omega (
+            arith,
+            queue-changed q (drop 1 (queue_at s q)) there,
+            ap (sum_by (w.value q)) is,
+            ap (λ ys. sum_by (w.value q) (drop 1 ys)) is,
+            sum_by-cons (w.value q) x xs,
+            ap (w.value q) same,
+          )
 
   -- there is none to take out
-  pub weight-dequeue_none : (q : ℕ) → q < length s.queues → queue_at s q ≡ []
-      → weight w (after s (Dequeue q)) ≡ weight w s
-  weight-dequeue_none q there none = omega (
-    arith,
-    queue-changed q (drop 1 (queue_at s q)) there,
-    ap (sum_by (w.value q)) none,
-    ap (λ xs. sum_by (w.value q) (drop 1 xs)) none,
-  )
+  pub weight-dequeue_none : (q : ℕ) → slice_get (queue_at s q) 0 ≡ None → weight w (after s (Dequeue q)) ≡ weight w s
+  weight-dequeue_none q none = each (queue_at s q) refl
+    where
+      each : (xs : List ℕ) → queue_at s q ≡ xs → weight w (after s (Dequeue q)) ≡ weight w s
+      each [] is =
+          ap (λ xs. weight w (with_queue s q (drop 1 xs))) is
+          ∙ ap (λ xs. weight w (with_queue s q xs)) (sym is)
+          ∙ ap (λ qs. weight w (record { maps = s.maps; queues = qs })) (set-get_or s.queues q [])
+      each (x ∷ xs) is =
+          let some : slice_get (queue_at s q) 0 ≡ Some x = ap (λ ys. slice_get ys 0) is in
+          cc (sym none ∙ some)
 
 ones : {A : Type 0} (f : A → ℕ) → ((x : A) → f x ≡ 1) → (xs : List A) → sum_by f xs ≡ length xs
 ones f one [] = refl
@@ -119,6 +143,12 @@ same-sums : {A : Type 0} (f : ℕ → A → ℕ) (g : A → ℕ) → ((i : ℕ) 
 same-sums f g same [] = refl
 same-sums f g same (x ∷ xs) =
     omega (arith, sum_by-cons g x xs, same 0 x, same-sums (λ i. f (suc i)) g (λ i. same (suc i)) xs)
+
+-- what the values of all queues weigh
+pub weight-queues : (f : ℕ → ℕ) (qs : List (List ℕ))
+    → sum_by f (flat_map (λ q. q) qs) ≡ sum_at (λ q xs. sum_by f xs) qs
+weight-queues f [] = refl
+weight-queues f (q ∷ qs) = sum_by-append f q (flat_map (λ r. r) qs) ∙ ap (λ n. sum_by f q + n) (weight-queues f qs)
 
 -- contents need a node for each queue, and one for whatever weighs 1
 pub needed-weight : (w : Weights) (s : State) → ((m : ℕ) (e : ℕ × ℕ) → w.pair m e ≡ 1)

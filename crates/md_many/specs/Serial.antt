@@ -1,5 +1,5 @@
 -- A run as one thread makes it, and what lines come to that are done one after another.
-use Rattle.std.specs.Prelude.{◌≡◌, ◌/◌, ◌%◌, ◌^◌, ℕ, Option, List, [], ◌∷◌}
+use Rattle.std.specs.Prelude.{◌≡◌, ◌/◌, ◌%◌, ◌^◌, ℕ, Option, List, [], ◌∷◌, ◌++◌}
 use Rattle.std.specs.List.{filter_map}
 use Rattle.md_history.specs.declared.acts.Act.{Act}
 use Rattle.md_history.specs.declared.entries.Entry.{Entry}
@@ -28,3 +28,10 @@ after_each after s (b ∷ bs) = after_each after (after s b) bs
 abbrev pub reply_of_each : {S B R : Type 0} → (S → B → S) → (S → B → R) → S → List B → List R
 reply_of_each after reply s [] = []
 reply_of_each after reply s (b ∷ bs) = reply s b ∷ reply_of_each after reply (after s b) bs
+
+-- what bodies add to a list, one after another, by their replies
+abbrev pub added_by : {B R A : Type 0} → (B → R → List A) → List B → List R → List A
+added_by add [] [] = []
+added_by add [] (r ∷ rs) = []
+added_by add (b ∷ bs) [] = []
+added_by add (b ∷ bs) (r ∷ rs) = add b r ++ added_by add bs rs

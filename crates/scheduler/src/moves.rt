@@ -8,6 +8,7 @@ ghost use Rattle.scheduler.specs.Moves.{first_waiting, take, finish, put_back};
 
 use crate::places::{FINISHED, LOWEST, MAPS, PRIORITIES, RUNNING};
 use md_history::{Body, Stop, TxCalls};
+use md_many::LawfulBody;
 
 /// What a worker may do.
 #[derive(Clone, Copy, Debug, PartialEq, Eq)]
@@ -113,4 +114,16 @@ impl Body for Move {
     }
 
     ghost did_makes = { λ m acts r did. did.follows };
+}
+
+// No move loses a job, and none needs a node more.
+impl LawfulBody for Move {
+    ghost use Rattle.scheduler.specs.Jobs.{KeepsJobs};
+    ghost use Rattle.scheduler.specs.Moves.{move_bounds};
+
+    ghost good = { λ opening s. KeepsJobs opening s };
+
+    ghost cost = { move_bounds };
+
+    ghost growth = { 0 };
 }

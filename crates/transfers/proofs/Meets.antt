@@ -40,19 +40,16 @@ decided-replies : (t : Transfer) (s : State) (o : Result (ℕ × ℕ) Refusal) �
 decided-replies t s (Err why) = refl
 decided-replies t s (Ok new) = refl
 
-pub record Meets (t : Transfer) (b : Bank) (acts : List Act) (r : Outcome) : Type 0 where
-  pub state : run (state_of b) acts ≡ state_of (bank_after b t)
-  pub reply : r ≡ outcome_in b t
+-- what a transfer leaves
+pub leaves : (t : Transfer) (b : Bank) → played (script_of t) (state_of b) ≡ state_of (bank_after b t)
+leaves t b = decided-leaves t b (balances_of b t)
 
 -- right acts of a transfer
-pub meets : (t : Transfer) (b : Bank) (acts : List Act) (r : Outcome) → Did (script_of t) acts r
-    → IsRight (state_of b) acts → Meets t b acts r
-meets t b acts r did right =
+pub does : (b : Bank) (t : Transfer) (acts : List Act) (r : Outcome) → Did (script_of t) acts r
+    → IsRight (state_of b) acts → (run (state_of b) acts ≡ state_of (bank_after b t)) × (r ≡ outcome_in b t)
+does b t acts r did right =
     let p = did-played (script_of t) (state_of b) acts r did right in
-    record {
-      state = p.state ∙ decided-leaves t b (balances_of b t);
-      reply = p.reply ∙ decided-replies t (state_of b) (balances_of b t);
-    }
+    (p.state ∙ leaves t b, p.reply ∙ decided-replies t (state_of b) (balances_of b t))
 
 -- what is so where new balances were found
 record AreNew (t : Transfer) (from to : Option ℕ) (new : ℕ × ℕ) : Type 0 where
@@ -90,7 +87,7 @@ are-new t (Some x) (Some y) new is = elim (cases_Bool (t.from == t.to)) [
   ]
 ]
 
--- what a transfer keeps
+-- what a transfer keeps, and what it adds to the journal
 pub record Keeps (b b' : Bank) : Type 0 where
   pub sum : total b' ≡ total b
   pub accounts : fin.len b'.accounts ≡ fin.len b.accounts
