@@ -1,5 +1,5 @@
 -- Bodies that are scripts, and what their scripts leave.
-use Rattle.std.proofs.Common.{◌≡◌, ◌≤◌, ◌+◌, ℕ, Option, Some, None, List, length, refl, ◌∙◌}
+use Rattle.std.proofs.Common.{◌≡◌, ◌≤◌, ◌+◌, ℕ, Option, Some, None, length, refl, ◌∙◌}
 use Rattle.md_history.specs.declared.acts.Op.{Op}
 use Rattle.md_history.specs.State.{State, HaveSameNumbers, after}
 use Rattle.md_history.specs.Counts.{bounds_of_calls}

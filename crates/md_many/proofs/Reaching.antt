@@ -1,17 +1,16 @@
 -- Lines whose bodies are lawful are lawful.
-use Rattle.std.proofs.Common.{◌≡◌, ◌≤◌, ◌<◌, ◌+◌, ◌*◌, ℕ, Some, None, List, [], ◌∷◌, ◌++◌, length, refl, ap, ◌∙◌, arith, inl, inr}
+use Rattle.std.proofs.Common.{◌≡◌, ◌≤◌, ◌<◌, ◌+◌, ◌*◌, ℕ, Some, None, List, [], ◌∷◌, ◌++◌, refl, ap, ◌∙◌, arith, inl, inr}
 use Rattle.std.specs.Prelude.{◌⊎◌, ◌↔◌, Option, IsSome, is_some, IfSome}
 use Rattle.std.proofs.Math.Nat.{mul-le-mul_left}
 use Rattle.std.proofs.lemmas.Bool.{cases_lt}
 use Rattle.md_history.specs.declared.acts.Act.{Act}
 use Rattle.md_history.specs.State.{State}
-use Rattle.md_history.specs.Counts.{Bounds, AllowAll, IsSmall}
-use Rattle.md_history.specs.Engine.{Limits, bounds_in, needed}
+use Rattle.md_history.specs.Counts.{Bounds, IsSmall}
+use Rattle.md_history.specs.Engine.{needed}
 use Rattle.md_history.proofs.Runs.{length-maps-run, length-queues-run}
 use Rattle.md_many.specs.Tags.{tag_of}
 use Rattle.md_many.specs.Laws.{AreLawful, AreLawfulBodies, LineKeepsGood}
 use Rattle.md_many.specs.Left.{left_of, all_tags, lines_of}
-use Rattle.md_many.specs.Course.{CanRun}
 use Rattle.md_many.specs.Reached.{IsReached}
 use Rattle.md_many.proofs.Left.{has-all, left-less, left-all, none-has}
 

@@ -1,13 +1,13 @@
 -- What maps and queues weigh, if each pair and each value has a weight, and what they weigh after an operation.
-use Rattle.std.proofs.Common.{◌≡◌, ◌<◌, ◌≤◌, ◌+◌, ℕ, zero, suc, Option, Some, None, List, [], ◌∷◌, ◌++◌, length, map, get_or, set, drop, refl, sym, ap, ◌∙◌, cond, is_none, arith, inl, inr}
-use Rattle.std.specs.Prelude.{sum_by, slice_get, flat_map}
+use Rattle.std.proofs.Common.{◌≡◌, ◌<◌, ◌+◌, ℕ, zero, suc, Some, None, List, [], ◌∷◌, ◌++◌, length, map, get_or, set, drop, refl, sym, ap, ◌∙◌, cond, is_none, arith, inl, inr}
+use Rattle.std.specs.Prelude.{sum_by, slice_get, flat_map, replicate}
 use Rattle.std.specs.Ordering.{nat_cmp}
 use Rattle.std.specs.FinMap as fin
 use Rattle.std.proofs.lemmas.Bool.{cases_lt}
 use Rattle.std.proofs.lemmas.List.{get_or_past, set-get_or}
 use Rattle.std.proofs.lemmas.List.Sums.{sum_by-cons, sum_by-append, sum_by_push}
 use Rattle.md_history.specs.declared.acts.Op.TheVariants.{Insert, Remove, Enqueue, Dequeue}
-use Rattle.md_history.specs.State.{State, Table, map_at, queue_at, with_map, with_queue, after}
+use Rattle.md_history.specs.State.{State, Table, empty_state, map_at, queue_at, with_map, with_queue, after}
 use Rattle.md_history.specs.Engine.{needed}
 use Rattle.md_history.proofs.Keys.{remove-absent}
 use Rattle.md_history.proofs.Weights.{weigh, weigh-insert, weigh-remove}
@@ -162,3 +162,19 @@ needed-weight w s pair value = omega (
     each : (m : ℕ) (es : List (ℕ × ℕ)) → sum_by (λ n. n) (map (w.pair m) es) ≡ length es
     each m [] = refl
     each m (e ∷ es) = omega (arith, sum_by-cons (λ n. n) (w.pair m e) (map (w.pair m) es), pair m e, each m es)
+
+-- nothing weighs nothing
+pub weight-empty : (w : Weights) (maps queues : ℕ) → weight w (empty_state maps queues) ≡ 0
+weight-empty w maps queues = omega (
+  arith,
+  none (λ m t. weight_of_map (w.pair m) t) fin.empty (λ m. each m (fin.entries fin.empty) (sym (fin.len-entries fin.empty) ∙ fin.len-empty nat_cmp ℕ)) maps,
+  none (λ q xs. sum_by (w.value q) xs) [] (λ q. refl) queues,
+)
+  where
+    none : {A : Type 0} (f : ℕ → A → ℕ) (x : A) → ((i : ℕ) → f i x ≡ 0) → (n : ℕ) → sum_at f (replicate n x) ≡ 0
+    none f x nothing zero = refl
+    none f x nothing (suc n) = omega (arith, nothing 0, none (λ i. f (suc i)) x (λ i. nothing (suc i)) n)
+
+    each : (m : ℕ) (es : List (ℕ × ℕ)) → length es ≡ 0 → sum_by (λ n. n) (map (w.pair m) es) ≡ 0
+    each m [] empty = refl
+    each m (e ∷ es) empty = absurd (omega (arith, empty))

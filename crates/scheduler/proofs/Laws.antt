@@ -45,11 +45,14 @@ by-place f s two = each s.maps two
         )
     each (a ∷ b ∷ c ∷ ms) two = absurd (omega (arith, two))
 
--- the weight by which one job is counted
-abbrev is : ℕ → ℕ → ℕ
+-- the weight by which all jobs are counted, and that by which one is
+pub ones : (m : ℕ) (e : ℕ × ℕ) → (jobs_by (λ _. 1)).pair m e ≡ 1
+ones m e = elim (m == RUNNING) as (λ b. ◌≡◌ {A = ℕ} (cond b 1 1) 1) [ true ↦ refl | false ↦ refl ]
+
+abbrev pub is : ℕ → ℕ → ℕ
 is job j = cond (j == job) 1 0
 
-module _ (opening s : State) (good : KeepsJobs opening s) (numbers : HaveSameNumbers s opening) where
+module _ (opening s : State) (good : KeepsJobs opening s) (like : HaveSameNumbers s opening) where
   -- since the move began with s, operations led to t, and a weight of jobs is out of its place
   record Moves (t : State) (out : (ℕ → ℕ) → ℕ) : Type 0 where
     pub numbers : HaveSameNumbers t opening
@@ -59,7 +62,7 @@ module _ (opening s : State) (good : KeepsJobs opening s) (numbers : HaveSameNum
   none_out f = 0
 
   begins : Moves s none_out
-  begins = record { numbers = numbers; same = λ f. omega arith }
+  begins = record { numbers = like; same = λ f. omega arith }
 
   module _ (t : State) (out out' : (ℕ → ℕ) → ℕ) (op : Op) (m : Moves t out) where
     goes-on : ((f : ℕ → ℕ) → weight (jobs_by f) (after t op) + out' f ≡ weight (jobs_by f) t + out f) → Moves (after t op) out'
@@ -102,7 +105,7 @@ module _ (opening s : State) (good : KeepsJobs opening s) (numbers : HaveSameNum
           one,
           weight-remove (jobs_by (is job)) t FINISHED job worker found,
           m.same (is job),
-          by-place (is job) s (numbers.maps ∙ good.maps),
+          by-place (is job) s (like.maps ∙ good.maps),
           good.same (is job),
           good.once job,
         ))
@@ -149,20 +152,17 @@ module _ (opening s : State) (good : KeepsJobs opening s) (numbers : HaveSameNum
       queues = good.queues;
       once = good.once;
       same = λ f. by-place f t (m.numbers.maps ∙ good.maps) ∙ omega (arith, m.same f)
-          ∙ sym (by-place f s (numbers.maps ∙ good.maps)) ∙ good.same f;
+          ∙ sym (by-place f s (like.maps ∙ good.maps)) ∙ good.same f;
     };
     need = omega (
       arith,
-      needed-weight (jobs_by (λ _. 1)) s one (λ q v. refl),
-      needed-weight (jobs_by (λ _. 1)) t one (λ q v. refl),
+      needed-weight (jobs_by (λ _. 1)) s ones (λ q v. refl),
+      needed-weight (jobs_by (λ _. 1)) t ones (λ q v. refl),
       m.same (λ _. 1),
       m.numbers.queues,
-      numbers.queues,
+      like.queues,
     );
   }
-    where
-      one : (n : ℕ) (e : ℕ × ℕ) → cond (n == RUNNING) 1 1 ≡ 1
-      one n e = elim (n == RUNNING) as (λ b. cond b 1 1 ≡ 1) [ true ↦ refl | false ↦ refl ]
 
 -- every move makes few calls
 first-few : (worker left queue : ℕ)

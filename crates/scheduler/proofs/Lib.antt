@@ -1,3 +1,4 @@
 mod Walking
 mod Laws
+mod Opening
 mod Running

@@ -1,45 +1,50 @@
 -- How the waiting queues are filled.
-use Rattle.std.proofs.Common.{◌≡◌, ◌<◌, ◌+◌, ℕ, suc, List, [], ◌∷◌, ◌++◌, length, map, refl, sym, ap, ◌∙◌, arith}
-use Rattle.std.specs.Prelude.{sum_by}
-use Rattle.std.specs.Ordering.{nat_cmp}
-use Rattle.std.specs.FinMap as fin
-use Rattle.std.proofs.lemmas.List.Sums.{sum_by-cons}
-use Rattle.md_history.specs.State.{State, Table, empty_state, queue_at, with_queue}
-use Rattle.md_history.proofs.Weights.{weigh}
+use Rattle.std.proofs.Common.{◌≡◌, ◌<◌, ◌+◌, ◌==◌, ℕ, cond, true, false, [], ◌∷◌, ◌++◌, refl, sym, ap, ◌∙◌, arith}
+use Rattle.std.specs.Prelude.{nat_lt, sum_by}
+use Rattle.std.proofs.lemmas.Bool.Decides.{nat_tests}
+use Rattle.md_history.specs.declared.acts.Op.TheVariants.{Enqueue}
+use Rattle.md_history.specs.State.{State, empty_state, after}
+use Rattle.md_history.proofs.Runs.{length-queues}
+use Rattle.md_many.proofs.Weighing.{weight, weight-enqueue, weight-empty, needed-weight}
 use Rattle.scheduler.specs.declared.places.TheConstants.{MAPS, PRIORITIES}
-use Rattle.scheduler.specs.Jobs.{Holds, numbered}
-use Rattle.scheduler.proofs.Weights.{by-place}
-use Rattle.scheduler.proofs.Keeping.{enqueued}
-use Rattle.scheduler.proofs.Counting.{sum-numbered}
-
-no-entries : (es : List (ℕ × ℕ)) → length es ≡ 0 → es ≡ []
-no-entries [] none = refl
-no-entries (e ∷ es) none = absurd (omega arith)
-
-weigh-empty : (f : ℕ → ℕ) (job : ℕ × ℕ → ℕ) → weigh f job fin.empty ≡ 0
-weigh-empty f job =
-    let m : Table = fin.empty in
-    ap (λ es. sum_by f (map job es)) (no-entries (fin.entries m) (sym (fin.len-entries m) ∙ fin.len-empty nat_cmp ℕ))
+use Rattle.scheduler.specs.Jobs.{places, jobs_in, Holds}
+use Rattle.scheduler.proofs.Laws.{jobs_by, by-place, is, ones}
 
 -- at first no job waits
-pub holds-none : Holds (numbered 0) [] (empty_state MAPS PRIORITIES)
-holds-none = record {
-  maps = refl;
-  queues = refl;
-  same = λ f. omega (arith, by-place f (empty_state MAPS PRIORITIES), weigh-empty f (λ e. e.0), weigh-empty f (λ e. e.1));
-}
+pub holds-none : Holds 0 (empty_state MAPS PRIORITIES)
+holds-none =
+    let nothing = λ (f : ℕ → ℕ). weight-empty (jobs_by f) MAPS PRIORITIES in
+    record {
+      maps = refl;
+      queues = refl;
+      each = λ job.
+          let none : places (empty_state MAPS PRIORITIES) job ≡ 0 =
+          omega (arith, by-place (is job) (empty_state MAPS PRIORITIES) refl, nothing (is job)) in
+          none ∙ grind (arith, nat_tests);
+      nodes = needed-weight (jobs_by (λ _. 1)) (empty_state MAPS PRIORITIES) ones (λ q v. refl) ∙ omega (arith, nothing (λ _. 1));
+    }
 
 -- the next job waits, too
-pub holds-more : (n q : ℕ) (s : State) → Holds (numbered n) [] s → q < PRIORITIES
-    → Holds (numbered (n + 1)) [] (with_queue s q (queue_at s q ++ n ∷ []))
+pub holds-more : (n q : ℕ) (s : State) → Holds n s → q < PRIORITIES → Holds (n + 1) (after s (Enqueue q n))
 holds-more n q s holds there =
-    let next : Holds (numbered (n + 1)) (n ∷ []) s = record {
+    let t = after s (Enqueue q n) in
+    record {
       maps = holds.maps;
-      queues = holds.queues;
-      same = λ f.
-          let more : sum_by f (numbered (n + 1)) ≡ sum_by f (numbered n) + f (0 + n) =
-          ap (λ m. sum_by f (numbered m)) (let e : n + 1 ≡ suc n = omega arith in e) ∙ sum-numbered f 0 n in
-          let at : 0 + n ≡ n = omega arith in
-          omega (arith, more, ap f at, holds.same f, sum_by-cons f n []);
-    } in
-    enqueued (numbered (n + 1)) s n next q there
+      queues = length-queues s (Enqueue q n) ∙ holds.queues;
+      each = λ job.
+          let more : places t job ≡ places s job + is job n = omega (
+            arith,
+            by-place (is job) s holds.maps,
+            by-place (is job) t holds.maps,
+            weight-enqueue (jobs_by (is job)) s q n (omega (arith, there, holds.queues)),
+          ) in
+          more ∙ ap (λ k. k + is job n) (holds.each job) ∙ grind (arith, nat_tests);
+      nodes = omega (
+        arith,
+        holds.nodes,
+        needed-weight (jobs_by (λ _. 1)) s ones (λ q v. refl),
+        needed-weight (jobs_by (λ _. 1)) t ones (λ q v. refl),
+        weight-enqueue (jobs_by (λ _. 1)) s q n (omega (arith, there, holds.queues)),
+        length-queues s (Enqueue q n),
+      );
+    }
