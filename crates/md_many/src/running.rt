@@ -2,6 +2,7 @@
 
 ghost use Rattle.std.specs.Prelude.{◌≡◌, ◌≤◌, ◌+◌, ◌*◌, [], ℕ, length, map, IfOk, OnOk};
 ghost use Rattle.std.specs.Prelude.{IsSome};
+ghost use Rattle.md_history.specs.State.{HaveSameNumbers};
 ghost use Rattle.md_history.specs.Counts.{AllowAll};
 ghost use Rattle.md_history.specs.Engine.{bounds_in, needed};
 ghost use Rattle.md_many.specs.Tags.{IsInterleaving};
@@ -118,6 +119,7 @@ where
     ensures serial { IfOk result (λ m. IsSerialRun L.B.did (L.body_at lines.now)
         (line_at (lists_in m.replies.items)) (E.start engine)
         (committed_of (map E.front m.fronts.items)) m.contents) }
+    ensures numbers { IfOk result (λ m. HaveSameNumbers m.contents (E.start engine)) }
 {
     let over = LinesOver {
         lines,

@@ -7,10 +7,10 @@ use Rattle.std.proofs.lemmas.List.Sums.{sum_by-append}
 use Rattle.md_history.specs.declared.acts.Op.{Op}
 use Rattle.md_history.specs.declared.acts.Op.TheVariants.{Insert, Remove, Enqueue, Dequeue}
 use Rattle.md_history.specs.State.{State, Table, HaveSameNumbers, map_at, queue_at, after}
-use Rattle.md_history.specs.Script.{done, call, bind, Follows, Did}
-use Rattle.md_history.specs.Branches.{by_option, value_in}
+use Rattle.md_history.specs.Script.{Follows, Did}
+use Rattle.md_history.specs.Branches.{value_in}
 use Rattle.md_history.proofs.Branching.{by_option-each}
-use Rattle.md_history.proofs.Plays.{Leaves, leaves-bind}
+use Rattle.md_history.proofs.Plays.{Leaves}
 use Rattle.md_history.proofs.FewCalls.{MakesAtMost}
 use Rattle.md_many.specs.Laws.{AreLawfulBodies}
 use Rattle.md_many.proofs.Bodies.{StaysGood, leaves-option, same-after, scripts-lawful}
@@ -19,7 +19,7 @@ use Rattle.scheduler.specs.declared.moves.Step.{Step}
 use Rattle.scheduler.specs.declared.moves.Step.TheVariants.{Take, Finish, PutBack}
 use Rattle.scheduler.specs.declared.moves.Move.{Move}
 use Rattle.scheduler.specs.declared.places.TheConstants.{MAPS, PRIORITIES, RUNNING, FINISHED, LOWEST}
-use Rattle.scheduler.specs.Moves.{FitsScheduler, first_waiting, start, take, finish, put_back, script_at, script_of, move_bounds}
+use Rattle.scheduler.specs.Moves.{FitsScheduler, start_first, script_at, script_of, move_bounds}
 use Rattle.scheduler.specs.Jobs.{jobs_in, places, KeepsJobs}
 
 -- a job weighs so much wherever it stands
@@ -124,19 +124,18 @@ module _ (opening s : State) (good : KeepsJobs opening s) (like : HaveSameNumber
   runs t worker = fin.get (map_at t RUNNING) worker
 
   first-stays : (worker left queue : ℕ) (t : State) → Moves t none_out → runs t worker ≡ None
-      → Leaves (λ u found. Leaves Stays (by_option found (done None) (start worker)) u) (first_waiting left queue) t
-  unfolding first_waiting
+      → Leaves Stays (start_first worker left queue) t
+  unfolding start_first
   first-stays worker zero queue t m idle = m
   first-stays worker (suc left) queue t m idle =
-      leaves-option (λ u found. Leaves Stays (by_option found (done None) (start worker)) u) (slice_get (queue_at t queue) 0)
-      (first_waiting left (queue + 1)) (λ job. done (Some job)) (after t (Dequeue queue))
+      leaves-option Stays (slice_get (queue_at t queue) 0) (start_first worker left (queue + 1)) _ (after t (Dequeue queue))
       (λ none. first-stays worker left (queue + 1) (after t (Dequeue queue)) (not-dequeued t m queue none) idle)
       (λ job some. started (after t (Dequeue queue)) job (dequeued t m queue job some) worker idle)
 
+  -- no move loses or doubles a job
   move-stays : (step : Step) (worker : ℕ) → Leaves Stays (script_at step worker) s
-  move-stays Take worker = leaves-option Stays (runs s worker) _ _ s
-      (λ none. leaves-bind Stays (first_waiting PRIORITIES 0) (λ found. by_option found (done None) (start worker)) s
-      (first-stays worker PRIORITIES 0 s begins none)) (λ job some. begins)
+  move-stays Take worker = leaves-option Stays (runs s worker) (start_first worker PRIORITIES 0) _ s
+      (first-stays worker PRIORITIES 0 s begins) (λ job some. begins)
   move-stays Finish worker = leaves-option Stays (runs s worker) _ _ (after s (Remove RUNNING worker))
       (not-running s begins worker)
       (λ job some. finished (after s (Remove RUNNING worker)) job (stopped s begins worker job some) worker)
@@ -165,14 +164,12 @@ module _ (opening s : State) (good : KeepsJobs opening s) (like : HaveSameNumber
   }
 
 -- every move makes few calls
-first-few : (worker left queue : ℕ)
-    → MakesAtMost (suc left) (bind (first_waiting left queue) (λ found. by_option found (done None) (start worker)))
-unfolding first_waiting
+first-few : (worker left queue : ℕ) → MakesAtMost (suc left) (start_first worker left queue)
+unfolding start_first
 first-few worker zero queue = tt
 first-few worker (suc left) queue = (
   refl,
-  λ r. by_option-each (λ p. MakesAtMost (suc left) (bind p (λ found. by_option found (done None) (start worker))))
-      (value_in r) _ _
+  λ r. by_option-each (MakesAtMost (suc left)) (value_in r) (start_first worker left (queue + 1)) _
       (first-few worker left (queue + 1)) (λ job. (refl, λ _. tt)),
 )
 

@@ -1,4 +1,4 @@
 mod Walking
 mod Laws
-mod Opening
+mod Holding
 mod Running
