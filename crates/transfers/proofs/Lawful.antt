@@ -1,5 +1,5 @@
 -- Transfers are lawful bodies.
-use Rattle.std.proofs.Common.{◌≡◌, ◌≤◌, ◌<◌, ◌+◌, ℕ, List, [], ◌∷◌, length, refl, sym, ap, subst, ◌∙◌, arith}
+use Rattle.std.proofs.Common.{◌≡◌, ◌<◌, List, [], ◌∷◌, length, refl, ap, ◌∙◌, arith}
 use Rattle.std.specs.Prelude.{Ok, Err, slice_index_or}
 use Rattle.std.specs.FinMap as fin
 use Rattle.md_history.specs.State.{State, HaveSameNumbers}

@@ -1,8 +1,8 @@
 -- A transfer's right acts do to a bank what one thread does that makes the transfer; and what that keeps.
-use Rattle.std.proofs.Common.{◌≡◌, ◌≢◌, ◌≤◌, ◌+◌, ℕ, cond, List, [], ◌∷◌, length, refl, sym, ap, ◌∙◌, arith, inl, inr}
-use Rattle.std.specs.Prelude.{◌-◌, ◌^◌, ◌==◌, nat_lt, Option, Some, None, Result, Ok, Err, is_none, sum}
+use Rattle.std.proofs.Common.{◌≡◌, ◌≢◌, ◌≤◌, ◌+◌, ℕ, cond, List, [], ◌∷◌, length, refl, sym, ap, ◌∙◌, arith}
+use Rattle.std.specs.Prelude.{Option, Some, None, Result, Ok, Err, is_none, sum}
 use Rattle.std.specs.FinMap as fin
-use Rattle.std.proofs.lemmas.Bool.{cases_Bool, eqb-false, ltb-false}
+use Rattle.std.proofs.lemmas.Bool.Decides.{nat_tests}
 use Rattle.std.proofs.lemmas.List.{length-append}
 use Rattle.md_history.specs.declared.acts.Act.{Act}
 use Rattle.md_history.specs.declared.acts.Op.TheVariants.{Insert, Remove, Enqueue}
@@ -51,41 +51,21 @@ does b t acts r did right =
     let p = did-played (script_of t) (state_of b) acts r did right in
     (p.state ∙ leaves t b, p.reply ∙ decided-replies t (state_of b) (balances_of b t))
 
--- what is so where new balances were found
+-- new balances are of two accounts that are there, and their sum stays
 record AreNew (t : Transfer) (from to : Option ℕ) (new : ℕ × ℕ) : Type 0 where
   pub left : ℕ
   pub there : ℕ
   pub from_is : from ≡ Some left
   pub to_is : to ≡ Some there
   pub other : t.from ≢ t.to
-  pub enough : t.amount ≤ left
-  pub taken : new.0 ≡ left - t.amount
-  pub given : new.1 ≡ there + t.amount
+  pub sum : new.0 + new.1 ≡ left + there
 
 are-new : (t : Transfer) (from to : Option ℕ) (new : ℕ × ℕ) → new_balances t from to ≡ Ok new → AreNew t from to new
 are-new t None to new is = cc
 are-new t (Some x) None new is = cc
-are-new t (Some x) (Some y) new is = elim (cases_Bool (t.from == t.to)) [
-  | inl same ↦ cc (rw same at is)
-  | inr other ↦ elim (cases_Bool (nat_lt x t.amount)) [
-    | inl short ↦ cc (rw short at rw other at is)
-    | inr enough ↦ elim (cases_Bool (nat_lt (y + t.amount) (2 ^ 64))) [
-      | inl fits ↦
-          let e : ◌≡◌ {A = Result (ℕ × ℕ) Refusal} (Ok (x - t.amount, y + t.amount)) (Ok new) = rw fits at rw enough at rw other at is in
-          record {
-            left = x;
-            there = y;
-            from_is = refl;
-            to_is = refl;
-            other = eqb-false t.from t.to other;
-            enough = ltb-false x t.amount enough;
-            taken = cc e;
-            given = cc e;
-          }
-      | inr full ↦ cc (rw full at rw enough at rw other at is)
-    ]
-  ]
-]
+are-new t (Some x) (Some y) new is =
+    let found : (t.from ≢ t.to) × (new.0 + new.1 ≡ x + y) = grind (arith, nat_tests) in
+    record { left = x; there = y; from_is = refl; to_is = refl; other = found.0; sum = found.1 }
 
 -- what a transfer keeps, and what it adds to the journal
 pub record Keeps (b b' : Bank) : Type 0 where
@@ -105,7 +85,7 @@ after-keeps t b (Ok new) is =
     let second : sum (fin.values (fin.insert one t.to new.1)) + n.there ≡ sum (fin.values one) + new.1 =
     weigh-replaced (λ x. x) (λ e. e.1) one t.to new.1 n.there there in
     record {
-      sum = omega (arith, first, second, n.enough, n.taken, n.given);
+      sum = omega (arith, first, second, n.sum);
       accounts = len-replaced one t.to new.1 n.there there ∙ len-replaced b.accounts t.from new.0 n.left n.from_is;
       journal = omega (arith, length-append b.journal (t.number ∷ []));
     }

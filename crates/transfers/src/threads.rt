@@ -10,7 +10,7 @@ ghost use Rattle.transfers.specs.Made.{AreMade};
 
 use crate::bank::{Outcome, Transfer};
 use crate::playing::transfer_all;
-use medley_transactions::{Contents, LinesByCaller, Many, Shape, Store, StorePass, needed};
+use medley_transactions::{Contents, Lines, LinesByCaller, Many, Shape, Store, StorePass, needed};
 use std::alloc::Global;
 use std::thread::Threads;
 
