@@ -21,3 +21,4 @@ pub mod Serial
 pub mod Reaching
 pub mod Weighing
 pub mod Bodies
+pub mod Replacing

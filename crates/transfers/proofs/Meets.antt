@@ -1,31 +1,22 @@
 -- A transfer's right acts do to a bank what one thread does that makes the transfer; and what that keeps.
-use Rattle.std.proofs.Common.{◌≡◌, ◌≢◌, ◌≤◌, ◌+◌, ℕ, cond, List, [], ◌∷◌, length, refl, sym, ap, ◌∙◌, arith}
-use Rattle.std.specs.Prelude.{Option, Some, None, Result, Ok, Err, is_none, sum}
+use Rattle.std.proofs.Common.{◌≡◌, ◌≢◌, ◌≤◌, ◌+◌, ℕ, List, [], ◌∷◌, length, refl, sym, ap, ◌∙◌, arith}
+use Rattle.std.specs.Prelude.{Option, Some, None, Result, Ok, Err, sum}
 use Rattle.std.specs.FinMap as fin
 use Rattle.std.proofs.lemmas.Bool.Decides.{nat_tests}
 use Rattle.std.proofs.lemmas.List.{length-append}
 use Rattle.md_history.specs.declared.acts.Act.{Act}
 use Rattle.md_history.specs.declared.acts.Op.TheVariants.{Insert, Remove, Enqueue}
-use Rattle.md_history.specs.State.{State, Table, run, after, IsRight}
+use Rattle.md_history.specs.State.{State, run, after, IsRight}
 use Rattle.md_history.specs.Script.{Did}
 use Rattle.md_history.proofs.Plays.{played, outcome, did-played}
-use Rattle.md_history.proofs.Keys.{get-insert_other, get-remove_same, insert-removed, len-replaced}
+use Rattle.md_history.proofs.Keys.{get-insert_other, len-replaced}
 use Rattle.md_history.proofs.Weights.{weigh-replaced}
+use Rattle.md_many.proofs.Replacing.{replaced}
 use Rattle.transfers.specs.declared.bank.Transfer.{Transfer}
 use Rattle.transfers.specs.declared.bank.Refusal.{Refusal}
 use Rattle.transfers.specs.declared.bank.Outcome.{Outcome}
 use Rattle.transfers.specs.declared.bank.TheConstants.{ACCOUNTS, JOURNAL}
 use Rattle.transfers.specs.Bank.{Bank, state_of, total, new_balances, balances_of, after_balances, outcome_of_balances, bank_after, outcome_in, decided, script_of}
-
--- an account gets a balance
-replaced : (m : Table) (xs : List ℕ) (k v : ℕ)
-    → after (after (state_of (record { accounts = m; journal = xs })) (Remove ACCOUNTS k)) (Insert ACCOUNTS k v)
-    ≡ state_of (record { accounts = fin.insert m k v; journal = xs })
-replaced m xs k v =
-    let removed : State = state_of (record { accounts = fin.remove m k; journal = xs }) in
-    let put : State = state_of (record { accounts = fin.insert (fin.remove m k) k v; journal = xs }) in
-    ap (λ o. cond (is_none o) put removed) (get-remove_same m k)
-    ∙ ap (λ t. state_of (record { accounts = t; journal = xs })) (insert-removed m k v)
 
 -- what the decided part of a transfer leaves
 decided-leaves : (t : Transfer) (b : Bank) (o : Result (ℕ × ℕ) Refusal)
@@ -33,8 +24,10 @@ decided-leaves : (t : Transfer) (b : Bank) (o : Result (ℕ × ℕ) Refusal)
 decided-leaves t b (Err why) = refl
 decided-leaves t b (Ok new) =
     ap (λ s. after (after (after s (Remove ACCOUNTS t.to)) (Insert ACCOUNTS t.to new.1)) (Enqueue JOURNAL t.number))
-    (replaced b.accounts b.journal t.from new.0)
-    ∙ ap (λ s. after s (Enqueue JOURNAL t.number)) (replaced (fin.insert b.accounts t.from new.0) b.journal t.to new.1)
+    (replaced (state_of b) ACCOUNTS t.from new.0 (omega arith))
+    ∙ ap (λ s. after s (Enqueue JOURNAL t.number))
+    (replaced (state_of (record { accounts = fin.insert b.accounts t.from new.0; journal = b.journal })) ACCOUNTS t.to new.1
+    (omega arith))
 
 decided-replies : (t : Transfer) (s : State) (o : Result (ℕ × ℕ) Refusal) → outcome (decided t o) s ≡ outcome_of_balances o
 decided-replies t s (Err why) = refl
