@@ -1,5 +1,5 @@
 -- Moves are lawful bodies: none loses or doubles a job.
-use Rattle.std.proofs.Common.{◌≡◌, ◌≤◌, ◌<◌, ◌+◌, ◌==◌, ℕ, zero, suc, cond, true, false, Option, Some, None, List, [], ◌∷◌, ◌++◌, length, refl, sym, ap, ◌∙◌, arith}
+use Rattle.std.proofs.Common.{◌≡◌, ◌<◌, ◌+◌, ◌==◌, ℕ, zero, suc, cond, true, false, Option, Some, None, List, [], ◌∷◌, ◌++◌, length, refl, sym, ap, ◌∙◌, arith}
 use Rattle.std.specs.Prelude.{sum_by, flat_map, slice_get}
 use Rattle.std.specs.FinMap as fin
 use Rattle.std.proofs.lemmas.Bool.{eq-eqb}
@@ -17,10 +17,9 @@ use Rattle.md_many.proofs.Bodies.{StaysGood, leaves-option, same-after, scripts-
 use Rattle.md_many.proofs.Weighing.{Weights, weight, weight-insert, weight-remove, weight-remove_none, weight-enqueue, weight-dequeue, weight-dequeue_none, weigh-part, weight-queues, needed-weight}
 use Rattle.scheduler.specs.declared.moves.Step.{Step}
 use Rattle.scheduler.specs.declared.moves.Step.TheVariants.{Take, Finish, PutBack}
-use Rattle.scheduler.specs.declared.moves.Move.{Move}
 use Rattle.scheduler.specs.declared.places.TheConstants.{MAPS, PRIORITIES, RUNNING, FINISHED, LOWEST}
 use Rattle.scheduler.specs.Moves.{FitsScheduler, start_first, script_at, script_of, move_bounds}
-use Rattle.scheduler.specs.Jobs.{jobs_in, places, KeepsJobs}
+use Rattle.scheduler.specs.Jobs.{jobs_in, KeepsJobs}
 
 -- a job weighs so much wherever it stands
 abbrev pub jobs_by : (ℕ → ℕ) → Weights

@@ -82,5 +82,6 @@ pub fn run_shift<R: Threads + Sync>(
         return Err(AllocError);
     };
     let shift = Shift { jobs, workers };
-    run_lines(rt, alloc, store, pass, &shift, TRIES, &FreeGate)
+    let many = run_lines(rt, alloc, store, pass, &shift, TRIES, &FreeGate)?;
+    Ok(many)
 }

@@ -1,8 +1,7 @@
-use Rattle.std.proofs.Common.{◌-◌, ◌+◌, ◌∙◌, arith}
+use Rattle.std.proofs.Common.{◌∙◌, arith}
 use Rattle.std.proofs.lemmas.Result.{err_from_is_err_and}
 use Rattle.md_history.specs.ScriptLaws.{at-more, at-broke, at-done}
 use Rattle.md_history.proofs.Branching.{at-some, at-none}
-use Rattle.scheduler.specs.declared.places.TheConstants.{PRIORITIES}
 use Rattle.scheduler.proofs.Walking.{more-left, none-left}
 use Rattle.scheduler.proofs.moves.start_first.Goals as goal
 

@@ -1,14 +1,10 @@
-use Rattle.std.proofs.Common.{map, sym, ap, subst, ◌∙◌, ◌+◌, arith}
+use Rattle.std.proofs.Common.{sym, ap, subst, ◌∙◌}
 use Rattle.std.proofs.lemmas.List.FromFn.{length-range_with_len}
-use Rattle.md_history.specs.Engine.{needed}
+use Rattle.md_history.specs.State.{HaveSameNumbers}
 use Rattle.md_words.specs.declared.shape.Shape.{Shape}
-use Rattle.md_words.specs.Layout.{HasNumbers}
-use Rattle.scheduler.specs.declared.places.TheConstants.{MAPS, PRIORITIES}
-use Rattle.scheduler.specs.declared.run.TheConstants.{NODES, TRIES, BUCKETS}
 use Rattle.scheduler.specs.Jobs.{KeepsJobs}
 use Rattle.scheduler.proofs.Holding.{keeps-first, holds-kept}
 use Rattle.scheduler.proofs.Laws.{moves-lawful}
-use Rattle.scheduler.proofs.Running.{room-enough}
 use Rattle.scheduler.proofs.run.run_shift.Goals as goal
 
 pub run_lines-requires-clause-lanes : goal.run_lines-requires-clause-lanes
@@ -17,3 +13,14 @@ run_lines-requires-clause-lanes g c κs within =
 
 pub run_lines-requires-clause-laws : goal.run_lines-requires-clause-laws
 run_lines-requires-clause-laws g c κs within = moves-lawful
+
+pub run_lines-requires-clause-good : goal.run_lines-requires-clause-good
+run_lines-requires-clause-good g c κs within =
+    subst (λ s. KeepsJobs s s) (sym c.in-Ok.ensures.start) (keeps-first c.args.jobs c.args.start.now c.requires.start)
+
+pub returns-clause-holds : goal.returns-clause-holds
+returns-clause-holds g c =
+    let many = c.in_ok-many in
+    holds-kept c.args.jobs c.args.start.now many.many.contents c.requires.start
+    (subst (HaveSameNumbers many.many.contents) c.in-Ok.ensures.start many.ensures.numbers)
+    (subst (λ s. KeepsJobs s many.many.contents) c.in-Ok.ensures.start many.ensures.each_line_once.stands)

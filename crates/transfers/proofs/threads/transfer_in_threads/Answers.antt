@@ -1,11 +1,6 @@
-use Rattle.std.proofs.Common.{◌≤◌, ap, arith, subst, sym, ◌∙◌}
+use Rattle.std.proofs.Common.{ap, ◌∙◌}
 use Rattle.std.proofs.lemmas.List.FromFn.{length-range_with_len}
-use Rattle.md_history.specs.Engine.{needed}
-use Rattle.md_store.specs.Store.{room_of}
 use Rattle.md_words.specs.declared.shape.Shape.{Shape}
-use Rattle.transfers.specs.declared.threads.TheConstants.{MAX_NEEDED}
-use Rattle.transfers.specs.Bank.{IsBank}
-use Rattle.transfers.proofs.Room.{room-enough}
 use Rattle.transfers.proofs.threads.transfer_in_threads.Goals as goal
 
 pub transfer_all-requires-clause-lanes : goal.transfer_all-requires-clause-lanes
