@@ -1,15 +1,14 @@
 -- How many lines are left when some were played.
-use Rattle.std.proofs.Common.{◌≡◌, ◌≤◌, ◌+◌, ℕ, zero, suc, Bool, true, false, cond, not, Some, List, [], ◌∷◌, ◌++◌, length, refl, sym, ap, subst, ◌∙◌, arith, inl, inr}
-use Rattle.std.specs.Prelude.{◌==◌, ◌||◌, All, slice_get, sum_by}
+use Rattle.std.proofs.Common.{◌≡◌, ◌≤◌, ◌<◌, ◌+◌, ℕ, zero, suc, Bool, true, false, cond, not, List, [], ◌∷◌, ◌++◌, length, take, get_or, refl, sym, ap, subst, ◌∙◌, arith, inl, inr}
+use Rattle.std.specs.Prelude.{◌==◌, ◌||◌, All, sum_by}
 use Rattle.std.specs.List.{list_any, AllByRecursion}
-use Rattle.std.proofs.lemmas.Bool.{cases_Bool, eq-eqb, eqb-true, ne_eqb, false≢true}
-use Rattle.std.proofs.lemmas.List.{length-append}
+use Rattle.std.proofs.lemmas.Bool.{cases_Bool, cases_eq, cases_lt, eq-eqb, eqb-true, ne_eqb, false≢true}
+use Rattle.std.proofs.lemmas.List.{length-append, take_more, take_all, get_or_past}
 use Rattle.std.proofs.lemmas.List.Elements.{recursion_from_All}
-use Rattle.std.proofs.lemmas.List.Sums.{sum_by-cons, count_by-le-length}
+use Rattle.std.proofs.lemmas.List.Sums.{sum_by-cons, sum_by_push, count_by-le-length, get_or-le-sum_by}
 use Rattle.md_many.specs.Tags.{tag_of, tags_after}
 use Rattle.md_many.specs.Rounds.{at_caller}
-use Rattle.md_many.specs.Played.{line_at}
-use Rattle.md_many.specs.Left.{left_of, all_tags}
+use Rattle.md_many.specs.Left.{left_of, all_tags, lines_of}
 use Rattle.md_many.proofs.TagLaws.{length-tags_after}
 
 abbrev Has : List ℕ → ℕ → Type 0
@@ -81,11 +80,17 @@ none-has tags t all = each tags (recursion_from_All (λ u. ¬ (u ≡ t)) tags al
     each (u ∷ us) h = ap (λ b. b || list_any (λ x. x == t) us) (ne_eqb u t h.0) ∙ each us h.1
 
 -- they are as many as there are lines
-pub length-all : {A : Type 0} (before : ℕ) (lists : List (List A)) → length (all_tags before lists) ≡ sum_by length lists
-length-all before [] = refl
-length-all before (list ∷ lists) =
-    length-append (tags_after (before + 1) 0 (length list)) (all_tags (before + 1) lists)
-    ∙ omega (arith, length-tags_after (before + 1) 0 (length list), length-all (before + 1) lists, sum_by-cons length list lists)
+pub length-all : (line_count : ℕ → ℕ) (callers : ℕ) → length (all_tags line_count callers) ≡ lines_of line_count callers
+length-all line_count zero = refl
+length-all line_count (suc c) =
+    length-append (all_tags line_count c) (tags_after (suc c) 0 (line_count (suc c)))
+    ∙ omega (arith, length-tags_after (suc c) 0 (line_count (suc c)), length-all line_count c)
+
+-- if nothing was played, all are left
+pub left-all : (line_count : ℕ → ℕ) (callers : ℕ)
+    → left_of (all_tags line_count callers) [] ≤ lines_of line_count callers
+left-all line_count callers =
+    omega (arith, left-most (all_tags line_count callers) [], length-all line_count callers)
 
 has-left : (xs ys : List ℕ) (t : ℕ) → Has xs t → Has (xs ++ ys) t
 has-left [] ys t h = absurd (false≢true h)
@@ -100,42 +105,51 @@ has-right [] ys t h = h
 has-right (x ∷ xs) ys t h =
     elim (x == t) as (λ b. (b || list_any (λ z. z == t) (xs ++ ys)) ≡ true) [ true ↦ refl | false ↦ has-right xs ys t h ]
 
-has-line : {A : Type 0} (list : List A) (caller n i : ℕ) (x : A) → slice_get list i ≡ Some x
-    → Has (tags_after caller n (length list)) (tag_of caller (n + 1 + i))
-has-line [] caller n i x at = cc
-has-line (y ∷ list) caller n zero x at =
-    let same : tag_of caller (n + 1) ≡ tag_of caller (n + 1 + 0) = ap (tag_of caller) (omega arith) in
-    ap (λ b. b || list_any (λ z. z == tag_of caller (n + 1 + 0)) (tags_after caller (n + 1) (length list)))
-    (eq-eqb (tag_of caller (n + 1)) (tag_of caller (n + 1 + 0)) same)
-has-line (y ∷ list) caller n (suc i) x at =
-    let next : n + 1 + 1 + i ≡ n + 1 + suc i = omega arith in
-    has-right (tag_of caller (n + 1) ∷ []) (tags_after caller (n + 1) (length list)) (tag_of caller (n + 1 + suc i))
-    (subst (λ k. Has (tags_after caller (n + 1) (length list)) (tag_of caller k)) next
-    (has-line list caller (n + 1) i x at))
-
-has-at : {A : Type 0} (lists : List (List A)) (before c i : ℕ) (x : A)
-    → slice_get (at_caller [] lists (suc c)) i ≡ Some x → Has (all_tags before lists) (tag_of (before + 1 + c) (i + 1))
-has-at [] before c i x at = cc
-has-at (list ∷ lists) before zero i x at =
-    let caller : before + 1 ≡ before + 1 + 0 = omega arith in
-    let line : 0 + 1 + i ≡ i + 1 = omega arith in
-    has-left (tags_after (before + 1) 0 (length list)) (all_tags (before + 1) lists) (tag_of (before + 1 + 0) (i + 1))
-    (subst (λ k. Has (tags_after (before + 1) 0 (length list)) (tag_of k (i + 1))) caller
-    (subst (λ k. Has (tags_after (before + 1) 0 (length list)) (tag_of (before + 1) k)) line
-    (has-line list (before + 1) 0 i x at)))
-has-at (list ∷ lists) before (suc c) i x at =
-    let caller : before + 1 + 1 + c ≡ before + 1 + suc c = omega arith in
-    has-right (tags_after (before + 1) 0 (length list)) (all_tags (before + 1) lists) (tag_of (before + 1 + suc c) (i + 1))
-    (subst (λ k. Has (all_tags (before + 1) lists) (tag_of k (i + 1))) caller (has-at lists (before + 1) c i x at))
+has-line : (caller n count line : ℕ) → n < line → line ≤ n + count → Has (tags_after caller n count) (tag_of caller line)
+has-line caller n zero line low high = absurd (omega (arith, low, high))
+has-line caller n (suc count) line low high = elim (cases_eq (n + 1) line) [
+  | inl same ↦ ap (λ b. b || list_any (λ z. z == tag_of caller line) (tags_after caller (n + 1) count))
+      (eq-eqb (tag_of caller (n + 1)) (tag_of caller line) (ap (tag_of caller) same))
+  | inr other ↦ has-right (tag_of caller (n + 1) ∷ []) (tags_after caller (n + 1) count) (tag_of caller line)
+      (has-line caller (n + 1) count line (omega (arith, low, other)) (omega (arith, high)))
+]
 
 -- the tag of each line is among them
-pub has-all : {A : Type 0} (lists : List (List A)) (caller line : ℕ) (x : A) → line_at lists caller line ≡ Some x
-    → Has (all_tags 0 lists) (tag_of caller line)
-has-all lists zero zero x at = cc
-has-all lists zero (suc l) x at = cc
-has-all lists (suc c) zero x at = cc
-has-all lists (suc c) (suc l) x at =
-    let caller : 0 + 1 + c ≡ suc c = omega arith in
-    let line : l + 1 ≡ suc l = omega arith in
-    subst (λ k. Has (all_tags 0 lists) (tag_of k (suc l))) caller
-    (subst (λ k. Has (all_tags 0 lists) (tag_of (0 + 1 + c) k)) line (has-at lists 0 c l x at))
+pub has-all : (line_count : ℕ → ℕ) (callers caller line : ℕ) → 1 ≤ caller → caller ≤ callers → 1 ≤ line
+    → line ≤ line_count caller → Has (all_tags line_count callers) (tag_of caller line)
+has-all line_count zero caller line from_1 there low high = absurd (omega (arith, from_1, there))
+has-all line_count (suc c) caller line from_1 there low high = elim (cases_eq (suc c) caller) [
+  | inl same ↦ has-right (all_tags line_count c) (tags_after (suc c) 0 (line_count (suc c))) (tag_of caller line)
+      (subst (λ k. Has (tags_after k 0 (line_count k)) (tag_of caller line)) (sym same)
+      (has-line caller 0 (line_count caller) line low (omega (arith, high))))
+  | inr other ↦ has-left (all_tags line_count c) (tags_after (suc c) 0 (line_count (suc c))) (tag_of caller line)
+      (has-all line_count c caller line from_1 (omega (arith, there, other)) low high)
+]
+
+-- the lines of lists are as many as their elements
+pub count-lists : {A : Type 0} (lists : List (List A))
+    → lines_of (λ caller. length (at_caller [] lists caller)) (length lists) ≡ sum_by length lists
+count-lists lists = up-to (length lists) (omega arith) ∙ ap (sum_by length) (take_all (length lists) lists (omega arith))
+  where
+    up-to : (n : ℕ) → n ≤ length lists
+        → lines_of (λ caller. length (at_caller [] lists caller)) n ≡ sum_by length (take n lists)
+    up-to zero few = refl
+    up-to (suc n) few =
+        let next : suc n ≡ n + 1 = omega arith in
+        let more : take (suc n) lists ≡ take n lists ++ get_or lists n [] ∷ [] =
+        ap (λ k. take k lists) next ∙ take_more lists n [] (omega (arith, few)) in
+        omega (
+          arith,
+          up-to n (omega (arith, few)),
+          ap (sum_by length) more,
+          sum_by_push length (take n lists) (get_or lists n []),
+        )
+
+-- a list has no more elements than there are lines
+pub list-few : {A : Type 0} (lists : List (List A)) (caller : ℕ)
+    → length (at_caller [] lists caller) ≤ sum_by length lists
+list-few lists zero = omega arith
+list-few lists (suc c) = elim (cases_lt c (length lists)) [
+  | inl inside ↦ get_or-le-sum_by length lists c [] inside
+  | inr past ↦ omega (arith, ap length (get_or_past lists c [] past))
+]

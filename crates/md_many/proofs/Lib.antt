@@ -18,3 +18,8 @@ pub mod First
 pub mod Sides
 pub mod Lists
 pub mod Looking
+pub mod Serial
+pub mod Reaching
+pub mod Weighing
+pub mod Bodies
+pub mod Replacing

@@ -1,12 +1,13 @@
 -- Bodies that look at a queue and leave the store as it is.
-use Rattle.std.specs.Prelude.{◌≡◌, ◌≤◌, ℕ, Option, Some, None, IsSome, IfSome, List, [], ◌∷◌, refl}
+use Rattle.std.specs.Prelude.{◌≡◌, ◌<◌, ℕ, Option, Some, None, IsSome, IfSome, List, [], ◌∷◌, length, refl}
 use Rattle.std.proofs.Common.{sym, ap, subst, ◌∙◌, arith}
 use Rattle.md_history.specs.declared.acts.Op.TheVariants.{Front}
 use Rattle.md_history.specs.declared.acts.Act.{Act}
-use Rattle.md_history.specs.State.{State, run, after, empty_state, IsRight}
-use Rattle.md_history.specs.Counts.{Bounds, AreFew, IsSmall}
+use Rattle.md_history.specs.State.{State, run, after, empty_state}
+use Rattle.md_history.specs.Counts.{Bounds, AreFew, IsSmall, bounds_of_calls}
 use Rattle.md_history.specs.Script.{Script, Did, Follows, call, done}
-use Rattle.md_many.specs.Laws.{AreLawful}
+use Rattle.md_many.specs.Laws.{AreLawful, AreLawfulBodies}
+use Rattle.md_many.proofs.Bodies.{scripts-lawful}
 
 -- a look reads two words
 abbrev pub looking : Bounds
@@ -43,3 +44,11 @@ look-laws number body_at = record {
     each : (s : State) (o : Option _) → IfSome o (λ b. IsSmall looking (λ acts. Follows (look (number b)) acts) s)
     each s None = tt
     each s (Some b) = λ acts made right. look-few (number b) acts made
+
+-- the laws of the bodies
+pub looks-lawful : {B : Type 0} (number : B → ℕ)
+    → AreLawfulBodies (λ b acts r. Did (look (number b)) acts r) (λ b acts. Follows (look (number b)) acts)
+    (λ b maps queues. 0 < queues) (λ opening s. 0 < length opening.queues) (bounds_of_calls 1) 0
+looks-lawful number = scripts-lawful (λ b. look (number b)) (λ b maps queues. 0 < queues)
+    (λ opening s. 0 < length opening.queues) 1 0 (λ b. (refl, λ _. tt))
+    (λ b opening s same some. record { good = some; need = omega arith }) (λ b opening some. some)

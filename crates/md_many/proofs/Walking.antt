@@ -1,5 +1,5 @@
 -- What the committed entries of fronts are that hold each line once, one by one and in the order of the history.
-use Rattle.std.proofs.Common.{◌≡◌, ◌+◌, ◌<◌, ◌^◌, ℕ, suc, cond, true, Option, Some, List, [], ◌∷◌, length, refl, sym, ap, subst, ◌∙◌, arith, inl, inr}
+use Rattle.std.proofs.Common.{◌≡◌, ◌+◌, ◌<◌, ◌^◌, ℕ, suc, cond, true, Option, List, [], ◌∷◌, length, refl, sym, ap, subst, ◌∙◌, arith, inl, inr}
 use Rattle.std.specs.Prelude.{◌==◌, ◌/◌, ◌%◌, slice_get}
 use Rattle.std.proofs.lemmas.Bool.{cases_Bool, eq-eqb, eqb-true}
 use Rattle.md_history.specs.declared.acts.Act.{Act}
@@ -9,11 +9,11 @@ use Rattle.md_history.specs.History.{acts_of}
 use Rattle.md_history.specs.HistoryLaws.{committed-right, right-append, run-append}
 use Rattle.md_history.specs.Front.{Front, committed_in, replay_of}
 use Rattle.md_history.proofs.PlainFronts.{acts_of-append}
+use Rattle.md_many.specs.Tags.{tag_of}
 use Rattle.md_many.specs.Lines.{AreLines}
 use Rattle.md_many.specs.Rounds.{at_caller, of_caller}
 use Rattle.md_many.specs.Played.{committed_of, state_after, AreDecidedAndLegal, EachLineOnce, line_at}
 use Rattle.md_many.specs.Replied.{AreReplied}
-use Rattle.md_many.proofs.TagLaws.{line_of_tag}
 use Rattle.md_many.proofs.Standing.{Head, lines-head, caller-own, caller-other}
 
 -- the acts of fronts, one after another, are right
@@ -33,13 +33,16 @@ fronts-run start (f ∷ fs) =
     ∙ sym (ap (run start) (acts_of-append (committed_in f) (committed_of fs))
     ∙ run-append start (acts_of (committed_in f)) (acts_of (committed_of fs)))
 
+-- the line of a tag whose caller is known
+line-of : (t line : ℕ) → t ≡ tag_of (t / 2 ^ 32) line → t % 2 ^ 32 ≡ line
+line-of t line is = omega (arith, is)
+
 module _ {B R : Type 0} (did : B → List Act → R → Type 0) (body_at : ℕ → ℕ → Option B) (reply_at : ℕ → ℕ → Option R) where
   -- of a caller, entries are its lines after its first n, and their replies are kept
   record PlayedFrom (caller n : ℕ) (es : List Entry) : Type 0 where
     pub list : List R
     pub lines : AreLines did body_at caller (of_caller caller es) list n
     pub kept : (i : ℕ) → i < length list → reply_at caller (n + i + 1) ≡ slice_get list i
-    pub few : n + length list < 2 ^ 32
 
   walk : (es : List Entry) (n : ℕ → ℕ) → ((caller : ℕ) → PlayedFrom caller (n caller) es) → AreReplied did body_at reply_at es
   walk [] n each = tt
@@ -51,9 +54,7 @@ module _ {B R : Type 0} (did : B → List Act → R → Type 0) (body_at : ℕ �
       lines-head did body_at own (n own) e (of_caller own es) p.list
       (subst (λ xs. AreLines did body_at own xs p.list (n own)) (caller-own own e es here) p.lines) in
       let count : length p.list ≡ suc (length head.rest) = ap length head.is in
-      let small : n own + 1 < 2 ^ 32 = omega (arith, p.few, count) in
-      let line : e.tag % 2 ^ 32 ≡ n own + 1 =
-      ap (λ t. t % 2 ^ 32) head.line.tagged ∙ line_of_tag own (n own + 1) small in
+      let line : e.tag % 2 ^ 32 ≡ n own + 1 = line-of e.tag (n own + 1) head.line.tagged in
       let first : n own + 0 + 1 ≡ n own + 1 = omega arith in
       let n' : ℕ → ℕ = λ caller. cond (own == caller) (n caller + 1) (n caller) in
       let more : (caller : ℕ) → PlayedFrom caller (n' caller) es = λ caller. elim (cases_Bool (own == caller)) [
@@ -68,7 +69,6 @@ module _ {B R : Type 0} (did : B → List Act → R → Type 0) (body_at : ℕ �
                   let next : n own + 1 + i + 1 ≡ n own + suc i + 1 = omega arith in
                   ap (reply_at own) next ∙ p.kept (suc i) (omega (arith, count))
                   ∙ ap (λ xs. slice_get xs (suc i)) head.is;
-              few = omega (arith, p.few, count);
             }))
         | inr other ↦
             let q = each caller in
@@ -78,7 +78,6 @@ module _ {B R : Type 0} (did : B → List Act → R → Type 0) (body_at : ℕ �
               lines = subst (λ xs. AreLines did body_at caller xs q.list (n caller))
                   (caller-other caller e es other) q.lines;
               kept = q.kept;
-              few = q.few;
             })
       ] in (
         record {
@@ -104,11 +103,10 @@ kept-in lists caller rs kept i low =
 pub each-replied : {B R : Type 0} (did : B → List Act → R → Type 0) (body_at : ℕ → ℕ → Option B)
     (reply_at : ℕ → ℕ → Option R) (line_count : ℕ → ℕ) (keeps : ℕ → List R → Type 0)
     (good : State → List ℕ → Type 0) (opening contents : State) (fronts : List Front)
-    → ((caller : ℕ) → line_count caller < 2 ^ 32)
     → ((caller : ℕ) (rs : List R) → keeps caller rs → (i : ℕ) → i < length rs → reply_at caller (i + 1) ≡ slice_get rs i)
     → EachLineOnce did body_at line_count keeps good opening fronts contents
     → AreReplied did body_at reply_at (committed_of fronts)
-each-replied did body_at reply_at line_count keeps good opening contents fronts few kept once =
+each-replied did body_at reply_at line_count keeps good opening contents fronts kept once =
     walk did body_at reply_at (committed_of fronts) (λ caller. 0) (λ caller.
     let p = once.each caller in
     record {
@@ -116,5 +114,4 @@ each-replied did body_at reply_at line_count keeps good opening contents fronts 
       lines = p.lines;
       kept = λ i low. let same : 0 + i + 1 ≡ i + 1 = omega arith in
           ap (reply_at caller) same ∙ kept caller p.replies p.kept i low;
-      few = omega (arith, p.count, few caller);
     })

@@ -1,8 +1,8 @@
 -- What is known of lines, whatever order they are played in.
-use Rattle.std.specs.Prelude.{◌≡◌, ◌≢◌, ◌≤◌, ◌+◌, ℕ, Option, Some, IsSome, List, [], ◌∷◌, ◌++◌, All}
+use Rattle.std.specs.Prelude.{◌≡◌, ◌≢◌, ◌≤◌, ◌+◌, ℕ, Option, Some, IsSome, List, [], ◌∷◌, ◌++◌, length, All}
 use Rattle.md_history.specs.declared.acts.Act.{Act}
-use Rattle.md_history.specs.State.{State, run, IsRight}
-use Rattle.md_history.specs.Counts.{Bounds}
+use Rattle.md_history.specs.State.{State, HaveSameNumbers, run, IsRight}
+use Rattle.md_history.specs.Counts.{Bounds, AreFew}
 use Rattle.md_history.specs.Engine.{needed}
 use Rattle.md_many.specs.Tags.{tag_of}
 use Rattle.md_many.specs.Lines.{IsSmallLine}
@@ -33,3 +33,15 @@ pub record AreLawful {B R : Type 0} (did : B → List Act → R → Type 0) (mak
   pub small : (s : State) (tags : List ℕ) (caller line : ℕ) → good s tags
       → IsSmallLine cost makes body_at caller line s
   pub room : (s : State) (tags : List ℕ) → good s tags → needed s ≤ most
+
+-- The laws of bodies, whatever lines they are. A state is good or not by the state at the opening, with whose numbers of
+-- maps and queues it comes. A body that is done right from a good state leaves a good one, which needs no more than so many
+-- nodes more; what it can do is within the bounds; and it may run over a good opening's numbers of maps and queues.
+pub record AreLawfulBodies {B R : Type 0} (did : B → List Act → R → Type 0) (makes : B → List Act → Type 0)
+    (may_run : B → ℕ → ℕ → Type 0) (good : State → State → Type 0) (cost : Bounds) (growth : ℕ) : Type 0 where
+  pub keeps : (b : B) (opening s : State) (acts : List Act) (r : R) → HaveSameNumbers s opening → good opening s
+      → did b acts r → IsRight s acts → good opening (run s acts)
+  pub grows : (b : B) (opening s : State) (acts : List Act) (r : R) → HaveSameNumbers s opening → good opening s
+      → did b acts r → IsRight s acts → needed (run s acts) ≤ needed s + growth
+  pub small : (b : B) (acts : List Act) → makes b acts → AreFew cost acts
+  pub fits : (b : B) (opening : State) → good opening opening → may_run b (length opening.maps) (length opening.queues)

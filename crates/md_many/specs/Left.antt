@@ -1,12 +1,17 @@
--- How many lines of lists are left, where some were played.
-use Rattle.std.specs.Prelude.{◌+◌, ◌==◌, ℕ, not, List, [], ◌∷◌, ◌++◌, length}
+-- How many lines callers have, and how many are left where some were played.
+use Rattle.std.specs.Prelude.{◌+◌, ◌==◌, ℕ, zero, suc, not, List, [], ◌++◌}
 use Rattle.std.specs.List.{list_any, count_by}
 use Rattle.md_many.specs.Tags.{tags_after}
 
--- the tags of all lines, of the callers after the first so many
-abbrev pub all_tags : {A : Type 0} → ℕ → List (List A) → List ℕ
-all_tags before [] = []
-all_tags before (list ∷ lists) = tags_after (before + 1) 0 (length list) ++ all_tags (before + 1) lists
+-- how many lines so many callers have
+abbrev pub lines_of : (ℕ → ℕ) → ℕ → ℕ
+lines_of line_count zero = 0
+lines_of line_count (suc callers) = lines_of line_count callers + line_count (suc callers)
+
+-- the tags of these lines
+abbrev pub all_tags : (ℕ → ℕ) → ℕ → List ℕ
+all_tags line_count zero = []
+all_tags line_count (suc callers) = all_tags line_count callers ++ tags_after (suc callers) 0 (line_count (suc callers))
 
 -- how many of all tags aren't among those that were played
 abbrev pub left_of : List ℕ → List ℕ → ℕ

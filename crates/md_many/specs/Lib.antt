@@ -4,8 +4,11 @@ pub mod Lines
 pub mod Turns
 pub mod Until
 pub mod Rounds
+pub mod LineLists
 pub mod Laws
 pub mod Played
 pub mod Replied
+pub mod Serial
 pub mod Left
+pub mod Reached
 pub mod Course

@@ -1,4 +1,4 @@
-//! Lines of which it is known what they leave.
+//! Lines and bodies of which it is known what they leave.
 
 ghost use Rattle.std.specs.Prelude.{ℕ, List};
 ghost use Rattle.md_history.specs.State.{State};
@@ -25,4 +25,18 @@ pub trait LawfulLines: Lines {
 
     /// How many nodes the contents of a good state need at most.
     ghost most: { Self → ℕ };
+}
+
+/// A body, with the words in which the laws of such bodies are stated. The laws
+/// (`AreLawfulBodies`) say that each body leaves good states good, whichever bodies came before.
+/// `run_lines` requires them.
+pub trait LawfulBody: Body {
+    /// The states that bodies can leave, by the state at the opening.
+    ghost good: { State → State → Type 0 };
+
+    /// The most words that a body can read and write, and the most nodes that it can take.
+    ghost cost: { Bounds };
+
+    /// How many nodes more the contents need after a body, at most.
+    ghost growth: { ℕ };
 }

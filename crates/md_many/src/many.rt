@@ -7,6 +7,7 @@ ghost use Rattle.md_many.specs.Laws.{AllSuit, AreLawful};
 ghost use Rattle.md_many.specs.Rounds.{at_caller};
 ghost use Rattle.md_many.specs.Course.{CanRun};
 ghost use Rattle.md_many.specs.Played.{EachLineOnce, committed_of, tags_of, lists_in, line_at};
+ghost use Rattle.md_many.specs.Serial.{IsSerialRun};
 
 use crate::gates::Gate;
 use crate::keepers::Keeper;
@@ -123,6 +124,9 @@ where
         → line ≤ L.line_count lines.now caller → G.after_called gate.now caller line) }
     ensures interleaving { IfOk result (λ m. IsInterleaving (L.line_count lines.now)
         (tags_of (committed_of (map E.front m.fronts.items)))) }
+    ensures serial { IfOk result (λ m. IsSerialRun L.B.did (L.body_at lines.now)
+        (line_at (lists_in m.replies.items)) (L.opening lines.now)
+        (committed_of (map E.front m.fronts.items)) m.contents) }
 {
     let mut keeper = ByCaller {
         lists: empty_lists(alloc, lines.callers())?,

@@ -11,7 +11,9 @@ ghost use Rattle.std.specs.Prelude.{◌≤◌};
 use crate::attempts::{End as TurnEnd, Turn, attempt_lines};
 use crate::batches::{Played, play_batches};
 use crate::gates::{FreeGate, Gate};
+use crate::line_lists::LinesByCaller;
 use crate::many::run_many;
+use crate::running::run_lines;
 use crate::until::attempt_until_committed;
 use lines::EachLine;
 use looks::Look;
@@ -314,5 +316,26 @@ fn one_caller_in_rounds(rt: HostRuntime) -> Result<(), Fail> {
         assert_eq!(rt; many.reply(2, 1).copied(), None);
         assert_eq!(rt; many.fronts.len(), 1);
     }
+    Ok(())
+}
+
+// A caller with a list of bodies: each is played once, in its order.
+#[test]
+fn one_list_of_bodies(rt: HostRuntime) -> Result<(), Fail> {
+    let alloc = rt.alloc();
+    let (store, pass) = PlainStore::open(Contents::empty(alloc, 0, 1)?);
+    let mut list = Vec::new(alloc);
+    for number in [7, 5, 7, 9] {
+        list.push(Look { number })?;
+    }
+    let mut lists = Vec::new(alloc);
+    lists.push(list)?;
+    let lines = LinesByCaller::new(lists).expect(&rt, "few lines");
+    assert_eq!(rt; lines.total(), 4);
+    let many = run_lines(&rt, alloc, store, pass, &lines, 3, &FreeGate)?;
+    for (line, number) in [7, 5, 7, 9].into_iter().enumerate() {
+        assert_eq!(rt; many.reply(1, line as u32 + 1).copied(), Some(number));
+    }
+    assert_eq!(rt; many.reply(1, 5).copied(), None);
     Ok(())
 }

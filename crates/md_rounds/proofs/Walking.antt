@@ -78,7 +78,7 @@ all-played scripts named few law none held replies fronts contents once interlea
     let count : length tags ≤ count_of scripts = tags-few scripts tags cs lines traded.different in
     let each = walked scripts replies es
     (each-replied did_command (at_line scripts) (reply_at replies) (line_count_of scripts) (HasReplies held replies)
-    (HasTraded scripts) no_orders contents fronts (λ caller. omega (arith, length-list_of-le scripts caller, few))
+    (HasTraded scripts) no_orders contents fronts
     (λ caller rs kept. kept.each) once) in
     let right : IsRight no_orders (acts_of es) = fronts-right no_orders fronts once.legal in
     let folded : Folds no_orders empty_book es cs each.list =

@@ -22,20 +22,21 @@
 //!   again.
 //! - `contents` ends the engine, and returns what it holds.
 //!
-//! [`run_many`] makes these calls for most programs. The trait [`Lines`] says which bodies each
-//! caller has, its **lines**. The call plays all lines of all callers, in threads, each once, and
-//! in **rounds**: in each the pass is split, every caller makes some attempts, and the pass is
-//! joined again. It runs a line again after a conflict, renews the engine when it must, closes it,
-//! and returns the replies by caller and line. It requires the laws of the lines ([`LawfulLines`]):
-//! what they leave, in whatever order they are played; how many words and nodes each needs at most;
-//! and for how many nodes a renewal must have room.
+//! [`run_lines`] makes these calls for most programs. The trait [`Lines`] says which bodies each
+//! caller has, its **lines**; [`LinesByCaller`] has them in lists. The call plays all lines of all
+//! callers, in threads, each once, and in **rounds**: in each the pass is split, every caller makes
+//! some attempts, and the pass is joined again. It runs a line again after a conflict, renews the
+//! engine when it must, closes it, and returns the replies by caller and line. It requires the laws
+//! of the bodies ([`LawfulBody`]): what each keeps, how many words and nodes it needs at most, and
+//! how many nodes more the contents need after it. [`run_many`] is for lines whose laws go by what
+//! was played before ([`LawfulLines`]).
 //!
 //! Contracts speak of **fronts**. A front is a pass as it stood. It has the entries that the pass
 //! had seen, one for each transaction that became ready, with its tag and its acts, and what is
 //! known of their fates. It is legal: each reply of a committed entry is the one that it has if the
 //! committed entries run one after another, in this order. The contents at the end are what they
-//! leave. So a theorem about a program is an induction over the committed entries of its fronts.
-//! The crate `transfers` is an example.
+//! leave. `run_lines` says so of a whole run: one thread that does the committed lines one after
+//! another gets the same replies, and leaves the same contents. The crate `transfers` is an example.
 //!
 //! Clauses cite definitions by the crate in which they stand, as `Rattle.md_history.specs.State`.
 //! So the line in `crates.txt` of a crate that has clauses names this crate and all below it.
@@ -78,9 +79,12 @@ pub use md_history::{Act, Acts, Line, MAX_LINE, Op, Reply};
 /// For contracts: the entries of a history with their fates, and a pass as it stood.
 pub use md_history::{Entry, Fate, Front};
 
-/// The lines of callers, and their laws; a call that plays all lines in threads, and its result:
-/// the replies by caller and line, the contents and the fronts.
-pub use md_many::{LawfulLines, Lines, Many, run_many};
+/// The lines of callers, as lists or by a trait, and the laws of their bodies; a call that plays all
+/// lines in threads, and its result: the replies by caller and line, the contents and the fronts.
+pub use md_many::{LawfulBody, Lines, LinesByCaller, Many, run_lines};
+
+/// Lines whose laws go by which of them were played before, and the call that plays them.
+pub use md_many::{LawfulLines, run_many};
 
 /// What is called around each attempt at a line, and a gate that does nothing.
 pub use md_many::{FreeGate, Gate};

@@ -1,7 +1,4 @@
 mod Walking
-mod Weights
-mod Keeping
 mod Laws
-mod Counting
-mod Opening
+mod Holding
 mod Running

@@ -1,8 +1,9 @@
 -- Where jobs stand.
-use Rattle.std.specs.Prelude.{◌≡◌, ◌+◌, ◌==◌, ℕ, List, ◌++◌, length, flat_map, if◌then◌else◌, nat_lt, sum_by}
-use Rattle.std.specs.List.{count_by, range_with_len}
+use Rattle.std.specs.Prelude.{◌≡◌, ◌≤◌, ◌+◌, ◌==◌, ℕ, List, ◌++◌, length, flat_map, if◌then◌else◌, nat_lt, sum_by}
+use Rattle.std.specs.List.{count_by}
 use Rattle.std.specs.FinMap as fin
 use Rattle.md_history.specs.State.{State, map_at}
+use Rattle.md_history.specs.Engine.{needed}
 use Rattle.scheduler.specs.declared.places.TheConstants.{MAPS, PRIORITIES, RUNNING, FINISHED}
 
 -- the jobs of all places: those that wait in the queues, those that workers run, and those that are finished
@@ -13,17 +14,18 @@ jobs_in s = flat_map (λ q. q) s.queues ++ fin.values (map_at s RUNNING) ++ fin.
 abbrev pub places : State → ℕ → ℕ
 places s job = count_by (λ j. j == job) (jobs_in s)
 
--- each of so many jobs, numbered from 0, stands in exactly one place, and no other job stands in any
-abbrev pub EachInOnePlace : ℕ → State → Type 0
-EachInOnePlace jobs s = (job : ℕ) → places s job ≡ (if nat_lt job jobs then 1 else 0)
-
--- so many jobs, numbered from 0
-abbrev pub numbered : ℕ → List ℕ
-numbered jobs = range_with_len 0 jobs
-
--- The state has the scheduler's maps and queues, and of these jobs all but those that are out stand in it, each as often
--- as it is listed: whatever each job weighs, they weigh the same.
-pub record Holds (jobs out : List ℕ) (s : State) : Type 0 where
+-- So many jobs, numbered from 0, are held: there are the scheduler's maps and queues; each job stands in exactly one
+-- place, and no other job stands in any; and the contents need a node for each queue and each job.
+pub record Holds (jobs : ℕ) (s : State) : Type 0 where
   pub maps : length s.maps ≡ MAPS
   pub queues : length s.queues ≡ PRIORITIES
-  pub same : (weigh : ℕ → ℕ) → sum_by weigh (jobs_in s) + sum_by weigh out ≡ sum_by weigh jobs
+  pub each : (job : ℕ) → places s job ≡ (if nat_lt job jobs then 1 else 0)
+  pub nodes : needed s ≡ PRIORITIES + jobs
+
+-- The jobs of the opening, each in one place at most, are those of the state: whatever each job weighs, they weigh the
+-- same.
+pub record KeepsJobs (opening s : State) : Type 0 where
+  pub maps : length opening.maps ≡ MAPS
+  pub queues : length opening.queues ≡ PRIORITIES
+  pub once : (job : ℕ) → places opening job ≤ 1
+  pub same : (weigh : ℕ → ℕ) → sum_by weigh (jobs_in s) ≡ sum_by weigh (jobs_in opening)

@@ -1,30 +1,25 @@
 -- The moves of workers as scripts, and which move each of a worker's lines is.
 use Rattle.std.specs.Prelude.{◌≤◌, ◌+◌, ◌*◌, ◌%◌, ◌==◌, ◌&&◌, ℕ, zero, suc, Option, Some, None, if◌then◌else◌, nat_le}
 use Rattle.md_history.specs.declared.acts.Op.TheVariants.{Get, Insert, Remove, Enqueue, Dequeue}
-use Rattle.md_history.specs.Script.{Script, done, call, bind}
-use Rattle.md_history.specs.Branches.{by_option, by_value}
+use Rattle.md_history.specs.Script.{Script, done, call}
+use Rattle.md_history.specs.Branches.{by_value}
 use Rattle.md_history.specs.Counts.{Bounds, bounds_of_calls}
 use Rattle.scheduler.specs.declared.places.TheConstants.{MAPS, PRIORITIES, RUNNING, FINISHED, LOWEST}
 use Rattle.scheduler.specs.declared.moves.Step.{Step}
 use Rattle.scheduler.specs.declared.moves.Step.TheVariants.{Take, Finish, PutBack}
 use Rattle.scheduler.specs.declared.moves.Move.{Move}
 
--- the first job of the first of so many queues, from a queue on, that has one, is taken out
-unfoldable pub first_waiting : ℕ → ℕ → Script (Option ℕ)
-first_waiting zero queue = done None
-first_waiting (suc left) queue =
-    call (Dequeue queue) (λ r. by_value r (first_waiting left (queue + 1)) (λ job. done (Some job)))
-
--- the worker begins to run a job
-abbrev pub start : ℕ → ℕ → Script (Option ℕ)
-start worker job = call (Insert RUNNING worker job) (λ _. done (Some job))
+-- the worker begins to run the first job of the first of so many queues, from a queue on, that has one
+unfoldable pub start_first : ℕ → ℕ → ℕ → Script (Option ℕ)
+start_first worker zero queue = done None
+start_first worker (suc left) queue =
+    call (Dequeue queue) (λ r. by_value r (start_first worker left (queue + 1)) (λ job.
+    call (Insert RUNNING worker job) (λ _. done (Some job))))
 
 -- a worker that runs no job takes one
 abbrev pub take : ℕ → Script (Option ℕ)
 take worker =
-    call (Get RUNNING worker) (λ r. by_value r
-    (bind (first_waiting PRIORITIES 0) (λ found. by_option found (done None) (start worker)))
-    (λ _. done None))
+    call (Get RUNNING worker) (λ r. by_value r (start_first worker PRIORITIES 0) (λ _. done None))
 
 -- the job that the worker runs is finished
 abbrev pub finish : ℕ → Script (Option ℕ)

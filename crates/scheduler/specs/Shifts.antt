@@ -5,12 +5,13 @@ use Rattle.md_history.specs.Script.{Did}
 use Rattle.md_history.specs.State.{State}
 use Rattle.md_many.specs.Played.{EachLineOnce}
 use Rattle.md_many.specs.Rounds.{at_caller}
-use Rattle.scheduler.specs.Jobs.{Holds, numbered}
+use Rattle.scheduler.specs.Jobs.{KeepsJobs}
 use Rattle.scheduler.specs.Moves.{script_of, body_of, line_count_of}
 
--- The moves of so many workers, who began with so many jobs, were committed, each once, each worker's in order, and with
--- these replies; the fronts are legal from the opening, one after another; and the contents are what they leave.
+-- The moves of so many workers, as many as so many jobs ask for, were committed, each once, each worker's in order, and
+-- with these replies; the fronts are legal from the opening, one after another; and the contents are what they leave, with
+-- the jobs of the opening.
 abbrev pub IsShift : ℕ → ℕ → State → List Front → List (List (Option ℕ)) → State → Type 0
 IsShift workers jobs opening fronts replies contents =
     EachLineOnce (λ m acts r. Did (script_of m) acts r) (body_of workers jobs) (line_count_of workers jobs)
-    (λ worker rs. at_caller [] replies worker ≡ rs) (λ s tags. Holds (numbered jobs) [] s) opening fronts contents
+    (λ worker rs. at_caller [] replies worker ≡ rs) (λ s tags. KeepsJobs opening s) opening fronts contents

@@ -1,8 +1,7 @@
 //! Jobs that wait by priority, and workers in threads that run them: an example over the library.
 #![tactic(auto)]
 
-ghost use Rattle.std.specs.Prelude.{[]};
-ghost use Rattle.scheduler.specs.Jobs.{Holds, numbered};
+ghost use Rattle.scheduler.specs.Jobs.{Holds};
 
 mod moves;
 mod places;
@@ -24,7 +23,7 @@ const WORKERS: u32 = 4;
 
 // Prints where the jobs stand.
 fn print(rt: &HostRuntime, contents: &Contents)
-    requires { Holds (numbered JOBS) [] contents.now }
+    requires { Holds JOBS contents.now }
 {
     let _printed = println!(rt; "{} jobs, {} workers", JOBS, WORKERS);
     for queue in 0..PRIORITIES {

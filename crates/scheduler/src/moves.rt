@@ -4,10 +4,11 @@ ghost use Rattle.std.specs.Prelude.{◌≡◌, ◌≤◌, None, IfOk, IfErr};
 ghost use Rattle.md_history.specs.Playing.{PlaysPart};
 ghost use Rattle.md_history.specs.Script.{Did, Follows};
 ghost use Rattle.scheduler.specs.Moves.{FitsScheduler, script_of};
-ghost use Rattle.scheduler.specs.Moves.{first_waiting, take, finish, put_back};
+ghost use Rattle.scheduler.specs.Moves.{start_first, take, finish, put_back};
 
 use crate::places::{FINISHED, LOWEST, MAPS, PRIORITIES, RUNNING};
 use md_history::{Body, Stop, TxCalls};
+use md_many::LawfulBody;
 
 /// What a worker may do.
 #[derive(Clone, Copy, Debug, PartialEq, Eq)]
@@ -30,22 +31,24 @@ pub struct Move {
     pub step: Step,
 }
 
-// Takes out the first job of the highest priority that has one.
-fn first_waiting<T: TxCalls>(t: &mut T) -> Result<Option<u64>, Stop>
+// The worker begins to run the first job of the highest priority that has one.
+fn start_first<T: TxCalls>(t: &mut T, worker: u64) -> Result<Option<u64>, Stop>
     requires going { T.stop t.old ≡ None }
+    requires maps { MAPS ≤ T.maps (T.kept t.old) }
     requires queues { PRIORITIES ≤ T.queues (T.kept t.old) }
-    ensures plays { PlaysPart (first_waiting PRIORITIES 0) result T.acts T.stop t.old t.new }
+    ensures plays { PlaysPart (start_first worker PRIORITIES 0) result T.acts T.stop t.old t.new }
     ensures kept { T.kept t.new ≡ T.kept t.old }
 {
     for queue in 0..PRIORITIES {
         if let Some(job) = t.dequeue(queue)? {
+            t.insert(RUNNING, worker, job)?;
             return Ok(Some(job));
         }
     }
     Ok(None)
 }
 
-// The worker begins to run a job.
+// The worker takes a job, unless it runs one.
 fn take<T: TxCalls>(t: &mut T, worker: u64) -> Result<Option<u64>, Stop>
     requires going { T.stop t.old ≡ None }
     requires maps { MAPS ≤ T.maps (T.kept t.old) }
@@ -53,14 +56,10 @@ fn take<T: TxCalls>(t: &mut T, worker: u64) -> Result<Option<u64>, Stop>
     ensures plays { PlaysPart (take worker) result T.acts T.stop t.old t.new }
     ensures kept { T.kept t.new ≡ T.kept t.old }
 {
-    if t.get(RUNNING, worker)?.is_some() {
-        return Ok(None);
+    match t.get(RUNNING, worker)? {
+        Some(_) => Ok(None),
+        None => start_first(t, worker),
     }
-    let Some(job) = first_waiting(t)? else {
-        return Ok(None);
-    };
-    t.insert(RUNNING, worker, job)?;
-    Ok(Some(job))
 }
 
 // The worker's job is finished.
@@ -113,4 +112,16 @@ impl Body for Move {
     }
 
     ghost did_makes = { λ m acts r did. did.follows };
+}
+
+// No move loses a job, and none needs a node more.
+impl LawfulBody for Move {
+    ghost use Rattle.scheduler.specs.Jobs.{KeepsJobs};
+    ghost use Rattle.scheduler.specs.Moves.{move_bounds};
+
+    ghost good = { λ opening s. KeepsJobs opening s };
+
+    ghost cost = { move_bounds };
+
+    ghost growth = { 0 };
 }

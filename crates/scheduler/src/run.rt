@@ -4,13 +4,13 @@ ghost use Rattle.std.specs.Prelude.{◌≡◌, ◌≤◌, ◌+◌, ◌<◌, [], 
 ghost use Rattle.md_words.specs.Layout.{HasNumbers};
 ghost use Rattle.md_many.specs.Played.{lists_in};
 ghost use Rattle.md_store.specs.Store.{front_in};
-ghost use Rattle.scheduler.specs.Jobs.{EachInOnePlace, Holds, numbered};
+ghost use Rattle.scheduler.specs.Jobs.{Holds};
 ghost use Rattle.scheduler.specs.Shifts.{IsShift};
 
 use crate::places::{MAPS, MAX_JOBS, MAX_WORKERS, PRIORITIES};
 use crate::shifts::Shift;
 use md_history::Contents;
-use md_many::{FreeGate, Many, run_many};
+use md_many::{FreeGate, Many, run_lines};
 use md_store::{Store, StorePass};
 use md_words::Shape;
 use std::alloc::{AllocError, Global};
@@ -28,7 +28,7 @@ const BUCKETS: u32 = 1_024;
 /// Jobs numbered from 0 that wait in the queues: job j is in queue j mod `PRIORITIES`. `AllocError`
 /// if memory runs out.
 pub fn all_waiting(alloc: Global, jobs: u32) -> Result<Contents, AllocError>
-    ensures { IfOk result (λ c. Holds (numbered jobs) [] c) }
+    ensures { IfOk result (λ c. Holds jobs c) }
 {
     let mut contents = Contents::empty(alloc, MAPS, PRIORITIES)?;
     for job in 0..jobs {
@@ -71,21 +71,17 @@ pub fn run_shift<R: Threads + Sync>(
     jobs: u32,
     workers: u32,
 ) -> Result<Many<Option<u64>, StorePass>, AllocError>
-    requires start { Holds (numbered jobs) [] start.now }
+    requires start { Holds jobs start.now }
     requires jobs { jobs ≤ MAX_JOBS }
     requires workers { (1 ≤ workers) × (workers ≤ MAX_WORKERS) }
-    ensures jobs { IfOk result (λ m. EachInOnePlace jobs m.contents) }
-    ensures holds { IfOk result (λ m. Holds (numbered jobs) [] m.contents) }
+    ensures holds { IfOk result (λ m. Holds jobs m.contents) }
     ensures moves { IfOk result (λ m. IsShift workers jobs start.now
         (map front_in m.fronts.items) (lists_in m.replies.items) m.contents) }
 {
     let Ok((store, pass)) = Store::open(alloc, shape_of(workers, jobs), start) else {
         return Err(AllocError);
     };
-    let shift = Shift {
-        start,
-        jobs,
-        workers,
-    };
-    run_many(rt, alloc, store, pass, &shift, TRIES, &FreeGate)
+    let shift = Shift { jobs, workers };
+    let many = run_lines(rt, alloc, store, pass, &shift, TRIES, &FreeGate)?;
+    Ok(many)
 }

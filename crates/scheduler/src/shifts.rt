@@ -5,16 +5,13 @@ ghost use Rattle.scheduler.specs.declared.places.TheConstants.{MAX_JOBS};
 ghost use Rattle.scheduler.specs.Moves.{move_at};
 
 use crate::moves::{Move, Step};
-use md_history::Contents;
-use md_many::{LawfulLines, Lines};
+use md_many::Lines;
 
 /// The moves of all workers, 2 * `jobs` + 2 of each. A worker takes a job and puts it back. Then it
 /// takes and finishes a job as often as there are jobs. So no job is left at the end, whatever the
 /// others do. No clause promises this.
 #[derive(Clone, Copy)]
-pub struct Shift<'a> {
-    /// The contents at the start, which hold the jobs.
-    pub start: &'a Contents,
+pub struct Shift {
     /// How many jobs there are, 0 to `MAX_JOBS`.
     pub jobs: u32,
     /// How many workers there are, numbered from 1.
@@ -36,7 +33,7 @@ fn move_at(worker: u32, line: u32) -> Move
     Move { worker, step }
 }
 
-impl Lines for Shift<'_> {
+impl Lines for Shift {
     ghost use Rattle.std.proofs.Common.{arith};
     ghost use Rattle.std.proofs.lemmas.Bool.Decides.{nat_tests};
     ghost use Rattle.scheduler.specs.Moves.{line_count_of, body_of};
@@ -71,21 +68,4 @@ impl Lines for Shift<'_> {
         (Prim.grind (arith, nat_tests), Prim.grind (arith, nat_tests)) };
 
     ghost has_caller = { λ l caller other. Prim.grind (arith, nat_tests) };
-}
-
-impl LawfulLines for Shift<'_> {
-    ghost use Rattle.std.specs.Prelude.{◌+◌, [], IsSome};
-    ghost use Rattle.scheduler.specs.declared.places.TheConstants.{PRIORITIES};
-    ghost use Rattle.scheduler.specs.Moves.{body_of, move_bounds};
-    ghost use Rattle.scheduler.specs.Jobs.{Holds, numbered};
-
-    ghost opening = { λ l. l.start.now };
-
-    ghost good = { λ l s tags. Holds (numbered l.jobs) [] s };
-
-    ghost suits = { λ l caller line r. IsSome (body_of l.workers l.jobs caller line) };
-
-    ghost cost = { λ l. move_bounds };
-
-    ghost most = { λ l. PRIORITIES + l.jobs };
 }

@@ -1,31 +1,22 @@
 -- A transfer's right acts do to a bank what one thread does that makes the transfer; and what that keeps.
-use Rattle.std.proofs.Common.{◌≡◌, ◌≢◌, ◌≤◌, ◌+◌, ℕ, cond, List, [], ◌∷◌, length, refl, sym, ap, ◌∙◌, arith, inl, inr}
-use Rattle.std.specs.Prelude.{◌-◌, ◌^◌, ◌==◌, nat_lt, Option, Some, None, Result, Ok, Err, is_none, sum}
+use Rattle.std.proofs.Common.{◌≡◌, ◌≢◌, ◌≤◌, ◌+◌, ℕ, List, [], ◌∷◌, length, refl, sym, ap, ◌∙◌, arith}
+use Rattle.std.specs.Prelude.{Option, Some, None, Result, Ok, Err, sum}
 use Rattle.std.specs.FinMap as fin
-use Rattle.std.proofs.lemmas.Bool.{cases_Bool, eqb-false, ltb-false}
+use Rattle.std.proofs.lemmas.Bool.Decides.{nat_tests}
 use Rattle.std.proofs.lemmas.List.{length-append}
 use Rattle.md_history.specs.declared.acts.Act.{Act}
 use Rattle.md_history.specs.declared.acts.Op.TheVariants.{Insert, Remove, Enqueue}
-use Rattle.md_history.specs.State.{State, Table, run, after, IsRight}
+use Rattle.md_history.specs.State.{State, run, after, IsRight}
 use Rattle.md_history.specs.Script.{Did}
 use Rattle.md_history.proofs.Plays.{played, outcome, did-played}
-use Rattle.md_history.proofs.Keys.{get-insert_other, get-remove_same, insert-removed, len-replaced}
+use Rattle.md_history.proofs.Keys.{get-insert_other, len-replaced}
 use Rattle.md_history.proofs.Weights.{weigh-replaced}
+use Rattle.md_many.proofs.Replacing.{replaced}
 use Rattle.transfers.specs.declared.bank.Transfer.{Transfer}
 use Rattle.transfers.specs.declared.bank.Refusal.{Refusal}
 use Rattle.transfers.specs.declared.bank.Outcome.{Outcome}
 use Rattle.transfers.specs.declared.bank.TheConstants.{ACCOUNTS, JOURNAL}
 use Rattle.transfers.specs.Bank.{Bank, state_of, total, new_balances, balances_of, after_balances, outcome_of_balances, bank_after, outcome_in, decided, script_of}
-
--- an account gets a balance
-replaced : (m : Table) (xs : List ℕ) (k v : ℕ)
-    → after (after (state_of (record { accounts = m; journal = xs })) (Remove ACCOUNTS k)) (Insert ACCOUNTS k v)
-    ≡ state_of (record { accounts = fin.insert m k v; journal = xs })
-replaced m xs k v =
-    let removed : State = state_of (record { accounts = fin.remove m k; journal = xs }) in
-    let put : State = state_of (record { accounts = fin.insert (fin.remove m k) k v; journal = xs }) in
-    ap (λ o. cond (is_none o) put removed) (get-remove_same m k)
-    ∙ ap (λ t. state_of (record { accounts = t; journal = xs })) (insert-removed m k v)
 
 -- what the decided part of a transfer leaves
 decided-leaves : (t : Transfer) (b : Bank) (o : Result (ℕ × ℕ) Refusal)
@@ -33,64 +24,43 @@ decided-leaves : (t : Transfer) (b : Bank) (o : Result (ℕ × ℕ) Refusal)
 decided-leaves t b (Err why) = refl
 decided-leaves t b (Ok new) =
     ap (λ s. after (after (after s (Remove ACCOUNTS t.to)) (Insert ACCOUNTS t.to new.1)) (Enqueue JOURNAL t.number))
-    (replaced b.accounts b.journal t.from new.0)
-    ∙ ap (λ s. after s (Enqueue JOURNAL t.number)) (replaced (fin.insert b.accounts t.from new.0) b.journal t.to new.1)
+    (replaced (state_of b) ACCOUNTS t.from new.0 (omega arith))
+    ∙ ap (λ s. after s (Enqueue JOURNAL t.number))
+    (replaced (state_of (record { accounts = fin.insert b.accounts t.from new.0; journal = b.journal })) ACCOUNTS t.to new.1
+    (omega arith))
 
 decided-replies : (t : Transfer) (s : State) (o : Result (ℕ × ℕ) Refusal) → outcome (decided t o) s ≡ outcome_of_balances o
 decided-replies t s (Err why) = refl
 decided-replies t s (Ok new) = refl
 
-pub record Meets (t : Transfer) (b : Bank) (acts : List Act) (r : Outcome) : Type 0 where
-  pub state : run (state_of b) acts ≡ state_of (bank_after b t)
-  pub reply : r ≡ outcome_in b t
+-- what a transfer leaves
+pub leaves : (t : Transfer) (b : Bank) → played (script_of t) (state_of b) ≡ state_of (bank_after b t)
+leaves t b = decided-leaves t b (balances_of b t)
 
 -- right acts of a transfer
-pub meets : (t : Transfer) (b : Bank) (acts : List Act) (r : Outcome) → Did (script_of t) acts r
-    → IsRight (state_of b) acts → Meets t b acts r
-meets t b acts r did right =
+pub does : (b : Bank) (t : Transfer) (acts : List Act) (r : Outcome) → Did (script_of t) acts r
+    → IsRight (state_of b) acts → (run (state_of b) acts ≡ state_of (bank_after b t)) × (r ≡ outcome_in b t)
+does b t acts r did right =
     let p = did-played (script_of t) (state_of b) acts r did right in
-    record {
-      state = p.state ∙ decided-leaves t b (balances_of b t);
-      reply = p.reply ∙ decided-replies t (state_of b) (balances_of b t);
-    }
+    (p.state ∙ leaves t b, p.reply ∙ decided-replies t (state_of b) (balances_of b t))
 
--- what is so where new balances were found
+-- new balances are of two accounts that are there, and their sum stays
 record AreNew (t : Transfer) (from to : Option ℕ) (new : ℕ × ℕ) : Type 0 where
   pub left : ℕ
   pub there : ℕ
   pub from_is : from ≡ Some left
   pub to_is : to ≡ Some there
   pub other : t.from ≢ t.to
-  pub enough : t.amount ≤ left
-  pub taken : new.0 ≡ left - t.amount
-  pub given : new.1 ≡ there + t.amount
+  pub sum : new.0 + new.1 ≡ left + there
 
 are-new : (t : Transfer) (from to : Option ℕ) (new : ℕ × ℕ) → new_balances t from to ≡ Ok new → AreNew t from to new
 are-new t None to new is = cc
 are-new t (Some x) None new is = cc
-are-new t (Some x) (Some y) new is = elim (cases_Bool (t.from == t.to)) [
-  | inl same ↦ cc (rw same at is)
-  | inr other ↦ elim (cases_Bool (nat_lt x t.amount)) [
-    | inl short ↦ cc (rw short at rw other at is)
-    | inr enough ↦ elim (cases_Bool (nat_lt (y + t.amount) (2 ^ 64))) [
-      | inl fits ↦
-          let e : ◌≡◌ {A = Result (ℕ × ℕ) Refusal} (Ok (x - t.amount, y + t.amount)) (Ok new) = rw fits at rw enough at rw other at is in
-          record {
-            left = x;
-            there = y;
-            from_is = refl;
-            to_is = refl;
-            other = eqb-false t.from t.to other;
-            enough = ltb-false x t.amount enough;
-            taken = cc e;
-            given = cc e;
-          }
-      | inr full ↦ cc (rw full at rw enough at rw other at is)
-    ]
-  ]
-]
+are-new t (Some x) (Some y) new is =
+    let found : (t.from ≢ t.to) × (new.0 + new.1 ≡ x + y) = grind (arith, nat_tests) in
+    record { left = x; there = y; from_is = refl; to_is = refl; other = found.0; sum = found.1 }
 
--- what a transfer keeps
+-- what a transfer keeps, and what it adds to the journal
 pub record Keeps (b b' : Bank) : Type 0 where
   pub sum : total b' ≡ total b
   pub accounts : fin.len b'.accounts ≡ fin.len b.accounts
@@ -108,7 +78,7 @@ after-keeps t b (Ok new) is =
     let second : sum (fin.values (fin.insert one t.to new.1)) + n.there ≡ sum (fin.values one) + new.1 =
     weigh-replaced (λ x. x) (λ e. e.1) one t.to new.1 n.there there in
     record {
-      sum = omega (arith, first, second, n.enough, n.taken, n.given);
+      sum = omega (arith, first, second, n.sum);
       accounts = len-replaced one t.to new.1 n.there there ∙ len-replaced b.accounts t.from new.0 n.left n.from_is;
       journal = omega (arith, length-append b.journal (t.number ∷ []));
     }

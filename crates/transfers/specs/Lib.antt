@@ -1,4 +1,2 @@
 pub mod Bank
-pub mod Orders
-pub mod OrderLaws
 pub mod Made

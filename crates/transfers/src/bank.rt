@@ -4,7 +4,7 @@ ghost use Rattle.std.specs.Prelude.{◌≡◌, ◌<◌, None};
 ghost use Rattle.md_history.specs.Playing.{PlaysPart};
 ghost use Rattle.transfers.specs.Bank.{new_balances, write_both};
 
-use medley_transactions::{Body, Stop, TxCalls};
+use medley_transactions::{Body, LawfulBody, Stop, TxCalls};
 
 /// The map of the accounts, from an account's number to its balance.
 pub const ACCOUNTS: u32 = 0;
@@ -12,17 +12,9 @@ pub const ACCOUNTS: u32 = 0;
 /// The queue of the journal. It has the numbers of the transfers that moved money, in their order.
 pub const JOURNAL: u32 = 0;
 
-/// An amount to be moved from one account to another. Each number may be any.
-#[derive(Clone, Copy, Debug, PartialEq, Eq)]
-pub struct Order {
-    pub from: u64,
-    pub to: u64,
-    pub amount: u64,
-}
-
-/// An order with a number, which the journal gets if money moves. As a body it needs a store with
-/// at least one map and one queue. It reads at most 28 words, writes at most 49 and takes at most 7
-/// nodes.
+/// An amount to be moved from one account to another, and a number, which the journal gets if money
+/// moves. Each may be any. As a body a transfer needs a store with at least one map and one queue.
+/// It reads at most 28 words, writes at most 49 and takes at most 7 nodes.
 #[derive(Clone, Copy, Debug, PartialEq, Eq)]
 pub struct Transfer {
     pub number: u64,
@@ -122,4 +114,15 @@ impl Body for Transfer {
     }
 
     ghost did_makes = { λ t acts r did. did.follows };
+}
+
+// Money moves, and each transfer adds no more than its record in the journal.
+impl LawfulBody for Transfer {
+    ghost use Rattle.transfers.specs.Bank.{IsBank, transfer_bounds};
+
+    ghost good = { λ opening s. IsBank opening };
+
+    ghost cost = { transfer_bounds };
+
+    ghost growth = { 1 };
 }

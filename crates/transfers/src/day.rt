@@ -1,10 +1,10 @@
-//! An example of a bank's day: accounts and orders that are made up.
+//! An example of a bank's day: accounts and transfers that are made up.
 
 ghost use Rattle.std.specs.Prelude.{◌≡◌, ◌≤◌, length, IfOk};
 ghost use Rattle.transfers.specs.Bank.{IsBank};
 
-use crate::bank::{ACCOUNTS, Order};
-use medley_transactions::Contents;
+use crate::bank::{ACCOUNTS, Transfer};
+use medley_transactions::{Contents, line_tag};
 use std::alloc::{AllocError, Global};
 
 /// A bank with accounts numbered from 0, each with the same balance, and with an empty journal.
@@ -37,15 +37,16 @@ fn below(bound: u32, random: u64) -> u64
     random / 4_294_967_296 % bound as u64
 }
 
-/// Makes up `count` orders of one teller between accounts numbered below `accounts`. Both accounts
-/// of an order may be the same. Each order moves 1 to 100, but every tenth asks for 2^64 - 1.
-fn orders_of(
+/// Makes up `count` transfers of one teller between accounts numbered below `accounts`. The number
+/// of each is its tag as the teller's line. Both accounts may be the same. Each transfer moves 1 to
+/// 100, but every tenth asks for 2^64 - 1.
+fn transfers_of(
     alloc: Global,
     teller: u32,
     accounts: u32,
     count: u32,
-) -> Result<Vec<Order>, AllocError> {
-    let mut orders = Vec::with_capacity(alloc, count as usize)?;
+) -> Result<Vec<Transfer>, AllocError> {
+    let mut transfers = Vec::with_capacity(alloc, count as usize)?;
     let mut random = teller as u64;
     for made in 0..count {
         random = next_random(random);
@@ -58,24 +59,29 @@ fn orders_of(
         } else {
             1 + below(100, random)
         };
-        orders.push(Order { from, to, amount })?;
+        transfers.push(Transfer {
+            number: line_tag(teller, made + 1),
+            from,
+            to,
+            amount,
+        })?;
     }
-    Ok(orders)
+    Ok(transfers)
 }
 
-/// Makes up `count` orders for each of `tellers` tellers, between accounts numbered below
+/// Makes up `count` transfers for each of `tellers` tellers, between accounts numbered below
 /// `accounts`. Each number may be any. `AllocError` if memory runs out.
-pub fn make_orders(
+pub fn make_transfers(
     alloc: Global,
     tellers: u32,
     accounts: u32,
     count: u32,
-) -> Result<Vec<Vec<Order>>, AllocError>
-    ensures { IfOk result (λ orders. length orders.items ≡ tellers) }
+) -> Result<Vec<Vec<Transfer>>, AllocError>
+    ensures { IfOk result (λ transfers. length transfers.items ≡ tellers) }
 {
     let mut all = Vec::with_capacity(alloc, tellers as usize)?;
     'tellers: for teller in 0..tellers {
-        all.push(orders_of(alloc, teller, accounts, count)?)?;
+        all.push(transfers_of(alloc, teller + 1, accounts, count)?)?;
     }
     Ok(all)
 }

@@ -18,7 +18,7 @@ pub fn sum_of(contents: &Contents) -> u64
     sum
 }
 
-/// How many orders moved money.
+/// How many transfers moved money.
 pub fn moved_in<P>(many: &Many<Outcome, P>) -> u64 {
     let mut moved = 0u64;
     for outcomes in &many.replies {
@@ -31,9 +31,9 @@ pub fn moved_in<P>(many: &Many<Outcome, P>) -> u64 {
     moved
 }
 
-/// Whether the journal has the number of each order that moved money, once, and no other number,
-/// and has the numbers of each teller in the teller's order. The journal was empty at first.
-/// `AllocError` if there is no memory for a number for each teller.
+/// Whether the journal has the number of each transfer that moved money, once, and no other number,
+/// and has the numbers of each teller in the teller's order. The journal was empty at first, and
+/// each number is the tag of the transfer's line. `AllocError` if there is no memory for a number for each teller.
 pub fn is_journal_right<P>(alloc: Global, many: &Many<Outcome, P>) -> Result<bool, AllocError>
     requires { IsBank many.now.contents }
 {

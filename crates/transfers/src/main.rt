@@ -4,28 +4,26 @@
 mod bank;
 mod day;
 mod journal;
-mod lines;
 mod playing;
-mod tellers;
 #[cfg(test)]
 mod tests;
 mod threads;
 
-use day::{make_orders, open_bank};
+use day::{make_transfers, open_bank};
 use journal::{is_journal_right, moved_in, sum_of};
+use medley_transactions::LinesByCaller;
 use std::alloc::{AllocError, Global};
 use std::process::ExitCode;
 use std::thread::Threads;
-use tellers::Tellers;
 use threads::transfer_in_threads;
 
 const TELLERS: u32 = 4;
 
-const ORDERS: u32 = 2_500;
+const TRANSFERS: u32 = 2_500;
 
 const ACCOUNT_COUNT: u32 = 16;
 
-// No account runs short: all orders together move no more than this.
+// No account runs short: all transfers together move no more than this.
 const BALANCE: u64 = 1_000_000;
 
 // The results of the day. None of them depends on the order in which the transfers were made.
@@ -38,14 +36,14 @@ struct Summary {
     is_right: bool,
 }
 
-// Makes all orders of the day. `None` if the day can't be made.
+// Makes all transfers of the day. `None` if the day can't be made.
 fn run_day<R: Threads + Sync>(rt: &R, alloc: Global) -> Result<Option<Summary>, AllocError> {
     let start = open_bank(alloc, ACCOUNT_COUNT, BALANCE)?;
-    let orders = make_orders(alloc, TELLERS, ACCOUNT_COUNT, ORDERS)?;
-    let Some(tellers) = Tellers::new(orders) else {
+    let lists = make_transfers(alloc, TELLERS, ACCOUNT_COUNT, TRANSFERS)?;
+    let Some(transfers) = LinesByCaller::new(lists) else {
         return Ok(None);
     };
-    let Ok(many) = transfer_in_threads(rt, alloc, &start, &tellers) else {
+    let Ok(many) = transfer_in_threads(rt, alloc, &start, &transfers) else {
         return Ok(None);
     };
     let moved = moved_in(&many);
@@ -53,7 +51,7 @@ fn run_day<R: Threads + Sync>(rt: &R, alloc: Global) -> Result<Option<Summary>, 
         before: sum_of(&start),
         after: sum_of(&many.contents),
         moved,
-        refused: (tellers.total() as u64).wrapping_sub(moved),
+        refused: (transfers.total() as u64).wrapping_sub(moved),
         is_right: is_journal_right(alloc, &many)?,
     }))
 }

@@ -3,12 +3,11 @@
 ghost use Rattle.std.specs.Prelude.{IfOk, length, ◌≤◌};
 ghost use Rattle.transfers.specs.Bank.{IsBank};
 
-use crate::bank::{ACCOUNTS, JOURNAL, Order, Outcome, Refusal, Transfer};
-use crate::day::{make_orders, open_bank};
+use crate::bank::{ACCOUNTS, JOURNAL, Outcome, Refusal, Transfer};
+use crate::day::{make_transfers, open_bank};
 use crate::journal::{is_journal_right, moved_in, sum_of};
-use crate::tellers::{MAX_ORDERS, MAX_TELLERS, Tellers};
 use crate::threads::transfer_in_threads;
-use medley_transactions::{Attempt, Engine, PlainStore};
+use medley_transactions::{Attempt, Engine, LinesByCaller, PlainStore};
 use std::alloc::{AllocError, Global};
 use std::test::Fail;
 use std::thread::Threads;
@@ -54,25 +53,15 @@ fn each_outcome(rt: HostRuntime) -> Result<(), Fail> {
     Ok(())
 }
 
-#[test]
-fn tellers_have_limits(rt: HostRuntime) -> Result<(), Fail> {
-    let alloc = rt.alloc();
-    assert!(rt; Tellers::new(make_orders(alloc, MAX_TELLERS as u32, 2, 1)?).is_some());
-    assert!(rt; Tellers::new(make_orders(alloc, MAX_TELLERS as u32 + 1, 2, 1)?).is_none());
-    assert!(rt; Tellers::new(make_orders(alloc, 2, 2, MAX_ORDERS as u32 / 2)?).is_some());
-    assert!(rt; Tellers::new(make_orders(alloc, 2, 2, MAX_ORDERS as u32 / 2 + 1)?).is_none());
-    Ok(())
-}
-
-// Tellers make orders between so few accounts with so little that what is refused depends on the
+// Tellers make transfers between so few accounts with so little that what is refused depends on the
 // order in which threads come. The sum stays, and the journal has what was moved.
 #[test]
 fn poor_accounts(rt: HostRuntime) -> Result<(), Fail> {
     let alloc = rt.alloc();
     for (tellers, accounts) in [(1, 2), (2, 2), (4, 3), (8, 4)] {
         let start = open_bank(alloc, accounts, 60)?;
-        let orders = make_orders(alloc, tellers, accounts, 1_000)?;
-        let made = Tellers::new(orders).expect(&rt, "few orders");
+        let lists = make_transfers(alloc, tellers, accounts, 1_000)?;
+        let made = LinesByCaller::new(lists).expect(&rt, "few transfers");
         let many = transfer_in_threads(&rt, alloc, &start, &made).expect(&rt, "memory");
         assert_eq!(rt; sum_of(&many.contents), accounts as u64 * 60);
         assert!(rt; is_journal_right(alloc, &many)?);

@@ -1,7 +1,7 @@
 //! Bodies that look at a queue, and leave the store as it is.
 
 use crate::callers::Lines;
-use crate::laws::LawfulLines;
+use crate::laws::{LawfulBody, LawfulLines};
 use crate::tests::lines::{EachLine, Numbered};
 use md_history::{Body, Stop, TxCalls};
 
@@ -55,4 +55,16 @@ impl LawfulLines for EachLine<Look> {
     ghost cost = { λ n. record { reads = 2; writes = 0; nodes = 0 } };
 
     ghost most = { λ n. 1 };
+}
+
+// They keep whatever was so, and need no node.
+impl LawfulBody for Look {
+    ghost use Rattle.std.specs.Prelude.{◌<◌, length};
+    ghost use Rattle.md_history.specs.Counts.{bounds_of_calls};
+
+    ghost good = { λ opening s. 0 < length opening.queues };
+
+    ghost cost = { bounds_of_calls 1 };
+
+    ghost growth = { 0 };
 }

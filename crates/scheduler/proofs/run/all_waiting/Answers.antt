@@ -1,14 +1,14 @@
-use Rattle.std.proofs.Common.{[], ◌+◌, ◌%◌, sym, subst, arith}
+use Rattle.std.proofs.Common.{◌+◌, ◌%◌, sym, subst, arith}
 use Rattle.scheduler.specs.declared.places.TheConstants.{PRIORITIES}
-use Rattle.scheduler.specs.Jobs.{Holds, numbered}
-use Rattle.scheduler.proofs.Opening.{holds-none, holds-more}
+use Rattle.scheduler.specs.Jobs.{Holds}
+use Rattle.scheduler.proofs.Holding.{holds-none, holds-more}
 use Rattle.scheduler.proofs.run.all_waiting.Goals as goal
 
 pub loop-job-init : goal.loop-job-init
-loop-job-init c = subst (Holds [] []) (sym c.in_ok-contents.ensures) holds-none
+loop-job-init c = subst (Holds 0) (sym c.in_ok-contents.ensures) holds-none
 
 pub loop-job-preserved : goal.loop-job-preserved
 loop-job-preserved c =
     let job = c.loop-job.job in
-    subst (Holds (numbered (job + 1)) []) (sym c.in_ok-push.ensures.ok)
+    subst (Holds (job + 1)) (sym c.in_ok-push.ensures.ok)
     (holds-more job (job % PRIORITIES) _ c.loop-job.invariant (omega arith))
