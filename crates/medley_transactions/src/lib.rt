@@ -89,8 +89,8 @@ pub use md_many::{LawfulLines, run_many};
 /// What is called around each attempt at a line, and a gate that does nothing.
 pub use md_many::{FreeGate, Gate};
 
-/// Rounds whose replies go to a keeper of the caller's own.
-pub use md_many::{Keeper, Rounds, play_rounds};
+/// Rounds whose replies go to a keeper of the caller's own, in lists of its own kind.
+pub use md_many::{Keeper, ReplyList, Rounds, play_rounds};
 
 /// The calls that play lines of one caller by a pass: one attempt, or attempts until the turn ends.
 pub use md_many::{End, MOST_CONFLICTS, Turn, attempt_line, attempt_lines};
