@@ -13,3 +13,4 @@ pub mod Noted
 pub mod Made
 pub mod Texts
 pub mod Totals
+pub mod Split
