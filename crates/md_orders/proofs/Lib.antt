@@ -14,3 +14,6 @@ pub mod Made
 pub mod Texts
 pub mod Totals
 pub mod Split
+pub mod LineEnds
+pub mod Renamed
+pub mod Halves

@@ -22,7 +22,7 @@ use Rattle.md_orders.specs.Noted.{file_as, shows_version_2, AreScriptsOf, AreNot
 use Rattle.md_orders.specs.Line.{IsLine}
 use Rattle.md_orders.proofs.Numbered.{numbered-more, numbered-same}
 use Rattle.md_orders.proofs.ByCaller.{list_of-with_list-same, list_of-with_list-other, length-with_list, count_of-add}
-use Rattle.md_orders.proofs.Keeps.{first_bad_line-good, first_bad_line-bad, first_bad_line-still, caller_of-inv}
+use Rattle.md_orders.proofs.Keeps.{first_bad_line-more, first_bad_line-still, caller_of-inv}
 
 -- the next command of a caller
 script-more : (version : Version) (callers : ℕ) (rows : List Row) (row : Row) (caller n : ℕ) (x : Command) → is_by version callers caller row ≡ true → n ≡ 1 + length (filter (is_by version callers caller) rows)
@@ -63,7 +63,7 @@ scripts-more callers file row scripts caller x so_far line =
     let more_lines = count_of-add scripts caller x low high in
     let few = so_far.few in
     record {
-      good = first_bad_line-good version callers file.first rows row so_far.good line.good;
+      good = first_bad_line-more version callers file.first rows (row ∷ []) so_far.good ∙ rw line.good refl;
       number = length-with_list scripts caller new ∙ number;
       each = λ c. elim (cases_Bool (caller == c)) [
         | inl is ↦ let e : caller ≡ c = eqb-true caller c is in
@@ -203,7 +203,9 @@ note_bad known callers rows row count version scripts None none other noted brea
     let counted = noted.counted in
     let so_far : AreScriptsOf callers file scripts = noted.noted in
     noted-as known callers rows row count version scripts (Some (count + 1)) other counted noted.version_is
-    (first_bad_line-bad file.version callers file.first (count + 1) file.lines row so_far.good (subst (λ v. keeps v callers row ≡ false) noted.version_is breaks) (omega arith))
+    (let next : file.first + length file.lines ≡ count + 1 = omega arith in
+    first_bad_line-more file.version callers file.first file.lines (row ∷ []) so_far.good
+    ∙ rw (subst (λ v. keeps v callers row ≡ false) noted.version_is breaks) (ap Some next))
 note_bad known callers rows row count version scripts (Some m) none other noted breaks = cc none
 
 -- after that what was noted stays
@@ -212,7 +214,7 @@ pub note_more : (known : Option Version) (callers : ℕ) (rows : List Row) (row 
 note_more known callers rows row count version scripts None some other noted = cc some
 note_more known callers rows row count version scripts (Some n) some other noted =
     let file = file_as known rows in
-    noted-as known callers rows row count version scripts (Some n) other noted.counted noted.version_is (first_bad_line-still file.version callers file.first n file.lines row noted.noted)
+    noted-as known callers rows row count version scripts (Some n) other noted.counted noted.version_is (first_bad_line-still file.version callers file.first n file.lines (row ∷ []) noted.noted)
 
 -- at the end what was noted is the scripts of the file, or its first bad record
 pub noted-scripts : (callers : ℕ) (rows : List Row) (count : ℕ) (version : Version) (scripts : List (List Command)) → IsNoted None callers rows count version scripts None → AreScripts callers rows scripts

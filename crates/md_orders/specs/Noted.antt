@@ -7,8 +7,8 @@ use Rattle.md_orders.specs.declared.read.OrderFault.{OrderFault}
 use Rattle.md_orders.specs.declared.read.OrderFault.TheVariants.{TooMany, BadLine, NoMemory}
 use Rattle.md_orders.specs.Records.{Row, AreFewRecords}
 use Rattle.md_orders.specs.Version.{OrderFile, file_of, is_version_record}
-use Rattle.md_orders.specs.Grammar.{first_bad_line}
-use Rattle.md_orders.specs.Scripts.{list_of, count_of, is_by, script_in}
+use Rattle.md_orders.specs.Grammar.{first_bad_line, first_bad}
+use Rattle.md_orders.specs.Scripts.{list_of, count_of, is_by, script_in, AreScripts}
 
 -- the file of some records: the version that they show, or one that is known, in which each record is a line
 abbrev pub file_as : Option Version → List Row → OrderFile
@@ -51,3 +51,10 @@ IsRead known callers rows (Ok notes) = AreNotes known callers rows notes × AreF
 IsRead known callers rows (Err TooMany) = ¬ AreFewRecords rows
 IsRead known callers rows (Err (BadLine n)) = ⊥
 IsRead known callers rows (Err NoMemory) = Unit {0}
+
+-- what a read of an order file returns: its scripts, or why there are none
+abbrev pub IsReadAs : ℕ → List Row → Result (List (List Command)) OrderFault → Type 0
+IsReadAs callers rows (Ok scripts) = AreFewRecords rows × AreScripts callers rows scripts
+IsReadAs callers rows (Err TooMany) = ¬ AreFewRecords rows
+IsReadAs callers rows (Err (BadLine n)) = AreFewRecords rows × (first_bad callers rows ≡ Some n)
+IsReadAs callers rows (Err NoMemory) = Unit {0}

@@ -29,7 +29,7 @@ pub enum OrderFault {
 }
 
 // How many records an order file has at most.
-const MAX_RECORDS: u32 = 1_000_000;
+pub(crate) const MAX_RECORDS: u32 = 1_000_000;
 
 // A read of a slice by a flexible reader fails only when it is out of memory.
 fn want(error: &Error) -> OrderFault
