@@ -1,6 +1,6 @@
 -- What is noted of a file, by what was noted of two parts.
-use Rattle.std.proofs.Common.{◌≡◌, ◌≢◌, ◌<◌, ◌≤◌, ◌+◌, ◌∙◌, ◌++◌, ◌∷◌, ℕ, zero, suc, List, [], Bool, true, false, cond, Option, Some, None, is_some, take, get_or, length, refl, sym, ap, subst, arith, inl, inr, length-append}
-use Rattle.std.specs.Prelude.{◌&&◌, ◌==◌, IfSome, slice_get, option_and_then, filter, nat_lt, min, codes}
+use Rattle.std.proofs.Common.{◌≡◌, ◌≢◌, ◌<◌, ◌≤◌, ◌+◌, ◌∙◌, ◌++◌, ◌∷◌, ℕ, zero, suc, List, [], Bool, true, false, Option, Some, None, is_some, take, get_or, length, refl, sym, ap, subst, arith, inl, inr, length-append}
+use Rattle.std.specs.Prelude.{◌&&◌, ◌==◌, option_and_then, filter, nat_lt, min, codes}
 use Rattle.std.specs.List.{filter_map, cons_option, enumerate_from}
 use Rattle.std.specs.Option.{option_map, option_map_or}
 use Rattle.std.specs.Str.{bytes_eq}
@@ -17,10 +17,10 @@ use Rattle.md_book.specs.Commands.{name_of}
 use Rattle.md_orders.specs.declared.version.Version.{Version}
 use Rattle.md_orders.specs.declared.version.Version.TheVariants.{First, Second}
 use Rattle.md_orders.specs.Records.{Row, max_records, AreFewRecords}
-use Rattle.md_orders.specs.Version.{OrderFile, file_of, max_caller, is_field, is_version_record, version_record}
+use Rattle.md_orders.specs.Version.{file_of, max_caller, is_field, is_version_record, version_record}
 use Rattle.md_orders.specs.Grammar.{digits_after, number_within, caller_of, command_of, keeps, first_bad_line, first_bad}
 use Rattle.md_orders.specs.Scripts.{list_of, count_of, is_by, script_in, AreScripts}
-use Rattle.md_orders.specs.Noted.{AreScriptsOf, AreNoted, IsNoted}
+use Rattle.md_orders.specs.Noted.{AreScriptsOf, IsNoted}
 use Rattle.md_orders.specs.Joined.{renamed, renamed_from, joined, IsAdded, AreJoined}
 use Rattle.md_orders.proofs.ByCaller.{list_of-at, list_of-past}
 use Rattle.md_orders.proofs.Keeps.{first_bad_line-more, first_bad_line-still}
@@ -267,13 +267,13 @@ first-scripts callers rows count version scripts None none noted =
     let file = file-first callers rows (λ e. cc (sym x.good ∙ e)) in
     record { good = rw file x.good; number = x.number; each = λ c. rw file (x.each c) }
 
-pub first-bad : (callers : ℕ) (rows : List Row) (count : ℕ) (version : Version) (scripts : List (List Command)) (bad : Option ℕ) (n : ℕ) → bad ≡ Some n → n ≢ 1
+pub first-bad : (callers : ℕ) (rows : List Row) (count : ℕ) (version : Version) (scripts : List (List Command)) (bad : Option ℕ) (n : ℕ) → bad ≡ Some n → 1 < n
     → IsNoted (Some First) callers rows count version scripts bad → first_bad callers rows ≡ Some n
 first-bad callers rows count version scripts None n some other noted = cc some
 first-bad callers rows count version scripts (Some m) n some other noted =
     let same : m ≡ n = cc some in
     let at : first_bad_line First callers 1 rows ≡ Some n = noted.noted ∙ ap Some same in
-    let file = file-first callers rows (λ e. other (same_number n 1 (sym at ∙ e))) in
+    let file = file-first callers rows (λ e. let one = same_number n 1 (sym at ∙ e) in absurd (omega arith)) in
     rw file at
   where
     same_number : (a b : ℕ) → Some a ≡ Some b → a ≡ b

@@ -1,15 +1,15 @@
 -- Where the bytes of an order file are cut: after a line feed that no double quote comes before.
-use Rattle.std.proofs.Common.{◌≡◌, ◌≢◌, ◌≤◌, ◌<◌, ◌+◌, ◌-◌, ◌∙◌, ◌++◌, ◌∷◌, ℕ, zero, suc, List, [], Bool, true, false, cond, take, drop, get_or, length, refl, sym, ap, subst, arith, inl, inr}
-use Rattle.std.specs.Prelude.{◌==◌, ◌||◌, ◌&&◌, if◌then◌else◌}
+use Rattle.std.proofs.Common.{◌≡◌, ◌≢◌, ◌≤◌, ◌<◌, ◌+◌, ◌-◌, ◌∙◌, ◌++◌, ◌∷◌, ℕ, zero, suc, List, [], Bool, true, false, take, drop, get_or, length, refl, sym, ap, arith, inl, inr}
+use Rattle.std.specs.Prelude.{◌==◌, ◌||◌, if◌then◌else◌}
 use Rattle.std.specs.List.{list_any}
-use Rattle.std.proofs.lemmas.Bool.{cases_Bool, false≢true, eqb-true}
+use Rattle.std.proofs.lemmas.Bool.{cases_Bool, eqb-true}
 use Rattle.std.proofs.lemmas.List.{take-append-drop, take_more}
 use Rattle.csv.specs.Machine.{step, in_field, start_field, start_record, next_record}
-use Rattle.csv.specs.Reading.{default_config, strip_bom, records, records_from}
+use Rattle.csv.specs.Reading.{default_config, strip_bom, records_from}
 use Rattle.csv.specs.declared.parser.State.{State}
 use Rattle.csv.specs.declared.parser.State.TheVariants as st
 use Rattle.csv.specs.declared.parser.Action.{Action}
-use Rattle.md_orders.specs.Records.{Row, order_records}
+use Rattle.md_orders.specs.Records.{order_records}
 use Rattle.md_orders.specs.Version.{version_record}
 use Rattle.md_orders.proofs.Split.{state_after, records-split}
 

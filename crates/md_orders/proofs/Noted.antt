@@ -1,6 +1,6 @@
 -- What was noted of the records that were read: their scripts, or the first that breaks the grammar.
 use Rattle.std.proofs.Common.{◌≡◌, ◌≤◌, ◌+◌, ◌∙◌, ◌++◌, ◌∷◌, ℕ, suc, zero, List, [], true, false, cond, Option, Some, None, is_some, length, unwrap_or, replicate, refl, sym, ap, subst, arith, inl, inr, length-append}
-use Rattle.std.specs.Prelude.{◌==◌, ◌&&◌, nat_lt, filter, OnOk, Result, Ok, Err}
+use Rattle.std.specs.Prelude.{◌==◌, nat_lt, filter, OnOk, Result, Ok, Err}
 use Rattle.std.specs.Result.{is_ok}
 use borrow.Author.Tests.{ltb-true, ltb-false}
 use Rattle.std.specs.List.{filter_map, cons_option, enumerate_from}

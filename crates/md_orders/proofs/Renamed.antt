@@ -1,19 +1,16 @@
 -- Commands whose orders get other names.
-use Rattle.std.proofs.Common.{◌≡◌, ◌≢◌, ◌<◌, ◌≤◌, ◌+◌, ◌∙◌, ◌++◌, ◌∷◌, ℕ, zero, suc, List, [], Bool, true, false, cond, Option, Some, None, take, get_or, length, refl, sym, ap, subst, arith, inl, inr, length-append}
-use Rattle.std.specs.Prelude.{◌&&◌, ◌==◌, IfSome, slice_get, option_and_then, filter}
-use Rattle.std.specs.List.{filter_map, cons_option, enumerate_from}
+use Rattle.std.proofs.Common.{◌≡◌, ◌<◌, ◌≤◌, ◌+◌, ◌∙◌, ◌++◌, ◌∷◌, ℕ, suc, List, [], Bool, true, false, cond, Option, Some, None, take, get_or, length, refl, sym, ap, subst, arith, length-append}
+use Rattle.std.specs.Prelude.{◌&&◌, ◌==◌, IfSome, slice_get, option_and_then}
 use Rattle.std.specs.Option.{option_map}
-use Rattle.std.proofs.lemmas.Bool.{cases_Bool}
-use Rattle.std.proofs.lemmas.List.{take_more, append-nil, append_assoc, length-take-le}
-use Rattle.std.proofs.lemmas.List.Elements.{filter-append, filter_map-append}
+use Rattle.std.proofs.lemmas.List.{take_more, append-nil, append_assoc}
 use Rattle.md_book.specs.declared.commands.Command.{Command}
 use Rattle.md_book.specs.declared.commands.Command.TheVariants.{Place, Cancel, Fill, Kill, Depth, Account}
 use Rattle.md_book.specs.Commands.{IsCommand, IsName, name_of}
 use Rattle.md_orders.specs.declared.version.Version.{Version}
 use Rattle.md_orders.specs.declared.grammar.Terms.{Terms}
 use Rattle.md_orders.specs.Records.{Row, max_records}
-use Rattle.md_orders.specs.Grammar.{byte_at, terms_of, number_at, side_at, price_at, account_at, place_of, cancel_of, fill_of, kill_of, depth_of, account_of, command_of_kind, command_of}
-use Rattle.md_orders.specs.Scripts.{list_of, with_list, count_of, is_by, script_in, IsNamed}
+use Rattle.md_orders.specs.Grammar.{byte_at, terms_of, number_at, side_at, price_at, account_at, command_of_kind, command_of}
+use Rattle.md_orders.specs.Scripts.{list_of, with_list, count_of, IsNamed}
 use Rattle.md_orders.specs.Joined.{renamed, renamed_from, joined, IsAdded}
 use Rattle.md_orders.proofs.ByCaller.{list_of-with_list-same, list_of-with_list-other, length-with_list, length-list_of-le, count_of-add}
 use Rattle.md_orders.proofs.Keeps.{is_name}
@@ -116,6 +113,7 @@ command_of-renamed version n m row = then-each (byte_at row 1)
         (renamed-choice m ((kind == 75) && (length row == 6)) _ _ _ _ (renamed-map m _ (terms_of row) (λ t. refl))
         (renamed-choice m ((kind == 68) && (length row == 4)) _ _ _ _ (renamed-then m _ (side_at row 2) (λ side. renamed-map m _ (price_at row 3) (λ price. refl)))
         (renamed-choice m ((kind == 65) && (length row == 3)) _ _ _ _ (renamed-map m _ (account_at row 2) (λ account. refl)) refl)))))
+
     then-each : (o : Option ℕ) → option_and_then (command_of_kind version m row) o ≡ option_map (renamed m) (option_and_then (command_of_kind version n row) o)
     then-each None = refl
     then-each (Some kind) = kinds kind

@@ -67,11 +67,7 @@ fn add_scripts(scripts: &mut Scripts, more: &Scripts) -> Result<(), AllocError>
 /// lines in the file, and the first record that breaks the grammar gets its number there. The
 /// result is `TooMany` if the parts together have more than 1,000,000 records, and may be
 /// `NoMemory` if memory runs out.
-pub(crate) fn join_notes(
-    mut first: Notes,
-    second: Notes,
-    callers: u32,
-) -> Result<Notes, OrderFault>
+pub(crate) fn join_notes(mut first: Notes, second: Notes, callers: u32) -> Result<Notes, OrderFault>
     requires few { callers ≤ MAX_CALLER }
     requires counts { (first.count ≤ max_records) × (second.count ≤ max_records) }
     requires notes { (low : List Row) × (high : List Row)

@@ -98,10 +98,10 @@ pub(crate) fn read_with_cuts<R: Threads + Sync>(
     }
     let notes = read_parts(rt, alloc, bytes, callers, Version::First, cuts)?;
     match notes.bad {
-        // In version 1 a first record that breaks the grammar may be that of version 2.
-        Some(1) => read_orders(alloc, bytes, callers),
-        Some(number) => Err(OrderFault::BadLine(number)),
         None => Ok(notes.scripts),
+        Some(number) if number > 1 => Err(OrderFault::BadLine(number)),
+        // It may be the record of version 2, which breaks the grammar of version 1.
+        Some(_) => read_orders(alloc, bytes, callers),
     }
 }
 

@@ -5,18 +5,20 @@ use crate::{OrderFault, Scripts, read_orders, read_orders_in_threads};
 use md_book::{Command, order_name};
 use std::alloc::{AllocError, Global};
 use std::test::Fail;
+use std::thread::Threads;
 
 const CALLERS: u32 = 3;
 
 // The commands of all callers, one caller's after another's, and the fault.
+#[derive(Drop)]
 struct Shown {
     commands: Vec<Command>,
     fault: Option<OrderFault>,
 }
 
-fn show(alloc: Global, result: Result<Scripts, OrderFault>) -> Result<Shown, AllocError> {
+fn show(alloc: Global, read: Result<Scripts, OrderFault>) -> Result<Shown, AllocError> {
     let mut commands = Vec::new(alloc);
-    let fault = match result {
+    let fault = match read {
         Ok(scripts) => {
             for before in 0..CALLERS {
                 commands.extend_from_slice(scripts.script(before + 1))?;
@@ -39,13 +41,13 @@ fn text_of(alloc: Global, start: &[u8], blank: u32, lines: &[u8]) -> Result<Vec<
 }
 
 // Up to eight parts give what one gives.
-fn same_in_parts(rt: &HostRuntime, text: &[u8]) -> Result<(), Fail> {
-    let alloc = rt.alloc();
+fn same_in_parts<R: Threads + Sync>(rt: &R, alloc: Global, text: &[u8]) -> Result<(), Fail> {
     let want = show(alloc, read_orders(alloc, text, CALLERS))?;
     for cuts in 0..4 {
         let shown = show(alloc, read_with_cuts(rt, alloc, text, CALLERS, cuts))?;
-        assert_eq!(rt; shown.fault, want.fault, "{cuts} cuts");
-        assert_eq!(rt; shown.commands.as_slice(), want.commands.as_slice(), "{cuts} cuts");
+        if shown.fault != want.fault || shown.commands.as_slice() != want.commands.as_slice() {
+            return Err(Fail::new("another result"));
+        }
     }
     Ok(())
 }
@@ -78,7 +80,7 @@ fn parts_give_what_the_whole_gives(rt: HostRuntime) -> Result<(), Fail> {
         for lines in lines {
             for blank in [0, 1, 7, 20, 40] {
                 let text = text_of(alloc, start, blank, lines)?;
-                same_in_parts(&rt, &text)?;
+                same_in_parts(&rt, alloc, &text)?;
             }
         }
     }

@@ -7,6 +7,6 @@ use Rattle.md_orders.proofs.cuts.behind.Goals as goal
 
 pub returns : goal.returns
 returns c = (
-    (starts_is Decides-eqb c.args.bytes.now c.args.start.now c.starts_with.result c.starts_with.ensures.value).0 c.if-not-starts_with.false ∙ ap (λ xs. c.args.start.now ++ xs) (sym (take_rest c.args.bytes.now _)),
-    λ e. false≢true (sym c.if-begins_as_mark.false ∙ c.begins_as_mark.ensures.1 e),
-  )
+  (starts_is Decides-eqb c.args.bytes.now c.args.start.now c.starts_with.result c.starts_with.ensures.value).0 c.if-not-starts_with.false ∙ ap (λ xs. c.args.start.now ++ xs) (sym (take_rest c.args.bytes.now _)),
+  λ e. false≢true (sym c.if-begins_as_mark.false ∙ c.begins_as_mark.ensures.1 e),
+)

@@ -1,4 +1,4 @@
-use Rattle.std.proofs.Common.{◌≡◌, ◌<◌, arith, take, length, subst}
+use Rattle.std.proofs.Common.{◌<◌, arith, subst}
 use Rattle.std.proofs.lemmas.List.{take_all, length-take-le}
 use Rattle.md_orders.specs.Records.{max_records}
 use Rattle.md_orders.specs.Scripts.{count_of}

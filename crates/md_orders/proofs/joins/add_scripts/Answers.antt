@@ -1,13 +1,11 @@
-use Rattle.std.proofs.Common.{◌≡◌, ◌+◌, ◌∙◌, [], suc, take, length, sym, ap, subst, arith}
+use Rattle.std.proofs.Common.{◌≡◌, ◌+◌, ◌∙◌, [], suc, length, sym, ap, subst, arith}
 use Rattle.std.specs.Prelude.{IfSome, slice_get}
-use Rattle.std.proofs.lemmas.List.{take_all}
 use Rattle.std.proofs.lemmas.List.Sums.{sum_by_more_le}
 use Rattle.std.proofs.lemmas.Option.{IfSome_then}
 use Rattle.md_book.specs.Commands.{IsCommand}
 use Rattle.md_orders.specs.Scripts.{list_of}
-use Rattle.md_orders.specs.Joined.{AreJoined}
 use Rattle.md_orders.proofs.ByCaller.{list_of-at}
-use Rattle.md_orders.proofs.Halves.{joined-none, joined-more}
+use Rattle.md_orders.proofs.Halves.{joined-more}
 use Rattle.md_orders.proofs.joins.add_scripts.Goals as goal
 
 pub add_lines-requires-clause-room : goal.add_lines-requires-clause-room

@@ -1,6 +1,5 @@
-use Rattle.std.proofs.Common.{◌≡◌, ◌∙◌, ◌+◌, List, length, sym, ap}
+use Rattle.std.proofs.Common.{◌∙◌, ◌+◌, sym, ap}
 use Rattle.csv.specs.Records.{fields_of}
-use Rattle.md_orders.specs.Records.{Row}
 use Rattle.md_orders.proofs.Noted.{note_version, note_line, note_bad, note_more, at-start, not-at-start}
 use Rattle.md_orders.proofs.read.note.Goals as goal
 

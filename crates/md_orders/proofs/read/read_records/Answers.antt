@@ -1,4 +1,4 @@
-use Rattle.std.proofs.Common.{◌≡◌, ◌∙◌, ◌++◌, ◌∷◌, ◌+◌, [], refl, sym, arith, length-append, inr, true}
+use Rattle.std.proofs.Common.{◌≡◌, ◌∙◌, ◌++◌, ◌∷◌, [], refl, sym, arith, length-append, inr, true}
 use Rattle.std.specs.Result.{is_ok}
 use Rattle.csv.specs.Records.{fields_of}
 use Rattle.csv.specs.Reading.{Reached}

@@ -1,4 +1,4 @@
-use Rattle.std.proofs.Common.{◌≡◌, ◌+◌, List, length}
+use Rattle.std.proofs.Common.{◌≡◌, List}
 use Rattle.md_orders.specs.Records.{Row, AreFewRecords}
 use Rattle.md_orders.specs.Noted.{AreNotes}
 use Rattle.md_orders.proofs.Rows.{IsReadSoFar}

@@ -1,4 +1,4 @@
-use Rattle.std.proofs.Common.{◌+◌, arith}
+use Rattle.std.proofs.Common.{arith}
 use Rattle.md_orders.specs.Records.{order_records}
 use Rattle.md_orders.proofs.Halves.{second-scripts, second-bad, bad-few}
 use Rattle.md_orders.proofs.read_in_threads.read_version_2.Goals as goal
