@@ -5,4 +5,5 @@ mod longest;
 mod making;
 mod packing;
 mod reading;
+mod reading_in_threads;
 mod reports;
