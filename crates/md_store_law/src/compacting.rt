@@ -35,8 +35,9 @@ pub fn compact(
     lay_living(alloc, shape, living)
 }
 
-/// Lays what was gathered from a field as a new one, as `compact` does with the old words: those
-/// may be gone. The shape is that of the old field. `AllocError` if memory runs out.
+/// Lays what was gathered from a field as a new field, as `compact` does. The old words may be gone.
+/// `shape` is that of the old field. Returns it with as many base nodes as the contents need, which
+/// must be in range, and the new words. `AllocError` if memory runs out.
 ///
 /// Takes time linear in the words and the nodes.
 pub fn lay_living(

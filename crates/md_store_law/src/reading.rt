@@ -25,7 +25,8 @@ pub fn read_off(alloc: Global, shape: &Shape, words: &[u64]) -> Result<Contents,
     read_off_from(alloc, shape, &words)
 }
 
-/// The same of words that stand anywhere.
+/// The contents of a field whose words stand anywhere, as `read_off` gives them: every count is
+/// even. `AllocError` if memory runs out. Takes the time of `read_off`.
 pub fn read_off_from<W: FieldWords>(
     alloc: Global,
     shape: &Shape,
