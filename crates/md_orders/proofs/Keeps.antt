@@ -1,5 +1,5 @@
 -- Records that keep the grammar, and the commands that they write.
-use Rattle.std.proofs.Common.{◌≡◌, ◌≤◌, ◌+◌, ℕ, List, [], ◌∷◌, ◌++◌, Bool, true, false, cond, Option, Some, None, is_some, length, refl, ap, subst, arith, inl, inr}
+use Rattle.std.proofs.Common.{◌≡◌, ◌≤◌, ◌+◌, ◌∙◌, ℕ, suc, List, [], ◌∷◌, ◌++◌, Bool, true, false, cond, Option, Some, None, is_some, length, refl, ap, subst, arith, inl, inr}
 use Rattle.std.specs.Prelude.{◌&&◌, ◌==◌, nat_le, min, option_and_then}
 use Rattle.std.specs.Option.{option_map}
 use Rattle.std.proofs.lemmas.Bool.{cases_Bool}
@@ -167,26 +167,21 @@ pub caller_of-inv : (version : Version) (callers : ℕ) (row : Row) (caller : �
 unfolding caller_of
 caller_of-inv version callers row caller e = let (low, high) = number_at-inv row 0 1 (min callers (max_caller version)) caller e in (low, omega arith, omega arith)
 
--- the records so far, and one more
-pub first_bad_line-good : (version : Version) (callers n : ℕ) (rows : List Row) (row : Row) → first_bad_line version callers n rows ≡ None → keeps version callers row ≡ true → first_bad_line version callers n (rows ++ row ∷ []) ≡ None
-first_bad_line-good version callers n [] row none good = rw good refl
-first_bad_line-good version callers n (r ∷ rows) row none good = elim (cases_Bool (keeps version callers r)) [
-  | inl kept ↦ rw kept (first_bad_line-good version callers (n + 1) rows row (rw kept at none) good)
-  | inr broken ↦ cc (rw broken at none)
-]
-
--- the first bad record after good ones has the next number
-pub first_bad_line-bad : (version : Version) (callers n m : ℕ) (rows : List Row) (row : Row) → first_bad_line version callers n rows ≡ None → keeps version callers row ≡ false → m ≡ n + length rows → first_bad_line version callers n (rows ++ row ∷ []) ≡ Some m
-first_bad_line-bad version callers n m [] row none bad at = let same : n ≡ m = omega arith in rw bad (ap Some same)
-first_bad_line-bad version callers n m (r ∷ rows) row none bad at = elim (cases_Bool (keeps version callers r)) [
-  | inl kept ↦ rw kept (first_bad_line-bad version callers (n + 1) m rows row (rw kept at none) bad (omega arith))
+-- after good records the numbers go on
+pub first_bad_line-more : (version : Version) (callers n : ℕ) (rows more : List Row) → first_bad_line version callers n rows ≡ None
+    → first_bad_line version callers n (rows ++ more) ≡ first_bad_line version callers (n + length rows) more
+first_bad_line-more version callers n [] more none = let same : n ≡ n + 0 = omega arith in ap (λ m. first_bad_line version callers m more) same
+first_bad_line-more version callers n (r ∷ rows) more none = elim (cases_Bool (keeps version callers r)) [
+  | inl kept ↦
+      let same : n + 1 + length rows ≡ n + suc (length rows) = omega arith in
+      rw kept (first_bad_line-more version callers (n + 1) rows more (rw kept at none) ∙ ap (λ m. first_bad_line version callers m more) same)
   | inr broken ↦ cc (rw broken at none)
 ]
 
 -- a first bad record stays the first
-pub first_bad_line-still : (version : Version) (callers n m : ℕ) (rows : List Row) (row : Row) → first_bad_line version callers n rows ≡ Some m → first_bad_line version callers n (rows ++ row ∷ []) ≡ Some m
-first_bad_line-still version callers n m [] row some = cc some
-first_bad_line-still version callers n m (r ∷ rows) row some = elim (cases_Bool (keeps version callers r)) [
-  | inl kept ↦ rw kept (first_bad_line-still version callers (n + 1) m rows row (rw kept at some))
+pub first_bad_line-still : (version : Version) (callers n m : ℕ) (rows more : List Row) → first_bad_line version callers n rows ≡ Some m → first_bad_line version callers n (rows ++ more) ≡ Some m
+first_bad_line-still version callers n m [] more some = cc some
+first_bad_line-still version callers n m (r ∷ rows) more some = elim (cases_Bool (keeps version callers r)) [
+  | inl kept ↦ rw kept (first_bad_line-still version callers (n + 1) m rows more (rw kept at some))
   | inr broken ↦ rw broken (rw broken at some)
 ]

@@ -13,3 +13,7 @@ pub mod Noted
 pub mod Made
 pub mod Texts
 pub mod Totals
+pub mod Split
+pub mod LineEnds
+pub mod Renamed
+pub mod Halves

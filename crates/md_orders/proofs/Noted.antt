@@ -1,6 +1,6 @@
 -- What was noted of the records that were read: their scripts, or the first that breaks the grammar.
-use Rattle.std.proofs.Common.{◌≡◌, ◌≤◌, ◌+◌, ◌∙◌, ◌++◌, ◌∷◌, ℕ, suc, zero, List, [], true, false, cond, Option, Some, None, is_some, length, replicate, refl, sym, ap, subst, arith, inl, inr, length-append}
-use Rattle.std.specs.Prelude.{◌==◌, ◌&&◌, nat_lt, filter, OnOk, Result, Ok, Err}
+use Rattle.std.proofs.Common.{◌≡◌, ◌≤◌, ◌+◌, ◌∙◌, ◌++◌, ◌∷◌, ℕ, suc, zero, List, [], true, false, cond, Option, Some, None, is_some, length, unwrap_or, replicate, refl, sym, ap, subst, arith, inl, inr, length-append}
+use Rattle.std.specs.Prelude.{◌==◌, nat_lt, filter, OnOk, Result, Ok, Err}
 use Rattle.std.specs.Result.{is_ok}
 use borrow.Author.Tests.{ltb-true, ltb-false}
 use Rattle.std.specs.List.{filter_map, cons_option, enumerate_from}
@@ -17,12 +17,12 @@ use Rattle.md_orders.specs.declared.version.Version.TheVariants.{First, Second}
 use Rattle.md_orders.specs.Records.{Row}
 use Rattle.md_orders.specs.Version.{OrderFile, file_of, is_version_record}
 use Rattle.md_orders.specs.Grammar.{caller_of, command_of, keeps}
-use Rattle.md_orders.specs.Scripts.{list_of, with_list, count_of, is_by, script_in, AreScripts}
-use Rattle.md_orders.specs.Noted.{AreScriptsOf, AreNoted, IsNoted}
+use Rattle.md_orders.specs.Scripts.{list_of, with_list, count_of, is_by, script_in}
+use Rattle.md_orders.specs.Noted.{file_as, shows_version_2, AreScriptsOf, AreNoted, IsNoted}
 use Rattle.md_orders.specs.Line.{IsLine}
 use Rattle.md_orders.proofs.Numbered.{numbered-more, numbered-same}
 use Rattle.md_orders.proofs.ByCaller.{list_of-with_list-same, list_of-with_list-other, length-with_list, count_of-add}
-use Rattle.md_orders.proofs.Keeps.{first_bad_line-good, first_bad_line-bad, first_bad_line-still, caller_of-inv}
+use Rattle.md_orders.proofs.Keeps.{first_bad_line-more, first_bad_line-still, caller_of-inv}
 
 -- the next command of a caller
 script-more : (version : Version) (callers : ℕ) (rows : List Row) (row : Row) (caller n : ℕ) (x : Command) → is_by version callers caller row ≡ true → n ≡ 1 + length (filter (is_by version callers caller) rows)
@@ -63,7 +63,7 @@ scripts-more callers file row scripts caller x so_far line =
     let more_lines = count_of-add scripts caller x low high in
     let few = so_far.few in
     record {
-      good = first_bad_line-good version callers file.first rows row so_far.good line.good;
+      good = first_bad_line-more version callers file.first rows (row ∷ []) so_far.good ∙ rw line.good refl;
       number = length-with_list scripts caller new ∙ number;
       each = λ c. elim (cases_Bool (caller == c)) [
         | inl is ↦ let e : caller ≡ c = eqb-true caller c is in
@@ -102,109 +102,129 @@ scripts-none : (callers first : ℕ) (version : Version) (scripts : List (List C
     → AreScriptsOf callers (record { version = version; first = first; lines = [] }) scripts
 scripts-none callers first version scripts number none count = record { good = refl; number = number; each = none; lines = λ caller. ap length (none caller); few = omega arith }
 
+-- the file of no record
+no-file : (known : Option Version) → file_as known [] ≡ record { version = unwrap_or known First; first = 1; lines = [] }
+no-file None = refl
+no-file (Some version) = refl
+
 -- no record yet
-pub noted-none : (callers : ℕ) (scripts : List (List Command)) → scripts ≡ replicate callers [] → IsNoted callers [] First scripts None
-noted-none callers scripts is = record {
-  version_is = refl;
-  noted = scripts-none callers 1 First scripts (ap length is ∙ length-replicate callers [])
-      (λ caller. ap (λ (ls : List (List Command)). list_of ls caller) is ∙ list_of-replicate callers caller)
-      (count_of-none callers scripts is);
-}
+pub noted-none : (known : Option Version) (callers : ℕ) (version : Version) (scripts : List (List Command)) → version ≡ unwrap_or known First → scripts ≡ replicate callers [] → IsNoted known callers [] 0 version scripts None
+noted-none known callers version scripts first is =
+    let at : file_as known [] ≡ record { version = unwrap_or known First; first = 1; lines = [] } = no-file known in
+    record {
+      counted = refl;
+      version_is = first ∙ sym (ap (λ file. file.version) at);
+      noted = rw at (scripts-none callers 1 (unwrap_or known First) scripts (ap length is ∙ length-replicate callers [])
+          (λ caller. ap (λ (ls : List (List Command)). list_of ls caller) is ∙ list_of-replicate callers caller)
+          (count_of-none callers scripts is));
+    }
 
 -- the number of a file's next record, by its lines
-pub file-number : (rows : List Row) → (file_of rows).first + length (file_of rows).lines ≡ length rows + 1
-file-number [] = refl
-file-number (row ∷ rows) = elim (cases_Bool (is_version_record row)) [ inl is ↦ rw is (omega arith) | inr other ↦ rw other (omega arith) ]
+pub file-number : (known : Option Version) (rows : List Row) → (file_as known rows).first + length (file_as known rows).lines ≡ length rows + 1
+file-number (Some version) rows = omega arith
+file-number None [] = refl
+file-number None (row ∷ rows) = elim (cases_Bool (is_version_record row)) [ inl is ↦ rw is (omega arith) | inr other ↦ rw other (omega arith) ]
 
 -- no more lines than records
-lines-few : (rows : List Row) → length (file_of rows).lines ≤ length rows
-lines-few [] = omega arith
-lines-few (row ∷ rows) = elim (cases_Bool (is_version_record row)) [ inl is ↦ rw is (omega arith) | inr other ↦ rw other (omega arith) ]
+lines-few : (known : Option Version) (rows : List Row) → length (file_as known rows).lines ≤ length rows
+lines-few (Some version) rows = omega arith
+lines-few None [] = omega arith
+lines-few None (row ∷ rows) = elim (cases_Bool (is_version_record row)) [ inl is ↦ rw is (omega arith) | inr other ↦ rw other (omega arith) ]
 
--- a record that isn't the version's at the start is a line
-pub file-more : (rows : List Row) (row : Row) → (length rows ≡ 0 → is_version_record row ≡ false) → file_of (rows ++ row ∷ []) ≡ more (file_of rows) row
-file-more [] row other = rw (other refl) refl
-file-more (r ∷ rows) row other = elim (cases_Bool (is_version_record r)) [ inl is ↦ rw is refl | inr not ↦ rw not refl ]
+-- a record isn't the version's at the start
+abbrev IsLaterOrKnown : Option Version → List Row → Row → Type 0
+IsLaterOrKnown known rows row = known ≡ None → length rows ≡ 0 → is_version_record row ≡ false
+
+-- such a record is a line
+pub file-more : (known : Option Version) (rows : List Row) (row : Row) → IsLaterOrKnown known rows row → file_as known (rows ++ row ∷ []) ≡ more (file_as known rows) row
+file-more (Some version) rows row other = refl
+file-more None [] row other = rw (other refl refl) refl
+file-more None (r ∷ rows) row other = elim (cases_Bool (is_version_record r)) [ inl is ↦ rw is refl | inr not ↦ rw not refl ]
 
 -- a file that has only the version's record
 file-version : (row : Row) → is_version_record row ≡ true → file_of (row ∷ []) ≡ record { version = Second; first = 2; lines = [] }
 file-version row is = rw is refl
 
 -- the version's record at the start
-pub note_version : (callers : ℕ) (rows : List Row) (row : Row) (version : Version) (scripts : List (List Command)) (bad : Option ℕ)
-    → length rows ≡ 0 → is_version_record row ≡ true → IsNoted callers rows version scripts bad → IsNoted callers (rows ++ row ∷ []) Second scripts bad
-note_version callers [] row version scripts None start is noted =
+pub note_version : (callers : ℕ) (rows : List Row) (row : Row) (count : ℕ) (version : Version) (scripts : List (List Command)) (bad : Option ℕ)
+    → length rows ≡ 0 → is_version_record row ≡ true → IsNoted None callers rows count version scripts bad → IsNoted None callers (rows ++ row ∷ []) (count + 1) Second scripts bad
+note_version callers [] row count version scripts None start is noted =
     let so_far : AreScriptsOf callers (record { version = First; first = 1; lines = [] }) scripts = noted.noted in
     let few = so_far.few in
     let file = file-version row is in
     record {
+      counted = ap (λ n. n + 1) noted.counted;
       version_is = sym (ap (λ file. file.version) file);
       noted = rw file (scripts-none callers 2 Second scripts so_far.number so_far.each (omega arith));
     }
-note_version callers [] row version scripts (Some n) start is noted = cc noted.noted
-note_version callers (r ∷ rows) row version scripts bad start is noted = cc start
+note_version callers [] row count version scripts (Some n) start is noted = cc noted.noted
+note_version callers (r ∷ rows) row count version scripts bad start is noted = cc start
 
 -- whether the version's record is at the start, by the record's number
-pub at-start : (rows : List Row) (row : Row) (number : ℕ) → length rows + 1 ≡ number → ((number == 1) && is_version_record row) ≡ true → (length rows ≡ 0) × (is_version_record row ≡ true)
-at-start rows row number at is = elim (cases_Bool (number == 1)) [
-  | inl first ↦ let e : number ≡ 1 = eqb-true number 1 first in (omega arith, rw first at is)
+pub at-start : (known : Option Version) (rows : List Row) (row : Row) (number : ℕ) → length rows + 1 ≡ number → shows_version_2 known number row ≡ true
+    → (known ≡ None) × (length rows ≡ 0) × (is_version_record row ≡ true)
+at-start (Some version) rows row number at is = cc is
+at-start None rows row number at is = elim (cases_Bool (number == 1)) [
+  | inl first ↦ let e : number ≡ 1 = eqb-true number 1 first in (refl, omega arith, rw first at is)
   | inr later ↦ cc (rw later at is)
 ]
 
-pub not-at-start : (rows : List Row) (row : Row) (number : ℕ) → length rows + 1 ≡ number → ((number == 1) && is_version_record row) ≡ false → length rows ≡ 0 → is_version_record row ≡ false
-not-at-start rows row number at is none = let e : (number == 1) ≡ true = eq-eqb number 1 (omega arith) in rw e at is
+pub not-at-start : (known : Option Version) (rows : List Row) (row : Row) (number : ℕ) → length rows + 1 ≡ number → shows_version_2 known number row ≡ false → IsLaterOrKnown known rows row
+not-at-start (Some version) rows row number at is = λ none. cc none
+not-at-start None rows row number at is = λ _ none. let e : (number == 1) ≡ true = eq-eqb number 1 (omega arith) in rw e at is
 
 -- what was noted, in one place
-noted-as : (callers : ℕ) (rows : List Row) (row : Row) (version : Version) (scripts : List (List Command)) (bad : Option ℕ) → file_of (rows ++ row ∷ []) ≡ more (file_of rows) row
-    → version ≡ (file_of rows).version → AreNoted callers (more (file_of rows) row) scripts bad → IsNoted callers (rows ++ row ∷ []) version scripts bad
-noted-as callers rows row version scripts bad is version_is noted = record {
-  version_is = version_is ∙ sym (ap (λ file. file.version) is);
-  noted = rw is noted;
-}
+noted-as : (known : Option Version) (callers : ℕ) (rows : List Row) (row : Row) (count : ℕ) (version : Version) (scripts : List (List Command)) (bad : Option ℕ) → IsLaterOrKnown known rows row
+    → count ≡ length rows → version ≡ (file_as known rows).version → AreNoted callers (more (file_as known rows) row) scripts bad → IsNoted known callers (rows ++ row ∷ []) (count + 1) version scripts bad
+noted-as known callers rows row count version scripts bad other counted version_is noted =
+    let is = file-more known rows row other in
+    record {
+      counted = ap (λ n. n + 1) counted ∙ sym (length-append rows (row ∷ []));
+      version_is = version_is ∙ sym (ap (λ file. file.version) is);
+      noted = rw is noted;
+    }
 
 -- after a line what was noted is the scripts with it
-pub note_line : (callers : ℕ) (rows : List Row) (row : Row) (version : Version) (scripts : List (List Command)) (bad : Option ℕ) (caller : ℕ) (x : Command)
-    → is_some bad ≡ false → (length rows ≡ 0 → is_version_record row ≡ false) → IsNoted callers rows version scripts bad → IsLine version callers row scripts caller x
-    → IsNoted callers (rows ++ row ∷ []) version (with_list scripts caller (list_of scripts caller ++ x ∷ [])) bad
-note_line callers rows row version scripts None caller x none other noted line =
-    noted-as callers rows row version _ None (file-more rows row other) noted.version_is (scripts-more callers (file_of rows) row scripts caller x noted.noted (subst (λ v. IsLine v callers row scripts caller x) noted.version_is line))
-note_line callers rows row version scripts (Some n) caller x none other noted line = cc none
+pub note_line : (known : Option Version) (callers : ℕ) (rows : List Row) (row : Row) (count : ℕ) (version : Version) (scripts : List (List Command)) (bad : Option ℕ) (caller : ℕ) (x : Command)
+    → is_some bad ≡ false → IsLaterOrKnown known rows row → IsNoted known callers rows count version scripts bad → IsLine version callers row scripts caller x
+    → IsNoted known callers (rows ++ row ∷ []) (count + 1) version (with_list scripts caller (list_of scripts caller ++ x ∷ [])) bad
+note_line known callers rows row count version scripts None caller x none other noted line =
+    noted-as known callers rows row count version _ None other noted.counted noted.version_is
+    (scripts-more callers (file_as known rows) row scripts caller x noted.noted (subst (λ v. IsLine v callers row scripts caller x) noted.version_is line))
+note_line known callers rows row count version scripts (Some n) caller x none other noted line = cc none
 
 -- after the first bad record what was noted is its number
-pub note_bad : (callers : ℕ) (rows : List Row) (row : Row) (version : Version) (scripts : List (List Command)) (bad : Option ℕ) (n : ℕ)
-    → is_some bad ≡ false → (length rows ≡ 0 → is_version_record row ≡ false) → IsNoted callers rows version scripts bad → keeps version callers row ≡ false → length rows + 1 ≡ n
-    → IsNoted callers (rows ++ row ∷ []) version scripts (Some n)
-note_bad callers rows row version scripts None n none other noted breaks at =
-    let file = file_of rows in
-    let number = file-number rows in
+pub note_bad : (known : Option Version) (callers : ℕ) (rows : List Row) (row : Row) (count : ℕ) (version : Version) (scripts : List (List Command)) (bad : Option ℕ)
+    → is_some bad ≡ false → IsLaterOrKnown known rows row → IsNoted known callers rows count version scripts bad → keeps version callers row ≡ false
+    → IsNoted known callers (rows ++ row ∷ []) (count + 1) version scripts (Some (count + 1))
+note_bad known callers rows row count version scripts None none other noted breaks =
+    let file = file_as known rows in
+    let number = file-number known rows in
+    let counted = noted.counted in
     let so_far : AreScriptsOf callers file scripts = noted.noted in
-    noted-as callers rows row version scripts (Some n) (file-more rows row other) noted.version_is
-    (first_bad_line-bad file.version callers file.first n file.lines row so_far.good (subst (λ v. keeps v callers row ≡ false) noted.version_is breaks) (omega arith))
-note_bad callers rows row version scripts (Some m) n none other noted breaks at = cc none
+    noted-as known callers rows row count version scripts (Some (count + 1)) other counted noted.version_is
+    (let next : file.first + length file.lines ≡ count + 1 = omega arith in
+    first_bad_line-more file.version callers file.first file.lines (row ∷ []) so_far.good
+    ∙ rw (subst (λ v. keeps v callers row ≡ false) noted.version_is breaks) (ap Some next))
+note_bad known callers rows row count version scripts (Some m) none other noted breaks = cc none
 
 -- after that what was noted stays
-pub note_more : (callers : ℕ) (rows : List Row) (row : Row) (version : Version) (scripts : List (List Command)) (bad : Option ℕ)
-    → is_some bad ≡ true → (length rows ≡ 0 → is_version_record row ≡ false) → IsNoted callers rows version scripts bad → IsNoted callers (rows ++ row ∷ []) version scripts bad
-note_more callers rows row version scripts None some other noted = cc some
-note_more callers rows row version scripts (Some n) some other noted =
-    let file = file_of rows in
-    noted-as callers rows row version scripts (Some n) (file-more rows row other) noted.version_is (first_bad_line-still file.version callers file.first n file.lines row noted.noted)
-
--- at the end what was noted is the scripts of the file, or its first bad record
-pub noted-scripts : (callers : ℕ) (rows : List Row) (version : Version) (scripts : List (List Command)) → IsNoted callers rows version scripts None → AreScripts callers rows scripts
-noted-scripts callers rows version scripts noted =
-    let so_far : AreScriptsOf callers (file_of rows) scripts = noted.noted in
-    record { good = so_far.good; number = so_far.number; each = so_far.each }
+pub note_more : (known : Option Version) (callers : ℕ) (rows : List Row) (row : Row) (count : ℕ) (version : Version) (scripts : List (List Command)) (bad : Option ℕ)
+    → is_some bad ≡ true → IsLaterOrKnown known rows row → IsNoted known callers rows count version scripts bad → IsNoted known callers (rows ++ row ∷ []) (count + 1) version scripts bad
+note_more known callers rows row count version scripts None some other noted = cc some
+note_more known callers rows row count version scripts (Some n) some other noted =
+    let file = file_as known rows in
+    noted-as known callers rows row count version scripts (Some n) other noted.counted noted.version_is (first_bad_line-still file.version callers file.first n file.lines (row ∷ []) noted.noted)
 
 -- as long as no record was bad there are as many scripts as callers, and no more lines than records
-pub noted-sizes : (callers : ℕ) (rows : List Row) (version : Version) (scripts : List (List Command)) (bad : Option ℕ) → is_some bad ≡ false → IsNoted callers rows version scripts bad
+pub noted-sizes : (known : Option Version) (callers : ℕ) (rows : List Row) (count : ℕ) (version : Version) (scripts : List (List Command)) (bad : Option ℕ) → is_some bad ≡ false → IsNoted known callers rows count version scripts bad
     → (length scripts ≡ callers) × (count_of scripts ≤ length rows)
-noted-sizes callers rows version scripts None none noted =
-    let so_far : AreScriptsOf callers (file_of rows) scripts = noted.noted in
+noted-sizes known callers rows count version scripts None none noted =
+    let so_far : AreScriptsOf callers (file_as known rows) scripts = noted.noted in
     let few = so_far.few in
-    let lines = lines-few rows in
+    let lines = lines-few known rows in
     (so_far.number, omega arith)
-noted-sizes callers rows version scripts (Some n) none noted = cc none
+noted-sizes known callers rows count version scripts (Some n) none noted = cc none
 
 -- what holds on Ok holds of a result that is Ok
 pub on_ok : {T E : Type 0} {P : Type 0} (r : Result T E) → is_ok r ≡ true → OnOk r P → P

@@ -4,6 +4,7 @@ pub mod Grammar
 pub mod Lists
 pub mod Scripts
 pub mod Noted
+pub mod Joined
 pub mod Replies
 pub mod Rooms
 pub mod Packed

@@ -26,7 +26,11 @@ max_caller Second = MAX_CALLER
 abbrev pub is_field : Row → ℕ → List ℕ → Bool
 is_field row place text = option_map_or (λ field. bytes_eq field text) (field_at row place) false
 
--- the record that a file of version 2 begins with has the two fields medley and 2
+-- the record that a file of version 2 begins with
+abbrev pub version_record : Row
+version_record = codes "medley" ∷ codes "2" ∷ []
+
+-- that record has the two fields medley and 2
 abbrev pub is_version_record : Row → Bool
 is_version_record row = (length row == 2) && is_field row 0 (codes "medley") && is_field row 1 (codes "2")
 

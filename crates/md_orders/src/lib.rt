@@ -1,13 +1,16 @@
 //! Order files: their records, the scripts that they write, and the report.
 #![tactic(auto)]
 
+mod cuts;
 mod fields;
 mod generator;
 mod grammar;
 mod in_threads;
+mod joins;
 mod packed;
 mod parts;
 mod read;
+mod read_in_threads;
 mod replies;
 mod rooms;
 mod scripts;
@@ -22,6 +25,7 @@ pub use generator::{MAX_MADE_CALLERS, make};
 pub use in_threads::report_in_threads;
 pub use packed::PackedReplies;
 pub use read::{OrderFault, read_orders};
+pub use read_in_threads::read_orders_in_threads;
 pub use replies::Replies;
 pub use scripts::{Scripts, commands_are_named};
 pub use text::{report, summary};

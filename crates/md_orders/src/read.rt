@@ -1,13 +1,13 @@
 //! Reading an order file.
 
-ghost use Rattle.std.specs.Prelude.{◌≡◌, ◌≤◌, ◌<◌, ◌+◌, ◌++◌, ◌∷◌, ℕ, List, true, false, Some, [], length, IfOk, IfSome, IfNone, OnOk, IsErrOf};
+ghost use Rattle.std.specs.Prelude.{◌≡◌, ◌≤◌, ◌<◌, ◌++◌, ◌∷◌, ℕ, List, true, false, Some, [], IfOk, IfSome, IfNone, OnOk, IsErrOf};
 ghost use Rattle.csv.specs.Reading.{error_kind, stops_reader};
 ghost use Rattle.csv.specs.Records.{fields_of};
 ghost use Rattle.md_orders.specs.Records.{Row, order_records, max_records, AreFewRecords};
 ghost use Rattle.md_orders.specs.Grammar.{keeps, first_bad};
 ghost use Rattle.md_orders.specs.Scripts.{AreScripts, count_of};
 ghost use Rattle.md_orders.specs.Line.{IsLine};
-ghost use Rattle.md_orders.specs.Noted.{IsNoted};
+ghost use Rattle.md_orders.specs.Noted.{AreNotes, IsRead, shows_version_2};
 
 use crate::grammar::{caller_of, command_of};
 use crate::scripts::Scripts;
@@ -29,7 +29,7 @@ pub enum OrderFault {
 }
 
 // How many records an order file has at most.
-const MAX_RECORDS: u32 = 1_000_000;
+pub(crate) const MAX_RECORDS: u32 = 1_000_000;
 
 // A read of a slice by a flexible reader fails only when it is out of memory.
 fn want(error: &Error) -> OrderFault
@@ -42,13 +42,15 @@ fn want(error: &Error) -> OrderFault
     }
 }
 
-// What was noted of the records so far: the file's version, the scripts of its lines, and the
-// number of the first record that breaks the grammar. After such a record no scripts are kept.
+// What was noted of the records so far: how many there are, their version, the scripts of its
+// lines, and the number of the first record that breaks the grammar. After such a record no scripts
+// are kept.
 #[derive(Drop)]
-struct Notes {
-    version: Version,
-    scripts: Scripts,
-    bad: Option<u32>,
+pub(crate) struct Notes {
+    pub(crate) count: u32,
+    pub(crate) version: Version,
+    pub(crate) scripts: Scripts,
+    pub(crate) bad: Option<u32>,
 }
 
 // The caller and the command of a record, which stands at the caller's next line.
@@ -69,17 +71,28 @@ fn line_of(
     Some((caller, command))
 }
 
-// Notes the record of a number.
-fn note(notes: &mut Notes, callers: u32, number: u32, row: &ByteRecord) -> Result<(), AllocError>
-    requires few { number ≤ max_records }
-    requires noted { (rows : List Row) × (length rows + 1 ≡ number)
-        × IsNoted callers rows notes.old.version notes.old.scripts notes.old.bad }
-    ensures { OnOk result ((rows : List Row) → length rows + 1 ≡ number
-        → IsNoted callers rows notes.old.version notes.old.scripts notes.old.bad
-        → IsNoted callers (rows ++ fields_of row.now ∷ [])
-        notes.new.version notes.new.scripts notes.new.bad) }
+// Whether a record is the one that a file of version 2 begins with, if the version isn't known.
+fn shows_version_2(known: Option<Version>, number: u32, row: &ByteRecord) -> bool
+    ensures { result ≡ shows_version_2 known number (fields_of row.now) }
 {
-    if begins_version_2(number, row) {
+    known.is_none() && begins_version_2(number, row)
+}
+
+// Notes the next record. If the version is known, each record is a line of it.
+fn note(
+    notes: &mut Notes,
+    known: Option<Version>,
+    callers: u32,
+    row: &ByteRecord,
+) -> Result<(), AllocError>
+    requires few { notes.old.count < max_records }
+    requires noted { (rows : List Row) × AreNotes known callers rows notes.old }
+    ensures { OnOk result ((rows : List Row) → AreNotes known callers rows notes.old
+        → AreNotes known callers (rows ++ fields_of row.now ∷ []) notes.new) }
+{
+    let number = notes.count + 1;
+    notes.count = number;
+    if shows_version_2(known, number, row) {
         notes.version = Version::Second;
     } else if notes.bad.is_none() {
         match line_of(&notes.scripts, notes.version, callers, row) {
@@ -88,6 +101,51 @@ fn note(notes: &mut Notes, callers: u32, number: u32, row: &ByteRecord) -> Resul
         }
     }
     Ok(())
+}
+
+/// Reads the records of a text, and notes their lines. If the version is known, each record is a
+/// line of it; otherwise the version is the one that the records show.
+///
+/// The result is `TooMany` if there are more than 1,000,000 records. In place of any result it may
+/// be `NoMemory`, if memory runs out. It is never `BadLine`: the notes have the number of the first
+/// record that breaks the grammar.
+pub(crate) fn read_records(
+    alloc: Global,
+    bytes: &[u8],
+    callers: u32,
+    known: Option<Version>,
+) -> Result<Notes, OrderFault>
+    requires { (1 ≤ callers) × (callers ≤ MAX_CALLER) }
+    ensures { IsRead known callers (order_records bytes.now) result }
+{
+    let mut reader = ReaderBuilder::new()
+        .has_headers(false)
+        .flexible(true)
+        .from_reader(alloc, bytes);
+    let mut row = ByteRecord::new(alloc);
+    let Ok(scripts) = Scripts::empty(alloc, callers) else {
+        return Err(OrderFault::NoMemory);
+    };
+    let mut notes = Notes {
+        count: 0,
+        version: known.unwrap_or(Version::First),
+        scripts,
+        bad: None,
+    };
+    for before in 0..MAX_RECORDS + 1 {
+        match reader.read_byte_record(&mut row) {
+            Ok(true) => {}
+            Ok(false) => return Ok(notes),
+            Err(error) => return Err(want(&error)),
+        }
+        if before == MAX_RECORDS {
+            return Err(OrderFault::TooMany);
+        }
+        if note(&mut notes, known, callers, &row).is_err() {
+            return Err(OrderFault::NoMemory);
+        }
+    }
+    unreachable!()
 }
 
 /// Reads the scripts of an order file: for each caller, 1 to `callers`, the commands of its
@@ -109,36 +167,9 @@ pub fn read_orders(alloc: Global, bytes: &[u8], callers: u32) -> Result<Scripts,
         → AreFewRecords (order_records bytes.now)
         × (first_bad callers (order_records bytes.now) ≡ Some n) }
 {
-    let mut reader = ReaderBuilder::new()
-        .has_headers(false)
-        .flexible(true)
-        .from_reader(alloc, bytes);
-    let mut row = ByteRecord::new(alloc);
-    let Ok(scripts) = Scripts::empty(alloc, callers) else {
-        return Err(OrderFault::NoMemory);
-    };
-    let mut notes = Notes {
-        version: Version::First,
-        scripts,
-        bad: None,
-    };
-    for number in 1..MAX_RECORDS + 2 {
-        match reader.read_byte_record(&mut row) {
-            Ok(true) => {}
-            Ok(false) => {
-                return match notes.bad {
-                    Some(number) => Err(OrderFault::BadLine(number)),
-                    None => Ok(notes.scripts),
-                };
-            }
-            Err(error) => return Err(want(&error)),
-        }
-        if number > MAX_RECORDS {
-            return Err(OrderFault::TooMany);
-        }
-        if note(&mut notes, callers, number, &row).is_err() {
-            return Err(OrderFault::NoMemory);
-        }
+    let notes = read_records(alloc, bytes, callers, None)?;
+    match notes.bad {
+        Some(number) => Err(OrderFault::BadLine(number)),
+        None => Ok(notes.scripts),
     }
-    unreachable!()
 }

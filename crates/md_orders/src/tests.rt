@@ -4,4 +4,5 @@ mod in_threads;
 mod longest;
 mod making;
 mod reading;
+mod reading_in_threads;
 mod reports;

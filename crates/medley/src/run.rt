@@ -14,7 +14,7 @@ use crate::play::play;
 use crate::status::{Run, Status};
 use crate::words::{Making, Options, read_options};
 use md_history::Front;
-use md_orders::{make, read_orders, report_in_threads, summary};
+use md_orders::{make, read_orders_in_threads, report_in_threads, summary};
 use md_outside::{Failed, Sink, Source};
 use md_rounds::Gate;
 use md_store::StorePass;
@@ -47,7 +47,7 @@ where
         input.old input.new options.now.callers) }
 {
     let bytes = read_all(alloc, input)?;
-    let scripts = read_orders(alloc, &bytes, options.callers)?;
+    let scripts = read_orders_in_threads(rt, alloc, &bytes, options.callers)?;
     let played = play(rt, alloc, &scripts, options, gate)?;
     let text = report_in_threads(rt, alloc, &scripts, &played.replies, &played.contents)?;
     Ok(Played {
@@ -158,11 +158,12 @@ where
 /// for each caller, and writes the report or the summary.
 ///
 /// It reads the words first (`read_options`). Without `--make` it reads the input to its end
-/// (`read_all`), reads the records as scripts (`read_orders` of md_orders), plays them, and writes
-/// the report: each reply, and then the book. With `--make` it makes scripts (`make` of md_orders),
-/// plays them, and writes the summary, which is one line. It then reads no input. Whatever the
-/// threads do, the replies and the book are those of one thread that runs the committed commands in
-/// the order in which they became ready. They are all lines, each once, and each caller's in order.
+/// (`read_all`), reads the records as scripts (`read_orders_in_threads` of md_orders), plays them,
+/// and writes the report: each reply, and then the book. With `--make` it makes scripts (`make` of
+/// md_orders), plays them, and writes the summary, which is one line. It then reads no input.
+/// Whatever the threads do, the replies and the book are those of one thread that runs the
+/// committed commands in the order in which they became ready. They are all lines, each once, and
+/// each caller's in order.
 ///
 /// If something stops the run before the first write, the line of its status is written in place of
 /// the text. Each status but `Done` has its cause, which `Status` names. The status is `Done` or
