@@ -19,7 +19,7 @@ use Rattle.md_orders.specs.declared.version.Version.TheVariants.{First, Second}
 use Rattle.md_orders.specs.Records.{Row, max_records, AreFewRecords}
 use Rattle.md_orders.specs.Version.{file_of, max_caller, is_field, is_version_record, version_record}
 use Rattle.md_orders.specs.Grammar.{digits_after, number_within, caller_of, command_of, keeps, first_bad_line, first_bad}
-use Rattle.md_orders.specs.Scripts.{list_of, count_of, is_by, script_in, AreScripts}
+use Rattle.md_orders.specs.Scripts.{list_of, is_by, script_in, AreScripts}
 use Rattle.md_orders.specs.Noted.{AreScriptsOf, IsNoted}
 use Rattle.md_orders.specs.Joined.{renamed, renamed_from, joined, IsAdded, AreJoined}
 use Rattle.md_orders.proofs.ByCaller.{list_of-at, list_of-past}
@@ -211,21 +211,6 @@ join-scripts version v2 callers low high n m first second new None None none non
         few = omega arith;
       };
     }
-
--- the sizes of two parts without bad records
-pub join-sizes : (version v2 : Version) (callers : ℕ) (low high : List Row) (n m : ℕ) (first second : List (List Command)) (bad other : Option ℕ) → is_some bad ≡ false → other ≡ None
-    → IsPart version callers low n first bad → IsNoted (Some version) callers high m v2 second other
-    → (length second ≡ length first) × (length second ≡ callers) × (count_of first + count_of second ≤ n + m)
-join-sizes version v2 callers low high n m first second (Some a) other none none2 l h = cc none
-join-sizes version v2 callers low high n m first second None (Some b) none none2 l h = cc none2
-join-sizes version v2 callers low high n m first second None None none none2 l h =
-    let x : AreScriptsOf callers (record { version = version; first = 1; lines = low }) first = l.noted in
-    let y : AreScriptsOf callers (record { version = version; first = 1; lines = high }) second = h.noted in
-    let few = x.few in
-    let few2 = y.few in
-    let counted = l.counted in
-    let counted2 = h.counted in
-    (y.number ∙ sym x.number, y.number, omega arith)
 
 -- the number of a bad record is at most that of the records
 pub bad-few : (version v2 : Version) (callers : ℕ) (rows : List Row) (n : ℕ) (scripts : List (List Command)) (b : ℕ) → IsNoted (Some version) callers rows n v2 scripts (Some b) → b ≤ n

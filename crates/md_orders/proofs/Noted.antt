@@ -17,7 +17,7 @@ use Rattle.md_orders.specs.declared.version.Version.TheVariants.{First, Second}
 use Rattle.md_orders.specs.Records.{Row}
 use Rattle.md_orders.specs.Version.{OrderFile, file_of, is_version_record}
 use Rattle.md_orders.specs.Grammar.{caller_of, command_of, keeps}
-use Rattle.md_orders.specs.Scripts.{list_of, with_list, count_of, is_by, script_in, AreScripts}
+use Rattle.md_orders.specs.Scripts.{list_of, with_list, count_of, is_by, script_in}
 use Rattle.md_orders.specs.Noted.{file_as, shows_version_2, AreScriptsOf, AreNoted, IsNoted}
 use Rattle.md_orders.specs.Line.{IsLine}
 use Rattle.md_orders.proofs.Numbered.{numbered-more, numbered-same}
@@ -126,7 +126,7 @@ file-number None [] = refl
 file-number None (row ∷ rows) = elim (cases_Bool (is_version_record row)) [ inl is ↦ rw is (omega arith) | inr other ↦ rw other (omega arith) ]
 
 -- no more lines than records
-pub lines-few : (known : Option Version) (rows : List Row) → length (file_as known rows).lines ≤ length rows
+lines-few : (known : Option Version) (rows : List Row) → length (file_as known rows).lines ≤ length rows
 lines-few (Some version) rows = omega arith
 lines-few None [] = omega arith
 lines-few None (row ∷ rows) = elim (cases_Bool (is_version_record row)) [ inl is ↦ rw is (omega arith) | inr other ↦ rw other (omega arith) ]
@@ -215,12 +215,6 @@ note_more known callers rows row count version scripts None some other noted = c
 note_more known callers rows row count version scripts (Some n) some other noted =
     let file = file_as known rows in
     noted-as known callers rows row count version scripts (Some n) other noted.counted noted.version_is (first_bad_line-still file.version callers file.first n file.lines (row ∷ []) noted.noted)
-
--- at the end what was noted is the scripts of the file, or its first bad record
-pub noted-scripts : (callers : ℕ) (rows : List Row) (count : ℕ) (version : Version) (scripts : List (List Command)) → IsNoted None callers rows count version scripts None → AreScripts callers rows scripts
-noted-scripts callers rows count version scripts noted =
-    let so_far : AreScriptsOf callers (file_of rows) scripts = noted.noted in
-    record { good = so_far.good; number = so_far.number; each = so_far.each }
 
 -- as long as no record was bad there are as many scripts as callers, and no more lines than records
 pub noted-sizes : (known : Option Version) (callers : ℕ) (rows : List Row) (count : ℕ) (version : Version) (scripts : List (List Command)) (bad : Option ℕ) → is_some bad ≡ false → IsNoted known callers rows count version scripts bad

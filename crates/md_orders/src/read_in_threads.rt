@@ -21,11 +21,11 @@ use std::thread::Threads;
 // A shorter file is read in one thread.
 const MIN_BYTES: usize = 65_536;
 
-// How often a file is cut into halves. So it is read in up to four parts.
+// How many times over a file is cut into halves. So it is read in up to four parts.
 const CUTS: u32 = 2;
 
-// Reads the records of bytes by halves in threads, cut so often. If there is no cut that is known
-// to be right, this thread reads them all.
+// Reads the records of bytes in threads, by halves, which are cut in turn while `cuts` isn't 0. If
+// no cut is known to be right, this thread reads them all.
 #[cycle(parts)]
 fn read_parts<R: Threads + Sync>(
     rt: &R,
@@ -109,10 +109,10 @@ pub(crate) fn read_with_cuts<R: Threads + Sync>(
 /// up to four parts of a file of 64 KiB or more, and their scripts are put together.
 ///
 /// The call cuts the file at line ends, by halves, in `thread::join`, which it calls up to three
-/// times. One thread reads a part that isn't cut: one of which no line ends in the upper half, one
-/// with a double quote in the lower half, or one where a half begins with the first byte of a byte
-/// order mark. A file of version 2 is only cut if its first record is written as `medley,2`. One
-/// thread reads a file anew if its first record breaks the grammar of version 1.
+/// times. One thread reads a part that can't be cut: no line but its last ends in its upper half,
+/// there is a double quote in its lower half, or a half begins with the first byte of a byte order
+/// mark. A file of version 2 is only cut if its first record is written as `medley,2`. If the first
+/// record is another that breaks the grammar of version 1, one thread reads the file anew.
 ///
 /// Otherwise the bytes are read once, after a search for double quotes. The commands of an upper
 /// half are in memory twice when they are added to those of the lower half.
