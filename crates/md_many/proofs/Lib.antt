@@ -23,3 +23,4 @@ pub mod Reaching
 pub mod Weighing
 pub mod Bodies
 pub mod Replacing
+pub mod Moving

@@ -1,5 +1,5 @@
 -- A key that gets another value: it is removed, and inserted again.
-use Rattle.std.proofs.Common.{◌≡◌, ◌<◌, ℕ, None, cond, is_none, length, set, ap, ◌∙◌}
+use Rattle.std.proofs.Common.{◌≡◌, ◌<◌, ℕ, cond, is_none, length, ap, ◌∙◌}
 use Rattle.std.specs.FinMap as fin
 use Rattle.std.proofs.lemmas.List.{get_or-set_same, set-set}
 use Rattle.md_history.specs.declared.acts.Op.TheVariants.{Insert, Remove}

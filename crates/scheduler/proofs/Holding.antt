@@ -4,15 +4,16 @@ use Rattle.std.proofs.lemmas.Bool.Decides.{nat_tests}
 use Rattle.md_history.specs.declared.acts.Op.TheVariants.{Enqueue}
 use Rattle.md_history.specs.State.{State, HaveSameNumbers, empty_state, after}
 use Rattle.md_history.proofs.Runs.{length-queues}
+use Rattle.md_many.proofs.Moving.{weights_of, is}
 use Rattle.md_many.proofs.Weighing.{weight-enqueue, weight-empty, needed-weight}
 use Rattle.scheduler.specs.declared.places.TheConstants.{MAPS, PRIORITIES}
 use Rattle.scheduler.specs.Jobs.{places, Holds, KeepsJobs}
-use Rattle.scheduler.proofs.Laws.{jobs_by, by-place, is, ones}
+use Rattle.scheduler.proofs.Laws.{jobs, by-place}
 
 -- at first no job waits
 pub holds-none : Holds 0 (empty_state MAPS PRIORITIES)
 holds-none =
-    let nothing = λ (f : ℕ → ℕ). weight-empty (jobs_by f) MAPS PRIORITIES in
+    let nothing = λ (f : ℕ → ℕ). weight-empty (weights_of jobs f) MAPS PRIORITIES in
     record {
       maps = refl;
       queues = refl;
@@ -20,7 +21,7 @@ holds-none =
           let none : places (empty_state MAPS PRIORITIES) job ≡ 0 =
           omega (arith, by-place (is job) (empty_state MAPS PRIORITIES) refl, nothing (is job)) in
           none ∙ grind (arith, nat_tests);
-      nodes = needed-weight (jobs_by (λ _. 1)) (empty_state MAPS PRIORITIES) ones (λ q v. refl) ∙ omega (arith, nothing (λ _. 1));
+      nodes = needed-weight (weights_of jobs (λ _. 1)) (empty_state MAPS PRIORITIES) (λ m e. refl) (λ q v. refl) ∙ omega (arith, nothing (λ _. 1));
     }
 
 -- the next job waits, too
@@ -35,15 +36,15 @@ holds-more n q s holds there =
             arith,
             by-place (is job) s holds.maps,
             by-place (is job) t holds.maps,
-            weight-enqueue (jobs_by (is job)) s q n (omega (arith, there, holds.queues)),
+            weight-enqueue (weights_of jobs (is job)) s q n (omega (arith, there, holds.queues)),
           ) in
           more ∙ ap (λ k. k + is job n) (holds.each job) ∙ grind (arith, nat_tests);
       nodes = omega (
         arith,
         holds.nodes,
-        needed-weight (jobs_by (λ _. 1)) s ones (λ q v. refl),
-        needed-weight (jobs_by (λ _. 1)) t ones (λ q v. refl),
-        weight-enqueue (jobs_by (λ _. 1)) s q n (omega (arith, there, holds.queues)),
+        needed-weight (weights_of jobs (λ _. 1)) s (λ m e. refl) (λ q v. refl),
+        needed-weight (weights_of jobs (λ _. 1)) t (λ m e. refl) (λ q v. refl),
+        weight-enqueue (weights_of jobs (λ _. 1)) s q n (omega (arith, there, holds.queues)),
         length-queues s (Enqueue q n),
       );
     }
@@ -70,7 +71,7 @@ holds-kept n s t holds numbers kept = record {
     kept.same (λ _. 1),
     by-place (λ _. 1) s holds.maps,
     by-place (λ _. 1) t (numbers.maps ∙ holds.maps),
-    needed-weight (jobs_by (λ _. 1)) s ones (λ q v. refl),
-    needed-weight (jobs_by (λ _. 1)) t ones (λ q v. refl),
+    needed-weight (weights_of jobs (λ _. 1)) s (λ m e. refl) (λ q v. refl),
+    needed-weight (weights_of jobs (λ _. 1)) t (λ m e. refl) (λ q v. refl),
   );
 }

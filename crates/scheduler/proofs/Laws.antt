@@ -1,11 +1,9 @@
 -- Moves are lawful bodies: none loses or doubles a job.
-use Rattle.std.proofs.Common.{◌≡◌, ◌<◌, ◌+◌, ◌==◌, ℕ, zero, suc, cond, true, false, Option, Some, None, List, [], ◌∷◌, ◌++◌, length, refl, sym, ap, ◌∙◌, arith}
+use Rattle.std.proofs.Common.{◌≡◌, ◌≤◌, ◌+◌, ◌==◌, ℕ, zero, suc, cond, Option, None, List, [], ◌∷◌, ◌++◌, length, refl, sym, ◌∙◌, arith}
 use Rattle.std.specs.Prelude.{sum_by, flat_map, slice_get}
 use Rattle.std.specs.FinMap as fin
-use Rattle.std.proofs.lemmas.Bool.{eq-eqb}
 use Rattle.std.proofs.lemmas.List.Sums.{sum_by-append}
-use Rattle.md_history.specs.declared.acts.Op.{Op}
-use Rattle.md_history.specs.declared.acts.Op.TheVariants.{Insert, Remove, Enqueue, Dequeue}
+use Rattle.md_history.specs.declared.acts.Op.TheVariants.{Insert, Remove, Dequeue}
 use Rattle.md_history.specs.State.{State, Table, HaveSameNumbers, map_at, queue_at, after}
 use Rattle.md_history.specs.Script.{Follows, Did}
 use Rattle.md_history.specs.Branches.{value_in}
@@ -13,23 +11,24 @@ use Rattle.md_history.proofs.Branching.{by_option-each}
 use Rattle.md_history.proofs.Plays.{Leaves}
 use Rattle.md_history.proofs.FewCalls.{MakesAtMost}
 use Rattle.md_many.specs.Laws.{AreLawfulBodies}
-use Rattle.md_many.proofs.Bodies.{StaysGood, leaves-option, same-after, scripts-lawful}
-use Rattle.md_many.proofs.Weighing.{Weights, weight, weight-insert, weight-remove, weight-remove_none, weight-enqueue, weight-dequeue, weight-dequeue_none, weigh-part, weight-queues, needed-weight}
+use Rattle.md_many.proofs.Bodies.{StaysGood, leaves-option, scripts-lawful}
+use Rattle.md_many.proofs.Moving.{Things, HaveMoved, weights_of, is, none-moved, moved-needed, pair-taken, no-pair, value-taken, no-value, pair-put, value-put, not-there}
+use Rattle.md_many.proofs.Weighing.{weight, weigh-part, weight-queues}
 use Rattle.scheduler.specs.declared.moves.Step.{Step}
 use Rattle.scheduler.specs.declared.moves.Step.TheVariants.{Take, Finish, PutBack}
 use Rattle.scheduler.specs.declared.places.TheConstants.{MAPS, PRIORITIES, RUNNING, FINISHED, LOWEST}
 use Rattle.scheduler.specs.Moves.{FitsScheduler, start_first, script_at, script_of, move_bounds}
 use Rattle.scheduler.specs.Jobs.{jobs_in, KeepsJobs}
 
--- a job weighs so much wherever it stands
-abbrev pub jobs_by : (ℕ → ℕ) → Weights
-jobs_by f = record { pair = λ m e. cond (m == RUNNING) (f e.1) (f e.0); value = λ q job. f job }
+-- which job a pair holds, as its value if it runs, and as its key if it is finished; and a value of a queue is one
+abbrev pub jobs : Things
+jobs = record { in_pair = λ m e. cond (m == RUNNING) e.1 e.0; in_value = λ q job. job }
 
-pub by-place : (f : ℕ → ℕ) (s : State) → length s.maps ≡ MAPS → sum_by f (jobs_in s) ≡ weight (jobs_by f) s
+pub by-place : (f : ℕ → ℕ) (s : State) → length s.maps ≡ MAPS → sum_by f (jobs_in s) ≡ weight (weights_of jobs f) s
 by-place f s two = each s.maps two
   where
     each : (ms : List Table) → length ms ≡ MAPS → let t : State = record { maps = ms; queues = s.queues } in
-        sum_by f (jobs_in t) ≡ weight (jobs_by f) t
+        sum_by f (jobs_in t) ≡ weight (weights_of jobs f) t
     each [] two = absurd (omega (arith, two))
     each (a ∷ []) two = absurd (omega (arith, two))
     each (a ∷ b ∷ []) two =
@@ -44,122 +43,63 @@ by-place f s two = each s.maps two
         )
     each (a ∷ b ∷ c ∷ ms) two = absurd (omega (arith, two))
 
--- the weight by which all jobs are counted, and that by which one is
-pub ones : (m : ℕ) (e : ℕ × ℕ) → (jobs_by (λ _. 1)).pair m e ≡ 1
-ones m e = elim (m == RUNNING) as (λ b. ◌≡◌ {A = ℕ} (cond b 1 1) 1) [ true ↦ refl | false ↦ refl ]
-
-abbrev pub is : ℕ → ℕ → ℕ
-is job j = cond (j == job) 1 0
-
 module _ (opening s : State) (good : KeepsJobs opening s) (like : HaveSameNumbers s opening) where
-  -- since the move began with s, operations led to t, and a weight of jobs is out of its place
-  record Moves (t : State) (out : (ℕ → ℕ) → ℕ) : Type 0 where
-    pub numbers : HaveSameNumbers t opening
-    pub same : (f : ℕ → ℕ) → weight (jobs_by f) t + out f ≡ weight (jobs_by f) s
-
-  abbrev none_out : (ℕ → ℕ) → ℕ
-  none_out f = 0
-
-  begins : Moves s none_out
-  begins = record { numbers = like; same = λ f. omega arith }
-
-  module _ (t : State) (out out' : (ℕ → ℕ) → ℕ) (op : Op) (m : Moves t out) where
-    goes-on : ((f : ℕ → ℕ) → weight (jobs_by f) (after t op) + out' f ≡ weight (jobs_by f) t + out f) → Moves (after t op) out'
-    goes-on changed = record {
-      numbers = same-after t opening op m.numbers;
-      same = λ f. omega (arith, changed f, m.same f);
-    }
-
-  module _ (t : State) (m : Moves t none_out) where
-    not-dequeued : (q : ℕ) → slice_get (queue_at t q) 0 ≡ None → Moves (after t (Dequeue q)) none_out
-    not-dequeued q none = goes-on t none_out none_out (Dequeue q) m (λ f. omega (arith, weight-dequeue_none (jobs_by f) t q none))
-
-    dequeued : (q job : ℕ) → slice_get (queue_at t q) 0 ≡ Some job → Moves (after t (Dequeue q)) (λ f. f job)
-    dequeued q job some = goes-on t none_out (λ f. f job) (Dequeue q) m (λ f. omega (arith, weight-dequeue (jobs_by f) t q job some))
-
-    not-running : (worker : ℕ) → fin.get (map_at t RUNNING) worker ≡ None → Moves (after t (Remove RUNNING worker)) none_out
-    not-running worker none =
-        goes-on t none_out none_out (Remove RUNNING worker) m (λ f. omega (arith, weight-remove_none (jobs_by f) t RUNNING worker none))
-
-    stopped : (worker job : ℕ) → fin.get (map_at t RUNNING) worker ≡ Some job → Moves (after t (Remove RUNNING worker)) (λ f. f job)
-    stopped worker job some =
-        goes-on t none_out (λ f. f job) (Remove RUNNING worker) m (λ f. omega (arith, weight-remove (jobs_by f) t RUNNING worker job some))
-
-  module _ (t : State) (job : ℕ) (m : Moves t (λ f. f job)) where
-    enqueued : (q : ℕ) → q < PRIORITIES → Moves (after t (Enqueue q job)) none_out
-    enqueued q there = goes-on t (λ f. f job) none_out (Enqueue q job) m
-        (λ f. omega (arith, weight-enqueue (jobs_by f) t q job (omega (arith, there, m.numbers.queues, good.queues))))
-
-    started : (worker : ℕ) → fin.get (map_at t RUNNING) worker ≡ None → Moves (after t (Insert RUNNING worker job)) none_out
-    started worker none = goes-on t (λ f. f job) none_out (Insert RUNNING worker job) m
-        (λ f. omega (arith, weight-insert (jobs_by f) t RUNNING worker job (omega (arith, m.numbers.maps, good.maps)) none))
-
-    -- it wasn't finished before, since it stood in one place
-    unfinished : (o : Option ℕ) → fin.get (map_at t FINISHED) job ≡ o → o ≡ None
-    unfinished None found = refl
-    unfinished (Some worker) found =
-        let one : is job job ≡ 1 = ap (λ b. cond b 1 0) (eq-eqb job job refl) in
-        absurd (omega (
-          arith,
-          one,
-          weight-remove (jobs_by (is job)) t FINISHED job worker found,
-          m.same (is job),
-          by-place (is job) s (like.maps ∙ good.maps),
-          good.same (is job),
-          good.once job,
-        ))
-
-    finished : (worker : ℕ) → Moves (after t (Insert FINISHED job worker)) none_out
-    finished worker = goes-on t (λ f. f job) none_out (Insert FINISHED job worker) m (λ f. omega (
-      arith,
-      weight-insert (jobs_by f) t FINISHED job worker (omega (arith, m.numbers.maps, good.maps))
-          (unfinished (fin.get (map_at t FINISHED) job) refl),
-    ))
+  abbrev Moved : State → List ℕ → Type 0
+  Moved t out = HaveMoved jobs s t out
 
   abbrev Stays : State → Option ℕ → Type 0
-  Stays t r = Moves t none_out
+  Stays t r = Moved t []
 
   abbrev runs : State → ℕ → Option ℕ
   runs t worker = fin.get (map_at t RUNNING) worker
 
-  first-stays : (worker left queue : ℕ) (t : State) → Moves t none_out → runs t worker ≡ None
+  maps : length s.maps ≡ MAPS
+  maps = like.maps ∙ good.maps
+
+  queues : length s.queues ≡ PRIORITIES
+  queues = like.queues ∙ good.queues
+
+  -- the job of a worker is finished, since it wasn't finished before: it stood in one place
+  finished : (t : State) (job worker : ℕ) → Moved t (job ∷ []) → Moved (after t (Insert FINISHED job worker)) []
+  finished t job worker m =
+      let once : weight (weights_of jobs (is job)) s ≤ 1 =
+      omega (arith, by-place (is job) s maps, good.same (is job), good.once job) in
+      pair-put jobs s t job [] m FINISHED job worker refl (omega (arith, maps))
+      (not-there jobs s t job [] m FINISHED job (λ v. refl) once)
+
+  first-stays : (worker left queue : ℕ) (t : State) → Moved t [] → runs t worker ≡ None
       → Leaves Stays (start_first worker left queue) t
   unfolding start_first
   first-stays worker zero queue t m idle = m
   first-stays worker (suc left) queue t m idle =
       leaves-option Stays (slice_get (queue_at t queue) 0) (start_first worker left (queue + 1)) _ (after t (Dequeue queue))
-      (λ none. first-stays worker left (queue + 1) (after t (Dequeue queue)) (not-dequeued t m queue none) idle)
-      (λ job some. started (after t (Dequeue queue)) job (dequeued t m queue job some) worker idle)
+      (λ none. first-stays worker left (queue + 1) (after t (Dequeue queue)) (no-value jobs s t [] m queue none) idle)
+      (λ job some. pair-put jobs s (after t (Dequeue queue)) job [] (value-taken jobs s t [] m queue job some)
+      RUNNING worker job refl (omega (arith, maps)) idle)
 
   -- no move loses or doubles a job
   move-stays : (step : Step) (worker : ℕ) → Leaves Stays (script_at step worker) s
   move-stays Take worker = leaves-option Stays (runs s worker) (start_first worker PRIORITIES 0) _ s
-      (first-stays worker PRIORITIES 0 s begins) (λ job some. begins)
+      (first-stays worker PRIORITIES 0 s (none-moved jobs s)) (λ job some. none-moved jobs s)
   move-stays Finish worker = leaves-option Stays (runs s worker) _ _ (after s (Remove RUNNING worker))
-      (not-running s begins worker)
-      (λ job some. finished (after s (Remove RUNNING worker)) job (stopped s begins worker job some) worker)
+      (no-pair jobs s s [] (none-moved jobs s) RUNNING worker)
+      (λ job some. finished (after s (Remove RUNNING worker)) job worker
+      (pair-taken jobs s s [] (none-moved jobs s) RUNNING worker job some))
   move-stays PutBack worker = leaves-option Stays (runs s worker) _ _ (after s (Remove RUNNING worker))
-      (not-running s begins worker)
-      (λ job some. enqueued (after s (Remove RUNNING worker)) job (stopped s begins worker job some) LOWEST (omega arith))
+      (no-pair jobs s s [] (none-moved jobs s) RUNNING worker)
+      (λ job some. value-put jobs s (after s (Remove RUNNING worker)) job []
+      (pair-taken jobs s s [] (none-moved jobs s) RUNNING worker job some) LOWEST job refl (omega (arith, queues)))
 
   -- the jobs of what a move leaves
-  left-good : (t : State) → Moves t none_out → StaysGood KeepsJobs 0 opening s t
+  left-good : (t : State) → Moved t [] → StaysGood KeepsJobs 0 opening s t
   left-good t m = record {
     good = record {
       maps = good.maps;
       queues = good.queues;
       once = good.once;
-      same = λ f. by-place f t (m.numbers.maps ∙ good.maps) ∙ omega (arith, m.same f)
-          ∙ sym (by-place f s (like.maps ∙ good.maps)) ∙ good.same f;
+      same = λ f. by-place f t (m.numbers.maps ∙ maps) ∙ omega (arith, m.same f) ∙ sym (by-place f s maps) ∙ good.same f;
     };
-    need = omega (
-      arith,
-      needed-weight (jobs_by (λ _. 1)) s ones (λ q v. refl),
-      needed-weight (jobs_by (λ _. 1)) t ones (λ q v. refl),
-      m.same (λ _. 1),
-      m.numbers.queues,
-      like.queues,
-    );
+    need = omega (arith, moved-needed jobs s t m);
   }
 
 -- every move makes few calls
