@@ -51,6 +51,7 @@ impl<T: Drop> LinesByCaller<T> {
         ensures some { IfSome result (λ l. l ≡ lists_in lists.items) }
         ensures none { IfNone result ((2 ^ 32 ≤ length lists.items)
             ⊎ (2 ^ 32 ≤ sum_by length (lists_in lists.items))) }
+        ensures few { IfSome result (λ l. (length l < 2 ^ 32) × (sum_by length l < 2 ^ 32)) }
     {
         if lists.len() > u32::MAX as usize {
             return None;

@@ -14,7 +14,6 @@ use Rattle.md_book.specs.Meets.{CommandsMeetTheBook}
 use Rattle.md_orders.specs.Records.{max_records}
 use Rattle.md_orders.specs.Scripts.{at_line, count_of, AreNamed}
 use Rattle.md_orders.specs.Replies.{reply_at}
-use Rattle.md_orders.proofs.ByCaller.{length-list_of-le}
 use Rattle.md_many.specs.Tags.{IsInterleaving}
 use Rattle.md_many.specs.Played.{committed_of, tags_of, EachLineOnce}
 use Rattle.md_many.specs.Replied.{IsReplied, AreReplied}

@@ -116,7 +116,7 @@ impl Body for Transfer {
     ghost did_makes = { λ t acts r did. did.follows };
 }
 
-// Money moves, and each transfer adds no more than its record in the journal.
+// A transfer needs at most one node more, for its record in the journal.
 impl LawfulBody for Transfer {
     ghost use Rattle.transfers.specs.Bank.{IsBank, transfer_bounds};
 

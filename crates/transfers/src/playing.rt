@@ -16,8 +16,8 @@ use std::thread::Threads;
 /// engine. The pass is fresh, and holds all lanes, one for each teller. A renewal of the engine has
 /// room for what it starts with, and for one node for each transfer.
 ///
-/// `tries` is the most attempts that a teller makes in its turn of a round: any number. `run_many`
-/// says what a round is.
+/// `tries` is the most attempts that a teller makes in its turn of a round: any number.
+/// `play_rounds` says what a round is.
 ///
 /// `AllocError` if memory runs out. Then the engine has ended, and its contents are lost.
 pub fn transfer_all<R, E>(
