@@ -12,7 +12,7 @@ use md_words::{Content, Shape};
 use std::alloc::{AllocError, Global};
 
 /// The words of a field without contents: each queue has its dummy, and no other node is laid.
-/// `AllocError` if memory runs out. The zeros are the allocator's: only what is laid is written.
+/// `AllocError` if memory runs out. Takes time linear in the words and the queues.
 pub(crate) fn empty_field(alloc: Global, shape: &Shape) -> Result<Vec<u64>, AllocError>
     requires { shape.now.queues ≤ shape.now.base }
     ensures { IfOk result (λ words. IsLaid shape.now words.items (dummies shape.now.queues)) }
