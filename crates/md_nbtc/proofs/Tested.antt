@@ -1,5 +1,5 @@
 -- What a call leaves of a transaction that the tests keep open.
-use Rattle.std.proofs.Common.{◌≡◌, ◌==◌, ◌∷◌, [], ℕ, List, true, Option, Some, None, Result, Ok, Err, IfSome, true≢false, refl, sym, ap, ◌∙◌, subst, inr, map}
+use Rattle.std.proofs.Common.{◌≡◌, ◌==◌, ◌∷◌, [], ℕ, List, Option, Some, None, Result, Ok, Err, IfSome, true≢false, refl, sym, ap, ◌∙◌, subst, inr, map}
 use Rattle.std.proofs.lemmas.Bool.{cond_both}
 use Rattle.std.proofs.lemmas.List.Elements.{All-append, All-cons, All-head, All-nil, All-tail}
 use Rattle.std.specs.List.{All}

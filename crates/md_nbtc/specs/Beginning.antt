@@ -3,7 +3,6 @@ use Rattle.std.specs.Prelude.{◌≡◌, ◌≢◌, ◌+◌, ◌<◌, ◌≤◌,
 use Rattle.md_words.specs.declared.limits.TheConstants.{SET}
 use Rattle.md_words.specs.declared.shape.Shape.{Shape}
 use Rattle.md_words.specs.Content.{count_of, is_even, spot_of, value_of}
-use Rattle.md_words.specs.declared.status.Status.TheVariants.{InPrep}
 use Rattle.md_words.specs.Layout.{IsInSet, address, desc_count}
 use Rattle.md_words.specs.Place.{desc_status}
 use Rattle.md_words.specs.PlaceAt.{IsCounted}
@@ -11,8 +10,7 @@ use Rattle.md_words.specs.Status.{serial_of, status_of}
 use Rattle.md_machine.specs.declared.node.PlacedNode.{PlacedNode}
 use Rattle.md_machine.specs.declared.pass.PassView.{PassView}
 use Rattle.md_machine.specs.declared.step.Step.{Step}
-use Rattle.md_machine.specs.Event.{Acts}
-use Rattle.md_machine.specs.Machine.{Machine, attempt_of, content, is_ready}
+use Rattle.md_machine.specs.Machine.{attempt_of, is_ready}
 use Rattle.md_machine.specs.Meaning.{Meaning}
 use Rattle.md_machine.specs.Own.{HasDesc}
 use Rattle.md_machine.specs.Trail.{EveryStepOf, Finds, Leaves, Loads, MetHigher, SomeStep}
@@ -23,7 +21,6 @@ use Rattle.md_machine.specs.events.Uninstall.{IsDecided, desc_in}
 use Rattle.md_help.specs.After.{IsAfter, Stands}
 use Rattle.md_help.specs.Owns.{EndsOwn, KnowsEnd}
 use Rattle.md_help.specs.declared.settling.End.{End}
-use Rattle.md_rule.specs.Admitted.{Admitted}
 use Rattle.md_rule.specs.Kept.{IsNew, KeepsLane, MetNoLater}
 use Rattle.md_rule.specs.Shares.{share_at}
 use Rattle.md_rule.specs.Views.{Origin, PassState}

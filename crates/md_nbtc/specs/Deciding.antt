@@ -1,5 +1,5 @@
 -- What the parts of a transaction's decision tell one another.
-use Rattle.std.specs.Prelude.{◌≡◌, ◌≤◌, ◌<◌, ◌+◌, ◌⊎◌, ℕ, Bool, true, false, List, [], ◌∷◌, ◌++◌, All, Contains, Option, Some, None, Result, Ok, Err, MatchResult, IfSome, map, length, get_or}
+use Rattle.std.specs.Prelude.{◌≡◌, ◌≤◌, ◌<◌, ◌⊎◌, ℕ, true, false, List, [], ◌∷◌, ◌++◌, All, Contains, Option, Some, None, Result, MatchResult, IfSome, map, length, get_or}
 use Rattle.std.specs.List.{AllZip}
 use Rattle.md_words.specs.declared.shape.Shape.{Shape}
 use Rattle.md_words.specs.declared.status.Status.TheVariants.{Aborted, Committed}
@@ -13,7 +13,7 @@ use Rattle.md_machine.specs.declared.attempt.Read.{Read}
 use Rattle.md_machine.specs.declared.pass.PassView.{PassView}
 use Rattle.md_machine.specs.declared.step.Kind.TheVariants.{Abort, Commit, Load}
 use Rattle.md_machine.specs.declared.step.Step.{Step}
-use Rattle.md_machine.specs.Trail.{Finds, Loads, Meets, SomeStep, SomeStepOf, read_stands}
+use Rattle.md_machine.specs.Trail.{Loads, Meets, SomeStep, SomeStepOf, read_stands}
 use Rattle.md_machine.specs.Meaning.{Meaning}
 use Rattle.md_machine.specs.events.Decide.{MayAbort, MayCommit, decided_word}
 use Rattle.md_rule.specs.Steps.{EventOf, SteppedFrom}

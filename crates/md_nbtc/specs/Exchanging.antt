@@ -1,5 +1,5 @@
 -- What the parts of an exchange tell one another.
-use Rattle.std.specs.Prelude.{◌≡◌, ◌≢◌, ◌<◌, ◌⊎◌, ℕ, length}
+use Rattle.std.specs.Prelude.{◌≡◌, ◌<◌, ◌⊎◌, ℕ, length}
 use Rattle.md_words.specs.declared.limits.TheConstants.{SET}
 use Rattle.md_words.specs.Layout.{address}
 use Rattle.md_words.specs.Place.{slot_new, slot_old, slot_word}

@@ -28,6 +28,10 @@ use std::hint::spin_loop;
 // So often a descriptor is looked at again at most, before it is cleared.
 const LOOKS: u32 = 300;
 
+// So often one of a higher number is, by a transaction whose own descriptor stands in a word. If two
+// transactions each hold a word that the other wants, one of them soon gives way.
+const FEW_LOOKS: u32 = 60;
+
 // A pause between two looks is at most so long, in turns of the spin hint.
 const LONGEST: u32 = 2;
 
@@ -37,21 +41,38 @@ fn pause(turns: u32) {
     }
 }
 
-// Looks again while the same descriptor stands in the word, with short pauses, and returns what it
-// found last.
+// How often another's descriptor is looked at again. `holding` is the own one, if it stands in a word.
+fn patience(holding: Option<u32>, other: u32) -> u32
+    ensures { (1 ≤ result) × (result ≤ LOOKS) }
+{
+    match holding {
+        Some(own) if own < other => FEW_LOOKS,
+        _ => LOOKS,
+    }
+}
+
+// Looks again while the same descriptor stands in the word, so often at most and with short pauses,
+// and returns what it found last.
 #[cold]
 #[inline(never)]
-fn await_other<T: Theory>(pass: &mut Pass<T>, field: &Field<T>, word: u32, found: u64) -> u64
+fn await_other<T: Theory>(
+    pass: &mut Pass<T>,
+    field: &Field<T>,
+    word: u32,
+    found: u64,
+    most: u32,
+) -> u64
     requires of { IsOf pass.old field.now }
     requires stands { Stands T.meaning field.now.origin pass.old.view }
     requires inside { word < words_of field.now.origin.shape }
     requires odd { is_even (count_of found) ≡ false }
+    requires most { (1 ≤ most) × (most ≤ LOOKS) }
     ensures same { pass.new ≡ record pass.old { view = pass.new.view } }
     ensures looks { LooksUntil T.meaning field.now.origin word LOOKS result pass.old.view
         pass.new.view }
 {
     let mut last = found;
-    for i in 0..LOOKS {
+    for i in 0..most {
         pause(i);
         last = pass.load(field, word);
         if last != found {
@@ -62,7 +83,8 @@ fn await_other<T: Theory>(pass: &mut Pass<T>, field: &Field<T>, word: u32, found
 }
 
 // Looks at a word, and returns what it found: a descriptor only if it stands there for a while.
-fn look_at<T: Theory>(pass: &mut Pass<T>, field: &Field<T>, word: u32) -> u64
+// `holding` is the own descriptor, if it stands in a word.
+fn look_at<T: Theory>(pass: &mut Pass<T>, field: &Field<T>, word: u32, holding: Option<u32>) -> u64
     requires of { IsOf pass.old field.now }
     requires stands { Stands T.meaning field.now.origin pass.old.view }
     requires inside { word < words_of field.now.origin.shape }
@@ -73,7 +95,10 @@ fn look_at<T: Theory>(pass: &mut Pass<T>, field: &Field<T>, word: u32) -> u64
     let found = pass.load(field, word);
     match Content::of(found).stands() {
         None => found,
-        Some(_) => await_other(pass, field, word, found),
+        Some(spot) => {
+            let most = patience(holding, spot.desc);
+            await_other(pass, field, word, found, most)
+        }
     }
 }
 
@@ -109,7 +134,10 @@ impl<'a, T: Theory> Txn<'a, T> {
     /// Returns what a word stands for. If the transaction wrote the word, this is its new value
     /// there. If the word holds an even content, this is its value. If another's descriptor stands
     /// there, the word is looked at again, at most 300 times with short pauses between, and the
-    /// descriptor is taken out by `md_help::clear` if it stands there still. It takes no memory.
+    /// descriptor is taken out by `md_help::clear` if it stands there still. After a write, it looks
+    /// at most 60 times at a descriptor of a higher number than its own: two transactions may each
+    /// hold a word that the other wants, and then the one of the lower number goes on soon. It takes
+    /// no memory.
     ///
     /// The transaction is under way, and the word is a counted one. The call returns a conflict if
     /// the own descriptor isn't any more where it was installed, or if a descriptor was found again
@@ -167,6 +195,14 @@ impl<'a, T: Theory> Txn<'a, T> {
         Err(stop)
     }
 
+    // The own descriptor, if it stands in a word.
+    fn holding(&self) -> Option<u32> {
+        if self.sets.slots.len() == 0 {
+            return None;
+        }
+        Some(self.desc)
+    }
+
     // Looks at any other word.
     #[inline(always)]
     fn load_other(&mut self, word: u32) -> Result<Seen, Stop>
@@ -179,7 +215,8 @@ impl<'a, T: Theory> Txn<'a, T> {
         ensures steps { LookSteps (state self.old) (state self.new) word result }
         ensures given { KeepsGiven (state self.old) (state self.new) word }
     {
-        let was = look_at(self.pass, self.field, word);
+        let holding = self.holding();
+        let was = look_at(self.pass, self.field, word, holding);
         let found = Content::of(was);
         if found.stands().is_none() {
             return Ok(seen_of(found));

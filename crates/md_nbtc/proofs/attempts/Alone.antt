@@ -3,7 +3,6 @@ use Rattle.std.proofs.Common.{◌≡◌, ◌++◌, ◌∷◌, ◌+◌, ◌*◌, 
 use Rattle.std.specs.Prelude.{option_map, unwrap_or}
 use Rattle.std.proofs.lemmas.Bool.{cases_Bool}
 use Rattle.std.proofs.lemmas.List.Elements.{All-contains, All-weaker}
-use Rattle.std.specs.List.{All, Contains}
 use Rattle.md_words.specs.declared.status.Status.TheVariants.{InPrep}
 use Rattle.md_words.specs.Content.{count_of, counted_word, is_even, value_of}
 use Rattle.md_words.specs.Layout.{address}
@@ -11,17 +10,15 @@ use Rattle.md_words.specs.Place.{desc_status}
 use Rattle.md_words.specs.PlaceAt.{IsCounted}
 use Rattle.md_words.specs.Status.{status_of}
 use Rattle.md_words.proofs.Words.{status_of-status_word}
-use Rattle.md_machine.specs.declared.attempt.Read.{Read}
 use Rattle.md_machine.specs.declared.attempt.Write.{Write}
-use Rattle.md_machine.specs.declared.certificate.Certificate.{Certificate}
 use Rattle.md_machine.specs.declared.step.Kind.TheVariants.{Load}
 use Rattle.md_machine.specs.declared.step.Step.{Step}
-use Rattle.md_machine.specs.Certified.{AllStandBy, content_read, content_replaced, first_content, is_written}
+use Rattle.md_machine.specs.Certified.{content_read, content_replaced, first_content, is_written}
 use Rattle.md_machine.specs.Event.{Acts}
 use Rattle.md_machine.specs.Machine.{Machine, content, shape_of, status_at}
-use Rattle.md_machine.specs.Meaning.{Lawful, Meaning}
+use Rattle.md_machine.specs.Meaning.{Meaning}
 use Rattle.md_machine.specs.Moved.{TakesOther}
-use Rattle.md_machine.specs.Resolution.{Resolves, logical_heap, logical_value, or_else}
+use Rattle.md_machine.specs.Resolution.{logical_heap, logical_value, or_else}
 use Rattle.md_machine.specs.Theorem.{IsKept}
 use Rattle.md_machine.specs.clauses.passes.Alone.{HoldsAll, IsAlone}
 use Rattle.md_machine.specs.events.Install.{MayBeChanged}
@@ -32,7 +29,6 @@ use Rattle.md_machine.proofs.clauses.nodes.InstalledValue.{installed_value}
 use Rattle.md_machine.proofs.lists.Options.{some_same}
 use Rattle.md_rule.specs.Admitted.{Admitted}
 use Rattle.md_rule.proofs.Moves.{is_kept}
-use Rattle.md_nbtc.specs.Going.{IsGoing}
 use Rattle.md_nbtc.specs.Known.{found_by}
 use Rattle.md_nbtc.specs.Prepared.{InstallsFrom, IsPrepared, IsRecorded, LastOn, LeftThere}
 use Rattle.md_nbtc.specs.declared.seen.Seen.{Seen}
@@ -43,7 +39,6 @@ use Rattle.md_nbtc.proofs.looks.AloneChain.{ChainsFrom, chain_push, chained, hel
 use Rattle.md_nbtc.proofs.looks.Causes.{left_finds, none_is, own_rest, recorded_left}
 use Rattle.md_nbtc.proofs.ready.Bridge.{is_present, own_step, slot_at}
 use Rattle.md_nbtc.proofs.ready.Lookups.{each_in, written_found, written_replaced}
-use Rattle.md_nbtc.proofs.ready.Standing.{all_by}
 
 -- the last step on a word left the content there
 last_there : (desc word held : ℕ) (steps : List Step) → LastOn word held steps → LeftThere desc word held steps

@@ -1,8 +1,5 @@
 -- What a pass knows after it left what was in hand, and took a descriptor.
-use Rattle.std.proofs.Common.{◌≡◌, ◌+◌, ◌<◌, ℕ, List, [], ◌∷◌, ◌++◌, None, length, get_or-set_same, set, refl, sym, ap, ◌∙◌, subst, ⊎_elim}
-use Rattle.std.specs.List.{Contains}
-use Rattle.std.proofs.lemmas.List.Elements.{Contains-append_cases, Contains-append_left, Contains-push, Contains-push_cases}
-use Rattle.md_words.specs.declared.shape.Shape.{Shape}
+use Rattle.std.proofs.Common.{◌≡◌, ◌+◌, ◌<◌, ℕ, List, [], ◌∷◌, ◌++◌, None, length, get_or-set_same, set, sym, ap, ◌∙◌, subst}
 use Rattle.md_words.proofs.Owners.{own_desc_exists}
 use Rattle.md_machine.specs.declared.pass.PassView.{PassView}
 use Rattle.md_machine.specs.declared.step.Kind.TheVariants.{Load}
@@ -13,7 +10,6 @@ use Rattle.md_machine.specs.Meaning.{Meaning}
 use Rattle.md_machine.specs.Own.{HasDesc}
 use Rattle.md_machine.specs.Stepping.{step_of}
 use Rattle.md_machine.specs.events.Mark.{marked}
-use Rattle.md_machine.proofs.lists.Rising.{in_cons, in_none}
 use Rattle.md_arena.specs.Taking.{TakesDesc}
 use Rattle.md_rule.specs.Kept.{KeepsLane, KeepsLanes}
 use Rattle.md_rule.specs.Shares.{share_at}

@@ -1,10 +1,9 @@
 -- What the cases of an exchange tell.
-use Rattle.std.proofs.Common.{◌≡◌, ◌≢◌, ◌==◌, ◌||◌, ◌+◌, ◌<◌, ◌≤◌, ℕ, List, [], ◌∷◌, map, length, Err, is_some, subst, Bool, true, false, Option, Some, None, refl, sym, ap, ◌∙◌, ⊎_elim, eqb-true, eq-eqb, if◌then◌else◌, nat_le, le-leb, leb-true, arith}
-use Rattle.std.proofs.lemmas.Bool.{cases_Bool, cases_lt, cond-false, cond-true, cond_both, true≢false}
+use Rattle.std.proofs.Common.{◌≡◌, ◌≢◌, ◌==◌, ◌||◌, ◌+◌, ◌<◌, ℕ, List, [], ◌∷◌, map, length, Err, is_some, subst, Bool, true, false, Option, Some, None, refl, sym, ap, ◌∙◌, ⊎_elim, eqb-true, eq-eqb, if◌then◌else◌, nat_le, le-leb, leb-true}
+use Rattle.std.proofs.lemmas.Bool.{cases_lt, cond-false, cond-true, cond_both, true≢false}
 use Rattle.md_words.specs.declared.limits.TheConstants.{SET}
 use Rattle.md_words.specs.Content.{count_of}
 use Rattle.md_machine.proofs.lists.Options.{some_same}
-use Rattle.std.specs.List.{Contains}
 use Rattle.md_history.specs.declared.stops.Stop.{Stop}
 use Rattle.md_machine.specs.Certified.{content_read, is_written}
 use Rattle.md_machine.specs.Meaning.{Meaning}

@@ -1,6 +1,6 @@
 -- What a transaction was given of a word stays so over a step that leaves the word and its slot.
 use Rattle.std.proofs.Common.{◌≡◌, ◌∷◌, ℕ, List, [], sym, subst, ap, ◌∙◌, inl, inr, ⊎_elim}
-use Rattle.std.specs.List.{All, Contains}
+use Rattle.std.specs.List.{Contains}
 use Rattle.md_machine.specs.declared.attempt.Write.{Write}
 use Rattle.md_machine.specs.declared.certificate.Change.{Change}
 use Rattle.md_machine.specs.declared.pass.PassView.{PassView}
@@ -12,7 +12,7 @@ use Rattle.md_help.specs.After.{IsAfter}
 use Rattle.md_nbtc.specs.declared.seen.Seen.{Seen}
 use Rattle.md_nbtc.specs.declared.sets.Slot.{Slot}
 use Rattle.md_nbtc.specs.Prepared.{IsPrepared, LeftThere}
-use Rattle.md_nbtc.specs.Seeing.{Gave, SeesContent, SeesSlot}
+use Rattle.md_nbtc.specs.Seeing.{Gave, SeesContent}
 use Rattle.md_nbtc.specs.State.{TxnState, attempt_in, own_steps, seen_content, shape_in, writes_in}
 use Rattle.md_nbtc.proofs.exchanging.ChangedPrepared.{changed, own_then}
 use Rattle.md_nbtc.proofs.preparing.GoingOn.{moved_more}

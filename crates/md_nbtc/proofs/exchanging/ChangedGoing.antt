@@ -1,9 +1,9 @@
 -- A transaction goes on over one step by which its slots, or the changes of its operation, become others.
-use Rattle.std.proofs.Common.{◌≡◌, ◌⊎◌, ◌++◌, ◌∷◌, ◌≤◌, ℕ, true, List, [], is_some, length, arith, Some, refl, sym, ap, ◌∙◌, subst, inl, inr, ⊎_elim, IfSome}
+use Rattle.std.proofs.Common.{◌≡◌, ◌⊎◌, ◌++◌, ◌∷◌, ◌≤◌, ℕ, true, List, [], is_some, length, arith, Some, refl, sym, ap, ◌∙◌, inl, inr, ⊎_elim, IfSome}
 use Rattle.std.proofs.lemmas.List.{append-nil, length-append, length-map}
 use Rattle.std.proofs.lemmas.List.Elements.{All-weaker}
 use Rattle.std.proofs.lemmas.Option.{IfSome_then}
-use Rattle.std.specs.List.{All, Contains}
+use Rattle.std.specs.List.{All}
 use Rattle.md_words.specs.declared.limits.TheConstants.{SET}
 use Rattle.md_words.specs.Content.{value_of}
 use Rattle.md_history.specs.Front.{IsPrefix}
@@ -31,7 +31,7 @@ use Rattle.md_nbtc.specs.Going.{HasCause, IsFoundFirst, IsGoing, IsUnplaced}
 use Rattle.md_nbtc.specs.Known.{IsLater, KnowsPlaced}
 use Rattle.md_nbtc.specs.Prepared.{IsPrepared}
 use Rattle.md_nbtc.specs.Seeing.{MayChange}
-use Rattle.md_nbtc.specs.State.{OwnNode, TxnState, attempt_in, installs_in, own_steps, shape_in, writes_in}
+use Rattle.md_nbtc.specs.State.{OwnNode, TxnState, attempt_in, installs_in, shape_in, writes_in}
 use Rattle.md_nbtc.proofs.exchanging.ChangedPrepared.{SameTaken, changed, own_then}
 use Rattle.md_nbtc.proofs.preparing.GoingOn.{cause_kept, none_left}
 use Rattle.md_nbtc.proofs.preparing.Later.{known_later}

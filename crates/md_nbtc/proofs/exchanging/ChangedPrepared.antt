@@ -4,7 +4,6 @@ use Rattle.std.proofs.lemmas.Bool.{true≢false}
 use Rattle.std.proofs.lemmas.List.Elements.{All-append, All-cons, All-contains, All-nil, Contains-append_left, Contains-push_cases}
 use Rattle.std.specs.List.{All, AllPairs, Contains, flat_map}
 use Rattle.md_words.specs.declared.limits.TheConstants.{SET}
-use Rattle.md_words.specs.declared.shape.Shape.{Shape}
 use Rattle.md_words.specs.Layout.{IsNode, address}
 use Rattle.md_words.specs.Lanes.{OwnsNode, node_of}
 use Rattle.md_words.specs.Place.{desc_status, node_key, node_next, node_value, read_content, read_word, slot_new, slot_old}
@@ -27,7 +26,6 @@ use Rattle.md_rule.specs.Views.{PassState}
 use Rattle.md_rule.specs.declared.shares.Share.{Share}
 use Rattle.md_help.specs.After.{IsAfter}
 use Rattle.md_help.proofs.Deciding.{some_after}
-use Rattle.md_nbtc.specs.declared.sets.Lot.{Lot}
 use Rattle.md_nbtc.specs.declared.sets.Slot.{Slot}
 use Rattle.md_nbtc.specs.Prepared.{EachFrom, IsHeld, IsPrepared, IsPreparedNode, IsRecorded, InstallsFrom, IsWritten, LastOn, LeftLast, LeftThere, StoredOnce, TakenInTurn}
 use Rattle.md_nbtc.specs.State.{OwnNode, TxnState, attempt_in, lot_of_lane, lots_since, own_steps, shape_in, writes_in}

@@ -1,8 +1,7 @@
 -- What contracts see of a transaction over one step that stores to no word of its nodes.
-use Rattle.std.proofs.Common.{◌≡◌, ◌≢◌, ◌==◌, ◌++◌, ◌∷◌, ◌-◌, ℕ, true, false, List, [], map, Option, Some, unwrap_or, refl, sym, ap, ◌∙◌, subst, inl, inr, ⊎_elim, if◌then◌else◌}
+use Rattle.std.proofs.Common.{◌≡◌, ◌≢◌, ◌==◌, ◌++◌, ◌∷◌, ◌-◌, ℕ, true, List, [], map, Option, refl, sym, ap, ◌∙◌, inl, inr, ⊎_elim, if◌then◌else◌}
 use Rattle.std.proofs.lemmas.Bool.{cases_Bool, cond-false, ne_eqb}
 use Rattle.std.specs.List.{Contains, flat_map, range_with_len}
-use Rattle.md_words.specs.declared.shape.Shape.{Shape}
 use Rattle.md_words.specs.Content.{value_of}
 use Rattle.md_words.specs.Lanes.{node_of}
 use Rattle.md_words.specs.Layout.{address}
@@ -21,7 +20,7 @@ use Rattle.md_rule.specs.declared.shares.Share.{Share}
 use Rattle.md_help.specs.After.{IsAfter}
 use Rattle.md_nbtc.specs.declared.sets.Lot.{Lot}
 use Rattle.md_nbtc.specs.declared.sets.Slot.{Slot}
-use Rattle.md_nbtc.specs.State.{OwnNode, TxnState, last_stored, no_hand, own_node, shape_in, state_of, stored_in, taken_of_lane, taken_since}
+use Rattle.md_nbtc.specs.State.{OwnNode, TxnState, last_stored, own_node, shape_in, state_of, stored_in, taken_of_lane, taken_since}
 use Rattle.md_nbtc.proofs.exchanging.ChangedPrepared.{SameTaken, changed, changed_pass, changed_view}
 
 -- two functions that agree on the elements of a list

@@ -1,18 +1,15 @@
 -- After three stores the next slot holds a word, its old content and a new value.
 use Rattle.std.proofs.Common.{◌≡◌, ◌≢◌, ◌<◌, ℕ, length, sym, ap, ◌∙◌, subst}
 use Rattle.md_words.specs.declared.limits.TheConstants.{SET}
-use Rattle.md_words.specs.Layout.{Exists, address, desc_count}
+use Rattle.md_words.specs.Layout.{address, desc_count}
 use Rattle.md_words.specs.Place.{slot_new, slot_old, slot_word}
-use Rattle.md_words.specs.PlaceAt.{IsCounted}
 use Rattle.md_words.proofs.Owners.{own_desc_exists}
-use Rattle.md_machine.specs.declared.certificate.Certificate.{Certificate}
 use Rattle.md_machine.specs.Meaning.{Meaning}
-use Rattle.md_nbtc.specs.declared.seen.Seen.{Seen}
 use Rattle.md_nbtc.specs.Calls.{GoesOn}
 use Rattle.md_nbtc.specs.Exchanging.{HoldsSlot, Stored}
 use Rattle.md_nbtc.specs.Going.{IsUnderWay}
 use Rattle.md_nbtc.specs.Prepared.{IsPrepared}
-use Rattle.md_nbtc.specs.Seeing.{Gave, KeepsGiven}
+use Rattle.md_nbtc.specs.Seeing.{KeepsGiven}
 use Rattle.md_nbtc.specs.State.{TxnState, attempt_in, shape_in}
 use Rattle.md_nbtc.proofs.exchanging.SlotStores.{places_apart}
 use Rattle.md_nbtc.proofs.preparing.Later.{later_over}

@@ -1,34 +1,26 @@
 -- A transaction puts its descriptor, at its next slot, into a word.
-use Rattle.std.proofs.Common.{◌≡◌, ◌≢◌, ◌==◌, ◌||◌, ◌⊎◌, ◌+◌, ◌<◌, ◌≤◌, ◌++◌, ◌∷◌, ◌^◌, ◌%◌, ℕ, Bool, true, false, List, [], map, length, Option, Some, None, refl, sym, ap, ◌∙◌, subst, inl, inr, ⊎_elim, IfSome, append_assoc, eqb-true, eq-eqb, if◌then◌else◌, is_some, unwrap_or, arith}
+use Rattle.std.proofs.Common.{◌≡◌, ◌≢◌, ◌==◌, ◌⊎◌, ◌<◌, ◌≤◌, ◌++◌, ◌∷◌, ◌^◌, ◌%◌, ℕ, true, false, List, [], length, Some, refl, sym, ap, ◌∙◌, subst, ⊎_elim, eq-eqb, if◌then◌else◌, arith}
 use prog.Atomic.{either}
-use Rattle.std.proofs.lemmas.Bool.{cases_Bool, cases_eq, cond-false, cond-true, true≢false, ne_eqb}
-use Rattle.std.proofs.lemmas.List.{append-nil, length-append, length-map, map-append}
-use Rattle.std.proofs.lemmas.List.Elements.{All-append, All-cons, All-contains, All-nil, All-weaker, Contains-append_left, Contains-push}
-use Rattle.std.proofs.lemmas.List.Kept.{AllPairs-cons}
-use Rattle.std.specs.List.{All, AllPairs, Contains}
+use Rattle.std.proofs.lemmas.Bool.{true≢false, ne_eqb}
+use Rattle.std.proofs.lemmas.List.Elements.{All-contains}
 use Rattle.md_words.specs.declared.content.Spot.{Spot}
-use Rattle.md_words.specs.declared.limits.TheConstants.{SET}
-use Rattle.md_words.specs.Content.{count_of, counted_word, is_even, value_of}
-use Rattle.md_words.specs.Layout.{Exists, IsNode, address, desc_count}
-use Rattle.md_words.specs.Place.{Place, desc_status, node_key, node_next, node_value, slot_new, slot_old, slot_word}
+use Rattle.md_words.specs.Content.{count_of, is_even, value_of}
+use Rattle.md_words.specs.Layout.{Exists, address, desc_count}
+use Rattle.md_words.specs.Place.{Place, node_next, slot_new, slot_old, slot_word}
 use Rattle.md_words.specs.PlaceAt.{IsCounted}
 use Rattle.md_words.proofs.Owners.{own_desc_exists}
 use Rattle.md_words.proofs.Words.{count_of-counted_word, value_of-counted_word}
-use Rattle.md_history.specs.Front.{IsPrefix}
 use Rattle.md_machine.specs.declared.attempt.Hand.{Hand}
-use Rattle.md_machine.specs.declared.attempt.Read.{Read}
-use Rattle.md_machine.specs.declared.attempt.Write.{Write}
 use Rattle.md_machine.specs.declared.certificate.Certificate.{Certificate}
 use Rattle.md_machine.specs.declared.certificate.Change.{Change}
 use Rattle.md_machine.specs.declared.pass.PassView.{PassView}
-use Rattle.md_machine.specs.declared.step.Step.{Step}
-use Rattle.md_machine.specs.declared.step.Kind.TheVariants.{Install, Store}
-use Rattle.md_machine.specs.declared.step.TheConstants.{LAST_COUNT, VALUES}
-use Rattle.md_machine.specs.Certified.{all_changes, content_read, content_replaced, first_content, is_written}
+use Rattle.md_machine.specs.declared.step.Kind.TheVariants.{Install}
+use Rattle.md_machine.specs.declared.step.TheConstants.{LAST_COUNT}
+use Rattle.md_machine.specs.Certified.{is_written}
 use Rattle.md_machine.specs.Event.{Acts, install}
 use Rattle.md_machine.specs.Machine.{Machine, content, shape_of, word_at}
 use Rattle.md_machine.specs.Meaning.{Lawful, Meaning}
-use Rattle.md_machine.specs.Stepping.{left_by, stepped, wins}
+use Rattle.md_machine.specs.Stepping.{stepped, wins}
 use Rattle.md_machine.specs.Trail.{LastStored, SomeStepOf, StoresFor}
 use Rattle.md_machine.specs.FreeToReturn.{KnowsFree}
 use Rattle.md_rule.specs.Kept.{IsNoNextLeft, KeepsLanes}
@@ -37,12 +29,10 @@ use Rattle.md_machine.specs.clauses.words.Stores.{IsEntryWord}
 use Rattle.md_machine.specs.events.Install.{MayBeChanged, after_install, hand_after_install, installed_word}
 use Rattle.md_machine.proofs.lists.Options.{some_same}
 use Rattle.md_rule.specs.Admitted.{Admitted}
-use Rattle.md_rule.specs.Steps.{May, Stepped, SteppedFrom}
+use Rattle.md_rule.specs.Steps.{May, SteppedFrom}
 use Rattle.md_rule.proofs.Moves.{is_kept}
 use Rattle.md_rule.proofs.Told.{told_install}
 use Rattle.md_nbtc.specs.declared.seen.Seen.{Seen}
-use Rattle.md_nbtc.specs.declared.sets.Slot.{Slot}
-use Rattle.md_nbtc.specs.Calls.{new_slot, with_change}
 use Rattle.md_nbtc.specs.declared.seen.TheConstants.{WORN}
 use Rattle.md_nbtc.specs.Exchanging.{HoldsSlot}
 use Rattle.md_nbtc.specs.Going.{IsFoundFirst, IsGoing}

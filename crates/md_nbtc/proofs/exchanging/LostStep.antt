@@ -1,7 +1,6 @@
 -- A lost exchange shows that its word moved: the transaction keeps a conflict.
-use Rattle.std.proofs.Common.{◌≡◌, ◌≢◌, ◌⊎◌, ◌<◌, ◌++◌, ◌∷◌, ℕ, true, false, List, [], Option, Some, refl, sym, ap, ◌∙◌, subst, inl, inr, ⊎_elim, append_assoc}
-use Rattle.std.proofs.lemmas.List.Elements.{All-nil, Contains-push}
-use Rattle.std.specs.List.{Contains}
+use Rattle.std.proofs.Common.{◌≡◌, ◌≢◌, ◌⊎◌, ◌++◌, ◌∷◌, ℕ, true, false, List, [], Option, Some, refl, sym, ap, ◌∙◌, subst, inl, inr, ⊎_elim, append_assoc}
+use Rattle.std.proofs.lemmas.List.Elements.{Contains-push}
 use Rattle.md_words.specs.PlaceAt.{IsCounted}
 use Rattle.md_history.specs.declared.stops.Shown.{Shown}
 use Rattle.md_history.specs.declared.stops.Stop.TheVariants.{Conflict}
@@ -27,7 +26,7 @@ use Rattle.md_machine.specs.declared.attempt.Read.{Read}
 use Rattle.md_nbtc.specs.declared.sets.Lot.{Lot}
 use Rattle.md_nbtc.specs.declared.sets.Slot.{Slot}
 use Rattle.std.proofs.lemmas.Bool.{true≢false}
-use Rattle.md_nbtc.proofs.exchanging.ChangedPrepared.{changed_view, own_then, trail_is}
+use Rattle.md_nbtc.proofs.exchanging.ChangedPrepared.{own_then, trail_is}
 use Rattle.md_nbtc.proofs.exchanging.FilledSlot.{both_on}
 use Rattle.md_nbtc.proofs.exchanging.OneStep.{StepsOnce}
 use Rattle.md_nbtc.proofs.exchanging.Refused.{halted_gave, halted_on}

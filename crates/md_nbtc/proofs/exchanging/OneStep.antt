@@ -1,9 +1,8 @@
 -- What one step of a pass with a transaction in hand leaves of it.
-use Rattle.std.proofs.Common.{◌≡◌, ◌++◌, ◌∷◌, ℕ, List, [], Some, refl, sym, ap, ◌∙◌, subst}
+use Rattle.std.proofs.Common.{◌≡◌, ◌++◌, ◌∷◌, ℕ, List, [], Some, refl, sym, ap, subst}
 use Rattle.std.proofs.lemmas.List.Elements.{All-cons, All-nil}
 use Rattle.std.specs.List.{Contains}
 use Rattle.md_words.specs.declared.shape.Shape.{Shape}
-use Rattle.md_history.specs.FrontLaws.{all_stay-trans, all_stay-self}
 use Rattle.md_history.specs.Front.{AllStay}
 use Rattle.md_machine.specs.declared.certificate.Change.{Change}
 use Rattle.md_machine.specs.declared.pass.PassView.{PassView}

@@ -1,6 +1,6 @@
 -- The lanes that gave a transaction its nodes, and what they gave.
-use Rattle.std.proofs.Common.{◌≡◌, ◌||◌, ◌+◌, ◌-◌, ◌*◌, ◌<◌, ◌≤◌, ◌^◌, ◌++◌, ◌∷◌, ℕ, zero, suc, Bool, true, false, List, [], map, length, Option, refl, sym, ap, ◌∙◌, subst, ⊎_elim, if◌then◌else◌, nat_lt, ltb-true, lt-ltb, arith}
-use Rattle.std.proofs.lemmas.Bool.{cases_Bool, cases_lt, cond-false, cond-true, cond_both, true≢false}
+use Rattle.std.proofs.Common.{◌≡◌, ◌||◌, ◌-◌, ◌<◌, ◌≤◌, ◌^◌, ◌∷◌, ℕ, zero, Bool, true, false, List, [], map, Option, refl, sym, ap, ◌∙◌, subst, ⊎_elim, nat_lt, ltb-true, lt-ltb, arith}
+use Rattle.std.proofs.lemmas.Bool.{cases_Bool, cases_lt, cond-false, cond-true, cond_both}
 use Rattle.std.proofs.lemmas.List.Elements.{All-contains}
 use Rattle.std.proofs.lemmas.List.Folds.{list_any-append}
 use Rattle.std.specs.List.{Contains, flat_map, list_any, range_with_len}

@@ -1,25 +1,14 @@
 -- The next words of a transaction's nodes, lane by lane.
-use Rattle.std.proofs.Common.{◌≡◌, ◌≢◌, ◌==◌, ◌||◌, ◌+◌, ◌-◌, ◌*◌, ◌/◌, ◌%◌, ◌<◌, ◌≤◌, ◌^◌, ◌++◌, ◌∷◌, ℕ, Bool, true, false, zero, suc, List, [], map, length, Option, refl, sym, ap, ◌∙◌, subst, inl, inr, ⊎_elim, eqb-true, eq-eqb, if◌then◌else◌, nat_eq, nat_lt, ltb-true, lt-ltb, le-leb, arith}
-use Rattle.std.proofs.lemmas.Bool.{cases_Bool, cases_lt, cond_both, true≢false}
-use Rattle.std.proofs.lemmas.List.Elements.{All-contains, Contains-append_cases, Contains-append_left, Contains-append_right}
-use Rattle.std.proofs.lemmas.List.Folds.{list_any-append}
-use Rattle.std.specs.List.{All, Contains, flat_map, list_any, range_with_len}
+use Rattle.std.proofs.Common.{◌≡◌, ◌+◌, ◌-◌, ◌*◌, ◌/◌, ◌%◌, ◌<◌, ◌≤◌, ◌∷◌, ℕ, true, false, zero, suc, List, [], map, refl, sym, ap, ◌∙◌, subst, ⊎_elim, eqb-true, eq-eqb, nat_eq, nat_lt, ltb-true, lt-ltb, arith}
+use Rattle.std.proofs.lemmas.Bool.{cases_Bool, cases_lt, true≢false}
+use Rattle.std.proofs.lemmas.List.Elements.{Contains-append_cases, Contains-append_left, Contains-append_right}
+use Rattle.std.specs.List.{Contains, flat_map, list_any, range_with_len}
 use Rattle.md_words.specs.declared.shape.Shape.{Shape}
 use Rattle.md_words.specs.Lanes.{node_of}
-use Rattle.md_words.specs.Layout.{IsNode, address, words_of}
-use Rattle.md_words.specs.Place.{node_key, node_next}
-use Rattle.md_words.proofs.Owners.{own_node_exists}
-use Rattle.md_words.proofs.Places.{address_below}
-use Rattle.md_history.specs.declared.stops.Stop.{Stop}
-use Rattle.md_machine.specs.declared.attempt.Read.{Read}
-use Rattle.md_machine.proofs.lists.Rising.{in_cons, in_map, in_none, in_range, map_in, range_in, rise_range}
-use Rattle.md_rule.specs.Shares.{share_at}
-use Rattle.md_rule.specs.Views.{FieldView, PassState}
-use Rattle.md_nbtc.specs.declared.sets.Lot.{Lot}
-use Rattle.md_nbtc.specs.declared.sets.Slot.{Slot}
+use Rattle.md_words.specs.Layout.{address}
+use Rattle.md_words.specs.Place.{node_next}
+use Rattle.md_machine.proofs.lists.Rising.{in_cons, in_map, in_none, in_range, map_in, range_in}
 use Rattle.md_nbtc.specs.Calls.{is_next_word}
-use Rattle.md_nbtc.specs.Prepared.{IsPrepared, IsPreparedNode}
-use Rattle.md_nbtc.specs.State.{OwnNode, TxnState, lot_of_lane, own_node, shape_in, state_of, taken_of_lane, taken_since}
 use Rattle.md_nbtc.proofs.exchanging.OwnSlots.{any_found, any_has}
 
 pub in_flat : {A B : Type 0} (f : A → List B) (xs : List A) (y : B) → Contains (flat_map f xs) y → (x : A) × Contains xs x × Contains (f x) y

@@ -1,9 +1,8 @@
 -- What every machine in which a transaction's pass stands has of the transaction's slots.
-use Rattle.std.proofs.Common.{◌≡◌, ◌≢◌, ◌==◌, ◌&&◌, ◌||◌, ◌<◌, ◌≤◌, ℕ, Bool, true, false, List, [], ◌∷◌, length, refl, sym, ap, ◌∙◌, subst, eqb-true, eq-eqb, ⊎_elim, arith}
+use Rattle.std.proofs.Common.{◌≡◌, ◌==◌, ◌&&◌, ◌||◌, ◌≤◌, ℕ, Bool, true, false, List, [], ◌∷◌, length, refl, sym, ap, ◌∙◌, subst, eqb-true, eq-eqb, ⊎_elim, arith}
 use Rattle.std.proofs.lemmas.Bool.{cases_Bool, true≢false}
 use Rattle.std.proofs.lemmas.List.{length-map}
 use Rattle.std.specs.List.{Contains, list_any}
-use Rattle.md_words.specs.Layout.{address}
 use Rattle.md_words.specs.Place.{slot_new, slot_word}
 use Rattle.md_machine.specs.declared.attempt.AttemptId.{AttemptId}
 use Rattle.md_machine.specs.declared.attempt.Write.{Write}
@@ -17,8 +16,8 @@ use Rattle.md_rule.specs.Admitted.{Admitted}
 use Rattle.md_rule.proofs.Moves.{is_kept}
 use Rattle.md_nbtc.specs.declared.sets.Slot.{Slot}
 use Rattle.md_nbtc.specs.Prepared.{IsHeld, IsWritten}
-use Rattle.md_nbtc.specs.State.{TxnState, attempt_in, shape_in, writes_in}
-use Rattle.md_nbtc.proofs.ready.Bridge.{present_install, shown_slot, slot_at, writes_back}
+use Rattle.md_nbtc.specs.State.{TxnState, attempt_in, writes_in}
+use Rattle.md_nbtc.proofs.ready.Bridge.{present_install, shown_slot, writes_back}
 use Rattle.md_nbtc.proofs.ready.Lookups.{each_in}
 
 -- some element of a list is such, and where one is, the list has it

@@ -1,17 +1,16 @@
 -- A word of a transaction's own gets a new value: one store to its slot.
 use Rattle.std.proofs.Common.{◌≡◌, ◌≢◌, ◌==◌, ◌||◌, ◌+◌, ◌<◌, ◌≤◌, ◌++◌, ◌∷◌, ℕ, Bool, true, false, List, [], map, length, Option, Some, None, refl, sym, ap, ◌∙◌, subst, inl, inr, ⊎_elim, IfSome, append_assoc, eqb-true, eq-eqb, if◌then◌else◌, arith, is_some}
-use Rattle.std.proofs.lemmas.Bool.{cases_eq, cond_both, cond-false, cond-true, true≢false, ne_eqb}
+use Rattle.std.proofs.lemmas.Bool.{cases_eq, cond_both, cond-true, true≢false, ne_eqb}
 use Rattle.std.proofs.lemmas.List.{append-nil, length-map}
 use Rattle.std.proofs.lemmas.List.Elements.{All-cons, All-contains, All-head, All-nil, All-tail, All-weaker}
 use Rattle.std.specs.List.{All, AllPairs, Contains}
 use Rattle.md_words.specs.declared.limits.TheConstants.{SET}
 use Rattle.md_words.specs.declared.shape.Shape.{Shape}
-use Rattle.md_words.specs.Content.{count_of, value_of}
-use Rattle.md_words.specs.Layout.{Exists, IsNode, address, desc_count}
+use Rattle.md_words.specs.Content.{count_of}
+use Rattle.md_words.specs.Layout.{Exists, address, desc_count}
 use Rattle.md_words.specs.Place.{Place, desc_status, node_key, node_next, node_value, read_content, read_word, slot_new, slot_old, slot_word}
 use Rattle.md_words.specs.PlaceAt.{IsCounted}
 use Rattle.md_words.proofs.Owners.{own_desc_exists}
-use Rattle.md_history.specs.Front.{IsPrefix}
 use Rattle.md_history.specs.declared.stops.Stop.{Stop}
 use Rattle.md_machine.specs.declared.attempt.Read.{Read}
 use Rattle.md_machine.specs.declared.attempt.Write.{Write}
@@ -23,11 +22,10 @@ use Rattle.md_machine.specs.declared.step.Kind.TheVariants.{Install, Store}
 use Rattle.md_machine.specs.Certified.{all_changes, content_replaced, first_content, is_written}
 use Rattle.md_machine.specs.declared.step.TheConstants.{VALUES}
 use Rattle.md_machine.specs.Event.{store}
-use Rattle.md_machine.specs.Machine.{Install as Installed, Machine, content, is_installed, shape_of, word_at}
+use Rattle.md_machine.specs.Machine.{Install as Installed, content, is_installed, shape_of, word_at}
 use Rattle.md_machine.specs.Meaning.{Meaning}
 use Rattle.md_machine.specs.Trail.{LastStored, StoresFor}
 use Rattle.md_machine.specs.events.Store.{changes_by_store}
-use Rattle.md_rule.specs.Admitted.{Admitted}
 use Rattle.md_rule.specs.Steps.{May, Stepped}
 use Rattle.md_rule.specs.Views.{FieldView, PassState}
 use Rattle.md_help.specs.After.{Stands}
@@ -36,7 +34,6 @@ use Rattle.md_nbtc.specs.declared.seen.Cleanup.{Cleanup}
 use Rattle.md_nbtc.specs.declared.seen.Seen.{Seen}
 use Rattle.md_nbtc.specs.declared.sets.Lot.{Lot}
 use Rattle.md_nbtc.specs.declared.sets.Slot.{Slot}
-use Rattle.md_nbtc.specs.Calls.{GoesOn, with_change}
 use Rattle.md_nbtc.specs.Cleaning.{CleanupsStay, FitsCleanup, IsKeptCleanup}
 use Rattle.md_nbtc.specs.Course.{ChangesAreWrites, last_new}
 use Rattle.md_nbtc.specs.Going.{IsGoing}
@@ -44,7 +41,7 @@ use Rattle.md_nbtc.specs.Known.{IsLater}
 use Rattle.md_nbtc.specs.Prepared.{EachFrom, IsPrepared, IsWritten}
 use Rattle.md_nbtc.specs.Seeing.{Gave, MayChange}
 use Rattle.md_nbtc.specs.Sets.{place_of, renewed_at, with_new}
-use Rattle.md_nbtc.specs.State.{OwnNode, TxnState, attempt_in, installs_in, shape_in, state_of, writes_in}
+use Rattle.md_nbtc.specs.State.{TxnState, attempt_in, shape_in, state_of, writes_in}
 use Rattle.md_nbtc.proofs.Searching.{renews_place}
 use Rattle.md_nbtc.proofs.exchanging.ChangedState.{view_so}
 use Rattle.md_machine.proofs.lists.Options.{some_same}
@@ -52,11 +49,11 @@ use Rattle.md_machine.proofs.lists.Rising.{here, in_cons, in_none, map_in, there
 use Rattle.md_nbtc.proofs.exchanging.ChangedGiven.{gave_on}
 use Rattle.md_nbtc.proofs.exchanging.ChangedGoing.{changed_going, changed_later}
 use Rattle.md_nbtc.proofs.exchanging.ChangedPrepared.{IsRenewed, LeavesRest, changed, changed_prepared, stored_now, stored_on, written_then}
-use Rattle.md_nbtc.proofs.exchanging.OwnSlots.{HasSlot, any_has, has_slot}
+use Rattle.md_nbtc.proofs.exchanging.OwnSlots.{any_has, has_slot}
 use Rattle.md_nbtc.proofs.exchanging.PushedChanges.{GoesOnWith, pushed_changes}
 use Rattle.md_nbtc.proofs.exchanging.Renewed.{all_map, each_map, is_renewed, renew, renewed_write, renewed_writes, same_first, same_old, same_replaced, same_word, same_written, still_once}
 use Rattle.md_nbtc.proofs.exchanging.SlotStores.{StoresSlot, is_slot, may_store_slot, nodes_apart, places_apart, slot_apart, slot_uncounted, stores_slot}
-use Rattle.md_nbtc.proofs.ready.Lookups.{all_of, each_in, one_of}
+use Rattle.md_nbtc.proofs.ready.Lookups.{each_in, one_of}
 
 -- the slot at the place of a word is one of it
 pub placed_slot : (P : ℕ → Write → Type 0) (word place from : ℕ) (ss : List Slot) → EachFrom P from (map (λ (s : Slot). s.write) ss) → place_of ss word from ≡ Some place

@@ -1,40 +1,36 @@
 -- A transaction changes a word by a plain exchange, which is tidy.
-use Rattle.std.proofs.Common.{◌≡◌, ◌≢◌, ◌⊎◌, ◌+◌, ◌<◌, ◌++◌, ◌∷◌, ◌^◌, ℕ, true, false, List, [], Option, Some, None, refl, sym, ap, ◌∙◌, subst, inl, inr, ⊎_elim, eq-eqb, eqb-true, unwrap_or, is_some, ◌%◌, ◌==◌, nat_eq, arith}
+use Rattle.std.proofs.Common.{◌≡◌, ◌≢◌, ◌+◌, ◌<◌, ◌++◌, ◌∷◌, ℕ, true, false, List, [], Option, Some, None, refl, sym, ap, ◌∙◌, subst, inr, ⊎_elim, eq-eqb, ◌%◌, ◌==◌, nat_eq, arith}
 use prog.Atomic.{either}
 use Rattle.std.proofs.lemmas.Bool.{cond_both, true≢false, ne_eqb}
-use Rattle.std.proofs.lemmas.List.Elements.{All-contains, All-nil, All-weaker, Contains-append_left, Contains-push}
+use Rattle.std.proofs.lemmas.List.Elements.{All-nil, All-weaker, Contains-append_left, Contains-push}
 use Rattle.std.specs.List.{All, Contains}
 use Rattle.md_words.specs.declared.shape.Shape.{Shape}
 use Rattle.md_words.specs.Content.{count_of, counted_word, is_even, value_of}
 use Rattle.md_words.specs.Layout.{IsNode, address}
-use Rattle.md_words.specs.Place.{Place, is_counted, node_key, node_next, node_value}
+use Rattle.md_words.specs.Place.{Place, node_key, node_next, node_value}
 use Rattle.md_words.specs.PlaceAt.{IsCounted, place_at}
 use Rattle.md_words.proofs.Words.{count_of-counted_word, value_of-counted_word}
 use Rattle.md_words.proofs.Places.{place_at-address}
-use Rattle.md_machine.specs.declared.attempt.Hand.{Hand}
 use Rattle.md_machine.specs.declared.attempt.Read.{Read}
 use Rattle.md_machine.specs.declared.attempt.Write.{Write}
-use Rattle.md_machine.specs.declared.certificate.Fact.{Fact}
 use Rattle.md_machine.specs.declared.pass.PassView.{PassView}
 use Rattle.md_machine.specs.declared.step.Step.{Step}
 use Rattle.md_machine.specs.declared.step.Kind.TheVariants.{Exchange, Install, Store}
-use Rattle.md_machine.specs.declared.step.TheConstants.{LAST_COUNT}
 use Rattle.md_machine.specs.Certified.{content_read, is_written}
-use Rattle.md_machine.specs.Event.{Acts, exchange}
+use Rattle.md_machine.specs.Event.{exchange}
 use Rattle.md_machine.specs.LogicalHeap.{Holds, LogicalHeap}
-use Rattle.md_machine.specs.Machine.{Machine, content, shape_of}
+use Rattle.md_machine.specs.Machine.{content, shape_of}
 use Rattle.md_machine.specs.Meaning.{KeepsFacts, Lawful, Meaning}
 use Rattle.md_machine.specs.Own.{IsWordOf}
-use Rattle.md_machine.specs.Stepping.{is_of_placed, step_of, stepped, wins}
+use Rattle.md_machine.specs.Stepping.{is_of_placed, stepped}
 use Rattle.md_machine.specs.Trail.{Meets, StoresFor}
-use Rattle.md_machine.specs.events.Exchange.{FoundFact, FoundNext, after_exchange, exchanged_word}
-use Rattle.md_rule.specs.Admitted.{Admitted}
+use Rattle.md_machine.specs.events.Exchange.{FoundFact, after_exchange, exchanged_word}
 use Rattle.md_rule.specs.Steps.{May, SteppedFrom}
 use Rattle.md_rule.proofs.Told.{told_exchange}
 use Rattle.md_nbtc.specs.declared.seen.Seen.{Seen}
 use Rattle.md_nbtc.specs.Calls.{GoesOn}
 use Rattle.md_nbtc.specs.declared.seen.TheConstants.{WORN}
-use Rattle.md_nbtc.specs.Known.{IsHeapOf, KnowsFact, Met}
+use Rattle.md_nbtc.specs.Known.{KnowsFact, Met}
 use Rattle.md_nbtc.specs.Prepared.{IsPrepared}
 use Rattle.md_nbtc.specs.Seeing.{Gave, IsInPlace, IsNextOf, IsOwnPlaced, IsTidyNow, Looks, MayChange}
 use Rattle.md_nbtc.specs.State.{OwnNode, TxnState, attempt_in, own_steps, seen_content, shape_in, state_of, writes_in}

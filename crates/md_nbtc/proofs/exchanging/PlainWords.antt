@@ -1,5 +1,5 @@
 -- A word whose change isn't critical is neither recorded nor an own node's next word.
-use Rattle.std.proofs.Common.{◌≡◌, ◌≢◌, ◌==◌, ◌||◌, ℕ, Bool, true, false, Option, List, map, Some, None, is_some, refl, sym, ap, ◌∙◌, eq-eqb}
+use Rattle.std.proofs.Common.{◌≡◌, ◌≢◌, ◌||◌, ℕ, Bool, true, false, Option, map, Some, None, is_some, refl, sym, ◌∙◌, eq-eqb}
 use Rattle.std.proofs.lemmas.Bool.{true≢false}
 use Rattle.std.specs.List.{Contains, list_any}
 use Rattle.md_words.specs.Layout.{address}

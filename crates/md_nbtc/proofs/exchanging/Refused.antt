@@ -1,6 +1,6 @@
 -- A transaction that keeps a stop: why it may, and that what it was given stays so.
-use Rattle.std.proofs.Common.{◌≡◌, ◌≢◌, ◌==◌, ◌∷◌, ℕ, Bool, true, false, List, [], Option, Some, None, refl, sym, ap, ◌∙◌, subst, inl, inr, ⊎_elim, eqb-true, if◌then◌else◌}
-use Rattle.std.proofs.lemmas.Bool.{cond_both, true≢false}
+use Rattle.std.proofs.Common.{◌≡◌, ◌≢◌, ◌==◌, ◌∷◌, ℕ, false, List, [], Some, sym, ◌∙◌, subst, ⊎_elim, eqb-true}
+use Rattle.std.proofs.lemmas.Bool.{cond_both}
 use Rattle.std.proofs.lemmas.Option.{none-some}
 use Rattle.std.specs.List.{Contains}
 use Rattle.md_history.specs.declared.stops.Shown.{Shown}
@@ -19,7 +19,7 @@ use Rattle.md_nbtc.specs.Prepared.{IsPrepared}
 use Rattle.md_nbtc.specs.Seeing.{Gave}
 use Rattle.md_nbtc.specs.State.{TxnState, attempt_in, own_steps, seen_content, shape_in, writes_in}
 use Rattle.md_nbtc.proofs.keeping.Causes.{conflict_cause}
-use Rattle.md_nbtc.proofs.looks.Halted.{halted, halted_going, halted_later}
+use Rattle.md_nbtc.proofs.looks.Halted.{halted_going, halted_later}
 
 -- a content that is recorded of a word is that of a read of the word
 pub read_there : (rs : List Read) (word held : ℕ) → content_read rs word ≡ Some held → (r : Read) × Contains rs r × (r.word ≡ word) × (r.content ≡ held)

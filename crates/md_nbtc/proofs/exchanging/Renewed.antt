@@ -1,5 +1,5 @@
 -- Slots that get other new values are the same else.
-use Rattle.std.proofs.Common.{◌≡◌, ◌≢◌, ◌==◌, ◌||◌, ◌+◌, ◌∷◌, ℕ, Bool, List, [], map, Option, Some, refl, sym, ap, ◌∙◌, subst, if◌then◌else◌}
+use Rattle.std.proofs.Common.{◌≡◌, ◌≢◌, ◌==◌, ◌||◌, ◌+◌, ◌∷◌, ℕ, List, [], map, Some, refl, sym, ap, ◌∙◌, subst, if◌then◌else◌}
 use Rattle.std.proofs.lemmas.Bool.{cond_both}
 use Rattle.std.proofs.lemmas.List.Elements.{All-cons, All-head, All-nil, All-tail}
 use Rattle.std.proofs.lemmas.List.Kept.{AllPairs-cons}
@@ -7,7 +7,6 @@ use Rattle.std.specs.List.{All, AllPairs, Contains}
 use Rattle.md_machine.specs.declared.attempt.Read.{Read}
 use Rattle.md_machine.specs.declared.attempt.Write.{Write}
 use Rattle.md_machine.specs.Certified.{content_read, content_replaced, first_content, is_written}
-use Rattle.md_machine.specs.Machine.{Install}
 use Rattle.md_machine.specs.Resolution.{or_else}
 use Rattle.md_machine.proofs.lists.Differ.{no_pairs, pairs_head, pairs_tail}
 use Rattle.md_machine.proofs.lists.Rising.{here, there}

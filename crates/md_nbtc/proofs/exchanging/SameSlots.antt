@@ -1,5 +1,5 @@
 -- A transaction goes on over a step that leaves its slots and the changes of its operation.
-use Rattle.std.proofs.Common.{◌≡◌, ◌≢◌, ◌<◌, ◌∷◌, ◌+◌, ℕ, true, List, [], length, refl, sym, ap, ◌∙◌, subst, inl, inr, arith}
+use Rattle.std.proofs.Common.{◌≡◌, ◌≢◌, ◌<◌, ◌∷◌, ℕ, true, [], length, refl, sym, inl, inr, arith}
 use Rattle.std.proofs.lemmas.List.{append-nil, length-map}
 use Rattle.std.specs.List.{Contains}
 use Rattle.md_words.specs.declared.limits.TheConstants.{SET}
@@ -8,7 +8,6 @@ use Rattle.md_words.specs.Place.{Place, desc_status, node_key, node_next, node_v
 use Rattle.md_words.specs.PlaceAt.{IsCounted}
 use Rattle.md_machine.specs.declared.attempt.Read.{Read}
 use Rattle.md_machine.specs.declared.attempt.Write.{Write}
-use Rattle.md_machine.specs.declared.certificate.Certificate.{Certificate}
 use Rattle.md_machine.specs.declared.pass.PassView.{PassView}
 use Rattle.md_machine.specs.declared.step.Step.{Step}
 use Rattle.md_machine.specs.Meaning.{Meaning}
@@ -20,13 +19,12 @@ use Rattle.md_help.specs.After.{IsAfter, Stands}
 use Rattle.md_nbtc.specs.declared.seen.Seen.{Seen}
 use Rattle.md_nbtc.specs.declared.sets.Slot.{Slot}
 use Rattle.md_nbtc.specs.Calls.{GoesOn}
-use Rattle.md_nbtc.specs.Known.{IsLater}
 use Rattle.md_nbtc.specs.Prepared.{IsPrepared, IsWritten}
 use Rattle.md_nbtc.specs.Seeing.{Gave}
 use Rattle.md_nbtc.specs.State.{OwnNode, TxnState, attempt_in, shape_in, writes_in}
 use Rattle.md_nbtc.proofs.exchanging.ChangedGiven.{gave_on}
 use Rattle.md_nbtc.proofs.exchanging.ChangedGoing.{changed_going, changed_later}
-use Rattle.md_nbtc.proofs.exchanging.ChangedPrepared.{changed, changed_prepared, changed_view, stored_on, written_then}
+use Rattle.md_nbtc.proofs.exchanging.ChangedPrepared.{changed, changed_prepared, stored_on, written_then}
 use Rattle.md_nbtc.proofs.nodes.GrownPrepared.{each_on}
 
 module _ (t : TxnState) (prepared : IsPrepared t) (operates : t.hand.operating ≡ true) (base : PassView) (s : Step) (after : IsAfter (shape_in t) (s ∷ []) t.pass.view base) where

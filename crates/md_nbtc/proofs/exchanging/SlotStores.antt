@@ -1,30 +1,26 @@
 -- A store to a slot of the transaction's descriptor: when it may be made, and what it leaves of the pass.
-use Rattle.std.proofs.Common.{◌≡◌, ◌≢◌, ◌<◌, ◌≤◌, ◌++◌, ◌∷◌, ℕ, Bool, true, false, List, [], length, Some, refl, sym, ap, ◌∙◌, subst, inl, inr, ⊎_elim, arith}
-use Rattle.std.proofs.lemmas.Bool.{cases_Bool, cond-true, cond-false, true≢false}
+use Rattle.std.proofs.Common.{◌≡◌, ◌≢◌, ◌<◌, ◌++◌, ◌∷◌, ℕ, Bool, true, false, List, [], Some, refl, sym, ap, ◌∙◌, subst, ⊎_elim}
+use Rattle.std.proofs.lemmas.Bool.{true≢false}
 use Rattle.std.proofs.lemmas.List.Elements.{All-cons, All-contains, All-nil}
 use Rattle.std.specs.List.{Contains}
-use Rattle.md_words.specs.declared.limits.TheConstants.{SET}
 use Rattle.md_words.specs.declared.shape.Shape.{Shape}
-use Rattle.md_words.specs.Layout.{Exists, IsInSet, address, desc_count, words_of}
+use Rattle.md_words.specs.Layout.{Exists, address, words_of}
 use Rattle.md_words.specs.Place.{Place, base_word, bucket_head, desc_status, is_counted, node_key, node_next, node_value, queue_head, queue_tail, read_content, read_word, slot_new, slot_old, slot_word}
 use Rattle.md_words.specs.PlaceAt.{IsCounted, place_at}
-use Rattle.md_words.proofs.Owners.{own_desc_exists, own_node_exists}
+use Rattle.md_words.proofs.Owners.{own_node_exists}
 use Rattle.md_words.proofs.Places.{address_below, place_at-address}
 use Rattle.md_history.specs.FrontLaws.{all_stay-self}
-use Rattle.md_machine.specs.declared.attempt.AttemptId.{AttemptId}
 use Rattle.md_machine.specs.declared.attempt.Hand.{Hand}
 use Rattle.md_machine.specs.declared.certificate.Change.{Change}
 use Rattle.md_machine.specs.declared.pass.PassView.{PassView}
 use Rattle.md_machine.specs.declared.step.Step.{Step}
 use Rattle.md_machine.specs.declared.step.Kind.TheVariants.{Store}
-use Rattle.md_machine.specs.declared.step.TheConstants.{VALUES}
 use Rattle.md_machine.specs.Event.{Acts, store}
 use Rattle.md_machine.specs.Machine.{Machine, content, shape_of}
 use Rattle.md_machine.specs.Meaning.{Meaning}
 use Rattle.md_machine.specs.Own.{IsWordOf}
 use Rattle.md_machine.specs.Resolution.{always_nodes}
 use Rattle.md_machine.specs.Stepping.{attempt_in_hand, known_after, step_of, stepped}
-use Rattle.md_machine.specs.Trail.{StoresFor}
 use Rattle.md_machine.specs.clauses.nodes.FreeNodes.{IsFreeBy}
 use Rattle.md_machine.specs.events.Store.{MayStoreAt, after_store, changes_by_store, hand_after_store, stored_by_store}
 use Rattle.md_machine.proofs.lists.Options.{some_same}

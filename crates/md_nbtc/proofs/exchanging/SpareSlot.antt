@@ -1,20 +1,14 @@
 -- A store to the next slot, which isn't installed: the transaction goes on.
-use Rattle.std.proofs.Common.{◌≡◌, ◌≢◌, ◌<◌, ◌≤◌, ◌∷◌, ℕ, true, false, List, Option, length, refl, sym, ap, ◌∙◌, subst, inl, inr, ⊎_elim, arith}
-use Rattle.std.proofs.lemmas.Bool.{cond-false, true≢false}
-use Rattle.std.specs.List.{Contains}
-use Rattle.md_words.specs.declared.limits.TheConstants.{SET}
-use Rattle.md_words.specs.declared.shape.Shape.{Shape}
-use Rattle.md_words.specs.Layout.{Exists, IsNode, address, desc_count}
+use Rattle.std.proofs.Common.{◌≡◌, ◌≢◌, ◌<◌, ℕ, true, false, List, Option, length, refl, sym, ap, ◌∙◌, subst, ⊎_elim, arith}
+use Rattle.std.proofs.lemmas.Bool.{cond-false}
+use Rattle.md_words.specs.Layout.{Exists, address, desc_count}
 use Rattle.md_words.specs.Place.{Place, desc_status, node_next, read_content, read_word, slot_new, slot_old, slot_word}
 use Rattle.md_words.specs.PlaceAt.{IsCounted}
 use Rattle.md_words.proofs.Owners.{own_desc_exists}
-use Rattle.md_machine.specs.declared.certificate.Change.{Change}
 use Rattle.md_machine.specs.declared.pass.PassView.{PassView}
-use Rattle.md_machine.specs.declared.step.Step.{Step}
 use Rattle.md_machine.specs.declared.step.Kind.TheVariants.{Install, Store}
-use Rattle.md_machine.specs.declared.step.TheConstants.{VALUES}
 use Rattle.md_machine.specs.Event.{Acts, store}
-use Rattle.md_machine.specs.Machine.{Machine, content, is_installed, shape_of, word_at}
+use Rattle.md_machine.specs.Machine.{Machine, content, is_installed}
 use Rattle.md_machine.specs.Meaning.{Meaning}
 use Rattle.md_machine.specs.Trail.{LastStored, StoresFor}
 use Rattle.md_machine.specs.events.Store.{MayStoreAt, changes_by_store}
@@ -36,7 +30,7 @@ use Rattle.md_rule.specs.Views.{FieldView, PassState}
 use Rattle.md_nbtc.proofs.exchanging.ChangedState.{view_so}
 use Rattle.md_nbtc.proofs.exchanging.ChangedPrepared.{stored_now, stored_on}
 use Rattle.md_nbtc.proofs.exchanging.OwnSlots.{free_slot}
-use Rattle.md_nbtc.proofs.exchanging.SameSlots.{LeavesSets, once_gave, once_on, once_prepared, stepped_once}
+use Rattle.md_nbtc.proofs.exchanging.SameSlots.{LeavesSets, once_gave, once_on, stepped_once}
 use Rattle.md_nbtc.proofs.exchanging.SlotStores.{StoresSlot, is_slot, may_store_slot, nodes_apart, places_apart, slot_apart, slot_uncounted, stores_slot}
 
 module _ (M : Meaning) (t : TxnState) (prepared : IsPrepared t) where

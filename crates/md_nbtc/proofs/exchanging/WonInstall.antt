@@ -1,17 +1,16 @@
 -- A transaction goes on once it has put its descriptor into a word.
-use Rattle.std.proofs.Common.{◌≡◌, ◌≢◌, ◌==◌, ◌||◌, ◌⊎◌, ◌+◌, ◌<◌, ◌≤◌, ◌++◌, ◌∷◌, ◌^◌, ℕ, Bool, true, false, List, [], map, length, Option, Some, None, refl, sym, ap, ◌∙◌, subst, inl, inr, ⊎_elim, IfSome, append_assoc, eqb-true, eq-eqb, if◌then◌else◌, is_some, unwrap_or, get_or, max, zero, suc, arith}
+use Rattle.std.proofs.Common.{◌≡◌, ◌≢◌, ◌==◌, ◌||◌, ◌⊎◌, ◌+◌, ◌<◌, ◌++◌, ◌∷◌, ℕ, Bool, true, false, List, [], length, Option, Some, None, refl, sym, ap, ◌∙◌, subst, inl, inr, ⊎_elim, IfSome, append_assoc, eqb-true, eq-eqb, if◌then◌else◌, is_some, get_or, max, zero, suc, arith}
 use Rattle.std.specs.Prelude.{set}
-use Rattle.std.proofs.lemmas.Bool.{cases_Bool, cases_eq, cond-false, cond-true, true≢false, ne_eqb}
-use Rattle.std.proofs.lemmas.List.{append-nil, length-append, length-map, map-append}
+use Rattle.std.proofs.lemmas.Bool.{cases_Bool, cond-false, cond-true, true≢false, ne_eqb}
+use Rattle.std.proofs.lemmas.List.{length-append, length-map, map-append}
 use Rattle.std.proofs.lemmas.List.Elements.{All-append, All-cons, All-contains, All-nil, All-weaker, Contains-append_left, Contains-push}
 use Rattle.std.proofs.lemmas.List.Kept.{AllPairs-cons}
 use Rattle.std.specs.List.{All, AllPairs, Contains}
 use Rattle.md_words.specs.declared.content.Spot.{Spot}
-use Rattle.md_words.specs.declared.limits.TheConstants.{SET}
-use Rattle.md_words.specs.Content.{count_of, counted_word, is_even, spot_value, value_of}
+use Rattle.md_words.specs.Content.{count_of, spot_value, value_of}
 use Rattle.md_words.proofs.Words.{count_of-counted_word}
-use Rattle.md_words.specs.Layout.{Exists, IsNode, address, desc_count}
-use Rattle.md_words.specs.Place.{Place, desc_status, is_counted, node_key, node_next, node_value, slot_new}
+use Rattle.md_words.specs.Layout.{Exists, address}
+use Rattle.md_words.specs.Place.{Place, is_counted, node_key, node_next, node_value}
 use Rattle.md_words.specs.PlaceAt.{IsCounted}
 use Rattle.md_history.specs.Front.{IsPrefix}
 use Rattle.md_machine.specs.declared.attempt.Read.{Read}
@@ -25,9 +24,8 @@ use Rattle.md_machine.specs.Certified.{all_changes, content_read, content_replac
 use Rattle.md_machine.specs.Machine.{Install as Installed}
 use Rattle.md_machine.specs.Meaning.{Lawful, Meaning}
 use Rattle.md_machine.specs.Resolution.{or_else}
-use Rattle.md_machine.specs.Trail.{LastStored, Leaves, StoresFor}
+use Rattle.md_machine.specs.Trail.{StoresFor}
 use Rattle.md_machine.specs.events.Install.{installed_word}
-use Rattle.md_machine.specs.events.Start.{WonInstall}
 use Rattle.md_machine.proofs.lists.Differ.{no_pairs, pairs_append}
 use Rattle.md_machine.proofs.lists.Options.{some_same}
 use Rattle.md_machine.proofs.lists.Rising.{in_cons, in_none}
@@ -42,10 +40,10 @@ use Rattle.md_nbtc.specs.declared.seen.TheConstants.{WORN}
 use Rattle.md_nbtc.specs.Cleaning.{IsKeptCleanup}
 use Rattle.md_nbtc.specs.Course.{ChangesAreWrites, last_new}
 use Rattle.md_nbtc.specs.Exchanging.{HoldsSlot}
-use Rattle.md_nbtc.specs.Going.{IsFoundFirst, IsGoing}
+use Rattle.md_nbtc.specs.Going.{IsFoundFirst}
 use Rattle.md_nbtc.specs.Prepared.{EachFrom, InstallsFrom, IsPrepared, IsWritten}
 use Rattle.md_nbtc.specs.Seeing.{Gave, MayChange}
-use Rattle.md_nbtc.specs.State.{OwnNode, TxnState, attempt_in, installs_in, own_steps, seen_content, shape_in, state_of, writes_in}
+use Rattle.md_nbtc.specs.State.{TxnState, attempt_in, installs_in, own_steps, seen_content, shape_in, state_of, writes_in}
 use Rattle.md_nbtc.proofs.exchanging.ChangedGiven.{gave_on}
 use Rattle.md_nbtc.proofs.exchanging.ChangedGoing.{changed_going, changed_later}
 use Rattle.md_nbtc.proofs.exchanging.ChangedPrepared.{LeavesRest, SameTaken, changed, changed_prepared, own_then, stored_on, written_then}
@@ -63,7 +61,7 @@ use Rattle.md_nbtc.proofs.exchanging.PushedChanges.{GoesOnWith, pushed_changes}
 use Rattle.md_nbtc.proofs.exchanging.WordPlaces.{counted_off}
 use Rattle.md_nbtc.proofs.nodes.GrownPrepared.{each_on}
 use Rattle.md_nbtc.proofs.preparing.StatusApart.{counted_apart}
-use Rattle.md_nbtc.proofs.ready.Lookups.{all_of, each_in, replaced_there, written_replaced}
+use Rattle.md_nbtc.proofs.ready.Lookups.{all_of, replaced_there, written_replaced}
 
 abbrev SameCounts : Share → Share → Type 0
 SameCounts a b = (b.nodes_taken ≡ a.nodes_taken) × (b.tries_taken ≡ a.tries_taken)

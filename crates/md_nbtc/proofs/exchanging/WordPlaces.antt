@@ -1,9 +1,9 @@
 -- Counted words: which places they are, and which a transaction may install in.
-use Rattle.std.proofs.Common.{◌≡◌, ◌≢◌, ◌⊎◌, ℕ, Bool, true, false, refl, sym, ap, ◌∙◌, subst, inl, inr, ⊎_elim, is_some}
+use Rattle.std.proofs.Common.{◌≡◌, ◌≢◌, ◌⊎◌, ℕ, true, false, refl, sym, ap, ◌∙◌, subst, inl, inr, ⊎_elim, is_some}
 use Rattle.std.proofs.lemmas.Bool.{true≢false}
 use Rattle.std.proofs.lemmas.List.Elements.{All-contains}
 use Rattle.md_words.specs.declared.shape.Shape.{Shape}
-use Rattle.md_words.specs.Layout.{Exists, IsNode, address}
+use Rattle.md_words.specs.Layout.{Exists, address}
 use Rattle.md_words.specs.Place.{Place, base_word, bucket_head, desc_status, is_counted, node_key, node_next, node_value, queue_head, queue_tail, read_content, read_word, slot_new, slot_old, slot_word}
 use Rattle.md_words.specs.PlaceAt.{IsCounted, place_at}
 use Rattle.md_words.proofs.Places.{address-place_at, place_at-address}

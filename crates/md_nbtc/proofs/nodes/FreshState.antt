@@ -1,8 +1,7 @@
 -- What contracts see of a transaction that took a node and stored its words.
-use Rattle.std.proofs.Common.{◌≡◌, ◌≢◌, ◌==◌, ◌++◌, ◌∷◌, ℕ, Bool, true, List, [], map, Option, Some, refl, sym, ap, ◌∙◌, subst, append_assoc, eq-eqb, if◌then◌else◌, unwrap_or}
+use Rattle.std.proofs.Common.{◌≡◌, ◌≢◌, ◌==◌, ◌++◌, ◌∷◌, ℕ, true, List, [], map, Option, Some, sym, ap, ◌∙◌, append_assoc, eq-eqb, if◌then◌else◌, unwrap_or}
 use Rattle.std.proofs.lemmas.Bool.{cond-true}
 use Rattle.std.proofs.lemmas.List.{map-append}
-use Rattle.std.proofs.lemmas.List.Elements.{All-cons, All-contains, All-nil}
 use Rattle.std.specs.List.{All, Contains}
 use Rattle.md_words.specs.Content.{value_of}
 use Rattle.md_words.specs.Layout.{IsNode, address}
@@ -21,8 +20,8 @@ use Rattle.md_rule.specs.Views.{FieldView, PassState}
 use Rattle.md_arena.specs.Taking.{TakesNode}
 use Rattle.md_nbtc.specs.declared.sets.Lot.{Lot}
 use Rattle.md_nbtc.specs.declared.sets.Slot.{Slot}
-use Rattle.md_nbtc.specs.Prepared.{IsPrepared, IsPreparedNode}
-use Rattle.md_nbtc.specs.State.{OwnNode, TxnState, last_stored, no_hand, own_node, shape_in, state_of, stored_in, taken_since}
+use Rattle.md_nbtc.specs.Prepared.{IsPrepared}
+use Rattle.md_nbtc.specs.State.{TxnState, last_stored, no_hand, own_node, shape_in, state_of, stored_in, taken_since}
 use Rattle.md_nbtc.proofs.nodes.Taken.{taken_push}
 use Rattle.md_nbtc.proofs.nodes.TookNode.{took_new, took_one}
 use Rattle.md_nbtc.proofs.preparing.Apart.{map_agree_on, same_own, stored_apart, taken_own}

@@ -1,12 +1,11 @@
 -- A transaction that took a node and stored its words goes on with it.
-use Rattle.std.proofs.Common.{◌≡◌, ◌≢◌, ◌==◌, ◌++◌, ◌∷◌, ◌+◌, ℕ, true, false, List, [], length, map, Option, Some, refl, sym, ap, ◌∙◌, subst, inl, inr, ⊎_elim, append_assoc, eq-eqb, if◌then◌else◌, unwrap_or}
-use Rattle.std.proofs.lemmas.List.{append-nil, map-append}
-use Rattle.std.proofs.lemmas.List.Elements.{All-append, All-cons, All-contains, All-head, All-nil, All-tail, All-weaker, Contains-append_left, Contains-append_right, Contains-push}
+use Rattle.std.proofs.Common.{◌≡◌, ◌≢◌, ◌++◌, ◌∷◌, ℕ, true, List, [], Some, refl, sym, ap, ◌∙◌, subst, inl, inr, ⊎_elim, append_assoc}
+use Rattle.std.proofs.lemmas.List.{append-nil}
+use Rattle.std.proofs.lemmas.List.Elements.{All-append, All-cons, All-contains, All-nil, All-weaker, Contains-append_right, Contains-push}
 use Rattle.std.specs.List.{All, Contains}
 use Rattle.md_words.specs.Content.{count_of, is_even, value_of}
 use Rattle.md_words.specs.Layout.{Exists, IsNode, address}
 use Rattle.md_words.specs.Place.{Place, desc_status, node_key, node_next, node_value}
-use Rattle.md_words.specs.PlaceAt.{IsCounted}
 use Rattle.md_words.proofs.Owners.{own_desc_exists}
 use Rattle.md_machine.specs.declared.attempt.Hand.{Hand}
 use Rattle.md_machine.specs.declared.attempt.Read.{Read}
@@ -19,13 +18,13 @@ use Rattle.md_machine.specs.Certified.{first_content}
 use Rattle.md_machine.specs.FreeToReturn.{KnowsFree}
 use Rattle.md_machine.specs.Meaning.{Lawful, Meaning}
 use Rattle.md_machine.specs.Own.{IsWordOf}
-use Rattle.md_machine.specs.Trail.{Finds, SomeStep, SomeStepOf, StoresFor, is_store, segments}
+use Rattle.md_machine.specs.Trail.{Finds, SomeStep, StoresFor, is_store}
 use Rattle.md_machine.specs.clauses.nodes.FreeNodes.{IsFreeBy}
 use Rattle.md_machine.proofs.lists.Rising.{here, there}
 use Rattle.md_rule.specs.Kept.{IsLeft}
 use Rattle.md_rule.specs.Views.{PassState}
 use Rattle.md_arena.specs.Taking.{TakesNode}
-use Rattle.md_help.specs.After.{IsAfter, Stands}
+use Rattle.md_help.specs.After.{Stands}
 use Rattle.md_nbtc.specs.declared.seen.Seen.{Seen}
 use Rattle.md_nbtc.specs.declared.sets.Lot.{Lot}
 use Rattle.md_nbtc.specs.Calls.{GoesOn}
@@ -37,8 +36,8 @@ use Rattle.md_nbtc.specs.State.{OwnNode, SameFront, TxnState, attempt_in, last_s
 use Rattle.md_nbtc.proofs.looks.Given.{gave_same}
 use Rattle.md_nbtc.proofs.looks.Loaded.{IsLook}
 use Rattle.md_nbtc.proofs.nodes.FreshState.{stored_here}
-use Rattle.md_nbtc.proofs.nodes.Grown.{grown, grown_going}
-use Rattle.md_nbtc.proofs.nodes.GrownPrepared.{IsOnNode, grown_pass, grown_prepared, in_node, node_in}
+use Rattle.md_nbtc.proofs.nodes.Grown.{grown_going}
+use Rattle.md_nbtc.proofs.nodes.GrownPrepared.{IsOnNode, grown_prepared, in_node}
 use Rattle.md_nbtc.proofs.nodes.NewNode.{counted_apart, found_apart, stored_last}
 use Rattle.md_nbtc.proofs.nodes.StoredNodes.{Goes, StoredThree, goes_on, with_node}
 use Rattle.md_nbtc.proofs.nodes.TookNode.{left_was, took_in_turn, took_more, took_new, was_left}

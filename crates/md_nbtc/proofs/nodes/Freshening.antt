@@ -1,37 +1,26 @@
 -- A transaction stores the words of a node that it took.
-use Rattle.std.proofs.Common.{◌≡◌, ◌≢◌, ◌++◌, ◌∷◌, ◌+◌, ℕ, true, false, List, [], Some, refl, sym, ap, ◌∙◌, subst, inl, inr, ⊎_elim, append_assoc}
-use Rattle.std.proofs.lemmas.List.Elements.{All-cons, All-contains, All-nil, All-weaker, Contains-append_left, Contains-append_right, Contains-push}
-use Rattle.std.specs.List.{All, Contains}
+use Rattle.std.proofs.Common.{◌≡◌, ◌≢◌, ◌++◌, ◌∷◌, ◌+◌, ℕ, true, List, [], refl, sym, ap, ◌∙◌, subst, inl, inr, append_assoc}
+use Rattle.std.proofs.lemmas.List.Elements.{All-cons, All-nil}
 use Rattle.md_words.specs.declared.shape.Shape.{Shape}
-use Rattle.md_words.specs.Content.{count_of, is_even, value_of}
-use Rattle.md_words.specs.Layout.{Exists, IsNode, address}
-use Rattle.md_words.specs.Place.{Place, desc_status, node_key, node_next, node_value}
-use Rattle.md_words.proofs.Owners.{own_desc_exists}
+use Rattle.md_words.specs.Content.{count_of, is_even}
+use Rattle.md_words.specs.Layout.{IsNode, address}
+use Rattle.md_words.specs.Place.{node_key, node_next, node_value}
 use Rattle.md_machine.specs.declared.attempt.Hand.{Hand}
-use Rattle.md_machine.specs.declared.attempt.Read.{Read}
-use Rattle.md_machine.specs.declared.attempt.Write.{Write}
-use Rattle.md_machine.specs.declared.certificate.Certificate.{Certificate}
 use Rattle.md_machine.specs.declared.pass.PassView.{PassView}
 use Rattle.md_machine.specs.declared.step.Step.{Step}
 use Rattle.md_machine.specs.Event.{load, store}
 use Rattle.md_machine.specs.FreeToReturn.{KnowsFree}
-use Rattle.md_machine.specs.Machine.{content}
 use Rattle.md_machine.specs.Meaning.{Lawful, Meaning}
-use Rattle.md_machine.specs.Own.{IsWordOf}
-use Rattle.md_machine.specs.Trail.{StoresFor, segments}
-use Rattle.md_machine.specs.events.Store.{MayStoreNext, and_node}
-use Rattle.md_machine.proofs.lists.Rising.{here}
 use Rattle.md_rule.specs.Steps.{May, Stepped, SteppedFrom}
 use Rattle.md_rule.specs.Views.{PassState}
 use Rattle.md_arena.specs.Taking.{TakesNode}
 use Rattle.md_help.specs.After.{Stands}
 use Rattle.md_help.proofs.Steps.{stands_after}
 use Rattle.md_nbtc.specs.Prepared.{IsPrepared, LeftLast}
-use Rattle.md_nbtc.specs.State.{OwnNode, TxnState, attempt_in, shape_in}
-use Rattle.md_nbtc.proofs.nodes.GrownPrepared.{IsOnNode}
-use Rattle.md_nbtc.proofs.nodes.StoredNodes.{AfterStore, Goes, IsStorable, StoredThree, after_one, goes_on, left_stands, once, stored_three, with_node}
+use Rattle.md_nbtc.specs.State.{TxnState, shape_in}
+use Rattle.md_nbtc.proofs.nodes.StoredNodes.{AfterStore, Goes, IsStorable, StoredThree, after_one, left_stands, once, stored_three, with_node}
 use Rattle.md_nbtc.proofs.nodes.Stores.{may_store}
-use Rattle.md_nbtc.proofs.nodes.Taking.{even, exists, goes, look, made, storable}
+use Rattle.md_nbtc.proofs.nodes.Taking.{even, exists, made, storable}
 use Rattle.md_nbtc.proofs.recording.ReadMore.{one_place}
 
 trail_of : {v q : PassView} {shape : Shape} {steps : List Step} {h : Hand} → Goes shape steps v h q → q.trail ≡ v.trail ++ steps

@@ -1,5 +1,5 @@
 -- A transaction that took a node goes on.
-use Rattle.std.proofs.Common.{◌≡◌, ◌≢◌, ◌++◌, ◌∷◌, ◌≤◌, ℕ, List, [], map, Some, refl, sym, ap, ◌∙◌, subst, inl, inr, ⊎_elim, append_assoc}
+use Rattle.std.proofs.Common.{◌≡◌, ◌≢◌, ◌++◌, ◌∷◌, ◌≤◌, ℕ, List, [], map, Some, refl, sym, ap, ◌∙◌, inl, inr, ⊎_elim, append_assoc}
 use Rattle.std.proofs.lemmas.List.{map-append}
 use Rattle.std.proofs.lemmas.List.Elements.{All-weaker, Contains-append_cases, Contains-append_left, All-append, All-cons, All-nil}
 use Rattle.std.proofs.lemmas.Option.{IfSome_then}
@@ -25,7 +25,7 @@ use Rattle.md_nbtc.specs.Going.{HasCause, IsFoundFirst, IsGoing, IsUnplaced}
 use Rattle.md_nbtc.specs.Known.{IsLater, KnowsPlaced}
 use Rattle.md_nbtc.specs.Prepared.{IsPrepared}
 use Rattle.md_nbtc.specs.Seeing.{IsOwnPlaced, MayChange}
-use Rattle.md_nbtc.specs.State.{OwnNode, TxnState, attempt_in, own_steps, shape_in}
+use Rattle.md_nbtc.specs.State.{OwnNode, TxnState, own_steps}
 use Rattle.md_nbtc.proofs.preparing.Later.{known_later}
 use Rattle.md_machine.specs.declared.attempt.Hand.{Hand}
 use Rattle.md_machine.proofs.lists.Rising.{in_cons, in_none}

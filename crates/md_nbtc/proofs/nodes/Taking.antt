@@ -1,8 +1,7 @@
 -- A transaction takes a node and loads its next word.
-use Rattle.std.proofs.Common.{◌≡◌, ◌≢◌, ◌++◌, ◌∷◌, ◌+◌, ◌<◌, ℕ, suc, zero, length, set, get_or, true, false, List, [], Some, refl, sym, ap, ◌∙◌, subst, inl, inr, ⊎_elim, arith}
-use Rattle.std.proofs.lemmas.List.Elements.{All-cons, All-contains, All-nil, All-weaker}
-use Rattle.std.specs.List.{All, Contains}
-use Rattle.md_words.specs.declared.shape.Shape.{Shape}
+use Rattle.std.proofs.Common.{◌≡◌, ◌∷◌, ◌+◌, ◌<◌, ℕ, suc, zero, length, set, get_or, true, List, [], refl, sym, ap, ◌∙◌, subst, arith}
+use Rattle.std.proofs.lemmas.List.Elements.{All-cons, All-nil}
+use Rattle.std.specs.List.{Contains}
 use Rattle.md_words.specs.Content.{count_of, is_even}
 use Rattle.md_words.specs.Layout.{IsNode, address}
 use Rattle.md_words.specs.Place.{node_next}
@@ -17,7 +16,7 @@ use Rattle.md_machine.specs.Machine.{content, is_ready}
 use Rattle.md_machine.specs.Meaning.{Meaning}
 use Rattle.md_machine.specs.Own.{HasNode}
 use Rattle.md_machine.specs.Stepping.{attempt_in_hand}
-use Rattle.md_machine.specs.Trail.{Finds, Meets, MetHigher, is_store}
+use Rattle.md_machine.specs.Trail.{Meets, MetHigher}
 use Rattle.md_machine.specs.clauses.nodes.EvenNexts.{AllTakenOut}
 use Rattle.md_machine.specs.clauses.nodes.FreeNodes.{IsFreeBy}
 use Rattle.md_machine.specs.events.Start.{WonInstall}
@@ -26,13 +25,13 @@ use Rattle.md_words.specs.Lanes.{OwnsNode}
 use Rattle.md_rule.specs.declared.shares.Share.{Share}
 use Rattle.md_rule.specs.Shares.{share_at}
 use Rattle.md_rule.specs.Steps.{SteppedFrom}
-use Rattle.md_rule.specs.Views.{IsOf, PassState}
+use Rattle.md_rule.specs.Views.{PassState}
 use Rattle.md_rule.proofs.Moves.{is_kept}
 use Rattle.md_arena.specs.Taking.{GivesNode, IsHighestTaken, TakesNode, with_nodes}
 use Rattle.md_arena.proofs.TakenNodes.{highest_by, lane_of, share_same}
 use Rattle.md_help.proofs.Deciding.{some_after}
 use Rattle.md_help.proofs.Steps.{Made, made_load}
-use Rattle.md_nbtc.specs.Prepared.{IsPrepared, LeftLast}
+use Rattle.md_nbtc.specs.Prepared.{IsPrepared}
 use Rattle.md_nbtc.specs.State.{TxnState, attempt_in, shape_in}
 use Rattle.md_nbtc.proofs.looks.Loaded.{IsLook, free_over}
 use Rattle.md_nbtc.proofs.nodes.StoredNodes.{Goes, IsStorable}

@@ -1,6 +1,6 @@
 -- What the answers of a transaction's calls tell a caller: an Ok is the call's own, and after an Err the transaction has
 -- the stop and is otherwise as it was.
-use Rattle.std.proofs.Common.{◌≡◌, ℕ, Bool, true, false, Option, Some, None, Result, Ok, Err, refl, sym, ap, ◌∙◌, subst}
+use Rattle.std.proofs.Common.{◌≡◌, ℕ, Option, Some, None, Result, Ok, Err, refl, sym, ap, ◌∙◌, subst}
 use Rattle.md_history.specs.declared.stops.Stop.{Stop}
 use Rattle.md_machine.specs.Meaning.{Meaning}
 use Rattle.md_nbtc.specs.declared.seen.Kind.{Kind}

@@ -1,6 +1,6 @@
 -- The cases of an exchange, as a caller meets them: the word is own, or the change is a part of the transaction, or plain.
-use Rattle.std.proofs.Common.{◌≡◌, ◌==◌, ◌⊎◌, ◌+◌, ◌++◌, ◌∷◌, [], ℕ, Bool, true, false, Option, Some, None, Result, Ok, Err, refl, sym, ap, ◌∙◌, subst, inl, inr, length, map, ⊎_elim, is_some}
-use Rattle.std.proofs.lemmas.Bool.{cases_Bool, cond_both}
+use Rattle.std.proofs.Common.{◌≡◌, ◌==◌, ◌+◌, ◌++◌, ◌∷◌, [], ℕ, Bool, true, false, Option, Some, None, Result, Ok, Err, refl, length, map}
+use Rattle.std.proofs.lemmas.Bool.{cond_both}
 use Rattle.md_words.specs.declared.limits.TheConstants.{SET}
 use Rattle.md_history.specs.declared.stops.Stop.{Stop}
 use Rattle.md_machine.specs.Certified.{content_read, is_written}

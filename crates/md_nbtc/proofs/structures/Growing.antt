@@ -1,13 +1,12 @@
 -- An operation begins with no tidy change, keeps those that it made, and makes one more.
-use Rattle.std.proofs.Common.{◌≡◌, ◌++◌, List, [], ◌∷◌, refl, sym, ap, ◌∙◌, subst, None}
+use Rattle.std.proofs.Common.{◌≡◌, ◌++◌, List, [], ◌∷◌, sym, ap, ◌∙◌, subst, None}
 use Rattle.std.proofs.lemmas.List.{map-append}
-use Rattle.std.proofs.lemmas.List.Elements.{All-append, All-cons, All-nil}
+use Rattle.std.proofs.lemmas.List.Elements.{All-nil}
 use Rattle.std.specs.List.{All}
 use Rattle.md_machine.specs.declared.certificate.Certificate.{Certificate}
-use Rattle.md_machine.specs.declared.certificate.Fact.{Fact}
 use Rattle.md_machine.specs.declared.certificate.NewNode.{NewNode}
 use Rattle.md_machine.specs.declared.certificate.TidyChange.{TidyChange}
-use Rattle.md_machine.specs.Certified.{TidiesStandBy, after_tidies, after_wholes, changes_of_tidy}
+use Rattle.md_machine.specs.Certified.{TidiesStandBy, after_tidies, after_wholes}
 use Rattle.md_machine.specs.LogicalHeap.{Holds, LogicalHeap}
 use Rattle.md_machine.specs.Meaning.{Meaning, TidyStandsBy, after_tidy}
 use Rattle.md_nbtc.specs.Known.{IsLater, Known, found_by}

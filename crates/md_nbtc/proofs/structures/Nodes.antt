@@ -1,31 +1,17 @@
 -- What nodes are after the ended operations: those that they placed have the words that were stored, and facts on others
 -- still hold.
-use Rattle.std.proofs.Common.{◌≡◌, ◌≢◌, ◌==◌, ◌++◌, ◌⊎◌, ℕ, true, false, List, [], ◌∷◌, map, Option, Some, None, refl, sym, ap, ◌∙◌, subst, inl, inr, ⊎_elim, eq-eqb, eqb-true, append-nil, IfSome}
-use Rattle.std.proofs.lemmas.Bool.{cases_eq, cases_Bool, cond-true, true≢false}
-use Rattle.std.proofs.lemmas.Option.{IfSome_then}
-use Rattle.std.proofs.lemmas.List.Elements.{All-contains, All-weaker}
-use Rattle.std.specs.List.{All, AllPairs, Contains, list_any}
-use Rattle.md_words.specs.declared.shape.Shape.{Shape}
-use Rattle.md_words.specs.Layout.{IsNode, address}
-use Rattle.md_words.specs.Place.{node_next}
+use Rattle.std.proofs.Common.{◌≡◌, ◌≢◌, ◌==◌, ℕ, List, Some, None, refl, sym, ◌∙◌, subst, ⊎_elim, eq-eqb}
+use Rattle.std.proofs.lemmas.Bool.{cases_eq, cond-true}
+use Rattle.std.specs.List.{All, AllPairs, Contains}
 use Rattle.md_machine.specs.declared.certificate.Certificate.{Certificate}
 use Rattle.md_machine.specs.declared.certificate.Change.{Change}
 use Rattle.md_machine.specs.declared.certificate.Fact.{Fact}
 use Rattle.md_machine.specs.declared.certificate.NewNode.{NewNode}
-use Rattle.md_machine.specs.declared.node.Structure.{Structure}
-use Rattle.md_machine.specs.Certified.{after_wholes, all_changes, all_nodes}
+use Rattle.md_machine.specs.Certified.{after_wholes, all_nodes}
 use Rattle.md_machine.specs.LogicalHeap.{Holds, IsPlaced, LogicalHeap, after_node, changed, put}
-use Rattle.md_machine.specs.Meaning.{Meaning}
 use Rattle.md_machine.proofs.chain.Agree.{put_stays, wholes_keep}
-use Rattle.md_machine.proofs.chain.FactsAlong.{IsOther, LeavesNext, fact_along}
-use Rattle.md_machine.proofs.lists.Rising.{in_map, map_in}
-use Rattle.md_nbtc.specs.Course.{IsStoredNode, stored_words}
-use Rattle.md_nbtc.specs.Going.{IsGoing, IsUnplaced}
-use Rattle.md_nbtc.specs.Known.{Known, KnowsFact, KnowsPlaced}
-use Rattle.md_nbtc.specs.State.{OwnNode, TxnState, shape_in}
 use Rattle.md_nbtc.proofs.ready.Lookups.{all_of, one_of}
-use Rattle.md_nbtc.proofs.ready.Standing.{new_placed, pairs_map, pairs_of_map}
-use Rattle.md_machine.proofs.lists.Differ.{pairs_left}
+use Rattle.md_nbtc.proofs.ready.Standing.{new_placed}
 
 -- what holds of an own node once it is placed
 abbrev pub own_fact : NewNode → Fact

@@ -1,9 +1,9 @@
 -- What a transaction knows of nodes after its ended operations: what it knows of placed nodes still holds then, and of its
 -- own nodes it knows all that it stored.
-use Rattle.std.proofs.Common.{◌≡◌, ◌≢◌, ◌==◌, ◌++◌, ◌⊎◌, ℕ, true, false, List, [], ◌∷◌, map, Option, Some, None, refl, sym, ap, ◌∙◌, subst, inl, inr, ⊎_elim, append-nil, IfSome}
-use Rattle.std.proofs.lemmas.Bool.{cases_eq, true≢false}
+use Rattle.std.proofs.Common.{◌≡◌, ◌≢◌, ◌++◌, ◌⊎◌, ℕ, false, List, [], ◌∷◌, map, Option, Some, None, refl, sym, ap, ◌∙◌, subst, inl, inr, ⊎_elim, append-nil, IfSome}
+use Rattle.std.proofs.lemmas.Bool.{cases_eq}
 use Rattle.std.proofs.lemmas.Option.{IfSome_then}
-use Rattle.std.proofs.lemmas.List.Elements.{All-contains, All-weaker}
+use Rattle.std.proofs.lemmas.List.Elements.{All-contains}
 use Rattle.std.specs.List.{All, AllPairs, Contains}
 use Rattle.md_words.specs.declared.shape.Shape.{Shape}
 use Rattle.md_words.specs.Layout.{IsNode, address}
@@ -15,7 +15,7 @@ use Rattle.md_machine.specs.declared.certificate.NewNode.{NewNode}
 use Rattle.md_machine.specs.declared.certificate.TidyChange.{TidyChange}
 use Rattle.md_machine.specs.declared.node.Structure.{Structure}
 use Rattle.md_machine.specs.Certified.{after_wholes, all_changes, all_nodes, is_written}
-use Rattle.md_machine.specs.LogicalHeap.{Holds, LogicalHeap, after_node, changed}
+use Rattle.md_machine.specs.LogicalHeap.{Holds, LogicalHeap}
 use Rattle.md_machine.specs.Meaning.{Lawful, Meaning}
 use Rattle.md_machine.proofs.chain.Agree.{put_stays, wholes_keep}
 use Rattle.md_machine.proofs.chain.FactsAlong.{IsOther, LeavesNext, fact_along}

@@ -1,16 +1,14 @@
 -- A note leaves the word's content recorded, unless the word is an own one.
-use Rattle.std.proofs.Common.{◌≡◌, ◌==◌, ◌≤◌, ◌+◌, ◌++◌, ℕ, Bool, true, false, List, [], ◌∷◌, length, Option, Some, None, Result, Ok, Err, refl, sym, ap, ◌∙◌, subst, arith, eqb-true, eq-eqb, if◌then◌else◌}
+use Rattle.std.proofs.Common.{◌≡◌, ◌==◌, ◌≤◌, ◌+◌, ◌++◌, ℕ, true, false, List, [], ◌∷◌, length, Option, Some, None, Result, Ok, Err, refl, sym, ap, ◌∙◌, arith, eqb-true, eq-eqb, if◌then◌else◌}
 use Rattle.std.proofs.lemmas.Bool.{cond_both, true≢false}
 use Rattle.std.proofs.lemmas.List.{length-append}
 use Rattle.md_words.specs.declared.limits.TheConstants.{SET}
 use Rattle.md_history.specs.declared.stops.Stop.{Stop}
-use Rattle.md_machine.specs.declared.attempt.Hand.{Hand}
 use Rattle.md_machine.specs.declared.attempt.Read.{Read}
 use Rattle.md_machine.specs.Certified.{content_read, is_written}
 use Rattle.md_nbtc.specs.declared.seen.Seen.{Seen}
-use Rattle.md_nbtc.specs.declared.sets.Slot.{Slot}
-use Rattle.md_nbtc.specs.Calls.{NoteCase, Notes, case_by_read, full, note_case, noted, recorded, unread}
-use Rattle.md_nbtc.specs.State.{OwnNode, TxnState, seen_content, writes_in}
+use Rattle.md_nbtc.specs.Calls.{Notes, case_by_read, full, note_case, noted, recorded, unread}
+use Rattle.md_nbtc.specs.State.{TxnState, seen_content, writes_in}
 
 -- what was recorded last is found, if the word wasn't recorded before
 pub read_last : (rs : List Read) (word content : ℕ) → content_read rs word ≡ None → content_read (rs ++ record { word = word; content = content; stood = true } ∷ []) word ≡ Some content

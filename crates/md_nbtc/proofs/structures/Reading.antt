@@ -1,5 +1,5 @@
 -- An operation that has made tidy changes alone may be ended by a certificate that changes nothing.
-use Rattle.std.proofs.Common.{◌≡◌, ℕ, true, false, None, List, [], ◌∷◌, map, refl, sym, ap, ◌∙◌, subst, is_some, append-nil}
+use Rattle.std.proofs.Common.{◌≡◌, true, false, None, List, [], map, sym, ap, ◌∙◌, subst, is_some, append-nil}
 use Rattle.std.proofs.lemmas.List.Elements.{All-nil}
 use Rattle.std.specs.List.{All}
 use Rattle.md_words.specs.Layout.{address}
@@ -13,7 +13,7 @@ use Rattle.md_machine.specs.declared.certificate.NewNode.{NewNode}
 use Rattle.md_machine.specs.declared.certificate.TidyChange.{TidyChange}
 use Rattle.md_machine.specs.declared.certificate.WordValue.{WordValue}
 use Rattle.md_machine.specs.Certified.{changes_of_tidy, first_content, is_written, whole_nodes}
-use Rattle.md_machine.specs.LogicalHeap.{Holds, LogicalHeap}
+use Rattle.md_machine.specs.LogicalHeap.{Holds}
 use Rattle.md_machine.specs.Meaning.{Meaning}
 use Rattle.md_nbtc.specs.Course.{IsStoredNode, MayEnd}
 use Rattle.md_nbtc.specs.Known.{Known, found_by}

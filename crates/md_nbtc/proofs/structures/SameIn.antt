@@ -1,7 +1,6 @@
 -- Certificates that stand by the words of one heap stand by those of another one that has the same values in the words
 -- that they name.
-use Rattle.std.proofs.Common.{◌≡◌, ◌++◌, ℕ, List, [], ◌∷◌, map, get_or, refl, sym, ap, ◌∙◌, ⊎_elim}
-use Rattle.std.proofs.lemmas.Bool.{cond_both}
+use Rattle.std.proofs.Common.{◌≡◌, ℕ, List, [], ◌∷◌, get_or, ap, ◌∙◌}
 use Rattle.std.proofs.lemmas.List.Elements.{All-head, All-tail}
 use Rattle.std.specs.List.{All}
 use Rattle.md_words.specs.declared.shape.Shape.{Shape}
@@ -13,7 +12,7 @@ use Rattle.md_machine.specs.declared.certificate.NewNode.{NewNode}
 use Rattle.md_machine.specs.declared.certificate.TidyChange.{TidyChange}
 use Rattle.md_machine.specs.Certified.{AllStandBy, TidiesStandBy, after_tidies, after_whole, after_wholes, all_changes, changes_of_tidy, whole_changes}
 use Rattle.md_machine.specs.LogicalHeap.{LogicalHeap, after_node, after_nodes, changed, changed_all, put}
-use Rattle.md_machine.specs.Meaning.{StandsBy, TidyStandsBy, after_certificate, after_tidy}
+use Rattle.md_machine.specs.Meaning.{StandsBy, after_tidy}
 use Rattle.md_machine.proofs.chain.Agree.{all_left, all_right}
 
 module _ (W : ℕ → Type 0) where

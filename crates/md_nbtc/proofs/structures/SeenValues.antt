@@ -1,11 +1,10 @@
 -- What was seen in a word is the value that the transaction sees there after its ended operations and the tidy changes
 -- since.
-use Rattle.std.proofs.Common.{◌≡◌, ◌≢◌, ◌==◌, ◌++◌, ◌⊎◌, ◌^◌, ◌<◌, ℕ, Bool, true, false, List, [], ◌∷◌, Option, Some, None, refl, sym, ap, ◌∙◌, subst, inl, inr, ⊎_elim}
-use Rattle.std.proofs.lemmas.Bool.{cases_Bool, true≢false}
+use Rattle.std.proofs.Common.{◌≡◌, ◌⊎◌, ◌^◌, ◌<◌, ℕ, false, List, Option, Some, None, refl, sym, ap, ◌∙◌, subst, inl, inr, ⊎_elim}
+use Rattle.std.proofs.lemmas.Bool.{cases_Bool}
 use Rattle.std.proofs.lemmas.List.Elements.{All-contains}
 use Rattle.std.specs.List.{All, Contains}
 use Rattle.md_words.specs.declared.shape.Shape.{Shape}
-use Rattle.md_words.specs.Content.{counted_word, value_of}
 use Rattle.md_words.specs.Layout.{IsNode, address}
 use Rattle.md_words.specs.Place.{node_next}
 use Rattle.md_words.proofs.Words.{value_of-counted_word}
@@ -17,10 +16,8 @@ use Rattle.md_machine.specs.Certified.{all_nodes, first_content, is_written}
 use Rattle.md_machine.specs.LogicalHeap.{LogicalHeap}
 use Rattle.md_machine.specs.Meaning.{Lawful, Meaning}
 use Rattle.md_nbtc.specs.declared.seen.Seen.{Seen}
-use Rattle.md_nbtc.specs.Course.{stored_words}
-use Rattle.md_nbtc.specs.Going.{IsFoundFirst, IsFoundThere, IsGoing}
-use Rattle.md_nbtc.specs.Known.{IsLater, Known, Met, WasThere, found_by}
-use Rattle.md_nbtc.specs.Prepared.{IsPrepared}
+use Rattle.md_nbtc.specs.Going.{IsFoundThere, IsGoing}
+use Rattle.md_nbtc.specs.Known.{IsLater, Known, Met, found_by}
 use Rattle.md_nbtc.specs.Seeing.{Gave, SeesSlot}
 use Rattle.md_nbtc.specs.State.{OwnNode, TxnState, seen_content, shape_in, writes_in}
 use Rattle.md_nbtc.specs.Tidied.{HasTidied, tidied}

@@ -1,16 +1,13 @@
 -- The ended operations and the tidy changes since stand, in heaps of all later times, by what the transaction has found
 -- until now.
-use Rattle.std.proofs.Common.{◌≡◌, ⊎_elim, ◌==◌, ◌++◌, ◌||◌, ℕ, true, List, [], ◌∷◌, refl, sym, ap, ◌∙◌, subst, eq-eqb, Option, Some, None, is_some, unwrap_or}
-use Rattle.std.specs.Prelude.{option_map}
+use Rattle.std.proofs.Common.{◌≡◌, ⊎_elim, ◌==◌, ◌++◌, ℕ, true, List, [], ◌∷◌, refl, sym, ap, ◌∙◌, subst, eq-eqb, Option, Some, None, is_some}
 use Rattle.std.proofs.lemmas.Bool.{or_left, or_right}
-use Rattle.std.proofs.lemmas.List.Elements.{All-weaker, Contains-append_left, Contains-append_right}
+use Rattle.std.proofs.lemmas.List.Elements.{Contains-append_left, Contains-append_right}
 use Rattle.std.specs.List.{All, Contains, list_any}
-use Rattle.md_words.specs.Content.{value_of}
 use Rattle.md_machine.specs.declared.certificate.Certificate.{Certificate}
 use Rattle.md_machine.specs.declared.certificate.Change.{Change}
 use Rattle.md_machine.specs.declared.certificate.TidyChange.{TidyChange}
-use Rattle.md_machine.specs.declared.attempt.Write.{Write}
-use Rattle.md_machine.specs.Certified.{AllStandBy, RecordsFound, TidiesStandBy, after_wholes, all_changes, changes_of_tidy, content_read, content_replaced, first_content, is_written}
+use Rattle.md_machine.specs.Certified.{AllStandBy, TidiesStandBy, after_wholes, all_changes, content_read, content_replaced, first_content, is_written}
 use Rattle.md_machine.specs.LogicalHeap.{LogicalHeap}
 use Rattle.md_machine.specs.Meaning.{Meaning}
 use Rattle.md_machine.specs.Resolution.{or_else}
@@ -22,7 +19,7 @@ use Rattle.md_nbtc.specs.State.{TxnState, writes_in}
 use Rattle.md_nbtc.specs.Tidied.{HasTidied}
 use Rattle.md_nbtc.proofs.ready.Lookups.{all_of, written_replaced}
 use Rattle.md_nbtc.proofs.structures.FoundLater.{found_later, found_value}
-use Rattle.md_nbtc.proofs.structures.SameIn.{ChangesIn, RecordsIn, SameIn, all_in, in_wholes, tidies_in}
+use Rattle.md_nbtc.proofs.structures.SameIn.{ChangesIn, SameIn, all_in, in_wholes, tidies_in}
 
 -- a word of which the transaction found some content first
 abbrev pub IsFound : TxnState → (word : ℕ) → Type 0

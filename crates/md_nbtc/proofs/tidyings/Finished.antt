@@ -1,5 +1,5 @@
 -- The end of a transaction that was committed: the last mark, and what all steps leave.
-use Rattle.std.proofs.Common.{◌≡◌, ◌<◌, ◌++◌, ℕ, false, List, [], ◌∷◌, Option, Some, map, length, ⊎_elim, refl, sym, ap, ◌∙◌, subst, append_assoc, arith, None}
+use Rattle.std.proofs.Common.{◌≡◌, ◌<◌, ◌++◌, ℕ, false, List, [], ◌∷◌, Option, Some, length, ⊎_elim, refl, sym, ap, ◌∙◌, subst, append_assoc, arith, None}
 use Rattle.std.proofs.lemmas.List.Elements.{All-append, All-cons, All-nil, All-weaker}
 use Rattle.std.specs.List.{All}
 use Rattle.md_words.specs.declared.shape.Shape.{Shape}
@@ -7,7 +7,6 @@ use Rattle.md_words.specs.Content.{count_of}
 use Rattle.md_words.specs.declared.status.Status.TheVariants.{Committed}
 use Rattle.md_history.specs.FrontLaws.{all_stay-trans}
 use Rattle.md_machine.specs.declared.attempt.AttemptId.{AttemptId}
-use Rattle.md_machine.specs.declared.attempt.Hand.{Hand}
 use Rattle.md_machine.specs.declared.pass.PassView.{PassView}
 use Rattle.md_machine.specs.declared.step.Kind.TheVariants.{Exchange, Install, Load}
 use Rattle.md_machine.specs.declared.step.Step.{Step}

@@ -1,5 +1,5 @@
 -- The steps of one cleanup.
-use Rattle.std.proofs.Common.{◌≡◌, ◌≢◌, ◌⊎◌, ◌<◌, ◌≤◌, ◌++◌, ◌∷◌, ℕ, Bool, true, false, List, [], Some, Result, Ok, Err, length, refl, sym, ap, ◌∙◌, subst, inl, inr, ⊎_elim, arith}
+use Rattle.std.proofs.Common.{◌≡◌, ◌≢◌, ◌⊎◌, ◌≤◌, ◌++◌, ◌∷◌, ℕ, true, false, List, [], Result, Ok, Err, length, refl, sym, ap, ◌∙◌, subst, inl, inr, ⊎_elim}
 use Rattle.std.proofs.lemmas.List.{same_from_push}
 use Rattle.std.proofs.lemmas.List.Elements.{Contains-append_left, Contains-push}
 use Rattle.std.specs.List.{Contains}
@@ -33,8 +33,8 @@ use Rattle.md_nbtc.specs.declared.seen.Cleanup.{Cleanup}
 use Rattle.md_nbtc.specs.declared.seen.Cleanup.TheVariants.{MoveTail, Unlink}
 use Rattle.md_nbtc.specs.declared.seen.TheConstants.{WORN}
 use Rattle.md_nbtc.specs.Cleaning.{cleanup_node, cleanup_value, cleanup_word}
-use Rattle.md_nbtc.specs.Deciding.{Cleaned, FindsNext, IsAfterCommit, MayClean, TookOut, Tried}
-use Rattle.md_nbtc.specs.Ending.{Fits, IsPlacedForThen, IsReason, LastFate, names_node}
+use Rattle.md_nbtc.specs.Deciding.{Cleaned, FindsNext, MayClean, TookOut, Tried}
+use Rattle.md_nbtc.specs.Ending.{IsPlacedForThen, IsReason, names_node}
 use Rattle.md_nbtc.specs.Withdrawing.{IsAlwaysPlaced}
 use Rattle.md_nbtc.proofs.decisions.LastFates.{last_stays}
 use Rattle.md_nbtc.proofs.tidyings.PlacedNow.{placed_now}

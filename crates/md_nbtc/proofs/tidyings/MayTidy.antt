@@ -1,13 +1,12 @@
 -- A cleanup of a committed transaction may be made once its reason was found.
-use Rattle.std.proofs.Common.{◌≡◌, ◌<◌, ◌≤◌, ◌==◌, ◌&&◌, ℕ, Bool, true, false, List, [], Option, None, Some, IfSome, IsTrue, refl, sym, ap, ◌∙◌, subst, ⊎_elim, arith, eqb-true, ne_eqb}
+use Rattle.std.proofs.Common.{◌≡◌, ◌<◌, ◌≤◌, ◌==◌, ℕ, Bool, true, false, List, None, Some, IfSome, IsTrue, refl, sym, ap, ◌∙◌, subst, ⊎_elim, arith, eqb-true, ne_eqb}
 use Rattle.std.specs.Prelude.{not}
 use Rattle.std.proofs.lemmas.Bool.{and_parts, false≢true}
 use Rattle.std.proofs.lemmas.List.Elements.{All-weaker}
-use Rattle.std.proofs.lemmas.Option.{none-some}
 use Rattle.std.specs.List.{All}
 use Rattle.md_words.specs.declared.shape.Shape.{Shape}
 use Rattle.md_words.specs.Content.{count_of, is_even, value_of}
-use Rattle.md_words.specs.Layout.{Exists, IsNode, address}
+use Rattle.md_words.specs.Layout.{Exists, address}
 use Rattle.md_words.specs.Link.{link_value}
 use Rattle.md_words.specs.Place.{Place, base_word, bucket_head, desc_status, is_counted, node_key, node_next, node_value, queue_head, queue_tail, read_content, read_word, slot_new, slot_old, slot_word}
 use Rattle.md_words.specs.PlaceAt.{IsCounted, place_at}
@@ -25,7 +24,7 @@ use Rattle.md_machine.specs.Meaning.{Lawful, Meaning}
 use Rattle.md_machine.specs.Own.{MayExchangeAt}
 use Rattle.md_machine.specs.Resolution.{Resolves, always_placed, logical_heap, placed_under}
 use Rattle.md_machine.specs.Trail.{Meets, SomeStepOf}
-use Rattle.md_machine.specs.events.Exchange.{FoundFact, FoundNext, MayExchange, after_exchange}
+use Rattle.md_machine.specs.events.Exchange.{FoundFact, FoundNext, after_exchange}
 use Rattle.md_machine.proofs.lists.Options.{some_same}
 use Rattle.md_rule.specs.Admitted.{Admitted}
 use Rattle.md_rule.specs.Steps.{May}

@@ -1,4 +1,4 @@
-use Rattle.std.proofs.Common.{◌<◌, ◌∷◌, arith, sym, ap, subst, ◌∙◌, inl}
+use Rattle.std.proofs.Common.{◌<◌, ◌∷◌, arith, ap, subst, ◌∙◌, inl}
 use Rattle.md_words.specs.declared.shape.Shape.{Shape}
 use Rattle.md_words.specs.Layout.{desc_count}
 use Rattle.md_machine.specs.Own.{HasDesc}

@@ -33,7 +33,7 @@ loop-i-preserved g c =
       same = same ∙ ap (λ (x : PassState). record x { view = r }) was.same;
       stands = stands_one M o word found q r c.load-last.ensures.step;
       looks = (looks_both o.shape word p q r was.looks.0 (looks_one M o word found q r c.load-last.ensures.step odd), length-append was.looks.0.steps _ ∙ ap (λ n. n + 1) was.looks.1);
-      until = inr (looks_end M o word LOOKS found p q r was.looks.0 (omega (arith, many, below)) was.stands c.load-last.ensures.step);
+      until = inr (looks_end M o word LOOKS found p q r was.looks.0 (omega (arith, many, below, c.requires.most.1)) was.stands c.load-last.ensures.step);
     }
 
 pub returns-then-last-found-clause-looks : goal.returns-then-last-found-clause-looks
@@ -41,10 +41,10 @@ returns-then-last-found-clause-looks g c =
     let was = c.loop-i.invariant in
     let many = was.looks.1 in
     let below = c.loop-i-test.true in
-    looks_end g.T.Theory.meaning c.args.field.now.origin c.args.word LOOKS c.load-last.result c.args.pass.now.view c.loop-i.pass.view c.load-last.new.self.view was.looks.0 (omega (arith, many, below)) was.stands
+    looks_end g.T.Theory.meaning c.args.field.now.origin c.args.word LOOKS c.load-last.result c.args.pass.now.view c.loop-i.pass.view c.load-last.new.self.view was.looks.0 (omega (arith, many, below, c.requires.most.1)) was.stands
     c.load-last.ensures.step
 
 pub returns-clause-looks : goal.returns-clause-looks
 returns-clause-looks g c =
     let test = c.loop-i-test.false in
-    ⊎_elim (λ none. absurd (omega (arith, none, test))) (λ looks. looks) c.loop-i.invariant.until
+    ⊎_elim (λ none. absurd (omega (arith, none, test, c.requires.most.0))) (λ looks. looks) c.loop-i.invariant.until

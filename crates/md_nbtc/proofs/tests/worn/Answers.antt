@@ -1,4 +1,4 @@
-use Rattle.std.proofs.Common.{◌≡◌, ◌∙◌, ℕ, [], length, replicate, set, sym, ap, subst, arith}
+use Rattle.std.proofs.Common.{◌∙◌, ℕ, [], length, replicate, set, sym, ap, subst, arith}
 use Rattle.std.proofs.lemmas.List.{length-replicate}
 use Rattle.md_machine.specs.Event.{CanOpen}
 use Rattle.md_cell.specs.CellMeaning.{cell_meaning}

@@ -1,4 +1,4 @@
-use Rattle.std.proofs.Common.{◌≡◌, ◌≢◌, ◌*◌, ◌%◌, ◌↔◌, ◌==◌, true, IsTrue, sym, ap, ◌∙◌, subst, arith}
+use Rattle.std.proofs.Common.{◌≡◌, ◌≢◌, ◌*◌, ◌%◌, ◌↔◌, ◌==◌, true, IsTrue, sym, ap, ◌∙◌, subst}
 use Rattle.md_words.specs.declared.content.Content.{Content}
 use Rattle.md_words.specs.Content.{count_of, is_even, spot_of, value_of}
 use Rattle.md_nbtc.specs.declared.seen.Cleanup.{Cleanup}

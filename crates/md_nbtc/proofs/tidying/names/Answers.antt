@@ -1,6 +1,5 @@
 use Rattle.std.proofs.Common.{◌≡◌, ◌*◌, ◌==◌, true, false, not, sym, ap, ◌∙◌}
 use Rattle.std.specs.Prelude.{is_some}
-use Rattle.std.proofs.lemmas.Bool.{false≢true}
 use Rattle.md_words.specs.declared.content.Content.{Content}
 use Rattle.md_words.specs.Content.{count_of, is_even, spot_of}
 use Rattle.md_nbtc.proofs.tidyings.Reasons.{even_of, names_is}

@@ -1,15 +1,10 @@
-use Rattle.std.proofs.Common.{◌≡◌, ◌≤◌, ℕ, true, inl, inr, sym, ap, subst, ◌∙◌, arith}
+use Rattle.std.proofs.Common.{ℕ, inl, inr, sym, ap, subst, ◌∙◌, arith}
 use Rattle.std.proofs.lemmas.Bool.{and_parts, false≢true}
 use Rattle.md_words.specs.declared.content.Content.{Content}
-use Rattle.md_words.specs.declared.shape.Shape.{Shape}
 use Rattle.md_words.specs.Content.{count_of, is_even, word_of}
-use Rattle.md_words.specs.Layout.{IsNode}
 use Rattle.md_machine.specs.Event.{exchange}
 use Rattle.md_rule.specs.Steps.{Exchanged, May}
-use Rattle.md_rule.specs.Views.{Origin}
-use Rattle.md_nbtc.specs.declared.seen.TheConstants.{WORN}
-use Rattle.md_nbtc.specs.Cleaning.{cleanup_node, cleanup_value, cleanup_word}
-use Rattle.md_nbtc.specs.Ending.{IsReason}
+use Rattle.md_nbtc.specs.Cleaning.{cleanup_word}
 use Rattle.md_nbtc.proofs.tidyings.Making.{exchange_stands, exchange_tried, may_still, node_placed, took_some, tried_not}
 use Rattle.md_nbtc.proofs.tidyings.MayTidy.{even_room, may_exchange}
 use Rattle.md_nbtc.proofs.tidying.try_cleanup.Goals as goal

@@ -1,4 +1,4 @@
-use Rattle.std.proofs.Common.{◌∙◌, sym, ap, subst, ◌<◌, length, take, refl, arith}
+use Rattle.std.proofs.Common.{◌∙◌, sym, ap, subst, ◌<◌, length, take, refl}
 use Rattle.std.proofs.Math.Seq.{map-set_same}
 use Rattle.std.proofs.lemmas.List.{length-set}
 use Rattle.md_nbtc.specs.declared.sets.TheConstants.{NO_SLOT}

@@ -3,8 +3,6 @@ use Rattle.std.proofs.Common.{Err, None, [], ◌<◌, List, ℕ, refl, sym, ap, 
 use Rattle.std.specs.List.{Contains}
 use Rattle.md_machine.specs.declared.pass.PassView.{PassView}
 use Rattle.md_machine.specs.Event.{mark_leave}
-use Rattle.md_words.specs.declared.shape.Shape.{Shape}
-use Rattle.md_rule.specs.Shares.{share_at}
 use Rattle.md_rule.specs.Views.{PassState}
 use Rattle.md_arena.specs.Left.{HasTryLeft}
 use Rattle.md_words.proofs.Owners.{own_desc_exists}

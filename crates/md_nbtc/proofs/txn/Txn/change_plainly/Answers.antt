@@ -1,5 +1,4 @@
-use Rattle.std.proofs.Common.{◌≡◌, ◌+◌, ◌<◌, ◌≤◌, ◌∙◌, ℕ, Some, true, false, refl, sym, ap, subst, inr}
-use Rattle.md_words.specs.Layout.{words_of}
+use Rattle.std.proofs.Common.{◌+◌, ◌∙◌, Some, false, refl, sym, ap, subst, inr}
 use Rattle.md_history.specs.declared.stops.Stop.TheVariants.{Conflict}
 use Rattle.md_machine.specs.declared.step.Kind.TheVariants.{Exchange}
 use Rattle.md_rule.specs.Views.{PassState}

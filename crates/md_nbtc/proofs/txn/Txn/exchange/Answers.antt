@@ -1,8 +1,6 @@
-use Rattle.std.proofs.Common.{◌≡◌, ◌∙◌, ℕ, true, false, is_some, Some, None, Ok, refl, sym, ap, subst}
-use Rattle.md_machine.specs.Certified.{is_written}
-use Rattle.md_nbtc.specs.Calls.{AfterStop, ExchangeCase, Exchanges, MayBeOf, case_of_other, exchange_case, is_critical}
-use Rattle.md_nbtc.specs.State.{TxnState, state, writes_in}
-use Rattle.md_nbtc.specs.Sets.{place_of}
+use Rattle.std.proofs.Common.{◌∙◌, is_some, Ok, sym, ap, subst}
+use Rattle.md_nbtc.specs.Calls.{AfterStop, Exchanges, MayBeOf, exchange_case}
+use Rattle.md_nbtc.specs.State.{state}
 use Rattle.md_nbtc.proofs.exchanging.Cases.{other_case, own_case, written_place}
 use Rattle.md_nbtc.proofs.preparing.Heaps.{goes_self}
 use Rattle.md_nbtc.proofs.txn.Txn.exchange.Goals as goal

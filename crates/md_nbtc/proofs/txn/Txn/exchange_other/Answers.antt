@@ -1,14 +1,11 @@
-use Rattle.std.proofs.Common.{◌≡◌, ◌<◌, ◌∙◌, ℕ, Bool, true, false, length, Some, None, Err, refl, sym, ap, subst}
+use Rattle.std.proofs.Common.{◌≡◌, ◌∙◌, ℕ, Bool, true, false, length, Some, None, refl, sym, ap, subst}
 use Rattle.std.proofs.lemmas.Bool.{true≢false}
 use Rattle.md_words.proofs.Words.{count_of-counted_word}
-use Rattle.md_history.specs.declared.stops.Stop.{Stop}
 use Rattle.md_machine.specs.Certified.{content_read}
-use Rattle.md_machine.specs.Meaning.{Meaning}
 use Rattle.md_nbtc.specs.declared.seen.Kind.{Kind}
 use Rattle.md_nbtc.specs.declared.seen.Kind.TheVariants.{Critical, Plain}
 use Rattle.md_nbtc.specs.declared.seen.Seen.{Seen}
-use Rattle.md_nbtc.specs.Calls.{ExchangeCase, Exchanges, MayBeOf, case_of_other, is_critical, makes_step, refusal_by}
-use Rattle.md_nbtc.specs.declared.seen.TheConstants.{WORN}
+use Rattle.md_nbtc.specs.Calls.{Exchanges, MayBeOf, case_of_other, is_critical, makes_step, refusal_by}
 use Rattle.md_nbtc.specs.State.{TxnState, seen_content, state}
 use Rattle.md_nbtc.proofs.exchanging.Cases.{refusal_cause, refused, step_case, step_if, step_made}
 use Rattle.md_nbtc.proofs.exchanging.Refused.{halted_gave, halted_on}

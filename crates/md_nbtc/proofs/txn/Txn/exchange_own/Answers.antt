@@ -1,4 +1,4 @@
-use Rattle.std.proofs.Common.{◌≡◌, ◌<◌, ℕ, ◌∙◌, refl, sym, ap, subst, true, map}
+use Rattle.std.proofs.Common.{◌≡◌, ◌<◌, ℕ, ◌∙◌, sym, ap, subst, true, map}
 use Rattle.md_words.specs.declared.shape.Shape.{Shape}
 use Rattle.md_words.specs.Layout.{address, desc_count}
 use Rattle.md_words.specs.Place.{slot_new}
@@ -6,8 +6,6 @@ use Rattle.md_words.proofs.Owners.{own_desc_exists}
 use Rattle.md_machine.specs.Event.{store}
 use Rattle.md_rule.specs.Steps.{May}
 use Rattle.md_rule.specs.Views.{PassState}
-use Rattle.md_nbtc.specs.declared.seen.Seen.{Seen}
-use Rattle.md_nbtc.specs.declared.sets.Slot.{Slot}
 use Rattle.md_nbtc.specs.Calls.{GoesOn, with_change}
 use Rattle.md_nbtc.specs.Seeing.{Gave}
 use Rattle.md_nbtc.specs.Sets.{with_new}

@@ -2,7 +2,7 @@ use Rattle.std.proofs.Common.{◌≡◌, ℕ, ◌≤◌, ◌+◌, ◌-◌, ◌/�
 use Rattle.md_words.specs.declared.content.Content.{Content}
 use Rattle.md_words.specs.declared.shape.Shape.{Shape}
 use Rattle.md_words.specs.Layout.{IsNode, address}
-use Rattle.md_words.specs.Place.{Place, node_key, node_next, node_value}
+use Rattle.md_words.specs.Place.{Place, node_next}
 use Rattle.md_history.specs.declared.stops.Limit.{Limit}
 use Rattle.md_history.specs.declared.stops.Limit.TheVariants.{Worn}
 use Rattle.md_history.specs.declared.stops.Stop.TheVariants.{Limit as Limited}
@@ -19,7 +19,7 @@ use Rattle.md_nbtc.specs.State.{TxnState, shape_in, state, state_of}
 use Rattle.md_nbtc.proofs.keeping.Causes.{nodes_cause}
 use Rattle.md_nbtc.proofs.looks.Loaded.{loaded_is, loaded_so}
 use Rattle.md_nbtc.proofs.nodes.FreshSteps.{StoresNode, freshens, goes_on, keeps_given, lane_held, lane_is, lot_fits, one_more}
-use Rattle.md_nbtc.proofs.nodes.Freshening.{may_key, may_next, may_value, three}
+use Rattle.md_nbtc.proofs.nodes.Freshening.{may_key, may_next, may_value}
 use Rattle.md_nbtc.proofs.nodes.Taking.{exists, given_back, highest, knows_then}
 use Rattle.md_nbtc.proofs.nodes.Worn.{is_worn, only_load, worn_found, worn_given, worn_on}
 use Rattle.md_nbtc.proofs.recording.Stopping.{stopped_gave, stopped_on}

@@ -7,9 +7,8 @@ use Rattle.md_words.specs.Place.{node_next}
 use Rattle.md_rule.specs.Shares.{share_at}
 use Rattle.md_nbtc.specs.Calls.{is_next_word}
 use Rattle.md_nbtc.specs.State.{shape_in, state}
-use Rattle.md_nbtc.proofs.exchanging.OwnLots.{IsLot, is_lot, lot_nodes}
+use Rattle.md_nbtc.proofs.exchanging.OwnLots.{is_lot, lot_nodes}
 use Rattle.md_nbtc.proofs.exchanging.OwnNexts.{none_below, none_between, some_at}
-use Rattle.md_nbtc.proofs.txn.Txn.is_next_in.Given as given
 use Rattle.md_nbtc.proofs.txn.Txn.is_next_in.Goals as goal
 
 -- the first node of the lot, as the code counts it

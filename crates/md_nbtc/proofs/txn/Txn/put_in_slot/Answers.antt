@@ -1,4 +1,4 @@
-use Rattle.std.proofs.Common.{◌≡◌, ◌<◌, ◌∙◌, sym, ap, subst}
+use Rattle.std.proofs.Common.{◌<◌, ◌∙◌, sym, ap, subst}
 use Rattle.md_words.specs.Layout.{words_of}
 use Rattle.md_words.proofs.Places.{address_below}
 use Rattle.md_rule.specs.Views.{PassState}

@@ -6,7 +6,7 @@ use Rattle.md_words.specs.Place.{Place, slot_new, slot_old, slot_word}
 use Rattle.md_words.proofs.Owners.{own_desc_exists}
 use Rattle.md_nbtc.specs.Prepared.{IsPrepared}
 use Rattle.md_nbtc.specs.State.{TxnState, attempt_in, shape_in, state}
-use Rattle.md_nbtc.proofs.exchanging.FilledSlot.{both_given, both_on, both_same, holds_slot, under_way}
+use Rattle.md_nbtc.proofs.exchanging.FilledSlot.{both_given, both_on, holds_slot, under_way}
 use Rattle.md_nbtc.proofs.txn.Txn.store_slot.Goals as goal
 
 inside : (t : TxnState) → IsPrepared t → (s : Shape) → s ≡ shape_in t → t.desc < desc_count s
