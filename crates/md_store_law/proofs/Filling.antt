@@ -1,9 +1,9 @@
--- Contents that are filled, map after map and then queue after queue, from the words of a field.
-use Rattle.std.proofs.Common.{◌≡◌, ◌≢◌, ℕ, zero, suc, ◌+◌, ◌<◌, ◌≤◌, ◌++◌, List, [], ◌∷◌, length, replicate, get_or, refl, sym, ap, ◌∙◌, ⊎_elim, arith}
+-- Contents that are filled, map after map and then group after group of queues, from the words of a field.
+use Rattle.std.proofs.Common.{◌≡◌, ◌≢◌, ℕ, zero, suc, ◌+◌, ◌-◌, ◌<◌, ◌≤◌, ◌++◌, List, [], ◌∷◌, length, take, replicate, get_or, refl, sym, ap, ◌∙◌, subst, inl, inr, ⊎_elim, arith}
 use Rattle.std.specs.List.{flat_map, range_with_len}
 use Rattle.std.specs.FinMap as fin
-use Rattle.std.proofs.lemmas.Bool.{cases_eq}
-use Rattle.std.proofs.lemmas.List.{length-set, length-replicate, get_or-set_same, get_or-set_other, map-id, append-nil}
+use Rattle.std.proofs.lemmas.Bool.{cases_eq, cases_lt}
+use Rattle.std.proofs.lemmas.List.{length-set, length-replicate, length_push, length-take-le, take_more, get_or-set_same, get_or-set_other, map-id, append-nil}
 use Rattle.std.proofs.lemmas.List.Concat.{flat_map-append}
 use Rattle.std.proofs.lemmas.List.FromFn.{map-range_with_len_more, fill_by_all}
 use Rattle.md_history.specs.State.{State, Table, empty_state, map_at, queue_at, with_map, with_queue}
@@ -11,7 +11,10 @@ use Rattle.md_machine.specs.LogicalHeap.{LogicalWords}
 use Rattle.md_list_law.specs.Walk.{map_of_pairs}
 use Rattle.md_hash_law.specs.HashTable.{pairs_of_map, maps_of}
 use Rattle.md_queue_law.specs.QueueValues.{queue_values}
+use Rattle.md_store_law.specs.declared.side_walks.QueueWalk.{QueueWalk}
+use Rattle.md_store_law.specs.SideWalks.{EachWalk, AreFilled}
 use Rattle.md_store_law.specs.Store.{state_of_store}
+use Rattle.md_store_law.proofs.SideWalks.{each_more}
 
 -- one more number
 pub range_more : (n : ℕ) → range_with_len 0 (n + 1) ≡ range_with_len 0 n ++ n ∷ []
@@ -22,6 +25,36 @@ range_more n = sym (map-id (range_with_len 0 (n + 1))) ∙ map-range_with_len_mo
 pub flat_map_range_more : {X : Type 0} (f : ℕ → List X) (n : ℕ) → flat_map f (range_with_len 0 (n + 1)) ≡ flat_map f (range_with_len 0 n) ++ f n
 flat_map_range_more f n = ap (flat_map f) (range_more n) ∙ flat_map-append f (range_with_len 0 n) (n ∷ [])
     ∙ ap (λ ys. flat_map f (range_with_len 0 n) ++ ys) (append-nil (f n))
+
+-- one more queue is filled
+pub filled_more : (s before after : State) (first i : ℕ) (walks : List QueueWalk) (walk : QueueWalk) → walk ≡ get_or walks i walk → i < length walks
+    → first + length walks ≤ length s.queues → AreFilled first (take i walks) s before → after ≡ with_queue before (first + i) walk.values.items
+    → AreFilled first (take (i + 1) walks) s after
+filled_more s before after first i walks walk is inside within f e =
+    let vs = walk.values.items in
+    let some = take i walks in
+    let long = length-take-le i walks (omega arith) in
+    let more = ap (λ (x : QueueWalk). some ++ x ∷ []) is ∙ sym (take_more walks i walk inside) in
+    let further = length_push some walk in
+    let same = f.queues in
+    subst (λ ws. AreFilled first ws s after) more (subst (AreFilled first (some ++ walk ∷ []) s) (sym e) (record {
+      maps = f.maps;
+      queues = length-set before.queues (first + i) vs ∙ f.queues;
+      filled = each_more (λ queue w. queue_at (with_queue before (first + i) vs) queue ≡ w.values.items) first some walk (first + i) (ap (λ n. first + n) long)
+          (λ j other below. let ne : first + j ≢ first + i = omega (arith, below, long) in
+          get_or-set_other before.queues (first + i) (first + j) vs [] ne ∙ f.filled j other below)
+          (get_or-set_same before.queues (first + i) vs [] (omega (arith, within, same, inside)));
+      others = λ queue out. ⊎_elim
+          (λ low. let ne : queue ≢ first + i = omega (arith, low) in get_or-set_other before.queues (first + i) queue vs [] ne ∙ f.others queue (inl low))
+          (λ high. let ne : queue ≢ first + i = omega (arith, high, further, long) in
+          get_or-set_other before.queues (first + i) queue vs [] ne ∙ f.others queue (inr (omega (arith, high, further))))
+          out;
+    }))
+
+-- a walk of a group that has some
+one_of : (walks : List QueueWalk) → 0 < length walks → QueueWalk
+one_of [] some = absurd (omega arith)
+one_of (walk ∷ walks) some = walk
 
 -- an element of equal ones, or the same past the end
 pub get_or-same : {X : Type 0} (n i : ℕ) (x : X) → get_or (replicate n x) i x ≡ x
@@ -82,6 +115,24 @@ module _ (w : LogicalWords) where
         (λ ne. get_or-set_other s.queues count queue vs [] ne ∙ f.filled queue (omega arith))
         (cases_eq queue count);
     empty = λ queue low. let ne : queue ≢ count = omega arith in get_or-set_other s.queues count queue vs [] ne ∙ f.empty queue (omega arith);
+  }
+
+  -- a group of them
+  pub queues_group : (s after : State) (first : ℕ) (walks : List QueueWalk) → 0 < length walks
+      → EachWalk (λ queue walk. walk.values.items ≡ queue_values w queue) first walks → AreFilled first walks s after → QueuesFilled s first
+      → QueuesFilled after (first + length walks)
+  queues_group s after first walks some read more f = record {
+    maps = more.maps ∙ f.maps;
+    queues = more.queues ∙ f.queues;
+    filled = λ queue below. ⊎_elim
+        (λ low. more.others queue (inl low) ∙ f.filled queue low)
+        (λ high. let i = queue - first in
+        let at : first + i ≡ queue = omega (arith, high) in
+        let inside : i < length walks = omega (arith, at, below) in
+        let walk = one_of walks some in
+        subst (λ q. queue_at after q ≡ queue_values w q) at (more.filled i walk inside ∙ read i walk inside))
+        (cases_lt queue first);
+    empty = λ queue low. more.others queue (inr low) ∙ f.empty queue (omega (arith, low));
   }
 
   pub queues_end : (s : State) → QueuesFilled s w.shape.queues → s ≡ state_of_store w

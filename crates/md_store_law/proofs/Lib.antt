@@ -1,6 +1,7 @@
 pub mod Sums
 pub mod States
 pub mod Walking
+pub mod SideWalks
 pub mod Filling
 pub mod RowPlaces
 pub mod RowHolds

@@ -1,5 +1,5 @@
--- How far a walk along a bucket or a queue has come: what it has read, and what is left.
-use Rattle.std.proofs.Common.{◌≡◌, ◌≢◌, ℕ, zero, suc, ◌<◌, ◌%◌, ◌++◌, true, false, List, [], ◌∷◌, eqb, refl, sym, ap, ◌∙◌, subst, ⊎_elim, Option, arith}
+-- How far a walk along a bucket has come: what it has read, and what is left.
+use Rattle.std.proofs.Common.{◌≡◌, ◌≢◌, ℕ, suc, ◌<◌, ◌%◌, ◌++◌, true, false, List, [], ◌∷◌, refl, sym, ap, ◌∙◌, subst, ⊎_elim, Option, arith}
 use Rattle.std.proofs.lemmas.Bool.{cond-true, cond-false, eq-eqb, ne_eqb}
 use Rattle.std.proofs.lemmas.List.{append-nil, append_assoc}
 use Rattle.std.proofs.Math.Nat.{mod-eq_of_lt}
@@ -14,10 +14,6 @@ use Rattle.md_list_law.specs.ListShape.{head_word, IsIn, Names}
 use Rattle.md_list_law.proofs.Walks.{walk-none, walk-some}
 use Rattle.md_list_law.proofs.Chains.{names_above}
 use Rattle.md_list_law.proofs.Pairs.{rises_of}
-use Rattle.md_queue_law.specs.QueueShape.{IsOf, head_of}
-use Rattle.md_queue_law.specs.QueueValues.{node_after, values_after, queue_values}
-use Rattle.md_queue_law.specs.Laws.Words.{linked_node-link}
-use Rattle.md_queue_law.proofs.Facts.{ranks_rise}
 use Rattle.md_store_law.specs.Field.{logical_words, IsStoreWith, IsStoreField}
 
 -- a number of a bucket is its own bucket
@@ -45,21 +41,11 @@ module _ (shape : Shape) (words : List ℕ) where
     pub rest : now ++ unmarked_pairs (logical_words shape words) (walk (logical_words shape words) left value)
         ≡ start ++ pairs_from (logical_words shape words) (head_word shape map bucket)
 
-  -- a walk along a queue has come to a node, has read these values, and has so many steps left
-  pub record WalksValues (queue : ℕ) (start now : List ℕ) (left node : ℕ) : Type 0 where
-    pub is_of : (placed : ℕ → Option Structure) → IsStoreWith shape words placed → IsOf (heap_with placed) queue node
-    pub rest : now ++ values_after (logical_words shape words) left node ≡ start ++ queue_values (logical_words shape words) queue
-
   -- the same at equal lists and numbers
   pub pairs_moved : (map bucket : ℕ) (start now then : List (ℕ × ℕ)) (left less value next : ℕ) → then ≡ now → less ≡ left → next ≡ value
       → WalksPairs map bucket start now left value → WalksPairs map bucket start then less next
   pairs_moved map bucket start now then left less value next e f g w = subst (λ ps. WalksPairs map bucket start ps less next) (sym e)
       (subst (λ n. WalksPairs map bucket start now n next) (sym f) (subst (λ v. WalksPairs map bucket start now left v) (sym g) w))
-
-  pub values_moved : (queue : ℕ) (start now then : List ℕ) (left less node next : ℕ) → then ≡ now → less ≡ left → next ≡ node
-      → WalksValues queue start now left node → WalksValues queue start then less next
-  values_moved queue start now then left less node next e f g w = subst (λ vs. WalksValues queue start vs less next) (sym e)
-      (subst (λ n. WalksValues queue start now n next) (sym f) (subst (λ v. WalksValues queue start now left v) (sym g) w))
 
   module _ (map bucket : ℕ) (m : map < shape.maps) (b : bucket < shape.buckets) (start : List (ℕ × ℕ)) where
     pub pairs_begin : WalksPairs map bucket start start (node_count shape) ((logical_words shape words).value (head_word shape map bucket))
@@ -121,49 +107,3 @@ module _ (shape : Shape) (words : List ℕ) where
     pairs_all now left value w none =
         let ws = logical_words shape words in
         sym (append-nil now) ∙ ap (λ n. now ++ unmarked_pairs ws (walk ws n value)) (sym none) ∙ w.rest
-
-  module _ (queue : ℕ) (q : queue < shape.queues) (start : List ℕ) where
-    pub values_begin : WalksValues queue start start (node_count shape) (linked_node (head_of (logical_words shape words) queue))
-    values_begin = record {
-      is_of = λ placed store. let head = (store.queues queue q).head in
-          subst (IsOf (heap_with placed) queue) (sym (ap linked_node head.2 ∙ linked_node-link head.0)) head.1;
-      rest = refl;
-    }
-
-    pub values_node : (now : List ℕ) (left node : ℕ) → WalksValues queue start now left node → IsStoreField shape words → IsNode shape node
-    values_node now left node w f = (f.store.queues queue q).line.exist node (w.is_of f.placed f.store)
-
-    after_of : (now : List ℕ) (left node : ℕ) → WalksValues queue start now left node → next_of (logical_words shape words) node ≢ 0
-        → (placed : ℕ → Option Structure) → IsStoreWith shape words placed → IsOf (heap_with placed) queue (node_after (logical_words shape words) node)
-    after_of now left node w some placed store =
-        let next = ranks_rise (heap_with placed) queue (store.queues queue q) node (w.is_of placed store) some in
-        subst (IsOf (heap_with placed) queue) (sym (ap linked_node next.2 ∙ linked_node-link next.0)) next.1
-
-    pub after_node : (now : List ℕ) (left node : ℕ) → WalksValues queue start now left node → next_of (logical_words shape words) node ≢ 0
-        → IsStoreField shape words → IsNode shape (node_after (logical_words shape words) node)
-    after_node now left node w some f = (f.store.queues queue q).line.exist _ (after_of now left node w some f.placed f.store)
-
-    pub values_on : (now : List ℕ) (left node : ℕ) → WalksValues queue start now (suc left) node → next_of (logical_words shape words) node ≢ 0
-        → let ws = logical_words shape words in
-        WalksValues queue start (now ++ ws.value_of_node (node_after ws node) ∷ []) left (node_after ws node)
-    values_on now left node w some =
-        let ws = logical_words shape words in
-        record {
-          is_of = after_of now (suc left) node w some;
-          rest = append_assoc now (ws.value_of_node (node_after ws node) ∷ []) _
-              ∙ ap (λ vs. now ++ vs) (sym (cond-false (eqb (next_of ws node) 0) _ _ (ne_eqb (next_of ws node) 0 some))) ∙ w.rest;
-        }
-
-    -- the end, where the next word is 0 or no step is left
-    pub values_none : (now : List ℕ) (left node : ℕ) → WalksValues queue start now left node → next_of (logical_words shape words) node ≡ 0
-        → now ≡ start ++ queue_values (logical_words shape words) queue
-    values_none now zero node w none = sym (append-nil now) ∙ w.rest
-    values_none now (suc left) node w none =
-        let ws = logical_words shape words in
-        sym (append-nil now) ∙ ap (λ vs. now ++ vs) (sym (cond-true (eqb (next_of ws node) 0) _ _ (eq-eqb (next_of ws node) 0 none))) ∙ w.rest
-
-    pub values_all : (now : List ℕ) (left node : ℕ) → WalksValues queue start now left node → left ≡ 0
-        → now ≡ start ++ queue_values (logical_words shape words) queue
-    values_all now left node w none =
-        let ws = logical_words shape words in
-        sym (append-nil now) ∙ ap (λ n. now ++ values_after ws n node) (sym none) ∙ w.rest

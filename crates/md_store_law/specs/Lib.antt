@@ -10,5 +10,6 @@ pub mod Untouched
 pub mod Below
 pub mod Compacted
 pub mod Lists
+pub mod SideWalks
 pub mod Living
 pub mod Laws

@@ -1,14 +1,16 @@
 //! What lives in a field, gathered in one walk.
 
-ghost use Rattle.std.specs.Prelude.{◌≡◌, ◌<◌, ◌+◌, ◌*◌, ◌^◌, length, IfOk, OnOk};
+ghost use Rattle.std.specs.Prelude.{◌≡◌, ◌<◌, ◌+◌, ◌*◌, ◌^◌, ℕ, List, length, IfOk, OnOk};
 ghost use Rattle.md_store_law.specs.Field.{IsStoreField};
 ghost use Rattle.md_store_law.specs.Compacted.{pairs_in, values_in};
 ghost use Rattle.md_store_law.specs.Lists.{AreFirst};
 ghost use Rattle.md_store_law.specs.Living.{LivesIn, by_number};
+ghost use Rattle.md_store_law.specs.SideWalks.{EachWalk};
 
 use crate::field_words::FieldWords;
 use crate::lists::Lists;
-use crate::walks::{append_pairs, append_values};
+use crate::side_walks::{QueueWalk, new_group, walk_group};
+use crate::walks::append_pairs;
 use md_words::Shape;
 use std::alloc::{AllocError, Global};
 
@@ -36,8 +38,9 @@ impl Living {
 /// buckets reach, without the removed ones, and the values behind the heads of its queues.
 /// `AllocError` if memory runs out.
 ///
-/// Goes along each bucket and each queue once. Takes time linear in the heads and the nodes, and
-/// 16 bytes for each pair and 8 for each value, bucket and queue.
+/// Goes along each bucket and each queue once, and along 8 queues side by side, since each step
+/// waits for memory. Takes time linear in the heads and the nodes, and 16 bytes for each pair and 8
+/// for each value, bucket and queue. Meanwhile it keeps 8 lists, none longer than the longest queue.
 pub fn gather<W: FieldWords>(alloc: Global, shape: &Shape, words: &W) -> Result<Living, AllocError>
     requires { IsStoreField shape.now (W.words words.now) }
     ensures { IfOk result (λ living. LivesIn shape.now (W.words words.now) living) }
@@ -98,9 +101,27 @@ fn gather_values<W: FieldWords>(
         (values_in shape.now (W.words words.now)) shape.now.queues) }
 {
     let mut values = Lists::new(alloc)?;
-    for queue in 0..shape.queues {
-        append_values(&mut values.joined, shape, words, queue)?;
-        values.end()?;
+    let mut walks = new_group(alloc)?;
+    let mut queue = 0;
+    'groups: while queue < shape.queues {
+        walk_group(&mut walks, shape, words, queue)?;
+        append_walks(&mut values, &walks)?;
+        queue += walks.len() as u32;
     }
     Ok(values)
+}
+
+// Appends what walks have read, a list for each.
+fn append_walks(values: &mut Lists<u64>, walks: &[QueueWalk]) -> Result<(), AllocError>
+    ensures { OnOk result ((lists : ℕ → List ℕ) (first : ℕ)
+        → AreFirst values.old.joined.items values.old.bounds.items lists first
+        → EachWalk (λ queue walk. walk.values.items ≡ lists queue) first walks.now
+        → AreFirst values.new.joined.items values.new.bounds.items lists
+        (first + length walks.now)) }
+{
+    for walk in walks {
+        values.joined.extend_from_slice(&walk.values)?;
+        values.end()?;
+    }
+    Ok(())
 }

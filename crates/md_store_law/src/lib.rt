@@ -32,6 +32,7 @@ mod laying;
 mod laying_tests;
 mod lists;
 mod reading;
+mod side_walks;
 mod sizes;
 #[cfg(test)]
 mod tests;

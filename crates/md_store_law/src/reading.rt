@@ -1,14 +1,15 @@
 //! The contents of a field, read off from its words.
 
-ghost use Rattle.std.specs.Prelude.{◌≡◌, ◌<◌, [], length, IfOk, OnOk};
+ghost use Rattle.std.specs.Prelude.{◌≡◌, ◌<◌, ◌≤◌, ◌+◌, ◌^◌, [], length, IfOk, OnOk};
 ghost use Rattle.md_history.specs.State.{queue_at, with_queue};
 ghost use Rattle.md_store_law.specs.Store.{state_of_store};
 ghost use Rattle.md_store_law.specs.Field.{logical_words, IsStoreField};
 ghost use Rattle.md_hash_law.specs.HashTable.{pairs_of_map};
-ghost use Rattle.md_store_law.specs.Compacted.{values_in};
+ghost use Rattle.md_store_law.specs.SideWalks.{EachWalk, AreFilled};
 
 use crate::field_words::FieldWords;
-use crate::walks::{append_pairs, append_values};
+use crate::side_walks::{QueueWalk, new_group, walk_group};
+use crate::walks::append_pairs;
 use md_history::Contents;
 use md_words::Shape;
 use std::alloc::{AllocError, Global};
@@ -26,7 +27,11 @@ pub fn read_off(alloc: Global, shape: &Shape, words: &[u64]) -> Result<Contents,
 }
 
 /// The contents of a field whose words stand anywhere, as `read_off` gives them: every count is
-/// even. `AllocError` if memory runs out. Takes the time of `read_off`.
+/// even. `AllocError` if memory runs out.
+///
+/// Goes along each bucket and each queue once, and along 8 queues side by side, since each step
+/// waits for memory. Takes the time of `read_off`. Besides the contents it keeps the pairs of one
+/// map, and 8 lists of values, none longer than the longest queue.
 pub fn read_off_from<W: FieldWords>(
     alloc: Global,
     shape: &Shape,
@@ -40,9 +45,12 @@ pub fn read_off_from<W: FieldWords>(
         let pairs = pairs_of(alloc, shape, words, map)?;
         contents.set_map(map, pairs)?;
     }
-    for queue in 0..shape.queues {
-        let values = values_of(alloc, shape, words, queue)?;
-        push_values(&mut contents, queue, &values)?;
+    let mut walks = new_group(alloc)?;
+    let mut queue = 0;
+    'groups: while queue < shape.queues {
+        walk_group(&mut walks, shape, words, queue)?;
+        push_walks(&mut contents, queue, &walks)?;
+        queue += walks.len() as u32;
     }
     Ok(contents)
 }
@@ -66,21 +74,17 @@ fn pairs_of<W: FieldWords>(
     Ok(pairs)
 }
 
-// The values of a queue, in order.
-fn values_of<W: FieldWords>(
-    alloc: Global,
-    shape: &Shape,
-    words: &W,
-    queue: u32,
-) -> Result<Vec<u64>, AllocError>
-    requires store { IsStoreField shape.now (W.words words.now) }
-    requires queue { queue < shape.now.queues }
-    ensures { IfOk result
-        (λ values. values.items ≡ values_in shape.now (W.words words.now) queue) }
+// Fills the empty queues from a number on with what walks have read.
+fn push_walks(contents: &mut Contents, first: u32, walks: &[QueueWalk]) -> Result<(), AllocError>
+    requires within { first + length walks.now ≤ length contents.old.queues }
+    requires few { length contents.old.queues < 2 ^ 32 }
+    requires empty { EachWalk (λ queue walk. queue_at contents.old queue ≡ []) first walks.now }
+    ensures { OnOk result (AreFilled first walks.now contents.old contents.new) }
 {
-    let mut values = Vec::new(alloc);
-    append_values(&mut values, shape, words, queue)?;
-    Ok(values)
+    for (i, walk) in walks.iter().enumerate() {
+        push_values(contents, first + i as u32, &walk.values)?;
+    }
+    Ok(())
 }
 
 // Fills an empty queue with values.

@@ -5,7 +5,7 @@ ghost use Rattle.md_words.specs.Content.{value_of};
 ghost use Rattle.md_words.specs.Layout.{IsNode, node_count};
 ghost use Rattle.md_words.specs.LayoutLaws.{IsField};
 ghost use Rattle.md_machine.specs.LogicalHeap.{next_of};
-ghost use Rattle.md_store_law.specs.Compacted.{pairs_in, values_in};
+ghost use Rattle.md_store_law.specs.Compacted.{pairs_in};
 ghost use Rattle.md_store_law.specs.Field.{logical_words, IsStoreField};
 
 use crate::field_words::FieldWords;
@@ -40,50 +40,26 @@ pub(crate) fn append_pairs<W: FieldWords>(
     Ok(())
 }
 
-/// Appends the values of a queue, in order.
-pub(crate) fn append_values<W: FieldWords>(
-    values: &mut Vec<u64>,
-    shape: &Shape,
-    words: &W,
-    queue: u32,
-) -> Result<(), AllocError>
-    requires store { IsStoreField shape.now (W.words words.now) }
-    requires queue { queue < shape.now.queues }
-    ensures { OnOk result (values.new.items ≡ values.old.items
-        ++ values_in shape.now (W.words words.now) queue) }
-{
-    let mut node = value_at(words, shape.queue_head(queue)) / 2;
-    for step in 0..node_count(shape) {
-        let next = next_of(shape, words, node);
-        if next == 0 {
-            return Ok(());
-        }
-        node = next / 2;
-        values.push(pair_of(shape, words, node).1)?;
-    }
-    Ok(())
-}
-
-// The number of nodes: no walk along next words is longer.
+/// The number of nodes: no walk along next words is longer.
 #[tactic(auto, unfolding(md_words::specs::Layout::node_count))]
-fn node_count(shape: &Shape) -> u32
+pub(crate) fn node_count(shape: &Shape) -> u32
     ensures { result ≡ node_count shape.now }
 {
     shape.base + shape.lanes * shape.nodes
 }
 
-// The value of a counted word.
+/// The value of a counted word.
 #[inline]
-fn value_at<W: FieldWords>(words: &W, word: u32) -> u32
+pub(crate) fn value_at<W: FieldWords>(words: &W, word: u32) -> u32
     requires { word < length (W.words words.now) }
     ensures { result ≡ value_of (slice_index (W.words words.now) word) }
 {
     Content::of(words.word(word)).value
 }
 
-// The value of a node's next word.
+/// The value of a node's next word.
 #[inline]
-fn next_of<W: FieldWords>(shape: &Shape, words: &W, node: u32) -> u32
+pub(crate) fn next_of<W: FieldWords>(shape: &Shape, words: &W, node: u32) -> u32
     requires field { IsField shape.now (W.words words.now) }
     requires node { IsNode shape.now node }
     ensures { result ≡ next_of (logical_words shape.now (W.words words.now)) node }
@@ -91,9 +67,9 @@ fn next_of<W: FieldWords>(shape: &Shape, words: &W, node: u32) -> u32
     value_at(words, shape.node_next(node))
 }
 
-// The key and the value of a node.
+/// The key and the value of a node.
 #[inline]
-fn pair_of<W: FieldWords>(shape: &Shape, words: &W, node: u32) -> (u64, u64)
+pub(crate) fn pair_of<W: FieldWords>(shape: &Shape, words: &W, node: u32) -> (u64, u64)
     requires field { IsField shape.now (W.words words.now) }
     requires node { IsNode shape.now node }
     ensures { let w = logical_words shape.now (W.words words.now) in
