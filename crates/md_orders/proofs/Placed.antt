@@ -1,11 +1,13 @@
 -- The rooms of each caller, and the replies that suit their lines.
-use Rattle.std.proofs.Common.{◌≡◌, ◌<◌, ◌≤◌, ◌+◌, ◌-◌, ◌∙◌, ℕ, zero, suc, List, [], Option, Some, None}
-use Rattle.std.proofs.Common.{length, map, take, replicate, get_or, set, refl, sym, ap, subst, arith, inl, inr}
+use Rattle.std.proofs.Common.{◌≡◌, ◌<◌, ◌≤◌, ◌+◌, ◌-◌, ◌∙◌, ◌++◌, ◌∷◌, ℕ, zero, suc, List, [], Option, Some, None}
+use Rattle.std.proofs.Common.{length, map, take, drop, replicate, get_or, set, refl, sym, ap, ap₂, subst, arith, inl, inr}
+use Rattle.std.proofs.Common.{length-drop, get_or-drop, take-add, drop-drop}
 use Rattle.std.specs.Prelude.{All, IfSome, nat_lt, slice_get}
 use borrow.Author.Tests.{ltb-true, ltb-false}
 use Rattle.std.proofs.lemmas.Bool.{cases_Bool}
 use Rattle.std.specs.Option.{IsSomeAnd}
-use Rattle.std.proofs.lemmas.List.{map-set, get_or-map, get_or_past, length-map, set-get_or, take_at}
+use Rattle.std.proofs.lemmas.Grind.{take_at_read}
+use Rattle.std.proofs.lemmas.List.{map-append, map-set, get_or-map, get_or_past, length-map, set-get_or, take_at}
 use Rattle.std.proofs.lemmas.Option.{slice_get-get_or, slice_get_past}
 use Rattle.md_book.specs.declared.commands.Command.{Command}
 use Rattle.md_book.specs.declared.commands.Command.TheVariants as command
@@ -15,8 +17,8 @@ use Rattle.md_book.specs.Book.{padded}
 use Rattle.md_book.specs.Suits.{IsPart, IsTaken, Suits}
 use Rattle.md_book.specs.Commands.{IsCommand, IsPlaces, name_of}
 use Rattle.md_orders.specs.Scripts.{list_of, with_list, with_line, at_line, IsNamed, AreNamed}
-use Rattle.md_orders.specs.Replies.{with_reply}
-use Rattle.md_orders.specs.Rooms.{room_of, HasRoom, RoomsState, sizes_of, sizes_in, replies_of}
+use Rattle.md_orders.specs.Replies.{no_replies, with_reply}
+use Rattle.md_orders.specs.Rooms.{room_of, HasRoom, RoomsState, unset_rooms, unset_rooms_after, sizes_of, sizes_in, replies_of}
 use Rattle.md_orders.proofs.ByCaller.{list_of-at, with_list-at, with_line-at}
 
 -- what one value shows for a caller
@@ -118,3 +120,30 @@ replies-set callers caller line i k v w r low high at line_low line_at is new =
     ∙ ap (λ rs. with_list (replies_of callers) caller rs)
     (ap (λ s. s.replies) new ∙ sym (with_line-at v.replies line k (Some r) line_low line_at)
     ∙ ap (λ (rs : List (Option BookReply)). with_line rs line (Some r)) (sym found))
+
+-- of rooms with no reply, the sizes and the replies
+pub unset-sizes : (scripts : List (List Command)) → sizes_in (map unset_rooms scripts) ≡ sizes_of scripts
+unset-sizes [] = refl
+unset-sizes (script ∷ scripts) = ap (λ more. map room_of script ∷ more) (unset-sizes scripts)
+
+pub unset-replies : (scripts : List (List Command)) → replies_of (map unset_rooms scripts) ≡ no_replies scripts
+unset-replies [] = refl
+unset-replies (script ∷ scripts) = ap (λ (more : List (List (Option BookReply))). replicate (length script) None ∷ more) (unset-replies scripts)
+
+-- those of one caller more
+pub unset-more : (scripts : List (List Command)) (before i : ℕ) (rooms new : List RoomsState) (room : RoomsState) → before + i < length scripts → room ≡ unset_rooms (list_of scripts (before + i + 1))
+    → rooms ≡ unset_rooms_after scripts before i → new ≡ rooms ++ room ∷ [] → new ≡ unset_rooms_after scripts before (i + 1)
+unset-more scripts before i rooms new room inside is so_far pushed =
+    let rest = drop before scripts in
+    let size = length-drop before scripts in
+    let mine : list_of scripts (before + i + 1) ≡ get_or rest i [] = list_of-at scripts (before + i + 1) (before + i) (omega arith) (omega arith) ∙ sym (get_or-drop before scripts i []) in
+    pushed ∙ ap₂ (λ xs x. xs ++ x ∷ []) so_far (is ∙ ap unset_rooms mine)
+    ∙ sym (map-append unset_rooms (take i rest) (get_or rest i [] ∷ []))
+    ∙ sym (ap (map unset_rooms) (take_at_read rest i [] (omega arith)).1)
+
+-- those of two halves
+pub unset-halves : (scripts : List (List Command)) (before low high : ℕ) → unset_rooms_after scripts before low ++ unset_rooms_after scripts (before + low) high ≡ unset_rooms_after scripts before (low + high)
+unset-halves scripts before low high =
+    let rest = drop before scripts in
+    sym (ap (map unset_rooms) (take-add low high rest ∙ ap (λ more. take low rest ++ take high more) (drop-drop low before scripts))
+    ∙ map-append unset_rooms (take low rest) (take high (drop (before + low) scripts)))

@@ -90,11 +90,6 @@ texts_after-halves text before low high middle count out first second whole mid 
     ∙ append_assoc out (texts_after before low text) _
     ∙ ap (λ t. out ++ t) (sym (texts_to-append low high (λ n. text (before + n))) ∙ ap (λ n. texts_after before n text) (sym all))
 
--- no numbers have no text
-pub texts_after-no : (text : ℕ → List ℕ) (before count : ℕ) (out : List ℕ) → count ≡ 0 → out ≡ out ++ texts_after before count text
-texts_after-no text before count out none =
-    texts_none out (λ n. text (before + n)) ∙ ap (λ n. out ++ texts_after before n text) (sym none)
-
 -- the text of one number
 pub texts_after-one : (text : ℕ → List ℕ) (before count : ℕ) (mine : List ℕ) → count ≡ 1 → mine ≡ text (before + 1) → mine ≡ texts_after before count text
 unfolding texts_to

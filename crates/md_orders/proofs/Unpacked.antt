@@ -2,7 +2,7 @@
 use Rattle.std.proofs.Common.{◌≡◌, ◌<◌, ◌≤◌, ◌+◌, ◌-◌, ◌*◌, ◌/◌, ◌%◌, ◌^◌, ◌∙◌, ◌++◌, ◌∷◌, refl, sym, ap, subst, arith, zero, suc}
 use Rattle.std.proofs.Common.{ℕ, List, [], All, length, take, drop, get_or, set, replicate, append_assoc, length-append}
 use Rattle.std.specs.Prelude.{min, sum_by}
-use Rattle.std.proofs.lemmas.List.{length-take, length-take-le, length-replicate, length-drop, get_or-drop, take-append-le, drop-append-le, drop-drop, drop_more, take_more, take_all}
+use Rattle.std.proofs.lemmas.List.{get_or_append_left, get_or-append-add, length-take, length-take-le, length-replicate, length-drop, get_or-drop, take-append-le, drop-append-le, drop-drop, drop_more, take_more, take_all}
 use Rattle.std.proofs.lemmas.List.Sums.{sum_by-append, sum_by-cons}
 use Rattle.std.proofs.lemmas.List.Elements.{All-head, All-tail}
 use Rattle.md_book.specs.declared.commands.Part.{Part}
@@ -10,50 +10,62 @@ use Rattle.md_book.specs.declared.commands.BookReply.{BookReply}
 use Rattle.md_book.specs.declared.limits.TheConstants.{MAX_PARTS}
 use Rattle.md_book.specs.Book.{padded}
 use Rattle.md_orders.specs.declared.packed.PackedHead.{PackedHead}
-use Rattle.md_orders.specs.Packed.{IsSmall, size_of, numbers_of, part_of, parts_of, unpacked, unpacked_all, ArePacked, IsPacked}
-use Rattle.md_orders.proofs.PartNumbers.{padded-more}
+use Rattle.md_orders.specs.Packed.{IsSmall, no_part, size_of, numbers_of, part_of, parts_of, unpacked, unpacked_all, ArePacked, IsPacked}
 
 -- so many parts are read
 pub length-parts_of : (kept : ℕ) (numbers : List ℕ) → length (parts_of kept numbers) ≡ kept
 length-parts_of zero numbers = refl
 length-parts_of (suc kept) numbers = ap suc (length-parts_of kept (drop 2 numbers))
 
--- one part more
-parts_of-more : (kept i j : ℕ) (numbers : List ℕ) → 2 * kept ≡ i → 2 * kept + 1 ≡ j
-    → parts_of (suc kept) numbers ≡ parts_of kept numbers ++ part_of (get_or numbers i 0) (get_or numbers j 0) ∷ []
-parts_of-more zero i j numbers at_i at_j =
-    ap (λ n. part_of (get_or numbers n 0) (get_or numbers 1 0) ∷ []) at_i
-    ∙ ap (λ n. part_of (get_or numbers i 0) (get_or numbers n 0) ∷ []) at_j
-parts_of-more (suc kept) i j numbers at_i at_j =
-    let name : get_or (drop 2 numbers) (2 * kept) 0 ≡ get_or numbers i 0 =
-    let same : 2 + 2 * kept ≡ i = omega arith in
-    get_or-drop 2 numbers (2 * kept) 0 ∙ ap (λ n. get_or numbers n 0) same in
-    let taken : get_or (drop 2 numbers) (2 * kept + 1) 0 ≡ get_or numbers j 0 =
-    let same : 2 + (2 * kept + 1) ≡ j = omega arith in
-    get_or-drop 2 numbers (2 * kept + 1) 0 ∙ ap (λ n. get_or numbers n 0) same in
-    ap (λ ps. part_of (get_or numbers 0 0) (get_or numbers 1 0) ∷ ps)
-    (parts_of-more kept (2 * kept) (2 * kept + 1) (drop 2 numbers) refl refl
-    ∙ ap (λ n. parts_of kept (drop 2 numbers) ++ part_of n (get_or (drop 2 numbers) (2 * kept + 1) 0) ∷ []) name
-    ∙ ap (λ n. parts_of kept (drop 2 numbers) ++ part_of (get_or numbers i 0) n ∷ []) taken)
+-- the part at a place
+part-within : (kept place i j : ℕ) (numbers : List ℕ) → place < kept → 2 * place ≡ i → 2 * place + 1 ≡ j
+    → get_or (parts_of kept numbers) place no_part ≡ part_of (get_or numbers i 0) (get_or numbers j 0)
+part-within zero place i j numbers inside at_i at_j = absurd (omega arith)
+part-within (suc kept) zero i j numbers inside at_i at_j =
+    ap (λ n. part_of (get_or numbers n 0) (get_or numbers 1 0)) at_i
+    ∙ ap (λ n. part_of (get_or numbers i 0) (get_or numbers n 0)) at_j
+part-within (suc kept) (suc place) i j numbers inside at_i at_j =
+    let first : 2 + 2 * place ≡ i = omega arith in
+    let second : 2 + (2 * place + 1) ≡ j = omega arith in
+    part-within kept place (2 * place) (2 * place + 1) (drop 2 numbers) (omega arith) refl refl
+    ∙ ap (λ n. part_of n (get_or (drop 2 numbers) (2 * place + 1) 0)) (get_or-drop 2 numbers (2 * place) 0 ∙ ap (λ n. get_or numbers n 0) first)
+    ∙ ap (part_of (get_or numbers i 0)) (get_or-drop 2 numbers (2 * place + 1) 0 ∙ ap (λ n. get_or numbers n 0) second)
 
--- and one part more among the padded ones
-pub padded-next : (place : ℕ) (numbers : List ℕ) → place < MAX_PARTS
-    → set (padded (parts_of place (drop 1 numbers))) place
-    (part_of (get_or numbers (2 * place + 1) 0) (get_or numbers (2 * place + 2) 0))
-    ≡ padded (parts_of (place + 1) (drop 1 numbers))
-padded-next place numbers room =
+pub padded-within : (kept place : ℕ) (numbers : List ℕ) → place < kept
+    → get_or (padded (parts_of kept (drop 1 numbers))) place no_part ≡ part_of (get_or numbers (2 * place + 1) 0) (get_or numbers (2 * place + 2) 0)
+padded-within kept place numbers inside =
     let rest = drop 1 numbers in
-    let name : get_or rest (2 * place) 0 ≡ get_or numbers (2 * place + 1) 0 =
-    let same : 1 + 2 * place ≡ 2 * place + 1 = omega arith in
-    get_or-drop 1 numbers (2 * place) 0 ∙ ap (λ n. get_or numbers n 0) same in
-    let taken : get_or rest (2 * place + 1) 0 ≡ get_or numbers (2 * place + 2) 0 =
-    let same : 1 + (2 * place + 1) ≡ 2 * place + 2 = omega arith in
-    get_or-drop 1 numbers (2 * place + 1) 0 ∙ ap (λ n. get_or numbers n 0) same in
-    let next : suc place ≡ place + 1 = omega arith in
-    padded-more (parts_of place rest) place _ (length-parts_of place rest) room
-    ∙ ap padded (sym (sym (ap (λ k. parts_of k rest) next) ∙ parts_of-more place (2 * place) (2 * place + 1) rest refl refl
-    ∙ ap (λ n. parts_of place rest ++ part_of n (get_or rest (2 * place + 1) 0) ∷ []) name
-    ∙ ap (λ n. parts_of place rest ++ part_of (get_or numbers (2 * place + 1) 0) n ∷ []) taken))
+    let size = length-parts_of kept rest in
+    let first : 1 + 2 * place ≡ 2 * place + 1 = omega arith in
+    let second : 1 + (2 * place + 1) ≡ 2 * place + 2 = omega arith in
+    get_or_append_left (parts_of kept rest) (replicate (MAX_PARTS - length (parts_of kept rest)) no_part) no_part place (omega arith)
+    ∙ part-within kept place (2 * place) (2 * place + 1) rest inside refl refl
+    ∙ ap (λ n. part_of n (get_or rest (2 * place + 1) 0)) (get_or-drop 1 numbers (2 * place) 0 ∙ ap (λ n. get_or numbers n 0) first)
+    ∙ ap (part_of (get_or numbers (2 * place + 1) 0)) (get_or-drop 1 numbers (2 * place + 1) 0 ∙ ap (λ n. get_or numbers n 0) second)
+
+-- past them the parts are zero
+pub padded-past : (kept place : ℕ) (numbers : List ℕ) → kept ≤ place → get_or (padded (parts_of kept numbers)) place no_part ≡ no_part
+padded-past kept place numbers past =
+    let parts = parts_of kept numbers in
+    let size = length-parts_of kept numbers in
+    let count = MAX_PARTS - length parts in
+    let at : place ≡ length parts + (place - kept) = omega arith in
+    ap (λ n. get_or (padded parts) n no_part) at ∙ get_or-append-add parts (replicate count no_part) (place - kept) no_part ∙ zero_at count (place - kept)
+  where
+    zero_at : (n i : ℕ) → get_or (replicate n no_part) i no_part ≡ no_part
+    zero_at zero i = refl
+    zero_at (suc n) zero = refl
+    zero_at (suc n) (suc i) = zero_at n i
+
+-- so many parts, padded, fill their places
+pub length-filled : (kept : ℕ) (numbers : List ℕ) → kept ≤ MAX_PARTS → length (padded (parts_of kept numbers)) ≡ MAX_PARTS
+length-filled kept numbers few =
+    let parts = parts_of kept numbers in
+    let size = length-parts_of kept numbers in
+    let zeros = replicate (MAX_PARTS - length parts) no_part in
+    let both = length-append parts zeros in
+    let left = length-replicate (MAX_PARTS - length parts) no_part in
+    omega arith
 
 abbrev part_with : ℕ → ℕ → Part
 part_with name taken = record { name = name; taken = taken }

@@ -1,6 +1,6 @@
 -- How replies are kept: for each line a head that says which reply it is, and a room of some numbers of eight bytes.
 use Rattle.std.specs.Prelude.{◌≡◌, ℕ, ◌+◌, ◌*◌, ◌/◌, ◌%◌, ◌^◌, ◌≤◌, min, Option, Some, None, List, [], ◌∷◌, ◌++◌, All}
-use Rattle.std.specs.Prelude.{map, sum, length, take, drop, slice_index_or}
+use Rattle.std.specs.Prelude.{map, sum, length, take, drop, replicate, slice_index_or}
 use Rattle.md_book.specs.declared.commands.Command.{Command}
 use Rattle.md_book.specs.declared.commands.Command.TheVariants.{Place, Cancel, Fill, Kill, Depth, Account}
 use Rattle.md_book.specs.declared.commands.Part.{Part}
@@ -11,6 +11,9 @@ use Rattle.md_book.specs.Book.{padded}
 use Rattle.md_book.specs.Suits.{IsPart}
 use Rattle.md_orders.specs.declared.rooms.Head.{Head}
 use Rattle.md_orders.specs.declared.rooms.Head.TheVariants as head
+use Rattle.md_orders.specs.declared.rooms.NewReply.{NewReply}
+use Rattle.md_orders.specs.declared.rooms.NewReply.TheVariants as given
+use Rattle.md_orders.specs.Packed.{unpacked}
 
 -- how many numbers a command's reply can need: a fill's and a kill's one for what was taken and remains, and one a part
 abbrev pub room_of : Command → ℕ
@@ -62,6 +65,11 @@ reply_in (head.Filled count) room =
 reply_in head.Depth room = Some (reply.Depth (slice_index_or room 0 0))
 reply_in head.Account room = Some (reply.Account (slice_index_or room 0 0) (slice_index_or room 1 0))
 
+-- the reply that is to be kept
+abbrev pub new_reply : NewReply → BookReply
+new_reply (given.Whole r) = r.now
+new_reply (given.Packed h numbers) = unpacked h numbers.now
+
 -- a room of a size that starts at a place was set, and with the head it is the reply
 pub record KeepsAt (old new : List ℕ) (start size : ℕ) (h : Head) (r : BookReply) : Type 0 where
   pub room : List ℕ
@@ -91,6 +99,14 @@ pub record AreRooms (starts sizes : List ℕ) (heads : List Head) (numbers : Lis
   pub starts_are : starts ≡ starts_of 0 sizes
   pub heads_are : length heads ≡ length sizes
   pub numbers_are : length numbers ≡ sum sizes
+
+-- the rooms of a script's lines, with no reply
+abbrev pub unset_rooms : List Command → RoomsState
+unset_rooms script = record { sizes = map room_of script; replies = replicate (length script) None }
+
+-- those of so many callers after the first ones
+abbrev pub unset_rooms_after : List (List Command) → ℕ → ℕ → List RoomsState
+unset_rooms_after scripts before count = map unset_rooms (take count (drop before scripts))
 
 -- the sizes of the rooms that each line of some scripts needs
 abbrev pub sizes_of : List (List Command) → List (List ℕ)

@@ -6,7 +6,7 @@ ghost use Rattle.md_book.specs.Book.{Book};
 ghost use Rattle.md_book.specs.Stands.{StandsFor};
 ghost use Rattle.md_orders.specs.Report.{lines_text, callers_text_after, report_text, report_text_of};
 
-use crate::text::{after_replies, lines, make_room};
+use crate::text::{after_replies, callers_lines, lines, make_room};
 use crate::{Replies, Scripts};
 use md_book::MAPS;
 use md_history::Contents;
@@ -14,7 +14,7 @@ use std::alloc::{AllocError, Global};
 use std::thread;
 use std::thread::Threads;
 
-// About how many threads write the lines of fewer callers.
+// How many threads write the lines.
 const THREADS: u32 = 4;
 
 // Fewer lines of a caller are written in one thread.
@@ -74,29 +74,30 @@ fn lines_in_ranges<R: Threads + Sync>(
     joined(earlier?, later?)
 }
 
-// Adds the lines of the `count` callers after the first `before`, by halves in threads, and those of
-// each in at most so many ranges.
+// Adds the lines of the `count` callers after the first `before`, in at most so many threads, by
+// halves.
 #[cycle(halves)]
 fn lines_of_callers<R: Threads + Sync>(
     rt: &R,
     alloc: Global,
-    out: Vec<u8>,
+    mut out: Vec<u8>,
     of: &Scripts,
     replies: &Replies,
     before: u32,
     count: u32,
-    ranges: u32,
+    threads: u32,
 ) -> Result<Vec<u8>, AllocError>
     requires { before + count < 2 ^ 32 }
     ensures { IfOk result (λ text. text.items
         ≡ out.items ++ callers_text_after of.now replies.now.replies before count) }
 {
-    if count == 0 {
-        return Ok(out);
-    }
     if count == 1 {
         let caller = before + 1;
-        return lines_in_ranges(rt, alloc, out, replies, caller, 0, of.len(caller), ranges);
+        return lines_in_ranges(rt, alloc, out, replies, caller, 0, of.len(caller), threads);
+    }
+    if threads <= 1 || count == 0 {
+        callers_lines(&mut out, of, replies, before, count)?;
+        return Ok(out);
     }
     let high = count / 2;
     let low = count - high;
@@ -108,7 +109,7 @@ fn lines_of_callers<R: Threads + Sync>(
             requires few { before + low < 2 ^ 32 }
             ensures { IfOk result (λ text. text.items ≡ out.items
                 ++ callers_text_after of.entry.now replies.entry.now.replies before low) }
-        { lines_of_callers(rt, alloc, out, of, replies, before, low, ranges) },
+        { lines_of_callers(rt, alloc, out, of, replies, before, low, threads / 2) },
         move || -> Result<Vec<u8>, AllocError>
             requires sync { IsSync R.row }
             requires few { middle + high < 2 ^ 32 }
@@ -116,20 +117,17 @@ fn lines_of_callers<R: Threads + Sync>(
                 ≡ callers_text_after of.entry.now replies.entry.now.replies middle high) }
         {
             let more = Vec::new(alloc);
-            lines_of_callers(rt, alloc, more, of, replies, middle, high, ranges)
+            lines_of_callers(rt, alloc, more, of, replies, middle, high, threads / 2)
         },
     );
     joined(first?, second?)
 }
 
-/// The text of a report, as `report` returns it. Threads write the lines of the callers side by
-/// side.
+/// The text of a report, as `report` returns it. Four threads write the lines side by side.
 ///
-/// The call takes the callers by halves, in `thread::join`, and joins the texts of the halves. If
-/// there are fewer than four callers, it takes the lines of each by halves too: those of one caller
-/// in four ranges, and those of each of two or three callers in two. Fewer than 4,096 lines of a
-/// caller are one range. So n callers take n - 1 calls of `thread::join`, and up to 3 more if they
-/// are fewer than four.
+/// The call takes the callers by halves twice, in `thread::join`, and joins the texts of the
+/// halves. A single caller's lines it takes by halves instead. It so takes at most 3 calls of
+/// `thread::join`. Fewer than 4,096 lines of a caller are written in one thread.
 ///
 /// `AllocError` if memory runs out. Room for 24 bytes a line is taken at once. Where two texts are
 /// joined, the second is in memory twice.
@@ -146,11 +144,9 @@ pub fn report_in_threads<R: Threads + Sync>(
     ensures book { IfOk result (λ text. (book : Book) → StandsFor contents.now book
         → text.items ≡ report_text of.now replies.now.replies book) }
 {
-    let callers = of.callers();
-    let ranges = THREADS.div_ceil(callers.max(1));
     let mut out = Vec::new(alloc);
     make_room(&mut out, of.total())?;
-    let mut out = lines_of_callers(rt, alloc, out, of, replies, 0, callers, ranges)?;
+    let mut out = lines_of_callers(rt, alloc, out, of, replies, 0, of.callers(), THREADS)?;
     after_replies(&mut out, contents, of.total())?;
     Ok(out)
 }

@@ -1,6 +1,7 @@
 //! Order files: their records, the scripts that they write, and the report.
 #![tactic(auto)]
 
+mod all_rooms;
 mod cuts;
 mod fields;
 mod generator;

@@ -1,15 +1,18 @@
 //! Replies in a list, each in as many numbers as it has.
 
 ghost use Rattle.std.specs.Prelude.{◌≡◌, ◌≢◌, ◌↔◌, ◌==◌, ◌<◌, ◌≤◌, ◌+◌, ◌-◌, ◌*◌, ◌++◌, ◌∷◌, ◌^◌, ℕ, []};
-ghost use Rattle.std.specs.Prelude.{All, min, length, take, drop, slice_index_or, vec_len, vec_capacity, OnOk, OnErr, IsTrue};
+ghost use Rattle.std.specs.Prelude.{Some, All, map, min, length, take, drop, slice_index_or, vec_len, vec_capacity, OnOk, OnErr, IsTrue};
 ghost use Rattle.md_book.specs.declared.limits.TheConstants.{MAX_PARTS};
 ghost use Rattle.md_book.specs.Book.{padded};
+ghost use Rattle.md_book.specs.Suits.{IsPart};
 ghost use Rattle.md_orders.specs.declared.packed.TheConstants.{MAX_NUMBERS};
 ghost use Rattle.md_orders.specs.Packed.{IsSmall, no_part, size_of, numbers_of, parts_of, unpacked, unpacked_all, ArePacked, IsPacked};
 ghost use Rattle.md_orders.specs.Replies.{with_replies, AllSuit};
+ghost use Rattle.md_orders.specs.Rooms.{HasRoom, part_number, reply_in};
 
+use crate::parts::part_number;
 use crate::replies::Replies;
-use crate::rooms::{number_at, room_at};
+use crate::rooms::{Head, NewReply, number_at, room_at};
 use md_book::{BookReply, MAX_PARTS, Part};
 use std::alloc::{AllocError, Global};
 use std::marker::Model;
@@ -29,7 +32,7 @@ const NO_PART: Part = Part { name: 0, taken: 0 };
 // Which reply it is, and what of it is small. Of a fill the first `kept` parts are numbers, and the
 // others are zero.
 #[derive(Clone, Copy)]
-enum PackedHead {
+pub(crate) enum PackedHead {
     Placed,
     Cancelled(u32),
     Gone,
@@ -141,43 +144,60 @@ fn pack(numbers: &mut Vec<u64>, reply: &BookReply) -> PackedHead
     }
 }
 
-// The parts that a fill keeps, which stand after its first number.
-fn parts_of(kept: u8, numbers: &[u64]) -> [Part; MAX_PARTS]
-    ensures { result ≡ padded (parts_of (min kept MAX_PARTS) (drop 1 numbers.now)) }
+// The part at a place of a fill that keeps so many, whose numbers stand after its first number.
+fn part_at(kept: u8, numbers: &[u64], place: usize) -> Part
+    ensures { result ≡ slice_index_or
+        (padded (parts_of (min kept MAX_PARTS) (drop 1 numbers.now))) place no_part }
 {
-    let mut parts = [NO_PART; MAX_PARTS];
-    for place in 0..usize::from(kept).min(MAX_PARTS) {
-        parts[place] = Part {
-            name: number_at(numbers, 2 * place + 1),
-            taken: (number_at(numbers, 2 * place + 2) % QUANTITIES) as u32,
-        };
+    if place >= usize::from(kept).min(MAX_PARTS) {
+        return NO_PART;
     }
-    parts
+    Part {
+        name: number_at(numbers, 2 * place + 1),
+        taken: (number_at(numbers, 2 * place + 2) % QUANTITIES) as u32,
+    }
 }
 
-// The reply that a head and its numbers are.
-fn unpacked(head: PackedHead, numbers: &[u64]) -> BookReply
-    ensures { result ≡ unpacked head numbers.now }
+// Keeps the first `count` parts of a fill that keeps so many in a room, after its first number.
+fn keep_packed_parts(room: &mut [u64], count: u8, kept: u8, numbers: &[u64])
+    requires few { count ≤ MAX_PARTS }
+    requires room { count < length room.old }
+    requires in_range { All IsPart
+        (take count (padded (parts_of (min kept MAX_PARTS) (drop 1 numbers.now)))) }
+    ensures parts { take count (drop 1 room.new) ≡ map part_number
+        (take count (padded (parts_of (min kept MAX_PARTS) (drop 1 numbers.now)))) }
+    ensures first { slice_index_or room.new 0 0 ≡ slice_index_or room.old 0 0 }
+{
+    for place in 0..usize::from(count) {
+        room[place + 1] = part_number(&part_at(kept, numbers, place));
+    }
+}
+
+/// Keeps the reply that a head and its numbers are in a room that is large enough for it, and
+/// returns its head there.
+pub(crate) fn keep_packed(room: &mut [u64], head: PackedHead, numbers: &[u64]) -> Head
+    requires { HasRoom (unpacked head numbers.now) (length room.old) }
+    ensures { reply_in result room.new ≡ Some (unpacked head numbers.now) }
 {
     match head {
-        PackedHead::Placed => BookReply::Placed,
-        PackedHead::Cancelled(left) => BookReply::Cancelled(left),
-        PackedHead::Gone => BookReply::Gone,
-        PackedHead::Killed => BookReply::Killed,
+        PackedHead::Placed => Head::Placed,
+        PackedHead::Cancelled(left) => Head::Cancelled(left),
+        PackedHead::Gone => Head::Gone,
+        PackedHead::Killed => Head::Killed,
         PackedHead::Filled { count, kept } => {
-            let first = number_at(numbers, 0);
-            BookReply::Filled {
-                taken: (first / QUANTITIES) as u32,
-                rest: (first % QUANTITIES) as u32,
-                count,
-                parts: parts_of(kept, numbers),
-            }
+            room[0] = number_at(numbers, 0);
+            keep_packed_parts(room, count, kept, numbers);
+            Head::Filled(count)
         }
-        PackedHead::Depth => BookReply::Depth(number_at(numbers, 0)),
-        PackedHead::Account => BookReply::Account {
-            bought: number_at(numbers, 0),
-            sold: number_at(numbers, 1),
-        },
+        PackedHead::Depth => {
+            room[0] = number_at(numbers, 0);
+            Head::Depth
+        }
+        PackedHead::Account => {
+            room[0] = number_at(numbers, 0);
+            room[1] = number_at(numbers, 1);
+            Head::Account
+        }
     }
 }
 
@@ -195,8 +215,8 @@ fn set_each(replies: &mut Replies, caller: u32, done: u32, heads: &[PackedHead],
     for head in heads {
         line += 1;
         let size = size_of(*head);
-        let reply = unpacked(*head, room_at(numbers, start, size));
-        replies.set_line(caller, line, &reply);
+        let reply = NewReply::Packed(*head, room_at(numbers, start, size));
+        replies.set_line(caller, line, reply);
         start += size;
     }
 }

@@ -1,19 +1,24 @@
 //! Replies: a place for the reply of each line.
 
-ghost use Rattle.std.specs.Prelude.{◌≡◌, ◌<◌, ◌+◌, ◌^◌, length, IfOk};
+ghost use Rattle.std.specs.Prelude.{◌≡◌, ◌<◌, ◌+◌, ◌^◌, map, length, IfOk};
 ghost use Rattle.std.specs.Option.{IsSomeAnd};
 ghost use Rattle.md_book.specs.Suits.{Suits};
 ghost use Rattle.md_orders.specs.Scripts.{at_line};
 ghost use Rattle.md_orders.specs.Replies.{no_replies, reply_at, with_reply, with_replies, AllSuit};
-ghost use Rattle.md_orders.specs.Rooms.{sizes_of, sizes_in, replies_of, reply_in};
+ghost use Rattle.md_orders.specs.Rooms.{unset_rooms, new_reply, reply_in};
 
+use crate::all_rooms::{rooms_in_threads, rooms_of_callers};
 use crate::packed::PackedReplies;
-use crate::rooms::{Head, ReplyRooms, reply_in};
+use crate::rooms::{Head, NewReply, ReplyRooms, reply_in};
 use crate::scripts::{Scripts, commands_are_named};
 use md_book::BookReply;
 use std::alloc::{AllocError, Global};
 use std::marker::Model;
 use std::snapshot::Snapshot;
+use std::thread::Threads;
+
+// How many threads make the places.
+const THREADS: u32 = 4;
 
 /// A place for the reply of each line of some scripts. Callers and lines are counted from 1.
 ///
@@ -41,17 +46,16 @@ impl Model for Replies {
         × AreNamed r.of.value };
 }
 
-// The rooms of each script.
-fn all_rooms(alloc: Global, scripts: &Scripts) -> Result<Vec<ReplyRooms>, AllocError>
-    ensures sizes { IfOk result (λ rooms. sizes_in rooms.items ≡ sizes_of scripts.now) }
-    ensures replies { IfOk result (λ rooms. replies_of rooms.items ≡ no_replies scripts.now) }
+// The places of all lines of scripts, from the rooms of each caller, without a reply.
+fn with_rooms(scripts: &Scripts, callers: Vec<ReplyRooms>) -> Replies
+    requires { callers.items ≡ map unset_rooms scripts.now }
+    ensures { result ≡ record { scripts = scripts.now; replies = no_replies scripts.now } }
 {
-    let callers = scripts.callers();
-    let mut rooms = Vec::with_capacity(alloc, callers as usize)?;
-    for before in 0..callers {
-        rooms.push(ReplyRooms::empty(alloc, scripts.script(before + 1))?)?;
+    commands_are_named(scripts);
+    Replies {
+        of: Snapshot::of(scripts),
+        callers,
     }
-    Ok(rooms)
 }
 
 impl Replies {
@@ -60,12 +64,23 @@ impl Replies {
         ensures { IfOk result (λ r. r
             ≡ record { scripts = scripts.now; replies = no_replies scripts.now }) }
     {
-        let callers = all_rooms(alloc, scripts)?;
-        commands_are_named(scripts);
-        Ok(Replies {
-            of: Snapshot::of(scripts),
-            callers,
-        })
+        let callers = rooms_of_callers(alloc, scripts, 0, scripts.callers())?;
+        Ok(with_rooms(scripts, callers))
+    }
+
+    /// The places of all lines of scripts, as `empty` returns them. Up to four threads make the
+    /// places of the callers side by side, by halves, in up to three calls of `thread::join`.
+    /// `AllocError` if memory runs out.
+    pub fn empty_in_threads<R: Threads + Sync>(
+        rt: &R,
+        alloc: Global,
+        scripts: &Scripts,
+    ) -> Result<Replies, AllocError>
+        ensures { IfOk result (λ r. r
+            ≡ record { scripts = scripts.now; replies = no_replies scripts.now }) }
+    {
+        let callers = rooms_in_threads(rt, alloc, scripts, 0, scripts.callers(), THREADS)?;
+        Ok(with_rooms(scripts, callers))
     }
 
     /// Sets the reply of a line. The line is one of the scripts, and the reply suits its command:
@@ -77,15 +92,15 @@ impl Replies {
           replies = with_reply self.old.replies caller line reply;
         } }
     {
-        self.set_line(caller, line, &reply);
+        self.set_line(caller, line, NewReply::Whole(&reply));
     }
 
-    /// Sets the reply of a line, as `set`, from where it stands.
-    pub(crate) fn set_line(&mut self, caller: u32, line: u32, reply: &BookReply)
+    /// Sets the reply of a line, as `set`, whole or packed.
+    pub(crate) fn set_line(&mut self, caller: u32, line: u32, reply: NewReply<'_>)
         requires { IsSomeAnd (at_line self.old.scripts caller line) (λ command.
-            Suits (command, reply.now)) }
+            Suits (command, new_reply reply)) }
         ensures { self.new ≡ record self.old {
-          replies = with_reply self.old.replies caller line reply.now;
+          replies = with_reply self.old.replies caller line (new_reply reply.entry);
         } }
     {
         self.callers[caller as usize - 1].set(line as usize - 1, reply);

@@ -1,10 +1,11 @@
 //! The replies of one caller's lines, each in a head and a room of some numbers.
 
-ghost use Rattle.std.specs.Prelude.{◌≡◌, ◌<◌, ◌≤◌, ◌+◌, Some, None, All, map, length, take, drop, replicate, slice_get, slice_set, slice_index_or, IfOk};
+ghost use Rattle.std.specs.Prelude.{◌≡◌, ◌<◌, ◌≤◌, ◌+◌, Some, All, map, length, take, drop, slice_get, slice_set, slice_index_or, IfOk};
 ghost use Rattle.md_orders.specs.Records.{max_records};
 ghost use Rattle.md_book.specs.Suits.{IsPart};
-ghost use Rattle.md_orders.specs.Rooms.{room_of, HasRoom, part_number, reply_in, parts_in, KeepsAt};
+ghost use Rattle.md_orders.specs.Rooms.{room_of, HasRoom, part_number, reply_in, parts_in, new_reply, unset_rooms, KeepsAt};
 
+use crate::packed::{PackedHead, keep_packed};
 use crate::parts::{part_in, part_number};
 use md_book::{BookReply, Command, MAX_PARTS, Part};
 use std::alloc::{AllocError, Global};
@@ -21,6 +22,13 @@ pub(crate) enum Head {
     Filled(u8),
     Depth,
     Account,
+}
+
+/// A reply that is to be kept, whole or packed.
+#[derive(Clone, Copy)]
+pub(crate) enum NewReply<'a> {
+    Whole(&'a BookReply),
+    Packed(PackedHead, &'a [u64]),
 }
 
 /// The replies of one caller's lines. Each line has a room of its own among the numbers.
@@ -102,13 +110,24 @@ fn keep(room: &mut [u64], reply: &BookReply) -> Head
     }
 }
 
-// Keeps a reply in the room of a size that starts at a place of the numbers, and returns its head.
-fn keep_at(numbers: &mut [u64], start: usize, size: usize, reply: &BookReply) -> Head
-    requires inside { start + size ≤ length numbers.old }
-    requires room { HasRoom reply.now size }
-    ensures { KeepsAt numbers.old numbers.new start size result reply.now }
+// Keeps a reply, whole or packed, in a room that is large enough for it, and returns its head.
+fn keep_new(room: &mut [u64], reply: NewReply<'_>) -> Head
+    requires { HasRoom (new_reply reply) (length room.old) }
+    ensures { reply_in result room.new ≡ Some (new_reply reply.entry) }
 {
-    keep(&mut numbers[start..start + size], reply)
+    match reply {
+        NewReply::Whole(whole) => keep(room, whole),
+        NewReply::Packed(head, numbers) => keep_packed(room, head, numbers),
+    }
+}
+
+// Keeps a reply in the room of a size that starts at a place of the numbers, and returns its head.
+fn keep_at(numbers: &mut [u64], start: usize, size: usize, reply: NewReply<'_>) -> Head
+    requires inside { start + size ≤ length numbers.old }
+    requires room { HasRoom (new_reply reply) size }
+    ensures { KeepsAt numbers.old numbers.new start size result (new_reply reply.entry) }
+{
+    keep_new(&mut numbers[start..start + size], reply)
 }
 
 /// The number at a place of a room, or 0 past its end.
@@ -179,10 +198,7 @@ impl ReplyRooms {
     /// The rooms of a script's lines, with no reply.
     pub(crate) fn empty(alloc: Global, script: &[Command]) -> Result<ReplyRooms, AllocError>
         requires { length script.now ≤ max_records }
-        ensures { IfOk result (λ r. r ≡ record {
-          sizes = map room_of script.now;
-          replies = replicate (length script.now) None;
-        }) }
+        ensures { IfOk result (λ r. r ≡ unset_rooms script.now) }
     {
         let mut starts = Vec::with_capacity(alloc, script.len())?;
         let mut sizes = Vec::with_capacity(alloc, script.len())?;
@@ -223,11 +239,11 @@ impl ReplyRooms {
     }
 
     /// Sets the reply of the line at an index, whose room is enough for it.
-    pub(crate) fn set(&mut self, at: usize, reply: &BookReply)
+    pub(crate) fn set(&mut self, at: usize, reply: NewReply<'_>)
         requires there { at < length self.old.sizes }
-        requires room { HasRoom reply.now (slice_index_or self.old.sizes at 0) }
+        requires room { HasRoom (new_reply reply) (slice_index_or self.old.sizes at 0) }
         ensures { self.new ≡ record self.old {
-          replies = slice_set self.old.replies at (Some reply.now);
+          replies = slice_set self.old.replies at (Some (new_reply reply.entry));
         } }
     {
         let start = self.starts[at] as usize;

@@ -10,7 +10,7 @@ ghost use Rattle.md_orders.specs.Rooms.{parts_in, reply_in};
 ghost use Rattle.md_orders.specs.declared.text.TheConstants.{NAME, PART, PARTS, REPLY};
 ghost use Rattle.md_orders.specs.declared.text.line_buffer.TheConstants.{SIZE};
 ghost use Rattle.md_orders.specs.Summary.{summary_text, summary_text_of};
-ghost use Rattle.md_orders.specs.Report.{name_text, part_text, filled_text, reply_text, answer_text, lines_text, replies_text, level_text, account_text, done_text, report_text, levels_text_of, accounts_text_of, after_replies_text_of, report_text_of};
+ghost use Rattle.md_orders.specs.Report.{name_text, part_text, filled_text, reply_text, answer_text, lines_text, callers_text_after, level_text, account_text, done_text, report_text, levels_text_of, accounts_text_of, after_replies_text_of, report_text_of};
 
 use crate::parts::part_in;
 use crate::rooms::{Head, number_at};
@@ -188,13 +188,21 @@ pub(crate) fn lines(
     Ok(())
 }
 
-fn scripts(out: &mut Vec<u8>, scripts: &Scripts, replies: &Replies) -> Result<(), AllocError>
+/// Adds the lines of the `count` callers after the first `before`.
+pub(crate) fn callers_lines(
+    out: &mut Vec<u8>,
+    of: &Scripts,
+    replies: &Replies,
+    before: u32,
+    count: u32,
+) -> Result<(), AllocError>
+    requires { before + count < 2 ^ 32 }
     ensures { OnOk result (out.new.items
-        ≡ out.old.items ++ replies_text scripts.now replies.now.replies) }
+        ≡ out.old.items ++ callers_text_after of.now replies.now.replies before count) }
 {
-    for before in 0..scripts.callers() {
-        let caller = before + 1;
-        lines(out, replies, caller, 0, scripts.len(caller))?;
+    for earlier in 0..count {
+        let caller = before + earlier + 1;
+        lines(out, replies, caller, 0, of.len(caller))?;
     }
     Ok(())
 }
@@ -302,7 +310,7 @@ pub fn report(
 {
     let mut out = Vec::new(alloc);
     make_room(&mut out, of.total())?;
-    scripts(&mut out, of, replies)?;
+    callers_lines(&mut out, of, replies, 0, of.callers())?;
     after_replies(&mut out, contents, of.total())?;
     Ok(out)
 }

@@ -1,6 +1,7 @@
 //! What is read of packed replies.
 
-use super::{PackedHead, PackedReplies, size_of, unpacked};
+use super::{NO_PART, PackedHead, PackedReplies, QUANTITIES, part_at, size_of};
+use crate::rooms::number_at;
 use md_book::{BookReply, MAX_PARTS, Part};
 use std::test::Fail;
 
@@ -48,6 +49,39 @@ fn replies() -> [BookReply; 12] {
         filled(12, [most; MAX_PARTS]),
         BookReply::Depth(u64::MAX),
     ]
+}
+
+// The parts of a fill that keeps so many.
+fn parts_of(kept: u8, numbers: &[u64]) -> [Part; MAX_PARTS] {
+    let mut parts = [NO_PART; MAX_PARTS];
+    for place in 0..MAX_PARTS {
+        parts[place] = part_at(kept, numbers, place);
+    }
+    parts
+}
+
+// The reply that a head and its numbers are.
+fn unpacked(head: PackedHead, numbers: &[u64]) -> BookReply {
+    match head {
+        PackedHead::Placed => BookReply::Placed,
+        PackedHead::Cancelled(left) => BookReply::Cancelled(left),
+        PackedHead::Gone => BookReply::Gone,
+        PackedHead::Killed => BookReply::Killed,
+        PackedHead::Filled { count, kept } => {
+            let first = number_at(numbers, 0);
+            BookReply::Filled {
+                taken: (first / QUANTITIES) as u32,
+                rest: (first % QUANTITIES) as u32,
+                count,
+                parts: parts_of(kept, numbers),
+            }
+        }
+        PackedHead::Depth => BookReply::Depth(number_at(numbers, 0)),
+        PackedHead::Account => BookReply::Account {
+            bought: number_at(numbers, 0),
+            sold: number_at(numbers, 1),
+        },
+    }
 }
 
 // Refuses heads and numbers that are other replies than these.

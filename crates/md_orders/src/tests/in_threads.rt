@@ -1,4 +1,4 @@
-//! Reports that threads write.
+//! Reports that threads write, of replies whose places threads made.
 
 use crate::tests::reports::{contents_of, set_all};
 use crate::{Replies, make, report, report_in_threads};
@@ -18,6 +18,7 @@ fn threads_write_the_same_report(rt: HostRuntime) -> Result<(), Fail> {
         (2, 8_193),
         (3, 12_301),
         (5, 203),
+        (8, 23),
         (5, 3),
     ];
     for (callers, lines) in files {
@@ -25,7 +26,9 @@ fn threads_write_the_same_report(rt: HostRuntime) -> Result<(), Fail> {
         let mut replies = Replies::empty(alloc, &scripts)?;
         set_all(&mut replies, &scripts, 4);
         let want = report(alloc, &scripts, &replies, &contents)?;
-        let text = report_in_threads(&rt, alloc, &scripts, &replies, &contents)?;
+        let mut places = Replies::empty_in_threads(&rt, alloc, &scripts)?;
+        set_all(&mut places, &scripts, 4);
+        let text = report_in_threads(&rt, alloc, &scripts, &places, &contents)?;
         assert_eq!(rt; text.as_slice(), want.as_slice(), "of {callers}");
     }
     Ok(())

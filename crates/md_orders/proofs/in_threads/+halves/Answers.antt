@@ -2,13 +2,8 @@ use Rattle.std.proofs.Common.{◌≡◌, ◌+◌, ◌-◌, ◌/◌, ◌∙◌, �
 use Rattle.std.proofs.lemmas.Result.{IfOk-at_ok, IfOk-weaker}
 use Rattle.md_orders.specs.Scripts.{list_of}
 use Rattle.md_orders.specs.Report.{script_text, lines_text}
-use Rattle.md_orders.proofs.Texts.{texts_after-no, texts_after-one, texts_after-none, texts_after-halves}
+use Rattle.md_orders.proofs.Texts.{texts_after-one, texts_after-none, texts_after-halves}
 use Rattle.md_orders.proofs.in_threads.+halves.Goals as goal
-
-pub returns-then-count-eq0 : goal.returns-then-count-eq0
-returns-then-count-eq0 g t c =
-    texts_after-no (λ caller. script_text c.args.replies.now.replies caller (length (list_of c.args.of.now caller)))
-    c.args.before c.args.count c.args.out.items c.if-count-eq0.true
 
 pub returns-then-count-eq1 : goal.returns-then-count-eq1
 returns-then-count-eq1 g t c =

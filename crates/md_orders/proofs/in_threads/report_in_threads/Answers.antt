@@ -8,8 +8,8 @@ pub returns-clause-text : goal.returns-clause-text
 returns-clause-text g c =
     report-is c.args.of.now c.args.replies.now.replies c.args.contents.now c.total-2.result c.in_ok-out.out.items _
     (c.in_ok-out.ensures
-    ∙ ap (λ t. t ++ callers_text_after c.args.of.now c.args.replies.now.replies 0 c.callers-callers.result) (c.make_room.ensures ∙ c.new-out.ensures.items)
-    ∙ ap (callers_text_after c.args.of.now c.args.replies.now.replies 0) c.callers-callers.ensures
+    ∙ ap (λ t. t ++ callers_text_after c.args.of.now c.args.replies.now.replies 0 c.callers.result) (c.make_room.ensures ∙ c.new-out.ensures.items)
+    ∙ ap (callers_text_after c.args.of.now c.args.replies.now.replies 0) c.callers.ensures
     ∙ texts_after-none (length c.args.of.now) (λ caller. script_text c.args.replies.now.replies caller (length (list_of c.args.of.now caller))))
     c.total-2.ensures.count c.in_ok-after_replies.ensures
 

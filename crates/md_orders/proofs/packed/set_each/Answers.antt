@@ -1,4 +1,4 @@
-use Rattle.std.proofs.Common.{◌∙◌, ◌+◌, ap, sym, subst, drop, arith}
+use Rattle.std.proofs.Common.{◌∙◌, ◌+◌, ap, sym, refl, subst, drop, arith}
 use Rattle.md_orders.specs.Packed.{unpacked_all}
 use Rattle.md_orders.specs.Replies.{RepliesState, with_replies, AllSuit}
 use Rattle.md_orders.proofs.Unpacked.{sum-next, unpacked-next}
@@ -11,14 +11,14 @@ room_at-requires c =
 
 pub set_line-requires : goal.set_line-requires
 set_line-requires c =
-    let next = unpacked-next c.args.heads.now c.args.numbers.now _ c.loop-head.head-index c.loop-head.start _ _ _ c.loop-head-test.true c.size_of-size.ensures c.room_at.ensures c.unpacked-reply.ensures in
+    let next = unpacked-next c.args.heads.now c.args.numbers.now _ c.loop-head.head-index c.loop-head.start _ _ _ c.loop-head-test.true c.size_of-size.ensures c.room_at.ensures refl in
     (subst (AllSuit c.loop-head.replies.scripts c.args.caller c.loop-head.line) next c.loop-head.invariant.suit).0
 
 pub loop-head-preserved : goal.loop-head-preserved
 loop-head-preserved c =
     let inv = c.loop-head.invariant in
     let left = unpacked_all (drop (c.loop-head.head-index + 1) c.args.heads.now) (drop (c.loop-head.start + c.size_of-size.result) c.args.numbers.now) in
-    let next = unpacked-next c.args.heads.now c.args.numbers.now _ c.loop-head.head-index c.loop-head.start _ _ _ c.loop-head-test.true c.size_of-size.ensures c.room_at.ensures c.unpacked-reply.ensures in
+    let next = unpacked-next c.args.heads.now c.args.numbers.now _ c.loop-head.head-index c.loop-head.start _ _ _ c.loop-head-test.true c.size_of-size.ensures c.room_at.ensures refl in
     let sum = sum-next c.args.heads.now c.loop-head.head-index _ _ c.loop-head-test.true c.size_of-size.ensures in
     let scripts = ap (λ (s : RepliesState). s.scripts) c.set_line.ensures in
     let replies = ap (λ (s : RepliesState). s.replies) c.set_line.ensures in
