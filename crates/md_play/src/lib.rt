@@ -1,7 +1,7 @@
 //! Order commands of several callers, played in threads over the concurrent store.
 #![tactic(auto)]
 
-pub use playing::{MAX_LANE_NODES, play_on_store};
+pub use playing::{MAX_LANE_NODES, OpenStore, open_store, play_on_store, play_opened};
 
 mod playing;
 #[cfg(test)]

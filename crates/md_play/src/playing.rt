@@ -1,18 +1,20 @@
-//! How scripts are played over a store of their own.
+//! How a store is opened for callers, and how their scripts are played over it.
 
 ghost use Rattle.std.specs.Prelude.{◌≡◌, ◌≤◌, ◌*◌, ℕ, IfOk, OnOk, length, map};
 ghost use Rattle.md_words.specs.Layout.{HasNumbers};
 ghost use Rattle.md_book.specs.Book.{Book};
 ghost use Rattle.md_book.specs.Stands.{StandsFor};
+ghost use Rattle.md_orders.specs.Replies.{no_replies};
 ghost use Rattle.md_rounds.specs.OrderLines.{line_count_of};
 ghost use Rattle.md_rounds.specs.Replay.{IsPlayed};
 ghost use Rattle.md_store.specs.Store.{front_in};
+ghost use Rattle.md_play.specs.Opened.{IsOpenFor};
 
 use md_book::{COMMAND_NODES, LEVELS, MAPS};
 use md_history::Contents;
 use md_many::Gate;
-use md_orders::Scripts;
-use md_rounds::{Outcome, run_all};
+use md_orders::{Replies, Scripts};
+use md_rounds::{Outcome, run_all_into};
 use md_store::{Store, StorePass};
 use md_words::Shape;
 use std::alloc::{AllocError, Global};
@@ -58,17 +60,85 @@ fn shape_of(callers: u32, nodes: u32, tries: u32, buckets: u32) -> Shape
     Shape::new(callers, nodes, LEVELS, tries, MAPS, buckets, LEVELS).unwrap()
 }
 
-/// Opens a store without orders, plays the scripts of all callers over it in threads, and closes
-/// it. There are 1 to 64 callers, and each has a lane of its own. All lines are committed, each
-/// once, with the replies of the book, whatever the threads do. `run_all` of md_rounds says more.
+/// A store without orders, with a lane for each caller, on which nothing was played yet
+/// (`open_store`). Contracts say so by `IsOpenFor`.
+#[derive(Drop)]
+pub struct OpenStore {
+    pub store: Store,
+    /// The store's first pass, which holds all lanes.
+    pub pass: StorePass,
+    /// The most attempts that a caller makes in its turn of a round.
+    pub tries: u32,
+}
+
+/// Opens a store without orders for 1 to 64 callers, each with a lane of its own, on which
+/// `play_opened` plays their scripts.
 ///
-/// `nodes` is how many nodes a lane has until the store is renewed, `COMMAND_NODES` to
-/// `MAX_LANE_NODES`, and at most `MAX_STORE_NODES` for all lanes together. `tries` is how many attempts a lane has until then, 1 to 4,294,967,295. It is
-/// also the most attempts that a caller makes in its turn of a round. With fewer nodes or attempts
-/// the store is renewed more often, and all lines are played in any case.
+/// `lines` is about how many lines all callers together have: any number, by which the store has
+/// more or fewer buckets. `nodes` is how many nodes a lane has until the store is renewed,
+/// `COMMAND_NODES` to `MAX_LANE_NODES`, and at most `MAX_STORE_NODES` for all lanes together.
+/// `tries` is how many attempts a lane has until then, 1 to 4,294,967,295. With fewer nodes or
+/// attempts the store is renewed more often, and all lines are played in any case.
 ///
 /// The store has 273,277 words, and 3 * `nodes` + 641 more for each caller; from 500,000 lines on it
-/// has 261,516 words more, for twice as many buckets. A word takes 8 bytes.
+/// has 261,516 words more, for twice as many buckets. A word takes 8 bytes. The call takes time
+/// linear in the words.
+///
+/// `AllocError` if memory runs out.
+pub fn open_store(
+    alloc: Global,
+    callers: u32,
+    lines: u32,
+    nodes: u32,
+    tries: u32,
+) -> Result<OpenStore, AllocError>
+    requires callers { (1 ≤ callers) × (callers ≤ 64) }
+    requires nodes { (COMMAND_NODES ≤ nodes) × (nodes ≤ MAX_LANE_NODES) }
+    requires all { callers * nodes ≤ MAX_STORE_NODES }
+    requires tries { 1 ≤ tries }
+    ensures { IfOk result (λ o. IsOpenFor callers o.store o.pass) }
+{
+    let shape = shape_of(callers, nodes, tries, buckets_for(lines));
+    let start = Contents::empty(alloc, MAPS, LEVELS)?;
+    // Empty contents need one node for each queue, and the store has as many base nodes. So `open`
+    // fails only if memory runs out.
+    let Ok((store, pass)) = Store::open(alloc, shape, &start) else {
+        return Err(AllocError);
+    };
+    Ok(OpenStore { store, pass, tries })
+}
+
+/// Plays the scripts of all callers in threads over a store that was opened for as many, and closes
+/// it. All lines are committed, each once, with the replies of the book, whatever the threads do.
+/// `run_all_into` of md_rounds says more. `replies` are the places of the replies, without a reply
+/// (`Replies::empty` of md_orders).
+///
+/// `AllocError` if memory runs out.
+pub fn play_opened<R, G>(
+    rt: &R,
+    alloc: Global,
+    opened: OpenStore,
+    scripts: &Scripts,
+    replies: Replies,
+    gate: &G,
+) -> Result<Outcome<StorePass>, AllocError>
+where
+    R: Threads + Sync,
+    G: Gate + Sync,
+    requires open_for { IsOpenFor (length scripts.now) opened.store opened.pass }
+    requires places { replies ≡ record { scripts = scripts.now; replies = no_replies scripts.now } }
+    ensures played { IfOk result (λ o. (book : Book) × StandsFor o.contents book
+        × IsPlayed scripts.now (map front_in o.fronts.items) o.replies.replies book) }
+    ensures gate { OnOk result ((caller line : ℕ) → 1 ≤ line
+        → line ≤ line_count_of scripts.now caller → G.after_called gate.now caller line) }
+{
+    let OpenStore { store, pass, tries } = opened;
+    run_all_into(rt, alloc, store, pass, scripts, replies, tries, gate)
+}
+
+/// Opens a store without orders, makes the places of the replies, and plays the scripts of all
+/// callers over the store in threads: `open_store`, with the lines of the scripts, and `play_opened`. There are 1 to 64 callers. `nodes`
+/// and `tries` are those of a lane, as for `open_store`.
 ///
 /// `AllocError` if memory runs out.
 pub fn play_on_store<R, G>(
@@ -91,13 +161,7 @@ where
     ensures gate { OnOk result ((caller line : ℕ) → 1 ≤ line
         → line ≤ line_count_of scripts.now caller → G.after_called gate.now caller line) }
 {
-    let buckets = buckets_for(scripts.total());
-    let shape = shape_of(scripts.callers(), nodes, tries, buckets);
-    let start = Contents::empty(alloc, MAPS, LEVELS)?;
-    // Empty contents need one node for each queue, and the store has as many base nodes. So `open`
-    // fails only if memory runs out.
-    let Ok((store, pass)) = Store::open(alloc, shape, &start) else {
-        return Err(AllocError);
-    };
-    run_all(rt, alloc, store, pass, scripts, tries, gate)
+    let opened = open_store(alloc, scripts.callers(), scripts.total(), nodes, tries)?;
+    let replies = Replies::empty(alloc, scripts)?;
+    play_opened(rt, alloc, opened, scripts, replies, gate)
 }

@@ -6,6 +6,7 @@ ghost use Rattle.md_history.specs.Engine.{bounds_in};
 ghost use Rattle.md_book.specs.Book.{Book};
 ghost use Rattle.md_book.specs.Meets.{command_bounds};
 ghost use Rattle.md_book.specs.Stands.{StandsFor};
+ghost use Rattle.md_orders.specs.Replies.{no_replies};
 ghost use Rattle.md_rounds.specs.OrderLines.{line_count_of};
 ghost use Rattle.md_rounds.specs.Replay.{IsPlayed, no_orders};
 ghost use Rattle.md_rounds.specs.Traded.{MOST_NODES};
@@ -36,11 +37,59 @@ pub struct Outcome<P> {
 /// attempt. A renewal has room for contents of 2,024,000 nodes, which are enough for a book of
 /// 1,000,000 orders.
 ///
+/// `replies` are the places of the replies, without a reply (`Replies::empty` of md_orders).
 /// `tries` is the most attempts that a caller makes in its turn of a round: any number.
-/// `play_rounds` of md_many says what a round is, and when the engine is renewed. The places of all
-/// replies are made before the first round (`Replies` of md_orders). Beside them a round takes the
+/// `play_rounds` of md_many says what a round is, and when the engine is renewed. A round takes the
 /// replies of its turns: for each caller the last 1,024 of them as they are, and the others packed
 /// (`PackedReplies` of md_orders).
+///
+/// `AllocError` if memory runs out, here or in an attempt of the engine. Then the engine has ended,
+/// and its contents are lost.
+pub fn run_all_into<R, E, G>(
+    rt: &R,
+    alloc: Global,
+    engine: E,
+    pass: E::Pass,
+    scripts: &Scripts,
+    replies: Replies,
+    tries: u32,
+    gate: &G,
+) -> Result<Outcome<E::Pass>, AllocError>
+where
+    R: Threads + Sync,
+    E: Engine,
+    G: Gate + Sync,
+    requires of { E.of engine pass }
+    requires fresh { E.fresh engine pass }
+    requires lanes { length (E.lanes engine) ≡ length scripts.now }
+    requires start { E.start engine ≡ no_orders }
+    requires bounds { AllowAll command_bounds (bounds_in (E.limits engine)) }
+    requires tries { 1 ≤ (E.limits engine).tries }
+    requires room { MOST_NODES ≤ (E.limits engine).room }
+    requires places { replies ≡ record { scripts = scripts.now; replies = no_replies scripts.now } }
+    ensures played { IfOk result (λ o. (book : Book) × StandsFor o.contents book
+        × IsPlayed scripts.now (map E.front o.fronts.items) o.replies.replies book) }
+    ensures gate { OnOk result ((caller line : ℕ) → 1 ≤ line
+        → line ≤ line_count_of scripts.now caller → G.after_called gate.now caller line) }
+{
+    commands_meet_the_book();
+    commands_are_small();
+    empty_book_stands();
+    replies_suit();
+    commands_are_named(scripts);
+    let _ = scripts.total();
+    let lines = OrderLines { scripts };
+    let mut keeper = KeptReplies { replies };
+    let rounds = play_rounds(rt, alloc, engine, pass, &lines, tries, gate, &mut keeper)?;
+    Ok(Outcome {
+        replies: keeper.replies,
+        contents: rounds.contents,
+        fronts: rounds.fronts,
+    })
+}
+
+/// Makes the places of the replies, and plays the scripts of all callers over an engine without
+/// orders, as `run_all_into` does.
 ///
 /// `AllocError` if memory runs out, here or in an attempt of the engine. Then the engine has ended,
 /// and its contents are lost.
@@ -69,20 +118,6 @@ where
     ensures gate { OnOk result ((caller line : ℕ) → 1 ≤ line
         → line ≤ line_count_of scripts.now caller → G.after_called gate.now caller line) }
 {
-    commands_meet_the_book();
-    commands_are_small();
-    empty_book_stands();
-    replies_suit();
-    commands_are_named(scripts);
-    let _ = scripts.total();
-    let lines = OrderLines { scripts };
-    let mut keeper = KeptReplies {
-        replies: Replies::empty(alloc, scripts)?,
-    };
-    let rounds = play_rounds(rt, alloc, engine, pass, &lines, tries, gate, &mut keeper)?;
-    Ok(Outcome {
-        replies: keeper.replies,
-        contents: rounds.contents,
-        fronts: rounds.fronts,
-    })
+    let replies = Replies::empty(alloc, scripts)?;
+    run_all_into(rt, alloc, engine, pass, scripts, replies, tries, gate)
 }

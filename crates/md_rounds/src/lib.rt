@@ -11,7 +11,7 @@ mod summed;
 #[cfg(test)]
 mod tests;
 
-pub use all::{Outcome, run_all};
+pub use all::{Outcome, run_all, run_all_into};
 pub use alone::{Played, play_alone};
 pub use limits::limits_hold;
 pub use md_many::{FreeGate, Gate};

@@ -1,5 +1,6 @@
 pub mod Pieces
 pub mod Complete
+pub mod Unreadable
 pub mod Unread
 pub mod Settings
 pub mod Ranges

@@ -2,6 +2,7 @@
 #![tactic(auto)]
 
 mod input;
+mod orders;
 mod output;
 mod play;
 mod program;

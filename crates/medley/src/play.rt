@@ -1,9 +1,11 @@
-//! Playing scripts over a concurrent store, with the nodes and attempts that the options give.
+//! Opening a concurrent store and playing scripts over it, with the nodes and attempts that the
+//! options give.
 
 ghost use Rattle.std.specs.Prelude.{◌≡◌, ◌≤◌, ◌*◌, ℕ, IfOk, length, map};
 ghost use Rattle.md_book.specs.Book.{Book};
 ghost use Rattle.md_book.specs.Stands.{StandsFor};
 ghost use Rattle.md_rounds.specs.Replay.{IsPlayed};
+ghost use Rattle.md_play.specs.Opened.{IsOpenFor};
 ghost use Rattle.md_play.specs.declared.playing.TheConstants.{MAX_LANE_NODES, MAX_STORE_NODES};
 ghost use Rattle.md_store.specs.Store.{front_in};
 ghost use Rattle.medley.specs.Options.{AreInRange};
@@ -11,7 +13,7 @@ ghost use Rattle.medley.specs.Options.{AreInRange};
 use crate::words::Options;
 use md_book::COMMAND_NODES;
 use md_orders::Scripts;
-use md_play::play_on_store;
+use md_play::{OpenStore, open_store, play_on_store};
 use md_rounds::{Gate, Outcome};
 use md_store::StorePass;
 use std::alloc::{AllocError, Global};
@@ -29,6 +31,9 @@ const FEW_NODES: u32 = 4_096;
 
 // How many nodes a line takes on average, rounded up.
 const LINE_NODES: u32 = 3;
+
+// How many bytes a line of an order file takes on average, rounded down.
+const LINE_BYTES: u32 = 16;
 
 // How many lines the caller with the most lines has.
 fn longest(scripts: &Scripts) -> u32
@@ -54,16 +59,43 @@ fn most_nodes(callers: u32) -> u32
     }
 }
 
-// The nodes of a lane, if the options give no number: enough for all lines of a caller, as far as
-// memory sensibly allows.
-fn nodes_for(scripts: &Scripts) -> u32
-    requires { (1 ≤ length scripts.now) × (length scripts.now ≤ 64) }
+// The nodes of a lane whose caller has so many lines, if the options give no number: enough for
+// all of them, as far as memory sensibly allows.
+fn nodes_for(callers: u32, lines: u32) -> u32
+    requires { (1 ≤ callers) × (callers ≤ 64) }
     ensures lane { (COMMAND_NODES ≤ result) × (result ≤ MAX_LANE_NODES) }
-    ensures all { length scripts.now * result ≤ MAX_STORE_NODES }
+    ensures all { callers * result ≤ MAX_STORE_NODES }
 {
-    let most = most_nodes(scripts.callers());
-    let nodes = longest(scripts).saturating_mul(LINE_NODES);
-    nodes.max(FEW_NODES).min(most)
+    let nodes = lines.saturating_mul(LINE_NODES);
+    nodes.max(FEW_NODES).min(most_nodes(callers))
+}
+
+/// Opens a store without orders for the callers of the options, before their order file is read. It
+/// has `bytes` bytes: any number.
+///
+/// The options give the nodes and the attempts of a lane. The call counts a line for each 16 bytes.
+/// If the options give no number of nodes, a lane has three for each line of its caller's share, but
+/// at least 4,096, and at most 3,145,728 divided by the number of callers, or 524,288 if there is
+/// one. If they give no number of attempts, a lane has as many as the file has bytes, or 1 if it is
+/// empty: a line takes more than one byte. With smaller numbers the store is renewed more often, and
+/// all lines are played in any case.
+///
+/// `AllocError` if memory runs out.
+pub fn open_for(alloc: Global, options: &Options, bytes: u32) -> Result<OpenStore, AllocError>
+    requires in_range { AreInRange options.now }
+    ensures { IfOk result (λ o. IsOpenFor options.now.callers o.store o.pass) }
+{
+    let callers = options.callers;
+    let lines = bytes / LINE_BYTES;
+    let nodes = match options.nodes {
+        Some(nodes) => nodes,
+        None => nodes_for(callers, lines / callers),
+    };
+    let tries = match options.tries {
+        Some(tries) => tries,
+        None => bytes.max(1),
+    };
+    open_store(alloc, callers, lines, nodes, tries)
 }
 
 /// Plays scripts of 1 to 64 callers over an empty store with a lane for each caller, as
@@ -93,7 +125,7 @@ where
 {
     let nodes = match options.nodes {
         Some(nodes) => nodes,
-        None => nodes_for(scripts),
+        None => nodes_for(scripts.callers(), longest(scripts)),
     };
     let tries = match options.tries {
         Some(tries) => tries,

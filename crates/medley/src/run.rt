@@ -1,6 +1,13 @@
 //! The top call: words and input in, report or summary out.
 
-ghost use Rattle.std.specs.Prelude.{◌≡◌, ◌≢◌, ◌↔◌, Some, List, ℕ, map, IfOk, IfErr};
+ghost use Rattle.std.specs.Prelude.{◌≡◌, ◌≢◌, ◌≤◌, ◌↔◌, Some, List, ℕ, map};
+ghost use Rattle.std.specs.Prelude.{IfOk, IfErr, IsErrOf};
+ghost use Rattle.std.specs.Thread.{IsSync};
+ghost use Rattle.md_orders.specs.Grammar.{first_bad};
+ghost use Rattle.md_orders.specs.Records.{order_records, AreFewRecords};
+ghost use Rattle.md_orders.specs.Replies.{no_replies};
+ghost use Rattle.md_orders.specs.Scripts.{AreScripts};
+ghost use Rattle.md_play.specs.Opened.{IsOpenFor};
 ghost use Rattle.md_store.specs.Store.{front_in};
 ghost use Rattle.medley.specs.Words.{texts, AreAccepted};
 ghost use Rattle.medley.specs.Options.{AreInRange, Write};
@@ -9,16 +16,20 @@ ghost use Rattle.medley.specs.Run.{Answers, EndsWell, HasPlayed, StopsReplay, St
 ghost use Rattle.medley.specs.Run.{IsBadInput, IsGood, Refused, ToldAlone};
 
 use crate::input::read_all;
+use crate::orders::{Orders, read_all_orders};
 use crate::output::{tell, write_all};
-use crate::play::play;
+use crate::play::{open_for, play};
 use crate::status::{Run, Status};
 use crate::words::{Making, Options, read_options};
+use md_book::MAX_CALLER;
 use md_history::Front;
-use md_orders::{make, read_orders_in_threads, report_in_threads, summary};
+use md_orders::{OrderFault, make, report_in_threads, summary};
 use md_outside::{Failed, Sink, Source};
+use md_play::{OpenStore, play_opened};
 use md_rounds::Gate;
 use md_store::StorePass;
 use std::alloc::{AllocError, Global};
+use std::thread;
 use std::thread::Threads;
 
 // A report or a summary, and the fronts of the stores that its scripts were played on.
@@ -28,7 +39,8 @@ struct Played {
     fronts: Vec<Front<StorePass>>,
 }
 
-// Reads the input, plays it, and builds the report.
+// Reads the input, plays it, and builds the report. The store is opened in one thread while the
+// orders are read in others, and the places of their replies are made.
 fn replay<R, I, G>(
     rt: &R,
     alloc: Global,
@@ -47,8 +59,31 @@ where
         input.old input.new options.now.callers) }
 {
     let bytes = read_all(alloc, input)?;
-    let scripts = read_orders_in_threads(rt, alloc, &bytes, options.callers)?;
-    let played = play(rt, alloc, &scripts, options, gate)?;
+    let records = bytes.as_slice();
+    let callers = options.callers;
+    let count = u32::try_from(bytes.len()).unwrap_or(u32::MAX);
+    let (orders, opened) = thread::join(
+        rt,
+        move || -> Result<Orders, OrderFault>
+            requires sync { IsSync R.row }
+            requires range { (1 ≤ callers) × (callers ≤ MAX_CALLER) }
+            ensures scripts { IfOk result (λ o. AreFewRecords (order_records records.entry.now)
+                × AreScripts callers (order_records records.entry.now) o.scripts) }
+            ensures places { IfOk result (λ o. o.replies
+                ≡ record { scripts = o.scripts; replies = no_replies o.scripts }) }
+            ensures too_many { IsErrOf result OrderFault.TooMany
+                → ¬ AreFewRecords (order_records records.entry.now) }
+            ensures bad_line { (n : ℕ) → IsErrOf result (OrderFault.BadLine n)
+                → AreFewRecords (order_records records.entry.now)
+                × (first_bad callers (order_records records.entry.now) ≡ Some n) }
+        { read_all_orders(rt, alloc, records, callers) },
+        move || -> Result<OpenStore, AllocError>
+            requires in_range { AreInRange options.now }
+            ensures { IfOk result (λ o. IsOpenFor options.entry.now.callers o.store o.pass) }
+        { open_for(alloc, options, count) },
+    );
+    let Orders { scripts, replies } = orders?;
+    let played = play_opened(rt, alloc, opened?, &scripts, replies, gate)?;
     let text = report_in_threads(rt, alloc, &scripts, &played.replies, &played.contents)?;
     Ok(Played {
         text,
@@ -158,9 +193,10 @@ where
 /// for each caller, and writes the report or the summary.
 ///
 /// It reads the words first (`read_options`). Without `--make` it reads the input to its end
-/// (`read_all`), reads the records as scripts (`read_orders_in_threads` of md_orders), plays them,
-/// and writes the report: each reply, and then the book. With `--make` it makes scripts (`make` of
-/// md_orders), plays them, and writes the summary, which is one line. It then reads no input.
+/// (`read_all`), reads the records as scripts and makes the places of the replies (`read_all_orders`)
+/// while it opens the store, plays them, and writes the report: each reply, and then the book. With `--make` it
+/// makes scripts (`make` of md_orders), plays them, and writes the summary, which is one line. It
+/// then reads no input.
 /// Whatever the threads do, the replies and the book are those of one thread that runs the
 /// committed commands in the order in which they became ready. They are all lines, each once, and
 /// each caller's in order.

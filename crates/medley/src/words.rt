@@ -18,10 +18,10 @@ pub struct Options {
     /// How many callers there are, 1 to 64, and at most 8 if scripts are made.
     pub callers: u32,
     /// How many nodes a caller has until the store is renewed, 16 to 262,144. If there is no
-    /// number, `play` chooses one.
+    /// number, the call that opens the store chooses one (`open_for`, `play`).
     pub nodes: Option<u32>,
     /// How many attempts a caller has until the store is renewed, 1 to 16,384. If there is no
-    /// number, `play` chooses one.
+    /// number, that call chooses one, too.
     pub tries: Option<u32>,
     /// The scripts to make. If there are none, the input is read.
     pub make: Option<Making>,

@@ -3,7 +3,7 @@ use Rattle.md_orders.specs.Records.{max_records}
 use Rattle.md_orders.specs.Scripts.{count_of}
 use Rattle.md_rounds.proofs.BookLaws.{order-laws}
 use Rattle.md_rounds.proofs.Walking.{all-played}
-use Rattle.md_rounds.proofs.all.run_all.Goals as goal
+use Rattle.md_rounds.proofs.all.run_all_into.Goals as goal
 
 pub play_rounds-requires-clause-laws : goal.play_rounds-requires-clause-laws
 play_rounds-requires-clause-laws g c κs within =

@@ -1,0 +1,15 @@
+use Rattle.std.proofs.Common.{ap, ◌∙◌, rules}
+use Rattle.std.proofs.lemmas.List.FromFn.{length-range_with_len}
+use Rattle.md_words.specs.declared.shape.Shape.{Shape}
+use Rattle.md_play.proofs.playing.open_store.Goals as goal
+
+pub returns : goal.returns
+returns c = record {
+  of = c.in-Ok.ensures.of;
+  fresh = search rules;
+  lanes = length-range_with_len 0 c.in-Ok.store.origin.shape.lanes ∙ ap (λ (s : Shape). s.lanes) c.in-Ok.ensures.shape ∙ c.shape_of-shape.ensures.0;
+  start = c.in-Ok.ensures.start ∙ c.in_ok-start.ensures;
+  bounds = search rules;
+  tries = search rules;
+  room = search rules;
+}
