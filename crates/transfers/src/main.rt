@@ -51,7 +51,7 @@ fn run_day<R: Threads + Sync>(rt: &R, alloc: Global) -> Result<Option<Summary>, 
         before: sum_of(&start),
         after: sum_of(&many.contents),
         moved,
-        refused: (transfers.total() as u64).wrapping_sub(moved),
+        refused: (transfers.total() as u64).saturating_sub(moved),
         is_right: is_journal_right(alloc, &many)?,
     }))
 }
