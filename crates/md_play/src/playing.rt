@@ -137,8 +137,9 @@ where
 }
 
 /// Opens a store without orders, makes the places of the replies, and plays the scripts of all
-/// callers over the store in threads: `open_store`, with the lines of the scripts, and `play_opened`. There are 1 to 64 callers. `nodes`
-/// and `tries` are those of a lane, as for `open_store`.
+/// callers over the store in threads: `open_store`, with the lines of the scripts, and
+/// `play_opened`. There are 1 to 64 callers. `nodes` and `tries` are those of a lane, as for
+/// `open_store`.
 ///
 /// `AllocError` if memory runs out.
 pub fn play_on_store<R, G>(
