@@ -96,7 +96,9 @@ pub fn open_store(
     requires nodes { (COMMAND_NODES ≤ nodes) × (nodes ≤ MAX_LANE_NODES) }
     requires all { callers * nodes ≤ MAX_STORE_NODES }
     requires tries { 1 ≤ tries }
-    ensures { IfOk result (λ o. IsOpenFor callers o.store o.pass) }
+    ensures open_for { IfOk result (λ o. IsOpenFor callers o.store o.pass) }
+    ensures nodes { IfOk result (λ o. o.store.origin.shape.nodes ≡ nodes) }
+    ensures tries { IfOk result (λ o. o.tries ≡ tries) }
 {
     let shape = shape_of(callers, nodes, tries, buckets_for(lines));
     let start = Contents::empty(alloc, MAPS, LEVELS)?;

@@ -3,8 +3,11 @@ use Rattle.std.proofs.lemmas.List.FromFn.{length-range_with_len}
 use Rattle.md_words.specs.declared.shape.Shape.{Shape}
 use Rattle.md_play.proofs.playing.open_store.Goals as goal
 
-pub returns : goal.returns
-returns c = record {
+pub returns-clause-nodes : goal.returns-clause-nodes
+returns-clause-nodes c = ap (λ (s : Shape). s.nodes) c.in-Ok.ensures.shape ∙ c.shape_of-shape.ensures.1
+
+pub returns-clause-open_for : goal.returns-clause-open_for
+returns-clause-open_for c = record {
   of = c.in-Ok.ensures.of;
   fresh = search rules;
   lanes = length-range_with_len 0 c.in-Ok.store.origin.shape.lanes ∙ ap (λ (s : Shape). s.lanes) c.in-Ok.ensures.shape ∙ c.shape_of-shape.ensures.0;
