@@ -1,8 +1,9 @@
 -- What a field leaves when it is closed.
-use Rattle.std.proofs.Common.{◌≡◌, ◌≢◌, ℕ, Bool, List, [], ◌∷◌, ◌++◌, length, refl, sym, ap, ◌∙◌, subst, arith}
+use Rattle.std.proofs.Common.{◌≡◌, ◌≢◌, ℕ, Option, Vec, Bool, List, [], ◌∷◌, ◌++◌, length, refl, sym, ap, ◌∙◌, subst, arith}
 use Rattle.std.proofs.lemmas.Bool.{cond-true}
 use Rattle.std.proofs.lemmas.List.{length-map}
 use Rattle.std.proofs.lemmas.List.Elements.{All-head, All-tail}
+use Rattle.std.specs.declared.alloc.Global.{Global}
 use lib.ListN.{get_elem?}
 use Rattle.atomic_table.specs.Table.{Final, Seen}
 use Rattle.md_words.specs.declared.shape.Shape.{Shape}
@@ -27,7 +28,9 @@ use Rattle.md_machine.specs.Resolution.{entries_of, least, logical_heap, logical
 use Rattle.md_machine.proofs.resolutions.Placing.{least_resolves}
 use Rattle.md_rule.proofs.Moves.{is_kept, is_meant}
 use Rattle.md_rule.specs.Closing.{AreEven, IsLast, LeavesReplay, MayClose, plain_words}
+use Rattle.md_rule.specs.Private.{HasWords, words_left}
 use Rattle.md_rule.specs.Rule.{Shows}
+use Rattle.md_rule.proofs.Private.{all_left}
 use Rattle.md_rule.specs.Views.{Origin}
 use Rattle.md_rule.specs.declared.known.Known.{Known}
 use Rattle.atomic_table.proofs.Lists.{at_map}
@@ -61,13 +64,13 @@ least_committed (x ∷ es) (Aborted ∷ fs) = least_committed es fs
 least_committed (x ∷ es) (Undecided ∷ fs) = least_committed es fs
 
 module _ (M : Meaning) (o : Origin) where
-  pub last_of : (id : ℕ) (k : Known) (ws : List ℕ) (xs : List (Unit {0})) → Final (Seen (Shows M o) id k) ws xs → IsLive k.view → IsLast M o k.view ws
-  last_of id k ws xs f live = let h = f.1.0 in record {
+  pub last_of : (private : Option (Vec ℕ Global)) (id : ℕ) (k : Known) (ws : List ℕ) (xs : List (Unit {0})) → HasWords o.shape private k → Final (Seen (Shows M o) id k) ws xs → IsLive k.view → IsLast M o k.view (words_left private ws)
+  last_of private id k ws xs has f live = let h = f.1.0 in record {
     machine = h.machine;
     admitted = h.admitted;
     pass = id;
     acts = record { at = ap (λ (x : List PassView). get_elem? x id) h.views ∙ at_map (λ (x : Known). x.view) f.0.views id k f.1.1; live = live };
-    words = h.words ∙ f.2;
+    words = all_left o.shape private h.machine.words f.0 id k ws h.words f.1.1 f.2 has;
   }
 
   pub replayed_of : Lawful M → (view : PassView) (ws : List ℕ) → MayClose M o view → IsLast M o view ws → LeavesReplay M o view ws

@@ -1,5 +1,5 @@
 -- Lists of lanes: which lanes they have.
-use Rattle.std.proofs.Common.{◌≡◌, ◌==◌, ◌||◌, ℕ, zero, suc, ◌+◌, ◌-◌, ◌/◌, ◌<◌, ◌≤◌, Bool, true, false, ◌⊎◌, List, [], ◌∷◌, filter, take, drop, length, ne_eqb, eq-eqb, arith, refl, sym, ap, ◌∙◌, subst, inl, inr, ⊎_elim}
+use Rattle.std.proofs.Common.{◌≡◌, ◌≢◌, ◌==◌, ◌||◌, ℕ, zero, suc, ◌+◌, ◌-◌, ◌/◌, ◌<◌, ◌≤◌, Bool, true, false, ◌⊎◌, List, [], ◌∷◌, filter, take, drop, length, ne_eqb, eq-eqb, arith, refl, sym, ap, ◌∙◌, subst, inl, inr, ⊎_elim}
 use Rattle.std.specs.List.{Contains, range_with_len}
 use Rattle.md_words.specs.Layout.{desc_count}
 use Rattle.md_machine.proofs.lists.Rising.{in_lane, rise_drop, rise_filter, rise_range, rise_take}
@@ -55,6 +55,15 @@ all_are_lanes shape = record {
   below = λ lane h. past_range 0 shape.lanes lane (omega (arith, h));
   rising = rise_range 0 shape.lanes;
 }
+
+-- two lanes are those of a field that has more than one
+pub two_lanes : (shape : Shape) (lanes : List ℕ) → AreLanes shape lanes → 2 ≤ length lanes → shape.lanes ≢ 1
+two_lanes shape [] k two one = absurd (omega (arith, two))
+two_lanes shape (x ∷ []) k two one = absurd (omega (arith, two))
+two_lanes shape (x ∷ y ∷ lanes) k two one =
+    let rise = k.rising.1.0 in
+    let gone = without y lanes y (without x (y ∷ lanes) y (k.below y (omega (arith, one, rise)))).1 in
+    false≢true (sym gone.0 ∙ eq-eqb y y refl)
 
 pub kept_are_lanes : (shape : Shape) (lanes : List ℕ) → AreLanes shape lanes → 2 ≤ length lanes → AreLanes shape (kept_lanes lanes)
 kept_are_lanes shape lanes k two = record {

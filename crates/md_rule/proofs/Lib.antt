@@ -1,6 +1,7 @@
 pub mod LaneSets
 pub mod LaneLists
 pub mod Sharing
+pub mod Private
 pub mod Moves
 pub mod Events
 pub mod Entering

@@ -1,5 +1,6 @@
 pub mod Views
 pub mod Admitted
+pub mod Private
 pub mod Rule
 pub mod Steps
 pub mod Entering

@@ -9,6 +9,7 @@ use Rattle.md_machine.specs.Machine.{IsAt, Machine}
 use Rattle.md_machine.specs.Meaning.{Meaning}
 use Rattle.md_machine.specs.events.SplitJoin.{joined_part}
 use Rattle.md_rule.specs.Admitted.{Admitted}
+use Rattle.md_rule.specs.Private.{AreWords}
 use Rattle.md_rule.specs.Steps.{Stepped}
 use Rattle.md_rule.specs.Views.{Origin}
 use Rattle.md_rule.specs.declared.known.Known.{Known}
@@ -27,12 +28,12 @@ module _ (M : Meaning) (o : Origin) where
     pub step : Stepped M o (λ pass. join pass seat) one both
     pub beside : Acts step.machine seat other
 
--- the table's words and the views of its seats show a machine of the field. Of two passes that were joined, one machine
+-- the words and the views of the table's seats show a machine of the field. Of two passes that were joined, one machine
 -- of the field had both
 pub record Shows {S : Type 0} (M : Meaning) (o : Origin) (s : State S Known) : Type 0 where
   pub machine : Machine
   pub admitted : Admitted M o machine
-  pub words : machine.words ≡ s.words
+  pub words : AreWords o.shape machine.words s
   pub views : machine.passes ≡ map (λ k. k.view) s.views
   pub joined : (seat : ℕ) (k : Known) (parts : Parts) → get_elem? s.views seat ≡ some k → k.joined ≡ Some parts
       → JoinedInto M o parts.one parts.other (joined_part o.shape parts.one parts.other)

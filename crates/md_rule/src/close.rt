@@ -17,17 +17,22 @@ use std::marker::Model;
 /// dropped.
 pub struct Ended<T: Theory> {
     table: TableClosed<(), Global>,
+    private: Option<Vec<u64>>,
     front: Front<Pass<T>>,
 }
 
 impl<T: Theory> Model for Ended<T> {
     ghost use Rattle.std.specs.Prelude.{◌≡◌};
     ghost use Rattle.std.specs.Mem.Slots.{slots_items, slots_len, IsFull};
+    ghost use Rattle.md_rule.specs.Private.{words_left};
     ghost use Rattle.md_rule.specs.Views.{EndedView};
 
     ghost Value = { EndedView };
 
-    ghost view = { λ e. record { words = slots_items e.table.words; front = e.front } };
+    ghost view = { λ e. record {
+      words = words_left e.private (slots_items e.table.words);
+      front = e.front;
+    } };
 
     ghost invariant = { λ e. IsFull e.table.words × (slots_len e.table.slots ≡ 0) };
 }
@@ -47,6 +52,7 @@ impl<T: Theory> Field<T> {
     /// holds all its lanes and knows every fate, and no descriptor stands in a word.
     ///
     /// Constant time. It takes no memory, and no step of the field is made: no other pass is live.
+    /// With one lane the words come with the pass.
     pub fn end(self, pass: Pass<T>) -> Ended<T>
         requires field { IsOf pass self }
         requires may { MayClose T.meaning self.origin pass.view }
@@ -55,9 +61,13 @@ impl<T: Theory> Field<T> {
         ensures front { result.front ≡ pass }
     {
         let front = Front::of(&pass);
-        let (seat, _, _) = pass.into_parts();
+        let (seat, _, _, private) = pass.into_parts();
         let table = self.into_table().close_with(seat);
-        Ended { table, front }
+        Ended {
+            table,
+            private,
+            front,
+        }
     }
 
     /// Ends the field, and gives its words: a valid heap, whose state is the replay of the
@@ -89,14 +99,20 @@ impl<T: Theory> Ended<T> {
         requires { place < length self.now.words }
         ensures { result ≡ slice_index self.now.words place }
     {
-        self.table.word(place)
+        match &self.private {
+            Some(words) => words[place],
+            None => self.table.word(place),
+        }
     }
 
     // How many words there are.
     fn count(&self) -> usize
         ensures { result ≡ length self.now.words }
     {
-        self.table.words.len()
+        match &self.private {
+            Some(words) => words.len(),
+            None => self.table.words.len(),
+        }
     }
 
     // A copy of the words. The list is made at its full length first, so that the loop over the
@@ -113,7 +129,11 @@ impl<T: Theory> Ended<T> {
     fn into_front(self) -> Front<Pass<T>>
         ensures { result ≡ self.front }
     {
-        let Ended { table, front } = self;
+        let Ended {
+            table,
+            private: _,
+            front,
+        } = self;
         table.free();
         front
     }
@@ -121,7 +141,11 @@ impl<T: Theory> Ended<T> {
 
 impl<T: Theory> Drop for Ended<T> {
     fn drop(self) {
-        let Ended { table, front: _ } = self;
+        let Ended {
+            table,
+            private: _,
+            front: _,
+        } = self;
         table.free();
     }
 }

@@ -19,6 +19,9 @@ use std::snapshot::Snapshot;
 /// A table of shared words under the rule: its words, and what its passes know, show a machine to
 /// which events lead from the opening. Threads share it by `&`. Each steps on it by a `Pass` of its
 /// own.
+///
+/// A field with one lane has one pass only. That pass has the words itself, and its steps are plain
+/// loads and stores of them.
 #[derive(Drop)]
 pub struct Field<T: Theory> {
     pub(crate) table: Table<(), Known, Key, Ruled<T>, Global>,
@@ -27,7 +30,7 @@ pub struct Field<T: Theory> {
 
 impl<T: Theory> Model for Field<T> {
     ghost use Rattle.std.specs.Prelude.{◌≡◌};
-    ghost use Rattle.md_words.specs.Layout.{words_of};
+    ghost use Rattle.md_rule.specs.Private.{table_words};
     ghost use Rattle.md_rule.specs.Views.{FieldView};
 
     ghost Value = { FieldView };
@@ -38,7 +41,7 @@ impl<T: Theory> Model for Field<T> {
     } };
 
     ghost invariant = { λ f. (f.shape ≡ f.table.shared.key.shape)
-        × (f.table.shared.table_id.words ≡ words_of f.table.shared.key.shape)
+        × (f.table.shared.table_id.words ≡ table_words f.table.shared.key.shape)
         × (f.table.shared.table_id.slots ≡ 0) };
 }
 
@@ -48,7 +51,8 @@ impl<T: Theory> Field<T> {
     /// theory with even counts, and the words of the lanes' nodes and of the descriptors are 0.
     ///
     /// `AllocError` if memory runs out; then nothing was made. Takes time linear in the words, of
-    /// which there are at most `MAX_WORDS`.
+    /// which there are at most `MAX_WORDS`: they are copied into the table. With one lane they are
+    /// not copied, and it takes constant time.
     pub fn open(
         alloc: Global,
         shape: Shape,
@@ -64,8 +68,13 @@ impl<T: Theory> Field<T> {
             shape,
             words: Snapshot::of(&words),
         };
-        let (table, seat) = Table::of_words(alloc, words.as_slice(), &key)?;
-        Ok((Field { table, shape }, Pass::of(seat, shape)))
+        if shape.lanes == 1 {
+            let (table, seat) = Table::of_words(alloc, &[0], &key)?;
+            Ok((Field { table, shape }, Pass::of(seat, shape, Some(words))))
+        } else {
+            let (table, seat) = Table::of_words(alloc, words.as_slice(), &key)?;
+            Ok((Field { table, shape }, Pass::of(seat, shape, None)))
+        }
     }
 
     /// The numbers of the field. It takes no memory and makes no step.

@@ -9,6 +9,8 @@ pub struct Known {
     pub view: PassView,
     /// What the two passes knew that were joined into it last.
     pub joined: Option<Parts>,
+    /// The words of the field if it has one lane, and otherwise none.
+    pub private: Option<Vec<u64>>,
 }
 
 /// Two passes before they are joined.

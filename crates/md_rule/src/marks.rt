@@ -39,7 +39,12 @@ impl<T: Theory> Pass<T> {
         ensures step { Stepped T.meaning field.now.origin (λ pass. mark_begin pass desc tag)
             self.old.view self.new.view }
     {
-        mark::<Brand, T, _>(&mut self.seat, field, Snapshot::of(&(desc, tag)));
+        mark::<Brand, T, _>(
+            &mut self.seat,
+            &self.private,
+            field,
+            Snapshot::of(&(desc, tag)),
+        );
         begin_lane(&mut self.shares, desc);
     }
 
@@ -52,7 +57,7 @@ impl<T: Theory> Pass<T> {
         ensures step { Stepped T.meaning field.now.origin (λ pass. mark_start pass)
             self.old.view self.new.view }
     {
-        mark::<Brand, T, _>(&mut self.seat, field, Snapshot::of(&()));
+        mark::<Brand, T, _>(&mut self.seat, &self.private, field, Snapshot::of(&()));
     }
 
     /// Ends the operation that was begun: it has this reply, by some certificate of the theory,
@@ -64,7 +69,12 @@ impl<T: Theory> Pass<T> {
         ensures same { self.new ≡ record self.old { view = self.new.view } }
         ensures step { Acted T.meaning field.now.origin op reply self.old.view self.new.view }
     {
-        mark::<Brand, T, _>(&mut self.seat, field, Snapshot::of(&(op, reply)));
+        mark::<Brand, T, _>(
+            &mut self.seat,
+            &self.private,
+            field,
+            Snapshot::of(&(op, reply)),
+        );
     }
 
     /// Ends the transaction in hand, which is of this descriptor: it is answered if it was
@@ -86,7 +96,7 @@ impl<T: Theory> Pass<T> {
         ensures step { Stepped T.meaning field.now.origin (λ pass. mark_end pass)
             self.old.view self.new.view }
     {
-        mark::<Brand, T, _>(&mut self.seat, field, Snapshot::of(&()));
+        mark::<Brand, T, _>(&mut self.seat, &self.private, field, Snapshot::of(&()));
         end_lane(&mut self.shares, desc);
     }
 
@@ -99,6 +109,6 @@ impl<T: Theory> Pass<T> {
         ensures step { Stepped T.meaning field.now.origin (λ pass. mark_leave pass)
             self.old.view self.new.view }
     {
-        mark::<Brand, T, _>(&mut self.seat, field, Snapshot::of(&()));
+        mark::<Brand, T, _>(&mut self.seat, &self.private, field, Snapshot::of(&()));
     }
 }

@@ -55,7 +55,7 @@ impl<T: Theory> Pass<T> {
         } }
         ensures step { JoinedInto T.meaning field.now.origin self.old.view other.view self.new.view }
     {
-        let (seat, lanes, shares) = other.into_parts();
+        let (seat, lanes, shares, _) = other.into_parts();
         join_seat::<Brand, T>(field, &mut self.seat, seat);
         look::<Brand, T>(field, &mut self.seat);
         take_shares(&mut self.shares, &lanes, &shares);
@@ -70,10 +70,11 @@ fn split_seat<K: Halving, T: Theory>(
     requires field { seat.old.table_id ≡ field.now.table }
     requires may { Splits {S = Unit {0}} (Shows T.meaning field.now.origin) seat.old.id seat.old.me.0
         (record seat.old.me.0 { view = K.kept seat.old.me.0.view })
-        (record { view = K.given seat.old.me.0.view; joined = None }) }
+        (record { view = K.given seat.old.me.0.view; joined = None; private = None }) }
     ensures field { (seat.new.table_id ≡ seat.old.table_id) × (result.table_id ≡ seat.old.table_id) }
     ensures kept { (seat.new.me.0.view ≡ K.kept seat.old.me.0.view) × (seat.new.me.1 ≡ seat.old.me.1) }
     ensures given { (result.me.0.view ≡ K.given seat.old.me.0.view) × (result.me.1 ≡ []) }
+    ensures private { (seat.new.me.0.private ≡ seat.old.me.0.private) × (result.me.0.private ≡ None) }
 {
     field.table.shared.split_seat::<Halves<K>>(seat)
 }
@@ -89,12 +90,14 @@ fn join_seat<K: Joining, T: Theory>(
         other.id other.me.0 (record {
           view = K.joined seat.old.me.0.view other.me.0.view;
           joined = Some (record { one = seat.old.me.0.view; other = other.me.0.view });
-        }) (record { view = spent; joined = None }) }
+          private = seat.old.me.0.private;
+        }) (record { view = spent; joined = None; private = None }) }
     ensures field { seat.new.table_id ≡ seat.old.table_id }
     ensures joined { seat.new.me ≡ (
       record {
         view = K.joined seat.old.me.0.view other.me.0.view;
         joined = Some (record { one = seat.old.me.0.view; other = other.me.0.view });
+        private = seat.old.me.0.private;
       },
       seat.old.me.1,
     ) }

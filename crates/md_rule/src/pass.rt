@@ -1,12 +1,13 @@
 //! A pass: a seat of the table, with its lanes.
 
-ghost use Rattle.std.specs.Prelude.{◌≡◌, ◌<◌, ◌↔◌, ℕ, [], length, slice_index, replicate, IsTrue};
+ghost use Rattle.std.specs.Prelude.{◌≡◌, ◌<◌, ◌↔◌, ℕ, None, [], length, slice_index, replicate, IsTrue};
 ghost use Rattle.std.specs.List.{Contains};
 ghost use Rattle.md_machine.specs.Event.{first_pass};
 ghost use Rattle.md_machine.specs.clauses.passes.Alone.{HoldsAll};
 ghost use Rattle.md_rule.specs.declared.shares.TheConstants.{UNUSED};
 ghost use Rattle.md_rule.specs.Kept.{KeepsLanes};
 ghost use Rattle.md_rule.specs.Lanes.{AreLanes};
+ghost use Rattle.md_rule.specs.Private.{HasWords};
 ghost use Rattle.md_rule.specs.Views.{IsOf};
 
 use crate::field::Field;
@@ -20,13 +21,15 @@ use std::marker::{Model, PhantomData};
 
 /// A thread's right to step on a field: it holds some of the field's lanes, and keeps a few numbers
 /// of each. What it knows, its trail among it, is seen by contracts alone and has no bytes. A pass
-/// that is dropped takes its lanes with it.
+/// that is dropped takes its lanes with it. The pass of a field with one lane also has its words.
 #[derive(Drop)]
 pub struct Pass<T: Theory> {
     pub(crate) seat: Seat<(), Known>,
     pub(crate) shape: Shape,
     pub(crate) lanes: Lanes,
     pub(crate) shares: [Share; 64],
+    // All words of the field if it has one lane, and otherwise none.
+    pub(crate) private: Option<Vec<u64>>,
     theory: PhantomData<T>,
 }
 
@@ -45,14 +48,17 @@ impl<T: Theory> Model for Pass<T> {
 
     ghost use Rattle.md_rule.specs.Kept.{KeepsLanes};
     ghost use Rattle.md_rule.specs.Lanes.{AreLanes};
+    ghost use Rattle.md_rule.specs.Private.{HasWords};
 
     ghost invariant = { λ p. (p.seat.me.0.view.lanes ≡ p.lanes) × AreLanes p.shape p.lanes
-        × (p.seat.me.1 ≡ []) × KeepsLanes p.shape p.seat.me.0.view p.shares };
+        × (p.seat.me.1 ≡ []) × KeepsLanes p.shape p.seat.me.0.view p.shares
+        × HasWords p.shape p.private p.seat.me.0 };
 }
 
 impl<T: Theory> Pass<T> {
-    pub(crate) fn of(seat: Seat<(), Known>, shape: Shape) -> Pass<T>
-        requires { (seat.me.0.view ≡ first_pass shape) × (seat.me.1 ≡ []) }
+    pub(crate) fn of(seat: Seat<(), Known>, shape: Shape, private: Option<Vec<u64>>) -> Pass<T>
+        requires view { (seat.me.0.view ≡ first_pass shape) × (seat.me.1 ≡ []) }
+        requires private { HasWords shape private seat.me.0 }
         ensures { (result.table ≡ seat.table_id) × (result.shape ≡ shape)
             × (result.view ≡ seat.me.0.view) × (result.shares ≡ replicate 64 UNUSED) }
     {
@@ -61,6 +67,7 @@ impl<T: Theory> Pass<T> {
             shape,
             lanes: Lanes::all(shape.lanes),
             shares: [UNUSED; 64],
+            private,
             theory: PhantomData,
         }
     }
@@ -103,11 +110,13 @@ impl<T: Theory> Pass<T> {
         has_all(&self.lanes, &self.shape)
     }
 
-    // Another pass of the same field with these lanes, and copies of the shares.
+    // Another pass of the same field with these lanes, and copies of the shares. The field has more
+    // than one lane, so there are no private words.
     pub(crate) fn part(&self, seat: Seat<(), Known>, lanes: Lanes) -> Pass<T>
         requires lanes { (seat.me.0.view.lanes ≡ lanes) × AreLanes self.now.shape lanes
             × (seat.me.1 ≡ []) }
         requires kept { KeepsLanes self.now.shape seat.me.0.view self.now.shares }
+        requires shared { HasWords self.now.shape None seat.me.0 }
         ensures { result ≡ record self.now { table = seat.table_id; view = seat.me.0.view } }
     {
         Pass {
@@ -115,24 +124,27 @@ impl<T: Theory> Pass<T> {
             shape: self.shape,
             lanes,
             shares: self.shares,
+            private: None,
             theory: PhantomData,
         }
     }
 
-    pub(crate) fn into_parts(self) -> (Seat<(), Known>, Lanes, [Share; 64])
+    pub(crate) fn into_parts(self) -> (Seat<(), Known>, Lanes, [Share; 64], Option<Vec<u64>>)
         ensures seat { (result.0.table_id ≡ self.table) × (result.0.me.0.view ≡ self.view)
             × (result.0.me.1 ≡ []) }
         ensures lanes { (result.1 ≡ self.view.lanes) × AreLanes self.shape result.1 }
         ensures shares { (result.2 ≡ self.shares) × KeepsLanes self.shape self.view self.shares }
+        ensures private { HasWords self.shape result.3 result.0.me.0 }
     {
         let Pass {
             seat,
             shape: _,
             lanes,
             shares,
+            private,
             theory: _,
         } = self;
-        (seat, lanes, shares)
+        (seat, lanes, shares, private)
     }
 }
 

@@ -26,13 +26,12 @@ pub struct Ruled<T> {
 }
 
 impl<T: Theory> TableRule<(), Known, Key> for Ruled<T> {
-    ghost use Rattle.std.specs.Prelude.{None};
-    ghost use Rattle.md_machine.specs.Event.{first_pass};
+    ghost use Rattle.md_rule.specs.Private.{first_known};
     ghost use Rattle.md_rule.specs.Rule.{Shows};
 
     ghost holds = { λ k. Shows T.meaning (record { shape = k.shape; words = k.words.value.items }) };
 
-    ghost first = { λ k. record { view = first_pass k.shape; joined = None } };
+    ghost first = { λ k. first_known k.shape k.words.value };
 }
 
 /// What a step tells of the content that it found, and of what the pass knew before and knows
@@ -56,7 +55,7 @@ impl<K: Telling> Play<(), Known> for Tells<K> {
     ghost use Rattle.std.specs.Prelude.{◌≡◌};
 
     ghost then = { λ step me found now. K.tells found me.0.view now.0.view × (now.0.view.lanes ≡ me.0.view.lanes)
-        × (now.1 ≡ me.1) };
+        × (now.0.private ≡ me.0.private) × (now.1 ≡ me.1) };
 }
 
 /// How the view of a pass is split. Each call picks it.
@@ -94,7 +93,7 @@ impl<K: Halving> Split<Known> for Halves<K> {
 
     ghost left = { λ k. record k { view = K.kept k.view } };
 
-    ghost right = { λ k. record { view = K.given k.view; joined = None } };
+    ghost right = { λ k. record { view = K.given k.view; joined = None; private = None } };
 }
 
 pub(crate) struct Joins<K> {
@@ -108,9 +107,10 @@ impl<K: Joining> Join<Known> for Joins<K> {
     ghost both = { λ p q. record {
       view = K.joined p.view q.view;
       joined = Some (record { one = p.view; other = q.view });
+      private = p.private;
     } };
 
-    ghost spent = { record { view = spent; joined = None } };
+    ghost spent = { record { view = spent; joined = None; private = None } };
 }
 
 /// What a load that changes nothing tells of its seat. Each call picks it.
@@ -132,4 +132,25 @@ impl<K: Looking> Play<(), Known> for Looks<K> {
     ghost use Rattle.std.specs.Prelude.{◌≡◌};
 
     ghost then = { λ step me found now. (now ≡ me) × K.tells me.0 };
+}
+
+/// How a step on private words changes what a pass knows. Each call picks it.
+pub trait Following {
+    ghost use Rattle.md_rule.specs.declared.known.Known.{Known};
+
+    ghost follows: { Known → Known → Type 0 };
+}
+
+impl Following for Brand {
+    ghost follows = { λ k now. Unit {0} };
+}
+
+pub(crate) struct Follows<K> {
+    following: PhantomData<K>,
+}
+
+impl<K: Following> Play<(), Known> for Follows<K> {
+    ghost use Rattle.std.specs.Prelude.{◌≡◌};
+
+    ghost then = { λ step me found now. K.follows me.0 now.0 × (now.1 ≡ me.1) };
 }

@@ -1,4 +1,8 @@
 //! The nine steps.
+//!
+//! A step that is said to be one atomic load, store or exchange is that where the field has several
+//! lanes. Where it has one, the step reads or writes a private word of the pass, which no other
+//! thread can reach, and makes one load of the table.
 
 ghost use Rattle.std.specs.Prelude.{◌≡◌, ◌+◌, ◌<◌, ◌≤◌, MatchResult, IfOk};
 ghost use Rattle.std.specs.List.{Contains};
@@ -14,6 +18,7 @@ ghost use Rattle.md_machine.specs.Event.{commit, abort, uninstall, start};
 ghost use Rattle.md_rule.specs.Entering.{EnteredBy, MayBecomeReady};
 ghost use Rattle.md_rule.specs.InHand.{HoldsUnready};
 ghost use Rattle.md_rule.specs.Kept.{IsNoNextLeft, IsReached, StoredNoneLeft};
+ghost use Rattle.md_rule.specs.Private.{HasWords};
 ghost use Rattle.md_rule.specs.Shares.{after_restart, after_slot, share_at};
 ghost use Rattle.md_rule.specs.Steps.{Exchanged, May, Stepped, SteppedFrom};
 ghost use Rattle.md_rule.specs.Views.{IsOf};
@@ -40,7 +45,13 @@ impl<T: Theory> Pass<T> {
         ensures step { SteppedFrom T.meaning field.now.origin (λ pass. load pass word) word result
             self.old.view self.new.view }
     {
-        load_word::<Brand, T, _>(&mut self.seat, field, word, Snapshot::of(&word))
+        load_word::<Brand, T, _>(
+            &mut self.seat,
+            &self.private,
+            field,
+            word,
+            Snapshot::of(&word),
+        )
     }
 
     /// Writes a word that nobody else relies on: of an own node that no resolution places, or of a
@@ -59,7 +70,7 @@ impl<T: Theory> Pass<T> {
             self.old.view self.new.view }
     {
         let about = Snapshot::of(&(word, value));
-        store_word::<Brand, T, _>(&mut self.seat, field, word, value, about);
+        store_word::<Brand, T, _>(&mut self.seat, &mut self.private, field, word, value, about);
     }
 
     /// Puts the descriptor in hand, at one of its slots, into a counted word that may be changed:
@@ -93,7 +104,7 @@ impl<T: Theory> Pass<T> {
             (λ pass. install pass word (word_of from) to) word (word_of from) result
             self.old.view self.new.view }
     {
-        put::<T>(&mut self.seat, field, word, from, to)?;
+        put::<T>(&mut self.seat, &mut self.private, field, word, from, to)?;
         count_slot(&mut self.shares, to);
         Ok(())
     }
@@ -128,6 +139,7 @@ impl<T: Theory> Pass<T> {
         let about = Snapshot::of(&(from, to));
         exchange_word::<Brand, T, _>(
             &mut self.seat,
+            &mut self.private,
             field,
             word,
             from.word(),
@@ -171,6 +183,7 @@ impl<T: Theory> Pass<T> {
         let about = Snapshot::of(&(desc, reads));
         exchange_word::<Brand, T, _>(
             &mut self.seat,
+            &mut self.private,
             field,
             word,
             from,
@@ -198,7 +211,15 @@ impl<T: Theory> Pass<T> {
         let word = field.shape().status(desc);
         let committed = statuses::decided(Status::Committed, from);
         let about = Snapshot::of(&(desc, from));
-        exchange_word::<Brand, T, _>(&mut self.seat, field, word, from, committed, about)
+        exchange_word::<Brand, T, _>(
+            &mut self.seat,
+            &mut self.private,
+            field,
+            word,
+            from,
+            committed,
+            about,
+        )
     }
 
     /// Aborts an attempt of any pass. The attempt isn't ready; or it is in progress, and the pass
@@ -221,7 +242,15 @@ impl<T: Theory> Pass<T> {
         let word = field.shape().status(desc);
         let aborted = statuses::decided(Status::Aborted, from);
         let about = Snapshot::of(&(desc, from));
-        exchange_word::<Brand, T, _>(&mut self.seat, field, word, from, aborted, about)
+        exchange_word::<Brand, T, _>(
+            &mut self.seat,
+            &mut self.private,
+            field,
+            word,
+            from,
+            aborted,
+            about,
+        )
     }
 
     /// Takes a descriptor, of any pass, out of a counted word. Its attempt is decided. `value` is
@@ -256,6 +285,7 @@ impl<T: Theory> Pass<T> {
         let about = Snapshot::of(&(from, value));
         exchange_word::<Brand, T, _>(
             &mut self.seat,
+            &mut self.private,
             field,
             word,
             from.word(),
@@ -285,7 +315,14 @@ impl<T: Theory> Pass<T> {
         let word = self.shape().status(desc);
         let about = Snapshot::of(&(desc, from));
         let started = statuses::started(from);
-        store_word::<Brand, T, _>(&mut self.seat, field, word, started, about);
+        store_word::<Brand, T, _>(
+            &mut self.seat,
+            &mut self.private,
+            field,
+            word,
+            started,
+            about,
+        );
         restart_lane(&mut self.shares, desc);
     }
 }
@@ -293,6 +330,7 @@ impl<T: Theory> Pass<T> {
 // Puts a slot of the descriptor in hand into a word.
 fn put<T: Theory>(
     seat: &mut Seat<(), Known>,
+    private: &mut Option<Vec<u64>>,
     field: &Field<T>,
     word: u32,
     from: Content,
@@ -300,6 +338,7 @@ fn put<T: Theory>(
 ) -> Result<(), u64>
     requires field { (seat.old.table_id ≡ field.now.table)
         × (word < words_of field.now.origin.shape) }
+    requires private { HasWords field.now.origin.shape private.old seat.old.me.0 }
     requires live { IsLive seat.old.me.0.view }
     requires fits { (from.count ≤ LAST_COUNT) × (to.desc < desc_count field.now.origin.shape) }
     requires may { May T.meaning field.now.origin (λ pass. install pass word (word_of from) to)
@@ -307,6 +346,7 @@ fn put<T: Theory>(
     ensures field { seat.new.table_id ≡ seat.old.table_id }
     ensures same { (seat.new.me.0.view.lanes ≡ seat.old.me.0.view.lanes)
         × (seat.new.me.1 ≡ seat.old.me.1) }
+    ensures private { HasWords field.now.origin.shape private.new seat.new.me.0 }
     ensures step { Exchanged T.meaning field.now.origin
         (λ pass. install pass word (word_of from) to) word (word_of from) result
         seat.old.me.0.view seat.new.me.0.view }
@@ -316,5 +356,13 @@ fn put<T: Theory>(
         count: from.count + 1,
     };
     let about = Snapshot::of(&(from, to));
-    exchange_word::<Brand, T, _>(seat, field, word, from.word(), installed.word(), about)
+    exchange_word::<Brand, T, _>(
+        seat,
+        private,
+        field,
+        word,
+        from.word(),
+        installed.word(),
+        about,
+    )
 }

@@ -1,6 +1,7 @@
 //! Passes that step on a field of the cell: every change writes the value that stands there.
 
-ghost use Rattle.std.specs.Prelude.{◌≡◌, ◌≤◌, All, IfOk, IfSome, OnOk, replicate};
+ghost use Rattle.std.specs.Prelude.{◌≡◌, ◌≤◌, ◌%◌, All, IfOk, IfSome, OnOk, replicate};
+ghost use Rattle.md_machine.specs.declared.step.TheConstants.{LAST_COUNT};
 ghost use Rattle.md_rule.specs.Views.{IsOf};
 
 use crate::{Field, Pass};
@@ -26,6 +27,16 @@ fn blank(alloc: Global, shape: Shape) -> Result<(Field<CellTheory>, Pass<CellThe
     Field::open(alloc, shape, words)
 }
 
+// Changes the cell from a content to its own value.
+fn renew(field: &Field<CellTheory>, pass: &mut Pass<CellTheory>, from: Content) -> Result<(), u64>
+    requires of { IsOf pass.old field.now }
+    requires from { (from.count % 2 ≡ 0) × (from.count ≤ LAST_COUNT) }
+    ensures { IsOf pass.new field.now }
+{
+    let word = field.shape().map_head(0, 0);
+    pass.exchange(field, word, from, from.value)
+}
+
 // Loads the cell and changes it to the value that it has, so many times: how many changes won.
 fn churn(
     field: &Field<CellTheory>,
@@ -42,7 +53,7 @@ fn churn(
         let _ = i;
         let found = Content::of(pass.load(field, word));
         if found.count % 2 == 0 && found.count <= LAST_COUNT {
-            if pass.exchange(field, word, found, found.value).is_ok() {
+            if renew(field, &mut pass, found).is_ok() {
                 won += 1;
             }
         }
@@ -135,6 +146,23 @@ fn two_passes_change_one_word_at_once(rt: HostRuntime) -> Result<(), Fail> {
     assert_eq!(rt; last.value, 0);
     assert_eq!(rt; last.count, 2 * (won + too));
     assert!(rt; first.holds_all(&field));
+    Ok(())
+}
+
+#[test]
+fn a_pass_of_the_only_lane_has_the_words(rt: HostRuntime) -> Result<(), Fail> {
+    let shape = Shape::new(1, 1, 0, 1, 1, 1, 0)?;
+    let (field, mut pass) = blank(rt.alloc(), shape)?;
+    assert!(rt; pass.split(&field).is_none());
+    let (won, mut pass) = churn(&field, pass, 1000);
+    assert_eq!(rt; won, 1000);
+    let word = field.shape().map_head(0, 0);
+    let last = Content::of(pass.load(&field, word));
+    assert_eq!(rt; last.value, 0);
+    assert_eq!(rt; last.count, 2000);
+    let first = Content { value: 0, count: 0 };
+    assert_eq!(rt; renew(&field, &mut pass, first), Err(last.word()));
+    assert_eq!(rt; pass.load(&field, word), last.word());
     Ok(())
 }
 

@@ -1,13 +1,45 @@
-use Rattle.std.proofs.Common.{rules, ◌==◌, ap}
+use Rattle.std.proofs.Common.{◌≡◌, ◌≢◌, ◌==◌, ◌<◌, ℕ, rules, refl, sym, ap, subst, ◌∙◌, List, Vec, length, slice_index, slice_set}
+use Rattle.std.specs.declared.alloc.Global.{Global}
+use Rattle.std.proofs.lemmas.List.{length-set, with_items_is}
 use prog.Atomic.{either}
-use Rattle.md_rule.proofs.Moves.{may_step}
+use Rattle.std.specs.Vec.{with_items}
+use Rattle.md_words.specs.Layout.{words_of}
 use Rattle.md_rule.specs.Steps.{MayTell}
+use Rattle.md_rule.specs.Views.{Origin}
+use Rattle.md_rule.proofs.Moves.{may_put, may_step}
+use Rattle.md_rule.proofs.Private.{fits_table, in_pass, in_table}
 use Rattle.md_rule.proofs.words.exchange_word.Goals as goal
+
+-- private words after an exchange
+after : (mine : Vec ℕ Global) (word : ℕ) (left : ℕ → ℕ) (new : List ℕ) → new ≡ slice_set mine.items word (left (slice_index mine.items word))
+    → ((with_items mine new).items ≡ slice_set mine.items word (left (slice_index mine.items word)))
+after mine word left new set = with_items_is mine new (ap length set ∙ length-set mine.items word (left (slice_index mine.items word)) ∙ sym mine.ok.0) ∙ set
 
 pub compare_exchange-found-requires : goal.compare_exchange-found-requires
 compare_exchange-found-requires g c =
     let M = g.T.Theory.meaning in
     let key = c.field.inside.table.shared.key in
+    let o : Origin = record { shape = key.shape; words = key.words.value.items } in
     let origin = ap (λ f. f.origin) c.field.view_is in
-    let may : MayTell M (record { shape = key.shape; words = key.words.value.items }) c.args.seat.now.me.0.view c.args.word (λ found. either (found == c.args.from) c.args.to found) g.K.Telling.tells = rw origin c.requires.may in
-    (search rules, search rules, may_step M _ _ _ _ _ (λ found. either (found == c.args.from) c.args.to found) g.K.Telling.tells c.requires.live may)
+    let left : ℕ → ℕ = λ found. either (found == c.args.from) c.args.to found in
+    let may : MayTell M o c.args.seat.now.me.0.view c.args.word left g.K.Telling.tells = rw origin c.requires.may in
+    let more = subst (λ (x : Origin). x.shape.lanes ≢ 1) (sym origin) (in_table c.args.field.now.origin.shape _ _ c.requires.private c.in-None.is) in
+    let fits = subst (λ (x : Origin). c.args.word < words_of x.shape) (sym origin) c.requires.field.1 in
+    (search rules, fits_table key.shape o _ _ refl c.field.invariant.1 more fits, may_step M _ _ _ _ _ left g.K.Telling.tells more c.requires.live may)
+
+pub follow-requires-clause-may : goal.follow-requires-clause-may
+follow-requires-clause-may g c = λ s seen.
+    let M = g.T.Theory.meaning in
+    let o = c.args.field.now.origin in
+    let mine = c.in-Some.words in
+    let me = c.args.seat.now.me.0 in
+    let word = c.args.word in
+    let left : ℕ → ℕ = λ found. either (found == c.args.from) c.args.to found in
+    let tells = g.K.Telling.tells in
+    let has = in_pass o.shape _ _ mine c.requires.private c.in-Some.is in
+    let traded = c.exchange_private-found.ensures in
+    let row = c.deref_mut.ensures.value in
+    let found : c.exchange_private-found.result ≡ slice_index mine.items word = traded.found ∙ ap (λ l. slice_index l word) row in
+    let set : c.exchange_private-found.new.words ≡ slice_set mine.items word (left (slice_index mine.items word)) = traded.words ∙ ap (λ l. slice_set l word (left c.exchange_private-found.result)) row ∙ ap (λ n. slice_set mine.items word (left n)) found in
+    let told = may_put M o _ me word left tells mine (with_items mine c.exchange_private-found.new.words) has.0 has.2 (after mine word left _ set) c.requires.live c.requires.may s seen in
+    (told.0, told.1, (subst (λ n. tells n me.view told.0.view) (sym found) told.2, told.3, told.4 ∙ sym c.of.ensures))

@@ -8,6 +8,7 @@ use Rattle.md_machine.proofs.events.Tell.{joined_of}
 use Rattle.md_rule.proofs.LaneMoves.{kept_both}
 use Rattle.md_rule.proofs.LaneLists.{joined_are_lanes}
 use Rattle.md_rule.proofs.Moves.{may_join}
+use Rattle.md_rule.proofs.Private.{keeps_words}
 use Rattle.md_rule.proofs.pass.Pass.join.Goals as goal
 
 pub join_seat-requires-clause-may : goal.join_seat-requires-clause-may
@@ -39,6 +40,7 @@ invariant_of-self g c =
           (subst (λ s. KeepsLanes s others c.into_parts-seat.result.2) (c.requires.others.shape ∙ sym shape)
           (subst (λ v. KeepsLanes c.args.other.shape v c.into_parts-seat.result.2) (sym parts.seat.1) (subst (KeepsLanes c.args.other.shape c.args.other.view) (sym parts.shares.0) parts.shares.1)))
           refl (λ lane. joined_of o.shape mine others lane))),
+      keeps_words c.self.inside.shape c.self.inside.private _ _ (ap (λ me. me.0.private) (c.look.ensures.same ∙ c.join_seat.ensures.joined)) c.self.invariant.4,
     )
 
 pub look-requires-clause-tells : goal.look-requires-clause-tells

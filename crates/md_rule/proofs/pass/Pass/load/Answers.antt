@@ -4,6 +4,7 @@ use Rattle.md_rule.specs.Steps.{SteppedFrom}
 use Rattle.md_rule.proofs.Events.{event_tells, is_load, may_load}
 use Rattle.md_rule.proofs.LaneEvents.{quiet_load}
 use Rattle.md_rule.proofs.LaneSteps.{kept_quiet}
+use Rattle.md_rule.proofs.Private.{keeps_words}
 use Rattle.md_rule.proofs.pass.Pass.load.Goals as goal
 
 pub load_word-requires-clause-may : goal.load_word-requires-clause-may
@@ -24,6 +25,7 @@ invariant_of-self g c =
       c.self.invariant.1,
       same.1 ∙ c.self.invariant.2,
       kept_quiet M o _ _ _ told same.0 c.self.inside.shape shape (quiet_load M o _ _ c.args.word told) c.self.inside.shares (λ _ _. tt) c.self.invariant.3,
+      keeps_words c.self.inside.shape c.self.inside.private _ _ c.load_word.ensures.private c.self.invariant.4,
     )
 
 pub returns-clause-step : goal.returns-clause-step

@@ -3,6 +3,7 @@ use Rattle.md_rule.specs.Steps.{Acted, MayAct, MayTell}
 use Rattle.md_rule.proofs.Events.{act_tells}
 use Rattle.md_rule.proofs.LaneEvents.{quiet_mark_act}
 use Rattle.md_rule.proofs.LaneSteps.{kept_quiet}
+use Rattle.md_rule.proofs.Private.{keeps_words}
 use Rattle.md_rule.proofs.pass.Pass.mark_act.Goals as goal
 
 pub mark-requires-clause-may : goal.mark-requires-clause-may
@@ -25,6 +26,7 @@ invariant_of-self g c =
       c.self.invariant.1,
       same.1 ∙ c.self.invariant.2,
       kept_quiet M o _ _ _ told.2 same.0 c.self.inside.shape shape (quiet_mark_act M o _ _ told.0 told.2) c.self.inside.shares (λ _ _. tt) c.self.invariant.3,
+      keeps_words c.self.inside.shape c.self.inside.private _ _ c.mark.ensures.private c.self.invariant.4,
     )
 
 pub returns-clause-step : goal.returns-clause-step

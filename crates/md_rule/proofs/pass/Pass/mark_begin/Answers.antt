@@ -7,6 +7,7 @@ use Rattle.md_rule.specs.Steps.{May, MayTell, Stepped}
 use Rattle.md_rule.proofs.Events.{is_mark_begin, mark_tells}
 use Rattle.md_rule.proofs.LaneLists.{lane_fits}
 use Rattle.md_rule.proofs.LaneSteps.{kept_begin}
+use Rattle.md_rule.proofs.Private.{keeps_words}
 use Rattle.md_rule.proofs.pass.Pass.mark_begin.Goals as goal
 
 pub mark-requires-clause-may : goal.mark-requires-clause-may
@@ -38,6 +39,7 @@ invariant_of-self g c =
           (subst (λ n. c.args.desc < n) (sym c.begin_lane.ensures.size) (lane_fits c.self.inside.shape c.self.inside.lanes c.args.desc c.self.invariant.1
           (subst (λ l. Contains l c.args.desc) (ap (λ p. p.view.lanes) (sym c.self.view_is) ∙ c.self.invariant.0) c.requires.own)))
           (subst (λ p. 1 ≤ (share_at p.shares c.args.desc).tries_taken) (sym c.self.view_is) c.requires.taken) c.self.invariant.3),
+      keeps_words c.self.inside.shape c.self.inside.private _ _ c.mark.ensures.private c.self.invariant.4,
     )
 
 pub returns-clause-step : goal.returns-clause-step

@@ -8,6 +8,7 @@ use Rattle.md_machine.specs.events.Start.{IsClean}
 use Rattle.md_rule.proofs.Events.{is_mark_end, mark_tells}
 use Rattle.md_rule.proofs.LaneLists.{desc_fits}
 use Rattle.md_rule.proofs.LaneSteps.{kept_end}
+use Rattle.md_rule.proofs.Private.{keeps_words}
 use Rattle.md_rule.proofs.pass.Pass.mark_end.Goals as goal
 
 pub mark-requires-clause-may : goal.mark-requires-clause-may
@@ -35,6 +36,7 @@ invariant_of-self g c =
           (subst (λ n. c.args.desc < n) (sym c.end_lane.ensures.size) (desc_fits o.shape c.args.desc c.requires.field.1))
           (subst (λ p. HoldsDesc p.view c.args.desc) (sym c.self.view_is) c.requires.hand)
           (subst (λ p. (h : Hand) → p.view.hand ≡ Some h → IsClean p.view h.attempt) (sym c.self.view_is) c.requires.clean) c.self.invariant.3),
+      keeps_words c.self.inside.shape c.self.inside.private _ _ c.mark.ensures.private c.self.invariant.4,
     )
 
 pub returns-clause-step : goal.returns-clause-step

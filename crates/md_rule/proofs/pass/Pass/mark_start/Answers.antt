@@ -4,6 +4,7 @@ use Rattle.md_rule.specs.Steps.{Stepped}
 use Rattle.md_rule.proofs.Events.{is_mark_start, mark_tells}
 use Rattle.md_rule.proofs.LaneEvents.{quiet_mark_start}
 use Rattle.md_rule.proofs.LaneSteps.{kept_quiet}
+use Rattle.md_rule.proofs.Private.{keeps_words}
 use Rattle.md_rule.proofs.pass.Pass.mark_start.Goals as goal
 
 pub mark-requires-clause-may : goal.mark-requires-clause-may
@@ -24,6 +25,7 @@ invariant_of-self g c =
       c.self.invariant.1,
       same.1 ∙ c.self.invariant.2,
       kept_quiet M o _ _ _ told same.0 c.self.inside.shape shape (quiet_mark_start M o _ _ told) c.self.inside.shares (λ _ _. tt) c.self.invariant.3,
+      keeps_words c.self.inside.shape c.self.inside.private _ _ c.mark.ensures.private c.self.invariant.4,
     )
 
 pub returns-clause-step : goal.returns-clause-step

@@ -7,8 +7,9 @@ use Rattle.md_rule.proofs.pass.Pass.of.Goals as goal
 
 pub invariant_of-result : goal.invariant_of-result
 invariant_of-result g c = (
-  ap (λ v. v.lanes) c.requires.0 ∙ sym c.all.ensures,
+  ap (λ v. v.lanes) c.requires.view.0 ∙ sym c.all.ensures,
   rw c.all.ensures (all_are_lanes c.args.shape),
-  c.requires.1,
-  subst (λ v. KeepsLanes c.args.shape v (replicate 64 UNUSED)) (sym c.requires.0) (first_keeps c.args.shape),
+  c.requires.view.1,
+  subst (λ v. KeepsLanes c.args.shape v (replicate 64 UNUSED)) (sym c.requires.view.0) (first_keeps c.args.shape),
+  c.requires.private,
 )

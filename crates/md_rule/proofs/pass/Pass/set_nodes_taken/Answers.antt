@@ -23,4 +23,5 @@ invariant_of-self g c =
       subst (KeepsLanes inside.shape view) (sym c.set_nodes.ensures.shares)
           (nodes_set inside.shape view inside.shares c.self.invariant.3 c.args.lane c.args.taken (subst (λ n. c.args.lane < n) (sym c.set_nodes.ensures.size) fits)
           (subst (λ p. MayReturn p.shape p.view c.args.lane c.args.taken (share_at p.shares c.args.lane).nodes_taken) (sym c.self.view_is) c.requires.free)),
+      c.self.invariant.4,
     )

@@ -24,4 +24,5 @@ invariant_of-self g c =
           (tries_set inside.shape view inside.shares c.self.invariant.3 c.args.lane c.args.taken (subst (λ n. c.args.lane < n) (sym c.set_tries.ensures.size) fits)
           (subst (λ p. (share_at p.shares c.args.lane).tries_taken ≤ c.args.taken) (sym c.self.view_is) c.requires.rises)
           (subst (λ p. c.args.taken ≤ p.shape.tries) (sym c.self.view_is) c.requires.fits)),
+      c.self.invariant.4,
     )

@@ -13,7 +13,7 @@ use Rattle.md_cell.specs.CellMeaning.{cell_meaning, cell_word}
 use Rattle.md_cell.proofs.Tidy.{may_renew}
 use Rattle.md_rule.specs.Steps.{May}
 use Rattle.md_rule.specs.Views.{Origin}
-use Rattle.md_rule.proofs.tests.churn.Goals as goal
+use Rattle.md_rule.proofs.tests.renew.Goals as goal
 
 -- the exchange of the cell for the value that it has
 may : (o : Origin) (view : PassView) (from : Content) → is_even from.count ≡ true → from.count ≤ LAST_COUNT
@@ -34,7 +34,8 @@ even_count count e = ap (λ n. nat_eq n 0) e
 pub exchange-requires-clause-may : goal.exchange-requires-clause-may
 exchange-requires-clause-may c =
     let o = c.args.field.now.origin in
-    let found = c.of-found.result in
+    let from = c.args.from in
+    let view = c.args.pass.now.view in
     let at : c.map_head-word.result ≡ cell_word o.shape = c.map_head-word.ensures.place ∙ ap (λ s. address s (bucket_head 0 (bucket_of s 0))) c.shape.ensures ∙ ap (λ b. address o.shape (bucket_head 0 b)) (first_bucket o.shape) in
-    subst (λ w. May cell_meaning o (λ pass. exchange pass w (word_of found) found.value) c.load.new.self.view) (sym at)
-    (may o c.load.new.self.view found (even_count found.count c.if-found-eq0.true) c.if-found-le-LAST_COUNT.true)
+    subst (λ w. May cell_meaning o (λ pass. exchange pass w (word_of from) from.value) view) (sym at)
+    (may o view from (even_count from.count c.requires.from.0) c.requires.from.1)
