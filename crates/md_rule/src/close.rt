@@ -125,6 +125,21 @@ impl<T: Theory> Ended<T> {
         Ok(words)
     }
 
+    /// A list whose memory can be used again, with any content: the words of a field with one lane.
+    /// The memory of other words is freed, and the list is empty.
+    pub fn into_memory(self, alloc: Global) -> Vec<u64> {
+        let Ended {
+            table,
+            private,
+            front: _,
+        } = self;
+        table.free();
+        match private {
+            Some(words) => words,
+            None => Vec::new(alloc),
+        }
+    }
+
     // Frees the words.
     fn into_front(self) -> Front<Pass<T>>
         ensures { result ≡ self.front }

@@ -64,8 +64,8 @@ pub(crate) fn contents(
 }
 
 // Ends the field, and opens one on its contents, of the same shape but for its base nodes: it has
-// as many as the contents need. What lives is gathered from the words where they stand, and they are
-// freed before the new ones are laid.
+// as many as the contents need. What lives is gathered from the words where they stand. Then they
+// are freed, or the new ones are laid in their memory.
 pub(crate) fn renewed(
     field: Field<StoreTheory>,
     alloc: Global,
@@ -82,8 +82,8 @@ pub(crate) fn renewed(
     let shape = *field.shape();
     let (words, front) = ended(field, pass);
     let living = gather(alloc, &shape, &words)?;
-    drop(words);
-    let (fresh, row) = lay_living(alloc, &shape, living)?;
+    let memory = words.field.into_memory(alloc);
+    let (fresh, row) = lay_living(memory, &shape, living)?;
     let (renewed, first) = Field::open(alloc, fresh, row)?;
     Ok((renewed, StorePass::of(first), front))
 }

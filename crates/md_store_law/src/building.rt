@@ -9,15 +9,17 @@ ghost use Rattle.md_store_law.specs.Laid.{LaidNode, IsLaid, numbers_of, naming};
 ghost use Rattle.md_store_law.specs.Laid.{dummies, pair_nodes, value_nodes, appended};
 
 use md_words::{Content, Shape};
-use std::alloc::{AllocError, Global};
+use std::alloc::AllocError;
 
-/// The words of a field without contents: each queue has its dummy, and no other node is laid.
-/// `AllocError` if memory runs out. Takes time linear in the words and the queues.
-pub(crate) fn empty_field(alloc: Global, shape: &Shape) -> Result<Vec<u64>, AllocError>
+/// The words of a field without contents, in the memory of a list: each queue has its dummy, and no
+/// other node is laid. `AllocError` if memory runs out: the list may have too little. Takes time
+/// linear in the words and the queues.
+pub(crate) fn empty_field(mut words: Vec<u64>, shape: &Shape) -> Result<Vec<u64>, AllocError>
     requires { shape.now.queues ≤ shape.now.base }
     ensures { IfOk result (λ words. IsLaid shape.now words.items (dummies shape.now.queues)) }
 {
-    let mut words = vec![in alloc; 0; shape.words() as usize]?;
+    words.clear();
+    words.resize(shape.words() as usize, 0)?;
     for queue in 0..shape.queues {
         let dummy = naming(queue + 1);
         words[shape.queue_head(queue) as usize] = dummy;

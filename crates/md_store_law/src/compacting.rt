@@ -20,7 +20,7 @@ use std::alloc::{AllocError, Global};
 /// again. `AllocError` if memory runs out.
 ///
 /// Takes time linear in the words and the nodes. It goes over the old words once, and keeps the
-/// pairs and the values in lists meanwhile. The old words are freed before the new ones are made.
+/// pairs and the values in lists meanwhile. The new words are made in the memory of the old ones.
 pub fn compact(
     alloc: Global,
     shape: &Shape,
@@ -31,17 +31,18 @@ pub fn compact(
     ensures { IfOk result (λ r. IsCompacted shape.now words.items r.0 r.1.items) }
 {
     let living = gather(alloc, shape, &words.as_slice())?;
-    drop(words);
-    lay_living(alloc, shape, living)
+    lay_living(words, shape, living)
 }
 
 /// Lays what was gathered from a field as a new field, as `compact` does. The old words may be gone.
 /// `shape` is that of the old field. Returns it with as many base nodes as the contents need, which
-/// must be in range, and the new words. `AllocError` if memory runs out.
+/// must be in range, and the new words. They are made in the memory of `words`, which may be any:
+/// those of the old field save the system from clearing fresh memory. `AllocError` if memory runs
+/// out.
 ///
 /// Takes time linear in the words and the nodes.
 pub fn lay_living(
-    alloc: Global,
+    words: Vec<u64>,
     shape: &Shape,
     living: Living,
 ) -> Result<(Shape, Vec<u64>), AllocError>
@@ -49,7 +50,7 @@ pub fn lay_living(
     ensures { IfOk result (λ r. IsLaidAnew shape.now living r.0 r.1.items) }
 {
     let fresh = with_base(shape, living.needed(shape));
-    let mut words = empty_field(alloc, &fresh)?;
+    let mut words = empty_field(words, &fresh)?;
     lay_all(&mut words, &fresh, &living);
     Ok((fresh, words))
 }

@@ -35,7 +35,7 @@ pub fn lay(alloc: Global, shape: &Shape, contents: &Contents) -> Result<Vec<u64>
         (λ words. IsLaid shape.now words.items (laid_nodes shape.now contents.now)) }
     ensures untouched { IfOk result (λ words. IsUntouched shape.now words.items) }
 {
-    let mut words = empty_field(alloc, shape)?;
+    let mut words = empty_field(Vec::new(alloc), shape)?;
     lay_contents(alloc, &mut words, shape, contents)?;
     Ok(words)
 }
