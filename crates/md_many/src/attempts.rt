@@ -163,9 +163,12 @@ pub fn attempt_lines<E: Engine, L: Lines, G: Gate>(
         let Some(body) = lines.body(turn.caller, line) else {
             unreachable!()
         };
-        match attempt_line(engine, pass, turn.caller, line, &body, gate) {
+        // As `attempt_line`, whose result would be copied once more.
+        gate.before(turn.caller, line);
+        match engine.attempt(pass, line_tag(turn.caller, line), &body) {
             Attempt::Committed(reply) => {
                 put(replies, reply);
+                gate.after(turn.caller, line);
                 played = line;
                 conflicts = 0;
             }

@@ -11,7 +11,7 @@ ghost use Rattle.md_many.specs.Played.{EachLineOnce, committed_of, tags_of};
 ghost use Rattle.md_many.specs.Played.{left_after, rounds_left};
 
 use crate::attempts::{End, Turn, attempt_lines};
-use crate::batches::{BATCH, Played};
+use crate::batches::Played;
 use crate::callers::Lines;
 use crate::gates::Gate;
 use crate::keepers::Keeper;
@@ -43,11 +43,14 @@ struct Course<E: Engine> {
     worn: bool,
 }
 
-// The most attempts of a turn. A single caller starts no thread, so its turn is one batch, whose
+// The most attempts of a single caller's turn. It starts no thread, so a turn costs little, and its
 // replies are put where they are kept while the cache has them.
+const ALONE_TRIES: u32 = 16_384;
+
+// The most attempts of a turn.
 fn turn_tries(callers: u32, tries: u32) -> u32 {
     if callers <= 1 {
-        return tries.min(BATCH);
+        return tries.min(ALONE_TRIES);
     }
     tries
 }
@@ -331,7 +334,7 @@ fn none_done(alloc: Global, callers: u32) -> Result<Vec<u32>, AllocError>
 /// the first line before the turns, and the replies of the turns after them.
 ///
 /// `tries` is the most attempts of a turn: any number. If there is one caller, a turn also makes at
-/// most 1,024 attempts. With 0 tries no turn plays a line.
+/// most 16,384 attempts. With 0 tries no turn plays a line.
 ///
 /// A turn is played in batches of at most 1,024 attempts. A batch takes one allocation, with room
 /// for its replies, and its replies are then appended to the list of the turn (`Keeper::List`). So a
@@ -340,7 +343,7 @@ fn none_done(alloc: Global, callers: u32) -> Result<Vec<u32>, AllocError>
 ///
 /// The engine is renewed before a round if, in the round before, the first line met a limit, or a
 /// turn ended by a limit or by the end of all `tries` attempts. Conflicts cause no renewal, and nor
-/// does the end of a single caller's 1,024 attempts if `tries` is greater. If `tries` is the number
+/// does the end of a single caller's 16,384 attempts if `tries` is greater. If `tries` is the number
 /// of attempts of a lane, a turn makes all of them only if its lane then has none left. A round
 /// after a renewal plays at least one line. So there are at most as many renewals as lines.
 ///

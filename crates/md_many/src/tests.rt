@@ -295,12 +295,12 @@ fn turns_in_batches(rt: HostRuntime) -> Result<(), Fail> {
     Ok(())
 }
 
-// One caller over a store with one lane: many rounds, since its turn makes at most 1,024 attempts,
-// and no renewal. Each reply stands at its line. A caller without lines leaves the store as it was.
+// One caller over a store with one lane: several rounds, since its turn makes at most 16,384
+// attempts, and no renewal. Each reply stands at its line. A caller without lines leaves the store as it was.
 #[test]
 fn one_caller_in_rounds(rt: HostRuntime) -> Result<(), Fail> {
     let alloc = rt.alloc();
-    for count in [0, 1, 2, 3_000] {
+    for count in [0, 1, 2, 40_000] {
         let (store, pass) = PlainStore::open(Contents::empty(alloc, 0, 1)?);
         let lines = EachLine {
             callers: 1,

@@ -87,8 +87,9 @@ impl Store {
         self.attempt_in(&mut pass.pass, &mut pass.sets, tag, body)
     }
 
-    // An attempt by a pass of the field, which keeps its words and nodes in these sets.
-    fn attempt_in<B: Body>(
+    // An attempt by a pass of the field, which keeps its words and nodes in these sets. A reply is
+    // large, and each call that only hands it on would copy it.
+    pub(crate) fn attempt_in<B: Body>(
         &self,
         pass: &mut Pass<StoreTheory>,
         sets: &mut Sets,

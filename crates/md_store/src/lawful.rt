@@ -17,8 +17,8 @@ use crate::store::Store;
 use md_history::{Attempt, Body, Contents, Engine, Front};
 use std::alloc::AllocError;
 
-/// Each call is that of `Store` with the same name; `contents` is `close`. An attempt never answers
-/// `NoMemory`.
+/// Each call does what that of `Store` with the same name does; `contents` is `close`. An attempt
+/// never answers `NoMemory`.
 impl Engine for Store {
     ghost use Rattle.md_store.specs.Laws.{fresh_is, of_is};
     ghost use Rattle.md_store.specs.Store.{IsNew, IsPassOf, MayStop, all_lanes, begun_by, front_in};
@@ -74,7 +74,7 @@ impl Engine for Store {
             (start_of self.now)
             → IfStopped result (λ _. ⊥) }
     {
-        self.attempt(pass, tag, body)
+        self.attempt_in(&mut pass.pass, &mut pass.sets, tag, body)
     }
 
     fn join(&self, pass: &mut StorePass, other: StorePass)

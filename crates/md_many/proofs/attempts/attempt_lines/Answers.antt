@@ -2,6 +2,7 @@ use Rattle.std.proofs.Common.{◌≡◌, ◌<◌, ◌≤◌, ◌+◌, ℕ, ◌�
 use Rattle.std.specs.Prelude.{IfSome}
 use Rattle.std.proofs.lemmas.Bool.{cases_eq}
 use Rattle.std.proofs.lemmas.List.{length_push}
+use Rattle.md_history.specs.Attempt.{Commits}
 use Rattle.md_many.proofs.Playing.{played-none, played-stopped, played-more}
 use Rattle.md_many.proofs.Retrying.{no_conflict, conflict_counted}
 use Rattle.md_many.proofs.attempts.attempt_lines.Goals as goal
@@ -38,21 +39,22 @@ attempts-init g c = record {
 
 pub attempts-preserved : goal.attempts-preserved
 attempts-preserved g c =
-    elim c.match-attempt_line.branch [
+    elim c.match-attempt.branch [
       | in-Committed w ↦
-          let more : c.match-attempt_line.replies.items ≡ c.attempts.replies.items ++ w.in-Committed.reply ∷ [] =
+          let more : c.match-attempt.replies.items ≡ c.attempts.replies.items ++ w.in-Committed.reply ∷ [] =
           ap (λ (v : Vec _ Global). v.items) w.replies-is ∙ w.put.ensures.items in
-          let count : length c.match-attempt_line.replies.items ≡ length c.attempts.replies.items + 1 =
+          let count : length c.match-attempt.replies.items ≡ length c.attempts.replies.items + 1 =
           ap length more ∙ length_push c.attempts.replies.items w.in-Committed.reply in
           let inside = c.attempts.invariant.within in
           let test = c.if-played-count.false in
           record {
-            of = c.attempt_line.ensures.of;
-            fated = c.attempt_line.ensures.legal.fated;
+            of = c.attempt.ensures.of;
+            fated = c.attempt.ensures.legal.fated;
             lines = rw more (played-more _ _ _ _ _ c.attempts.tried (c.attempts.played + 1) c.in-Some.body
                 w.in-Committed.reply _ _ c.attempts.replies.items c.attempts.invariant.lines
                 c.attempts.invariant.fated (omega (arith, c.attempts.invariant.played)) (sym c.in-Some.ensures)
-                w.in-Committed.ensures.committed);
+                (subst (λ tag. Commits (g.L.B.Body.did c.in-Some.body) tag w.in-Committed.reply (g.E.Engine.front c.attempts.pass) (g.E.Engine.front c.attempt.new.pass)) c.line_tag.ensures
+                w.in-Committed.ensures.committed));
             played = omega (arith, w.played-is, count, c.attempts.invariant.played);
             within = omega (arith, w.played-is, inside, c.len-count.ensures, test);
             few = omega (arith, count, w.conflicts-is, c.attempts.invariant.few);
@@ -65,14 +67,14 @@ attempts-preserved g c =
             );
             counted = omega (arith, w.in-Committed.ensures.begun, c.attempts.invariant.counted);
             gate = one_more (g.G.Gate.after_called c.args.gate.now c.args.turn.caller) _ _ c.attempts.invariant.gate
-                w.in-Committed.ensures.after _ w.played-is;
+                w.after.ensures _ w.played-is;
             begun = λ none. absurd (omega arith);
             first = λ fresh tries small some. omega (arith, count);
             steady = λ stops. omega (arith, count, c.attempts.invariant.steady stops);
           }
       | in-Stopped-Conflict+else-conflicts-eq-MOST_CONFLICTS w ↦ record {
-        of = c.attempt_line.ensures.of;
-        fated = c.attempt_line.ensures.legal.fated;
+        of = c.attempt.ensures.of;
+        fated = c.attempt.ensures.legal.fated;
         lines = rw w.replies-is
             (played-stopped _ _ _ _ _ c.attempts.tried _ _ _ c.attempts.replies.items c.attempts.invariant.lines
             c.attempts.invariant.fated w.in-Stopped-Conflict.ensures.stopped);
