@@ -53,7 +53,7 @@ fn measure(rt: &HostRuntime, sizing: Sizing) -> ExitCode {
 
 // Loads a word so many times, and prints the bits that were found.
 fn load(rt: &HostRuntime, steps: u32) -> ExitCode {
-    let Ok(shape) = Shape::new(1, 1, 0, 1, 1, 1, 0) else {
+    let Ok(shape) = Shape::new(2, 1, 0, 1, 1, 1, 0) else {
         return ExitCode::FAILURE;
     };
     match loads(rt.alloc(), shape, steps) {
@@ -67,7 +67,7 @@ fn load(rt: &HostRuntime, steps: u32) -> ExitCode {
 
 // Exchanges a word so many times, and prints how many exchanges won.
 fn exchange(rt: &HostRuntime, steps: u32) -> ExitCode {
-    let Ok(shape) = Shape::new(1, 1, 0, 1, 1, 1, 0) else {
+    let Ok(shape) = Shape::new(2, 1, 0, 1, 1, 1, 0) else {
         return ExitCode::FAILURE;
     };
     match exchanges(rt.alloc(), shape, steps.min(MOST)) {
