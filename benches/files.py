@@ -84,6 +84,11 @@ def one_level(count):
         yield Command(chosen.choice("PF"), chosen.choice(ACCOUNTS), "S", 500, chosen.choice(QUANTITIES))
 
 
+def lone_caller(count):
+    """All kinds of commands over the whole book, all of them of the first caller."""
+    return mixed(count, SIX_KINDS, PRICES)
+
+
 # What makes so many commands, by the name of a file.
 MAKERS = {
     "spread": lambda count: mixed(count, FIVE_KINDS, PRICES),
@@ -94,9 +99,10 @@ MAKERS = {
     "dead level": dead_level,
     "one account": one_account,
     "one level": one_level,
+    "lone caller": lone_caller,
 }
 
-HOSTILE = ("cancelled chains", "dead level", "one account", "one level")
+HOSTILE = ("cancelled chains", "lone caller", "dead level", "one account", "one level")
 
 
 class File(NamedTuple):
@@ -134,6 +140,8 @@ class File(NamedTuple):
 
     def dealt(self, i):
         """The caller and the line of command i."""
+        if self.name == "lone caller":
+            return 1, i + 1
         return i % self.callers + 1, i // self.callers + 1
 
 
@@ -145,8 +153,8 @@ def all_files(scale=1):
         *(File("spread", million // part, callers) for callers in (1, 4) for part in (100, 10)),
         File("six kinds, spread", million - 1, 1, 2),
         *(File("six kinds, hot", million // part - 1, 64, 2) for part in (10, 1)),
-        File("cancelled chains", fewer, 64, 2),
-        *(File(name, fewer, 4) for name in HOSTILE if name != "cancelled chains"),
+        *(File(name, fewer, 64, 2) for name in HOSTILE[:2]),
+        *(File(name, fewer, 4) for name in HOSTILE[2:]),
     ]
 
 

@@ -11,7 +11,7 @@ ghost use Rattle.md_many.specs.Played.{EachLineOnce, committed_of, tags_of};
 ghost use Rattle.md_many.specs.Played.{left_after, rounds_left};
 
 use crate::attempts::{End, Turn, attempt_lines};
-use crate::batches::Played;
+use crate::batches::{BATCH, Played};
 use crate::callers::Lines;
 use crate::gates::Gate;
 use crate::keepers::Keeper;
@@ -76,6 +76,19 @@ fn next_caller<L: Lines>(lines: &L, done: &[u32]) -> Option<u32>
     None
 }
 
+// Whether of several callers no other one has a line left: this one is the lowest that has.
+fn is_lone<L: Lines>(lines: &L, done: &[u32], caller: u32) -> bool
+    requires { length done.now < 2 ^ 32 }
+{
+    let callers = done.len() as u32;
+    'others: for before in caller..callers {
+        if done[before as usize] < lines.len(before + 1) {
+            return false;
+        }
+    }
+    callers > 1
+}
+
 // Renews the engine, if it is worn.
 fn renewed<E: Engine, L: LawfulLines, K: Keeper<<L::B as Body>::Reply>, G: Gate>(
     course: Course<E>,
@@ -126,13 +139,15 @@ fn renewed<E: Engine, L: LawfulLines, K: Keeper<<L::B as Body>::Reply>, G: Gate>
     })
 }
 
-// The lowest caller's next line is played by the pass of all lanes, which meets no conflict.
+// The lowest caller's next lines are played by the pass of all lanes, which meets no conflict, with
+// so many attempts.
 fn play_first<E: Engine, L: LawfulLines, G: Gate, K: Keeper<<L::B as Body>::Reply>>(
     alloc: Global,
     course: Course<E>,
     lines: &L,
     gate: &G,
     caller: u32,
+    tries: u32,
     keeper: &mut K,
 ) -> Result<Course<E>, AllocError>
     requires of { E.of course.engine course.pass }
@@ -146,6 +161,7 @@ fn play_first<E: Engine, L: LawfulLines, G: Gate, K: Keeper<<L::B as Body>::Repl
     requires from_1 { 1 ≤ caller }
     requires there { caller ≤ length course.done.items }
     requires left { at_caller 0 course.done.items caller < L.line_count lines.now caller }
+    requires tries { 1 ≤ tries }
     ensures of { IfOk result (λ c. E.of c.engine c.pass) }
     ensures course { IfOk result (λ c. IsInCourse L.B.did L.B.makes L.B.fits (L.body_at lines.now)
         (L.line_count lines.now) (G.after_called gate.now) (K.keeps keeper.new)
@@ -168,9 +184,9 @@ fn play_first<E: Engine, L: LawfulLines, G: Gate, K: Keeper<<L::B as Body>::Repl
     let turn = Turn {
         caller,
         done: course.done[caller as usize - 1],
-        tries: 1,
+        tries,
     };
-    let mut replies = Vec::with_capacity(alloc, 1)?;
+    let mut replies = Vec::with_capacity(alloc, tries as usize)?;
     pass_is_legal(&course.engine, &course.pass);
     attempt_lines(
         &course.engine,
@@ -260,7 +276,8 @@ where
 }
 
 // A round: the engine is renewed if it is worn, the lowest caller's next line is played first, and
-// then all callers play a turn side by side. It leaves fewer lines, or as many and a worn engine.
+// then all callers play a turn side by side. If no other caller has a line left, the lowest plays a
+// batch of lines first, and nobody plays a turn. It leaves fewer lines, or as many and a worn engine.
 fn play_round<R, E, L, G, K>(
     rt: &R,
     alloc: Global,
@@ -305,9 +322,14 @@ where
         rounds_left (L.line_count lines.now) c.done.items c.worn
         < rounds_left (L.line_count lines.now) course.done.items course.worn) }
 {
+    let lone = is_lone(lines, &course.done, caller);
+    let first = if lone { BATCH } else { 1 };
     let course = renewed(course, lines, keeper, gate)?;
-    let course = play_first(alloc, course, lines, gate, caller, keeper)?;
+    let course = play_first(alloc, course, lines, gate, caller, first, keeper)?;
     if course.worn {
+        return Ok(course);
+    }
+    if lone {
         return Ok(course);
     }
     play_sides(rt, alloc, course, lines, tries, gate, keeper)
@@ -331,7 +353,9 @@ fn none_done(alloc: Global, callers: u32) -> Result<Vec<u32>, AllocError>
 /// A round begins with its first line: the pass of all lanes plays the next line of the lowest
 /// caller that has one. If this line meets a limit, the round ends. Otherwise the pass is split,
 /// each caller plays a turn in a thread, and the pass is joined again. The keeper gets the reply of
-/// the first line before the turns, and the replies of the turns after them.
+/// the first line before the turns, and the replies of the turns after them. If of several callers
+/// only one has a line left, the pass of all lanes plays its next 1,024 lines, with the nodes of all
+/// lanes, and the round ends.
 ///
 /// `tries` is the most attempts of a turn: any number. If there is one caller, a turn also makes at
 /// most 16,384 attempts. With 0 tries no turn plays a line.

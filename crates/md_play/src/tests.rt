@@ -12,10 +12,10 @@ use std::test::Fail;
 use std::thread::Threads;
 
 // The scripts of two callers.
-fn scripts_of(alloc: Global, text: &str) -> Result<Scripts, Fail>
+fn scripts_of(alloc: Global, text: &[u8]) -> Result<Scripts, Fail>
     ensures { IfOk result (λ scripts. length scripts ≡ 2) }
 {
-    match read_orders(alloc, text.as_bytes(), 2) {
+    match read_orders(alloc, text, 2) {
         Ok(scripts) => Ok(scripts),
         Err(_) => Err(Fail::from(AllocError)),
     }
@@ -26,7 +26,7 @@ fn scripts_of(alloc: Global, text: &str) -> Result<Scripts, Fail>
 fn two_callers(rt: HostRuntime) -> Result<(), Fail> {
     let alloc = rt.alloc();
     let text = "1,P,7,S,100,5\n1,F,8,S,100,2\n1,D,S,100\n2,P,17,B,200,4\n2,C,2,1\n2,D,B,200\n";
-    let scripts = scripts_of(alloc, text)?;
+    let scripts = scripts_of(alloc, text.as_bytes())?;
     let played = play_on_store(&rt, alloc, &scripts, 64, 64, &FreeGate)?;
     assert_eq!(rt; played.replies.get(1, 1), Some(BookReply::Placed));
     assert_eq!(rt; played.replies.get(1, 3), Some(BookReply::Depth(3)));
@@ -34,6 +34,22 @@ fn two_callers(rt: HostRuntime) -> Result<(), Fail> {
     assert_eq!(rt; played.replies.get(2, 2), Some(BookReply::Cancelled(4)));
     assert_eq!(rt; played.replies.get(2, 3), Some(BookReply::Depth(0)));
     assert_eq!(rt; played.replies.get(2, 4), None);
+    Ok(())
+}
+
+// Only one of two callers has lines. A place takes three nodes, and both lanes together have enough.
+#[test]
+fn a_lone_caller_takes_the_nodes_of_all_lanes(rt: HostRuntime) -> Result<(), Fail> {
+    let alloc = rt.alloc();
+    let mut text = Vec::new(alloc);
+    for line in 0..100 {
+        let _ = line;
+        text.extend_from_slice(b"2,P,7,S,100,5\n")?;
+    }
+    let scripts = scripts_of(alloc, &text)?;
+    let played = play_on_store(&rt, alloc, &scripts, 192, 100, &FreeGate)?;
+    assert_eq!(rt; played.replies.get(2, 100), Some(BookReply::Placed));
+    assert_eq!(rt; played.fronts.len(), 1);
     Ok(())
 }
 

@@ -98,5 +98,5 @@ returns-clause-fresh g c = λ fresh empty.
     let small = first-small _ _ _ _ _ _ _ _ c.requires.course.laws _ _ _ _ _ c.requires.course.stands.leaves
     empty c.requires.course.runs.bounds
     c.args.caller (c.index.result.now + 1) in
-    let some = c.in_ok-attempt_lines.ensures.first fresh c.requires.course.runs.tries small (omega (arith, at, c.requires.left)) in
+    let some = c.in_ok-attempt_lines.ensures.first fresh c.requires.course.runs.tries small (omega (arith, at, c.requires.left, c.requires.tries)) in
     c.is_empty.ensures ∙ ne_eqb _ 0 (λ none. omega (arith, some, none, c.attempt_lines.new.replies.ok.0))
