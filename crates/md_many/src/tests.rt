@@ -296,7 +296,8 @@ fn turns_in_batches(rt: HostRuntime) -> Result<(), Fail> {
 }
 
 // One caller over a store with one lane: several rounds, since its turn makes at most 16,384
-// attempts, and no renewal. Each reply stands at its line. A caller without lines leaves the store as it was.
+// attempts, and no renewal. Each reply stands at its line. A caller without lines leaves the store
+// as it was.
 #[test]
 fn one_caller_in_rounds(rt: HostRuntime) -> Result<(), Fail> {
     let alloc = rt.alloc();

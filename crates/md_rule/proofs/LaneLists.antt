@@ -48,14 +48,6 @@ without_drop zero xs l e = e
 without_drop (suc k) [] l e = refl
 without_drop (suc k) (x ∷ xs) l e = without_drop k xs l (without x xs l e).1
 
--- the lanes of a field, of each part of a split, and of a join
-pub all_are_lanes : (shape : Shape) → AreLanes shape (range_with_len 0 shape.lanes)
-all_are_lanes shape = record {
-  live = let some = some_lanes shape in let count = length-range_with_len 0 shape.lanes in omega (arith, some, count);
-  below = λ lane h. past_range 0 shape.lanes lane (omega (arith, h));
-  rising = rise_range 0 shape.lanes;
-}
-
 -- two lanes are those of a field that has more than one
 pub two_lanes : (shape : Shape) (lanes : List ℕ) → AreLanes shape lanes → 2 ≤ length lanes → shape.lanes ≢ 1
 two_lanes shape [] k two one = absurd (omega (arith, two))
@@ -64,6 +56,14 @@ two_lanes shape (x ∷ y ∷ lanes) k two one =
     let rise = k.rising.1.0 in
     let gone = without y lanes y (without x (y ∷ lanes) y (k.below y (omega (arith, one, rise)))).1 in
     false≢true (sym gone.0 ∙ eq-eqb y y refl)
+
+-- the lanes of a field, of each part of a split, and of a join
+pub all_are_lanes : (shape : Shape) → AreLanes shape (range_with_len 0 shape.lanes)
+all_are_lanes shape = record {
+  live = let some = some_lanes shape in let count = length-range_with_len 0 shape.lanes in omega (arith, some, count);
+  below = λ lane h. past_range 0 shape.lanes lane (omega (arith, h));
+  rising = rise_range 0 shape.lanes;
+}
 
 pub kept_are_lanes : (shape : Shape) (lanes : List ℕ) → AreLanes shape lanes → 2 ≤ length lanes → AreLanes shape (kept_lanes lanes)
 kept_are_lanes shape lanes k two = record {

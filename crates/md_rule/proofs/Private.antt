@@ -11,7 +11,6 @@ use Rattle.atomic_table.specs.Table.{State}
 use Rattle.md_machine.proofs.lists.At.{at_one}
 use Rattle.md_machine.proofs.lists.Options.{some_same}
 use Rattle.md_rule.specs.Private.{AreWords, HasWords, table_words, words_left}
-use Rattle.md_rule.specs.Views.{Origin}
 use Rattle.md_rule.specs.declared.known.Known.{Known}
 use Rattle.md_rule.proofs.Events.{has_base}
 
@@ -54,9 +53,8 @@ still_has shape ws next k word value one long set same = record {
 }
 
 -- a place of a word is one of the table then
-pub fits_table : (shape : Shape) (o : Origin) (words word : ℕ) → shape ≡ o.shape → words ≡ table_words shape → o.shape.lanes ≢ 1 → word < words_of o.shape → word < words
-fits_table shape o words word same is more fits =
-    subst (λ n. word < n) (sym (is ∙ ap table_words same ∙ shared_words o.shape more)) fits
+pub fits_table : (shape : Shape) (words word : ℕ) → words ≡ table_words shape → shape.lanes ≢ 1 → word < words_of shape → word < words
+fits_table shape words word is more fits = subst (λ n. word < n) (sym (is ∙ shared_words shape more)) fits
 
 -- the words of a field that has ended
 pub all_left : (shape : Shape) (private : Option (Vec ℕ Global)) (words : List ℕ) (s : State (Unit {0}) Known) (id : ℕ) (k : Known) (ws : List ℕ)

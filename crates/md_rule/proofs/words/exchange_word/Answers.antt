@@ -1,4 +1,4 @@
-use Rattle.std.proofs.Common.{◌≡◌, ◌≢◌, ◌==◌, ◌<◌, ℕ, rules, refl, sym, ap, subst, ◌∙◌, List, Vec, length, slice_index, slice_set}
+use Rattle.std.proofs.Common.{◌≡◌, ◌≢◌, ◌==◌, ◌<◌, ℕ, rules, sym, ap, subst, ◌∙◌, List, Vec, length, slice_index, slice_set}
 use Rattle.std.specs.declared.alloc.Global.{Global}
 use Rattle.std.proofs.lemmas.List.{length-set, with_items_is}
 use prog.Atomic.{either}
@@ -25,7 +25,7 @@ compare_exchange-found-requires g c =
     let may : MayTell M o c.args.seat.now.me.0.view c.args.word left g.K.Telling.tells = rw origin c.requires.may in
     let more = subst (λ (x : Origin). x.shape.lanes ≢ 1) (sym origin) (in_table c.args.field.now.origin.shape _ _ c.requires.private c.in-None.is) in
     let fits = subst (λ (x : Origin). c.args.word < words_of x.shape) (sym origin) c.requires.field.1 in
-    (search rules, fits_table key.shape o _ _ refl c.field.invariant.1 more fits, may_step M _ _ _ _ _ left g.K.Telling.tells more c.requires.live may)
+    (search rules, fits_table key.shape _ _ c.field.invariant.1 more fits, may_step M _ _ _ _ _ left g.K.Telling.tells more c.requires.live may)
 
 pub follow-requires-clause-may : goal.follow-requires-clause-may
 follow-requires-clause-may g c = λ s seen.

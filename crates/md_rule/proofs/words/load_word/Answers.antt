@@ -1,4 +1,4 @@
-use Rattle.std.proofs.Common.{◌≡◌, ◌≢◌, ◌<◌, length, slice_index, rules, refl, sym, ap, subst, ◌∙◌}
+use Rattle.std.proofs.Common.{◌≡◌, ◌≢◌, ◌<◌, length, slice_index, rules, sym, ap, subst, ◌∙◌}
 use Rattle.std.proofs.lemmas.Grind.{get_or_default_zero}
 use Rattle.std.proofs.lemmas.List.{set-get_or}
 use Rattle.md_words.specs.Layout.{words_of}
@@ -17,7 +17,7 @@ load-requires g c =
     let may : MayTell M o c.args.seat.now.me.0.view c.args.word (λ held. held) g.K.Telling.tells = rw origin c.requires.may in
     let more = subst (λ (x : Origin). x.shape.lanes ≢ 1) (sym origin) (in_table c.args.field.now.origin.shape _ _ c.requires.private c.in-None.is) in
     let fits = subst (λ (x : Origin). c.args.word < words_of x.shape) (sym origin) c.requires.field.1 in
-    (search rules, fits_table key.shape o _ _ refl c.field.invariant.1 more fits, may_step M _ _ _ _ _ (λ held. held) g.K.Telling.tells more c.requires.live may)
+    (search rules, fits_table key.shape _ _ c.field.invariant.1 more fits, may_step M _ _ _ _ _ (λ held. held) g.K.Telling.tells more c.requires.live may)
 
 pub follow-requires-clause-may : goal.follow-requires-clause-may
 follow-requires-clause-may g c = λ s seen.
