@@ -62,6 +62,7 @@ fn settled_status<T: Theory>(pass: &mut Pass<T>, field: &Field<T>, desc: u32) ->
 ///
 /// It takes one step if the attempt is decided. Otherwise it takes at most `3r + 5`, if the attempt
 /// recorded r words.
+#[inline(always)]
 pub fn decided_status<T: Theory>(pass: &mut Pass<T>, field: &Field<T>, desc: u32) -> u64
     requires of { IsOf pass.old field.now }
     requires idle { pass.old.view.hand ≡ None }
@@ -176,6 +177,7 @@ fn take_slots_out<T: Theory>(pass: &mut Pass<T>, field: &Field<T>, desc: u32)
 ///
 /// It takes no step if the last transaction was ended. Otherwise it takes at most `3r + 3`, if the
 /// transaction recorded r words, and at most four for each word that it wrote.
+#[inline(always)]
 pub fn take_left_out<T: Theory>(pass: &mut Pass<T>, field: &Field<T>, desc: u32)
     requires of { IsOf pass.old field.now }
     requires idle { pass.old.view.hand ≡ None }

@@ -71,6 +71,7 @@ impl<'a, T: Theory> Txn<'a, T> {
     }
 
     // Changes a word that isn't an own one.
+    #[inline(always)]
     fn exchange_other(&mut self, word: u32, from: Seen, to: u32, kind: Kind) -> Result<Seen, Stop>
         requires going { IsUnderWay T.meaning (state self.old) }
         requires operates { (state self.old).hand.operating ≡ true }
@@ -100,6 +101,7 @@ impl<'a, T: Theory> Txn<'a, T> {
     }
 
     // An own word gets a new value in its slot. One step.
+    #[inline(always)]
     fn exchange_own(&mut self, place: u8, word: u32, from: Seen, to: u32) -> Seen
         requires going { IsUnderWay T.meaning (state self.old) }
         requires operates { (state self.old).hand.operating ≡ true }
@@ -170,6 +172,7 @@ impl<'a, T: Theory> Txn<'a, T> {
     }
 
     // Why the exchange of a word that isn't an own one is refused, if it is.
+    #[inline(always)]
     fn refusal(&self, word: u32, from: Seen, critical: bool) -> Option<Stop>
         ensures is { result
             ≡ refusal_by (case_of_other (state self.now) word from critical) word from }
@@ -243,6 +246,7 @@ impl<'a, T: Theory> Txn<'a, T> {
     }
 
     // Puts the descriptor, at the next slot, into a word. Four steps.
+    #[inline(always)]
     fn install(&mut self, word: u32, from: Seen, to: u32) -> Result<Seen, Stop>
         requires going { IsUnderWay T.meaning (state self.old) }
         requires operates { (state self.old).hand.operating ≡ true }
@@ -268,6 +272,7 @@ impl<'a, T: Theory> Txn<'a, T> {
     }
 
     // Puts the descriptor, at the next slot, which is stored, into a word. One step.
+    #[inline(always)]
     fn install_next(&mut self, word: u32, from: Seen, to: u32) -> Result<Seen, Stop>
         requires going { IsUnderWay T.meaning (state self.old) }
         requires operates { (state self.old).hand.operating ≡ true }

@@ -1,6 +1,6 @@
 //! How a transaction takes new nodes.
 
-ghost use Rattle.std.specs.Prelude.{◌≡◌, ℕ, true};
+ghost use Rattle.std.specs.Prelude.{◌≡◌, ◌<◌, ◌/◌, ℕ, true};
 ghost use Rattle.md_nbtc.specs.Calls.{AfterStop, FreshKeepsGiven, Freshened, GoesOn};
 ghost use Rattle.md_nbtc.specs.Going.{IsUnderWay};
 ghost use Rattle.md_nbtc.specs.State.{state};
@@ -12,6 +12,20 @@ use md_arena::{give_back, take_node};
 use md_history::{Limit, Stop};
 use md_machine::Theory;
 use md_words::Content;
+
+// The quotient of two numbers, where one is likely. It is tried first, since a division takes longer
+// than all else that `fresh` computes.
+fn quotient(past: u32, by: u32, likely: u32) -> u32
+    requires { 0 < by }
+    ensures { result ≡ past / by }
+{
+    let least = u64::from(likely) * u64::from(by);
+    let past_wide = u64::from(past);
+    if least <= past_wide && past_wide - least < u64::from(by) {
+        return likely;
+    }
+    past / by
+}
 
 impl<'a, T: Theory> Txn<'a, T> {
     /// Takes the lowest node that is left of the pass's lanes, and stores its key, its value and
@@ -39,6 +53,7 @@ impl<'a, T: Theory> Txn<'a, T> {
             return Err(stop);
         }
         let shape = *self.pass.shape();
+        let likely = self.pass.lane(0);
         let node = match take_node(self.pass) {
             Ok(node) => node,
             Err(limit) => {
@@ -64,7 +79,7 @@ impl<'a, T: Theory> Txn<'a, T> {
         self.pass.store(self.field, shape.node_key(node), key);
         self.pass.store(self.field, shape.node_value(node), value);
         self.pass.store(self.field, word, stored.word());
-        let lane = (node - shape.base - 1) / shape.nodes;
+        let lane = quotient(node - shape.base - 1, shape.nodes, likely);
         let first = self.pass.nodes_taken(lane) - 1;
         self.sets.lots.keep(Lot { lane, first });
         Ok(node)

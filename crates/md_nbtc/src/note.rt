@@ -95,6 +95,7 @@ impl<'a, T: Theory> Txn<'a, T> {
     }
 
     // Records a word that isn't recorded yet, in the next read of the descriptor. Two steps.
+    #[inline(always)]
     fn record(&mut self, word: u32, seen: Seen)
         requires going { IsUnderWay T.meaning (state self.old) }
         requires gave { Gave (state self.old) word seen }

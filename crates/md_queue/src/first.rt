@@ -28,6 +28,7 @@ struct First {
     next: Seen,
 }
 
+#[inline(always)]
 fn load_first<'a, T: HasQueues>(tx: &mut Txn<'a, T>, queue: u32) -> Result<First, Stop>
     requires begun { IsBegun T.meaning (state tx.old) queue }
     ensures pass { tx.new.pass.ghost_name ≡ tx.old.pass.ghost_name }
@@ -46,6 +47,7 @@ fn load_first<'a, T: HasQueues>(tx: &mut Txn<'a, T>, queue: u32) -> Result<First
 }
 
 // Records both.
+#[inline(always)]
 fn note_first<'a, T: HasQueues>(tx: &mut Txn<'a, T>, queue: u32, first: First) -> Result<(), Stop>
     requires sees { (cs : List Certificate)
         × SeesFirst T.meaning (state tx.old) queue cs first.head first.next }

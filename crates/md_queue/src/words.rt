@@ -14,6 +14,7 @@ use md_machine::Theory;
 use md_nbtc::{Kind, Seen, Txn};
 
 // Looks at the next word of a node.
+#[inline(always)]
 pub(crate) fn load_next<'a, T: Theory>(tx: &mut Txn<'a, T>, node: u32) -> Result<Seen, Stop>
     requires may { MayLook T.meaning (state tx.old) node }
     ensures pass { tx.new.pass.ghost_name ≡ tx.old.pass.ghost_name }
@@ -27,6 +28,7 @@ pub(crate) fn load_next<'a, T: Theory>(tx: &mut Txn<'a, T>, node: u32) -> Result
 }
 
 // Records what was seen in the next word of a node.
+#[inline(always)]
 pub(crate) fn note_next<'a, T: Theory>(
     tx: &mut Txn<'a, T>,
     node: u32,

@@ -211,13 +211,13 @@ store-requires-3-clause-may g c =
     (at_word t prepared c.shape.ensures.shape _ c.node_value.ensures.place) c.store-2.ensures.step)
     c.word.result (ap (λ (y : Content). y.count) c.word.ensures.inverse ∙ ap (λ k. k + 2) (ap (λ (y : Content). y.count) c.of-found.ensures.parts)))
 
-pub overflow_sub-lane : goal.overflow_sub-lane
-overflow_sub-lane g c =
+pub overflow_sub-node : goal.overflow_sub-node
+overflow_sub-node g c =
     let takes = c.in-Ok.ensures.takes in
     let h = subst (λ (s : Shape). s.base + 1 ≤ c.in-Ok.node) (sym c.shape.ensures.shape) (past_base c.args.self.now.pass.now.shape takes.lane c.in-Ok.node takes.owns) in omega (arith, h)
 
-pub overflow_sub-lane-2 : goal.overflow_sub-lane-2
-overflow_sub-lane-2 g c =
+pub overflow_sub-node-2 : goal.overflow_sub-node-2
+overflow_sub-node-2 g c =
     let takes = c.in-Ok.ensures.takes in
     let h = subst (λ (s : Shape). s.base + 1 ≤ c.in-Ok.node) (sym c.shape.ensures.shape) (past_base c.args.self.now.pass.now.shape takes.lane c.in-Ok.node takes.owns) in omega (arith, h)
 
@@ -257,10 +257,10 @@ did g c =
     }
 
 -- the lane, as the code finds it
-lane_at : (g : Over) (c : goal.After-nodes_taken-arg-1 g) → (c.in-Ok.node - c.shape.result.now.base - 1) / c.shape.result.now.nodes ≡ (did g c).takes.lane
+lane_at : (g : Over) (c : goal.After-nodes_taken-arg-1 g) → c.quotient-lane.result ≡ (did g c).takes.lane
 lane_at g c =
     let x = c.args.self.now in
-    lane_is g.T.Theory.meaning g.T.Theory.lawful x.field.now x.pass.now x.began.value x.sets.now.reads x.sets.now.slots x.stop x.desc x.serial x.tag x.sets.now.lots
+    c.quotient-lane.ensures ∙ lane_is g.T.Theory.meaning g.T.Theory.lawful x.field.now x.pass.now x.began.value x.sets.now.reads x.sets.now.slots x.stop x.desc x.serial x.tag x.sets.now.lots
     c.requires.going.0 c.requires.going.1 c.requires.operates c.args.key c.args.value c.args.next
     c.in-Ok.node c.store-3.new.self (did g c) c.shape.result.now c.shape.ensures.shape
 
