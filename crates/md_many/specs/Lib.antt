@@ -12,3 +12,4 @@ pub mod Serial
 pub mod Left
 pub mod Reached
 pub mod Course
+pub mod Closed

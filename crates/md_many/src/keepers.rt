@@ -6,8 +6,8 @@ ghost use Rattle.md_many.specs.Laws.{AllSuit};
 use crate::reply_lists::ReplyList;
 use std::alloc::AllocError;
 
-/// Keeps the replies of callers' lines. In each round `play_rounds` hands over the reply of the
-/// first line, and then those of the turns, caller by caller. Each caller's come in order. A list
+/// Keeps the replies of callers' lines. In each round `play_open_rounds` hands over the reply of
+/// the first line, and then those of the turns, caller by caller. Each caller's come in order. A list
 /// may be empty.
 pub trait Keeper<R> {
     /// The lists of replies that it takes.

@@ -4,6 +4,7 @@
 mod attempts;
 mod batches;
 mod callers;
+mod closing;
 mod gates;
 mod keepers;
 mod keeping;
@@ -22,13 +23,14 @@ mod until;
 
 pub use attempts::{End, MOST_CONFLICTS, Turn, attempt_line, attempt_lines};
 pub use callers::Lines;
+pub use closing::{OpenRounds, Rounds, play_rounds};
 pub use gates::{FreeGate, Gate};
 pub use keepers::Keeper;
 pub use laws::{LawfulBody, LawfulLines};
 pub use line_lists::LinesByCaller;
 pub use many::{Many, run_many};
 pub use reply_lists::ReplyList;
-pub use rounds::{Rounds, play_rounds};
+pub use rounds::play_open_rounds;
 pub use running::run_lines;
 pub use tags::line_tag;
 pub use until::attempt_until_committed;

@@ -9,10 +9,10 @@ ghost use Rattle.md_many.specs.Course.{CanRun};
 ghost use Rattle.md_many.specs.Played.{EachLineOnce, committed_of, tags_of, lists_in, line_at};
 ghost use Rattle.md_many.specs.Serial.{IsSerialRun};
 
+use crate::closing::play_rounds;
 use crate::gates::Gate;
 use crate::keepers::Keeper;
 use crate::laws::LawfulLines;
-use crate::rounds::play_rounds;
 use md_history::{Body, Contents, Engine, Front};
 use std::alloc::{AllocError, Global};
 use std::thread::Threads;
@@ -88,8 +88,8 @@ fn empty_lists<R: Drop>(alloc: Global, callers: u32) -> Result<Vec<Vec<R>>, Allo
 /// their laws (`AreLawful`), and the engine can run each of them (`CanRun`).
 ///
 /// `tries` is the most attempts that a caller makes in its turn of a round: any number, and well
-/// chosen as the attempts that a lane has. `play_rounds` says what a round is, when the engine is
-/// renewed, and what a call costs. The lists of replies grow as the replies come.
+/// chosen as the attempts that a lane has. `play_open_rounds` says what a round is, when the engine
+/// is renewed, and what a call costs. The lists of replies grow as the replies come.
 ///
 /// `AllocError` if memory runs out, here or in an attempt of the engine. Then the engine has ended,
 /// and its contents are lost.

@@ -7,29 +7,23 @@ ghost use Rattle.md_many.specs.Tags.{IsInterleaving};
 ghost use Rattle.md_many.specs.Laws.{AreLawful};
 ghost use Rattle.md_many.specs.Rounds.{at_caller, AreWithin};
 ghost use Rattle.md_many.specs.Course.{CanRun, IsInCourse};
+ghost use Rattle.md_many.specs.Closed.{ClosesTo};
 ghost use Rattle.md_many.specs.Played.{EachLineOnce, committed_of, tags_of};
 ghost use Rattle.md_many.specs.Played.{left_after, rounds_left};
 
 use crate::attempts::{End, Turn, attempt_lines};
 use crate::batches::{BATCH, Played};
 use crate::callers::Lines;
+use crate::closing::OpenRounds;
 use crate::gates::Gate;
 use crate::keepers::Keeper;
 use crate::keeping::{keep_lines, keep_turns};
 use crate::laws::LawfulLines;
 use crate::reply_lists::list_of;
 use crate::turns::{Turns, play_turns};
-use md_history::{Body, Contents, Engine, Front, fresh_is_empty, pass_is_legal};
+use md_history::{Body, Engine, Front, fresh_is_empty, pass_is_legal};
 use std::alloc::{AllocError, Global};
 use std::thread::Threads;
-
-/// The result of rounds, beside the replies: the contents, and the fronts of the engines in order,
-/// one for each renewal and one for the end. A front takes no bytes, and is for contracts.
-#[derive(Drop)]
-pub struct Rounds<P> {
-    pub contents: Contents,
-    pub fronts: Vec<Front<P>>,
-}
 
 // A run of callers in its course: the engine with the pass of all its lanes, the fronts of the
 // engines before it, and how many lines each caller has played.
@@ -346,9 +340,10 @@ fn none_done(alloc: Global, callers: u32) -> Result<Vec<u32>, AllocError>
     Ok(done)
 }
 
-/// Plays all lines of all callers over an engine, in rounds, and closes the engine. The pass is
-/// fresh and holds all lanes, one for each caller. The lines keep their laws (`AreLawful`), the
-/// engine can run each of them (`CanRun`), and the keeper can keep each reply that suits its line.
+/// Plays all lines of all callers over an engine, in rounds. `OpenRounds::close` then closes the
+/// engine. The pass is fresh and holds all lanes, one for each caller. The lines keep their laws
+/// (`AreLawful`), the engine can run each of them (`CanRun`), and the keeper can keep each reply that
+/// suits its line.
 ///
 /// A round begins with its first line: the pass of all lanes plays the next line of the lowest
 /// caller that has one. If this line meets a limit, the round ends. Otherwise the pass is split,
@@ -373,7 +368,7 @@ fn none_done(alloc: Global, callers: u32) -> Result<Vec<u32>, AllocError>
 ///
 /// `AllocError` if memory runs out, here, at the keeper or in an attempt of the engine. Then the
 /// engine has ended, and its contents are lost.
-pub fn play_rounds<R, E, L, G, K>(
+pub fn play_open_rounds<R, E, L, G, K>(
     rt: &R,
     alloc: Global,
     engine: E,
@@ -382,7 +377,7 @@ pub fn play_rounds<R, E, L, G, K>(
     tries: u32,
     gate: &G,
     keeper: &mut K,
-) -> Result<Rounds<E::Pass>, AllocError>
+) -> Result<OpenRounds<E>, AllocError>
 where
     R: Threads + Sync,
     E: Engine,
@@ -403,13 +398,17 @@ where
     requires keeper { (c line : ℕ) (r : L.B.Reply) → L.suits lines.now c line r
         → K.can_keep keeper.old c line r }
     requires empty { (caller : ℕ) → K.keeps keeper.old caller [] }
-    ensures each_line_once { IfOk result (λ r. EachLineOnce L.B.did (L.body_at lines.now)
-        (L.line_count lines.now) (K.keeps keeper.new) (L.good lines.now) (L.opening lines.now)
-        (map E.front r.fronts.items) r.contents) }
+    ensures of { IfOk result (λ r. E.of r.engine r.pass) }
+    ensures all { IfOk result (λ r. (E.front r.pass).lanes ≡ E.lanes r.engine) }
+    ensures each_line_once { IfOk result (λ r. ClosesTo (E.start r.engine)
+        (map E.front r.fronts.items) (E.front r.pass) (λ fronts contents.
+        EachLineOnce L.B.did (L.body_at lines.now) (L.line_count lines.now) (K.keeps keeper.new)
+        (L.good lines.now) (L.opening lines.now) fronts contents)) }
     ensures gate { OnOk result ((caller line : ℕ) → 1 ≤ line
         → line ≤ L.line_count lines.now caller → G.after_called gate.now caller line) }
-    ensures interleaving { IfOk result (λ r. IsInterleaving (L.line_count lines.now)
-        (tags_of (committed_of (map E.front r.fronts.items)))) }
+    ensures interleaving { IfOk result (λ r. ClosesTo (E.start r.engine)
+        (map E.front r.fronts.items) (E.front r.pass) (λ fronts contents.
+        IsInterleaving (L.line_count lines.now) (tags_of (committed_of fronts)))) }
 {
     fresh_is_empty(&engine, &pass);
     let mut course = Course {
@@ -425,12 +424,14 @@ where
     let Course {
         engine,
         pass,
-        mut fronts,
+        fronts,
         done: _,
         worn: _,
     } = course;
     pass_is_legal(&engine, &pass);
-    let (contents, front) = engine.contents(pass)?;
-    fronts.push(front)?;
-    Ok(Rounds { contents, fronts })
+    Ok(OpenRounds {
+        engine,
+        pass,
+        fronts,
+    })
 }

@@ -7,14 +7,15 @@ ghost use Rattle.md_book.specs.Stands.{StandsFor};
 ghost use Rattle.md_orders.specs.Replies.{no_replies};
 ghost use Rattle.md_rounds.specs.OrderLines.{line_count_of};
 ghost use Rattle.md_rounds.specs.Replay.{IsPlayed};
-ghost use Rattle.md_store.specs.Store.{front_in};
+ghost use Rattle.md_many.specs.Closed.{ClosesTo};
+ghost use Rattle.md_store.specs.Store.{IsPassOf, all_lanes, front_in, start_of};
 ghost use Rattle.md_play.specs.Opened.{IsOpenFor};
 
 use md_book::{COMMAND_NODES, LEVELS, MAPS};
 use md_history::Contents;
 use md_many::Gate;
 use md_orders::{Replies, Scripts};
-use md_rounds::{Outcome, run_all_into};
+use md_rounds::{OpenOutcome, Outcome, Rounds, run_all_open};
 use md_store::{Store, StorePass};
 use md_words::Shape;
 use std::alloc::{AllocError, Global};
@@ -110,10 +111,13 @@ pub fn open_store(
     Ok(OpenStore { store, pass, tries })
 }
 
-/// Plays the scripts of all callers in threads over a store that was opened for as many, and closes
-/// it. All lines are committed, each once, with the replies of the book, whatever the threads do.
-/// `run_all_into` of md_rounds says more. `replies` are the places of the replies, without a reply
-/// (`Replies::empty` of md_orders).
+/// Plays the scripts of all callers in threads over a store that was opened for as many. All lines
+/// are committed, each once, with the replies of the book, whatever the threads do. `run_all_open` of
+/// md_rounds says more. `replies` are the places of the replies, without a reply (`Replies::empty`
+/// of md_orders).
+///
+/// The store is still open then. `OpenRounds::close` of md_many closes it: its contents stand for
+/// the book, whose replies can be told meanwhile.
 ///
 /// `AllocError` if memory runs out.
 pub fn play_opened<R, G>(
@@ -123,24 +127,29 @@ pub fn play_opened<R, G>(
     scripts: &Scripts,
     replies: Replies,
     gate: &G,
-) -> Result<Outcome<StorePass>, AllocError>
+) -> Result<OpenOutcome<Store>, AllocError>
 where
     R: Threads + Sync,
     G: Gate + Sync,
     requires open_for { IsOpenFor (length scripts.now) opened.store opened.pass }
     requires places { replies ≡ record { scripts = scripts.now; replies = no_replies scripts.now } }
-    ensures played { IfOk result (λ o. (book : Book) × StandsFor o.contents book
-        × IsPlayed scripts.now (map front_in o.fronts.items) o.replies.replies book) }
+    ensures of { IfOk result (λ o. IsPassOf o.rounds.engine o.rounds.pass) }
+    ensures all { IfOk result (λ o. (front_in o.rounds.pass).lanes
+        ≡ all_lanes o.rounds.engine.origin.shape) }
+    ensures played { IfOk result (λ o. ClosesTo (start_of o.rounds.engine)
+        (map front_in o.rounds.fronts.items) (front_in o.rounds.pass) (λ fronts contents.
+        (book : Book) × StandsFor contents book
+        × IsPlayed scripts.now fronts o.replies.replies book)) }
     ensures gate { OnOk result ((caller line : ℕ) → 1 ≤ line
         → line ≤ line_count_of scripts.now caller → G.after_called gate.now caller line) }
 {
     let OpenStore { store, pass, tries } = opened;
-    run_all_into(rt, alloc, store, pass, scripts, replies, tries, gate)
+    run_all_open(rt, alloc, store, pass, scripts, replies, tries, gate)
 }
 
-/// Opens a store without orders, makes the places of the replies, and plays the scripts of all
-/// callers over the store in threads: `open_store`, with the lines of the scripts, and
-/// `play_opened`. There are 1 to 64 callers. `nodes` and `tries` are those of a lane, as for
+/// Opens a store without orders, makes the places of the replies, plays the scripts of all callers
+/// over the store in threads, and closes it: `open_store`, with the lines of the scripts,
+/// `play_opened` and `OpenRounds::close`. There are 1 to 64 callers. `nodes` and `tries` are those of a lane, as for
 /// `open_store`.
 ///
 /// `AllocError` if memory runs out.
@@ -166,5 +175,11 @@ where
 {
     let opened = open_store(alloc, scripts.callers(), scripts.total(), nodes, tries)?;
     let replies = Replies::empty(alloc, scripts)?;
-    play_opened(rt, alloc, opened, scripts, replies, gate)
+    let OpenOutcome { replies, rounds } = play_opened(rt, alloc, opened, scripts, replies, gate)?;
+    let Rounds { contents, fronts } = rounds.close()?;
+    Ok(Outcome {
+        replies,
+        contents,
+        fronts,
+    })
 }

@@ -7,6 +7,7 @@ ghost use Rattle.md_book.specs.Book.{Book};
 ghost use Rattle.md_book.specs.Meets.{command_bounds};
 ghost use Rattle.md_book.specs.Stands.{StandsFor};
 ghost use Rattle.md_orders.specs.Replies.{no_replies};
+ghost use Rattle.md_many.specs.Closed.{ClosesTo};
 ghost use Rattle.md_rounds.specs.OrderLines.{line_count_of};
 ghost use Rattle.md_rounds.specs.Replay.{IsPlayed, no_orders};
 ghost use Rattle.md_rounds.specs.Traded.{MOST_NODES};
@@ -15,7 +16,7 @@ use crate::kept::KeptReplies;
 use crate::order_lines::OrderLines;
 use md_book::{commands_are_small, commands_meet_the_book, empty_book_stands, replies_suit};
 use md_history::{Contents, Engine, Front};
-use md_many::{Gate, play_rounds};
+use md_many::{Gate, OpenRounds, Rounds, play_open_rounds};
 use md_orders::{Replies, Scripts, commands_are_named};
 use std::alloc::{AllocError, Global};
 use std::thread::Threads;
@@ -30,22 +31,30 @@ pub struct Outcome<P> {
     pub fronts: Vec<Front<P>>,
 }
 
-/// Plays the scripts of all callers over an engine without orders, in rounds, and closes the
-/// engine. The pass is fresh, and holds all lanes, one for each caller. An attempt of the engine
-/// may read and write as many words as a command does, and a lane has as many nodes as a command
-/// takes (`COMMAND_READS`, `COMMAND_WRITES` and `COMMAND_NODES` of md_book), and at least one
-/// attempt. A renewal has room for contents of 2,024,000 nodes, which are enough for a book of
-/// 1,000,000 orders.
+/// What playing all scripts leaves before the engine is closed: the replies of the lines, and the
+/// rounds, whose engine is still open.
+#[derive(Drop)]
+pub struct OpenOutcome<E: Engine> {
+    pub replies: Replies,
+    pub rounds: OpenRounds<E>,
+}
+
+/// Plays the scripts of all callers over an engine without orders, in rounds. `OpenRounds::close` of
+/// md_many then closes the engine; the replies can be told meanwhile. The pass is fresh, and holds
+/// all lanes, one for each caller. An attempt of the engine may read and write as many words as a
+/// command does, and a lane has as many nodes as a command takes (`COMMAND_READS`, `COMMAND_WRITES`
+/// and `COMMAND_NODES` of md_book), and at least one attempt. A renewal has room for contents of
+/// 2,024,000 nodes, which are enough for a book of 1,000,000 orders.
 ///
 /// `replies` are the places of the replies, without a reply (`Replies::empty` of md_orders).
 /// `tries` is the most attempts that a caller makes in its turn of a round: any number.
-/// `play_rounds` of md_many says what a round is, and when the engine is renewed. A round takes the
-/// replies of its turns: for each caller the last 1,024 of them as they are, and the others packed
-/// (`PackedReplies` of md_orders).
+/// `play_open_rounds` of md_many says what a round is, and when the engine is renewed. A round takes
+/// the replies of its turns: for each caller the last 1,024 of them as they are, and the others
+/// packed (`PackedReplies` of md_orders).
 ///
 /// `AllocError` if memory runs out, here or in an attempt of the engine. Then the engine has ended,
 /// and its contents are lost.
-pub fn run_all_into<R, E, G>(
+pub fn run_all_open<R, E, G>(
     rt: &R,
     alloc: Global,
     engine: E,
@@ -54,7 +63,7 @@ pub fn run_all_into<R, E, G>(
     replies: Replies,
     tries: u32,
     gate: &G,
-) -> Result<Outcome<E::Pass>, AllocError>
+) -> Result<OpenOutcome<E>, AllocError>
 where
     R: Threads + Sync,
     E: Engine,
@@ -67,8 +76,12 @@ where
     requires tries { 1 ≤ (E.limits engine).tries }
     requires room { MOST_NODES ≤ (E.limits engine).room }
     requires places { replies ≡ record { scripts = scripts.now; replies = no_replies scripts.now } }
-    ensures played { IfOk result (λ o. (book : Book) × StandsFor o.contents book
-        × IsPlayed scripts.now (map E.front o.fronts.items) o.replies.replies book) }
+    ensures of { IfOk result (λ o. E.of o.rounds.engine o.rounds.pass) }
+    ensures all { IfOk result (λ o. (E.front o.rounds.pass).lanes ≡ E.lanes o.rounds.engine) }
+    ensures played { IfOk result (λ o. ClosesTo (E.start o.rounds.engine)
+        (map E.front o.rounds.fronts.items) (E.front o.rounds.pass) (λ fronts contents.
+        (book : Book) × StandsFor contents book
+        × IsPlayed scripts.now fronts o.replies.replies book)) }
     ensures gate { OnOk result ((caller line : ℕ) → 1 ≤ line
         → line ≤ line_count_of scripts.now caller → G.after_called gate.now caller line) }
 {
@@ -80,16 +93,15 @@ where
     let _ = scripts.total();
     let lines = OrderLines { scripts };
     let mut keeper = KeptReplies { replies };
-    let rounds = play_rounds(rt, alloc, engine, pass, &lines, tries, gate, &mut keeper)?;
-    Ok(Outcome {
+    let rounds = play_open_rounds(rt, alloc, engine, pass, &lines, tries, gate, &mut keeper)?;
+    Ok(OpenOutcome {
         replies: keeper.replies,
-        contents: rounds.contents,
-        fronts: rounds.fronts,
+        rounds,
     })
 }
 
-/// Makes the places of the replies, and plays the scripts of all callers over an engine without
-/// orders, as `run_all_into` does.
+/// Makes the places of the replies, plays the scripts of all callers over an engine without orders,
+/// as `run_all_open` does, and closes the engine.
 ///
 /// `AllocError` if memory runs out, here or in an attempt of the engine. Then the engine has ended,
 /// and its contents are lost.
@@ -119,5 +131,13 @@ where
         → line ≤ line_count_of scripts.now caller → G.after_called gate.now caller line) }
 {
     let replies = Replies::empty(alloc, scripts)?;
-    run_all_into(rt, alloc, engine, pass, scripts, replies, tries, gate)
+    let OpenOutcome { replies, rounds } = run_all_open(
+        rt, alloc, engine, pass, scripts, replies, tries, gate,
+    )?;
+    let Rounds { contents, fronts } = rounds.close()?;
+    Ok(Outcome {
+        replies,
+        contents,
+        fronts,
+    })
 }

@@ -11,8 +11,8 @@ mod summed;
 #[cfg(test)]
 mod tests;
 
-pub use all::{Outcome, run_all, run_all_into};
+pub use all::{OpenOutcome, Outcome, run_all, run_all_open};
 pub use alone::{Played, play_alone};
 pub use limits::limits_hold;
-pub use md_many::{FreeGate, Gate};
+pub use md_many::{FreeGate, Gate, OpenRounds, Rounds};
 pub use summed::summaries_add_up;

@@ -17,7 +17,7 @@ use std::thread::Threads;
 /// room for what it starts with, and for one node for each transfer.
 ///
 /// `tries` is the most attempts that a teller makes in its turn of a round: any number.
-/// `play_rounds` says what a round is.
+/// `play_open_rounds` says what a round is.
 ///
 /// `AllocError` if memory runs out. Then the engine has ended, and its contents are lost.
 pub fn transfer_all<R, E>(

@@ -1,7 +1,7 @@
 use Rattle.std.proofs.Common.{◌≡◌, ◌<◌, ◌^◌, ℕ, length, map}
 use Rattle.md_many.specs.Course.{IsInCourse}
 use Rattle.md_many.specs.Played.{rounds_left}
-use Rattle.md_many.proofs.rounds.play_rounds.Given as goal
+use Rattle.md_many.proofs.rounds.play_open_rounds.Given as goal
 
 abbrev pub invariant-rounds : goal.invariant-rounds
 invariant-rounds g l = record {

@@ -1,11 +1,10 @@
 use Rattle.std.proofs.Common.{rules, ◌≡◌, ◌≤◌, ◌<◌, ◌∷◌, [], ◌++◌, ◌∙◌, ℕ, List, length, map, replicate, refl, sym, ap, subst, arith}
-use Rattle.std.proofs.lemmas.List.{map_push, length-replicate}
+use Rattle.std.proofs.lemmas.List.{length-replicate}
 use Rattle.md_history.specs.Engine.{empty_front}
 use Rattle.md_many.specs.Rounds.{at_caller}
 use Rattle.md_many.specs.Course.{Stands}
-use Rattle.md_many.specs.Played.{committed_of}
 use Rattle.md_many.proofs.Coursing.{stands-first, whole-count, all-played, are-interleaving}
-use Rattle.md_many.proofs.rounds.play_rounds.Goals as goal
+use Rattle.md_many.proofs.rounds.play_open_rounds.Goals as goal
 
 pub rounds-init : goal.rounds-init
 rounds-init g c =
@@ -27,18 +26,21 @@ rounds-init g c =
       count = zeros ∙ c.callers.ensures;
     }
 
+pub returns-clause-all : goal.returns-clause-all
+returns-clause-all g c = c.rounds.invariant.course.stands.all
+
 pub returns-clause-each_line_once : goal.returns-clause-each_line_once
-returns-clause-each_line_once g c =
+returns-clause-each_line_once g c = λ fronts contents closed.
     let all = whole-count _ _ _ _ _ _ _ _ _ _ _ c.requires.laws
     _ _ _ _ _ c.rounds.invariant.course.stands c.pass_is_legal.ensures
     (g.L.Lines.caller_count c.args.lines.now) (sym c.rounds.invariant.course.stands.callers ∙ c.rounds.invariant.count)
     ((g.met.L.Lines g.world.𝓛 g.world.𝓜 g.world.𝓡 ((λ s x. x), (λ x. x), (λ x. x), λ x. x)).has_caller c.args.lines.now)
     (λ caller low high. ap (λ ns. at_caller 0 ns caller) (sym c.deref.ensures.value)
     ∙ c.in_default.ensures.none caller low (omega (arith, high, ap length c.deref.ensures.value))) in
-    rw (c.in_ok-push.ensures.items, map_push g.E.Engine.front c.rounds.course.fronts.items c.in_ok-contents.front)
+    rw closed.behind
     (all-played _ _ _ _ _ _ _ _ _ _ _ c.requires.laws
     _ _ _ _ _ c.rounds.invariant.course.stands c.pass_is_legal.ensures
-    (g.E.Engine.front c.in_ok-contents.front) _ c.in_ok-contents.ensures.settled c.in_ok-contents.ensures.contents all)
+    closed.last _ closed.settled closed.replay all)
 
 pub returns-clause-gate : goal.returns-clause-gate
 returns-clause-gate g c = λ caller line low high.
@@ -51,16 +53,15 @@ returns-clause-gate g c = λ caller line low high.
     c.rounds.invariant.course.stands.gate caller line low (omega (arith, high, all caller))
 
 pub returns-clause-interleaving : goal.returns-clause-interleaving
-returns-clause-interleaving g c =
+returns-clause-interleaving g c = λ fronts contents closed.
     let all = whole-count _ _ _ _ _ _ _ _ _ _ _ c.requires.laws
     _ _ _ _ _ c.rounds.invariant.course.stands c.pass_is_legal.ensures
     (g.L.Lines.caller_count c.args.lines.now) (sym c.rounds.invariant.course.stands.callers ∙ c.rounds.invariant.count)
     ((g.met.L.Lines g.world.𝓛 g.world.𝓜 g.world.𝓡 ((λ s x. x), (λ x. x), (λ x. x), λ x. x)).has_caller c.args.lines.now)
     (λ caller low high. ap (λ ns. at_caller 0 ns caller) (sym c.deref.ensures.value)
     ∙ c.in_default.ensures.none caller low (omega (arith, high, ap length c.deref.ensures.value))) in
-    rw (c.in_ok-push.ensures.items, map_push g.E.Engine.front c.rounds.course.fronts.items c.in_ok-contents.front)
+    rw closed.behind
     (are-interleaving _ _ _ _ _
     (all-played _ _ _ _ _ _ _ _ _ _ _ c.requires.laws
     _ _ _ _ _ c.rounds.invariant.course.stands c.pass_is_legal.ensures
-    (g.E.Engine.front c.in_ok-contents.front) _ c.in_ok-contents.ensures.settled c.in_ok-contents.ensures.contents
-    all).each)
+    closed.last _ closed.settled closed.replay all).each)
