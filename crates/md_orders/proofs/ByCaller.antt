@@ -1,15 +1,14 @@
 -- Lists by caller and what stands in them at a line, both counted from 1.
-use Rattle.std.proofs.Common.{◌≡◌, ◌≢◌, ◌<◌, ◌≤◌, ◌+◌, ◌-◌, ◌∙◌, ◌++◌, ℕ, zero, suc, List, [], ◌∷◌, Option, Some, None, Vec, Global, length, get_or, set, refl, sym, ap, subst, arith, inl, inr, get_or-set_other, get_or-set_same, length-append}
+use Rattle.std.proofs.Common.{◌≡◌, ◌≢◌, ◌<◌, ◌≤◌, ◌+◌, ◌-◌, ◌∙◌, ◌++◌, ℕ, zero, suc, List, [], ◌∷◌, Option, Some, None, length, get_or, set, refl, sym, ap, subst, arith, inl, inr, get_or-set_other, get_or-set_same, length-append}
 use Rattle.std.specs.Prelude.{slice_get, IfSome, option_and_then}
 use Rattle.std.specs.Prelude.{◌==◌, nat_lt}
 use Rattle.std.proofs.lemmas.Option.{slice_get-get_or, slice_get_past}
 use Rattle.std.proofs.lemmas.Bool.{cases_Bool, eqb-true, eq-eqb, false≢true}
 use borrow.Author.Tests.{ltb-true, ltb-false}
-use Rattle.std.proofs.lemmas.List.{map-set, get_or-map, get_or_past, set-get_or, length-map, length-set}
+use Rattle.std.proofs.lemmas.List.{get_or_read, get_or_past, length-set}
 use Rattle.std.proofs.lemmas.List.Sums.{sum_by-set, get_or-le-sum_by}
 use Rattle.md_book.specs.declared.commands.Command.{Command}
 use Rattle.md_book.specs.Commands.{IsCommand, name_of}
-use Rattle.md_orders.specs.Lists.{lists_in}
 use Rattle.md_orders.specs.Records.{max_records}
 use Rattle.md_orders.specs.Scripts.{list_of, with_list, with_line, at_line, count_of, IsNamed, AreNamed, AreKept}
 
@@ -18,10 +17,9 @@ pub list_of-at : {A : Type 0} (lists : List (List A)) (caller i : ℕ) → 1 ≤
 list_of-at lists zero i low at = absurd (omega arith)
 list_of-at lists (suc c) i low at = let same : c ≡ i = omega arith in ap (λ n. get_or lists n []) same
 
--- a caller past the last has none
-pub list_of-past : {A : Type 0} (lists : List (List A)) (caller : ℕ) → length lists < caller → list_of lists caller ≡ []
-list_of-past lists zero past = absurd (omega arith)
-list_of-past lists (suc c) past = get_or_past lists c [] (omega arith)
+-- what is read at the index of a caller is its list
+pub list_of-read : {A : Type 0} (lists : List (List A)) (caller : ℕ) (list : List A) → 1 ≤ caller → caller ≤ length lists → list ≡ get_or lists (caller - 1) list → list_of lists caller ≡ list
+list_of-read lists caller list low high is = list_of-at lists caller (caller - 1) low refl ∙ sym (get_or_read lists (caller - 1) list (omega arith) is [])
 
 -- the change of a caller's list, by its index
 pub with_list-at : {A : Type 0} (lists : List (List A)) (caller i : ℕ) (list : List A) → 1 ≤ caller → i ≡ caller - 1 → with_list lists caller list ≡ set lists i list
@@ -43,19 +41,6 @@ list_of-with_list-other lists (suc d) (suc c) list other = get_or-set_other list
 pub length-with_list : {A : Type 0} (lists : List (List A)) (caller : ℕ) (list : List A) → length (with_list lists caller list) ≡ length lists
 length-with_list lists zero list = refl
 length-with_list lists (suc c) list = length-set lists c list
-
--- what a vector of vectors has for a caller
-pub list_of-lists_in : {A : Type 0} (vs : List (Vec A Global)) (caller i : ℕ) (v : Vec A Global) → 1 ≤ caller → caller ≤ length vs → i ≡ caller - 1 → v ≡ get_or vs i v → list_of (lists_in vs) caller ≡ v.items
-list_of-lists_in vs caller i v low high at is =
-    list_of-at (lists_in vs) caller i low at ∙ get_or-map (λ list. list.items) vs i v [] (omega arith) ∙ ap (λ list. list.items) (sym is)
-
--- a vector that is set is a list that is set
-pub lists_in-set : {A : Type 0} (vs : List (Vec A Global)) (caller i : ℕ) (v : Vec A Global) → 1 ≤ caller → i ≡ caller - 1 → lists_in (set vs i v) ≡ with_list (lists_in vs) caller v.items
-lists_in-set vs caller i v low at = map-set (λ list. list.items) vs i v ∙ sym (with_list-at (lists_in vs) caller i v.items low at)
-
--- a vector that is set to one with the same items leaves the lists as they were
-pub lists_in-same : {A : Type 0} (vs : List (Vec A Global)) (i : ℕ) (v w : Vec A Global) → v ≡ get_or vs i v → w.items ≡ v.items → lists_in (set vs i w) ≡ lists_in vs
-lists_in-same vs i v w is same = map-set (λ list. list.items) vs i w ∙ ap (set (lists_in vs) i) (same ∙ ap (λ list. list.items) is) ∙ sym (map-set (λ list. list.items) vs i (get_or vs i v)) ∙ ap lists_in (set-get_or vs i v)
 
 -- by the index of a line
 pub at_line-at : {A : Type 0} (lists : List (List A)) (caller line i : ℕ) → 1 ≤ line → i ≡ line - 1 → at_line lists caller line ≡ slice_get (list_of lists caller) i
@@ -120,15 +105,6 @@ kept-add total lists caller x kept low high room lawful =
       callers = rw (length-with_list lists caller (list_of lists caller ++ x ∷ [])) kept.callers;
     }
 
--- the command that stands at a line
-pub lawful-at : (lists : List (List Command)) (caller line : ℕ) (xs : List Command) (d : Command) → AreNamed lists → xs ≡ list_of lists caller → line ≢ 0 → line ≤ length xs
-    → IsCommand (get_or xs (line - 1) d) × IsNamed (name_of caller line) (get_or xs (line - 1) d)
-lawful-at lists caller zero xs d named is low high = absurd (low refl)
-lawful-at lists caller (suc l) xs d named is low high =
-    let at : suc l - 1 ≡ l = omega arith in
-    let found : slice_get (list_of lists caller) l ≡ Some (get_or xs l d) = ap (λ ys. slice_get ys l) (sym is) ∙ slice_get-get_or xs l d (omega arith) in
-    rw at (subst (λ (o : Option Command). IfSome o (λ x. IsCommand x × IsNamed (name_of caller (suc l)) x)) found (named caller (suc l)))
-
 -- the change of a line, by its index
 pub with_line-at : {A : Type 0} (list : List A) (line i : ℕ) (x : A) → 1 ≤ line → i ≡ line - 1 → with_line list line x ≡ set list i x
 with_line-at list zero i x low at = absurd (omega arith)
@@ -145,12 +121,3 @@ pub at_line-past : {A : Type 0} (lists : List (List (Option A))) (caller line i 
     → option_and_then (λ o. o) (at_line lists caller line) ≡ None
 at_line-past lists caller line i xs is low at past =
     ap (option_and_then (λ o. o)) (at_line-at lists caller line i (omega arith) at ∙ ap (λ ys. slice_get ys i) (sym is) ∙ slice_get_past xs i past)
-
--- the same, of the lists that a value shows
-pub items-list_of : {A : Type 0} (vs : List (Vec A Global)) (lists : List (List A)) (caller i : ℕ) (v : Vec A Global) → lists_in vs ≡ lists → 1 ≤ caller → caller ≤ length vs → i ≡ caller - 1 → v ≡ get_or vs i v
-    → v.items ≡ list_of lists caller
-items-list_of vs lists caller i v shown low high at is = sym (list_of-lists_in vs caller i v low high at is) ∙ ap (λ ls. list_of ls caller) shown
-
--- as many vectors as lists
-pub length-lists_in : {A : Type 0} (vs : List (Vec A Global)) (lists : List (List A)) → lists_in vs ≡ lists → length vs ≡ length lists
-length-lists_in vs lists shown = sym (length-map vs (λ list. list.items)) ∙ ap length shown

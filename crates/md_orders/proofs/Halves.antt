@@ -1,16 +1,13 @@
 -- What is noted of a file, by what was noted of two parts.
-use Rattle.std.proofs.Common.{◌≡◌, ◌≢◌, ◌<◌, ◌≤◌, ◌+◌, ◌∙◌, ◌++◌, ◌∷◌, ℕ, zero, suc, List, [], Bool, true, false, Option, Some, None, is_some, take, get_or, length, refl, sym, ap, subst, arith, inl, inr, length-append}
-use Rattle.std.specs.Prelude.{◌&&◌, ◌==◌, option_and_then, filter, nat_lt, min, codes}
+use Rattle.std.proofs.Common.{◌≡◌, ◌≢◌, ◌<◌, ◌≤◌, ◌+◌, ◌∙◌, ◌++◌, ◌∷◌, ℕ, suc, List, [], Bool, true, false, Option, Some, None, is_some, length, refl, sym, ap, arith, inl, inr, length-append}
+use Rattle.std.specs.Prelude.{◌&&◌, ◌==◌, option_and_then, filter, min, codes}
 use Rattle.std.specs.List.{filter_map, cons_option, enumerate_from}
 use Rattle.std.specs.Option.{option_map, option_map_or}
 use Rattle.std.specs.Str.{bytes_eq}
 use Rattle.std.proofs.lemmas.Slice.Eq.{bytes_eq-Decides}
 use Rattle.csv.specs.Records.{field_at}
-use borrow.Author.Tests.{ltb-true, ltb-false}
-use Rattle.std.proofs.lemmas.Bool.{cases_Bool, false≢true, eqb-true, eq-eqb}
-use Rattle.std.proofs.lemmas.List.{append-nil, get_or-take, length-take-le, get_or_past}
+use Rattle.std.proofs.lemmas.Bool.{cases_Bool}
 use Rattle.std.proofs.lemmas.List.Elements.{filter-append, filter_map-append}
-use Rattle.std.proofs.lemmas.List.Sums.{sum_by_more}
 use Rattle.std.proofs.lemmas.List.FromFn.{length-enumerate_from}
 use Rattle.md_book.specs.declared.commands.Command.{Command}
 use Rattle.md_book.specs.Commands.{name_of}
@@ -21,68 +18,10 @@ use Rattle.md_orders.specs.Version.{file_of, max_caller, is_field, is_version_re
 use Rattle.md_orders.specs.Grammar.{digits_after, number_within, caller_of, command_of, keeps, first_bad_line, first_bad}
 use Rattle.md_orders.specs.Scripts.{list_of, is_by, script_in, AreScripts}
 use Rattle.md_orders.specs.Noted.{AreScriptsOf, IsNoted}
-use Rattle.md_orders.specs.Joined.{renamed, renamed_from, joined, IsAdded, AreJoined}
-use Rattle.md_orders.proofs.ByCaller.{list_of-at, list_of-past}
+use Rattle.md_orders.specs.Renamed.{renamed, renamed_from}
+use Rattle.md_orders.specs.Joined.{joined, AreJoined}
 use Rattle.md_orders.proofs.Keeps.{first_bad_line-more, first_bad_line-still}
 use Rattle.md_orders.proofs.Renamed.{command_of-renamed, length-joined}
-
--- of no lists no caller has one
-list_of-none : (caller : ℕ) → list_of (let none : List (List Command) = [] in none) caller ≡ []
-list_of-none zero = refl
-list_of-none (suc c) = refl
-
--- no script was added yet
-pub joined-none : (old : List (List Command)) → AreJoined old [] old
-joined-none old = record {
-  number = refl;
-  each = λ c. sym (ap (joined c (list_of old c)) (list_of-none c) ∙ append-nil _);
-  count = omega arith;
-}
-
--- the lists of so many callers
-list_of-take : {A : Type 0} (lists : List (List A)) (n caller : ℕ) → caller ≤ n → list_of (take n lists) caller ≡ list_of lists caller
-list_of-take lists n zero few = refl
-list_of-take lists n (suc c) few = get_or-take n lists c [] (omega arith)
-
--- one more changes no other
-list_of-take-other : {A : Type 0} (lists : List (List A)) (n caller : ℕ) → n < length lists → caller ≢ n + 1 → list_of (take n lists) caller ≡ list_of (take (n + 1) lists) caller
-list_of-take-other lists n zero inside other = refl
-list_of-take-other lists n (suc c) inside other = elim (cases_Bool (nat_lt c n)) [
-  | inl below ↦ let low = ltb-true c n below in list_of-take lists n (suc c) (omega arith) ∙ sym (list_of-take lists (n + 1) (suc c) (omega arith))
-  | inr not ↦
-      let past = ltb-false c n not in
-      let apart : c ≢ n = λ e. other (omega (arith, e)) in
-      let size = length-take-le n lists (omega arith) in
-      let size2 = length-take-le (n + 1) lists (omega arith) in
-      get_or_past (take n lists) c [] (omega arith) ∙ sym (get_or_past (take (n + 1) lists) c [] (omega (arith, apart)))
-]
-
--- the script of one caller more was added
-pub joined-more : (n : ℕ) (more old now new : List (List Command)) (lines : List Command) → n < length more → lines ≡ list_of more (n + 1) → AreJoined old (take n more) now → IsAdded (n + 1) lines now new
-    → AreJoined old (take (n + 1) more) new
-joined-more n more old now new lines inside is so_far added =
-    let caller = n + 1 in
-    let size = length-take-le n more (omega arith) in
-    let before : list_of now caller ≡ list_of old caller = so_far.each caller ∙ ap (joined caller (list_of old caller)) (list_of-past (take n more) caller (omega arith)) ∙ append-nil _ in
-    let mine : list_of (take (n + 1) more) caller ≡ lines = list_of-take more (n + 1) caller (omega arith) ∙ sym is in
-    let count = so_far.count in
-    let count2 = added.count in
-    let count3 = sum_by_more length more n [] inside in
-    let at : lines ≡ get_or more n [] = is ∙ list_of-at more caller n (omega arith) (omega arith) in
-    let long : length lines ≡ length (get_or more n []) = ap length at in
-    record {
-      number = added.number ∙ so_far.number;
-      each = λ c. elim (cases_Bool (c == caller)) [
-        | inl same ↦
-            let e : caller ≡ c = sym (eqb-true c caller same) in
-            subst (λ k. list_of new k ≡ joined k (list_of old k) (list_of (take (n + 1) more) k)) e
-            (added.script ∙ (λ i. joined caller (before i) (sym mine i)))
-        | inr not ↦
-            let other : c ≢ caller = λ e. false≢true (sym not ∙ eq-eqb c caller e) in
-            added.others c other ∙ so_far.each c ∙ ap (joined c (list_of old c)) (list_of-take-other more n c inside other)
-      ];
-      count = omega arith;
-    }
 
 -- the numbers of elements behind others go on
 enumerate-append : {A : Type 0} (n : ℕ) (xs ys : List A) → enumerate_from n (xs ++ ys) ≡ enumerate_from n xs ++ enumerate_from (n + length xs) ys

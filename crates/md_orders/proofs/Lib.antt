@@ -15,5 +15,7 @@ pub mod Texts
 pub mod Totals
 pub mod Split
 pub mod LineEnds
+pub mod InSegments
 pub mod Renamed
+pub mod Joined
 pub mod Halves

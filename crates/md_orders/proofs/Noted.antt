@@ -1,6 +1,6 @@
 -- What was noted of the records that were read: their scripts, or the first that breaks the grammar.
-use Rattle.std.proofs.Common.{◌≡◌, ◌≤◌, ◌+◌, ◌∙◌, ◌++◌, ◌∷◌, ℕ, suc, zero, List, [], true, false, cond, Option, Some, None, is_some, length, unwrap_or, replicate, refl, sym, ap, subst, arith, inl, inr, length-append}
-use Rattle.std.specs.Prelude.{◌==◌, nat_lt, filter, OnOk, Result, Ok, Err}
+use Rattle.std.proofs.Common.{◌≡◌, ◌<◌, ◌≤◌, ◌+◌, ◌∙◌, ◌++◌, ◌∷◌, ℕ, suc, zero, List, [], true, false, cond, Option, Some, None, is_some, length, unwrap_or, replicate, refl, sym, ap, subst, arith, inl, inr, length-append}
+use Rattle.std.specs.Prelude.{◌==◌, ◌^◌, nat_lt, filter, IfSome, OnOk, Result, Ok, Err}
 use Rattle.std.specs.Result.{is_ok}
 use borrow.Author.Tests.{ltb-true, ltb-false}
 use Rattle.std.specs.List.{filter_map, cons_option, enumerate_from}
@@ -11,17 +11,17 @@ use Rattle.std.proofs.lemmas.List.Elements.{filter-append, filter_map-append}
 use Rattle.std.proofs.lemmas.List.Folds.{sum_by-replicate}
 use Rattle.std.proofs.Common.{mul-zero}
 use Rattle.md_book.specs.declared.commands.Command.{Command}
-use Rattle.md_book.specs.Commands.{name_of}
+use Rattle.md_book.specs.Commands.{IsCommand, name_of}
 use Rattle.md_orders.specs.declared.version.Version.{Version}
 use Rattle.md_orders.specs.declared.version.Version.TheVariants.{First, Second}
 use Rattle.md_orders.specs.Records.{Row}
 use Rattle.md_orders.specs.Version.{OrderFile, file_of, is_version_record}
 use Rattle.md_orders.specs.Grammar.{caller_of, command_of, keeps}
-use Rattle.md_orders.specs.Scripts.{list_of, with_list, count_of, is_by, script_in}
+use Rattle.md_orders.specs.Scripts.{list_of, with_list, count_of, is_by, script_in, IsNamed, AreKept}
 use Rattle.md_orders.specs.Noted.{file_as, shows_version_2, AreScriptsOf, AreNoted, IsNoted}
 use Rattle.md_orders.specs.Line.{IsLine}
 use Rattle.md_orders.proofs.Numbered.{numbered-more, numbered-same}
-use Rattle.md_orders.proofs.ByCaller.{list_of-with_list-same, list_of-with_list-other, length-with_list, count_of-add}
+use Rattle.md_orders.proofs.ByCaller.{list_of-with_list-same, list_of-with_list-other, length-with_list, at_line-none, count_of-add}
 use Rattle.md_orders.proofs.Keeps.{first_bad_line-more, first_bad_line-still, caller_of-inv}
 
 -- the next command of a caller
@@ -96,6 +96,20 @@ list_of-replicate n (suc c) = elim (cases_Bool (nat_lt c n)) [
 -- and there is no command
 pub count_of-none : (callers : ℕ) (scripts : List (List Command)) → scripts ≡ replicate callers [] → count_of scripts ≡ 0
 count_of-none callers scripts is = ap count_of is ∙ sum_by-replicate length callers (let none : List Command = [] in none) ∙ mul-zero callers
+
+-- such scripts keep what scripts keep
+pub kept-none : (callers : ℕ) (scripts : List (List Command)) → callers < 2 ^ 32 → scripts ≡ replicate callers [] → AreKept 0 scripts
+kept-none callers scripts few is =
+    let number = ap length is ∙ length-replicate callers (let none : List Command = [] in none) in
+    let none = count_of-none callers scripts is in
+    record {
+      named = λ caller line.
+          let empty = at_line-none scripts caller line (ap (λ (ls : List (List Command)). list_of ls caller) is ∙ list_of-replicate callers caller) in
+          subst (λ (o : Option Command). IfSome o (λ c. IsCommand c × IsNamed (name_of caller line) c)) (sym empty) tt;
+      counted = sym none;
+      few = omega arith;
+      callers = omega arith;
+    }
 
 -- of no line
 scripts-none : (callers first : ℕ) (version : Version) (scripts : List (List Command)) → length scripts ≡ callers → ((caller : ℕ) → list_of scripts caller ≡ []) → count_of scripts ≡ 0

@@ -17,9 +17,11 @@ use Rattle.md_book.specs.Book.{padded}
 use Rattle.md_book.specs.Suits.{IsPart, IsTaken, Suits}
 use Rattle.md_book.specs.Commands.{IsCommand, IsPlaces, name_of}
 use Rattle.md_orders.specs.Scripts.{list_of, with_list, with_line, at_line, IsNamed, AreNamed}
+use Rattle.md_orders.specs.Renamed.{renamed, renamed_from}
 use Rattle.md_orders.specs.Replies.{no_replies, with_reply}
 use Rattle.md_orders.specs.Rooms.{room_of, HasRoom, RoomsState, unset_rooms, unset_rooms_after, sizes_of, sizes_in, replies_of}
 use Rattle.md_orders.proofs.ByCaller.{list_of-at, with_list-at, with_line-at}
+use Rattle.md_orders.proofs.Renamed.{length-renamed_from}
 
 -- what one value shows for a caller
 pub list_of-map : {A B : Type 0} (f : A → List B) (vs : List A) (caller i : ℕ) (v : A)
@@ -129,6 +131,22 @@ unset-sizes (script ∷ scripts) = ap (λ more. map room_of script ∷ more) (un
 pub unset-replies : (scripts : List (List Command)) → replies_of (map unset_rooms scripts) ≡ no_replies scripts
 unset-replies [] = refl
 unset-replies (script ∷ scripts) = ap (λ (more : List (List (Option BookReply))). replicate (length script) None ∷ more) (unset-replies scripts)
+
+-- the rooms of commands don't depend on the names of their orders
+room-renamed : (name : ℕ) (c : Command) → room_of (renamed name c) ≡ room_of c
+room-renamed name (command.Place n account side price quantity) = refl
+room-renamed name (command.Cancel order) = refl
+room-renamed name (command.Fill account side price quantity places) = refl
+room-renamed name (command.Kill account side price quantity places) = refl
+room-renamed name (command.Depth side price) = refl
+room-renamed name (command.Account account) = refl
+
+rooms-renamed : (caller line : ℕ) (cs : List Command) → map room_of (renamed_from caller line cs) ≡ map room_of cs
+rooms-renamed caller line [] = refl
+rooms-renamed caller line (c ∷ cs) = ap₂ (λ n ns. n ∷ ns) (room-renamed (name_of caller line) c) (rooms-renamed caller (line + 1) cs)
+
+pub unset-renamed : (caller line : ℕ) (cs : List Command) → unset_rooms (renamed_from caller line cs) ≡ unset_rooms cs
+unset-renamed caller line cs = λ i. record { sizes = rooms-renamed caller line cs i; replies = replicate (length-renamed_from caller line cs i) None }
 
 -- those of one caller more
 pub unset-more : (scripts : List (List Command)) (before i : ℕ) (rooms new : List RoomsState) (room : RoomsState) → before + i < length scripts → room ≡ unset_rooms (list_of scripts (before + i + 1))

@@ -1,5 +1,5 @@
 -- Texts one after another.
-use Rattle.std.proofs.Common.{◌≡◌, ◌+◌, ◌∙◌, ◌++◌, ℕ, zero, suc, List, [], Option, Some, None, arith, cond, refl, sym, ap, append_assoc, add-one, inl, inr}
+use Rattle.std.proofs.Common.{◌≡◌, ◌+◌, ◌∙◌, ◌++◌, ℕ, zero, suc, List, Option, Some, None, arith, cond, refl, sym, ap, append_assoc, add-one, inl, inr}
 use Rattle.std.specs.Prelude.{◌==◌, unwrap_or}
 use Rattle.std.proofs.lemmas.Bool.{cases_Bool, eqb-true}
 use Rattle.std.proofs.lemmas.List.{append-nil}
@@ -82,13 +82,12 @@ report-is scripts replies s count lines out lines_are counted more =
     ∙ sym (append_assoc r (a ++ b ++ c) d) ∙ ap (λ t. t ++ d) (sym (append_assoc r (a ++ b) c)) ∙ ap (λ t. t ++ c ++ d) (sym (append_assoc r a b))
 
 -- the texts of two runs of numbers, one after the other
-pub texts_after-halves : (text : ℕ → List ℕ) (before low high middle count : ℕ) (out first second whole : List ℕ) → middle ≡ before + low → count ≡ low + high
-    → first ≡ out ++ texts_after before low text → second ≡ texts_after middle high text → whole ≡ first ++ second → whole ≡ out ++ texts_after before count text
-texts_after-halves text before low high middle count out first second whole mid all one other joined =
+pub texts_after-halves : (text : ℕ → List ℕ) (before low high middle count : ℕ) (first second whole : List ℕ) → middle ≡ before + low → count ≡ low + high
+    → first ≡ texts_after before low text → second ≡ texts_after middle high text → whole ≡ first ++ second → whole ≡ texts_after before count text
+texts_after-halves text before low high middle count first second whole mid all one other joined =
     let next : (n : ℕ) → text (middle + n) ≡ text (before + (low + n)) = λ n. let same : middle + n ≡ before + (low + n) = omega arith in ap text same in
-    joined ∙ ap (λ t. t ++ second) one ∙ ap (λ t. (out ++ texts_after before low text) ++ t) (other ∙ texts_to-same high _ _ next)
-    ∙ append_assoc out (texts_after before low text) _
-    ∙ ap (λ t. out ++ t) (sym (texts_to-append low high (λ n. text (before + n))) ∙ ap (λ n. texts_after before n text) (sym all))
+    joined ∙ ap (λ t. t ++ second) one ∙ ap (λ t. texts_after before low text ++ t) (other ∙ texts_to-same high _ _ next)
+    ∙ sym (texts_to-append low high (λ n. text (before + n))) ∙ ap (λ n. texts_after before n text) (sym all)
 
 -- the text of one number
 pub texts_after-one : (text : ℕ → List ℕ) (before count : ℕ) (mine : List ℕ) → count ≡ 1 → mine ≡ text (before + 1) → mine ≡ texts_after before count text

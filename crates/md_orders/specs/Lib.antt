@@ -4,6 +4,7 @@ pub mod Grammar
 pub mod Lists
 pub mod Scripts
 pub mod Noted
+pub mod Renamed
 pub mod Joined
 pub mod Replies
 pub mod Rooms

@@ -1,7 +1,8 @@
 -- The text of a report: each command's reply, the book, and the number of commands. Each line ends with a line feed.
 use Rattle.std.specs.Prelude.{ℕ, zero, suc, ◌+◌, ◌/◌, ◌%◌, ◌^◌, ◌==◌, ◌&&◌, if◌then◌else◌, Option, Some, None, List, []}
-use Rattle.std.specs.Prelude.{◌++◌, length, take, codes, decimal, flat_map, unwrap_or}
+use Rattle.std.specs.Prelude.{◌++◌, length, take, codes, decimal, flat_map, unwrap_or, Vec}
 use Rattle.std.specs.FinMap as fin
+use Rattle.std.specs.declared.alloc.Global.{Global}
 use Rattle.md_history.specs.State.{State, map_at}
 use Rattle.md_book.specs.declared.commands.Side.{Side}
 use Rattle.md_book.specs.declared.commands.Side.TheVariants.{Buy, Sell}
@@ -139,3 +140,7 @@ report_text_of scripts replies s =
 abbrev pub after_replies_text_of : State → ℕ → List ℕ
 after_replies_text_of s count =
     levels_text_of Buy s ++ levels_text_of Sell s ++ accounts_text_of s ++ done_text count
+
+-- a text that is kept in parts, one after another
+abbrev pub whole_text : List (Vec ℕ Global) → List ℕ
+whole_text parts = flat_map (λ part. part.items) parts

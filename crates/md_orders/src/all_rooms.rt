@@ -24,7 +24,7 @@ pub(crate) fn rooms_of_callers(
     let mut rooms = Vec::with_capacity(alloc, count as usize)?;
     for earlier in 0..count {
         let caller = before + earlier + 1;
-        rooms.push(ReplyRooms::empty(alloc, scripts.script(caller))?)?;
+        rooms.push(ReplyRooms::empty(alloc, scripts.stored(caller))?)?;
     }
     Ok(rooms)
 }

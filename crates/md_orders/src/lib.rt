@@ -15,6 +15,7 @@ mod read_in_threads;
 mod replies;
 mod rooms;
 mod scripts;
+mod segments;
 mod sums;
 #[cfg(test)]
 mod tests;
@@ -23,10 +24,10 @@ mod version;
 
 pub use fields::number_within;
 pub use generator::{MAX_MADE_CALLERS, make};
-pub use in_threads::report_in_threads;
+pub use in_threads::lines_in_threads;
 pub use packed::PackedReplies;
 pub use read::{OrderFault, read_orders};
 pub use read_in_threads::read_orders_in_threads;
 pub use replies::Replies;
 pub use scripts::{Scripts, commands_are_named};
-pub use text::{report, summary};
+pub use text::{after_lines, report, summary};

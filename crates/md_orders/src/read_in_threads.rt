@@ -114,8 +114,8 @@ pub(crate) fn read_with_cuts<R: Threads + Sync>(
 /// mark. A file of version 2 is only cut if its first record is written as `medley,2`. If the first
 /// record is another that breaks the grammar of version 1, one thread reads the file anew.
 ///
-/// Otherwise the bytes are read once, after a search for double quotes. The commands of an upper
-/// half are in memory twice when they are added to those of the lower half.
+/// Otherwise the bytes are read once, after a search for double quotes. No command is copied when
+/// the parts are put together.
 pub fn read_orders_in_threads<R: Threads + Sync>(
     rt: &R,
     alloc: Global,

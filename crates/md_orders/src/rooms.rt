@@ -1,12 +1,13 @@
 //! The replies of one caller's lines, each in a head and a room of some numbers.
 
-ghost use Rattle.std.specs.Prelude.{◌≡◌, ◌<◌, ◌≤◌, ◌+◌, Some, All, map, length, take, drop, slice_get, slice_set, slice_index_or, IfOk};
+ghost use Rattle.std.specs.Prelude.{◌≡◌, ◌<◌, ◌≤◌, ◌+◌, ◌*◌, ◌^◌, ◌++◌, Some, All, map, sum, length, take, drop, slice_get, slice_set, slice_index_or, IfOk, OnOk};
 ghost use Rattle.md_orders.specs.Records.{max_records};
 ghost use Rattle.md_book.specs.Suits.{IsPart};
-ghost use Rattle.md_orders.specs.Rooms.{room_of, HasRoom, part_number, reply_in, parts_in, new_reply, unset_rooms, KeepsAt};
+ghost use Rattle.md_orders.specs.Rooms.{room_of, HasRoom, part_number, reply_in, parts_in, new_reply, starts_of, unset_rooms, KeepsAt};
 
 use crate::packed::{PackedHead, keep_packed};
 use crate::parts::{part_in, part_number};
+use crate::segments::Segments;
 use md_book::{BookReply, Command, MAX_PARTS, Part};
 use std::alloc::{AllocError, Global};
 use std::marker::Model;
@@ -194,23 +195,56 @@ fn zeros(alloc: Global, count: usize) -> Result<Vec<u64>, AllocError>
     vec![in alloc; 0; count]
 }
 
+// Adds the sizes of the rooms that lines need.
+fn add_sizes(sizes: &mut Vec<u16>, script: &[Command]) -> Result<(), AllocError>
+    ensures sizes { OnOk result (sizes.new.items ≡ sizes.old.items ++ map room_of script.now) }
+    ensures small { OnOk result (sum (map room_of script.now) ≤ 256 * length script.now) }
+{
+    for command in script {
+        sizes.push(room_of(command))?;
+    }
+    Ok(())
+}
+
+// The sizes of the rooms that a script's lines need.
+fn room_sizes(alloc: Global, script: &Segments) -> Result<Vec<u16>, AllocError>
+    requires { length script.now ≤ max_records }
+    ensures sizes { IfOk result (λ sizes. sizes.items ≡ map room_of script.now) }
+    ensures small { IfOk result (λ sizes. sum sizes.items ≤ 256 * length script.now) }
+{
+    let mut sizes = Vec::with_capacity(alloc, script.len())?;
+    let (earlier, last) = script.segments();
+    for segment in earlier {
+        add_sizes(&mut sizes, segment)?;
+    }
+    add_sizes(&mut sizes, last)?;
+    Ok(sizes)
+}
+
+// Where rooms of these sizes begin, and where the last one ends.
+fn starts_of(alloc: Global, sizes: &[u16]) -> Result<(Vec<u32>, u32), AllocError>
+    requires { sum sizes.now < 2 ^ 32 }
+    ensures { IfOk result (λ places.
+        (places.0.items ≡ starts_of 0 sizes.now) × (places.1 ≡ sum sizes.now)) }
+{
+    let mut starts = Vec::with_capacity(alloc, sizes.len())?;
+    let mut end: u32 = 0;
+    for size in sizes {
+        starts.push(end)?;
+        end += u32::from(*size);
+    }
+    Ok((starts, end))
+}
+
 impl ReplyRooms {
     /// The rooms of a script's lines, with no reply.
-    pub(crate) fn empty(alloc: Global, script: &[Command]) -> Result<ReplyRooms, AllocError>
+    pub(crate) fn empty(alloc: Global, script: &Segments) -> Result<ReplyRooms, AllocError>
         requires { length script.now ≤ max_records }
         ensures { IfOk result (λ r. r ≡ unset_rooms script.now) }
     {
-        let mut starts = Vec::with_capacity(alloc, script.len())?;
-        let mut sizes = Vec::with_capacity(alloc, script.len())?;
-        let mut heads = Vec::with_capacity(alloc, script.len())?;
-        let mut end: u32 = 0;
-        for command in script {
-            let size = room_of(command);
-            starts.push(end)?;
-            sizes.push(size)?;
-            heads.push(Head::Unset)?;
-            end += u32::from(size);
-        }
+        let sizes = room_sizes(alloc, script)?;
+        let (starts, end) = starts_of(alloc, &sizes)?;
+        let heads = vec![in alloc; Head::Unset; sizes.len()]?;
         let numbers = zeros(alloc, end as usize)?;
         Ok(ReplyRooms {
             starts,

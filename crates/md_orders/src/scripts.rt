@@ -1,58 +1,100 @@
 //! Scripts: the commands of each caller, in order.
 
-ghost use Rattle.std.specs.Prelude.{◌≡◌, ◌+◌, ◌<◌, ◌≤◌, ◌++◌, ◌∷◌, [], length, replicate, IfOk, IfSome, OnOk, OnErr};
+ghost use Rattle.std.specs.Prelude.{◌≡◌, ◌+◌, ◌<◌, ◌≤◌, ◌++◌, ◌∷◌, [], length, map, replicate, IfOk, IfSome, OnOk, OnErr};
+ghost use Rattle.std.specs.List.{zip};
 ghost use Rattle.md_book.specs.Commands.{IsCommand, name_of};
-ghost use Rattle.md_orders.specs.Lists.{lists_in};
 ghost use Rattle.md_orders.specs.Records.{max_records};
 ghost use Rattle.md_orders.specs.Scripts.{list_of, with_list, at_line, count_of, IsNamed, AreNamed};
+ghost use Rattle.md_orders.specs.Renamed.{renamed, renamed_from};
+ghost use Rattle.md_orders.specs.Joined.{AreJoined};
 
-use md_book::Command;
+use crate::segments::Segments;
+use md_book::{Command, MAX_CALLER, order_name};
 use std::alloc::{AllocError, Global};
 use std::marker::Model;
 
 /// The commands of each caller, in order. Callers and lines are counted from 1. All callers
 /// together have at most 1,000,000 lines. Contracts see a list of lists.
+///
+/// The name of an order is that of its caller and line, whatever name is stored with the command.
+/// So the parts of a file are put together without a copy of their commands.
 #[derive(Drop)]
 pub struct Scripts {
-    scripts: Vec<Vec<Command>>,
+    scripts: Vec<Segments>,
     total: u32,
 }
 
 impl Model for Scripts {
     ghost use Rattle.std.specs.Prelude.{List};
     ghost use Rattle.md_book.specs.declared.commands.Command.{Command};
-    ghost use Rattle.md_orders.specs.Lists.{lists_in};
     ghost use Rattle.md_orders.specs.Scripts.{AreKept};
+    ghost use Rattle.md_orders.specs.Renamed.{scripts_from};
 
     ghost Value = { List (List Command) };
 
-    ghost view = { λ s. lists_in s.scripts.items };
+    ghost view = { λ s. scripts_from 1 s.scripts.items };
 
-    ghost invariant = { λ s. AreKept s.total (lists_in s.scripts.items) };
+    ghost invariant = { λ s. AreKept s.total (scripts_from 1 s.scripts.items) };
 }
 
-// A list of empty lists.
-fn empty_lists(alloc: Global, count: u32) -> Result<Vec<Vec<Command>>, AllocError>
-    ensures { IfOk result (λ lists. lists_in lists.items ≡ replicate count []) }
+// The commands of callers that have none.
+fn no_commands(alloc: Global, callers: u32) -> Result<Vec<Segments>, AllocError>
+    ensures { IfOk result (λ lists. lists.items ≡ replicate callers []) }
 {
-    let mut lists = Vec::with_capacity(alloc, count as usize)?;
-    for made in 0..count {
-        lists.push(Vec::new(alloc))?;
+    let mut lists = Vec::with_capacity(alloc, callers as usize)?;
+    for made in 0..callers {
+        lists.push(Segments::empty(alloc))?;
     }
     Ok(lists)
 }
 
-// Adds a command to the list of its caller.
-fn push_to(lists: &mut Vec<Vec<Command>>, caller: u32, command: Command) -> Result<(), AllocError>
+// Adds a command to those of its caller.
+fn push_to(lists: &mut Vec<Segments>, caller: u32, command: Command) -> Result<(), AllocError>
     requires from_1 { 1 ≤ caller }
     requires there { caller ≤ length lists.old.items }
-    ensures ok { OnOk result (lists_in lists.new.items
-        ≡ with_list (lists_in lists.old.items) caller
-        (list_of (lists_in lists.old.items) caller ++ command ∷ [])) }
-    ensures err { OnErr result (lists_in lists.new.items ≡ lists_in lists.old.items) }
+    ensures ok { OnOk result (lists.new.items
+        ≡ with_list lists.old.items caller (list_of lists.old.items caller ++ command ∷ [])) }
+    ensures err { OnErr result (lists.new.items ≡ lists.old.items) }
 {
     lists[caller as usize - 1].push(command)?;
     Ok(())
+}
+
+// The commands of each caller, and behind them others of that caller.
+fn joined_by_caller(
+    first: Vec<Segments>,
+    second: Vec<Segments>,
+) -> Result<Vec<Segments>, AllocError>
+    ensures { IfOk result (λ lists. lists.items
+        ≡ map (λ both. both.0 ++ both.1) (zip first.items second.items)) }
+{
+    let mut lists = Vec::with_capacity(*first.allocator(), first.len())?;
+    for (low, high) in first.into_iter().zip(second) {
+        lists.push(low.joined(high)?)?;
+    }
+    Ok(lists)
+}
+
+// A command with this name for the order that it places, if it places one.
+fn renamed(name: u64, command: Command) -> Command
+    ensures { result ≡ renamed name command }
+{
+    match command {
+        Command::Place {
+            account,
+            side,
+            price,
+            quantity,
+            ..
+        } => Command::Place {
+            name,
+            account,
+            side,
+            price,
+            quantity,
+        },
+        other => other,
+    }
 }
 
 impl Scripts {
@@ -60,7 +102,7 @@ impl Scripts {
     pub(crate) fn empty(alloc: Global, callers: u32) -> Result<Scripts, AllocError>
         ensures { IfOk result (λ s. s ≡ replicate callers []) }
     {
-        let scripts = empty_lists(alloc, callers)?;
+        let scripts = no_commands(alloc, callers)?;
         Ok(Scripts { scripts, total: 0 })
     }
 
@@ -81,15 +123,39 @@ impl Scripts {
         Ok(())
     }
 
-    /// A caller's script. It is empty if the scripts don't have the caller.
-    pub(crate) fn script(&self, caller: u32) -> &[Command]
-        ensures script { result.now ≡ list_of self.now caller }
+    /// These scripts, and behind each caller's the one that it has in the part of the file that
+    /// follows. `AllocError` if memory runs out.
+    ///
+    /// The call makes a few moves for each caller, and copies no command.
+    pub(crate) fn joined(self, more: Scripts) -> Result<Scripts, AllocError>
+        requires same { length more ≡ length self }
+        requires few { length self ≤ MAX_CALLER }
+        requires room { count_of self + count_of more ≤ max_records }
+        ensures { IfOk result (AreJoined self more) }
+    {
+        let Scripts {
+            scripts: first,
+            total: before,
+        } = self;
+        let Scripts {
+            scripts: second,
+            total,
+        } = more;
+        let scripts = joined_by_caller(first, second)?;
+        Ok(Scripts {
+            scripts,
+            total: before + total,
+        })
+    }
+
+    /// The commands of a caller as they are stored, where an order may have any name.
+    pub(crate) fn stored(&self, caller: u32) -> &Segments
+        requires from_1 { 1 ≤ caller }
+        requires there { caller ≤ length self.now }
+        ensures script { list_of self.now caller ≡ renamed_from caller 1 result.now }
         ensures few { length result.now ≤ max_records }
         ensures lawful { AreNamed self.now }
     {
-        if caller == 0 || caller as usize > self.scripts.len() {
-            return &[];
-        }
         &self.scripts[caller as usize - 1]
     }
 
@@ -106,7 +172,10 @@ impl Scripts {
         ensures count { result ≡ length (list_of self.now caller) }
         ensures few { result ≤ max_records }
     {
-        self.script(caller).len() as u32
+        if caller == 0 || caller > self.callers() {
+            return 0;
+        }
+        self.stored(caller).len() as u32
     }
 
     /// The number of lines of all callers, at most 1,000,000.
@@ -123,11 +192,11 @@ impl Scripts {
         ensures value { result ≡ at_line self.now caller line }
         ensures lawful { IfSome result (λ c. IsCommand c × IsNamed (name_of caller line) c) }
     {
-        let script = self.script(caller);
-        if line == 0 || line as usize > script.len() {
+        if caller == 0 || caller > self.callers() || line == 0 {
             return None;
         }
-        Some(script[line as usize - 1])
+        let command = self.stored(caller).get(line as usize - 1)?;
+        Some(renamed(order_name(caller, line), command))
     }
 }
 
@@ -136,5 +205,5 @@ impl Scripts {
 pub fn commands_are_named(scripts: &Scripts)
     ensures { AreNamed scripts.now }
 {
-    let _ = scripts.script(0);
+    let _ = &scripts.total;
 }

@@ -2,15 +2,17 @@
 
 mod line_buffer;
 
-ghost use Rattle.std.specs.Prelude.{◌≡◌, ◌++◌, ◌≤◌, ◌<◌, ◌+◌, ◌/◌, ◌%◌, ◌^◌, length, take, slice_index_or, flat_map, OnOk, IfOk, IfSome};
+ghost use Rattle.std.specs.Prelude.{◌≡◌, ◌++◌, ◌≤◌, ◌<◌, ◌+◌, ◌/◌, ◌%◌, ◌^◌, List, Option, length, take, slice_index_or, flat_map, OnOk, IfOk, IfSome};
 ghost use Rattle.md_book.specs.Book.{Book};
 ghost use Rattle.md_book.specs.Stands.{StandsFor};
+ghost use Rattle.md_book.specs.declared.commands.BookReply.{BookReply};
 ghost use Rattle.md_book.specs.declared.limits.TheConstants.{MAX_PARTS};
 ghost use Rattle.md_orders.specs.Rooms.{parts_in, reply_in};
 ghost use Rattle.md_orders.specs.declared.text.TheConstants.{NAME, PART, PARTS, REPLY};
 ghost use Rattle.md_orders.specs.declared.text.line_buffer.TheConstants.{SIZE};
 ghost use Rattle.md_orders.specs.Summary.{summary_text, summary_text_of};
-ghost use Rattle.md_orders.specs.Report.{name_text, part_text, filled_text, reply_text, answer_text, lines_text, callers_text_after, level_text, account_text, done_text, report_text, levels_text_of, accounts_text_of, after_replies_text_of, report_text_of};
+ghost use Rattle.md_orders.specs.Report.{name_text, part_text, filled_text, reply_text, answer_text, lines_text, callers_text_after, level_text, account_text, done_text, report_text, levels_text_of, accounts_text_of, after_replies_text_of, replies_text, report_text_of};
+ghost use Rattle.md_orders.specs.Scripts.{count_of};
 
 use crate::parts::part_in;
 use crate::rooms::{Head, number_at};
@@ -313,6 +315,29 @@ pub fn report(
     callers_lines(&mut out, of, replies, 0, of.callers())?;
     after_replies(&mut out, contents, of.total())?;
     Ok(out)
+}
+
+/// The text that follows the lines in a report: the book that the contents stand for, and the
+/// number of lines. The lines of all callers and this text are together the text that `report`
+/// returns, whatever the replies are. The contents have at least the `MAPS` maps of a book. If they
+/// stand for no book, the text has what the maps hold for each level and account.
+///
+/// It looks up each of the `LEVELS` levels once, and each of the `MAX_ACCOUNT` accounts twice.
+/// `AllocError` if memory runs out.
+pub fn after_lines(alloc: Global, of: &Scripts, contents: &Contents) -> Result<Vec<u8>, AllocError>
+    requires { MAPS ≤ length contents.now.maps }
+    ensures text { IfOk result (λ text. text.items
+        ≡ after_replies_text_of contents.now (count_of of.now)) }
+    ensures report { IfOk result (λ text. (replies : List (List (Option BookReply)))
+        → replies_text of.now replies ++ text.items
+        ≡ report_text_of of.now replies contents.now) }
+    ensures book { IfOk result (λ text. (replies : List (List (Option BookReply))) (book : Book)
+        → StandsFor contents.now book
+        → replies_text of.now replies ++ text.items ≡ report_text of.now replies book) }
+{
+    let mut text = Vec::new(alloc);
+    after_replies(&mut text, contents, of.total())?;
+    Ok(text)
 }
 
 /// The text of a summary, which is one line: how many commands there were, the quantities that were

@@ -21,7 +21,11 @@ fn show(alloc: Global, read: Result<Scripts, OrderFault>) -> Result<Shown, Alloc
     let fault = match read {
         Ok(scripts) => {
             for before in 0..CALLERS {
-                commands.extend_from_slice(scripts.script(before + 1))?;
+                for line in 0..scripts.len(before + 1) {
+                    if let Some(command) = scripts.command(before + 1, line + 1) {
+                        commands.push(command)?;
+                    }
+                }
             }
             None
         }

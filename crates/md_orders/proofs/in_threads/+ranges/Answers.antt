@@ -1,6 +1,6 @@
-use Rattle.std.proofs.Common.{◌≡◌, ◌+◌, ◌-◌, ◌/◌, ◌∙◌, ◌++◌, ap, refl, arith}
+use Rattle.std.proofs.Common.{◌+◌, ◌-◌, ◌/◌, refl, arith}
 use Rattle.std.proofs.lemmas.Result.{IfOk-at_ok, IfOk-weaker}
-use Rattle.md_orders.specs.Report.{answer_text, lines_text}
+use Rattle.md_orders.specs.Report.{answer_text}
 use Rattle.md_orders.specs.Replies.{reply_at}
 use Rattle.md_orders.proofs.Texts.{texts_after-halves}
 use Rattle.md_orders.proofs.in_threads.+ranges.Goals as goal
@@ -12,8 +12,6 @@ returns g t c =
     let high = c.args.count / 2 in
     let low = c.args.count - high in
     IfOk-weaker c.joined.result _ _
-    (λ text is. texts_after-halves (λ line. answer_text c.args.caller line (reply_at c.args.replies.now.replies c.args.caller line))
-    c.args.before low high (c.args.before + low) c.args.count c.args.out.items _ _ text.items refl (omega arith)
-    (earlier ∙ ap (λ t. t ++ lines_text c.args.replies.now.replies c.args.caller c.args.before low) c.in_ok-make_room.ensures)
-    later is)
+    (λ parts is. texts_after-halves (λ line. answer_text c.args.caller line (reply_at c.args.replies.now.replies c.args.caller line))
+    c.args.before low high (c.args.before + low) c.args.count _ _ _ refl (omega arith) earlier later is)
     c.joined.ensures

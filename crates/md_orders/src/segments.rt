@@ -1,0 +1,96 @@
+//! The commands of one caller, in segments.
+
+ghost use Rattle.std.specs.Prelude.{◌≡◌, ◌≤◌, ◌++◌, ◌∷◌, [], length, slice_get, IfOk, OnOk, OnErr};
+ghost use Rattle.md_orders.specs.Lists.{items_in};
+ghost use Rattle.md_orders.specs.Records.{max_records};
+
+use md_book::Command;
+use std::alloc::{AllocError, Global};
+use std::marker::Model;
+
+/// The commands of one caller, in order, in a segment for each part of the file that was read by
+/// itself. So a part is put behind another without a copy of its commands. Contracts see a list.
+#[derive(Drop)]
+pub(crate) struct Segments {
+    earlier: Vec<Vec<Command>>,
+    last: Vec<Command>,
+}
+
+impl Model for Segments {
+    ghost use Rattle.std.specs.Prelude.{List, ◌++◌};
+    ghost use Rattle.md_book.specs.declared.commands.Command.{Command};
+    ghost use Rattle.md_orders.specs.Lists.{items_in};
+
+    ghost Value = { List Command };
+
+    ghost view = { λ s. items_in s.earlier.items ++ s.last.items };
+}
+
+impl Segments {
+    /// No commands.
+    pub(crate) fn empty(alloc: Global) -> Segments
+        ensures { result ≡ [] }
+    {
+        Segments {
+            earlier: Vec::new(alloc),
+            last: Vec::new(alloc),
+        }
+    }
+
+    /// Adds a command at the end. `AllocError` if memory runs out; then nothing changes.
+    pub(crate) fn push(&mut self, command: Command) -> Result<(), AllocError>
+        ensures ok { OnOk result (self.new ≡ self.old ++ command ∷ []) }
+        ensures err { OnErr result (self.new ≡ self.old) }
+    {
+        self.last.push(command)?;
+        Ok(())
+    }
+
+    /// The number of commands.
+    pub(crate) fn len(&self) -> usize
+        requires { length self.now ≤ max_records }
+        ensures { result ≡ length self.now }
+    {
+        let mut count = self.last.len();
+        for segment in &self.earlier {
+            count += segment.len();
+        }
+        count
+    }
+
+    /// The command at an index, if there is one. The call goes over the segments.
+    pub(crate) fn get(&self, index: usize) -> Option<Command>
+        ensures { result ≡ slice_get self.now index }
+    {
+        let mut rest = index;
+        for segment in &self.earlier {
+            if rest < segment.len() {
+                return Some(segment[rest]);
+            }
+            rest -= segment.len();
+        }
+        self.last.get(rest).copied()
+    }
+
+    /// These commands, and behind them others, whose segments are moved here. `AllocError` if
+    /// memory runs out.
+    pub(crate) fn joined(self, more: Segments) -> Result<Segments, AllocError>
+        ensures { IfOk result (λ both. both ≡ self ++ more) }
+    {
+        let Segments { mut earlier, last } = self;
+        let Segments {
+            earlier: mut between,
+            last: end,
+        } = more;
+        earlier.push(last)?;
+        earlier.append(&mut between)?;
+        Ok(Segments { earlier, last: end })
+    }
+
+    /// The segments, the last one apart.
+    pub(crate) fn segments(&self) -> (&[Vec<Command>], &[Command])
+        ensures { self.now ≡ items_in result.0.now ++ result.1.now }
+    {
+        (&self.earlier, &self.last)
+    }
+}
