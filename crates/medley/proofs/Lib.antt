@@ -1,4 +1,5 @@
 pub mod Pieces
+pub mod Parts
 pub mod Complete
 pub mod Unreadable
 pub mod Unread

@@ -1,11 +1,11 @@
--- One read or write more.
-use Rattle.std.proofs.Common.{◌≡◌, ◌<◌, ◌≤◌, ◌+◌, ◌∙◌, ◌++◌, ℕ, List, length, take, drop, Option, Some, None, subst, sym, refl, length-append}
+-- One read or write more, and one text more.
+use Rattle.std.proofs.Common.{◌≡◌, ◌<◌, ◌≤◌, ◌+◌, ◌∙◌, ◌++◌, ℕ, List, [], length, take, drop, Option, Some, None, subst, sym, ap, refl, append_assoc, length-append}
 use Rattle.std.specs.Io.KnownBytes.{Consumes, Appends, Keeps}
-use Rattle.std.proofs.KnownBytes.{Consumes-trans, Appends-trans, Appends-kept}
+use Rattle.std.proofs.KnownBytes.{Consumes-trans, Appends-nil, Appends-trans, Appends-kept}
 use Rattle.std.proofs.Math.Seq.{take-add}
 use Rattle.std.proofs.lemmas.List.{length-take-le, take-append-drop}
 use Rattle.md_outside.specs.Steps.{Step}
-use Rattle.md_outside.proofs.Chains.{Moves-one_more-take}
+use Rattle.md_outside.proofs.Chains.{Moves-none, Moves-append, Moves-one_more-take}
 use Rattle.medley.specs.Run.{HasRead, IsWritten, HasWriteFault}
 use Rattle.md_outside.specs.Causes.{Rose}
 
@@ -43,4 +43,29 @@ write-fault takes holds faults a b c text at so_far step told rose = record {
   writes = (b, so_far.writes, step);
   told = Appends-kept (holds a) (holds b) (holds c) (take at text) so_far.told told;
   rose = subst (λ n. Rose n (faults c)) so_far.kept rose;
+}
+
+-- nothing was written yet
+pub written-none : {O : Type 0} (takes : Step O) (holds : O → Option (List ℕ)) (faults : O → ℕ) (a : O) → IsWritten takes holds faults a a []
+written-none takes holds faults a = record { writes = Moves-none takes a; told = Appends-nil (holds a); kept = refl }
+
+-- a text that was written after another
+pub written-more : {O : Type 0} (takes : Step O) (holds : O → Option (List ℕ)) (faults : O → ℕ) (a b c : O) (before text : List ℕ)
+    → IsWritten takes holds faults a b before → IsWritten takes holds faults b c text → IsWritten takes holds faults a c (before ++ text)
+written-more takes holds faults a b c before text first second = record {
+  writes = Moves-append first.writes second.writes;
+  told = Appends-trans (holds a) (holds b) (holds c) before text first.told second.told;
+  kept = second.kept ∙ first.kept;
+}
+
+-- a text of which a write failed, after another that was written and before one that wasn't
+pub written-fault : {O : Type 0} (takes : Step O) (holds : O → Option (List ℕ)) (faults : O → ℕ) (a b c : O) (before text rest : List ℕ)
+    → IsWritten takes holds faults a b before → HasWriteFault takes holds faults b c text → HasWriteFault takes holds faults a c (before ++ text ++ rest)
+written-fault takes holds faults a b c before text rest first second = record {
+  written = before ++ second.written;
+  rest = second.rest ++ rest;
+  whole = ap (λ t. before ++ t ++ rest) second.whole ∙ ap (λ t. t ++ rest) (sym (append_assoc before second.written second.rest)) ∙ append_assoc (before ++ second.written) second.rest rest;
+  writes = (second.writes.0, Moves-append first.writes second.writes.1, second.writes.2);
+  told = Appends-trans (holds a) (holds b) (holds c) before second.written first.told second.told;
+  rose = subst (λ n. Rose n (faults c)) first.kept second.rose;
 }

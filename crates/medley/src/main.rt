@@ -6,6 +6,7 @@ mod orders;
 mod output;
 mod play;
 mod program;
+mod report;
 mod run;
 mod status;
 #[cfg(test)]

@@ -1,6 +1,7 @@
 //! Writing a whole text.
 
 ghost use Rattle.std.specs.Prelude.{◌≡◌, IfErr, OnErr, OnOk};
+ghost use Rattle.md_orders.specs.Report.{whole_text};
 ghost use Rattle.medley.specs.Run.{IsWritten, HasWriteFault, Tells, status_text};
 
 use crate::status::Status;
@@ -19,6 +20,20 @@ pub fn write_all<O: Sink>(output: &mut O, text: &[u8]) -> Result<(), Failed>
     let mut at = 0;
     'writes: while at < text.len() {
         at += output.write(&text[at..])?;
+    }
+    Ok(())
+}
+
+/// Writes a text that is kept in parts, one after another (`write_all`). If there is no part, it
+/// writes nothing. `Failed` if a write fails; then it writes no more, of this part or of later ones.
+pub fn write_parts<O: Sink>(output: &mut O, parts: &[Vec<u8>]) -> Result<(), Failed>
+    ensures whole { OnOk result
+        (IsWritten O.takes O.holds O.faults output.old output.new (whole_text parts.now)) }
+    ensures fault { OnErr result
+        (HasWriteFault O.takes O.holds O.faults output.old output.new (whole_text parts.now)) }
+{
+    'parts: for part in parts {
+        write_all(output, part)?;
     }
     Ok(())
 }

@@ -6,6 +6,7 @@ ghost use Rattle.std.specs.Thread.{IsSync};
 ghost use Rattle.md_orders.specs.Grammar.{first_bad};
 ghost use Rattle.md_orders.specs.Records.{order_records, AreFewRecords};
 ghost use Rattle.md_orders.specs.Replies.{no_replies};
+ghost use Rattle.md_orders.specs.Report.{whole_text};
 ghost use Rattle.md_orders.specs.Scripts.{AreScripts};
 ghost use Rattle.md_play.specs.Opened.{IsOpenFor};
 ghost use Rattle.md_store.specs.Store.{front_in};
@@ -17,30 +18,23 @@ ghost use Rattle.medley.specs.Run.{IsBadInput, IsGood, Refused, ToldAlone};
 
 use crate::input::read_all;
 use crate::orders::{Orders, read_all_orders};
-use crate::output::{tell, write_all};
+use crate::output::{tell, write_parts};
 use crate::play::{open_for, play};
+use crate::report::{Played, tell_and_close, with_last};
 use crate::status::{Run, Status};
 use crate::words::{Making, Options, read_options};
 use md_book::MAX_CALLER;
-use md_history::Front;
-use md_orders::{OrderFault, make, report_in_threads, summary};
+use md_orders::{OrderFault, make, summary};
 use md_outside::{Failed, Sink, Source};
 use md_play::{OpenStore, play_opened};
 use md_rounds::Gate;
-use md_store::StorePass;
 use std::alloc::{AllocError, Global};
 use std::thread;
 use std::thread::Threads;
 
-// A report or a summary, and the fronts of the stores that its scripts were played on.
-#[derive(Drop)]
-struct Played {
-    text: Vec<u8>,
-    fronts: Vec<Front<StorePass>>,
-}
-
 // Reads the input, plays it, and builds the report. The store is opened in one thread while the
-// orders are read in others, and the places of their replies are made.
+// orders are read in others, and the places of their replies are made. It is closed while the lines
+// of the report are written.
 fn replay<R, I, G>(
     rt: &R,
     alloc: Global,
@@ -54,7 +48,8 @@ where
     G: Gate + Sync,
     requires in_range { AreInRange options.now }
     ensures replayed { IfOk result (λ w. IsReplayed I.gives I.left I.faults
-        input.old input.new options.now.callers (map front_in w.fronts.items) w.text.items) }
+        input.old input.new options.now.callers
+        (map front_in w.fronts.items) (whole_text w.parts.items)) }
     ensures stops { IfErr result (StopsReplay I.gives I.left I.faults
         input.old input.new options.now.callers) }
 {
@@ -84,11 +79,7 @@ where
     );
     let Orders { scripts, replies } = orders?;
     let played = play_opened(rt, alloc, opened?, &scripts, replies, gate)?;
-    let text = report_in_threads(rt, alloc, &scripts, &played.replies, &played.contents)?;
-    Ok(Played {
-        text,
-        fronts: played.fronts,
-    })
+    Ok(tell_and_close(rt, alloc, &scripts, played)?)
 }
 
 // Makes scripts, plays them, and builds the summary.
@@ -105,13 +96,14 @@ where
     requires in_range { AreInRange options.now }
     requires making { options.now.make ≡ Some making }
     ensures { IfOk result (λ w. IsSummed options.now.callers making
-        (map front_in w.fronts.items) w.text.items) }
+        (map front_in w.fronts.items) (whole_text w.parts.items)) }
 {
     let scripts = make(alloc, making.number, making.lines, options.callers)?;
     let played = play(rt, alloc, &scripts, options, gate)?;
     let text = summary(alloc, &scripts, &played.replies, &played.contents)?;
+    let parts = with_last(Vec::new(alloc), text)?;
     Ok(Played {
-        text,
+        parts,
         fronts: played.fronts,
     })
 }
@@ -131,7 +123,7 @@ where
     requires in_range { AreInRange options.now }
     ensures played { IfOk result (λ w. HasPlayed I.gives I.left I.faults
         input.old input.new options.now.callers options.now.make
-        (map front_in w.fronts.items) w.text.items) }
+        (map front_in w.fronts.items) (whole_text w.parts.items)) }
     ensures stops { IfErr result (StopsWith I.gives I.left I.faults
         input.old input.new options.now.callers options.now.make) }
 {
@@ -178,8 +170,8 @@ where
     ensures usage { result.status ≢ Status.Usage }
 {
     match play_asked(rt, alloc, options, input, gate) {
-        Ok(Played { text, fronts }) => {
-            let status = match write_all(output, &text) {
+        Ok(Played { parts, fronts }) => {
+            let status = match write_parts(output, &parts) {
                 Ok(()) => Status::Done,
                 Err(Failed) => Status::WriteFault,
             };

@@ -1,0 +1,78 @@
+//! The report of scripts that were played, whose lines are written while the store is closed.
+
+ghost use Rattle.std.specs.Prelude.{◌≡◌, ◌++◌, map, IfOk};
+ghost use Rattle.std.specs.Thread.{IsSync};
+ghost use Rattle.md_book.specs.Book.{Book};
+ghost use Rattle.md_book.specs.Stands.{StandsFor};
+ghost use Rattle.md_orders.specs.Report.{replies_text, report_text, whole_text};
+ghost use Rattle.md_many.specs.Closed.{ClosesTo, IsClosed};
+ghost use Rattle.md_rounds.specs.Replay.{IsPlayed};
+ghost use Rattle.md_store.specs.Store.{IsPassOf, all_lanes, front_in, start_of};
+
+use md_history::Front;
+use md_orders::{Scripts, after_lines, lines_in_threads};
+use md_rounds::{OpenOutcome, Rounds};
+use md_store::{Store, StorePass};
+use std::alloc::{AllocError, Global};
+use std::thread;
+use std::thread::Threads;
+
+/// A report or a summary, in parts, and the fronts of the stores that its scripts were played on.
+#[derive(Drop)]
+pub struct Played {
+    pub parts: Vec<Vec<u8>>,
+    pub fronts: Vec<Front<StorePass>>,
+}
+
+/// A text with one part more at its end. `AllocError` if memory runs out.
+pub fn with_last(mut parts: Vec<Vec<u8>>, last: Vec<u8>) -> Result<Vec<Vec<u8>>, AllocError>
+    ensures { IfOk result (λ all. whole_text all.items ≡ whole_text parts.items ++ last.items) }
+{
+    parts.push(last)?;
+    Ok(parts)
+}
+
+/// Closes the store on which scripts were played, and builds the report meanwhile: the lines need
+/// the replies alone. What follows them, the book, needs the contents of the store.
+///
+/// Five threads work side by side: four write lines (`lines_in_threads` of md_orders), and one reads
+/// the contents off (`OpenRounds::close`). `AllocError` if memory runs out.
+pub fn tell_and_close<R: Threads + Sync>(
+    rt: &R,
+    alloc: Global,
+    scripts: &Scripts,
+    played: OpenOutcome<Store>,
+) -> Result<Played, AllocError>
+    requires of { IsPassOf played.rounds.engine played.rounds.pass }
+    requires all { (front_in played.rounds.pass).lanes
+        ≡ all_lanes played.rounds.engine.origin.shape }
+    requires played { ClosesTo (start_of played.rounds.engine)
+        (map front_in played.rounds.fronts.items) (front_in played.rounds.pass)
+        (λ fronts contents. (book : Book) × StandsFor contents book
+        × IsPlayed scripts.now fronts played.replies.replies book) }
+    ensures { IfOk result (λ w. (book : Book)
+        × IsPlayed scripts.now (map front_in w.fronts.items) played.replies.replies book
+        × (whole_text w.parts.items ≡ report_text scripts.now played.replies.replies book)) }
+{
+    let OpenOutcome { replies, rounds } = played;
+    // The thread that has told the replies frees them, while the other still reads.
+    let (lines, closed) = thread::join(
+        rt,
+        move || -> Result<Vec<Vec<u8>>, AllocError>
+            requires sync { IsSync R.row }
+            ensures { IfOk result (λ parts. whole_text parts.items
+                ≡ replies_text scripts.entry.now replies.replies) }
+        { lines_in_threads(rt, alloc, scripts, &replies) },
+        move || -> Result<Rounds<StorePass>, AllocError>
+            requires of { IsPassOf rounds.engine rounds.pass }
+            requires all { (front_in rounds.pass).lanes ≡ all_lanes rounds.engine.origin.shape }
+            ensures { IfOk result (λ r. IsClosed (start_of rounds.engine)
+                (map front_in rounds.fronts.items) (front_in rounds.pass)
+                (map front_in r.fronts.items) r.contents) }
+        { rounds.close() },
+    );
+    let lines = lines?;
+    let Rounds { contents, fronts } = closed?;
+    let parts = with_last(lines, after_lines(alloc, scripts, &contents)?)?;
+    Ok(Played { parts, fronts })
+}
