@@ -11,8 +11,9 @@ use crate::reply_lists::ReplyList;
 use md_history::{Body, Engine, pass_is_legal};
 use std::alloc::{AllocError, Global};
 
-/// The most attempts of a batch.
-pub(crate) const BATCH: u32 = 1_024;
+/// The most attempts of a batch. The replies of so many stay in the nearest cache until they are
+/// appended, also where a reply takes 200 bytes.
+pub(crate) const BATCH: u32 = 128;
 
 /// The result of a caller's turn: why it ended, and the replies of the lines that it played.
 #[derive(Drop)]

@@ -12,7 +12,7 @@ ghost use Rattle.md_many.specs.Played.{EachLineOnce, committed_of, tags_of};
 ghost use Rattle.md_many.specs.Played.{left_after, rounds_left};
 
 use crate::attempts::{End, Turn, attempt_lines};
-use crate::batches::{BATCH, Played};
+use crate::batches::Played;
 use crate::callers::Lines;
 use crate::closing::OpenRounds;
 use crate::gates::Gate;
@@ -37,17 +37,9 @@ struct Course<E: Engine> {
     worn: bool,
 }
 
-// The most attempts of a single caller's turn. It starts no thread, so a turn costs little, and its
-// replies are put where they are kept while the cache has them.
-const ALONE_TRIES: u32 = 16_384;
-
-// The most attempts of a turn.
-fn turn_tries(callers: u32, tries: u32) -> u32 {
-    if callers <= 1 {
-        return tries.min(ALONE_TRIES);
-    }
-    tries
-}
+// The most attempts in a round of a caller that alone has lines left. Their replies are put in one
+// vector.
+const LONE_TRIES: u32 = 1_024;
 
 // The lowest caller that has a line left.
 fn next_caller<L: Lines>(lines: &L, done: &[u32]) -> Option<u32>
@@ -198,11 +190,10 @@ fn play_first<E: Engine, L: LawfulLines, G: Gate, K: Keeper<<L::B as Body>::Repl
 }
 
 // Whether a turn ended by something that the engine has no more of.
-fn wears<T>(turns: &[Played<T>], last_tries: bool) -> bool {
+fn wears<T>(turns: &[Played<T>]) -> bool {
     turns.iter().any(|turn| match turn.end {
         End::Lines | End::Conflicts => false,
-        End::Tries => last_tries,
-        End::Limit(_) => true,
+        End::Tries | End::Limit(_) => true,
     })
 }
 
@@ -254,11 +245,10 @@ where
         worn: _,
     } = course;
     pass_is_legal(&engine, &pass);
-    let most = turn_tries(done.len() as u32, tries);
-    let turns = play_turns(rt, alloc, &engine, pass, lines, gate, 0, most, &done)?;
+    let turns = play_turns(rt, alloc, &engine, pass, lines, gate, 0, tries, &done)?;
     let Turns { pass, played } = turns;
     pass_is_legal(&engine, &pass);
-    let worn = wears(&played, most == tries);
+    let worn = wears(&played);
     keep_turns(keeper, &mut done, played)?;
     Ok(Course {
         engine,
@@ -317,7 +307,7 @@ where
         < rounds_left (L.line_count lines.now) course.done.items course.worn) }
 {
     let lone = is_lone(lines, &course.done, caller);
-    let first = if lone { BATCH } else { 1 };
+    let first = if lone { LONE_TRIES } else { 1 };
     let course = renewed(course, lines, keeper, gate)?;
     let course = play_first(alloc, course, lines, gate, caller, first, keeper)?;
     if course.worn {
@@ -352,19 +342,17 @@ fn none_done(alloc: Global, callers: u32) -> Result<Vec<u32>, AllocError>
 /// only one has a line left, the pass of all lanes plays its next 1,024 lines, with the nodes of all
 /// lanes, and the round ends.
 ///
-/// `tries` is the most attempts of a turn: any number. If there is one caller, a turn also makes at
-/// most 16,384 attempts. With 0 tries no turn plays a line.
+/// `tries` is the most attempts of a turn: any number. With 0 tries no turn plays a line.
 ///
-/// A turn is played in batches of at most 1,024 attempts. A batch takes one allocation, with room
-/// for its replies, and its replies are then appended to the list of the turn (`Keeper::List`). So a
+/// A turn is played in batches of at most 128 attempts. A batch takes one allocation, with room for
+/// its replies, and its replies are then appended to the list of the turn (`Keeper::List`). So a
 /// round takes the memory of its replies in the form of the keeper's lists, and of one batch for
 /// each caller. The lists are handed to the keeper when all turns of the round have ended.
 ///
 /// The engine is renewed before a round if, in the round before, the first line met a limit, or a
-/// turn ended by a limit or by the end of all `tries` attempts. Conflicts cause no renewal, and nor
-/// does the end of a single caller's 16,384 attempts if `tries` is greater. If `tries` is the number
-/// of attempts of a lane, a turn makes all of them only if its lane then has none left. A round
-/// after a renewal plays at least one line. So there are at most as many renewals as lines.
+/// turn ended by a limit or by the end of its tries. Conflicts cause no renewal. If `tries` is the
+/// number of attempts of a lane, a turn makes all of them only if its lane then has none left. A
+/// round after a renewal plays at least one line. So there are at most as many renewals as lines.
 ///
 /// `AllocError` if memory runs out, here, at the keeper or in an attempt of the engine. Then the
 /// engine has ended, and its contents are lost.

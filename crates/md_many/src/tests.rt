@@ -278,14 +278,14 @@ fn play_some(
     Ok((played.end, played.replies.len()))
 }
 
-// A batch makes at most 1,024 attempts. A turn goes on after a batch that had no try left.
+// A batch makes at most 128 attempts. A turn goes on after a batch that had no try left.
 #[test]
 fn turns_in_batches(rt: HostRuntime) -> Result<(), Fail> {
     for (count, tries, end, played) in [
         (0, 5, TurnEnd::Lines, 0),
         (5, 0, TurnEnd::Tries, 0),
-        (1_024, 1_024, TurnEnd::Tries, 1_024),
-        (1_024, 1_025, TurnEnd::Lines, 1_024),
+        (128, 128, TurnEnd::Tries, 128),
+        (128, 129, TurnEnd::Lines, 128),
         (2_500, 1_500, TurnEnd::Tries, 1_500),
         (2_500, 2_048, TurnEnd::Tries, 2_048),
         (2_500, u32::MAX, TurnEnd::Lines, 2_500),
@@ -295,9 +295,8 @@ fn turns_in_batches(rt: HostRuntime) -> Result<(), Fail> {
     Ok(())
 }
 
-// One caller over a store with one lane: several rounds, since its turn makes at most 16,384
-// attempts, and no renewal. Each reply stands at its line. A caller without lines leaves the store
-// as it was.
+// One caller over a store with one lane: no renewal, and each reply stands at its line. A caller
+// without lines leaves the store as it was.
 #[test]
 fn one_caller_in_rounds(rt: HostRuntime) -> Result<(), Fail> {
     let alloc = rt.alloc();

@@ -89,7 +89,7 @@ fn halves<'a, L: Lines>(lines: &L, before: u32, done: &'a [u32]) -> (&'a [u32], 
 ///
 /// The call splits the pass in two, runs itself on both halves by `thread::join`, and joins them
 /// again. So n callers take n - 1 splits, joins of passes and calls of `thread::join`. A turn is
-/// played in batches of at most 1,024 attempts. It takes room for the replies of one batch at a
+/// played in batches of at most 128 attempts. It takes room for the replies of one batch at a
 /// time, beside its list.
 ///
 /// `AllocError` if memory runs out, here or in an attempt of the engine. Then the pass is lost.

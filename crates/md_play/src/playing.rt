@@ -4,7 +4,6 @@ ghost use Rattle.std.specs.Prelude.{◌≡◌, ◌≤◌, ◌*◌, ℕ, IfOk, On
 ghost use Rattle.md_words.specs.Layout.{HasNumbers};
 ghost use Rattle.md_book.specs.Book.{Book};
 ghost use Rattle.md_book.specs.Stands.{StandsFor};
-ghost use Rattle.md_orders.specs.Replies.{no_replies};
 ghost use Rattle.md_rounds.specs.OrderLines.{line_count_of};
 ghost use Rattle.md_rounds.specs.Replay.{IsPlayed};
 ghost use Rattle.md_many.specs.Closed.{ClosesTo};
@@ -14,8 +13,8 @@ ghost use Rattle.md_play.specs.Opened.{IsOpenFor};
 use md_book::{COMMAND_NODES, LEVELS, MAPS};
 use md_history::Contents;
 use md_many::Gate;
-use md_orders::{Replies, Scripts};
-use md_rounds::{OpenOutcome, Outcome, Rounds, run_all_open};
+use md_orders::Scripts;
+use md_rounds::{OpenOutcome, Outcome, run_all, run_all_open};
 use md_store::{Store, StorePass};
 use md_words::Shape;
 use std::alloc::{AllocError, Global};
@@ -113,8 +112,7 @@ pub fn open_store(
 
 /// Plays the scripts of all callers in threads over a store that was opened for as many. All lines
 /// are committed, each once, with the replies of the book, whatever the threads do. `run_all_open` of
-/// md_rounds says more. `replies` are the places of the replies, without a reply (`Replies::empty`
-/// of md_orders).
+/// md_rounds says more.
 ///
 /// The store is still open then. `OpenRounds::close` of md_many closes it: its contents stand for
 /// the book, whose replies can be told meanwhile.
@@ -125,32 +123,29 @@ pub fn play_opened<R, G>(
     alloc: Global,
     opened: OpenStore,
     scripts: &Scripts,
-    replies: Replies,
     gate: &G,
 ) -> Result<OpenOutcome<Store>, AllocError>
 where
     R: Threads + Sync,
     G: Gate + Sync,
     requires open_for { IsOpenFor (length scripts.now) opened.store opened.pass }
-    requires places { replies ≡ record { scripts = scripts.now; replies = no_replies scripts.now } }
     ensures of { IfOk result (λ o. IsPassOf o.rounds.engine o.rounds.pass) }
     ensures all { IfOk result (λ o. (front_in o.rounds.pass).lanes
         ≡ all_lanes o.rounds.engine.origin.shape) }
     ensures played { IfOk result (λ o. ClosesTo (start_of o.rounds.engine)
         (map front_in o.rounds.fronts.items) (front_in o.rounds.pass) (λ fronts contents.
         (book : Book) × StandsFor contents book
-        × IsPlayed scripts.now fronts o.replies.replies book)) }
+        × IsPlayed scripts.now fronts o.replies book)) }
     ensures gate { OnOk result ((caller line : ℕ) → 1 ≤ line
         → line ≤ line_count_of scripts.now caller → G.after_called gate.now caller line) }
 {
     let OpenStore { store, pass, tries } = opened;
-    run_all_open(rt, alloc, store, pass, scripts, replies, tries, gate)
+    run_all_open(rt, alloc, store, pass, scripts, tries, gate)
 }
 
-/// Opens a store without orders, makes the places of the replies, plays the scripts of all callers
-/// over the store in threads, and closes it: `open_store`, with the lines of the scripts,
-/// `play_opened` and `OpenRounds::close`. There are 1 to 64 callers. `nodes` and `tries` are those of a lane, as for
-/// `open_store`.
+/// Opens a store without orders (`open_store`, with the lines of the scripts), plays the scripts of
+/// all callers over it in threads, and closes it (`run_all` of md_rounds). There are 1 to 64
+/// callers. `nodes` and `tries` are those of a lane, as for `open_store`.
 ///
 /// `AllocError` if memory runs out.
 pub fn play_on_store<R, G>(
@@ -174,12 +169,6 @@ where
         → line ≤ line_count_of scripts.now caller → G.after_called gate.now caller line) }
 {
     let opened = open_store(alloc, scripts.callers(), scripts.total(), nodes, tries)?;
-    let replies = Replies::empty(alloc, scripts)?;
-    let OpenOutcome { replies, rounds } = play_opened(rt, alloc, opened, scripts, replies, gate)?;
-    let Rounds { contents, fronts } = rounds.close()?;
-    Ok(Outcome {
-        replies,
-        contents,
-        fronts,
-    })
+    let OpenStore { store, pass, tries } = opened;
+    run_all(rt, alloc, store, pass, scripts, tries, gate)
 }

@@ -6,18 +6,18 @@ ghost use Rattle.md_history.specs.Engine.{bounds_in};
 ghost use Rattle.md_book.specs.Book.{Book};
 ghost use Rattle.md_book.specs.Meets.{command_bounds};
 ghost use Rattle.md_book.specs.Stands.{StandsFor};
-ghost use Rattle.md_orders.specs.Replies.{no_replies};
 ghost use Rattle.md_many.specs.Closed.{ClosesTo};
 ghost use Rattle.md_rounds.specs.OrderLines.{line_count_of};
 ghost use Rattle.md_rounds.specs.Replay.{IsPlayed, no_orders};
 ghost use Rattle.md_rounds.specs.Traded.{MOST_NODES};
 
 use crate::kept::KeptReplies;
+use crate::kept_lists::KeptLists;
+use crate::laws::order_laws;
 use crate::order_lines::OrderLines;
-use md_book::{commands_are_small, commands_meet_the_book, empty_book_stands, replies_suit};
 use md_history::{Contents, Engine, Front};
-use md_many::{Gate, OpenRounds, Rounds, play_open_rounds};
-use md_orders::{Replies, Scripts, commands_are_named};
+use md_many::{Gate, OpenRounds, Rounds, play_open_rounds, play_rounds};
+use md_orders::{Replies, RepliesByCaller, Scripts};
 use std::alloc::{AllocError, Global};
 use std::thread::Threads;
 
@@ -31,11 +31,11 @@ pub struct Outcome<P> {
     pub fronts: Vec<Front<P>>,
 }
 
-/// What playing all scripts leaves before the engine is closed: the replies of the lines, and the
-/// rounds, whose engine is still open.
+/// What playing all scripts leaves before the engine is closed: the replies of the lines, packed,
+/// and the rounds, whose engine is still open.
 #[derive(Drop)]
 pub struct OpenOutcome<E: Engine> {
-    pub replies: Replies,
+    pub replies: RepliesByCaller,
     pub rounds: OpenRounds<E>,
 }
 
@@ -46,11 +46,11 @@ pub struct OpenOutcome<E: Engine> {
 /// and `COMMAND_NODES` of md_book), and at least one attempt. A renewal has room for contents of
 /// 2,024,000 nodes, which are enough for a book of 1,000,000 orders.
 ///
-/// `replies` are the places of the replies, without a reply (`Replies::empty` of md_orders).
 /// `tries` is the most attempts that a caller makes in its turn of a round: any number.
-/// `play_open_rounds` of md_many says what a round is, and when the engine is renewed. A round takes
-/// the replies of its turns: for each caller the last 1,024 of them as they are, and the others
-/// packed (`PackedReplies` of md_orders).
+/// `play_open_rounds` of md_many says what a round is, and when the engine is renewed. Each caller's
+/// thread packs the replies of its turn (`PackedReplies` of md_orders), all but the last batch,
+/// which is packed after the round. A caller's packed replies are kept as they are, one list for all
+/// rounds (`RepliesByCaller`).
 ///
 /// `AllocError` if memory runs out, here or in an attempt of the engine. Then the engine has ended,
 /// and its contents are lost.
@@ -60,7 +60,6 @@ pub fn run_all_open<R, E, G>(
     engine: E,
     pass: E::Pass,
     scripts: &Scripts,
-    replies: Replies,
     tries: u32,
     gate: &G,
 ) -> Result<OpenOutcome<E>, AllocError>
@@ -75,24 +74,19 @@ where
     requires bounds { AllowAll command_bounds (bounds_in (E.limits engine)) }
     requires tries { 1 ≤ (E.limits engine).tries }
     requires room { MOST_NODES ≤ (E.limits engine).room }
-    requires places { replies ≡ record { scripts = scripts.now; replies = no_replies scripts.now } }
     ensures of { IfOk result (λ o. E.of o.rounds.engine o.rounds.pass) }
     ensures all { IfOk result (λ o. (E.front o.rounds.pass).lanes ≡ E.lanes o.rounds.engine) }
     ensures played { IfOk result (λ o. ClosesTo (E.start o.rounds.engine)
         (map E.front o.rounds.fronts.items) (E.front o.rounds.pass) (λ fronts contents.
         (book : Book) × StandsFor contents book
-        × IsPlayed scripts.now fronts o.replies.replies book)) }
+        × IsPlayed scripts.now fronts o.replies book)) }
     ensures gate { OnOk result ((caller line : ℕ) → 1 ≤ line
         → line ≤ line_count_of scripts.now caller → G.after_called gate.now caller line) }
 {
-    commands_meet_the_book();
-    commands_are_small();
-    empty_book_stands();
-    replies_suit();
-    commands_are_named(scripts);
-    let _ = scripts.total();
+    order_laws(scripts);
     let lines = OrderLines { scripts };
-    let mut keeper = KeptReplies { replies };
+    let replies = RepliesByCaller::empty(alloc, scripts.callers())?;
+    let mut keeper = KeptLists { replies };
     let rounds = play_open_rounds(rt, alloc, engine, pass, &lines, tries, gate, &mut keeper)?;
     Ok(OpenOutcome {
         replies: keeper.replies,
@@ -100,8 +94,9 @@ where
     })
 }
 
-/// Makes the places of the replies, plays the scripts of all callers over an engine without orders,
-/// as `run_all_open` does, and closes the engine.
+/// Plays the scripts of all callers over an engine without orders, as `run_all_open` does, and
+/// closes the engine. The replies are set in places, which are made first (`Replies::empty` of
+/// md_orders).
 ///
 /// `AllocError` if memory runs out, here or in an attempt of the engine. Then the engine has ended,
 /// and its contents are lost.
@@ -130,13 +125,15 @@ where
     ensures gate { OnOk result ((caller line : ℕ) → 1 ≤ line
         → line ≤ line_count_of scripts.now caller → G.after_called gate.now caller line) }
 {
+    order_laws(scripts);
+    let lines = OrderLines { scripts };
     let replies = Replies::empty(alloc, scripts)?;
-    let OpenOutcome { replies, rounds } = run_all_open(
-        rt, alloc, engine, pass, scripts, replies, tries, gate,
+    let mut keeper = KeptReplies { replies };
+    let Rounds { contents, fronts } = play_rounds(
+        rt, alloc, engine, pass, &lines, tries, gate, &mut keeper,
     )?;
-    let Rounds { contents, fronts } = rounds.close()?;
     Ok(Outcome {
-        replies,
+        replies: keeper.replies,
         contents,
         fronts,
     })

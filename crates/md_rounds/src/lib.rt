@@ -4,6 +4,8 @@
 mod all;
 mod alone;
 mod kept;
+mod kept_lists;
+mod laws;
 mod limits;
 mod order_lines;
 mod round_replies;
