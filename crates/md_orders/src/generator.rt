@@ -109,7 +109,7 @@ pub fn make(alloc: Global, number: u32, lines: u32, callers: u32) -> Result<Scri
     ensures { IfOk result (AreMade number lines callers) }
 {
     let mut generator = Generator { state: number };
-    let mut scripts = Scripts::empty(alloc, callers)?;
+    let mut scripts = Scripts::empty(alloc, callers, lines / callers + 1)?;
     for at in 0..lines {
         let caller = at % callers + 1;
         let line = scripts.len(caller) + 1;

@@ -31,6 +31,15 @@ pub enum OrderFault {
 // How many records an order file has at most.
 pub(crate) const MAX_RECORDS: u32 = 1_000_000;
 
+// How many bytes a record takes on average, rounded down.
+const RECORD_BYTES: usize = 16;
+
+// How many lines bytes may well have. Room is made for so many, so that no command is copied to
+// larger memory later.
+fn likely_lines(bytes: &[u8]) -> u32 {
+    (bytes.len() / RECORD_BYTES).min(MAX_RECORDS as usize) as u32
+}
+
 // A read of a slice by a flexible reader fails only when it is out of memory.
 fn want(error: &Error) -> OrderFault
     requires { stops_reader (error_kind error.now) ≡ true }
@@ -123,7 +132,7 @@ pub(crate) fn read_records(
         .flexible(true)
         .from_reader(alloc, bytes);
     let mut row = ByteRecord::new(alloc);
-    let Ok(scripts) = Scripts::empty(alloc, callers) else {
+    let Ok(scripts) = Scripts::empty(alloc, callers, likely_lines(bytes) / callers) else {
         return Err(OrderFault::NoMemory);
     };
     let mut notes = Notes {

@@ -21,8 +21,13 @@ use std::thread::Threads;
 // A shorter file is read in one thread.
 const MIN_BYTES: usize = 65_536;
 
-// How many times over a file is cut into halves. So it is read in up to four parts.
-const CUTS: u32 = 2;
+// How many times over a file is cut into halves. A single caller's is read in up to eight parts, so
+// that no processor is left without work at the end. With several callers another thread opens a
+// larger store meanwhile, and would be given less of a processor beside eight others. So there are
+// up to four parts.
+fn cuts_for(callers: u32) -> u32 {
+    if callers == 1 { 3 } else { 2 }
+}
 
 // Reads the records of bytes in threads, by halves, which are cut in turn while `cuts` isn't 0. If
 // no cut is known to be right, this thread reads them all.
@@ -106,13 +111,14 @@ pub(crate) fn read_with_cuts<R: Threads + Sync>(
 }
 
 /// Reads the scripts of an order file, as `read_orders` does, with the same results. Threads read
-/// up to four parts of a file of 64 KiB or more, and their scripts are put together.
+/// up to four parts of a file of 64 KiB or more, or up to eight if there is one caller, and their
+/// scripts are put together.
 ///
 /// The call cuts the file at line ends, by halves, in `thread::join`, which it calls up to three
-/// times. One thread reads a part that can't be cut: no line but its last ends in its upper half,
-/// there is a double quote in its lower half, or a half begins with the first byte of a byte order
-/// mark. A file of version 2 is only cut if its first record is written as `medley,2`. If the first
-/// record is another that breaks the grammar of version 1, one thread reads the file anew.
+/// times, or seven. One thread reads a part that can't be cut: no line but its last ends in its
+/// upper half, there is a double quote in its lower half, or a half begins with the first byte of a
+/// byte order mark. A file of version 2 is only cut if its first record is written as `medley,2`. If
+/// the first record is another that breaks the grammar of version 1, one thread reads the file anew.
 ///
 /// Otherwise the bytes are read once, after a search for double quotes. No command is copied when
 /// the parts are put together.
@@ -134,5 +140,5 @@ pub fn read_orders_in_threads<R: Threads + Sync>(
     if bytes.len() < MIN_BYTES {
         return read_orders(alloc, bytes, callers);
     }
-    read_with_cuts(rt, alloc, bytes, callers, CUTS)
+    read_with_cuts(rt, alloc, bytes, callers, cuts_for(callers))
 }

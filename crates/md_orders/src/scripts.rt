@@ -37,13 +37,13 @@ impl Model for Scripts {
     ghost invariant = { λ s. AreKept s.total (scripts_from 1 s.scripts.items) };
 }
 
-// The commands of callers that have none.
-fn no_commands(alloc: Global, callers: u32) -> Result<Vec<Segments>, AllocError>
+// The commands of callers that have none, with room for so many of each.
+fn no_commands(alloc: Global, callers: u32, room: u32) -> Result<Vec<Segments>, AllocError>
     ensures { IfOk result (λ lists. lists.items ≡ replicate callers []) }
 {
     let mut lists = Vec::with_capacity(alloc, callers as usize)?;
     for made in 0..callers {
-        lists.push(Segments::empty(alloc))?;
+        lists.push(Segments::with_room(alloc, room as usize)?)?;
     }
     Ok(lists)
 }
@@ -98,11 +98,12 @@ fn renamed(name: u64, command: Command) -> Command
 }
 
 impl Scripts {
-    /// Empty scripts for `callers` callers. `AllocError` if memory runs out.
-    pub(crate) fn empty(alloc: Global, callers: u32) -> Result<Scripts, AllocError>
+    /// Empty scripts for `callers` callers, with room for `room` commands of each: any number.
+    /// `AllocError` if memory runs out.
+    pub(crate) fn empty(alloc: Global, callers: u32, room: u32) -> Result<Scripts, AllocError>
         ensures { IfOk result (λ s. s ≡ replicate callers []) }
     {
-        let scripts = no_commands(alloc, callers)?;
+        let scripts = no_commands(alloc, callers, room)?;
         Ok(Scripts { scripts, total: 0 })
     }
 

@@ -27,14 +27,14 @@ impl Model for Segments {
 }
 
 impl Segments {
-    /// No commands.
-    pub(crate) fn empty(alloc: Global) -> Segments
-        ensures { result ≡ [] }
+    /// No commands, and room for so many. `AllocError` if memory runs out.
+    pub(crate) fn with_room(alloc: Global, room: usize) -> Result<Segments, AllocError>
+        ensures { IfOk result (λ s. s ≡ []) }
     {
-        Segments {
+        Ok(Segments {
             earlier: Vec::new(alloc),
-            last: Vec::new(alloc),
-        }
+            last: Vec::with_capacity(alloc, room)?,
+        })
     }
 
     /// Adds a command at the end. `AllocError` if memory runs out; then nothing changes.

@@ -10,6 +10,7 @@ pub mod Pigeons
 pub mod Room
 pub mod BookLaws
 mod Holding
+mod Listing
 mod Walking
 mod Sums
 mod Summaries

@@ -18,7 +18,7 @@ use Rattle.md_many.specs.Tags.{IsInterleaving}
 use Rattle.md_many.specs.Played.{committed_of, tags_of, EachLineOnce}
 use Rattle.md_many.specs.Replied.{IsReplied, AreReplied}
 use Rattle.md_many.proofs.Walking.{fronts-right, each-replied}
-use Rattle.md_rounds.specs.Kept.{HasReplies}
+use Rattle.md_rounds.specs.Kept.{HaveReplies}
 use Rattle.md_rounds.specs.OrderLines.{did_command, line_count_of}
 use Rattle.md_rounds.specs.Replay.{commands_of, DidEach, RepliedEach, IsPlayed, no_orders}
 use Rattle.md_rounds.specs.Traded.{AreOfLines, HasTraded}
@@ -60,13 +60,14 @@ module _ (scripts : List (List Command)) (replies : List (List (Option BookReply
 -- the lines of all callers, each once, are played with the replies of the book
 pub all-played : (scripts : List (List Command)) → AreNamed scripts → count_of scripts ≤ max_records
     → CommandsMeetTheBook → StandsFor no_orders empty_book
-    → (held : List (List Command)) (replies : List (List (Option BookReply)))
+    → (replies : List (List (Option BookReply))) (keeps : ℕ → List BookReply → Type 0)
+    → ((caller : ℕ) (rs : List BookReply) → keeps caller rs → HaveReplies replies caller rs)
     → (fronts : List Front) (contents : State)
-    → EachLineOnce did_command (at_line scripts) (line_count_of scripts) (HasReplies held replies) (HasTraded scripts)
-    no_orders fronts contents
+    → EachLineOnce did_command (at_line scripts) (line_count_of scripts) keeps (HasTraded scripts) no_orders fronts
+    contents
     → IsInterleaving (line_count_of scripts) (tags_of (committed_of fronts))
     → (book : Book) × StandsFor contents book × IsPlayed scripts fronts replies book
-all-played scripts named few law none held replies fronts contents once interleaving =
+all-played scripts named few law none replies keeps has fronts contents once interleaving =
     let es = committed_of fronts in
     let tags = tags_of es in
     let cs = commands_of scripts tags in
@@ -76,9 +77,8 @@ all-played scripts named few law none held replies fronts contents once interlea
     let names : AreNamedBy tags cs = named-by scripts named tags cs lines in
     let count : length tags ≤ count_of scripts = tags-few scripts tags cs lines traded.different in
     let each = walked scripts replies es
-    (each-replied did_command (at_line scripts) (reply_at replies) (line_count_of scripts) (HasReplies held replies)
-    (HasTraded scripts) no_orders contents fronts
-    (λ caller rs kept. kept.each) once) in
+    (each-replied did_command (at_line scripts) (reply_at replies) (line_count_of scripts) keeps (HasTraded scripts)
+    no_orders contents fronts has once) in
     let right : IsRight no_orders (acts_of es) = fronts-right no_orders fronts once.legal in
     let folded : Folds no_orders empty_book es cs each.list =
     folds law no_orders empty_book es cs each.list none names traded.different (apart-none tags)

@@ -10,9 +10,13 @@ use Rattle.md_rounds.specs.declared.round_replies.RoundReplies.{RoundReplies}
 abbrev pub all_of : RoundReplies → List BookReply
 all_of list = list.packed ++ list.last.items
 
+-- a caller's first lines have these replies
+abbrev pub HaveReplies : List (List (Option BookReply)) → ℕ → List BookReply → Type 0
+HaveReplies replies caller rs = (i : ℕ) → i < length rs → reply_at replies caller (i + 1) ≡ slice_get rs i
+
 -- there is a place for each line, and those of a caller's first lines have these replies
 pub record HasReplies (scripts : List (List Command)) (replies : List (List (Option BookReply))) (caller : ℕ)
     (rs : List BookReply) : Type 0 where
   pub callers : length replies ≡ length scripts
   pub places : (c : ℕ) → length (list_of replies c) ≡ length (list_of scripts c)
-  pub each : (i : ℕ) → i < length rs → reply_at replies caller (i + 1) ≡ slice_get rs i
+  pub each : HaveReplies replies caller rs

@@ -2,7 +2,6 @@
 #![tactic(auto)]
 
 mod input;
-mod orders;
 mod output;
 mod play;
 mod program;

@@ -49,10 +49,10 @@ pub fn tell_and_close<R: Threads + Sync>(
     requires played { ClosesTo (start_of played.rounds.engine)
         (map front_in played.rounds.fronts.items) (front_in played.rounds.pass)
         (λ fronts contents. (book : Book) × StandsFor contents book
-        × IsPlayed scripts.now fronts played.replies.replies book) }
+        × IsPlayed scripts.now fronts played.replies book) }
     ensures { IfOk result (λ w. (book : Book)
-        × IsPlayed scripts.now (map front_in w.fronts.items) played.replies.replies book
-        × (whole_text w.parts.items ≡ report_text scripts.now played.replies.replies book)) }
+        × IsPlayed scripts.now (map front_in w.fronts.items) played.replies book
+        × (whole_text w.parts.items ≡ report_text scripts.now played.replies book)) }
 {
     let OpenOutcome { replies, rounds } = played;
     // The thread that has told the replies frees them, while the other still reads.
@@ -61,7 +61,7 @@ pub fn tell_and_close<R: Threads + Sync>(
         move || -> Result<Vec<Vec<u8>>, AllocError>
             requires sync { IsSync R.row }
             ensures { IfOk result (λ parts. whole_text parts.items
-                ≡ replies_text scripts.entry.now replies.replies) }
+                ≡ replies_text scripts.entry.now replies) }
         { lines_in_threads(rt, alloc, scripts, &replies) },
         move || -> Result<Rounds<StorePass>, AllocError>
             requires of { IsPassOf rounds.engine rounds.pass }

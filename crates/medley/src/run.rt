@@ -5,7 +5,6 @@ ghost use Rattle.std.specs.Prelude.{IfOk, IfErr, IsErrOf};
 ghost use Rattle.std.specs.Thread.{IsSync};
 ghost use Rattle.md_orders.specs.Grammar.{first_bad};
 ghost use Rattle.md_orders.specs.Records.{order_records, AreFewRecords};
-ghost use Rattle.md_orders.specs.Replies.{no_replies};
 ghost use Rattle.md_orders.specs.Report.{whole_text};
 ghost use Rattle.md_orders.specs.Scripts.{AreScripts};
 ghost use Rattle.md_play.specs.Opened.{IsOpenFor};
@@ -17,14 +16,13 @@ ghost use Rattle.medley.specs.Run.{Answers, EndsWell, HasPlayed, StopsReplay, St
 ghost use Rattle.medley.specs.Run.{IsBadInput, IsGood, Refused, ToldAlone};
 
 use crate::input::read_all;
-use crate::orders::{Orders, read_all_orders};
 use crate::output::{tell, write_parts};
 use crate::play::{open_for, play};
 use crate::report::{Played, tell_and_close, with_last};
 use crate::status::{Run, Status};
 use crate::words::{Making, Options, read_options};
 use md_book::MAX_CALLER;
-use md_orders::{OrderFault, make, summary};
+use md_orders::{OrderFault, Scripts, make, read_orders_in_threads, summary};
 use md_outside::{Failed, Sink, Source};
 use md_play::{OpenStore, play_opened};
 use md_rounds::Gate;
@@ -33,8 +31,7 @@ use std::thread;
 use std::thread::Threads;
 
 // Reads the input, plays it, and builds the report. The store is opened in one thread while the
-// orders are read in others, and the places of their replies are made. It is closed while the lines
-// of the report are written.
+// orders are read in others. It is closed while the lines of the report are written.
 fn replay<R, I, G>(
     rt: &R,
     alloc: Global,
@@ -57,28 +54,26 @@ where
     let records = bytes.as_slice();
     let callers = options.callers;
     let count = u32::try_from(bytes.len()).unwrap_or(u32::MAX);
-    let (orders, opened) = thread::join(
+    let (scripts, opened) = thread::join(
         rt,
-        move || -> Result<Orders, OrderFault>
+        move || -> Result<Scripts, OrderFault>
             requires sync { IsSync R.row }
             requires range { (1 ≤ callers) × (callers ≤ MAX_CALLER) }
-            ensures scripts { IfOk result (λ o. AreFewRecords (order_records records.entry.now)
-                × AreScripts callers (order_records records.entry.now) o.scripts) }
-            ensures places { IfOk result (λ o. o.replies
-                ≡ record { scripts = o.scripts; replies = no_replies o.scripts }) }
+            ensures scripts { IfOk result (λ scripts. AreFewRecords (order_records records.entry.now)
+                × AreScripts callers (order_records records.entry.now) scripts) }
             ensures too_many { IsErrOf result OrderFault.TooMany
                 → ¬ AreFewRecords (order_records records.entry.now) }
             ensures bad_line { (n : ℕ) → IsErrOf result (OrderFault.BadLine n)
                 → AreFewRecords (order_records records.entry.now)
                 × (first_bad callers (order_records records.entry.now) ≡ Some n) }
-        { read_all_orders(rt, alloc, records, callers) },
+        { read_orders_in_threads(rt, alloc, records, callers) },
         move || -> Result<OpenStore, AllocError>
             requires in_range { AreInRange options.now }
             ensures { IfOk result (λ o. IsOpenFor options.entry.now.callers o.store o.pass) }
         { open_for(alloc, options, count) },
     );
-    let Orders { scripts, replies } = orders?;
-    let played = play_opened(rt, alloc, opened?, &scripts, replies, gate)?;
+    let scripts = scripts?;
+    let played = play_opened(rt, alloc, opened?, &scripts, gate)?;
     Ok(tell_and_close(rt, alloc, &scripts, played)?)
 }
 
@@ -185,10 +180,11 @@ where
 /// for each caller, and writes the report or the summary.
 ///
 /// It reads the words first (`read_options`). Without `--make` it reads the input to its end
-/// (`read_all`), reads the records as scripts and makes the places of the replies (`read_all_orders`)
-/// while it opens the store, plays them, and writes the report: each reply, and then the book. With `--make` it
+/// (`read_all`), reads the records as scripts (`read_orders_in_threads` of md_orders) while it opens
+/// the store, plays them, and writes the report: each reply, and then the book. With `--make` it
 /// makes scripts (`make` of md_orders), plays them, and writes the summary, which is one line. It
 /// then reads no input.
+///
 /// Whatever the threads do, the replies and the book are those of one thread that runs the
 /// committed commands in the order in which they became ready. They are all lines, each once, and
 /// each caller's in order.

@@ -1,0 +1,31 @@
+-- Replies of several callers, as they are kept in lists.
+use Rattle.std.proofs.Common.{◌≡◌, ◌≤◌, ◌<◌, ◌∙◌, ◌+◌, ◌++◌, ◌∷◌, ℕ, zero, suc, List, [], Option, Some, length, refl, sym, ap}
+use Rattle.std.specs.Prelude.{map, replicate, slice_get, option_and_then}
+use Rattle.md_book.specs.declared.commands.BookReply.{BookReply}
+use Rattle.md_many.specs.Laws.{AllSuit}
+use Rattle.md_orders.specs.Scripts.{list_of}
+use Rattle.md_rounds.specs.Kept.{HaveReplies}
+
+-- a list of replies that stand, at an index
+some-at : (rs : List BookReply) (i : ℕ) → i < length rs → option_and_then (λ r. r) (slice_get (map Some rs) i) ≡ slice_get rs i
+some-at [] i low = absurd low
+some-at (r ∷ rs) zero low = refl
+some-at (r ∷ rs) (suc i) low = some-at rs i low
+
+-- a caller's list has its replies
+pub listed-have : (replies : List (List (Option BookReply))) (caller : ℕ) (rs : List BookReply)
+    → list_of replies caller ≡ map Some rs → HaveReplies replies caller rs
+listed-have replies caller rs is = λ i low.
+    ap (λ xs. option_and_then (λ r. r) (slice_get xs i)) is ∙ some-at rs i low
+
+-- at the beginning there are no replies
+pub none-listed : (count caller : ℕ) → list_of {A = Option BookReply} (replicate count []) caller ≡ []
+none-listed count zero = refl
+none-listed zero (suc c) = refl
+none-listed (suc count) (suc zero) = refl
+none-listed (suc count) (suc (suc c)) = none-listed count (suc c)
+
+-- what holds of each reply of a list that isn't empty holds
+pub one-suits : (P : Type 0) (n : ℕ) (rs : List BookReply) → 1 ≤ length rs → AllSuit (λ line r. P) n rs → P
+one-suits P n [] some all = absurd some
+one-suits P n (r ∷ rs) some all = all.0

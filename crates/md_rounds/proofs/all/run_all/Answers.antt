@@ -1,0 +1,8 @@
+use Rattle.md_rounds.proofs.Walking.{all-played}
+use Rattle.md_rounds.proofs.all.run_all.Goals as goal
+
+pub returns-clause-played : goal.returns-clause-played
+returns-clause-played g c =
+    let laws = c.order_laws.ensures in
+    all-played c.args.scripts.now laws.named laws.few laws.meets laws.none c.play_rounds.new.keeper.replies.replies _
+    (λ caller rs kept. kept.each) _ _ c.in_ok-rounds.ensures.each_line_once c.in_ok-rounds.ensures.interleaving
