@@ -12,6 +12,7 @@ pub mod Numbered
 pub mod Noted
 pub mod Made
 pub mod Texts
+pub mod SameSums
 pub mod Totals
 pub mod Split
 pub mod LineEnds

@@ -10,6 +10,7 @@ pub mod Replies
 pub mod Rooms
 pub mod Packed
 pub mod Report
+pub mod Sums
 pub mod Line
 pub mod Generator
 pub mod Summary

@@ -3,6 +3,7 @@
 mod line_buffer;
 
 ghost use Rattle.std.specs.Prelude.{◌≡◌, ◌++◌, ◌≤◌, ◌<◌, ◌+◌, ◌/◌, ◌%◌, ◌^◌, List, Option, length, take, slice_index_or, flat_map, OnOk, IfOk, IfSome};
+ghost use Rattle.md_history.specs.State.{State};
 ghost use Rattle.md_book.specs.Book.{Book};
 ghost use Rattle.md_book.specs.Stands.{StandsFor};
 ghost use Rattle.md_book.specs.declared.commands.BookReply.{BookReply};
@@ -13,6 +14,7 @@ ghost use Rattle.md_orders.specs.declared.text.line_buffer.TheConstants.{SIZE};
 ghost use Rattle.md_orders.specs.Summary.{summary_text, summary_text_of};
 ghost use Rattle.md_orders.specs.Report.{name_text, part_text, filled_text, reply_text, answer_text, lines_text, callers_text_after, level_text, account_text, done_text, report_text, levels_text_of, accounts_text_of, after_replies_text_of, replies_text, report_text_of};
 ghost use Rattle.md_orders.specs.Scripts.{count_of};
+ghost use Rattle.md_orders.specs.Sums.{HaveSameSums};
 
 use crate::parts::part_in;
 use crate::rooms::{Head, number_at};
@@ -322,6 +324,9 @@ pub fn report(
 /// returns, whatever the replies are. The contents have at least the `MAPS` maps of a book. If they
 /// stand for no book, the text has what the maps hold for each level and account.
 ///
+/// Only the maps `DEPTHS`, `BOUGHT` and `SOLD` are looked at: the text is also that of all contents
+/// in which these three are the same (`HaveSameSums`), whatever the other maps and the queues have.
+///
 /// It looks up each of the `LEVELS` levels once, and each of the `MAX_ACCOUNT` accounts twice.
 /// `AllocError` if memory runs out.
 pub fn after_lines(alloc: Global, of: &Scripts, contents: &Contents) -> Result<Vec<u8>, AllocError>
@@ -329,10 +334,10 @@ pub fn after_lines(alloc: Global, of: &Scripts, contents: &Contents) -> Result<V
     ensures text { IfOk result (λ text. text.items
         ≡ after_replies_text_of contents.now (count_of of.now)) }
     ensures report { IfOk result (λ text. (replies : List (List (Option BookReply)))
-        → replies_text of.now replies ++ text.items
-        ≡ report_text_of of.now replies contents.now) }
-    ensures book { IfOk result (λ text. (replies : List (List (Option BookReply))) (book : Book)
-        → StandsFor contents.now book
+        (whole : State) → HaveSameSums contents.now whole
+        → replies_text of.now replies ++ text.items ≡ report_text_of of.now replies whole) }
+    ensures book { IfOk result (λ text. (replies : List (List (Option BookReply)))
+        (whole : State) (book : Book) → HaveSameSums contents.now whole → StandsFor whole book
         → replies_text of.now replies ++ text.items ≡ report_text of.now replies book) }
 {
     let mut text = Vec::new(alloc);

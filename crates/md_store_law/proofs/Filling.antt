@@ -3,15 +3,16 @@ use Rattle.std.proofs.Common.{◌≡◌, ◌≢◌, ℕ, zero, suc, ◌+◌, ◌
 use Rattle.std.specs.List.{flat_map, range_with_len}
 use Rattle.std.specs.FinMap as fin
 use Rattle.std.proofs.lemmas.Bool.{cases_eq, cases_lt}
-use Rattle.std.proofs.lemmas.List.{length-set, length-replicate, length_push, length-take-le, take_more, get_or-set_same, get_or-set_other, map-id, append-nil}
+use Rattle.std.proofs.lemmas.List.{length-set, length-replicate, length_push, length-take-le, take_more, get_or-set_same, get_or-set_other, get_or_past, map-id, append-nil}
 use Rattle.std.proofs.lemmas.List.Concat.{flat_map-append}
-use Rattle.std.proofs.lemmas.List.FromFn.{map-range_with_len_more, fill_by_all}
+use Rattle.std.proofs.lemmas.List.FromFn.{map-range_with_len_more, length-map-range_with_len, get_or-map-range_with_len, fill_by_all}
 use Rattle.md_history.specs.State.{State, Table, empty_state, map_at, queue_at, with_map, with_queue}
 use Rattle.md_machine.specs.LogicalHeap.{LogicalWords}
 use Rattle.md_list_law.specs.Walk.{map_of_pairs}
 use Rattle.md_hash_law.specs.HashTable.{pairs_of_map, maps_of}
 use Rattle.md_queue_law.specs.QueueValues.{queue_values}
 use Rattle.md_store_law.specs.declared.side_walks.QueueWalk.{QueueWalk}
+use Rattle.md_store_law.specs.MapsFrom.{MapsFrom}
 use Rattle.md_store_law.specs.SideWalks.{EachWalk, AreFilled}
 use Rattle.md_store_law.specs.Store.{state_of_store}
 use Rattle.md_store_law.proofs.SideWalks.{each_more}
@@ -63,11 +64,11 @@ get_or-same (suc n) zero x = refl
 get_or-same (suc n) (suc i) x = get_or-same n i x
 
 module _ (w : LogicalWords) where
-  -- the maps below a number are filled, and all else is empty
-  pub record MapsFilled (s : State) (count : ℕ) : Type 0 where
+  -- the maps from a number on and below another are filled, and all else is empty
+  pub record MapsFilled (first : ℕ) (s : State) (count : ℕ) : Type 0 where
     pub maps : length s.maps ≡ w.shape.maps
-    pub filled : (map : ℕ) → map < count → map_at s map ≡ map_of_pairs (pairs_of_map w map)
-    pub empty : (map : ℕ) → count ≤ map → map_at s map ≡ fin.empty
+    pub filled : (map : ℕ) → first ≤ map → map < count → map_at s map ≡ map_of_pairs (pairs_of_map w map)
+    pub others : (map : ℕ) → map < first → map_at s map ≡ fin.empty
     pub queues : s.queues ≡ replicate w.shape.queues []
 
   -- all maps are filled, and the queues below a number
@@ -77,33 +78,56 @@ module _ (w : LogicalWords) where
     pub filled : (queue : ℕ) → queue < count → queue_at s queue ≡ queue_values w queue
     pub empty : (queue : ℕ) → count ≤ queue → queue_at s queue ≡ []
 
-  pub maps_begin : MapsFilled (empty_state w.shape.maps w.shape.queues) 0
-  maps_begin = record {
+  pub maps_begin : (first : ℕ) → MapsFilled first (empty_state w.shape.maps w.shape.queues) first
+  maps_begin first = record {
     maps = length-replicate w.shape.maps _;
-    filled = λ map below. absurd (omega arith);
-    empty = λ map low. get_or-same w.shape.maps map fin.empty;
+    filled = λ map low below. absurd (omega arith);
+    others = λ map below. get_or-same w.shape.maps map fin.empty;
     queues = refl;
   }
 
-  pub maps_on : (s : State) (count : ℕ) → count < w.shape.maps → MapsFilled s count
-      → MapsFilled (with_map s count (map_of_pairs (pairs_of_map w count))) (count + 1)
-  maps_on s count below f = let t = map_of_pairs (pairs_of_map w count) in let maps = f.maps in record {
+  pub maps_on : (first : ℕ) (s : State) (count : ℕ) → first ≤ count → count < w.shape.maps → MapsFilled first s count
+      → MapsFilled first (with_map s count (map_of_pairs (pairs_of_map w count))) (count + 1)
+  maps_on first s count from below f = let t = map_of_pairs (pairs_of_map w count) in let maps = f.maps in record {
     maps = length-set s.maps count t ∙ f.maps;
-    filled = λ map less. ⊎_elim
+    filled = λ map low less. ⊎_elim
         (λ e. ap (λ m. get_or (with_map s count t).maps m fin.empty) e ∙ get_or-set_same s.maps count t fin.empty (omega arith)
         ∙ ap (λ m. map_of_pairs (pairs_of_map w m)) (sym e))
-        (λ ne. get_or-set_other s.maps count map t fin.empty ne ∙ f.filled map (omega arith))
+        (λ ne. get_or-set_other s.maps count map t fin.empty ne ∙ f.filled map low (omega arith))
         (cases_eq map count);
-    empty = λ map low. let ne : map ≢ count = omega arith in get_or-set_other s.maps count map t fin.empty ne ∙ f.empty map (omega arith);
+    others = λ map less. let ne : map ≢ count = omega arith in get_or-set_other s.maps count map t fin.empty ne ∙ f.others map less;
     queues = f.queues;
   }
 
-  pub maps_end : (s : State) → MapsFilled s w.shape.maps → QueuesFilled s 0
-  maps_end s f = record {
-    maps = fill_by_all (λ map. map_of_pairs (pairs_of_map w map)) s.maps w.shape.maps fin.empty f.maps f.filled;
-    queues = ap length f.queues ∙ length-replicate w.shape.queues [];
+  -- the maps of the whole
+  whole-long : length (maps_of w) ≡ w.shape.maps
+  whole-long = length-map-range_with_len (λ map. map_of_pairs (pairs_of_map w map)) 0 w.shape.maps
+
+  whole-at : (map : ℕ) → map < w.shape.maps → map_at (state_of_store w) map ≡ map_of_pairs (pairs_of_map w map)
+  whole-at map below = get_or-map-range_with_len (λ m. map_of_pairs (pairs_of_map w m)) 0 w.shape.maps map map fin.empty below (omega arith)
+
+  pub maps_end : (first : ℕ) (s : State) (count : ℕ) → w.shape.maps ≤ count → MapsFilled first s count → MapsFrom first s (state_of_store w)
+  maps_end first s count all f = record {
+    numbers = record {
+      maps = f.maps ∙ sym whole-long;
+      queues = ap length f.queues ∙ length-replicate w.shape.queues [] ∙ sym (length-map-range_with_len (queue_values w) 0 w.shape.queues);
+    };
+    maps = λ map low. ⊎_elim
+        (λ below. f.filled map low (omega (arith, all)) ∙ sym (whole-at map below))
+        (λ past. let long = f.maps in let whole_long = whole-long in
+        get_or_past s.maps map fin.empty (omega (arith, past, long)) ∙ sym (get_or_past (maps_of w) map fin.empty (omega (arith, past, whole_long))))
+        (cases_lt map w.shape.maps);
+    others = f.others;
+    queues = λ queue. ap (λ qs. get_or qs queue []) f.queues ∙ get_or-same w.shape.queues queue [];
+  }
+
+  pub queues_begin : (s : State) → MapsFrom 0 s (state_of_store w) → QueuesFilled s 0
+  queues_begin s all = record {
+    maps = fill_by_all (λ map. map_of_pairs (pairs_of_map w map)) s.maps w.shape.maps fin.empty (all.numbers.maps ∙ whole-long)
+        (λ map below. all.maps map (omega arith) ∙ whole-at map below);
+    queues = all.numbers.queues ∙ length-map-range_with_len (queue_values w) 0 w.shape.queues;
     filled = λ queue below. absurd (omega arith);
-    empty = λ queue low. ap (λ qs. get_or qs queue []) f.queues ∙ get_or-same w.shape.queues queue [];
+    empty = λ queue low. all.queues queue;
   }
 
   pub queues_on : (s : State) (count : ℕ) → count < w.shape.queues → QueuesFilled s count → QueuesFilled (with_queue s count (queue_values w count)) (count + 1)

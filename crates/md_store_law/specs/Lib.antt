@@ -10,6 +10,7 @@ pub mod Untouched
 pub mod Below
 pub mod Compacted
 pub mod Lists
+pub mod MapsFrom
 pub mod SideWalks
 pub mod Living
 pub mod Laws

@@ -18,7 +18,7 @@ pub use field_words::FieldWords;
 pub use fields::even_fields_are_stores;
 pub use gathering::{Living, gather};
 pub use laying::lay;
-pub use reading::{read_off, read_off_from};
+pub use reading::{read_off, read_off_from, read_off_maps_from};
 pub use sizes::needed;
 pub use theory::StoreTheory;
 

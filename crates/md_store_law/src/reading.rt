@@ -5,6 +5,7 @@ ghost use Rattle.md_history.specs.State.{queue_at, with_queue};
 ghost use Rattle.md_store_law.specs.Store.{state_of_store};
 ghost use Rattle.md_store_law.specs.Field.{logical_words, IsStoreField};
 ghost use Rattle.md_hash_law.specs.HashTable.{pairs_of_map};
+ghost use Rattle.md_store_law.specs.MapsFrom.{MapsFrom};
 ghost use Rattle.md_store_law.specs.SideWalks.{EachWalk, AreFilled};
 
 use crate::field_words::FieldWords;
@@ -40,17 +41,37 @@ pub fn read_off_from<W: FieldWords>(
     requires { IsStoreField shape.now (W.words words.now) }
     ensures { IfOk result (λ c. c ≡ state_of_store (logical_words shape.now (W.words words.now))) }
 {
-    let mut contents = Contents::empty(alloc, shape.maps, shape.queues)?;
-    for map in 0..shape.maps {
-        let pairs = pairs_of(alloc, shape, words, map)?;
-        contents.set_map(map, pairs)?;
-    }
+    let mut contents = read_off_maps_from(alloc, shape, words, 0)?;
     let mut walks = new_group(alloc)?;
     let mut queue = 0;
     'groups: while queue < shape.queues {
         walk_group(&mut walks, shape, words, queue)?;
         push_walks(&mut contents, queue, &walks)?;
         queue += walks.len() as u32;
+    }
+    Ok(contents)
+}
+
+/// The maps from number `first` on, of those contents that `read_off_from` gives: the other maps and
+/// all queues are empty. Every count is even. `first` is any number. `AllocError` if memory runs out.
+///
+/// Takes time linear in the buckets and the nodes of the maps that it reads, and in the number of
+/// maps and queues, and one sort by std of each map's pairs. It reads no head of another map, and
+/// walks no queue. Besides the contents it keeps the pairs of one map.
+pub fn read_off_maps_from<W: FieldWords>(
+    alloc: Global,
+    shape: &Shape,
+    words: &W,
+    first: u32,
+) -> Result<Contents, AllocError>
+    requires { IsStoreField shape.now (W.words words.now) }
+    ensures { IfOk result (λ c. MapsFrom first c
+        (state_of_store (logical_words shape.now (W.words words.now)))) }
+{
+    let mut contents = Contents::empty(alloc, shape.maps, shape.queues)?;
+    for map in first..shape.maps {
+        let pairs = pairs_of(alloc, shape, words, map)?;
+        contents.set_map(map, pairs)?;
     }
     Ok(contents)
 }

@@ -1,10 +1,7 @@
 use Rattle.std.proofs.Common.{◌<◌, ◌≤◌, ◌-◌, length}
 use Rattle.md_store_law.specs.Field.{logical_words}
-use Rattle.md_store_law.proofs.Filling.{MapsFilled, QueuesFilled}
+use Rattle.md_store_law.proofs.Filling.{QueuesFilled}
 use Rattle.md_store_law.proofs.reading.read_off_from.Given as goal
-
-abbrev pub invariant-loop-map : goal.invariant-loop-map
-invariant-loop-map g l = MapsFilled (logical_words l.shape (g.W.FieldWords.words l.words)) l.contents l.map
 
 abbrev pub invariant-groups : goal.invariant-groups
 invariant-groups g l =
