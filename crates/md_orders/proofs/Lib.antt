@@ -8,6 +8,7 @@ pub mod PartNumbers
 pub mod Unpacked
 pub mod Ones
 pub mod Placed
+pub mod Listed
 pub mod Numbered
 pub mod Noted
 pub mod Made

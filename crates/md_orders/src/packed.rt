@@ -270,6 +270,22 @@ impl PackedReplies {
         Ok(())
     }
 
+    /// Appends the replies of another list. If memory runs out, nothing changes. An empty list takes
+    /// over the memory of the other one, and a list with replies copies them.
+    pub(crate) fn append_packed(&mut self, more: PackedReplies) -> Result<(), AllocError>
+        ensures ok { OnOk result (self.new ≡ self.old ++ more) }
+        ensures err { OnErr result (self.new ≡ self.old) }
+    {
+        if self.is_empty() {
+            *self = more;
+            return Ok(());
+        }
+        self.heads.reserve(more.heads.len())?;
+        self.numbers.extend_from_slice(&more.numbers)?;
+        self.heads.extend_from_slice(&more.heads)?;
+        Ok(())
+    }
+
     /// Sets the replies of a caller's lines after its first `done`, as `Replies::set_packed`.
     pub(crate) fn set_in(&self, replies: &mut Replies, caller: u32, done: u32)
         requires suit { AllSuit replies.old.scripts caller done self.now }
