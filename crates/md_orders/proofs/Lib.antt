@@ -8,6 +8,8 @@ pub mod PartNumbers
 pub mod Unpacked
 pub mod Ones
 pub mod Placed
+pub mod Listed
+pub mod PackedLines
 pub mod Numbered
 pub mod Noted
 pub mod Made

@@ -1,9 +1,9 @@
 -- Packed replies, and what comes of them again.
-use Rattle.std.proofs.Common.{◌≡◌, ◌<◌, ◌≤◌, ◌+◌, ◌-◌, ◌*◌, ◌/◌, ◌%◌, ◌^◌, ◌∙◌, ◌++◌, ◌∷◌, refl, sym, ap, subst, arith, zero, suc}
-use Rattle.std.proofs.Common.{ℕ, List, [], All, length, take, drop, get_or, set, replicate, append_assoc, length-append}
+use Rattle.std.proofs.Common.{◌≡◌, ◌<◌, ◌≤◌, ◌+◌, ◌-◌, ◌*◌, ◌%◌, ◌^◌, ◌∙◌, ◌++◌, ◌∷◌, refl, sym, ap, arith, zero, suc}
+use Rattle.std.proofs.Common.{ℕ, List, [], All, length, take, drop, get_or, replicate, length-append}
 use Rattle.std.specs.Prelude.{min, sum_by}
-use Rattle.std.proofs.lemmas.List.{get_or_append_left, get_or-append-add, length-take, length-take-le, length-replicate, length-drop, get_or-drop, take-append-le, drop-append-le, drop-drop, drop_more, take_more, take_all}
-use Rattle.std.proofs.lemmas.List.Sums.{sum_by-append, sum_by-cons}
+use Rattle.std.proofs.lemmas.List.{get_or_append_left, get_or-append-add, length-take, length-take-le, length-replicate, length-drop, get_or-drop, take-append-le, drop-append-le, drop-drop, drop_more, take_all}
+use Rattle.std.proofs.lemmas.List.Sums.{sum_by-cons}
 use Rattle.std.proofs.lemmas.List.Elements.{All-head, All-tail}
 use Rattle.md_book.specs.declared.commands.Part.{Part}
 use Rattle.md_book.specs.declared.commands.BookReply.{BookReply}
@@ -110,23 +110,29 @@ pub numbers_of-push : (ps : List Part) (p : Part) → numbers_of (ps ++ p ∷ []
 numbers_of-push [] p = refl
 numbers_of-push (q ∷ ps) p = ap (λ ns. q.name ∷ q.taken ∷ ns) (numbers_of-push ps p)
 
+-- the replies of two lists, one behind the other
+pub unpacked_all-append : (hs more : List PackedHead) (numbers added : List ℕ) → ArePacked hs numbers
+    → unpacked_all (hs ++ more) (numbers ++ added) ≡ unpacked_all hs numbers ++ unpacked_all more added
+unpacked_all-append [] more [] added packed = refl
+unpacked_all-append [] more (n ∷ ns) added packed = absurd (omega arith)
+unpacked_all-append (h ∷ hs) more numbers added packed =
+    let sum = sum_by-cons size_of h hs in
+    let inside : size_of h ≤ length numbers = omega arith in
+    let left = drop (size_of h) numbers in
+    let size = length-drop (size_of h) numbers in
+    let later : ArePacked hs left = omega arith in
+    ap (λ ns. unpacked h ns ∷ unpacked_all (hs ++ more) (drop (size_of h) (numbers ++ added))) (take-append-le (size_of h) numbers added inside)
+    ∙ ap (λ ns. unpacked h (take (size_of h) numbers) ∷ unpacked_all (hs ++ more) ns) (drop-append-le (size_of h) numbers added inside)
+    ∙ ap (λ rs. unpacked h (take (size_of h) numbers) ∷ rs) (unpacked_all-append hs more left added later)
+
 -- one reply more at the end
 all-push : (hs : List PackedHead) (numbers added : List ℕ) (h : PackedHead) (r : BookReply) → ArePacked hs numbers
     → length added ≡ size_of h → unpacked h added ≡ r
     → unpacked_all (hs ++ h ∷ []) (numbers ++ added) ≡ unpacked_all hs numbers ++ r ∷ []
-all-push [] [] added h r packed sized is =
+all-push hs numbers added h r packed sized is =
     let whole : take (size_of h) added ≡ added = take_all (size_of h) added (omega arith) in
-    ap (λ ns. unpacked h ns ∷ []) whole ∙ ap (λ x. x ∷ []) is
-all-push [] (n ∷ ns) added h r packed sized is = absurd (omega arith)
-all-push (x ∷ hs) numbers added h r packed sized is =
-    let sum = sum_by-cons size_of x hs in
-    let inside : size_of x ≤ length numbers = omega arith in
-    let left = drop (size_of x) numbers in
-    let size = length-drop (size_of x) numbers in
-    let later : ArePacked hs left = omega arith in
-    ap (λ ns. unpacked x ns ∷ unpacked_all (hs ++ h ∷ []) (drop (size_of x) (numbers ++ added))) (take-append-le (size_of x) numbers added inside)
-    ∙ ap (λ ns. unpacked x (take (size_of x) numbers) ∷ unpacked_all (hs ++ h ∷ []) ns) (drop-append-le (size_of x) numbers added inside)
-    ∙ ap (λ rs. unpacked x (take (size_of x) numbers) ∷ rs) (all-push hs left added h r later sized is)
+    unpacked_all-append hs (h ∷ []) numbers added packed
+    ∙ ap (λ ns. unpacked_all hs numbers ++ unpacked h ns ∷ []) whole ∙ ap (λ x. unpacked_all hs numbers ++ x ∷ []) is
 
 pub unpacked_all-push : (hs : List PackedHead) (numbers new : List ℕ) (h : PackedHead) (r : BookReply) → ArePacked hs numbers
     → IsPacked numbers new h r → unpacked_all (hs ++ h ∷ []) new ≡ unpacked_all hs numbers ++ r ∷ []

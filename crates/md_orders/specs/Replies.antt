@@ -28,6 +28,10 @@ abbrev pub with_replies : List (List (Option BookReply)) → ℕ → ℕ → Lis
 with_replies replies caller n [] = replies
 with_replies replies caller n (r ∷ rs) = with_replies (with_reply replies caller (n + 1) r) caller (n + 1) rs
 
+-- the replies of each caller's first lines, from a list of them for each caller
+abbrev pub listed : List (List BookReply) → List (List (Option BookReply))
+listed lists = map (λ list. map Some list) lists
+
 -- each reply suits the command of its line, of a caller's lines after its first n
 abbrev pub AllSuit : List (List Command) → ℕ → ℕ → List BookReply → Type 0
 AllSuit scripts caller n [] = Unit {0}

@@ -4,8 +4,9 @@ ghost use Rattle.std.specs.Prelude.{◌≡◌, ◌<◌, ◌+◌, ◌^◌, ◌++�
 ghost use Rattle.std.specs.Thread.{IsSync};
 ghost use Rattle.md_orders.specs.Report.{lines_text, callers_text_after, replies_text, whole_text};
 
-use crate::text::{callers_lines, lines, make_room};
-use crate::{Replies, Scripts};
+use crate::text::make_room;
+use crate::text::packed_lines::{callers_lines, lines};
+use crate::{RepliesByCaller, Scripts};
 use std::alloc::{AllocError, Global};
 use std::thread;
 use std::thread::Threads;
@@ -53,7 +54,7 @@ fn room_for(alloc: Global, of: &Scripts, before: u32, count: u32) -> Result<Vec<
 fn lines_in_ranges<R: Threads + Sync>(
     rt: &R,
     alloc: Global,
-    replies: &Replies,
+    replies: &RepliesByCaller,
     caller: u32,
     before: u32,
     count: u32,
@@ -61,7 +62,7 @@ fn lines_in_ranges<R: Threads + Sync>(
 ) -> Result<Vec<Vec<u8>>, AllocError>
     requires { before + count < 2 ^ 32 }
     ensures { IfOk result (λ parts. whole_text parts.items
-        ≡ lines_text replies.now.replies caller before count) }
+        ≡ lines_text replies.now caller before count) }
 {
     if ranges <= 1 || count < MANY_LINES {
         let mut out = Vec::new(alloc);
@@ -78,13 +79,13 @@ fn lines_in_ranges<R: Threads + Sync>(
             requires sync { IsSync R.row }
             requires few { before + low < 2 ^ 32 }
             ensures { IfOk result (λ parts. whole_text parts.items
-                ≡ lines_text replies.entry.now.replies caller before low) }
+                ≡ lines_text replies.entry.now caller before low) }
         { lines_in_ranges(rt, alloc, replies, caller, before, low, ranges / 2) },
         move || -> Result<Vec<Vec<u8>>, AllocError>
             requires sync { IsSync R.row }
             requires few { middle + high < 2 ^ 32 }
             ensures { IfOk result (λ parts. whole_text parts.items
-                ≡ lines_text replies.entry.now.replies caller middle high) }
+                ≡ lines_text replies.entry.now caller middle high) }
         { lines_in_ranges(rt, alloc, replies, caller, middle, high, ranges / 2) },
     );
     joined(earlier?, later?)
@@ -96,14 +97,14 @@ fn lines_of_callers<R: Threads + Sync>(
     rt: &R,
     alloc: Global,
     of: &Scripts,
-    replies: &Replies,
+    replies: &RepliesByCaller,
     before: u32,
     count: u32,
     threads: u32,
 ) -> Result<Vec<Vec<u8>>, AllocError>
     requires { before + count < 2 ^ 32 }
     ensures { IfOk result (λ parts. whole_text parts.items
-        ≡ callers_text_after of.now replies.now.replies before count) }
+        ≡ callers_text_after of.now replies.now before count) }
 {
     if count == 1 {
         let caller = before + 1;
@@ -123,13 +124,13 @@ fn lines_of_callers<R: Threads + Sync>(
             requires sync { IsSync R.row }
             requires few { before + low < 2 ^ 32 }
             ensures { IfOk result (λ parts. whole_text parts.items
-                ≡ callers_text_after of.entry.now replies.entry.now.replies before low) }
+                ≡ callers_text_after of.entry.now replies.entry.now before low) }
         { lines_of_callers(rt, alloc, of, replies, before, low, threads / 2) },
         move || -> Result<Vec<Vec<u8>>, AllocError>
             requires sync { IsSync R.row }
             requires few { middle + high < 2 ^ 32 }
             ensures { IfOk result (λ parts. whole_text parts.items
-                ≡ callers_text_after of.entry.now replies.entry.now.replies middle high) }
+                ≡ callers_text_after of.entry.now replies.entry.now middle high) }
         { lines_of_callers(rt, alloc, of, replies, middle, high, threads / 2) },
     );
     joined(first?, second?)
@@ -148,10 +149,10 @@ pub fn lines_in_threads<R: Threads + Sync>(
     rt: &R,
     alloc: Global,
     of: &Scripts,
-    replies: &Replies,
+    replies: &RepliesByCaller,
 ) -> Result<Vec<Vec<u8>>, AllocError>
     ensures { IfOk result (λ parts. whole_text parts.items
-        ≡ replies_text of.now replies.now.replies) }
+        ≡ replies_text of.now replies.now) }
 {
     lines_of_callers(rt, alloc, of, replies, 0, of.callers(), THREADS)
 }

@@ -130,7 +130,14 @@ where
     let replies = Replies::empty(alloc, scripts)?;
     let mut keeper = KeptReplies { replies };
     let Rounds { contents, fronts } = play_rounds(
-        rt, alloc, engine, pass, &lines, tries, gate, &mut keeper,
+        rt,
+        alloc,
+        engine,
+        pass,
+        &lines,
+        tries,
+        gate,
+        &mut keeper,
     )?;
     Ok(Outcome {
         replies: keeper.replies,

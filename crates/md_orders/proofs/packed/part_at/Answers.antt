@@ -1,4 +1,4 @@
-use Rattle.std.proofs.Common.{◌≡◌, ◌+◌, ◌*◌, ◌∙◌, drop, get_or, ap, sym, arith}
+use Rattle.std.proofs.Common.{◌+◌, ◌*◌, ◌∙◌, drop, get_or, ap, sym, arith}
 use Rattle.std.specs.Prelude.{min}
 use Rattle.md_book.specs.declared.limits.TheConstants.{MAX_PARTS}
 use Rattle.md_orders.specs.Packed.{part_of}

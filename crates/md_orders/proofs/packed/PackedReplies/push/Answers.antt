@@ -1,7 +1,7 @@
-use Rattle.std.proofs.Common.{◌≡◌, ◌∙◌, ◌++◌, ◌∷◌, [], List, ap, sym, subst}
+use Rattle.std.proofs.Common.{◌∙◌, ◌++◌, ◌∷◌, [], List, ap, subst}
 use Rattle.md_book.specs.declared.commands.BookReply.{BookReply}
 use Rattle.md_orders.specs.declared.packed.PackedHead.{PackedHead}
-use Rattle.md_orders.specs.Packed.{unpacked_all, ArePacked, IsPacked}
+use Rattle.md_orders.specs.Packed.{unpacked_all, IsPacked}
 use Rattle.md_orders.proofs.Unpacked.{unpacked_all-push}
 use Rattle.md_orders.proofs.packed.PackedReplies.push.Goals as goal
 
