@@ -1,22 +1,25 @@
 -- Replies of several callers, as they are kept in lists.
-use Rattle.std.proofs.Common.{◌≡◌, ◌≤◌, ◌<◌, ◌∙◌, ◌+◌, ◌++◌, ◌∷◌, ℕ, zero, suc, List, [], Option, Some, length, refl, sym, ap}
-use Rattle.std.specs.Prelude.{map, replicate, slice_get, option_and_then}
+use Rattle.std.proofs.Common.{◌≡◌, ◌≤◌, ◌<◌, ◌∙◌, ◌+◌, ◌++◌, ◌∷◌, ℕ, zero, suc, List, [], Option, Some, length, refl, sym, ap, subst, arith}
+use Rattle.std.specs.Prelude.{Bool, true, false, ◌==◌, map, replicate, slice_get, option_and_then}
+use Rattle.std.proofs.lemmas.Bool.{false≢true}
 use Rattle.md_book.specs.declared.commands.BookReply.{BookReply}
 use Rattle.md_many.specs.Laws.{AllSuit}
+use Rattle.md_orders.specs.Replies.{reply_at}
 use Rattle.md_orders.specs.Scripts.{list_of}
 use Rattle.md_rounds.specs.Kept.{HaveReplies}
 
 -- a list of replies that stand, at an index
 some-at : (rs : List BookReply) (i : ℕ) → i < length rs → option_and_then (λ r. r) (slice_get (map Some rs) i) ≡ slice_get rs i
-some-at [] i low = absurd low
+some-at [] i low = absurd (omega arith)
 some-at (r ∷ rs) zero low = refl
-some-at (r ∷ rs) (suc i) low = some-at rs i low
+some-at (r ∷ rs) (suc i) low = some-at rs i (omega arith)
 
 -- a caller's list has its replies
 pub listed-have : (replies : List (List (Option BookReply))) (caller : ℕ) (rs : List BookReply)
     → list_of replies caller ≡ map Some rs → HaveReplies replies caller rs
 listed-have replies caller rs is = λ i low.
-    ap (λ xs. option_and_then (λ r. r) (slice_get xs i)) is ∙ some-at rs i low
+    let next : i + 1 ≡ suc i = omega arith in
+    ap (reply_at replies caller) next ∙ ap (λ xs. option_and_then (λ r. r) (slice_get xs i)) is ∙ some-at rs i low
 
 -- at the beginning there are no replies
 pub none-listed : (count caller : ℕ) → list_of {A = Option BookReply} (replicate count []) caller ≡ []
@@ -25,7 +28,12 @@ none-listed zero (suc c) = refl
 none-listed (suc count) (suc zero) = refl
 none-listed (suc count) (suc (suc c)) = none-listed count (suc c)
 
--- what holds of each reply of a list that isn't empty holds
-pub one-suits : (P : Type 0) (n : ℕ) (rs : List BookReply) → 1 ≤ length rs → AllSuit (λ line r. P) n rs → P
-one-suits P n [] some all = absurd some
-one-suits P n (r ∷ rs) some all = all.0
+-- what holds of each reply of a list that isn't empty holds: the packed replies, and those of the last batch
+pub some-suits : (P : Type 0) (n : ℕ) (packed last told all : List BookReply) → all ≡ packed ++ told → told ≡ last
+    → (length all == 0) ≡ false → AllSuit (λ line r. P) n (packed ++ last) → P
+some-suits P n packed last told all is same some suit =
+    one (packed ++ last) (subst (λ rs. (length rs == 0) ≡ false) (is ∙ ap (λ rs. packed ++ rs) same) some) suit
+  where
+    one : (rs : List BookReply) → (length rs == 0) ≡ false → AllSuit (λ line r. P) n rs → P
+    one [] some suit = absurd (false≢true (sym some))
+    one (r ∷ rs) some suit = suit.0

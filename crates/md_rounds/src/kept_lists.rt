@@ -44,6 +44,7 @@ impl Keeper<BookReply> for KeptLists {
         if packed.is_empty() {
             return Ok(());
         }
-        self.replies.add(caller, packed)
+        self.replies.add(caller, packed)?;
+        Ok(())
     }
 }

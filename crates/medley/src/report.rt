@@ -5,12 +5,14 @@ ghost use Rattle.std.specs.Thread.{IsSync};
 ghost use Rattle.md_book.specs.Book.{Book};
 ghost use Rattle.md_book.specs.Stands.{StandsFor};
 ghost use Rattle.md_orders.specs.Report.{replies_text, report_text, whole_text};
-ghost use Rattle.md_many.specs.Closed.{ClosesTo, IsClosed};
+ghost use Rattle.md_many.specs.Closed.{ClosesTo};
+ghost use Rattle.md_play.specs.Closing.{IsClosedForReport};
 ghost use Rattle.md_rounds.specs.Replay.{IsPlayed};
 ghost use Rattle.md_store.specs.Store.{IsPassOf, all_lanes, front_in, start_of};
 
 use md_history::Front;
 use md_orders::{Scripts, after_lines, lines_in_threads};
+use md_play::close_for_report;
 use md_rounds::{OpenOutcome, Rounds};
 use md_store::{Store, StorePass};
 use std::alloc::{AllocError, Global};
@@ -33,10 +35,10 @@ pub fn with_last(mut parts: Vec<Vec<u8>>, last: Vec<u8>) -> Result<Vec<Vec<u8>>,
 }
 
 /// Closes the store on which scripts were played, and builds the report meanwhile: the lines need
-/// the replies alone. What follows them, the book, needs the contents of the store.
+/// the replies alone. What follows them, the book, needs the sums in the store.
 ///
 /// Five threads work side by side: four write lines (`lines_in_threads` of md_orders), and one reads
-/// the contents off (`OpenRounds::close`). `AllocError` if memory runs out.
+/// the sums off (`close_for_report` of md_play). `AllocError` if memory runs out.
 pub fn tell_and_close<R: Threads + Sync>(
     rt: &R,
     alloc: Global,
@@ -66,10 +68,10 @@ pub fn tell_and_close<R: Threads + Sync>(
         move || -> Result<Rounds<StorePass>, AllocError>
             requires of { IsPassOf rounds.engine rounds.pass }
             requires all { (front_in rounds.pass).lanes ≡ all_lanes rounds.engine.origin.shape }
-            ensures { IfOk result (λ r. IsClosed (start_of rounds.engine)
+            ensures { IfOk result (λ r. IsClosedForReport (start_of rounds.engine)
                 (map front_in rounds.fronts.items) (front_in rounds.pass)
                 (map front_in r.fronts.items) r.contents) }
-        { rounds.close() },
+        { close_for_report(rounds) },
     );
     let lines = lines?;
     let Rounds { contents, fronts } = closed?;

@@ -5,4 +5,4 @@ pub returns-clause-played : goal.returns-clause-played
 returns-clause-played g c =
     let laws = c.order_laws.ensures in
     all-played c.args.scripts.now laws.named laws.few laws.meets laws.none c.play_rounds.new.keeper.replies.replies _
-    (λ caller rs kept. kept.each) _ _ c.in_ok-rounds.ensures.each_line_once c.in_ok-rounds.ensures.interleaving
+    (λ caller rs kept. kept.each) _ _ c.in_ok-contents.ensures.each_line_once c.in_ok-contents.ensures.interleaving

@@ -1,5 +1,4 @@
-use Rattle.md_rounds.proofs.Holding.{suited-caller}
-use Rattle.md_rounds.proofs.Listing.{listed-have, none-listed}
+use Rattle.md_rounds.proofs.Listing.{listed-have}
 use Rattle.md_rounds.proofs.Walking.{all-played}
 use Rattle.md_rounds.proofs.all.run_all_open.Goals as goal
 
