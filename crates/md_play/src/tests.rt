@@ -11,6 +11,8 @@ use std::alloc::{AllocError, Global};
 use std::test::Fail;
 use std::thread::Threads;
 
+mod closing;
+
 // The scripts of two callers.
 fn scripts_of(alloc: Global, text: &[u8]) -> Result<Scripts, Fail>
     ensures { IfOk result (λ scripts. length scripts ≡ 2) }

@@ -1,9 +1,10 @@
-//! The end of a field of a store: what it contains, as contents or as a new field.
+//! The end of a field of a store: what it contains, whole or in part, as contents or as a new field.
 
 ghost use Rattle.std.specs.Prelude.{◌≡◌, IfOk};
 ghost use Rattle.md_history.specs.Engine.{HasRoom, SettlesFrom};
 ghost use Rattle.md_history.specs.Front.{replay_of};
 ghost use Rattle.md_history.specs.State.{HaveSameNumbers};
+ghost use Rattle.md_store_law.specs.MapsFrom.{MapsFrom};
 ghost use Rattle.md_store.specs.Ending.{Leaves, Renews};
 ghost use Rattle.md_store.specs.Store.{IsPassOf, all_lanes, front_in, room_of, start_of};
 
@@ -11,7 +12,9 @@ use crate::pass::StorePass;
 use crate::settling::settle;
 use md_history::{Contents, Front};
 use md_rule::{Ended, Field};
-use md_store_law::{FieldWords, StoreTheory, gather, lay_living, read_off_from};
+use md_store_law::{
+    FieldWords, StoreTheory, gather, lay_living, read_off_from, read_off_maps_from,
+};
 use std::alloc::{AllocError, Global};
 
 // The words of a field that has ended, which are read where they stand.
@@ -60,6 +63,27 @@ pub(crate) fn contents(
     let shape = *field.shape();
     let (words, front) = ended(field, pass);
     let contents = read_off_from(alloc, &shape, &words)?;
+    Ok((contents, front))
+}
+
+// Ends the field, and gives its maps from a number on.
+pub(crate) fn maps_from(
+    field: Field<StoreTheory>,
+    alloc: Global,
+    pass: StorePass,
+    first: u32,
+) -> Result<(Contents, Front<StorePass>), AllocError>
+    requires of { IsPassOf field pass }
+    requires all { (front_in pass).lanes ≡ all_lanes field.origin.shape }
+    ensures settled { IfOk result (λ r.
+        SettlesFrom (start_of field) (front_in pass) (front_in r.1)) }
+    ensures maps { IfOk result (λ r.
+        MapsFrom first r.0 (replay_of (start_of field) (front_in r.1))) }
+    ensures numbers { IfOk result (λ r. HaveSameNumbers r.0 (start_of field)) }
+{
+    let shape = *field.shape();
+    let (words, front) = ended(field, pass);
+    let contents = read_off_maps_from(alloc, &shape, &words, first)?;
     Ok((contents, front))
 }
 

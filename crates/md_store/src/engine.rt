@@ -6,6 +6,7 @@ ghost use Rattle.md_history.specs.Engine.{HasRoom, Joins, SettlesFrom, Splits};
 ghost use Rattle.md_history.specs.Front.{replay_of};
 ghost use Rattle.md_history.specs.State.{HaveSameNumbers};
 ghost use Rattle.md_rule.specs.Closing.{MayClose};
+ghost use Rattle.md_store_law.specs.MapsFrom.{MapsFrom};
 ghost use Rattle.md_store_law.specs.Store.{store};
 ghost use Rattle.md_store.specs.Ending.{Renews};
 ghost use Rattle.md_store.specs.Store.{IsPassOf, all_lanes, begun_by, front_in, room_of, start_of};
@@ -17,8 +18,8 @@ use md_history::{Contents, Front};
 use std::alloc::AllocError;
 
 impl Store {
-    /// Whether a pass of the store holds all of its lanes, as `settle`, `close` and `renew` require.
-    /// Takes time linear in the lanes. It makes no step.
+    /// Whether a pass of the store holds all of its lanes, as `settle`, `close`, `close_maps` and
+    /// `renew` require. Takes time linear in the lanes. It makes no step.
     pub fn holds_all(&self, pass: &StorePass) -> bool
         requires { IsPassOf self.now pass.now }
         ensures { IsTrue result ↔ ((front_in pass.now).lanes ≡ all_lanes self.now.origin.shape) }
@@ -88,6 +89,33 @@ impl Store {
     {
         let Store { field, alloc } = self;
         ending::contents(field, alloc, pass)
+    }
+
+    /// Settles the store and ends it, as `close` does, and returns only some of its maps: those with
+    /// the number `first` and the numbers after it. The other maps and all queues are empty in the
+    /// contents that are returned, and there are as many maps and queues as in the store (`MapsFrom`).
+    /// `first` is any number; from the number of maps on, every map is empty. Returns the front of
+    /// the last pass with every fate decided, too. The pass holds all lanes. `AllocError` if memory
+    /// runs out; then the store has ended, and its contents are lost.
+    ///
+    /// The steps of a settling, then time linear in the buckets and the nodes of these maps and in
+    /// the numbers of maps and queues, but for one sort of each map's pairs. It walks no queue and no
+    /// other map.
+    pub fn close_maps(
+        self,
+        pass: StorePass,
+        first: u32,
+    ) -> Result<(Contents, Front<StorePass>), AllocError>
+        requires of { IsPassOf self pass }
+        requires all { (front_in pass).lanes ≡ all_lanes self.origin.shape }
+        ensures settled { IfOk result (λ r.
+            SettlesFrom (start_of self) (front_in pass) (front_in r.1)) }
+        ensures maps { IfOk result (λ r.
+            MapsFrom first r.0 (replay_of (start_of self) (front_in r.1))) }
+        ensures numbers { IfOk result (λ r. HaveSameNumbers r.0 (start_of self)) }
+    {
+        let Store { field, alloc } = self;
+        ending::maps_from(field, alloc, pass, first)
     }
 
     /// Settles the store, ends it, and opens one on its contents, with all nodes and attempts

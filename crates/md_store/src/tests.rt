@@ -51,6 +51,17 @@ fn renewed(store: Store, pass: StorePass) -> Result<(Store, StorePass), AllocErr
     Ok((again, first))
 }
 
+// Closes a store and reads off its maps from a number on, if the pass holds all lanes.
+fn with_maps_from(store: Store, pass: StorePass, first: u32) -> Result<Option<Contents>, AllocError>
+    requires { IsPassOf store pass }
+{
+    if store.holds_all(&pass) {
+        let (contents, _) = store.close_maps(pass, first)?;
+        return Ok(Some(contents));
+    }
+    Ok(None)
+}
+
 // Settles a store and closes it, if the pass holds all lanes.
 fn closed(store: Store, mut pass: StorePass) -> Result<Option<Contents>, AllocError>
     requires { IsPassOf store pass }
@@ -82,6 +93,19 @@ fn contents_come_back(rt: HostRuntime) -> Result<(), Fail> {
     let back = closed(store, pass)?.expect(&rt, "all lanes");
     assert_eq!(rt; back.maps(), start.maps());
     assert_eq!(rt; back.queues(), start.queues());
+    Ok(())
+}
+
+#[test]
+fn only_the_maps_from_a_number_on_come_back(rt: HostRuntime) -> Result<(), Fail> {
+    let start = pairs_and_values(rt.alloc())?;
+    let shape = Shape::new(4, 2, 7, 3, 2, 4, 2)?;
+    let (store, pass) = opened(rt.alloc(), shape, &start)?;
+    let back = with_maps_from(store, pass, 1)?.expect(&rt, "all lanes");
+    let mut expected = Contents::empty(rt.alloc(), 2, 2)?;
+    expected.put(1, 7, 8)?;
+    assert_eq!(rt; back.maps(), expected.maps());
+    assert_eq!(rt; back.queues(), expected.queues());
     Ok(())
 }
 
