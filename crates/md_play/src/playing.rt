@@ -114,8 +114,8 @@ pub fn open_store(
 /// are committed, each once, with the replies of the book, whatever the threads do. `run_all_open` of
 /// md_rounds says more.
 ///
-/// The store is still open then. `OpenRounds::close` of md_many closes it: its contents stand for
-/// the book, whose replies can be told meanwhile.
+/// The store is still open then, and its replies can be told while it is closed: by
+/// `OpenRounds::close` of md_many, whose contents stand for the book, or by `close_for_report`.
 ///
 /// `AllocError` if memory runs out.
 pub fn play_opened<R, G>(
