@@ -9,6 +9,7 @@ pub mod Unpacked
 pub mod Ones
 pub mod Placed
 pub mod Listed
+pub mod PackedLines
 pub mod Numbered
 pub mod Noted
 pub mod Made

@@ -112,16 +112,22 @@ parts_in-at count place room told few =
     ∙ ap part_in (get_or-take (min count MAX_PARTS) (drop 1 room) place 0 (omega arith) ∙ get_or-drop 1 room place 0 ∙ ap (λ k. get_or room k 0) shift)
 
 -- the parts that are told from a place on
+pub parts-next : (ps : List Part) (count told after : ℕ) (p : Part) → length ps ≡ MAX_PARTS → told ≡ min count MAX_PARTS → after < told
+    → p ≡ get_or ps (told - (after + 1)) no_part
+    → drop (told - (after + 1)) (take count ps) ≡ p ∷ drop (told - after) (take count ps)
+parts-next ps count told after p size least more is =
+    let place = told - (after + 1) in
+    let short = length-take count ps in
+    let next : place + 1 ≡ told - after = omega arith in
+    drop_more (take count ps) place no_part (omega arith)
+    ∙ ap (λ q. q ∷ drop (place + 1) (take count ps)) (get_or-take count ps place no_part (omega arith) ∙ sym is)
+    ∙ ap (λ k. p ∷ drop k (take count ps)) next
+
+-- and those of a room
 pub told-next : (count told after : ℕ) (room : List ℕ) (p : Part) → told ≡ min count MAX_PARTS → after < told → p ≡ part_in (get_or room (told - after) 0)
     → drop (told - (after + 1)) (take count (parts_in count room)) ≡ p ∷ drop (told - after) (take count (parts_in count room))
 told-next count told after room p least more is =
-    let ps = take count (parts_in count room) in
     let place = told - (after + 1) in
-    let size = length-parts_in count room in
-    let short = length-take count (parts_in count room) in
     let next : place + 1 ≡ told - after = omega arith in
-    let inside : place < length ps = omega arith in
-    let here : get_or ps place no_part ≡ p =
-    get_or-take count (parts_in count room) place no_part (omega arith) ∙ parts_in-at count place room (omega arith) (omega arith)
-    ∙ ap (λ k. part_in (get_or room k 0)) next ∙ sym is in
-    drop_more ps place no_part inside ∙ ap (λ q. q ∷ drop (place + 1) ps) here ∙ ap (λ k. p ∷ drop k ps) next
+    parts-next (parts_in count room) count told after p (length-parts_in count room) least more
+    (is ∙ ap (λ k. part_in (get_or room k 0)) (sym next) ∙ sym (parts_in-at count place room (omega arith) (omega arith)))

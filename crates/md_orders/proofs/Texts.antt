@@ -1,5 +1,5 @@
 -- Texts one after another.
-use Rattle.std.proofs.Common.{◌≡◌, ◌+◌, ◌∙◌, ◌++◌, ℕ, zero, suc, List, Option, Some, None, arith, cond, refl, sym, ap, append_assoc, add-one, inl, inr}
+use Rattle.std.proofs.Common.{◌≡◌, ◌<◌, ◌≤◌, ◌+◌, ◌-◌, ◌∙◌, ◌++◌, ℕ, zero, suc, List, [], Option, Some, None, arith, cond, refl, sym, ap, append_assoc, add-one, inl, inr}
 use Rattle.std.specs.Prelude.{◌==◌, unwrap_or}
 use Rattle.std.proofs.lemmas.Bool.{cases_Bool, eqb-true}
 use Rattle.std.proofs.lemmas.List.{append-nil}
@@ -97,3 +97,19 @@ texts_after-one text before count mine one is = is ∙ sym (ap (λ n. texts_afte
 -- the texts after none are all
 pub texts_after-none : (n : ℕ) (text : ℕ → List ℕ) → texts_after 0 n text ≡ texts_to n text
 texts_after-none n text = texts_to-same n _ _ (λ k. let same : 0 + k ≡ k = omega arith in ap text same)
+
+-- texts that are empty one by one are empty
+texts_to-empty : (n : ℕ) (text : ℕ → List ℕ) → ((k : ℕ) → k < n → text (suc k) ≡ []) → texts_to n text ≡ []
+unfolding texts_to
+texts_to-empty zero text empty = refl
+texts_to-empty (suc n) text empty =
+    ap (λ t. t ++ text (suc n)) (texts_to-empty n text (λ k less. empty k (omega arith))) ∙ empty n (omega arith)
+
+-- where the later texts are empty, the first are all
+pub texts_after-told : (text : ℕ → List ℕ) (before told count : ℕ) → told ≤ count → ((k : ℕ) → k < count - told → text (before + (told + suc k)) ≡ [])
+    → texts_after before count text ≡ texts_after before told text
+texts_after-told text before told count few empty =
+    let all : count ≡ told + (count - told) = omega arith in
+    ap (λ n. texts_after before n text) all ∙ texts_to-append told (count - told) (λ n. text (before + n))
+    ∙ ap (λ t. texts_after before told text ++ t) (texts_to-empty (count - told) (λ n. text (before + (told + n))) empty)
+    ∙ append-nil (texts_after before told text)

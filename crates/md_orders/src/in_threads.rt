@@ -4,8 +4,9 @@ ghost use Rattle.std.specs.Prelude.{◌≡◌, ◌<◌, ◌+◌, ◌^◌, ◌++�
 ghost use Rattle.std.specs.Thread.{IsSync};
 ghost use Rattle.md_orders.specs.Report.{lines_text, callers_text_after, replies_text, whole_text};
 
-use crate::text::{callers_lines, lines, make_room};
-use crate::{Replies, Scripts};
+use crate::text::make_room;
+use crate::text::packed_lines::{callers_lines, lines};
+use crate::{RepliesByCaller, Scripts};
 use std::alloc::{AllocError, Global};
 use std::thread;
 use std::thread::Threads;
@@ -53,7 +54,7 @@ fn room_for(alloc: Global, of: &Scripts, before: u32, count: u32) -> Result<Vec<
 fn lines_in_ranges<R: Threads + Sync>(
     rt: &R,
     alloc: Global,
-    replies: &Replies,
+    replies: &RepliesByCaller,
     caller: u32,
     before: u32,
     count: u32,
@@ -61,7 +62,7 @@ fn lines_in_ranges<R: Threads + Sync>(
 ) -> Result<Vec<Vec<u8>>, AllocError>
     requires { before + count < 2 ^ 32 }
     ensures { IfOk result (λ parts. whole_text parts.items
-        ≡ lines_text replies.now.replies caller before count) }
+        ≡ lines_text replies.now caller before count) }
 {
     if ranges <= 1 || count < MANY_LINES {
         let mut out = Vec::new(alloc);
@@ -78,13 +79,13 @@ fn lines_in_ranges<R: Threads + Sync>(
             requires sync { IsSync R.row }
             requires few { before + low < 2 ^ 32 }
             ensures { IfOk result (λ parts. whole_text parts.items
-                ≡ lines_text replies.entry.now.replies caller before low) }
+                ≡ lines_text replies.entry.now caller before low) }
         { lines_in_ranges(rt, alloc, replies, caller, before, low, ranges / 2) },
         move || -> Result<Vec<Vec<u8>>, AllocError>
             requires sync { IsSync R.row }
             requires few { middle + high < 2 ^ 32 }
             ensures { IfOk result (λ parts. whole_text parts.items
-                ≡ lines_text replies.entry.now.replies caller middle high) }
+                ≡ lines_text replies.entry.now caller middle high) }
         { lines_in_ranges(rt, alloc, replies, caller, middle, high, ranges / 2) },
     );
     joined(earlier?, later?)
@@ -96,14 +97,14 @@ fn lines_of_callers<R: Threads + Sync>(
     rt: &R,
     alloc: Global,
     of: &Scripts,
-    replies: &Replies,
+    replies: &RepliesByCaller,
     before: u32,
     count: u32,
     threads: u32,
 ) -> Result<Vec<Vec<u8>>, AllocError>
     requires { before + count < 2 ^ 32 }
     ensures { IfOk result (λ parts. whole_text parts.items
-        ≡ callers_text_after of.now replies.now.replies before count) }
+        ≡ callers_text_after of.now replies.now before count) }
 {
     if count == 1 {
         let caller = before + 1;
@@ -123,35 +124,37 @@ fn lines_of_callers<R: Threads + Sync>(
             requires sync { IsSync R.row }
             requires few { before + low < 2 ^ 32 }
             ensures { IfOk result (λ parts. whole_text parts.items
-                ≡ callers_text_after of.entry.now replies.entry.now.replies before low) }
+                ≡ callers_text_after of.entry.now replies.entry.now before low) }
         { lines_of_callers(rt, alloc, of, replies, before, low, threads / 2) },
         move || -> Result<Vec<Vec<u8>>, AllocError>
             requires sync { IsSync R.row }
             requires few { middle + high < 2 ^ 32 }
             ensures { IfOk result (λ parts. whole_text parts.items
-                ≡ callers_text_after of.entry.now replies.entry.now.replies middle high) }
+                ≡ callers_text_after of.entry.now replies.entry.now middle high) }
         { lines_of_callers(rt, alloc, of, replies, middle, high, threads / 2) },
     );
     joined(first?, second?)
 }
 
-/// The lines of all callers in the report that `report` returns, as a text in parts: the parts are
-/// the text one after another. At most four threads write them side by side, one part each. The
-/// text that follows the lines is that of `after_lines`.
+/// The lines of all callers in a report, as a text in parts: the parts are the text one after
+/// another. A line without a reply has no text. If `Replies` have the same replies, `report`
+/// writes the same lines first. The text that follows them is that of `after_lines`. At most four
+/// threads write the lines side by side, one part each.
 ///
 /// The call takes the callers by halves twice, in `thread::join`. A single caller's lines it takes
 /// by halves instead. It so takes at most 3 calls of `thread::join`. Fewer than 4,096 lines of a
-/// caller are written in one thread. No text is copied to another: the lists of parts are joined.
+/// caller are written in one thread. A range of a caller's lines passes over the replies before it
+/// once. No text is copied to another: the lists of parts are joined.
 ///
 /// `AllocError` if memory runs out. Each thread takes room for 24 bytes a line at once.
 pub fn lines_in_threads<R: Threads + Sync>(
     rt: &R,
     alloc: Global,
     of: &Scripts,
-    replies: &Replies,
+    replies: &RepliesByCaller,
 ) -> Result<Vec<Vec<u8>>, AllocError>
     ensures { IfOk result (λ parts. whole_text parts.items
-        ≡ replies_text of.now replies.now.replies) }
+        ≡ replies_text of.now replies.now) }
 {
     lines_of_callers(rt, alloc, of, replies, 0, of.callers(), THREADS)
 }

@@ -20,8 +20,8 @@ use std::marker::Model;
 #[cfg(test)]
 mod tests;
 
-// The factor between the quantities that were taken and that remain, in a number.
-const QUANTITIES: u64 = 0x1_0000_0000;
+/// The factor between the quantities that were taken and that remain, in a number.
+pub(crate) const QUANTITIES: u64 = 0x1_0000_0000;
 
 // The most numbers that a reply needs: one, and two for each part.
 const MAX_NUMBERS: usize = 2 * MAX_PARTS + 1;
@@ -64,8 +64,8 @@ impl Model for PackedReplies {
     ghost invariant = { λ r. ArePacked r.heads.items r.numbers.items };
 }
 
-// How many numbers stand behind a head.
-fn size_of(head: PackedHead) -> usize
+/// How many numbers stand behind a head.
+pub(crate) fn size_of(head: PackedHead) -> usize
     ensures { result ≡ size_of head }
 {
     match head {
@@ -144,8 +144,8 @@ fn pack(numbers: &mut Vec<u64>, reply: &BookReply) -> PackedHead
     }
 }
 
-// The part at a place of a fill that keeps so many, whose numbers stand after its first number.
-fn part_at(kept: u8, numbers: &[u64], place: usize) -> Part
+/// The part at a place of a fill that keeps so many, whose numbers stand after its first number.
+pub(crate) fn part_at(kept: u8, numbers: &[u64], place: usize) -> Part
     ensures { result ≡ slice_index_or
         (padded (parts_of (min kept MAX_PARTS) (drop 1 numbers.now))) place no_part }
 {
@@ -284,6 +284,14 @@ impl PackedReplies {
         self.numbers.extend_from_slice(&more.numbers)?;
         self.heads.extend_from_slice(&more.heads)?;
         Ok(())
+    }
+
+    /// The heads of the replies, and their numbers, which stand one after another.
+    pub(crate) fn told(&self) -> (&[PackedHead], &[u64])
+        ensures packed { ArePacked result.0.now result.1.now }
+        ensures replies { unpacked_all result.0.now result.1.now ≡ self.now }
+    {
+        (&self.heads, &self.numbers)
     }
 
     /// Sets the replies of a caller's lines after its first `done`, as `Replies::set_packed`.

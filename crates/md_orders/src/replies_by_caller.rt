@@ -1,9 +1,10 @@
 //! The replies of each caller's first lines, packed.
 
 ghost use Rattle.std.specs.Prelude.{◌≡◌, ◌≤◌, ◌++◌, [], Some, map, length, replicate, IfOk, OnOk, OnErr};
+ghost use Rattle.md_orders.specs.Packed.{unpacked_all, ArePacked};
 ghost use Rattle.md_orders.specs.Scripts.{list_of, with_list};
 
-use crate::packed::PackedReplies;
+use crate::packed::{PackedHead, PackedReplies};
 use std::alloc::{AllocError, Global};
 use std::marker::Model;
 
@@ -75,5 +76,18 @@ impl RepliesByCaller {
         ensures err { OnErr result (self.new ≡ self.old) }
     {
         append_to(&mut self.callers, caller, replies)
+    }
+
+    /// The heads of a caller's replies, and their numbers, which stand one after another. There are
+    /// none if there is no such caller.
+    pub(crate) fn list(&self, caller: u32) -> (&[PackedHead], &[u64])
+        ensures packed { ArePacked result.0.now result.1.now }
+        ensures replies { list_of self.now caller
+            ≡ map Some (unpacked_all result.0.now result.1.now) }
+    {
+        if caller == 0 || caller as usize > self.callers.len() {
+            return (&[], &[]);
+        }
+        self.callers[caller as usize - 1].told()
     }
 }

@@ -1,15 +1,16 @@
 //! The texts of a report and of a summary, to their last byte.
 
 mod line_buffer;
+pub(crate) mod packed_lines;
 
-ghost use Rattle.std.specs.Prelude.{◌≡◌, ◌++◌, ◌≤◌, ◌<◌, ◌+◌, ◌/◌, ◌%◌, ◌^◌, List, Option, length, take, slice_index_or, flat_map, OnOk, IfOk, IfSome};
+ghost use Rattle.std.specs.Prelude.{◌≡◌, ◌++◌, ◌≤◌, ◌<◌, ◌+◌, ◌/◌, ◌%◌, ◌*◌, ◌^◌, List, Option, length, take, slice_index_or, flat_map, codes, decimal, OnOk, IfOk, IfSome};
 ghost use Rattle.md_book.specs.Book.{Book};
 ghost use Rattle.md_book.specs.Stands.{StandsFor};
 ghost use Rattle.md_book.specs.declared.commands.BookReply.{BookReply};
 ghost use Rattle.md_book.specs.declared.limits.TheConstants.{MAX_PARTS};
 ghost use Rattle.md_orders.specs.Rooms.{parts_in, reply_in};
 ghost use Rattle.md_orders.specs.declared.text.TheConstants.{NAME, PART, PARTS, REPLY};
-ghost use Rattle.md_orders.specs.declared.text.line_buffer.TheConstants.{SIZE};
+ghost use Rattle.md_orders.specs.declared.text.line_buffer.TheConstants.{SIZE, DIGITS};
 ghost use Rattle.md_orders.specs.Summary.{summary_text, summary_text_of};
 ghost use Rattle.md_orders.specs.Report.{name_text, part_text, filled_text, reply_text, answer_text, lines_text, callers_text_after, level_text, account_text, done_text, report_text, levels_text_of, accounts_text_of, after_replies_text_of, replies_text, report_text_of};
 ghost use Rattle.md_orders.specs.Scripts.{count_of};
@@ -55,6 +56,17 @@ fn labelled<I: Integer>(out: &mut Vec<u8>, label: &[u8], n: I) -> Result<(), All
     number(out, n)
 }
 
+// Words, and a number behind them.
+#[inline(always)]
+fn number_behind(line: &mut LineBuffer, words: &[u8], n: u64)
+    requires { length words.now + DIGITS + length line.old ≤ SIZE }
+    ensures text { line.new ≡ words.now ++ decimal n ++ line.old }
+    ensures short { length line.new ≤ length words.now + DIGITS + length line.old }
+{
+    line.number(n);
+    line.bytes(words);
+}
+
 // CALLER:LINE of an order's name.
 #[inline(always)]
 fn name(line: &mut LineBuffer, name: u64)
@@ -92,6 +104,29 @@ fn parts(line: &mut LineBuffer, count: u8, room: &[u64])
     }
 }
 
+// What a fill took and what remains of it, and that parts follow.
+fn taken_and_rest(line: &mut LineBuffer, taken: u64, rest: u64)
+    requires { 2 * DIGITS + 18 + length line.old ≤ SIZE }
+    ensures text { line.new ≡ codes "filled " ++ decimal taken
+        ++ codes " rest " ++ decimal rest ++ codes " from" ++ line.old }
+    ensures short { length line.new ≤ 2 * DIGITS + 18 + length line.old }
+{
+    line.bytes(b" from");
+    number_behind(line, b" rest ", rest);
+    number_behind(line, b"filled ", taken);
+}
+
+// What an account bought and sold.
+fn bought_and_sold(line: &mut LineBuffer, bought: u64, sold: u64)
+    requires { 2 * DIGITS + 13 + length line.old ≤ SIZE }
+    ensures text { line.new ≡ codes "bought " ++ decimal bought
+        ++ codes " sold " ++ decimal sold ++ line.old }
+    ensures short { length line.new ≤ 2 * DIGITS + 13 + length line.old }
+{
+    number_behind(line, b" sold ", sold);
+    number_behind(line, b"bought ", bought);
+}
+
 // What a fill took and what remains of it, which the first number of a room has, and its parts.
 fn filled(line: &mut LineBuffer, count: u8, room: &[u64])
     requires { REPLY + length line.old ≤ SIZE }
@@ -104,16 +139,11 @@ fn filled(line: &mut LineBuffer, count: u8, room: &[u64])
     let taken = first / 0x1_0000_0000;
     let rest = first % 0x1_0000_0000;
     if taken == 0 {
-        line.number(rest);
-        line.bytes(b"filled 0 rest ");
+        number_behind(line, b"filled 0 rest ", rest);
         return;
     }
     parts(line, count, room);
-    line.bytes(b" from");
-    line.number(rest);
-    line.bytes(b" rest ");
-    line.number(taken);
-    line.bytes(b"filled ");
+    taken_and_rest(line, taken, rest);
 }
 
 // The reply that a head and a room are, if there is one.
@@ -125,24 +155,25 @@ fn reply(line: &mut LineBuffer, head: Head, room: &[u64])
     match head {
         Head::Unset => (),
         Head::Placed => line.bytes(b"placed"),
-        Head::Cancelled(left) => {
-            line.number(u64::from(left));
-            line.bytes(b"cancelled ");
-        }
+        Head::Cancelled(left) => number_behind(line, b"cancelled ", u64::from(left)),
         Head::Gone => line.bytes(b"gone"),
         Head::Killed => line.bytes(b"killed"),
         Head::Filled(count) => filled(line, count, room),
-        Head::Depth => {
-            line.number(number_at(room, 0));
-            line.bytes(b"depth ");
-        }
-        Head::Account => {
-            line.number(number_at(room, 1));
-            line.bytes(b" sold ");
-            line.number(number_at(room, 0));
-            line.bytes(b"bought ");
-        }
+        Head::Depth => number_behind(line, b"depth ", number_at(room, 0)),
+        Head::Account => bought_and_sold(line, number_at(room, 0), number_at(room, 1)),
     }
+}
+
+// CALLER:LINE and a space, before the reply of that line.
+fn named(text: &mut LineBuffer, caller: u32, line: u32)
+    requires { 2 * DIGITS + 2 + length text.old ≤ SIZE }
+    ensures { text.new
+        ≡ decimal caller ++ codes ":" ++ decimal line ++ codes " " ++ text.old }
+{
+    text.byte(b' ');
+    text.number(u64::from(line));
+    text.byte(b':');
+    text.number(u64::from(caller));
 }
 
 // CALLER:LINE REPLY, if there is a reply, in a buffer of its own.
@@ -155,10 +186,7 @@ fn answer(text: &mut LineBuffer, caller: u32, line: u32, head: Head, room: &[u64
     }
     text.byte(b'\n');
     reply(text, head, room);
-    text.byte(b' ');
-    text.number(u64::from(line));
-    text.byte(b':');
-    text.number(u64::from(caller));
+    named(text, caller, line);
 }
 
 /// Makes room for so many lines, if they are no longer than is likely.

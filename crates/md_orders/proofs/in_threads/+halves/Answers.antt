@@ -9,8 +9,8 @@ pub returns-then-count-eq1 : goal.returns-then-count-eq1
 returns-then-count-eq1 g t c =
     let caller = c.args.before + 1 in
     IfOk-weaker c.lines_in_ranges.result _ _
-    (λ parts is. texts_after-one (λ caller. script_text c.args.replies.now.replies caller (length (list_of c.args.of.now caller))) c.args.before c.args.count _ c.if-count-eq1.true
-    (is ∙ ap (λ n. lines_text c.args.replies.now.replies caller 0 n) c.len.ensures.count ∙ texts_after-none _ _))
+    (λ parts is. texts_after-one (λ caller. script_text c.args.replies.now caller (length (list_of c.args.of.now caller))) c.args.before c.args.count _ c.if-count-eq1.true
+    (is ∙ ap (λ n. lines_text c.args.replies.now caller 0 n) c.len.ensures.count ∙ texts_after-none _ _))
     c.lines_in_ranges.ensures
 
 pub returns : goal.returns
@@ -20,6 +20,6 @@ returns g t c =
     let high = c.args.count / 2 in
     let low = c.args.count - high in
     IfOk-weaker c.joined.result _ _
-    (λ parts is. texts_after-halves (λ caller. script_text c.args.replies.now.replies caller (length (list_of c.args.of.now caller)))
+    (λ parts is. texts_after-halves (λ caller. script_text c.args.replies.now caller (length (list_of c.args.of.now caller)))
     c.args.before low high (c.args.before + low) c.args.count _ _ _ refl (omega arith) first second is)
     c.joined.ensures

@@ -12,6 +12,6 @@ returns g t c =
     let high = c.args.count / 2 in
     let low = c.args.count - high in
     IfOk-weaker c.joined.result _ _
-    (λ parts is. texts_after-halves (λ line. answer_text c.args.caller line (reply_at c.args.replies.now.replies c.args.caller line))
+    (λ parts is. texts_after-halves (λ line. answer_text c.args.caller line (reply_at c.args.replies.now c.args.caller line))
     c.args.before low high (c.args.before + low) c.args.count _ _ _ refl (omega arith) earlier later is)
     c.joined.ensures
