@@ -1,7 +1,7 @@
 -- The rooms of each caller, and the replies that suit their lines.
 use Rattle.std.proofs.Common.{◌≡◌, ◌<◌, ◌≤◌, ◌+◌, ◌-◌, ◌∙◌, ◌++◌, ◌∷◌, ℕ, zero, suc, List, [], Option, Some, None}
 use Rattle.std.proofs.Common.{length, map, take, drop, replicate, get_or, set, refl, sym, ap, ap₂, subst, arith, inl, inr}
-use Rattle.std.proofs.Common.{length-drop, get_or-drop, take-add, drop-drop}
+use Rattle.std.proofs.Common.{length-drop, get_or-drop}
 use Rattle.std.specs.Prelude.{All, IfSome, nat_lt, slice_get}
 use borrow.Author.Tests.{ltb-true, ltb-false}
 use Rattle.std.proofs.lemmas.Bool.{cases_Bool}
@@ -158,10 +158,3 @@ unset-more scripts before i rooms new room inside is so_far pushed =
     pushed ∙ ap₂ (λ xs x. xs ++ x ∷ []) so_far (is ∙ ap unset_rooms mine)
     ∙ sym (map-append unset_rooms (take i rest) (get_or rest i [] ∷ []))
     ∙ sym (ap (map unset_rooms) (take_at_read rest i [] (omega arith)).1)
-
--- those of two halves
-pub unset-halves : (scripts : List (List Command)) (before low high : ℕ) → unset_rooms_after scripts before low ++ unset_rooms_after scripts (before + low) high ≡ unset_rooms_after scripts before (low + high)
-unset-halves scripts before low high =
-    let rest = drop before scripts in
-    sym (ap (map unset_rooms) (take-add low high rest ∙ ap (λ more. take low rest ++ take high more) (drop-drop low before scripts))
-    ∙ map-append unset_rooms (take low rest) (take high (drop (before + low) scripts)))

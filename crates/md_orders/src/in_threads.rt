@@ -136,13 +136,15 @@ fn lines_of_callers<R: Threads + Sync>(
     joined(first?, second?)
 }
 
-/// The lines of all callers in the report that `report` returns, as a text in parts: the parts are
-/// the text one after another. At most four threads write them side by side, one part each. The
-/// text that follows the lines is that of `after_lines`.
+/// The lines of all callers in a report, as a text in parts: the parts are the text one after
+/// another. A line without a reply has no text. If `Replies` have the same replies, `report`
+/// writes the same lines first. The text that follows them is that of `after_lines`. At most four
+/// threads write the lines side by side, one part each.
 ///
 /// The call takes the callers by halves twice, in `thread::join`. A single caller's lines it takes
 /// by halves instead. It so takes at most 3 calls of `thread::join`. Fewer than 4,096 lines of a
-/// caller are written in one thread. No text is copied to another: the lists of parts are joined.
+/// caller are written in one thread. A range of a caller's lines passes over the replies before it
+/// once. No text is copied to another: the lists of parts are joined.
 ///
 /// `AllocError` if memory runs out. Each thread takes room for 24 bytes a line at once.
 pub fn lines_in_threads<R: Threads + Sync>(

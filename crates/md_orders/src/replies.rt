@@ -7,7 +7,7 @@ ghost use Rattle.md_orders.specs.Scripts.{at_line};
 ghost use Rattle.md_orders.specs.Replies.{no_replies, reply_at, with_reply, with_replies, AllSuit};
 ghost use Rattle.md_orders.specs.Rooms.{unset_rooms, new_reply, reply_in};
 
-use crate::all_rooms::{rooms_in_threads, rooms_of_callers};
+use crate::all_rooms::rooms_of_callers;
 use crate::packed::PackedReplies;
 use crate::rooms::{Head, NewReply, ReplyRooms, reply_in};
 use crate::scripts::{Scripts, commands_are_named};
@@ -15,10 +15,6 @@ use md_book::BookReply;
 use std::alloc::{AllocError, Global};
 use std::marker::Model;
 use std::snapshot::Snapshot;
-use std::thread::Threads;
-
-// How many threads make the places.
-const THREADS: u32 = 4;
 
 /// A place for the reply of each line of some scripts. Callers and lines are counted from 1.
 ///
@@ -65,21 +61,6 @@ impl Replies {
             ≡ record { scripts = scripts.now; replies = no_replies scripts.now }) }
     {
         let callers = rooms_of_callers(alloc, scripts, 0, scripts.callers())?;
-        Ok(with_rooms(scripts, callers))
-    }
-
-    /// The places of all lines of scripts, as `empty` returns them. Up to four threads make the
-    /// places of the callers side by side, by halves, in up to three calls of `thread::join`.
-    /// `AllocError` if memory runs out.
-    pub fn empty_in_threads<R: Threads + Sync>(
-        rt: &R,
-        alloc: Global,
-        scripts: &Scripts,
-    ) -> Result<Replies, AllocError>
-        ensures { IfOk result (λ r. r
-            ≡ record { scripts = scripts.now; replies = no_replies scripts.now }) }
-    {
-        let callers = rooms_in_threads(rt, alloc, scripts, 0, scripts.callers(), THREADS)?;
         Ok(with_rooms(scripts, callers))
     }
 

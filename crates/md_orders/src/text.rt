@@ -58,9 +58,9 @@ fn labelled<I: Integer>(out: &mut Vec<u8>, label: &[u8], n: I) -> Result<(), All
     number(out, n)
 }
 
-// Words and a number.
+// Words, and a number behind them.
 #[inline(always)]
-fn told(line: &mut LineBuffer, words: &[u8], n: u64)
+fn number_behind(line: &mut LineBuffer, words: &[u8], n: u64)
     requires { length words.now + DIGITS + length line.old ≤ SIZE }
     ensures text { line.new ≡ words.now ++ decimal n ++ line.old }
     ensures short { length line.new ≤ length words.now + DIGITS + length line.old }
@@ -114,8 +114,8 @@ fn taken_and_rest(line: &mut LineBuffer, taken: u64, rest: u64)
     ensures short { length line.new ≤ 2 * DIGITS + 18 + length line.old }
 {
     line.bytes(b" from");
-    told(line, b" rest ", rest);
-    told(line, b"filled ", taken);
+    number_behind(line, b" rest ", rest);
+    number_behind(line, b"filled ", taken);
 }
 
 // What an account bought and sold.
@@ -125,8 +125,8 @@ fn bought_and_sold(line: &mut LineBuffer, bought: u64, sold: u64)
         ++ codes " sold " ++ decimal sold ++ line.old }
     ensures short { length line.new ≤ 2 * DIGITS + 13 + length line.old }
 {
-    told(line, b" sold ", sold);
-    told(line, b"bought ", bought);
+    number_behind(line, b" sold ", sold);
+    number_behind(line, b"bought ", bought);
 }
 
 // What a fill took and what remains of it, which the first number of a room has, and its parts.
@@ -141,7 +141,7 @@ fn filled(line: &mut LineBuffer, count: u8, room: &[u64])
     let taken = first / 0x1_0000_0000;
     let rest = first % 0x1_0000_0000;
     if taken == 0 {
-        told(line, b"filled 0 rest ", rest);
+        number_behind(line, b"filled 0 rest ", rest);
         return;
     }
     parts(line, count, room);
@@ -157,11 +157,11 @@ fn reply(line: &mut LineBuffer, head: Head, room: &[u64])
     match head {
         Head::Unset => (),
         Head::Placed => line.bytes(b"placed"),
-        Head::Cancelled(left) => told(line, b"cancelled ", u64::from(left)),
+        Head::Cancelled(left) => number_behind(line, b"cancelled ", u64::from(left)),
         Head::Gone => line.bytes(b"gone"),
         Head::Killed => line.bytes(b"killed"),
         Head::Filled(count) => filled(line, count, room),
-        Head::Depth => told(line, b"depth ", number_at(room, 0)),
+        Head::Depth => number_behind(line, b"depth ", number_at(room, 0)),
         Head::Account => bought_and_sold(line, number_at(room, 0), number_at(room, 1)),
     }
 }

@@ -1,9 +1,76 @@
-//! The lines that threads write, of replies whose places threads made, and what follows them.
+//! The lines that threads write of packed replies, and what follows them.
 
-use crate::tests::reports::{contents_of, set_all};
-use crate::{Replies, after_lines, lines_in_threads, make, report};
-use md_book::{BOUGHT, DEPTHS, SOLD};
+ghost use Rattle.std.specs.Prelude.{◌≡◌, ◌≤◌, length, IfOk, OnOk};
+
+use crate::tests::reports::{contents_of, reply_with, set_all};
+use crate::text::packed_lines::lines;
+use crate::{
+    PackedReplies, Replies, RepliesByCaller, Scripts, after_lines, lines_in_threads, make,
+    read_orders, report,
+};
+use md_book::{BOUGHT, BookReply, DEPTHS, MAX_PARTS, Part, SOLD, order_name};
+use std::alloc::Global;
 use std::test::Fail;
+
+// Adds replies to those of a caller.
+fn add(replies: &mut RepliesByCaller, caller: u32, packed: PackedReplies) -> Result<(), Fail>
+    requires from_1 { 1 ≤ caller }
+    requires there { caller ≤ length replies.old }
+    ensures { OnOk result (length replies.new ≡ length replies.old) }
+{
+    replies.add(caller, packed)?;
+    Ok(())
+}
+
+// The replies that `set_all` sets, of a caller's lines from one index to another, packed.
+fn packed_from(
+    alloc: Global,
+    scripts: &Scripts,
+    caller: u32,
+    from: u32,
+    to: u32,
+) -> Result<PackedReplies, Fail> {
+    let mut packed = PackedReplies::new(alloc);
+    'lines: for before in from..to {
+        let Some(command) = scripts.command(caller, before + 1) else {
+            return Err(Fail::new("no such line"));
+        };
+        packed.append(&[reply_with(command, 4)])?;
+    }
+    Ok(packed)
+}
+
+// The replies that `set_all` sets, added in three pieces a caller.
+fn packed_all(alloc: Global, scripts: &Scripts) -> Result<RepliesByCaller, Fail> {
+    let mut replies = RepliesByCaller::empty(alloc, scripts.callers())?;
+    'callers: for before in 0..scripts.callers() {
+        let caller = before + 1;
+        let end = scripts.len(caller);
+        let first = packed_from(alloc, scripts, caller, 0, end / 3)?;
+        add(&mut replies, caller, first)?;
+        let second = packed_from(alloc, scripts, caller, end / 3, end / 2)?;
+        add(&mut replies, caller, second)?;
+        let third = packed_from(alloc, scripts, caller, end / 2, end)?;
+        add(&mut replies, caller, third)?;
+    }
+    Ok(replies)
+}
+
+// Replies in a packed list.
+fn packed(alloc: Global, replies: &[BookReply]) -> Result<PackedReplies, Fail> {
+    let mut packed = PackedReplies::new(alloc);
+    packed.append(replies)?;
+    Ok(packed)
+}
+
+// One text in place of its parts.
+fn whole(alloc: Global, parts: &[Vec<u8>]) -> Result<Vec<u8>, Fail> {
+    let mut text = Vec::new(alloc);
+    for part in parts {
+        text.extend_from_slice(part)?;
+    }
+    Ok(text)
+}
 
 #[test]
 fn threads_write_the_same_report(rt: HostRuntime) -> Result<(), Fail> {
@@ -23,19 +90,61 @@ fn threads_write_the_same_report(rt: HostRuntime) -> Result<(), Fail> {
     ];
     for (callers, lines, count) in files {
         let scripts = make(alloc, 7, lines, callers)?;
-        let mut replies = Replies::empty(alloc, &scripts)?;
-        set_all(&mut replies, &scripts, 4);
-        let want = report(alloc, &scripts, &replies, &contents)?;
-        let mut places = Replies::empty_in_threads(&rt, alloc, &scripts)?;
+        let mut places = Replies::empty(alloc, &scripts)?;
         set_all(&mut places, &scripts, 4);
-        let parts = lines_in_threads(&rt, alloc, &scripts, &places)?;
+        let want = report(alloc, &scripts, &places, &contents)?;
+        let replies = packed_all(alloc, &scripts)?;
+        let parts = lines_in_threads(&rt, alloc, &scripts, &replies)?;
         assert_eq!(rt; parts.len(), count, "parts of {callers}");
-        let mut text = Vec::new(alloc);
-        for part in &parts {
-            text.extend_from_slice(part)?;
-        }
+        let mut text = whole(alloc, &parts)?;
         text.extend_from_slice(&after_lines(alloc, &scripts, &contents)?)?;
         assert_eq!(rt; text.as_slice(), want.as_slice(), "of {callers}");
     }
+    Ok(())
+}
+
+// A fill of four from the first order, with a part less than it tells of.
+fn fill() -> BookReply {
+    let mut parts = [Part { name: 0, taken: 0 }; MAX_PARTS];
+    parts[0] = Part {
+        name: order_name(1, 1),
+        taken: 4,
+    };
+    BookReply::Filled {
+        taken: 4,
+        rest: 5,
+        count: 2,
+        parts,
+    }
+}
+
+#[test]
+fn lines_without_a_reply_have_no_text(rt: HostRuntime) -> Result<(), Fail> {
+    let alloc = rt.alloc();
+    let orders = b"1,P,7,S,100,5\n2,D,S,4\n2,P,7,S,100,5\n2,F,8,S,100,9\n2,C,1,1\n2,A,7\n";
+    let Ok(scripts) = read_orders(alloc, orders.as_slice(), 3) else {
+        return Err(Fail::new("refused"));
+    };
+    let mut replies = RepliesByCaller::empty(alloc, 3)?;
+    add(&mut replies, 2, packed(alloc, &[BookReply::Depth(7)])?)?;
+    add(&mut replies, 2, packed(alloc, &[])?)?;
+    add(
+        &mut replies,
+        2,
+        packed(alloc, &[BookReply::Placed, fill()])?,
+    )?;
+    let parts = lines_in_threads(&rt, alloc, &scripts, &replies)?;
+    let text = whole(alloc, &parts)?;
+    let want = b"2:1 depth 7\n2:2 placed\n2:3 filled 4 rest 5 from 1:1=4 0:0=0\n".as_slice();
+    assert_eq!(rt; text.as_slice(), want);
+    let mut some = Vec::new(alloc);
+    lines(&mut some, &replies, 2, 1, 1)?;
+    lines(&mut some, &replies, 2, 2, 9)?;
+    lines(&mut some, &replies, 2, 3, 2)?;
+    lines(&mut some, &replies, 2, 7, 1)?;
+    lines(&mut some, &replies, 0, 0, 5)?;
+    lines(&mut some, &replies, 4, 0, 5)?;
+    let want = b"2:2 placed\n2:3 filled 4 rest 5 from 1:1=4 0:0=0\n".as_slice();
+    assert_eq!(rt; some.as_slice(), want);
     Ok(())
 }

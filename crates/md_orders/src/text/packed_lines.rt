@@ -9,7 +9,7 @@ ghost use Rattle.md_orders.specs.declared.text.TheConstants.{PARTS, REPLY};
 ghost use Rattle.md_orders.specs.declared.text.line_buffer.TheConstants.{SIZE};
 
 use super::line_buffer::LineBuffer;
-use super::{bought_and_sold, named, part, taken_and_rest, told};
+use super::{bought_and_sold, named, number_behind, part, taken_and_rest};
 use crate::packed::{PackedHead, QUANTITIES, part_at, size_of};
 use crate::rooms::{number_at, room_at};
 use crate::{RepliesByCaller, Scripts};
@@ -41,7 +41,7 @@ fn filled(line: &mut LineBuffer, count: u8, kept: u8, numbers: &[u64])
     let taken = first / QUANTITIES;
     let rest = first % QUANTITIES;
     if taken == 0 {
-        told(line, b"filled 0 rest ", rest);
+        number_behind(line, b"filled 0 rest ", rest);
         return;
     }
     parts(line, count, kept, numbers);
@@ -56,11 +56,11 @@ fn reply(line: &mut LineBuffer, head: PackedHead, numbers: &[u64])
 {
     match head {
         PackedHead::Placed => line.bytes(b"placed"),
-        PackedHead::Cancelled(left) => told(line, b"cancelled ", u64::from(left)),
+        PackedHead::Cancelled(left) => number_behind(line, b"cancelled ", u64::from(left)),
         PackedHead::Gone => line.bytes(b"gone"),
         PackedHead::Killed => line.bytes(b"killed"),
         PackedHead::Filled { count, kept } => filled(line, count, kept, numbers),
-        PackedHead::Depth => told(line, b"depth ", number_at(numbers, 0)),
+        PackedHead::Depth => number_behind(line, b"depth ", number_at(numbers, 0)),
         PackedHead::Account => {
             bought_and_sold(line, number_at(numbers, 0), number_at(numbers, 1));
         }
