@@ -22,7 +22,7 @@ returns-clause-kept c = λ rs has at.
     let packed = c.args.replies.packed in
     let added = c.append.new.self in
     let there = some-suits _ c.args.done packed c.args.replies.last.items _ _ c.in_ok-append.ensures.ok
-        c.deref.ensures.value (sym c.is_empty.ensures ∙ c.if-is_empty.false) c.requires.suit in
+    c.deref.ensures.value (sym c.is_empty.ensures ∙ c.if-is_empty.false) c.requires.suit in
     ap (λ lists. list_of lists caller) c.in_ok-add.ensures.ok ∙ list_of-with_list-same old caller _ there.0 there.1
     ∙ ap (λ xs. xs ++ map Some added) has ∙ sym (map-append Some rs added)
     ∙ ap (λ xs. map Some (rs ++ xs)) (c.in_ok-append.ensures.ok ∙ ap (λ xs. packed ++ xs) c.deref.ensures.value)
