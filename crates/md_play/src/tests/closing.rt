@@ -4,7 +4,7 @@ use super::scripts_of;
 use crate::closing::close_for_report;
 use crate::playing::{open_store, play_opened};
 use md_many::FreeGate;
-use md_orders::{Replies, after_lines};
+use md_orders::after_lines;
 use md_rounds::{OpenOutcome, Rounds};
 use std::test::Fail;
 
@@ -15,8 +15,7 @@ fn the_sums_of_a_closed_store(rt: HostRuntime) -> Result<(), Fail> {
     let text = "1,P,7,S,100,5\n1,F,8,S,100,2\n2,P,17,B,200,4\n2,C,2,1\n2,P,9,B,90,6\n";
     let scripts = scripts_of(alloc, text.as_bytes())?;
     let opened = open_store(alloc, scripts.callers(), 5, 64, 64)?;
-    let replies = Replies::empty(alloc, &scripts)?;
-    let played = play_opened(&rt, alloc, opened, &scripts, replies, &FreeGate)?;
+    let played = play_opened(&rt, alloc, opened, &scripts, &FreeGate)?;
     let OpenOutcome { rounds, .. } = played;
     let Rounds { contents, fronts } = close_for_report(rounds)?;
     assert_eq!(rt; fronts.len(), 1);
