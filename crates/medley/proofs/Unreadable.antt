@@ -1,5 +1,5 @@
 -- Why a replay stops if its order file can't be read.
-use Rattle.std.proofs.Common.{◌≡◌, ℕ, List, Option, Some, Result, Err, inr, refl, sym, subst}
+use Rattle.std.proofs.Common.{◌≡◌, ℕ, List, Option, Some, Result, Err, inr, sym, subst}
 use Rattle.std.specs.Result.{IsErrOf}
 use Rattle.md_outside.specs.Steps.{Step}
 use Rattle.md_orders.specs.Records.{order_records, AreFewRecords}

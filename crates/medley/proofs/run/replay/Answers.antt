@@ -8,4 +8,4 @@ pub returns-in_err-scripts-clause-stops : goal.returns-in_err-scripts-clause-sto
 returns-in_err-scripts-clause-stops g c =
     let p = err_from_is_err_and c.from_residual-in_err-scripts.result c.from_residual-in_err-scripts.ensures.1 in
     let read = subst (IsRead _ _ _ _ _) (sym c.as_slice-records.ensures.value) c.in_ok-bytes.ensures.read in
-    rw p.1 (order-stops _ _ _ _ _ _ _ _ c.in_err-scripts.field-0.0 _ c.in_err-scripts.was p.2 read c.join-orders.ensures.first.1.1.0 c.join-orders.ensures.first.1.1.1)
+    rw p.1 (order-stops _ _ _ _ _ _ _ _ c.in_err-scripts.field-0.0 _ c.in_err-scripts.was p.2 read c.join-scripts.ensures.first.1.0 c.join-scripts.ensures.first.1.1)
