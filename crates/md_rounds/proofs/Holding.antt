@@ -44,13 +44,6 @@ there scripts (suc i) (suc l) P h =
       lines = omega arith;
     }
 
--- where a reply suits, the caller is one
-pub suited-caller : (scripts : List (List Command)) (caller line : ℕ) (P : Command → Type 0)
-    → IsSomeAnd (at_line scripts caller line) P → (1 ≤ caller) × (caller ≤ length scripts)
-suited-caller scripts caller line P h =
-    let is = there scripts caller line P h in
-    (is.from_1, is.callers)
-
 reply-same : (replies : List (List (Option BookReply))) (caller line : ℕ) (r : BookReply) → 1 ≤ caller
     → caller ≤ length replies → 1 ≤ line → line ≤ length (list_of replies caller)
     → reply_at (with_reply replies caller line r) caller line ≡ Some r

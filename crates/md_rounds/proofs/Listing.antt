@@ -1,6 +1,6 @@
 -- Replies of several callers, as they are kept in lists.
-use Rattle.std.proofs.Common.{◌≡◌, ◌≤◌, ◌<◌, ◌∙◌, ◌+◌, ◌++◌, ◌∷◌, ℕ, zero, suc, List, [], Option, Some, length, refl, sym, ap, subst, arith}
-use Rattle.std.specs.Prelude.{Bool, true, false, ◌==◌, map, replicate, slice_get, option_and_then}
+use Rattle.std.proofs.Common.{◌≡◌, ◌<◌, ◌∙◌, ◌+◌, ◌++◌, ◌∷◌, ℕ, zero, suc, List, [], Option, Some, length, refl, sym, ap, subst, arith}
+use Rattle.std.specs.Prelude.{false, ◌==◌, map, slice_get, option_and_then}
 use Rattle.std.proofs.lemmas.Bool.{false≢true}
 use Rattle.md_book.specs.declared.commands.BookReply.{BookReply}
 use Rattle.md_many.specs.Laws.{AllSuit}
@@ -20,13 +20,6 @@ pub listed-have : (replies : List (List (Option BookReply))) (caller : ℕ) (rs 
 listed-have replies caller rs is = λ i low.
     let next : i + 1 ≡ suc i = omega arith in
     ap (reply_at replies caller) next ∙ ap (λ xs. option_and_then (λ r. r) (slice_get xs i)) is ∙ some-at rs i low
-
--- at the beginning there are no replies
-pub none-listed : (count caller : ℕ) → list_of {A = Option BookReply} (replicate count []) caller ≡ []
-none-listed count zero = refl
-none-listed zero (suc c) = refl
-none-listed (suc count) (suc zero) = refl
-none-listed (suc count) (suc (suc c)) = none-listed count (suc c)
 
 -- what holds of each reply of a list that isn't empty holds: the packed replies, and those of the last batch
 pub some-suits : (P : Type 0) (n : ℕ) (packed last told all : List BookReply) → all ≡ packed ++ told → told ≡ last
