@@ -1,7 +1,10 @@
--- When the words of a set have their marks.
-use Rattle.std.specs.Prelude.{◌≡◌, ◌%◌, ℕ, Bool, true, false, List, slice_index_or}
-use Rattle.std.specs.List.{AllByRecursion}
+-- How the words of a set are marked.
+use Rattle.std.specs.Prelude.{◌≤◌, ◌+◌, ◌%◌, ℕ, List, [], ◌∷◌, slice_index_or}
 
--- each of these words has the mark of its remainder
-abbrev pub AreMarked : List Bool → List ℕ → Type 0
-AreMarked marks words = AllByRecursion (λ (word : ℕ). slice_index_or marks (word % 64) false ≡ true) words
+-- these words stand at the places from a number on. The mark of each one's remainder isn't later than its place
+abbrev pub AreMarkedFrom : (marks words : List ℕ) → (place : ℕ) → Type 0
+AreMarkedFrom marks [] place = Unit {0}
+AreMarkedFrom marks (word ∷ words) place = (slice_index_or marks (word % 64) 0 ≤ place) × AreMarkedFrom marks words (place + 1)
+
+abbrev pub AreMarked : (marks words : List ℕ) → Type 0
+AreMarked marks words = AreMarkedFrom marks words 0

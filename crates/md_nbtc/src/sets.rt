@@ -112,10 +112,7 @@ impl Reads {
     pub(crate) fn content(&self, word: u32) -> Option<u64>
         ensures { result ≡ content_read self.now word }
     {
-        if !self.marks.may_have(word) {
-            return None;
-        }
-        for i in 0..self.count {
+        for i in self.marks.first(word).min(self.count)..self.count {
             let read = self.items[i as usize];
             if read.word == word {
                 return Some(read.content);
@@ -136,7 +133,7 @@ impl Reads {
         ensures { self.new ≡ self.old ++ read ∷ [] }
     {
         self.items[self.count as usize] = read;
-        self.marks.mark(read.word);
+        self.marks.mark(read.word, self.count);
         self.count += 1;
     }
 }
@@ -190,10 +187,7 @@ impl Slots {
     pub(crate) fn find(&self, word: u32) -> Option<u8>
         ensures { result ≡ place_of self.now word 0 }
     {
-        if !self.marks.may_have(word) {
-            return None;
-        }
-        for i in 0..self.count {
+        for i in self.marks.first(word).min(self.count)..self.count {
             if self.items[i as usize].write.word == word {
                 return Some(i);
             }
@@ -213,7 +207,7 @@ impl Slots {
         ensures { self.new ≡ self.old ++ slot ∷ [] }
     {
         self.items[self.count as usize] = slot;
-        self.marks.mark(slot.write.word);
+        self.marks.mark(slot.write.word, self.count);
         self.count += 1;
     }
 

@@ -1,6 +1,7 @@
 //! How a store is opened for callers, and how their scripts are played over it.
 
 ghost use Rattle.std.specs.Prelude.{◌≡◌, ◌≤◌, ◌*◌, ℕ, IfOk, OnOk, length, map};
+ghost use Rattle.md_words.specs.declared.limits.TheConstants.{MANY_BUCKETS};
 ghost use Rattle.md_words.specs.Layout.{HasNumbers};
 ghost use Rattle.md_book.specs.Book.{Book};
 ghost use Rattle.md_book.specs.Stands.{StandsFor};
@@ -17,6 +18,7 @@ use md_orders::Scripts;
 use md_rounds::{OpenOutcome, Outcome, run_all, run_all_open};
 use md_store::{Store, StorePass};
 use md_words::Shape;
+use md_words::limits::{FEW_BUCKETS, MANY_BUCKETS};
 use std::alloc::{AllocError, Global};
 use std::thread::Threads;
 
@@ -26,24 +28,18 @@ pub const MAX_LANE_NODES: u32 = 1_572_864;
 /// The most nodes that all lanes of the store together may be given.
 pub const MAX_STORE_NODES: u32 = 33_554_432;
 
-// The buckets of each map, for few lines and for many. An order's name is `caller * 2^32 + line`,
-// and its bucket is the remainder of the division by this number. 2^32 leaves a fifth of the one
-// number and half of the other, so the orders of several callers at the same lines lie far apart.
-// With a power of two they would all meet in the same buckets.
-const BUCKETS: u32 = 65_819;
-
-const MORE_BUCKETS: u32 = 131_198;
-
 // From so many lines on, shorter chains are worth the time that more buckets take.
 const MANY_LINES: u32 = 500_000;
 
+// An order's name is `caller * 2^32 + line`. With a power of two, the orders of all callers at the
+// same line would meet in one bucket. By these numbers they lie far apart.
 fn buckets_for(lines: u32) -> u32
-    ensures { (1 ≤ result) × (result ≤ MORE_BUCKETS) }
+    ensures { (1 ≤ result) × (result ≤ MANY_BUCKETS) }
 {
     if lines < MANY_LINES {
-        BUCKETS
+        FEW_BUCKETS
     } else {
-        MORE_BUCKETS
+        MANY_BUCKETS
     }
 }
 
@@ -54,7 +50,7 @@ fn shape_of(callers: u32, nodes: u32, tries: u32, buckets: u32) -> Shape
     requires nodes { (1 ≤ nodes) × (nodes ≤ MAX_LANE_NODES) }
     requires all { callers * nodes ≤ MAX_STORE_NODES }
     requires tries { 1 ≤ tries }
-    requires buckets { (1 ≤ buckets) × (buckets ≤ MORE_BUCKETS) }
+    requires buckets { (1 ≤ buckets) × (buckets ≤ MANY_BUCKETS) }
     ensures { HasNumbers result callers nodes LEVELS tries MAPS buckets LEVELS }
 {
     Shape::new(callers, nodes, LEVELS, tries, MAPS, buckets, LEVELS).unwrap()

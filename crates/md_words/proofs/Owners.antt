@@ -2,7 +2,7 @@
 use Rattle.std.proofs.Common.{◌≡◌, ℕ, ◌+◌, ◌-◌, ◌*◌, ◌/◌, ◌<◌, ◌≤◌, ◌↔◌, sym, subst, arith}
 use Rattle.std.proofs.lemmas.Nat.{rows}
 use Rattle.md_words.specs.Layout.{node_count, desc_count}
-use Rattle.md_words.specs.Lanes.{node_of, desc_of, OwnsNode, OwnsDesc, lane_of_node, lane_of_desc}
+use Rattle.md_words.specs.Lanes.{node_of, OwnsNode, OwnsDesc, lane_of_node, lane_of_desc}
 use Rattle.md_words.specs.LayoutLaws.{BaseNodesExist, NodeHasLane, DescHasLane, OwnNodeExists, OwnDescExists, NodeInLane, NodeNumber, NodesRise, OneDesc}
 
 -- among n rows of k, x lies in a row exactly where the row is its quotient

@@ -1,12 +1,25 @@
 //! The word of each place of a field.
 
-ghost use Rattle.std.specs.Prelude.{◌≡◌, ◌<◌, ◌↔◌, IsTrue};
+ghost use Rattle.std.specs.Prelude.{◌≡◌, ◌<◌, ◌≤◌, ◌%◌, ◌↔◌, IsTrue};
 ghost use Rattle.md_words.specs.Place.{bucket_head, queue_head, queue_tail, node_key, node_value};
 ghost use Rattle.md_words.specs.Place.{node_next, desc_status, read_word, read_content, slot_word};
 ghost use Rattle.md_words.specs.Place.{slot_old, slot_new};
 
-use crate::limits::{DESC_WORDS, SET};
+use crate::limits::{DESC_WORDS, FEW_BUCKETS, MANY_BUCKETS, SET};
 use crate::shape::Shape;
+
+// A key's bucket. A remainder by a number that is known here takes a multiplication, and a division
+// takes longer than all else that an address needs.
+fn bucket_of(key: u64, buckets: u32) -> u32
+    requires { 1 ≤ buckets }
+    ensures { result ≡ key % buckets }
+{
+    match buckets {
+        FEW_BUCKETS => (key % FEW_BUCKETS as u64) as u32,
+        MANY_BUCKETS => (key % MANY_BUCKETS as u64) as u32,
+        _ => (key % buckets as u64) as u32,
+    }
+}
 
 #[tactic(auto, unfolding(crate::specs::Layout::address, crate::specs::Layout::words_of, crate::specs::Layout::node_count, crate::specs::Layout::desc_count, crate::specs::Layout::bucket_of))]
 impl Shape {
@@ -27,7 +40,7 @@ impl Shape {
         ensures place { result ≡ address self.now (bucket_head map (bucket_of self.now key)) }
         ensures below { result < words_of self.now }
     {
-        1 + map * self.buckets + (key % self.buckets as u64) as u32
+        1 + map * self.buckets + bucket_of(key, self.buckets)
     }
 
     /// The head of a queue. The queue exists.

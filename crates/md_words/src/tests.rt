@@ -1,5 +1,6 @@
 //! The numbers of worked fields, and words taken apart and put together.
 
+use crate::limits::{FEW_BUCKETS, MANY_BUCKETS};
 use crate::{Content, Shape, ShapeFault, Spot, Status, StatusWord};
 use std::test::Fail;
 
@@ -25,6 +26,20 @@ fn shapes(rt: HostRuntime) {
         let shape = Shape::new(lanes, nodes, base, tries, maps, buckets, queues);
         assert_eq!(rt; shape.map(|shape| shape.words()), want);
     }
+}
+
+#[test]
+fn buckets(rt: HostRuntime) -> Result<(), Fail> {
+    for (buckets, key, want) in [
+        (64, 4_294_967_297, 2),
+        (FEW_BUCKETS, 4_294_967_297, 14_272),
+        (MANY_BUCKETS, 4_294_967_297, 69_570),
+        (MANY_BUCKETS, 131_197, 131_198),
+    ] {
+        let shape = Shape::new(1, 1, 0, 1, 1, buckets, 0)?;
+        assert_eq!(rt; shape.map_head(0, key), want);
+    }
+    Ok(())
 }
 
 #[test]

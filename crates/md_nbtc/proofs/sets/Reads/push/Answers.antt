@@ -11,5 +11,5 @@ invariant_of-self c =
     let below : count < length items = omega (arith, c.requires, ap length c.self.view_is, length-take-le count items (omega (arith, l.0, l.1)), l.1) in (
       omega (arith, below, l.1),
       length-set items count c.args.read ∙ l.1,
-      marked_more (λ x. x.word) items count c.args.read _ _ below c.mark.ensures.set c.mark.ensures.marked l.2,
+      marked_more (λ x. x.word) items count c.args.read _ _ below c.mark.ensures.marked c.mark.ensures.lower l.2,
     )
