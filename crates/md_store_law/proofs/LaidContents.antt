@@ -10,7 +10,7 @@ use Rattle.std.specs.Map.{keys_of}
 use Rattle.std.specs.FinMap as fin
 use Rattle.std.specs.FinMap.Entries.{below_all, is_sorted-where_key, find-where_key}
 use Rattle.std.proofs.lemmas.Bool.{cases_eq, cond-true, cond-false, eq-eqb, ne_eqb}
-use Rattle.std.proofs.lemmas.List.{length-map}
+use Rattle.std.proofs.lemmas.List.{append-nil, length-map, nil_from_length}
 use Rattle.std.proofs.lemmas.List.FromFn.{fill_by_all, length-map-range_with_len}
 use Rattle.md_words.specs.declared.shape.Shape.{Shape}
 use Rattle.md_words.specs.Layout.{bucket_of}
@@ -27,7 +27,9 @@ use Rattle.md_store_law.specs.Store.{state_of_store}
 use Rattle.md_store_law.specs.Field.{logical_words}
 use Rattle.md_history.specs.Engine.{needed}
 use Rattle.md_store_law.specs.Laid.{LaidNode, IsLaid, HasMapsAndQueues, dummies, pair_nodes, value_nodes, nodes_of_map, nodes_of_maps, nodes_of_queues, bucket_pairs, pairs_at, laid_nodes}
+use Rattle.md_store_law.specs.Below.{maps_below}
 use Rattle.md_store_law.proofs.Sums.{apart_sorted, len-apart}
+use Rattle.md_store_law.proofs.Filling.{flat_map_range_more}
 use Rattle.md_store_law.proofs.PairCounts.{apart-pieces, lacks-pieces, length-pieces}
 use Rattle.md_store_law.proofs.Growing.{length-value_nodes}
 use Rattle.md_store_law.proofs.Stores.{StandFor, AreSorted, pairs_laid, values_laid}
@@ -123,6 +125,14 @@ module _ (shape : Shape) (s : State) (numbers : HasMapsAndQueues shape s) where
       (λ b low high. length-map {B = LaidNode} (pairs_at shape s map b) (λ p. record { structure = Bucket map b; key = p.0; value = p.1 }))
       ∙ sym (length-pieces (pairs_at shape s map) length (pairs_at shape s map) 0 shape.buckets (λ b low high. refl))
       ∙ sym (len-buckets shape (map_at s map))
+
+  -- a map without pairs adds no node
+  pub maps_same : (map : ℕ) → fin.len (map_at s map) ≡ 0 → maps_below shape (pairs_at shape s) (map + 1) ≡ maps_below shape (pairs_at shape s) map
+  maps_same map none =
+      let of = nodes_of_map shape (pairs_at shape s) in
+      let before = nodes_of_maps shape (pairs_at shape s) map in
+      ap (λ ns. dummies shape.queues ++ ns)
+      (flat_map_range_more of map ∙ ap (λ ns. before ++ ns) (nil_from_length (of map) (map_count map ∙ none)) ∙ append-nil before)
 
   -- contents have as many nodes as they need
   pub nodes_count : length (laid_nodes shape s) ≡ needed s

@@ -24,8 +24,9 @@ use std::collections::{BTreeMap, VecDeque};
 /// The dummies of the queues come first, then the pairs by map, bucket and rising key, and then the
 /// queued values by queue. Nodes are chained in that order, and every count is 0.
 ///
-/// Takes time linear in the words, the pairs and the values: a map gives its pairs in rising order
-/// of their keys, each is pushed behind those of its bucket, and then the buckets are laid in turn.
+/// Takes time linear in the words, the pairs and the values: a map that has pairs gives them in
+/// rising order of their keys, each is pushed behind those of its bucket, and then the buckets are
+/// laid in turn.
 pub fn lay(alloc: Global, shape: &Shape, contents: &Contents) -> Result<Vec<u64>, AllocError>
     requires numbers { HasMapsAndQueues shape.now contents.now }
     requires room { needed contents.now ≤ shape.now.base }
@@ -76,7 +77,12 @@ fn lay_map(
     ensures { IfOk result (λ next. LaidUpTo shape.now words.new
         (maps_below shape.now (pairs_at shape.now contents.now) (map + 1)) next) }
 {
-    let buckets = by_bucket(alloc, shape, contents.map(map))?;
+    let table = contents.map(map);
+    // An empty store is laid without a list for each bucket.
+    if table.is_empty() {
+        return Ok(first);
+    }
+    let buckets = by_bucket(alloc, shape, table)?;
     let mut next = first;
     for bucket in 0..shape.buckets {
         next = append_pairs(words, shape, map, bucket, &buckets[bucket as usize], next);

@@ -1,12 +1,22 @@
-use Rattle.std.proofs.Common.{◌≡◌, ◌++◌, length, length-append, sym, ap, ◌∙◌, arith}
-use Rattle.std.proofs.lemmas.List.{append-nil, length-map}
+use Rattle.std.proofs.Common.{◌≡◌, ℕ, ◌++◌, length, length-append, sym, ap, ◌∙◌, arith}
+use Rattle.std.specs.Ordering.{nat_cmp}
+use Rattle.std.specs.FinMap as fin
+use Rattle.std.proofs.lemmas.List.{append-nil, length-map, nil_from_length}
 use Rattle.md_machine.specs.declared.node.Structure.TheVariants.{Bucket}
 use Rattle.md_history.specs.State.{queue_at}
 use Rattle.md_store_law.specs.Laid.{LaidNode, pair_nodes, pairs_at, bucket_pairs}
 use Rattle.md_store_law.specs.Below.{maps_below, buckets_below}
 use Rattle.md_store_law.proofs.Below.{laid_as, buckets_more, maps_more, bucket_fits, bucket_none}
 use Rattle.md_store_law.proofs.Buckets.{boxes_count, box_is}
+use Rattle.md_store_law.proofs.LaidContents.{maps_same}
 use Rattle.md_store_law.proofs.laying.lay_map.Goals as goal
+
+pub returns-then-is_empty : goal.returns-then-is_empty
+returns-then-is_empty c =
+    let shape = c.args.shape.now in
+    let none = nil_from_length c.map-table.result.now.entries (c.is_empty.ensures.0 c.if-is_empty.true) in
+    let few = ap fin.len (sym c.map-table.ensures ∙ ap (λ es. fin.from_entries {R = nat_cmp} es) none) ∙ fin.len-empty nat_cmp ℕ in
+    laid_as shape c.args.words.now _ _ c.args.first (maps_same shape c.args.contents.now c.requires.numbers c.args.map few) c.requires.laid
 
 pub loop-bucket-init : goal.loop-bucket-init
 loop-bucket-init c =
@@ -23,7 +33,7 @@ append_pairs-next-requires-clause-room c =
     let shape = c.args.shape.now in
     let s = c.args.contents.now in
     let found = c.deref.ensures.value ∙ box_is (λ b. b.items) c.in_ok-buckets.buckets.items shape _ c.in_ok-buckets.ensures c.loop-bucket.bucket
-    c.index.result.now c.loop-bucket-test.true c.index.ensures ∙ ap (λ t. bucket_pairs shape t c.loop-bucket.bucket) c.map.ensures in
+    c.index.result.now c.loop-bucket-test.true c.index.ensures ∙ ap (λ t. bucket_pairs shape t c.loop-bucket.bucket) c.map-table.ensures in
     let fits = bucket_fits shape (pairs_at shape s) (queue_at s) c.args.map c.loop-bucket.bucket c.requires.map c.loop-bucket-test.true in
     omega (arith, fits, ap length found, c.loop-bucket.invariant.first_free, c.requires.room)
 
@@ -36,7 +46,7 @@ loop-bucket-preserved c =
     let bucket = c.loop-bucket.bucket in
     let nodes = buckets_below shape pairs map bucket in
     let found = c.deref.ensures.value ∙ box_is (λ b. b.items) c.in_ok-buckets.buckets.items shape _ c.in_ok-buckets.ensures bucket
-    c.index.result.now c.loop-bucket-test.true c.index.ensures ∙ ap (λ t. bucket_pairs shape t bucket) c.map.ensures in
+    c.index.result.now c.loop-bucket-test.true c.index.ensures ∙ ap (λ t. bucket_pairs shape t bucket) c.map-table.ensures in
     let more = buckets_more shape pairs (queue_at s) map bucket ∙ ap (λ ps. nodes ++ pair_nodes map bucket ps) (sym found) in
     let last = length-map {B = LaidNode} c.deref.result.now (λ p. record { structure = Bucket map bucket; key = p.0; value = p.1 }) in
     let all = length-append nodes (pair_nodes map bucket c.deref.result.now) in
