@@ -37,8 +37,8 @@ pub fn with_last(mut parts: Vec<Vec<u8>>, last: Vec<u8>) -> Result<Vec<Vec<u8>>,
 /// Closes the store on which scripts were played, and builds the report meanwhile: the lines need
 /// the replies alone. What follows them, the book, needs the sums in the store.
 ///
-/// Five threads work side by side: four write lines (`lines_in_threads` of md_orders), and one reads
-/// the sums off (`close_for_report` of md_play). `AllocError` if memory runs out.
+/// Up to nine threads work side by side: eight write lines (`lines_in_threads` of md_orders), and one
+/// reads the sums off (`close_for_report` of md_play). `AllocError` if memory runs out.
 pub fn tell_and_close<R: Threads + Sync>(
     rt: &R,
     alloc: Global,
