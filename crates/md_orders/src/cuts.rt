@@ -28,14 +28,15 @@ fn line_end(bytes: &[u8], place: usize) -> Option<usize>
     None
 }
 
-/// Cuts bytes into two parts, about halves, whose records are those of the whole. The cut is at the
-/// end of a line. `None` if there is no such place, or if it isn't known to be right: a line feed
-/// may stand inside a field if there are double quotes before it.
-pub(crate) fn cut(bytes: &[u8]) -> Option<(&[u8], &[u8])>
+/// Cuts bytes into two parts whose records are those of the whole. The cut is at the end of the
+/// line that the byte at `place` belongs to. `None` if there is no such line, if nothing follows it,
+/// or if the cut isn't known to be right. A line feed may stand inside a field if there is a double
+/// quote before it, and neither part may begin with the first byte of a byte order mark.
+pub(crate) fn cut(bytes: &[u8], place: usize) -> Option<(&[u8], &[u8])>
     ensures { IfSome result (λ parts. order_records bytes.now
         ≡ order_records parts.0.now ++ order_records parts.1.now) }
 {
-    let end = line_end(bytes, bytes.len() / 2)?;
+    let end = line_end(bytes, place)?;
     if end == bytes.len() {
         return None;
     }

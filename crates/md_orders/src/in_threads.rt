@@ -11,10 +11,11 @@ use std::alloc::{AllocError, Global};
 use std::thread;
 use std::thread::Threads;
 
-// How many threads write the lines.
-const THREADS: u32 = 4;
+// In how many ranges the lines are written, at most. Another thread closes the store meanwhile, and
+// with more ranges than processors, no processor is left without work at the end.
+const RANGES: u32 = 8;
 
-// Fewer lines of a caller are written in one thread.
+// Fewer lines of a caller are one range.
 const MANY_LINES: u32 = 4_096;
 
 // A text in one part.
@@ -91,7 +92,8 @@ fn lines_in_ranges<R: Threads + Sync>(
     joined(earlier?, later?)
 }
 
-// The lines of the `count` callers after the first `before`, in at most so many threads, by halves.
+// The lines of the `count` callers after the first `before`, in at most so many ranges, by halves
+// in threads.
 #[cycle(halves)]
 fn lines_of_callers<R: Threads + Sync>(
     rt: &R,
@@ -100,7 +102,7 @@ fn lines_of_callers<R: Threads + Sync>(
     replies: &RepliesByCaller,
     before: u32,
     count: u32,
-    threads: u32,
+    ranges: u32,
 ) -> Result<Vec<Vec<u8>>, AllocError>
     requires { before + count < 2 ^ 32 }
     ensures { IfOk result (λ parts. whole_text parts.items
@@ -108,9 +110,9 @@ fn lines_of_callers<R: Threads + Sync>(
 {
     if count == 1 {
         let caller = before + 1;
-        return lines_in_ranges(rt, alloc, replies, caller, 0, of.len(caller), threads);
+        return lines_in_ranges(rt, alloc, replies, caller, 0, of.len(caller), ranges);
     }
-    if threads <= 1 || count == 0 {
+    if ranges <= 1 || count == 0 {
         let mut out = room_for(alloc, of, before, count)?;
         callers_lines(&mut out, of, replies, before, count)?;
         return one_part(alloc, out);
@@ -125,28 +127,30 @@ fn lines_of_callers<R: Threads + Sync>(
             requires few { before + low < 2 ^ 32 }
             ensures { IfOk result (λ parts. whole_text parts.items
                 ≡ callers_text_after of.entry.now replies.entry.now before low) }
-        { lines_of_callers(rt, alloc, of, replies, before, low, threads / 2) },
+        { lines_of_callers(rt, alloc, of, replies, before, low, ranges / 2) },
         move || -> Result<Vec<Vec<u8>>, AllocError>
             requires sync { IsSync R.row }
             requires few { middle + high < 2 ^ 32 }
             ensures { IfOk result (λ parts. whole_text parts.items
                 ≡ callers_text_after of.entry.now replies.entry.now middle high) }
-        { lines_of_callers(rt, alloc, of, replies, middle, high, threads / 2) },
+        { lines_of_callers(rt, alloc, of, replies, middle, high, ranges / 2) },
     );
     joined(first?, second?)
 }
 
 /// The lines of all callers in a report, as a text in parts: the parts are the text one after
 /// another. A line without a reply has no text. If `Replies` have the same replies, `report`
-/// writes the same lines first. The text that follows them is that of `after_lines`. At most four
-/// threads write the lines side by side, one part each.
+/// writes the same lines first. The text that follows them is that of `after_lines`. Threads write
+/// up to eight ranges of the lines side by side, one part each: the lines of some callers, or a
+/// range of one caller's.
 ///
-/// The call takes the callers by halves twice, in `thread::join`. A single caller's lines it takes
-/// by halves instead. It so takes at most 3 calls of `thread::join`. Fewer than 4,096 lines of a
-/// caller are written in one thread. A range of a caller's lines passes over the replies before it
-/// once. No text is copied to another: the lists of parts are joined.
+/// The call takes the callers by halves in `thread::join`, and these halves again, up to three
+/// times over. If a half has one caller, the call takes the lines of that caller by halves instead.
+/// So it calls `thread::join` at most 7 times. Fewer than 4,096 lines of a caller are one range. A
+/// range of a caller's lines passes over the replies before it once. No text is copied to another:
+/// the lists of parts are joined.
 ///
-/// `AllocError` if memory runs out. Each thread takes room for 24 bytes a line at once.
+/// `AllocError` if memory runs out. Each range takes room for 24 bytes a line at once.
 pub fn lines_in_threads<R: Threads + Sync>(
     rt: &R,
     alloc: Global,
@@ -156,5 +160,5 @@ pub fn lines_in_threads<R: Threads + Sync>(
     ensures { IfOk result (λ parts. whole_text parts.items
         ≡ replies_text of.now replies.now) }
 {
-    lines_of_callers(rt, alloc, of, replies, 0, of.callers(), THREADS)
+    lines_of_callers(rt, alloc, of, replies, 0, of.callers(), RANGES)
 }

@@ -21,16 +21,17 @@ use std::thread::Threads;
 // A shorter file is read in one thread.
 const MIN_BYTES: usize = 65_536;
 
-// How many times over a file is cut into halves. A single caller's is read in up to eight parts, so
-// that no processor is left without work at the end. With several callers another thread opens a
-// larger store meanwhile, and would be given less of a processor beside eight others. So there are
-// up to four parts.
-fn cuts_for(callers: u32) -> u32 {
-    if callers == 1 { 3 } else { 2 }
+// In how many parts a file is read, at most. A single caller's is read in eight, so that no
+// processor is left without work at the end. With several callers another thread opens a larger
+// store meanwhile. That takes about as long as reading a third of the file, so there are three
+// parts.
+fn parts_for(callers: u32) -> u32 {
+    if callers == 1 { 8 } else { 3 }
 }
 
-// Reads the records of bytes in threads, by halves, which are cut in turn while `cuts` isn't 0. If
-// no cut is known to be right, this thread reads them all.
+// Reads the records of bytes in at most so many parts, or in one if that is 0. One thread reads the
+// first part, and another goes on with the rest. If no cut is known to be right, this thread reads
+// them all.
 #[cycle(parts)]
 fn read_parts<R: Threads + Sync>(
     rt: &R,
@@ -38,25 +39,24 @@ fn read_parts<R: Threads + Sync>(
     bytes: &[u8],
     callers: u32,
     version: Version,
-    cuts: u32,
+    parts: u32,
 ) -> Result<Notes, OrderFault>
     requires { (1 ≤ callers) × (callers ≤ MAX_CALLER) }
     ensures { IsRead (Some version) callers (order_records bytes.now) result }
 {
-    if cuts == 0 {
+    if parts <= 1 {
         return read_records(alloc, bytes, callers, Some(version));
     }
-    let Some((low, high)) = cut(bytes) else {
+    let Some((low, high)) = cut(bytes, bytes.len() / parts as usize) else {
         return read_records(alloc, bytes, callers, Some(version));
     };
-    let fewer = cuts - 1;
+    let fewer = parts - 1;
     let (first, second) = thread::join(
         rt,
         move || -> Result<Notes, OrderFault>
-            requires sync { IsSync R.row }
             requires range { (1 ≤ callers) × (callers ≤ MAX_CALLER) }
             ensures { IsRead (Some version) callers (order_records low.entry.now) result }
-        { read_parts(rt, alloc, low, callers, version, fewer) },
+        { read_records(alloc, low, callers, Some(version)) },
         move || -> Result<Notes, OrderFault>
             requires sync { IsSync R.row }
             requires range { (1 ≤ callers) × (callers ≤ MAX_CALLER) }
@@ -72,12 +72,12 @@ fn read_version_2<R: Threads + Sync>(
     alloc: Global,
     lines: &[u8],
     callers: u32,
-    cuts: u32,
+    parts: u32,
 ) -> Result<Scripts, OrderFault>
     requires { (1 ≤ callers) × (callers ≤ MAX_CALLER) }
     ensures { IsReadAs callers (version_record ∷ order_records lines.now) result }
 {
-    let notes = read_parts(rt, alloc, lines, callers, Version::Second, cuts)?;
+    let notes = read_parts(rt, alloc, lines, callers, Version::Second, parts)?;
     if notes.count == MAX_RECORDS {
         return Err(OrderFault::TooMany);
     }
@@ -87,21 +87,22 @@ fn read_version_2<R: Threads + Sync>(
     }
 }
 
-/// Reads the scripts of an order file, as `read_orders` does, in up to 2^`cuts` parts.
-pub(crate) fn read_with_cuts<R: Threads + Sync>(
+/// Reads the scripts of an order file, as `read_orders` does, in at most so many parts, or in one
+/// if that is 0.
+pub(crate) fn read_in_parts<R: Threads + Sync>(
     rt: &R,
     alloc: Global,
     bytes: &[u8],
     callers: u32,
-    cuts: u32,
+    parts: u32,
 ) -> Result<Scripts, OrderFault>
     requires { (1 ≤ callers) × (callers ≤ MAX_CALLER) }
     ensures { IsReadAs callers (order_records bytes.now) result }
 {
     if let Some(lines) = lines_of_version_2(bytes) {
-        return read_version_2(rt, alloc, lines, callers, cuts);
+        return read_version_2(rt, alloc, lines, callers, parts);
     }
-    let notes = read_parts(rt, alloc, bytes, callers, Version::First, cuts)?;
+    let notes = read_parts(rt, alloc, bytes, callers, Version::First, parts)?;
     match notes.bad {
         None => Ok(notes.scripts),
         Some(number) if number > 1 => Err(OrderFault::BadLine(number)),
@@ -111,14 +112,19 @@ pub(crate) fn read_with_cuts<R: Threads + Sync>(
 }
 
 /// Reads the scripts of an order file, as `read_orders` does, with the same results. Threads read
-/// up to four parts of a file of 64 KiB or more, or up to eight if there is one caller, and their
+/// up to three parts of a file of 64 KiB or more, or up to eight if there is one caller, and their
 /// scripts are put together.
 ///
-/// The call cuts the file at line ends, by halves, in `thread::join`, which it calls up to three
-/// times, or seven. One thread reads a part that can't be cut: no line but its last ends in its
-/// upper half, there is a double quote in its lower half, or a half begins with the first byte of a
-/// byte order mark. A file of version 2 is only cut if its first record is written as `medley,2`. If
-/// the first record is another that breaks the grammar of version 1, one thread reads the file anew.
+/// The call cuts off the first part, then the next part of the rest, and so on. The parts are about
+/// as long as each other, and a cut is at the end of a line. For each cut there is one call of
+/// `thread::join`: one thread reads the part, and another goes on with the rest. So there are up to
+/// two of these calls, or up to seven if there is one caller.
+///
+/// One thread reads the whole rest if it can't be cut. That is so if the next part would end with
+/// the last line of the file, if there is a double quote in that part, or if that part or what
+/// follows it begins with the first byte of a byte order mark. If the file begins with the line
+/// `medley,2`, and no such byte follows, the lines after it are cut. If the first record is another
+/// that breaks the grammar of version 1, one thread reads the file anew.
 ///
 /// Otherwise the bytes are read once, after a search for double quotes. No command is copied when
 /// the parts are put together.
@@ -140,5 +146,5 @@ pub fn read_orders_in_threads<R: Threads + Sync>(
     if bytes.len() < MIN_BYTES {
         return read_orders(alloc, bytes, callers);
     }
-    read_with_cuts(rt, alloc, bytes, callers, cuts_for(callers))
+    read_in_parts(rt, alloc, bytes, callers, parts_for(callers))
 }

@@ -81,12 +81,13 @@ fn threads_write_the_same_report(rt: HostRuntime) -> Result<(), Fail> {
         (1, 40, 1),
         (1, 4_096, 2),
         (1, 9_001, 4),
+        (1, 16_384, 8),
         (2, 81, 2),
         (2, 8_193, 4),
-        (3, 12_301, 4),
-        (5, 203, 4),
-        (8, 23, 4),
-        (5, 3, 4),
+        (3, 12_301, 6),
+        (5, 203, 5),
+        (8, 23, 8),
+        (5, 3, 5),
     ];
     for (callers, lines, count) in files {
         let scripts = make(alloc, 7, lines, callers)?;

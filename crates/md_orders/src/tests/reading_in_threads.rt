@@ -1,6 +1,6 @@
 //! Files that are read in parts.
 
-use crate::read_in_threads::read_with_cuts;
+use crate::read_in_threads::read_in_parts;
 use crate::{OrderFault, Scripts, read_orders, read_orders_in_threads};
 use md_book::{Command, order_name};
 use std::alloc::{AllocError, Global};
@@ -47,8 +47,8 @@ fn text_of(alloc: Global, start: &[u8], blank: u32, lines: &[u8]) -> Result<Vec<
 // Up to eight parts give what one gives.
 fn same_in_parts<R: Threads + Sync>(rt: &R, alloc: Global, text: &[u8]) -> Result<(), Fail> {
     let want = show(alloc, read_orders(alloc, text, CALLERS))?;
-    for cuts in 0..4 {
-        let shown = show(alloc, read_with_cuts(rt, alloc, text, CALLERS, cuts))?;
+    for parts in 0..9 {
+        let shown = show(alloc, read_in_parts(rt, alloc, text, CALLERS, parts))?;
         if shown.fault != want.fault || shown.commands.as_slice() != want.commands.as_slice() {
             return Err(Fail::new("another result"));
         }
@@ -102,7 +102,7 @@ fn a_bad_line_has_its_number_in_the_file(rt: HostRuntime) -> Result<(), Fail> {
                 text.extend_from_slice(record)?;
             }
             let want = if start.is_empty() { bad + 1 } else { bad + 2 };
-            let fault = read_with_cuts(&rt, alloc, &text, 1, 2).err();
+            let fault = read_in_parts(&rt, alloc, &text, 1, 4).err();
             assert_eq!(rt; fault, Some(OrderFault::BadLine(want)));
         }
     }
@@ -113,7 +113,7 @@ fn a_bad_line_has_its_number_in_the_file(rt: HostRuntime) -> Result<(), Fail> {
 fn an_order_of_the_last_part_has_the_name_of_its_line(rt: HostRuntime) -> Result<(), Fail> {
     let alloc = rt.alloc();
     let text = b"1,A,7\n2,A,7\n1,A,7\n1,A,7\n1,A,7\n2,A,7\n2,P,7,B,1,5\n1,P,7,S,10,5\n1,C,1,5\n";
-    let Ok(scripts) = read_with_cuts(&rt, alloc, text, 2, 2) else {
+    let Ok(scripts) = read_in_parts(&rt, alloc, text, 2, 4) else {
         return Err(Fail::new("refused"));
     };
     let Some(Command::Place { name, .. }) = scripts.command(1, 5) else {

@@ -1,5 +1,5 @@
 use Rattle.md_orders.proofs.Halves.{first-scripts, first-bad}
-use Rattle.md_orders.proofs.read_in_threads.read_with_cuts.Goals as goal
+use Rattle.md_orders.proofs.read_in_threads.read_in_parts.Goals as goal
 
 pub returns-in-None : goal.returns-in-None
 returns-in-None g c = let (noted, few) = c.in_ok-notes.ensures in (few, first-scripts _ _ _ _ _ _ c.in-None.is noted)
