@@ -80,8 +80,7 @@ fn threads_write_the_same_report(rt: HostRuntime) -> Result<(), Fail> {
     let files = [
         (1, 40, 1),
         (1, 4_096, 2),
-        (1, 9_001, 4),
-        (1, 16_384, 8),
+        (1, 20_001, 8),
         (2, 81, 2),
         (2, 8_193, 4),
         (3, 12_301, 6),
