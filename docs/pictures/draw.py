@@ -24,7 +24,7 @@ program: md_orders = order files, reports|program: md_book = commands, the book|
 contract: md_history = bodies, histories, and the contract of a store: the trait Engine
 code: md_store = hash tables and queues, for several threads|code: PlainStore = the store for one thread
 code: md_list = get, insert, remove|code: md_queue = enqueue, dequeue, front, line|law: md_store_law, md_count_law = the store as a theory|law: md_calm = the first attempt
-code: md_nbtc = transactions: begin, load, exchange, ready, decide|law: md_list_law, md_hash_law, md_queue_law = structures as theories
+code: md_nbtc = transactions: begin, load, exchange, ready, decide|law: md_nbtc_law = what their steps leave|law: md_list_law, md_hash_law, md_queue_law = structures as theories
 code: md_arena = takes nodes and attempts|code: md_help = settles attempts, clears descriptors
 code: md_rule = steps on real words, each an event of the machine|law: md_machine = the theorem over all lists of events
 outside: atomic_table = atomic words, of the toolchain|law: md_words = words and their addresses

@@ -32,10 +32,10 @@ use Rattle.md_machine.proofs.lists.Options.{some_same}
 use Rattle.md_machine.proofs.lists.Rising.{here, in_drop, there}
 use Rattle.md_rule.specs.Shares.{share_at}
 use Rattle.md_rule.proofs.Moves.{is_kept}
-use Rattle.md_nbtc.specs.Going.{IsUnderWay, MeetsCount}
-use Rattle.md_nbtc.specs.Prepared.{InstallsFrom, IsPreparedNode, IsWritten, StoredOnce}
-use Rattle.md_nbtc.specs.State.{OwnNode, TxnState, attempt_in, own_steps, shape_in, writes_in}
-use Rattle.md_nbtc.proofs.ready.Lookups.{each_in}
+use Rattle.md_nbtc_law.specs.Going.{IsUnderWay, MeetsCount}
+use Rattle.md_nbtc_law.specs.Prepared.{InstallsFrom, IsPreparedNode, IsWritten, StoredOnce}
+use Rattle.md_nbtc_law.specs.State.{OwnNode, TxnState, attempt_in, own_steps, shape_in, writes_in}
+use Rattle.md_nbtc_law.proofs.ready.Lookups.{each_in}
 use Rattle.md_calm.specs.Calm.{IsLow, installs_in, is_install, is_put, stores_to, StoresNext}
 use Rattle.md_calm.specs.First.{FirstAttemptsStayLow, IsFirst, OpensWithNothingToTidy}
 use Rattle.md_calm.proofs.Counting.{none_counted, one_counted, some_counted, counted_first}

@@ -12,8 +12,8 @@ use Rattle.md_words.specs.Content.{count_of}
 use Rattle.md_rule.specs.Kept.{IsLeft, KeepsLanes}
 use Rattle.md_rule.specs.Shares.{share_at}
 use Rattle.md_rule.specs.Views.{Origin}
-use Rattle.md_nbtc.specs.Going.{IsUnderWay, MeetsCount}
-use Rattle.md_nbtc.specs.State.{OwnNode, TxnState, attempt_in, own_steps, shape_in}
+use Rattle.md_nbtc_law.specs.Going.{IsUnderWay, MeetsCount}
+use Rattle.md_nbtc_law.specs.State.{OwnNode, TxnState, attempt_in, own_steps, shape_in}
 use Rattle.md_calm.specs.Calm.{HasNothingToTidy}
 
 -- whatever nodes are placed in it, a field that is opened so has nothing to tidy

@@ -8,10 +8,10 @@ use Rattle.md_interleavings.specs.Acting.{IsActing, MayEnd, WasRefused}
 use Rattle.md_list.specs.Operations.{Answers, IsBegun, Leaves}
 use Rattle.md_list.specs.Walking.{IsHeadOf}
 use Rattle.md_list.proofs.answers.Answered.{may_answer}
-use Rattle.md_nbtc.specs.Calls.{Ends, GoesOn, with_act, with_operation}
-use Rattle.md_nbtc.specs.Ending.{Begins}
-use Rattle.md_nbtc.specs.Going.{IsGoing, IsUnderWay}
-use Rattle.md_nbtc.specs.State.{TxnState, shape_in}
+use Rattle.md_nbtc_law.specs.Calls.{Ends, GoesOn, with_act, with_operation}
+use Rattle.md_nbtc_law.specs.Ending.{Begins}
+use Rattle.md_nbtc_law.specs.Going.{IsGoing, IsUnderWay}
+use Rattle.md_nbtc_law.specs.State.{TxnState, shape_in}
 use Rattle.md_rule.specs.Views.{FieldView, PassState}
 use Rattle.md_store_law.specs.Store.{store}
 

@@ -4,10 +4,10 @@ use Rattle.md_history.specs.declared.stops.Shown.{Shown}
 use Rattle.md_history.specs.declared.stops.Stop.{Stop}
 use Rattle.md_help.specs.After.{Stands}
 use Rattle.md_interleavings.specs.Acting.{IsActing}
-use Rattle.md_nbtc.specs.Ended.{WasCommitted, WasLost}
-use Rattle.md_nbtc.specs.Ending.{HasEntry, PutDown, Readies, Stopped}
-use Rattle.md_nbtc.specs.LeftReady.{WasLeftReady}
-use Rattle.md_nbtc.specs.State.{TxnState}
+use Rattle.md_nbtc_law.specs.Ended.{WasCommitted, WasLost}
+use Rattle.md_nbtc_law.specs.Ending.{HasEntry, PutDown, Readies, Stopped}
+use Rattle.md_nbtc_law.specs.LeftReady.{WasLeftReady}
+use Rattle.md_nbtc_law.specs.State.{TxnState}
 use Rattle.md_rule.specs.Views.{FieldView, IsOf, PassState}
 use Rattle.md_store_law.specs.Store.{store}
 use Rattle.md_store.specs.Store.{IsPassOf}

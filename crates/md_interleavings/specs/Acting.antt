@@ -6,10 +6,10 @@ use Rattle.md_history.specs.declared.acts.Op.TheVariants.{Get, Insert, Remove, E
 use Rattle.md_history.specs.declared.acts.Reply.{Reply}
 use Rattle.md_history.specs.declared.stops.Stop.{Stop}
 use Rattle.md_history.specs.Calls.{IsLineLength}
-use Rattle.md_nbtc.specs.Calls.{MayAnswer}
-use Rattle.md_nbtc.specs.Going.{IsUnderWay}
-use Rattle.md_nbtc.specs.Known.{IsLater}
-use Rattle.md_nbtc.specs.State.{TxnState}
+use Rattle.md_nbtc_law.specs.Calls.{MayAnswer}
+use Rattle.md_nbtc_law.specs.Going.{IsUnderWay}
+use Rattle.md_nbtc_law.specs.Known.{IsLater}
+use Rattle.md_nbtc_law.specs.State.{TxnState}
 use Rattle.md_rule.specs.Views.{FieldView}
 use Rattle.md_store_law.specs.Store.{store}
 

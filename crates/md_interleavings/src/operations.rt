@@ -3,7 +3,8 @@
 ghost use Rattle.std.specs.Prelude.{◌≡◌, None};
 ghost use Rattle.md_interleavings.specs.Acting.{Exists, Makes};
 ghost use Rattle.md_list.specs.Operations.{IsBegun};
-ghost use Rattle.md_nbtc.specs.State.{shape_in, state};
+ghost use Rattle.md_nbtc_law.specs.State.{shape_in};
+ghost use Rattle.md_nbtc.specs.State.{state};
 ghost use Rattle.md_store_law.specs.Store.{store};
 
 use md_history::{Op, Reply, Stop};

@@ -6,7 +6,7 @@ use Rattle.md_words.specs.Link.{linked_node}
 use Rattle.md_machine.specs.declared.attempt.Read.{Read}
 use Rattle.md_machine.specs.declared.certificate.Change.{Change}
 use Rattle.md_machine.specs.declared.certificate.TidyChange.{TidyChange}
-use Rattle.md_nbtc.specs.State.{OwnNode, TxnState, shape_in}
+use Rattle.md_nbtc_law.specs.State.{OwnNode, TxnState, shape_in}
 use Rattle.md_list_law.specs.ListShape.{next_word}
 
 -- why an unlink is a part of the transaction: earlier changes of it changed the word, or the word was recorded, or is the

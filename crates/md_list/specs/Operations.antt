@@ -13,16 +13,16 @@ use Rattle.md_machine.specs.declared.certificate.Certificate.{Certificate}
 use Rattle.md_machine.specs.declared.certificate.Change.{Change}
 use Rattle.md_machine.specs.Certified.{all_changes}
 use Rattle.md_machine.specs.Meaning.{Meaning}
-use Rattle.md_nbtc.specs.declared.seen.Cleanup.{Cleanup}
-use Rattle.md_nbtc.specs.declared.seen.Cleanup.TheVariants.{Unlink}
-use Rattle.md_nbtc.specs.declared.seen.Seen.{Seen}
-use Rattle.md_nbtc.specs.declared.sets.Slot.{Slot}
+use Rattle.md_nbtc_law.specs.declared.seen.Cleanup.{Cleanup}
+use Rattle.md_nbtc_law.specs.declared.seen.Cleanup.TheVariants.{Unlink}
+use Rattle.md_nbtc_law.specs.declared.seen.Seen.{Seen}
+use Rattle.md_nbtc_law.specs.declared.slots.Slot.{Slot}
 use Rattle.md_rule.specs.Steps.{IsOf as IsOfAct}
-use Rattle.md_nbtc.specs.Calls.{GoesOn}
-use Rattle.md_nbtc.specs.Course.{MayEnd}
-use Rattle.md_nbtc.specs.Going.{IsGoing, IsUnderWay}
-use Rattle.md_nbtc.specs.Seeing.{Gave}
-use Rattle.md_nbtc.specs.State.{TxnState, shape_in}
+use Rattle.md_nbtc_law.specs.Calls.{GoesOn}
+use Rattle.md_nbtc_law.specs.Course.{MayEnd}
+use Rattle.md_nbtc_law.specs.Going.{IsGoing, IsUnderWay}
+use Rattle.md_nbtc_law.specs.Seeing.{Gave}
+use Rattle.md_nbtc_law.specs.State.{TxnState, shape_in}
 use Rattle.md_list_law.specs.HasLists.{IsMapCertificate}
 use Rattle.md_list_law.specs.ListShape.{next_word}
 use Rattle.md_list.specs.Charged.{AreCharged}

@@ -11,12 +11,12 @@ use Rattle.md_machine.specs.declared.node.Structure.TheVariants.{Bucket}
 use Rattle.md_machine.specs.Certified.{after_wholes, all_changes}
 use Rattle.md_machine.specs.LogicalHeap.{Holds}
 use Rattle.md_machine.specs.Meaning.{Meaning}
-use Rattle.md_nbtc.specs.declared.seen.Seen.{Seen}
-use Rattle.md_nbtc.specs.Going.{IsFoundThere, IsGoing}
-use Rattle.md_nbtc.specs.Known.{Known}
-use Rattle.md_nbtc.specs.Seeing.{Gave}
-use Rattle.md_nbtc.specs.State.{TxnState, shape_in}
-use Rattle.md_nbtc.specs.Tidied.{HasTidied}
+use Rattle.md_nbtc_law.specs.declared.seen.Seen.{Seen}
+use Rattle.md_nbtc_law.specs.Going.{IsFoundThere, IsGoing}
+use Rattle.md_nbtc_law.specs.Known.{Known}
+use Rattle.md_nbtc_law.specs.Seeing.{Gave}
+use Rattle.md_nbtc_law.specs.State.{TxnState, shape_in}
+use Rattle.md_nbtc_law.specs.Tidied.{HasTidied}
 use Rattle.md_list_law.specs.Certificates.{IsUnlink, key_fact}
 use Rattle.md_list_law.specs.ListShape.{head_word, next_word}
 use Rattle.md_list.specs.Charged.{AreCharged}

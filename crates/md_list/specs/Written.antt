@@ -2,7 +2,7 @@
 use Rattle.std.specs.Prelude.{◌≤◌, ◌+◌, ℕ, List, filter, length, not}
 use Rattle.md_machine.specs.declared.attempt.Read.{Read}
 use Rattle.md_machine.specs.Certified.{is_written}
-use Rattle.md_nbtc.specs.State.{TxnState, writes_in}
+use Rattle.md_nbtc_law.specs.State.{TxnState, writes_in}
 
 -- the words that a transaction recorded or writes, each counted once
 abbrev pub unwritten_reads : TxnState → List Read

@@ -2,7 +2,7 @@
 
 ghost use Rattle.std.specs.Prelude.{◌≡◌, IfOk};
 ghost use Rattle.md_history.specs.declared.stops.Limit.TheVariants.{Reads, Writes};
-ghost use Rattle.md_nbtc.specs.Calls.{AfterStop};
+ghost use Rattle.md_nbtc_law.specs.Calls.{AfterStop};
 ghost use Rattle.md_nbtc.specs.State.{state};
 ghost use Rattle.md_list.specs.Operations.{HasStopButNodes, Leaves};
 ghost use Rattle.md_list.specs.Refusals.{NotRefusedBy, RefusedBy, WalkNeedsSlot};

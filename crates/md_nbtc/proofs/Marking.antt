@@ -4,9 +4,9 @@ use Rattle.std.proofs.lemmas.Bool.{cases_Bool, cond-false}
 use Rattle.std.proofs.lemmas.List.{length-map, length-take-le}
 use Rattle.md_machine.specs.declared.attempt.Read.{Read}
 use Rattle.md_machine.specs.Certified.{content_read}
-use Rattle.md_nbtc.specs.declared.sets.Slot.{Slot}
+use Rattle.md_nbtc_law.specs.declared.slots.Slot.{Slot}
+use Rattle.md_nbtc_law.specs.Sets.{place_of}
 use Rattle.md_nbtc.specs.Marks.{AreMarked, AreMarkedFrom}
-use Rattle.md_nbtc.specs.Sets.{place_of}
 
 -- two words differ if one's mark is no later than a place, and the other's is later
 apart : (marks : List ℕ) (a b place : ℕ) → get_or marks (a % 64) 0 ≤ place → place < get_or marks (b % 64) 0 → (a == b) ≡ false

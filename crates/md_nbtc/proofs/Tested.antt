@@ -9,18 +9,18 @@ use Rattle.md_rule.specs.Views.{FieldView, IsOf, PassState}
 use Rattle.md_words.specs.Layout.{IsNode, address}
 use Rattle.md_words.specs.Place.{node_next}
 use Rattle.md_words.specs.PlaceAt.{IsCounted}
-use Rattle.md_nbtc.specs.declared.seen.Kind.{Kind}
-use Rattle.md_nbtc.specs.declared.seen.Kind.TheVariants.{Critical}
-use Rattle.md_nbtc.specs.declared.seen.Seen.{Seen}
-use Rattle.md_nbtc.specs.declared.sets.Slot.{Slot}
-use Rattle.md_nbtc.specs.Calls.{AfterStop, ExchangeCase, Exchanges, Freshened, GoesOn, Looked, MayExchange, NoteCase, Notes, changes, exchange_case, full, installs, moved, no_slot, note_case, noted, own, recorded, unread, with_operation, worn}
-use Rattle.md_nbtc.specs.Cleaning.{FitsCleanup}
-use Rattle.md_nbtc.specs.Going.{IsFoundThere, IsGoing}
-use Rattle.md_nbtc.specs.Seeing.{IsNextOf, Looks}
-use Rattle.md_nbtc.specs.Sets.{with_new}
-use Rattle.md_nbtc.specs.State.{TxnState, shape_in}
+use Rattle.md_nbtc_law.specs.declared.seen.Kind.{Kind}
+use Rattle.md_nbtc_law.specs.declared.seen.Kind.TheVariants.{Critical}
+use Rattle.md_nbtc_law.specs.declared.seen.Seen.{Seen}
+use Rattle.md_nbtc_law.specs.declared.slots.Slot.{Slot}
+use Rattle.md_nbtc_law.specs.Calls.{AfterStop, ExchangeCase, Exchanges, Freshened, GoesOn, Looked, MayExchange, NoteCase, Notes, changes, exchange_case, full, installs, moved, no_slot, note_case, noted, own, recorded, unread, with_operation, worn}
+use Rattle.md_nbtc_law.specs.Cleaning.{FitsCleanup}
+use Rattle.md_nbtc_law.specs.Going.{IsFoundThere, IsGoing}
+use Rattle.md_nbtc_law.specs.Seeing.{IsNextOf, Looks}
+use Rattle.md_nbtc_law.specs.Sets.{with_new}
+use Rattle.md_nbtc_law.specs.State.{TxnState, shape_in}
+use Rattle.md_nbtc_law.proofs.structures.Exchanging.{may_exchange_so}
 use Rattle.md_nbtc.specs.Tested.{IsOpen}
-use Rattle.md_nbtc.proofs.structures.Exchanging.{may_exchange_so}
 
 abbrev IsBare : Slot → Type 0
 IsBare s = s.cleanup ≡ None

@@ -2,9 +2,9 @@
 use Rattle.std.specs.Prelude.{◌≡◌, true, None, All}
 use Rattle.md_cell.specs.CellMeaning.{cell_meaning}
 use Rattle.md_rule.specs.Views.{FieldView}
-use Rattle.md_nbtc.specs.declared.sets.Slot.{Slot}
-use Rattle.md_nbtc.specs.Going.{IsUnderWay}
-use Rattle.md_nbtc.specs.State.{TxnState}
+use Rattle.md_nbtc_law.specs.declared.slots.Slot.{Slot}
+use Rattle.md_nbtc_law.specs.Going.{IsUnderWay}
+use Rattle.md_nbtc_law.specs.State.{TxnState}
 
 -- it is under way in an operation on the field, and keeps no cleanup
 pub record IsOpen (f : FieldView) (t : TxnState) : Type 0 where

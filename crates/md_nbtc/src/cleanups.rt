@@ -1,14 +1,14 @@
 //! What a transaction puts off until it has committed.
 
 ghost use Rattle.std.specs.Prelude.{◌≡◌, ℕ, true};
-ghost use Rattle.md_nbtc.specs.Calls.{Keeps};
-ghost use Rattle.md_nbtc.specs.Cleaning.{IsWrittenFor, cleanup_node, with_cleanup_kept};
-ghost use Rattle.md_nbtc.specs.Seeing.{KeepsGiven};
+ghost use Rattle.md_nbtc_law.specs.Calls.{Keeps};
+ghost use Rattle.md_nbtc_law.specs.Cleaning.{IsWrittenFor, cleanup_node, with_cleanup_kept};
+ghost use Rattle.md_nbtc_law.specs.Seeing.{KeepsGiven};
 ghost use Rattle.md_nbtc.specs.State.{state};
 
-use crate::seen::Cleanup;
 use crate::txn::Txn;
 use md_machine::Theory;
+use md_nbtc_law::Cleanup;
 
 // The node by whose next word a cleanup goes.
 fn node_of(cleanup: Cleanup) -> u32

@@ -12,7 +12,7 @@ ghost use Rattle.md_machine.specs.events.Uninstall.{IsDecided};
 ghost use Rattle.md_rule.specs.Views.{IsOf};
 ghost use Rattle.md_help.specs.After.{Stands};
 ghost use Rattle.md_help.specs.Settles.{MetStatus};
-ghost use Rattle.md_nbtc.specs.Deciding.{IsFateFound, MaySettle, Settles, Validates};
+ghost use Rattle.md_nbtc_law.specs.Deciding.{IsFateFound, MaySettle, Settles, Validates};
 
 use crate::sets::Reads;
 use md_help::does_stand;

@@ -3,13 +3,14 @@
 ghost use Rattle.std.specs.Prelude.{◌≡◌, ◌<◌, ◌^◌, None, IfErr, IfOk, MatchResult, false};
 ghost use Rattle.md_words.specs.declared.status.Status.TheVariants.{InPrep, InProg};
 ghost use Rattle.md_words.specs.Status.{status_word};
-ghost use Rattle.md_nbtc.specs.Ending.{Aborts, Commits, HasEntry, IsReady, IsShown, Readies, Stopped};
-ghost use Rattle.md_nbtc.specs.Ending.{TellsWhy, receipt_of};
-ghost use Rattle.md_nbtc.specs.Ended.{WasCommitted, WasLost, WasUnready};
-ghost use Rattle.md_nbtc.specs.LeftReady.{WasLeftReady};
-ghost use Rattle.md_nbtc.specs.Ending.{ready_state, shown_unready};
-ghost use Rattle.md_nbtc.specs.Going.{IsUnderWay};
-ghost use Rattle.md_nbtc.specs.State.{state, state_of};
+ghost use Rattle.md_nbtc_law.specs.Ending.{Aborts, Commits, HasEntry, IsReady, IsShown, Readies};
+ghost use Rattle.md_nbtc_law.specs.Ending.{Stopped, TellsWhy, receipt_of, shown_unready};
+ghost use Rattle.md_nbtc_law.specs.Ended.{WasCommitted, WasLost, WasUnready};
+ghost use Rattle.md_nbtc_law.specs.LeftReady.{WasLeftReady};
+ghost use Rattle.md_nbtc_law.specs.Going.{IsUnderWay};
+ghost use Rattle.md_nbtc_law.specs.State.{state_of};
+ghost use Rattle.md_nbtc.specs.Ending.{ready_state};
+ghost use Rattle.md_nbtc.specs.State.{state};
 
 use crate::deciding::{settle, validate};
 use crate::receipt::Receipt;

@@ -1,16 +1,15 @@
 //! How a transaction takes new nodes.
 
 ghost use Rattle.std.specs.Prelude.{◌≡◌, ◌<◌, ◌/◌, ℕ, true};
-ghost use Rattle.md_nbtc.specs.Calls.{AfterStop, FreshKeepsGiven, Freshened, GoesOn};
-ghost use Rattle.md_nbtc.specs.Going.{IsUnderWay};
+ghost use Rattle.md_nbtc_law.specs.Calls.{AfterStop, FreshKeepsGiven, Freshened, GoesOn};
+ghost use Rattle.md_nbtc_law.specs.Going.{IsUnderWay};
 ghost use Rattle.md_nbtc.specs.State.{state};
 
-use crate::seen::WORN;
-use crate::sets::Lot;
 use crate::txn::Txn;
 use md_arena::{give_back, take_node};
 use md_history::{Limit, Stop};
 use md_machine::Theory;
+use md_nbtc_law::{Lot, WORN};
 use md_words::Content;
 
 // The quotient of two numbers, where one is likely. It is tried first, since a division takes longer

@@ -8,8 +8,8 @@
 //! (`note`), changes them (`exchange`), takes new nodes (`fresh`), and puts off cleanups until the
 //! commit (`later`). `stop` ends the transaction without effect. `ready` fixes its place in the
 //! history, and `Ready::decide` commits it, with a `Receipt`, or aborts it. Contracts see a
-//! transaction by its state (`specs/State.antt`), and what it knows of the field, whatever others
-//! do, by `Known`.
+//! transaction by its state (`state`). md_nbtc_law says what such a state is and what the steps
+//! leave of it, and what a transaction knows of the field, whatever others do (`Known`).
 //!
 //! The comments use these words. A **step** is one atomic step on a shared word. If a transaction
 //! **records** a word, it commits only if the word still holds what was seen there. If it
@@ -20,9 +20,9 @@
 
 pub use begin::{Begun, decided_status, take_left_out};
 pub use ending::{Ready, Refused};
+pub use md_nbtc_law::{Cleanup, Kind, Seen, Slot};
 pub use receipt::Receipt;
-pub use seen::{Cleanup, Kind, Seen};
-pub use sets::{Sets, Slot};
+pub use sets::Sets;
 pub use txn::Txn;
 
 mod begin;
@@ -35,7 +35,6 @@ mod load;
 mod marks;
 mod note;
 mod receipt;
-mod seen;
 mod sets;
 mod stopping;
 #[cfg(test)]

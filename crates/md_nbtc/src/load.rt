@@ -8,25 +8,23 @@ ghost use Rattle.md_machine.specs.declared.step.TheConstants.{LAST_COUNT};
 ghost use Rattle.md_machine.specs.events.Install.{installed_word};
 ghost use Rattle.md_rule.specs.Views.{IsOf};
 ghost use Rattle.md_help.specs.After.{Stands};
-ghost use Rattle.md_nbtc.specs.declared.load.TheConstants.{LOOKS};
-ghost use Rattle.md_nbtc.specs.Calls.{AfterStop, GoesOn, Looked};
-ghost use Rattle.md_nbtc.specs.Going.{IsUnderWay};
-ghost use Rattle.md_nbtc.specs.Looking.{LookSteps, LooksUntil};
-ghost use Rattle.md_nbtc.specs.Seeing.{KeepsGiven};
-ghost use Rattle.md_nbtc.specs.Sets.{place_of};
-ghost use Rattle.md_nbtc.specs.State.{shape_in, state};
+ghost use Rattle.md_nbtc_law.specs.declared.seen.TheConstants.{LOOKS};
+ghost use Rattle.md_nbtc_law.specs.Calls.{AfterStop, GoesOn, Looked};
+ghost use Rattle.md_nbtc_law.specs.Going.{IsUnderWay};
+ghost use Rattle.md_nbtc_law.specs.Looking.{LookSteps, LooksUntil};
+ghost use Rattle.md_nbtc_law.specs.Seeing.{KeepsGiven};
+ghost use Rattle.md_nbtc_law.specs.Sets.{place_of};
+ghost use Rattle.md_nbtc_law.specs.State.{shape_in};
+ghost use Rattle.md_nbtc.specs.State.{state};
 
-use crate::seen::Seen;
 use crate::txn::Txn;
 use md_help::clear;
 use md_history::{Shown, Stop};
 use md_machine::{Theory, Write};
+use md_nbtc_law::{LOOKS, Seen};
 use md_rule::{Field, Pass};
 use md_words::{Content, Spot};
 use std::hint::spin_loop;
-
-// So often a descriptor is looked at again at most, before it is cleared.
-const LOOKS: u32 = 300;
 
 // So often one of a higher number is, by a transaction whose own descriptor stands in a word. If two
 // transactions each hold a word that the other wants, one of them soon gives way.

@@ -5,16 +5,17 @@ ghost use Rattle.std.specs.Prelude.{length, false, true};
 ghost use Rattle.md_words.specs.declared.limits.TheConstants.{SET};
 ghost use Rattle.md_words.specs.Content.{count_of, value_of};
 ghost use Rattle.md_machine.specs.Certified.{content_read};
-ghost use Rattle.md_nbtc.specs.declared.seen.Seen.{Seen};
-ghost use Rattle.md_nbtc.specs.Calls.{AfterStop, GoesOn, Notes, note_case};
-ghost use Rattle.md_nbtc.specs.Going.{HasCause, IsFoundThere, IsUnderWay};
-ghost use Rattle.md_nbtc.specs.Seeing.{Gave, KeepsGiven};
-ghost use Rattle.md_nbtc.specs.State.{seen_content, state};
+ghost use Rattle.md_nbtc_law.specs.declared.seen.Seen.{Seen};
+ghost use Rattle.md_nbtc_law.specs.Calls.{AfterStop, GoesOn, Notes, note_case};
+ghost use Rattle.md_nbtc_law.specs.Going.{HasCause, IsFoundThere, IsUnderWay};
+ghost use Rattle.md_nbtc_law.specs.Seeing.{Gave, KeepsGiven};
+ghost use Rattle.md_nbtc_law.specs.State.{seen_content};
+ghost use Rattle.md_nbtc.specs.State.{state};
 
-use crate::seen::Seen;
 use crate::txn::Txn;
 use md_history::{Limit, Shown, Stop};
 use md_machine::{Read, Theory};
+use md_nbtc_law::Seen;
 use md_words::{Content, SET};
 
 // The word of what was seen.

@@ -5,7 +5,7 @@ ghost use Rattle.md_words.specs.declared.limits.TheConstants.{SET};
 ghost use Rattle.md_words.specs.Content.{count_of};
 ghost use Rattle.md_machine.specs.declared.step.TheConstants.{LAST_COUNT};
 ghost use Rattle.md_machine.specs.Certified.{is_written};
-ghost use Rattle.md_nbtc.specs.Telling.{MayTell, read_count, write_count};
+ghost use Rattle.md_nbtc_law.specs.Telling.{MayTell, read_count, write_count};
 
 use crate::sets::{Reads, Slots};
 use md_machine::Read;
@@ -66,7 +66,7 @@ pub struct Receipt {
 }
 
 impl Model for Receipt {
-    ghost use Rattle.md_nbtc.specs.Telling.{Told};
+    ghost use Rattle.md_nbtc_law.specs.Telling.{Told};
 
     ghost Value = { Told };
 

@@ -6,62 +6,17 @@ ghost use Rattle.std.specs.Prelude.{false};
 ghost use Rattle.std.specs.List.{list_any};
 ghost use Rattle.md_words.specs.declared.limits.TheConstants.{SET};
 ghost use Rattle.md_machine.specs.Certified.{content_read};
-ghost use Rattle.md_nbtc.specs.declared.sets.TheConstants.{NO_LOT, NO_READ, NO_SLOT};
-ghost use Rattle.md_nbtc.specs.Cleaning.{with_cleanup};
-ghost use Rattle.md_nbtc.specs.Sets.{no_sets, place_of, renewed_at, with_lot};
+ghost use Rattle.md_nbtc_law.specs.declared.slots.TheConstants.{NO_LOT, NO_READ, NO_SLOT};
+ghost use Rattle.md_nbtc_law.specs.Cleaning.{with_cleanup};
+ghost use Rattle.md_nbtc_law.specs.Sets.{place_of, renewed_at, with_lot};
+ghost use Rattle.md_nbtc.specs.Sets.{no_sets};
 
 use crate::marks::Marks;
-use crate::seen::Cleanup;
-use md_machine::{Read, Write};
+use md_machine::Read;
+use md_nbtc_law::{Cleanup, Lot, NO_LOT, NO_READ, NO_SLOT, Slot};
 use std::marker::Model;
 
 const ROOM: usize = 128;
-
-// All zero, so that one fill clears a set.
-const NO_READ: Read = Read {
-    word: 0,
-    content: 0,
-    stood: false,
-};
-
-const NO_SLOT: Slot = Slot {
-    write: Write {
-        slot: 0,
-        word: 0,
-        old: 0,
-        new: 0,
-    },
-    cleanup: None,
-};
-
-const NO_LOT: Lot = Lot { lane: 0, first: 0 };
-
-/// A word that the transaction writes, and the cleanup that is kept with it.
-#[derive(Clone, Copy)]
-pub struct Slot {
-    pub write: Write,
-    pub cleanup: Option<Cleanup>,
-}
-
-impl Slot {
-    // A slot of a number, for a word with this old content and a new value.
-    pub(crate) fn of(slot: u8, word: u32, old: u64, to: u32) -> Slot
-        ensures { result ≡ record {
-          write = record { slot = slot; word = word; old = old; new = to };
-          cleanup = None;
-        } }
-    {
-        Slot {
-            write: Write {
-                slot,
-                word,
-                old,
-                new: to as u64,
-            },
-            cleanup: None,
-        }
-    }
-}
 
 /// The recorded words with what was found there.
 #[derive(Drop)]
@@ -148,8 +103,8 @@ pub(crate) struct Slots {
 
 impl Model for Slots {
     ghost use Rattle.std.specs.Prelude.{◌≡◌, List, take, map, ◌≤◌, length};
+    ghost use Rattle.md_nbtc_law.specs.declared.slots.Slot.{Slot};
     ghost use Rattle.md_nbtc.specs.Marks.{AreMarked};
-    ghost use Rattle.md_nbtc.specs.declared.sets.Slot.{Slot};
 
     ghost Value = { List Slot };
 
@@ -232,13 +187,6 @@ impl Slots {
     }
 }
 
-/// The nodes of a lane from this place on are the transaction's.
-#[derive(Clone, Copy)]
-pub struct Lot {
-    pub lane: u32,
-    pub first: u32,
-}
-
 /// The lanes that gave the transaction nodes, in order.
 #[derive(Drop)]
 pub(crate) struct Lots {
@@ -248,7 +196,7 @@ pub(crate) struct Lots {
 
 impl Model for Lots {
     ghost use Rattle.std.specs.Prelude.{◌≡◌, List, take, ◌≤◌, length};
-    ghost use Rattle.md_nbtc.specs.declared.sets.Lot.{Lot};
+    ghost use Rattle.md_nbtc_law.specs.declared.slots.Lot.{Lot};
 
     ghost Value = { List Lot };
 

@@ -1,8 +1,8 @@
 //! How a transaction is stopped, or left.
 
 ghost use Rattle.std.specs.Prelude.{◌≡◌};
-ghost use Rattle.md_nbtc.specs.Ending.{Stopped};
-ghost use Rattle.md_nbtc.specs.Going.{IsUnderWay};
+ghost use Rattle.md_nbtc_law.specs.Ending.{Stopped};
+ghost use Rattle.md_nbtc_law.specs.Going.{IsUnderWay};
 ghost use Rattle.md_nbtc.specs.State.{state};
 
 use crate::txn::Txn;

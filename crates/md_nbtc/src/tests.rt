@@ -5,10 +5,10 @@ ghost use Rattle.md_rule.specs.Views.{IsOf};
 ghost use Rattle.md_nbtc.specs.Tested.{IsOpen};
 ghost use Rattle.md_nbtc.specs.State.{state};
 
-use crate::seen::WORN;
 use crate::{Kind, Receipt, Seen, Sets, Txn};
 use md_cell::{CellTheory, cell_rows};
 use md_history::{Limit, Shown, Stop};
+use md_nbtc_law::WORN;
 use md_rule::{Field, Pass};
 use md_words::Shape;
 use std::alloc::{AllocError, Global};

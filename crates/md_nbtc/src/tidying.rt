@@ -10,17 +10,17 @@ ghost use Rattle.md_machine.specs.declared.step.Step.{Step};
 ghost use Rattle.md_machine.specs.events.Start.{IsClean};
 ghost use Rattle.md_rule.specs.Views.{IsOf};
 ghost use Rattle.md_help.specs.After.{Stands};
-ghost use Rattle.md_nbtc.specs.Cleaning.{cleanup_node, cleanup_value, cleanup_word};
-ghost use Rattle.md_nbtc.specs.Deciding.{Cleaned, CleansSlots, FindsNext, MayClean, MayCleanSlot};
-ghost use Rattle.md_nbtc.specs.Deciding.{CleansSlot, Finishes};
-ghost use Rattle.md_nbtc.specs.Deciding.{TakesSlots, TookLeft, TookOut, TookSlot, Tried};
-ghost use Rattle.md_nbtc.specs.Ending.{IsReason, names_node};
-ghost use Rattle.md_nbtc.specs.Withdrawing.{AreInstalled, HasFate, IsAlwaysPlaced};
+ghost use Rattle.md_nbtc_law.specs.Cleaning.{cleanup_node, cleanup_value, cleanup_word};
+ghost use Rattle.md_nbtc_law.specs.Deciding.{Cleaned, CleansSlot, CleansSlots, FindsNext, Finishes};
+ghost use Rattle.md_nbtc_law.specs.Deciding.{MayClean, MayCleanSlot, TakesSlots, TookLeft, TookOut};
+ghost use Rattle.md_nbtc_law.specs.Deciding.{TookSlot, Tried};
+ghost use Rattle.md_nbtc_law.specs.Ending.{IsReason, names_node};
+ghost use Rattle.md_nbtc_law.specs.Withdrawing.{AreInstalled, HasFate, IsAlwaysPlaced};
 
-use crate::seen::{Cleanup, WORN};
-use crate::sets::{Lefts, Slot, Slots};
+use crate::sets::{Lefts, Slots};
 use crate::withdrawing::take_write_out;
 use md_machine::{AttemptId, Theory};
+use md_nbtc_law::{Cleanup, Slot, WORN};
 use md_rule::{Field, Pass};
 use md_words::{Content, Status};
 

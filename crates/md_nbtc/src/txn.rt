@@ -3,12 +3,13 @@
 ghost use Rattle.std.specs.Prelude.{◌≡◌, ℕ, false, true};
 ghost use Rattle.md_words.specs.PlaceAt.{place_at};
 ghost use Rattle.md_rule.specs.Kept.{KeepsLanes};
-ghost use Rattle.md_nbtc.specs.Calls.{Ends, GoesOn, IsData, MayAnswer};
-ghost use Rattle.md_nbtc.specs.Calls.{data_at, with_act, with_operation};
-ghost use Rattle.md_nbtc.specs.Going.{IsUnderWay};
-ghost use Rattle.md_nbtc.specs.Known.{Known};
-ghost use Rattle.md_nbtc.specs.Seeing.{KeepsGiven};
-ghost use Rattle.md_nbtc.specs.State.{shape_in, state};
+ghost use Rattle.md_nbtc_law.specs.Calls.{Ends, GoesOn, IsData, MayAnswer};
+ghost use Rattle.md_nbtc_law.specs.Calls.{data_at, with_act, with_operation};
+ghost use Rattle.md_nbtc_law.specs.Going.{IsUnderWay};
+ghost use Rattle.md_nbtc_law.specs.Known.{Known};
+ghost use Rattle.md_nbtc_law.specs.Seeing.{KeepsGiven};
+ghost use Rattle.md_nbtc_law.specs.State.{shape_in};
+ghost use Rattle.md_nbtc.specs.State.{state};
 
 use crate::sets::Sets;
 use md_history::{Op, Reply, Stop};

@@ -3,8 +3,8 @@
 ghost use Rattle.std.specs.Prelude.{◌≡◌, map};
 ghost use Rattle.md_help.specs.After.{Stands};
 ghost use Rattle.md_rule.specs.Views.{IsOf};
-ghost use Rattle.md_nbtc.specs.State.{lots_since};
-ghost use Rattle.md_nbtc.specs.Withdrawn.{AbortsHand, IsUnready, MayWithdraw, Withdraws};
+ghost use Rattle.md_nbtc_law.specs.State.{lots_since};
+ghost use Rattle.md_nbtc_law.specs.Withdrawn.{AbortsHand, IsUnready, MayWithdraw, Withdraws};
 
 use crate::sets::{Lots, Slots};
 use crate::withdrawing::{give_nodes_back, take_writes_out};

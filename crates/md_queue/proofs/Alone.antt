@@ -23,22 +23,22 @@ use Rattle.md_machine.specs.clauses.passes.Alone.{HoldsAll, IsAlone, LastStand}
 use Rattle.md_machine.proofs.chain.Values.{value_even}
 use Rattle.md_machine.proofs.lists.Rising.{here}
 use Rattle.md_rule.proofs.Moves.{is_kept}
-use Rattle.md_nbtc.specs.declared.seen.Seen.{Seen}
-use Rattle.md_nbtc.specs.Going.{IsGoing}
-use Rattle.md_nbtc.specs.Known.{IsHeapOf, IsLater, Met, found_by}
-use Rattle.md_nbtc.specs.Prepared.{IsPrepared, LeftThere}
-use Rattle.md_nbtc.specs.Seeing.{Gave, SeesContent}
-use Rattle.md_nbtc.specs.State.{OwnNode, TxnState, attempt_in, own_steps, seen_content, shape_in, writes_in}
-use Rattle.md_nbtc.specs.Tidied.{HasTidied, tidied}
-use Rattle.md_nbtc.proofs.Values.{IsApart}
-use Rattle.md_nbtc.proofs.exchanging.Refused.{read_there}
-use Rattle.md_nbtc.proofs.looks.AloneChain.{ChainsFrom, chain_later, chained, last_at, stays_held}
-use Rattle.md_nbtc.proofs.ready.Lookups.{all_of, written_replaced}
-use Rattle.md_nbtc.proofs.ready.Lost.{began_then, last_part, on_word, one_stands}
-use Rattle.md_nbtc.proofs.structures.FoundLater.{found_value}
-use Rattle.md_nbtc.proofs.structures.NodesKnown.{new_differ, new_exist, new_free, own_is_new, shape_known}
-use Rattle.md_nbtc.proofs.structures.SeenValues.{own_value}
-use Rattle.md_nbtc.proofs.structures.Words.{stored_value, unwritten_value}
+use Rattle.md_nbtc_law.specs.declared.seen.Seen.{Seen}
+use Rattle.md_nbtc_law.specs.Going.{IsGoing}
+use Rattle.md_nbtc_law.specs.Known.{IsHeapOf, IsLater, Met, found_by}
+use Rattle.md_nbtc_law.specs.Prepared.{IsPrepared, LeftThere}
+use Rattle.md_nbtc_law.specs.Seeing.{Gave, SeesContent}
+use Rattle.md_nbtc_law.specs.State.{OwnNode, TxnState, attempt_in, own_steps, seen_content, shape_in, writes_in}
+use Rattle.md_nbtc_law.specs.Tidied.{HasTidied, tidied}
+use Rattle.md_nbtc_law.proofs.Values.{IsApart}
+use Rattle.md_nbtc_law.proofs.exchanging.Refused.{read_there}
+use Rattle.md_nbtc_law.proofs.looks.AloneChain.{ChainsFrom, chain_later, chained, last_at, stays_held}
+use Rattle.md_nbtc_law.proofs.ready.Lookups.{all_of, written_replaced}
+use Rattle.md_nbtc_law.proofs.ready.Lost.{began_then, last_part, on_word, one_stands}
+use Rattle.md_nbtc_law.proofs.structures.FoundLater.{found_value}
+use Rattle.md_nbtc_law.proofs.structures.NodesKnown.{new_differ, new_exist, new_free, own_is_new, shape_known}
+use Rattle.md_nbtc_law.proofs.structures.SeenValues.{own_value}
+use Rattle.md_nbtc_law.proofs.structures.Words.{stored_value, unwritten_value}
 use Rattle.md_queue.specs.Working.{SeesAt}
 
 module _ (M : Meaning) (t : TxnState) (prepared : IsPrepared t) (all : HoldsAll (shape_in t) t.pass.view) (h : LogicalHeap) (of : IsHeapOf M t h) where

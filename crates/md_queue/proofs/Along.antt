@@ -19,14 +19,14 @@ use Rattle.md_machine.specs.declared.certificate.WordValue.{WordValue}
 use Rattle.md_machine.specs.Certified.{after_wholes}
 use Rattle.md_machine.specs.LogicalHeap.{Holds}
 use Rattle.md_machine.specs.Meaning.{Lawful, Meaning}
-use Rattle.md_nbtc.specs.declared.seen.Seen.{Seen}
-use Rattle.md_nbtc.specs.Calls.{GoesOn}
-use Rattle.md_nbtc.specs.Known.{IsLater, Known}
-use Rattle.md_nbtc.specs.Seeing.{Looks}
-use Rattle.md_nbtc.specs.State.{TxnState, shape_in}
-use Rattle.md_nbtc.proofs.preparing.Later.{known_later, later_over}
-use Rattle.md_nbtc.proofs.structures.NodesKnown.{shape_later}
-use Rattle.md_nbtc.proofs.structures.Noting.{HasNoted}
+use Rattle.md_nbtc_law.specs.declared.seen.Seen.{Seen}
+use Rattle.md_nbtc_law.specs.Calls.{GoesOn}
+use Rattle.md_nbtc_law.specs.Known.{IsLater, Known}
+use Rattle.md_nbtc_law.specs.Seeing.{Looks}
+use Rattle.md_nbtc_law.specs.State.{TxnState, shape_in}
+use Rattle.md_nbtc_law.proofs.preparing.Later.{known_later, later_over}
+use Rattle.md_nbtc_law.proofs.structures.NodesKnown.{shape_later}
+use Rattle.md_nbtc_law.proofs.structures.Noting.{HasNoted}
 use Rattle.md_queue_law.specs.QueueCertificates.{Seen as Passed, LooksEnough, LooksToEnd, has_value, head_is, last_seen, next_is, next_words}
 use Rattle.md_queue_law.specs.QueueMeaning.{HasQueuesOf}
 use Rattle.md_queue_law.specs.QueueShape.{link}

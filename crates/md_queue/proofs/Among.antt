@@ -10,10 +10,10 @@ use Rattle.md_machine.specs.declared.certificate.Certificate.{Certificate}
 use Rattle.md_machine.specs.Certified.{all_changes}
 use Rattle.md_machine.specs.Meaning.{Meaning}
 use Rattle.md_rule.specs.Steps.{IsOf as IsOfAct}
-use Rattle.md_nbtc.specs.Calls.{MayAnswer}
-use Rattle.md_nbtc.specs.Course.{MayEnd}
-use Rattle.md_nbtc.specs.Going.{IsGoing, IsUnderWay}
-use Rattle.md_nbtc.specs.State.{TxnState, shape_in}
+use Rattle.md_nbtc_law.specs.Calls.{MayAnswer}
+use Rattle.md_nbtc_law.specs.Course.{MayEnd}
+use Rattle.md_nbtc_law.specs.Going.{IsGoing, IsUnderWay}
+use Rattle.md_nbtc_law.specs.State.{TxnState, shape_in}
 use Rattle.md_queue_law.specs.QueueCertificates.{CertifiesOp}
 use Rattle.md_queue.specs.Charged.{AreCharged}
 use Rattle.md_queue.specs.Operations.{Answered, GoesBy, IsAnswered, RecordsAmong, words_recorded}

@@ -18,20 +18,20 @@ use Rattle.md_machine.specs.Certified.{TidiesStandBy, after_wholes, first_conten
 use Rattle.md_machine.specs.LogicalHeap.{Holds}
 use Rattle.md_machine.specs.Meaning.{Meaning}
 use Rattle.md_machine.proofs.lists.Rising.{here, map_in}
-use Rattle.md_nbtc.specs.declared.seen.Kind.TheVariants.{Critical}
-use Rattle.md_nbtc.specs.declared.seen.Seen.{Seen}
-use Rattle.md_nbtc.specs.declared.sets.Slot.{Slot}
-use Rattle.md_nbtc.specs.Calls.{new_slot, with_change}
-use Rattle.md_nbtc.specs.Course.{IsStoredNode, MayEnd}
-use Rattle.md_nbtc.specs.Known.{IsLater, Known, found_by}
-use Rattle.md_nbtc.specs.Prepared.{IsPrepared}
-use Rattle.md_nbtc.specs.Seeing.{Gave}
-use Rattle.md_nbtc.specs.State.{TxnState, seen_content, shape_in, writes_in}
-use Rattle.md_nbtc.specs.Tidied.{HasTidied, tidied}
-use Rattle.md_nbtc.proofs.preparing.Later.{known_later}
-use Rattle.md_nbtc.proofs.structures.Exchanging.{HasExchanged, changed_own, changed_plainly, installed}
-use Rattle.md_nbtc.proofs.structures.NodesKnown.{shape_later}
-use Rattle.md_nbtc.proofs.structures.Tidying.{bare_nodes}
+use Rattle.md_nbtc_law.specs.declared.seen.Kind.TheVariants.{Critical}
+use Rattle.md_nbtc_law.specs.declared.seen.Seen.{Seen}
+use Rattle.md_nbtc_law.specs.declared.slots.Slot.{Slot}
+use Rattle.md_nbtc_law.specs.Calls.{new_slot, with_change}
+use Rattle.md_nbtc_law.specs.Course.{IsStoredNode, MayEnd}
+use Rattle.md_nbtc_law.specs.Known.{IsLater, Known, found_by}
+use Rattle.md_nbtc_law.specs.Prepared.{IsPrepared}
+use Rattle.md_nbtc_law.specs.Seeing.{Gave}
+use Rattle.md_nbtc_law.specs.State.{TxnState, seen_content, shape_in, writes_in}
+use Rattle.md_nbtc_law.specs.Tidied.{HasTidied, tidied}
+use Rattle.md_nbtc_law.proofs.preparing.Later.{known_later}
+use Rattle.md_nbtc_law.proofs.structures.Exchanging.{HasExchanged, changed_own, changed_plainly, installed}
+use Rattle.md_nbtc_law.proofs.structures.NodesKnown.{shape_later}
+use Rattle.md_nbtc_law.proofs.structures.Tidying.{bare_nodes}
 
 -- what an exchange that is a part of the transaction leaves
 module _ (M : Meaning) (t u : TxnState) (word : ℕ) (from : Seen) (to : ℕ) (seen : Seen) where

@@ -14,18 +14,18 @@ use Rattle.md_machine.specs.declared.certificate.TidyChange.{TidyChange}
 use Rattle.md_machine.specs.Certified.{all_changes, changes_of_tidy, content_read, is_written}
 use Rattle.md_machine.specs.Meaning.{Meaning}
 use Rattle.md_machine.proofs.lists.Rising.{in_map}
-use Rattle.md_nbtc.specs.declared.seen.Kind.TheVariants.{Critical, Plain}
-use Rattle.md_nbtc.specs.declared.seen.Seen.{Seen}
-use Rattle.md_nbtc.specs.Calls.{is_critical, is_next_word}
-use Rattle.md_nbtc.specs.Going.{IsGoing, IsUnplaced}
-use Rattle.md_nbtc.specs.Known.{IsLater}
-use Rattle.md_nbtc.specs.Seeing.{IsNextOf}
-use Rattle.md_nbtc.specs.State.{OwnNode, TxnState, shape_in, writes_in}
-use Rattle.md_nbtc.specs.Tidied.{HasTidied}
-use Rattle.md_nbtc.proofs.exchanging.OwnSlots.{any_found}
-use Rattle.md_nbtc.proofs.exchanging.Refused.{read_there}
-use Rattle.md_nbtc.proofs.structures.NodesKnown.{shape_later}
-use Rattle.md_nbtc.proofs.structures.StoodThen.{some_of}
+use Rattle.md_nbtc_law.specs.declared.seen.Kind.TheVariants.{Critical, Plain}
+use Rattle.md_nbtc_law.specs.declared.seen.Seen.{Seen}
+use Rattle.md_nbtc_law.specs.Calls.{is_critical, is_next_word}
+use Rattle.md_nbtc_law.specs.Going.{IsGoing, IsUnplaced}
+use Rattle.md_nbtc_law.specs.Known.{IsLater}
+use Rattle.md_nbtc_law.specs.Seeing.{IsNextOf}
+use Rattle.md_nbtc_law.specs.State.{OwnNode, TxnState, shape_in, writes_in}
+use Rattle.md_nbtc_law.specs.Tidied.{HasTidied}
+use Rattle.md_nbtc_law.proofs.exchanging.OwnSlots.{any_found}
+use Rattle.md_nbtc_law.proofs.exchanging.Refused.{read_there}
+use Rattle.md_nbtc_law.proofs.structures.NodesKnown.{shape_later}
+use Rattle.md_nbtc_law.proofs.structures.StoodThen.{some_of}
 use Rattle.md_queue.specs.Charged.{AreCharged, IsCharged, changed, passes, recorded}
 use Rattle.md_queue.specs.Words.{move_kind, next_at}
 

@@ -6,9 +6,9 @@ use Rattle.md_words.specs.Place.{node_key, node_value}
 use Rattle.md_words.specs.PlaceAt.{place_at}
 use Rattle.md_words.proofs.Places.{address_below, place_at-address}
 use Rattle.md_machine.specs.Meaning.{Meaning}
-use Rattle.md_nbtc.specs.Calls.{IsData, data_at}
-use Rattle.md_nbtc.specs.Known.{Known}
-use Rattle.md_nbtc.specs.State.{TxnState, shape_in}
+use Rattle.md_nbtc_law.specs.Calls.{IsData, data_at}
+use Rattle.md_nbtc_law.specs.Known.{Known}
+use Rattle.md_nbtc_law.specs.State.{TxnState, shape_in}
 use Rattle.md_queue.specs.Nodes.{IsReadable}
 
 module _ (M : Meaning) (t : TxnState) (node : ℕ) (r : IsReadable M t node) (word : ℕ) where

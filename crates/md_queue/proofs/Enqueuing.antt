@@ -17,15 +17,15 @@ use Rattle.md_machine.specs.declared.attempt.Write.{Write}
 use Rattle.md_machine.specs.declared.certificate.Certificate.{Certificate}
 use Rattle.md_machine.specs.Meaning.{Meaning}
 use Rattle.md_machine.proofs.lists.Rising.{in_map, map_in}
-use Rattle.md_nbtc.specs.declared.seen.Cleanup.{Cleanup}
-use Rattle.md_nbtc.specs.declared.seen.Cleanup.TheVariants.{MoveTail}
-use Rattle.md_nbtc.specs.declared.sets.Slot.{Slot}
-use Rattle.md_nbtc.specs.Calls.{AfterStop, Freshened, Freshens, GoesOn, Keeps, NoFresh}
-use Rattle.md_nbtc.specs.Cleaning.{IsWrittenFor, MayTidyLater, cleanup_node, with_cleanup, with_cleanup_kept}
-use Rattle.md_nbtc.specs.Going.{IsGoing}
-use Rattle.md_nbtc.specs.State.{OwnNode, TxnState, shape_in}
-use Rattle.md_nbtc.proofs.preparing.Later.{later_over}
-use Rattle.md_nbtc.proofs.structures.Answering.{fresh_refused}
+use Rattle.md_nbtc_law.specs.declared.seen.Cleanup.{Cleanup}
+use Rattle.md_nbtc_law.specs.declared.seen.Cleanup.TheVariants.{MoveTail}
+use Rattle.md_nbtc_law.specs.declared.slots.Slot.{Slot}
+use Rattle.md_nbtc_law.specs.Calls.{AfterStop, Freshened, Freshens, GoesOn, Keeps, NoFresh}
+use Rattle.md_nbtc_law.specs.Cleaning.{IsWrittenFor, MayTidyLater, cleanup_node, with_cleanup, with_cleanup_kept}
+use Rattle.md_nbtc_law.specs.Going.{IsGoing}
+use Rattle.md_nbtc_law.specs.State.{OwnNode, TxnState, shape_in}
+use Rattle.md_nbtc_law.proofs.preparing.Later.{later_over}
+use Rattle.md_nbtc_law.proofs.structures.Answering.{fresh_refused}
 use Rattle.md_queue.specs.Operations.{GoesBy, IsNotBy, PutsLast, Refused, StaysIn}
 use Rattle.md_queue.specs.Words.{tail_at}
 use Rattle.md_queue.proofs.Slots.{stay_same, stay_then}

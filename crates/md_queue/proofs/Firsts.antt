@@ -17,16 +17,16 @@ use Rattle.md_machine.specs.declared.node.Structure.TheVariants.{Queue}
 use Rattle.md_machine.specs.Certified.{after_wholes}
 use Rattle.md_machine.specs.LogicalHeap.{Holds}
 use Rattle.md_machine.specs.Meaning.{Lawful, Meaning}
-use Rattle.md_nbtc.specs.declared.seen.Seen.{Seen}
-use Rattle.md_nbtc.specs.Calls.{GoesOn}
-use Rattle.md_nbtc.specs.Going.{IsGoing}
-use Rattle.md_nbtc.specs.Known.{IsLater, Known}
-use Rattle.md_nbtc.specs.Seeing.{KeepsGiven, Looks}
-use Rattle.md_nbtc.specs.State.{TxnState, shape_in}
-use Rattle.md_nbtc.proofs.structures.Growing.{tidied_none}
-use Rattle.md_nbtc.proofs.structures.NodesKnown.{data_known, shape_later}
-use Rattle.md_nbtc.proofs.structures.Noting.{HasNoted}
-use Rattle.md_nbtc.proofs.structures.Reading.{reading}
+use Rattle.md_nbtc_law.specs.declared.seen.Seen.{Seen}
+use Rattle.md_nbtc_law.specs.Calls.{GoesOn}
+use Rattle.md_nbtc_law.specs.Going.{IsGoing}
+use Rattle.md_nbtc_law.specs.Known.{IsLater, Known}
+use Rattle.md_nbtc_law.specs.Seeing.{KeepsGiven, Looks}
+use Rattle.md_nbtc_law.specs.State.{TxnState, shape_in}
+use Rattle.md_nbtc_law.proofs.structures.Growing.{tidied_none}
+use Rattle.md_nbtc_law.proofs.structures.NodesKnown.{data_known, shape_later}
+use Rattle.md_nbtc_law.proofs.structures.Noting.{HasNoted}
+use Rattle.md_nbtc_law.proofs.structures.Reading.{reading}
 use Rattle.md_queue_law.specs.Laws.Words.{head_not_next}
 use Rattle.md_queue_law.specs.QueueCertificates.{FindsNone, has_value, head_is, next_is}
 use Rattle.md_queue_law.specs.QueueMeaning.{HasQueuesOf}

@@ -8,13 +8,13 @@ use Rattle.md_machine.specs.declared.certificate.Certificate.{Certificate}
 use Rattle.md_machine.specs.Certified.{after_wholes, is_written}
 use Rattle.md_machine.specs.Meaning.{Lawful, Meaning}
 use Rattle.md_machine.specs.clauses.passes.Alone.{HoldsAll}
-use Rattle.md_nbtc.specs.declared.seen.Seen.{Seen}
-use Rattle.md_nbtc.specs.Calls.{GoesOn, MayExchange, is_critical}
-use Rattle.md_nbtc.specs.Seeing.{Gave, KeepsGiven, Looks}
-use Rattle.md_nbtc.specs.State.{TxnState, shape_in, writes_in}
-use Rattle.md_nbtc.proofs.preparing.Heaps.{known_now}
-use Rattle.md_nbtc.proofs.structures.Exchanging.{HasExchanged}
-use Rattle.md_nbtc.proofs.structures.NodesKnown.{shape_later}
+use Rattle.md_nbtc_law.specs.declared.seen.Seen.{Seen}
+use Rattle.md_nbtc_law.specs.Calls.{GoesOn, MayExchange, is_critical}
+use Rattle.md_nbtc_law.specs.Seeing.{Gave, KeepsGiven, Looks}
+use Rattle.md_nbtc_law.specs.State.{TxnState, shape_in, writes_in}
+use Rattle.md_nbtc_law.proofs.preparing.Heaps.{known_now}
+use Rattle.md_nbtc_law.proofs.structures.Exchanging.{HasExchanged}
+use Rattle.md_nbtc_law.proofs.structures.NodesKnown.{shape_later}
 use Rattle.md_queue_law.specs.Laws.Words.{head_not_tail, tail_not_next}
 use Rattle.md_queue_law.specs.QueueMeaning.{HasQueuesOf}
 use Rattle.md_queue.specs.Operations.{TailDiffers}

@@ -12,17 +12,17 @@ use Rattle.md_machine.specs.Certified.{after_wholes, all_nodes, is_written}
 use Rattle.md_machine.specs.Meaning.{Lawful, Meaning}
 use Rattle.md_machine.proofs.lists.Differ.{pairs_cross}
 use Rattle.md_machine.proofs.lists.Rising.{map_in}
-use Rattle.md_nbtc.specs.Course.{IsStoredNode, stored_words}
-use Rattle.md_nbtc.specs.Going.{IsGoing, IsUnplaced}
-use Rattle.md_nbtc.specs.Known.{Known, KnowsPlaced}
-use Rattle.md_nbtc.specs.Seeing.{IsOwnPlaced, MayChange}
-use Rattle.md_nbtc.specs.State.{OwnNode, TxnState, writes_in}
-use Rattle.md_nbtc.specs.Tidied.{tidied}
-use Rattle.md_nbtc.proofs.preparing.Heaps.{known_now}
-use Rattle.md_nbtc.proofs.ready.Lookups.{written_found}
-use Rattle.md_nbtc.proofs.ready.Standing.{pairs_map}
-use Rattle.md_nbtc.proofs.structures.NodesKnown.{placed_before}
-use Rattle.md_nbtc.proofs.structures.Tidying.{IsBare, bare_placed}
+use Rattle.md_nbtc_law.specs.Course.{IsStoredNode, stored_words}
+use Rattle.md_nbtc_law.specs.Going.{IsGoing, IsUnplaced}
+use Rattle.md_nbtc_law.specs.Known.{Known, KnowsPlaced}
+use Rattle.md_nbtc_law.specs.Seeing.{IsOwnPlaced, MayChange}
+use Rattle.md_nbtc_law.specs.State.{OwnNode, TxnState, writes_in}
+use Rattle.md_nbtc_law.specs.Tidied.{tidied}
+use Rattle.md_nbtc_law.proofs.preparing.Heaps.{known_now}
+use Rattle.md_nbtc_law.proofs.ready.Lookups.{written_found}
+use Rattle.md_nbtc_law.proofs.ready.Standing.{pairs_map}
+use Rattle.md_nbtc_law.proofs.structures.NodesKnown.{placed_before}
+use Rattle.md_nbtc_law.proofs.structures.Tidying.{IsBare, bare_placed}
 use Rattle.md_queue.specs.Words.{next_at}
 
 -- an own node that an ended operation placed isn't one of the operation under way

@@ -12,11 +12,11 @@ use Rattle.md_machine.specs.Certified.{after_wholes, is_written}
 use Rattle.md_machine.specs.LogicalHeap.{Holds, LogicalHeap}
 use Rattle.md_machine.specs.Meaning.{Lawful, Meaning}
 use Rattle.md_machine.proofs.lists.Rising.{here, there}
-use Rattle.md_nbtc.specs.Known.{IsHeapOf, found_by}
-use Rattle.md_nbtc.specs.State.{TxnState, shape_in, writes_in}
-use Rattle.md_nbtc.specs.Tidied.{tidied}
-use Rattle.md_nbtc.proofs.preparing.Heaps.{later_self}
-use Rattle.md_nbtc.proofs.structures.Tidying.{bare_holds}
+use Rattle.md_nbtc_law.specs.Known.{IsHeapOf, found_by}
+use Rattle.md_nbtc_law.specs.State.{TxnState, shape_in, writes_in}
+use Rattle.md_nbtc_law.specs.Tidied.{tidied}
+use Rattle.md_nbtc_law.proofs.preparing.Heaps.{later_self}
+use Rattle.md_nbtc_law.proofs.structures.Tidying.{bare_holds}
 use Rattle.md_queue_law.specs.QueueCertificates.{Seen, has_value, last_seen, next_words}
 use Rattle.md_queue_law.specs.QueueMeaning.{HasQueuesOf}
 use Rattle.md_queue_law.specs.QueueShape.{IsOf, link}

@@ -7,8 +7,8 @@ use Rattle.md_history.specs.declared.acts.TheConstants.{MAX_LINE}
 use Rattle.md_history.specs.State.{line_of}
 use Rattle.md_machine.specs.declared.certificate.Certificate.{Certificate}
 use Rattle.md_machine.specs.Meaning.{Meaning}
-use Rattle.md_nbtc.specs.Going.{IsGoing}
-use Rattle.md_nbtc.specs.State.{TxnState, shape_in}
+use Rattle.md_nbtc_law.specs.Going.{IsGoing}
+use Rattle.md_nbtc_law.specs.State.{TxnState, shape_in}
 use Rattle.md_queue_law.specs.QueueCertificates.{Seen}
 use Rattle.md_queue.specs.Along.{HasLooked, words_along}
 use Rattle.md_queue.specs.Operations.{GoesBy, RecordsAmong}

@@ -17,14 +17,14 @@ use Rattle.md_machine.specs.Certified.{after_wholes, all_nodes}
 use Rattle.md_machine.specs.Meaning.{Lawful, Meaning}
 use Rattle.md_machine.specs.events.Exchange.{FoundNext}
 use Rattle.md_machine.proofs.chain.SameNodes.{next_alone}
-use Rattle.md_nbtc.specs.declared.seen.Seen.{Seen}
-use Rattle.md_nbtc.specs.Calls.{GoesOn}
-use Rattle.md_nbtc.specs.Course.{IsStoredNode, stored_words}
-use Rattle.md_nbtc.specs.Known.{Known, KnowsPlaced}
-use Rattle.md_nbtc.specs.Seeing.{IsInPlace, IsNextOf, Looks}
-use Rattle.md_nbtc.specs.State.{OwnNode, TxnState, shape_in}
-use Rattle.md_nbtc.proofs.preparing.Heaps.{heap_valid, known_now}
-use Rattle.md_nbtc.proofs.structures.NodesKnown.{new_exist, placed_or_own, shape_known}
+use Rattle.md_nbtc_law.specs.declared.seen.Seen.{Seen}
+use Rattle.md_nbtc_law.specs.Calls.{GoesOn}
+use Rattle.md_nbtc_law.specs.Course.{IsStoredNode, stored_words}
+use Rattle.md_nbtc_law.specs.Known.{Known, KnowsPlaced}
+use Rattle.md_nbtc_law.specs.Seeing.{IsInPlace, IsNextOf, Looks}
+use Rattle.md_nbtc_law.specs.State.{OwnNode, TxnState, shape_in}
+use Rattle.md_nbtc_law.proofs.preparing.Heaps.{heap_valid, known_now}
+use Rattle.md_nbtc_law.proofs.structures.NodesKnown.{new_exist, placed_or_own, shape_known}
 use Rattle.md_queue_law.specs.Laws.Words.{head_not_next, linked_node-link as named_link, tail_not_next}
 use Rattle.md_queue_law.specs.QueueMeaning.{HasQueuesOf}
 use Rattle.md_queue_law.specs.QueueShape.{NamesOneOf, link}

@@ -11,7 +11,7 @@ use Rattle.md_machine.specs.declared.node.Structure.{Structure}
 use Rattle.md_machine.specs.declared.node.Structure.TheVariants.{Queue}
 use Rattle.md_machine.specs.LogicalHeap.{LogicalHeap}
 use Rattle.md_machine.specs.Meaning.{Meaning}
-use Rattle.md_nbtc.specs.Known.{WasThere}
+use Rattle.md_nbtc_law.specs.Known.{WasThere}
 use Rattle.md_queue_law.specs.Laws.Words.{linked_node-link}
 use Rattle.md_queue_law.specs.QueueCertificates.{has_key}
 use Rattle.md_queue_law.specs.QueueMeaning.{HasQueuesOf}

@@ -21,26 +21,26 @@ use Rattle.md_machine.specs.events.Exchange.{FoundFact, FoundNext}
 use Rattle.md_machine.proofs.chain.Agree.{tidies_shape, wholes_shape}
 use Rattle.md_machine.proofs.chain.SameNodes.{next_alone}
 use Rattle.md_machine.proofs.lists.Rising.{here, map_in}
-use Rattle.md_nbtc.specs.declared.seen.Cleanup.{Cleanup}
-use Rattle.md_nbtc.specs.declared.seen.Kind.TheVariants.{Critical, Plain}
-use Rattle.md_nbtc.specs.declared.seen.Seen.{Seen}
-use Rattle.md_nbtc.specs.declared.sets.Slot.{Slot}
-use Rattle.md_nbtc.specs.Calls.{GoesOn, MayExchange, is_critical, new_slot}
-use Rattle.md_nbtc.specs.Cleaning.{CleanupsStay, FitsCleanup, IsKeptCleanup}
-use Rattle.md_nbtc.specs.Course.{IsStoredNode}
-use Rattle.md_nbtc.specs.Going.{IsUnplaced}
-use Rattle.md_nbtc.specs.Known.{Known, KnowsFact, Met, WasThere, found_by}
-use Rattle.md_nbtc.specs.Seeing.{Gave, IsNextOf, IsTidyNow, MayChange}
-use Rattle.md_nbtc.specs.State.{OwnNode, TxnState, seen_content, shape_in, writes_in}
-use Rattle.md_nbtc.specs.Tidied.{tidied}
-use Rattle.md_nbtc.proofs.preparing.Heaps.{known_now, later_self}
-use Rattle.md_nbtc.proofs.preparing.Later.{later_over}
-use Rattle.md_nbtc.proofs.ready.Lookups.{all_of}
-use Rattle.md_nbtc.proofs.structures.Exchanging.{HasExchanged, changed_own, changed_plainly, installed, may_exchange_so}
-use Rattle.md_nbtc.proofs.structures.Growing.{tidied_later, tidied_more, tidy_stands}
-use Rattle.md_nbtc.proofs.structures.NodesKnown.{fact_tidied, own_is_new, own_known, shape_known, shape_later}
-use Rattle.md_nbtc.proofs.structures.SeenValues.{own_value, seen_value}
-use Rattle.md_nbtc.proofs.structures.Tidying.{bare_placed}
+use Rattle.md_nbtc_law.specs.declared.seen.Cleanup.{Cleanup}
+use Rattle.md_nbtc_law.specs.declared.seen.Kind.TheVariants.{Critical, Plain}
+use Rattle.md_nbtc_law.specs.declared.seen.Seen.{Seen}
+use Rattle.md_nbtc_law.specs.declared.slots.Slot.{Slot}
+use Rattle.md_nbtc_law.specs.Calls.{GoesOn, MayExchange, is_critical, new_slot}
+use Rattle.md_nbtc_law.specs.Cleaning.{CleanupsStay, FitsCleanup, IsKeptCleanup}
+use Rattle.md_nbtc_law.specs.Course.{IsStoredNode}
+use Rattle.md_nbtc_law.specs.Going.{IsUnplaced}
+use Rattle.md_nbtc_law.specs.Known.{Known, KnowsFact, Met, WasThere, found_by}
+use Rattle.md_nbtc_law.specs.Seeing.{Gave, IsNextOf, IsTidyNow, MayChange}
+use Rattle.md_nbtc_law.specs.State.{OwnNode, TxnState, seen_content, shape_in, writes_in}
+use Rattle.md_nbtc_law.specs.Tidied.{tidied}
+use Rattle.md_nbtc_law.proofs.preparing.Heaps.{known_now, later_self}
+use Rattle.md_nbtc_law.proofs.preparing.Later.{later_over}
+use Rattle.md_nbtc_law.proofs.ready.Lookups.{all_of}
+use Rattle.md_nbtc_law.proofs.structures.Exchanging.{HasExchanged, changed_own, changed_plainly, installed, may_exchange_so}
+use Rattle.md_nbtc_law.proofs.structures.Growing.{tidied_later, tidied_more, tidy_stands}
+use Rattle.md_nbtc_law.proofs.structures.NodesKnown.{fact_tidied, own_is_new, own_known, shape_known, shape_later}
+use Rattle.md_nbtc_law.proofs.structures.SeenValues.{own_value, seen_value}
+use Rattle.md_nbtc_law.proofs.structures.Tidying.{bare_placed}
 use Rattle.md_queue_law.specs.QueueCertificates.{MovesTail, has_next}
 use Rattle.md_queue_law.specs.QueueMeaning.{HasQueuesOf}
 use Rattle.md_queue_law.specs.QueueShape.{IsOf, link}

@@ -25,28 +25,28 @@ use Rattle.md_machine.specs.Meaning.{Lawful, Meaning}
 use Rattle.md_machine.specs.clauses.passes.Alone.{HoldsAll}
 use Rattle.md_machine.proofs.chain.SameNodes.{next_alone, next_counted}
 use Rattle.md_machine.proofs.lists.Rising.{here, in_cons, in_map, in_none, map_in}
-use Rattle.md_nbtc.specs.declared.seen.Cleanup.{Cleanup}
-use Rattle.md_nbtc.specs.declared.seen.Cleanup.TheVariants.{MoveTail, Unlink}
-use Rattle.md_nbtc.specs.declared.seen.Kind.TheVariants.{Critical}
-use Rattle.md_nbtc.specs.declared.seen.Seen.{Seen}
-use Rattle.md_nbtc.specs.declared.sets.Slot.{Slot}
-use Rattle.md_nbtc.specs.Calls.{Freshens, GoesOn, Keeps, MayExchange, new_slot}
-use Rattle.md_nbtc.specs.Cleaning.{FitsCleanup, IsFactLater, IsKeptCleanup, IsPlacedIn, IsWrittenFor, MayTidyLater, with_cleanup_kept}
-use Rattle.md_nbtc.specs.Course.{IsStoredNode}
-use Rattle.md_nbtc.specs.Going.{IsGoing}
-use Rattle.md_nbtc.specs.Known.{IsLater, Known, KnowsPlaced, found_by}
-use Rattle.md_nbtc.specs.Seeing.{Gave, IsOwnPlaced, KeepsGiven, MayChange}
-use Rattle.md_nbtc.specs.Sets.{with_new}
-use Rattle.md_nbtc.specs.State.{OwnNode, TxnState, seen_content, shape_in, writes_in}
-use Rattle.md_nbtc.specs.Tidied.{tidied}
-use Rattle.md_nbtc.proofs.preparing.Heaps.{known_now, later_self}
-use Rattle.md_nbtc.proofs.preparing.Later.{later_over}
-use Rattle.md_nbtc.proofs.ready.Lookups.{all_of, one_of, written_there}
-use Rattle.md_nbtc.proofs.structures.Exchanging.{HasExchanged, changed_own, changed_plainly, installed, may_exchange_so}
-use Rattle.md_nbtc.proofs.structures.FoundLater.{found_later}
-use Rattle.md_nbtc.proofs.structures.NodesKnown.{data_known, own_known, placed_or_own, shape_later}
-use Rattle.md_nbtc.proofs.structures.SeenValues.{seen_value}
-use Rattle.md_nbtc.proofs.structures.Tidying.{bare_holds}
+use Rattle.md_nbtc_law.specs.declared.seen.Cleanup.{Cleanup}
+use Rattle.md_nbtc_law.specs.declared.seen.Cleanup.TheVariants.{MoveTail, Unlink}
+use Rattle.md_nbtc_law.specs.declared.seen.Kind.TheVariants.{Critical}
+use Rattle.md_nbtc_law.specs.declared.seen.Seen.{Seen}
+use Rattle.md_nbtc_law.specs.declared.slots.Slot.{Slot}
+use Rattle.md_nbtc_law.specs.Calls.{Freshens, GoesOn, Keeps, MayExchange, new_slot}
+use Rattle.md_nbtc_law.specs.Cleaning.{FitsCleanup, IsFactLater, IsKeptCleanup, IsPlacedIn, IsWrittenFor, MayTidyLater, with_cleanup_kept}
+use Rattle.md_nbtc_law.specs.Course.{IsStoredNode}
+use Rattle.md_nbtc_law.specs.Going.{IsGoing}
+use Rattle.md_nbtc_law.specs.Known.{IsLater, Known, KnowsPlaced, found_by}
+use Rattle.md_nbtc_law.specs.Seeing.{Gave, IsOwnPlaced, KeepsGiven, MayChange}
+use Rattle.md_nbtc_law.specs.Sets.{with_new}
+use Rattle.md_nbtc_law.specs.State.{OwnNode, TxnState, seen_content, shape_in, writes_in}
+use Rattle.md_nbtc_law.specs.Tidied.{tidied}
+use Rattle.md_nbtc_law.proofs.preparing.Heaps.{known_now, later_self}
+use Rattle.md_nbtc_law.proofs.preparing.Later.{later_over}
+use Rattle.md_nbtc_law.proofs.ready.Lookups.{all_of, one_of, written_there}
+use Rattle.md_nbtc_law.proofs.structures.Exchanging.{HasExchanged, changed_own, changed_plainly, installed, may_exchange_so}
+use Rattle.md_nbtc_law.proofs.structures.FoundLater.{found_later}
+use Rattle.md_nbtc_law.proofs.structures.NodesKnown.{data_known, own_known, placed_or_own, shape_later}
+use Rattle.md_nbtc_law.proofs.structures.SeenValues.{seen_value}
+use Rattle.md_nbtc_law.proofs.structures.Tidying.{bare_holds}
 use Rattle.md_queue_law.specs.Laws.Words.{link_not_zero, tail_not_next}
 use Rattle.md_queue_law.specs.QueueCertificates.{CertifiesQueue, has_key, has_next, new_node, next_change}
 use Rattle.md_queue_law.specs.QueueMeaning.{HasQueuesOf}

@@ -14,18 +14,18 @@ use Rattle.md_machine.specs.Certified.{after_wholes, content_replaced, first_con
 use Rattle.md_machine.specs.LogicalHeap.{Holds}
 use Rattle.md_machine.specs.Meaning.{Lawful, Meaning}
 use Rattle.md_machine.specs.Resolution.{or_else}
-use Rattle.md_nbtc.specs.declared.seen.Seen.{Seen}
-use Rattle.md_nbtc.specs.Known.{IsLater, Known, found_by}
-use Rattle.md_nbtc.specs.Prepared.{IsPrepared}
-use Rattle.md_nbtc.specs.State.{TxnState, seen_content, shape_in, writes_in}
-use Rattle.md_nbtc.specs.Tidied.{tidied}
-use Rattle.md_nbtc.proofs.preparing.Later.{known_later}
-use Rattle.md_nbtc.proofs.structures.FoundLater.{found_later}
-use Rattle.md_nbtc.proofs.structures.Noting.{HasNoted}
-use Rattle.md_nbtc.proofs.structures.Reading.{may_end_reading, reading}
-use Rattle.md_nbtc.proofs.structures.SeenValues.{seen_value}
-use Rattle.md_nbtc.proofs.structures.StoodThen.{some_of, written_is_found}
-use Rattle.md_nbtc.proofs.structures.Tidying.{bare_holds}
+use Rattle.md_nbtc_law.specs.declared.seen.Seen.{Seen}
+use Rattle.md_nbtc_law.specs.Known.{IsLater, Known, found_by}
+use Rattle.md_nbtc_law.specs.Prepared.{IsPrepared}
+use Rattle.md_nbtc_law.specs.State.{TxnState, seen_content, shape_in, writes_in}
+use Rattle.md_nbtc_law.specs.Tidied.{tidied}
+use Rattle.md_nbtc_law.proofs.preparing.Later.{known_later}
+use Rattle.md_nbtc_law.proofs.structures.FoundLater.{found_later}
+use Rattle.md_nbtc_law.proofs.structures.Noting.{HasNoted}
+use Rattle.md_nbtc_law.proofs.structures.Reading.{may_end_reading, reading}
+use Rattle.md_nbtc_law.proofs.structures.SeenValues.{seen_value}
+use Rattle.md_nbtc_law.proofs.structures.StoodThen.{some_of, written_is_found}
+use Rattle.md_nbtc_law.proofs.structures.Tidying.{bare_holds}
 use Rattle.md_queue_law.specs.QueueCertificates.{CertifiesQueue}
 use Rattle.md_queue_law.specs.QueueMeaning.{HasQueuesOf}
 use Rattle.md_queue.specs.Working.{IsRecorded, IsWorking, SeesAt}

@@ -15,16 +15,16 @@ use Rattle.md_machine.specs.declared.certificate.Certificate.{Certificate}
 use Rattle.md_machine.specs.Certified.{content_read, is_written}
 use Rattle.md_machine.specs.Meaning.{Meaning}
 use Rattle.md_machine.proofs.lists.Rising.{in_cons, in_none}
-use Rattle.md_nbtc.specs.declared.seen.Kind.{Kind}
-use Rattle.md_nbtc.specs.declared.seen.Seen.{Seen}
-use Rattle.md_nbtc.specs.Calls.{AfterStop, Exchanges, Notes, case_by_count, case_by_read, case_of_other, case_unless_moved, changes, exchange_case, is_critical, moved, note_case, noted, own, recorded, worn}
-use Rattle.md_nbtc.specs.Going.{IsGoing}
-use Rattle.md_nbtc.specs.Known.{IsLater}
-use Rattle.md_nbtc.specs.State.{TxnState, seen_content, writes_in}
-use Rattle.md_nbtc.proofs.preparing.Heaps.{later_self}
-use Rattle.md_nbtc.proofs.preparing.Later.{later_over}
-use Rattle.md_nbtc.proofs.structures.Answering.{IsStopped, exchange_refused, note_refused}
-use Rattle.md_nbtc.proofs.structures.NodesKnown.{shape_later}
+use Rattle.md_nbtc_law.specs.declared.seen.Kind.{Kind}
+use Rattle.md_nbtc_law.specs.declared.seen.Seen.{Seen}
+use Rattle.md_nbtc_law.specs.Calls.{AfterStop, Exchanges, Notes, case_by_count, case_by_read, case_of_other, case_unless_moved, changes, exchange_case, is_critical, moved, note_case, noted, own, recorded, worn}
+use Rattle.md_nbtc_law.specs.Going.{IsGoing}
+use Rattle.md_nbtc_law.specs.Known.{IsLater}
+use Rattle.md_nbtc_law.specs.State.{TxnState, seen_content, writes_in}
+use Rattle.md_nbtc_law.proofs.preparing.Heaps.{later_self}
+use Rattle.md_nbtc_law.proofs.preparing.Later.{later_over}
+use Rattle.md_nbtc_law.proofs.structures.Answering.{IsStopped, exchange_refused, note_refused}
+use Rattle.md_nbtc_law.proofs.structures.NodesKnown.{shape_later}
 use Rattle.md_queue.specs.Operations.{GoesBy, RecordsAmong, words_recorded}
 use Rattle.md_queue.specs.Refusals.{AsksLine, BeganAlone, ChangeRefused, MoveRefused, ReadRefused, WasRefused}
 use Rattle.md_queue.proofs.Among.{among_from, no_more_reads}

@@ -23,13 +23,13 @@ use Rattle.md_machine.specs.Certified.{after_wholes, all_changes}
 use Rattle.md_machine.specs.LogicalHeap.{Holds, LogicalHeap}
 use Rattle.md_machine.specs.Meaning.{Lawful, Meaning}
 use Rattle.md_machine.proofs.chain.Agree.{tidies_shape, wholes_shape}
-use Rattle.md_nbtc.specs.Known.{IsHeapOf, IsLater, found_by}
-use Rattle.md_nbtc.specs.Prepared.{IsPrepared}
-use Rattle.md_nbtc.specs.State.{TxnState, shape_in}
-use Rattle.md_nbtc.specs.Tidied.{tidied}
-use Rattle.md_nbtc.proofs.preparing.Heaps.{later_self}
-use Rattle.md_nbtc.proofs.structures.NodesKnown.{shape_known, shape_later}
-use Rattle.md_nbtc.proofs.structures.Tidying.{bare_placed}
+use Rattle.md_nbtc_law.specs.Known.{IsHeapOf, IsLater, found_by}
+use Rattle.md_nbtc_law.specs.Prepared.{IsPrepared}
+use Rattle.md_nbtc_law.specs.State.{TxnState, shape_in}
+use Rattle.md_nbtc_law.specs.Tidied.{tidied}
+use Rattle.md_nbtc_law.proofs.preparing.Heaps.{later_self}
+use Rattle.md_nbtc_law.proofs.structures.NodesKnown.{shape_known, shape_later}
+use Rattle.md_nbtc_law.proofs.structures.Tidying.{bare_placed}
 use Rattle.md_queue_law.specs.Laws.Words.{linked_node-link}
 use Rattle.md_queue_law.specs.QueueCertificates.{CertifiesQueue, Seen, has_value, head_is, last_seen, next_is, next_words}
 use Rattle.md_queue_law.specs.QueueMeaning.{HasQueuesOf}

@@ -11,17 +11,17 @@ use Rattle.md_history.specs.declared.stops.Stop.TheVariants.{Conflict, Limit as 
 use Rattle.md_machine.specs.declared.attempt.Read.{Read}
 use Rattle.md_machine.specs.Meaning.{Meaning}
 use Rattle.md_machine.proofs.lists.Rising.{here, in_cons, in_none}
-use Rattle.md_nbtc.specs.declared.seen.Kind.{Kind}
-use Rattle.md_nbtc.specs.declared.seen.Seen.{Seen}
-use Rattle.md_nbtc.specs.Calls.{AfterStop, Exchanges, GoesOn, Looked, NoteCase, Notes, exchange_case, full, new_slot, note_case, noted, recorded, unread}
-use Rattle.md_nbtc.specs.declared.sets.Slot.{Slot}
-use Rattle.md_nbtc.specs.Seeing.{Looks}
-use Rattle.md_nbtc.specs.Sets.{with_new}
-use Rattle.md_nbtc.specs.State.{TxnState, seen_content}
-use Rattle.md_nbtc.proofs.preparing.Later.{later_over}
-use Rattle.md_nbtc.proofs.structures.Answering.{IsStopped, after_ok, exchange_refused, look_refused, note_refused}
-use Rattle.md_nbtc.proofs.structures.Exchanging.{HasExchanged, changed_own, changed_plainly, exchange_so, exchanged_so, installed}
-use Rattle.md_nbtc.proofs.structures.Noting.{HasNoted, has_noted}
+use Rattle.md_nbtc_law.specs.declared.seen.Kind.{Kind}
+use Rattle.md_nbtc_law.specs.declared.seen.Seen.{Seen}
+use Rattle.md_nbtc_law.specs.Calls.{AfterStop, Exchanges, GoesOn, Looked, NoteCase, Notes, exchange_case, full, new_slot, note_case, noted, recorded, unread}
+use Rattle.md_nbtc_law.specs.declared.slots.Slot.{Slot}
+use Rattle.md_nbtc_law.specs.Seeing.{Looks}
+use Rattle.md_nbtc_law.specs.Sets.{with_new}
+use Rattle.md_nbtc_law.specs.State.{TxnState, seen_content}
+use Rattle.md_nbtc_law.proofs.preparing.Later.{later_over}
+use Rattle.md_nbtc_law.proofs.structures.Answering.{IsStopped, after_ok, exchange_refused, look_refused, note_refused}
+use Rattle.md_nbtc_law.proofs.structures.Exchanging.{HasExchanged, changed_own, changed_plainly, exchange_so, exchanged_so, installed}
+use Rattle.md_nbtc_law.proofs.structures.Noting.{HasNoted, has_noted}
 use Rattle.md_queue.specs.Operations.{GoesBy, IsNotBy, Leaves, RecordsAmong, RefusedOtherwise, StaysIn, StaysStopped}
 use Rattle.md_queue.proofs.Slots.{stay_before, stay_renewed, stay_same, stay_then}
 

@@ -17,21 +17,21 @@ use Rattle.md_machine.specs.Certified.{after_wholes, all_changes, is_written}
 use Rattle.md_machine.specs.LogicalHeap.{Holds}
 use Rattle.md_machine.specs.Meaning.{Lawful, Meaning}
 use Rattle.md_machine.specs.clauses.passes.Alone.{HoldsAll}
-use Rattle.md_nbtc.specs.declared.seen.Kind.TheVariants.{Critical}
-use Rattle.md_nbtc.specs.declared.seen.Seen.{Seen}
-use Rattle.md_nbtc.specs.Calls.{GoesOn, MayExchange}
-use Rattle.md_nbtc.specs.Course.{IsStoredNode}
-use Rattle.md_nbtc.specs.Known.{IsLater, Known, found_by}
-use Rattle.md_nbtc.specs.Seeing.{Gave, KeepsGiven}
-use Rattle.md_nbtc.specs.State.{TxnState, shape_in, writes_in}
-use Rattle.md_nbtc.specs.Tidied.{tidied}
-use Rattle.md_nbtc.proofs.preparing.Heaps.{later_self}
-use Rattle.md_nbtc.proofs.preparing.Later.{later_over}
-use Rattle.md_nbtc.proofs.structures.Exchanging.{HasExchanged, may_exchange_so}
-use Rattle.md_nbtc.proofs.structures.NodesKnown.{shape_later}
-use Rattle.md_nbtc.proofs.structures.Noting.{HasNoted}
-use Rattle.md_nbtc.proofs.structures.SeenValues.{seen_value}
-use Rattle.md_nbtc.proofs.structures.Tidying.{bare_holds}
+use Rattle.md_nbtc_law.specs.declared.seen.Kind.TheVariants.{Critical}
+use Rattle.md_nbtc_law.specs.declared.seen.Seen.{Seen}
+use Rattle.md_nbtc_law.specs.Calls.{GoesOn, MayExchange}
+use Rattle.md_nbtc_law.specs.Course.{IsStoredNode}
+use Rattle.md_nbtc_law.specs.Known.{IsLater, Known, found_by}
+use Rattle.md_nbtc_law.specs.Seeing.{Gave, KeepsGiven}
+use Rattle.md_nbtc_law.specs.State.{TxnState, shape_in, writes_in}
+use Rattle.md_nbtc_law.specs.Tidied.{tidied}
+use Rattle.md_nbtc_law.proofs.preparing.Heaps.{later_self}
+use Rattle.md_nbtc_law.proofs.preparing.Later.{later_over}
+use Rattle.md_nbtc_law.proofs.structures.Exchanging.{HasExchanged, may_exchange_so}
+use Rattle.md_nbtc_law.proofs.structures.NodesKnown.{shape_later}
+use Rattle.md_nbtc_law.proofs.structures.Noting.{HasNoted}
+use Rattle.md_nbtc_law.proofs.structures.SeenValues.{seen_value}
+use Rattle.md_nbtc_law.proofs.structures.Tidying.{bare_holds}
 use Rattle.std.proofs.lemmas.Bool.{true≢false}
 use Rattle.md_queue_law.specs.Laws.Words.{head_not_next, head_not_tail}
 use Rattle.md_queue_law.specs.QueueCertificates.{CertifiesQueue, has_value, head_change, next_is}

@@ -8,8 +8,8 @@ use Rattle.md_machine.specs.declared.certificate.TidyChange.{TidyChange}
 use Rattle.md_machine.specs.Certified.{after_wholes}
 use Rattle.md_machine.specs.LogicalHeap.{Holds}
 use Rattle.md_machine.specs.Meaning.{Meaning}
-use Rattle.md_nbtc.specs.Known.{Known}
-use Rattle.md_nbtc.specs.State.{TxnState, shape_in}
+use Rattle.md_nbtc_law.specs.Known.{Known}
+use Rattle.md_nbtc_law.specs.State.{TxnState, shape_in}
 use Rattle.md_queue_law.specs.QueueCertificates.{Seen, has_value, head_is, last_seen, next_is, next_words}
 use Rattle.md_queue_law.specs.QueueShape.{link}
 use Rattle.md_queue.specs.declared.lines.Passed.{Passed}

@@ -6,7 +6,7 @@ use Rattle.md_words.specs.Link.{linked_node}
 use Rattle.md_machine.specs.declared.attempt.Read.{Read}
 use Rattle.md_machine.specs.declared.certificate.Change.{Change}
 use Rattle.md_machine.specs.declared.certificate.TidyChange.{TidyChange}
-use Rattle.md_nbtc.specs.State.{TxnState}
+use Rattle.md_nbtc_law.specs.State.{TxnState}
 use Rattle.md_queue.specs.Words.{next_at}
 
 -- why a move of the tail is a part of the transaction: earlier changes of it changed the tail, or the next word of the

@@ -3,12 +3,12 @@ use Rattle.std.specs.Prelude.{◌≡◌, ◌<◌, ◌⊎◌, ℕ, Contains, true
 use Rattle.md_words.specs.Layout.{IsNode}
 use Rattle.md_machine.specs.declared.node.Structure.{Structure}
 use Rattle.md_machine.specs.Meaning.{Meaning}
-use Rattle.md_nbtc.specs.declared.seen.Seen.{Seen}
-use Rattle.md_nbtc.specs.Calls.{MayExchange}
-use Rattle.md_nbtc.specs.Going.{IsFoundThere, IsUnderWay}
-use Rattle.md_nbtc.specs.Known.{KnowsPlaced}
-use Rattle.md_nbtc.specs.Seeing.{Gave}
-use Rattle.md_nbtc.specs.State.{OwnNode, TxnState, shape_in}
+use Rattle.md_nbtc_law.specs.declared.seen.Seen.{Seen}
+use Rattle.md_nbtc_law.specs.Calls.{MayExchange}
+use Rattle.md_nbtc_law.specs.Going.{IsFoundThere, IsUnderWay}
+use Rattle.md_nbtc_law.specs.Known.{KnowsPlaced}
+use Rattle.md_nbtc_law.specs.Seeing.{Gave}
+use Rattle.md_nbtc_law.specs.State.{OwnNode, TxnState, shape_in}
 use Rattle.md_queue.specs.Words.{move_kind, next_at, tail_at}
 
 module _ (M : Meaning) (t : TxnState) where

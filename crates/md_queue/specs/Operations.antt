@@ -12,15 +12,15 @@ use Rattle.md_machine.specs.declared.certificate.Change.{Change}
 use Rattle.md_machine.specs.Certified.{all_changes}
 use Rattle.md_machine.specs.Meaning.{Meaning}
 use Rattle.md_rule.specs.Steps.{IsOf as IsOfAct}
-use Rattle.md_nbtc.specs.declared.seen.Cleanup.{Cleanup}
-use Rattle.md_nbtc.specs.declared.seen.Cleanup.TheVariants.{MoveTail}
-use Rattle.md_nbtc.specs.declared.seen.Seen.{Seen}
-use Rattle.md_nbtc.specs.declared.sets.Slot.{Slot}
-use Rattle.md_nbtc.specs.Calls.{GoesOn}
-use Rattle.md_nbtc.specs.Course.{MayEnd}
-use Rattle.md_nbtc.specs.Going.{IsGoing, IsUnderWay}
-use Rattle.md_nbtc.specs.Seeing.{Gave}
-use Rattle.md_nbtc.specs.State.{OwnNode, TxnState, shape_in}
+use Rattle.md_nbtc_law.specs.declared.seen.Cleanup.{Cleanup}
+use Rattle.md_nbtc_law.specs.declared.seen.Cleanup.TheVariants.{MoveTail}
+use Rattle.md_nbtc_law.specs.declared.seen.Seen.{Seen}
+use Rattle.md_nbtc_law.specs.declared.slots.Slot.{Slot}
+use Rattle.md_nbtc_law.specs.Calls.{GoesOn}
+use Rattle.md_nbtc_law.specs.Course.{MayEnd}
+use Rattle.md_nbtc_law.specs.Going.{IsGoing, IsUnderWay}
+use Rattle.md_nbtc_law.specs.Seeing.{Gave}
+use Rattle.md_nbtc_law.specs.State.{OwnNode, TxnState, shape_in}
 use Rattle.md_queue_law.specs.QueueCertificates.{CertifiesOp, head_change}
 use Rattle.md_queue_law.specs.QueueShape.{link}
 use Rattle.md_queue.specs.Charged.{AreCharged}

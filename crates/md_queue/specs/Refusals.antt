@@ -15,11 +15,11 @@ use Rattle.md_machine.specs.Certified.{TidiesStandBy, after_wholes, all_changes,
 use Rattle.md_machine.specs.LogicalHeap.{LogicalHeap}
 use Rattle.md_machine.specs.Meaning.{Meaning}
 use Rattle.md_machine.specs.clauses.passes.Alone.{HoldsAll}
-use Rattle.md_nbtc.specs.Course.{StandsNext}
-use Rattle.md_nbtc.specs.Going.{IsGoing}
-use Rattle.md_nbtc.specs.Known.{IsHeapOf, IsLater, found_by}
-use Rattle.md_nbtc.specs.State.{TxnState, shape_in, writes_in}
-use Rattle.md_nbtc.specs.Tidied.{HasTidied}
+use Rattle.md_nbtc_law.specs.Course.{StandsNext}
+use Rattle.md_nbtc_law.specs.Going.{IsGoing}
+use Rattle.md_nbtc_law.specs.Known.{IsHeapOf, IsLater, found_by}
+use Rattle.md_nbtc_law.specs.State.{TxnState, shape_in, writes_in}
+use Rattle.md_nbtc_law.specs.Tidied.{HasTidied}
 use Rattle.md_queue_law.specs.QueueCertificates.{CertifiesQueue, MovesTail, Seen}
 use Rattle.md_queue.specs.Along.{HasLooked, words_along}
 use Rattle.md_queue.specs.Charged.{AreCharged}

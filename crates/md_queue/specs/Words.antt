@@ -2,10 +2,10 @@
 use Rattle.std.specs.Prelude.{ℕ, if◌then◌else◌}
 use Rattle.md_words.specs.Layout.{address}
 use Rattle.md_words.specs.Place.{node_next, queue_head, queue_tail}
-use Rattle.md_nbtc.specs.declared.seen.Kind.{Kind}
-use Rattle.md_nbtc.specs.declared.seen.Kind.TheVariants.{Critical, Plain}
-use Rattle.md_nbtc.specs.declared.seen.Seen.{Seen}
-use Rattle.md_nbtc.specs.State.{TxnState, shape_in}
+use Rattle.md_nbtc_law.specs.declared.seen.Kind.{Kind}
+use Rattle.md_nbtc_law.specs.declared.seen.Kind.TheVariants.{Critical, Plain}
+use Rattle.md_nbtc_law.specs.declared.seen.Seen.{Seen}
+use Rattle.md_nbtc_law.specs.State.{TxnState, shape_in}
 
 -- the head's word, the tail's, and a node's next word
 abbrev pub head_at : TxnState → (queue : ℕ) → ℕ

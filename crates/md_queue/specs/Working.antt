@@ -8,12 +8,12 @@ use Rattle.md_machine.specs.declared.certificate.WordValue.{WordValue}
 use Rattle.md_machine.specs.Certified.{after_wholes, all_changes, first_content}
 use Rattle.md_machine.specs.Meaning.{Meaning}
 use Rattle.md_machine.specs.events.Exchange.{FoundNext}
-use Rattle.md_nbtc.specs.declared.seen.Seen.{Seen}
-use Rattle.md_nbtc.specs.Going.{IsFoundThere, IsGoing}
-use Rattle.md_nbtc.specs.Known.{Known, found_by}
-use Rattle.md_nbtc.specs.Seeing.{Gave}
-use Rattle.md_nbtc.specs.State.{OwnNode, TxnState, shape_in, writes_in}
-use Rattle.md_nbtc.specs.Tidied.{HasTidied, tidied}
+use Rattle.md_nbtc_law.specs.declared.seen.Seen.{Seen}
+use Rattle.md_nbtc_law.specs.Going.{IsFoundThere, IsGoing}
+use Rattle.md_nbtc_law.specs.Known.{Known, found_by}
+use Rattle.md_nbtc_law.specs.Seeing.{Gave}
+use Rattle.md_nbtc_law.specs.State.{OwnNode, TxnState, shape_in, writes_in}
+use Rattle.md_nbtc_law.specs.Tidied.{HasTidied, tidied}
 use Rattle.md_queue_law.specs.QueueCertificates.{head_is, next_is}
 use Rattle.md_queue_law.specs.QueueShape.{IsOf, link}
 use Rattle.md_queue.specs.Charged.{AreCharged}

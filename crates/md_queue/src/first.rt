@@ -6,7 +6,7 @@ ghost use Rattle.md_history.specs.declared.acts.Reply.TheVariants.{Value};
 ghost use Rattle.md_history.specs.declared.stops.Limit.{Limit};
 ghost use Rattle.md_history.specs.declared.stops.Limit.TheVariants.{Reads, Writes};
 ghost use Rattle.md_machine.specs.declared.certificate.Certificate.{Certificate};
-ghost use Rattle.md_nbtc.specs.Going.{IsGoing};
+ghost use Rattle.md_nbtc_law.specs.Going.{IsGoing};
 ghost use Rattle.md_nbtc.specs.State.{state};
 ghost use Rattle.md_queue.specs.Operations.{Answered, GoesBy, IsAnswered, IsBegun, IsNotBy};
 ghost use Rattle.md_queue.specs.Operations.{RefusedOtherwise};

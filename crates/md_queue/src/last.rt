@@ -6,7 +6,7 @@ ghost use Rattle.md_history.specs.declared.acts.Reply.TheVariants.{Nothing};
 ghost use Rattle.md_history.specs.declared.stops.Limit.{Limit};
 ghost use Rattle.md_history.specs.declared.stops.Limit.TheVariants.{Reads, Writes};
 ghost use Rattle.md_machine.specs.declared.certificate.Certificate.{Certificate};
-ghost use Rattle.md_nbtc.specs.Going.{IsGoing};
+ghost use Rattle.md_nbtc_law.specs.Going.{IsGoing};
 ghost use Rattle.md_nbtc.specs.State.{state};
 ghost use Rattle.md_queue.specs.Operations.{Answered, GoesBy, IsBegun, IsNotBy, PutsLast};
 ghost use Rattle.md_queue.specs.Operations.{Refused, RefusedOtherwise, StaysStopped};

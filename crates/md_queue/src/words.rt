@@ -1,10 +1,10 @@
 //! The words of a queue: its tail, and those of its nodes.
 
 ghost use Rattle.std.specs.Prelude.{◌≡◌, ℕ, IfOk};
-ghost use Rattle.md_nbtc.specs.Calls.{AfterStop, Exchanges, GoesOn, Looked, Notes};
-ghost use Rattle.md_nbtc.specs.Calls.{exchange_case, note_case};
-ghost use Rattle.md_nbtc.specs.Known.{Known};
-ghost use Rattle.md_nbtc.specs.Seeing.{Gave, KeepsGiven};
+ghost use Rattle.md_nbtc_law.specs.Calls.{AfterStop, Exchanges, GoesOn, Looked, Notes};
+ghost use Rattle.md_nbtc_law.specs.Calls.{exchange_case, note_case};
+ghost use Rattle.md_nbtc_law.specs.Known.{Known};
+ghost use Rattle.md_nbtc_law.specs.Seeing.{Gave, KeepsGiven};
 ghost use Rattle.md_nbtc.specs.State.{state};
 ghost use Rattle.md_queue.specs.Nodes.{MayLook, MayMove, MayNote, MayRead};
 ghost use Rattle.md_queue.specs.Words.{move_kind, next_at, tail_at};

@@ -20,17 +20,17 @@ use Rattle.md_machine.specs.Legal.{front_of}
 use Rattle.md_machine.proofs.lists.Rising.{in_cons, in_none, rise_low}
 use Rattle.md_help.specs.After.{Stands}
 use Rattle.md_machine.specs.declared.attempt.Hand.{Hand}
-use Rattle.md_nbtc.specs.Ending.{Begins, BeginsNot, HasEntry, PutDown, Readies, Stopped}
-use Rattle.md_nbtc.specs.Going.{HasCause, IsGoing}
-use Rattle.md_nbtc.proofs.preparing.Heaps.{goes_self}
-use Rattle.md_nbtc.specs.State.{SameTries, TxnState, attempt_in}
-use Rattle.md_nbtc.proofs.attempts.Fronts.{decided_commits, decided_stops, refused_front, stopped_front}
+use Rattle.md_nbtc_law.specs.Ending.{Begins, BeginsNot, HasEntry, PutDown, Readies, Stopped}
+use Rattle.md_nbtc_law.specs.Going.{HasCause, IsGoing}
+use Rattle.md_nbtc_law.proofs.preparing.Heaps.{goes_self}
+use Rattle.md_nbtc_law.specs.State.{SameTries, TxnState, attempt_in}
+use Rattle.md_nbtc_law.proofs.attempts.Fronts.{decided_commits, decided_stops, refused_front, stopped_front}
 use Rattle.md_rule.specs.Shares.{share_at}
 use Rattle.md_rule.specs.Views.{FieldView, PassState}
 use Rattle.md_rule.specs.declared.shares.Share.{Share}
 use Rattle.md_store_law.specs.Store.{store}
 use Rattle.md_count_law.specs.Few.{RecordsOne}
-use Rattle.md_nbtc.specs.Ended.{WasAborted, WasCommitted, WasLost}
+use Rattle.md_nbtc_law.specs.Ended.{WasAborted, WasCommitted, WasLost}
 use Rattle.md_store.specs.Running.{BreaksOff, IsRunning}
 use Rattle.md_store.specs.Store.{IsPassOf, MayStop, all_lanes, begun_by, front_in, start_of}
 use Rattle.md_store.specs.Laws.{of_is}

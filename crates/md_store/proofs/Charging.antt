@@ -13,12 +13,12 @@ use Rattle.md_machine.specs.declared.certificate.NewNode.{NewNode}
 use Rattle.md_machine.specs.declared.certificate.TidyChange.{TidyChange}
 use Rattle.md_machine.specs.Certified.{all_changes, all_nodes, whole_nodes}
 use Rattle.md_machine.proofs.lists.Rising.{in_map, map_in}
-use Rattle.md_nbtc.specs.Calls.{GoesOn}
-use Rattle.md_nbtc.specs.Going.{IsGoing}
-use Rattle.md_nbtc.specs.Known.{IsLater}
-use Rattle.md_nbtc.specs.State.{OwnNode, TxnState, shape_in}
-use Rattle.md_nbtc.proofs.exchanging.OwnSlots.{any_found}
-use Rattle.md_nbtc.proofs.operations.Courses.{all_push}
+use Rattle.md_nbtc_law.specs.Calls.{GoesOn}
+use Rattle.md_nbtc_law.specs.Going.{IsGoing}
+use Rattle.md_nbtc_law.specs.Known.{IsLater}
+use Rattle.md_nbtc_law.specs.State.{OwnNode, TxnState, shape_in}
+use Rattle.md_nbtc_law.proofs.exchanging.OwnSlots.{any_found}
+use Rattle.md_nbtc_law.proofs.operations.Courses.{all_push}
 use Rattle.md_list_law.specs.ListShape.{next_word}
 use Rattle.md_list.specs.Charged as list
 use Rattle.md_queue.specs.Charged as queue

@@ -19,11 +19,11 @@ use Rattle.md_machine.proofs.lists.Rising.{map_in, range_in}
 use Rattle.md_rule.specs.Kept.{IsLeft, KeepsLanes}
 use Rattle.md_rule.specs.Shares.{share_at}
 use Rattle.md_rule.specs.Views.{FieldView, IsOf, PassState}
-use Rattle.md_nbtc.specs.Ending.{Begins}
-use Rattle.md_nbtc.specs.Going.{HasCause, IsUnderWay, MeetsCount}
-use Rattle.md_nbtc.specs.Known.{IsLater}
-use Rattle.md_nbtc.specs.State.{OwnNode, TxnState, attempt_in, own_node, own_steps, shape_in, taken_of_lane, taken_since}
-use Rattle.md_nbtc.proofs.exchanging.OwnNexts.{flat_in}
+use Rattle.md_nbtc_law.specs.Ending.{Begins}
+use Rattle.md_nbtc_law.specs.Going.{HasCause, IsUnderWay, MeetsCount}
+use Rattle.md_nbtc_law.specs.Known.{IsLater}
+use Rattle.md_nbtc_law.specs.State.{OwnNode, TxnState, attempt_in, own_node, own_steps, shape_in, taken_of_lane, taken_since}
+use Rattle.md_nbtc_law.proofs.exchanging.OwnNexts.{flat_in}
 use Rattle.md_store_law.specs.Store.{store}
 use Rattle.md_store_law.specs.Untouched.{IsUntouched}
 use Rattle.md_calm.specs.First.{IsFirst}

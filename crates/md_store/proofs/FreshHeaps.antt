@@ -25,16 +25,16 @@ use Rattle.md_rule.specs.Admitted.{Admitted}
 use Rattle.md_rule.specs.Closing.{plain_words}
 use Rattle.md_rule.specs.Views.{FieldView, PassState}
 use Rattle.md_rule.proofs.Moves.{is_meant}
-use Rattle.md_nbtc.specs.Course.{StandsNext}
-use Rattle.md_nbtc.specs.Ending.{Begins}
-use Rattle.md_nbtc.specs.Going.{IsGoing}
-use Rattle.md_nbtc.specs.Known.{IsHeapOf, IsLater, Known, found_by}
-use Rattle.md_nbtc.specs.declared.seen.Seen.{Seen}
-use Rattle.md_nbtc.specs.Seeing.{Gave}
-use Rattle.md_nbtc.specs.State.{TxnState, seen_content, shape_in}
-use Rattle.md_nbtc.proofs.attempts.Alone.{alone, found_same, gave_stands}
-use Rattle.md_nbtc.proofs.operations.Courses.{all_push, stand_push}
-use Rattle.md_nbtc.proofs.preparing.Heaps.{later_self}
+use Rattle.md_nbtc_law.specs.Course.{StandsNext}
+use Rattle.md_nbtc_law.specs.Ending.{Begins}
+use Rattle.md_nbtc_law.specs.Going.{IsGoing}
+use Rattle.md_nbtc_law.specs.Known.{IsHeapOf, IsLater, Known, found_by}
+use Rattle.md_nbtc_law.specs.declared.seen.Seen.{Seen}
+use Rattle.md_nbtc_law.specs.Seeing.{Gave}
+use Rattle.md_nbtc_law.specs.State.{TxnState, seen_content, shape_in}
+use Rattle.md_nbtc_law.proofs.attempts.Alone.{alone, found_same, gave_stands}
+use Rattle.md_nbtc_law.proofs.operations.Courses.{all_push, stand_push}
+use Rattle.md_nbtc_law.proofs.preparing.Heaps.{later_self}
 use Rattle.md_store_law.specs.Store.{state_of_store, store}
 use Rattle.md_store_law.specs.Laws.StoreLaws.{store_lawful}
 use Rattle.md_count_law.specs.Few.{StandFrom, acts_of}

@@ -32,18 +32,18 @@ use Rattle.md_machine.specs.declared.certificate.WordValue.{WordValue}
 use Rattle.md_machine.specs.Certified.{TidiesStandBy, after_wholes, all_changes, all_nodes, changes_of_tidy, content_read, is_written, whole_changes}
 use Rattle.md_machine.specs.LogicalHeap.{LogicalHeap}
 use Rattle.md_machine.proofs.lists.Rising.{here, in_cons, in_map, in_none}
-use Rattle.md_nbtc.specs.declared.seen.Seen.{Seen}
-use Rattle.md_nbtc.specs.declared.sets.Slot.{Slot}
-use Rattle.md_nbtc.specs.Course.{StandsNext}
-use Rattle.md_nbtc.specs.Calls.{GoesOn}
-use Rattle.md_nbtc.specs.Ending.{Begins}
-use Rattle.md_nbtc.specs.Going.{HasCause}
-use Rattle.md_nbtc.specs.Known.{IsLater, found_by}
-use Rattle.md_nbtc.specs.State.{OwnNode, TxnState, attempt_in, own_node, shape_in, taken_since, writes_in}
-use Rattle.md_nbtc.proofs.preparing.Later.{later_over}
-use Rattle.md_nbtc.proofs.operations.Courses.{all_push}
-use Rattle.md_nbtc.proofs.ready.Lookups.{all_of, written_there}
-use Rattle.md_nbtc.proofs.ready.Standing.{pairs_map}
+use Rattle.md_nbtc_law.specs.declared.seen.Seen.{Seen}
+use Rattle.md_nbtc_law.specs.declared.slots.Slot.{Slot}
+use Rattle.md_nbtc_law.specs.Course.{StandsNext}
+use Rattle.md_nbtc_law.specs.Calls.{GoesOn}
+use Rattle.md_nbtc_law.specs.Ending.{Begins}
+use Rattle.md_nbtc_law.specs.Going.{HasCause}
+use Rattle.md_nbtc_law.specs.Known.{IsLater, found_by}
+use Rattle.md_nbtc_law.specs.State.{OwnNode, TxnState, attempt_in, own_node, shape_in, taken_since, writes_in}
+use Rattle.md_nbtc_law.proofs.preparing.Later.{later_over}
+use Rattle.md_nbtc_law.proofs.operations.Courses.{all_push}
+use Rattle.md_nbtc_law.proofs.ready.Lookups.{all_of, written_there}
+use Rattle.md_nbtc_law.proofs.ready.Standing.{pairs_map}
 use Rattle.md_rule.specs.Shares.{share_at}
 use Rattle.md_rule.specs.Views.{FieldView, PassState}
 use Rattle.md_list.specs.Refusals.{HasSeen, IsAbsent, IsRefused, NeedsNode, NeedsRead, NeedsSlot, NeedsUnlink, OneMoreChange, OneMoreRead, OneMoreUnlink, WouldStand}

@@ -26,15 +26,15 @@ use Rattle.md_machine.specs.declared.certificate.TidyChange.{TidyChange}
 use Rattle.md_machine.specs.Certified.{all_changes, changes_of_tidy, whole_changes}
 use Rattle.md_machine.specs.LogicalHeap.{LogicalHeap}
 use Rattle.md_machine.proofs.lists.Rising.{here, in_map}
-use Rattle.md_nbtc.specs.Calls.{GoesOn}
-use Rattle.md_nbtc.specs.Ending.{Begins}
-use Rattle.md_nbtc.specs.Going.{HasCause, IsGoing}
-use Rattle.md_nbtc.specs.Known.{IsHeapOf, IsLater}
-use Rattle.md_nbtc.specs.State.{TxnState, own_node, shape_in, taken_since}
-use Rattle.md_nbtc.proofs.operations.Courses.{all_push}
-use Rattle.md_nbtc.proofs.preparing.Later.{later_over}
-use Rattle.md_nbtc.proofs.ready.Lookups.{all_of}
-use Rattle.md_nbtc.proofs.ready.Standing.{pairs_map}
+use Rattle.md_nbtc_law.specs.Calls.{GoesOn}
+use Rattle.md_nbtc_law.specs.Ending.{Begins}
+use Rattle.md_nbtc_law.specs.Going.{HasCause, IsGoing}
+use Rattle.md_nbtc_law.specs.Known.{IsHeapOf, IsLater}
+use Rattle.md_nbtc_law.specs.State.{TxnState, own_node, shape_in, taken_since}
+use Rattle.md_nbtc_law.proofs.operations.Courses.{all_push}
+use Rattle.md_nbtc_law.proofs.preparing.Later.{later_over}
+use Rattle.md_nbtc_law.proofs.ready.Lookups.{all_of}
+use Rattle.md_nbtc_law.proofs.ready.Standing.{pairs_map}
 use Rattle.md_rule.specs.Views.{FieldView, PassState}
 use Rattle.md_queue.specs.Refusals.{BeganAlone, ChangeRefused, MoveRefused, ReadRefused, WouldStand}
 use Rattle.md_store_law.specs.Store.{store}

@@ -14,13 +14,13 @@ use Rattle.md_history.specs.Calls.{Refusal}
 use Rattle.md_machine.specs.declared.attempt.Read.{Read}
 use Rattle.md_machine.specs.declared.certificate.Certificate.{Certificate}
 use Rattle.md_machine.specs.Certified.{all_changes}
-use Rattle.md_nbtc.specs.Calls.{AfterStop, Ends, GoesOn, MayAnswer, with_act, with_operation}
-use Rattle.md_nbtc.specs.Course.{MayEnd}
-use Rattle.md_nbtc.specs.Ending.{Begins}
-use Rattle.md_nbtc.specs.Going.{IsGoing, IsUnderWay}
-use Rattle.md_nbtc.specs.Known.{IsLater}
-use Rattle.md_nbtc.specs.State.{TxnState, own_node, shape_in, taken_since}
-use Rattle.md_nbtc.proofs.preparing.Later.{later_over}
+use Rattle.md_nbtc_law.specs.Calls.{AfterStop, Ends, GoesOn, MayAnswer, with_act, with_operation}
+use Rattle.md_nbtc_law.specs.Course.{MayEnd}
+use Rattle.md_nbtc_law.specs.Ending.{Begins}
+use Rattle.md_nbtc_law.specs.Going.{IsGoing, IsUnderWay}
+use Rattle.md_nbtc_law.specs.Known.{IsLater}
+use Rattle.md_nbtc_law.specs.State.{TxnState, own_node, shape_in, taken_since}
+use Rattle.md_nbtc_law.proofs.preparing.Later.{later_over}
 use Rattle.md_list.specs.Operations.{Answers, Leaves as LeavesList}
 use Rattle.md_list.specs.Walking.{IsHeadOf}
 use Rattle.md_queue.specs.Operations.{Answered as AnsweredByQueue, IsBegun as IsBegunQueue, Refused as RefusedByQueue}

@@ -29,10 +29,10 @@ use Rattle.md_rule.specs.Views.{Origin}
 use Rattle.md_rule.specs.declared.shares.Share.{Share}
 use Rattle.md_rule.proofs.Kept.{each_later, none_later, none_there, own_desc, serial_there, unbegun}
 use Rattle.md_rule.proofs.Moves.{is_kept}
-use Rattle.md_nbtc.specs.Beginning.{Empties, FindsDecided}
-use Rattle.md_nbtc.proofs.beginning.PutInHand.{behind_of}
-use Rattle.md_nbtc.proofs.beginning.Starting.{own_still, present_is, ready_out}
-use Rattle.md_nbtc.proofs.beginning.TakingOut.{clean_still, no_later_before}
+use Rattle.md_nbtc_law.specs.Beginning.{Empties, FindsDecided}
+use Rattle.md_nbtc_law.proofs.beginning.PutInHand.{behind_of}
+use Rattle.md_nbtc_law.proofs.beginning.Starting.{own_still, present_is, ready_out}
+use Rattle.md_nbtc_law.proofs.beginning.TakingOut.{clean_still, no_later_before}
 use Rattle.md_store.specs.Settling.{IsSettled}
 
 -- a descriptor that is settled stays so over steps with nothing in hand

@@ -16,8 +16,8 @@ use Rattle.md_rule.specs.Shares.{share_at}
 use Rattle.md_rule.specs.Views.{FieldView, PassState}
 use Rattle.md_rule.proofs.LaneLists.{desc_exists, lane_exists}
 use Rattle.md_rule.proofs.Moves.{is_kept}
-use Rattle.md_nbtc.specs.Beginning.{Empties, FindsDecided, HasAttempt}
-use Rattle.md_nbtc.proofs.beginning.Starting.{own_still}
+use Rattle.md_nbtc_law.specs.Beginning.{Empties, FindsDecided, HasAttempt}
+use Rattle.md_nbtc_law.proofs.beginning.Starting.{own_still}
 use Rattle.md_store_law.specs.Store.{store}
 use Rattle.md_store.specs.Settling.{IsSettled, Settles, SettlesFirst}
 use Rattle.md_store.specs.Store.{IsPassOf}

@@ -24,8 +24,8 @@ use Rattle.md_machine.proofs.lists.Rising.{range_in}
 use Rattle.md_rule.specs.Closing.{MayClose}
 use Rattle.md_rule.specs.Steps.{Stepped}
 use Rattle.md_rule.specs.Views.{FieldView, PassState}
-use Rattle.md_nbtc.specs.Ending.{BeginsNot}
-use Rattle.md_nbtc.proofs.beginning.Leaving.{begins_not}
+use Rattle.md_nbtc_law.specs.Ending.{BeginsNot}
+use Rattle.md_nbtc_law.proofs.beginning.Leaving.{begins_not}
 use Rattle.md_store_law.specs.Store.{store}
 use Rattle.md_store.specs.Settling.{IsSettled, SettlesFirst}
 use Rattle.md_store.specs.Store.{IsPassOf, all_lanes, front_in, start_of}

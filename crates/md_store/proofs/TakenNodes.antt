@@ -10,7 +10,7 @@ use Rattle.md_machine.proofs.lists.Rising.{in_cons, in_none}
 use Rattle.md_arena.specs.Left.{HasNodeLeft, NoLane}
 use Rattle.md_rule.specs.Shares.{share_at}
 use Rattle.md_rule.specs.Views.{PassState}
-use Rattle.md_nbtc.specs.State.{taken_of_lane, taken_since}
+use Rattle.md_nbtc_law.specs.State.{taken_of_lane, taken_since}
 
 -- a part of a list that was made part by part isn't longer than the whole
 part_length : {A B : Type 0} (f : A → List B) (xs : List A) (x : A) → Contains xs x → length (f x) ≤ length (flat_map f xs)

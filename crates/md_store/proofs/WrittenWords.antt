@@ -9,11 +9,11 @@ use Rattle.md_machine.specs.declared.certificate.Certificate.{Certificate}
 use Rattle.md_machine.specs.declared.certificate.Change.{Change}
 use Rattle.md_machine.specs.Certified.{all_changes, is_written}
 use Rattle.md_machine.proofs.lists.Rising.{in_map}
-use Rattle.md_nbtc.specs.declared.sets.Slot.{Slot}
-use Rattle.md_nbtc.specs.Going.{IsGoing}
-use Rattle.md_nbtc.specs.State.{TxnState, writes_in}
-use Rattle.md_nbtc.proofs.ready.Lookups.{all_of, written_there}
-use Rattle.md_nbtc.proofs.ready.Standing.{pairs_map}
+use Rattle.md_nbtc_law.specs.declared.slots.Slot.{Slot}
+use Rattle.md_nbtc_law.specs.Going.{IsGoing}
+use Rattle.md_nbtc_law.specs.State.{TxnState, writes_in}
+use Rattle.md_nbtc_law.proofs.ready.Lookups.{all_of, written_there}
+use Rattle.md_nbtc_law.proofs.ready.Standing.{pairs_map}
 use Rattle.md_store_law.specs.Store.{store}
 use Rattle.md_count_law.specs.Few.{words_of_changes}
 use Rattle.md_store.proofs.Charging.{any_named}

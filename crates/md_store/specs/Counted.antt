@@ -13,8 +13,8 @@ use Rattle.md_history.specs.Engine.{bounds_in}
 use Rattle.md_history.specs.State.{IsRight}
 use Rattle.md_machine.specs.declared.attempt.Read.{Read}
 use Rattle.md_machine.specs.declared.certificate.Certificate.{Certificate}
-use Rattle.md_nbtc.specs.Going.{IsGoing}
-use Rattle.md_nbtc.specs.State.{TxnState, shape_in}
+use Rattle.md_nbtc_law.specs.Going.{IsGoing}
+use Rattle.md_nbtc_law.specs.State.{TxnState, shape_in}
 use Rattle.md_rule.specs.Views.{FieldView}
 use Rattle.md_store_law.specs.Store.{store}
 use Rattle.md_count_law.specs.Few.{AllCharged, RecordsOne, recorded_words}

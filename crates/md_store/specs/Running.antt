@@ -10,11 +10,11 @@ use Rattle.md_history.specs.declared.acts.Reply.{Reply}
 use Rattle.md_history.specs.Act.{act_of}
 use Rattle.md_history.specs.Calls.{MayReply, Refusal}
 use Rattle.md_machine.specs.declared.certificate.Certificate.{Certificate}
-use Rattle.md_nbtc.specs.Ended.{WasLost}
-use Rattle.md_nbtc.specs.Ending.{Begins, Stopped}
-use Rattle.md_nbtc.specs.Going.{HasCause, IsUnderWay}
-use Rattle.md_nbtc.specs.Known.{IsLater}
-use Rattle.md_nbtc.specs.State.{TxnState}
+use Rattle.md_nbtc_law.specs.Ended.{WasLost}
+use Rattle.md_nbtc_law.specs.Ending.{Begins, Stopped}
+use Rattle.md_nbtc_law.specs.Going.{HasCause, IsUnderWay}
+use Rattle.md_nbtc_law.specs.Known.{IsLater}
+use Rattle.md_nbtc_law.specs.State.{TxnState}
 use Rattle.md_rule.specs.Views.{FieldView, PassState}
 use Rattle.md_store.specs.declared.broken.Broken.{Broken}
 use Rattle.md_store_law.specs.Store.{store}

@@ -5,7 +5,8 @@ ghost use Rattle.md_history.specs.Attempt.{Commits, IfCommitted, IfStopped, IsCo
 ghost use Rattle.md_history.specs.Counts.{IsSmall};
 ghost use Rattle.md_history.specs.Engine.{IsNoConflict, bounds_in};
 ghost use Rattle.md_history.specs.Front.{LegalFrom};
-ghost use Rattle.md_nbtc.specs.State.{shape_in, state};
+ghost use Rattle.md_nbtc_law.specs.State.{shape_in};
+ghost use Rattle.md_nbtc.specs.State.{state};
 ghost use Rattle.md_store.specs.Running.{BreaksOff, IsRunning, StopsBy};
 ghost use Rattle.md_store.specs.Store.{IsFresh, IsPassOf, IsUnworn, MayStop};
 ghost use Rattle.md_store.specs.Store.{all_lanes, begun_by, front_in, limits_of, start_of};

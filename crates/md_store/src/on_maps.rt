@@ -4,7 +4,8 @@ ghost use Rattle.std.specs.Prelude.{◌≡◌, ◌<◌, IfErr, IfOk};
 ghost use Rattle.md_history.specs.declared.acts.Op.TheVariants.{Get, Insert, Remove};
 ghost use Rattle.md_history.specs.declared.acts.Reply.TheVariants.{Flag, Value};
 ghost use Rattle.md_history.specs.Calls.{Answered, Refused};
-ghost use Rattle.md_nbtc.specs.State.{shape_in, state};
+ghost use Rattle.md_nbtc_law.specs.State.{shape_in};
+ghost use Rattle.md_nbtc.specs.State.{state};
 ghost use Rattle.md_store.specs.Running.{IsRunning, RunsOn, refusal_of};
 
 use crate::broken::Broken;

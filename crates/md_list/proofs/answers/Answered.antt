@@ -3,9 +3,9 @@ use Rattle.std.proofs.Common.{ℕ}
 use Rattle.md_history.specs.declared.acts.Op.{Op}
 use Rattle.md_history.specs.declared.acts.Reply.{Reply}
 use Rattle.md_machine.specs.Meaning.{Meaning}
-use Rattle.md_nbtc.specs.Calls.{MayAnswer}
-use Rattle.md_nbtc.specs.Going.{IsUnderWay}
-use Rattle.md_nbtc.specs.State.{TxnState, shape_in}
+use Rattle.md_nbtc_law.specs.Calls.{MayAnswer}
+use Rattle.md_nbtc_law.specs.Going.{IsUnderWay}
+use Rattle.md_nbtc_law.specs.State.{TxnState, shape_in}
 use Rattle.md_list.specs.Operations.{Answers, Leaves}
 use Rattle.md_list.specs.Walking.{IsHeadOf}
 

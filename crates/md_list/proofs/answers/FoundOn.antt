@@ -3,11 +3,11 @@ use Rattle.std.proofs.Common.{◌≡◌, ◌≢◌, ◌+◌, ℕ, refl, subst, s
 use Rattle.md_machine.specs.declared.node.Structure.TheVariants.{Bucket}
 use Rattle.md_machine.specs.Meaning.{Lawful, Meaning}
 use Rattle.md_rule.specs.Views.{PassState}
-use Rattle.md_nbtc.specs.declared.seen.Seen.{Seen}
-use Rattle.md_nbtc.specs.Calls.{GoesOn}
-use Rattle.md_nbtc.specs.Seeing.{KeepsGiven}
-use Rattle.md_nbtc.specs.State.{TxnState, shape_in}
-use Rattle.md_nbtc.proofs.preparing.Later.{known_later}
+use Rattle.md_nbtc_law.specs.declared.seen.Seen.{Seen}
+use Rattle.md_nbtc_law.specs.Calls.{GoesOn}
+use Rattle.md_nbtc_law.specs.Seeing.{KeepsGiven}
+use Rattle.md_nbtc_law.specs.State.{TxnState, shape_in}
+use Rattle.md_nbtc_law.proofs.preparing.Later.{known_later}
 use Rattle.md_list_law.specs.HasLists.{HasListsOf}
 use Rattle.md_list.specs.declared.walk.Found.{Found}
 use Rattle.md_list.specs.Walking.{FindsNode, Gives, HasFound, IsBefore, IsHead}
@@ -18,9 +18,9 @@ use Rattle.md_words.specs.Layout.{IsNode, address}
 use Rattle.md_words.specs.Place.{node_next}
 use Rattle.md_machine.specs.declared.certificate.Certificate.{Certificate}
 use Rattle.md_machine.specs.declared.node.Structure.{Structure}
-use Rattle.md_nbtc.specs.Going.{IsFoundThere}
-use Rattle.md_nbtc.specs.Known.{IsLater}
-use Rattle.md_nbtc.proofs.structures.NodesKnown.{shape_later}
+use Rattle.md_nbtc_law.specs.Going.{IsFoundThere}
+use Rattle.md_nbtc_law.specs.Known.{IsLater}
+use Rattle.md_nbtc_law.proofs.structures.NodesKnown.{shape_later}
 use Rattle.md_list_law.specs.ListShape.{next_word}
 
 module _ (M : Meaning) (t u : TxnState) (later : IsLater t u) where

@@ -4,19 +4,19 @@ use Rattle.std.proofs.lemmas.List.Elements.{All-contains}
 use Rattle.md_words.specs.Layout.{IsNode, address, words_of}
 use Rattle.md_machine.specs.declared.node.Structure.TheVariants.{Bucket}
 use Rattle.md_machine.specs.Certified.{all_nodes}
-use Rattle.md_nbtc.specs.Course.{IsStoredNode, stored_words}
-use Rattle.md_nbtc.proofs.structures.NodesKnown.{placed_or_own, shape_later}
+use Rattle.md_nbtc_law.specs.Course.{IsStoredNode, stored_words}
+use Rattle.md_nbtc_law.proofs.structures.NodesKnown.{placed_or_own, shape_later}
 use Rattle.md_words.specs.Place.{node_value}
 use Rattle.md_words.specs.PlaceAt.{place_at}
 use Rattle.md_words.proofs.Places.{address_below, place_at-address}
 use Rattle.md_history.specs.declared.stops.Stop.{Stop}
 use Rattle.md_machine.specs.Meaning.{Lawful, Meaning}
-use Rattle.md_nbtc.specs.declared.seen.Seen.{Seen}
-use Rattle.md_nbtc.specs.Calls.{AfterStop, GoesOn, IsData, Notes, note_case}
-use Rattle.md_nbtc.specs.State.{TxnState, shape_in}
-use Rattle.md_nbtc.proofs.preparing.Later.{later_over}
-use Rattle.md_nbtc.proofs.structures.Answering.{after_ok}
-use Rattle.md_nbtc.proofs.structures.Noting.{HasNoted, has_noted}
+use Rattle.md_nbtc_law.specs.declared.seen.Seen.{Seen}
+use Rattle.md_nbtc_law.specs.Calls.{AfterStop, GoesOn, IsData, Notes, note_case}
+use Rattle.md_nbtc_law.specs.State.{TxnState, shape_in}
+use Rattle.md_nbtc_law.proofs.preparing.Later.{later_over}
+use Rattle.md_nbtc_law.proofs.structures.Answering.{after_ok}
+use Rattle.md_nbtc_law.proofs.structures.Noting.{HasNoted, has_noted}
 use Rattle.md_list.specs.Walking.{FindsNode, HasFound}
 use Rattle.md_list.specs.declared.walk.Found.{Found}
 

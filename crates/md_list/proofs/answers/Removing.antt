@@ -20,25 +20,25 @@ use Rattle.md_machine.specs.LogicalHeap.{Holds}
 use Rattle.md_machine.specs.Meaning.{Lawful, Meaning}
 use Rattle.md_machine.proofs.chain.SameNodes.{next_alone}
 use Rattle.md_machine.proofs.lists.Rising.{here, in_map, map_in}
-use Rattle.md_nbtc.specs.declared.sets.Slot.{Slot}
-use Rattle.md_nbtc.specs.declared.seen.Cleanup.{Cleanup}
-use Rattle.md_nbtc.specs.declared.seen.Cleanup.TheVariants.{Unlink}
-use Rattle.md_nbtc.specs.declared.seen.Kind.TheVariants.{Critical}
-use Rattle.md_nbtc.specs.declared.seen.Seen.{Seen}
-use Rattle.md_nbtc.specs.Calls.{GoesOn, Keeps, MayExchange, data_at}
-use Rattle.md_nbtc.specs.Cleaning.{IsWrittenFor, MayTidyLater, with_cleanup, with_cleanup_kept}
-use Rattle.md_nbtc.specs.Going.{IsGoing}
-use Rattle.md_nbtc.specs.Known.{IsLater, Known}
-use Rattle.md_nbtc.specs.Seeing.{Gave, KeepsGiven}
-use Rattle.md_nbtc.specs.State.{TxnState, shape_in, writes_in}
-use Rattle.md_nbtc.specs.Tidied.{tidied}
-use Rattle.md_nbtc.proofs.keeping.Kept.{same_writes}
-use Rattle.md_nbtc.proofs.preparing.Heaps.{known_now, later_self}
-use Rattle.md_nbtc.proofs.preparing.Later.{known_later, later_over}
-use Rattle.md_nbtc.proofs.structures.Exchanging.{HasExchanged, may_exchange_so}
-use Rattle.md_nbtc.proofs.structures.NodesKnown.{shape_later}
-use Rattle.md_nbtc.proofs.structures.SeenValues.{seen_value}
-use Rattle.md_nbtc.proofs.structures.Tidying.{bare_holds}
+use Rattle.md_nbtc_law.specs.declared.slots.Slot.{Slot}
+use Rattle.md_nbtc_law.specs.declared.seen.Cleanup.{Cleanup}
+use Rattle.md_nbtc_law.specs.declared.seen.Cleanup.TheVariants.{Unlink}
+use Rattle.md_nbtc_law.specs.declared.seen.Kind.TheVariants.{Critical}
+use Rattle.md_nbtc_law.specs.declared.seen.Seen.{Seen}
+use Rattle.md_nbtc_law.specs.Calls.{GoesOn, Keeps, MayExchange, data_at}
+use Rattle.md_nbtc_law.specs.Cleaning.{IsWrittenFor, MayTidyLater, with_cleanup, with_cleanup_kept}
+use Rattle.md_nbtc_law.specs.Going.{IsGoing}
+use Rattle.md_nbtc_law.specs.Known.{IsLater, Known}
+use Rattle.md_nbtc_law.specs.Seeing.{Gave, KeepsGiven}
+use Rattle.md_nbtc_law.specs.State.{TxnState, shape_in, writes_in}
+use Rattle.md_nbtc_law.specs.Tidied.{tidied}
+use Rattle.md_nbtc_law.proofs.keeping.Kept.{same_writes}
+use Rattle.md_nbtc_law.proofs.preparing.Heaps.{known_now, later_self}
+use Rattle.md_nbtc_law.proofs.preparing.Later.{known_later, later_over}
+use Rattle.md_nbtc_law.proofs.structures.Exchanging.{HasExchanged, may_exchange_so}
+use Rattle.md_nbtc_law.proofs.structures.NodesKnown.{shape_later}
+use Rattle.md_nbtc_law.proofs.structures.SeenValues.{seen_value}
+use Rattle.md_nbtc_law.proofs.structures.Tidying.{bare_holds}
 use Rattle.md_list_law.specs.Certificates.{IsRow, key_fact, pair_fact, remove_some}
 use Rattle.md_list_law.specs.HasLists.{HasListsOf}
 use Rattle.md_list_law.specs.ListShape.{IsIn, next_word}

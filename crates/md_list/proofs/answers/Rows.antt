@@ -20,20 +20,20 @@ use Rattle.md_machine.specs.LogicalHeap.{Holds}
 use Rattle.md_machine.specs.Meaning.{Lawful, Meaning}
 use Rattle.md_machine.specs.Resolution.{or_else}
 use Rattle.md_machine.proofs.lists.Rising.{here}
-use Rattle.md_nbtc.specs.declared.seen.Seen.{Seen}
-use Rattle.md_nbtc.specs.Calls.{GoesOn}
-use Rattle.md_nbtc.specs.Going.{IsGoing}
-use Rattle.md_nbtc.specs.Known.{IsLater, Known, found_by}
-use Rattle.md_nbtc.specs.State.{TxnState, seen_content, shape_in, writes_in}
-use Rattle.md_nbtc.specs.Tidied.{tidied}
-use Rattle.md_nbtc.proofs.preparing.Later.{known_later}
-use Rattle.md_nbtc.proofs.structures.Growing.{tidied_later, tidied_none}
-use Rattle.md_nbtc.proofs.structures.NodesKnown.{shape_later}
-use Rattle.md_nbtc.proofs.structures.Noting.{HasNoted}
-use Rattle.md_nbtc.proofs.structures.Reading.{may_end_reading, reading}
-use Rattle.md_nbtc.proofs.structures.SeenValues.{seen_value}
-use Rattle.md_nbtc.proofs.structures.StoodThen.{written_is_found}
-use Rattle.md_nbtc.proofs.structures.Tidying.{bare_holds}
+use Rattle.md_nbtc_law.specs.declared.seen.Seen.{Seen}
+use Rattle.md_nbtc_law.specs.Calls.{GoesOn}
+use Rattle.md_nbtc_law.specs.Going.{IsGoing}
+use Rattle.md_nbtc_law.specs.Known.{IsLater, Known, found_by}
+use Rattle.md_nbtc_law.specs.State.{TxnState, seen_content, shape_in, writes_in}
+use Rattle.md_nbtc_law.specs.Tidied.{tidied}
+use Rattle.md_nbtc_law.proofs.preparing.Later.{known_later}
+use Rattle.md_nbtc_law.proofs.structures.Growing.{tidied_later, tidied_none}
+use Rattle.md_nbtc_law.proofs.structures.NodesKnown.{shape_later}
+use Rattle.md_nbtc_law.proofs.structures.Noting.{HasNoted}
+use Rattle.md_nbtc_law.proofs.structures.Reading.{may_end_reading, reading}
+use Rattle.md_nbtc_law.proofs.structures.SeenValues.{seen_value}
+use Rattle.md_nbtc_law.proofs.structures.StoodThen.{written_is_found}
+use Rattle.md_nbtc_law.proofs.structures.Tidying.{bare_holds}
 use Rattle.md_list_law.specs.Certificates.{IsListCertificate, IsRow, IsUnlink}
 use Rattle.md_list_law.specs.HasLists.{HasListsOf, IsMapCertificate}
 use Rattle.md_list_law.specs.ListShape.{head_word}

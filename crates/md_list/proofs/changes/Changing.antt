@@ -15,13 +15,13 @@ use Rattle.md_machine.specs.declared.certificate.WordValue.{WordValue}
 use Rattle.md_machine.specs.Certified.{first_content, is_written, whole_nodes}
 use Rattle.md_machine.specs.LogicalHeap.{Holds}
 use Rattle.md_machine.specs.Meaning.{Meaning}
-use Rattle.md_nbtc.specs.Course.{IsStoredNode, MayEnd}
-use Rattle.md_nbtc.specs.Known.{IsLater, Known, found_by}
-use Rattle.md_nbtc.specs.State.{TxnState, shape_in, writes_in}
-use Rattle.md_nbtc.specs.Tidied.{HasTidied, tidied}
-use Rattle.md_nbtc.proofs.preparing.Later.{known_later}
-use Rattle.md_nbtc.proofs.structures.NodesKnown.{shape_later}
-use Rattle.md_nbtc.proofs.structures.Tidying.{IsBare, bare_nodes}
+use Rattle.md_nbtc_law.specs.Course.{IsStoredNode, MayEnd}
+use Rattle.md_nbtc_law.specs.Known.{IsLater, Known, found_by}
+use Rattle.md_nbtc_law.specs.State.{TxnState, shape_in, writes_in}
+use Rattle.md_nbtc_law.specs.Tidied.{HasTidied, tidied}
+use Rattle.md_nbtc_law.proofs.preparing.Later.{known_later}
+use Rattle.md_nbtc_law.proofs.structures.NodesKnown.{shape_later}
+use Rattle.md_nbtc_law.proofs.structures.Tidying.{IsBare, bare_nodes}
 
 -- a certificate that makes one change and places some nodes, after tidy changes
 abbrev pub changing : Op → Reply → List TidyChange → Change → List NewNode → List Fact → Certificate

@@ -9,18 +9,18 @@ use Rattle.md_machine.specs.declared.certificate.Certificate.{Certificate}
 use Rattle.md_machine.specs.Certified.{first_content}
 use Rattle.md_machine.specs.Meaning.{Meaning}
 use Rattle.md_machine.proofs.lists.Rising.{here, map_in}
-use Rattle.md_nbtc.specs.declared.seen.Kind.TheVariants.{Critical}
-use Rattle.md_nbtc.specs.declared.seen.Seen.{Seen}
-use Rattle.md_nbtc.specs.declared.sets.Slot.{Slot}
-use Rattle.md_nbtc.specs.Calls.{new_slot, with_change}
-use Rattle.md_nbtc.specs.Going.{IsGoing}
-use Rattle.md_nbtc.specs.Seeing.{Gave}
-use Rattle.md_nbtc.specs.Sets.{with_new}
-use Rattle.md_nbtc.specs.State.{TxnState, seen_content, writes_in}
+use Rattle.md_nbtc_law.specs.declared.seen.Kind.TheVariants.{Critical}
+use Rattle.md_nbtc_law.specs.declared.seen.Seen.{Seen}
+use Rattle.md_nbtc_law.specs.declared.slots.Slot.{Slot}
+use Rattle.md_nbtc_law.specs.Calls.{new_slot, with_change}
+use Rattle.md_nbtc_law.specs.Going.{IsGoing}
+use Rattle.md_nbtc_law.specs.Seeing.{Gave}
+use Rattle.md_nbtc_law.specs.Sets.{with_new}
+use Rattle.md_nbtc_law.specs.State.{TxnState, seen_content, writes_in}
 use Rattle.md_list.specs.Operations.{SlotsStay}
 use Rattle.md_list.proofs.charges.Adding.{Adds}
 use Rattle.md_list.proofs.changes.Staying.{slots_changed}
-use Rattle.md_nbtc.proofs.structures.Exchanging.{HasExchanged, changed_own, changed_plainly, installed}
+use Rattle.md_nbtc_law.proofs.structures.Exchanging.{HasExchanged, changed_own, changed_plainly, installed}
 
 module _ (M : Meaning) (t : TxnState) (word : ℕ) (from : Seen) (to : ℕ) (u : TxnState) (seen : Seen) where
   -- the word is an own one with the new value, the change is noted for the operation, and what was seen was the word's first content if it wasn't own before

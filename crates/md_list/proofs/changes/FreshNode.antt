@@ -9,15 +9,15 @@ use Rattle.md_machine.specs.declared.certificate.TidyChange.{TidyChange}
 use Rattle.md_machine.specs.declared.node.Structure.{Structure}
 use Rattle.md_machine.specs.Certified.{after_wholes, is_written}
 use Rattle.md_machine.specs.Meaning.{Lawful, Meaning}
-use Rattle.md_nbtc.specs.Going.{IsGoing, IsUnplaced}
-use Rattle.md_nbtc.specs.Known.{Known, KnowsPlaced}
-use Rattle.md_nbtc.specs.Seeing.{MayChange}
-use Rattle.md_nbtc.specs.State.{OwnNode, TxnState, shape_in, writes_in}
-use Rattle.md_nbtc.specs.Tidied.{tidied}
-use Rattle.md_nbtc.proofs.preparing.Heaps.{known_now}
-use Rattle.md_nbtc.proofs.ready.Lookups.{written_found}
-use Rattle.md_nbtc.proofs.structures.NodesKnown.{placed_before}
-use Rattle.md_nbtc.proofs.structures.Tidying.{IsBare, bare_placed}
+use Rattle.md_nbtc_law.specs.Going.{IsGoing, IsUnplaced}
+use Rattle.md_nbtc_law.specs.Known.{Known, KnowsPlaced}
+use Rattle.md_nbtc_law.specs.Seeing.{MayChange}
+use Rattle.md_nbtc_law.specs.State.{OwnNode, TxnState, shape_in, writes_in}
+use Rattle.md_nbtc_law.specs.Tidied.{tidied}
+use Rattle.md_nbtc_law.proofs.preparing.Heaps.{known_now}
+use Rattle.md_nbtc_law.proofs.ready.Lookups.{written_found}
+use Rattle.md_nbtc_law.proofs.structures.NodesKnown.{placed_before}
+use Rattle.md_nbtc_law.proofs.structures.Tidying.{IsBare, bare_placed}
 use Rattle.md_list_law.specs.ListShape.{next_word}
 use Rattle.md_list.proofs.walking.ListWords.{own_placed}
 

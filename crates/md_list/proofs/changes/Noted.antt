@@ -5,10 +5,10 @@ use Rattle.std.specs.List.{Contains}
 use Rattle.md_history.specs.declared.stops.Stop.{Stop}
 use Rattle.md_machine.specs.declared.attempt.Read.{Read}
 use Rattle.md_machine.proofs.lists.Rising.{in_cons, in_none}
-use Rattle.md_nbtc.specs.declared.seen.Seen.{Seen}
-use Rattle.md_nbtc.specs.Calls.{AfterStop, NoteCase, Notes, full, note_case, noted, recorded, unread}
-use Rattle.md_nbtc.specs.State.{TxnState, seen_content}
-use Rattle.md_nbtc.proofs.structures.Answering.{after_ok}
+use Rattle.md_nbtc_law.specs.declared.seen.Seen.{Seen}
+use Rattle.md_nbtc_law.specs.Calls.{AfterStop, NoteCase, Notes, full, note_case, noted, recorded, unread}
+use Rattle.md_nbtc_law.specs.State.{TxnState, seen_content}
+use Rattle.md_nbtc_law.proofs.structures.Answering.{after_ok}
 
 -- what is recorded more is of this word
 abbrev pub NotesOnly : (t u : TxnState) → (word : ℕ) → Type 0

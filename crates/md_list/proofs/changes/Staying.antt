@@ -6,15 +6,15 @@ use Rattle.std.proofs.lemmas.Option.{none-some}
 use Rattle.std.specs.List.{Contains}
 use Rattle.md_machine.specs.Meaning.{Meaning}
 use Rattle.md_machine.proofs.lists.Rising.{in_cons, in_map, in_none, map_in}
-use Rattle.md_nbtc.specs.declared.seen.Cleanup.{Cleanup}
-use Rattle.md_nbtc.specs.declared.seen.Kind.{Kind}
-use Rattle.md_nbtc.specs.declared.seen.Seen.{Seen}
-use Rattle.md_nbtc.specs.declared.sets.Slot.{Slot}
-use Rattle.md_nbtc.specs.Calls.{new_slot}
-use Rattle.md_nbtc.specs.Cleaning.{with_cleanup}
-use Rattle.md_nbtc.specs.Sets.{with_new}
-use Rattle.md_nbtc.specs.State.{TxnState}
-use Rattle.md_nbtc.proofs.structures.Exchanging.{HasExchanged, changed_own, changed_plainly, installed}
+use Rattle.md_nbtc_law.specs.declared.seen.Cleanup.{Cleanup}
+use Rattle.md_nbtc_law.specs.declared.seen.Kind.{Kind}
+use Rattle.md_nbtc_law.specs.declared.seen.Seen.{Seen}
+use Rattle.md_nbtc_law.specs.declared.slots.Slot.{Slot}
+use Rattle.md_nbtc_law.specs.Calls.{new_slot}
+use Rattle.md_nbtc_law.specs.Cleaning.{with_cleanup}
+use Rattle.md_nbtc_law.specs.Sets.{with_new}
+use Rattle.md_nbtc_law.specs.State.{TxnState}
+use Rattle.md_nbtc_law.proofs.structures.Exchanging.{HasExchanged, changed_own, changed_plainly, installed}
 use Rattle.md_list.specs.Operations.{SlotsStay, StaysAs}
 
 pub slots_same : (t u : TxnState) → u.slots ≡ t.slots → SlotsStay t u

@@ -7,11 +7,11 @@ use Rattle.md_machine.specs.declared.certificate.Certificate.{Certificate}
 use Rattle.md_machine.specs.declared.node.Structure.TheVariants.{Bucket}
 use Rattle.md_machine.specs.Certified.{after_wholes}
 use Rattle.md_machine.specs.Meaning.{Lawful, Meaning}
-use Rattle.md_nbtc.specs.declared.seen.Cleanup.TheVariants.{Unlink}
-use Rattle.md_nbtc.specs.Cleaning.{IsFactLater, MayTidyLater}
-use Rattle.md_nbtc.specs.Going.{IsGoing}
-use Rattle.md_nbtc.specs.Known.{Known}
-use Rattle.md_nbtc.specs.State.{TxnState, shape_in}
+use Rattle.md_nbtc_law.specs.declared.seen.Cleanup.TheVariants.{Unlink}
+use Rattle.md_nbtc_law.specs.Cleaning.{IsFactLater, MayTidyLater}
+use Rattle.md_nbtc_law.specs.Going.{IsGoing}
+use Rattle.md_nbtc_law.specs.Known.{Known}
+use Rattle.md_nbtc_law.specs.State.{TxnState, shape_in}
 use Rattle.md_list_law.specs.HasLists.{HasListsOf}
 use Rattle.md_list_law.specs.ListShape.{IsIn}
 use Rattle.md_list.specs.Walking.{IsBefore, IsHead}

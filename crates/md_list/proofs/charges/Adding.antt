@@ -4,17 +4,17 @@ use Rattle.std.proofs.lemmas.List.{append-nil, length-append, length-map}
 use Rattle.md_history.specs.Front.{IsPrefix}
 use Rattle.md_history.specs.declared.stops.Stop.{Stop}
 use Rattle.md_machine.specs.Meaning.{Meaning}
-use Rattle.md_nbtc.specs.declared.seen.Cleanup.{Cleanup}
-use Rattle.md_nbtc.specs.declared.seen.Seen.{Seen}
+use Rattle.md_nbtc_law.specs.declared.seen.Cleanup.{Cleanup}
+use Rattle.md_nbtc_law.specs.declared.seen.Seen.{Seen}
 use Rattle.md_words.specs.Layout.{address}
 use Rattle.md_words.specs.Place.{node_next}
-use Rattle.md_nbtc.specs.Calls.{Freshens, GoesOn}
-use Rattle.md_nbtc.specs.Cleaning.{cleanup_node, with_cleanup, with_cleanup_kept}
-use Rattle.md_nbtc.specs.State.{OwnNode, TxnState, shape_in}
-use Rattle.md_nbtc.proofs.preparing.Heaps.{later_self}
-use Rattle.md_nbtc.proofs.preparing.Later.{later_over}
-use Rattle.md_nbtc.proofs.structures.Answering.{IsStopped}
-use Rattle.md_nbtc.proofs.structures.Noting.{HasNoted}
+use Rattle.md_nbtc_law.specs.Calls.{Freshens, GoesOn}
+use Rattle.md_nbtc_law.specs.Cleaning.{cleanup_node, with_cleanup, with_cleanup_kept}
+use Rattle.md_nbtc_law.specs.State.{OwnNode, TxnState, shape_in}
+use Rattle.md_nbtc_law.proofs.preparing.Heaps.{later_self}
+use Rattle.md_nbtc_law.proofs.preparing.Later.{later_over}
+use Rattle.md_nbtc_law.proofs.structures.Answering.{IsStopped}
+use Rattle.md_nbtc_law.proofs.structures.Noting.{HasNoted}
 use Rattle.md_list.specs.Operations.{Leaves, SlotsStay}
 use Rattle.md_list.proofs.changes.Staying.{KeepsNone, slots_kept, slots_over, slots_same}
 

@@ -11,10 +11,10 @@ use Rattle.md_machine.specs.Certified.{is_written}
 use Rattle.md_machine.specs.Meaning.{Meaning}
 use Rattle.md_machine.proofs.lists.Differ.{no_pairs}
 use Rattle.md_machine.proofs.lists.Rising.{filter_in, map_in, there as further}
-use Rattle.md_nbtc.specs.declared.sets.Slot.{Slot}
-use Rattle.md_nbtc.specs.State.{OwnNode, TxnState, shape_in, writes_in}
-use Rattle.md_nbtc.proofs.exchanging.MoreSlots.{written_push}
-use Rattle.md_nbtc.proofs.ready.Lookups.{written_found}
+use Rattle.md_nbtc_law.specs.declared.slots.Slot.{Slot}
+use Rattle.md_nbtc_law.specs.State.{OwnNode, TxnState, shape_in, writes_in}
+use Rattle.md_nbtc_law.proofs.exchanging.MoreSlots.{written_push}
+use Rattle.md_nbtc_law.proofs.ready.Lookups.{written_found}
 use Rattle.md_list_law.specs.ListShape.{next_word}
 use Rattle.md_list.specs.Written.{WritesFew, unwritten_reads}
 use Rattle.md_list.proofs.walking.At.{IsBehind}

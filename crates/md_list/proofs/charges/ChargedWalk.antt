@@ -10,15 +10,15 @@ use Rattle.md_machine.specs.Certified.{is_written}
 use Rattle.md_machine.specs.Meaning.{Lawful, Meaning}
 use Rattle.md_machine.proofs.chain.SameNodes.{next_alone}
 use Rattle.md_machine.proofs.lists.Rising.{here, there as further}
-use Rattle.md_nbtc.specs.declared.seen.Kind.{Kind}
-use Rattle.md_nbtc.specs.declared.seen.Kind.TheVariants.{Plain}
-use Rattle.md_nbtc.specs.declared.seen.Seen.{Seen}
-use Rattle.md_nbtc.specs.Calls.{is_critical, new_slot}
-use Rattle.md_nbtc.specs.Sets.{with_new}
-use Rattle.md_nbtc.specs.State.{TxnState, shape_in, writes_in}
-use Rattle.md_nbtc.proofs.exchanging.Renewed.{is_renewed, renew, renewed_writes, same_written}
-use Rattle.md_nbtc.proofs.ready.Lookups.{all_of}
-use Rattle.md_nbtc.proofs.structures.Exchanging.{HasExchanged, changed_own, changed_plainly, installed}
+use Rattle.md_nbtc_law.specs.declared.seen.Kind.{Kind}
+use Rattle.md_nbtc_law.specs.declared.seen.Kind.TheVariants.{Plain}
+use Rattle.md_nbtc_law.specs.declared.seen.Seen.{Seen}
+use Rattle.md_nbtc_law.specs.Calls.{is_critical, new_slot}
+use Rattle.md_nbtc_law.specs.Sets.{with_new}
+use Rattle.md_nbtc_law.specs.State.{TxnState, shape_in, writes_in}
+use Rattle.md_nbtc_law.proofs.exchanging.Renewed.{is_renewed, renew, renewed_writes, same_written}
+use Rattle.md_nbtc_law.proofs.ready.Lookups.{all_of}
+use Rattle.md_nbtc_law.proofs.structures.Exchanging.{HasExchanged, changed_own, changed_plainly, installed}
 use Rattle.md_list_law.specs.HasLists.{HasListsOf}
 use Rattle.md_list_law.specs.ListShape.{next_word}
 use Rattle.md_list_law.proofs.Links.{head_is_no_next}

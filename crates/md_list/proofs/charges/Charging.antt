@@ -13,22 +13,22 @@ use Rattle.md_machine.specs.declared.certificate.TidyChange.{TidyChange}
 use Rattle.md_machine.specs.Certified.{all_changes, changes_of_tidy, content_read, is_written}
 use Rattle.md_machine.specs.Meaning.{Meaning}
 use Rattle.md_machine.proofs.lists.Rising.{in_map, map_in}
-use Rattle.md_nbtc.specs.declared.seen.Kind.{Kind}
-use Rattle.md_nbtc.specs.declared.seen.Kind.TheVariants.{Plain}
-use Rattle.md_nbtc.specs.declared.seen.Seen.{Seen}
-use Rattle.md_nbtc.specs.declared.sets.Slot.{Slot}
-use Rattle.md_nbtc.specs.Calls.{is_critical, is_next_word, new_slot}
-use Rattle.md_nbtc.specs.Going.{IsGoing}
-use Rattle.md_nbtc.specs.Known.{IsLater}
-use Rattle.md_nbtc.specs.Seeing.{Gave, SeesSlot}
-use Rattle.md_nbtc.specs.State.{OwnNode, TxnState, shape_in, writes_in}
-use Rattle.md_nbtc.specs.Tidied.{HasTidied}
-use Rattle.md_nbtc.proofs.exchanging.OwnSlots.{any_found}
-use Rattle.md_nbtc.proofs.exchanging.Refused.{read_there}
-use Rattle.md_nbtc.proofs.exchanging.Renewed.{renew, renewed_writes}
-use Rattle.md_nbtc.proofs.ready.Lookups.{one_of}
-use Rattle.md_nbtc.proofs.structures.Exchanging.{HasExchanged, changed_own, changed_plainly, installed}
-use Rattle.md_nbtc.proofs.structures.NodesKnown.{shape_later}
+use Rattle.md_nbtc_law.specs.declared.seen.Kind.{Kind}
+use Rattle.md_nbtc_law.specs.declared.seen.Kind.TheVariants.{Plain}
+use Rattle.md_nbtc_law.specs.declared.seen.Seen.{Seen}
+use Rattle.md_nbtc_law.specs.declared.slots.Slot.{Slot}
+use Rattle.md_nbtc_law.specs.Calls.{is_critical, is_next_word, new_slot}
+use Rattle.md_nbtc_law.specs.Going.{IsGoing}
+use Rattle.md_nbtc_law.specs.Known.{IsLater}
+use Rattle.md_nbtc_law.specs.Seeing.{Gave, SeesSlot}
+use Rattle.md_nbtc_law.specs.State.{OwnNode, TxnState, shape_in, writes_in}
+use Rattle.md_nbtc_law.specs.Tidied.{HasTidied}
+use Rattle.md_nbtc_law.proofs.exchanging.OwnSlots.{any_found}
+use Rattle.md_nbtc_law.proofs.exchanging.Refused.{read_there}
+use Rattle.md_nbtc_law.proofs.exchanging.Renewed.{renew, renewed_writes}
+use Rattle.md_nbtc_law.proofs.ready.Lookups.{one_of}
+use Rattle.md_nbtc_law.proofs.structures.Exchanging.{HasExchanged, changed_own, changed_plainly, installed}
+use Rattle.md_nbtc_law.proofs.structures.NodesKnown.{shape_later}
 use Rattle.std.proofs.lemmas.List.{map-append}
 use Rattle.md_list_law.specs.ListShape.{next_word}
 use Rattle.md_list.specs.Charged.{AreCharged, IsCharged, changed, own_next, passes, recorded}

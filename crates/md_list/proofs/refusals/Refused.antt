@@ -11,12 +11,12 @@ use Rattle.md_history.specs.declared.stops.Stop.{Stop}
 use Rattle.md_history.specs.declared.stops.Stop.TheVariants.{Conflict, Limit as Limited}
 use Rattle.md_machine.specs.Certified.{content_read, is_written}
 use Rattle.md_machine.specs.Meaning.{Meaning}
-use Rattle.md_nbtc.specs.declared.seen.Kind.{Kind}
-use Rattle.md_nbtc.specs.declared.seen.Seen.{Seen}
-use Rattle.md_nbtc.specs.Calls.{AfterStop, Exchanges, Freshened, GoesOn, Looked, NoteCase, Notes, case_by_count, case_by_read, case_unless_moved, changes, exchange_case, full, is_critical, moved, note_case, noted, own, recorded, unread, worn}
-use Rattle.md_nbtc.specs.State.{TxnState, seen_content, writes_in}
-use Rattle.md_nbtc.proofs.structures.Answering.{IsStopped}
-use Rattle.md_nbtc.proofs.structures.Exchanging.{exchange_so}
+use Rattle.md_nbtc_law.specs.declared.seen.Kind.{Kind}
+use Rattle.md_nbtc_law.specs.declared.seen.Seen.{Seen}
+use Rattle.md_nbtc_law.specs.Calls.{AfterStop, Exchanges, Freshened, GoesOn, Looked, NoteCase, Notes, case_by_count, case_by_read, case_unless_moved, changes, exchange_case, full, is_critical, moved, note_case, noted, own, recorded, unread, worn}
+use Rattle.md_nbtc_law.specs.State.{TxnState, seen_content, writes_in}
+use Rattle.md_nbtc_law.proofs.structures.Answering.{IsStopped}
+use Rattle.md_nbtc_law.proofs.structures.Exchanging.{exchange_so}
 use Rattle.md_list.proofs.refusals.Stops.{none_stands}
 use Rattle.md_list.specs.Refusals.{NotRefusedBy, RefusedBy}
 

@@ -8,13 +8,13 @@ use Rattle.md_history.specs.declared.stops.Shown.{Shown}
 use Rattle.md_history.specs.declared.stops.Stop.{Stop}
 use Rattle.md_history.specs.declared.stops.Stop.TheVariants.{Conflict, Limit as Limited}
 use Rattle.md_machine.specs.Meaning.{Meaning}
-use Rattle.md_nbtc.specs.declared.seen.Kind.{Kind}
-use Rattle.md_nbtc.specs.declared.seen.Seen.{Seen}
-use Rattle.md_nbtc.specs.Calls.{AfterStop, Exchanges, Looked, NoteCase, Notes, Refuses, exchange_case, full, note_case, noted, recorded, unread}
-use Rattle.md_nbtc.specs.State.{TxnState}
+use Rattle.md_nbtc_law.specs.declared.seen.Kind.{Kind}
+use Rattle.md_nbtc_law.specs.declared.seen.Seen.{Seen}
+use Rattle.md_nbtc_law.specs.Calls.{AfterStop, Exchanges, Looked, NoteCase, Notes, Refuses, exchange_case, full, note_case, noted, recorded, unread}
+use Rattle.md_nbtc_law.specs.State.{TxnState}
 use Rattle.md_list.specs.Operations.{HasStop, HasStopButNodes}
-use Rattle.md_nbtc.proofs.structures.Answering.{after_ok, exchange_refused, look_refused, note_refused}
-use Rattle.md_nbtc.proofs.structures.Exchanging.{HasExchanged, changed_own, changed_plainly, exchange_so, installed}
+use Rattle.md_nbtc_law.proofs.structures.Answering.{after_ok, exchange_refused, look_refused, note_refused}
+use Rattle.md_nbtc_law.proofs.structures.Exchanging.{HasExchanged, changed_own, changed_plainly, exchange_so, installed}
 
 -- a call that was answered found no stop
 pub ok_unstopped : (A : Type 0) (t u : TxnState) (o : Option Stop) (x : A) (P : Type 0) → AfterStop o t u (let r : Result A Stop = Ok x in r) P → o ≡ None

@@ -21,24 +21,24 @@ use Rattle.md_machine.specs.declared.node.Structure.TheVariants.{Bucket}
 use Rattle.md_machine.specs.Certified.{TidiesStandBy, after_tidies, after_wholes, all_changes, all_nodes, is_written}
 use Rattle.md_machine.specs.LogicalHeap.{Holds, LogicalHeap}
 use Rattle.md_machine.specs.Meaning.{Lawful, Meaning, TidyStandsBy, after_tidy}
-use Rattle.md_nbtc.specs.declared.seen.Kind.{Kind}
-use Rattle.md_nbtc.specs.declared.seen.Kind.TheVariants.{Plain}
-use Rattle.md_nbtc.specs.declared.seen.Seen.{Seen}
-use Rattle.md_nbtc.specs.Calls.{is_critical}
-use Rattle.md_nbtc.specs.Going.{IsGoing}
-use Rattle.md_nbtc.specs.Known.{IsLater, Known, Met, found_by}
-use Rattle.md_nbtc.specs.Seeing.{Gave}
-use Rattle.md_nbtc.specs.State.{OwnNode, TxnState, shape_in, writes_in}
-use Rattle.md_nbtc.specs.Tidied.{HasTidied, tidied}
-use Rattle.md_nbtc.proofs.operations.Courses.{all_push}
-use Rattle.md_nbtc.proofs.preparing.Heaps.{later_self}
-use Rattle.md_nbtc.proofs.preparing.Later.{known_later}
-use Rattle.md_nbtc.proofs.structures.Growing.{tidy_stands}
-use Rattle.md_nbtc.proofs.Values.{IsApart}
-use Rattle.md_nbtc.proofs.ready.Lookups.{all_of}
-use Rattle.md_nbtc.proofs.structures.NodesKnown.{new_differ, new_exist, new_free, own_is_new, shape_known, shape_later}
-use Rattle.md_nbtc.proofs.structures.SeenValues.{own_value}
-use Rattle.md_nbtc.proofs.structures.Words.{stored_value, unwritten_value}
+use Rattle.md_nbtc_law.specs.declared.seen.Kind.{Kind}
+use Rattle.md_nbtc_law.specs.declared.seen.Kind.TheVariants.{Plain}
+use Rattle.md_nbtc_law.specs.declared.seen.Seen.{Seen}
+use Rattle.md_nbtc_law.specs.Calls.{is_critical}
+use Rattle.md_nbtc_law.specs.Going.{IsGoing}
+use Rattle.md_nbtc_law.specs.Known.{IsLater, Known, Met, found_by}
+use Rattle.md_nbtc_law.specs.Seeing.{Gave}
+use Rattle.md_nbtc_law.specs.State.{OwnNode, TxnState, shape_in, writes_in}
+use Rattle.md_nbtc_law.specs.Tidied.{HasTidied, tidied}
+use Rattle.md_nbtc_law.proofs.operations.Courses.{all_push}
+use Rattle.md_nbtc_law.proofs.preparing.Heaps.{later_self}
+use Rattle.md_nbtc_law.proofs.preparing.Later.{known_later}
+use Rattle.md_nbtc_law.proofs.structures.Growing.{tidy_stands}
+use Rattle.md_nbtc_law.proofs.Values.{IsApart}
+use Rattle.md_nbtc_law.proofs.ready.Lookups.{all_of}
+use Rattle.md_nbtc_law.proofs.structures.NodesKnown.{new_differ, new_exist, new_free, own_is_new, shape_known, shape_later}
+use Rattle.md_nbtc_law.proofs.structures.SeenValues.{own_value}
+use Rattle.md_nbtc_law.proofs.structures.Words.{stored_value, unwritten_value}
 use Rattle.md_list_law.specs.Certificates.{IsRow, IsUnlink}
 use Rattle.md_list_law.specs.HasLists.{HasListsOf}
 use Rattle.md_list.specs.Refusals.{HasSeen, OneMoreUnlink, WouldStand}

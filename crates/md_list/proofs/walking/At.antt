@@ -14,18 +14,18 @@ use Rattle.md_machine.specs.LogicalHeap.{LogicalHeap}
 use Rattle.md_machine.specs.Meaning.{Lawful, Meaning}
 use Rattle.md_machine.proofs.lists.Rising.{in_map}
 use Rattle.std.proofs.lemmas.List.Elements.{All-contains}
-use Rattle.md_nbtc.specs.declared.seen.Seen.{Seen}
-use Rattle.md_nbtc.specs.Calls.{GoesOn}
-use Rattle.md_nbtc.specs.Cleaning.{IsPlacedIn}
-use Rattle.md_nbtc.specs.Going.{IsFoundThere, IsGoing}
-use Rattle.md_nbtc.specs.Known.{IsLater, Known}
-use Rattle.md_nbtc.specs.Seeing.{IsInPlace, IsNextOf, Looks}
-use Rattle.md_nbtc.specs.State.{OwnNode, TxnState, shape_in}
+use Rattle.md_nbtc_law.specs.declared.seen.Seen.{Seen}
+use Rattle.md_nbtc_law.specs.Calls.{GoesOn}
+use Rattle.md_nbtc_law.specs.Cleaning.{IsPlacedIn}
+use Rattle.md_nbtc_law.specs.Going.{IsFoundThere, IsGoing}
+use Rattle.md_nbtc_law.specs.Known.{IsLater, Known}
+use Rattle.md_nbtc_law.specs.Seeing.{IsInPlace, IsNextOf, Looks}
+use Rattle.md_nbtc_law.specs.State.{OwnNode, TxnState, shape_in}
 use Rattle.md_rule.specs.Views.{PassState}
-use Rattle.md_nbtc.proofs.preparing.Heaps.{heap_valid, known_now}
-use Rattle.md_nbtc.proofs.preparing.Later.{known_later}
-use Rattle.md_nbtc.proofs.structures.Growing.{tidied_later}
-use Rattle.md_nbtc.proofs.structures.NodesKnown.{fact_after, new_exist, own_known, placed_or_own, shape_known}
+use Rattle.md_nbtc_law.proofs.preparing.Heaps.{heap_valid, known_now}
+use Rattle.md_nbtc_law.proofs.preparing.Later.{known_later}
+use Rattle.md_nbtc_law.proofs.structures.Growing.{tidied_later}
+use Rattle.md_nbtc_law.proofs.structures.NodesKnown.{fact_after, new_exist, own_known, placed_or_own, shape_known}
 use Rattle.md_list_law.specs.Certificates.{node_fact}
 use Rattle.md_list_law.specs.HasLists.{HasListsOf}
 use Rattle.md_list_law.specs.ListShape.{IsIn, NamesNone, next_word}

@@ -14,14 +14,14 @@ use Rattle.md_machine.specs.Certified.{after_wholes, all_changes, changes_of_tid
 use Rattle.md_machine.specs.LogicalHeap.{LogicalHeap}
 use Rattle.md_machine.specs.Meaning.{Lawful, Meaning}
 use Rattle.md_machine.proofs.lists.Rising.{here, map_in, there as further}
-use Rattle.md_nbtc.specs.declared.seen.Kind.{Kind}
-use Rattle.md_nbtc.specs.declared.seen.Kind.TheVariants.{Plain}
-use Rattle.md_nbtc.specs.declared.seen.Seen.{Seen}
-use Rattle.md_nbtc.specs.declared.sets.Slot.{Slot}
-use Rattle.md_nbtc.specs.Known.{Known}
-use Rattle.md_nbtc.specs.State.{TxnState, shape_in, writes_in}
-use Rattle.md_nbtc.specs.Tidied.{HasTidied, tidied}
-use Rattle.md_nbtc.proofs.ready.Lookups.{all_of}
+use Rattle.md_nbtc_law.specs.declared.seen.Kind.{Kind}
+use Rattle.md_nbtc_law.specs.declared.seen.Kind.TheVariants.{Plain}
+use Rattle.md_nbtc_law.specs.declared.seen.Seen.{Seen}
+use Rattle.md_nbtc_law.specs.declared.slots.Slot.{Slot}
+use Rattle.md_nbtc_law.specs.Known.{Known}
+use Rattle.md_nbtc_law.specs.State.{TxnState, shape_in, writes_in}
+use Rattle.md_nbtc_law.specs.Tidied.{HasTidied, tidied}
+use Rattle.md_nbtc_law.proofs.ready.Lookups.{all_of}
 use Rattle.md_list_law.specs.Certificates.{IsUnlink, key_fact}
 use Rattle.md_list_law.specs.HasLists.{HasListsOf}
 use Rattle.md_list_law.specs.ListShape.{IsIn, next_word}
@@ -41,19 +41,19 @@ use Rattle.md_words.specs.PlaceAt.{place_at}
 use Rattle.md_words.proofs.Places.{nodes_fit_values, place_at-address}
 use Rattle.md_machine.specs.declared.attempt.Hand.{Hand}
 use Rattle.md_rule.specs.Views.{PassState}
-use Rattle.md_nbtc.specs.Calls.{GoesOn, data_at, is_critical, new_slot, with_change}
-use Rattle.md_nbtc.specs.Going.{IsFoundThere}
-use Rattle.md_nbtc.specs.Known.{found_by}
-use Rattle.md_nbtc.specs.Seeing.{Gave, KeepsGiven, Looks}
-use Rattle.md_nbtc.specs.Sets.{with_new}
-use Rattle.md_nbtc.specs.State.{seen_content}
+use Rattle.md_nbtc_law.specs.Calls.{GoesOn, data_at, is_critical, new_slot, with_change}
+use Rattle.md_nbtc_law.specs.Going.{IsFoundThere}
+use Rattle.md_nbtc_law.specs.Known.{found_by}
+use Rattle.md_nbtc_law.specs.Seeing.{Gave, KeepsGiven, Looks}
+use Rattle.md_nbtc_law.specs.Sets.{with_new}
+use Rattle.md_nbtc_law.specs.State.{seen_content}
 use Rattle.md_machine.specs.Certified.{first_content}
-use Rattle.md_nbtc.proofs.operations.Courses.{all_push}
-use Rattle.md_nbtc.proofs.preparing.Later.{known_later, later_over}
-use Rattle.md_nbtc.proofs.structures.Exchanging.{HasExchanged, changed_own, changed_plainly, installed}
-use Rattle.md_nbtc.proofs.structures.Growing.{tidied_later, tidied_more, tidy_stands}
-use Rattle.md_nbtc.proofs.structures.NodesKnown.{data_known}
-use Rattle.md_nbtc.proofs.structures.SeenValues.{seen_value}
+use Rattle.md_nbtc_law.proofs.operations.Courses.{all_push}
+use Rattle.md_nbtc_law.proofs.preparing.Later.{known_later, later_over}
+use Rattle.md_nbtc_law.proofs.structures.Exchanging.{HasExchanged, changed_own, changed_plainly, installed}
+use Rattle.md_nbtc_law.proofs.structures.Growing.{tidied_later, tidied_more, tidy_stands}
+use Rattle.md_nbtc_law.proofs.structures.NodesKnown.{data_known}
+use Rattle.md_nbtc_law.proofs.structures.SeenValues.{seen_value}
 use Rattle.md_list.specs.Walking.{Gives, KnowsAfter}
 use Rattle.md_list.specs.declared.walk.Found.{Found}
 use Rattle.md_list.proofs.walking.At.{HasFoundBy, IsAtBy, IsBehind, NamesPast, found_stays, looked_there, stepped, walking_on}

@@ -5,11 +5,11 @@ use Rattle.md_words.specs.Link.{is_marked, linked_node}
 use Rattle.md_words.specs.Place.{node_key}
 use Rattle.md_words.specs.PlaceAt.{place_at}
 use Rattle.md_machine.specs.Meaning.{Lawful, Meaning}
-use Rattle.md_nbtc.specs.declared.seen.Seen.{Seen}
-use Rattle.md_nbtc.specs.Calls.{GoesOn, data_at}
-use Rattle.md_nbtc.specs.Known.{Known}
-use Rattle.md_nbtc.specs.Seeing.{KeepsGiven}
-use Rattle.md_nbtc.specs.State.{TxnState, shape_in}
+use Rattle.md_nbtc_law.specs.declared.seen.Seen.{Seen}
+use Rattle.md_nbtc_law.specs.Calls.{GoesOn, data_at}
+use Rattle.md_nbtc_law.specs.Known.{Known}
+use Rattle.md_nbtc_law.specs.Seeing.{KeepsGiven}
+use Rattle.md_nbtc_law.specs.State.{TxnState, shape_in}
 use Rattle.md_list_law.specs.HasLists.{HasListsOf}
 use Rattle.md_list_law.specs.ListShape.{next_word}
 use Rattle.md_list.specs.declared.walk.Found.{Found}

@@ -18,21 +18,21 @@ use Rattle.md_machine.specs.Meaning.{Lawful, Meaning}
 use Rattle.md_machine.proofs.chain.SameNodes.{next_alone}
 use Rattle.md_machine.proofs.lists.Differ.{pairs_cross}
 use Rattle.md_machine.proofs.lists.Rising.{map_in}
-use Rattle.md_nbtc.specs.declared.seen.Cleanup.{Cleanup}
-use Rattle.md_nbtc.specs.declared.seen.Cleanup.TheVariants.{MoveTail, Unlink}
-use Rattle.md_nbtc.specs.declared.seen.Seen.{Seen}
-use Rattle.md_nbtc.specs.declared.sets.Slot.{Slot}
-use Rattle.md_nbtc.specs.Cleaning.{CleanupsStay, FitsCleanup, IsKeptCleanup, IsPlacedIn}
-use Rattle.md_nbtc.specs.Course.{IsStoredNode, stored_words}
-use Rattle.md_nbtc.specs.Going.{IsGoing}
-use Rattle.md_nbtc.specs.Known.{Known, KnowsPlaced}
-use Rattle.md_nbtc.specs.Seeing.{Gave, IsInPlace, IsNextOf, IsOwnPlaced, MayChange}
-use Rattle.md_nbtc.specs.State.{OwnNode, TxnState, shape_in, writes_in}
-use Rattle.md_nbtc.proofs.exchanging.OwnSlots.{any_has}
-use Rattle.md_nbtc.proofs.preparing.Heaps.{known_now}
-use Rattle.md_nbtc.proofs.ready.Lookups.{all_of, one_of}
-use Rattle.md_nbtc.proofs.ready.Standing.{pairs_map}
-use Rattle.md_nbtc.proofs.structures.NodesKnown.{own_known, placed_or_own}
+use Rattle.md_nbtc_law.specs.declared.seen.Cleanup.{Cleanup}
+use Rattle.md_nbtc_law.specs.declared.seen.Cleanup.TheVariants.{MoveTail, Unlink}
+use Rattle.md_nbtc_law.specs.declared.seen.Seen.{Seen}
+use Rattle.md_nbtc_law.specs.declared.slots.Slot.{Slot}
+use Rattle.md_nbtc_law.specs.Cleaning.{CleanupsStay, FitsCleanup, IsKeptCleanup, IsPlacedIn}
+use Rattle.md_nbtc_law.specs.Course.{IsStoredNode, stored_words}
+use Rattle.md_nbtc_law.specs.Going.{IsGoing}
+use Rattle.md_nbtc_law.specs.Known.{Known, KnowsPlaced}
+use Rattle.md_nbtc_law.specs.Seeing.{Gave, IsInPlace, IsNextOf, IsOwnPlaced, MayChange}
+use Rattle.md_nbtc_law.specs.State.{OwnNode, TxnState, shape_in, writes_in}
+use Rattle.md_nbtc_law.proofs.exchanging.OwnSlots.{any_has}
+use Rattle.md_nbtc_law.proofs.preparing.Heaps.{known_now}
+use Rattle.md_nbtc_law.proofs.ready.Lookups.{all_of, one_of}
+use Rattle.md_nbtc_law.proofs.ready.Standing.{pairs_map}
+use Rattle.md_nbtc_law.proofs.structures.NodesKnown.{own_known, placed_or_own}
 use Rattle.md_list_law.specs.Certificates.{key_fact}
 use Rattle.md_list_law.specs.HasLists.{HasListsOf}
 use Rattle.md_list_law.specs.ListShape.{IsIn, next_word}

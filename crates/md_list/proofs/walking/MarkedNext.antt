@@ -16,23 +16,23 @@ use Rattle.md_machine.specs.Meaning.{Lawful, Meaning}
 use Rattle.md_machine.specs.events.Exchange.{FoundFact, FoundNext}
 use Rattle.md_machine.proofs.chain.Agree.{tidies_shape, wholes_shape}
 use Rattle.md_machine.proofs.chain.SameNodes.{next_alone}
-use Rattle.md_nbtc.specs.declared.seen.Kind.{Kind}
-use Rattle.md_nbtc.specs.declared.seen.Kind.TheVariants.{Critical, Plain}
-use Rattle.md_nbtc.specs.declared.seen.Seen.{Seen}
-use Rattle.md_nbtc.specs.Calls.{MayExchange, is_critical}
-use Rattle.md_nbtc.specs.Course.{IsStoredNode, stored_words}
-use Rattle.md_nbtc.specs.Going.{IsUnplaced}
-use Rattle.md_nbtc.specs.Known.{Known, KnowsFact, Met, WasThere}
-use Rattle.md_nbtc.specs.Seeing.{IsTidyNow}
-use Rattle.md_nbtc.specs.State.{OwnNode, TxnState, shape_in, writes_in}
-use Rattle.md_nbtc.proofs.ready.Lookups.{written_there}
-use Rattle.md_nbtc.specs.Tidied.{tidied}
-use Rattle.md_nbtc.proofs.exchanging.PlainWords.{foreign}
-use Rattle.md_nbtc.proofs.preparing.Heaps.{known_now}
-use Rattle.md_nbtc.proofs.structures.Exchanging.{may_exchange_so}
-use Rattle.md_nbtc.proofs.structures.NodesKnown.{fact_tidied, own_is_new, own_known, placed_or_own, shape_known}
-use Rattle.md_nbtc.proofs.structures.SeenValues.{own_value}
-use Rattle.md_nbtc.proofs.structures.Tidying.{bare_holds, bare_placed}
+use Rattle.md_nbtc_law.specs.declared.seen.Kind.{Kind}
+use Rattle.md_nbtc_law.specs.declared.seen.Kind.TheVariants.{Critical, Plain}
+use Rattle.md_nbtc_law.specs.declared.seen.Seen.{Seen}
+use Rattle.md_nbtc_law.specs.Calls.{MayExchange, is_critical}
+use Rattle.md_nbtc_law.specs.Course.{IsStoredNode, stored_words}
+use Rattle.md_nbtc_law.specs.Going.{IsUnplaced}
+use Rattle.md_nbtc_law.specs.Known.{Known, KnowsFact, Met, WasThere}
+use Rattle.md_nbtc_law.specs.Seeing.{IsTidyNow}
+use Rattle.md_nbtc_law.specs.State.{OwnNode, TxnState, shape_in, writes_in}
+use Rattle.md_nbtc_law.proofs.ready.Lookups.{written_there}
+use Rattle.md_nbtc_law.specs.Tidied.{tidied}
+use Rattle.md_nbtc_law.proofs.exchanging.PlainWords.{foreign}
+use Rattle.md_nbtc_law.proofs.preparing.Heaps.{known_now}
+use Rattle.md_nbtc_law.proofs.structures.Exchanging.{may_exchange_so}
+use Rattle.md_nbtc_law.proofs.structures.NodesKnown.{fact_tidied, own_is_new, own_known, placed_or_own, shape_known}
+use Rattle.md_nbtc_law.proofs.structures.SeenValues.{own_value}
+use Rattle.md_nbtc_law.proofs.structures.Tidying.{bare_holds, bare_placed}
 use Rattle.md_list_law.specs.Certificates.{IsUnlink, next_fact, node_fact}
 use Rattle.md_list_law.specs.HasLists.{HasListsOf}
 use Rattle.md_list_law.specs.ListShape.{IsIn, next_word}

@@ -7,7 +7,7 @@ use Rattle.md_machine.specs.declared.node.Structure.{Structure}
 use Rattle.md_machine.specs.declared.node.Structure.TheVariants.{Bucket}
 use Rattle.md_machine.specs.LogicalHeap.{LogicalHeap}
 use Rattle.md_machine.specs.Meaning.{Meaning}
-use Rattle.md_nbtc.specs.Known.{WasThere}
+use Rattle.md_nbtc_law.specs.Known.{WasThere}
 use Rattle.md_list_law.specs.Certificates.{key_fact, node_fact}
 use Rattle.md_list_law.specs.HasLists.{HasListsOf}
 use Rattle.md_list_law.specs.ListShape.{IsIn, IsList, Names, NamesAbove, head_word, next_word}

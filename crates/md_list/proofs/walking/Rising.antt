@@ -15,17 +15,17 @@ use Rattle.md_machine.specs.LogicalHeap.{LogicalHeap}
 use Rattle.md_machine.specs.Meaning.{Lawful, Meaning}
 use Rattle.md_machine.proofs.chain.Agree.{tidies_shape, wholes_shape}
 use Rattle.md_machine.proofs.chain.SameNodes.{next_alone}
-use Rattle.md_nbtc.specs.declared.seen.Seen.{Seen}
-use Rattle.md_nbtc.specs.Going.{IsFoundThere, IsGoing, IsUnplaced}
-use Rattle.md_nbtc.specs.Known.{Known, WasThere, found_by}
-use Rattle.md_nbtc.specs.Seeing.{Gave}
-use Rattle.md_nbtc.specs.State.{TxnState, shape_in, writes_in}
-use Rattle.md_nbtc.specs.Tidied.{HasTidied, tidied}
-use Rattle.md_nbtc.proofs.preparing.Heaps.{heap_valid}
-use Rattle.md_nbtc.proofs.structures.NodesKnown.{fact_after, shape_known}
-use Rattle.md_nbtc.proofs.structures.SeenValues.{seen_or_met}
-use Rattle.md_nbtc.proofs.structures.StoodThen.{stood_then, tidied_then}
-use Rattle.md_nbtc.proofs.structures.Tidying.{bare_keys, bare_placed}
+use Rattle.md_nbtc_law.specs.declared.seen.Seen.{Seen}
+use Rattle.md_nbtc_law.specs.Going.{IsFoundThere, IsGoing, IsUnplaced}
+use Rattle.md_nbtc_law.specs.Known.{Known, WasThere, found_by}
+use Rattle.md_nbtc_law.specs.Seeing.{Gave}
+use Rattle.md_nbtc_law.specs.State.{TxnState, shape_in, writes_in}
+use Rattle.md_nbtc_law.specs.Tidied.{HasTidied, tidied}
+use Rattle.md_nbtc_law.proofs.preparing.Heaps.{heap_valid}
+use Rattle.md_nbtc_law.proofs.structures.NodesKnown.{fact_after, shape_known}
+use Rattle.md_nbtc_law.proofs.structures.SeenValues.{seen_or_met}
+use Rattle.md_nbtc_law.proofs.structures.StoodThen.{stood_then, tidied_then}
+use Rattle.md_nbtc_law.proofs.structures.Tidying.{bare_keys, bare_placed}
 use Rattle.std.proofs.lemmas.List.Elements.{All-contains}
 use Rattle.md_list_law.specs.Certificates.{key_fact, node_fact}
 use Rattle.md_list_law.specs.HasLists.{HasListsOf}

@@ -11,16 +11,16 @@ use Rattle.md_history.specs.declared.stops.Stop.{Stop}
 use Rattle.md_machine.specs.declared.node.Structure.TheVariants.{Bucket}
 use Rattle.md_machine.specs.Certified.{all_nodes}
 use Rattle.md_machine.specs.Meaning.{Lawful, Meaning}
-use Rattle.md_nbtc.specs.declared.seen.Kind.{Kind}
-use Rattle.md_nbtc.specs.declared.seen.Kind.TheVariants.{Plain}
-use Rattle.md_nbtc.specs.declared.seen.Seen.{Seen}
-use Rattle.md_nbtc.specs.Calls.{AfterStop, Exchanges, GoesOn, IsData, Looked, exchange_case}
-use Rattle.md_nbtc.specs.Course.{IsStoredNode, stored_words}
-use Rattle.md_nbtc.specs.Seeing.{Gave, KeepsGiven, Looks}
-use Rattle.md_nbtc.specs.State.{TxnState, shape_in}
-use Rattle.md_nbtc.proofs.structures.Answering.{after_ok}
-use Rattle.md_nbtc.proofs.structures.Exchanging.{HasExchanged, changed_own, changed_plainly, exchanged_so, installed}
-use Rattle.md_nbtc.proofs.structures.NodesKnown.{placed_or_own}
+use Rattle.md_nbtc_law.specs.declared.seen.Kind.{Kind}
+use Rattle.md_nbtc_law.specs.declared.seen.Kind.TheVariants.{Plain}
+use Rattle.md_nbtc_law.specs.declared.seen.Seen.{Seen}
+use Rattle.md_nbtc_law.specs.Calls.{AfterStop, Exchanges, GoesOn, IsData, Looked, exchange_case}
+use Rattle.md_nbtc_law.specs.Course.{IsStoredNode, stored_words}
+use Rattle.md_nbtc_law.specs.Seeing.{Gave, KeepsGiven, Looks}
+use Rattle.md_nbtc_law.specs.State.{TxnState, shape_in}
+use Rattle.md_nbtc_law.proofs.structures.Answering.{after_ok}
+use Rattle.md_nbtc_law.proofs.structures.Exchanging.{HasExchanged, changed_own, changed_plainly, exchanged_so, installed}
+use Rattle.md_nbtc_law.proofs.structures.NodesKnown.{placed_or_own}
 use Rattle.md_list_law.specs.HasLists.{HasListsOf}
 use Rattle.md_list_law.specs.ListShape.{next_word}
 use Rattle.md_list.specs.Walking.{IsHead, IsWalking}

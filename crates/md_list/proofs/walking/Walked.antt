@@ -2,9 +2,9 @@
 use Rattle.std.proofs.Common.{◌≡◌, true, length, Some, ap, ◌∙◌, arith}
 use Rattle.md_history.specs.declared.stops.Stop.{Stop}
 use Rattle.md_machine.specs.Meaning.{Meaning}
-use Rattle.md_nbtc.specs.Calls.{GoesOn}
-use Rattle.md_nbtc.specs.State.{TxnState}
-use Rattle.md_nbtc.proofs.structures.Answering.{IsStopped}
+use Rattle.md_nbtc_law.specs.Calls.{GoesOn}
+use Rattle.md_nbtc_law.specs.State.{TxnState}
+use Rattle.md_nbtc_law.proofs.structures.Answering.{IsStopped}
 use Rattle.md_list.specs.Operations.{Leaves, SlotsStay}
 use Rattle.md_list.specs.Written.{WritesFew}
 use Rattle.md_list.proofs.charges.Adding.{adds_stop, goes_over, leaves_more}

@@ -1,6 +1,7 @@
 use Rattle.std.proofs.Common.{None, subst, sym, ◌∙◌}
 use Rattle.md_interleavings.specs.Acting.{IsActing}
-use Rattle.md_nbtc.specs.State.{TxnState, begun_state}
+use Rattle.md_nbtc_law.specs.State.{TxnState}
+use Rattle.md_nbtc.specs.State.{begun_state}
 use Rattle.md_interleavings.proofs.Acted.{begun_acts}
 use Rattle.md_interleavings.proofs.acting.begin.Goals as goal
 

@@ -3,7 +3,7 @@ use Rattle.md_rule.specs.Steps.{Stepped}
 use Rattle.md_rule.specs.Views.{FieldView}
 use Rattle.md_machine.specs.Event.{mark_leave}
 use Rattle.md_store_law.specs.Store.{store}
-use Rattle.md_nbtc.proofs.beginning.Leaving.{begins_not}
+use Rattle.md_nbtc_law.proofs.beginning.Leaving.{begins_not}
 use Rattle.md_store.proofs.Settlement.{put_down}
 use Rattle.md_interleavings.proofs.looking.settled.Goals as goal
 

@@ -2,7 +2,7 @@ use Rattle.std.proofs.Common.{◌<◌, arith, subst, sym, ◌∙◌, ⊎_elim}
 use Rattle.std.proofs.lemmas.Bool.{cases_lt}
 use Rattle.md_words.specs.Layout.{desc_count}
 use Rattle.md_machine.specs.Own.{HasDesc}
-use Rattle.md_nbtc.specs.Beginning.{Empties}
+use Rattle.md_nbtc_law.specs.Beginning.{Empties}
 use Rattle.md_rule.specs.Shares.{share_at}
 use Rattle.md_rule.specs.Views.{FieldView}
 use Rattle.md_store.proofs.SettledLanes.{has_attempt, lane_inside, own_after}

@@ -4,7 +4,8 @@ use Rattle.md_history.specs.declared.acts.Op.TheVariants.{Get, Insert, Remove}
 use Rattle.md_history.specs.declared.acts.Reply.TheVariants.{Flag, Value}
 use Rattle.md_interleavings.specs.Acting.{Exists, MayEnd}
 use Rattle.md_list.specs.Operations.{HasStop, HasStopButNodes}
-use Rattle.md_nbtc.specs.State.{shape_in, state}
+use Rattle.md_nbtc_law.specs.State.{shape_in}
+use Rattle.md_nbtc.specs.State.{state}
 use Rattle.md_store.proofs.Runs.{is_head_of, unstopped}
 use Rattle.md_interleavings.proofs.Acted.{list_may_end}
 use Rattle.md_interleavings.proofs.operations.made.Goals as goal

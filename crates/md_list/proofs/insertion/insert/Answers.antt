@@ -7,16 +7,17 @@ use Rattle.md_words.specs.Layout.{address}
 use Rattle.md_words.specs.Place.{node_next}
 use Rattle.md_words.proofs.Places.{nodes_fit_values}
 use Rattle.md_machine.specs.Certified.{is_written}
-use Rattle.md_nbtc.specs.declared.seen.Kind.TheVariants.{Critical}
-use Rattle.md_nbtc.specs.Calls.{Freshened, MayExchange, note_case}
-use Rattle.md_nbtc.specs.Going.{IsFoundThere}
-use Rattle.md_nbtc.specs.Seeing.{Gave}
-use Rattle.md_nbtc.specs.State.{shape_in, state, writes_in}
-use Rattle.md_nbtc.proofs.structures.Answering.{after_ok, exchange_refused, fresh_refused, note_refused}
-use Rattle.md_nbtc.proofs.structures.Exchanging.{HasExchanged}
-use Rattle.md_nbtc.proofs.structures.NodesKnown.{shape_later}
+use Rattle.md_nbtc_law.specs.declared.seen.Kind.TheVariants.{Critical}
+use Rattle.md_nbtc_law.specs.Calls.{Freshened, MayExchange, note_case}
+use Rattle.md_nbtc_law.specs.Going.{IsFoundThere}
+use Rattle.md_nbtc_law.specs.Seeing.{Gave}
+use Rattle.md_nbtc_law.specs.State.{shape_in, writes_in}
+use Rattle.md_nbtc_law.proofs.structures.Answering.{after_ok, exchange_refused, fresh_refused, note_refused}
+use Rattle.md_nbtc_law.proofs.structures.Exchanging.{HasExchanged}
+use Rattle.md_nbtc_law.proofs.structures.NodesKnown.{shape_later}
+use Rattle.md_nbtc.specs.State.{state}
 use Rattle.md_machine.specs.Certified.{content_read}
-use Rattle.md_nbtc.proofs.structures.Noting.{HasNoted}
+use Rattle.md_nbtc_law.proofs.structures.Noting.{HasNoted}
 use Rattle.md_list.specs.Refusals.{IsAbsent, NeedsNode, NeedsRead, NeedsSlot, OneMoreChange, OneMoreRead, WalkNeedsSlot}
 use Rattle.md_list.specs.Walking.{IsHeadOf}
 use Rattle.md_list.proofs.charges.Adding.{adds_node, adds_note, adds_stop, goes_over, leaves_more, leaves_within, nodes_kept, reads_kept}

@@ -5,18 +5,19 @@ use Rattle.md_list_law.specs.Certificates.{get_none}
 use Rattle.md_words.specs.Layout.{address}
 use Rattle.md_words.specs.Place.{node_next, node_value}
 use Rattle.md_words.specs.PlaceAt.{place_at}
-use Rattle.md_nbtc.specs.Going.{IsFoundThere}
-use Rattle.md_nbtc.specs.Seeing.{Gave}
-use Rattle.md_nbtc.specs.Calls.{data_at, note_case}
-use Rattle.md_nbtc.specs.Known.{Known}
+use Rattle.md_nbtc_law.specs.Going.{IsFoundThere}
+use Rattle.md_nbtc_law.specs.Seeing.{Gave}
+use Rattle.md_nbtc_law.specs.Calls.{data_at, note_case}
+use Rattle.md_nbtc_law.specs.Known.{Known}
 use Rattle.md_machine.specs.Certified.{content_read, is_written}
-use Rattle.md_nbtc.proofs.preparing.Heaps.{later_self}
-use Rattle.md_nbtc.proofs.preparing.Later.{later_over}
+use Rattle.md_nbtc_law.proofs.preparing.Heaps.{later_self}
+use Rattle.md_nbtc_law.proofs.preparing.Later.{later_over}
 use Rattle.md_list_law.specs.ListShape.{next_word}
-use Rattle.md_nbtc.specs.State.{shape_in, state, writes_in}
-use Rattle.md_nbtc.proofs.structures.Answering.{note_refused}
-use Rattle.md_nbtc.proofs.structures.NodesKnown.{shape_later}
-use Rattle.md_nbtc.proofs.structures.Noting.{HasNoted}
+use Rattle.md_nbtc_law.specs.State.{shape_in, writes_in}
+use Rattle.md_nbtc_law.proofs.structures.Answering.{note_refused}
+use Rattle.md_nbtc_law.proofs.structures.NodesKnown.{shape_later}
+use Rattle.md_nbtc_law.proofs.structures.Noting.{HasNoted}
+use Rattle.md_nbtc.specs.State.{state}
 use Rattle.md_list.specs.Refusals.{NeedsRead, NeedsUnlink, OneMoreRead, WalkNeedsSlot}
 use Rattle.md_list.specs.Walking.{IsHeadOf}
 use Rattle.md_list.proofs.charges.Adding.{adds_note, adds_steps, goes_over, leaves_more, leaves_within, reads_kept}

@@ -5,18 +5,19 @@ use Rattle.md_history.specs.declared.acts.Op.TheVariants.{Remove}
 use Rattle.md_words.specs.Layout.{address}
 use Rattle.md_words.specs.Place.{node_next, node_value}
 use Rattle.md_words.specs.PlaceAt.{place_at}
-use Rattle.md_nbtc.specs.declared.seen.Kind.TheVariants.{Critical}
-use Rattle.md_nbtc.specs.Calls.{GoesOn, MayExchange, data_at, note_case}
-use Rattle.md_nbtc.specs.Going.{IsGoing}
-use Rattle.md_nbtc.specs.Known.{Known}
-use Rattle.md_nbtc.specs.declared.seen.Cleanup.TheVariants.{Unlink}
-use Rattle.md_nbtc.specs.Seeing.{Gave, KeepsGiven}
-use Rattle.md_nbtc.specs.State.{shape_in, state, writes_in}
-use Rattle.md_nbtc.proofs.preparing.Heaps.{later_self}
-use Rattle.md_nbtc.proofs.preparing.Later.{later_over}
-use Rattle.md_nbtc.proofs.structures.Answering.{exchange_refused, note_refused}
-use Rattle.md_nbtc.proofs.structures.Exchanging.{HasExchanged}
-use Rattle.md_nbtc.proofs.structures.NodesKnown.{shape_later}
+use Rattle.md_nbtc_law.specs.declared.seen.Kind.TheVariants.{Critical}
+use Rattle.md_nbtc_law.specs.Calls.{GoesOn, MayExchange, data_at, note_case}
+use Rattle.md_nbtc_law.specs.Going.{IsGoing}
+use Rattle.md_nbtc_law.specs.Known.{Known}
+use Rattle.md_nbtc_law.specs.declared.seen.Cleanup.TheVariants.{Unlink}
+use Rattle.md_nbtc_law.specs.Seeing.{Gave, KeepsGiven}
+use Rattle.md_nbtc_law.specs.State.{shape_in, writes_in}
+use Rattle.md_nbtc_law.proofs.preparing.Heaps.{later_self}
+use Rattle.md_nbtc_law.proofs.preparing.Later.{later_over}
+use Rattle.md_nbtc_law.proofs.structures.Answering.{exchange_refused, note_refused}
+use Rattle.md_nbtc_law.proofs.structures.Exchanging.{HasExchanged}
+use Rattle.md_nbtc_law.proofs.structures.NodesKnown.{shape_later}
+use Rattle.md_nbtc.specs.State.{state}
 use Rattle.md_list_law.specs.Certificates.{remove_none}
 use Rattle.md_list.specs.Refusals.{NeedsRead, NeedsSlot, OneMoreChange, OneMoreRead, WalkNeedsSlot}
 use Rattle.md_list.specs.Walking.{IsHeadOf}

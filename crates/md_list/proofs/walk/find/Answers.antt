@@ -1,9 +1,10 @@
 use Rattle.std.proofs.Common.{◌≡◌, ◌≢◌, ◌-◌, ◌∷◌, [], refl, sym, ap, ◌∙◌, subst, inl, inr, arith, None, Some, Ok, Err}
 use Rattle.std.proofs.lemmas.Bool.{true≢false}
 use Rattle.md_words.specs.Link.{linked_node}
-use Rattle.md_nbtc.specs.State.{shape_in, state}
-use Rattle.md_nbtc.proofs.structures.Answering.{exchange_refused, look_refused}
-use Rattle.md_nbtc.proofs.structures.NodesKnown.{shape_later}
+use Rattle.md_nbtc_law.specs.State.{shape_in}
+use Rattle.md_nbtc_law.proofs.structures.Answering.{exchange_refused, look_refused}
+use Rattle.md_nbtc_law.proofs.structures.NodesKnown.{shape_later}
+use Rattle.md_nbtc.specs.State.{state}
 use Rattle.md_list.proofs.charges.Charged.{charges_more, charges_none, few_after, few_written}
 use Rattle.md_list.proofs.charges.ChargedWalk.{charges_pass, charges_unlink}
 use Rattle.md_list.proofs.walking.Further.{few_visited, finds_none}
@@ -21,8 +22,8 @@ use Rattle.md_list.proofs.walking.At.{found_over}
 use Rattle.md_list.specs.declared.walk.Found.{Found}
 use Rattle.md_history.specs.declared.stops.Limit.TheVariants.{Nodes, Reads, Writes}
 use Rattle.md_history.specs.declared.stops.Stop.TheVariants.{Limit as Limited}
-use Rattle.md_nbtc.specs.declared.seen.Seen.{Seen}
-use Rattle.md_nbtc.specs.Calls.{Exchanges, Looked, exchange_case}
+use Rattle.md_nbtc_law.specs.declared.seen.Seen.{Seen}
+use Rattle.md_nbtc_law.specs.Calls.{Exchanges, Looked, exchange_case}
 use Rattle.md_words.specs.PlaceAt.{IsCounted}
 use Rattle.md_machine.proofs.chain.SameNodes.{next_counted}
 use Rattle.md_list_law.specs.ListShape.{next_word}

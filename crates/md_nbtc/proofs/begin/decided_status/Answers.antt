@@ -8,7 +8,7 @@ use Rattle.md_machine.specs.Event.{load}
 use Rattle.md_rule.specs.Steps.{SteppedFrom}
 use Rattle.md_help.proofs.Deciding.{reached_after}
 use Rattle.md_help.proofs.Steps.{made_load, stands_made}
-use Rattle.md_nbtc.proofs.beginning.Starting.{finds_after, finds_loaded, no_later_loaded, own_still}
+use Rattle.md_nbtc_law.proofs.beginning.Starting.{finds_after, finds_loaded, no_later_loaded, own_still}
 use Rattle.md_nbtc.proofs.begin.decided_status.Goals as goal
 
 pub settled_status-requires-clause-idle : goal.settled_status-requires-clause-idle

@@ -8,8 +8,8 @@ use Rattle.md_machine.specs.Own.{HasDesc}
 use Rattle.md_rule.specs.Kept.{KeepsLane}
 use Rattle.md_rule.specs.Shares.{share_at}
 use Rattle.md_rule.specs.Steps.{SteppedFrom}
-use Rattle.md_nbtc.specs.Beginning.{FindsNew}
-use Rattle.md_nbtc.proofs.beginning.PutInHand.{first_new}
+use Rattle.md_nbtc_law.specs.Beginning.{FindsNew}
+use Rattle.md_nbtc_law.proofs.beginning.PutInHand.{first_new}
 use Rattle.md_nbtc.proofs.begin.first_serial.Goals as goal
 
 pub returns-clause-new : goal.returns-clause-new

@@ -8,8 +8,8 @@ use Rattle.md_machine.specs.Own.{HasDesc}
 use Rattle.md_rule.specs.Kept.{KeepsLane}
 use Rattle.md_rule.specs.Shares.{share_at}
 use Rattle.md_rule.specs.Views.{PassState}
-use Rattle.md_nbtc.proofs.beginning.PutInHand.{behind_of, new_after}
-use Rattle.md_nbtc.proofs.beginning.Starting.{own_still}
+use Rattle.md_nbtc_law.proofs.beginning.PutInHand.{behind_of, new_after}
+use Rattle.md_nbtc_law.proofs.beginning.Starting.{own_still}
 use Rattle.md_nbtc.proofs.begin.next_serial.Goals as goal
 
 pub take_left_out-requires-clause-taken : goal.take_left_out-requires-clause-taken

@@ -6,8 +6,8 @@ use Rattle.md_machine.specs.Own.{HasDesc}
 use Rattle.md_rule.specs.Shares.{share_at}
 use Rattle.md_rule.specs.Views.{PassState}
 use Rattle.md_rule.proofs.LaneLists.{desc_fits}
-use Rattle.md_nbtc.proofs.beginning.PutInHand.{begin_counts, may_begin, put_in_hand}
-use Rattle.md_nbtc.proofs.beginning.Starting.{own_still}
+use Rattle.md_nbtc_law.proofs.beginning.PutInHand.{begin_counts, may_begin, put_in_hand}
+use Rattle.md_nbtc_law.proofs.beginning.Starting.{own_still}
 use Rattle.md_nbtc.proofs.begin.put_in_hand.Goals as goal
 
 pub mark_begin-requires-clause-may : goal.mark_begin-requires-clause-may

@@ -4,9 +4,9 @@ use Rattle.md_words.specs.declared.status.StatusWord.{StatusWord}
 use Rattle.md_words.specs.Status.{serial_of}
 use Rattle.md_machine.specs.Machine.{attempt_of}
 use Rattle.md_machine.specs.declared.pass.PassView.{PassView}
-use Rattle.md_nbtc.specs.Beginning.{FindsNew}
-use Rattle.md_nbtc.proofs.beginning.Starting.{may_start, own_still, starts_new}
-use Rattle.md_nbtc.proofs.beginning.TakingOut.{clean_still, no_later_before}
+use Rattle.md_nbtc_law.specs.Beginning.{FindsNew}
+use Rattle.md_nbtc_law.proofs.beginning.Starting.{may_start, own_still, starts_new}
+use Rattle.md_nbtc_law.proofs.beginning.TakingOut.{clean_still, no_later_before}
 use Rattle.md_nbtc.proofs.begin.restart.Goals as goal
 
 pub decided_status-found-requires-clause-reached : goal.decided_status-found-requires-clause-reached

@@ -5,7 +5,7 @@ use Rattle.md_machine.specs.declared.step.Kind.TheVariants.{Load}
 use Rattle.md_machine.specs.Event.{load}
 use Rattle.md_rule.specs.Steps.{SteppedFrom}
 use Rattle.md_help.proofs.Steps.{made_load, stands_made}
-use Rattle.md_nbtc.proofs.beginning.Starting.{finds_settled}
+use Rattle.md_nbtc_law.proofs.beginning.Starting.{finds_settled}
 use Rattle.md_nbtc.proofs.begin.settled_status.Goals as goal
 
 pub returns-clause-finds : goal.returns-clause-finds

@@ -12,8 +12,8 @@ use Rattle.md_rule.specs.Views.{PassState}
 use Rattle.md_help.proofs.Finishing.{found_fits}
 use Rattle.md_help.proofs.Numbers.{fits_word}
 use Rattle.md_help.proofs.Steps.{made_load, stands_made}
-use Rattle.md_nbtc.specs.Beginning.{PassesCount, StandsOwn}
-use Rattle.md_nbtc.proofs.beginning.SlotLooks.{named_inside, slot_gone, slot_stands, slot_taken, stands_counted}
+use Rattle.md_nbtc_law.specs.Beginning.{PassesCount, StandsOwn}
+use Rattle.md_nbtc_law.proofs.beginning.SlotLooks.{named_inside, slot_gone, slot_stands, slot_taken, stands_counted}
 use Rattle.md_nbtc.proofs.begin.take_slot_out.Goals as goal
 
 pub overflow_cast-word : goal.overflow_cast-word

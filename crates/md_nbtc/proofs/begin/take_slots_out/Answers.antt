@@ -5,8 +5,8 @@ use Rattle.md_machine.specs.Own.{HasDesc}
 use Rattle.md_rule.specs.Kept.{KeepsLane}
 use Rattle.md_rule.specs.Shares.{share_at}
 use Rattle.md_rule.specs.Views.{PassState}
-use Rattle.md_nbtc.proofs.beginning.SlotLooks.{won_small}
-use Rattle.md_nbtc.proofs.beginning.TakingOut.{takes_all, takes_none, takes_one}
+use Rattle.md_nbtc_law.proofs.beginning.SlotLooks.{won_small}
+use Rattle.md_nbtc_law.proofs.beginning.TakingOut.{takes_all, takes_none, takes_one}
 use Rattle.md_nbtc.proofs.begin.take_slots_out.Goals as goal
 
 pub settle_one-end-requires-clause-reached : goal.settle_one-end-requires-clause-reached

@@ -1,6 +1,6 @@
 use Rattle.std.proofs.Common.{◌≡◌}
 use Rattle.md_rule.specs.Views.{IsOf}
-use Rattle.md_nbtc.specs.Beginning.{TakesOut}
+use Rattle.md_nbtc_law.specs.Beginning.{TakesOut}
 use Rattle.md_nbtc.proofs.begin.take_slots_out.Given as goal
 
 abbrev pub invariant-loop-slot : goal.invariant-loop-slot

@@ -7,8 +7,8 @@ use Rattle.md_machine.specs.Event.{abort, commit}
 use Rattle.md_machine.specs.events.Decide.{decided_word}
 use Rattle.md_help.proofs.Deciding.{abort_lost, abort_won, commit_lost, commit_won, may_abort, may_commit}
 use Rattle.md_help.proofs.Steps.{stands_made}
-use Rattle.md_nbtc.specs.Deciding.{MaySettle}
-use Rattle.md_nbtc.proofs.decisions.Settling.{found_decided, settled_abort, settled_commit, settled_found}
+use Rattle.md_nbtc_law.specs.Deciding.{MaySettle}
+use Rattle.md_nbtc_law.proofs.decisions.Settling.{found_decided, settled_abort, settled_commit, settled_found}
 use Rattle.md_rule.proofs.HandTaken.{hand_reached}
 use Rattle.md_rule.specs.Kept.{IsReached}
 use Rattle.md_machine.proofs.events.Attempts.{in_hand_some}

@@ -3,7 +3,7 @@ use Rattle.md_machine.specs.declared.step.Kind.TheVariants.{Load}
 use Rattle.md_machine.specs.Event.{load}
 use Rattle.md_rule.specs.Views.{PassState}
 use Rattle.md_help.proofs.Steps.{made_load, stands_made}
-use Rattle.md_nbtc.proofs.decisions.Validation.{read_counted, validated_end, validated_more, validated_none}
+use Rattle.md_nbtc_law.proofs.decisions.Validation.{read_counted, validated_end, validated_more, validated_none}
 use Rattle.md_nbtc.proofs.deciding.validate.Goals as goal
 
 pub load-found-requires : goal.load-found-requires

@@ -1,7 +1,7 @@
 use Rattle.std.proofs.Common.{◌≡◌, None}
 use Rattle.md_rule.specs.Views.{IsOf}
 use Rattle.md_help.specs.After.{Stands}
-use Rattle.md_nbtc.specs.Deciding.{Validates}
+use Rattle.md_nbtc_law.specs.Deciding.{Validates}
 use Rattle.md_nbtc.proofs.deciding.validate.Given as goal
 
 abbrev pub invariant-loop-i : goal.invariant-loop-i

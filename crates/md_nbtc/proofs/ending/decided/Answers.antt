@@ -2,9 +2,9 @@ use Rattle.std.proofs.Common.{◌≡◌, ◌<◌, ◌^◌, ℕ, None, ap, length
 use Rattle.md_words.specs.declared.status.Status.TheVariants.{InProg}
 use Rattle.md_words.specs.Status.{status_word}
 use Rattle.md_machine.proofs.events.Attempts.{attempt_same}
-use Rattle.md_nbtc.specs.State.{TxnState, attempt_in, own_node, state_of}
-use Rattle.md_nbtc.proofs.decisions.MaySettle.{reads_counted}
-use Rattle.md_nbtc.proofs.decisions.Outcome as outcome
+use Rattle.md_nbtc_law.specs.State.{TxnState, attempt_in, own_node, state_of}
+use Rattle.md_nbtc_law.proofs.decisions.MaySettle.{reads_counted}
+use Rattle.md_nbtc_law.proofs.decisions.Outcome as outcome
 use Rattle.md_nbtc.proofs.ending.decided.Goals as goal
 
 -- the code's numbers name the attempt

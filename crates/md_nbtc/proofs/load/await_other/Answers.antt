@@ -2,8 +2,8 @@ use Rattle.std.proofs.Common.{◌+◌, refl, ap, ◌∙◌, inl, inr, ⊎_elim, 
 use Rattle.std.proofs.lemmas.List.{length-append}
 use Rattle.md_words.specs.Content.{count_of, is_even}
 use Rattle.md_rule.specs.Views.{PassState}
-use Rattle.md_nbtc.specs.declared.load.TheConstants.{LOOKS}
-use Rattle.md_nbtc.proofs.looks.Looking.{looks_both, looks_end, looks_none, looks_one, stands_one}
+use Rattle.md_nbtc_law.specs.declared.seen.TheConstants.{LOOKS}
+use Rattle.md_nbtc_law.proofs.looks.Looking.{looks_both, looks_end, looks_none, looks_one, stands_one}
 use Rattle.md_nbtc.proofs.load.await_other.Goals as goal
 
 pub loop-i-init : goal.loop-i-init

@@ -1,8 +1,8 @@
 use Rattle.std.proofs.Common.{◌≡◌, ◌⊎◌, length}
 use Rattle.md_help.specs.After.{Stands}
 use Rattle.md_rule.specs.Views.{IsOf}
-use Rattle.md_nbtc.specs.declared.load.TheConstants.{LOOKS}
-use Rattle.md_nbtc.specs.Looking.{LooksUntil, OnlyLooks}
+use Rattle.md_nbtc_law.specs.declared.seen.TheConstants.{LOOKS}
+use Rattle.md_nbtc_law.specs.Looking.{LooksUntil, OnlyLooks}
 use Rattle.md_nbtc.proofs.load.await_other.Given as goal
 
 abbrev pub invariant-loop-i : goal.invariant-loop-i

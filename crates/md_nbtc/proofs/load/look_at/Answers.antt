@@ -1,9 +1,9 @@
 use Rattle.std.proofs.Common.{◌+◌, is_some, refl, sym, ap, ◌∙◌, arith}
 use Rattle.md_words.specs.declared.content.Content.{Content}
 use Rattle.md_words.specs.Content.{is_even}
-use Rattle.md_nbtc.specs.declared.load.TheConstants.{LOOKS}
-use Rattle.md_nbtc.proofs.looks.Awaited.{stands_some}
-use Rattle.md_nbtc.proofs.looks.Looking.{looks_end, looks_none, looks_on, looks_one, stands_one}
+use Rattle.md_nbtc_law.specs.declared.seen.TheConstants.{LOOKS}
+use Rattle.md_nbtc_law.proofs.looks.Awaited.{stands_some}
+use Rattle.md_nbtc_law.proofs.looks.Looking.{looks_end, looks_none, looks_on, looks_one, stands_one}
 use Rattle.md_nbtc.proofs.load.look_at.Goals as goal
 
 pub await_other-requires-clause-stands : goal.await_other-requires-clause-stands

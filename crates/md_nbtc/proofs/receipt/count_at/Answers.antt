@@ -4,8 +4,8 @@ use Rattle.std.proofs.lemmas.Bool.{cond-false, cond-true}
 use Rattle.md_words.specs.declared.content.Content.{Content}
 use Rattle.md_words.specs.Content.{count_of}
 use Rattle.md_machine.specs.Certified.{is_written}
-use Rattle.md_nbtc.specs.declared.sets.Slot.{Slot}
-use Rattle.md_nbtc.proofs.exchanging.Cases.{written_place}
+use Rattle.md_nbtc_law.specs.declared.slots.Slot.{Slot}
+use Rattle.md_nbtc_law.proofs.exchanging.Cases.{written_place}
 use Rattle.md_nbtc.proofs.receipt.count_at.Goals as goal
 
 pub overflow_add-result : goal.overflow_add-result

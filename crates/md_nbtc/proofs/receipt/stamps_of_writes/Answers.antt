@@ -5,8 +5,8 @@ use Rattle.md_words.specs.Content.{count_of}
 use Rattle.md_words.specs.declared.content.Content.{Content}
 use Rattle.md_machine.specs.declared.attempt.Write.{Write}
 use Rattle.md_machine.specs.declared.step.TheConstants.{LAST_COUNT}
-use Rattle.md_nbtc.specs.declared.sets.Slot.{Slot}
-use Rattle.md_nbtc.specs.declared.sets.TheConstants.{NO_SLOT}
+use Rattle.md_nbtc_law.specs.declared.slots.Slot.{Slot}
+use Rattle.md_nbtc_law.specs.declared.slots.TheConstants.{NO_SLOT}
 use Rattle.md_nbtc.proofs.receipt.stamps_of_writes.Goals as goal
 
 pub overflow_add-of : goal.overflow_add-of

@@ -1,6 +1,6 @@
 use Rattle.std.proofs.Common.{◌≡◌, map, take}
-use Rattle.md_nbtc.specs.declared.sets.Slot.{Slot}
-use Rattle.md_nbtc.specs.Telling.{write_count}
+use Rattle.md_nbtc_law.specs.declared.slots.Slot.{Slot}
+use Rattle.md_nbtc_law.specs.Telling.{write_count}
 use Rattle.md_nbtc.proofs.receipt.stamps_of_writes.Given as goal
 
 abbrev pub invariant-loop-i : goal.invariant-loop-i

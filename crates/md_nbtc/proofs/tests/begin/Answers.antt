@@ -1,7 +1,8 @@
 use Rattle.std.proofs.Common.{[], ap, subst, sym, ◌∙◌}
 use Rattle.md_cell.specs.CellMeaning.{cell_meaning}
-use Rattle.md_nbtc.specs.Going.{IsGoing}
-use Rattle.md_nbtc.specs.State.{TxnState, state}
+use Rattle.md_nbtc_law.specs.Going.{IsGoing}
+use Rattle.md_nbtc_law.specs.State.{TxnState}
+use Rattle.md_nbtc.specs.State.{state}
 use Rattle.md_nbtc.proofs.Tested.{begun_open}
 use Rattle.md_nbtc.proofs.tests.begin.Goals as goal
 

@@ -1,9 +1,10 @@
 use Rattle.std.proofs.Common.{◌∙◌, ℕ, sym, ap, subst}
 use Rattle.md_words.specs.PlaceAt.{IsCounted}
-use Rattle.md_nbtc.specs.declared.seen.Kind.TheVariants.{Critical}
-use Rattle.md_nbtc.specs.Seeing.{IsNextOf}
-use Rattle.md_nbtc.specs.State.{shape_in, state}
+use Rattle.md_nbtc_law.specs.declared.seen.Kind.TheVariants.{Critical}
+use Rattle.md_nbtc_law.specs.Seeing.{IsNextOf}
+use Rattle.md_nbtc_law.specs.State.{shape_in}
 use Rattle.md_nbtc.proofs.Heads.{apart_at, counted_at}
+use Rattle.md_nbtc.specs.State.{state}
 use Rattle.md_nbtc.proofs.Tested.{may_change, over_exchange, over_look, seen_by}
 use Rattle.md_nbtc.proofs.tests.change.Goals as goal
 

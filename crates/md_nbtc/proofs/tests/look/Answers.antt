@@ -1,6 +1,6 @@
 use Rattle.std.proofs.Common.{◌∙◌, sym, ap}
-use Rattle.md_nbtc.specs.State.{state}
 use Rattle.md_nbtc.proofs.Heads.{counted_at}
+use Rattle.md_nbtc.specs.State.{state}
 use Rattle.md_nbtc.proofs.Tested.{over_look}
 use Rattle.md_nbtc.proofs.tests.look.Goals as goal
 

@@ -1,7 +1,8 @@
 use Rattle.std.proofs.Common.{◌∙◌, ℕ, sym, ap}
-use Rattle.md_nbtc.specs.Seeing.{IsNextOf}
-use Rattle.md_nbtc.specs.State.{shape_in, state}
+use Rattle.md_nbtc_law.specs.Seeing.{IsNextOf}
+use Rattle.md_nbtc_law.specs.State.{shape_in}
 use Rattle.md_nbtc.proofs.Heads.{apart_at, counted_at}
+use Rattle.md_nbtc.specs.State.{state}
 use Rattle.md_nbtc.proofs.Tested.{found_there, over_look, over_note, seen_by}
 use Rattle.md_nbtc.proofs.tests.note.Goals as goal
 

@@ -1,9 +1,9 @@
 use Rattle.std.proofs.Common.{◌≡◌, IfSome, subst}
 use Rattle.md_words.specs.Layout.{address}
 use Rattle.md_words.specs.Place.{node_next}
-use Rattle.md_nbtc.specs.Cleaning.{cleanup_node}
-use Rattle.md_nbtc.specs.Deciding.{MayClean, TookOut}
-use Rattle.md_nbtc.proofs.tidyings.Slots.{slot_none, slot_one}
+use Rattle.md_nbtc_law.specs.Cleaning.{cleanup_node}
+use Rattle.md_nbtc_law.specs.Deciding.{MayClean, TookOut}
+use Rattle.md_nbtc_law.proofs.tidyings.Slots.{slot_none, slot_one}
 use Rattle.md_nbtc.proofs.tidying.clean_slot.Goals as goal
 
 pub clean_up-requires-clause-may : goal.clean_up-requires-clause-may

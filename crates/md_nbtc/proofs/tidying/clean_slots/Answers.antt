@@ -1,10 +1,10 @@
 use Rattle.std.proofs.Common.{◌<◌, ap, get_or, refl, subst, ◌∙◌, arith, sym}
 use Rattle.std.proofs.lemmas.List.Elements.{All-get_or}
 use Rattle.md_rule.specs.Views.{PassState}
-use Rattle.md_nbtc.specs.declared.sets.Slot.{Slot}
-use Rattle.md_nbtc.specs.declared.sets.TheConstants.{NO_SLOT}
-use Rattle.md_nbtc.specs.Deciding.{CleansSlot, MayCleanSlot, TookLeft}
-use Rattle.md_nbtc.proofs.tidyings.Slots.{NO_STEP, clean_all, clean_one, cleans_none, lefts_many, slots_still, took_then}
+use Rattle.md_nbtc_law.specs.declared.slots.Slot.{Slot}
+use Rattle.md_nbtc_law.specs.declared.slots.TheConstants.{NO_SLOT}
+use Rattle.md_nbtc_law.specs.Deciding.{CleansSlot, MayCleanSlot, TookLeft}
+use Rattle.md_nbtc_law.proofs.tidyings.Slots.{NO_STEP, clean_all, clean_one, cleans_none, lefts_many, slots_still, took_then}
 use Rattle.md_nbtc.proofs.tidying.clean_slots.Goals as goal
 
 pub loop-i-init : goal.loop-i-init

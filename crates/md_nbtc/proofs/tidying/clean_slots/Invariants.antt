@@ -3,7 +3,7 @@ use Rattle.std.specs.List.{AllZip}
 use Rattle.md_machine.specs.declared.step.Step.{Step}
 use Rattle.md_help.specs.After.{Stands}
 use Rattle.md_rule.specs.Views.{IsOf}
-use Rattle.md_nbtc.specs.Deciding.{CleansSlots, TookSlot}
+use Rattle.md_nbtc_law.specs.Deciding.{CleansSlots, TookSlot}
 use Rattle.md_nbtc.proofs.tidying.clean_slots.Given as goal
 
 abbrev pub invariant-loop-i : goal.invariant-loop-i

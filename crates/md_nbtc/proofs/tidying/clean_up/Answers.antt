@@ -3,7 +3,7 @@ use Rattle.md_machine.specs.declared.step.Kind.TheVariants.{Load}
 use Rattle.md_machine.specs.Event.{load}
 use Rattle.md_rule.specs.Steps.{SteppedFrom}
 use Rattle.md_help.proofs.Steps.{made_load, stands_made}
-use Rattle.md_nbtc.proofs.tidyings.Making.{cleaned_not, cleaned_tried, may_still, took_still}
+use Rattle.md_nbtc_law.proofs.tidyings.Making.{cleaned_not, cleaned_tried, may_still, took_still}
 use Rattle.md_nbtc.proofs.tidying.clean_up.Goals as goal
 
 pub try_cleanup-requires-clause-stands : goal.try_cleanup-requires-clause-stands

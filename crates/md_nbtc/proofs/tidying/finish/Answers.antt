@@ -1,9 +1,9 @@
 use Rattle.std.proofs.Common.{ap, subst, sym, ◌∙◌}
 use Rattle.md_machine.specs.events.Start.{IsClean}
 use Rattle.md_rule.specs.Views.{PassState}
-use Rattle.md_nbtc.proofs.tidyings.Finished.{clean_still, fate_now, finished}
-use Rattle.md_nbtc.proofs.tidyings.Slots.{slots_still}
-use Rattle.md_nbtc.proofs.withdrawals.Ended.{desc_there, hand_is, holds_desc, may_end}
+use Rattle.md_nbtc_law.proofs.tidyings.Finished.{clean_still, fate_now, finished}
+use Rattle.md_nbtc_law.proofs.tidyings.Slots.{slots_still}
+use Rattle.md_nbtc_law.proofs.withdrawals.Ended.{desc_there, hand_is, holds_desc, may_end}
 use Rattle.md_nbtc.proofs.tidying.finish.Goals as goal
 
 pub clean_slots-requires-clause-may : goal.clean_slots-requires-clause-may

@@ -1,9 +1,9 @@
 use Rattle.std.proofs.Common.{◌≡◌, ◌≢◌, ◌*◌, ◌%◌, ◌↔◌, ◌==◌, true, IsTrue, sym, ap, ◌∙◌, subst}
 use Rattle.md_words.specs.declared.content.Content.{Content}
 use Rattle.md_words.specs.Content.{count_of, is_even, spot_of, value_of}
-use Rattle.md_nbtc.specs.declared.seen.Cleanup.{Cleanup}
-use Rattle.md_nbtc.specs.Ending.{IsReason}
-use Rattle.md_nbtc.proofs.tidyings.Reasons.{even_of, reason_link, reason_marked}
+use Rattle.md_nbtc_law.specs.declared.seen.Cleanup.{Cleanup}
+use Rattle.md_nbtc_law.specs.Ending.{IsReason}
+use Rattle.md_nbtc_law.proofs.tidyings.Reasons.{even_of, reason_link, reason_marked}
 use Rattle.md_nbtc.proofs.tidying.is_reason.Goals as goal
 
 pub returns-in-Unlink : goal.returns-in-Unlink

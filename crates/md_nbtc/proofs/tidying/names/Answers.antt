@@ -2,7 +2,7 @@ use Rattle.std.proofs.Common.{◌≡◌, ◌*◌, ◌==◌, true, false, not, sy
 use Rattle.std.specs.Prelude.{is_some}
 use Rattle.md_words.specs.declared.content.Content.{Content}
 use Rattle.md_words.specs.Content.{count_of, is_even, spot_of}
-use Rattle.md_nbtc.proofs.tidyings.Reasons.{even_of, names_is}
+use Rattle.md_nbtc_law.proofs.tidyings.Reasons.{even_of, names_is}
 use Rattle.md_nbtc.proofs.tidying.names.Goals as goal
 
 pub returns-then-is_none : goal.returns-then-is_none

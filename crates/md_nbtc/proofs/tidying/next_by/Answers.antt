@@ -5,11 +5,11 @@ use Rattle.md_machine.specs.declared.step.Kind.TheVariants.{Load}
 use Rattle.md_machine.specs.Event.{load}
 use Rattle.md_rule.specs.Steps.{SteppedFrom}
 use Rattle.md_help.proofs.Steps.{made_load, stands_made}
-use Rattle.md_nbtc.specs.declared.seen.Cleanup.{Cleanup}
-use Rattle.md_nbtc.specs.Cleaning.{cleanup_node}
-use Rattle.md_nbtc.specs.Deciding.{FindsNext, TookOut}
-use Rattle.md_nbtc.specs.Withdrawing.{IsAlwaysPlaced}
-use Rattle.md_nbtc.proofs.tidyings.Making.{next_kept, next_loaded}
+use Rattle.md_nbtc_law.specs.declared.seen.Cleanup.{Cleanup}
+use Rattle.md_nbtc_law.specs.Cleaning.{cleanup_node}
+use Rattle.md_nbtc_law.specs.Deciding.{FindsNext, TookOut}
+use Rattle.md_nbtc_law.specs.Withdrawing.{IsAlwaysPlaced}
+use Rattle.md_nbtc_law.proofs.tidyings.Making.{next_kept, next_loaded}
 use Rattle.md_nbtc.proofs.tidying.next_by.Goals as goal
 
 pub returns-in-Unlink-clause-stands : goal.returns-in-Unlink-clause-stands

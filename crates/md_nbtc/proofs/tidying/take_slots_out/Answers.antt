@@ -2,10 +2,10 @@ use Rattle.std.proofs.Common.{◌+◌, [], ◌∷◌, ap, length, refl, subst, t
 use Rattle.std.proofs.lemmas.List.{length-append}
 use Rattle.md_words.specs.declared.status.Status.TheVariants.{Committed}
 use Rattle.md_rule.specs.Views.{PassState}
-use Rattle.md_nbtc.specs.declared.sets.Slot.{Slot}
-use Rattle.md_nbtc.specs.Withdrawing.{IsInstalled, TakesWriteOut}
-use Rattle.md_nbtc.proofs.tidyings.Slots.{TakesTo, slot_in, slots_all, slots_more, taken_clean, takes_to_none}
-use Rattle.md_nbtc.proofs.withdrawals.AllOut.{fate_still}
+use Rattle.md_nbtc_law.specs.declared.slots.Slot.{Slot}
+use Rattle.md_nbtc_law.specs.Withdrawing.{IsInstalled, TakesWriteOut}
+use Rattle.md_nbtc_law.proofs.tidyings.Slots.{TakesTo, slot_in, slots_all, slots_more, taken_clean, takes_to_none}
+use Rattle.md_nbtc_law.proofs.withdrawals.AllOut.{fate_still}
 use Rattle.md_nbtc.proofs.tidying.take_slots_out.Goals as goal
 
 pub loop-i-init : goal.loop-i-init

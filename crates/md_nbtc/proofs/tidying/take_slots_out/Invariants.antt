@@ -1,7 +1,7 @@
 use Rattle.std.proofs.Common.{◌≡◌, length, take}
 use Rattle.md_help.specs.After.{Stands}
 use Rattle.md_rule.specs.Views.{IsOf}
-use Rattle.md_nbtc.proofs.tidyings.Slots.{TakesTo}
+use Rattle.md_nbtc_law.proofs.tidyings.Slots.{TakesTo}
 use Rattle.md_nbtc.proofs.tidying.take_slots_out.Given as goal
 
 abbrev pub invariant-loop-i : goal.invariant-loop-i

@@ -4,9 +4,9 @@ use Rattle.md_words.specs.declared.content.Content.{Content}
 use Rattle.md_words.specs.Content.{count_of, is_even, word_of}
 use Rattle.md_machine.specs.Event.{exchange}
 use Rattle.md_rule.specs.Steps.{Exchanged, May}
-use Rattle.md_nbtc.specs.Cleaning.{cleanup_word}
-use Rattle.md_nbtc.proofs.tidyings.Making.{exchange_stands, exchange_tried, may_still, node_placed, took_some, tried_not}
-use Rattle.md_nbtc.proofs.tidyings.MayTidy.{even_room, may_exchange}
+use Rattle.md_nbtc_law.specs.Cleaning.{cleanup_word}
+use Rattle.md_nbtc_law.proofs.tidyings.Making.{exchange_stands, exchange_tried, may_still, node_placed, took_some, tried_not}
+use Rattle.md_nbtc_law.proofs.tidyings.MayTidy.{even_room, may_exchange}
 use Rattle.md_nbtc.proofs.tidying.try_cleanup.Goals as goal
 use Rattle.md_nbtc.proofs.tidying.try_cleanup.Goals.{else-from-lt-WORN-via-then-from-lt-WORN+else-is_reason, else-from-lt-WORN-via-else-from-lt-WORN}
 

@@ -1,5 +1,5 @@
 use Rattle.std.proofs.Common.{subst}
-use Rattle.md_nbtc.proofs.withdrawals.Unready.{aborted, exists, may, small}
+use Rattle.md_nbtc_law.proofs.withdrawals.Unready.{aborted, exists, may, small}
 use Rattle.md_rule.proofs.HandTaken.{hand_reached}
 use Rattle.md_rule.specs.Kept.{IsReached}
 use Rattle.md_machine.proofs.events.Attempts.{in_hand_some}

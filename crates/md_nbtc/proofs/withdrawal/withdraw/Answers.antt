@@ -1,7 +1,7 @@
 use Rattle.std.proofs.Common.{ap, ◌∙◌}
 use Rattle.md_rule.specs.Views.{PassState}
-use Rattle.md_nbtc.proofs.withdrawals.Ended.{clean_now, desc_there, fate_now, holds_desc, may_end, withdrawn}
-use Rattle.md_nbtc.proofs.withdrawals.Freed.{may_give_back}
+use Rattle.md_nbtc_law.proofs.withdrawals.Ended.{clean_now, desc_there, fate_now, holds_desc, may_end, withdrawn}
+use Rattle.md_nbtc_law.proofs.withdrawals.Freed.{may_give_back}
 use Rattle.md_nbtc.proofs.withdrawal.withdraw.Goals as goal
 
 pub give_nodes_back-requires-clause-free : goal.give_nodes_back-requires-clause-free

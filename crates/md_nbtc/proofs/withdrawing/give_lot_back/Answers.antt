@@ -1,7 +1,7 @@
 use Rattle.std.proofs.Common.{◌-◌, ◌<◌, sym, ap, subst, ◌∙◌, arith, le_of_eq}
 use Rattle.md_words.specs.declared.shape.Shape.{Shape}
 use Rattle.md_arena.specs.Taking.{with_nodes}
-use Rattle.md_nbtc.proofs.withdrawals.LotBack.{is_free, is_highest, lane_there, number_there, one_back, same_nodes}
+use Rattle.md_nbtc_law.proofs.withdrawals.LotBack.{is_free, is_highest, lane_there, number_there, one_back, same_nodes}
 use Rattle.md_nbtc.proofs.withdrawing.give_lot_back.Goals as goal
 
 pub loop-place-init : goal.loop-place-init

@@ -1,10 +1,10 @@
 use Rattle.std.proofs.Common.{◌≡◌, ◌-◌, ◌<◌, ◌∷◌, drop, get_or, length, sym, subst, arith}
 use Rattle.std.proofs.lemmas.List.{drop_all}
 use Rattle.md_arena.specs.Taking.{with_nodes}
-use Rattle.md_nbtc.specs.declared.sets.Lot.{Lot}
-use Rattle.md_nbtc.specs.declared.sets.TheConstants.{NO_LOT}
-use Rattle.md_nbtc.specs.Withdrawing.{MayGiveLotBack}
-use Rattle.md_nbtc.proofs.withdrawals.NodesBack.{GivesSome, gives_all, gives_more, gives_none, lot_at, may_lot, more_from}
+use Rattle.md_nbtc_law.specs.declared.slots.Lot.{Lot}
+use Rattle.md_nbtc_law.specs.declared.slots.TheConstants.{NO_LOT}
+use Rattle.md_nbtc_law.specs.Withdrawing.{MayGiveLotBack}
+use Rattle.md_nbtc_law.proofs.withdrawals.NodesBack.{GivesSome, gives_all, gives_more, gives_none, lot_at, may_lot, more_from}
 use Rattle.md_nbtc.proofs.withdrawing.give_nodes_back.Goals as goal
 
 pub loop-i-init : goal.loop-i-init

@@ -1,5 +1,5 @@
 use Rattle.std.proofs.Common.{drop}
-use Rattle.md_nbtc.proofs.withdrawals.NodesBack.{GivesSome}
+use Rattle.md_nbtc_law.proofs.withdrawals.NodesBack.{GivesSome}
 use Rattle.md_nbtc.proofs.withdrawing.give_nodes_back.Given as goal
 
 abbrev pub invariant-loop-i : goal.invariant-loop-i

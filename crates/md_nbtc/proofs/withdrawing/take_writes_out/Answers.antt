@@ -1,8 +1,8 @@
 use Rattle.std.proofs.Common.{refl, sym, ap, subst, ◌∙◌, arith}
 use Rattle.md_rule.specs.Views.{PassState}
-use Rattle.md_nbtc.specs.Withdrawing.{IsInstalled, TakesWriteOut}
-use Rattle.md_nbtc.specs.declared.sets.Slot.{Slot}
-use Rattle.md_nbtc.proofs.withdrawals.AllOut.{fate_still, first_all, first_more, slot_installed, takes_none}
+use Rattle.md_nbtc_law.specs.Withdrawing.{IsInstalled, TakesWriteOut}
+use Rattle.md_nbtc_law.specs.declared.slots.Slot.{Slot}
+use Rattle.md_nbtc_law.proofs.withdrawals.AllOut.{fate_still, first_all, first_more, slot_installed, takes_none}
 use Rattle.md_nbtc.proofs.withdrawing.take_writes_out.Goals as goal
 
 pub loop-i-init : goal.loop-i-init

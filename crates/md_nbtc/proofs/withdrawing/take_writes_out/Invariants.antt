@@ -1,7 +1,7 @@
 use Rattle.std.proofs.Common.{◌≡◌}
 use Rattle.md_help.specs.After.{Stands}
 use Rattle.md_rule.specs.Views.{IsOf}
-use Rattle.md_nbtc.proofs.withdrawals.AllOut.{TakesFirst}
+use Rattle.md_nbtc_law.proofs.withdrawals.AllOut.{TakesFirst}
 use Rattle.md_nbtc.proofs.withdrawing.take_writes_out.Given as goal
 
 abbrev pub invariant-loop-i : goal.invariant-loop-i

@@ -2,8 +2,9 @@ use Rattle.std.proofs.Common.{ap, sym, subst, ◌∙◌, arith, rules}
 use Rattle.md_words.specs.Layout.{address}
 use Rattle.md_words.specs.Place.{queue_tail}
 use Rattle.md_words.specs.PlaceAt.{IsCounted}
-use Rattle.md_nbtc.specs.Going.{IsUnderWay}
-use Rattle.md_nbtc.specs.State.{shape_in, state}
+use Rattle.md_nbtc_law.specs.Going.{IsUnderWay}
+use Rattle.md_nbtc_law.specs.State.{shape_in}
+use Rattle.md_nbtc.specs.State.{state}
 use Rattle.md_queue.specs.Operations.{RefusedOtherwise}
 use Rattle.md_queue.specs.Words.{move_kind, tail_at}
 use Rattle.md_queue.proofs.Following.{first_moved, first_stays, may_follow, moved_apart, tail_seen}

@@ -3,9 +3,9 @@ use Rattle.md_words.specs.declared.shape.Shape.{Shape}
 use Rattle.md_words.specs.Layout.{address}
 use Rattle.md_words.specs.Link.{linked_node}
 use Rattle.md_words.specs.Place.{node_next, queue_head}
-use Rattle.md_nbtc.specs.Known.{Known}
+use Rattle.md_nbtc_law.specs.Known.{Known}
+use Rattle.md_nbtc_law.proofs.structures.NodesKnown.{shape_later}
 use Rattle.md_nbtc.specs.State.{state}
-use Rattle.md_nbtc.proofs.structures.NodesKnown.{shape_later}
 use Rattle.md_queue.specs.Nodes.{IsReadable}
 use Rattle.md_queue.specs.Operations.{RecordsAmong, RefusedOtherwise}
 use Rattle.md_queue.specs.Working.{first_words}

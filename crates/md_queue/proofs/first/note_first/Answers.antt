@@ -2,11 +2,12 @@ use Rattle.std.proofs.Common.{◌/◌, [], ◌∷◌, ap, sym, subst, ◌∙◌,
 use Rattle.md_words.specs.Layout.{IsNode, address}
 use Rattle.md_words.specs.Link.{linked_node}
 use Rattle.md_words.specs.Place.{node_next, queue_head}
-use Rattle.md_nbtc.specs.Going.{IsFoundThere}
-use Rattle.md_nbtc.specs.Seeing.{Gave}
-use Rattle.md_nbtc.specs.State.{shape_in, state}
-use Rattle.md_nbtc.proofs.structures.NodesKnown.{shape_later}
-use Rattle.md_nbtc.proofs.structures.Noting.{HasNoted}
+use Rattle.md_nbtc_law.specs.Going.{IsFoundThere}
+use Rattle.md_nbtc_law.specs.Seeing.{Gave}
+use Rattle.md_nbtc_law.specs.State.{shape_in}
+use Rattle.md_nbtc_law.proofs.structures.NodesKnown.{shape_later}
+use Rattle.md_nbtc_law.proofs.structures.Noting.{HasNoted}
+use Rattle.md_nbtc.specs.State.{state}
 use Rattle.md_queue.specs.Operations.{RecordsAmong, RefusedOtherwise}
 use Rattle.md_queue.specs.Words.{head_at, next_at}
 use Rattle.md_queue.proofs.Among.{among_then}
@@ -16,7 +17,7 @@ use Rattle.md_queue.proofs.Steps.{goes_then, note_among, note_goes, note_ok, not
 use Rattle.md_history.specs.declared.stops.Limit.TheVariants.{Reads}
 use Rattle.md_history.specs.declared.stops.Stop.TheVariants.{Limit as Limited}
 use Rattle.std.proofs.Common.{◌<◌, ◌^◌, refl}
-use Rattle.md_nbtc.proofs.preparing.Heaps.{later_self}
+use Rattle.md_nbtc_law.proofs.preparing.Heaps.{later_self}
 use Rattle.md_queue.proofs.Full.{head_full, next_full}
 use Rattle.md_queue.proofs.Refusing.{began_on, note_unread, note_unwritten, note_was, was_after, if_err}
 use Rattle.md_queue.proofs.first.note_first.Goals as goal

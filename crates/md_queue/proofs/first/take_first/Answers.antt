@@ -2,15 +2,16 @@ use Rattle.std.proofs.Common.{◌≡◌, ◌/◌, ◌<◌, ◌^◌, [], ◌∷�
 use Rattle.md_words.specs.Layout.{IsNode, address}
 use Rattle.md_words.specs.Link.{linked_node}
 use Rattle.md_words.specs.Place.{node_next, queue_head}
-use Rattle.md_nbtc.specs.declared.seen.Kind.TheVariants.{Critical}
-use Rattle.md_nbtc.specs.Calls.{MayExchange}
-use Rattle.md_nbtc.specs.Going.{IsFoundThere}
-use Rattle.md_nbtc.specs.Known.{Known}
-use Rattle.md_nbtc.specs.Seeing.{Gave, KeepsGiven}
-use Rattle.md_nbtc.specs.State.{shape_in, state}
-use Rattle.md_nbtc.proofs.structures.Exchanging.{HasExchanged}
-use Rattle.md_nbtc.proofs.structures.NodesKnown.{shape_later}
-use Rattle.md_nbtc.proofs.structures.Noting.{HasNoted}
+use Rattle.md_nbtc_law.specs.declared.seen.Kind.TheVariants.{Critical}
+use Rattle.md_nbtc_law.specs.Calls.{MayExchange}
+use Rattle.md_nbtc_law.specs.Going.{IsFoundThere}
+use Rattle.md_nbtc_law.specs.Known.{Known}
+use Rattle.md_nbtc_law.specs.Seeing.{Gave, KeepsGiven}
+use Rattle.md_nbtc_law.specs.State.{shape_in}
+use Rattle.md_nbtc_law.proofs.structures.Exchanging.{HasExchanged}
+use Rattle.md_nbtc_law.proofs.structures.NodesKnown.{shape_later}
+use Rattle.md_nbtc_law.proofs.structures.Noting.{HasNoted}
+use Rattle.md_nbtc.specs.State.{state}
 use Rattle.md_queue_law.specs.Laws.Words.{head_not_tail, tail_not_next}
 use Rattle.md_queue.specs.Nodes.{IsReadable}
 use Rattle.md_queue.specs.Operations.{RecordsAmong, RefusedOtherwise}
@@ -24,8 +25,8 @@ use Rattle.md_history.specs.declared.stops.Limit.TheVariants.{Writes}
 use Rattle.md_history.specs.declared.stops.Stop.TheVariants.{Limit as Limited}
 use Rattle.std.proofs.Common.{false, inl}
 use Rattle.md_machine.specs.Certified.{is_written}
-use Rattle.md_nbtc.specs.State.{writes_in}
-use Rattle.md_nbtc.proofs.preparing.Heaps.{later_self}
+use Rattle.md_nbtc_law.specs.State.{writes_in}
+use Rattle.md_nbtc_law.proofs.preparing.Heaps.{later_self}
 use Rattle.md_queue.proofs.Alone.{alone_sees, seen_stands}
 use Rattle.md_queue.proofs.Full.{next_full}
 use Rattle.md_queue.proofs.Looking.{head_named}

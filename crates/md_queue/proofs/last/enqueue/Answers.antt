@@ -5,18 +5,19 @@ use Rattle.md_words.specs.Link.{linked_node}
 use Rattle.md_words.specs.Place.{node_next, queue_tail}
 use Rattle.md_words.proofs.Places.{nodes_fit_values}
 use Rattle.md_machine.specs.declared.certificate.Certificate.{Certificate}
-use Rattle.md_nbtc.specs.declared.seen.Cleanup.{Cleanup}
-use Rattle.md_nbtc.specs.declared.seen.Cleanup.TheVariants.{MoveTail}
-use Rattle.md_nbtc.specs.declared.seen.Kind.TheVariants.{Critical}
-use Rattle.md_nbtc.specs.Calls.{Freshened, Freshens, Keeps, MayExchange}
-use Rattle.md_nbtc.specs.Cleaning.{IsWrittenFor, with_cleanup_kept}
-use Rattle.md_nbtc.specs.Going.{IsGoing}
-use Rattle.md_nbtc.specs.Known.{Known}
-use Rattle.md_nbtc.specs.Seeing.{Gave}
-use Rattle.md_nbtc.specs.State.{OwnNode, TxnState, shape_in, state}
-use Rattle.md_nbtc.proofs.structures.Answering.{after_ok, fresh_refused}
-use Rattle.md_nbtc.proofs.structures.Exchanging.{HasExchanged}
-use Rattle.md_nbtc.proofs.structures.NodesKnown.{shape_later}
+use Rattle.md_nbtc_law.specs.declared.seen.Cleanup.{Cleanup}
+use Rattle.md_nbtc_law.specs.declared.seen.Cleanup.TheVariants.{MoveTail}
+use Rattle.md_nbtc_law.specs.declared.seen.Kind.TheVariants.{Critical}
+use Rattle.md_nbtc_law.specs.Calls.{Freshened, Freshens, Keeps, MayExchange}
+use Rattle.md_nbtc_law.specs.Cleaning.{IsWrittenFor, with_cleanup_kept}
+use Rattle.md_nbtc_law.specs.Going.{IsGoing}
+use Rattle.md_nbtc_law.specs.Known.{Known}
+use Rattle.md_nbtc_law.specs.Seeing.{Gave}
+use Rattle.md_nbtc_law.specs.State.{OwnNode, TxnState, shape_in}
+use Rattle.md_nbtc_law.proofs.structures.Answering.{after_ok, fresh_refused}
+use Rattle.md_nbtc_law.proofs.structures.Exchanging.{HasExchanged}
+use Rattle.md_nbtc_law.proofs.structures.NodesKnown.{shape_later}
+use Rattle.md_nbtc.specs.State.{state}
 use Rattle.md_queue_law.specs.QueueShape.{link}
 use Rattle.md_queue.specs.Nodes.{IsReadable}
 use Rattle.md_queue.specs.Operations.{GoesBy, Refused}
@@ -35,7 +36,7 @@ use Rattle.md_history.specs.declared.stops.Limit.TheVariants.{Writes}
 use Rattle.md_history.specs.declared.stops.Stop.TheVariants.{Limit as Limited}
 use Rattle.std.proofs.Common.{inl, inr}
 use Rattle.md_machine.specs.Certified.{is_written}
-use Rattle.md_nbtc.specs.State.{writes_in}
+use Rattle.md_nbtc_law.specs.State.{writes_in}
 use Rattle.md_queue.proofs.Enqueuing.{fresh_not_by}
 use Rattle.md_queue.proofs.Putting.{was_to_put}
 use Rattle.md_queue.proofs.Refusing.{began_on, exchange_unwritten, exchange_was, not_by, was_after, if_err}

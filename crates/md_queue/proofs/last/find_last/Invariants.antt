@@ -1,6 +1,6 @@
 use Rattle.std.proofs.Common.{◌≡◌, List}
 use Rattle.md_machine.specs.declared.certificate.Certificate.{Certificate}
-use Rattle.md_nbtc.specs.Going.{IsGoing}
+use Rattle.md_nbtc_law.specs.Going.{IsGoing}
 use Rattle.md_nbtc.specs.State.{state}
 use Rattle.md_queue.specs.Operations.{GoesBy}
 use Rattle.md_queue.specs.Working.{SeesEnd, own_count}

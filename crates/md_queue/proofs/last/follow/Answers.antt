@@ -1,7 +1,8 @@
 use Rattle.std.proofs.Common.{◌/◌, ◌+◌, length, ap, sym, subst, arith, rules}
 use Rattle.md_words.specs.Layout.{IsNode}
-use Rattle.md_nbtc.specs.Seeing.{KeepsGiven, Looks}
-use Rattle.md_nbtc.specs.State.{shape_in, state}
+use Rattle.md_nbtc_law.specs.Seeing.{KeepsGiven, Looks}
+use Rattle.md_nbtc_law.specs.State.{shape_in}
+use Rattle.md_nbtc.specs.State.{state}
 use Rattle.md_queue.specs.Operations.{RefusedOtherwise}
 use Rattle.md_queue.specs.Words.{move_kind, next_at, tail_at}
 use Rattle.md_queue.specs.Working.{other_count}

@@ -2,8 +2,9 @@ use Rattle.std.proofs.Common.{◌/◌, [], ap, sym, subst, ◌∙◌, arith, rul
 use Rattle.md_words.specs.Layout.{IsNode, address}
 use Rattle.md_words.specs.Place.{queue_tail}
 use Rattle.md_words.specs.PlaceAt.{IsCounted}
-use Rattle.md_nbtc.specs.Seeing.{KeepsGiven, Looks}
-use Rattle.md_nbtc.specs.State.{shape_in, state}
+use Rattle.md_nbtc_law.specs.Seeing.{KeepsGiven, Looks}
+use Rattle.md_nbtc_law.specs.State.{shape_in}
+use Rattle.md_nbtc.specs.State.{state}
 use Rattle.md_queue.specs.Operations.{RefusedOtherwise}
 use Rattle.md_queue.specs.Words.{next_at}
 use Rattle.md_queue.proofs.Data.{half_is}

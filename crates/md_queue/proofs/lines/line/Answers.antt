@@ -7,9 +7,10 @@ use Rattle.md_history.specs.declared.acts.Op.TheVariants.{Line as LineOf}
 use Rattle.md_history.specs.declared.acts.Reply.TheVariants.{Line as TheLine}
 use Rattle.md_history.specs.State.{line_of}
 use Rattle.md_machine.specs.declared.certificate.Certificate.{Certificate}
-use Rattle.md_nbtc.specs.Going.{IsGoing}
-use Rattle.md_nbtc.specs.State.{shape_in, state}
-use Rattle.md_nbtc.proofs.structures.NodesKnown.{shape_later}
+use Rattle.md_nbtc_law.specs.Going.{IsGoing}
+use Rattle.md_nbtc_law.specs.State.{shape_in}
+use Rattle.md_nbtc_law.proofs.structures.NodesKnown.{shape_later}
+use Rattle.md_nbtc.specs.State.{state}
 use Rattle.md_queue_law.specs.QueueCertificates.{Seen, last_seen}
 use Rattle.md_queue.specs.Along.{LooksFurther, seen_as, words_along}
 use Rattle.md_queue.specs.Operations.{RecordsAmong, RefusedOtherwise}

@@ -2,9 +2,10 @@ use Rattle.std.proofs.Common.{[], ◌∷◌, ap, sym, subst, ◌∙◌, arith, r
 use Rattle.md_words.specs.Layout.{address}
 use Rattle.md_words.specs.Place.{queue_head}
 use Rattle.md_words.specs.PlaceAt.{IsCounted}
-use Rattle.md_nbtc.specs.Going.{IsFoundThere}
-use Rattle.md_nbtc.specs.State.{shape_in, state}
-use Rattle.md_nbtc.proofs.structures.Noting.{HasNoted}
+use Rattle.md_nbtc_law.specs.Going.{IsFoundThere}
+use Rattle.md_nbtc_law.specs.State.{shape_in}
+use Rattle.md_nbtc_law.proofs.structures.Noting.{HasNoted}
+use Rattle.md_nbtc.specs.State.{state}
 use Rattle.md_queue.specs.Along.{HasLooked}
 use Rattle.md_queue.specs.Operations.{RecordsAmong, RefusedOtherwise}
 use Rattle.md_queue.specs.Words.{head_at}

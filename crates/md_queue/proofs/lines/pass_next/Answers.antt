@@ -3,9 +3,9 @@ use Rattle.md_words.specs.declared.shape.Shape.{Shape}
 use Rattle.md_words.specs.Layout.{address}
 use Rattle.md_words.specs.Link.{linked_node}
 use Rattle.md_words.specs.Place.{node_next}
-use Rattle.md_nbtc.specs.Known.{Known}
+use Rattle.md_nbtc_law.specs.Known.{Known}
+use Rattle.md_nbtc_law.proofs.structures.NodesKnown.{shape_later}
 use Rattle.md_nbtc.specs.State.{state}
-use Rattle.md_nbtc.proofs.structures.NodesKnown.{shape_later}
 use Rattle.md_queue_law.specs.QueueCertificates.{Seen}
 use Rattle.md_queue.specs.Along.{HasLooked}
 use Rattle.md_queue.specs.Nodes.{IsReadable}
@@ -19,7 +19,7 @@ use Rattle.md_queue.proofs.Steps.{goes_then, look_goes, look_ok, look_stops, not
 use Rattle.md_history.specs.declared.stops.Limit.TheVariants.{Reads}
 use Rattle.md_history.specs.declared.stops.Stop.TheVariants.{Limit as Limited}
 use Rattle.std.proofs.Common.{refl}
-use Rattle.md_nbtc.specs.State.{shape_in}
+use Rattle.md_nbtc_law.specs.State.{shape_in}
 use Rattle.md_queue.specs.Along.{words_along}
 use Rattle.md_queue.proofs.Along.{looked_on}
 use Rattle.md_queue.proofs.Full.{line_next_full}

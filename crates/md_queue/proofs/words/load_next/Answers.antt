@@ -3,8 +3,9 @@ use Rattle.md_words.specs.Layout.{address}
 use Rattle.md_words.specs.Place.{node_next}
 use Rattle.md_words.specs.PlaceAt.{IsCounted}
 use Rattle.md_machine.proofs.chain.SameNodes.{next_counted}
-use Rattle.md_nbtc.specs.Seeing.{KeepsGiven}
-use Rattle.md_nbtc.specs.State.{shape_in, state}
+use Rattle.md_nbtc_law.specs.Seeing.{KeepsGiven}
+use Rattle.md_nbtc_law.specs.State.{shape_in}
+use Rattle.md_nbtc.specs.State.{state}
 use Rattle.md_queue.proofs.words.load_next.Goals as goal
 
 pub load-requires-clause-counted : goal.load-requires-clause-counted

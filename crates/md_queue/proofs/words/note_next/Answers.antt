@@ -1,8 +1,8 @@
 use Rattle.std.proofs.Common.{◌∙◌, ap, sym, subst}
 use Rattle.md_words.specs.Layout.{address}
 use Rattle.md_words.specs.Place.{node_next}
-use Rattle.md_nbtc.specs.Going.{IsFoundThere}
-use Rattle.md_nbtc.specs.Seeing.{KeepsGiven}
+use Rattle.md_nbtc_law.specs.Going.{IsFoundThere}
+use Rattle.md_nbtc_law.specs.Seeing.{KeepsGiven}
 use Rattle.md_nbtc.specs.State.{state}
 use Rattle.md_queue.proofs.words.note_next.Goals as goal
 

@@ -2,7 +2,8 @@ use Rattle.std.proofs.Common.{ap, ℕ, Option, refl, Result, Ok, Err}
 use Rattle.md_history.specs.declared.stops.Stop.{Stop}
 use Rattle.md_history.specs.declared.acts.Op.TheVariants.{Get}
 use Rattle.md_history.specs.declared.acts.Reply.TheVariants.{Value}
-use Rattle.md_nbtc.specs.State.{shape_in, state}
+use Rattle.md_nbtc_law.specs.State.{shape_in}
+use Rattle.md_nbtc.specs.State.{state}
 use Rattle.md_list.specs.Operations.{HasStopButNodes}
 use Rattle.md_store.proofs.ListRefusals.{needs_slot}
 use Rattle.md_store.proofs.Runs.{IsStarted, answered_runs, is_head_of, list_ends, list_runs, may_end, none_stood, unstopped}

@@ -2,7 +2,8 @@ use Rattle.std.proofs.Common.{ap, Bool, refl, Result, Ok, Err}
 use Rattle.md_history.specs.declared.stops.Stop.{Stop}
 use Rattle.md_history.specs.declared.acts.Op.TheVariants.{Insert}
 use Rattle.md_history.specs.declared.acts.Reply.TheVariants.{Flag}
-use Rattle.md_nbtc.specs.State.{shape_in, state}
+use Rattle.md_nbtc_law.specs.State.{shape_in}
+use Rattle.md_nbtc.specs.State.{state}
 use Rattle.md_list.specs.Operations.{HasStop}
 use Rattle.md_store.proofs.Runs.{IsStarted, answered_runs, is_head_of, list_ends, list_runs, may_end, none_stood, unstopped}
 use Rattle.md_store.proofs.on_maps.insert_in.Goals as goal

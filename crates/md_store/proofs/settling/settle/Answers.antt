@@ -1,6 +1,6 @@
 use Rattle.std.proofs.Common.{refl}
 use Rattle.md_store_law.specs.Store.{store}
-use Rattle.md_nbtc.proofs.beginning.Leaving.{begins_not}
+use Rattle.md_nbtc_law.proofs.beginning.Leaving.{begins_not}
 use Rattle.md_store.proofs.Settlement.{may, put_down, settles}
 use Rattle.md_store.proofs.settling.settle.Goals as goal
 

@@ -1,8 +1,8 @@
 use Rattle.std.proofs.Common.{ℕ, ap, map, ◌∙◌}
+use Rattle.md_nbtc_law.specs.State.{writes_in}
+use Rattle.md_nbtc_law.specs.Telling.{Told, read_count, write_count}
+use Rattle.md_nbtc_law.proofs.decisions.Tells.{may_tell}
 use Rattle.md_nbtc.specs.Ending.{ready_state}
-use Rattle.md_nbtc.specs.State.{writes_in}
-use Rattle.md_nbtc.specs.Telling.{Told, read_count, write_count}
-use Rattle.md_nbtc.proofs.decisions.Tells.{may_tell}
 use Rattle.md_nbtc.proofs.ending.Ready.decide.Goals as goal
 
 pub of-requires : goal.of-requires

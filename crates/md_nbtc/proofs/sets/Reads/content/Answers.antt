@@ -2,8 +2,8 @@ use Rattle.std.proofs.Common.{◌∙◌, sym, ap, arith, eq-eqb}
 use Rattle.std.proofs.Math.Nat.{min-le_left, min-le_right}
 use Rattle.std.proofs.lemmas.Bool.{ne_eqb}
 use Rattle.md_machine.specs.Certified.{content_read}
+use Rattle.md_nbtc_law.proofs.Searching.{read_found, read_more}
 use Rattle.md_nbtc.proofs.Marking.{none_read_before}
-use Rattle.md_nbtc.proofs.Searching.{read_found, read_more}
 use Rattle.md_nbtc.proofs.sets.Reads.content.Goals as goal
 
 pub returns-then-read-word : goal.returns-then-read-word

@@ -1,9 +1,9 @@
 use Rattle.std.proofs.Common.{◌∙◌, sym, ap, arith, eq-eqb}
 use Rattle.std.proofs.Math.Nat.{min-le_left, min-le_right}
 use Rattle.std.proofs.lemmas.Bool.{ne_eqb}
-use Rattle.md_nbtc.specs.Sets.{place_of}
+use Rattle.md_nbtc_law.specs.Sets.{place_of}
+use Rattle.md_nbtc_law.proofs.Searching.{slot_first, slot_more}
 use Rattle.md_nbtc.proofs.Marking.{none_written_before}
-use Rattle.md_nbtc.proofs.Searching.{slot_first, slot_more}
 use Rattle.md_nbtc.proofs.sets.Slots.find.Goals as goal
 
 pub returns-then-self-i : goal.returns-then-self-i

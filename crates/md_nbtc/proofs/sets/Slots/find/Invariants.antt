@@ -1,5 +1,5 @@
 use Rattle.std.proofs.Common.{◌≡◌, None, take}
-use Rattle.md_nbtc.specs.Sets.{place_of}
+use Rattle.md_nbtc_law.specs.Sets.{place_of}
 use Rattle.md_nbtc.proofs.sets.Slots.find.Given as goal
 
 abbrev pub invariant-loop-i : goal.invariant-loop-i

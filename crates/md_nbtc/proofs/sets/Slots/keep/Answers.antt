@@ -1,10 +1,10 @@
 use Rattle.std.proofs.Common.{◌<◌, length, map, take, refl, sym, ap, subst, ◌∙◌, arith}
 use Rattle.std.proofs.Math.Seq.{map-set_same}
 use Rattle.std.proofs.lemmas.List.{length-map}
+use Rattle.md_nbtc_law.specs.declared.slots.TheConstants.{NO_SLOT}
+use Rattle.md_nbtc_law.proofs.keeping.Keeping.{keep_else, keep_then}
 use Rattle.md_nbtc.specs.declared.sets.Slots.TheInside.{Inside}
-use Rattle.md_nbtc.specs.declared.sets.TheConstants.{NO_SLOT}
 use Rattle.md_nbtc.specs.Marks.{AreMarked}
-use Rattle.md_nbtc.proofs.keeping.Keeping.{keep_else, keep_then}
 use Rattle.md_nbtc.proofs.sets.Slots.keep.Goals.{then-slot-word, else-slot-word}
 use Rattle.md_nbtc.proofs.sets.Slots.keep.Goals as goal
 

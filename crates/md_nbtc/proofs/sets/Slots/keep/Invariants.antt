@@ -1,7 +1,7 @@
 use Rattle.std.proofs.Common.{◌≡◌, map}
-use Rattle.md_nbtc.specs.declared.sets.TheConstants.{NO_SLOT}
-use Rattle.md_nbtc.specs.Cleaning.{with_cleanup}
-use Rattle.md_nbtc.proofs.keeping.Mapping.{changed_to}
+use Rattle.md_nbtc_law.specs.declared.slots.TheConstants.{NO_SLOT}
+use Rattle.md_nbtc_law.specs.Cleaning.{with_cleanup}
+use Rattle.md_nbtc_law.proofs.keeping.Mapping.{changed_to}
 use Rattle.md_nbtc.proofs.sets.Slots.keep.Given as goal
 
 abbrev pub invariant-loop-i : goal.invariant-loop-i

@@ -1,10 +1,10 @@
 use Rattle.std.proofs.Common.{◌∙◌, sym, ap, subst, ◌<◌, length, take, refl}
 use Rattle.std.proofs.Math.Seq.{map-set_same}
 use Rattle.std.proofs.lemmas.List.{length-set}
-use Rattle.md_nbtc.specs.declared.sets.TheConstants.{NO_SLOT}
+use Rattle.md_nbtc_law.specs.declared.slots.TheConstants.{NO_SLOT}
+use Rattle.md_nbtc_law.specs.Sets.{renewed_at}
+use Rattle.md_nbtc_law.proofs.Searching.{slot_renewed}
 use Rattle.md_nbtc.specs.Marks.{AreMarked}
-use Rattle.md_nbtc.specs.Sets.{renewed_at}
-use Rattle.md_nbtc.proofs.Searching.{slot_renewed}
 use Rattle.md_nbtc.proofs.sets.Slots.set_new.Goals as goal
 
 pub returns : goal.returns

@@ -9,16 +9,16 @@ use Rattle.md_words.proofs.Owners.{own_desc_exists}
 use Rattle.md_machine.specs.Own.{HasDesc}
 use Rattle.md_rule.specs.Views.{IsOf}
 use Rattle.md_rule.proofs.LaneLists.{desc_fits}
-use Rattle.md_nbtc.specs.Ending.{Begins, BeginsNot}
-use Rattle.md_nbtc.specs.Going.{IsGoing}
-use Rattle.md_nbtc.specs.State.{TxnState, state_of}
+use Rattle.md_nbtc_law.specs.Ending.{Begins, BeginsNot}
+use Rattle.md_nbtc_law.specs.Going.{IsGoing}
+use Rattle.md_nbtc_law.specs.State.{TxnState, state_of}
 use Rattle.md_rule.proofs.Told.{told_leave}
 use Rattle.md_help.specs.After.{Stands}
 use Rattle.md_help.proofs.Steps.{stands_after}
-use Rattle.md_nbtc.proofs.beginning.Begun.{is_going}
-use Rattle.md_nbtc.proofs.beginning.Beginnings.{begins, lowest, ok_not_err}
-use Rattle.md_nbtc.proofs.beginning.Leaving.{begins_not, lanes_left, taken_last}
-use Rattle.md_nbtc.proofs.beginning.LeftOut.{free_left}
+use Rattle.md_nbtc_law.proofs.beginning.Begun.{is_going}
+use Rattle.md_nbtc_law.proofs.beginning.Beginnings.{begins, lowest, ok_not_err}
+use Rattle.md_nbtc_law.proofs.beginning.Leaving.{begins_not, lanes_left, taken_last}
+use Rattle.md_nbtc_law.proofs.beginning.LeftOut.{free_left}
 use Rattle.md_nbtc.proofs.txn.Txn.begin.Goals as goal
 
 pub put_in_hand-serial-requires-clause-stands : goal.put_in_hand-serial-requires-clause-stands

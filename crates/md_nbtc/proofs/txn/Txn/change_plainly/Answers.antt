@@ -2,13 +2,14 @@ use Rattle.std.proofs.Common.{◌+◌, ◌∙◌, Some, false, refl, sym, ap, su
 use Rattle.md_history.specs.declared.stops.Stop.TheVariants.{Conflict}
 use Rattle.md_machine.specs.declared.step.Kind.TheVariants.{Exchange}
 use Rattle.md_rule.specs.Views.{PassState}
-use Rattle.md_nbtc.specs.Calls.{GoesOn}
-use Rattle.md_nbtc.specs.Seeing.{Gave, Looks}
-use Rattle.md_nbtc.specs.State.{TxnState, seen_content, state, state_of}
-use Rattle.md_nbtc.proofs.exchanging.Installed.{even_room}
-use Rattle.md_nbtc.proofs.exchanging.LostStep.{lost_given, lost_on, lost_so}
-use Rattle.md_nbtc.proofs.exchanging.PlainChange.{lost_change, may_exchange, plain_gave, plain_given, plain_looks, plain_on, plain_so, won_change}
-use Rattle.md_nbtc.proofs.exchanging.PlainWords.{foreign, unread}
+use Rattle.md_nbtc_law.specs.Calls.{GoesOn}
+use Rattle.md_nbtc_law.specs.Seeing.{Gave, Looks}
+use Rattle.md_nbtc_law.specs.State.{TxnState, seen_content, state_of}
+use Rattle.md_nbtc_law.proofs.exchanging.Installed.{even_room}
+use Rattle.md_nbtc_law.proofs.exchanging.LostStep.{lost_given, lost_on, lost_so}
+use Rattle.md_nbtc_law.proofs.exchanging.PlainChange.{lost_change, may_exchange, plain_gave, plain_given, plain_looks, plain_on, plain_so, won_change}
+use Rattle.md_nbtc_law.proofs.exchanging.PlainWords.{foreign, unread}
+use Rattle.md_nbtc.specs.State.{state}
 use Rattle.md_nbtc.proofs.txn.Txn.change_plainly.Goals as goal
 
 pub exchange-requires-clause-fits : goal.exchange-requires-clause-fits

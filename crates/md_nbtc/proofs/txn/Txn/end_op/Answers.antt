@@ -1,9 +1,9 @@
 use Rattle.std.proofs.Common.{sym, subst, false}
 use Rattle.md_machine.specs.Event.{mark_act}
-use Rattle.md_nbtc.specs.Calls.{Ends}
+use Rattle.md_nbtc_law.specs.Calls.{Ends}
+use Rattle.md_nbtc_law.proofs.operations.EndedOps.{ended_acts, ended_on, ended_view, may_end_op}
+use Rattle.md_nbtc_law.proofs.operations.OnMark.{mark_is_so, mark_so}
 use Rattle.md_nbtc.specs.State.{state}
-use Rattle.md_nbtc.proofs.operations.EndedOps.{ended_acts, ended_on, ended_view, may_end_op}
-use Rattle.md_nbtc.proofs.operations.OnMark.{mark_is_so, mark_so}
 use Rattle.md_nbtc.proofs.txn.Txn.end_op.Goals as goal
 
 pub mark_act-requires-clause-may : goal.mark_act-requires-clause-may

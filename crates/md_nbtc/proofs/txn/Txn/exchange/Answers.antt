@@ -1,8 +1,8 @@
 use Rattle.std.proofs.Common.{◌∙◌, is_some, Ok, sym, ap, subst}
-use Rattle.md_nbtc.specs.Calls.{AfterStop, Exchanges, MayBeOf, exchange_case}
+use Rattle.md_nbtc_law.specs.Calls.{AfterStop, Exchanges, MayBeOf, exchange_case}
+use Rattle.md_nbtc_law.proofs.exchanging.Cases.{other_case, own_case, written_place}
+use Rattle.md_nbtc_law.proofs.preparing.Heaps.{goes_self}
 use Rattle.md_nbtc.specs.State.{state}
-use Rattle.md_nbtc.proofs.exchanging.Cases.{other_case, own_case, written_place}
-use Rattle.md_nbtc.proofs.preparing.Heaps.{goes_self}
 use Rattle.md_nbtc.proofs.txn.Txn.exchange.Goals as goal
 
 pub returns-in-Some-clause-on : goal.returns-in-Some-clause-on

@@ -2,13 +2,14 @@ use Rattle.std.proofs.Common.{◌≡◌, ◌∙◌, ℕ, Bool, true, false, leng
 use Rattle.std.proofs.lemmas.Bool.{true≢false}
 use Rattle.md_words.proofs.Words.{count_of-counted_word}
 use Rattle.md_machine.specs.Certified.{content_read}
-use Rattle.md_nbtc.specs.declared.seen.Kind.{Kind}
-use Rattle.md_nbtc.specs.declared.seen.Kind.TheVariants.{Critical, Plain}
-use Rattle.md_nbtc.specs.declared.seen.Seen.{Seen}
-use Rattle.md_nbtc.specs.Calls.{Exchanges, MayBeOf, case_of_other, is_critical, makes_step, refusal_by}
-use Rattle.md_nbtc.specs.State.{TxnState, seen_content, state}
-use Rattle.md_nbtc.proofs.exchanging.Cases.{refusal_cause, refused, step_case, step_if, step_made}
-use Rattle.md_nbtc.proofs.exchanging.Refused.{halted_gave, halted_on}
+use Rattle.md_nbtc_law.specs.declared.seen.Kind.{Kind}
+use Rattle.md_nbtc_law.specs.declared.seen.Kind.TheVariants.{Critical, Plain}
+use Rattle.md_nbtc_law.specs.declared.seen.Seen.{Seen}
+use Rattle.md_nbtc_law.specs.Calls.{Exchanges, MayBeOf, case_of_other, is_critical, makes_step, refusal_by}
+use Rattle.md_nbtc_law.specs.State.{TxnState, seen_content}
+use Rattle.md_nbtc_law.proofs.exchanging.Cases.{refusal_cause, refused, step_case, step_if, step_made}
+use Rattle.md_nbtc_law.proofs.exchanging.Refused.{halted_gave, halted_on}
+use Rattle.md_nbtc.specs.State.{state}
 use Rattle.md_nbtc.proofs.txn.Txn.exchange_other.Goals as goal
 
 -- the case, by whether the change is critical

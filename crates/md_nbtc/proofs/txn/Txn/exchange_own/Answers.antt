@@ -6,11 +6,12 @@ use Rattle.md_words.proofs.Owners.{own_desc_exists}
 use Rattle.md_machine.specs.Event.{store}
 use Rattle.md_rule.specs.Steps.{May}
 use Rattle.md_rule.specs.Views.{PassState}
-use Rattle.md_nbtc.specs.Calls.{GoesOn, with_change}
-use Rattle.md_nbtc.specs.Seeing.{Gave}
-use Rattle.md_nbtc.specs.Sets.{with_new}
-use Rattle.md_nbtc.specs.State.{TxnState, attempt_in, shape_in, state}
-use Rattle.md_nbtc.proofs.exchanging.OwnWord.{at_slot, below, in_slots, may_store_new, renewed_gave, renewed_given, renewed_going, renewed_later, renewed_so}
+use Rattle.md_nbtc_law.specs.Calls.{GoesOn, with_change}
+use Rattle.md_nbtc_law.specs.Seeing.{Gave}
+use Rattle.md_nbtc_law.specs.Sets.{with_new}
+use Rattle.md_nbtc_law.specs.State.{TxnState, attempt_in, shape_in}
+use Rattle.md_nbtc_law.proofs.exchanging.OwnWord.{at_slot, below, in_slots, may_store_new, renewed_gave, renewed_given, renewed_going, renewed_later, renewed_so}
+use Rattle.md_nbtc.specs.State.{state}
 use Rattle.md_nbtc.proofs.txn.Txn.exchange_own.Given as given
 use Rattle.md_nbtc.proofs.txn.Txn.exchange_own.Goals as goal
 

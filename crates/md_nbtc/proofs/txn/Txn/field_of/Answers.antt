@@ -1,12 +1,12 @@
 use Rattle.std.proofs.Common.{◌≡◌, refl, sym, subst}
-use Rattle.md_nbtc.specs.Calls.{GoesOn, data_at}
-use Rattle.md_nbtc.specs.Known.{Known}
-use Rattle.md_nbtc.specs.Seeing.{Gave}
+use Rattle.md_nbtc_law.specs.Calls.{GoesOn, data_at}
+use Rattle.md_nbtc_law.specs.Known.{Known}
+use Rattle.md_nbtc_law.specs.Seeing.{Gave}
 use Rattle.md_nbtc.specs.State.{state}
 use Rattle.md_words.specs.PlaceAt.{place_at}
-use Rattle.md_nbtc.proofs.looks.Fields.{field_known}
-use Rattle.md_nbtc.proofs.looks.Loaded.{loaded_given, loaded_going, loaded_is, loaded_later, loaded_so}
-use Rattle.md_nbtc.proofs.preparing.StatusApart.{data_apart}
+use Rattle.md_nbtc_law.proofs.looks.Fields.{field_known}
+use Rattle.md_nbtc_law.proofs.looks.Loaded.{loaded_given, loaded_going, loaded_is, loaded_later, loaded_so}
+use Rattle.md_nbtc_law.proofs.preparing.StatusApart.{data_apart}
 use Rattle.md_nbtc.proofs.txn.Txn.field_of.Goals as goal
 
 pub returns-clause-on : goal.returns-clause-on

@@ -1,4 +1,4 @@
-use Rattle.std.proofs.Common.{◌≡◌, ℕ, ◌≤◌, ◌+◌, ◌-◌, ◌/◌, Some, Ok, Err, refl, sym, ap, ◌∙◌, subst, inr, arith}
+use Rattle.std.proofs.Common.{◌≡◌, ℕ, ◌≤◌, ◌+◌, ◌-◌, Some, Ok, Err, refl, sym, ap, ◌∙◌, subst, inr, arith}
 use Rattle.md_words.specs.declared.content.Content.{Content}
 use Rattle.md_words.specs.declared.shape.Shape.{Shape}
 use Rattle.md_words.specs.Layout.{IsNode, address}
@@ -11,20 +11,21 @@ use Rattle.md_rule.specs.Shares.{share_at}
 use Rattle.md_rule.specs.Steps.{May, Stepped, SteppedFrom}
 use Rattle.md_rule.specs.Views.{PassState}
 use Rattle.md_arena.proofs.TakenNodes.{past_base}
-use Rattle.md_nbtc.specs.Calls.{AfterStop, Freshened, GoesOn}
-use Rattle.md_nbtc.specs.Going.{HasCause}
-use Rattle.md_nbtc.specs.Prepared.{IsPrepared}
-use Rattle.md_nbtc.specs.Seeing.{Gave}
-use Rattle.md_nbtc.specs.State.{TxnState, shape_in, state, state_of}
-use Rattle.md_nbtc.proofs.keeping.Causes.{nodes_cause}
-use Rattle.md_nbtc.proofs.looks.Loaded.{loaded_is, loaded_so}
-use Rattle.md_nbtc.proofs.nodes.FreshSteps.{StoresNode, freshens, goes_on, keeps_given, lane_held, lane_is, lot_fits, one_more}
-use Rattle.md_nbtc.proofs.nodes.Freshening.{may_key, may_next, may_value}
-use Rattle.md_nbtc.proofs.nodes.Taking.{exists, given_back, highest, knows_then}
-use Rattle.md_nbtc.proofs.nodes.Worn.{is_worn, only_load, worn_found, worn_given, worn_on}
-use Rattle.md_nbtc.proofs.recording.Stopping.{stopped_gave, stopped_on}
+use Rattle.md_nbtc_law.specs.Calls.{AfterStop, Freshened, GoesOn}
+use Rattle.md_nbtc_law.specs.Going.{HasCause}
+use Rattle.md_nbtc_law.specs.Prepared.{IsPrepared}
+use Rattle.md_nbtc_law.specs.Seeing.{Gave}
+use Rattle.md_nbtc_law.specs.State.{TxnState, shape_in, state_of}
+use Rattle.md_nbtc_law.proofs.keeping.Causes.{nodes_cause}
+use Rattle.md_nbtc_law.proofs.looks.Loaded.{loaded_is, loaded_so}
+use Rattle.md_nbtc_law.proofs.nodes.FreshSteps.{StoresNode, freshens, goes_on, keeps_given, lane_held, lane_is, lot_fits, one_more}
+use Rattle.md_nbtc_law.proofs.nodes.Freshening.{may_key, may_next, may_value}
+use Rattle.md_nbtc_law.proofs.nodes.Taking.{exists, given_back, highest, knows_then}
+use Rattle.md_nbtc_law.proofs.nodes.Worn.{is_worn, only_load, worn_found, worn_given, worn_on}
+use Rattle.md_nbtc_law.proofs.recording.Stopping.{stopped_gave, stopped_on}
+use Rattle.md_nbtc_law.proofs.preparing.Heaps.{goes_self}
+use Rattle.md_nbtc.specs.State.{state}
 use Rattle.md_nbtc.proofs.txn.Txn.fresh.Given.{Over}
-use Rattle.md_nbtc.proofs.preparing.Heaps.{goes_self}
 use Rattle.md_nbtc.proofs.txn.Txn.fresh.Goals as goal
 
 -- where a word is, by the shape of the transaction

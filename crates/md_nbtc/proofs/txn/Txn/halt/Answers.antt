@@ -1,5 +1,5 @@
+use Rattle.md_nbtc_law.proofs.recording.Stopping.{stopped_on}
 use Rattle.md_nbtc.specs.State.{state}
-use Rattle.md_nbtc.proofs.recording.Stopping.{stopped_on}
 use Rattle.md_nbtc.proofs.txn.Txn.halt.Goals as goal
 
 pub returns-clause-on : goal.returns-clause-on

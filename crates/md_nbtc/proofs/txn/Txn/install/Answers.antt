@@ -1,10 +1,10 @@
 use Rattle.std.proofs.Common.{◌+◌, sym, subst, arith}
-use Rattle.md_nbtc.specs.Going.{IsFoundFirst}
-use Rattle.md_nbtc.specs.Known.{IsLater}
-use Rattle.md_nbtc.specs.Seeing.{MayChange}
+use Rattle.md_nbtc_law.specs.Going.{IsFoundFirst}
+use Rattle.md_nbtc_law.specs.Known.{IsLater}
+use Rattle.md_nbtc_law.specs.Seeing.{MayChange}
+use Rattle.md_nbtc_law.proofs.exchanging.FilledSlot.{both_given, both_on}
+use Rattle.md_nbtc_law.proofs.preparing.GoingOn.{change_more, first_more}
 use Rattle.md_nbtc.specs.State.{state}
-use Rattle.md_nbtc.proofs.exchanging.FilledSlot.{both_given, both_on}
-use Rattle.md_nbtc.proofs.preparing.GoingOn.{change_more, first_more}
 use Rattle.md_nbtc.proofs.txn.Txn.install.Goals as goal
 
 pub install_next-requires-clause-gave : goal.install_next-requires-clause-gave

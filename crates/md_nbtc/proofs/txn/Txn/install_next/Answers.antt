@@ -7,16 +7,17 @@ use Rattle.md_machine.specs.Event.{install}
 use Rattle.md_machine.specs.declared.step.Kind.TheVariants.{Install}
 use Rattle.md_rule.specs.Steps.{May, SteppedFrom}
 use Rattle.md_rule.specs.Views.{PassState}
-use Rattle.md_nbtc.specs.declared.seen.Seen.{Seen}
-use Rattle.md_nbtc.specs.declared.sets.Slot.{Slot}
-use Rattle.md_nbtc.specs.Calls.{GoesOn, new_slot, with_change}
-use Rattle.md_nbtc.specs.Prepared.{IsPrepared}
-use Rattle.md_nbtc.specs.Seeing.{Gave}
-use Rattle.md_nbtc.specs.State.{TxnState, attempt_in, seen_content, shape_in, state, state_of}
-use Rattle.md_nbtc.proofs.exchanging.Installed.{even_room, lost_step, may_install, no_next_left}
-use Rattle.md_nbtc.proofs.exchanging.LostStep.{lost_given, lost_on, lost_so}
+use Rattle.md_nbtc_law.specs.declared.seen.Seen.{Seen}
+use Rattle.md_nbtc_law.specs.declared.slots.Slot.{Slot}
+use Rattle.md_nbtc_law.specs.Calls.{GoesOn, new_slot, with_change}
+use Rattle.md_nbtc_law.specs.Prepared.{IsPrepared}
+use Rattle.md_nbtc_law.specs.Seeing.{Gave}
+use Rattle.md_nbtc_law.specs.State.{TxnState, attempt_in, seen_content, shape_in, state_of}
+use Rattle.md_nbtc_law.proofs.exchanging.Installed.{even_room, lost_step, may_install, no_next_left}
+use Rattle.md_nbtc_law.proofs.exchanging.LostStep.{lost_given, lost_on, lost_so}
+use Rattle.md_nbtc.specs.State.{state}
 use Rattle.md_history.specs.declared.stops.Stop.TheVariants.{Conflict}
-use Rattle.md_nbtc.proofs.exchanging.WonInstall.{installed_gave, installed_given, installed_on, installed_so, it_won, taken_same}
+use Rattle.md_nbtc_law.proofs.exchanging.WonInstall.{installed_gave, installed_given, installed_on, installed_so, it_won, taken_same}
 use Rattle.md_nbtc.proofs.txn.Txn.install_next.Goals as goal
 
 spot_is : (t : TxnState) → IsPrepared t → (slot : ℕ) → slot ≡ length t.slots → (let s : Spot = record { desc = t.desc; slot = slot } in s) ≡ record { desc = (attempt_in t).desc; slot = length t.slots }

@@ -5,10 +5,11 @@ use Rattle.md_words.specs.Lanes.{node_of}
 use Rattle.md_words.specs.Layout.{IsNode, address}
 use Rattle.md_words.specs.Place.{node_next}
 use Rattle.md_rule.specs.Shares.{share_at}
-use Rattle.md_nbtc.specs.Calls.{is_next_word}
-use Rattle.md_nbtc.specs.State.{shape_in, state}
-use Rattle.md_nbtc.proofs.exchanging.OwnLots.{is_lot, lot_nodes}
-use Rattle.md_nbtc.proofs.exchanging.OwnNexts.{none_below, none_between, some_at}
+use Rattle.md_nbtc_law.specs.Calls.{is_next_word}
+use Rattle.md_nbtc_law.specs.State.{shape_in}
+use Rattle.md_nbtc_law.proofs.exchanging.OwnLots.{is_lot, lot_nodes}
+use Rattle.md_nbtc_law.proofs.exchanging.OwnNexts.{none_below, none_between, some_at}
+use Rattle.md_nbtc.specs.State.{state}
 use Rattle.md_nbtc.proofs.txn.Txn.is_next_in.Goals as goal
 
 -- the first node of the lot, as the code counts it

@@ -2,11 +2,12 @@ use Rattle.std.proofs.Common.{◌∙◌, ◌||◌, ℕ, Bool, get_or, refl, sym,
 use Rattle.std.proofs.lemmas.List.{take_all}
 use Rattle.std.proofs.lemmas.List.Folds.{list_any_at, list_any_more}
 use Rattle.std.specs.List.{list_any}
-use Rattle.md_nbtc.specs.declared.sets.Lot.{Lot}
-use Rattle.md_nbtc.specs.declared.sets.TheConstants.{NO_LOT}
-use Rattle.md_nbtc.specs.Calls.{is_next_word}
-use Rattle.md_nbtc.specs.State.{shape_in, state, taken_of_lane}
-use Rattle.md_nbtc.proofs.exchanging.OwnLots.{test_by_lots}
+use Rattle.md_nbtc_law.specs.declared.slots.Lot.{Lot}
+use Rattle.md_nbtc_law.specs.declared.slots.TheConstants.{NO_LOT}
+use Rattle.md_nbtc_law.specs.Calls.{is_next_word}
+use Rattle.md_nbtc_law.specs.State.{shape_in, taken_of_lane}
+use Rattle.md_nbtc_law.proofs.exchanging.OwnLots.{test_by_lots}
+use Rattle.md_nbtc.specs.State.{state}
 use Rattle.md_nbtc.proofs.txn.Txn.is_own_next.Goals as goal
 
 pub loop-i-init : goal.loop-i-init

@@ -1,8 +1,9 @@
 use Rattle.std.proofs.Common.{◌≡◌, false, take}
 use Rattle.std.specs.List.{list_any}
-use Rattle.md_nbtc.specs.declared.sets.Lot.{Lot}
-use Rattle.md_nbtc.specs.Calls.{is_next_word}
-use Rattle.md_nbtc.specs.State.{shape_in, state, taken_of_lane}
+use Rattle.md_nbtc_law.specs.declared.slots.Lot.{Lot}
+use Rattle.md_nbtc_law.specs.Calls.{is_next_word}
+use Rattle.md_nbtc_law.specs.State.{shape_in, taken_of_lane}
+use Rattle.md_nbtc.specs.State.{state}
 use Rattle.md_nbtc.proofs.txn.Txn.is_own_next.Given as goal
 
 abbrev pub invariant-loop-i : goal.invariant-loop-i

@@ -1,13 +1,13 @@
 use Rattle.std.proofs.Common.{◌≡◌, List, map, sym, ap, ◌∙◌, subst}
-use Rattle.md_nbtc.specs.Calls.{Keeps}
-use Rattle.md_nbtc.specs.Cleaning.{with_cleanup, with_cleanup_kept}
-use Rattle.md_nbtc.specs.Seeing.{Gave}
+use Rattle.md_nbtc_law.specs.Calls.{Keeps}
+use Rattle.md_nbtc_law.specs.Cleaning.{with_cleanup, with_cleanup_kept}
+use Rattle.md_nbtc_law.specs.Seeing.{Gave}
+use Rattle.md_nbtc_law.specs.declared.slots.Slot.{Slot}
 use Rattle.md_nbtc.specs.State.{state}
-use Rattle.md_nbtc.specs.declared.sets.Slot.{Slot}
 use Rattle.md_words.specs.Layout.{address}
 use Rattle.md_words.specs.Place.{node_next}
-use Rattle.md_nbtc.proofs.keeping.Kept.{keeps, writes_same}
-use Rattle.md_nbtc.proofs.keeping.Reslotted.{reslotted_given}
+use Rattle.md_nbtc_law.proofs.keeping.Kept.{keeps, writes_same}
+use Rattle.md_nbtc_law.proofs.keeping.Reslotted.{reslotted_given}
 use Rattle.md_nbtc.proofs.txn.Txn.later.Given.{Over}
 use Rattle.md_nbtc.proofs.txn.Txn.later.Goals as goal
 

@@ -1,5 +1,5 @@
+use Rattle.md_nbtc_law.proofs.preparing.Heaps.{goes_self}
 use Rattle.md_nbtc.specs.State.{state}
-use Rattle.md_nbtc.proofs.preparing.Heaps.{goes_self}
 use Rattle.md_nbtc.proofs.txn.Txn.load.Goals as goal
 
 pub returns-in-Some-clause-on : goal.returns-in-Some-clause-on

@@ -8,14 +8,15 @@ use Rattle.md_machine.specs.events.Uninstall.{desc_in}
 use Rattle.md_rule.specs.InHand.{HoldsDesc}
 use Rattle.md_rule.specs.Views.{PassState}
 use Rattle.md_help.specs.Clears.{Clears}
-use Rattle.md_nbtc.specs.Calls.{GoesOn}
-use Rattle.md_nbtc.specs.Seeing.{Gave, Looks}
-use Rattle.md_nbtc.specs.State.{TxnState, content_there, shape_in, state}
-use Rattle.md_nbtc.proofs.looks.Awaited.{cleared, cleared_cause, cleared_goes, cleared_is, cleared_keeps, cleared_looks, cleared_quiet, desc_met, desc_there, even_looks, found_even, found_odd, holds, looked, looked_given, looked_is, looked_on, not_held, seen_is}
-use Rattle.md_nbtc.proofs.looks.Causes.{whole}
-use Rattle.md_nbtc.proofs.looks.Looking.{looks_cleared, looks_even}
-use Rattle.md_nbtc.proofs.looks.OwnSlots.{slot_none}
-use Rattle.md_nbtc.proofs.looks.Stopped.{stopped_gave, stopped_on}
+use Rattle.md_nbtc_law.specs.Calls.{GoesOn}
+use Rattle.md_nbtc_law.specs.Seeing.{Gave, Looks}
+use Rattle.md_nbtc_law.specs.State.{TxnState, content_there, shape_in}
+use Rattle.md_nbtc_law.proofs.looks.Awaited.{cleared, cleared_cause, cleared_goes, cleared_is, cleared_keeps, cleared_looks, cleared_quiet, desc_met, desc_there, even_looks, found_even, found_odd, holds, looked, looked_given, looked_is, looked_on, not_held, seen_is}
+use Rattle.md_nbtc_law.proofs.looks.Causes.{whole}
+use Rattle.md_nbtc_law.proofs.looks.Looking.{looks_cleared, looks_even}
+use Rattle.md_nbtc_law.proofs.looks.OwnSlots.{slot_none}
+use Rattle.md_nbtc_law.proofs.looks.Stopped.{stopped_gave, stopped_on}
+use Rattle.md_nbtc.specs.State.{state}
 use Rattle.md_nbtc.proofs.txn.Txn.load_other.Goals as goal
 
 pub returns-then-is_none-clause-on : goal.returns-then-is_none-clause-on

@@ -5,18 +5,19 @@ use Rattle.md_history.specs.declared.stops.Shown.{Shown}
 use Rattle.md_history.specs.declared.stops.Stop.TheVariants.{Conflict}
 use Rattle.md_machine.specs.Moved.{Moved}
 use Rattle.md_machine.specs.events.Install.{installed_word}
-use Rattle.md_nbtc.specs.declared.seen.Seen.{Seen}
-use Rattle.md_nbtc.specs.Calls.{GoesOn}
-use Rattle.md_nbtc.specs.Seeing.{Gave, Looks}
-use Rattle.md_nbtc.specs.State.{TxnState, attempt_in, own_steps, shape_in, state}
-use Rattle.md_nbtc.specs.declared.sets.TheConstants.{NO_SLOT}
-use Rattle.md_nbtc.proofs.looks.Causes.{after_load, own_moved}
-use Rattle.md_nbtc.proofs.looks.Looking.{one_look}
-use Rattle.md_nbtc.proofs.looks.Loaded.{loaded_given, loaded_is, loaded_so}
-use Rattle.md_nbtc.proofs.looks.OwnLooks.{desc_fits, new_fits, old_room, own_looks}
-use Rattle.md_nbtc.proofs.looks.OwnSlots.{IsSlotOf, slot_found}
-use Rattle.md_nbtc.proofs.keeping.Causes.{conflict_cause}
-use Rattle.md_nbtc.proofs.looks.Stopped.{loaded_on, stopped_gave, stopped_on}
+use Rattle.md_nbtc_law.specs.declared.seen.Seen.{Seen}
+use Rattle.md_nbtc_law.specs.Calls.{GoesOn}
+use Rattle.md_nbtc_law.specs.Seeing.{Gave, Looks}
+use Rattle.md_nbtc_law.specs.State.{TxnState, attempt_in, own_steps, shape_in}
+use Rattle.md_nbtc_law.specs.declared.slots.TheConstants.{NO_SLOT}
+use Rattle.md_nbtc_law.proofs.looks.Causes.{after_load, own_moved}
+use Rattle.md_nbtc_law.proofs.looks.Looking.{one_look}
+use Rattle.md_nbtc_law.proofs.looks.Loaded.{loaded_given, loaded_is, loaded_so}
+use Rattle.md_nbtc_law.proofs.looks.OwnLooks.{desc_fits, new_fits, old_room, own_looks}
+use Rattle.md_nbtc_law.proofs.looks.OwnSlots.{IsSlotOf, slot_found}
+use Rattle.md_nbtc_law.proofs.keeping.Causes.{conflict_cause}
+use Rattle.md_nbtc_law.proofs.looks.Stopped.{loaded_on, stopped_gave, stopped_on}
+use Rattle.md_nbtc.specs.State.{state}
 use Rattle.md_nbtc.proofs.txn.Txn.load_own.Goals as goal
 
 pub get-requires : goal.get-requires

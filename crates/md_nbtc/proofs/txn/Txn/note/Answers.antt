@@ -1,8 +1,8 @@
 use Rattle.std.proofs.Common.{sym, ◌∙◌}
+use Rattle.md_nbtc_law.proofs.keeping.Causes.{reads_cause}
+use Rattle.md_nbtc_law.proofs.recording.Stopping.{moved_cause}
+use Rattle.md_nbtc_law.proofs.preparing.Heaps.{goes_self}
 use Rattle.md_nbtc.specs.State.{state}
-use Rattle.md_nbtc.proofs.keeping.Causes.{reads_cause}
-use Rattle.md_nbtc.proofs.recording.Stopping.{moved_cause}
-use Rattle.md_nbtc.proofs.preparing.Heaps.{goes_self}
 use Rattle.md_nbtc.proofs.txn.Txn.note.Goals as goal
 
 pub returns-in-Some-clause-on : goal.returns-in-Some-clause-on

@@ -2,11 +2,12 @@ use Rattle.std.proofs.Common.{◌<◌, ◌∙◌, sym, ap, subst}
 use Rattle.md_words.specs.Layout.{words_of}
 use Rattle.md_words.proofs.Places.{address_below}
 use Rattle.md_rule.specs.Views.{PassState}
-use Rattle.md_nbtc.specs.Calls.{GoesOn}
-use Rattle.md_nbtc.specs.Exchanging.{Stored}
-use Rattle.md_nbtc.specs.Seeing.{Gave}
-use Rattle.md_nbtc.specs.State.{TxnState, shape_in, state}
-use Rattle.md_nbtc.proofs.exchanging.SpareSlot.{is_spare, may_put, put_gave, put_keeps, put_on, put_so, put_stored}
+use Rattle.md_nbtc_law.specs.Calls.{GoesOn}
+use Rattle.md_nbtc_law.specs.Exchanging.{Stored}
+use Rattle.md_nbtc_law.specs.Seeing.{Gave}
+use Rattle.md_nbtc_law.specs.State.{TxnState, shape_in}
+use Rattle.md_nbtc_law.proofs.exchanging.SpareSlot.{is_spare, may_put, put_gave, put_keeps, put_on, put_so, put_stored}
+use Rattle.md_nbtc.specs.State.{state}
 use Rattle.md_nbtc.proofs.txn.Txn.put_in_slot.Goals as goal
 
 pub store-requires-clause-field : goal.store-requires-clause-field

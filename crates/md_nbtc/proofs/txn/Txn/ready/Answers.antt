@@ -6,13 +6,14 @@ use Rattle.md_machine.specs.declared.attempt.AttemptId.{AttemptId}
 use Rattle.md_machine.specs.events.Ready.{unready_word}
 use Rattle.md_rule.specs.Entering.{EnteredBy, MayBecomeReady}
 use Rattle.md_rule.specs.InHand.{HoldsUnready}
-use Rattle.md_nbtc.specs.Ending.{IsShown}
-use Rattle.md_nbtc.specs.Going.{IsGoing}
-use Rattle.md_nbtc.specs.State.{attempt_in, own_node, state}
-use Rattle.md_nbtc.proofs.ready.MayBeReady.{holds_unready, may_enter, stored_none_left}
-use Rattle.md_nbtc.proofs.ready.Outcome.{from_is, lost_lots, lost_may, lost_shows, lost_stands, lost_stopped, lost_word, ready_now, step_is}
-use Rattle.md_nbtc.proofs.withdrawals.Stops.{is_unready, numbers_are}
-use Rattle.md_nbtc.proofs.withdrawals.Unready.{exists, small}
+use Rattle.md_nbtc_law.specs.Ending.{IsShown}
+use Rattle.md_nbtc_law.specs.Going.{IsGoing}
+use Rattle.md_nbtc_law.specs.State.{attempt_in, own_node}
+use Rattle.md_nbtc_law.proofs.ready.MayBeReady.{holds_unready, may_enter, stored_none_left}
+use Rattle.md_nbtc_law.proofs.ready.Outcome.{from_is, lost_lots, lost_may, lost_shows, lost_stands, lost_stopped, lost_word, ready_now, step_is}
+use Rattle.md_nbtc_law.proofs.withdrawals.Stops.{is_unready, numbers_are}
+use Rattle.md_nbtc_law.proofs.withdrawals.Unready.{exists, small}
+use Rattle.md_nbtc.specs.State.{state}
 use Rattle.md_nbtc.proofs.txn.Txn.ready.Goals as goal
 
 pub unready-from-requires : goal.unready-from-requires

@@ -1,4 +1,4 @@
-use Rattle.md_nbtc.specs.Going.{IsGoing}
+use Rattle.md_nbtc_law.specs.Going.{IsGoing}
 use Rattle.md_nbtc.specs.State.{state}
 use Rattle.md_nbtc.proofs.txn.Txn.ready.Given as goal
 

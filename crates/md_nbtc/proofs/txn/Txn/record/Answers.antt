@@ -4,12 +4,13 @@ use Rattle.md_words.specs.declared.shape.Shape.{Shape}
 use Rattle.md_words.specs.Content.{count_of, value_of}
 use Rattle.md_words.specs.Layout.{desc_count}
 use Rattle.md_rule.specs.Views.{PassState}
-use Rattle.md_nbtc.specs.Calls.{GoesOn}
-use Rattle.md_nbtc.specs.Seeing.{Gave}
-use Rattle.md_nbtc.specs.State.{TxnState, seen_content, state, state_of}
-use Rattle.md_nbtc.proofs.recording.Noted.{next_read, noted, noted_gave, noted_given, noted_on}
-use Rattle.md_nbtc.proofs.recording.Recording.{both, content_found, may_content, may_word, recorded_is, word_found}
-use Rattle.md_nbtc.proofs.recording.StoredRead.{StoredRead}
+use Rattle.md_nbtc_law.specs.Calls.{GoesOn}
+use Rattle.md_nbtc_law.specs.Seeing.{Gave}
+use Rattle.md_nbtc_law.specs.State.{TxnState, seen_content, state_of}
+use Rattle.md_nbtc_law.proofs.recording.Noted.{next_read, noted, noted_gave, noted_given, noted_on}
+use Rattle.md_nbtc_law.proofs.recording.Recording.{both, content_found, may_content, may_word, recorded_is, word_found}
+use Rattle.md_nbtc_law.proofs.recording.StoredRead.{StoredRead}
+use Rattle.md_nbtc.specs.State.{state}
 use Rattle.md_nbtc.proofs.txn.Txn.record.Given.{Over}
 use Rattle.md_nbtc.proofs.txn.Txn.record.Goals as goal
 

@@ -1,9 +1,9 @@
 use Rattle.std.proofs.Common.{sym, subst, true}
 use Rattle.md_machine.specs.Event.{mark_start}
-use Rattle.md_nbtc.specs.Calls.{GoesOn}
+use Rattle.md_nbtc_law.specs.Calls.{GoesOn}
+use Rattle.md_nbtc_law.proofs.operations.OnMark.{mark_is_so, mark_so}
+use Rattle.md_nbtc_law.proofs.operations.StartedOps.{may_start_op, started_on, started_view}
 use Rattle.md_nbtc.specs.State.{state}
-use Rattle.md_nbtc.proofs.operations.OnMark.{mark_is_so, mark_so}
-use Rattle.md_nbtc.proofs.operations.StartedOps.{may_start_op, started_on, started_view}
 use Rattle.md_nbtc.proofs.txn.Txn.start_op.Goals as goal
 
 pub mark_start-requires-clause-may : goal.mark_start-requires-clause-may

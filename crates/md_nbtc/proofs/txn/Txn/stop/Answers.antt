@@ -1,6 +1,7 @@
 use Rattle.std.proofs.Common.{refl}
-use Rattle.md_nbtc.specs.State.{own_node, state}
-use Rattle.md_nbtc.proofs.withdrawals.Stops.{is_unready, numbers_are, stop_may, stopped}
+use Rattle.md_nbtc_law.specs.State.{own_node}
+use Rattle.md_nbtc_law.proofs.withdrawals.Stops.{is_unready, numbers_are, stop_may, stopped}
+use Rattle.md_nbtc.specs.State.{state}
 use Rattle.md_nbtc.proofs.txn.Txn.stop.Goals as goal
 
 pub abort_unready-requires-clause-unready : goal.abort_unready-requires-clause-unready

@@ -4,9 +4,10 @@ use Rattle.md_words.specs.declared.shape.Shape.{Shape}
 use Rattle.md_words.specs.Layout.{address, desc_count}
 use Rattle.md_words.specs.Place.{Place, slot_new, slot_old, slot_word}
 use Rattle.md_words.proofs.Owners.{own_desc_exists}
-use Rattle.md_nbtc.specs.Prepared.{IsPrepared}
-use Rattle.md_nbtc.specs.State.{TxnState, attempt_in, shape_in, state}
-use Rattle.md_nbtc.proofs.exchanging.FilledSlot.{both_given, both_on, holds_slot, under_way}
+use Rattle.md_nbtc_law.specs.Prepared.{IsPrepared}
+use Rattle.md_nbtc_law.specs.State.{TxnState, attempt_in, shape_in}
+use Rattle.md_nbtc_law.proofs.exchanging.FilledSlot.{both_given, both_on, holds_slot, under_way}
+use Rattle.md_nbtc.specs.State.{state}
 use Rattle.md_nbtc.proofs.txn.Txn.store_slot.Goals as goal
 
 inside : (t : TxnState) → IsPrepared t → (s : Shape) → s ≡ shape_in t → t.desc < desc_count s

@@ -1,10 +1,11 @@
 use Rattle.std.proofs.Common.{Err, None, Some, ap, inl, inr, refl, subst, sym, ◌∙◌}
 use Rattle.md_machine.specs.declared.attempt.Hand.{Hand}
 use Rattle.md_history.specs.declared.stops.Stop.TheVariants.{Limit}
-use Rattle.md_nbtc.specs.Ended.{WasLost}
-use Rattle.md_nbtc.specs.Ending.{BeginsNot, Stopped}
-use Rattle.md_nbtc.specs.Going.{HasCause}
-use Rattle.md_nbtc.specs.State.{TxnState, begun_state, state}
+use Rattle.md_nbtc_law.specs.Ended.{WasLost}
+use Rattle.md_nbtc_law.specs.Ending.{BeginsNot, Stopped}
+use Rattle.md_nbtc_law.specs.Going.{HasCause}
+use Rattle.md_nbtc_law.specs.State.{TxnState}
+use Rattle.md_nbtc.specs.State.{begun_state, state}
 use Rattle.md_rule.specs.Views.{FieldView, PassState}
 use Rattle.md_store_law.specs.Store.{store}
 use Rattle.md_store.specs.Running.{BrokeWith, IsRunning}

@@ -1,0 +1,16 @@
+pub mod preparing
+pub mod Values
+pub mod operations
+pub mod beginning
+pub mod looks
+pub mod keeping
+pub mod recording
+pub mod ready
+pub mod decisions
+pub mod tidyings
+pub mod nodes
+pub mod withdrawals
+pub mod structures
+pub mod Searching
+pub mod exchanging
+pub mod attempts
