@@ -13,8 +13,6 @@ mod plain;
 mod plain_engine;
 mod plain_tx;
 mod stops;
-#[cfg(test)]
-mod tests;
 
 pub use acts::{Act, Acts, Line, MAX_LINE, Op, Reply};
 pub use bodies::Body;

@@ -1,0 +1,132 @@
+//! A body that makes calls runs over the store.
+
+ghost use Rattle.std.specs.Prelude.{◌≡◌, length, IfOk};
+
+use crate::acts::has_acts;
+use crate::contents::{map_has, push, put, queue_has};
+use md_history::{
+    Act, Attempt, Body, Contents, Engine, Entry, Op, PlainStore, Reply, Stop, TxCalls,
+};
+use std::alloc::{AllocError, Global};
+use std::process::Abort;
+use std::test::Fail;
+
+// A body that makes each call once, on one map and one queue, and answers what it dequeued.
+#[derive(Clone, Copy, Drop)]
+struct EachCall {
+    key: u64,
+    value: u64,
+}
+
+impl Body for EachCall {
+    ghost use Rattle.std.specs.Prelude.{◌<◌, None};
+    ghost use Rattle.md_history.specs.declared.acts.Op.TheVariants.{Get, Insert, Remove, Enqueue};
+    ghost use Rattle.md_history.specs.declared.acts.Op.TheVariants.{Dequeue, Front};
+    ghost use Rattle.md_history.specs.declared.acts.Reply.TheVariants.{Value, Flag, Nothing, Line};
+    ghost use Rattle.md_history.specs.Script.{Did, Follows, call, done};
+
+    type Reply = Option<u64>;
+
+    ghost did = { λ b acts r. Did
+        (call (Insert 0 b.key b.value) (λ _. call (Get 0 b.key) (λ _. call (Remove 0 9) (λ _.
+        call (Enqueue 0 b.value) (λ _. call (Front 0) (λ _. call (Dequeue 0) (λ r.
+        done (elim r [ Value v ↦ v | Flag b ↦ None | Nothing ↦ None | Line l ↦ None ]))))))))
+        acts r };
+
+    ghost makes = { λ b acts. Follows
+        (call (Insert 0 b.key b.value) (λ _. call (Get 0 b.key) (λ _. call (Remove 0 9) (λ _.
+        call (Enqueue 0 b.value) (λ _. call (Front 0) (λ _. call (Dequeue 0) (λ r.
+        done (elim r [ Value v ↦ v | Flag b ↦ None | Nothing ↦ None | Line l ↦ None ]))))))))
+        acts };
+
+    ghost fits = { λ b maps queues. (0 < maps) × (0 < queues) };
+
+    fn go<T: TxCalls>(&self, t: &mut T) -> Result<Option<u64>, Stop> {
+        t.insert(0, self.key, self.value)?;
+        t.get(0, self.key)?;
+        t.remove(0, 9)?;
+        t.enqueue(0, self.value)?;
+        t.front(0)?;
+        t.dequeue(0)
+    }
+
+    ghost did_makes = { λ b acts r did. did.follows };
+}
+
+// The acts of that body, with what was answered.
+fn acts_of(body: EachCall, absent: bool, found: u64, removed: Option<u64>, first: u64) -> [Act; 6] {
+    let EachCall { key, value } = body;
+    [
+        Act {
+            op: Op::Insert { map: 0, key, value },
+            reply: Reply::Flag(absent),
+        },
+        Act {
+            op: Op::Get { map: 0, key },
+            reply: Reply::Value(Some(found)),
+        },
+        Act {
+            op: Op::Remove { map: 0, key: 9 },
+            reply: Reply::Value(removed),
+        },
+        Act {
+            op: Op::Enqueue { queue: 0, value },
+            reply: Reply::Nothing,
+        },
+        Act {
+            op: Op::Front { queue: 0 },
+            reply: Reply::Value(Some(first)),
+        },
+        Act {
+            op: Op::Dequeue { queue: 0 },
+            reply: Reply::Value(Some(first)),
+        },
+    ]
+}
+
+// A map in which 9 has the value 4, and a queue with the value 1.
+fn one_of_each(alloc: Global) -> Result<Contents, AllocError>
+    ensures maps { IfOk result (λ c. length c.maps ≡ 1) }
+    ensures queues { IfOk result (λ c. length c.queues ≡ 1) }
+{
+    let mut contents = Contents::empty(alloc, 1, 1)?;
+    put(&mut contents, 0, 9, 4)?;
+    push(&mut contents, 0, 1)?;
+    if contents.maps().len() != 1 || contents.queues().len() != 1 {
+        return Err(AllocError);
+    }
+    Ok(contents)
+}
+
+// The entry is committed on the only lane, and has these acts.
+fn is_entry(rt: &impl Abort, entry: &Entry, number: u64, tag: u64, acts: &[Act]) {
+    let head = (entry.lane, entry.number, entry.tag, entry.sound);
+    assert_eq!(rt; head, (0, number, tag, true));
+    has_acts(rt, &entry.acts, acts);
+}
+
+#[test]
+fn a_body_runs_twice(rt: HostRuntime) -> Result<(), Fail> {
+    let (store, mut pass) = PlainStore::open(one_of_each(rt.alloc())?);
+    let bodies = [EachCall { key: 5, value: 6 }, EachCall { key: 5, value: 7 }];
+    let first = store.attempt(&mut pass, 30, &bodies[0]);
+    let second = store.attempt(&mut pass, 20, &bodies[1]);
+    let ends = (first, second);
+    assert_eq!(rt;
+        ends,
+        (Attempt::Committed(Some(1)), Attempt::Committed(Some(6)))
+    );
+
+    let [one, two] = pass.entries() else {
+        panic!(rt; "two entries")
+    };
+    is_entry(&rt, one, 0, 30, &acts_of(bodies[0], true, 6, Some(4), 1));
+    is_entry(&rt, two, 1, 20, &acts_of(bodies[1], false, 6, None, 6));
+
+    let (contents, _front) = store.contents(pass)?;
+    let map = [Some(1), None, Some(6), None, None];
+    assert_eq!(rt; map_has(&contents, 0), Some(map));
+    let queue = [Some(1), Some(7), None, None, None];
+    assert_eq!(rt; queue_has(&contents, 0), Some(queue));
+    Ok(())
+}

@@ -1,0 +1,157 @@
+//! Bodies look at the first values of a queue.
+
+ghost use Rattle.std.specs.Prelude.{◌≡◌, length, IfOk};
+
+use crate::contents::{push, queue_has};
+use md_history::{Attempt, Body, Contents, Engine, Line, PlainStore, Stop, TxCalls};
+use std::alloc::{AllocError, Global};
+use std::process::Abort;
+use std::test::Fail;
+
+// A body that puts 1 and 2 into a queue, and looks at its first value and at its first twelve.
+#[derive(Clone, Copy, Drop)]
+struct TwoLines;
+
+impl Body for TwoLines {
+    ghost use Rattle.std.specs.Prelude.{◌<◌};
+    ghost use Rattle.md_history.specs.declared.acts.Reply.{Reply as AnyReply};
+    ghost use Rattle.md_history.specs.declared.acts.Op.TheVariants.{Enqueue, Line as LineOp};
+    ghost use Rattle.md_history.specs.declared.acts.Reply.TheVariants.{Line as LineReply};
+    ghost use Rattle.md_history.specs.Script.{Did, Follows, call, done};
+
+    type Reply = (Line, Line);
+
+    ghost did = { λ b acts r. Did {R = AnyReply × AnyReply}
+        (call (Enqueue 0 1) (λ _. call (Enqueue 0 2) (λ _.
+        call (LineOp 0 1) (λ one. call (LineOp 0 12) (λ two. done (one, two))))))
+        acts (LineReply r.0, LineReply r.1) };
+
+    ghost makes = { λ b acts. Follows {R = AnyReply × AnyReply}
+        (call (Enqueue 0 1) (λ _. call (Enqueue 0 2) (λ _.
+        call (LineOp 0 1) (λ one. call (LineOp 0 12) (λ two. done (one, two))))))
+        acts };
+
+    ghost fits = { λ b maps queues. 0 < queues };
+
+    fn go<T: TxCalls>(&self, t: &mut T) -> Result<(Line, Line), Stop> {
+        t.enqueue(0, 1)?;
+        t.enqueue(0, 2)?;
+        Ok((t.line(0, 1)?, t.line(0, 12)?))
+    }
+
+    ghost did_makes = { λ b acts r did. did.follows };
+}
+
+// Appends the values from 1 to `count` to a queue.
+fn push_all(contents: &mut Contents, queue: u32, count: u64) -> Result<(), AllocError> {
+    for before in 0..count {
+        push(contents, queue, before + 1)?;
+    }
+    Ok(())
+}
+
+// A queue with the values from 1 to `count`.
+fn queue_of(alloc: Global, count: u64) -> Result<Contents, AllocError>
+    ensures { IfOk result (λ c. length c.queues ≡ 1) }
+{
+    let mut contents = Contents::empty(alloc, 0, 1)?;
+    push_all(&mut contents, 0, count)?;
+    if contents.queues().len() != 1 {
+        return Err(AllocError);
+    }
+    Ok(contents)
+}
+
+// The values from 1 on, `count` of them, and zeros.
+fn line_of(count: u8) -> Line {
+    let mut values = [1, 2, 3, 4, 5, 6, 7, 8, 9, 10, 11, 12];
+    for (place, value) in values.iter_mut().enumerate() {
+        if place >= count as usize {
+            *value = 0;
+        }
+    }
+    Line { count, values }
+}
+
+#[test]
+fn lines_are_looked_at(rt: HostRuntime) -> Result<(), Fail> {
+    let (store, mut pass) = PlainStore::open(queue_of(rt.alloc(), 0)?);
+    let lines = store.attempt(&mut pass, 1, &TwoLines);
+    assert_eq!(rt; lines, Attempt::Committed((line_of(1), line_of(2))));
+    Ok(())
+}
+
+#[test]
+fn a_renewed_store_goes_on(rt: HostRuntime) -> Result<(), Fail> {
+    let (store, mut pass) = PlainStore::open(queue_of(rt.alloc(), 0)?);
+    assert!(rt; store.split(&mut pass).is_none());
+    store.attempt(&mut pass, 1, &TwoLines);
+    let (store, mut pass, _front) = store.renew(pass)?;
+    let before = pass.entries().len();
+    store.attempt(&mut pass, 2, &TwoLines);
+    assert_eq!(rt; (before, pass.entries().len()), (0, 1));
+    let (contents, _front) = store.contents(pass)?;
+    let queue = [Some(4), Some(1), Some(2), Some(1), Some(2)];
+    assert_eq!(rt; queue_has(&contents, 0), Some(queue));
+    Ok(())
+}
+
+// A body that looks at the first `n` values of a queue.
+#[derive(Clone, Copy, Drop)]
+struct FirstValues {
+    n: u8,
+}
+
+impl Body for FirstValues {
+    ghost use Rattle.std.specs.Prelude.{◌<◌, ◌≤◌};
+    ghost use Rattle.md_history.specs.declared.acts.Op.TheVariants.{Line as LineOp};
+    ghost use Rattle.md_history.specs.declared.acts.Reply.TheVariants.{Line as LineReply};
+    ghost use Rattle.md_history.specs.Script.{Did, Follows, call, done};
+
+    type Reply = Line;
+
+    ghost did = { λ b acts r. Did (call (LineOp 0 b.n) done) acts (LineReply r) };
+
+    ghost makes = { λ b acts. Follows (call (LineOp 0 b.n) done) acts };
+
+    ghost fits = { λ b maps queues. (0 < queues) × (1 ≤ b.n) × (b.n ≤ 12) };
+
+    fn go<T: TxCalls>(&self, t: &mut T) -> Result<Line, Stop> {
+        t.line(0, self.n)
+    }
+
+    ghost did_makes = { λ b acts r did. did.follows };
+}
+
+// A body looks at the first `n` values of a queue with the values from 1 to `there`.
+fn first_of(
+    rt: &impl Abort,
+    alloc: Global,
+    there: u64,
+    n: u8,
+) -> Result<Attempt<Line>, AllocError> {
+    assert!(rt; 1 <= n && n <= 12);
+    let (store, mut pass) = PlainStore::open(queue_of(alloc, there)?);
+    Ok(store.attempt(&mut pass, 1, &FirstValues { n }))
+}
+
+// What a line has of a queue with the values from 1 on: how many there are, how many are asked for,
+// and how many the line has.
+#[test]
+fn lines_are_the_first_values(rt: HostRuntime) -> Result<(), Fail> {
+    for (there, n, count) in [
+        (0, 1, 0),
+        (0, 12, 0),
+        (1, 1, 1),
+        (1, 12, 1),
+        (2, 1, 1),
+        (11, 12, 11),
+        (12, 12, 12),
+        (13, 12, 12),
+        (13, 2, 2),
+    ] {
+        let end = first_of(&rt, rt.alloc(), there, n)?;
+        assert_eq!(rt; end, Attempt::Committed(line_of(count)), "{n} of {there}");
+    }
+    Ok(())
+}
