@@ -17,7 +17,6 @@ pub mod Handing
 pub mod First
 pub mod Sides
 pub mod Lists
-pub mod Looking
 pub mod Serial
 pub mod Reaching
 pub mod Weighing

@@ -16,8 +16,6 @@ mod reply_lists;
 mod rounds;
 mod running;
 mod tags;
-#[cfg(test)]
-mod tests;
 mod turns;
 mod until;
 

@@ -1,5 +1,5 @@
 use Rattle.std.proofs.Common.{refl, arith}
-use Rattle.md_many.proofs.tests.refusing.RefusingEngine.join.Goals as goal
+use Rattle.md_many_tests.proofs.refusing.RefusingEngine.join.Goals as goal
 
 -- both passes would hold the one lane
 pub returns-clause-joined : goal.returns-clause-joined

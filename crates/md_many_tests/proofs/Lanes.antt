@@ -1,27 +1,13 @@
-use Rattle.std.proofs.Common.{cond, Bool, true, false, ◌≡◌, ◌∷◌, [], List, ℕ, refl, subst, sym, length, inl, inr, arith}
+-- A store with one lane, seen as one of two.
+use Rattle.std.proofs.Common.{◌∷◌, [], List, ℕ, subst, inl, inr, arith}
 use Rattle.std.specs.Prelude.{Contains}
 use Rattle.std.specs.List.{AllByRecursion}
 use Rattle.std.proofs.lemmas.List.Elements.{All-from_recursion, recursion_from_All}
 use Rattle.md_history.specs.declared.entries.Entry.{Entry}
 use Rattle.md_history.specs.State.{State}
 use Rattle.md_history.specs.Front.{Front}
-use Rattle.md_history.specs.FrontLaws.{begins-self}
 use Rattle.md_history.specs.LaneLaws.{contains-either, contains-first}
-use Rattle.md_history.specs.Attempt.{Stops, NoneOrAborted}
 use Rattle.md_history.specs.Engine.{IsFrontFrom}
-use Rattle.md_many.proofs.Joining.{entries-none}
-use Rattle.md_many.proofs.tests.refusing.RefusingEngine.attempt.Goals as goal
-
--- nothing was done
-stops-none : (tag : ℕ) (f : Front) → length f.known ≡ length f.seen → Stops tag f f
-stops-none tag f fated = record {
-  begins = begins-self f;
-  fated = fated;
-  lanes = refl;
-  pending = refl;
-  own = subst (NoneOrAborted tag) (sym (entries-none f.lanes f.seen f.known)) tt;
-  mine = λ lane. refl;
-}
 
 -- the one lane is one of the two
 one-of-two : (lane : ℕ) → Contains (0 ∷ []) lane → Contains (0 ∷ 1 ∷ []) lane
@@ -36,7 +22,7 @@ all-wider P Q wider [] all = tt
 all-wider P Q wider (x ∷ xs) all = (wider x all.0, all-wider P Q wider xs all.1)
 
 -- a front of a store with one lane is one of a store with a lane more
-wider : (start : State) (f : Front) → IsFrontFrom start (0 ∷ []) f → IsFrontFrom start (0 ∷ 1 ∷ []) f
+pub wider : (start : State) (f : Front) → IsFrontFrom start (0 ∷ []) f → IsFrontFrom start (0 ∷ 1 ∷ []) f
 wider start f is =
     let of_one : Entry → Type 0 = λ e. Contains (0 ∷ []) e.lane in
     let of_two : Entry → Type 0 = λ e. Contains (0 ∷ 1 ∷ []) e.lane in
@@ -55,18 +41,3 @@ wider start f is =
       decided = is.decided;
       own = is.own;
     }
-
--- and of a store that may have a lane more
-maybe_wider : (shared : Bool) (start : State) (f : Front) → IsFrontFrom start (0 ∷ []) f
-    → IsFrontFrom start (cond shared (0 ∷ 1 ∷ []) (0 ∷ [])) f
-maybe_wider true start f is = wider start f is
-maybe_wider false start f is = is
-
-pub returns-in-Some-clause-stopped : goal.returns-in-Some-clause-stopped
-returns-in-Some-clause-stopped g c = stops-none _ _ c.requires.of.1.legal.fated
-
-pub returns-clause-of : goal.returns-clause-of
-returns-clause-of g c = (c.attempt.ensures.of, maybe_wider _ _ _ c.attempt.ensures.of.front)
-
-pub returns-then-number-clause-stopped : goal.returns-then-number-clause-stopped
-returns-then-number-clause-stopped g c = stops-none _ _ c.requires.of.1.legal.fated

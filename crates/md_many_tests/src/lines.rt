@@ -3,9 +3,9 @@
 ghost use Rattle.std.specs.Prelude.{◌≡◌, ℕ};
 ghost use Rattle.md_many.specs.Tags.{tag_of};
 
-use crate::callers::Lines;
-use crate::tags::line_tag;
 use md_history::Body;
+use md_many::{Lines, line_tag};
+use std::process::Abort;
 
 // A body that answers its number. There is one like it for each number.
 pub(crate) trait Numbered: Body<Reply = u64> + Copy + Drop + Sync {
@@ -62,4 +62,11 @@ impl<T: Numbered> Lines for EachLine<T> {
         (Prim.grind (arith, nat_tests), Prim.grind (arith, nat_tests)) };
 
     ghost has_caller = { λ n caller other. Prim.grind (arith, nat_tests) };
+}
+
+// The replies are tags, one after another, the first of which comes after this one.
+pub(crate) fn are_tags(rt: &impl Abort, before: u64, replies: &[u64]) {
+    for (place, reply) in replies.iter().enumerate() {
+        assert_eq!(rt; *reply, before.wrapping_add(place as u64 + 1));
+    }
 }

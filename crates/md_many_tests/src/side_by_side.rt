@@ -4,11 +4,12 @@ ghost use Rattle.std.specs.Prelude.{◌≡◌, List, length, IfOk};
 ghost use Rattle.md_history.specs.Engine.{lanes_kept, lanes_given};
 ghost use Rattle.md_many.specs.Lines.{AreFitting, PlaysLines};
 
-use crate::attempts::{Turn, attempt_lines};
-use crate::callers::Lines;
-use crate::gates::FreeGate;
-use md_history::{Body, Engine, pass_is_legal};
+use crate::lines::EachLine;
+use crate::puts::Put;
+use md_history::{Body, Contents, Engine, PlainStore, pass_is_legal};
+use md_many::{FreeGate, Lines, Turn, attempt_lines};
 use std::alloc::{AllocError, Global};
+use std::test::Fail;
 use std::thread;
 use std::thread::Threads;
 
@@ -43,7 +44,7 @@ fn play_own<E: Engine, L: Lines>(
 // Two callers play their lines side by side, each with half of the pass's lanes, where the pass can
 // be split; else the first plays alone. The pass that is left holds the lanes that the first pass
 // held, and each half played the lines of its caller.
-pub(crate) fn two_callers<R: Threads + Sync, E: Engine, L: Lines>(
+fn two_callers<R: Threads + Sync, E: Engine, L: Lines>(
     rt: &R,
     alloc: Global,
     engine: &E,
@@ -100,4 +101,20 @@ where
     engine.join(&mut joined, other);
     pass_is_legal(engine, &joined);
     Ok(joined)
+}
+
+#[test]
+fn callers_in_threads(rt: HostRuntime) -> Result<(), Fail> {
+    let alloc = rt.alloc();
+    let (store, pass) = PlainStore::open(Contents::empty(alloc, 0, 1)?);
+    let lines = EachLine {
+        callers: 2,
+        lines: 3,
+        like: Put { number: 0 },
+    };
+    let pass = two_callers(&rt, alloc, &store, pass, &lines)?;
+    assert_eq!(rt; pass.entries().len(), 3);
+    let (contents, _) = store.contents(pass)?;
+    assert_eq!(rt; contents.queue(0).front().copied(), Some(4_294_967_297));
+    Ok(())
 }

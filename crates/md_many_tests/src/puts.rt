@@ -1,6 +1,6 @@
 //! Bodies that put numbers into a queue.
 
-use crate::tests::lines::Numbered;
+use crate::lines::Numbered;
 use md_history::{Body, Stop, TxCalls};
 
 // A body that puts a number into the first queue, and answers it.

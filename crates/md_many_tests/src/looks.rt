@@ -1,9 +1,8 @@
 //! Bodies that look at a queue, and leave the store as it is.
 
-use crate::callers::Lines;
-use crate::laws::{LawfulBody, LawfulLines};
-use crate::tests::lines::{EachLine, Numbered};
+use crate::lines::{EachLine, Numbered};
 use md_history::{Body, Stop, TxCalls};
+use md_many::{LawfulBody, LawfulLines, Lines};
 
 // A body that looks at the first value of the first queue, and answers its own number.
 #[derive(Clone, Copy, Drop)]

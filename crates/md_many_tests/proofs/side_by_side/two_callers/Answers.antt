@@ -2,7 +2,7 @@ use Rattle.std.proofs.Common.{◌≡◌, ℕ, List}
 use Rattle.std.proofs.lemmas.Result.{IfOk-at_ok}
 use Rattle.md_history.specs.Engine.{AreApart, Joins}
 use Rattle.md_many.proofs.Parting.{lanes-joined, plays-parted}
-use Rattle.md_many.proofs.tests.side_by_side.two_callers.Goals as goal
+use Rattle.md_many_tests.proofs.side_by_side.two_callers.Goals as goal
 
 apart-same : (xs ys zs ws : List ℕ) → xs ≡ zs → ys ≡ ws → AreApart zs ws → AreApart xs ys
 apart-same xs ys zs ws e f apart = rw (e, f) apart
