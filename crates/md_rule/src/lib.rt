@@ -26,6 +26,4 @@ mod shares;
 mod statuses;
 mod steps;
 mod taken;
-#[cfg(test)]
-mod tests;
 mod words;

@@ -3,9 +3,6 @@ pub mod States
 pub mod Walking
 pub mod SideWalks
 pub mod Filling
-pub mod RowPlaces
-pub mod RowHolds
-pub mod UsedRowHolds
 pub mod EvenFields
 pub mod Numbers
 pub mod Appending
@@ -24,6 +21,3 @@ pub mod Untouched
 pub mod Copying
 pub mod Buckets
 pub mod LaidContents
-pub mod Bounds
-mod Scheduled
-mod EmptyOpens

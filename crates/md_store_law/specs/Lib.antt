@@ -1,8 +1,6 @@
 pub mod Store
 pub mod Field
 pub mod EvenFields
-pub mod Row
-pub mod UsedRow
 pub mod Needed
 pub mod Laid
 pub mod Opens

@@ -28,13 +28,9 @@ mod field_words;
 mod fields;
 mod gathering;
 mod laying;
-#[cfg(test)]
-mod laying_tests;
 mod lists;
 mod reading;
 mod side_walks;
 mod sizes;
-#[cfg(test)]
-mod tests;
 pub mod theory;
 mod walks;

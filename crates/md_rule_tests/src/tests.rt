@@ -1,0 +1,311 @@
+//! Passes that step on a field of the cell: every change writes the value that stands there.
+
+ghost use Rattle.std.specs.Prelude.{◌≡◌, ◌<◌, ◌≤◌, ◌%◌, All, IfOk, IfSome, OnOk, length, replicate};
+ghost use Rattle.md_machine.specs.declared.step.TheConstants.{LAST_COUNT};
+ghost use Rattle.md_rule.specs.Views.{IsOf};
+
+use md_cell::{CellTheory, cell_rows};
+use md_machine::step::LAST_COUNT;
+use md_rule::{Field, Pass};
+use md_words::{Content, Shape};
+use std::alloc::{AllocError, Global};
+use std::process::Abort;
+use std::test::Fail;
+use std::thread::{Threads, join};
+
+fn zeros(alloc: Global, count: usize) -> Result<Vec<u64>, AllocError>
+    ensures { IfOk result (λ v. v.items ≡ replicate count 0) }
+{
+    vec![in alloc; 0; count]
+}
+
+// A field in which every word is 0, and the pass of all its lanes.
+fn blank(alloc: Global, shape: Shape) -> Result<(Field<CellTheory>, Pass<CellTheory>), AllocError>
+    ensures { IfOk result (λ r. IsOf r.1 r.0) }
+{
+    cell_rows();
+    let words = zeros(alloc, shape.words() as usize)?;
+    Field::open(alloc, shape, words)
+}
+
+// What the cell holds.
+fn cell(field: &Field<CellTheory>, pass: &mut Pass<CellTheory>) -> Content
+    requires { IsOf pass.old field.now }
+    ensures { IsOf pass.new field.now }
+{
+    let word = field.shape().map_head(0, 0);
+    Content::of(pass.load(field, word))
+}
+
+// Changes the cell from a content to its own value.
+fn renew(field: &Field<CellTheory>, pass: &mut Pass<CellTheory>, from: Content) -> Result<(), u64>
+    requires of { IsOf pass.old field.now }
+    requires from { (from.count % 2 ≡ 0) × (from.count ≤ LAST_COUNT) }
+    ensures { IsOf pass.new field.now }
+{
+    let word = field.shape().map_head(0, 0);
+    pass.exchange(field, word, from, from.value)
+}
+
+// Loads the cell and changes it to the value that it has, so many times: how many changes won.
+fn churn(
+    field: &Field<CellTheory>,
+    mut pass: Pass<CellTheory>,
+    turns: u32,
+) -> (u32, Pass<CellTheory>)
+    requires { IsOf pass field.now }
+    ensures pass { IsOf result.1 field.now }
+    ensures few { result.0 ≤ turns }
+{
+    let mut won = 0;
+    for i in 0..turns {
+        let _ = i;
+        let found = cell(field, &mut pass);
+        if found.count % 2 == 0 && found.count <= LAST_COUNT {
+            if renew(field, &mut pass, found).is_ok() {
+                won += 1;
+            }
+        }
+    }
+    (won, pass)
+}
+
+// Joins two passes.
+fn join_one(field: &Field<CellTheory>, pass: &mut Pass<CellTheory>, other: Pass<CellTheory>)
+    requires of { IsOf pass.old field.now }
+    requires of_other { IsOf other field.now }
+    ensures { IsOf pass.new field.now }
+{
+    pass.join(field, other);
+}
+
+// Two threads churn, and their passes are joined: how many changes won.
+fn churn_both<R: Threads + Sync>(
+    rt: &R,
+    field: &Field<CellTheory>,
+    one: Pass<CellTheory>,
+    other: Pass<CellTheory>,
+) -> (u32, Pass<CellTheory>)
+    requires of { IsOf one field.now }
+    requires of_other { IsOf other field.now }
+    ensures pass { IsOf result.1 field.now }
+    ensures few { result.0 ≤ 2000 }
+{
+    let ((won, mut pass), (too, other)) = join(
+        rt,
+        || churn(field, one, 1000),
+        || churn(field, other, 1000),
+    );
+    join_one(field, &mut pass, other);
+    (won + too, pass)
+}
+
+// The set of bits of a lane.
+fn bit(lane: u32) -> u64 {
+    1u64.wrapping_shl(lane)
+}
+
+// How many lanes a pass has, and these lanes as a set of bits.
+fn held(pass: &Pass<CellTheory>) -> (u32, u64) {
+    let lanes = pass.lanes();
+    let mut bits = 0u64;
+    for place in 0..lanes {
+        bits = bits.wrapping_add(bit(pass.lane(place)));
+    }
+    (lanes, bits)
+}
+
+// Splits a pass. None if it has one lane.
+fn split(field: &Field<CellTheory>, pass: &mut Pass<CellTheory>) -> Option<Pass<CellTheory>>
+    requires { IsOf pass.old field.now }
+    ensures kept { IsOf pass.new field.now }
+    ensures given { IfSome result (λ p. IsOf p field.now) }
+{
+    pass.split(field)
+}
+
+// Splits a pass. The lanes that it keeps and those that it gives have these bits. None if it has one
+// lane, which it keeps.
+fn halved(
+    rt: &impl Abort,
+    field: &Field<CellTheory>,
+    pass: &mut Pass<CellTheory>,
+    kept: u64,
+    given: u64,
+) -> Option<Pass<CellTheory>>
+    requires { IsOf pass.old field.now }
+    ensures kept { IsOf pass.new field.now }
+    ensures given { IfSome result (λ p. IsOf p field.now) }
+{
+    let other = split(field, pass);
+    let found = match &other {
+        Some(other) => held(other),
+        None => (0, 0),
+    };
+    let want = ((kept.count_ones(), kept), (given.count_ones(), given));
+    assert_eq!(rt; (held(pass), found), want);
+    other
+}
+
+// Joins two passes. The lanes of both have these bits, and are all of the field or not.
+fn joined(
+    rt: &impl Abort,
+    field: &Field<CellTheory>,
+    pass: &mut Pass<CellTheory>,
+    other: Pass<CellTheory>,
+    bits: u64,
+    all: bool,
+)
+    requires of { IsOf pass.old field.now }
+    requires of_other { IsOf other field.now }
+    ensures { IsOf pass.new field.now }
+{
+    join_one(field, pass, other);
+    let found = (held(pass), pass.holds_all(field));
+    assert_eq!(rt; found, ((bits.count_ones(), bits), all));
+}
+
+// Puts a pass behind others.
+fn push_one(
+    field: &Field<CellTheory>,
+    passes: &mut Vec<Pass<CellTheory>>,
+    pass: Pass<CellTheory>,
+) -> Result<(), AllocError>
+    requires passes { All (λ p. IsOf p field.now) passes.old.items }
+    requires of { IsOf pass field.now }
+    ensures { OnOk result (All (λ p. IsOf p field.now) passes.new.items) }
+{
+    let _ = field;
+    passes.push(pass)?;
+    Ok(())
+}
+
+// Splits a pass until none of 64 lanes can be split: passes of one lane each.
+fn split_all(
+    alloc: Global,
+    field: &Field<CellTheory>,
+    pass: Pass<CellTheory>,
+) -> Result<Vec<Pass<CellTheory>>, AllocError>
+    requires { IsOf pass field.now }
+    ensures { IfOk result (λ v. All (λ p. IsOf p field.now) v.items) }
+{
+    let mut left = Vec::new(alloc);
+    left.push(pass)?;
+    let mut singles = Vec::new(alloc);
+    for i in 0..127 {
+        let _ = i;
+        let Some(mut pass) = left.pop() else {
+            return Ok(singles);
+        };
+        match split(field, &mut pass) {
+            Some(other) => {
+                push_one(field, &mut left, pass)?;
+                push_one(field, &mut left, other)?;
+            }
+            None => push_one(field, &mut singles, pass)?,
+        }
+    }
+    Ok(singles)
+}
+
+// Takes out the pass in the middle.
+fn take_middle(
+    field: &Field<CellTheory>,
+    passes: &mut Vec<Pass<CellTheory>>,
+) -> Option<Pass<CellTheory>>
+    requires { All (λ p. IsOf p field.now) passes.old.items }
+    ensures passes { All (λ p. IsOf p field.now) passes.new.items }
+    ensures of { IfSome result (λ p. IsOf p field.now) }
+    ensures fewer { IfSome result (λ _. length passes.new.items < length passes.old.items) }
+{
+    let _ = field;
+    if passes.is_empty() {
+        return None;
+    }
+    Some(passes.swap_remove(passes.len() / 2))
+}
+
+// Joins passes into one, each time the one in the middle of those that are left.
+fn join_all(
+    field: &Field<CellTheory>,
+    mut others: Vec<Pass<CellTheory>>,
+) -> Option<Pass<CellTheory>>
+    requires { All (λ p. IsOf p field.now) others.items }
+    ensures { IfSome result (λ p. IsOf p field.now) }
+{
+    let mut pass = others.pop()?;
+    'others: while let Some(other) = take_middle(field, &mut others) {
+        join_one(field, &mut pass, other);
+    }
+    Some(pass)
+}
+
+#[test]
+fn two_passes_change_one_word_at_once(rt: HostRuntime) -> Result<(), Fail> {
+    let shape = Shape::new(2, 1, 0, 1, 1, 1, 0)?;
+    let (field, mut first) = blank(rt.alloc(), shape)?;
+    let second = split(&field, &mut first).expect(&rt, "two lanes");
+    let (won, mut pass) = churn_both(&rt, &field, first, second);
+    let last = Content {
+        value: 0,
+        count: 2 * won,
+    };
+    assert_eq!(rt; cell(&field, &mut pass), last);
+    assert!(rt; pass.holds_all(&field));
+    Ok(())
+}
+
+#[test]
+fn a_pass_of_the_only_lane_has_the_words(rt: HostRuntime) -> Result<(), Fail> {
+    let shape = Shape::new(1, 1, 0, 1, 1, 1, 0)?;
+    let (field, mut pass) = blank(rt.alloc(), shape)?;
+    assert!(rt; split(&field, &mut pass).is_none());
+    let (won, mut pass) = churn(&field, pass, 1000);
+    assert_eq!(rt; won, 1000);
+    let last = Content {
+        value: 0,
+        count: 2000,
+    };
+    assert_eq!(rt; cell(&field, &mut pass), last);
+    let first = Content { value: 0, count: 0 };
+    assert_eq!(rt; renew(&field, &mut pass, first), Err(last.word()));
+    assert_eq!(rt; cell(&field, &mut pass), last);
+    Ok(())
+}
+
+#[test]
+fn two_lanes_are_split_once(rt: HostRuntime) -> Result<(), Fail> {
+    let shape = Shape::new(2, 16, 1, 4, 1, 64, 1)?;
+    let (field, mut first) = blank(rt.alloc(), shape)?;
+    let mut second = halved(&rt, &field, &mut first, 0b01, 0b10).expect(&rt, "two lanes");
+    assert!(rt; halved(&rt, &field, &mut first, 0b01, 0).is_none());
+    assert!(rt; halved(&rt, &field, &mut second, 0b10, 0).is_none());
+    Ok(())
+}
+
+#[test]
+fn eight_lanes_are_split_and_joined(rt: HostRuntime) -> Result<(), Fail> {
+    let shape = Shape::new(8, 1, 0, 1, 1, 1, 0)?;
+    let (field, mut a) = blank(rt.alloc(), shape)?;
+    assert!(rt; a.holds_all(&field));
+    let mut b = halved(&rt, &field, &mut a, 0b0000_1111, 0b1111_0000).expect(&rt, "eight lanes");
+    let mut c = halved(&rt, &field, &mut a, 0b0000_0011, 0b0000_1100).expect(&rt, "four lanes");
+    let d = halved(&rt, &field, &mut c, 0b0000_0100, 0b0000_1000).expect(&rt, "two lanes");
+    assert!(rt; halved(&rt, &field, &mut c, 0b0000_0100, 0).is_none());
+    joined(&rt, &field, &mut b, d, 0b1111_1000, false);
+    joined(&rt, &field, &mut b, a, 0b1111_1011, false);
+    joined(&rt, &field, &mut b, c, 0b1111_1111, true);
+    Ok(())
+}
+
+#[test]
+fn sixty_four_lanes_are_joined_in_another_order(rt: HostRuntime) -> Result<(), Fail> {
+    let shape = Shape::new(64, 1, 0, 1, 1, 1, 0)?;
+    let (field, first) = blank(rt.alloc(), shape)?;
+    let passes = split_all(rt.alloc(), &field, first)?;
+    assert_eq!(rt; passes.len(), 64);
+    let whole = join_all(&field, passes).expect(&rt, "64 passes");
+    assert!(rt; whole.holds_all(&field));
+    assert_eq!(rt; whole.lanes(), 64);
+    Ok(())
+}

@@ -1,5 +1,0 @@
-use Rattle.md_store_law.proofs.Bounds.{may_have_few}
-use Rattle.md_store_law.proofs.tests.a_used_field_is_compacted.Goals as goal
-
-pub compact-requires-clause-base : goal.compact-requires-clause-base
-compact-requires-clause-base g c = may_have_few c.in_ok-shape.shape c.in_ok-words.words.items c.in_ok-shape.ensures.numbers c.in_ok-words.ensures

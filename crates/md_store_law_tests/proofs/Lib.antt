@@ -1,0 +1,6 @@
+pub mod RowPlaces
+pub mod RowHolds
+pub mod UsedRowHolds
+pub mod Bounds
+mod Scheduled
+mod EmptyOpens

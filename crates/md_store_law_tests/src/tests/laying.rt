@@ -1,0 +1,170 @@
+//! Contents that are laid: word for word, and read off again.
+
+ghost use Rattle.std.specs.Prelude.{◌≤◌, IsTrue};
+ghost use Rattle.md_history.specs.Engine.{needed};
+ghost use Rattle.md_store_law.specs.Laid.{HasMapsAndQueues};
+
+use super::{assert_same, contents_of, push, put};
+use md_history::Contents;
+use md_store_law::{lay, needed, read_off};
+use md_words::Shape;
+use std::alloc::{AllocError, AllocGlobal, Global};
+use std::process::Abort;
+use std::test::Fail;
+
+// Whether contents are of the shape and fit it.
+fn fit(shape: &Shape, contents: &Contents) -> bool
+    ensures numbers { IsTrue result → HasMapsAndQueues shape.now contents.now }
+    ensures room { IsTrue result → needed contents.now ≤ shape.now.base }
+{
+    let maps = contents.maps().len() == shape.maps as usize;
+    let queues = contents.queues().len() == shape.queues as usize;
+    maps && queues && needed(contents) <= shape.base as u64
+}
+
+// Lays contents if they fit the shape, and reads them off again.
+fn laid_and_read(
+    alloc: Global,
+    shape: &Shape,
+    contents: &Contents,
+) -> Result<Option<(Vec<u64>, Contents)>, AllocError> {
+    if !fit(shape, contents) {
+        return Ok(None);
+    }
+    let words = lay(alloc, shape, contents)?;
+    let back = read_off(alloc, shape, &words)?;
+    Ok(Some((words, back)))
+}
+
+// The words that aren't 0, with their places.
+fn words_but_zero(alloc: Global, words: &[u64]) -> Result<Vec<(usize, u64)>, AllocError> {
+    let mut found = Vec::new(alloc);
+    for i in 0..words.len() {
+        if words[i] != 0 {
+            found.push((i, words[i]))?;
+        }
+    }
+    Ok(found)
+}
+
+// Contents are laid as so many words, of which these aren't 0, and are read off again.
+fn assert_laid<R: Abort + AllocGlobal>(
+    rt: &R,
+    contents: &Contents,
+    shape: &Shape,
+    size: usize,
+    words: &[(usize, u64)],
+) -> Result<(), AllocError> {
+    let (found, back) = laid_and_read(rt.alloc(), shape, contents)?.expect(rt, "all nodes");
+    assert_eq!(rt; found.len(), size);
+    assert_eq!(rt; words_but_zero(rt.alloc(), &found)?.as_slice(), words);
+    assert_same(rt, &back, contents);
+    Ok(())
+}
+
+// How many nodes a map with these pairs and a queue with these values need.
+fn nodes_of(alloc: Global, pairs: &[(u64, u64)], values: &[u64]) -> Result<u64, AllocError> {
+    let contents = contents_of(alloc, pairs, values)?;
+    Ok(needed(&contents))
+}
+
+#[test]
+fn nodes_of_small_contents(rt: HostRuntime) -> Result<(), Fail> {
+    let alloc = rt.alloc();
+    let found = [
+        nodes_of(alloc, &[], &[])?,
+        nodes_of(alloc, &[(5, 6)], &[])?,
+        nodes_of(alloc, &[(5, 6)], &[9])?,
+        nodes_of(alloc, &[(5, 6), (5, 7)], &[9])?,
+    ];
+    assert_eq!(rt; found, [1, 2, 3, 3]);
+    Ok(())
+}
+
+#[test]
+fn small_contents_are_laid_word_for_word(rt: HostRuntime) -> Result<(), Fail> {
+    let contents = contents_of(rt.alloc(), &[(5, 6)], &[])?;
+    let shape = Shape::new(2, 16, 2, 4, 1, 64, 1)?;
+    let words = [
+        (6, 17179869184),
+        (65, 8589934592),
+        (66, 8589934592),
+        (70, 5),
+        (71, 6),
+    ];
+    assert_laid(&rt, &contents, &shape, 1451, &words)?;
+    Ok(())
+}
+
+#[test]
+fn a_queued_value_is_laid_word_for_word(rt: HostRuntime) -> Result<(), Fail> {
+    let contents = contents_of(rt.alloc(), &[(5, 6)], &[9])?;
+    let shape = Shape::new(2, 16, 3, 4, 1, 64, 1)?;
+    let words = [
+        (6, 17179869184),
+        (65, 8589934592),
+        (66, 25769803776),
+        (69, 25769803776),
+        (70, 5),
+        (71, 6),
+        (73, 1),
+        (74, 9),
+    ];
+    assert_laid(&rt, &contents, &shape, 1454, &words)?;
+    Ok(())
+}
+
+#[test]
+fn no_contents_are_laid_as_zeros(rt: HostRuntime) -> Result<(), Fail> {
+    let contents = Contents::empty(rt.alloc(), 1, 0)?;
+    let shape = Shape::new(1, 1, 0, 1, 1, 1, 0)?;
+    assert_laid(&rt, &contents, &shape, 646, &[])?;
+    Ok(())
+}
+
+// Two maps with ten keys or so in each of four buckets, put in falling order, and three queues: one
+// without values, one with the least and the greatest, and a long one.
+fn many(alloc: Global) -> Result<Contents, AllocError> {
+    let mut contents = Contents::empty(alloc, 2, 3)?;
+    for i in 0..40u64 {
+        put(&mut contents, 0, 1000 - 7 * i, i)?;
+        put(&mut contents, 1, u64::MAX - 3 * i, i)?;
+    }
+    put(&mut contents, 0, 0, u64::MAX)?;
+    push(&mut contents, 1, u64::MAX)?;
+    push(&mut contents, 1, 0)?;
+    push(&mut contents, 1, u64::MAX)?;
+    for i in 0..1000u64 {
+        push(&mut contents, 2, i * i)?;
+    }
+    Ok(contents)
+}
+
+// The words at these places are these.
+fn assert_words(rt: &impl Abort, words: &[u64], row: &[(usize, u64)]) {
+    for (place, word) in row {
+        assert_eq!(rt; words.get(*place).copied(), Some(*word), "at {place}");
+    }
+}
+
+#[test]
+fn many_contents_are_read_off_again(rt: HostRuntime) -> Result<(), Fail> {
+    let contents = many(rt.alloc())?;
+    let shape = Shape::new(1, 1, 1087, 1, 2, 4, 3)?;
+    assert_eq!(rt; needed(&contents), 1087);
+    let (words, back) = laid_and_read(rt.alloc(), &shape, &contents)?.expect(&rt, "all nodes");
+    assert_same(&rt, &back, &contents);
+    // the least key of the first bucket is node 4, behind the three dummies; the last queue's tail
+    // names the last node, whose rank is 1000
+    let row = [
+        (1, 8 << 32),
+        (24, 0),
+        (25, u64::MAX),
+        (14, 2174 << 32),
+        (3273, 1000),
+        (3274, 998001),
+        (3275, 0),
+    ];
+    assert_words(&rt, &words, &row);
+    Ok(())
+}
