@@ -1,4 +1,1 @@
 pub mod Marking
-pub mod Heads
-pub mod Tested
-pub mod WornWords

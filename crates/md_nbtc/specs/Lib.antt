@@ -2,4 +2,3 @@ pub mod Sets
 pub mod Marks
 pub mod State
 pub mod Ending
-pub mod Tested

@@ -37,8 +37,6 @@ mod note;
 mod receipt;
 mod sets;
 mod stopping;
-#[cfg(test)]
-mod tests;
 mod tidying;
 mod txn;
 mod withdrawal;

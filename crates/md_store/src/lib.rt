@@ -23,6 +23,4 @@ mod on_queues;
 mod pass;
 mod settling;
 mod store;
-#[cfg(test)]
-mod tests;
 mod txn;
