@@ -18,5 +18,3 @@ mod laws;
 pub mod limits;
 mod shape;
 mod status;
-#[cfg(test)]
-mod tests;

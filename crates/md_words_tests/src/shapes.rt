@@ -1,0 +1,43 @@
+//! The numbers of worked fields.
+
+use md_words::limits::{FEW_BUCKETS, MANY_BUCKETS};
+use md_words::{Shape, ShapeFault};
+use std::test::Fail;
+
+#[test]
+fn shapes(rt: HostRuntime) {
+    for ((lanes, nodes, base, tries), (maps, buckets, queues), want) in [
+        ((1, 1, 0, 1), (1, 1, 0), Ok(646)),
+        ((2, 16, 1, 4), (1, 64, 1), Ok(1448)),
+        ((8, 1048576, 0, 4294967295), (1, 1, 0), Ok(25170954)),
+        ((65, 0, 0, 1), (1, 1, 0), Err(ShapeFault::Lanes)),
+        ((1, 0, 0, 1), (1, 1, 0), Err(ShapeFault::Nodes)),
+        ((1, 1, 4194305, 1), (1, 1, 0), Err(ShapeFault::Base)),
+        ((1, 1, 0, 0), (1, 1, 0), Err(ShapeFault::Tries)),
+        ((1, 1, 0, 1), (17, 1, 0), Err(ShapeFault::Maps)),
+        ((1, 1, 0, 1), (1, 0, 0), Err(ShapeFault::Buckets)),
+        ((1, 1, 0, 1), (1, 1, 4097), Err(ShapeFault::Queues)),
+        (
+            (8, 8388608, 0, 1),
+            (1, 1, 0),
+            Err(ShapeFault::TooLarge { words: 201331722 }),
+        ),
+    ] {
+        let shape = Shape::new(lanes, nodes, base, tries, maps, buckets, queues);
+        assert_eq!(rt; shape.map(|shape| shape.words()), want);
+    }
+}
+
+#[test]
+fn buckets(rt: HostRuntime) -> Result<(), Fail> {
+    for (buckets, key, want) in [
+        (64, 4_294_967_297, 2),
+        (FEW_BUCKETS, 4_294_967_297, 14_272),
+        (MANY_BUCKETS, 4_294_967_297, 69_570),
+        (MANY_BUCKETS, 131_197, 131_198),
+    ] {
+        let shape = Shape::new(1, 1, 0, 1, 1, buckets, 0)?;
+        assert_eq!(rt; shape.map_head(0, key), want);
+    }
+    Ok(())
+}
