@@ -13,6 +13,3 @@ pub use mem_source::MemSource;
 pub use outside::{Failed, Sink, Source};
 pub use std_sink::StdSink;
 pub use std_source::StdSource;
-
-#[cfg(test)]
-mod tests;

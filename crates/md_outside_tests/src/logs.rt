@@ -1,0 +1,49 @@
+//! What reads and writes answer, one after another.
+
+use md_outside::{Failed, Sink, Source};
+use std::alloc::{AllocError, Global};
+
+// What so many reads into three bytes give: the bytes of each and a bar, `.` at the end, `!` at a
+// fault.
+pub(crate) fn read_log<S: Source>(
+    alloc: Global,
+    source: &mut S,
+    calls: u8,
+) -> Result<Vec<u8>, AllocError> {
+    let mut log = Vec::new(alloc);
+    for _ in 0..calls {
+        let mut buf = [0; 3];
+        match source.read(&mut buf) {
+            Ok(0) => log.extend_from_slice(b".")?,
+            Ok(count) => {
+                log.extend_from_slice(&buf[..count])?;
+                log.extend_from_slice(b"|")?;
+            }
+            Err(Failed) => log.extend_from_slice(b"!")?,
+        }
+    }
+    Ok(log)
+}
+
+// How many bytes each of so many writes takes, or `None` at a fault. A write goes on where the
+// last one stopped.
+pub(crate) fn write_log<S: Sink>(
+    alloc: Global,
+    sink: &mut S,
+    text: &[u8],
+    calls: u8,
+) -> Result<Vec<Option<usize>>, AllocError> {
+    let mut log = Vec::new(alloc);
+    let mut rest = text;
+    for _ in 0..calls {
+        if rest.is_empty() {
+            return Ok(log);
+        }
+        let answer = sink.write(rest);
+        if let Ok(count) = answer {
+            rest = &rest[count..];
+        }
+        log.push(answer.ok())?;
+    }
+    Ok(log)
+}
