@@ -80,15 +80,15 @@ pub(crate) fn queue_has(contents: &Contents, queue: u32) -> Option<[Option<u64>;
 #[test]
 fn contents_take_values(rt: HostRuntime) -> Result<(), Fail> {
     let mut contents = Contents::empty(rt.alloc(), 1, 1)?;
-    let first = put(&mut contents, 0, 5, 6)?;
-    let second = put(&mut contents, 0, 5, 7)?;
+    assert_eq!(rt; put(&mut contents, 0, 5, 6)?, None);
+    assert_eq!(rt; put(&mut contents, 0, 5, 7)?, Some(6));
     push(&mut contents, 0, 1)?;
-    let counts = (contents.maps().len(), contents.queues().len());
-    assert_eq!(rt; (first, second, counts), (None, Some(6), (1, 1)));
     let map = [Some(1), None, Some(7), None, None];
     assert_eq!(rt; map_has(&contents, 0), Some(map));
+    assert_eq!(rt; map_has(&contents, 1), None);
     let queue = [Some(1), Some(1), None, None, None];
     assert_eq!(rt; queue_has(&contents, 0), Some(queue));
+    assert_eq!(rt; queue_has(&contents, 1), None);
     Ok(())
 }
 

