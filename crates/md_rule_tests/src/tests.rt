@@ -180,34 +180,6 @@ fn push_one(
     Ok(())
 }
 
-// Splits a pass until none of 64 lanes can be split: passes of one lane each.
-fn split_all(
-    alloc: Global,
-    field: &Field<CellTheory>,
-    pass: Pass<CellTheory>,
-) -> Result<Vec<Pass<CellTheory>>, AllocError>
-    requires { IsOf pass field.now }
-    ensures { IfOk result (λ v. All (λ p. IsOf p field.now) v.items) }
-{
-    let mut left = Vec::new(alloc);
-    left.push(pass)?;
-    let mut singles = Vec::new(alloc);
-    for i in 0..127 {
-        let _ = i;
-        let Some(mut pass) = left.pop() else {
-            return Ok(singles);
-        };
-        match split(field, &mut pass) {
-            Some(other) => {
-                push_one(field, &mut left, pass)?;
-                push_one(field, &mut left, other)?;
-            }
-            None => push_one(field, &mut singles, pass)?,
-        }
-    }
-    Ok(singles)
-}
-
 // Takes out the pass in the middle.
 fn take_middle(
     field: &Field<CellTheory>,
@@ -223,6 +195,60 @@ fn take_middle(
         return None;
     }
     Some(passes.swap_remove(passes.len() / 2))
+}
+
+// Puts what a pass gives and what it keeps behind others, or the whole pass if it has one lane.
+fn split_onto(
+    field: &Field<CellTheory>,
+    mut pass: Pass<CellTheory>,
+    passes: &mut Vec<Pass<CellTheory>>,
+) -> Result<(), AllocError>
+    requires of { IsOf pass field.now }
+    requires passes { All (λ p. IsOf p field.now) passes.old.items }
+    ensures { OnOk result (All (λ p. IsOf p field.now) passes.new.items) }
+{
+    match split(field, &mut pass) {
+        Some(other) => {
+            push_one(field, passes, other)?;
+            push_one(field, passes, pass)
+        }
+        None => push_one(field, passes, pass),
+    }
+}
+
+// Splits each pass that has more than one lane.
+fn split_each(
+    alloc: Global,
+    field: &Field<CellTheory>,
+    mut passes: Vec<Pass<CellTheory>>,
+) -> Result<Vec<Pass<CellTheory>>, AllocError>
+    requires { All (λ p. IsOf p field.now) passes.items }
+    ensures { IfOk result (λ v. All (λ p. IsOf p field.now) v.items) }
+{
+    let mut parts = Vec::new(alloc);
+    'passes: while let Some(pass) = take_middle(field, &mut passes) {
+        split_onto(field, pass, &mut parts)?;
+    }
+    Ok(parts)
+}
+
+// Splits a pass of up to 64 lanes, and its parts, as often as there can be something to split, and
+// once more: passes of one lane each.
+fn split_all(
+    alloc: Global,
+    field: &Field<CellTheory>,
+    pass: Pass<CellTheory>,
+) -> Result<Vec<Pass<CellTheory>>, AllocError>
+    requires { IsOf pass field.now }
+    ensures { IfOk result (λ v. All (λ p. IsOf p field.now) v.items) }
+{
+    let mut passes = Vec::new(alloc);
+    push_one(field, &mut passes, pass)?;
+    for i in 0..7 {
+        let _ = i;
+        passes = split_each(alloc, field, passes)?;
+    }
+    Ok(passes)
 }
 
 // Joins passes into one, each time the one in the middle of those that are left.

@@ -3,4 +3,4 @@ use Rattle.md_rule.specs.Views.{IsOf}
 use Rattle.md_rule_tests.proofs.tests.split_all.Given as goal
 
 abbrev pub invariant-loop-i : goal.invariant-loop-i
-invariant-loop-i l = All (λ p. IsOf p l.field) l.left.items × All (λ p. IsOf p l.field) l.singles.items
+invariant-loop-i l = All (λ p. IsOf p l.field) l.passes.items
