@@ -21,8 +21,6 @@ mod names;
 mod packing;
 mod parts;
 mod place;
-#[cfg(test)]
-mod tests;
 
 pub use commands::{BookReply, Command, Part, Side};
 pub use laws::{
