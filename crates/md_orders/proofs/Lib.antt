@@ -6,7 +6,6 @@ pub mod Apart
 pub mod Rows
 pub mod PartNumbers
 pub mod Unpacked
-pub mod Ones
 pub mod Placed
 pub mod Listed
 pub mod PackedLines

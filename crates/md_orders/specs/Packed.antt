@@ -1,5 +1,5 @@
 -- Replies in a list: for each a head that says which reply it is, and behind it the numbers that it needs.
-use Rattle.std.specs.Prelude.{◌≡◌, ℕ, zero, suc, ◌+◌, ◌*◌, ◌/◌, ◌%◌, ◌^◌, ◌<◌, min, List, [], ◌∷◌, ◌++◌}
+use Rattle.std.specs.Prelude.{◌≡◌, ◌≢◌, ℕ, zero, suc, ◌+◌, ◌-◌, ◌*◌, ◌/◌, ◌%◌, ◌^◌, ◌<◌, min, List, [], ◌∷◌, ◌++◌}
 use Rattle.std.specs.Prelude.{length, take, drop, sum_by, slice_index_or}
 use Rattle.md_book.specs.declared.commands.Part.{Part}
 use Rattle.md_book.specs.declared.commands.BookReply.{BookReply}
@@ -63,6 +63,12 @@ unpacked_all (h ∷ hs) numbers = unpacked h (take (size_of h) numbers) ∷ unpa
 -- each number is behind a head
 abbrev pub ArePacked : List PackedHead → List ℕ → Type 0
 ArePacked heads numbers = length numbers ≡ sum_by size_of heads
+
+-- a fill keeps no part that is zero after the last that isn't
+abbrev pub KeepsFew : PackedHead → BookReply → Type 0
+KeepsFew (head.Filled count kept) (reply.Filled taken rest told parts) =
+    0 < kept → slice_index_or parts (kept - 1) no_part ≢ no_part
+KeepsFew h r = Unit {0}
 
 -- numbers were added behind others, and with the head they are the reply
 pub record IsPacked (old new : List ℕ) (h : PackedHead) (r : BookReply) : Type 0 where

@@ -21,7 +21,7 @@ const MODULUS: u64 = 0x8000_0000;
 // of `rand` in the C standard (ISO/IEC 9899:1990, 7.10.2.2).
 #[derive(Clone, Copy)]
 pub(crate) struct Generator {
-    pub(crate) state: u32,
+    state: u32,
 }
 
 // The draws of a command: for its kind, its account or the order that it cancels, its side, its
@@ -36,7 +36,7 @@ pub(crate) struct Draws {
 }
 
 impl Generator {
-    pub(crate) fn draw(&mut self) -> u32
+    fn draw(&mut self) -> u32
         ensures state { self.new.state ≡ next_state self.old.state }
         ensures draw { result ≡ next_state self.old.state / 2 ^ 16 }
     {

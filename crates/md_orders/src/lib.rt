@@ -18,8 +18,6 @@ mod rooms;
 mod scripts;
 mod segments;
 mod sums;
-#[cfg(test)]
-mod tests;
 mod text;
 mod version;
 

@@ -6,7 +6,7 @@ ghost use Rattle.md_book.specs.declared.limits.TheConstants.{MAX_PARTS};
 ghost use Rattle.md_book.specs.Book.{padded};
 ghost use Rattle.md_book.specs.Suits.{IsPart};
 ghost use Rattle.md_orders.specs.declared.packed.TheConstants.{MAX_NUMBERS};
-ghost use Rattle.md_orders.specs.Packed.{IsSmall, no_part, size_of, numbers_of, parts_of, unpacked, unpacked_all, ArePacked, IsPacked};
+ghost use Rattle.md_orders.specs.Packed.{IsSmall, no_part, size_of, numbers_of, parts_of, unpacked, unpacked_all, ArePacked, IsPacked, KeepsFew};
 ghost use Rattle.md_orders.specs.Replies.{with_replies, AllSuit};
 ghost use Rattle.md_orders.specs.Rooms.{HasRoom, part_number, reply_in};
 
@@ -16,9 +16,6 @@ use crate::rooms::{Head, NewReply, number_at, room_at};
 use md_book::{BookReply, MAX_PARTS, Part};
 use std::alloc::{AllocError, Global};
 use std::marker::Model;
-
-#[cfg(test)]
-mod tests;
 
 /// The factor between the quantities that were taken and that remain, in a number.
 pub(crate) const QUANTITIES: u64 = 0x1_0000_0000;
@@ -111,7 +108,8 @@ fn pack_parts(numbers: &mut Vec<u64>, parts: &[Part])
 // Adds the numbers of a reply, and returns its head. There is room for as many as a reply can need.
 fn pack(numbers: &mut Vec<u64>, reply: &BookReply) -> PackedHead
     requires room { vec_len numbers.old + MAX_NUMBERS ≤ vec_capacity numbers.old }
-    ensures { IsPacked numbers.old.items numbers.new.items result reply.now }
+    ensures packed { IsPacked numbers.old.items numbers.new.items result reply.now }
+    ensures least { KeepsFew result reply.now }
 {
     match reply {
         BookReply::Placed => PackedHead::Placed,

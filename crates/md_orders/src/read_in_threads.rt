@@ -87,9 +87,9 @@ fn read_version_2<R: Threads + Sync>(
     }
 }
 
-/// Reads the scripts of an order file, as `read_orders` does, in at most so many parts, or in one
-/// if that is 0.
-pub(crate) fn read_in_parts<R: Threads + Sync>(
+// Reads the scripts of an order file, as `read_orders` does, in at most so many parts, or in one if
+// that is 0.
+fn read_in_parts<R: Threads + Sync>(
     rt: &R,
     alloc: Global,
     bytes: &[u8],

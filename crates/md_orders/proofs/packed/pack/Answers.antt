@@ -6,8 +6,8 @@ use Rattle.md_orders.specs.Packed.{IsSmall, numbers_of, parts_of}
 use Rattle.md_orders.proofs.Unpacked.{length-kept, parts-kept, length-numbers_of}
 use Rattle.md_orders.proofs.packed.pack.Goals as goal
 
-pub returns-in-Filled : goal.returns-in-Filled
-returns-in-Filled c =
+pub returns-in-Filled-clause-packed : goal.returns-in-Filled-clause-packed
+returns-in-Filled-clause-packed c =
     let parts = c.in-Filled.parts in
     let kept = c.parts_to_keep-kept.result in
     let few = c.parts_to_keep-kept.ensures.few in
@@ -27,3 +27,6 @@ returns-in-Filled c =
           ∙ ap (λ n. (c.args.numbers.now.items ++ first ∷ []) ++ numbers_of (take n parts)) c.from-in-Filled-2.ensures
           ∙ append_assoc c.args.numbers.now.items (first ∷ []) (numbers_of (take kept parts));
     }
+
+pub returns-in-Filled-clause-least : goal.returns-in-Filled-clause-least
+returns-in-Filled-clause-least c = rw c.in-Filled.is c.parts_to_keep-kept.ensures.least

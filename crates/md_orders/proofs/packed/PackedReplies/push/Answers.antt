@@ -8,7 +8,7 @@ use Rattle.md_orders.proofs.packed.PackedReplies.push.Goals as goal
 pub returns-clause-ok : goal.returns-clause-ok
 returns-clause-ok c =
     let inside = c.self.inside in
-    let packed = subst (λ ns. IsPacked ns c.pack-head.new.numbers.items c.pack-head.result c.args.reply.now) c.in_ok-reserve-2.ensures.items c.pack-head.ensures in
+    let packed = subst (λ ns. IsPacked ns c.pack-head.new.numbers.items c.pack-head.result c.args.reply.now) c.in_ok-reserve-2.ensures.items c.pack-head.ensures.packed in
     ap (λ (hs : List PackedHead). unpacked_all hs c.pack-head.new.numbers.items)
     (c.push_reserved.ensures.items ∙ ap (λ (hs : List PackedHead). hs ++ c.pack-head.result ∷ []) c.in_ok-reserve.ensures.items)
     ∙ unpacked_all-push inside.heads.items inside.numbers.items _ _ _ c.self.invariant packed

@@ -1,5 +1,0 @@
-use Rattle.std.proofs.Common.{◌≡◌, length}
-use Rattle.md_orders.proofs.tests.in_threads.packed_all.Given as goal
-
-abbrev pub invariant-callers : goal.invariant-callers
-invariant-callers l = length l.replies ≡ length l.scripts

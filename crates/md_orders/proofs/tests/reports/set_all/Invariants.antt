@@ -1,5 +1,0 @@
-use Rattle.std.proofs.Common.{◌≡◌}
-use Rattle.md_orders.proofs.tests.reports.set_all.Given as goal
-
-abbrev pub invariant-callers : goal.invariant-callers
-invariant-callers l = l.replies.scripts ≡ l.scripts

@@ -1,9 +1,0 @@
-//! What no clause says: that calls succeed, and bytes, commands and reports from outside.
-
-mod in_threads;
-mod longest;
-mod making;
-mod packing;
-mod reading;
-mod reading_in_threads;
-mod reports;

@@ -1,0 +1,11 @@
+//! What no clause says: that calls succeed, and bytes, commands and reports from outside.
+
+mod in_threads;
+mod longest;
+mod making;
+mod packed;
+mod packing;
+mod reading;
+mod reading_in_threads;
+mod reports;
+mod shown;

@@ -1,0 +1,57 @@
+//! Packed replies in their places.
+
+ghost use Rattle.std.specs.Prelude.{◌≡◌, ◌≤◌, ◌<◌, ◌+◌, ◌^◌, length, IfOk};
+ghost use Rattle.md_orders.specs.Scripts.{list_of};
+ghost use Rattle.md_orders.specs.Replies.{AllSuit};
+
+use crate::tests::reports::{reply_with, set_lines};
+use md_orders::{PackedReplies, Replies, Scripts, read_orders};
+use std::alloc::Global;
+use std::test::Fail;
+
+// A reply that suits each line of a caller after its first `done`.
+fn packed_lines(
+    alloc: Global,
+    scripts: &Scripts,
+    caller: u32,
+    done: u32,
+    count: u8,
+) -> Result<PackedReplies, Fail>
+    requires { done ≤ length (list_of scripts.now caller) }
+    ensures suit { IfOk result (AllSuit scripts.now caller done) }
+    ensures few { IfOk result (λ packed. done + length packed < 2 ^ 32) }
+{
+    let mut packed = PackedReplies::new(alloc);
+    'lines: for before in done..scripts.len(caller) {
+        let Some(command) = scripts.command(caller, before + 1) else {
+            return Err(Fail::new("no such line"));
+        };
+        packed.append(&[reply_with(command, count)])?;
+    }
+    Ok(packed)
+}
+
+#[test]
+fn packed_replies_are_those_that_were_set(rt: HostRuntime) -> Result<(), Fail> {
+    let alloc = rt.alloc();
+    let orders = b"medley,2\n2,P,7,S,100,5\n2,C,1,1\n2,F,8,S,100,12\n2,F,8,S,100,1000000\n\
+        2,F,8,S,100,3\n2,K,8,S,100,3\n2,D,S,3\n2,A,7\n"
+        .as_slice();
+    let Ok(scripts) = read_orders(alloc, orders, 2) else {
+        return Err(Fail::new("refused"));
+    };
+    for (done, count) in [(0, 12), (0, 0), (3, 2), (8, 1)] {
+        if scripts.len(2) < done {
+            return Err(Fail::new("too few lines"));
+        }
+        let packed = packed_lines(alloc, &scripts, 2, done, count)?;
+        let mut replies = Replies::empty(alloc, &scripts)?;
+        replies.set_packed(2, done, &packed);
+        let mut plain = Replies::empty(alloc, &scripts)?;
+        set_lines(&mut plain, &scripts, 2, done + 1, count);
+        for line in 0..10 {
+            assert_eq!(rt; replies.get(2, line), plain.get(2, line), "at {line}");
+        }
+    }
+    Ok(())
+}

@@ -1,0 +1,120 @@
+//! Files that threads read in parts. A file is read so from 64 KiB on, and blank lines make it long.
+
+use crate::tests::shown::shown;
+use md_orders::{OrderFault, read_orders, read_orders_in_threads};
+use std::alloc::{AllocError, Global};
+use std::test::Fail;
+
+// About as long as the files are.
+const LENGTH: usize = 66_000;
+
+// Adds blank lines up to a length.
+fn pad(text: &mut Vec<u8>, length: usize) -> Result<(), AllocError> {
+    for _ in text.len()..length {
+        text.push(b'\n')?;
+    }
+    Ok(())
+}
+
+// A start, and the same lines at each of some places and at the end. From one place to the next they
+// begin seven bytes earlier than there, and after twelve places again where they did at the first.
+fn text_of(
+    alloc: Global,
+    start: &str,
+    lines: &str,
+    places: &[usize],
+    first: usize,
+) -> Result<Vec<u8>, AllocError> {
+    let mut text = start.as_bytes().to_vec(alloc)?;
+    let mut step = first;
+    for place in places {
+        pad(&mut text, place.saturating_sub(7 * (step % 12)))?;
+        text.extend_from_slice(lines.as_bytes())?;
+        step = step.saturating_add(1);
+    }
+    pad(&mut text, LENGTH)?;
+    text.extend_from_slice(lines.as_bytes())?;
+    Ok(text)
+}
+
+// A file of one caller is read in eight parts, and one of several callers in three.
+#[test]
+fn parts_give_what_the_whole_gives(rt: HostRuntime) -> Result<(), Fail> {
+    let alloc = rt.alloc();
+    let starts = "|medley,2\n|medley,2\r\n|medley,2|\"medley\",2\n|\n\rmedley,2\n|\u{feff}|\
+        \u{feff}medley,2\n|medley,2\n\u{feff}|medley,3\n";
+    let all_lines = "\
+        1,P,7,S,10,5\n2,P,8,B,9,4\n1,C,2,1\n3,A,7\n1,P,7,S,11,6\n2,K,8,B,9,1|\
+        1,P,7,S,10,5\r\n\r\n2,P,8,B,9,4\r\n1,P,7,S,10,6\r\n1,C,1,2\r\n|\
+        1,P,7,S,10,5\r2,P,8,B,9,4\r1,P,7,S,10,6\r1,C,1,2\r|\
+        1,D,B,3\n1,D,S,\"4\n\"\n1,P,7,S,10,5\n|\
+        1,D,B,3\n1,P,7,S,10,5\n1,D,S,\"4\"\n1,P,7,B,1,5\n|\
+        1,D,B,3\n\u{feff}1,P,7,S,10,5\n1,P,7,S,10,5\n|\
+        1,P,7,S,10,5\n2,P,8,B,9,4\nmedley,2\n1,P,7,S,10,6\n";
+    // About where files of several callers and of one are cut.
+    let thirds = [22_040, 44_040].as_slice();
+    let eighths = [8_290, 16_540, 24_790, 33_040, 41_290, 49_540, 57_790].as_slice();
+    let rows = [
+        (3, thirds, [0, 2, 4, 6, 8, 10].as_slice()),
+        (1, eighths, [0, 7].as_slice()),
+    ];
+    for start in starts.split('|') {
+        for lines in all_lines.split('|') {
+            for (callers, places, firsts) in rows {
+                for first in firsts {
+                    let text = text_of(alloc, start, lines, places, *first)?;
+                    let whole = shown(alloc, read_orders(alloc, &text, callers))?;
+                    let read = read_orders_in_threads(&rt, alloc, &text, callers);
+                    assert_eq!(rt; shown(alloc, read)?.as_str(), whole.as_str(), "of {lines}");
+                }
+            }
+        }
+    }
+    Ok(())
+}
+
+// Adds a record with blank lines round it, so that eight such records are a file that is read in
+// parts, and each of its eight parts has one.
+fn add_record(text: &mut Vec<u8>, record: &str) -> Result<(), AllocError> {
+    let middle = text.len().saturating_add(4_150);
+    pad(text, middle)?;
+    text.extend_from_slice(record.as_bytes())?;
+    pad(text, middle.saturating_add(4_150))
+}
+
+// The first bad line is in each of the eight parts.
+#[test]
+fn a_bad_line_has_its_number_in_the_file(rt: HostRuntime) -> Result<(), Fail> {
+    let alloc = rt.alloc();
+    for (start, first) in [("", 1), ("medley,2\n", 2)] {
+        for bad in 0..8_u32 {
+            let mut text = start.as_bytes().to_vec(alloc)?;
+            for line in 0..8_u32 {
+                add_record(&mut text, if line < bad { "1,A,7" } else { "1,A,0" })?;
+            }
+            let fault = read_orders_in_threads(&rt, alloc, &text, 1).err();
+            assert_eq!(rt; fault, Some(OrderFault::BadLine(first + bad)));
+        }
+    }
+    Ok(())
+}
+
+#[test]
+fn an_order_of_the_last_part_has_the_name_of_its_line(rt: HostRuntime) -> Result<(), Fail> {
+    let alloc = rt.alloc();
+    let records = "1,A,7|2,A,7|1,A,7|1,A,7|1,A,7|2,A,7|2,P,7,B,1,5|1,P,7,S,10,5|1,C,1,5";
+    let mut text = Vec::new(alloc);
+    for record in records.split('|') {
+        add_record(&mut text, record)?;
+    }
+    let read = shown(alloc, read_orders_in_threads(&rt, alloc, &text, 2))?;
+    // An order's name is 4294967296 times its caller and its line.
+    let want = "1:1 Account { account: 7 };1:2 Account { account: 7 };1:3 Account { account: 7 };\
+        1:4 Account { account: 7 };\
+        1:5 Place { name: 4294967301, account: 7, side: Sell, price: 10, quantity: 5 };\
+        1:6 Cancel { name: 4294967301 };\
+        2:1 Account { account: 7 };2:2 Account { account: 7 };\
+        2:3 Place { name: 8589934595, account: 7, side: Buy, price: 1, quantity: 5 };";
+    assert_eq!(rt; read.as_str(), want);
+    Ok(())
+}

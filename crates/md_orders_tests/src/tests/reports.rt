@@ -1,0 +1,244 @@
+//! Replies, and a report from outside.
+
+ghost use Rattle.std.specs.Prelude.{◌≡◌, ◌≤◌, length, IfOk, IfSome};
+ghost use Rattle.md_book.specs.Suits.{IsTaken, Suits};
+ghost use Rattle.md_book.specs.Commands.{IsCommand};
+
+use md_book::{BOUGHT, BookReply, Command, DEPTHS, MAPS, MAX_PARTS, Part, SOLD, order_name};
+use md_history::Contents;
+use md_orders::{Replies, Scripts, read_orders, report, summary};
+use std::alloc::Global;
+use std::test::Fail;
+
+// A book's maps with values in them: a map, a key and a value each.
+pub(crate) fn contents_of(alloc: Global, values: &[(u32, u64, u64)]) -> Result<Contents, Fail>
+    ensures { IfOk result (λ contents. MAPS ≤ length contents.maps) }
+{
+    let mut contents = Contents::empty(alloc, MAPS, 0)?;
+    for (map, key, value) in values {
+        if *map >= MAPS {
+            return Err(Fail::new("no such map"));
+        }
+        contents.put(*map, *key, *value)?;
+    }
+    Ok(contents)
+}
+
+// A reply that suits a command: of a fill the whole quantity, from the largest name.
+fn some_reply(command: Command) -> BookReply
+    requires { IsCommand command }
+    ensures { Suits (command, result) }
+{
+    match command {
+        Command::Place { .. } => BookReply::Placed,
+        Command::Cancel { .. } => BookReply::Cancelled(5),
+        Command::Fill { quantity, .. } => {
+            let mut parts = [Part { name: 0, taken: 0 }; MAX_PARTS];
+            parts[0] = Part {
+                name: order_name(64, 1_000_000),
+                taken: quantity,
+            };
+            BookReply::Filled {
+                taken: quantity,
+                rest: 0,
+                count: 1,
+                parts,
+            }
+        }
+        Command::Kill { .. } => BookReply::Killed,
+        Command::Depth { .. } => BookReply::Depth(u64::MAX),
+        Command::Account { .. } => BookReply::Account { bought: 5, sold: 6 },
+    }
+}
+
+// The answer to a fill: so many parts of one each, from the first orders of the first caller.
+fn filled(quantity: u32, count: u8) -> BookReply
+    requires few { count ≤ MAX_PARTS }
+    requires enough { count ≤ quantity }
+    ensures { IsTaken quantity count result }
+{
+    let mut parts = [Part { name: 0, taken: 0 }; MAX_PARTS];
+    for place in 0..count {
+        parts[usize::from(place)] = Part {
+            name: order_name(1, u32::from(place) + 1),
+            taken: 1,
+        };
+    }
+    BookReply::Filled {
+        taken: u32::from(count),
+        rest: quantity - u32::from(count),
+        count,
+        parts,
+    }
+}
+
+// The fill of a million with the longest text: twelve parts from the last order that there can be,
+// where the parts, their sum and what remains have as many digits as they can.
+fn longest_fill() -> BookReply
+    ensures { IsTaken 1000000 12 result }
+{
+    let name = order_name(64, 1_000_000);
+    let large = Part {
+        name,
+        taken: 100_000,
+    };
+    let small = Part {
+        name,
+        taken: 25_000,
+    };
+    BookReply::Filled {
+        taken: 900_000,
+        rest: 100_000,
+        count: 12,
+        parts: [
+            large, large, large, large, large, large, large, large, small, small, small, small,
+        ],
+    }
+}
+
+// A reply that suits a command: of a fill so many parts, where it has the places and the quantity,
+// and the longest where it asks for a million of twelve places.
+pub(crate) fn reply_with(command: Command, count: u8) -> BookReply
+    requires { IsCommand command }
+    ensures { Suits (command, result) }
+{
+    match command {
+        Command::Fill {
+            quantity: 1_000_000,
+            places: 12,
+            ..
+        } => longest_fill(),
+        Command::Fill {
+            quantity,
+            places,
+            ..
+        } if count <= places && u32::from(count) <= quantity => filled(quantity, count),
+        _ => some_reply(command),
+    }
+}
+
+// Sets such a reply at each line of a caller from a first one on.
+pub(crate) fn set_lines(
+    replies: &mut Replies,
+    scripts: &Scripts,
+    caller: u32,
+    first: u32,
+    count: u8,
+)
+    requires first { 1 ≤ first }
+    requires same { replies.old.scripts ≡ scripts.now }
+    ensures { replies.new.scripts ≡ scripts.now }
+{
+    'lines: for line in first..scripts.len(caller) + 1 {
+        let Some(command) = scripts.command(caller, line) else {
+            unreachable!()
+        };
+        replies.set(caller, line, reply_with(command, count));
+    }
+}
+
+// Sets such a reply at each line of each caller.
+pub(crate) fn set_all(replies: &mut Replies, scripts: &Scripts, count: u8)
+    requires { replies.old.scripts ≡ scripts.now }
+    ensures { replies.new.scripts ≡ scripts.now }
+{
+    'callers: for before in 0..scripts.callers() {
+        set_lines(replies, scripts, before + 1, 1, count);
+    }
+}
+
+// The report of scripts with such replies and these values.
+pub(crate) fn reported(
+    alloc: Global,
+    scripts: &Scripts,
+    count: u8,
+    values: &[(u32, u64, u64)],
+) -> Result<Vec<u8>, Fail> {
+    let mut replies = Replies::empty(alloc, scripts)?;
+    set_all(&mut replies, scripts, count);
+    let contents = contents_of(alloc, values)?;
+    let text = report(alloc, scripts, &replies, &contents)?;
+    Ok(text)
+}
+
+#[test]
+fn a_report_has_its_text(rt: HostRuntime) -> Result<(), Fail> {
+    let alloc = rt.alloc();
+    let orders = b"2,D,S,3\n1,P,7,S,100,5\n2,D,S,4\n2,P,7,S,100,5\n2,C,1,1\n\
+        2,F,8,S,100,1000000\n2,K,8,S,100,3\n2,A,7\n"
+        .as_slice();
+    let Ok(scripts) = read_orders(alloc, orders, 2) else {
+        return Err(Fail::new("refused"));
+    };
+    let mut replies = Replies::empty(alloc, &scripts)?;
+    set_lines(&mut replies, &scripts, 2, 2, u8::MAX);
+    let told = [replies.get(2, 2), replies.get(2, 6)];
+    let none = [
+        replies.get(2, 1),
+        replies.get(1, 1),
+        replies.get(2, 8),
+        replies.get(0, 1),
+        replies.get(3, 1),
+    ];
+    let want = [Some(BookReply::Depth(u64::MAX)), Some(BookReply::Killed)];
+    assert_eq!(rt; (told, none), (want, [None; 5]));
+    let values = [
+        (DEPTHS, 1_999, 7),
+        (DEPTHS, 1_000, 6),
+        (DEPTHS, 999, 5),
+        (DEPTHS, 5, 0),
+        (DEPTHS, 0, 4),
+        (BOUGHT, 9_999, 3),
+        (BOUGHT, 5, 0),
+        (SOLD, 1, 2),
+    ];
+    let contents = contents_of(alloc, &values)?;
+    let text = report(alloc, &scripts, &replies, &contents)?;
+    let want = b"2:2 depth 18446744073709551615\n2:3 placed\n2:4 cancelled 5\n\
+        2:5 filled 1000000 rest 0 from 64:1000000=1000000\n2:6 killed\n2:7 bought 5 sold 6\n\
+        B 1 4\nB 1000 5\nS 1 6\nS 1000 7\n\
+        account 1 bought 0 sold 2\naccount 9999 bought 3 sold 0\ndone 8\n"
+        .as_slice();
+    assert_eq!(rt; text.as_slice(), want);
+    let line = summary(alloc, &scripts, &replies, &contents)?;
+    let want = b"made 8 placed 10 cancelled 5 filled 1000000 open 22\n".as_slice();
+    assert_eq!(rt; line.as_slice(), want);
+    Ok(())
+}
+
+// Each report is the bytes of its file, the sign `>`, and its text. There is a sign `|` between two.
+#[test]
+fn each_line_has_its_text(rt: HostRuntime) -> Result<(), Fail> {
+    let alloc = rt.alloc();
+    let reports = ">done 0\n|\
+        1,P,7,B,50,5\n1,C,1,1\n1,F,8,B,50,3\n1,A,8\n>\
+        1:1 placed\n1:2 cancelled 5\n1:3 filled 0 rest 3\n1:4 bought 5 sold 6\ndone 4\n|\
+        1,F,8,S,100,2\n>\
+        1:1 filled 2 rest 0 from 1:1=1 1:2=1\n\
+        account 7 bought 0 sold 2\naccount 8 bought 2 sold 0\ndone 1\n|\
+        1,F,8,S,100,5\n>\
+        1:1 filled 4 rest 1 from 1:1=1 1:2=1 1:3=1 1:4=1\nS 100 1\n\
+        account 7 bought 0 sold 4\naccount 8 bought 4 sold 0\ndone 1\n|\
+        medley,2\n64,F,8,S,100,12\n1,K,8,S,100,1\n>\
+        1:1 killed\n64:1 filled 12 rest 0 from 1:1=1 1:2=1 1:3=1 1:4=1 1:5=1 1:6=1 \
+        1:7=1 1:8=1 1:9=1 1:10=1 1:11=1 1:12=1\n\
+        account 7 bought 0 sold 12\naccount 8 bought 12 sold 0\ndone 2\n";
+    let rows = [
+        (0, [].as_slice()),
+        (0, &[]),
+        (2, &[(SOLD, 7, 2), (BOUGHT, 8, 2)]),
+        (4, &[(DEPTHS, 1_099, 1), (SOLD, 7, 4), (BOUGHT, 8, 4)]),
+        (12, &[(SOLD, 7, 12), (BOUGHT, 8, 12)]),
+    ];
+    for (told, (count, values)) in reports.split('|').zip(rows) {
+        let Some((orders, want)) = told.split_once('>') else {
+            return Err(Fail::new("no report is told"));
+        };
+        let Ok(scripts) = read_orders(alloc, orders.as_bytes(), 64) else {
+            return Err(Fail::new("refused"));
+        };
+        let text = reported(alloc, &scripts, count, values)?;
+        assert_eq!(rt; text.as_slice(), want.as_bytes());
+    }
+    Ok(())
+}
