@@ -62,6 +62,14 @@ pub(crate) fn map_has(contents: &Contents, map: u32) -> Option<[Option<u64>; 5]>
     ])
 }
 
+// How many values a queue has. `None` if there is no such queue.
+pub(crate) fn queue_len(contents: &Contents, queue: u32) -> Option<u64> {
+    if queue as usize >= contents.queues().len() {
+        return None;
+    }
+    Some(contents.queue(queue).len() as u64)
+}
+
 // How many values a queue has, and its first four values. `None` if there is no such queue.
 pub(crate) fn queue_has(contents: &Contents, queue: u32) -> Option<[Option<u64>; 5]> {
     if queue as usize >= contents.queues().len() {

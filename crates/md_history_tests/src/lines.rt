@@ -2,7 +2,7 @@
 
 ghost use Rattle.std.specs.Prelude.{◌≡◌, length, IfOk};
 
-use crate::contents::{push, queue_has};
+use crate::contents::{push, queue_has, queue_len};
 use md_history::{Attempt, Body, Contents, Engine, Line, PlainStore, Stop, TxCalls};
 use std::alloc::{AllocError, Global};
 use std::process::Abort;
@@ -136,7 +136,9 @@ fn first_of(
     n: u8,
 ) -> Result<Attempt<Line>, AllocError> {
     assert!(rt; 1 <= n && n <= 12);
-    let (store, mut pass) = PlainStore::open(queue_of(alloc, there)?);
+    let start = queue_of(alloc, there)?;
+    assert_eq!(rt; queue_len(&start, 0), Some(there));
+    let (store, mut pass) = PlainStore::open(start);
     Ok(store.attempt(&mut pass, 1, &FirstValues { n }))
 }
 
