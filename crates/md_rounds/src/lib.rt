@@ -10,8 +10,6 @@ mod limits;
 mod order_lines;
 mod round_replies;
 mod summed;
-#[cfg(test)]
-mod tests;
 
 pub use all::{OpenOutcome, Outcome, run_all, run_all_open};
 pub use alone::{Played, play_alone};

@@ -31,7 +31,10 @@ impl ReplyList<BookReply> for RoundReplies {
     }
 
     fn append(&mut self, replies: Vec<BookReply>) -> Result<(), AllocError>
-        ensures { OnOk result (all_of self.new ≡ all_of self.old ++ replies.items) }
+        ensures all { OnOk result (all_of self.new ≡ all_of self.old ++ replies.items) }
+        ensures last { OnOk result (0 < length replies.items
+            → (self.new.packed ≡ all_of self.old) × (self.new.last.items ≡ replies.items)) }
+        ensures none { OnOk result (length replies.items ≡ 0 → self.new ≡ self.old) }
     {
         if replies.is_empty() {
             return Ok(());

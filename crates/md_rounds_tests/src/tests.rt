@@ -2,16 +2,13 @@
 
 ghost use Rattle.std.specs.Prelude.{◌≡◌, length, IfOk};
 
-use crate::all::run_all;
-use crate::alone::play_alone;
-use crate::round_replies::RoundReplies;
-use crate::summed::summaries_add_up;
 use md_book::{BookReply, DEPTHS, LEVELS, MAPS, MAX_PARTS, Part, order_name};
 use md_history::{Contents, PlainStore};
-use md_many::{FreeGate, ReplyList};
-use md_orders::{Scripts, read_orders, summary};
+use md_orders::{Replies, Scripts, read_orders, summary};
+use md_rounds::{FreeGate, play_alone, run_all, summaries_add_up};
 use md_words::limits::{MAX_MAPS, MAX_QUEUES};
 use std::alloc::{AllocError, Global};
+use std::process::Abort;
 use std::test::Fail;
 
 // The script of one caller.
@@ -30,9 +27,10 @@ fn one_caller_alone(rt: HostRuntime) -> Result<(), Fail> {
     let scripts = script_of(alloc, "1,P,7,S,100,5\n1,F,8,S,100,3\n1,D,S,100\n")?;
     let (store, pass) = PlainStore::open(Contents::empty(alloc, MAPS, LEVELS)?);
     let played = play_alone(alloc, store, pass, &scripts)?;
-    assert_eq!(rt; played.replies.get(1, 1), Some(BookReply::Placed));
-    assert_eq!(rt; played.replies.get(1, 3), Some(BookReply::Depth(2)));
-    assert_eq!(rt; played.contents.map(DEPTHS).get(&1099).copied(), Some(2));
+    let replies = [played.replies.get(1, 1), played.replies.get(1, 3)];
+    let depth = played.contents.get(DEPTHS, 1099);
+    let want = [Some(BookReply::Placed), Some(BookReply::Depth(2))];
+    assert_eq!(rt; (replies, depth), (want, Some(2)));
     Ok(())
 }
 
@@ -79,18 +77,15 @@ fn replies_of(first: u32, cycle: u32) -> [BookReply; 7] {
     ]
 }
 
-// The batches of a turn: the last stays as it came, and those before it are packed.
-#[test]
-fn batches_of_a_turn(rt: HostRuntime) -> Result<(), Fail> {
-    let alloc = rt.alloc();
-    let mut list = RoundReplies::new(alloc);
-    for (cycle, packed) in [(0, 0), (1, 7), (2, 14)] {
-        list.append(Vec::from_array(alloc, replies_of(1, cycle))?)?;
-        list.append(Vec::new(alloc))?;
-        assert_eq!(rt; list.packed.len(), packed);
-        assert_eq!(rt; list.last.as_slice(), replies_of(1, cycle).as_slice());
+// Each reply of so many cycles stands at its own line.
+fn are_those_of<R: Abort>(rt: &R, replies: &Replies, count: u32) {
+    for cycle in 0..count {
+        let first = cycle.saturating_mul(7).saturating_add(1);
+        for (place, want) in replies_of(first, cycle).iter().enumerate() {
+            let line = first.saturating_add(place as u32);
+            assert_eq!(rt; replies.get(1, line), Some(*want), "at {line}");
+        }
     }
-    Ok(())
 }
 
 // More lines than many batches have, and than 16 bits count: each reply stands at its own line.
@@ -101,13 +96,7 @@ fn batches_of_lines(rt: HostRuntime) -> Result<(), Fail> {
     let scripts = script_of(alloc, text.as_str())?;
     let (store, pass) = PlainStore::open(Contents::empty(alloc, MAPS, LEVELS)?);
     let played = play_alone(alloc, store, pass, &scripts)?;
-    for cycle in 0..10_000_u32 {
-        let first = cycle.saturating_mul(7).saturating_add(1);
-        for (place, want) in replies_of(first, cycle).iter().enumerate() {
-            let line = first.saturating_add(place as u32);
-            assert_eq!(rt; played.replies.get(1, line), Some(*want), "at {line}");
-        }
-    }
+    are_those_of(&rt, &played.replies, 10_000);
     assert_eq!(rt; played.replies.get(1, 70_001), None);
     Ok(())
 }
@@ -116,13 +105,15 @@ fn batches_of_lines(rt: HostRuntime) -> Result<(), Fail> {
 #[test]
 fn the_largest_contents(rt: HostRuntime) -> Result<(), Fail> {
     let contents = Contents::empty(rt.alloc(), MAX_MAPS, MAX_QUEUES)?;
-    assert_eq!(rt; contents.maps().len(), 16);
-    assert_eq!(rt; contents.queues().len(), 4_096);
+    assert_eq!(rt;
+        (contents.maps().len(), contents.queues().len()),
+        (16, 4_096)
+    );
     Ok(())
 }
 
 // The rounds of one caller, over many more lines than one turn plays, give the replies that
-// playing alone gives, and a summary that adds up.
+// playing alone gives, and a summary that adds up. A turn has many batches of replies.
 #[test]
 fn one_caller_in_rounds(rt: HostRuntime) -> Result<(), Fail> {
     let alloc = rt.alloc();
@@ -130,13 +121,7 @@ fn one_caller_in_rounds(rt: HostRuntime) -> Result<(), Fail> {
     let scripts = script_of(alloc, text.as_str())?;
     let (store, pass) = PlainStore::open(Contents::empty(alloc, MAPS, LEVELS)?);
     let played = run_all(&rt, alloc, store, pass, &scripts, 1_000_000, &FreeGate)?;
-    for cycle in 0..1_000_u32 {
-        let first = cycle.saturating_mul(7).saturating_add(1);
-        for (place, want) in replies_of(first, cycle).iter().enumerate() {
-            let line = first.saturating_add(place as u32);
-            assert_eq!(rt; played.replies.get(1, line), Some(*want), "at {line}");
-        }
-    }
+    are_those_of(&rt, &played.replies, 1_000);
     assert_eq!(rt; played.fronts.len(), 1);
     summaries_add_up();
     let line = summary(alloc, &scripts, &played.replies, &played.contents)?;
