@@ -86,11 +86,25 @@ pub(super) fn told<R: Threads + Sync>(
     whole(alloc, &lines_in_threads(rt, alloc, &scripts, &replies)?)
 }
 
+// The number of parts that threads write of the replies that `set_all` sets, and the text of the
+// parts and of what follows the lines.
+fn in_parts<R: Threads + Sync>(
+    rt: &R,
+    alloc: Global,
+    scripts: &Scripts,
+    values: &[(u32, u64, u64)],
+) -> Result<(usize, Vec<u8>), Fail> {
+    let parts = lines_in_threads(rt, alloc, scripts, &packed_all(alloc, scripts)?)?;
+    let mut text = whole(alloc, &parts)?;
+    let contents = contents_of(alloc, values)?;
+    text.extend_from_slice(&after_lines(alloc, scripts, &contents)?)?;
+    Ok((parts.len(), text))
+}
+
 #[test]
 fn threads_write_the_same_report(rt: HostRuntime) -> Result<(), Fail> {
     let alloc = rt.alloc();
     let values = [(DEPTHS, 1_999, 7), (BOUGHT, 5, 3), (SOLD, 9_999, 2)];
-    let contents = contents_of(alloc, &values)?;
     let files = [
         (1, 40, 1),
         (1, 4_096, 2),
@@ -105,12 +119,12 @@ fn threads_write_the_same_report(rt: HostRuntime) -> Result<(), Fail> {
     for (callers, lines, count) in files {
         let scripts = make(alloc, 7, lines, callers)?;
         let want = reported(alloc, &scripts, 4, &values)?;
-        let replies = packed_all(alloc, &scripts)?;
-        let parts = lines_in_threads(&rt, alloc, &scripts, &replies)?;
-        assert_eq!(rt; parts.len(), count, "parts of {callers}");
-        let mut text = whole(alloc, &parts)?;
-        text.extend_from_slice(&after_lines(alloc, &scripts, &contents)?)?;
-        assert_eq!(rt; text.as_slice(), want.as_slice(), "of {callers}");
+        let (parts, text) = in_parts(&rt, alloc, &scripts, &values)?;
+        assert_eq!(rt;
+            (parts, text.as_slice()),
+            (count, want.as_slice()),
+            "of {callers}"
+        );
     }
     Ok(())
 }

@@ -94,6 +94,13 @@ fn after_accounts<'a>(alloc: Global, text: &'a [u8]) -> Result<&'a [u8], Fail> {
     Ok(left)
 }
 
+// What is left of a text after the lines of the book.
+fn after_book<'a>(alloc: Global, text: &'a [u8]) -> Result<&'a [u8], Fail> {
+    let left = after_levels(alloc, text, "B")?;
+    let left = after_levels(alloc, left, "S")?;
+    after_accounts(alloc, left)
+}
+
 // As many lines as there can be, each with as long a text as a reply can have, and the book's lines
 // likewise: some 254 million bytes.
 #[test]
@@ -104,10 +111,7 @@ fn the_longest_report(rt: HostRuntime) -> Result<(), Fail> {
         return Err(Fail::new("refused"));
     };
     let text = reported(alloc, &scripts, 12, &greatest_values(alloc)?)?;
-    let left = after_fills(alloc, &text)?;
-    let left = after_levels(alloc, left, "B")?;
-    let left = after_levels(alloc, left, "S")?;
-    let left = after_accounts(alloc, left)?;
+    let left = after_book(alloc, after_fills(alloc, &text)?)?;
     assert_eq!(rt; left, b"done 999999\n".as_slice());
     Ok(())
 }

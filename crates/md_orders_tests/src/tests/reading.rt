@@ -6,9 +6,10 @@ ghost use Rattle.md_book.specs.declared.limits.TheConstants.{MAX_CALLER};
 use crate::tests::shown::shown;
 use md_book::{Command, Side};
 use md_orders::{OrderFault, Scripts, read_orders, read_orders_in_threads};
-use std::alloc::AllocGlobal;
+use std::alloc::{AllocGlobal, Global};
 use std::process::Abort;
 use std::test::Fail;
+use std::thread::Threads;
 
 // Reads files, and compares what is read with what is told. There is a sign `|` between two files,
 // and each is the text of its bytes, the sign `=`, and what is told of it: the commands or the fault.
@@ -170,6 +171,14 @@ fn total(read: Result<Scripts, OrderFault>) -> Result<u32, OrderFault> {
     }
 }
 
+// How many lines of one caller's file are read by one thread, and how many in parts by several.
+fn totals<R: Threads + Sync>(rt: &R, alloc: Global, text: &[u8]) -> [Result<u32, OrderFault>; 2] {
+    [
+        total(read_orders(alloc, text, 1)),
+        total(read_orders_in_threads(rt, alloc, text, 1)),
+    ]
+}
+
 #[test]
 fn a_million_records_are_read_and_no_more(rt: HostRuntime) -> Result<(), Fail> {
     let alloc = rt.alloc();
@@ -183,14 +192,10 @@ fn a_million_records_are_read_and_no_more(rt: HostRuntime) -> Result<(), Fail> {
         for made in 0..999_999 {
             text.extend_from_slice(b"1,D,S,1\n")?;
         }
-        let read = total(read_orders(alloc, &text, 1));
-        let in_threads = total(read_orders_in_threads(&rt, alloc, &text, 1));
-        assert_eq!(rt; (read, in_threads), (want, want));
+        let read = totals(&rt, alloc, &text);
         text.extend_from_slice(b"1,D,X,1\n")?;
-        let read = total(read_orders(alloc, &text, 1));
-        let in_threads = total(read_orders_in_threads(&rt, alloc, &text, 1));
         let more = Err(OrderFault::TooMany);
-        assert_eq!(rt; (read, in_threads), (more, more));
+        assert_eq!(rt; (read, totals(&rt, alloc, &text)), ([want; 2], [more; 2]));
     }
     Ok(())
 }

@@ -161,9 +161,10 @@ pub(crate) fn reported(
     Ok(text)
 }
 
-#[test]
-fn a_report_has_its_text(rt: HostRuntime) -> Result<(), Fail> {
-    let alloc = rt.alloc();
+// The scripts of a file, with a reply at each line of the second caller but its first.
+fn told_from_the_second_line(alloc: Global) -> Result<(Scripts, Replies), Fail>
+    ensures { IfOk result (λ r. r.1.scripts ≡ r.0) }
+{
     let orders = b"2,D,S,3\n1,P,7,S,100,5\n2,D,S,4\n2,P,7,S,100,5\n2,C,1,1\n\
         2,F,8,S,100,1000000\n2,K,8,S,100,3\n2,A,7\n"
         .as_slice();
@@ -172,16 +173,29 @@ fn a_report_has_its_text(rt: HostRuntime) -> Result<(), Fail> {
     };
     let mut replies = Replies::empty(alloc, &scripts)?;
     set_lines(&mut replies, &scripts, 2, 2, u8::MAX);
-    let told = [replies.get(2, 2), replies.get(2, 6)];
-    let none = [
+    Ok((scripts, replies))
+}
+
+// Two lines with a reply, and lines that have none or don't exist.
+fn seven_of(replies: &Replies) -> [Option<BookReply>; 7] {
+    [
+        replies.get(2, 2),
+        replies.get(2, 6),
         replies.get(2, 1),
         replies.get(1, 1),
         replies.get(2, 8),
         replies.get(0, 1),
         replies.get(3, 1),
-    ];
-    let want = [Some(BookReply::Depth(u64::MAX)), Some(BookReply::Killed)];
-    assert_eq!(rt; (told, none), (want, [None; 5]));
+    ]
+}
+
+#[test]
+fn a_report_has_its_text(rt: HostRuntime) -> Result<(), Fail> {
+    let alloc = rt.alloc();
+    let (scripts, replies) = told_from_the_second_line(alloc)?;
+    let (depth, killed) = (BookReply::Depth(u64::MAX), BookReply::Killed);
+    let want = [Some(depth), Some(killed), None, None, None, None, None];
+    assert_eq!(rt; seven_of(&replies), want);
     let values = [
         (DEPTHS, 1_999, 7),
         (DEPTHS, 1_000, 6),
@@ -194,15 +208,14 @@ fn a_report_has_its_text(rt: HostRuntime) -> Result<(), Fail> {
     ];
     let contents = contents_of(alloc, &values)?;
     let text = report(alloc, &scripts, &replies, &contents)?;
+    let line = summary(alloc, &scripts, &replies, &contents)?;
     let want = b"2:2 depth 18446744073709551615\n2:3 placed\n2:4 cancelled 5\n\
         2:5 filled 1000000 rest 0 from 64:1000000=1000000\n2:6 killed\n2:7 bought 5 sold 6\n\
         B 1 4\nB 1000 5\nS 1 6\nS 1000 7\n\
         account 1 bought 0 sold 2\naccount 9999 bought 3 sold 0\ndone 8\n"
         .as_slice();
-    assert_eq!(rt; text.as_slice(), want);
-    let line = summary(alloc, &scripts, &replies, &contents)?;
-    let want = b"made 8 placed 10 cancelled 5 filled 1000000 open 22\n".as_slice();
-    assert_eq!(rt; line.as_slice(), want);
+    let sums = b"made 8 placed 10 cancelled 5 filled 1000000 open 22\n".as_slice();
+    assert_eq!(rt; (text.as_slice(), line.as_slice()), (want, sums));
     Ok(())
 }
 
