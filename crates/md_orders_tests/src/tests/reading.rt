@@ -182,18 +182,23 @@ fn totals<R: Threads + Sync>(rt: &R, alloc: Global, text: &[u8]) -> [Result<u32,
 #[test]
 fn a_million_records_are_read_and_no_more(rt: HostRuntime) -> Result<(), Fail> {
     let alloc = rt.alloc();
+    let good = b"1,D,S,1\n".as_slice();
+    let bad = b"1,D,X,1\n".as_slice();
+    let version = b"medley,2\n".as_slice();
     let rows = [
-        (b"1,D,S,1\n".as_slice(), Ok(1_000_000)),
-        (b"1,D,X,1\n", Err(OrderFault::BadLine(1))),
-        (b"medley,2\n", Ok(999_999)),
+        (good, good, Ok(1_000_000)),
+        (good, bad, Ok(1_000_000)),
+        (bad, good, Err(OrderFault::BadLine(1))),
+        (version, good, Ok(999_999)),
+        (version, bad, Ok(999_999)),
     ];
-    for (first, want) in rows {
+    for (first, last, want) in rows {
         let mut text = first.to_vec(alloc)?;
         for made in 0..999_999 {
-            text.extend_from_slice(b"1,D,S,1\n")?;
+            text.extend_from_slice(good)?;
         }
         let read = totals(&rt, alloc, &text);
-        text.extend_from_slice(b"1,D,X,1\n")?;
+        text.extend_from_slice(last)?;
         let more = Err(OrderFault::TooMany);
         assert_eq!(rt; (read, totals(&rt, alloc, &text)), ([want; 2], [more; 2]));
     }
