@@ -1,5 +1,5 @@
 -- A store with one lane, seen as one of two.
-use Rattle.std.proofs.Common.{◌∷◌, [], List, ℕ, subst, inl, inr, arith}
+use Rattle.std.proofs.Common.{cond, Bool, true, false, ◌∷◌, [], List, ℕ, subst, inl, inr, arith}
 use Rattle.std.specs.Prelude.{Contains}
 use Rattle.std.specs.List.{AllByRecursion}
 use Rattle.std.proofs.lemmas.List.Elements.{All-from_recursion, recursion_from_All}
@@ -41,3 +41,9 @@ wider start f is =
       decided = is.decided;
       own = is.own;
     }
+
+-- and of a store that may have a lane more
+pub maybe_wider : (shared : Bool) (start : State) (f : Front) → IsFrontFrom start (0 ∷ []) f
+    → IsFrontFrom start (cond shared (0 ∷ 1 ∷ []) (0 ∷ [])) f
+maybe_wider true start f is = wider start f is
+maybe_wider false start f is = is

@@ -1,6 +1,6 @@
 //! A store that refuses attempts as a list says.
 
-ghost use Rattle.std.specs.Prelude.{◌≡◌, ◌∷◌, [], length, IfOk};
+ghost use Rattle.std.specs.Prelude.{◌≡◌, ◌∷◌, [], length, if◌then◌else◌, IfOk};
 ghost use Rattle.md_history.specs.Plain.{front_of, plain_limits, IsPassOf};
 ghost use Rattle.md_history.specs.Engine.{IsFrontFrom};
 
@@ -27,16 +27,17 @@ pub(crate) const LIMIT: Option<Stop> = Some(Stop::Limit(Limit::Nodes));
 
 pub(crate) const NO_MEMORY: Option<Stop> = Some(Stop::NoMemory);
 
-// A store for one thread, which counts its attempts where others see it. It is seen as one of two
-// lanes: its pass doesn't hold all lanes, and conflicts are lawful.
+// A store for one thread, which counts its attempts where others see it. If it is shared, it is
+// seen as one of two lanes: its pass doesn't hold all lanes, and conflicts are lawful.
 #[derive(Drop)]
 pub(crate) struct Refusing<'a> {
     store: PlainStore,
+    shared: bool,
     attempts: &'a AtomicU64,
 }
 
-// Its pass, with the stops that its attempts answer, one after another; `None` is an attempt of the
-// store.
+// Its pass, with the stops that attempts of a shared store answer, one after another; `None` is an
+// attempt of the store.
 #[derive(Drop)]
 pub(crate) struct RefusingPass {
     pub(crate) pass: PlainPass,
@@ -45,7 +46,7 @@ pub(crate) struct RefusingPass {
 }
 
 impl<'a> Refusing<'a> {
-    // A store with one queue, which is empty.
+    // A shared store with one queue, which is empty.
     pub(crate) fn open(
         alloc: Global,
         attempts: &'a AtomicU64,
@@ -53,7 +54,8 @@ impl<'a> Refusing<'a> {
     ) -> Result<(Refusing<'a>, RefusingPass), AllocError>
         ensures of { IfOk result (λ r. IsPassOf r.0.store r.1.pass) }
         ensures front { IfOk result (λ r.
-            IsFrontFrom r.0.store (0 ∷ 1 ∷ []) (front_of r.1.pass)) }
+            IsFrontFrom r.0.store (if r.0.shared then 0 ∷ 1 ∷ [] else 0 ∷ [])
+            (front_of r.1.pass)) }
         ensures queues { IfOk result (λ r. length r.0.store.queues ≡ 1) }
     {
         let (store, pass) = PlainStore::open(Contents::empty(alloc, 0, 1)?);
@@ -62,18 +64,25 @@ impl<'a> Refusing<'a> {
             stops,
             begun: 0,
         };
-        Ok((Refusing { store, attempts }, pass))
+        Ok((
+            Refusing {
+                store,
+                shared: true,
+                attempts,
+            },
+            pass,
+        ))
     }
 }
 
 impl<'a> Engine for Refusing<'a> {
-    ghost use Rattle.std.specs.Prelude.{◌∷◌};
+    ghost use Rattle.std.specs.Prelude.{◌∷◌, if◌then◌else◌};
 
     type Pass = RefusingPass;
 
     ghost start = { λ s. s.store };
 
-    ghost lanes = { λ s. 0 ∷ 1 ∷ [] };
+    ghost lanes = { λ s. if s.shared then 0 ∷ 1 ∷ [] else 0 ∷ [] };
 
     ghost limits = { λ s. plain_limits };
 
@@ -82,7 +91,7 @@ impl<'a> Engine for Refusing<'a> {
     ghost begun = { λ p. p.begun };
 
     ghost of = { λ s p. IsPassOf s.store p.pass
-        × IsFrontFrom s.store (0 ∷ 1 ∷ []) (front_of p.pass) };
+        × IsFrontFrom s.store (if s.shared then 0 ∷ 1 ∷ [] else 0 ∷ []) (front_of p.pass) };
 
     ghost fresh = { λ s p. ⊥ };
 
@@ -100,7 +109,7 @@ impl<'a> Engine for Refusing<'a> {
         }
         pass.begun = number + 1;
         self.attempts.fetch_add(1, Ordering::SeqCst);
-        if number < 4 {
+        if self.shared && number < 4 {
             if let Some(stop) = pass.stops[number] {
                 return Attempt::Stopped(stop);
             }
@@ -113,7 +122,7 @@ impl<'a> Engine for Refusing<'a> {
         drop(other);
     }
 
-    // No pass holds both lanes.
+    // No pass of a shared store holds both lanes; no test renews or closes another.
     fn renew(
         self,
         pass: RefusingPass,

@@ -3,7 +3,7 @@ use Rattle.md_history.specs.Front.{Front}
 use Rattle.md_history.specs.FrontLaws.{begins-self}
 use Rattle.md_history.specs.Attempt.{Stops, NoneOrAborted}
 use Rattle.md_many.proofs.Joining.{entries-none}
-use Rattle.md_many_tests.proofs.Lanes.{wider}
+use Rattle.md_many_tests.proofs.Lanes.{maybe_wider}
 use Rattle.md_many_tests.proofs.refusing.RefusingEngine.attempt.Goals as goal
 
 -- nothing was done
@@ -21,7 +21,7 @@ pub returns-in-Some-clause-stopped : goal.returns-in-Some-clause-stopped
 returns-in-Some-clause-stopped g c = stops-none _ _ c.requires.of.1.legal.fated
 
 pub returns-clause-of : goal.returns-clause-of
-returns-clause-of g c = (c.attempt.ensures.of, wider _ _ c.attempt.ensures.of.front)
+returns-clause-of g c = (c.attempt.ensures.of, maybe_wider _ _ _ c.attempt.ensures.of.front)
 
 pub returns-then-number-clause-stopped : goal.returns-then-number-clause-stopped
 returns-then-number-clause-stopped g c = stops-none _ _ c.requires.of.1.legal.fated
