@@ -1,8 +1,8 @@
 -- What is committed, where a pass holds all lanes and nothing is pending.
-use Rattle.std.proofs.Common.{◌≡◌, ℕ, true, false, List, [], ◌∷◌, ◌++◌, length, refl, sym, ap, subst, ◌∙◌, inl, inr, arith}
+use Rattle.std.proofs.Common.{◌≡◌, ℕ, false, List, [], ◌∷◌, ◌++◌, length, refl, sym, ap, subst, ◌∙◌}
 use Rattle.std.specs.Prelude.{◌==◌, All, Contains, filter}
 use Rattle.std.specs.List.{AllByRecursion}
-use Rattle.std.proofs.lemmas.Bool.{cases_Bool, eqb-true, ne_eqb}
+use Rattle.std.proofs.lemmas.Bool.{ne_eqb}
 use Rattle.std.proofs.lemmas.List.Elements.{recursion_from_All, filter-append}
 use Rattle.md_history.specs.declared.entries.Entry.{Entry}
 use Rattle.md_history.specs.declared.entries.Fate.{Fate}
@@ -11,7 +11,7 @@ use Rattle.md_history.specs.State.{State}
 use Rattle.md_history.specs.History.{committed}
 use Rattle.md_history.specs.Front.{Front, IsPrefix, AllStay, AllDecidedOn, committed_in, committed_on, is_of, of_lane}
 use Rattle.md_history.specs.FrontLaws.{lane_passes}
-use Rattle.md_history.specs.OwnLaws.{committed_pairs, pairs_on, own-grows, settles-own}
+use Rattle.md_history.specs.OwnLaws.{committed_pairs, own-grows, settles-own}
 use Rattle.md_history.specs.Engine.{IsFrontFrom, SettlesFrom}
 use Rattle.md_many.specs.Lines.{PlaysLines}
 use Rattle.md_many.specs.Joined.{entries_after}

@@ -1,14 +1,13 @@
 -- Turns on the lanes of two parts of a pass are turns on the lanes of the whole, once the parts are joined.
-use Rattle.std.proofs.Common.{◌≡◌, ◌+◌, ◌≤◌, ℕ, Option, List, [], ◌∷◌, ◌++◌, take, drop, length, refl, sym, ap, subst, ◌∙◌, arith}
+use Rattle.std.proofs.Common.{◌≡◌, ◌+◌, ℕ, Option, List, [], ◌∷◌, ◌++◌, take, drop, length, refl, sym, ap, subst, ◌∙◌, arith}
 use Rattle.std.specs.Prelude.{◌-◌, ◌/◌, Contains}
 use Rattle.std.proofs.lemmas.List.{take-append-drop}
 use Rattle.md_history.specs.declared.acts.Act.{Act}
-use Rattle.md_history.specs.declared.entries.Entry.{Entry}
 use Rattle.md_history.specs.Front.{Front, IsPrefix, AllStay}
 use Rattle.md_history.specs.FrontLaws.{prefix-trans, all_stay-trans}
-use Rattle.md_history.specs.Engine.{IsRising, IsPartOf, KeepsOn, Splits, Joins}
+use Rattle.md_history.specs.Engine.{IsRising, Splits, Joins}
 use Rattle.md_history.specs.LaneLaws.{contains-first, contains-more}
-use Rattle.md_many.specs.Rounds.{TakesTurn, AreTurns, PlaysTurns, AreWithin}
+use Rattle.md_many.specs.Rounds.{AreTurns, PlaysTurns, AreWithin}
 use Rattle.md_many.proofs.Parting.{lanes-joined}
 
 pub within-first : (line_count : ℕ → ℕ) (before : ℕ) (xs ys : List ℕ) → AreWithin line_count before (xs ++ ys)

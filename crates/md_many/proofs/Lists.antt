@@ -1,5 +1,5 @@
 -- Lists by caller, kept in vectors.
-use Rattle.std.proofs.Common.{◌≡◌, ◌≢◌, ◌≤◌, ◌<◌, ◌∷◌, [], ◌∙◌, ℕ, zero, suc, List, Vec, Global, Result, Ok, Err, true, length, refl, sym, ap, arith}
+use Rattle.std.proofs.Common.{◌≡◌, ◌≢◌, ◌≤◌, ◌∷◌, [], ◌∙◌, ℕ, zero, suc, List, Vec, Global, Result, Ok, Err, true, length, refl, sym, ap, arith}
 use Rattle.std.specs.Prelude.{◌-◌, slice_set, slice_index_or, is_ok, OnOk}
 use Rattle.md_many.specs.Rounds.{at_caller}
 use Rattle.md_many.specs.Played.{lists_in}

@@ -11,7 +11,6 @@ use Rattle.md_history.specs.Front.{Front, of_lane, is_lane_of}
 use Rattle.md_history.specs.FrontLaws.{lane_passes, lane_is_of}
 use Rattle.md_history.specs.Engine.{IsRising}
 use Rattle.md_history.specs.LaneLaws.{contains-either, contains-first, contains-more}
-use Rattle.md_many.specs.Tags.{tag_of}
 use Rattle.md_many.specs.Lines.{AreLines}
 use Rattle.md_many.specs.Rounds.{at_caller, TakesTurn, AreTurns, of_caller}
 use Rattle.md_many.proofs.TagLaws.{caller_of_tag}

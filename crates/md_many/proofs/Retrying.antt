@@ -5,7 +5,6 @@ use Rattle.std.proofs.lemmas.List.{length-append}
 use Rattle.md_history.specs.declared.acts.Act.{Act}
 use Rattle.md_history.specs.declared.entries.Entry.{Entry}
 use Rattle.md_history.specs.declared.entries.Fate.{Fate}
-use Rattle.md_history.specs.declared.entries.Fate.TheVariants.{Committed, Aborted}
 use Rattle.md_history.specs.Front.{Front, BeginsOn, own_after}
 use Rattle.md_history.specs.FrontLaws.{begins-self, begins-trans}
 use Rattle.md_history.specs.declared.stops.Shown.{Shown}

@@ -1,7 +1,6 @@
 -- What the turns of a round come to, side by side.
-use Rattle.std.proofs.Common.{◌≡◌, ◌+◌, ◌<◌, ◌≤◌, ◌^◌, ℕ, Option, IsSome, List, [], ◌++◌, length, sym, ap, subst, ◌∙◌, arith}
+use Rattle.std.proofs.Common.{◌≡◌, ◌+◌, ◌<◌, ◌≤◌, ◌^◌, ℕ, Option, IsSome, List, [], length, sym, subst, ◌∙◌}
 use Rattle.md_history.specs.declared.acts.Act.{Act}
-use Rattle.md_history.specs.declared.entries.Entry.{Entry}
 use Rattle.md_history.specs.State.{State}
 use Rattle.md_history.specs.Counts.{Bounds}
 use Rattle.md_history.specs.Front.{Front}

@@ -5,7 +5,7 @@ ghost use Rattle.std.specs.Prelude.{◌≡◌, None};
 use crate::seen::Cleanup;
 use md_machine::{Read, Write};
 
-// All zero, so that one fill clears a set.
+// This and the two below are all zero, so that one fill clears a set.
 /// What stands at the free places of a set of recorded words.
 pub const NO_READ: Read = Read {
     word: 0,

@@ -1,8 +1,7 @@
-use Rattle.std.proofs.Common.{rules, ◌≡◌, ◌≤◌, ◌<◌, ◌∷◌, [], ◌++◌, ◌∙◌, ℕ, List, length, map, replicate, refl, sym, ap, subst, arith}
+use Rattle.std.proofs.Common.{rules, ◌≡◌, ◌∙◌, length, sym, ap, arith}
 use Rattle.std.proofs.lemmas.List.{length-replicate}
 use Rattle.md_history.specs.Engine.{empty_front}
 use Rattle.md_many.specs.Rounds.{at_caller}
-use Rattle.md_many.specs.Course.{Stands}
 use Rattle.md_many.proofs.Coursing.{stands-first, whole-count, all-played, are-interleaving}
 use Rattle.md_many.proofs.rounds.play_open_rounds.Goals as goal
 

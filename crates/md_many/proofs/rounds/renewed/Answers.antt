@@ -1,4 +1,4 @@
-use Rattle.std.proofs.Common.{rules, ◌≡◌, ◌∷◌, [], ◌++◌, map, ap}
+use Rattle.std.proofs.Common.{rules, ◌≡◌}
 use Rattle.std.proofs.lemmas.List.{map_push}
 use Rattle.md_history.specs.Engine.{empty_front}
 use Rattle.md_many.proofs.Coursing.{has-room, stands-renewed}

@@ -1,4 +1,4 @@
-use Rattle.std.proofs.Common.{◌≡◌, ◌∙◌, ◌++◌, ◌+◌, ◌-◌, ◌/◌, ◌≤◌, sym, subst, refl, ap, length, arith}
+use Rattle.std.proofs.Common.{◌≡◌, ◌++◌, ◌-◌, ◌/◌, sym, subst, refl, length}
 use Rattle.std.proofs.lemmas.List.{take-append-drop}
 use Rattle.md_many.specs.Rounds.{AreWithin}
 use Rattle.md_many.proofs.Joined.{within-first, within-rest}

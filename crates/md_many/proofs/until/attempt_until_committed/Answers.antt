@@ -1,5 +1,4 @@
 use Rattle.std.proofs.Common.{arith, rules, refl, subst}
-use Rattle.md_history.specs.declared.stops.Stop.TheVariants.{Conflict}
 use Rattle.md_many.proofs.Retrying.{stop-none, stop-more, stop-end, commit-end, conflict_counted}
 use Rattle.md_many.proofs.until.attempt_until_committed.Goals as goal
 

@@ -1,9 +1,7 @@
-use Rattle.std.proofs.Common.{rules, ◌≡◌, ◌≢◌, ◌+◌, ◌≤◌, ◌<◌, ◌∷◌, [], ◌++◌, ◌∙◌, ℕ, zero, suc, Bool, false, true, List, Vec, Global, length, map, refl, sym, ap, subst, arith, cond}
-use Rattle.std.specs.Prelude.{◌==◌, ◌-◌, slice_set, slice_index_or, is_ok}
+use Rattle.std.proofs.Common.{◌≡◌, ◌≤◌, ◌∷◌, [], ◌++◌, ◌∙◌, ℕ, zero, suc, Bool, false, List, length, refl, sym, ap, arith, cond}
+use Rattle.std.specs.Prelude.{◌==◌}
 use Rattle.std.proofs.lemmas.Bool.{eq-eqb, false≢true}
 use Rattle.md_many.specs.Laws.{AllSuit}
-use Rattle.md_many.specs.Rounds.{at_caller}
-use Rattle.md_many.specs.Played.{lists_in}
 use Rattle.md_many.proofs.Lists.{set-same, set-other, list-there, on-ok}
 use Rattle.md_many.proofs.many.ByCallerKeeper.keep.Goals as goal
 
