@@ -52,3 +52,6 @@ returns-clause-committed g c =
 pub returns-clause-stopped : goal.returns-clause-stopped
 returns-clause-stopped g c =
     stop-end _ _ _ _ _ c.attempts.invariant.stopped _ _ (omega arith) c.attempt-2.ensures.stopped
+
+pub returns-clause-begun : goal.returns-clause-begun
+returns-clause-begun g c = search rules depth 1

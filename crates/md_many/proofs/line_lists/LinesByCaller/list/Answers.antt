@@ -3,6 +3,7 @@ use Rattle.std.specs.Prelude.{sum_by}
 use Rattle.md_many.specs.Rounds.{at_caller}
 use Rattle.md_many.proofs.Left.{list-few}
 use Rattle.md_many.proofs.Lists.{list-there}
+use Rattle.std.proofs.lemmas.Grind.{common_steps}
 use Rattle.md_many.proofs.line_lists.LinesByCaller.list.Goals as goal
 
 -- what is answered is the caller's list
@@ -24,3 +25,6 @@ returns-clause-few g c = omega (
   c.self.invariant.count,
   c.self.invariant.few,
 )
+
+pub returns-then-caller-eq0-clause-list : goal.returns-then-caller-eq0-clause-list
+returns-then-caller-eq0-clause-list g c = grind (arith, common_steps)

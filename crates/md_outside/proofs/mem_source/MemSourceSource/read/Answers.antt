@@ -1,7 +1,8 @@
-use Rattle.std.proofs.Common.{arith, ◌≡◌, ◌++◌, ◌+◌, ◌<◌, ◌≤◌, ◌∙◌, ℕ, List, sym, ap, drop, take, length}
+use Rattle.std.proofs.Common.{arith, ◌≡◌, ◌++◌, ◌+◌, ◌<◌, ◌≤◌, ◌∙◌, ℕ, List, sym, ap, drop, take, length, rules}
 use Rattle.std.proofs.lemmas.List.{take-append-drop, length-take-le, drop-drop}
 use Rattle.std.proofs.Math.Seq.{take-append_seam}
 use Rattle.std.proofs.Math.ListN.{drop_of_length-le}
+use Rattle.std.proofs.lemmas.Grind.{common_steps}
 use Rattle.md_outside.proofs.mem_source.MemSourceSource.read.Goals as goal
 
 -- the front of the buffer, and then what is left after it, are what was left before
@@ -26,3 +27,21 @@ returns-clause-bytes c =
       left ∙ copied bytes c.copy_from_slice.new.self _ at count (rw rest at c.copy_from_slice.ensures.after) (rw rest at fits),
       λ zero _. sym (drop-drop count at bytes) ∙ drop_of_length-le (drop at bytes) (rw rest at (none zero)),
     )
+
+pub returns-clause-count : goal.returns-clause-count
+returns-clause-count c = search rules depth 1
+
+pub returns-then-is_listed-clause-step : goal.returns-then-is_listed-clause-step
+returns-then-is_listed-clause-step c = search rules depth 1
+
+pub returns-then-is_listed-clause-fails : goal.returns-then-is_listed-clause-fails
+returns-then-is_listed-clause-fails c = search rules depth 1
+
+pub returns-clause-fails : goal.returns-clause-fails
+returns-clause-fails c = search rules depth 1
+
+pub returns-clause-step : goal.returns-clause-step
+returns-clause-step c = grind (arith, common_steps)
+
+pub returns-clause-tail : goal.returns-clause-tail
+returns-clause-tail c = grind (arith, common_steps)

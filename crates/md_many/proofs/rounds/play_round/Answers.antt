@@ -1,0 +1,8 @@
+use Rattle.std.proofs.Common.{rules}
+use Rattle.md_many.proofs.rounds.play_round.Goals as goal
+
+pub play_first-requires-clause-tries : goal.play_first-requires-clause-tries
+play_first-requires-clause-tries g c κs within = search rules depth 1
+
+pub returns-then-course-clause-less : goal.returns-then-course-clause-less
+returns-then-course-clause-less g c = search rules depth 1

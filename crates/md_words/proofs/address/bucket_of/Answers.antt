@@ -1,0 +1,5 @@
+use Rattle.std.proofs.Common.{rules}
+use Rattle.md_words.proofs.address.bucket_of.Goals as goal
+
+pub returns-in-131198 : goal.returns-in-131198
+returns-in-131198 c = search rules depth 1
