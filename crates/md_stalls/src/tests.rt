@@ -14,6 +14,7 @@ use md_machine::step::LAST_COUNT;
 use md_rule::{Field, Pass};
 use md_tickets::{dispenser, renew, ticket_word};
 use md_words::{Content, Shape};
+use std::process::Abort;
 use std::test::Fail;
 use std::thread::{Threads, join};
 
@@ -161,8 +162,8 @@ fn aborted(field: &Field<CellTheory>, pass: &mut Pass<CellTheory>) -> Option<u32
     Some(aborted)
 }
 
-// The words of the slot 0 of the descriptor 0, and what they hold.
-fn slot(field: &Field<CellTheory>, pass: &mut Pass<CellTheory>) -> [(u32, u64); 3]
+// The words of the slot 0 of the descriptor 0 and the cell's word, and what they hold.
+fn slot_and_cell(field: &Field<CellTheory>, pass: &mut Pass<CellTheory>) -> [(u32, u64); 4]
     requires field { IsOf pass.old field.now }
     ensures same { pass.new ≡ record pass.old { view = pass.new.view } }
 {
@@ -170,21 +171,83 @@ fn slot(field: &Field<CellTheory>, pass: &mut Pass<CellTheory>) -> [(u32, u64); 
     let word = field.shape().slot_word(desc, 0);
     let old = field.shape().slot_old(desc, 0);
     let new = field.shape().slot_new(desc, 0);
+    let cell = ticket_word(field);
     [
         (word, pass.load(field, word)),
         (old, pass.load(field, old)),
         (new, pass.load(field, new)),
+        (cell, pass.load(field, cell)),
     ]
 }
 
-// What a word holds. Nothing is in hand, before and afterwards.
-fn held(field: &Field<CellTheory>, pass: &mut Pass<CellTheory>, word: u32) -> u64
+// A transaction stalls in a plain word. Whether its install won, and what its slot and the word hold
+// then.
+fn stalled(
+    field: &Field<CellTheory>,
+    pass: &mut Pass<CellTheory>,
+    value: u32,
+) -> Option<(bool, [(u32, u64); 4])>
+    requires field { IsOf pass.old field.now }
+    requires idle { pass.old.view.hand ≡ None }
+    ensures field { IsOf pass.new field.now }
+{
+    let found = plain(field, pass)?;
+    let won = stall(field, pass, found, value)?;
+    Some((won, slot_and_cell(field, pass)))
+}
+
+// A transaction inserts a value into a plain word, and is committed if `decides` says so. Whether each
+// step won.
+fn inserted(
+    field: &Field<CellTheory>,
+    pass: &mut Pass<CellTheory>,
+    value: u32,
+    decides: bool,
+) -> Option<bool>
+    requires field { IsOf pass.old field.now }
+    requires idle { pass.old.view.hand ≡ None }
+    ensures field { IsOf pass.new field.now }
+    ensures idle { pass.new.view.hand ≡ None }
+{
+    let found = plain(field, pass)?;
+    Some(insert(field, pass, found, value, decides))
+}
+
+// A word and what it holds.
+fn held(field: &Field<CellTheory>, pass: &mut Pass<CellTheory>, word: u32) -> (u32, u64)
     requires field { IsOf pass.old field.now × (word < words_of field.now.origin.shape) }
     requires idle { pass.old.view.hand ≡ None }
     ensures field { IsOf pass.new field.now }
     ensures idle { pass.new.view.hand ≡ None }
 {
-    pass.load(field, word)
+    (word, pass.load(field, word))
+}
+
+// The status of the descriptor 0 and the cell's word, and what they hold.
+fn status_and_cell(field: &Field<CellTheory>, pass: &mut Pass<CellTheory>) -> [(u32, u64); 2]
+    requires field { IsOf pass.old field.now }
+    requires idle { pass.old.view.hand ≡ None }
+    ensures field { IsOf pass.new field.now }
+    ensures idle { pass.new.view.hand ≡ None }
+{
+    let status = field.shape().status(field.shape().desc_of(0));
+    [
+        held(field, pass, status),
+        held(field, pass, ticket_word(field)),
+    ]
+}
+
+// The word has been changed twice for each install and each exchange that won, and each transaction
+// whose install won is aborted.
+fn assert_left(rt: &impl Abort, field: &Field<CellTheory>, pass: &mut Pass<CellTheory>, won: Won)
+    requires field { IsOf pass.old field.now }
+    requires idle { pass.old.view.hand ≡ None }
+    requires few { (won.installs ≤ 80000) × (won.exchanges ≤ 80000) }
+{
+    let count = 2 * (won.installs + won.exchanges);
+    let found = (left(field, pass), aborted(field, pass));
+    let plain = Met::Plain(Content { value: 0, count });
+    assert_eq!(rt; found, (plain, Some(won.installs)));
 }
 
 #[test]
@@ -192,19 +255,14 @@ fn a_transaction_that_stalls_is_aborted_and_taken_out(rt: HostRuntime) -> Result
     let shape = Shape::new(2, 16, 1, 4, 1, 64, 1)?;
     let (field, mut a) = dispenser(rt.alloc(), shape)?;
     let mut b = a.split(&field).expect(&rt, "two lanes");
-    let found = plain(&field, &mut a).expect(&rt, "no descriptor");
-    assert_eq!(rt; stall(&field, &mut a, found, 7), Some(true));
-    assert_eq!(rt; slot(&field, &mut a), [(423, 1), (424, 0), (425, 7)]);
-    let word = ticket_word(&field);
-    assert_eq!(rt; (word, a.load(&field, word)), (1, 1));
+    let held = [(423, 1), (424, 0), (425, 7), (1, 1)];
+    assert_eq!(rt; stalled(&field, &mut a, 7), Some((true, held)));
     let cleared = Cleared {
         end: End::Aborted,
         left: 2,
     };
-    assert_eq!(rt; meet(&field, &mut b), Met::Cleared(cleared));
-    let status = field.shape().status(field.shape().desc_of(0));
-    assert_eq!(rt; (status, b.load(&field, status)), (166, 3));
-    assert_eq!(rt; b.load(&field, word), 2);
+    let found = (meet(&field, &mut b), status_and_cell(&field, &mut b));
+    assert_eq!(rt; found, (Met::Cleared(cleared), [(166, 3), (1, 2)]));
     Ok(())
 }
 
@@ -212,22 +270,18 @@ fn a_transaction_that_stalls_is_aborted_and_taken_out(rt: HostRuntime) -> Result
 fn a_transaction_is_committed_by_its_pass(rt: HostRuntime) -> Result<(), Fail> {
     let shape = Shape::new(2, 16, 1, 4, 1, 64, 1)?;
     let (field, mut a) = dispenser(rt.alloc(), shape)?;
-    let found = plain(&field, &mut a).expect(&rt, "no descriptor");
-    assert!(rt; insert(&field, &mut a, found, 6, true));
-    let status = field.shape().status(field.shape().desc_of(0));
-    assert_eq!(rt; held(&field, &mut a, status), 2);
-    let word = ticket_word(&field);
-    assert_eq!(rt;
-        held(&field, &mut a, word),
-        Content { value: 0, count: 1 }.word()
-    );
     let after = Content { value: 7, count: 2 };
     let cleared = Cleared {
         end: End::Committed,
         left: after.word(),
     };
-    assert_eq!(rt; meet(&field, &mut a), Met::Cleared(cleared));
-    assert_eq!(rt; meet(&field, &mut a), Met::Plain(after));
+    let found = (
+        inserted(&field, &mut a, 6, true),
+        status_and_cell(&field, &mut a),
+        [meet(&field, &mut a), meet(&field, &mut a)],
+    );
+    let met = [Met::Cleared(cleared), Met::Plain(after)];
+    assert_eq!(rt; found, (Some(true), [(166, 2), (1, 1)], met));
     Ok(())
 }
 
@@ -236,18 +290,26 @@ fn another_pass_commits_a_ready_transaction(rt: HostRuntime) -> Result<(), Fail>
     let shape = Shape::new(2, 16, 1, 4, 1, 64, 1)?;
     let (field, mut a) = dispenser(rt.alloc(), shape)?;
     let mut b = a.split(&field).expect(&rt, "two lanes");
-    let found = plain(&field, &mut a).expect(&rt, "no descriptor");
-    assert!(rt; insert(&field, &mut a, found, 6, false));
-    let status = field.shape().status(field.shape().desc_of(0));
-    assert_eq!(rt; held(&field, &mut b, status), 1);
     let after = Content { value: 7, count: 2 };
     let cleared = Cleared {
         end: End::Committed,
         left: after.word(),
     };
-    assert_eq!(rt; meet(&field, &mut b), Met::Cleared(cleared));
-    assert_eq!(rt; held(&field, &mut b, status), 2);
-    assert_eq!(rt; meet(&field, &mut a), Met::Plain(after));
+    let found = (
+        inserted(&field, &mut a, 6, false),
+        status_and_cell(&field, &mut b),
+        meet(&field, &mut b),
+        status_and_cell(&field, &mut b),
+        meet(&field, &mut a),
+    );
+    let want = (
+        Some(true),
+        [(166, 1), (1, 1)],
+        Met::Cleared(cleared),
+        [(166, 2), (1, after.word())],
+        Met::Plain(after),
+    );
+    assert_eq!(rt; found, want);
     Ok(())
 }
 
@@ -257,12 +319,7 @@ fn a_pass_alone_clears_each_stalled_transaction(rt: HostRuntime) -> Result<(), F
     let (field, pass) = dispenser(rt.alloc(), shape)?;
     let (won, mut pass) = turns(&field, pass, TURNS);
     assert_eq!(rt; won.installs, 4);
-    let count = 2 * (won.installs + won.exchanges);
-    assert_eq!(rt;
-        left(&field, &mut pass),
-        Met::Plain(Content { value: 0, count })
-    );
-    assert_eq!(rt; aborted(&field, &mut pass), Some(4));
+    assert_left(&rt, &field, &mut pass, won);
     Ok(())
 }
 
@@ -272,12 +329,7 @@ fn two_threads_clear_stalled_transactions(rt: HostRuntime) -> Result<(), Fail> {
     let (field, mut one) = dispenser(rt.alloc(), shape)?;
     let other = one.split(&field).expect(&rt, "64 lanes");
     let (won, mut pass) = turns_of_two(&rt, &field, one, other);
-    let count = 2 * (won.installs + won.exchanges);
-    assert_eq!(rt;
-        left(&field, &mut pass),
-        Met::Plain(Content { value: 0, count })
-    );
-    assert_eq!(rt; aborted(&field, &mut pass), Some(won.installs));
+    assert_left(&rt, &field, &mut pass, won);
     Ok(())
 }
 
@@ -294,12 +346,10 @@ fn four_threads_clear_stalled_transactions(rt: HostRuntime) -> Result<(), Fail> 
         || turns_of_two(&rt, &field, c, d),
     );
     pass.join(&field, rest);
-    let installs = first.installs + second.installs;
-    let count = 2 * (installs + first.exchanges + second.exchanges);
-    assert_eq!(rt;
-        left(&field, &mut pass),
-        Met::Plain(Content { value: 0, count })
-    );
-    assert_eq!(rt; aborted(&field, &mut pass), Some(installs));
+    let won = Won {
+        installs: first.installs + second.installs,
+        exchanges: first.exchanges + second.exchanges,
+    };
+    assert_left(&rt, &field, &mut pass, won);
     Ok(())
 }
