@@ -1,6 +1,6 @@
 //! Transactions on fields of the cell: their words are the heads of the map's buckets.
 
-ghost use Rattle.std.specs.Prelude.{◌≡◌, IfOk, false, replicate};
+ghost use Rattle.std.specs.Prelude.{◌≡◌, IfOk, replicate};
 ghost use Rattle.md_rule.specs.Views.{IsOf};
 ghost use Rattle.md_nbtc_tests.specs.Tested.{IsOpen};
 ghost use Rattle.md_nbtc.specs.State.{state};
@@ -12,6 +12,7 @@ use md_nbtc_law::WORN;
 use md_rule::{Field, Pass};
 use md_words::Shape;
 use std::alloc::{AllocError, Global};
+use std::process::Abort;
 use std::test::Fail;
 
 fn zeros(alloc: Global, count: usize) -> Result<Vec<u64>, AllocError>
@@ -76,21 +77,29 @@ fn ready_and_leave(
     }
 }
 
-// Commits a transaction without operations.
+// Commits a transaction without operations: its tag, and how many reads and writes it had.
 fn commit(
     pass: &mut Pass<CellTheory>,
     field: &Field<CellTheory>,
     tag: u64,
-) -> Result<Option<Receipt>, Limit>
+) -> Result<Option<(u64, usize)>, Limit>
     requires { IsOf pass.old field.now }
 {
     let begun = Txn::begin(pass, field, tag)?;
     let mut sets = Sets::new();
     let txn = begun.with(&mut sets);
     match txn.ready() {
-        Ok(ready) => Ok(ready.decide().ok()),
+        Ok(ready) => Ok(told(ready.decide().ok())),
         Err(_) => Ok(None),
     }
+}
+
+// The tag of a receipt, and how many reads and writes it has.
+fn told(receipt: Option<Receipt>) -> Option<(u64, usize)> {
+    let receipt = receipt?;
+    let reads = receipt.reads().len();
+    let writes = receipt.writes().len();
+    Some((receipt.tag(), reads.saturating_add(writes)))
 }
 
 // What stands in the first bucket's head.
@@ -184,36 +193,38 @@ fn fresh(txn: &mut Txn<'_, CellTheory>, field: &Field<CellTheory>) -> Result<u32
     txn.fresh(3, 4, 0)
 }
 
-// Records so many heads, from the first: how many, or why not.
+// Records so many heads, from the first: what the last one holds, or why not.
 fn note_many(
     txn: &mut Txn<'_, CellTheory>,
     field: &Field<CellTheory>,
     count: u64,
-) -> Result<u64, Stop>
+) -> Result<Seen, Stop>
     requires { IsOpen field.now (state txn.old) }
     ensures pass { txn.new.pass.ghost_name ≡ txn.old.pass.ghost_name }
     ensures open { IsOpen field.now (state txn.new) }
 {
-    for bucket in 0..count {
-        note(txn, field, bucket)?;
+    let mut last = note(txn, field, 0)?;
+    for bucket in 1..count {
+        last = note(txn, field, bucket)?;
     }
-    Ok(count)
+    Ok(last)
 }
 
-// Changes so many heads, from the first, to 1.
+// Changes so many heads, from the first, to 1: what the last one holds, or why not.
 fn change_many(
     txn: &mut Txn<'_, CellTheory>,
     field: &Field<CellTheory>,
     count: u64,
-) -> Result<u64, Stop>
+) -> Result<Seen, Stop>
     requires { IsOpen field.now (state txn.old) }
     ensures pass { txn.new.pass.ghost_name ≡ txn.old.pass.ghost_name }
     ensures open { IsOpen field.now (state txn.new) }
 {
-    for bucket in 0..count {
-        change(txn, field, bucket, 1)?;
+    let mut last = change(txn, field, 0, 1)?;
+    for bucket in 1..count {
+        last = change(txn, field, bucket, 1)?;
     }
-    Ok(count)
+    Ok(last)
 }
 
 // Takes so many nodes: the last one, or why not.
@@ -226,33 +237,142 @@ fn fresh_many(
     ensures pass { txn.new.pass.ghost_name ≡ txn.old.pass.ghost_name }
     ensures open { IsOpen field.now (state txn.new) }
 {
-    let mut last = 0;
-    for i in 0..count {
+    let mut last = fresh(txn, field)?;
+    for i in 1..count {
         let _ = i;
         last = fresh(txn, field)?;
     }
     Ok(last)
 }
 
-// What stands in a word, as a transaction sees one that isn't its own.
-fn plain(value: u32, count: u32) -> Seen
-    ensures { result ≡ record { value = value; count = count; own = false } }
-{
-    Seen {
+// A call of a transaction: for the head of a bucket, for so many heads from the first, or for so
+// many nodes. `Change` has the new value too.
+#[derive(Clone, Copy)]
+enum Call {
+    Look(u64),
+    Note(u64),
+    NoteMany(u64),
+    Change(u64, u32),
+    ChangeMany(u64),
+    Take(u32),
+}
+
+// What a call gave: what the head holds, or the node. It is the last one of many.
+#[derive(Clone, Copy, Debug, PartialEq, Eq)]
+enum Gave {
+    Head(Seen),
+    Node(u32),
+}
+
+// A head, as a transaction sees one that it hasn't changed.
+fn plain(value: u32, count: u32) -> Result<Gave, Stop> {
+    Ok(Gave::Head(Seen {
         value,
         count,
         own: false,
+    }))
+}
+
+// A head that the transaction has changed.
+fn own(value: u32, count: u32) -> Result<Gave, Stop> {
+    Ok(Gave::Head(Seen {
+        value,
+        count,
+        own: true,
+    }))
+}
+
+fn node(number: u32) -> Result<Gave, Stop> {
+    Ok(Gave::Node(number))
+}
+
+// Makes a call.
+fn make(txn: &mut Txn<'_, CellTheory>, field: &Field<CellTheory>, call: Call) -> Result<Gave, Stop>
+    requires { IsOpen field.now (state txn.old) }
+    ensures pass { txn.new.pass.ghost_name ≡ txn.old.pass.ghost_name }
+    ensures open { IsOpen field.now (state txn.new) }
+{
+    match call {
+        Call::Look(bucket) => gave_head(look(txn, field, bucket)),
+        Call::Note(bucket) => gave_head(note(txn, field, bucket)),
+        Call::NoteMany(count) => gave_head(note_many(txn, field, count)),
+        Call::Change(bucket, to) => gave_head(change(txn, field, bucket, to)),
+        Call::ChangeMany(count) => gave_head(change_many(txn, field, count)),
+        Call::Take(count) => gave_node(fresh_many(txn, field, count)),
     }
+}
+
+fn gave_head(seen: Result<Seen, Stop>) -> Result<Gave, Stop> {
+    Ok(Gave::Head(seen?))
+}
+
+fn gave_node(node: Result<u32, Stop>) -> Result<Gave, Stop> {
+    Ok(Gave::Node(node?))
+}
+
+// Makes calls one after another. Each gives what stands beside it.
+fn assert_calls(
+    rt: &impl Abort,
+    txn: &mut Txn<'_, CellTheory>,
+    field: &Field<CellTheory>,
+    calls: &[(Call, Result<Gave, Stop>)],
+)
+    requires { IsOpen field.now (state txn.old) }
+    ensures pass { txn.new.pass.ghost_name ≡ txn.old.pass.ghost_name }
+    ensures open { IsOpen field.now (state txn.new) }
+{
+    for i in 0..calls.len() {
+        let (call, gave) = calls[i];
+        assert_eq!(rt; make(txn, field, call), gave, "call {i}");
+    }
+}
+
+// A transaction makes such calls, and stops.
+fn assert_stopped(
+    rt: &impl Abort,
+    pass: &mut Pass<CellTheory>,
+    field: &Field<CellTheory>,
+    tag: u64,
+    sets: &mut Sets,
+    calls: &[(Call, Result<Gave, Stop>)],
+)
+    requires { IsOf pass.old field.now }
+    ensures { IsOf pass.new field.now }
+{
+    let mut txn = begin(pass, field, tag, sets).expect(rt, "an attempt is left");
+    assert_calls(rt, &mut txn, field, calls);
+    stop(txn, field);
+}
+
+// A transaction makes such calls, and goes no further. What stands in the first bucket's head then.
+fn head_left(
+    rt: &impl Abort,
+    pass: &mut Pass<CellTheory>,
+    field: &Field<CellTheory>,
+    tag: u64,
+    sets: &mut Sets,
+    calls: &[(Call, Result<Gave, Stop>)],
+) -> u64
+    requires { IsOf pass.old field.now }
+    ensures { IsOf pass.new field.now }
+{
+    let mut txn = begin(pass, field, tag, sets).expect(rt, "an attempt is left");
+    assert_calls(rt, &mut txn, field, calls);
+    leave(txn, field);
+    head(pass, field)
 }
 
 #[test]
 fn a_lane_begins_no_more_attempts_than_it_has(rt: HostRuntime) -> Result<(), Fail> {
     let shape = Shape::new(1, 1, 0, 3, 1, 1, 0)?;
     let (field, mut pass) = blank(rt.alloc(), shape)?;
-    assert_eq!(rt; begin_and_leave(&mut pass, &field, 0), Ok(()));
-    assert_eq!(rt; begin_and_leave(&mut pass, &field, 1), Ok(()));
-    assert_eq!(rt; begin_and_leave(&mut pass, &field, 2), Ok(()));
-    assert_eq!(rt; begin_and_leave(&mut pass, &field, 3), Err(Limit::Tries));
+    let begun = [
+        begin_and_leave(&mut pass, &field, 0),
+        begin_and_leave(&mut pass, &field, 1),
+        begin_and_leave(&mut pass, &field, 2),
+        begin_and_leave(&mut pass, &field, 3),
+    ];
+    assert_eq!(rt; begun, [Ok(()), Ok(()), Ok(()), Err(Limit::Tries)]);
     Ok(())
 }
 
@@ -260,15 +380,15 @@ fn a_lane_begins_no_more_attempts_than_it_has(rt: HostRuntime) -> Result<(), Fai
 fn a_transaction_records_128_words(rt: HostRuntime) -> Result<(), Fail> {
     let shape = Shape::new(1, 1, 0, 3, 1, 256, 0)?;
     let (field, mut pass) = blank(rt.alloc(), shape)?;
-    let mut sets = Sets::new();
-    let mut txn = begin(&mut pass, &field, 7, &mut sets)?;
-    let full = Stop::Limit(Limit::Reads);
-    assert_eq!(rt; note_many(&mut txn, &field, 128), Ok(128));
-    assert_eq!(rt; note_many(&mut txn, &field, 128), Ok(128));
-    assert_eq!(rt; note(&mut txn, &field, 128), Err(full));
-    assert_eq!(rt; note(&mut txn, &field, 0), Err(full));
-    assert_eq!(rt; change(&mut txn, &field, 0, 1), Err(full));
-    stop(txn, &field);
+    let full = Err(Stop::Limit(Limit::Reads));
+    let calls = [
+        (Call::NoteMany(128), plain(0, 0)),
+        (Call::NoteMany(128), plain(0, 0)),
+        (Call::Note(128), full),
+        (Call::Note(0), full),
+        (Call::Change(0, 1), full),
+    ];
+    assert_stopped(&rt, &mut pass, &field, 7, &mut Sets::new(), &calls);
     Ok(())
 }
 
@@ -277,17 +397,19 @@ fn a_transaction_changes_128_words(rt: HostRuntime) -> Result<(), Fail> {
     let shape = Shape::new(1, 1, 0, 3, 1, 256, 0)?;
     let (field, mut pass) = blank(rt.alloc(), shape)?;
     let mut sets = Sets::new();
-    let mut txn = begin(&mut pass, &field, 7, &mut sets)?;
-    assert_eq!(rt; change_many(&mut txn, &field, 128), Ok(128));
-    assert_eq!(rt; change_many(&mut txn, &field, 128), Ok(128));
-    let full = Stop::Limit(Limit::Writes);
-    assert_eq!(rt; change(&mut txn, &field, 128, 1), Err(full));
-    assert_eq!(rt; look(&mut txn, &field, 0), Err(full));
-    stop(txn, &field);
-    let mut next = begin(&mut pass, &field, 8, &mut sets)?;
-    assert_eq!(rt; look(&mut next, &field, 127), Ok(plain(0, 2)));
-    assert_eq!(rt; look(&mut next, &field, 128), Ok(plain(0, 0)));
-    stop(next, &field);
+    let full = Err(Stop::Limit(Limit::Writes));
+    let calls = [
+        (Call::ChangeMany(128), own(1, 1)),
+        (Call::ChangeMany(128), own(1, 1)),
+        (Call::Change(128, 1), full),
+        (Call::Look(0), full),
+    ];
+    let next = [
+        (Call::Look(127), plain(0, 2)),
+        (Call::Look(128), plain(0, 0)),
+    ];
+    assert_stopped(&rt, &mut pass, &field, 7, &mut sets, &calls);
+    assert_stopped(&rt, &mut pass, &field, 8, &mut sets, &next);
     Ok(())
 }
 
@@ -295,19 +417,14 @@ fn a_transaction_changes_128_words(rt: HostRuntime) -> Result<(), Fail> {
 fn a_transaction_sees_its_own_new_value(rt: HostRuntime) -> Result<(), Fail> {
     let shape = Shape::new(1, 1, 0, 3, 1, 1, 0)?;
     let (field, mut pass) = blank(rt.alloc(), shape)?;
-    let mut sets = Sets::new();
-    let mut txn = begin(&mut pass, &field, 7, &mut sets)?;
-    let own = |value| Seen {
-        value,
-        count: 1,
-        own: true,
-    };
-    assert_eq!(rt; look(&mut txn, &field, 0), Ok(plain(0, 0)));
-    assert_eq!(rt; change(&mut txn, &field, 0, 5), Ok(own(5)));
-    assert_eq!(rt; note(&mut txn, &field, 0), Ok(own(5)));
-    assert_eq!(rt; change(&mut txn, &field, 0, 9), Ok(own(9)));
-    assert_eq!(rt; look(&mut txn, &field, 0), Ok(own(9)));
-    stop(txn, &field);
+    let calls = [
+        (Call::Look(0), plain(0, 0)),
+        (Call::Change(0, 5), own(5, 1)),
+        (Call::Note(0), own(5, 1)),
+        (Call::Change(0, 9), own(9, 1)),
+        (Call::Look(0), own(9, 1)),
+    ];
+    assert_stopped(&rt, &mut pass, &field, 7, &mut Sets::new(), &calls);
     Ok(())
 }
 
@@ -316,14 +433,39 @@ fn the_next_transaction_takes_a_left_one_out(rt: HostRuntime) -> Result<(), Fail
     let shape = Shape::new(1, 1, 0, 3, 1, 1, 0)?;
     let (field, mut pass) = blank(rt.alloc(), shape)?;
     let mut sets = Sets::new();
-    let mut txn = begin(&mut pass, &field, 7, &mut sets)?;
-    assert!(rt; change(&mut txn, &field, 0, 5).is_ok());
-    leave(txn, &field);
-    assert_eq!(rt; head(&mut pass, &field), 1);
-    let next = begin(&mut pass, &field, 8, &mut sets)?;
-    leave(next, &field);
-    assert_eq!(rt; head(&mut pass, &field), 2);
+    let change = [(Call::Change(0, 5), own(5, 1))];
+    let heads = [
+        head_left(&rt, &mut pass, &field, 7, &mut sets, &change),
+        head_left(&rt, &mut pass, &field, 8, &mut sets, &[]),
+    ];
+    assert_eq!(rt; heads, [1, 2]);
     Ok(())
+}
+
+// Another transaction meets one that has changed the first head and stalls.
+fn assert_aborted(
+    rt: &impl Abort,
+    one: &mut Txn<'_, CellTheory>,
+    pass: &mut Pass<CellTheory>,
+    field: &Field<CellTheory>,
+)
+    requires of { IsOf pass.old field.now }
+    requires open { IsOpen field.now (state one.old) }
+    ensures pass { one.new.pass.ghost_name ≡ one.old.pass.ghost_name }
+    ensures open { IsOpen field.now (state one.new) }
+{
+    let lost = Err(Stop::Conflict(Shown {
+        word: 1,
+        was: 1,
+        now: 2,
+    }));
+    let calls = [(Call::Look(0), lost), (Call::Change(0, 6), lost)];
+    let mut sets = Sets::new();
+    let mut other = begin(pass, field, 8, &mut sets).expect(rt, "an attempt is left");
+    assert_calls(rt, &mut other, field, &[(Call::Look(0), plain(0, 2))]);
+    assert_calls(rt, one, field, &calls);
+    assert_calls(rt, &mut other, field, &[(Call::Change(0, 6), own(6, 3))]);
+    stop(other, field);
 }
 
 #[test]
@@ -332,22 +474,39 @@ fn a_stalled_transaction_is_aborted_by_another(rt: HostRuntime) -> Result<(), Fa
     let (field, mut a) = blank(rt.alloc(), shape)?;
     let mut b = a.split(&field).expect(&rt, "two lanes");
     let mut sets = Sets::new();
-    let mut others = Sets::new();
-    let mut one = begin(&mut a, &field, 7, &mut sets)?;
-    assert!(rt; change(&mut one, &field, 0, 5).is_ok());
-    let mut other = begin(&mut b, &field, 8, &mut others)?;
-    assert_eq!(rt; look(&mut other, &field, 0), Ok(plain(0, 2)));
-    let lost = Stop::Conflict(Shown {
-        word: 1,
-        was: 1,
-        now: 2,
-    });
-    assert_eq!(rt; look(&mut one, &field, 0), Err(lost));
-    assert_eq!(rt; change(&mut one, &field, 0, 6), Err(lost));
-    assert!(rt; change(&mut other, &field, 0, 6).is_ok());
-    stop(other, &field);
+    let mut one = begin(&mut a, &field, 7, &mut sets).expect(&rt, "an attempt is left");
+    assert_calls(&rt, &mut one, &field, &[(Call::Change(0, 5), own(5, 1))]);
+    assert_aborted(&rt, &mut one, &mut b, &field);
     stop(one, &field);
     Ok(())
+}
+
+// While a transaction is under way, another one changes the first head, which it has recorded.
+fn assert_moved(
+    rt: &impl Abort,
+    one: &mut Txn<'_, CellTheory>,
+    pass: &mut Pass<CellTheory>,
+    field: &Field<CellTheory>,
+)
+    requires of { IsOf pass.old field.now }
+    requires open { IsOpen field.now (state one.old) }
+    ensures pass { one.new.pass.ghost_name ≡ one.old.pass.ghost_name }
+    ensures open { IsOpen field.now (state one.new) }
+{
+    let moved = Err(Stop::Conflict(Shown {
+        word: 1,
+        was: 0,
+        now: 2,
+    }));
+    let calls = [
+        (Call::Look(0), plain(0, 2)),
+        (Call::Change(0, 5), moved),
+        (Call::Note(0), moved),
+    ];
+    let change = [(Call::Change(0, 5), own(5, 1))];
+    assert_calls(rt, one, field, &[(Call::Note(0), plain(0, 0))]);
+    assert_stopped(rt, pass, field, 8, &mut Sets::new(), &change);
+    assert_calls(rt, one, field, &calls);
 }
 
 #[test]
@@ -356,20 +515,8 @@ fn a_recorded_word_that_moved_is_a_conflict(rt: HostRuntime) -> Result<(), Fail>
     let (field, mut a) = blank(rt.alloc(), shape)?;
     let mut b = a.split(&field).expect(&rt, "two lanes");
     let mut sets = Sets::new();
-    let mut others = Sets::new();
-    let mut one = begin(&mut a, &field, 7, &mut sets)?;
-    assert_eq!(rt; note(&mut one, &field, 0), Ok(plain(0, 0)));
-    let mut other = begin(&mut b, &field, 8, &mut others)?;
-    assert!(rt; change(&mut other, &field, 0, 5).is_ok());
-    stop(other, &field);
-    let moved = Stop::Conflict(Shown {
-        word: 1,
-        was: 0,
-        now: 2,
-    });
-    assert_eq!(rt; look(&mut one, &field, 0), Ok(plain(0, 2)));
-    assert_eq!(rt; change(&mut one, &field, 0, 5), Err(moved));
-    assert_eq!(rt; note(&mut one, &field, 0), Err(moved));
+    let mut one = begin(&mut a, &field, 7, &mut sets).expect(&rt, "an attempt is left");
+    assert_moved(&rt, &mut one, &mut b, &field);
     stop(one, &field);
     Ok(())
 }
@@ -379,16 +526,16 @@ fn nodes_are_taken_from_the_lowest(rt: HostRuntime) -> Result<(), Fail> {
     let shape = Shape::new(1, 16, 1, 3, 1, 1, 0)?;
     let (field, mut pass) = blank(rt.alloc(), shape)?;
     let mut sets = Sets::new();
-    let mut txn = begin(&mut pass, &field, 7, &mut sets)?;
-    assert_eq!(rt; fresh(&mut txn, &field), Ok(2));
-    assert_eq!(rt; fresh_many(&mut txn, &field, 15), Ok(17));
-    let none = Stop::Limit(Limit::Nodes);
-    assert_eq!(rt; fresh(&mut txn, &field), Err(none));
-    assert_eq!(rt; look(&mut txn, &field, 0), Err(none));
-    stop(txn, &field);
-    let mut next = begin(&mut pass, &field, 8, &mut sets)?;
-    assert_eq!(rt; fresh(&mut next, &field), Ok(2));
-    stop(next, &field);
+    let none = Err(Stop::Limit(Limit::Nodes));
+    let calls = [
+        (Call::Take(1), node(2)),
+        (Call::Take(15), node(17)),
+        (Call::Take(1), none),
+        (Call::Look(0), none),
+    ];
+    let next = [(Call::Take(1), node(2))];
+    assert_stopped(&rt, &mut pass, &field, 7, &mut sets, &calls);
+    assert_stopped(&rt, &mut pass, &field, 8, &mut sets, &next);
     Ok(())
 }
 
@@ -397,10 +544,9 @@ fn a_transaction_without_operations_commits(rt: HostRuntime) -> Result<(), Fail>
     let shape = Shape::new(2, 1, 0, 3, 1, 1, 0)?;
     let (field, mut a) = blank(rt.alloc(), shape)?;
     let mut b = a.split(&field).expect(&rt, "two lanes");
-    assert_eq!(rt; ready_and_leave(&mut a, &field, 7), Ok(true));
-    let receipt = commit(&mut b, &field, 8)?.expect(&rt, "nobody aborts it");
-    assert_eq!(rt; receipt.tag(), 8);
-    assert_eq!(rt; receipt.reads().len() + receipt.writes().len(), 0);
+    let ready = ready_and_leave(&mut a, &field, 7);
+    let committed = commit(&mut b, &field, 8);
+    assert_eq!(rt; (ready, committed), (Ok(true), Ok(Some((8, 0)))));
     Ok(())
 }
 
@@ -408,15 +554,15 @@ fn a_transaction_without_operations_commits(rt: HostRuntime) -> Result<(), Fail>
 fn a_worn_word_is_not_changed(rt: HostRuntime) -> Result<(), Fail> {
     let shape = Shape::new(1, 1, 0, 3, 1, 1, 0)?;
     let (field, mut pass) = worn(rt.alloc(), shape)?;
-    let mut sets = Sets::new();
-    let mut txn = begin(&mut pass, &field, 7, &mut sets)?;
-    let limit = Stop::Limit(Limit::Worn {
+    let limit = Err(Stop::Limit(Limit::Worn {
         word: 1,
         count: 4_294_967_292,
-    });
-    assert_eq!(rt; look(&mut txn, &field, 0), Ok(plain(0, 4_294_967_292)));
-    assert_eq!(rt; change(&mut txn, &field, 0, 5), Err(limit));
-    assert_eq!(rt; note(&mut txn, &field, 0), Err(limit));
-    stop(txn, &field);
+    }));
+    let calls = [
+        (Call::Look(0), plain(0, 4_294_967_292)),
+        (Call::Change(0, 5), limit),
+        (Call::Note(0), limit),
+    ];
+    assert_stopped(&rt, &mut pass, &field, 7, &mut Sets::new(), &calls);
     Ok(())
 }
