@@ -10,6 +10,7 @@ use md_history::Limit;
 use md_rule::{Field, Pass};
 use md_words::Shape;
 use std::alloc::{AllocError, Global};
+use std::process::Abort;
 use std::test::Fail;
 
 fn zeros(alloc: Global, count: usize) -> Result<Vec<u64>, AllocError>
@@ -42,13 +43,64 @@ fn taken_and_given_back(pass: &mut Pass<CellTheory>) -> Result<u32, Limit> {
     Ok(node)
 }
 
+// A pass takes the nodes from one to before another, in this order.
+fn assert_takes(rt: &impl Abort, pass: &mut Pass<CellTheory>, from: u32, to: u32) {
+    for node in from..to {
+        assert_eq!(rt; take_node(pass), Ok(node));
+    }
+}
+
+// Two passes take sixteen nodes each, in turns, the one from 2 and the other from 18, and have none
+// left.
+fn assert_take_in_turns(
+    rt: &impl Abort,
+    first: &mut Pass<CellTheory>,
+    second: &mut Pass<CellTheory>,
+) {
+    for i in 0..16u32 {
+        assert_eq!(rt;
+            [take_node(first), take_node(second)],
+            [Ok(2 + i), Ok(18 + i)]
+        );
+    }
+    let none = Err(Limit::Nodes);
+    assert_eq!(rt; [take_node(first), take_node(second)], [none, none]);
+}
+
+// Two passes of a lane begin four attempts each, in turns, and have none left.
+fn assert_begin_in_turns(
+    rt: &impl Abort,
+    first: &mut Pass<CellTheory>,
+    second: &mut Pass<CellTheory>,
+) {
+    for i in 0..4u32 {
+        let _ = i;
+        assert_eq!(rt;
+            [take_descriptor(first), take_descriptor(second)],
+            [Ok(0), Ok(1)]
+        );
+    }
+    let none = Err(Limit::Tries);
+    assert_eq!(rt;
+        [take_descriptor(first), take_descriptor(second)],
+        [none, none]
+    );
+}
+
+// A pass of two lanes begins four attempts of the lower one, then four of the other, and has none
+// left.
+fn assert_begins(rt: &impl Abort, pass: &mut Pass<CellTheory>) {
+    for i in 0..8u32 {
+        assert_eq!(rt; take_descriptor(pass), Ok(i / 4));
+    }
+    assert_eq!(rt; take_descriptor(pass), Err(Limit::Tries));
+}
+
 #[test]
 fn a_pass_takes_the_nodes_of_its_lanes_from_the_lowest(rt: HostRuntime) -> Result<(), Fail> {
     let shape = Shape::new(2, 16, 1, 4, 1, 64, 1)?;
     let (_, mut pass) = blank(rt.alloc(), shape)?;
-    for node in 2..34u32 {
-        assert_eq!(rt; take_node(&mut pass), Ok(node));
-    }
+    assert_takes(&rt, &mut pass, 2, 34);
     assert_eq!(rt; take_node(&mut pass), Err(Limit::Nodes));
     Ok(())
 }
@@ -58,12 +110,7 @@ fn each_part_takes_those_of_its_own_lane(rt: HostRuntime) -> Result<(), Fail> {
     let shape = Shape::new(2, 16, 1, 4, 1, 64, 1)?;
     let (field, mut first) = blank(rt.alloc(), shape)?;
     let mut second = first.split(&field).expect(&rt, "two lanes");
-    for i in 0..16u32 {
-        assert_eq!(rt; take_node(&mut first), Ok(2 + i));
-        assert_eq!(rt; take_node(&mut second), Ok(18 + i));
-    }
-    assert_eq!(rt; take_node(&mut first), Err(Limit::Nodes));
-    assert_eq!(rt; take_node(&mut second), Err(Limit::Nodes));
+    assert_take_in_turns(&rt, &mut first, &mut second);
     Ok(())
 }
 
@@ -71,10 +118,13 @@ fn each_part_takes_those_of_its_own_lane(rt: HostRuntime) -> Result<(), Fail> {
 fn a_node_given_back_is_taken_again(rt: HostRuntime) -> Result<(), Fail> {
     let shape = Shape::new(1, 2, 1, 4, 1, 64, 1)?;
     let (_, mut pass) = blank(rt.alloc(), shape)?;
-    assert_eq!(rt; next(&mut pass), Ok(2));
-    assert_eq!(rt; taken_and_given_back(&mut pass), Ok(3));
-    assert_eq!(rt; take_node(&mut pass), Ok(3));
-    assert_eq!(rt; take_node(&mut pass), Err(Limit::Nodes));
+    let taken = [
+        next(&mut pass),
+        taken_and_given_back(&mut pass),
+        take_node(&mut pass),
+        take_node(&mut pass),
+    ];
+    assert_eq!(rt; taken, [Ok(2), Ok(3), Ok(3), Err(Limit::Nodes)]);
     no_node_twice();
     Ok(())
 }
@@ -84,12 +134,13 @@ fn the_last_node_of_a_lane_is_taken_again(rt: HostRuntime) -> Result<(), Fail> {
     let shape = Shape::new(2, 16, 1, 4, 1, 64, 1)?;
     let (field, mut first) = blank(rt.alloc(), shape)?;
     let _second = first.split(&field).expect(&rt, "two lanes");
-    for node in 2..17u32 {
-        assert_eq!(rt; take_node(&mut first), Ok(node));
-    }
-    assert_eq!(rt; taken_and_given_back(&mut first), Ok(17));
-    assert_eq!(rt; take_node(&mut first), Ok(17));
-    assert_eq!(rt; take_node(&mut first), Err(Limit::Nodes));
+    assert_takes(&rt, &mut first, 2, 17);
+    let taken = [
+        taken_and_given_back(&mut first),
+        take_node(&mut first),
+        take_node(&mut first),
+    ];
+    assert_eq!(rt; taken, [Ok(17), Ok(17), Err(Limit::Nodes)]);
     Ok(())
 }
 
@@ -98,17 +149,8 @@ fn a_lane_begins_its_attempts_before_the_next_lane(rt: HostRuntime) -> Result<()
     let shape = Shape::new(2, 16, 1, 4, 1, 64, 1)?;
     let (field, mut first) = blank(rt.alloc(), shape)?;
     let mut second = first.split(&field).expect(&rt, "two lanes");
-    for i in 0..4u32 {
-        let _ = i;
-        assert_eq!(rt; take_descriptor(&mut first), Ok(0));
-        assert_eq!(rt; take_descriptor(&mut second), Ok(1));
-    }
-    assert_eq!(rt; take_descriptor(&mut first), Err(Limit::Tries));
-    assert_eq!(rt; take_descriptor(&mut second), Err(Limit::Tries));
+    assert_begin_in_turns(&rt, &mut first, &mut second);
     let (_, mut whole) = blank(rt.alloc(), shape)?;
-    for i in 0..8u32 {
-        assert_eq!(rt; take_descriptor(&mut whole), Ok(i / 4));
-    }
-    assert_eq!(rt; take_descriptor(&mut whole), Err(Limit::Tries));
+    assert_begins(&rt, &mut whole);
     Ok(())
 }
