@@ -22,18 +22,17 @@ fn fit(shape: &Shape, contents: &Contents) -> bool
     maps && queues && needed(contents) <= shape.base as u64
 }
 
-// Lays contents if they fit the shape, and reads them off again.
-fn laid_and_read(
-    alloc: Global,
+// Lays contents, which fit the shape. Read off again, they are the same.
+fn laid<R: Abort + AllocGlobal>(
+    rt: &R,
     shape: &Shape,
     contents: &Contents,
-) -> Result<Option<(Vec<u64>, Contents)>, AllocError> {
-    if !fit(shape, contents) {
-        return Ok(None);
-    }
-    let words = lay(alloc, shape, contents)?;
-    let back = read_off(alloc, shape, &words)?;
-    Ok(Some((words, back)))
+) -> Result<Vec<u64>, AllocError> {
+    assert!(rt; fit(shape, contents));
+    let words = lay(rt.alloc(), shape, contents)?;
+    let back = read_off(rt.alloc(), shape, &words)?;
+    assert_same(rt, &back, contents);
+    Ok(words)
 }
 
 // The words that aren't 0, with their places.
@@ -55,10 +54,9 @@ fn assert_laid<R: Abort + AllocGlobal>(
     size: usize,
     words: &[(usize, u64)],
 ) -> Result<(), AllocError> {
-    let (found, back) = laid_and_read(rt.alloc(), shape, contents)?.expect(rt, "all nodes");
-    assert_eq!(rt; found.len(), size);
-    assert_eq!(rt; words_but_zero(rt.alloc(), &found)?.as_slice(), words);
-    assert_same(rt, &back, contents);
+    let found = laid(rt, shape, contents)?;
+    let rest = words_but_zero(rt.alloc(), &found)?;
+    assert_eq!(rt; (found.len(), rest.as_slice()), (size, words));
     Ok(())
 }
 
@@ -72,12 +70,12 @@ fn nodes_of(alloc: Global, pairs: &[(u64, u64)], values: &[u64]) -> Result<u64, 
 fn nodes_of_small_contents(rt: HostRuntime) -> Result<(), Fail> {
     let alloc = rt.alloc();
     let found = [
-        nodes_of(alloc, &[], &[])?,
-        nodes_of(alloc, &[(5, 6)], &[])?,
-        nodes_of(alloc, &[(5, 6)], &[9])?,
-        nodes_of(alloc, &[(5, 6), (5, 7)], &[9])?,
+        nodes_of(alloc, &[], &[]),
+        nodes_of(alloc, &[(5, 6)], &[]),
+        nodes_of(alloc, &[(5, 6)], &[9]),
+        nodes_of(alloc, &[(5, 6), (5, 7)], &[9]),
     ];
-    assert_eq!(rt; found, [1, 2, 3, 3]);
+    assert_eq!(rt; found, [Ok(1), Ok(2), Ok(3), Ok(3)]);
     Ok(())
 }
 
@@ -152,8 +150,7 @@ fn many_contents_are_read_off_again(rt: HostRuntime) -> Result<(), Fail> {
     let contents = many(rt.alloc())?;
     let shape = Shape::new(1, 1, 1087, 1, 2, 4, 3)?;
     assert_eq!(rt; needed(&contents), 1087);
-    let (words, back) = laid_and_read(rt.alloc(), &shape, &contents)?.expect(&rt, "all nodes");
-    assert_same(&rt, &back, &contents);
+    let words = laid(&rt, &shape, &contents)?;
     // the least key of the first bucket is node 4, behind the three dummies; the last queue's tail
     // names the last node, whose rank is 1000
     let row = [
