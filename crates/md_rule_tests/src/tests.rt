@@ -48,7 +48,26 @@ fn renew(field: &Field<CellTheory>, pass: &mut Pass<CellTheory>, from: Content) 
 }
 
 // Loads the cell and changes it to the value that it has, so many times: how many changes won.
-fn churn(
+fn churn(field: &Field<CellTheory>, pass: &mut Pass<CellTheory>, turns: u32) -> u32
+    requires { IsOf pass.old field.now }
+    ensures pass { IsOf pass.new field.now }
+    ensures few { result ≤ turns }
+{
+    let mut won = 0;
+    for i in 0..turns {
+        let _ = i;
+        let found = cell(field, pass);
+        if found.count % 2 == 0 && found.count <= LAST_COUNT {
+            if renew(field, pass, found).is_ok() {
+                won += 1;
+            }
+        }
+    }
+    won
+}
+
+// What a thread does with a pass of its own: how many changes won.
+fn churn_own(
     field: &Field<CellTheory>,
     mut pass: Pass<CellTheory>,
     turns: u32,
@@ -57,17 +76,7 @@ fn churn(
     ensures pass { IsOf result.1 field.now }
     ensures few { result.0 ≤ turns }
 {
-    let mut won = 0;
-    for i in 0..turns {
-        let _ = i;
-        let found = cell(field, &mut pass);
-        if found.count % 2 == 0 && found.count <= LAST_COUNT {
-            if renew(field, &mut pass, found).is_ok() {
-                won += 1;
-            }
-        }
-    }
-    (won, pass)
+    (churn(field, &mut pass, turns), pass)
 }
 
 // Joins two passes.
@@ -93,8 +102,8 @@ fn churn_both<R: Threads + Sync>(
 {
     let ((won, mut pass), (too, other)) = join(
         rt,
-        || churn(field, one, 1000),
-        || churn(field, other, 1000),
+        || churn_own(field, one, 1000),
+        || churn_own(field, other, 1000),
     );
     join_one(field, &mut pass, other);
     (won + too, pass)
@@ -124,27 +133,39 @@ fn split(field: &Field<CellTheory>, pass: &mut Pass<CellTheory>) -> Option<Pass<
     pass.split(field)
 }
 
-// Splits a pass. The lanes that it keeps and those that it gives have these bits. None if it has one
-// lane, which it keeps.
+// Splits a pass that has several lanes. Those that it keeps and those that it gives have these bits.
 fn halved(
     rt: &impl Abort,
     field: &Field<CellTheory>,
     pass: &mut Pass<CellTheory>,
     kept: u64,
     given: u64,
-) -> Option<Pass<CellTheory>>
+) -> Pass<CellTheory>
     requires { IsOf pass.old field.now }
     ensures kept { IsOf pass.new field.now }
-    ensures given { IfSome result (λ p. IsOf p field.now) }
+    ensures given { IsOf result field.now }
 {
-    let other = split(field, pass);
-    let found = match &other {
-        Some(other) => held(other),
-        None => (0, 0),
-    };
-    let want = ((kept.count_ones(), kept), (given.count_ones(), given));
-    assert_eq!(rt; (held(pass), found), want);
+    let other = split(field, pass).expect(rt, "several lanes");
+    let want = [(kept.count_ones(), kept), (given.count_ones(), given)];
+    assert_eq!(rt; [held(pass), held(&other)], want);
     other
+}
+
+// Whether a pass can't be split.
+fn stays_whole(field: &Field<CellTheory>, pass: &mut Pass<CellTheory>) -> bool
+    requires { IsOf pass.old field.now }
+    ensures { IsOf pass.new field.now }
+{
+    split(field, pass).is_none()
+}
+
+// A pass has one lane, which has this bit, and can't be split.
+fn assert_single(rt: &impl Abort, field: &Field<CellTheory>, pass: &mut Pass<CellTheory>, bit: u64)
+    requires { IsOf pass.old field.now }
+    ensures { IsOf pass.new field.now }
+{
+    let whole = stays_whole(field, pass);
+    assert_eq!(rt; (whole, held(pass)), (true, (1, bit)));
 }
 
 // Joins two passes. The lanes of both have these bits, and are all of the field or not.
@@ -276,8 +297,8 @@ fn two_passes_change_one_word_at_once(rt: HostRuntime) -> Result<(), Fail> {
         value: 0,
         count: 2 * won,
     };
-    assert_eq!(rt; cell(&field, &mut pass), last);
-    assert!(rt; pass.holds_all(&field));
+    let found = (cell(&field, &mut pass), pass.holds_all(&field));
+    assert_eq!(rt; found, (last, true));
     Ok(())
 }
 
@@ -285,17 +306,21 @@ fn two_passes_change_one_word_at_once(rt: HostRuntime) -> Result<(), Fail> {
 fn a_pass_of_the_only_lane_has_the_words(rt: HostRuntime) -> Result<(), Fail> {
     let shape = Shape::new(1, 1, 0, 1, 1, 1, 0)?;
     let (field, mut pass) = blank(rt.alloc(), shape)?;
-    assert!(rt; split(&field, &mut pass).is_none());
-    let (won, mut pass) = churn(&field, pass, 1000);
-    assert_eq!(rt; won, 1000);
+    let first = Content { value: 0, count: 0 };
     let last = Content {
         value: 0,
         count: 2000,
     };
-    assert_eq!(rt; cell(&field, &mut pass), last);
-    let first = Content { value: 0, count: 0 };
-    assert_eq!(rt; renew(&field, &mut pass, first), Err(last.word()));
-    assert_eq!(rt; cell(&field, &mut pass), last);
+    let churned = (
+        stays_whole(&field, &mut pass),
+        churn(&field, &mut pass, 1000),
+        cell(&field, &mut pass),
+    );
+    let lost = (renew(&field, &mut pass, first), cell(&field, &mut pass));
+    assert_eq!(rt;
+        (churned, lost),
+        ((true, 1000, last), (Err(last.word()), last))
+    );
     Ok(())
 }
 
@@ -303,9 +328,9 @@ fn a_pass_of_the_only_lane_has_the_words(rt: HostRuntime) -> Result<(), Fail> {
 fn two_lanes_are_split_once(rt: HostRuntime) -> Result<(), Fail> {
     let shape = Shape::new(2, 16, 1, 4, 1, 64, 1)?;
     let (field, mut first) = blank(rt.alloc(), shape)?;
-    let mut second = halved(&rt, &field, &mut first, 0b01, 0b10).expect(&rt, "two lanes");
-    assert!(rt; halved(&rt, &field, &mut first, 0b01, 0).is_none());
-    assert!(rt; halved(&rt, &field, &mut second, 0b10, 0).is_none());
+    let mut second = halved(&rt, &field, &mut first, 0b01, 0b10);
+    assert_single(&rt, &field, &mut first, 0b01);
+    assert_single(&rt, &field, &mut second, 0b10);
     Ok(())
 }
 
@@ -314,10 +339,10 @@ fn eight_lanes_are_split_and_joined(rt: HostRuntime) -> Result<(), Fail> {
     let shape = Shape::new(8, 1, 0, 1, 1, 1, 0)?;
     let (field, mut a) = blank(rt.alloc(), shape)?;
     assert!(rt; a.holds_all(&field));
-    let mut b = halved(&rt, &field, &mut a, 0b0000_1111, 0b1111_0000).expect(&rt, "eight lanes");
-    let mut c = halved(&rt, &field, &mut a, 0b0000_0011, 0b0000_1100).expect(&rt, "four lanes");
-    let d = halved(&rt, &field, &mut c, 0b0000_0100, 0b0000_1000).expect(&rt, "two lanes");
-    assert!(rt; halved(&rt, &field, &mut c, 0b0000_0100, 0).is_none());
+    let mut b = halved(&rt, &field, &mut a, 0b0000_1111, 0b1111_0000);
+    let mut c = halved(&rt, &field, &mut a, 0b0000_0011, 0b0000_1100);
+    let d = halved(&rt, &field, &mut c, 0b0000_0100, 0b0000_1000);
+    assert_single(&rt, &field, &mut c, 0b0000_0100);
     joined(&rt, &field, &mut b, d, 0b1111_1000, false);
     joined(&rt, &field, &mut b, a, 0b1111_1011, false);
     joined(&rt, &field, &mut b, c, 0b1111_1111, true);
@@ -329,9 +354,9 @@ fn sixty_four_lanes_are_joined_in_another_order(rt: HostRuntime) -> Result<(), F
     let shape = Shape::new(64, 1, 0, 1, 1, 1, 0)?;
     let (field, first) = blank(rt.alloc(), shape)?;
     let passes = split_all(rt.alloc(), &field, first)?;
-    assert_eq!(rt; passes.len(), 64);
+    let parts = passes.len();
     let whole = join_all(&field, passes).expect(&rt, "64 passes");
-    assert!(rt; whole.holds_all(&field));
-    assert_eq!(rt; whole.lanes(), 64);
+    let found = (parts, whole.holds_all(&field), whole.lanes());
+    assert_eq!(rt; found, (64, true, 64));
     Ok(())
 }
