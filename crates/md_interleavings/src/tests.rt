@@ -16,6 +16,12 @@ use std::alloc::{AllocError, AllocGlobal, Global};
 use std::process::Abort;
 use std::test::Fail;
 
+// What an operation replied, or why it was stopped.
+type Told = Result<Reply, Stop>;
+
+// How a transaction ended.
+type Ended = Result<(), Stop>;
+
 mod at_random;
 mod limits;
 mod rows;
@@ -65,7 +71,7 @@ fn all(
     pass: &mut Pass<StoreTheory>,
     ops: &[Op],
     replies: &mut Vec<Reply>,
-) -> Result<Result<(), Stop>, Fail>
+) -> Result<Ended, Fail>
     requires { IsPassOf store.now pass.old }
     ensures { OnOk result (IsPassOf store.now pass.new) }
 {
@@ -97,7 +103,7 @@ fn all_in(
 }
 
 // Makes one operation, as a transaction of its own: its reply, if it committed.
-fn one(store: &Store, pass: &mut Pass<StoreTheory>, op: Op) -> Result<Result<Reply, Stop>, Limit>
+fn one(store: &Store, pass: &mut Pass<StoreTheory>, op: Op) -> Result<Told, Limit>
     requires { IsPassOf store.now pass.old }
     ensures { OnOk result (IsPassOf store.now pass.new) }
 {
@@ -109,6 +115,42 @@ fn one(store: &Store, pass: &mut Pass<StoreTheory>, op: Op) -> Result<Result<Rep
         Ok(()) => Ok(reply),
         Err(stop) => Ok(Err(stop)),
     }
+}
+
+// A small store that starts with these pairs, at most one.
+fn started(alloc: Global, start: &[(u64, u64)]) -> Result<(Store, StorePass), Fail>
+    ensures { IfOk result (λ r. IsPassOf r.0 r.1) }
+{
+    let shape = small(if start.is_empty() { 1 } else { 2 })?;
+    Ok(opened(alloc, shape, &pairs(alloc, start)?)?)
+}
+
+// The same store with two passes, which have a lane each.
+fn divided<R: Abort + AllocGlobal>(
+    rt: &R,
+    start: &[(u64, u64)],
+) -> Result<(Store, StorePass, StorePass), Fail>
+    ensures of { IfOk result (λ r. IsPassOf r.0 r.1) }
+    ensures of_other { IfOk result (λ r. IsPassOf r.0 r.2) }
+{
+    let (store, mut pass) = started(rt.alloc(), start)?;
+    let other = store.split(&mut pass).expect(rt, "two lanes");
+    Ok((store, pass, other))
+}
+
+// Closes a store with the pass of all lanes: what is left are these pairs.
+fn closes_with<R: Abort + AllocGlobal>(
+    rt: &R,
+    store: Store,
+    pass: StorePass,
+    left: &[(u64, u64)],
+) -> Result<(), Fail>
+    requires { IsPassOf store pass }
+{
+    let back = closed(store, pass)?.expect(rt, "all lanes");
+    let want = pairs(rt.alloc(), left)?;
+    assert_eq!(rt; (back.maps(), back.queues()), (want.maps(), want.queues()));
+    Ok(())
 }
 
 // Joins two passes, inserts key 3, and closes: what is left are these pairs.
@@ -123,15 +165,9 @@ fn ends_with<R: Abort + AllocGlobal>(
     requires of_other { IsPassOf store other }
 {
     store.join(&mut pass, other);
-    assert_eq!(rt;
-        one(&store, &mut pass.pass, insert(3, 30))?,
-        Ok(Reply::Flag(true))
-    );
-    let back = closed(store, pass)?.expect(rt, "all lanes");
-    let want = pairs(rt.alloc(), left)?;
-    assert_eq!(rt; back.maps(), want.maps());
-    assert_eq!(rt; back.queues(), want.queues());
-    Ok(())
+    let put = one(&store, &mut pass.pass, insert(3, 30))?;
+    assert_eq!(rt; put, Ok(Reply::Flag(true)));
+    closes_with(rt, store, pass, left)
 }
 
 fn get(key: u64) -> Op {

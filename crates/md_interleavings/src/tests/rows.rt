@@ -1,85 +1,119 @@
 //! Two transactions whose operations alternate, with the words that they leave.
 
+ghost use Rattle.std.specs.Prelude.{OnOk};
+ghost use Rattle.md_store.specs.Store.{IsPassOf};
+
 use super::*;
+
+// A transaction inserts key 1, and another one looks at it: what both were told, then the head of
+// that key's bucket, and how the first one ended.
+fn look_at_an_insert(
+    store: &Store,
+    pass: &mut Pass<StoreTheory>,
+    other: &mut Pass<StoreTheory>,
+) -> Result<([Told; 2], u64, Ended), Limit>
+    requires of { IsPassOf store.now pass.old }
+    requires of_other { IsPassOf store.now other.old }
+    ensures of { OnOk result (IsPassOf store.now pass.new) }
+    ensures of_other { OnOk result (IsPassOf store.now other.new) }
+{
+    let mut sets = Sets::new();
+    let mut inserts = begin(store, pass, 1, &mut sets)?;
+    let mut why = None;
+    let done = act(&mut inserts, &mut why, store, insert(1, 10));
+    let seen = one(store, other, get(1))?;
+    let head = word(other, store, 2);
+    Ok(([done, seen], head, commit(inserts, why, store)))
+}
 
 #[test]
 fn a_look_aborts_an_insert(rt: HostRuntime) -> Result<(), Fail> {
-    let (store, mut a) = opened(rt.alloc(), small(1)?, &pairs(rt.alloc(), &[])?)?;
-    let mut b = store.split(&mut a).expect(&rt, "two lanes");
-    let mut sets = Sets::new();
-    let mut others = Sets::new();
-    let mut inserts = begin(&store, &mut a.pass, 1, &mut sets)?;
-    let mut why = None;
-    let done = act(&mut inserts, &mut why, &store, insert(1, 10));
-    assert_eq!(rt; done, Ok(Reply::Flag(true)));
-    let mut looks = begin(&store, &mut b.pass, 2, &mut others)?;
-    let mut none = None;
-    let seen = act(&mut looks, &mut none, &store, get(1));
-    assert_eq!(rt; seen, Ok(Reply::Value(None)));
-    assert_eq!(rt; commit(looks, none, &store), Ok(()));
-    assert_eq!(rt; word(&mut b.pass, &store, 2), 2);
+    let (store, mut a, mut b) = divided(&rt, &[])?;
+    let seen = look_at_an_insert(&store, &mut a.pass, &mut b.pass)?;
     let lost = Shown {
         word: 166,
         was: 0,
         now: 3,
     };
-    assert_eq!(rt; commit(inserts, why, &store), Err(Stop::Conflict(lost)));
-    ends_with(&rt, store, a, b, &[(3, 30)])?;
-    Ok(())
+    let told = [Ok(Reply::Flag(true)), Ok(Reply::Value(None))];
+    assert_eq!(rt; seen, (told, 2, Err(Stop::Conflict(lost))));
+    ends_with(&rt, store, a, b, &[(3, 30)])
+}
+
+// A transaction inserts key 1, another one looks at it, and the first one looks at keys 1 and 2:
+// what both were told, and how the first one ended.
+fn look_after_an_abort(
+    store: &Store,
+    pass: &mut Pass<StoreTheory>,
+    other: &mut Pass<StoreTheory>,
+) -> Result<([Told; 4], Ended), Limit>
+    requires of { IsPassOf store.now pass.old }
+    requires of_other { IsPassOf store.now other.old }
+{
+    let mut sets = Sets::new();
+    let mut inserts = begin(store, pass, 1, &mut sets)?;
+    let mut why = None;
+    let done = act(&mut inserts, &mut why, store, insert(1, 10));
+    let seen = one(store, other, get(1))?;
+    let first = act(&mut inserts, &mut why, store, get(1));
+    let second = act(&mut inserts, &mut why, store, get(2));
+    Ok(([done, seen, first, second], commit(inserts, why, store)))
 }
 
 #[test]
 fn an_aborted_insert_meets_its_word(rt: HostRuntime) -> Result<(), Fail> {
-    let (store, mut a) = opened(rt.alloc(), small(1)?, &pairs(rt.alloc(), &[])?)?;
-    let mut b = store.split(&mut a).expect(&rt, "two lanes");
-    let mut sets = Sets::new();
-    let mut inserts = begin(&store, &mut a.pass, 1, &mut sets)?;
-    let mut why = None;
-    let done = act(&mut inserts, &mut why, &store, insert(1, 10));
-    assert_eq!(rt; done, Ok(Reply::Flag(true)));
-    let seen = one(&store, &mut b.pass, get(1))?;
-    assert_eq!(rt; seen, Ok(Reply::Value(None)));
+    let (store, mut a, mut b) = divided(&rt, &[])?;
+    let seen = look_after_an_abort(&store, &mut a.pass, &mut b.pass)?;
     let lost = Stop::Conflict(Shown {
         word: 2,
         was: 1,
         now: 2,
     });
-    assert_eq!(rt; act(&mut inserts, &mut why, &store, get(1)), Err(lost));
-    assert_eq!(rt; act(&mut inserts, &mut why, &store, get(2)), Err(lost));
-    assert_eq!(rt; commit(inserts, why, &store), Err(lost));
+    let (done, none) = (Ok(Reply::Flag(true)), Ok(Reply::Value(None)));
+    assert_eq!(rt; seen, ([done, none, Err(lost), Err(lost)], Err(lost)));
     Ok(())
+}
+
+// A transaction looks at key 1, and another one inserts it: what both were told, how the first one
+// ended, and the word of its status.
+fn insert_after_a_look(
+    store: &Store,
+    pass: &mut Pass<StoreTheory>,
+    other: &mut Pass<StoreTheory>,
+) -> Result<([Told; 2], Ended, u64), Limit>
+    requires of { IsPassOf store.now pass.old }
+    requires of_other { IsPassOf store.now other.old }
+    ensures of { OnOk result (IsPassOf store.now pass.new) }
+    ensures of_other { OnOk result (IsPassOf store.now other.new) }
+{
+    let mut sets = Sets::new();
+    let mut looks = begin(store, pass, 1, &mut sets)?;
+    let mut why = None;
+    let seen = act(&mut looks, &mut why, store, get(1));
+    let done = one(store, other, insert(1, 10))?;
+    let end = commit(looks, why, store);
+    Ok(([seen, done], end, word(pass, store, 166)))
 }
 
 #[test]
 fn an_insert_overtakes_a_look(rt: HostRuntime) -> Result<(), Fail> {
-    let (store, mut a) = opened(rt.alloc(), small(1)?, &pairs(rt.alloc(), &[])?)?;
-    let mut b = store.split(&mut a).expect(&rt, "two lanes");
-    let mut sets = Sets::new();
-    let mut looks = begin(&store, &mut a.pass, 1, &mut sets)?;
-    let mut why = None;
-    let seen = act(&mut looks, &mut why, &store, get(1));
-    assert_eq!(rt; seen, Ok(Reply::Value(None)));
-    let done = one(&store, &mut b.pass, insert(1, 10))?;
-    assert_eq!(rt; done, Ok(Reply::Flag(true)));
+    let (store, mut a, mut b) = divided(&rt, &[])?;
+    let seen = insert_after_a_look(&store, &mut a.pass, &mut b.pass)?;
     let moved = Shown {
         word: 2,
         was: 0,
         now: 154_618_822_658,
     };
-    assert_eq!(rt; commit(looks, why, &store), Err(Stop::Conflict(moved)));
-    assert_eq!(rt; word(&mut a.pass, &store, 166), 7);
-    ends_with(&rt, store, a, b, &[(1, 10), (3, 30)])?;
-    Ok(())
+    let told = [Ok(Reply::Value(None)), Ok(Reply::Flag(true))];
+    assert_eq!(rt; seen, (told, Err(Stop::Conflict(moved)), 7));
+    ends_with(&rt, store, a, b, &[(1, 10), (3, 30)])
 }
 
 #[test]
 fn one_transaction_sees_what_it_did(rt: HostRuntime) -> Result<(), Fail> {
-    let start = pairs(rt.alloc(), &[(5, 6)])?;
-    let (store, mut pass) = opened(rt.alloc(), small(2)?, &start)?;
+    let (store, mut pass) = started(rt.alloc(), &[(5, 6)])?;
     let pop = Op::Dequeue { queue: 0 };
     let ops = [remove(5), insert(5, 7), enqueue(1), enqueue(2), pop, pop];
-    let mut replies = Vec::new(rt.alloc());
-    assert_eq!(rt; all(&store, &mut pass.pass, &ops, &mut replies)?, Ok(()));
     let want = [
         Reply::Value(Some(6)),
         Reply::Flag(true),
@@ -88,21 +122,15 @@ fn one_transaction_sees_what_it_did(rt: HostRuntime) -> Result<(), Fail> {
         Reply::Value(Some(1)),
         Reply::Value(Some(2)),
     ];
-    assert_eq!(rt; &replies[..], &want[..]);
-    let back = closed(store, pass)?.expect(&rt, "all lanes");
-    let left = pairs(rt.alloc(), &[(5, 7)])?;
-    assert_eq!(rt; back.maps(), left.maps());
-    assert_eq!(rt; back.queues(), left.queues());
-    Ok(())
+    replies_are(&rt, &store, &mut pass.pass, &ops, &want)?;
+    closes_with(&rt, store, pass, &[(5, 7)])
 }
 
 #[test]
 fn a_line_shows_what_was_enqueued(rt: HostRuntime) -> Result<(), Fail> {
-    let (store, mut pass) = opened(rt.alloc(), small(1)?, &pairs(rt.alloc(), &[])?)?;
-    let line = |n| Op::Line { queue: 0, n };
-    let ops = [enqueue(1), enqueue(2), line(1), line(12)];
-    let mut replies = Vec::new(rt.alloc());
-    assert_eq!(rt; all(&store, &mut pass.pass, &ops, &mut replies)?, Ok(()));
+    let (store, mut pass) = started(rt.alloc(), &[])?;
+    let (one, twelve) = (Op::Line { queue: 0, n: 1 }, Op::Line { queue: 0, n: 12 });
+    let ops = [enqueue(1), enqueue(2), one, twelve];
     let short = Line {
         count: 1,
         values: [1, 0, 0, 0, 0, 0, 0, 0, 0, 0, 0, 0],
@@ -117,6 +145,22 @@ fn a_line_shows_what_was_enqueued(rt: HostRuntime) -> Result<(), Fail> {
         Reply::Line(short),
         Reply::Line(long),
     ];
-    assert_eq!(rt; &replies[..], &want[..]);
+    replies_are(&rt, &store, &mut pass.pass, &ops, &want)
+}
+
+// Makes operations as one transaction, which commits and replies so.
+fn replies_are<R: Abort + AllocGlobal>(
+    rt: &R,
+    store: &Store,
+    pass: &mut Pass<StoreTheory>,
+    ops: &[Op],
+    want: &[Reply],
+) -> Result<(), Fail>
+    requires { IsPassOf store.now pass.old }
+    ensures { OnOk result (IsPassOf store.now pass.new) }
+{
+    let mut replies = Vec::new(rt.alloc());
+    let end = all(store, pass, ops, &mut replies)?;
+    assert_eq!(rt; (end, replies.as_slice()), (Ok(()), want));
     Ok(())
 }

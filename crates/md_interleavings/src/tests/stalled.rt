@@ -59,6 +59,19 @@ fn overtaken(
     Ok(ready & seen & overtook & done)
 }
 
+// Looks at key 1: its value, and what then stands in the head of its bucket and in another word.
+fn found_by(
+    store: &Store,
+    pass: &mut Pass<StoreTheory>,
+    status: u32,
+) -> Result<(Told, [u64; 2]), Limit>
+    requires { IsPassOf store.now pass.old }
+    ensures { OnOk result (IsPassOf store.now pass.new) }
+{
+    let seen = one(store, pass, get(1))?;
+    Ok((seen, [word(pass, store, 2), word(pass, store, status)]))
+}
+
 // Looks at key 1 by the pass `other`, then goes on with both passes joined.
 fn looked<R: Abort + AllocGlobal>(
     rt: &R,
@@ -71,12 +84,10 @@ fn looked<R: Abort + AllocGlobal>(
     requires of { IsPassOf store pass }
     requires of_other { IsPassOf store other }
 {
-    let seen = one(&store, &mut other.pass, get(1))?;
-    assert_eq!(rt; seen, Ok(Reply::Value(found.value)));
-    assert_eq!(rt; word(&mut other.pass, &store, 2), found.head);
+    let seen = found_by(&store, &mut other.pass, found.status.0)?;
     assert_eq!(rt;
-        word(&mut other.pass, &store, found.status.0),
-        found.status.1
+        seen,
+        (Ok(Reply::Value(found.value)), [found.head, found.status.1])
     );
     ends_with(rt, store, pass, other, left)
 }
@@ -90,9 +101,7 @@ fn stalled<R: Abort + AllocGlobal>(
     found: &Found,
     end: &[(u64, u64)],
 ) -> Result<(), Fail> {
-    let shape = small(if start.is_empty() { 1 } else { 2 })?;
-    let (store, mut a) = opened(rt.alloc(), shape, &pairs(rt.alloc(), start)?)?;
-    let b = store.split(&mut a).expect(rt, "two lanes");
+    let (store, mut a, b) = divided(rt, start)?;
     assert_eq!(rt; left(rt.alloc(), &store, &mut a.pass, ops, ready)?, ready);
     looked(rt, store, a, b, found, end)
 }
@@ -141,8 +150,7 @@ fn a_look_that_still_holds_is_committed(rt: HostRuntime) -> Result<(), Fail> {
 
 #[test]
 fn a_look_that_was_overtaken_is_aborted(rt: HostRuntime) -> Result<(), Fail> {
-    let (store, mut a) = opened(rt.alloc(), small(1)?, &pairs(rt.alloc(), &[])?)?;
-    let mut b = store.split(&mut a).expect(&rt, "two lanes");
+    let (store, mut a, mut b) = divided(&rt, &[])?;
     assert!(rt; overtaken(&store, &mut a.pass, &mut b.pass)?);
     let found = Found {
         value: None,
@@ -164,14 +172,10 @@ fn a_remove_that_is_ready_is_committed(rt: HostRuntime) -> Result<(), Fail> {
 
 // Leaves an insert of one pass that holds all lanes: what is left at the end.
 fn left_alone<R: Abort + AllocGlobal>(rt: &R, ready: bool, end: &[(u64, u64)]) -> Result<(), Fail> {
-    let (store, mut pass) = opened(rt.alloc(), small(1)?, &pairs(rt.alloc(), &[])?)?;
-    assert_eq!(rt;
-        left(rt.alloc(), &store, &mut pass.pass, &[insert(1, 10)], ready)?,
-        ready
-    );
-    let back = closed(store, pass)?.expect(rt, "all lanes");
-    assert_eq!(rt; back.maps(), pairs(rt.alloc(), end)?.maps());
-    Ok(())
+    let (store, mut pass) = started(rt.alloc(), &[])?;
+    let is_ready = left(rt.alloc(), &store, &mut pass.pass, &[insert(1, 10)], ready)?;
+    assert_eq!(rt; is_ready, ready);
+    closes_with(rt, store, pass, end)
 }
 
 #[test]
@@ -180,33 +184,43 @@ fn closing_settles_what_was_left(rt: HostRuntime) -> Result<(), Fail> {
     left_alone(&rt, true, &[(1, 10)])
 }
 
+// A transaction looks at key 1 and inserts it: what it was told, and how it ended. Then what another
+// pass sees in between: the head of that key's bucket, and the word of the status. At last the head
+// after the end.
+fn next_of_the_lane(
+    store: &Store,
+    pass: &mut Pass<StoreTheory>,
+    other: &mut Pass<StoreTheory>,
+) -> Result<([Told; 2], Ended, [u64; 3]), Limit>
+    requires of { IsPassOf store.now pass.old }
+    requires of_other { IsPassOf store.now other.old }
+{
+    let mut sets = Sets::new();
+    let mut txn = begin(store, pass, 8, &mut sets)?;
+    let mut why = None;
+    let seen = act(&mut txn, &mut why, store, get(1));
+    let head = word(other, store, 2);
+    let status = word(other, store, 166);
+    let done = act(&mut txn, &mut why, store, insert(1, 11));
+    let end = commit(txn, why, store);
+    Ok(([seen, done], end, [head, status, word(other, store, 2)]))
+}
+
 #[test]
 fn the_next_transaction_of_the_lane_settles_it(rt: HostRuntime) -> Result<(), Fail> {
-    let (store, mut a) = opened(rt.alloc(), small(1)?, &pairs(rt.alloc(), &[])?)?;
-    let mut b = store.split(&mut a).expect(&rt, "two lanes");
+    let (store, mut a, mut b) = divided(&rt, &[])?;
     assert!(rt; !left(rt.alloc(), &store, &mut a.pass, &[insert(1, 10)], false)?);
-    let mut sets = Sets::new();
-    let mut txn = begin(&store, &mut a.pass, 8, &mut sets)?;
-    let mut why = None;
-    let seen = act(&mut txn, &mut why, &store, get(1));
-    assert_eq!(rt; seen, Ok(Reply::Value(None)));
-    assert_eq!(rt; word(&mut b.pass, &store, 2), 2);
-    assert_eq!(rt; word(&mut b.pass, &store, 166), 1024);
-    let done = act(&mut txn, &mut why, &store, insert(1, 11));
-    assert_eq!(rt; done, Ok(Reply::Flag(true)));
-    assert_eq!(rt; commit(txn, why, &store), Ok(()));
-    assert_eq!(rt; word(&mut b.pass, &store, 2), 25_769_803_780);
+    let seen = next_of_the_lane(&store, &mut a.pass, &mut b.pass)?;
+    let told = [Ok(Reply::Value(None)), Ok(Reply::Flag(true))];
+    assert_eq!(rt; seen, (told, Ok(()), [2, 1024, 25_769_803_780]));
     Ok(())
 }
 
 #[test]
 fn the_next_transaction_of_the_lane_commits_it(rt: HostRuntime) -> Result<(), Fail> {
-    let (store, mut a) = opened(rt.alloc(), small(1)?, &pairs(rt.alloc(), &[])?)?;
-    let b = store.split(&mut a).expect(&rt, "two lanes");
-    assert!(rt; left(rt.alloc(), &store, &mut a.pass, &[insert(1, 10)], true)?);
-    assert_eq!(rt;
-        one(&store, &mut a.pass, get(1))?,
-        Ok(Reply::Value(Some(10)))
-    );
+    let (store, mut a, b) = divided(&rt, &[])?;
+    let ready = left(rt.alloc(), &store, &mut a.pass, &[insert(1, 10)], true)?;
+    let seen = one(&store, &mut a.pass, get(1))?;
+    assert_eq!(rt; (ready, seen), (true, Ok(Reply::Value(Some(10)))));
     ends_with(&rt, store, a, b, &[(1, 10), (3, 30)])
 }
