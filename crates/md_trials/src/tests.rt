@@ -1,6 +1,6 @@
 //! Trials beside a store for one thread, and on threads.
 
-ghost use Rattle.std.specs.Prelude.{◌<◌, IfOk};
+ghost use Rattle.std.specs.Prelude.{◌≡◌, IfOk};
 ghost use Rattle.md_store.specs.Store.{IsPassOf};
 
 use super::*;
@@ -16,15 +16,15 @@ mod running;
 mod transfers;
 mod turns;
 
-// Opens a store, if the contents have as many maps and queues as the shape, and two of each.
+// Opens a store, if the contents and the shape have two maps and two queues.
 fn opened(alloc: Global, shape: Shape, start: &Contents) -> Result<(Store, StorePass), OpenFault>
     ensures of { IfOk result (λ r. IsPassOf r.0 r.1) }
-    ensures maps { IfOk result (λ r. 1 < r.0.origin.shape.maps) }
-    ensures queues { IfOk result (λ r. 1 < r.0.origin.shape.queues) }
+    ensures maps { IfOk result (λ r. r.0.origin.shape.maps ≡ 2) }
+    ensures queues { IfOk result (λ r. r.0.origin.shape.queues ≡ 2) }
 {
-    let maps = start.maps().len() == shape.maps as usize;
-    let queues = start.queues().len() == shape.queues as usize;
-    if !maps || !queues || shape.maps < 2 || shape.queues < 2 {
+    let maps = start.maps().len() == 2 && shape.maps == 2;
+    let queues = start.queues().len() == 2 && shape.queues == 2;
+    if !maps || !queues {
         return Err(OpenFault::NoMemory);
     }
     Store::open(alloc, shape, start)

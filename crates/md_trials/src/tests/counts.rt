@@ -1,25 +1,32 @@
 //! Threads that count by the same key and the same queue at once.
 
-use super::running::{Part, TURNS, one_bucket, run_four};
+use super::running::{Ran, TURNS, run_on_new};
 use super::*;
-use std::collections::{BTreeMap, VecDeque};
+use std::alloc::AllocGlobal;
+use std::process::Abort;
+use std::thread::Threads;
 
 const KEY: u64 = 7;
 
-// The numbers below the count that threads make together.
-fn all_numbers(alloc: Global) -> Result<Vec<u64>, AllocError> {
-    let mut numbers = Vec::new(alloc);
-    for number in 0..4 * TURNS as u64 {
-        numbers.push(number)?;
+// What a body finds in the map, and in the queue.
+type Found = (Option<u64>, Option<u64>);
+
+// Counts from 0 on, in four threads.
+fn counted<R: Abort + AllocGlobal + Threads + Sync>(rt: &R) -> Result<Ran<Found>, Fail> {
+    let alloc = rt.alloc();
+    let mut start = Contents::empty(alloc, 2, 2)?;
+    start.put(0, KEY, 0)?;
+    start.push(0, 0)?;
+    let mut bodies = Vec::new(alloc);
+    for _ in 0..4 {
+        bodies.push(vec![in alloc; Count { key: KEY }; TURNS as usize]?)?;
     }
-    Ok(numbers)
+    run_on_new(rt, &start, &bodies)
 }
 
-// What threads found in the map, if it was always in the queue, too, and rose for each thread.
-fn numbers_found(
-    alloc: Global,
-    threads: &[Vec<(Option<u64>, Option<u64>)>],
-) -> Result<Option<Vec<u64>>, AllocError> {
+// The numbers that threads found in the map, sorted, if each was in the queue, too, and they rose
+// for each thread.
+fn numbers_found(alloc: Global, threads: &[Vec<Found>]) -> Result<Option<Vec<u64>>, AllocError> {
     let mut numbers = Vec::new(alloc);
     for found in threads {
         let mut last = None;
@@ -31,40 +38,35 @@ fn numbers_found(
             numbers.push(value.unwrap_or(0))?;
         }
     }
+    numbers.sort()?;
     Ok(Some(numbers))
+}
+
+// Whether these are the numbers from 0 on.
+fn are_all_numbers(numbers: &[u64]) -> bool {
+    for (want, number) in numbers.iter().enumerate() {
+        if *number != want as u64 {
+            return false;
+        }
+    }
+    true
+}
+
+// How many keys the first map has and how many values the first queue, and the count in each.
+fn counts_in(contents: &Contents) -> Option<(usize, usize, Found)> {
+    let (map, queue) = (contents.maps().first()?, contents.queues().first()?);
+    let found = (map.get(&KEY).copied(), queue.front().copied());
+    Some((map.len(), queue.len(), found))
 }
 
 #[test]
 fn four_threads_count(rt: HostRuntime) -> Result<(), Fail> {
-    let alloc = rt.alloc();
-    let mut start = Contents::empty(alloc, 2, 2)?;
-    start.put(0, KEY, 0)?;
-    start.push(0, 0)?;
-    let (store, mut a) = opened(alloc, one_bucket(4)?, &start)?;
-    let mut c = store.split(&mut a).expect(&rt, "four lanes");
-    let b = store.split(&mut a).expect(&rt, "two lanes");
-    let d = store.split(&mut c).expect(&rt, "two lanes");
-    let bodies = vec![in alloc; Count { key: KEY }; TURNS as usize]?;
-    let bodies = bodies.as_slice();
-    let done = run_four(
-        &rt,
-        alloc,
-        &store,
-        Part { pass: a, bodies },
-        Part { pass: b, bodies },
-        Part { pass: c, bodies },
-        Part { pass: d, bodies },
-    )?;
-    let back = closed(store, done.pass)?.expect(&rt, "all lanes");
-    let mut numbers = numbers_found(alloc, &done.replies)?.expect(&rt, "copies that rise");
-    numbers.sort()?;
-    assert!(rt; numbers == all_numbers(alloc)?);
-    let count = 4 * TURNS as u64;
-    let mut map = BTreeMap::new(alloc);
-    map.insert(KEY, count)?;
-    assert_eq!(rt; back.maps().first(), Some(&map));
-    let mut queue = VecDeque::new(alloc);
-    queue.push_back(count)?;
-    assert_eq!(rt; back.queues().first(), Some(&queue));
+    let ran = counted(&rt)?;
+    let numbers = numbers_found(rt.alloc(), &ran.replies)?.expect(&rt, "copies that rise");
+    let all = 4 * TURNS as u64;
+    assert_eq!(rt; numbers.len() as u64, all);
+    assert!(rt; are_all_numbers(&numbers));
+    let count = Some(all);
+    assert_eq!(rt; counts_in(&ran.left), Some((1, 1, (count, count))));
     Ok(())
 }

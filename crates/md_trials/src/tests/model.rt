@@ -1,50 +1,12 @@
 //! Transactions of calls by lot, run over the store and over a store for one thread.
 
-ghost use Rattle.std.specs.Prelude.{◌<◌};
+ghost use Rattle.std.specs.Prelude.{◌≡◌};
 ghost use Rattle.md_store.specs.Store.{IsPassOf};
 
 use super::*;
 use md_history::{Attempt, Engine, Limit, PlainPass, PlainStore, Stop};
 use std::marker::Model;
-
-// A store for one thread with its pass. It has two maps and two queues at least.
-#[derive(Drop)]
-struct Plain {
-    store: PlainStore,
-    pass: PlainPass,
-}
-
-impl Model for Plain {
-    ghost use Rattle.std.specs.Prelude.{◌<◌, length};
-    ghost use Rattle.md_history.specs.Plain.{IsPassOf};
-
-    ghost Value = { Unit {0} };
-
-    ghost view = { λ p. tt };
-
-    ghost invariant = { λ p. IsPassOf p.store p.pass × (1 < length p.store.maps)
-        × (1 < length p.store.queues) };
-}
-
-impl Plain {
-    // An empty store.
-    fn empty(alloc: Global) -> Result<Plain, AllocError> {
-        let (store, pass) = PlainStore::open(Contents::empty(alloc, 2, 2)?);
-        Ok(Plain { store, pass })
-    }
-
-    // Runs a body.
-    fn attempt(&mut self, number: u32, body: &Mix) -> Attempt<[Reply; MOST_CALLS]> {
-        self.store.attempt(&mut self.pass, number as u64, body)
-    }
-
-    // What it contains in the end.
-    fn contents(self) -> Result<Contents, AllocError> {
-        let Plain { store, pass } = self;
-        let (contents, _) = store.contents(pass)?;
-        Ok(contents)
-    }
-}
+use std::process::Abort;
 
 // What transactions came to.
 #[derive(Clone, Copy, Debug, PartialEq, Eq)]
@@ -67,6 +29,65 @@ const NONE: Tally = Tally {
     wrong: 0,
 };
 
+// A store for one thread with its pass, and what transactions came to beside it. It has two maps
+// and two queues at least.
+#[derive(Drop)]
+struct Plain {
+    store: PlainStore,
+    pass: PlainPass,
+    tally: Tally,
+}
+
+impl Model for Plain {
+    ghost use Rattle.std.specs.Prelude.{◌<◌, length};
+    ghost use Rattle.md_history.specs.Plain.{IsPassOf};
+
+    ghost Value = { Unit {0} };
+
+    ghost view = { λ p. tt };
+
+    ghost invariant = { λ p. IsPassOf p.store p.pass × (1 < length p.store.maps)
+        × (1 < length p.store.queues) };
+}
+
+impl Plain {
+    // An empty store.
+    fn empty(alloc: Global) -> Result<Plain, AllocError> {
+        let (store, pass) = PlainStore::open(Contents::empty(alloc, 2, 2)?);
+        Ok(Plain {
+            store,
+            pass,
+            tally: NONE,
+        })
+    }
+
+    // Runs a body that was committed elsewhere with these replies, and counts it.
+    fn run(&mut self, number: u32, body: &Mix, replies: [Reply; MOST_CALLS]) {
+        let attempt = self.store.attempt(&mut self.pass, number as u64, body);
+        if attempt == Attempt::Committed(replies) {
+            self.tally.calls = self.tally.calls.saturating_add(body.calls as u64);
+        } else {
+            count(&mut self.tally.wrong);
+        }
+    }
+
+    // Counts a transaction that stopped elsewhere.
+    fn stop(&mut self, why: Stop) {
+        match why {
+            Stop::Limit(Limit::Nodes) => count(&mut self.tally.without_nodes),
+            Stop::Limit(Limit::Tries) => count(&mut self.tally.without_tries),
+            _ => count(&mut self.tally.wrong),
+        }
+    }
+
+    // What it contains in the end.
+    fn contents(self) -> Result<Contents, AllocError> {
+        let Plain { store, pass, .. } = self;
+        let (contents, _) = store.contents(pass)?;
+        Ok(contents)
+    }
+}
+
 // The body of a transaction.
 fn mix_of(number: u32) -> Mix {
     Mix {
@@ -81,43 +102,28 @@ fn count(counter: &mut u64) {
 }
 
 // Runs a body over the store, and, if it was committed, over the store for one thread, too.
-fn run_both(store: &Store, pass: &mut StorePass, plain: &mut Plain, number: u32, tally: &mut Tally)
+fn run_both(store: &Store, pass: &mut StorePass, plain: &mut Plain, number: u32)
     requires of { IsPassOf store.now pass.old }
-    requires maps { 1 < store.now.origin.shape.maps }
-    requires queues { 1 < store.now.origin.shape.queues }
+    requires maps { store.now.origin.shape.maps ≡ 2 }
+    requires queues { store.now.origin.shape.queues ≡ 2 }
     ensures of { IsPassOf store.now pass.new }
 {
     let body = mix_of(number);
     match store.attempt(pass, number as u64, &body) {
-        Attempt::Committed(replies) => {
-            if plain.attempt(number, &body) == Attempt::Committed(replies) {
-                tally.calls = tally.calls.saturating_add(body.calls as u64);
-            } else {
-                count(&mut tally.wrong);
-            }
-        }
-        Attempt::Stopped(Stop::Limit(Limit::Nodes)) => count(&mut tally.without_nodes),
-        Attempt::Stopped(Stop::Limit(Limit::Tries)) => count(&mut tally.without_tries),
-        Attempt::Stopped(_) => count(&mut tally.wrong),
+        Attempt::Committed(replies) => plain.run(number, &body, replies),
+        Attempt::Stopped(why) => plain.stop(why),
     }
 }
 
 // Runs so many bodies over both, from a number on.
-fn run_all(
-    store: &Store,
-    pass: &mut StorePass,
-    plain: &mut Plain,
-    first: u32,
-    count: u32,
-    tally: &mut Tally,
-)
+fn run_all(store: &Store, pass: &mut StorePass, plain: &mut Plain, first: u32, count: u32)
     requires of { IsPassOf store.now pass.old }
-    requires maps { 1 < store.now.origin.shape.maps }
-    requires queues { 1 < store.now.origin.shape.queues }
+    requires maps { store.now.origin.shape.maps ≡ 2 }
+    requires queues { store.now.origin.shape.queues ≡ 2 }
     ensures of { IsPassOf store.now pass.new }
 {
     for i in 0..count {
-        run_both(store, pass, plain, first.wrapping_add(i), tally);
+        run_both(store, pass, plain, first.wrapping_add(i));
     }
 }
 
@@ -129,59 +135,77 @@ fn run_round(
     plain: &mut Plain,
     first: u32,
     count: u32,
-    tally: &mut Tally,
 ) -> Option<Contents> {
     let Ok((store, mut pass)) = opened(alloc, shape, start) else {
         return None;
     };
-    run_all(&store, &mut pass, plain, first, count, tally);
+    run_all(&store, &mut pass, plain, first, count);
     closed(store, pass).ok()?
 }
 
-// Runs so many times ten bodies, by two passes of a store in turn. The pass of both.
+// Runs 100 bodies over each of so many stores, which is opened on what the one before left. None if
+// memory runs out.
+fn run_rounds(alloc: Global, shape: Shape, plain: &mut Plain, rounds: u32) -> Option<Contents> {
+    let mut back = Contents::empty(alloc, 2, 2).ok()?;
+    for round in 0..rounds {
+        back = run_round(alloc, shape, &back, plain, round.wrapping_mul(100), 100)?;
+    }
+    Some(back)
+}
+
+// Runs so many times ten bodies, by two passes of a store in turn.
 fn run_in_turn(
     store: &Store,
-    mut one: StorePass,
-    mut other: StorePass,
+    one: &mut StorePass,
+    other: &mut StorePass,
     plain: &mut Plain,
     turns: u32,
-    tally: &mut Tally,
-) -> StorePass
-    requires of { IsPassOf store.now one }
-    requires of_other { IsPassOf store.now other }
-    requires maps { 1 < store.now.origin.shape.maps }
-    requires queues { 1 < store.now.origin.shape.queues }
-    ensures of { IsPassOf store.now result }
+)
+    requires of { IsPassOf store.now one.old }
+    requires of_other { IsPassOf store.now other.old }
+    requires maps { store.now.origin.shape.maps ≡ 2 }
+    requires queues { store.now.origin.shape.queues ≡ 2 }
+    ensures of { IsPassOf store.now one.new }
+    ensures of_other { IsPassOf store.now other.new }
 {
     for turn in 0..turns {
         let first = turn.wrapping_mul(10);
-        run_all(store, &mut one, plain, first, 7, tally);
-        run_all(store, &mut other, plain, first.wrapping_add(7), 3, tally);
+        run_all(store, one, plain, first, 7);
+        run_all(store, other, plain, first.wrapping_add(7), 3);
     }
+}
+
+// Opens a store, runs bodies over it by two passes in turn, and closes it. None if memory runs out,
+// or if it has one lane.
+fn run_two(alloc: Global, shape: Shape, plain: &mut Plain, turns: u32) -> Option<Contents> {
+    let start = Contents::empty(alloc, 2, 2).ok()?;
+    let Ok((store, mut one)) = opened(alloc, shape, &start) else {
+        return None;
+    };
+    let mut other = store.split(&mut one)?;
+    run_in_turn(&store, &mut one, &mut other, plain, turns);
     store.join(&mut one, other);
-    one
+    closed(store, one).ok()?
+}
+
+// What is left is what the store for one thread contains.
+fn leaves<R: Abort>(rt: &R, plain: Plain, left: &Contents) -> Result<(), AllocError> {
+    let want = plain.contents()?;
+    assert_eq!(rt; left.maps(), want.maps());
+    assert_eq!(rt; left.queues(), want.queues());
+    Ok(())
 }
 
 // 100,000 transactions make 550,000 calls on maps of three buckets.
 #[test]
 fn a_store_answers_as_one_for_one_thread(rt: HostRuntime) -> Result<(), Fail> {
-    let alloc = rt.alloc();
-    let start = Contents::empty(alloc, 2, 2)?;
-    let mut plain = Plain::empty(alloc)?;
-    let mut tally = NONE;
+    let start = Contents::empty(rt.alloc(), 2, 2)?;
+    let mut plain = Plain::empty(rt.alloc())?;
     let shape = Shape::new(1, 400_000, 2, 100_000, 2, 3, 2)?;
-    let back = run_round(alloc, shape, &start, &mut plain, 0, 100_000, &mut tally);
-    let back = back.expect(&rt, "memory");
-    assert_eq!(rt;
-        tally,
-        Tally {
-            calls: 550_000,
-            ..NONE
-        }
-    );
-    let want = plain.contents()?;
-    assert_eq!(rt; back.maps(), want.maps());
-    assert_eq!(rt; back.queues(), want.queues());
+    let back = run_round(rt.alloc(), shape, &start, &mut plain, 0, 100_000);
+    let calls = 550_000;
+    assert_eq!(rt; plain.tally, Tally { calls, ..NONE });
+    leaves(&rt, plain, &back.expect(&rt, "memory"))?;
     Ok(())
 }
 
@@ -189,30 +213,14 @@ fn a_store_answers_as_one_for_one_thread(rt: HostRuntime) -> Result<(), Fail> {
 // one before left. So of 100 transactions 40 find no attempt left, and some others no node.
 #[test]
 fn stopped_transactions_leave_nothing(rt: HostRuntime) -> Result<(), Fail> {
-    let alloc = rt.alloc();
-    let mut back = Contents::empty(alloc, 2, 2)?;
-    let mut plain = Plain::empty(alloc)?;
-    let mut tally = NONE;
+    let mut plain = Plain::empty(rt.alloc())?;
     let shape = Shape::new(2, 20, 2_000, 30, 2, 3, 2)?;
-    for round in 0..1_000 {
-        let after = run_round(
-            alloc,
-            shape,
-            &back,
-            &mut plain,
-            100 * round,
-            100,
-            &mut tally,
-        );
-        back = after.expect(&rt, "memory");
-    }
-    assert_eq!(rt; tally.wrong, 0);
-    assert_eq!(rt; tally.without_tries, 40_000);
+    let back = run_rounds(rt.alloc(), shape, &mut plain, 1_000);
+    let tally = plain.tally;
+    assert_eq!(rt; (tally.wrong, tally.without_tries), (0, 40_000));
     assert!(rt; tally.without_nodes > 5_000);
     assert!(rt; tally.calls > 50_000);
-    let want = plain.contents()?;
-    assert_eq!(rt; back.maps(), want.maps());
-    assert_eq!(rt; back.queues(), want.queues());
+    leaves(&rt, plain, &back.expect(&rt, "memory"))?;
     Ok(())
 }
 
@@ -220,24 +228,11 @@ fn stopped_transactions_leave_nothing(rt: HostRuntime) -> Result<(), Fail> {
 // one is in the other's way.
 #[test]
 fn passes_in_turn_answer_as_one(rt: HostRuntime) -> Result<(), Fail> {
-    let alloc = rt.alloc();
-    let start = Contents::empty(alloc, 2, 2)?;
-    let mut plain = Plain::empty(alloc)?;
-    let mut tally = NONE;
+    let mut plain = Plain::empty(rt.alloc())?;
     let shape = Shape::new(4, 60_000, 2, 14_000, 2, 1, 2)?;
-    let (store, mut one) = opened(alloc, shape, &start)?;
-    let other = store.split(&mut one).expect(&rt, "four lanes");
-    let pass = run_in_turn(&store, one, other, &mut plain, 4_000, &mut tally);
-    assert_eq!(rt;
-        tally,
-        Tally {
-            calls: 220_000,
-            ..NONE
-        }
-    );
-    let back = closed(store, pass)?.expect(&rt, "all lanes");
-    let want = plain.contents()?;
-    assert_eq!(rt; back.maps(), want.maps());
-    assert_eq!(rt; back.queues(), want.queues());
+    let back = run_two(rt.alloc(), shape, &mut plain, 4_000);
+    let calls = 220_000;
+    assert_eq!(rt; plain.tally, Tally { calls, ..NONE });
+    leaves(&rt, plain, &back.expect(&rt, "memory"))?;
     Ok(())
 }

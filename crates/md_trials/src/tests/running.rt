@@ -1,4 +1,4 @@
-//! Bodies that threads run at once, each with a pass of its own.
+//! Bodies that two or four threads run at once on a new store, each with a pass of its own.
 
 ghost use Rattle.std.specs.Prelude.{IfOk};
 ghost use Rattle.md_store.specs.Store.{IsPassOf};
@@ -7,6 +7,8 @@ use super::*;
 use md_history::{Attempt, Body};
 use md_many::attempt_until_committed;
 use md_words::ShapeFault;
+use std::alloc::AllocGlobal;
+use std::process::Abort;
 use std::thread::{Threads, join};
 
 // How many bodies each thread runs.
@@ -14,15 +16,8 @@ pub(super) const TURNS: u32 = 20_000;
 
 // A shape of two maps of one bucket and of two queues. Each lane has two nodes for each body of a
 // thread, and more attempts than a thread ever makes.
-pub(super) fn one_bucket(lanes: u32) -> Result<Shape, ShapeFault> {
+fn one_bucket(lanes: u32) -> Result<Shape, ShapeFault> {
     Shape::new(lanes, 2 * TURNS, 8, u32::MAX, 2, 1, 2)
-}
-
-// What a thread has to do: bodies, to be run in order.
-#[derive(Drop)]
-pub(super) struct Part<'a, B> {
-    pub(super) pass: StorePass,
-    pub(super) bodies: &'a [B],
 }
 
 // What threads did: what the bodies of each replied, in order, and the pass of all their lanes.
@@ -57,13 +52,13 @@ fn run_bodies<B: Body>(
 fn run_part<B: Body>(
     alloc: Global,
     store: &Store,
-    part: Part<B>,
+    mut pass: StorePass,
+    bodies: &[B],
 ) -> Result<Done<B::Reply>, AllocError>
-    requires of { IsPassOf store.now part.pass }
+    requires of { IsPassOf store.now pass }
     requires fits { (body : B) → B.fits body store.now.origin.shape.maps store.now.origin.shape.queues }
     ensures of { IfOk result (λ d. IsPassOf store.now d.pass) }
 {
-    let Part { mut pass, bodies } = part;
     let mut replies = Vec::with_capacity(alloc, bodies.len())?;
     run_bodies(store, &mut pass, bodies, &mut replies)?;
     let mut all = Vec::new(alloc);
@@ -88,64 +83,141 @@ fn join_done<R: Drop>(
     Ok(done)
 }
 
-// Two threads run their parts.
-pub(super) fn run_two<R: Threads + Sync, B: Body + Sync>(
+// Two threads run bodies, each with half of the lanes. `AllocError` if there is only one lane.
+fn run_two<R: Threads + Sync, B: Body + Sync>(
     rt: &R,
     alloc: Global,
     store: &Store,
-    one: Part<B>,
-    other: Part<B>,
+    mut pass: StorePass,
+    one: &[B],
+    other: &[B],
 ) -> Result<Done<B::Reply>, AllocError>
 where
     B::Reply: Send,
-    requires of { IsPassOf store.now one.pass }
-    requires of_other { IsPassOf store.now other.pass }
+    requires of { IsPassOf store.now pass }
     requires fits { (body : B) → B.fits body store.now.origin.shape.maps store.now.origin.shape.queues }
     ensures of { IfOk result (λ d. IsPassOf store.now d.pass) }
 {
+    let Some(half) = store.split(&mut pass) else {
+        return Err(AllocError);
+    };
     let (first, second) = join(
         rt,
-        || run_part(alloc, store, one),
-        || run_part(alloc, store, other),
+        || run_part(alloc, store, pass, one),
+        || run_part(alloc, store, half, other),
     );
     join_done(store, first, second)
 }
 
-// Four threads run their parts.
-pub(super) fn run_four<R: Threads + Sync, B: Body + Sync>(
+// Four threads run bodies, two of them with each half of the lanes. `AllocError` if there is only
+// one lane.
+fn run_four<R: Threads + Sync, B: Body + Sync>(
     rt: &R,
     alloc: Global,
     store: &Store,
-    a: Part<B>,
-    b: Part<B>,
-    c: Part<B>,
-    d: Part<B>,
+    mut pass: StorePass,
+    bodies: &[Vec<B>],
 ) -> Result<Done<B::Reply>, AllocError>
 where
     B::Reply: Send,
-    requires of_a { IsPassOf store.now a.pass }
-    requires of_b { IsPassOf store.now b.pass }
-    requires of_c { IsPassOf store.now c.pass }
-    requires of_d { IsPassOf store.now d.pass }
+    requires of { IsPassOf store.now pass }
     requires fits { (body : B) → B.fits body store.now.origin.shape.maps store.now.origin.shape.queues }
     ensures of { IfOk result (λ d. IsPassOf store.now d.pass) }
 {
+    let Some(half) = store.split(&mut pass) else {
+        return Err(AllocError);
+    };
     let (first, second) = join(
         rt,
         move || -> Result<Done<B::Reply>, AllocError>
-            requires of { IsPassOf store.now a.pass }
-            requires of_other { IsPassOf store.now b.pass }
+            requires of { IsPassOf store.now pass }
             requires fits { (body : B)
                 → B.fits body store.now.origin.shape.maps store.now.origin.shape.queues }
             ensures of { IfOk result (λ d. IsPassOf store.entry.now d.pass) }
-        { run_two(rt, alloc, store, a, b) },
+        {
+            run_two(
+                rt,
+                alloc,
+                store,
+                pass,
+                bodies_of(bodies, 0),
+                bodies_of(bodies, 1),
+            )
+        },
         move || -> Result<Done<B::Reply>, AllocError>
-            requires of { IsPassOf store.now c.pass }
-            requires of_other { IsPassOf store.now d.pass }
+            requires of { IsPassOf store.now half }
             requires fits { (body : B)
                 → B.fits body store.now.origin.shape.maps store.now.origin.shape.queues }
             ensures of { IfOk result (λ d. IsPassOf store.entry.now d.pass) }
-        { run_two(rt, alloc, store, c, d) },
+        {
+            run_two(
+                rt,
+                alloc,
+                store,
+                half,
+                bodies_of(bodies, 2),
+                bodies_of(bodies, 3),
+            )
+        },
     );
     join_done(store, first, second)
+}
+
+// The bodies of a thread, if it has any.
+fn bodies_of<B>(bodies: &[Vec<B>], thread: usize) -> &[B] {
+    match bodies.get(thread) {
+        Some(bodies) => bodies.as_slice(),
+        None => &[],
+    }
+}
+
+// Two or four threads run the bodies of each.
+fn run_all<R: Threads + Sync, B: Body + Sync>(
+    rt: &R,
+    alloc: Global,
+    store: &Store,
+    pass: StorePass,
+    bodies: &[Vec<B>],
+) -> Result<Done<B::Reply>, AllocError>
+where
+    B::Reply: Send,
+    requires of { IsPassOf store.now pass }
+    requires fits { (body : B) → B.fits body store.now.origin.shape.maps store.now.origin.shape.queues }
+    ensures of { IfOk result (λ d. IsPassOf store.now d.pass) }
+{
+    if bodies.len() > 2 {
+        return run_four(rt, alloc, store, pass, bodies);
+    }
+    run_two(
+        rt,
+        alloc,
+        store,
+        pass,
+        bodies_of(bodies, 0),
+        bodies_of(bodies, 1),
+    )
+}
+
+// What bodies replied, thread by thread, and what they left.
+#[derive(Drop)]
+pub(super) struct Ran<R> {
+    pub(super) replies: Vec<Vec<R>>,
+    pub(super) left: Contents,
+}
+
+// Two or four threads run bodies on a new store with a lane for each.
+pub(super) fn run_on_new<R: Abort + AllocGlobal + Threads + Sync, B: Body + Sync>(
+    rt: &R,
+    start: &Contents,
+    bodies: &[Vec<B>],
+) -> Result<Ran<B::Reply>, Fail>
+where
+    B::Reply: Send,
+    requires fits { (body : B) → B.fits body 2 2 }
+{
+    let lanes = if bodies.len() > 2 { 4 } else { 2 };
+    let (store, pass) = opened(rt.alloc(), one_bucket(lanes)?, start)?;
+    let Done { pass, replies } = run_all(rt, rt.alloc(), &store, pass, bodies)?;
+    let left = closed(store, pass)?.expect(rt, "all lanes");
+    Ok(Ran { replies, left })
 }

@@ -1,8 +1,10 @@
 //! Threads that move value between the same two keys at once.
 
-use super::running::{Part, TURNS, one_bucket, run_four, run_two};
+use super::running::{TURNS, run_on_new};
 use super::*;
-use std::collections::BTreeMap;
+use std::alloc::AllocGlobal;
+use std::process::Abort;
+use std::thread::Threads;
 
 // What each of the two keys has at first.
 const START: u64 = 1000;
@@ -55,6 +57,15 @@ fn left_after(transfers: &[Vec<Transfer>], found: &[Vec<(u64, u64)>]) -> Option<
     Some(left)
 }
 
+// The transfers of each thread.
+fn transfers_of_all(alloc: Global, threads: u64) -> Result<Vec<Vec<Transfer>>, AllocError> {
+    let mut all = Vec::new(alloc);
+    for thread in 0..threads {
+        all.push(transfers_of(alloc, thread)?)?;
+    }
+    Ok(all)
+}
+
 // The two keys, with the same value.
 fn two_keys(alloc: Global) -> Result<Contents, AllocError> {
     let mut start = Contents::empty(alloc, 2, 2)?;
@@ -63,71 +74,29 @@ fn two_keys(alloc: Global) -> Result<Contents, AllocError> {
     Ok(start)
 }
 
-// The two keys, of which the first has so much of the sum.
-fn keys_with(alloc: Global, left: u64) -> Result<BTreeMap<u64, u64>, AllocError> {
-    let mut keys = BTreeMap::new(alloc);
-    keys.insert(1, left)?;
-    keys.insert(2, (2 * START).wrapping_sub(left))?;
-    Ok(keys)
+// How many keys the first map has, and what key 1 has and key 2.
+fn keys_in(contents: &Contents) -> Option<(usize, Option<u64>, Option<u64>)> {
+    let keys = contents.maps().first()?;
+    Some((keys.len(), keys.get(&1).copied(), keys.get(&2).copied()))
+}
+
+// So many threads move value. Each saw the sum, and the end has what the moves add up to.
+fn keep_a_sum<R: Abort + AllocGlobal + Threads + Sync>(rt: &R, threads: u64) -> Result<(), Fail> {
+    let start = two_keys(rt.alloc())?;
+    let own = transfers_of_all(rt.alloc(), threads)?;
+    let ran = run_on_new(rt, &start, &own)?;
+    let left = left_after(&own, &ran.replies).expect(rt, "the sum each time");
+    let there = (2 * START).wrapping_sub(left);
+    assert_eq!(rt; keys_in(&ran.left), Some((2, Some(left), Some(there))));
+    Ok(())
 }
 
 #[test]
 fn two_threads_keep_a_sum(rt: HostRuntime) -> Result<(), Fail> {
-    let alloc = rt.alloc();
-    let (store, mut a) = opened(alloc, one_bucket(2)?, &two_keys(alloc)?)?;
-    let b = store.split(&mut a).expect(&rt, "two lanes");
-    let own = [transfers_of(alloc, 0)?, transfers_of(alloc, 1)?];
-    let one = Part {
-        pass: a,
-        bodies: &own[0],
-    };
-    let other = Part {
-        pass: b,
-        bodies: &own[1],
-    };
-    let done = run_two(&rt, alloc, &store, one, other)?;
-    let back = closed(store, done.pass)?.expect(&rt, "both lanes");
-    let left = left_after(&own, &done.replies).expect(&rt, "the sum each time");
-    assert_eq!(rt; back.maps().first(), Some(&keys_with(alloc, left)?));
-    Ok(())
+    keep_a_sum(&rt, 2)
 }
 
 #[test]
 fn four_threads_keep_a_sum(rt: HostRuntime) -> Result<(), Fail> {
-    let alloc = rt.alloc();
-    let (store, mut a) = opened(alloc, one_bucket(4)?, &two_keys(alloc)?)?;
-    let mut c = store.split(&mut a).expect(&rt, "four lanes");
-    let b = store.split(&mut a).expect(&rt, "two lanes");
-    let d = store.split(&mut c).expect(&rt, "two lanes");
-    let own = [
-        transfers_of(alloc, 0)?,
-        transfers_of(alloc, 1)?,
-        transfers_of(alloc, 2)?,
-        transfers_of(alloc, 3)?,
-    ];
-    let done = run_four(
-        &rt,
-        alloc,
-        &store,
-        Part {
-            pass: a,
-            bodies: &own[0],
-        },
-        Part {
-            pass: b,
-            bodies: &own[1],
-        },
-        Part {
-            pass: c,
-            bodies: &own[2],
-        },
-        Part {
-            pass: d,
-            bodies: &own[3],
-        },
-    )?;
-    let back = closed(store, done.pass)?.expect(&rt, "all lanes");
-    let left = left_after(&own, &done.replies).expect(&rt, "the sum each time");
-    assert_eq!(rt; back.maps().first(), Some(&keys_with(alloc, left)?));
-    Ok(())
+    keep_a_sum(&rt, 4)
 }
