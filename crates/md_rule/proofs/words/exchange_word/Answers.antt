@@ -43,3 +43,9 @@ follow-requires-clause-may g c = λ s seen.
     let set : c.exchange_private-found.new.words ≡ slice_set mine.items word (left (slice_index mine.items word)) = traded.words ∙ ap (λ l. slice_set l word (left c.exchange_private-found.result)) row ∙ ap (λ n. slice_set mine.items word (left n)) found in
     let told = may_put M o _ me word left tells mine (with_items mine c.exchange_private-found.new.words) has.0 has.2 (after mine word left _ set) c.requires.live c.requires.may s seen in
     (told.0, told.1, (subst (λ n. tells n me.view told.0.view) (sym found) told.2, told.3, told.4 ∙ sym c.of.ensures))
+
+pub returns-then-found-from-clause-told : goal.returns-then-found-from-clause-told
+returns-then-found-from-clause-told g c = search rules depth 1
+
+pub returns-else-found-from-clause-told : goal.returns-else-found-from-clause-told
+returns-else-found-from-clause-told g c = search rules depth 1

@@ -3,6 +3,7 @@ use Rattle.md_words.specs.Place.{queue_head}
 use Rattle.md_words.specs.Layout.{address}
 use Rattle.md_store_law.specs.Laid.{naming}
 use Rattle.md_store_law.proofs.Dummies.{HasDummies, dummies_on, dummies_end}
+use Rattle.std.proofs.lemmas.Grind.{common_steps}
 use Rattle.md_store_law.proofs.building.empty_field.Goals as goal
 
 pub loop-queue-preserved : goal.loop-queue-preserved
@@ -23,3 +24,6 @@ returns c =
     let shape = c.args.shape.now in
     let all : c.loop-queue.queue ≡ shape.queues = omega arith in
     dummies_end shape c.loop-queue.words.items c.requires (subst (HasDummies shape c.loop-queue.words.items) all c.loop-queue.invariant)
+
+pub loop-queue-init : goal.loop-queue-init
+loop-queue-init c = grind (arith, common_steps)

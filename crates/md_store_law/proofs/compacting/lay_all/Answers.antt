@@ -1,4 +1,4 @@
-use Rattle.std.proofs.Common.{◌≡◌, ap, sym, arith}
+use Rattle.std.proofs.Common.{◌≡◌, ap, sym, arith, rules}
 use Rattle.md_store_law.specs.Below.{maps_below}
 use Rattle.md_store_law.specs.Living.{pairs_listed, values_listed}
 use Rattle.md_store_law.proofs.Below.{laid_as, begin_at}
@@ -14,3 +14,9 @@ lay_queues-requires-clause-laid c =
     let shape = c.args.shape.now in
     let end : c.loop-map.map ≡ shape.maps = omega arith in
     laid_as shape c.loop-map.words _ _ c.loop-map.next (ap (maps_below shape (pairs_listed shape c.args.living.now)) (sym end)) c.loop-map.invariant
+
+pub lay_map-next-requires-clause-laid : goal.lay_map-next-requires-clause-laid
+lay_map-next-requires-clause-laid c = search rules depth 1
+
+pub loop-map-preserved : goal.loop-map-preserved
+loop-map-preserved c = search rules depth 1

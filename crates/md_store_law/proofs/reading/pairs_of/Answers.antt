@@ -1,4 +1,4 @@
-use Rattle.std.proofs.Common.{ℕ, ◌++◌, sym, ap, ◌∙◌}
+use Rattle.std.proofs.Common.{ℕ, ◌++◌, sym, ap, ◌∙◌, rules}
 use Rattle.md_list_law.specs.Walk.{pairs_from}
 use Rattle.md_list_law.specs.ListShape.{head_word}
 use Rattle.md_store_law.specs.Field.{logical_words}
@@ -10,3 +10,6 @@ loop-bucket-preserved g c =
     let read = λ (bucket : ℕ). pairs_from (logical_words c.args.shape.now (g.W.FieldWords.words c.args.words.now)) (head_word c.args.shape.now c.args.map bucket) in
     c.in_ok-append_pairs.ensures ∙ ap (λ ps. ps ++ read c.loop-bucket.bucket) c.loop-bucket.invariant
     ∙ sym (flat_map_range_more read c.loop-bucket.bucket)
+
+pub loop-bucket-init : goal.loop-bucket-init
+loop-bucket-init g c = search rules depth 1

@@ -6,6 +6,7 @@ use Rattle.md_hash_law.specs.HashTable.{pairs_of_map}
 use Rattle.md_store_law.specs.Field.{logical_words}
 use Rattle.md_store_law.proofs.Filling.{MapsFilled, maps_on, maps_end}
 use Rattle.md_store_law.proofs.PairCounts.{table-pairs}
+use Rattle.std.proofs.lemmas.Grind.{common_steps}
 use Rattle.md_store_law.proofs.reading.read_off_maps_from.Goals as goal
 
 pub loop-map-preserved : goal.loop-map-preserved
@@ -24,3 +25,6 @@ returns g c =
     let w = logical_words c.args.shape.now (g.W.FieldWords.words c.args.words.now) in
     let all : w.shape.maps ≤ c.loop-map.map = omega arith in
     maps_end w c.args.first c.loop-map.contents c.loop-map.map all c.loop-map.invariant
+
+pub loop-map-init : goal.loop-map-init
+loop-map-init g c = grind (arith, common_steps)

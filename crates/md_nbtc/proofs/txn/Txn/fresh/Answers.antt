@@ -1,4 +1,4 @@
-use Rattle.std.proofs.Common.{◌≡◌, ℕ, ◌≤◌, ◌+◌, ◌-◌, Some, Ok, Err, refl, sym, ap, ◌∙◌, subst, inr, arith}
+use Rattle.std.proofs.Common.{◌≡◌, ℕ, ◌≤◌, ◌+◌, ◌-◌, Some, Ok, Err, refl, sym, ap, ◌∙◌, subst, inr, arith, rules}
 use Rattle.md_words.specs.declared.content.Content.{Content}
 use Rattle.md_words.specs.declared.shape.Shape.{Shape}
 use Rattle.md_words.specs.Layout.{IsNode, address}
@@ -320,3 +320,6 @@ returns-clause-given g c =
     c.requires.going.0 c.requires.going.1 c.requires.operates c.args.key c.args.value c.args.next
     c.in-Ok.node c.store-3.new.self (did g c.before.before.before)
     c.keep.new.self _ _ (lane_at g c.before.before.before) (first_is g c.before.before) c.keep.ensures
+
+pub returns-in-Err-clause-fresh : goal.returns-in-Err-clause-fresh
+returns-in-Err-clause-fresh g c = search rules depth 1

@@ -1,4 +1,4 @@
-use Rattle.std.proofs.Common.{sym, ◌∙◌}
+use Rattle.std.proofs.Common.{sym, ◌∙◌, rules}
 use Rattle.md_nbtc_law.proofs.keeping.Causes.{reads_cause}
 use Rattle.md_nbtc_law.proofs.recording.Stopping.{moved_cause}
 use Rattle.md_nbtc_law.proofs.preparing.Heaps.{goes_self}
@@ -24,3 +24,12 @@ returns-in-Some-content-clause-gave g c = c.halt.ensures.gave c.args.word c.args
 
 pub halt-requires-then-len-clause-cause : goal.halt-requires-then-len-clause-cause
 halt-requires-then-len-clause-cause g c = reads_cause (state c.args.self.now) (sym c.len.ensures ∙ c.if-len.true)
+
+pub record-requires-clause-room : goal.record-requires-clause-room
+record-requires-clause-room g c = search rules depth 1
+
+pub returns-clause-noted : goal.returns-clause-noted
+returns-clause-noted g c = search rules depth 1
+
+pub returns-then-was-now-clause-noted : goal.returns-then-was-now-clause-noted
+returns-then-was-now-clause-noted g c = search rules depth 1

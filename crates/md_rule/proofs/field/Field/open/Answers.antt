@@ -1,4 +1,4 @@
-use Rattle.std.proofs.Common.{refl}
+use Rattle.std.proofs.Common.{refl, rules}
 use Rattle.md_rule.specs.Views.{Origin}
 use Rattle.md_rule.proofs.Moves.{opens_so}
 use Rattle.md_rule.proofs.field.Field.open.Goals as goal
@@ -12,3 +12,6 @@ pub of_words-requires-else-shape-eq1 : goal.of_words-requires-else-shape-eq1
 of_words-requires-else-shape-eq1 g c =
     let o : Origin = record { shape = c.args.shape; words = c.args.words.items } in
     rw (c.as_slice.ensures.value, c.of.ensures) (opens_so g.T.Theory.meaning o c.args.words c.args.words.items c.requires.0 refl (λ _. refl) c.requires.1)
+
+pub invariant_of-result : goal.invariant_of-result
+invariant_of-result g c = search rules depth 1

@@ -1,4 +1,4 @@
-use Rattle.std.proofs.Common.{None, sym, subst}
+use Rattle.std.proofs.Common.{None, sym, subst, rules}
 use Rattle.md_rule.specs.Kept.{KeepsLanes}
 use Rattle.md_rule.specs.Lanes.{AreLanes}
 use Rattle.md_rule.specs.Private.{HasWords}
@@ -12,3 +12,6 @@ invariant_of-result g c = (
   subst (λ p. KeepsLanes p.shape c.args.seat.me.0.view p.shares) (sym c.self.view_is) c.requires.kept,
   subst (λ p. HasWords p.shape None c.args.seat.me.0) (sym c.self.view_is) c.requires.shared,
 )
+
+pub returns : goal.returns
+returns g c = search rules depth 1
