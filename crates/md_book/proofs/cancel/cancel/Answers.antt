@@ -1,3 +1,4 @@
+use Rattle.std.proofs.Common.{rules}
 use Rattle.std.proofs.lemmas.Result.{err_from_is_err_and}
 use Rattle.md_history.specs.Script.{done}
 use Rattle.md_history.specs.ScriptLaws.{at-begin, at-more, at-part, at-broke_part, at-done}
@@ -20,3 +21,9 @@ returns-clause-plays g c =
     let at1 = at-some _ _ _ _ (at-more at0 c.in_ok-order.ensures.ok) c.in-Some.is in
     let lowered = rw (c.level_in.ensures, c.left_in-left.ensures) at c.in_ok-lower.ensures.plays in
     rw c.left_in-left.ensures (lowered.0, at-done (at-part (λ _. done (Cancelled (left_in c.in-Some.order))) at1 lowered.1))
+
+pub returns-in_err-order-clause-plays : goal.returns-in_err-order-clause-plays
+returns-in_err-order-clause-plays g c = search rules depth 1
+
+pub returns-in_default-clause-plays : goal.returns-in_default-clause-plays
+returns-in_default-clause-plays g c = search rules depth 1
