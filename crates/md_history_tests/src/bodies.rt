@@ -105,28 +105,32 @@ fn is_entry(rt: &impl Abort, entry: &Entry, number: u64, tag: u64, acts: &[Act])
     has_acts(rt, &entry.acts, acts);
 }
 
+// The entries of two such bodies with one key, and no others.
+fn has_both(rt: &impl Abort, entries: &[Entry], first: EachCall, second: EachCall) {
+    let [one, two] = entries else {
+        panic!(rt; "two entries")
+    };
+    is_entry(rt, one, 0, 30, &acts_of(first, true, 6, Some(4), 1));
+    is_entry(rt, two, 1, 20, &acts_of(second, false, 6, None, 6));
+}
+
 #[test]
 fn a_body_runs_twice(rt: HostRuntime) -> Result<(), Fail> {
     let (store, mut pass) = PlainStore::open(one_of_each(rt.alloc())?);
-    let bodies = [EachCall { key: 5, value: 6 }, EachCall { key: 5, value: 7 }];
-    let first = store.attempt(&mut pass, 30, &bodies[0]);
-    let second = store.attempt(&mut pass, 20, &bodies[1]);
-    let ends = (first, second);
-    assert_eq!(rt;
-        ends,
-        (Attempt::Committed(Some(1)), Attempt::Committed(Some(6)))
-    );
-
-    let [one, two] = pass.entries() else {
-        panic!(rt; "two entries")
-    };
-    is_entry(&rt, one, 0, 30, &acts_of(bodies[0], true, 6, Some(4), 1));
-    is_entry(&rt, two, 1, 20, &acts_of(bodies[1], false, 6, None, 6));
-
+    let first = EachCall { key: 5, value: 6 };
+    let second = EachCall { key: 5, value: 7 };
+    let ends = [
+        store.attempt(&mut pass, 30, &first),
+        store.attempt(&mut pass, 20, &second),
+    ];
+    has_both(&rt, pass.entries(), first, second);
     let (contents, _front) = store.contents(pass)?;
     let map = [Some(1), None, Some(6), None, None];
-    assert_eq!(rt; map_has(&contents, 0), Some(map));
     let queue = [Some(1), Some(7), None, None, None];
-    assert_eq!(rt; queue_has(&contents, 0), Some(queue));
+    let replies = [Attempt::Committed(Some(1)), Attempt::Committed(Some(6))];
+    assert_eq!(rt;
+        (ends, map_has(&contents, 0), queue_has(&contents, 0)),
+        (replies, Some(map), Some(queue))
+    );
     Ok(())
 }

@@ -85,19 +85,39 @@ pub(crate) fn queue_has(contents: &Contents, queue: u32) -> Option<[Option<u64>;
     ])
 }
 
+// What two puts at one key return. A value goes into a queue, too.
+fn puts_of(contents: &mut Contents) -> Result<[Option<u64>; 2], AllocError> {
+    let puts = [put(contents, 0, 5, 6)?, put(contents, 0, 5, 7)?];
+    push(contents, 0, 1)?;
+    Ok(puts)
+}
+
 #[test]
 fn contents_take_values(rt: HostRuntime) -> Result<(), Fail> {
     let mut contents = Contents::empty(rt.alloc(), 1, 1)?;
-    assert_eq!(rt; put(&mut contents, 0, 5, 6)?, None);
-    assert_eq!(rt; put(&mut contents, 0, 5, 7)?, Some(6));
-    push(&mut contents, 0, 1)?;
+    let puts = puts_of(&mut contents)?;
+    let maps = [map_has(&contents, 0), map_has(&contents, 1)];
+    let queues = [queue_has(&contents, 0), queue_has(&contents, 1)];
     let map = [Some(1), None, Some(7), None, None];
-    assert_eq!(rt; map_has(&contents, 0), Some(map));
-    assert_eq!(rt; map_has(&contents, 1), None);
     let queue = [Some(1), Some(1), None, None, None];
-    assert_eq!(rt; queue_has(&contents, 0), Some(queue));
-    assert_eq!(rt; queue_has(&contents, 1), None);
+    assert_eq!(rt;
+        (puts, maps, queues),
+        ([None, Some(6)], [Some(map), None], [Some(queue), None])
+    );
     Ok(())
+}
+
+// Sets one of two maps whole. Returns what both have then, and what that one has when it was set
+// again, without pairs.
+fn set_twice(
+    contents: &mut Contents,
+    alloc: Global,
+) -> Result<[Option<[Option<u64>; 5]>; 3], AllocError> {
+    set_map(contents, alloc, 1, &[(9, 2), (7, 3), (9, 4)])?;
+    let other = map_has(contents, 0);
+    let map = map_has(contents, 1);
+    set_map(contents, alloc, 1, &[])?;
+    Ok([other, map, map_has(contents, 1)])
 }
 
 #[test]
@@ -105,13 +125,10 @@ fn a_map_is_set_whole(rt: HostRuntime) -> Result<(), Fail> {
     let mut contents = Contents::empty(rt.alloc(), 2, 0)?;
     put(&mut contents, 0, 5, 6)?;
     put(&mut contents, 1, 4, 1)?;
-    set_map(&mut contents, rt.alloc(), 1, &[(9, 2), (7, 3), (9, 4)])?;
+    let maps = set_twice(&mut contents, rt.alloc())?;
     let other = [Some(1), None, Some(6), None, None];
-    assert_eq!(rt; map_has(&contents, 0), Some(other));
     let map = [Some(2), None, None, Some(3), Some(4)];
-    assert_eq!(rt; map_has(&contents, 1), Some(map));
-    set_map(&mut contents, rt.alloc(), 1, &[])?;
     let none = [Some(0), None, None, None, None];
-    assert_eq!(rt; map_has(&contents, 1), Some(none));
+    assert_eq!(rt; maps, [Some(other), Some(map), Some(none)]);
     Ok(())
 }

@@ -1,9 +1,10 @@
 //! Bodies look at the first values of a queue.
 
 ghost use Rattle.std.specs.Prelude.{◌≡◌, length, IfOk};
+ghost use Rattle.md_history.specs.Plain.{IsPassOf};
 
 use crate::contents::{push, queue_has, queue_len};
-use md_history::{Attempt, Body, Contents, Engine, Line, PlainStore, Stop, TxCalls};
+use md_history::{Attempt, Body, Contents, Engine, Line, PlainPass, PlainStore, Stop, TxCalls};
 use std::alloc::{AllocError, Global};
 use std::process::Abort;
 use std::test::Fail;
@@ -86,18 +87,30 @@ fn lines_are_looked_at(rt: HostRuntime) -> Result<(), Fail> {
     Ok(())
 }
 
+// How many entries a pass has before the body runs, and after it.
+fn entries_of(store: &PlainStore, pass: &mut PlainPass) -> [usize; 2]
+    requires of { IsPassOf store.now pass.old }
+    requires fits { length store.now.queues ≡ 1 }
+    ensures { IsPassOf store.now pass.new }
+{
+    let before = pass.entries().len();
+    store.attempt(pass, 2, &TwoLines);
+    [before, pass.entries().len()]
+}
+
 #[test]
 fn a_renewed_store_goes_on(rt: HostRuntime) -> Result<(), Fail> {
     let (store, mut pass) = PlainStore::open(queue_of(rt.alloc(), 0)?);
-    assert!(rt; store.split(&mut pass).is_none());
+    let alone = store.split(&mut pass).is_none();
     store.attempt(&mut pass, 1, &TwoLines);
     let (store, mut pass, _front) = store.renew(pass)?;
-    let before = pass.entries().len();
-    store.attempt(&mut pass, 2, &TwoLines);
-    assert_eq!(rt; (before, pass.entries().len()), (0, 1));
+    let entries = entries_of(&store, &mut pass);
     let (contents, _front) = store.contents(pass)?;
     let queue = [Some(4), Some(1), Some(2), Some(1), Some(2)];
-    assert_eq!(rt; queue_has(&contents, 0), Some(queue));
+    assert_eq!(rt;
+        (alone, entries, queue_has(&contents, 0)),
+        (true, [0, 1], Some(queue))
+    );
     Ok(())
 }
 
