@@ -1,15 +1,16 @@
 //! One caller's scripts over the store for one thread.
 
-ghost use Rattle.std.specs.Prelude.{◌≡◌, length, IfOk};
+ghost use Rattle.std.specs.Prelude.{◌≡◌, ◌≤◌, length, IfOk};
 
 use md_book::{BookReply, DEPTHS, LEVELS, MAPS, MAX_PARTS, Part, order_name};
-use md_history::{Contents, PlainStore};
+use md_history::{Contents, PlainPass, PlainStore};
 use md_orders::{Replies, Scripts, read_orders, summary};
-use md_rounds::{FreeGate, play_alone, run_all, summaries_add_up};
+use md_rounds::{FreeGate, Outcome, Played, play_alone, run_all, summaries_add_up};
 use md_words::limits::{MAX_MAPS, MAX_QUEUES};
 use std::alloc::{AllocError, Global};
 use std::process::Abort;
 use std::test::Fail;
+use std::thread::Threads;
 
 // The script of one caller.
 fn script_of(alloc: Global, text: &str) -> Result<Scripts, Fail>
@@ -21,12 +22,33 @@ fn script_of(alloc: Global, text: &str) -> Result<Scripts, Fail>
     }
 }
 
+// Plays such a script alone, on an empty book.
+fn played_alone(alloc: Global, scripts: &Scripts) -> Result<Played<PlainPass>, AllocError>
+    requires { length scripts.now ≡ 1 }
+    ensures { IfOk result (λ played. MAPS ≤ length played.contents.maps) }
+{
+    let (store, pass) = PlainStore::open(Contents::empty(alloc, MAPS, LEVELS)?);
+    play_alone(alloc, store, pass, scripts)
+}
+
+// Plays it in rounds, on an empty book.
+fn played_in_rounds(
+    rt: &(impl Threads + Sync),
+    alloc: Global,
+    scripts: &Scripts,
+) -> Result<Outcome<PlainPass>, AllocError>
+    requires { length scripts.now ≡ 1 }
+    ensures { IfOk result (λ played. MAPS ≤ length played.contents.maps) }
+{
+    let (store, pass) = PlainStore::open(Contents::empty(alloc, MAPS, LEVELS)?);
+    run_all(rt, alloc, store, pass, scripts, 1_000_000, &FreeGate)
+}
+
 #[test]
 fn one_caller_alone(rt: HostRuntime) -> Result<(), Fail> {
     let alloc = rt.alloc();
     let scripts = script_of(alloc, "1,P,7,S,100,5\n1,F,8,S,100,3\n1,D,S,100\n")?;
-    let (store, pass) = PlainStore::open(Contents::empty(alloc, MAPS, LEVELS)?);
-    let played = play_alone(alloc, store, pass, &scripts)?;
+    let played = played_alone(alloc, &scripts)?;
     let replies = [played.replies.get(1, 1), played.replies.get(1, 3)];
     let depth = played.contents.get(DEPTHS, 1099);
     let want = [Some(BookReply::Placed), Some(BookReply::Depth(2))];
@@ -36,14 +58,16 @@ fn one_caller_alone(rt: HostRuntime) -> Result<(), Fail> {
 
 // An order, a fill of a part, a kill that finds too little, one that finds enough, a cancel of what
 // is left, and two looks; so many times, one after another.
-fn cycles(alloc: Global, count: u32) -> Result<String, Fail> {
+fn cycles(alloc: Global, count: u32) -> Result<Scripts, Fail>
+    ensures { IfOk result (λ scripts. length scripts ≡ 1) }
+{
     let mut text = String::new(alloc);
     for cycle in 0..count {
         let first = cycle.saturating_mul(7).saturating_add(1);
         text.push_str("1,P,7,S,100,5\n1,F,8,S,100,3\n1,K,8,S,100,3\n1,K,8,S,100,1\n")?;
         writeln!(text, "1,C,1,{first}\n1,D,S,100\n1,A,8")?;
     }
-    Ok(text)
+    script_of(alloc, text.as_str())
 }
 
 // The reply to a fill or a kill that took all that it asked for, from the order of one line.
@@ -77,14 +101,19 @@ fn replies_of(first: u32, cycle: u32) -> [BookReply; 7] {
     ]
 }
 
-// Each reply of so many cycles stands at its own line.
-fn are_those_of<R: Abort>(rt: &R, replies: &Replies, count: u32) {
+// Each reply of a cycle stands at its own line.
+fn is_cycle(rt: &impl Abort, replies: &Replies, cycle: u32) {
+    let first = cycle.saturating_mul(7).saturating_add(1);
+    for (place, want) in replies_of(first, cycle).iter().enumerate() {
+        let line = first.saturating_add(place as u32);
+        assert_eq!(rt; replies.get(1, line), Some(*want), "at {line}");
+    }
+}
+
+// Each reply of so many cycles does.
+fn are_those_of(rt: &impl Abort, replies: &Replies, count: u32) {
     for cycle in 0..count {
-        let first = cycle.saturating_mul(7).saturating_add(1);
-        for (place, want) in replies_of(first, cycle).iter().enumerate() {
-            let line = first.saturating_add(place as u32);
-            assert_eq!(rt; replies.get(1, line), Some(*want), "at {line}");
-        }
+        is_cycle(rt, replies, cycle);
     }
 }
 
@@ -92,10 +121,8 @@ fn are_those_of<R: Abort>(rt: &R, replies: &Replies, count: u32) {
 #[test]
 fn batches_of_lines(rt: HostRuntime) -> Result<(), Fail> {
     let alloc = rt.alloc();
-    let text = cycles(alloc, 10_000)?;
-    let scripts = script_of(alloc, text.as_str())?;
-    let (store, pass) = PlainStore::open(Contents::empty(alloc, MAPS, LEVELS)?);
-    let played = play_alone(alloc, store, pass, &scripts)?;
+    let scripts = cycles(alloc, 10_000)?;
+    let played = played_alone(alloc, &scripts)?;
     are_those_of(&rt, &played.replies, 10_000);
     assert_eq!(rt; played.replies.get(1, 70_001), None);
     Ok(())
@@ -117,15 +144,12 @@ fn the_largest_contents(rt: HostRuntime) -> Result<(), Fail> {
 #[test]
 fn one_caller_in_rounds(rt: HostRuntime) -> Result<(), Fail> {
     let alloc = rt.alloc();
-    let text = cycles(alloc, 1_000)?;
-    let scripts = script_of(alloc, text.as_str())?;
-    let (store, pass) = PlainStore::open(Contents::empty(alloc, MAPS, LEVELS)?);
-    let played = run_all(&rt, alloc, store, pass, &scripts, 1_000_000, &FreeGate)?;
+    let scripts = cycles(alloc, 1_000)?;
+    let played = played_in_rounds(&rt, alloc, &scripts)?;
     are_those_of(&rt, &played.replies, 1_000);
-    assert_eq!(rt; played.fronts.len(), 1);
     summaries_add_up();
     let line = summary(alloc, &scripts, &played.replies, &played.contents)?;
     let want = b"made 7000 placed 5000 cancelled 1000 filled 4000 open 0\n".as_slice();
-    assert_eq!(rt; line.as_slice(), want);
+    assert_eq!(rt; (played.fronts.len(), line.as_slice()), (1, want));
     Ok(())
 }
