@@ -2,6 +2,7 @@
 
 use md_outside::{Failed, Sink, Source};
 use std::alloc::{AllocError, Global};
+use std::test::Fail;
 
 // What so many reads into three bytes give: the bytes of each and a bar, `.` at the end, `!` at a
 // fault.
@@ -25,25 +26,27 @@ pub(crate) fn read_log<S: Source>(
     Ok(log)
 }
 
-// How many bytes each of so many writes takes, or `None` at a fault. A write goes on where the
-// last one stopped.
+// What so many writes answer: the number of bytes that each takes and a bar, `!` at a fault. A write
+// goes on where the last one stopped.
 pub(crate) fn write_log<S: Sink>(
     alloc: Global,
     sink: &mut S,
     text: &[u8],
     calls: u8,
-) -> Result<Vec<Option<usize>>, AllocError> {
-    let mut log = Vec::new(alloc);
+) -> Result<String, Fail> {
+    let mut log = String::new(alloc);
     let mut rest = text;
     for _ in 0..calls {
         if rest.is_empty() {
             return Ok(log);
         }
-        let answer = sink.write(rest);
-        if let Ok(count) = answer {
-            rest = &rest[count..];
+        match sink.write(rest) {
+            Ok(count) => {
+                rest = &rest[count..];
+                write!(log, "{count}|")?;
+            }
+            Err(Failed) => log.push('!')?,
         }
-        log.push(answer.ok())?;
     }
     Ok(log)
 }
