@@ -77,10 +77,12 @@ fn a_kill_takes_all_or_nothing(rt: HostRuntime) -> Result<(), Fail> {
         D S 1000 | depth 999999
     ";
     let (played, contents) = play(rt.alloc(), day)?;
-    assert_eq!(rt; played, (60, ""));
     let hidden = contents.get(OPEN_ORDERS, order_name(1, 45)).is_some();
     let first = contents.queue(1499).front().copied();
-    assert_eq!(rt; (hidden, first), (true, Some(order_name(1, 41))));
+    assert_eq!(rt;
+        (played, hidden, first),
+        ((60, ""), true, Some(order_name(1, 41)))
+    );
     Ok(())
 }
 
