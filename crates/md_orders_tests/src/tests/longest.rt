@@ -1,8 +1,8 @@
 //! The longest report.
 
 use crate::tests::reports::reported;
+use crate::tests::shown::read;
 use md_book::{BOUGHT, DEPTHS, LEVELS, MAX_ACCOUNT, MAX_PRICE, SOLD};
-use md_orders::read_orders;
 use std::alloc::{AllocError, Global};
 use std::test::Fail;
 
@@ -41,64 +41,44 @@ fn after<'a>(text: &'a [u8], piece: &str) -> Result<&'a [u8], Fail> {
     Ok(&text[piece.len()..])
 }
 
-// The parts of each fill.
-fn parts_text(alloc: Global) -> Result<String, AllocError> {
-    let mut text = String::new(alloc);
-    for _ in 0..8 {
-        text.push_str(" 64:1000000=100000")?;
-    }
-    for _ in 0..4 {
-        text.push_str(" 64:1000000=25000")?;
-    }
-    Ok(text)
-}
-
-// What is left of a text after the lines of the fills.
-fn after_fills<'a>(alloc: Global, text: &'a [u8]) -> Result<&'a [u8], Fail> {
-    let parts = parts_text(alloc)?;
+// What is left of a text after lines that are numbered from 1 on, each number between two pieces.
+fn after_numbered<'a>(
+    alloc: Global,
+    text: &'a [u8],
+    count: u32,
+    before: &str,
+    behind: &str,
+) -> Result<&'a [u8], Fail> {
     let mut left = text;
     let mut line = String::new(alloc);
-    for before in 0..LINES {
-        let number = before + 1;
+    for earlier in 0..count {
+        let number = earlier + 1;
         line.clear();
-        writeln!(line, "64:{number} filled 900000 rest 100000 from{parts}")?;
+        writeln!(line, "{before}{number}{behind}")?;
         left = after(left, line.as_str())?;
     }
     Ok(left)
 }
 
-// What is left of a text after the depths of a side.
-fn after_levels<'a>(alloc: Global, text: &'a [u8], side: &str) -> Result<&'a [u8], Fail> {
-    let mut left = text;
-    let mut line = String::new(alloc);
-    for before in 0..MAX_PRICE {
-        let price = before + 1;
-        line.clear();
-        writeln!(line, "{side} {price} 18446744073709551615")?;
-        left = after(left, line.as_str())?;
-    }
-    Ok(left)
+// The report of so many fills, with the longest texts.
+fn longest(alloc: Global) -> Result<Vec<u8>, Fail> {
+    let orders = fills(alloc)?;
+    let scripts = read(alloc, &orders, 64)?;
+    reported(alloc, &scripts, 12, &greatest_values(alloc)?)
 }
 
-// What is left of a text after the sums of the accounts.
-fn after_accounts<'a>(alloc: Global, text: &'a [u8]) -> Result<&'a [u8], Fail> {
-    let sum = "18446744073709551615";
-    let mut left = text;
-    let mut line = String::new(alloc);
-    for before in 0..MAX_ACCOUNT {
-        let account = before + 1;
-        line.clear();
-        writeln!(line, "account {account} bought {sum} sold {sum}")?;
-        left = after(left, line.as_str())?;
-    }
-    Ok(left)
-}
-
-// What is left of a text after the lines of the book.
-fn after_book<'a>(alloc: Global, text: &'a [u8]) -> Result<&'a [u8], Fail> {
-    let left = after_levels(alloc, text, "B")?;
-    let left = after_levels(alloc, left, "S")?;
-    after_accounts(alloc, left)
+// What is left of that report after the lines of the fills and of the book.
+fn after_lines<'a>(alloc: Global, text: &'a [u8]) -> Result<&'a [u8], Fail> {
+    let parts = " filled 900000 rest 100000 from \
+        64:1000000=100000 64:1000000=100000 64:1000000=100000 64:1000000=100000 \
+        64:1000000=100000 64:1000000=100000 64:1000000=100000 64:1000000=100000 \
+        64:1000000=25000 64:1000000=25000 64:1000000=25000 64:1000000=25000";
+    let depth = " 18446744073709551615";
+    let sums = " bought 18446744073709551615 sold 18446744073709551615";
+    let left = after_numbered(alloc, text, LINES, "64:", parts)?;
+    let left = after_numbered(alloc, left, MAX_PRICE, "B ", depth)?;
+    let left = after_numbered(alloc, left, MAX_PRICE, "S ", depth)?;
+    after_numbered(alloc, left, MAX_ACCOUNT, "account ", sums)
 }
 
 // As many lines as there can be, each with as long a text as a reply can have, and the book's lines
@@ -106,12 +86,8 @@ fn after_book<'a>(alloc: Global, text: &'a [u8]) -> Result<&'a [u8], Fail> {
 #[test]
 fn the_longest_report(rt: HostRuntime) -> Result<(), Fail> {
     let alloc = rt.alloc();
-    let orders = fills(alloc)?;
-    let Ok(scripts) = read_orders(alloc, &orders, 64) else {
-        return Err(Fail::new("refused"));
-    };
-    let text = reported(alloc, &scripts, 12, &greatest_values(alloc)?)?;
-    let left = after_book(alloc, after_fills(alloc, &text)?)?;
+    let text = longest(alloc)?;
+    let left = after_lines(alloc, &text)?;
     assert_eq!(rt; left, b"done 999999\n".as_slice());
     Ok(())
 }

@@ -2,7 +2,8 @@
 
 use crate::tests::in_threads::told;
 use md_book::{BookReply, MAX_PARTS, Part};
-use md_orders::{PackedReplies, read_orders};
+use md_orders::PackedReplies;
+use std::alloc::Global;
 use std::test::Fail;
 
 // Parts that are zero but for the first three and the last.
@@ -59,25 +60,33 @@ fn others() -> [BookReply; 9] {
     ]
 }
 
-#[test]
-fn each_reply_is_told_as_it_was(rt: HostRuntime) -> Result<(), Fail> {
-    let alloc = rt.alloc();
+// Two replies for each fill: the fill, and one of another kind. Between two such pairs nothing is
+// added, which changes nothing.
+fn all_packed(alloc: Global) -> Result<PackedReplies, Fail> {
     let mut packed = PackedReplies::new(alloc);
-    let empty = packed.is_empty();
-    let mut orders = Vec::new(alloc);
-    for ((count, parts), other) in fills().into_iter().zip(others()) {
+    let (fills, others) = (fills(), others());
+    for ((count, parts), other) in fills.iter().zip(&others) {
         let fill = BookReply::Filled {
             taken: u32::MAX - 1,
             rest: u32::MAX,
-            count,
-            parts,
+            count: *count,
+            parts: *parts,
         };
-        packed.append(&[fill, other])?;
+        packed.append(&[fill, *other])?;
         packed.append(&[])?;
-        orders.extend_from_slice(b"1,A,7\n1,A,7\n")?;
     }
-    assert_eq!(rt; (empty, packed.len()), (true, 18));
-    let text = told(&rt, alloc, &orders, packed)?;
+    Ok(packed)
+}
+
+#[test]
+fn each_reply_is_told_as_it_was(rt: HostRuntime) -> Result<(), Fail> {
+    let alloc = rt.alloc();
+    let packed = all_packed(alloc)?;
+    let lengths = (PackedReplies::new(alloc).is_empty(), packed.len());
+    let orders = b"1,A,7\n1,A,7\n1,A,7\n1,A,7\n1,A,7\n1,A,7\n1,A,7\n1,A,7\n1,A,7\n\
+        1,A,7\n1,A,7\n1,A,7\n1,A,7\n1,A,7\n1,A,7\n1,A,7\n1,A,7\n1,A,7\n"
+        .as_slice();
+    let text = told(&rt, alloc, orders, packed)?;
     let want = "\
         1:1 filled 4294967294 rest 4294967295 from\n\
         1:2 placed\n\
@@ -108,6 +117,6 @@ fn each_reply_is_told_as_it_was(rt: HostRuntime) -> Result<(), Fail> {
         1:17 filled 4294967294 rest 4294967295 from 0:0=0 0:0=0 0:0=0 0:0=0 0:0=0 0:0=0 \
         0:0=0 0:0=0 0:0=0 0:0=0 0:0=0 0:7=0\n\
         1:18 depth 0\n";
-    assert_eq!(rt; text.as_slice(), want.as_bytes());
+    assert_eq!(rt; (lengths, text.as_slice()), ((true, 18), want.as_bytes()));
     Ok(())
 }

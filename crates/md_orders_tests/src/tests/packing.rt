@@ -5,8 +5,10 @@ ghost use Rattle.md_orders.specs.Scripts.{list_of};
 ghost use Rattle.md_orders.specs.Replies.{AllSuit};
 
 use crate::tests::reports::{reply_with, set_lines};
-use md_orders::{PackedReplies, Replies, Scripts, read_orders};
+use crate::tests::shown::read;
+use md_orders::{PackedReplies, Replies, Scripts};
 use std::alloc::Global;
+use std::process::Abort;
 use std::test::Fail;
 
 // A reply that suits each line of a caller after its first `done`.
@@ -31,27 +33,42 @@ fn packed_lines(
     Ok(packed)
 }
 
+// Replies of the second caller's lines after its first `done`, set one by one.
+fn set_plain(alloc: Global, scripts: &Scripts, done: u32, count: u8) -> Result<Replies, Fail> {
+    let mut replies = Replies::empty(alloc, scripts)?;
+    set_lines(&mut replies, scripts, 2, done.saturating_add(1), count);
+    Ok(replies)
+}
+
+// The same replies, packed and set at once.
+fn set_packed(alloc: Global, scripts: &Scripts, done: u32, count: u8) -> Result<Replies, Fail> {
+    if scripts.len(2) < done {
+        return Err(Fail::new("too few lines"));
+    }
+    let packed = packed_lines(alloc, scripts, 2, done, count)?;
+    let mut replies = Replies::empty(alloc, scripts)?;
+    replies.set_packed(2, done, &packed);
+    Ok(replies)
+}
+
+// The second caller has the same replies at its lines before the tenth.
+fn has_same_replies(rt: &impl Abort, replies: &Replies, plain: &Replies) {
+    for line in 0..10 {
+        assert_eq!(rt; replies.get(2, line), plain.get(2, line), "at {line}");
+    }
+}
+
 #[test]
 fn packed_replies_are_those_that_were_set(rt: HostRuntime) -> Result<(), Fail> {
     let alloc = rt.alloc();
     let orders = b"medley,2\n2,P,7,S,100,5\n2,C,1,1\n2,F,8,S,100,12\n2,F,8,S,100,1000000\n\
         2,F,8,S,100,3\n2,K,8,S,100,3\n2,D,S,3\n2,A,7\n"
         .as_slice();
-    let Ok(scripts) = read_orders(alloc, orders, 2) else {
-        return Err(Fail::new("refused"));
-    };
+    let scripts = read(alloc, orders, 2)?;
     for (done, count) in [(0, 12), (0, 0), (3, 2), (8, 1)] {
-        if scripts.len(2) < done {
-            return Err(Fail::new("too few lines"));
-        }
-        let packed = packed_lines(alloc, &scripts, 2, done, count)?;
-        let mut replies = Replies::empty(alloc, &scripts)?;
-        replies.set_packed(2, done, &packed);
-        let mut plain = Replies::empty(alloc, &scripts)?;
-        set_lines(&mut plain, &scripts, 2, done + 1, count);
-        for line in 0..10 {
-            assert_eq!(rt; replies.get(2, line), plain.get(2, line), "at {line}");
-        }
+        let packed = set_packed(alloc, &scripts, done, count)?;
+        let plain = set_plain(alloc, &scripts, done, count)?;
+        has_same_replies(&rt, &packed, &plain);
     }
     Ok(())
 }

@@ -1,9 +1,14 @@
 //! Files that threads read in parts. A file is read so from 64 KiB on, and blank lines make it long.
 
+ghost use Rattle.std.specs.Prelude.{◌≤◌};
+ghost use Rattle.md_book.specs.declared.limits.TheConstants.{MAX_CALLER};
+
 use crate::tests::shown::shown;
 use md_orders::{OrderFault, read_orders, read_orders_in_threads};
-use std::alloc::{AllocError, Global};
+use std::alloc::{AllocError, AllocGlobal, Global};
+use std::process::Abort;
 use std::test::Fail;
+use std::thread::Threads;
 
 // About as long as the files are.
 const LENGTH: usize = 66_000;
@@ -37,10 +42,42 @@ fn text_of(
     Ok(text)
 }
 
+// A file that is read in parts gives what it gives if it is read whole.
+fn is_read_alike<R: Threads + Sync + Abort + AllocGlobal>(
+    rt: &R,
+    text: &[u8],
+    callers: u32,
+) -> Result<(), Fail>
+    requires { (1 ≤ callers) × (callers ≤ MAX_CALLER) }
+{
+    let whole = shown(rt.alloc(), read_orders(rt.alloc(), text, callers))?;
+    let read = read_orders_in_threads(rt, rt.alloc(), text, callers);
+    let read = shown(rt.alloc(), read)?;
+    assert_eq!(rt; read.as_str(), whole.as_str());
+    Ok(())
+}
+
+// So do files with these lines at some places, from each of some first steps on.
+fn are_read_alike<R: Threads + Sync + Abort + AllocGlobal>(
+    rt: &R,
+    start: &str,
+    lines: &str,
+    callers: u32,
+    places: &[usize],
+    firsts: &[usize],
+) -> Result<(), Fail>
+    requires { (1 ≤ callers) × (callers ≤ MAX_CALLER) }
+{
+    for first in firsts {
+        let text = text_of(rt.alloc(), start, lines, places, *first)?;
+        is_read_alike(rt, &text, callers)?;
+    }
+    Ok(())
+}
+
 // A file of one caller is read in eight parts, and one of several callers in three.
 #[test]
 fn parts_give_what_the_whole_gives(rt: HostRuntime) -> Result<(), Fail> {
-    let alloc = rt.alloc();
     let starts = "|medley,2\n|medley,2\r\n|medley,2|\"medley\",2\n|\n\rmedley,2\n|\u{feff}|\
         \u{feff}medley,2\n|medley,2\n\u{feff}|medley,3\n";
     let all_lines = "\
@@ -54,20 +91,10 @@ fn parts_give_what_the_whole_gives(rt: HostRuntime) -> Result<(), Fail> {
     // About where files of several callers and of one are cut.
     let thirds = [22_040, 44_040].as_slice();
     let eighths = [8_290, 16_540, 24_790, 33_040, 41_290, 49_540, 57_790].as_slice();
-    let rows = [
-        (3, thirds, [0, 2, 4, 6, 8, 10].as_slice()),
-        (1, eighths, [0, 7].as_slice()),
-    ];
     for start in starts.split('|') {
         for lines in all_lines.split('|') {
-            for (callers, places, firsts) in rows {
-                for first in firsts {
-                    let text = text_of(alloc, start, lines, places, *first)?;
-                    let whole = shown(alloc, read_orders(alloc, &text, callers))?;
-                    let read = read_orders_in_threads(&rt, alloc, &text, callers);
-                    assert_eq!(rt; shown(alloc, read)?.as_str(), whole.as_str(), "of {lines}");
-                }
-            }
+            are_read_alike(&rt, start, lines, 3, thirds, &[0, 2, 4, 6, 8, 10])?;
+            are_read_alike(&rt, start, lines, 1, eighths, &[0, 7])?;
         }
     }
     Ok(())
@@ -82,16 +109,22 @@ fn add_record(text: &mut Vec<u8>, record: &str) -> Result<(), AllocError> {
     pad(text, middle.saturating_add(4_150))
 }
 
+// A file with a record in each of its eight parts, which is bad from one part on.
+fn bad_from(alloc: Global, start: &str, bad: u32) -> Result<Vec<u8>, AllocError> {
+    let mut text = start.as_bytes().to_vec(alloc)?;
+    for part in 0..8 {
+        add_record(&mut text, if part < bad { "1,A,7" } else { "1,A,0" })?;
+    }
+    Ok(text)
+}
+
 // The first bad line is in each of the eight parts.
 #[test]
 fn a_bad_line_has_its_number_in_the_file(rt: HostRuntime) -> Result<(), Fail> {
     let alloc = rt.alloc();
     for (start, first) in [("", 1), ("medley,2\n", 2)] {
         for bad in 0..8_u32 {
-            let mut text = start.as_bytes().to_vec(alloc)?;
-            for line in 0..8_u32 {
-                add_record(&mut text, if line < bad { "1,A,7" } else { "1,A,0" })?;
-            }
+            let text = bad_from(alloc, start, bad)?;
             let fault = read_orders_in_threads(&rt, alloc, &text, 1).err();
             assert_eq!(rt; fault, Some(OrderFault::BadLine(first + bad)));
         }
@@ -99,14 +132,20 @@ fn a_bad_line_has_its_number_in_the_file(rt: HostRuntime) -> Result<(), Fail> {
     Ok(())
 }
 
-#[test]
-fn an_order_of_the_last_part_has_the_name_of_its_line(rt: HostRuntime) -> Result<(), Fail> {
-    let alloc = rt.alloc();
-    let records = "1,A,7|2,A,7|1,A,7|1,A,7|1,A,7|2,A,7|2,P,7,B,1,5|1,P,7,S,10,5|1,C,1,5";
+// A file with these records, which have the sign `|` between two.
+fn file_of(alloc: Global, records: &str) -> Result<Vec<u8>, AllocError> {
     let mut text = Vec::new(alloc);
     for record in records.split('|') {
         add_record(&mut text, record)?;
     }
+    Ok(text)
+}
+
+#[test]
+fn an_order_of_the_last_part_has_the_name_of_its_line(rt: HostRuntime) -> Result<(), Fail> {
+    let alloc = rt.alloc();
+    let records = "1,A,7|2,A,7|1,A,7|1,A,7|1,A,7|2,A,7|2,P,7,B,1,5|1,P,7,S,10,5|1,C,1,5";
+    let text = file_of(alloc, records)?;
     let read = shown(alloc, read_orders_in_threads(&rt, alloc, &text, 2))?;
     // An order's name is 4294967296 times its caller and its line.
     let want = "1:1 Account { account: 7 };1:2 Account { account: 7 };1:3 Account { account: 7 };\

@@ -1,12 +1,13 @@
 //! Replies, and a report from outside.
 
-ghost use Rattle.std.specs.Prelude.{◌≡◌, ◌≤◌, length, IfOk, IfSome};
+ghost use Rattle.std.specs.Prelude.{◌≡◌, ◌≤◌, length, IfOk};
 ghost use Rattle.md_book.specs.Suits.{IsTaken, Suits};
 ghost use Rattle.md_book.specs.Commands.{IsCommand};
 
+use crate::tests::shown::read;
 use md_book::{BOUGHT, BookReply, Command, DEPTHS, MAPS, MAX_PARTS, Part, SOLD, order_name};
 use md_history::Contents;
-use md_orders::{Replies, Scripts, read_orders, report, summary};
+use md_orders::{Replies, Scripts, report, summary};
 use std::alloc::Global;
 use std::test::Fail;
 
@@ -161,41 +162,46 @@ pub(crate) fn reported(
     Ok(text)
 }
 
-// The scripts of a file, with a reply at each line of the second caller but its first.
-fn told_from_the_second_line(alloc: Global) -> Result<(Scripts, Replies), Fail>
-    ensures { IfOk result (λ r. r.1.scripts ≡ r.0) }
-{
-    let orders = b"2,D,S,3\n1,P,7,S,100,5\n2,D,S,4\n2,P,7,S,100,5\n2,C,1,1\n\
-        2,F,8,S,100,1000000\n2,K,8,S,100,3\n2,A,7\n"
-        .as_slice();
-    let Ok(scripts) = read_orders(alloc, orders, 2) else {
-        return Err(Fail::new("refused"));
-    };
-    let mut replies = Replies::empty(alloc, &scripts)?;
-    set_lines(&mut replies, &scripts, 2, 2, u8::MAX);
-    Ok((scripts, replies))
+// The replies of scripts of two callers, with one at each line of the second caller but its first.
+fn told_from_the_second_line(alloc: Global, scripts: &Scripts) -> Result<Replies, Fail> {
+    let mut replies = Replies::empty(alloc, scripts)?;
+    set_lines(&mut replies, scripts, 2, 2, u8::MAX);
+    Ok(replies)
 }
 
-// Two lines with a reply, and lines that have none or don't exist.
-fn seven_of(replies: &Replies) -> [Option<BookReply>; 7] {
-    [
-        replies.get(2, 2),
-        replies.get(2, 6),
-        replies.get(2, 1),
-        replies.get(1, 1),
-        replies.get(2, 8),
-        replies.get(0, 1),
-        replies.get(3, 1),
-    ]
+// Two lines with a reply, and lines that have none or don't exist, as text.
+fn seven_of(alloc: Global, replies: &Replies) -> Result<String, Fail> {
+    let mut text = String::new(alloc);
+    for (caller, line) in [(2, 2), (2, 6), (2, 1), (1, 1), (2, 8), (0, 1), (3, 1)] {
+        write!(text, "{:?};", replies.get(caller, line))?;
+    }
+    Ok(text)
+}
+
+// The report, the sign `|`, and the summary.
+fn report_and_summary(
+    alloc: Global,
+    scripts: &Scripts,
+    replies: &Replies,
+    values: &[(u32, u64, u64)],
+) -> Result<Vec<u8>, Fail> {
+    let contents = contents_of(alloc, values)?;
+    let mut text = report(alloc, scripts, replies, &contents)?;
+    text.push(b'|')?;
+    text.extend_from_slice(&summary(alloc, scripts, replies, &contents)?)?;
+    Ok(text)
 }
 
 #[test]
 fn a_report_has_its_text(rt: HostRuntime) -> Result<(), Fail> {
     let alloc = rt.alloc();
-    let (scripts, replies) = told_from_the_second_line(alloc)?;
-    let (depth, killed) = (BookReply::Depth(u64::MAX), BookReply::Killed);
-    let want = [Some(depth), Some(killed), None, None, None, None, None];
-    assert_eq!(rt; seven_of(&replies), want);
+    let orders = b"2,D,S,3\n1,P,7,S,100,5\n2,D,S,4\n2,P,7,S,100,5\n2,C,1,1\n\
+        2,F,8,S,100,1000000\n2,K,8,S,100,3\n2,A,7\n"
+        .as_slice();
+    let scripts = read(alloc, orders, 2)?;
+    let replies = told_from_the_second_line(alloc, &scripts)?;
+    let seven = "Some(Depth(18446744073709551615));Some(Killed);None;None;None;None;None;";
+    assert_eq!(rt; seven_of(alloc, &replies)?.as_str(), seven);
     let values = [
         (DEPTHS, 1_999, 7),
         (DEPTHS, 1_000, 6),
@@ -206,51 +212,64 @@ fn a_report_has_its_text(rt: HostRuntime) -> Result<(), Fail> {
         (BOUGHT, 5, 0),
         (SOLD, 1, 2),
     ];
-    let contents = contents_of(alloc, &values)?;
-    let text = report(alloc, &scripts, &replies, &contents)?;
-    let line = summary(alloc, &scripts, &replies, &contents)?;
+    let text = report_and_summary(alloc, &scripts, &replies, &values)?;
     let want = b"2:2 depth 18446744073709551615\n2:3 placed\n2:4 cancelled 5\n\
         2:5 filled 1000000 rest 0 from 64:1000000=1000000\n2:6 killed\n2:7 bought 5 sold 6\n\
         B 1 4\nB 1000 5\nS 1 6\nS 1000 7\n\
-        account 1 bought 0 sold 2\naccount 9999 bought 3 sold 0\ndone 8\n"
+        account 1 bought 0 sold 2\naccount 9999 bought 3 sold 0\ndone 8\n|\
+        made 8 placed 10 cancelled 5 filled 1000000 open 22\n"
         .as_slice();
-    let sums = b"made 8 placed 10 cancelled 5 filled 1000000 open 22\n".as_slice();
-    assert_eq!(rt; (text.as_slice(), line.as_slice()), (want, sums));
+    assert_eq!(rt; text.as_slice(), want);
     Ok(())
 }
 
-// Each report is the bytes of its file, the sign `>`, and its text. There is a sign `|` between two.
+// The report of a file, whose fills have so many parts.
+fn report_of(
+    alloc: Global,
+    orders: &str,
+    count: u8,
+    values: &[(u32, u64, u64)],
+) -> Result<Vec<u8>, Fail> {
+    let scripts = read(alloc, orders.as_bytes(), 64)?;
+    reported(alloc, &scripts, count, values)
+}
+
 #[test]
 fn each_line_has_its_text(rt: HostRuntime) -> Result<(), Fail> {
     let alloc = rt.alloc();
-    let reports = ">done 0\n|\
-        1,P,7,B,50,5\n1,C,1,1\n1,F,8,B,50,3\n1,A,8\n>\
-        1:1 placed\n1:2 cancelled 5\n1:3 filled 0 rest 3\n1:4 bought 5 sold 6\ndone 4\n|\
-        1,F,8,S,100,2\n>\
-        1:1 filled 2 rest 0 from 1:1=1 1:2=1\n\
-        account 7 bought 0 sold 2\naccount 8 bought 2 sold 0\ndone 1\n|\
-        1,F,8,S,100,5\n>\
-        1:1 filled 4 rest 1 from 1:1=1 1:2=1 1:3=1 1:4=1\nS 100 1\n\
-        account 7 bought 0 sold 4\naccount 8 bought 4 sold 0\ndone 1\n|\
-        medley,2\n64,F,8,S,100,12\n1,K,8,S,100,1\n>\
-        1:1 killed\n64:1 filled 12 rest 0 from 1:1=1 1:2=1 1:3=1 1:4=1 1:5=1 1:6=1 \
-        1:7=1 1:8=1 1:9=1 1:10=1 1:11=1 1:12=1\n\
-        account 7 bought 0 sold 12\naccount 8 bought 12 sold 0\ndone 2\n";
     let rows = [
-        (0, [].as_slice()),
-        (0, &[]),
-        (2, &[(SOLD, 7, 2), (BOUGHT, 8, 2)]),
-        (4, &[(DEPTHS, 1_099, 1), (SOLD, 7, 4), (BOUGHT, 8, 4)]),
-        (12, &[(SOLD, 7, 12), (BOUGHT, 8, 12)]),
+        ("", 0, [].as_slice(), "done 0\n"),
+        (
+            "1,P,7,B,50,5\n1,C,1,1\n1,F,8,B,50,3\n1,A,8\n",
+            0,
+            &[],
+            "1:1 placed\n1:2 cancelled 5\n1:3 filled 0 rest 3\n1:4 bought 5 sold 6\ndone 4\n",
+        ),
+        (
+            "1,F,8,S,100,2\n",
+            2,
+            &[(SOLD, 7, 2), (BOUGHT, 8, 2)],
+            "1:1 filled 2 rest 0 from 1:1=1 1:2=1\n\
+            account 7 bought 0 sold 2\naccount 8 bought 2 sold 0\ndone 1\n",
+        ),
+        (
+            "1,F,8,S,100,5\n",
+            4,
+            &[(DEPTHS, 1_099, 1), (SOLD, 7, 4), (BOUGHT, 8, 4)],
+            "1:1 filled 4 rest 1 from 1:1=1 1:2=1 1:3=1 1:4=1\nS 100 1\n\
+            account 7 bought 0 sold 4\naccount 8 bought 4 sold 0\ndone 1\n",
+        ),
+        (
+            "medley,2\n64,F,8,S,100,12\n1,K,8,S,100,1\n",
+            12,
+            &[(SOLD, 7, 12), (BOUGHT, 8, 12)],
+            "1:1 killed\n64:1 filled 12 rest 0 from 1:1=1 1:2=1 1:3=1 1:4=1 1:5=1 1:6=1 \
+            1:7=1 1:8=1 1:9=1 1:10=1 1:11=1 1:12=1\n\
+            account 7 bought 0 sold 12\naccount 8 bought 12 sold 0\ndone 2\n",
+        ),
     ];
-    for (told, (count, values)) in reports.split('|').zip(rows) {
-        let Some((orders, want)) = told.split_once('>') else {
-            return Err(Fail::new("no report is told"));
-        };
-        let Ok(scripts) = read_orders(alloc, orders.as_bytes(), 64) else {
-            return Err(Fail::new("refused"));
-        };
-        let text = reported(alloc, &scripts, count, values)?;
+    for (orders, count, values, want) in rows {
+        let text = report_of(alloc, orders, count, values)?;
         assert_eq!(rt; text.as_slice(), want.as_bytes());
     }
     Ok(())

@@ -1,6 +1,9 @@
-//! What was read, as text.
+//! What was read, and the same as text.
 
-use md_orders::{OrderFault, Scripts};
+ghost use Rattle.std.specs.Prelude.{◌≤◌};
+ghost use Rattle.md_book.specs.declared.limits.TheConstants.{MAX_CALLER};
+
+use md_orders::{OrderFault, Scripts, read_orders};
 use std::alloc::Global;
 use std::test::Fail;
 
@@ -15,6 +18,16 @@ fn add_commands(text: &mut String, scripts: &Scripts) -> Result<(), Fail> {
         }
     }
     Ok(())
+}
+
+/// The commands of a file that is right.
+pub(super) fn read(alloc: Global, orders: &[u8], callers: u32) -> Result<Scripts, Fail>
+    requires { (1 ≤ callers) × (callers ≤ MAX_CALLER) }
+{
+    match read_orders(alloc, orders, callers) {
+        Ok(scripts) => Ok(scripts),
+        Err(_) => Err(Fail::new("refused")),
+    }
 }
 
 /// The commands of all callers, each behind its caller and its line, or the fault.
