@@ -4,18 +4,6 @@ use super::*;
 use md_book::{BookReply, MAX_PARTS, Part, order_name};
 use md_many::FreeGate;
 
-// A file of two callers, the order in which its lines are played, and how many orders explain what
-// comes of that. Then the line whose reply is changed, and the reply that is put there.
-#[derive(Clone, Copy)]
-struct Case {
-    text: &'static str,
-    order: [u32; 4],
-    count: u64,
-    caller: usize,
-    line: usize,
-    reply: BookReply,
-}
-
 // The reply to a fill that took one from caller 1's first order.
 fn took_the_last() -> BookReply {
     let mut parts = [Part { name: 0, taken: 0 }; MAX_PARTS];
@@ -31,61 +19,58 @@ fn took_the_last() -> BookReply {
     }
 }
 
-// Changes a reply.
-fn change(callers: &mut [Vec<Told>], case: &Case) {
-    if let Some(lines) = callers.get_mut(case.caller) {
-        if let Some(told) = lines.get_mut(case.line) {
-            told.reply = case.reply;
+// Changes the reply of a line. The caller and the line are counted from 0.
+fn change(callers: &mut [Vec<Told>], (caller, line): (usize, usize), reply: BookReply) {
+    if let Some(lines) = callers.get_mut(caller) {
+        if let Some(told) = lines.get_mut(line) {
+            told.reply = reply;
         }
     }
 }
 
-// How many orders explain a case, and how many explain it with its reply changed.
-fn counts(alloc: Global, case: &Case) -> Result<(u64, u64), Fail> {
-    let scripts = scripts_of(alloc, case.text, 2)?;
-    let played = play_in_order(alloc, &scripts, case.order.as_slice(), &FreeGate)?;
-    let mut callers = played.callers;
-    let honest = orders_that_explain(alloc, &callers, &played.contents)?;
-    change(&mut callers, case);
-    let changed = orders_that_explain(alloc, &callers, &played.contents)?;
-    Ok((honest.count, changed.count))
+// Plays a file of two callers in an order: how many orders explain what comes of that, and how many
+// explain it when the reply of a line is changed.
+fn counts(
+    alloc: Global,
+    text: &str,
+    order: [u32; 4],
+    place: (usize, usize),
+    reply: BookReply,
+) -> Result<(u64, u64), Fail> {
+    let scripts = scripts_of(alloc, text, 2)?;
+    let mut played = play_in_order(alloc, &scripts, order.as_slice(), &FreeGate)?;
+    let honest = orders_that_explain(alloc, &played.callers, &played.contents)?.count;
+    change(&mut played.callers, place, reply);
+    let changed = orders_that_explain(alloc, &played.callers, &played.contents)?.count;
+    Ok((honest, changed))
 }
 
 #[test]
 fn no_order_explains_these(rt: HostRuntime) -> Result<(), Fail> {
-    for case in [
-        // Both callers got the same last unit.
-        Case {
-            text: "1,P,7,S,100,1\n1,F,8,S,100,1\n2,F,9,S,100,1\n",
-            order: [1, 1, 2, 0],
-            count: 2,
-            caller: 1,
-            line: 0,
-            reply: took_the_last(),
-        },
-        // Each caller placed an order before it looked, and neither saw the other's.
-        Case {
-            text: "1,P,7,S,100,1\n1,D,S,101\n2,P,7,S,101,1\n2,D,S,100\n",
-            order: [1, 1, 2, 2],
-            count: 1,
-            caller: 1,
-            line: 1,
-            reply: BookReply::Depth(0),
-        },
-        // A caller saw its own later order.
-        Case {
-            text: "1,D,S,100\n1,P,7,S,100,1\n2,D,S,100\n",
-            order: [1, 1, 2, 0],
-            count: 1,
-            caller: 0,
-            line: 0,
-            reply: BookReply::Depth(1),
-        },
-    ] {
-        let want = (case.count, 0);
-        assert_eq!(rt; counts(rt.alloc(), &case)?, want, "in {}", case.text);
-    }
+    let alloc = rt.alloc();
+    // Both callers got the same last unit.
+    let text = "1,P,7,S,100,1\n1,F,8,S,100,1\n2,F,9,S,100,1\n";
+    let unit = counts(alloc, text, [1, 1, 2, 0], (1, 0), took_the_last())?;
+    // Each caller placed an order before it looked, and neither saw the other's.
+    let text = "1,P,7,S,100,1\n1,D,S,101\n2,P,7,S,101,1\n2,D,S,100\n";
+    let unseen = counts(alloc, text, [1, 1, 2, 2], (1, 1), BookReply::Depth(0))?;
+    // A caller saw its own later order.
+    let text = "1,D,S,100\n1,P,7,S,100,1\n2,D,S,100\n";
+    let later = counts(alloc, text, [1, 1, 2, 0], (0, 0), BookReply::Depth(1))?;
+    assert_eq!(rt; [unit, unseen, later], [(2, 0), (1, 0), (1, 0)]);
     Ok(())
+}
+
+// The orders that explain what callers were told, beside the book that their lines leave in some
+// order.
+fn explained(
+    alloc: Global,
+    scripts: &Scripts,
+    told: &[Vec<Told>],
+    order: &[u32],
+) -> Result<Orders, AllocError> {
+    let played = play_in_order(alloc, scripts, order, &FreeGate)?;
+    orders_that_explain(alloc, told, &played.contents)
 }
 
 // Replies that an order explains, beside a book that lacks the last line.
@@ -93,15 +78,14 @@ fn no_order_explains_these(rt: HostRuntime) -> Result<(), Fail> {
 fn no_order_explains_another_book(rt: HostRuntime) -> Result<(), Fail> {
     let alloc = rt.alloc();
     let scripts = scripts_of(alloc, "1,P,7,S,100,1\n2,P,7,S,100,1\n", 2)?;
-    let whole = play_in_order(alloc, &scripts, [1, 2].as_slice(), &FreeGate)?;
-    let turned = play_in_order(alloc, &scripts, [2, 1].as_slice(), &FreeGate)?;
-    let part = play_in_order(alloc, &scripts, [1].as_slice(), &FreeGate)?;
-    let callers = whole.callers.as_slice();
-    let orders = orders_that_explain(alloc, callers, &whole.contents)?;
-    assert_eq!(rt; orders.one.as_slice(), [1, 2].as_slice());
-    let orders = orders_that_explain(alloc, callers, &turned.contents)?;
-    assert_eq!(rt; orders.one.as_slice(), [2, 1].as_slice());
-    let orders = orders_that_explain(alloc, callers, &part.contents)?;
-    assert_eq!(rt; orders.count, 0);
+    let told = play_in_order(alloc, &scripts, [1, 2].as_slice(), &FreeGate)?.callers;
+    for (order, count, one) in [
+        ([1, 2].as_slice(), 1, [1, 2].as_slice()),
+        (&[2, 1], 1, &[2, 1]),
+        (&[1], 0, &[]),
+    ] {
+        let orders = explained(alloc, &scripts, &told, order)?;
+        assert_eq!(rt; (orders.count, orders.one.as_slice()), (count, one));
+    }
     Ok(())
 }
