@@ -1,4 +1,4 @@
-use Rattle.std.proofs.Common.{◌≡◌, ◌≤◌, ◌-◌, ◌∙◌, ◌++◌, [], List, length, min, ap, sym, subst, refl, arith}
+use Rattle.std.proofs.Common.{◌≡◌, ◌≤◌, ◌-◌, ◌∙◌, ◌++◌, [], List, length, min, ap, sym, subst, refl, arith, rules}
 use Rattle.std.proofs.lemmas.List.{length-append}
 use Rattle.md_history.specs.State.{State}
 use Rattle.md_history.specs.Front.{Front, replay_of}
@@ -93,3 +93,9 @@ returns g c =
     (subst (λ s. SettlesFrom s now final) c.requires.start c.in_ok-contents.ensures.settled)
     (c.in_ok-contents.ensures.contents ∙ ap (λ (s : State). replay_of s final) c.requires.start)
     was.kept.replied
+
+pub attempt_lines-requires-clause-done : goal.attempt_lines-requires-clause-done
+attempt_lines-requires-clause-done g c = search rules depth 1
+
+pub batches-smaller : goal.batches-smaller
+batches-smaller g c = search rules depth 1

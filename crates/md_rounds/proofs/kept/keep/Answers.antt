@@ -1,8 +1,9 @@
-use Rattle.std.proofs.Common.{◌+◌, ◌∙◌, ap, subst, sym, arith}
+use Rattle.std.proofs.Common.{◌+◌, ◌∙◌, ap, subst, sym, arith, rules}
 use Rattle.md_orders.specs.Replies.{RepliesState}
 use Rattle.md_rounds.proofs.Keeping.{batch-more}
 use Rattle.md_rounds.proofs.Suiting.{suit-at}
 use Rattle.md_orders.specs.Replies.{AllSuit}
+use Rattle.std.proofs.lemmas.Grind.{common_steps}
 use Rattle.md_rounds.proofs.kept.keep.Goals as goal
 
 pub set-requires : goal.set-requires
@@ -17,3 +18,9 @@ replies-preserved c = record {
   kept = batch-more c.args.replies.now.replies c.replies.replies.replies c.set.new.self.replies c.args.caller c.args.batch.now c.args.done c.replies.reply-index (c.replies.line + 1) _
       (ap (λ (s : RepliesState). s.replies) c.set.ensures) c.replies.invariant.kept c.replies-test.true (omega (arith, c.replies.invariant.line));
 }
+
+pub replies-init : goal.replies-init
+replies-init c = search rules depth 1
+
+pub returns : goal.returns
+returns c = grind (arith, common_steps)

@@ -1,8 +1,9 @@
-use Rattle.std.proofs.Common.{◌∙◌, ◌++◌, sym, ap, map, Some}
+use Rattle.std.proofs.Common.{◌∙◌, ◌++◌, sym, ap, map, Some, rules, arith}
 use Rattle.std.proofs.lemmas.List.{map-append}
 use Rattle.md_orders.proofs.ByCaller.{list_of-with_list-same}
 use Rattle.md_orders.specs.Scripts.{list_of}
 use Rattle.md_rounds.proofs.Listing.{some-suits}
+use Rattle.std.proofs.lemmas.Grind.{common_steps}
 use Rattle.md_rounds.proofs.kept_lists.KeptListsKeeperBookReply.keep.Goals as goal
 
 pub add-requires-clause-from_1 : goal.add-requires-clause-from_1
@@ -26,3 +27,9 @@ returns-clause-kept c = λ rs has at.
     ap (λ lists. list_of lists caller) c.in_ok-add.ensures.ok ∙ list_of-with_list-same old caller _ there.0 there.1
     ∙ ap (λ xs. xs ++ map Some added) has ∙ sym (map-append Some rs added)
     ∙ ap (λ xs. map Some (rs ++ xs)) (c.in_ok-append.ensures.ok ∙ ap (λ xs. packed ++ xs) c.deref.ensures.value)
+
+pub returns-clause-others : goal.returns-clause-others
+returns-clause-others c = search rules depth 1
+
+pub returns-then-is_empty-clause-kept : goal.returns-then-is_empty-clause-kept
+returns-then-is_empty-clause-kept c = grind (arith, common_steps)
