@@ -1,19 +1,8 @@
 //! Replays an order file against an order book.
 #![tactic(auto)]
 
-mod input;
-mod output;
-mod play;
-mod program;
-mod report;
-mod run;
-mod status;
-#[cfg(test)]
-mod tests;
-mod words;
-
 use md_outside::{StdSink, StdSource};
-use program::exit_of_program;
+use md_program::exit_of_program;
 use std::env;
 use std::process::ExitCode;
 

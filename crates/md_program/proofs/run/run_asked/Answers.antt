@@ -1,0 +1,10 @@
+use Rattle.std.proofs.Common.{◌∙◌, sym}
+use Rattle.md_program.proofs.Complete.{stops-complete, stops-not-usage}
+use Rattle.md_program.proofs.run.run_asked.Goals as goal
+
+pub returns-in-Err-clause-complete : goal.returns-in-Err-clause-complete
+returns-in-Err-clause-complete g c = λ writes reads good.
+    rw c.stop.ensures.status (stops-complete _ _ _ _ _ _ _ c.in-Err.status c.in-Err.ensures.stops reads good)
+
+pub returns-in-Err-clause-usage : goal.returns-in-Err-clause-usage
+returns-in-Err-clause-usage g c = λ usage. stops-not-usage _ _ _ _ _ _ _ c.in-Err.status c.in-Err.ensures.stops (sym c.stop.ensures.status ∙ usage)

@@ -1,0 +1,189 @@
+-- What a run takes from its source, and what it leaves in its sink, by the status that it answers.
+use Rattle.std.specs.Prelude.{◌≡◌, ◌≤◌, ◌+◌, ◌⊎◌, ℕ, List, [], ◌++◌, length, codes, decimal, Option, Some, None}
+use Rattle.std.specs.Io.KnownBytes.{Appends, Consumes, IsAtEnd}
+use Rattle.md_history.specs.Front.{Front}
+use Rattle.md_outside.specs.Causes.{Rose}
+use Rattle.md_outside.specs.Steps.{Step, Reads, ReadsToEnd, ReadsThenFails, Writes, WritesThenFails}
+use Rattle.md_orders.specs.Records.{order_records, AreFewRecords}
+use Rattle.md_orders.specs.Grammar.{first_bad}
+use Rattle.md_program.specs.declared.status.Status.{Status}
+use Rattle.md_program.specs.declared.status.Status.TheVariants.{Done, Usage, BadLine, ReadFault, WriteFault, NoMemory}
+use Rattle.md_program.specs.declared.status.Status.TheVariants.{TooLong, TooMany}
+use Rattle.md_program.specs.declared.words.Making.{Making}
+use Rattle.md_program.specs.declared.words.Options.{Options}
+use Rattle.md_program.specs.Replay.{IsReplay, IsSummed}
+
+-- the most bytes that an input may have
+abbrev pub max_bytes : ℕ
+max_bytes = 67108864
+
+-- the line that a status writes
+abbrev pub status_text : Status → List ℕ
+status_text Usage = codes "usage: medley [--callers N] [--nodes K] [--tries K] [--make NUMBER --lines N]\n"
+status_text (BadLine n) = codes "fault line " ++ decimal n ++ codes "\n"
+status_text ReadFault = codes "fault read\n"
+status_text NoMemory = codes "fault memory\n"
+status_text TooLong = codes "fault too long\n"
+status_text TooMany = codes "fault too many records\n"
+status_text Done = []
+status_text WriteFault = []
+
+-- the number that the program exits with
+abbrev pub status_number : Status → ℕ
+status_number Done = 0
+status_number Usage = 2
+status_number (BadLine n) = 3
+status_number ReadFault = 4
+status_number WriteFault = 5
+status_number NoMemory = 6
+status_number TooLong = 7
+status_number TooMany = 8
+
+-- A source is seen by what its reads may give, by the bytes that it has left where it tells them, and by its faults.
+module _ {I : Type 0} (gives : Step I) (left : I → Option (List ℕ)) (faults : I → ℕ) (old new : I) where
+  -- reads gave these bytes, and neither the end nor a fault
+  pub record HasRead (bytes : List ℕ) : Type 0 where
+    pub reads : Reads gives old bytes new
+    pub told : Consumes (left old) (left new) bytes
+    pub kept : faults new ≡ faults old
+
+  -- the input was read to its end, and these are its bytes; no read was made after the one that gave none
+  pub record IsRead (bytes : List ℕ) : Type 0 where
+    pub reads : ReadsToEnd gives old bytes new
+    pub told : Consumes (left old) (left new) bytes
+    pub ended : IsAtEnd (left new)
+    pub short : length bytes ≤ max_bytes
+    pub kept : faults new ≡ faults old
+
+  -- the input was read in part: no more than an input may have
+  pub record IsReadInPart (bytes : List ℕ) : Type 0 where
+    pub read : HasRead bytes
+    pub short : length bytes ≤ max_bytes
+
+  -- the reads gave one byte more than an input may have
+  pub record IsOverlong : Type 0 where
+    pub bytes : List ℕ
+    pub read : HasRead bytes
+    pub long : length bytes ≡ max_bytes + 1
+
+  -- the last read failed
+  pub record HasReadFault : Type 0 where
+    pub bytes : List ℕ
+    pub reads : ReadsThenFails gives old bytes new
+    pub told : Consumes (left old) (left new) bytes
+    pub short : length bytes ≤ max_bytes
+    pub rose : Rose (faults old) (faults new)
+
+-- the bytes are within the limits, and none of their records is bad for so many callers
+pub record IsGood (callers : ℕ) (bytes : List ℕ) : Type 0 where
+  pub short : length bytes ≤ max_bytes
+  pub few : AreFewRecords (order_records bytes)
+  pub lawful : first_bad callers (order_records bytes) ≡ None
+
+-- A sink is seen by what its writes may take, by the bytes that it holds where it tells them, and by its faults.
+module _ {O : Type 0} (takes : Step O) (holds : O → Option (List ℕ)) (faults : O → ℕ) (old new : O) where
+  -- the text was written whole
+  pub record IsWritten (text : List ℕ) : Type 0 where
+    pub writes : Writes takes old text new
+    pub told : Appends (holds old) (holds new) text
+    pub kept : faults new ≡ faults old
+
+  -- a write failed, and before it a first part of the text was written
+  pub record HasWriteFault (text : List ℕ) : Type 0 where
+    pub written : List ℕ
+    pub rest : List ℕ
+    pub whole : text ≡ written ++ rest
+    pub writes : WritesThenFails takes old written new
+    pub told : Appends (holds old) (holds new) written
+    pub rose : Rose (faults old) (faults new)
+
+  -- a line was written, as far as the sink took it
+  abbrev pub Tells : List ℕ → Type 0
+  Tells line = IsWritten line ⊎ HasWriteFault line
+
+-- A run's input, by the number of its callers.
+module _ {I : Type 0} (gives : Step I) (left : I → Option (List ℕ)) (faults : I → ℕ) (old new : I) (callers : ℕ) where
+  -- the input was replayed, and this is the report
+  pub record IsReplayed (fronts : List Front) (text : List ℕ) : Type 0 where
+    pub bytes : List ℕ
+    pub read : IsRead gives left faults old new bytes
+    pub replay : IsReplay callers bytes fronts text
+
+  -- the input is longer than an input may be, or has too many records, or a bad one
+  abbrev pub IsBadInput : Type 0
+  IsBadInput =
+      IsOverlong gives left faults old new
+      ⊎ ((bytes : List ℕ) × IsRead gives left faults old new bytes × (¬ AreFewRecords (order_records bytes)))
+      ⊎ ((bytes : List ℕ) × (n : ℕ)
+      × IsRead gives left faults old new bytes × (first_bad callers (order_records bytes) ≡ Some n))
+
+  -- why a replay stopped before its report
+  abbrev pub StopsReplay : Status → Type 0
+  StopsReplay (BadLine n) = (bytes : List ℕ) × IsRead gives left faults old new bytes
+      × AreFewRecords (order_records bytes) × (first_bad callers (order_records bytes) ≡ Some n)
+  StopsReplay ReadFault = HasReadFault gives left faults old new
+  StopsReplay TooLong = IsOverlong gives left faults old new
+  StopsReplay TooMany = (bytes : List ℕ) × IsRead gives left faults old new bytes
+      × (¬ AreFewRecords (order_records bytes))
+  StopsReplay NoMemory = (bytes : List ℕ)
+      × (IsReadInPart gives left faults old new bytes ⊎ IsRead gives left faults old new bytes)
+  StopsReplay Usage = ⊥
+  StopsReplay Done = ⊥
+  StopsReplay WriteFault = ⊥
+
+  -- what was played, and its text: the input, or made scripts, and then nothing was read
+  abbrev pub HasPlayed : Option Making → List Front → List ℕ → Type 0
+  HasPlayed None fronts text = IsReplayed fronts text
+  HasPlayed (Some making) fronts text = IsSummed callers making fronts text × (new ≡ old)
+
+  -- why a run stopped before its text: a replay has its cause, and made scripts only ran out of memory
+  abbrev pub StopsWith : Option Making → Status → Type 0
+  StopsWith None status = StopsReplay status
+  StopsWith (Some making) status = (status ≡ NoMemory) × (new ≡ old)
+
+-- where no write failed and, if the input was to be read, it isn't bad and no read failed, the run is done or ran out
+-- of memory
+abbrev pub EndsWell : {I O : Type 0} → Step I → (I → Option (List ℕ)) → (I → ℕ) → I → I → (O → ℕ) → O → O
+    → Options → Status → Type 0
+EndsWell gives left read_faults input input' write_faults output output' options status =
+    ¬ Rose (write_faults output) (write_faults output')
+    → (options.make ≡ None → ¬ Rose (read_faults input) (read_faults input'))
+    → (options.make ≡ None → ¬ IsBadInput gives left read_faults input input' options.callers)
+    → (status ≡ Done) ⊎ (status ≡ NoMemory)
+
+-- A run's sink before and after, and its fronts.
+module _ {O : Type 0} (takes : Step O) (holds : O → Option (List ℕ)) (write_faults : O → ℕ) (output output' : O)
+    (fronts : List Front) where
+  -- a status was told, and nothing was played
+  abbrev pub ToldAlone : Status → Type 0
+  ToldAlone status = (fronts ≡ []) × Tells takes holds write_faults output output' (status_text status)
+
+-- A run, by its source and its sink before and after, and by its fronts.
+module _ {I : Type 0} (gives : Step I) (left : I → Option (List ℕ)) (read_faults : I → ℕ) (input input' : I)
+    {O : Type 0} (takes : Step O) (holds : O → Option (List ℕ)) (write_faults : O → ℕ) (output output' : O)
+    (fronts : List Front) where
+  -- the words aren't accepted, and nothing was read
+  abbrev pub Refused : Status → Type 0
+  Refused status = (status ≡ Usage) × (input' ≡ input)
+      × ToldAlone takes holds write_faults output output' fronts Usage
+
+  -- it stopped before its text, without a round, and told why
+  abbrev pub Stopped : Options → Status → Type 0
+  Stopped options status =
+      StopsWith gives left read_faults input input' options.callers options.make status
+      × ToldAlone takes holds write_faults output output' fronts status
+
+  -- what a run with options answers
+  abbrev pub Answers : Options → Status → Type 0
+  Answers options Done = (text : List ℕ)
+      × HasPlayed gives left read_faults input input' options.callers options.make fronts text
+      × IsWritten takes holds write_faults output output' text
+  Answers options WriteFault = (text : List ℕ)
+      × HasPlayed gives left read_faults input input' options.callers options.make fronts text
+      × HasWriteFault takes holds write_faults output output' text
+  Answers options Usage = Stopped options Usage
+  Answers options (BadLine n) = Stopped options (BadLine n)
+  Answers options ReadFault = Stopped options ReadFault
+  Answers options NoMemory = Stopped options NoMemory
+  Answers options TooLong = Stopped options TooLong
+  Answers options TooMany = Stopped options TooMany

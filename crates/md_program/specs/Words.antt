@@ -1,0 +1,42 @@
+-- The words of a program, and which of them it accepts.
+use Rattle.std.specs.Prelude.{◌≡◌, ℕ, List, map, drop, Result, Ok, Err, string_bytes}
+use Rattle.std.specs.Borrow.{Bor}
+use Rattle.std.specs.Vec.Iter.{into_iter_items}
+use Rattle.std.specs.IoError.{error_kind}
+use Rattle.std.specs.declared.alloc.Global.{Global}
+use Rattle.std.specs.declared.string.String.{String}
+use Rattle.std.specs.declared.vec.IntoIter.{IntoIter}
+use Rattle.std.specs.declared.io.Error.{Error}
+use Rattle.std.specs.declared.io.ErrorKind.TheVariants.{OutOfMemory}
+use Rattle.md_program.specs.declared.words.Options.{Options}
+use Rattle.md_program.specs.Options.{Write}
+
+-- words as texts
+abbrev pub texts : List (Bor (List ℕ)) → List (List ℕ)
+texts words = map (λ word. word.now) words
+
+-- words are accepted where they write options
+abbrev pub AreAccepted : List (List ℕ) → Type 0
+AreAccepted words = (options : Options) × Write words options
+
+-- what gathering a program's arguments comes to: the arguments, or why there are none
+abbrev pub Args : Type 0
+Args = Result (IntoIter (String Global) Global) Error
+
+-- the words are the arguments after the first, which is the program's name
+abbrev pub words_in : IntoIter (String Global) Global → List (List ℕ)
+words_in args = map string_bytes (drop 1 (into_iter_items args))
+
+-- there are arguments, and their words write these options
+abbrev pub HasOptions : Args → Options → Type 0
+HasOptions (Ok args) options = Write (words_in args) options
+HasOptions (Err error) options = ⊥
+
+-- there are arguments, and their words are accepted
+abbrev pub HasAcceptedWords : Args → Type 0
+HasAcceptedWords args = (options : Options) × HasOptions args options
+
+-- there are none, since the system ran out of memory for them
+abbrev pub IsOutOfMemory : Args → Type 0
+IsOutOfMemory (Ok args) = ⊥
+IsOutOfMemory (Err error) = error_kind error ≡ OutOfMemory

@@ -1,0 +1,232 @@
+//! The top call: words and input in, report or summary out.
+
+ghost use Rattle.std.specs.Prelude.{◌≡◌, ◌≢◌, ◌≤◌, ◌↔◌, Some, List, ℕ, map};
+ghost use Rattle.std.specs.Prelude.{IfOk, IfErr, IsErrOf};
+ghost use Rattle.std.specs.Thread.{IsSync};
+ghost use Rattle.md_orders.specs.Grammar.{first_bad};
+ghost use Rattle.md_orders.specs.Records.{order_records, AreFewRecords};
+ghost use Rattle.md_orders.specs.Report.{whole_text};
+ghost use Rattle.md_orders.specs.Scripts.{AreScripts};
+ghost use Rattle.md_play.specs.Opened.{IsOpenFor};
+ghost use Rattle.md_store.specs.Store.{front_in};
+ghost use Rattle.md_program.specs.Words.{texts, AreAccepted};
+ghost use Rattle.md_program.specs.Options.{AreInRange, Write};
+ghost use Rattle.md_program.specs.Replay.{IsSummed};
+ghost use Rattle.md_program.specs.Run.{Answers, EndsWell, HasPlayed, StopsReplay, StopsWith, IsReplayed};
+ghost use Rattle.md_program.specs.Run.{IsBadInput, IsGood, Refused, ToldAlone};
+
+use crate::input::read_all;
+use crate::output::{tell, write_parts};
+use crate::play::{open_for, play};
+use crate::report::{Played, tell_and_close, with_last};
+use crate::status::{Run, Status};
+use crate::words::{Making, Options, read_options};
+use md_book::MAX_CALLER;
+use md_orders::{OrderFault, Scripts, make, read_orders_in_threads, summary};
+use md_outside::{Failed, Sink, Source};
+use md_play::{OpenStore, play_opened};
+use md_rounds::Gate;
+use std::alloc::{AllocError, Global};
+use std::thread;
+use std::thread::Threads;
+
+// Reads the input, plays it, and builds the report. The store is opened in one thread while the
+// orders are read in others. It is closed while the lines of the report are written.
+fn replay<R, I, G>(
+    rt: &R,
+    alloc: Global,
+    options: &Options,
+    input: &mut I,
+    gate: &G,
+) -> Result<Played, Status>
+where
+    R: Threads + Sync,
+    I: Source,
+    G: Gate + Sync,
+    requires in_range { AreInRange options.now }
+    ensures replayed { IfOk result (λ w. IsReplayed I.gives I.left I.faults
+        input.old input.new options.now.callers
+        (map front_in w.fronts.items) (whole_text w.parts.items)) }
+    ensures stops { IfErr result (StopsReplay I.gives I.left I.faults
+        input.old input.new options.now.callers) }
+{
+    let bytes = read_all(alloc, input)?;
+    let records = bytes.as_slice();
+    let callers = options.callers;
+    let count = u32::try_from(bytes.len()).unwrap_or(u32::MAX);
+    let (scripts, opened) = thread::join(
+        rt,
+        move || -> Result<Scripts, OrderFault>
+            requires sync { IsSync R.row }
+            requires range { (1 ≤ callers) × (callers ≤ MAX_CALLER) }
+            ensures scripts { IfOk result (λ scripts. AreFewRecords (order_records records.entry.now)
+                × AreScripts callers (order_records records.entry.now) scripts) }
+            ensures too_many { IsErrOf result OrderFault.TooMany
+                → ¬ AreFewRecords (order_records records.entry.now) }
+            ensures bad_line { (n : ℕ) → IsErrOf result (OrderFault.BadLine n)
+                → AreFewRecords (order_records records.entry.now)
+                × (first_bad callers (order_records records.entry.now) ≡ Some n) }
+        { read_orders_in_threads(rt, alloc, records, callers) },
+        move || -> Result<OpenStore, AllocError>
+            requires in_range { AreInRange options.now }
+            ensures { IfOk result (λ o. IsOpenFor options.entry.now.callers o.store o.pass) }
+        { open_for(alloc, options, count) },
+    );
+    let scripts = scripts?;
+    let played = play_opened(rt, alloc, opened?, &scripts, gate)?;
+    Ok(tell_and_close(rt, alloc, &scripts, played)?)
+}
+
+// Makes scripts, plays them, and builds the summary.
+fn sum_up<R, G>(
+    rt: &R,
+    alloc: Global,
+    options: &Options,
+    making: Making,
+    gate: &G,
+) -> Result<Played, AllocError>
+where
+    R: Threads + Sync,
+    G: Gate + Sync,
+    requires in_range { AreInRange options.now }
+    requires making { options.now.make ≡ Some making }
+    ensures { IfOk result (λ w. IsSummed options.now.callers making
+        (map front_in w.fronts.items) (whole_text w.parts.items)) }
+{
+    let scripts = make(alloc, making.number, making.lines, options.callers)?;
+    let played = play(rt, alloc, &scripts, options, gate)?;
+    let text = summary(alloc, &scripts, &played.replies, &played.contents)?;
+    let parts = with_last(Vec::new(alloc), text)?;
+    Ok(Played {
+        parts,
+        fronts: played.fronts,
+    })
+}
+
+// Plays what the options ask for.
+fn play_asked<R, I, G>(
+    rt: &R,
+    alloc: Global,
+    options: &Options,
+    input: &mut I,
+    gate: &G,
+) -> Result<Played, Status>
+where
+    R: Threads + Sync,
+    I: Source,
+    G: Gate + Sync,
+    requires in_range { AreInRange options.now }
+    ensures played { IfOk result (λ w. HasPlayed I.gives I.left I.faults
+        input.old input.new options.now.callers options.now.make
+        (map front_in w.fronts.items) (whole_text w.parts.items)) }
+    ensures stops { IfErr result (StopsWith I.gives I.left I.faults
+        input.old input.new options.now.callers options.now.make) }
+{
+    match options.make {
+        Some(making) => Ok(sum_up(rt, alloc, options, making, gate)?),
+        None => replay(rt, alloc, options, input, gate),
+    }
+}
+
+/// Ends a run that has no report or summary: it writes the line of the status (`tell`). The run has
+/// this status and no fronts.
+pub fn stop<O: Sink>(alloc: Global, output: &mut O, status: Status) -> Run
+    ensures status { result.status ≡ status }
+    ensures alone { ToldAlone O.takes O.holds O.faults output.old output.new
+        (map front_in result.fronts.items) status }
+{
+    tell(output, status);
+    Run {
+        status,
+        fronts: Vec::new(alloc),
+    }
+}
+
+// Runs with options.
+fn run_asked<R, I, O, G>(
+    rt: &R,
+    alloc: Global,
+    options: &Options,
+    input: &mut I,
+    output: &mut O,
+    gate: &G,
+) -> Run
+where
+    R: Threads + Sync,
+    I: Source,
+    O: Sink,
+    G: Gate + Sync,
+    requires in_range { AreInRange options.now }
+    ensures answers { Answers I.gives I.left I.faults input.old input.new
+        O.takes O.holds O.faults output.old output.new
+        (map front_in result.fronts.items) options.now result.status }
+    ensures complete { EndsWell I.gives I.left I.faults input.old input.new
+        O.faults output.old output.new options.now result.status }
+    ensures usage { result.status ≢ Status.Usage }
+{
+    match play_asked(rt, alloc, options, input, gate) {
+        Ok(Played { parts, fronts }) => {
+            let status = match write_parts(output, &parts) {
+                Ok(()) => Status::Done,
+                Err(Failed) => Status::WriteFault,
+            };
+            Run { status, fronts }
+        }
+        Err(status) => stop(alloc, output, status),
+    }
+}
+
+/// Runs the program: plays an order file, or made scripts, over a concurrent store, with a thread
+/// for each caller, and writes the report or the summary.
+///
+/// It reads the words first (`read_options`). Without `--make` it reads the input to its end
+/// (`read_all`), reads the records as scripts (`read_orders_in_threads` of md_orders) while it opens
+/// the store, plays them, and writes the report: each reply, and then the book. With `--make` it
+/// makes scripts (`make` of md_orders), plays them, and writes the summary, which is one line. It
+/// then reads no input.
+///
+/// Whatever the threads do, the replies and the book are those of one thread that runs the
+/// committed commands in the order in which they became ready. They are all lines, each once, and
+/// each caller's in order.
+///
+/// If something stops the run before the first write, the line of its status is written in place of
+/// the text. Each status but `Done` has its cause, which `Status` names. The status is `Done` or
+/// `NoMemory` if the words are accepted and no write fails, and if also, without `--make`, no read
+/// fails and the input isn't bad.
+///
+/// `gate` is called before each attempt at a line and after its commit. No clause of this call
+/// speaks of it.
+pub fn run<R, I, O, G>(
+    rt: &R,
+    alloc: Global,
+    words: &[&str],
+    input: &mut I,
+    output: &mut O,
+    gate: &G,
+) -> Run
+where
+    R: Threads + Sync,
+    I: Source,
+    O: Sink,
+    G: Gate + Sync,
+    ensures usage { (result.status ≡ Status.Usage) ↔ (¬ AreAccepted (texts words.now)) }
+    ensures refused { (¬ AreAccepted (texts words.now))
+        → Refused I.gives I.left I.faults input.old input.new
+        O.takes O.holds O.faults output.old output.new
+        (map front_in result.fronts.items) result.status }
+    ensures answers { (options : Options) → Write (texts words.now) options
+        → Answers I.gives I.left I.faults input.old input.new
+        O.takes O.holds O.faults output.old output.new
+        (map front_in result.fronts.items) options result.status }
+    ensures complete { (options : Options) → Write (texts words.now) options
+        → EndsWell I.gives I.left I.faults input.old input.new
+        O.faults output.old output.new options result.status }
+    ensures told { (callers : ℕ) → (bytes : List ℕ) → I.left input.old ≡ Some bytes
+        → IsGood callers bytes
+        → ¬ IsBadInput I.gives I.left I.faults input.old input.new callers }
+{
+    match read_options(words) {
+        Some(options) => run_asked(rt, alloc, &options, input, output, gate),
+        None => stop(alloc, output, Status::Usage),
+    }
+}

@@ -1,6 +1,0 @@
-use Rattle.std.proofs.Common.{◌≡◌, take, map, string_bytes}
-use Rattle.medley.specs.Words.{texts}
-use Rattle.medley.proofs.program.slices.Given as goal
-
-abbrev pub invariant-loop-string : goal.invariant-loop-string
-invariant-loop-string l = texts l.slices.items ≡ map string_bytes (take l.string-index l.strings)
