@@ -6,11 +6,11 @@ mod output;
 mod play;
 mod program;
 mod report;
-mod run;
+mod runs;
 mod status;
 mod words;
 
 pub use program::{exit_of_program, run_program};
-pub use run::run;
+pub use runs::run;
 pub use status::{Run, Status};
 pub use words::{Making, Options, read_options};

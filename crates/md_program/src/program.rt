@@ -8,7 +8,7 @@ ghost use Rattle.md_program.specs.Words.{texts};
 ghost use Rattle.md_program.specs.Program.{HasRun, HasExit};
 ghost use Rattle.md_program.specs.Run.{IsBadInput, IsGood};
 
-use crate::run::{run, stop};
+use crate::runs::{run, stop};
 use crate::status::{Run, Status};
 use md_outside::{Sink, Source};
 use md_rounds::FreeGate;

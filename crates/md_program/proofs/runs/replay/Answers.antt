@@ -2,7 +2,7 @@ use Rattle.std.proofs.Common.{sym, subst}
 use Rattle.std.proofs.lemmas.Result.{err_from_is_err_and}
 use Rattle.md_program.specs.Run.{IsRead}
 use Rattle.md_program.proofs.Unreadable.{order-stops}
-use Rattle.md_program.proofs.run.replay.Goals as goal
+use Rattle.md_program.proofs.runs.replay.Goals as goal
 
 pub returns-in_err-scripts-clause-stops : goal.returns-in_err-scripts-clause-stops
 returns-in_err-scripts-clause-stops g c =

@@ -1,7 +1,7 @@
 use Rattle.std.proofs.Common.{sym}
 use Rattle.md_program.proofs.Asked.{none-written, none-accepted, one-written}
 use Rattle.md_program.proofs.Complete.{good-not-bad}
-use Rattle.md_program.proofs.run.run.Goals as goal
+use Rattle.md_program.proofs.runs.run.Goals as goal
 
 pub returns-in-Some-clause-usage : goal.returns-in-Some-clause-usage
 returns-in-Some-clause-usage g c = (

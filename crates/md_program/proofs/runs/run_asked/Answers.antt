@@ -1,6 +1,6 @@
 use Rattle.std.proofs.Common.{◌∙◌, sym}
 use Rattle.md_program.proofs.Complete.{stops-complete, stops-not-usage}
-use Rattle.md_program.proofs.run.run_asked.Goals as goal
+use Rattle.md_program.proofs.runs.run_asked.Goals as goal
 
 pub returns-in-Err-clause-complete : goal.returns-in-Err-clause-complete
 returns-in-Err-clause-complete g c = λ writes reads good.
