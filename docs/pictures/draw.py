@@ -20,7 +20,7 @@ COLOURS = {"program": "#dce9f7", "contract": "#fbe8c8", "code": "#ddf0dd", "law"
 # A row of the drawing on each line: boxes `kind: name = what it is`, with `|` between them.
 LAYERS = """
 program: medley = the program|program: your program = bodies, threads
-program: md_orders = order files, reports|program: md_book = commands, the book|program: md_rounds, md_play = order files in threads|program: md_many = lines in rounds
+program: md_orders = order files|program: md_replies, md_report = replies, reports|program: md_book = commands, the book|program: md_rounds, md_play = order files in threads|program: md_many = lines in rounds
 contract: md_history = bodies, histories, and the contract of a store: the trait Engine
 code: md_store = hash tables and queues, for several threads|code: PlainStore = the store for one thread
 code: md_list = get, insert, remove|code: md_queue = enqueue, dequeue, front, line|law: md_store_law, md_count_law = the store as a theory|law: md_calm = the first attempt

@@ -6,11 +6,5 @@ pub mod Scripts
 pub mod Noted
 pub mod Renamed
 pub mod Joined
-pub mod Replies
-pub mod Rooms
-pub mod Packed
-pub mod Report
-pub mod Sums
 pub mod Line
 pub mod Generator
-pub mod Summary

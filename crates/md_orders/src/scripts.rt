@@ -149,8 +149,9 @@ impl Scripts {
         })
     }
 
-    /// The commands of a caller as they are stored, where an order may have any name.
-    pub(crate) fn stored(&self, caller: u32) -> &Segments
+    /// The commands of a caller as they are stored, where an order may have any name. There is such
+    /// a caller.
+    pub fn stored(&self, caller: u32) -> &Segments
         requires from_1 { 1 ≤ caller }
         requires there { caller ≤ length self.now }
         ensures script { list_of self.now caller ≡ renamed_from caller 1 result.now }

@@ -11,7 +11,7 @@ use std::marker::Model;
 /// The commands of one caller, in order, in a segment for each part of the file that was read by
 /// itself. So a part is put behind another without a copy of its commands. Contracts see a list.
 #[derive(Drop)]
-pub(crate) struct Segments {
+pub struct Segments {
     earlier: Vec<Vec<Command>>,
     last: Vec<Command>,
 }
@@ -46,8 +46,8 @@ impl Segments {
         Ok(())
     }
 
-    /// The number of commands.
-    pub(crate) fn len(&self) -> usize
+    /// The number of commands. There are at most 1,000,000.
+    pub fn len(&self) -> usize
         requires { length self.now ≤ max_records }
         ensures { result ≡ length self.now }
     {
@@ -87,8 +87,8 @@ impl Segments {
         Ok(Segments { earlier, last: end })
     }
 
-    /// The segments, the last one apart.
-    pub(crate) fn segments(&self) -> (&[Vec<Command>], &[Command])
+    /// The segments, the last one apart. One after another they have the commands.
+    pub fn segments(&self) -> (&[Vec<Command>], &[Command])
         ensures { self.now ≡ items_in result.0.now ++ result.1.now }
     {
         (&self.earlier, &self.last)

@@ -3,7 +3,7 @@ use Rattle.std.specs.Prelude.{List}
 use Rattle.md_history.specs.Front.{Front}
 use Rattle.md_history.specs.State.{HaveSameNumbers, State}
 use Rattle.md_many.specs.Closed.{IsClosed}
-use Rattle.md_orders.specs.Sums.{HaveSameSums}
+use Rattle.md_report.specs.Sums.{HaveSameSums}
 
 -- A store was closed (`IsClosed`), and contents are told in place of the whole ones that it leaves: they have the same
 -- numbers of maps and queues, and the sums that a report has.

@@ -13,7 +13,7 @@ use std::alloc::AllocError;
 /// what a report says of the book: the maps `DEPTHS`, `BOUGHT` and `SOLD`. The pass holds all lanes.
 ///
 /// The contents that are returned have these sums and the numbers of maps and queues
-/// (`IsClosedForReport`): `after_lines` of md_orders writes the same text from them as from the
+/// (`IsClosedForReport`): `after_lines` of md_report writes the same text from them as from the
 /// whole contents. Their open orders and their queues are empty, so they stand for no book, and
 /// there is nothing to play on with. The fronts are those that `OpenRounds::close` returns.
 ///

@@ -5,7 +5,7 @@ use Rattle.std.specs.declared.alloc.Global.{Global}
 use Rattle.std.proofs.Math.Seq.{take-suc}
 use Rattle.std.proofs.lemmas.List.{append-nil, take-append-drop}
 use Rattle.std.proofs.lemmas.List.Concat.{flat_map-append}
-use Rattle.md_orders.specs.Report.{whole_text}
+use Rattle.md_report.specs.Report.{whole_text}
 
 -- a part more at the end
 pub whole_text-more : (parts : List (Vec ℕ Global)) (last : Vec ℕ Global) → whole_text (parts ++ last ∷ []) ≡ whole_text parts ++ last.items

@@ -6,9 +6,9 @@ use Rattle.md_book.specs.declared.commands.BookReply.{BookReply}
 use Rattle.md_book.specs.Book.{Book}
 use Rattle.md_orders.specs.Records.{order_records, AreFewRecords}
 use Rattle.md_orders.specs.Scripts.{AreScripts}
-use Rattle.md_orders.specs.Report.{report_text}
+use Rattle.md_report.specs.Report.{report_text}
 use Rattle.md_orders.specs.Generator.{AreMade}
-use Rattle.md_orders.specs.Summary.{summary_text}
+use Rattle.md_report.specs.Summary.{summary_text}
 use Rattle.md_rounds.specs.Replay.{IsPlayed}
 use Rattle.md_program.specs.declared.words.Making.{Making}
 

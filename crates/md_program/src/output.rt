@@ -1,7 +1,7 @@
 //! Writing a whole text.
 
 ghost use Rattle.std.specs.Prelude.{◌≡◌, IfErr, OnErr, OnOk};
-ghost use Rattle.md_orders.specs.Report.{whole_text};
+ghost use Rattle.md_report.specs.Report.{whole_text};
 ghost use Rattle.md_program.specs.Run.{IsWritten, HasWriteFault, Tells, status_text};
 
 use crate::status::Status;

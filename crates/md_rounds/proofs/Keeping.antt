@@ -6,7 +6,7 @@ use Rattle.std.proofs.lemmas.Option.{slice_get-get_or}
 use Rattle.md_book.specs.declared.commands.Command.{Command}
 use Rattle.md_book.specs.declared.commands.BookReply.{BookReply}
 use Rattle.md_orders.specs.Scripts.{list_of, with_line}
-use Rattle.md_orders.specs.Replies.{reply_at, with_reply, with_replies, no_replies}
+use Rattle.md_replies.specs.Replies.{reply_at, with_reply, with_replies, no_replies}
 use Rattle.md_orders.proofs.ByCaller.{list_of-with_list-same, length-with_list}
 use Rattle.md_many.specs.Tags.{tag_of, tags_after}
 use Rattle.md_many.proofs.TagLaws.{caller_of_tag, line_of_tag, tags_after-append}

@@ -23,7 +23,7 @@ use Rattle.md_book.specs.Stands.{StandsFor}
 use Rattle.md_book.specs.Trading.{IsDay}
 use Rattle.md_book.specs.Meets.{CommandsMeetTheBook}
 use Rattle.md_orders.specs.Scripts.{list_of, at_line, AreNamed}
-use Rattle.md_orders.specs.Replies.{RepliesState}
+use Rattle.md_replies.specs.Replies.{RepliesState}
 use Rattle.md_many.specs.Tags.{tags_after, IsInterleaving}
 use Rattle.md_many.specs.Lines.{PlaysLines}
 use Rattle.md_many.proofs.TagLaws.{filter-tags_after, lines-tags, lines-length}

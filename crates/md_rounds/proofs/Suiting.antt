@@ -13,7 +13,7 @@ use Rattle.md_book.specs.Suits.{Suits, RepliesSuit}
 use Rattle.md_book.specs.Trading.{IsDay, answered}
 use Rattle.md_book.specs.Book.{empty_book, replies_to}
 use Rattle.md_orders.specs.Scripts.{list_of, at_line}
-use Rattle.md_orders.specs.Replies.{AllSuit}
+use Rattle.md_replies.specs.Replies.{AllSuit}
 use Rattle.md_many.specs.Laws as many
 use Rattle.md_rounds.proofs.CallerLines.{take-drop-more}
 

@@ -5,7 +5,7 @@ use Rattle.std.specs.List.{AllByRecursion, range_with_len}
 use Rattle.std.proofs.lemmas.Bool.{cases_Bool, cases_eq, cases_lt, cond-true, cond-false, eq-eqb, eqb-true, ne_eqb}
 use Rattle.std.proofs.lemmas.List.Sums.{sum_by-cons}
 use Rattle.md_book.proofs.sums.Sums.{sum_by-equal, sum_by-filter, sum_by-keys}
-use Rattle.md_orders.specs.Summary.{sum_to}
+use Rattle.md_report.specs.Summary.{sum_to}
 use Rattle.md_many.specs.Tags.{tag_of, tags_after, IsInterleaving}
 use Rattle.md_many.proofs.TagLaws.{line_of_tag}
 

@@ -5,7 +5,7 @@ use Rattle.md_book.specs.declared.commands.Side.TheVariants.{Buy, Sell}
 use Rattle.md_book.specs.declared.commands.Command.{Command}
 use Rattle.md_book.specs.declared.commands.BookReply.{BookReply}
 use Rattle.md_book.specs.Book.{Book}
-use Rattle.md_orders.specs.Summary.{all_totals, open_at}
+use Rattle.md_report.specs.Summary.{all_totals, open_at}
 use Rattle.md_rounds.specs.Replay.{IsPlayed}
 
 -- in the summary of scripts that were played, what was placed is what was cancelled, was filled and is open

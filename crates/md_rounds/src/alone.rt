@@ -12,7 +12,8 @@ use crate::order_lines::OrderLines;
 use md_book::{commands_meet_the_book, empty_book_stands, replies_suit};
 use md_history::{Contents, Engine, Front, pass_is_legal};
 use md_many::{FreeGate, Turn, attempt_lines};
-use md_orders::{Replies, Scripts, commands_are_named};
+use md_orders::{Scripts, commands_are_named};
+use md_replies::Replies;
 use std::alloc::{AllocError, Global};
 
 // How many lines are played before their replies are put into their places.

@@ -4,7 +4,9 @@ ghost use Rattle.std.specs.Prelude.{◌≡◌, ◌≤◌, length, IfOk};
 
 use md_book::{BookReply, DEPTHS, LEVELS, MAPS, MAX_PARTS, Part, order_name};
 use md_history::{Contents, PlainPass, PlainStore};
-use md_orders::{Replies, Scripts, read_orders, summary};
+use md_orders::{Scripts, read_orders};
+use md_replies::Replies;
+use md_report::summary;
 use md_rounds::{FreeGate, Outcome, Played, play_alone, run_all, summaries_add_up};
 use md_words::limits::{MAX_MAPS, MAX_QUEUES};
 use std::alloc::{AllocError, Global};

@@ -3,7 +3,8 @@
 use crate::books::{Book, level_of};
 use md_book::{BookReply, Command};
 use md_history::Contents;
-use md_orders::{Replies, Scripts};
+use md_orders::Scripts;
+use md_replies::Replies;
 use std::alloc::{AllocError, Global};
 
 /// A line that was played, and the reply that its caller got.

@@ -7,7 +7,9 @@ ghost use Rattle.md_orders.specs.declared.generator.TheConstants.{MAX_MADE_CALLE
 use crate::tests::reports::{contents_of, reply_with, reported};
 use crate::tests::shown::read;
 use md_book::{BOUGHT, BookReply, DEPTHS, MAX_PARTS, Part, SOLD, order_name};
-use md_orders::{PackedReplies, RepliesByCaller, Scripts, after_lines, lines_in_threads, make};
+use md_orders::{Scripts, make};
+use md_replies::{PackedReplies, RepliesByCaller};
+use md_report::{after_lines, lines_in_threads};
 use std::alloc::{AllocGlobal, Global};
 use std::process::Abort;
 use std::test::Fail;

@@ -2,7 +2,7 @@
 
 use crate::tests::in_threads::told;
 use md_book::{BookReply, MAX_PARTS, Part};
-use md_orders::PackedReplies;
+use md_replies::PackedReplies;
 use std::alloc::Global;
 use std::test::Fail;
 

@@ -7,7 +7,9 @@ ghost use Rattle.md_book.specs.Commands.{IsCommand};
 use crate::tests::shown::read;
 use md_book::{BOUGHT, BookReply, Command, DEPTHS, MAPS, MAX_PARTS, Part, SOLD, order_name};
 use md_history::Contents;
-use md_orders::{Replies, Scripts, report, summary};
+use md_orders::Scripts;
+use md_replies::Replies;
+use md_report::{report, summary};
 use std::alloc::Global;
 use std::test::Fail;
 

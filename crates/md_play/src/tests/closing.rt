@@ -4,7 +4,7 @@ use super::scripts_of;
 use crate::closing::close_for_report;
 use crate::playing::{open_store, play_opened};
 use md_many::FreeGate;
-use md_orders::after_lines;
+use md_report::after_lines;
 use md_rounds::{OpenOutcome, Rounds};
 use std::test::Fail;
 

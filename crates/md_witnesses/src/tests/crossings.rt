@@ -2,8 +2,8 @@
 
 use super::*;
 use md_many::FreeGate;
-use md_orders::report;
 use md_play::play_on_store;
+use md_report::report;
 use std::thread::Threads;
 
 const FILE: &str = "1,P,7,S,100,5\n1,F,8,S,100,2\n2,P,17,B,200,4\n2,C,2,1\n";

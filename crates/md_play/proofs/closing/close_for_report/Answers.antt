@@ -4,7 +4,7 @@ use Rattle.std.proofs.lemmas.List.{map_push}
 use Rattle.md_history.specs.Front.{replay_of}
 use Rattle.md_history.specs.State.{State}
 use Rattle.md_book.specs.declared.maps.TheConstants.{DEPTHS, BOUGHT, SOLD}
-use Rattle.md_orders.specs.Sums.{HaveSameSums}
+use Rattle.md_report.specs.Sums.{HaveSameSums}
 use Rattle.md_store.specs.Store.{front_in, start_of}
 use Rattle.md_store_law.specs.MapsFrom.{MapsFrom}
 use Rattle.md_play.proofs.closing.close_for_report.Goals as goal

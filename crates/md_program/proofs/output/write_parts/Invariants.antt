@@ -1,5 +1,5 @@
 use Rattle.std.proofs.Common.{take}
-use Rattle.md_orders.specs.Report.{whole_text}
+use Rattle.md_report.specs.Report.{whole_text}
 use Rattle.md_program.specs.Run.{IsWritten}
 use Rattle.md_program.proofs.output.write_parts.Given as goal
 

@@ -4,7 +4,7 @@ use Rattle.md_history.specs.State.{State}
 use Rattle.md_history.specs.Front.{Front, replay_of}
 use Rattle.md_history.specs.Engine.{IsFrontFrom, SettlesFrom, empty_front}
 use Rattle.md_book.specs.declared.commands.BookReply.{BookReply}
-use Rattle.md_orders.specs.Replies.{RepliesState, with_replies}
+use Rattle.md_replies.specs.Replies.{RepliesState, with_replies}
 use Rattle.md_orders.specs.Scripts.{list_of, at_line}
 use Rattle.md_many.specs.Lines.{PlaysLines}
 use Rattle.md_rounds.specs.OrderLines.{did_command}

@@ -1,6 +1,0 @@
-use Rattle.std.proofs.Common.{◌≡◌, ◌++◌}
-use Rattle.md_orders.specs.Report.{lines_text}
-use Rattle.md_orders.proofs.text.lines.Given as goal
-
-abbrev pub invariant-loop-done : goal.invariant-loop-done
-invariant-loop-done l = l.out.items ≡ l.initial.out.items ++ lines_text l.replies.replies l.caller l.before l.done

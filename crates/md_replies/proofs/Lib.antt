@@ -1,0 +1,5 @@
+pub mod Apart
+pub mod PartNumbers
+pub mod Unpacked
+pub mod Placed
+pub mod Listed

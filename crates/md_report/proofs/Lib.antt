@@ -1,0 +1,4 @@
+pub mod PackedLines
+pub mod Texts
+pub mod SameSums
+pub mod Totals

@@ -1,0 +1,165 @@
+//! The lines of the callers in a report, which threads write side by side.
+
+ghost use Rattle.std.specs.Prelude.{◌≡◌, ◌<◌, ◌+◌, ◌^◌, ◌++◌, [], IfOk};
+ghost use Rattle.std.specs.Thread.{IsSync};
+ghost use Rattle.md_report.specs.Report.{lines_text, callers_text_after, replies_text, whole_text};
+
+use crate::text::make_room;
+use crate::text::packed_lines::{callers_lines, lines};
+use md_orders::Scripts;
+use md_replies::RepliesByCaller;
+use std::alloc::{AllocError, Global};
+use std::thread;
+use std::thread::Threads;
+
+// In how many ranges the lines are written, at most. Another thread closes the store meanwhile, and
+// with more ranges than processors, no processor is left without work at the end.
+const RANGES: u32 = 8;
+
+// Fewer lines of a caller are one range.
+const MANY_LINES: u32 = 4_096;
+
+// A text in one part.
+fn one_part(alloc: Global, text: Vec<u8>) -> Result<Vec<Vec<u8>>, AllocError>
+    ensures { IfOk result (λ parts. whole_text parts.items ≡ text.items) }
+{
+    let mut parts = Vec::new(alloc);
+    parts.push(text)?;
+    Ok(parts)
+}
+
+// One text after the other. Parts are moved, and no text is copied.
+fn joined(mut first: Vec<Vec<u8>>, mut second: Vec<Vec<u8>>) -> Result<Vec<Vec<u8>>, AllocError>
+    ensures { IfOk result (λ parts. whole_text parts.items
+        ≡ whole_text first.items ++ whole_text second.items) }
+{
+    first.append(&mut second)?;
+    Ok(first)
+}
+
+// An empty text, with room for the lines of the `count` callers after the first `before`.
+fn room_for(alloc: Global, of: &Scripts, before: u32, count: u32) -> Result<Vec<u8>, AllocError>
+    requires { before + count < 2 ^ 32 }
+    ensures { IfOk result (λ out. out.items ≡ []) }
+{
+    let mut lines = 0u32;
+    for earlier in 0..count {
+        lines = lines.saturating_add(of.len(before + earlier + 1));
+    }
+    let mut out = Vec::new(alloc);
+    make_room(&mut out, lines)?;
+    Ok(out)
+}
+
+// The lines of a caller after its first `before`, in at most so many ranges, by halves in threads.
+#[cycle(ranges)]
+fn lines_in_ranges<R: Threads + Sync>(
+    rt: &R,
+    alloc: Global,
+    replies: &RepliesByCaller,
+    caller: u32,
+    before: u32,
+    count: u32,
+    ranges: u32,
+) -> Result<Vec<Vec<u8>>, AllocError>
+    requires { before + count < 2 ^ 32 }
+    ensures { IfOk result (λ parts. whole_text parts.items
+        ≡ lines_text replies.now caller before count) }
+{
+    if ranges <= 1 || count < MANY_LINES {
+        let mut out = Vec::new(alloc);
+        make_room(&mut out, count)?;
+        lines(&mut out, replies, caller, before, count)?;
+        return one_part(alloc, out);
+    }
+    let high = count / 2;
+    let low = count - high;
+    let middle = before + low;
+    let (earlier, later) = thread::join(
+        rt,
+        move || -> Result<Vec<Vec<u8>>, AllocError>
+            requires sync { IsSync R.row }
+            requires few { before + low < 2 ^ 32 }
+            ensures { IfOk result (λ parts. whole_text parts.items
+                ≡ lines_text replies.entry.now caller before low) }
+        { lines_in_ranges(rt, alloc, replies, caller, before, low, ranges / 2) },
+        move || -> Result<Vec<Vec<u8>>, AllocError>
+            requires sync { IsSync R.row }
+            requires few { middle + high < 2 ^ 32 }
+            ensures { IfOk result (λ parts. whole_text parts.items
+                ≡ lines_text replies.entry.now caller middle high) }
+        { lines_in_ranges(rt, alloc, replies, caller, middle, high, ranges / 2) },
+    );
+    joined(earlier?, later?)
+}
+
+// The lines of the `count` callers after the first `before`, in at most so many ranges, by halves
+// in threads.
+#[cycle(halves)]
+fn lines_of_callers<R: Threads + Sync>(
+    rt: &R,
+    alloc: Global,
+    of: &Scripts,
+    replies: &RepliesByCaller,
+    before: u32,
+    count: u32,
+    ranges: u32,
+) -> Result<Vec<Vec<u8>>, AllocError>
+    requires { before + count < 2 ^ 32 }
+    ensures { IfOk result (λ parts. whole_text parts.items
+        ≡ callers_text_after of.now replies.now before count) }
+{
+    if count == 1 {
+        let caller = before + 1;
+        return lines_in_ranges(rt, alloc, replies, caller, 0, of.len(caller), ranges);
+    }
+    if ranges <= 1 || count == 0 {
+        let mut out = room_for(alloc, of, before, count)?;
+        callers_lines(&mut out, of, replies, before, count)?;
+        return one_part(alloc, out);
+    }
+    let high = count / 2;
+    let low = count - high;
+    let middle = before + low;
+    let (first, second) = thread::join(
+        rt,
+        move || -> Result<Vec<Vec<u8>>, AllocError>
+            requires sync { IsSync R.row }
+            requires few { before + low < 2 ^ 32 }
+            ensures { IfOk result (λ parts. whole_text parts.items
+                ≡ callers_text_after of.entry.now replies.entry.now before low) }
+        { lines_of_callers(rt, alloc, of, replies, before, low, ranges / 2) },
+        move || -> Result<Vec<Vec<u8>>, AllocError>
+            requires sync { IsSync R.row }
+            requires few { middle + high < 2 ^ 32 }
+            ensures { IfOk result (λ parts. whole_text parts.items
+                ≡ callers_text_after of.entry.now replies.entry.now middle high) }
+        { lines_of_callers(rt, alloc, of, replies, middle, high, ranges / 2) },
+    );
+    joined(first?, second?)
+}
+
+/// The lines of all callers in a report, as a text in parts: the parts are the text one after
+/// another. A line without a reply has no text. If `Replies` have the same replies, `report`
+/// writes the same lines first. The text that follows them is that of `after_lines`. Threads write
+/// up to eight ranges of the lines side by side, one part each: the lines of some callers, or a
+/// range of one caller's.
+///
+/// The call takes the callers by halves in `thread::join`, and these halves again, up to three
+/// times over. If a half has one caller, the call takes the lines of that caller by halves instead.
+/// So it calls `thread::join` at most 7 times. Fewer than 4,096 lines of a caller are one range. A
+/// range of a caller's lines passes over the replies before it once. No text is copied to another:
+/// the lists of parts are joined.
+///
+/// `AllocError` if memory runs out. Each range takes room for 24 bytes a line at once.
+pub fn lines_in_threads<R: Threads + Sync>(
+    rt: &R,
+    alloc: Global,
+    of: &Scripts,
+    replies: &RepliesByCaller,
+) -> Result<Vec<Vec<u8>>, AllocError>
+    ensures { IfOk result (λ parts. whole_text parts.items
+        ≡ replies_text of.now replies.now) }
+{
+    lines_of_callers(rt, alloc, of, replies, 0, of.callers(), RANGES)
+}
