@@ -7,9 +7,8 @@ mod making;
 mod rows;
 mod words;
 
-use md_program::run;
-use md_program::Status;
 use md_outside::{MemSink, MemSource};
+use md_program::{Status, run};
 use md_rounds::FreeGate;
 use std::alloc::{AllocError, Global};
 use std::process::Abort;

@@ -1,9 +1,8 @@
 //! Runs with words.
 
-use md_program::run;
-use md_program::Status;
 use crate::tests::{ORDER, REPORT, USAGE};
 use md_outside::{MemSink, MemSource};
+use md_program::{Status, run};
 use md_rounds::FreeGate;
 use std::alloc::Global;
 use std::process::Abort;

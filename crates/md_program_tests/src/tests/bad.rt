@@ -1,7 +1,7 @@
 //! Inputs with a record that breaks the grammar.
 
-use md_program::Status;
 use crate::tests::{AMPLE, expect};
+use md_program::Status;
 use std::test::Fail;
 
 #[test]

@@ -1,11 +1,9 @@
 //! The program from its arguments to its exit status, and streams of std that fail once or end
 //! early.
 
-use md_program::{exit_of_program, run_program};
-use md_program::run;
-use md_program::Status;
 use crate::tests::{ORDER, REPORT, USAGE};
 use md_outside::{MemSink, MemSource, Source, StdSink, StdSource};
+use md_program::{Status, exit_of_program, run, run_program};
 use md_rounds::FreeGate;
 use std::alloc::{AllocError, Global};
 use std::env;

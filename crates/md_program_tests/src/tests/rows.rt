@@ -1,7 +1,7 @@
 //! Inputs and their reports, worked out by hand.
 
-use md_program::Status;
 use crate::tests::{AMPLE, expect};
+use md_program::Status;
 use std::test::Fail;
 
 #[test]
