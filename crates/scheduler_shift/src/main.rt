@@ -1,18 +1,10 @@
-//! Jobs that wait by priority, and workers in threads that run them: an example over the library.
+//! A shift of the workers of the crate scheduler.
 #![tactic(auto)]
 
 ghost use Rattle.scheduler.specs.Jobs.{Holds};
 
-mod moves;
-mod places;
-mod run;
-mod shifts;
-#[cfg(test)]
-mod tests;
-
 use md_history::Contents;
-use places::{FINISHED, PRIORITIES, RUNNING};
-use run::{all_waiting, run_shift};
+use scheduler::{FINISHED, PRIORITIES, RUNNING, all_waiting, run_shift};
 use std::process::ExitCode;
 
 // How many jobs there are.

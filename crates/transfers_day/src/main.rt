@@ -1,21 +1,11 @@
-//! Transfers between the accounts of a bank, made in threads as transactions.
+//! A day of the bank of the crate transfers.
 #![tactic(auto)]
 
-mod bank;
-mod day;
-mod journal;
-mod playing;
-#[cfg(test)]
-mod tests;
-mod threads;
-
-use day::{make_transfers, open_bank};
-use journal::{is_journal_right, moved_in, sum_of};
 use medley_transactions::LinesByCaller;
 use std::alloc::{AllocError, Global};
 use std::process::ExitCode;
 use std::thread::Threads;
-use threads::transfer_in_threads;
+use transfers::{is_journal_right, make_transfers, moved_in, open_bank, sum_of, transfer_in_threads};
 
 const TELLERS: u32 = 4;
 
