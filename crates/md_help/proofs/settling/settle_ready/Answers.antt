@@ -21,3 +21,9 @@ returns-in_default-clause-own g c own =
     let is = ap (λ (w : StatusWord). w.status) c.of.ensures.parts in
     end_already c.args.field.now.origin.shape c.args.desc c.args.status Aborted c.args.pass.now.view c.requires.met
     (is_aborted _ c.requires.ready (λ e. c.in_default.not-InProg (is ∙ e)) (λ e. c.in_default.not-Committed (is ∙ e))) own
+
+pub returns-in-Committed-clause-own : goal.returns-in-Committed-clause-own
+returns-in-Committed-clause-own g c own =
+    let is = ap (λ (w : StatusWord). w.status) c.of.ensures.parts in
+    end_already c.args.field.now.origin.shape c.args.desc c.args.status Committed c.args.pass.now.view c.requires.met
+    (sym is ∙ c.in-Committed.is) own
