@@ -1,11 +1,12 @@
 -- A turn and its last batch.
-use Rattle.std.proofs.Common.{◌≡◌, ◌+◌, ◌<◌, ◌≤◌, ℕ, refl, ap, arith, inl, inr}
+use Rattle.std.proofs.Common.{◌≡◌, ◌+◌, ◌<◌, ◌≤◌, ◌^◌, ℕ, refl, ap, arith, inl, inr}
+use Rattle.std.specs.Prelude.{◌-◌, min}
 use Rattle.std.proofs.lemmas.Bool.{cases_lt}
 use Rattle.md_history.specs.declared.stops.Stop.{Stop}
 use Rattle.md_many.specs.declared.attempts.Turn.{Turn}
 use Rattle.md_many.specs.declared.attempts.End.{End}
 use Rattle.md_many.specs.declared.attempts.End.TheVariants.{Lines, Tries, Limit, Conflicts}
-use Rattle.md_many.specs.Turns.{EndsBy}
+use Rattle.md_many.specs.Turns.{EndsBy, IsWithinTries}
 
 -- what is so of each line up to one, and of each from there to another
 pub told-then : (P : ℕ → Type 0) (first middle last : ℕ) → ((line : ℕ) → first < line → line ≤ middle → P line)
@@ -28,3 +29,28 @@ ends-then line_count may_stop turn part before played begun begun' begun'' Tries
 ends-then line_count may_stop turn part before played begun begun' begun'' (Limit limit) same at each other ends = ends
 ends-then line_count may_stop turn part before played begun begun' begun'' Conflicts same at each other ends =
     (omega (arith, each, ends.0), ends.1)
+
+-- the counts of a turn that has ended
+pub record HasCounted (turn : Turn) (count played tried first last : ℕ) : Type 0 where
+  pub within : turn.done + played ≤ count
+  pub few : turn.done + played < 2 ^ 32
+  pub tries : tried ≤ turn.tries
+  pub begun : IsWithinTries turn played first last
+
+-- by the counts before its last attempt, if that made any
+pub has-counted : (turn : Turn) (count next played conflicts tried made now met begun was begun' : ℕ)
+    → next ≡ turn.done + played → next ≤ count → count < 2 ^ 32 → played + conflicts ≤ tried → was ≡ begun + tried
+    → now ≡ tried + made → now ≤ turn.tries → met ≤ now → (was ≤ begun') × (begun' ≤ was + made)
+    → HasCounted turn count played met begun begun'
+has-counted turn count next played conflicts tried made now met begun was begun' at within few each counted is left seen more =
+    record {
+      within = omega arith;
+      few = omega arith;
+      tries = omega arith;
+      begun = record { each = omega (arith, more.0); most = omega (arith, more.1) };
+    }
+
+-- where each attempt played a line and the turn has no try left, it played as many lines as it can
+pub most-played : (done played count tried tries : ℕ) → done + played ≤ count → played ≡ tried → tried ≤ tries
+    → tries ≤ tried → played ≡ min tries (count - done)
+most-played done played count tried tries within steady few most = omega arith

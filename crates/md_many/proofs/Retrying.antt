@@ -1,5 +1,5 @@
 -- Attempts at one body, one after another.
-use Rattle.std.proofs.Common.{◌≡◌, ◌<◌, ◌+◌, ℕ, cond, List, [], ◌∷◌, ◌++◌, length, refl, sym, ap, subst, ◌∙◌, arith}
+use Rattle.std.proofs.Common.{◌≡◌, ◌<◌, ◌≤◌, ◌+◌, ℕ, cond, List, [], ◌∷◌, ◌++◌, length, refl, sym, ap, subst, ◌∙◌, arith}
 use Rattle.std.specs.Prelude.{◌==◌}
 use Rattle.std.proofs.lemmas.List.{length-append}
 use Rattle.md_history.specs.declared.acts.Act.{Act}
@@ -8,8 +8,9 @@ use Rattle.md_history.specs.declared.entries.Fate.{Fate}
 use Rattle.md_history.specs.Front.{Front, BeginsOn, own_after}
 use Rattle.md_history.specs.FrontLaws.{begins-self, begins-trans}
 use Rattle.md_history.specs.declared.stops.Shown.{Shown}
+use Rattle.md_history.specs.declared.stops.Limit.{Limit as Which}
 use Rattle.md_history.specs.declared.stops.Stop.{Stop}
-use Rattle.md_history.specs.declared.stops.Stop.TheVariants.{Conflict, NoMemory}
+use Rattle.md_history.specs.declared.stops.Stop.TheVariants.{Conflict, Limit, NoMemory}
 use Rattle.md_history.specs.declared.stops.Attempt.{Attempt}
 use Rattle.md_history.specs.declared.stops.Attempt.TheVariants.{Committed as Done, Stopped}
 use Rattle.md_history.specs.Attempt.{Commits, Stops, NoneOrAborted, IsStopCounted, IfCommitted, IfStopped}
@@ -20,6 +21,16 @@ use Rattle.md_many.proofs.Joining.{AreDecided, entries-more, entries-none}
 -- a conflict isn't a want of memory
 pub no_conflict : {shown : Shown} → Conflict shown ≡ NoMemory → ⊥
 no_conflict same = cc
+
+-- nor is a limit
+pub no_limit : {limit : Which} → Limit limit ≡ NoMemory → ⊥
+no_limit same = cc
+
+-- whatever stopped an attempt, it began one at most
+pub stop_counted : (s : Stop) (begun begun' : ℕ) → IsStopCounted s begun begun' → (begun ≤ begun') × (begun' ≤ begun + 1)
+stop_counted (Conflict shown) begun begun' is = (omega (arith, is), omega (arith, is))
+stop_counted (Limit limit) begun begun' is = is
+stop_counted NoMemory begun begun' is = is
 
 -- an attempt that met a conflict was begun
 pub conflict_counted : {shown : Shown} (s : Stop) (begun begun' : ℕ) → s ≡ Conflict shown → IsStopCounted s begun begun'

@@ -323,11 +323,7 @@ where
 fn none_done(alloc: Global, callers: u32) -> Result<Vec<u32>, AllocError>
     ensures { IfOk result (λ done. done.items ≡ replicate callers 0) }
 {
-    let mut done = Vec::with_capacity(alloc, callers as usize)?;
-    'callers: for made in 0..callers {
-        done.push(0)?;
-    }
-    Ok(done)
+    vec![in alloc; 0; callers as usize]
 }
 
 /// Plays all lines of all callers over an engine, in rounds. `OpenRounds::close` then closes the

@@ -4,7 +4,8 @@ use Rattle.std.proofs.lemmas.Bool.{cases_eq}
 use Rattle.std.proofs.lemmas.List.{length_push}
 use Rattle.md_history.specs.Attempt.{Commits}
 use Rattle.md_many.proofs.Playing.{played-none, played-stopped, played-more}
-use Rattle.md_many.proofs.Retrying.{no_conflict, conflict_counted}
+use Rattle.md_many.proofs.Ending.{has-counted, most-played}
+use Rattle.md_many.proofs.Retrying.{no_conflict, no_limit, conflict_counted, stop_counted}
 use Rattle.md_many.proofs.attempts.attempt_lines.Goals as goal
 use Rattle.md_many.proofs.attempts.attempt_lines.Goals.{in-Committed, in-Stopped-Conflict+else-conflicts-eq-MOST_CONFLICTS}
 
@@ -106,44 +107,114 @@ attempts-preserved g c =
       }
     ]
 
-pub returns-in-Stopped-NoMemory-clause-lines : goal.returns-in-Stopped-NoMemory-clause-lines
-returns-in-Stopped-NoMemory-clause-lines g c =
-    (played-stopped _ _ _ _ _ _ _ _ _ _ c.attempts.invariant.lines c.attempts.invariant.fated
-    c.in-Stopped-NoMemory.ensures.stopped).plays
+pub returns-in-Stopped-NoMemory : goal.returns-in-Stopped-NoMemory
+returns-in-Stopped-NoMemory g c =
+    let was = c.attempts.invariant in
+    let here = c.in-Stopped-NoMemory.ensures in
+    let more = played-stopped _ _ _ _ _ _ _ _ _ _ was.lines was.fated here.stopped in
+    let counted = has-counted c.args.turn _ _ _ _ _ 1 _ _ _ _ _ was.played was.within (omega (arith, c.len-count.ensures)) was.few
+    was.counted refl (omega (arith, c.attempts-test.true)) more.attempted.few (stop_counted _ _ _ here.begun) in
+    record {
+      of = c.attempt.ensures.of;
+      lanes = more.attempted.lanes;
+      pending = more.attempted.pending;
+      lines = more.plays;
+      within = counted.within;
+      few = counted.few;
+      tries = counted.tries;
+      begun = counted.begun;
+      end = tt;
+      gate = λ line after before. was.gate line after (subst (λ n. line ≤ n) (sym was.played) before);
+      room = was.room;
+      no_memory = subst (g.E.Engine.may_stop c.args.engine.now) c.in-Stopped-NoMemory.field-0-is here.may_stop;
+      first = λ fresh tries small some. tt;
+      steady = λ stops. tt;
+    }
 
-pub returns-in-Stopped-NoMemory-clause-tries : goal.returns-in-Stopped-NoMemory-clause-tries
-returns-in-Stopped-NoMemory-clause-tries g c =
-    let test = c.attempts-test.true in
-    omega (
-      arith,
-      (played-stopped _ _ _ _ _ _ _ _ _ _ c.attempts.invariant.lines c.attempts.invariant.fated
-          c.in-Stopped-NoMemory.ensures.stopped).attempted.few,
-    )
+pub returns-in-Stopped-Limit : goal.returns-in-Stopped-Limit
+returns-in-Stopped-Limit g c =
+    let was = c.attempts.invariant in
+    let here = c.in-Stopped-Limit.ensures in
+    let more = played-stopped _ _ _ _ _ _ _ _ _ _ was.lines was.fated here.stopped in
+    let counted = has-counted c.args.turn _ _ _ _ _ 1 _ _ _ _ _ was.played was.within (omega (arith, c.len-count.ensures)) was.few
+    was.counted refl (omega (arith, c.attempts-test.true)) more.attempted.few (stop_counted _ _ _ here.begun) in
+    record {
+      of = c.attempt.ensures.of;
+      lanes = more.attempted.lanes;
+      pending = more.attempted.pending;
+      lines = more.plays;
+      within = counted.within;
+      few = counted.few;
+      tries = counted.tries;
+      begun = counted.begun;
+      end = subst (g.E.Engine.may_stop c.args.engine.now) c.in-Stopped-Limit.field-0-is here.may_stop;
+      gate = λ line after before. was.gate line after (subst (λ n. line ≤ n) (sym was.played) before);
+      room = was.room;
+      no_memory = tt;
+      first = λ fresh tries small some. elim (cases_eq c.attempts.tried 0) [
+        | inl none ↦
+            let same : c.args.turn.done + 1 ≡ c.attempts.played + 1 = omega (arith, none, was.played, was.few) in
+            let is_fresh = subst (g.E.Engine.fresh c.args.engine.now) (sym (was.begun none)) fresh in
+            let is_small = if_some _ c.in-Some.body _
+            (ap (g.L.Lines.body_at c.args.lines.now c.args.turn.caller) same ∙ sym c.in-Some.ensures) small in
+            absurd (no_limit (sym c.in-Stopped-Limit.field-0-is ∙ here.small is_fresh tries is_small))
+        | inr later ↦ was.first fresh tries small (omega arith)
+      ];
+      steady = λ stops. absurd (no_limit (sym c.in-Stopped-Limit.field-0-is ∙ stops _ here.may_stop));
+    }
 
-pub returns-in-Stopped-Limit-clause-lines : goal.returns-in-Stopped-Limit-clause-lines
-returns-in-Stopped-Limit-clause-lines g c =
-    (played-stopped _ _ _ _ _ _ _ _ _ _ c.attempts.invariant.lines c.attempts.invariant.fated
-    c.in-Stopped-Limit.ensures.stopped).plays
+pub returns-then-conflicts-eq-MOST_CONFLICTS : goal.returns-then-conflicts-eq-MOST_CONFLICTS
+returns-then-conflicts-eq-MOST_CONFLICTS g c =
+    let was = c.attempts.invariant in
+    let here = c.in-Stopped-Conflict.ensures in
+    let more = played-stopped _ _ _ _ _ _ _ _ _ _ was.lines was.fated here.stopped in
+    let counted = has-counted c.args.turn _ _ _ _ _ 1 _ _ _ _ _ was.played was.within (omega (arith, c.len-count.ensures)) was.few
+    was.counted refl (omega (arith, c.attempts-test.true)) more.attempted.few (stop_counted _ _ _ here.begun) in
+    record {
+      of = c.attempt.ensures.of;
+      lanes = more.attempted.lanes;
+      pending = more.attempted.pending;
+      lines = more.plays;
+      within = counted.within;
+      few = counted.few;
+      tries = counted.tries;
+      begun = counted.begun;
+      end = (
+        omega (
+          arith,
+          was.counted,
+          was.few,
+          conflict_counted _ _ _ c.in-Stopped-Conflict.field-0-is here.begun,
+          c.if-conflicts-eq-MOST_CONFLICTS.true,
+        ),
+        (_, subst (g.E.Engine.may_stop c.args.engine.now) c.in-Stopped-Conflict.field-0-is here.may_stop),
+      );
+      gate = λ line after before. was.gate line after (subst (λ n. line ≤ n) (sym was.played) before);
+      room = was.room;
+      no_memory = tt;
+      first = λ fresh tries small some. was.first fresh tries small
+          (omega (arith, was.few, c.if-conflicts-eq-MOST_CONFLICTS.true));
+      steady = λ stops. absurd (no_conflict (sym c.in-Stopped-Conflict.field-0-is ∙ stops _ here.may_stop));
+    }
 
-pub returns-in-Stopped-Limit-clause-tries : goal.returns-in-Stopped-Limit-clause-tries
-returns-in-Stopped-Limit-clause-tries g c =
-    let test = c.attempts-test.true in
-    omega (
-      arith,
-      (played-stopped _ _ _ _ _ _ _ _ _ _ c.attempts.invariant.lines c.attempts.invariant.fated
-          c.in-Stopped-Limit.ensures.stopped).attempted.few,
-    )
-
-pub returns-then-conflicts-eq-MOST_CONFLICTS-clause-lines : goal.returns-then-conflicts-eq-MOST_CONFLICTS-clause-lines
-returns-then-conflicts-eq-MOST_CONFLICTS-clause-lines g c =
-    (played-stopped _ _ _ _ _ _ _ _ _ _ c.attempts.invariant.lines c.attempts.invariant.fated
-    c.in-Stopped-Conflict.ensures.stopped).plays
-
-pub returns-then-conflicts-eq-MOST_CONFLICTS-clause-tries : goal.returns-then-conflicts-eq-MOST_CONFLICTS-clause-tries
-returns-then-conflicts-eq-MOST_CONFLICTS-clause-tries g c =
-    let test = c.attempts-test.true in
-    omega (
-      arith,
-      (played-stopped _ _ _ _ _ _ _ _ _ _ c.attempts.invariant.lines c.attempts.invariant.fated
-          c.in-Stopped-Conflict.ensures.stopped).attempted.few,
-    )
+pub returns : goal.returns
+returns g c =
+    let was = c.attempts.invariant in
+    let counted = has-counted c.args.turn _ _ _ _ _ 0 c.attempts.tried _ _ _ (g.E.Engine.begun c.attempts.pass) was.played was.within (omega (arith, c.len-count.ensures)) was.few
+    was.counted (omega arith) (omega arith) was.lines.attempted.few (omega arith, omega arith) in
+    record {
+      of = was.of;
+      lanes = was.lines.attempted.lanes;
+      pending = was.lines.attempted.pending;
+      lines = was.lines.plays;
+      within = counted.within;
+      few = counted.few;
+      tries = counted.tries;
+      begun = counted.begun;
+      end = omega (arith, c.attempts-test.false, was.counted);
+      gate = λ line after before. was.gate line after (subst (λ n. line ≤ n) (sym was.played) before);
+      room = was.room;
+      no_memory = tt;
+      first = λ fresh tries small some. was.first fresh tries small (omega (arith, c.attempts-test.false, some));
+      steady = λ stops. most-played _ _ _ _ _ counted.within (was.steady stops) (omega arith) c.attempts-test.false;
+    }

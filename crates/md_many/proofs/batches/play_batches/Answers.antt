@@ -1,5 +1,6 @@
 use Rattle.std.proofs.Common.{◌≡◌, ◌+◌, length, refl, ap, subst, ◌∙◌, arith}
 use Rattle.std.proofs.lemmas.List.{length-append}
+use Rattle.std.proofs.lemmas.Result.{IfOk-from_err}
 use Rattle.md_many.specs.Lines.{PlaysLines}
 use Rattle.md_many.specs.Turns.{EndsBy}
 use Rattle.md_many.proofs.Playing.{played-none}
@@ -82,4 +83,46 @@ returns-in_default g c =
           c.in_ok-end.ensures.end);
       gate = λ line after before. told-then _ _ c.batches.done _ was.gate more.gate line after
           (omega (arith, before, count, was.done));
+    }
+
+pub returns-in_err-batch : goal.returns-in_err-batch
+returns-in_err-batch g c =
+    let err = c.from_residual.ensures.0 in
+    record {
+      of = c.batches.invariant.of;
+      lanes = c.batches.invariant.lanes;
+      pending = c.batches.invariant.pending;
+      lines = IfOk-from_err _ _ err;
+      few = IfOk-from_err _ _ err;
+      begun = IfOk-from_err _ _ err;
+      end = IfOk-from_err _ _ err;
+      gate = IfOk-from_err _ _ err;
+    }
+
+pub returns-in_err-end : goal.returns-in_err-end
+returns-in_err-end g c =
+    let err = c.from_residual-in_err-end.ensures.0 in
+    record {
+      of = c.attempt_lines.ensures.of;
+      lanes = c.attempt_lines.ensures.lanes ∙ c.batches.invariant.lanes;
+      pending = c.attempt_lines.ensures.pending ∙ c.batches.invariant.pending;
+      lines = IfOk-from_err _ _ err;
+      few = IfOk-from_err _ _ err;
+      begun = IfOk-from_err _ _ err;
+      end = IfOk-from_err _ _ err;
+      gate = IfOk-from_err _ _ err;
+    }
+
+pub returns-in_err-append : goal.returns-in_err-append
+returns-in_err-append g c =
+    let err = c.from_residual-in_err-append.ensures.0 in
+    record {
+      of = c.attempt_lines.ensures.of;
+      lanes = c.attempt_lines.ensures.lanes ∙ c.batches.invariant.lanes;
+      pending = c.attempt_lines.ensures.pending ∙ c.batches.invariant.pending;
+      lines = IfOk-from_err _ _ err;
+      few = IfOk-from_err _ _ err;
+      begun = IfOk-from_err _ _ err;
+      end = IfOk-from_err _ _ err;
+      gate = IfOk-from_err _ _ err;
     }

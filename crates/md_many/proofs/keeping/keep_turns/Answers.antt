@@ -1,6 +1,7 @@
 use Rattle.std.proofs.Common.{rules, ◌≡◌, ◌+◌, ◌∷◌, [], ◌++◌, length, refl, sym, ap, ◌∙◌, append_assoc, arith}
 use Rattle.std.specs.Vec.Iter.{into_iter_items}
-use Rattle.std.proofs.lemmas.List.{length-map, length_push, map_push}
+use Rattle.std.proofs.lemmas.List.{length-append, length-map, length_push, map_push}
+use Rattle.std.proofs.lemmas.Result.{IfOk-from_err}
 use Rattle.md_many.specs.declared.batches.Played.{Played}
 use Rattle.md_many.specs.Rounds.{at_caller, replies_in}
 use Rattle.md_many.specs.Course.{of_one}
@@ -57,3 +58,23 @@ turns-preserved g c =
           ∙ caller-next (replies_in listed at.yielded) (listed x.replies) caller
           ∙ ap (λ n. at_caller [] (replies_in listed at.yielded) caller ++ of_one n (listed x.replies) caller) (sym next));
     }
+
+pub overflow_add-caller : goal.overflow_add-caller
+overflow_add-caller g c =
+    let at = c.turns in
+    let all : length c.args.turns.items ≡ length at.yielded + length (into_iter_items at.turn-iterator) =
+    ap length (sym (at.invariant.all ∙ c.into_iter-turn-iterator.ensures.into_iter_gives.0)) ∙ length-append at.yielded _ in
+    omega (arith, all, ap length c.in-Some.ensures.steps.0, at.invariant.caller, c.requires.callers, c.requires.few_callers)
+
+pub keep_lines-requires-clause-there : goal.keep_lines-requires-clause-there
+keep_lines-requires-clause-there g c =
+    let at = c.turns in
+    let all : length c.args.turns.items ≡ length at.yielded + length (into_iter_items at.turn-iterator) =
+    ap length (sym (at.invariant.all ∙ c.into_iter-turn-iterator.ensures.into_iter_gives.0)) ∙ length-append at.yielded _ in
+    omega (arith, all, ap length c.in-Some.ensures.steps.0, at.invariant.caller, c.requires.callers, at.invariant.kept.callers)
+
+pub returns-in_err-keep_lines : goal.returns-in_err-keep_lines
+returns-in_err-keep_lines g c = record {
+  can_keep = λ other line r can. c.keep_lines.ensures.can_keep other line r (c.turns.invariant.can_keep other line r can);
+  kept = IfOk-from_err _ _ c.from_residual.ensures.0;
+}
