@@ -4,8 +4,8 @@ use Rattle.md_history.specs.declared.acts.Op.{Op}
 use Rattle.md_history.specs.declared.acts.Reply.{Reply}
 use Rattle.md_history.specs.declared.stops.Stop.{Stop}
 use Rattle.md_machine.specs.declared.attempt.Hand.{Hand}
-use Rattle.md_interleavings.specs.Acting.{IsActing, MayEnd, WasRefused}
-use Rattle.md_list.specs.Operations.{Answers, IsBegun, Leaves}
+use Rattle.md_interleavings.specs.Acting.{HasBegun, IsActing, MayEnd, WasRefused}
+use Rattle.md_list.specs.Operations.{Answers, Leaves}
 use Rattle.md_list.specs.Walking.{IsHeadOf}
 use Rattle.md_list.proofs.answers.Answered.{may_answer}
 use Rattle.md_nbtc_law.specs.Calls.{Ends, GoesOn, with_act, with_operation}
@@ -30,16 +30,16 @@ some_none s is = cc is
 -- an operation begins in one without a stop
 module _ (f : FieldView) (t s : TxnState) (stop : Option Stop) (acting : IsActing f t stop) (whole : stop ≡ None) (on : GoesOn store t s)
     (is : s ≡ record t { pass = s.pass; hand = with_operation t.hand }) where
-  pub begun : IsBegun store s
-  begun = record {
-    going = (acting.going.0, on.going acting.going.0 acting.going.1);
-    operates = ap (λ (x : TxnState). x.hand.operating) is;
-    changes = ap (λ (x : TxnState). x.hand.changes) is;
-    stored = ap (λ (x : TxnState). x.hand.stored) is;
+  pub has_begun : HasBegun s
+  has_begun = record {
+    begun = record {
+      going = (acting.going.0, on.going acting.going.0 acting.going.1);
+      operates = ap (λ (x : TxnState). x.hand.operating) is;
+      changes = ap (λ (x : TxnState). x.hand.changes) is;
+      stored = ap (λ (x : TxnState). x.hand.stored) is;
+    };
+    none = ap (λ (x : TxnState). x.stop) is ∙ acting.stopped ∙ whole;
   }
-
-  pub none_stands : s.stop ≡ None
-  none_stands = ap (λ (x : TxnState). x.stop) is ∙ acting.stopped ∙ whole
 
   pub field_is : s.field ≡ f
   field_is = ap (λ (x : TxnState). x.field) is ∙ acting.field
@@ -64,11 +64,11 @@ module _ (f : FieldView) (t s : TxnState) (stop : Option Stop) (acting : IsActin
   }
 
 -- an operation of a list that was answered may be ended
-pub list_may_end : (t u : TxnState) → IsUnderWay store t → (reads writes nodes : ℕ) → Leaves store t u reads writes nodes → (map key head : ℕ) (op : ℕ → Op) (reply : Reply)
+pub list_may_end : (t u : TxnState) → HasBegun t → (reads writes nodes : ℕ) → Leaves store t u reads writes nodes → (map key head : ℕ) (op : ℕ → Op) (reply : Reply)
     → Answers store t u head key op reply → IsHeadOf (shape_in t) map key head → u.stop ≡ None → MayEnd t u (op map) reply
-list_may_end t u under reads writes nodes leaves map key head op reply answers is none = record {
+list_may_end t u has reads writes nodes leaves map key head op reply answers is none = record {
   later = leaves.on.later;
   operates = leaves.operates;
   none = none;
-  may = may_answer store t u reads writes nodes leaves under head key op reply answers map is;
+  may = may_answer store t u reads writes nodes leaves has.begun.going head key op reply answers map is;
 }

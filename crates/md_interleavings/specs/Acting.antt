@@ -6,6 +6,7 @@ use Rattle.md_history.specs.declared.acts.Op.TheVariants.{Get, Insert, Remove, E
 use Rattle.md_history.specs.declared.acts.Reply.{Reply}
 use Rattle.md_history.specs.declared.stops.Stop.{Stop}
 use Rattle.md_history.specs.Calls.{IsLineLength}
+use Rattle.md_list.specs.Operations.{IsBegun}
 use Rattle.md_nbtc_law.specs.Calls.{MayAnswer}
 use Rattle.md_nbtc_law.specs.Going.{IsUnderWay}
 use Rattle.md_nbtc_law.specs.Known.{IsLater}
@@ -29,6 +30,11 @@ pub record IsActing (f : FieldView) (t : TxnState) (stop : Option Stop) : Type 0
   pub field : t.field ≡ f
   pub stopped : t.stop ≡ stop
   pub between : stop ≡ None → t.hand.operating ≡ false
+
+-- an operation was begun in a transaction that has no stop
+pub record HasBegun (t : TxnState) : Type 0 where
+  pub begun : IsBegun store t
+  pub none : t.stop ≡ None
 
 -- an operation that was begun may be ended with its reply
 pub record MayEnd (t u : TxnState) (op : Op) (reply : Reply) : Type 0 where

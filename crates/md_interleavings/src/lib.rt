@@ -14,5 +14,3 @@ mod acting;
 mod ending;
 mod looking;
 mod operations;
-#[cfg(test)]
-mod tests;

@@ -1,14 +1,10 @@
 use Rattle.md_nbtc.specs.State.{state}
-use Rattle.md_interleavings.proofs.Acted.{begun, ended, none_stands}
+use Rattle.md_interleavings.proofs.Acted.{ended, has_begun}
 use Rattle.md_interleavings.proofs.acting.act.Goals as goal
 
 pub made-requires-clause-begun : goal.made-requires-clause-begun
 made-requires-clause-begun c =
-    begun c.args.store.now (state c.args.txn.now) (state c.start_op.new.self) c.args.stop.now c.requires c.in_default.is c.start_op.ensures.on c.start_op.ensures.begun
-
-pub made-requires-clause-none : goal.made-requires-clause-none
-made-requires-clause-none c =
-    none_stands c.args.store.now (state c.args.txn.now) (state c.start_op.new.self) c.args.stop.now c.requires c.in_default.is c.start_op.ensures.on c.start_op.ensures.begun
+    has_begun c.args.store.now (state c.args.txn.now) (state c.start_op.new.self) c.args.stop.now c.requires c.in_default.is c.start_op.ensures.on c.start_op.ensures.begun
 
 pub returns-in-Ok-clause-acting : goal.returns-in-Ok-clause-acting
 returns-in-Ok-clause-acting c =

@@ -1,0 +1,102 @@
+//! Maps and queues for one thread, in plain collections.
+
+use md_history::{Line, Op, Reply};
+use std::alloc::{AllocError, AllocGlobal};
+use std::collections::{BTreeMap, VecDeque};
+use std::process::Abort;
+
+#[derive(Drop)]
+pub(super) struct Plain {
+    pub(super) maps: Vec<BTreeMap<u64, u64>>,
+    pub(super) queues: Vec<VecDeque<u64>>,
+}
+
+impl Plain {
+    // So many maps and queues, with nothing in them.
+    pub(super) fn empty<R: Abort + AllocGlobal>(rt: &R, maps: u32, queues: u32) -> Plain {
+        let mut plain = Plain {
+            maps: Vec::new(rt.alloc()),
+            queues: Vec::new(rt.alloc()),
+        };
+        for made in 0..maps {
+            let _ = made;
+            plain
+                .maps
+                .push(BTreeMap::new(rt.alloc()))
+                .expect(rt, "memory");
+        }
+        for made in 0..queues {
+            let _ = made;
+            plain
+                .queues
+                .push(VecDeque::new(rt.alloc()))
+                .expect(rt, "memory");
+        }
+        plain
+    }
+
+    // Makes an operation. `None` if its map or its queue isn't there.
+    pub(super) fn make(&mut self, op: Op) -> Result<Option<Reply>, AllocError> {
+        match op {
+            Op::Get { map, .. } | Op::Insert { map, .. } | Op::Remove { map, .. } => {
+                match self.maps.get_mut(map as usize) {
+                    Some(map) => Ok(Some(on_map(map, op)?)),
+                    None => Ok(None),
+                }
+            }
+            Op::Enqueue { queue, .. }
+            | Op::Dequeue { queue }
+            | Op::Front { queue }
+            | Op::Line { queue, .. } => match self.queues.get_mut(queue as usize) {
+                Some(queue) => Ok(Some(on_queue(queue, op)?)),
+                None => Ok(None),
+            },
+        }
+    }
+}
+
+// Makes an operation of a map.
+fn on_map(map: &mut BTreeMap<u64, u64>, op: Op) -> Result<Reply, AllocError> {
+    match op {
+        Op::Get { key, .. } => Ok(Reply::Value(map.get(&key).copied())),
+        Op::Remove { key, .. } => Ok(Reply::Value(map.remove(&key))),
+        Op::Insert { key, value, .. } => {
+            let absent = !map.contains_key(&key);
+            if absent {
+                map.insert(key, value)?;
+            }
+            Ok(Reply::Flag(absent))
+        }
+        _ => Ok(Reply::Nothing),
+    }
+}
+
+// Makes an operation of a queue.
+fn on_queue(queue: &mut VecDeque<u64>, op: Op) -> Result<Reply, AllocError> {
+    match op {
+        Op::Enqueue { value, .. } => {
+            queue.push_back(value)?;
+            Ok(Reply::Nothing)
+        }
+        Op::Dequeue { .. } => Ok(Reply::Value(queue.pop_front())),
+        Op::Front { .. } => Ok(Reply::Value(queue.front().copied())),
+        Op::Line { n, .. } => Ok(Reply::Line(line_of(queue, n))),
+        _ => Ok(Reply::Nothing),
+    }
+}
+
+// The first values of a queue, at most so many.
+fn line_of(queue: &VecDeque<u64>, n: u8) -> Line {
+    let mut line = Line {
+        count: 0,
+        values: [0; 12],
+    };
+    for i in 0..n.min(12) {
+        let Some(value) = queue.get(i as usize) else {
+            break;
+        };
+        line.values[i as usize] = *value;
+        line.count = i + 1;
+    }
+    line
+}
