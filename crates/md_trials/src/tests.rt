@@ -1,14 +1,15 @@
 //! Trials beside a store for one thread, and on threads.
 
 ghost use Rattle.std.specs.Prelude.{◌≡◌, IfOk};
+ghost use Rattle.md_history.specs.State.{empty_state};
 ghost use Rattle.md_store.specs.Store.{IsPassOf};
 
 use super::*;
 use md_history::{Contents, Reply};
 use md_store::{OpenFault, Store, StorePass};
 use md_words::Shape;
-use std::alloc::{AllocError, Global};
-use std::test::Fail;
+use std::alloc::{AllocError, AllocGlobal, Global};
+use std::process::Abort;
 
 mod counts;
 mod model;
@@ -39,4 +40,19 @@ fn closed(store: Store, pass: StorePass) -> Result<Option<Contents>, AllocError>
         return Ok(Some(contents));
     }
     Ok(None)
+}
+
+// Closes a store, whose pass holds all lanes: what it contains.
+fn left_in<R: Abort>(rt: &R, store: Store, pass: StorePass) -> Contents
+    requires { IsPassOf store pass }
+{
+    let left = closed(store, pass).expect(rt, "memory");
+    left.expect(rt, "all lanes")
+}
+
+// Contents with two maps and two queues, with nothing in them.
+fn empty<R: Abort + AllocGlobal>(rt: &R) -> Contents
+    ensures { result ≡ empty_state 2 2 }
+{
+    Contents::empty(rt.alloc(), 2, 2).expect(rt, "memory")
 }

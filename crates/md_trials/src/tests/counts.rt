@@ -2,8 +2,6 @@
 
 use super::running::{Ran, TURNS, run_on_new};
 use super::*;
-use std::alloc::AllocGlobal;
-use std::process::Abort;
 use std::thread::Threads;
 
 const KEY: u64 = 7;
@@ -12,34 +10,42 @@ const KEY: u64 = 7;
 type Found = (Option<u64>, Option<u64>);
 
 // Counts from 0 on, in four threads.
-fn counted<R: Abort + AllocGlobal + Threads + Sync>(rt: &R) -> Result<Ran<Found>, Fail> {
-    let alloc = rt.alloc();
-    let mut start = Contents::empty(alloc, 2, 2)?;
-    start.put(0, KEY, 0)?;
-    start.push(0, 0)?;
-    let mut bodies = Vec::new(alloc);
+fn counted<R: Abort + AllocGlobal + Threads + Sync>(rt: &R) -> Ran<Found> {
+    let mut start = empty(rt);
+    start.put(0, KEY, 0).expect(rt, "memory");
+    start.push(0, 0).expect(rt, "memory");
+    let mut bodies = Vec::new(rt.alloc());
     for _ in 0..4 {
-        bodies.push(vec![in alloc; Count { key: KEY }; TURNS as usize]?)?;
+        bodies.push(counts(rt)).expect(rt, "memory");
     }
     run_on_new(rt, &start, &bodies)
 }
 
+// The bodies of a thread.
+fn counts<R: Abort + AllocGlobal>(rt: &R) -> Vec<Count> {
+    let mut counts = Vec::new(rt.alloc());
+    for _ in 0..TURNS {
+        counts.push(Count { key: KEY }).expect(rt, "memory");
+    }
+    counts
+}
+
 // The numbers that threads found in the map, sorted, if each was in the queue, too, and they rose
 // for each thread.
-fn numbers_found(alloc: Global, threads: &[Vec<Found>]) -> Result<Option<Vec<u64>>, AllocError> {
-    let mut numbers = Vec::new(alloc);
+fn numbers_found<R: Abort + AllocGlobal>(rt: &R, threads: &[Vec<Found>]) -> Option<Vec<u64>> {
+    let mut numbers = Vec::new(rt.alloc());
     for found in threads {
         let mut last = None;
         for (value, copy) in found {
             if value != copy || *value <= last {
-                return Ok(None);
+                return None;
             }
             last = *value;
-            numbers.push(value.unwrap_or(0))?;
+            numbers.push(value.unwrap_or(0)).expect(rt, "memory");
         }
     }
-    numbers.sort()?;
-    Ok(Some(numbers))
+    numbers.sort().expect(rt, "memory");
+    Some(numbers)
 }
 
 // Whether these are the numbers from 0 on.
@@ -60,13 +66,12 @@ fn counts_in(contents: &Contents) -> Option<(usize, usize, Found)> {
 }
 
 #[test]
-fn four_threads_count(rt: HostRuntime) -> Result<(), Fail> {
-    let ran = counted(&rt)?;
-    let numbers = numbers_found(rt.alloc(), &ran.replies)?.expect(&rt, "copies that rise");
+fn four_threads_count(rt: HostRuntime) {
+    let ran = counted(&rt);
+    let numbers = numbers_found(&rt, &ran.replies).expect(&rt, "copies that rise");
     let all = 4 * TURNS as u64;
     assert_eq!(rt; numbers.len() as u64, all);
     assert!(rt; are_all_numbers(&numbers));
     let count = Some(all);
     assert_eq!(rt; counts_in(&ran.left), Some((1, 1, (count, count))));
-    Ok(())
 }

@@ -6,7 +6,6 @@ ghost use Rattle.md_store.specs.Store.{IsPassOf};
 use super::*;
 use md_history::{Attempt, Engine, Limit, PlainPass, PlainStore, Stop};
 use std::marker::Model;
-use std::process::Abort;
 
 // What transactions came to.
 #[derive(Clone, Copy, Debug, PartialEq, Eq)]
@@ -52,13 +51,13 @@ impl Model for Plain {
 
 impl Plain {
     // An empty store.
-    fn empty(alloc: Global) -> Result<Plain, AllocError> {
-        let (store, pass) = PlainStore::open(Contents::empty(alloc, 2, 2)?);
-        Ok(Plain {
+    fn empty<R: Abort + AllocGlobal>(rt: &R) -> Plain {
+        let (store, pass) = PlainStore::open(empty(rt));
+        Plain {
             store,
             pass,
             tally: NONE,
-        })
+        }
     }
 
     // Runs a body that was committed elsewhere with these replies, and counts it.
@@ -81,10 +80,10 @@ impl Plain {
     }
 
     // What it contains in the end.
-    fn contents(self) -> Result<Contents, AllocError> {
+    fn contents<R: Abort>(self, rt: &R) -> Contents {
         let Plain { store, pass, .. } = self;
-        let (contents, _) = store.contents(pass)?;
-        Ok(contents)
+        let (contents, _) = store.contents(pass).expect(rt, "memory");
+        contents
     }
 }
 
@@ -127,30 +126,32 @@ fn run_all(store: &Store, pass: &mut StorePass, plain: &mut Plain, first: u32, c
     }
 }
 
-// Opens a store on contents, runs bodies over it, and closes it. None if memory runs out.
-fn run_round(
-    alloc: Global,
+// Opens a store on contents, runs bodies over it, and closes it.
+fn run_round<R: Abort + AllocGlobal>(
+    rt: &R,
     shape: Shape,
     start: &Contents,
     plain: &mut Plain,
     first: u32,
     count: u32,
-) -> Option<Contents> {
-    let Ok((store, mut pass)) = opened(alloc, shape, start) else {
-        return None;
-    };
+) -> Contents {
+    let (store, mut pass) = opened(rt.alloc(), shape, start).expect(rt, "a store");
     run_all(&store, &mut pass, plain, first, count);
-    closed(store, pass).ok()?
+    left_in(rt, store, pass)
 }
 
-// Runs 100 bodies over each of so many stores, which is opened on what the one before left. None if
-// memory runs out.
-fn run_rounds(alloc: Global, shape: Shape, plain: &mut Plain, rounds: u32) -> Option<Contents> {
-    let mut back = Contents::empty(alloc, 2, 2).ok()?;
+// Runs 100 bodies over each of so many stores, which is opened on what the one before left.
+fn run_rounds<R: Abort + AllocGlobal>(
+    rt: &R,
+    shape: Shape,
+    plain: &mut Plain,
+    rounds: u32,
+) -> Contents {
+    let mut back = empty(rt);
     for round in 0..rounds {
-        back = run_round(alloc, shape, &back, plain, round.wrapping_mul(100), 100)?;
+        back = run_round(rt, shape, &back, plain, round.wrapping_mul(100), 100);
     }
-    Some(back)
+    back
 }
 
 // Runs so many times ten bodies, by two passes of a store in turn.
@@ -175,64 +176,74 @@ fn run_in_turn(
     }
 }
 
-// Opens a store, runs bodies over it by two passes in turn, and closes it. None if memory runs out,
-// or if it has one lane.
-fn run_two(alloc: Global, shape: Shape, plain: &mut Plain, turns: u32) -> Option<Contents> {
-    let start = Contents::empty(alloc, 2, 2).ok()?;
-    let Ok((store, mut one)) = opened(alloc, shape, &start) else {
-        return None;
-    };
-    let mut other = store.split(&mut one)?;
+// Opens a store, runs bodies over it by two passes in turn, and closes it.
+fn run_two<R: Abort + AllocGlobal>(
+    rt: &R,
+    shape: Shape,
+    plain: &mut Plain,
+    turns: u32,
+) -> Contents {
+    let (store, mut one) = opened(rt.alloc(), shape, &empty(rt)).expect(rt, "a store");
+    let mut other = store.split(&mut one).expect(rt, "two lanes");
     run_in_turn(&store, &mut one, &mut other, plain, turns);
     store.join(&mut one, other);
-    closed(store, one).ok()?
+    left_in(rt, store, one)
 }
 
 // What is left is what the store for one thread contains.
-fn leaves<R: Abort>(rt: &R, plain: Plain, left: &Contents) -> Result<(), AllocError> {
-    let want = plain.contents()?;
-    assert_eq!(rt; left.maps(), want.maps());
-    assert_eq!(rt; left.queues(), want.queues());
-    Ok(())
+fn leaves<R: Abort>(rt: &R, plain: Plain, left: &Contents) {
+    let want = plain.contents(rt);
+    assert_eq!(rt; (left.maps(), left.queues()), (want.maps(), want.queues()));
+}
+
+// A shape with two maps and two queues.
+fn shape_of<R: Abort>(
+    rt: &R,
+    lanes: u32,
+    nodes: u32,
+    base: u32,
+    tries: u32,
+    buckets: u32,
+) -> Shape {
+    Shape::new(lanes, nodes, base, tries, 2, buckets, 2).expect(rt, "a shape")
 }
 
 // 100,000 transactions make 550,000 calls on maps of three buckets.
 #[test]
-fn a_store_answers_as_one_for_one_thread(rt: HostRuntime) -> Result<(), Fail> {
-    let start = Contents::empty(rt.alloc(), 2, 2)?;
-    let mut plain = Plain::empty(rt.alloc())?;
-    let shape = Shape::new(1, 400_000, 2, 100_000, 2, 3, 2)?;
-    let back = run_round(rt.alloc(), shape, &start, &mut plain, 0, 100_000);
+fn a_store_answers_as_one_for_one_thread(rt: HostRuntime) {
+    let mut plain = Plain::empty(&rt);
+    let shape = shape_of(&rt, 1, 400_000, 2, 100_000, 3);
+    let back = run_round(&rt, shape, &empty(&rt), &mut plain, 0, 100_000);
     let calls = 550_000;
     assert_eq!(rt; plain.tally, Tally { calls, ..NONE });
-    leaves(&rt, plain, &back.expect(&rt, "memory"))?;
-    Ok(())
+    leaves(&rt, plain, &back);
 }
 
 // Each of 1,000 stores has two lanes with 20 nodes and 30 attempts each, and is opened on what the
 // one before left. So of 100 transactions 40 find no attempt left, and some others no node.
 #[test]
-fn stopped_transactions_leave_nothing(rt: HostRuntime) -> Result<(), Fail> {
-    let mut plain = Plain::empty(rt.alloc())?;
-    let shape = Shape::new(2, 20, 2_000, 30, 2, 3, 2)?;
-    let back = run_rounds(rt.alloc(), shape, &mut plain, 1_000);
+fn stopped_transactions_leave_nothing(rt: HostRuntime) {
+    let mut plain = Plain::empty(&rt);
+    let back = run_rounds(&rt, shape_of(&rt, 2, 20, 2_000, 30, 3), &mut plain, 1_000);
     let tally = plain.tally;
     assert_eq!(rt; (tally.wrong, tally.without_tries), (0, 40_000));
     assert!(rt; tally.without_nodes > 5_000);
     assert!(rt; tally.calls > 50_000);
-    leaves(&rt, plain, &back.expect(&rt, "memory"))?;
-    Ok(())
+    leaves(&rt, plain, &back);
 }
 
 // Two passes of two lanes each run 40,000 transactions in turn, on maps of one bucket: nothing of
 // one is in the other's way.
 #[test]
-fn passes_in_turn_answer_as_one(rt: HostRuntime) -> Result<(), Fail> {
-    let mut plain = Plain::empty(rt.alloc())?;
-    let shape = Shape::new(4, 60_000, 2, 14_000, 2, 1, 2)?;
-    let back = run_two(rt.alloc(), shape, &mut plain, 4_000);
+fn passes_in_turn_answer_as_one(rt: HostRuntime) {
+    let mut plain = Plain::empty(&rt);
+    let back = run_two(
+        &rt,
+        shape_of(&rt, 4, 60_000, 2, 14_000, 1),
+        &mut plain,
+        4_000,
+    );
     let calls = 220_000;
     assert_eq!(rt; plain.tally, Tally { calls, ..NONE });
-    leaves(&rt, plain, &back.expect(&rt, "memory"))?;
-    Ok(())
+    leaves(&rt, plain, &back);
 }

@@ -7,8 +7,6 @@ use super::*;
 use md_history::{Attempt, Body};
 use md_many::attempt_until_committed;
 use md_words::ShapeFault;
-use std::alloc::AllocGlobal;
-use std::process::Abort;
 use std::thread::{Threads, join};
 
 // How many bodies each thread runs.
@@ -210,14 +208,16 @@ pub(super) fn run_on_new<R: Abort + AllocGlobal + Threads + Sync, B: Body + Sync
     rt: &R,
     start: &Contents,
     bodies: &[Vec<B>],
-) -> Result<Ran<B::Reply>, Fail>
+) -> Ran<B::Reply>
 where
     B::Reply: Send,
     requires fits { (body : B) → B.fits body 2 2 }
 {
     let lanes = if bodies.len() > 2 { 4 } else { 2 };
-    let (store, pass) = opened(rt.alloc(), one_bucket(lanes)?, start)?;
-    let Done { pass, replies } = run_all(rt, rt.alloc(), &store, pass, bodies)?;
-    let left = closed(store, pass)?.expect(rt, "all lanes");
-    Ok(Ran { replies, left })
+    let shape = one_bucket(lanes).expect(rt, "a shape");
+    let (store, pass) = opened(rt.alloc(), shape, start).expect(rt, "a store");
+    let done = run_all(rt, rt.alloc(), &store, pass, bodies).expect(rt, "memory");
+    let Done { pass, replies } = done;
+    let left = left_in(rt, store, pass);
+    Ran { replies, left }
 }

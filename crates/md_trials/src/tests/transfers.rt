@@ -2,8 +2,6 @@
 
 use super::running::{TURNS, run_on_new};
 use super::*;
-use std::alloc::AllocGlobal;
-use std::process::Abort;
 use std::thread::Threads;
 
 // What each of the two keys has at first.
@@ -11,14 +9,16 @@ const START: u64 = 1000;
 
 // The transfers of a thread: those of an even one go from key 1 to key 2, those of an odd one go
 // back. Every third only looks.
-fn transfers_of(alloc: Global, thread: u64) -> Result<Vec<Transfer>, AllocError> {
+fn transfers_of<R: Abort + AllocGlobal>(rt: &R, thread: u64) -> Vec<Transfer> {
     let (from, to) = if thread % 2 == 0 { (1, 2) } else { (2, 1) };
-    let mut transfers = Vec::with_capacity(alloc, TURNS as usize)?;
+    let mut transfers = Vec::new(rt.alloc());
     for number in 0..TURNS {
         let moves = number % 3 != 0;
-        transfers.push(Transfer { from, to, moves })?;
+        transfers
+            .push(Transfer { from, to, moves })
+            .expect(rt, "memory");
     }
-    Ok(transfers)
+    transfers
 }
 
 // How much transfers moved, if all were run and each saw the sum.
@@ -58,20 +58,20 @@ fn left_after(transfers: &[Vec<Transfer>], found: &[Vec<(u64, u64)>]) -> Option<
 }
 
 // The transfers of each thread.
-fn transfers_of_all(alloc: Global, threads: u64) -> Result<Vec<Vec<Transfer>>, AllocError> {
-    let mut all = Vec::new(alloc);
+fn transfers_of_all<R: Abort + AllocGlobal>(rt: &R, threads: u64) -> Vec<Vec<Transfer>> {
+    let mut all = Vec::new(rt.alloc());
     for thread in 0..threads {
-        all.push(transfers_of(alloc, thread)?)?;
+        all.push(transfers_of(rt, thread)).expect(rt, "memory");
     }
-    Ok(all)
+    all
 }
 
 // The two keys, with the same value.
-fn two_keys(alloc: Global) -> Result<Contents, AllocError> {
-    let mut start = Contents::empty(alloc, 2, 2)?;
-    start.put(0, 1, START)?;
-    start.put(0, 2, START)?;
-    Ok(start)
+fn two_keys<R: Abort + AllocGlobal>(rt: &R) -> Contents {
+    let mut start = empty(rt);
+    start.put(0, 1, START).expect(rt, "memory");
+    start.put(0, 2, START).expect(rt, "memory");
+    start
 }
 
 // How many keys the first map has, and what key 1 has and key 2.
@@ -81,22 +81,20 @@ fn keys_in(contents: &Contents) -> Option<(usize, Option<u64>, Option<u64>)> {
 }
 
 // So many threads move value. Each saw the sum, and the end has what the moves add up to.
-fn keep_a_sum<R: Abort + AllocGlobal + Threads + Sync>(rt: &R, threads: u64) -> Result<(), Fail> {
-    let start = two_keys(rt.alloc())?;
-    let own = transfers_of_all(rt.alloc(), threads)?;
-    let ran = run_on_new(rt, &start, &own)?;
+fn keep_a_sum<R: Abort + AllocGlobal + Threads + Sync>(rt: &R, threads: u64) {
+    let own = transfers_of_all(rt, threads);
+    let ran = run_on_new(rt, &two_keys(rt), &own);
     let left = left_after(&own, &ran.replies).expect(rt, "the sum each time");
     let there = (2 * START).wrapping_sub(left);
     assert_eq!(rt; keys_in(&ran.left), Some((2, Some(left), Some(there))));
-    Ok(())
 }
 
 #[test]
-fn two_threads_keep_a_sum(rt: HostRuntime) -> Result<(), Fail> {
-    keep_a_sum(&rt, 2)
+fn two_threads_keep_a_sum(rt: HostRuntime) {
+    keep_a_sum(&rt, 2);
 }
 
 #[test]
-fn four_threads_keep_a_sum(rt: HostRuntime) -> Result<(), Fail> {
-    keep_a_sum(&rt, 4)
+fn four_threads_keep_a_sum(rt: HostRuntime) {
+    keep_a_sum(&rt, 4);
 }

@@ -2,28 +2,25 @@
 
 use super::running::{Ran, TURNS, run_on_new};
 use super::*;
-use std::alloc::AllocGlobal;
 use std::collections::{BTreeMap, VecDeque};
-use std::process::Abort;
 use std::thread::Threads;
 
 // The turns of a thread.
-fn turns_of(alloc: Global, thread: u32) -> Result<Vec<Turn>, AllocError> {
-    let mut turns = Vec::with_capacity(alloc, TURNS as usize)?;
+fn turns_of<R: Abort + AllocGlobal>(rt: &R, thread: u32) -> Vec<Turn> {
+    let mut turns = Vec::new(rt.alloc());
     for number in 0..TURNS {
-        turns.push(Turn { thread, number })?;
+        turns.push(Turn { thread, number }).expect(rt, "memory");
     }
-    Ok(turns)
+    turns
 }
 
 // Four threads take turns.
-fn turned<R: Abort + AllocGlobal + Threads + Sync>(rt: &R) -> Result<Ran<Turned>, Fail> {
-    let start = Contents::empty(rt.alloc(), 2, 2)?;
+fn turned<R: Abort + AllocGlobal + Threads + Sync>(rt: &R) -> Ran<Turned> {
     let mut own = Vec::new(rt.alloc());
     for thread in 0..4 {
-        own.push(turns_of(rt.alloc(), thread)?)?;
+        own.push(turns_of(rt, thread)).expect(rt, "memory");
     }
-    run_on_new(rt, &start, &own)
+    run_on_new(rt, &empty(rt), &own)
 }
 
 // Whether all turns of a thread were run, and each met the thread's keys as it had left them.
@@ -39,34 +36,28 @@ fn are_whole(turns: &[Turned]) -> bool {
 }
 
 // Adds the values that a thread took from the queue.
-fn add_taken(values: &mut Vec<u64>, turns: &[Turned]) -> Result<(), AllocError> {
+fn add_taken<R: Abort>(rt: &R, values: &mut Vec<u64>, turns: &[Turned]) {
     for turn in turns {
         if let Some(value) = turn.first {
-            values.push(value)?;
+            values.push(value).expect(rt, "memory");
         }
     }
-    Ok(())
 }
 
 // Adds the values that are left in the queue.
-fn add_left(values: &mut Vec<u64>, left: &VecDeque<u64>) -> Result<(), AllocError> {
+fn add_left<R: Abort>(rt: &R, values: &mut Vec<u64>, left: &VecDeque<u64>) {
     for value in left.iter() {
-        values.push(*value)?;
+        values.push(*value).expect(rt, "memory");
     }
-    Ok(())
 }
 
 // Whether all turns of a thread were run, and the values that it took and those that are left stand
 // in the order of each thread.
-fn is_thread_right(
-    alloc: Global,
-    turns: &[Turned],
-    left: &VecDeque<u64>,
-) -> Result<bool, AllocError> {
-    let mut values = Vec::new(alloc);
-    add_taken(&mut values, turns)?;
-    add_left(&mut values, left)?;
-    Ok(are_whole(turns) && are_in_order(&values))
+fn is_thread_right<R: Abort + AllocGlobal>(rt: &R, turns: &[Turned], left: &VecDeque<u64>) -> bool {
+    let mut values = Vec::new(rt.alloc());
+    add_taken(rt, &mut values, turns);
+    add_left(rt, &mut values, left);
+    are_whole(turns) && are_in_order(&values)
 }
 
 // Whether the values of each thread stand in its order.
@@ -84,51 +75,54 @@ fn are_in_order(values: &[u64]) -> bool {
 
 // The values that threads took from the queue and those that are left in it, sorted, if all turns
 // of each thread were run, and it took its values in order.
-fn values_of(
-    alloc: Global,
+fn values_of<R: Abort + AllocGlobal>(
+    rt: &R,
     threads: &[Vec<Turned>],
     left: &VecDeque<u64>,
-) -> Result<Option<Vec<u64>>, AllocError> {
-    let mut values = Vec::new(alloc);
+) -> Option<Vec<u64>> {
+    let mut values = Vec::new(rt.alloc());
     for turns in threads {
-        if !is_thread_right(alloc, turns, left)? {
-            return Ok(None);
+        if !is_thread_right(rt, turns, left) {
+            return None;
         }
-        add_taken(&mut values, turns)?;
+        add_taken(rt, &mut values, turns);
     }
-    add_left(&mut values, left)?;
-    values.sort()?;
-    Ok(Some(values))
+    add_left(rt, &mut values, left);
+    values.sort().expect(rt, "memory");
+    Some(values)
 }
 
 // The values of all turns.
-fn all_values(alloc: Global) -> Result<Vec<u64>, AllocError> {
-    let mut values = Vec::new(alloc);
+fn all_values<R: Abort + AllocGlobal>(rt: &R) -> Vec<u64> {
+    let mut values = Vec::new(rt.alloc());
     for number in 0..TURNS {
         for thread in 0..4 {
-            values.push(key_of(Turn { thread, number }))?;
+            values
+                .push(key_of(Turn { thread, number }))
+                .expect(rt, "memory");
         }
     }
-    Ok(values)
+    values
 }
 
 // The keys that are left of all turns.
-fn last_keys(alloc: Global) -> Result<BTreeMap<u64, u64>, AllocError> {
-    let mut keys = BTreeMap::new(alloc);
+fn last_keys<R: Abort + AllocGlobal>(rt: &R) -> BTreeMap<u64, u64> {
+    let mut keys = BTreeMap::new(rt.alloc());
     for number in TURNS - KEPT..TURNS {
         for thread in 0..4 {
-            keys.insert(key_of(Turn { thread, number }), number as u64)?;
+            let key = key_of(Turn { thread, number });
+            let kept: Result<_, _> = keys.insert(key, number as u64);
+            kept.expect(rt, "memory");
         }
     }
-    Ok(keys)
+    keys
 }
 
 #[test]
-fn four_threads_take_turns(rt: HostRuntime) -> Result<(), Fail> {
-    let Ran { replies, left } = turned(&rt)?;
+fn four_threads_take_turns(rt: HostRuntime) {
+    let Ran { replies, left } = turned(&rt);
     let queue = left.queues().first().expect(&rt, "a queue");
-    let values = values_of(rt.alloc(), &replies, queue)?.expect(&rt, "whole turns in order");
-    assert!(rt; values == all_values(rt.alloc())?);
-    assert_eq!(rt; left.maps().first(), Some(&last_keys(rt.alloc())?));
-    Ok(())
+    let values = values_of(&rt, &replies, queue).expect(&rt, "whole turns in order");
+    assert!(rt; values == all_values(&rt));
+    assert_eq!(rt; left.maps().first(), Some(&last_keys(&rt)));
 }
