@@ -5,7 +5,9 @@ use medley_transactions::LinesByCaller;
 use std::alloc::{AllocError, Global};
 use std::process::ExitCode;
 use std::thread::Threads;
-use transfers::{is_journal_right, make_transfers, moved_in, open_bank, sum_of, transfer_in_threads};
+use transfers::{
+    is_journal_right, make_transfers, moved_in, open_bank, sum_of, transfer_in_threads,
+};
 
 const TELLERS: u32 = 4;
 
