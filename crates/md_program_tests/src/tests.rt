@@ -7,10 +7,10 @@ mod making;
 mod rows;
 mod words;
 
-use md_outside::{MemSink, MemSource};
+use md_outside::{MemSink, MemSource, Sink, Source};
 use md_program::{Status, run};
 use md_rounds::FreeGate;
-use std::alloc::{AllocError, Global};
+use std::alloc::{AllocError, AllocGlobal, Global};
 use std::process::Abort;
 use std::test::Fail;
 use std::thread::Threads;
@@ -32,25 +32,62 @@ const AMPLE: Streams<'static> = Streams {
     failing_writes: &[],
 };
 
-// Runs without words over streams in memory, and compares the answer and what was written.
-fn expect(
-    rt: &(impl Abort + Threads + Sync),
+// Runs, and says nothing of it in a clause. So what follows is proved without the run's contract.
+fn status_of<R: Threads + Sync, I: Source, O: Sink>(
+    rt: &R,
     alloc: Global,
+    words: &[&str],
+    input: &mut I,
+    output: &mut O,
+) -> Status {
+    run(rt, alloc, words, input, output, &FreeGate).status
+}
+
+// Runs over streams in memory: the status, and what was written.
+fn outcome<R: Abort + AllocGlobal + Threads + Sync>(
+    rt: &R,
+    words: &[&str],
+    input: Vec<u8>,
+    streams: Streams,
+) -> (Status, Vec<u8>) {
+    let alloc = rt.alloc();
+    assert!(rt; streams.piece >= 1);
+    let failing_reads = Vec::from_slice(alloc, streams.failing_reads).expect(rt, "memory");
+    let failing_writes = Vec::from_slice(alloc, streams.failing_writes).expect(rt, "memory");
+    let mut source = MemSource::new(input, streams.piece, failing_reads);
+    let mut sink = MemSink::new(alloc, streams.room, failing_writes).expect(rt, "memory");
+    let status = status_of(rt, alloc, words, &mut source, &mut sink);
+    let text = Vec::from_slice(alloc, sink.bytes()).expect(rt, "memory");
+    (status, text)
+}
+
+// Runs with words over streams in memory, and compares the status and what was written.
+fn expect_with<R: Abort + AllocGlobal + Threads + Sync>(
+    rt: &R,
+    words: &[&str],
     input: &[u8],
     streams: Streams,
     status: Status,
     text: &[u8],
-) -> Result<(), Fail> {
-    assert!(rt; streams.piece >= 1);
-    let bytes = Vec::from_slice(alloc, input)?;
-    let failing_reads = Vec::from_slice(alloc, streams.failing_reads)?;
-    let failing_writes = Vec::from_slice(alloc, streams.failing_writes)?;
-    let mut source = MemSource::new(bytes, streams.piece, failing_reads);
-    let mut sink = MemSink::new(alloc, streams.room, failing_writes)?;
-    let run = run(rt, alloc, &[], &mut source, &mut sink, &FreeGate);
-    assert_eq!(rt; run.status, status, "of {input:?}");
-    assert_eq!(rt; sink.bytes(), text, "of {input:?}");
-    Ok(())
+) {
+    let bytes = Vec::from_slice(rt.alloc(), input).expect(rt, "memory");
+    let (found, written) = outcome(rt, words, bytes, streams);
+    assert_eq!(rt;
+        (found, written.as_slice()),
+        (status, text),
+        "of {words:?} and {input:?}"
+    );
+}
+
+// The same without words.
+fn expect<R: Abort + AllocGlobal + Threads + Sync>(
+    rt: &R,
+    input: &[u8],
+    streams: Streams,
+    status: Status,
+    text: &[u8],
+) {
+    expect_with(rt, &[], input, streams, status, text);
 }
 
 // One order, its report, and the line of a failed read.
@@ -64,61 +101,48 @@ const USAGE: &[u8] =
     b"usage: medley [--callers N] [--nodes K] [--tries K] [--make NUMBER --lines N]\n";
 
 #[test]
-fn failing_reads(rt: HostRuntime) -> Result<(), Fail> {
+fn failing_reads(rt: HostRuntime) {
     // In pieces of 4 bytes there are four reads that give some, and a fifth that gives none.
-    for failing in 1..=5 {
+    for failing in 1..=6 {
         let streams = Streams {
             piece: 4,
             failing_reads: &[failing],
             ..AMPLE
         };
-        expect(
-            &rt,
-            rt.alloc(),
-            ORDER,
-            streams,
-            Status::ReadFault,
-            READ_FAULT,
-        )?;
+        let (status, text) = if failing <= 5 {
+            (Status::ReadFault, READ_FAULT)
+        } else {
+            (Status::Done, REPORT)
+        };
+        expect(&rt, ORDER, streams, status, text);
     }
-    let streams = Streams {
-        piece: 4,
-        failing_reads: &[6],
-        ..AMPLE
-    };
-    expect(&rt, rt.alloc(), ORDER, streams, Status::Done, REPORT)
+}
+
+// Streams with so much room, of which these reads and writes fail.
+fn failing<'a>(reads: &'a [u32], room: usize, writes: &'a [u32]) -> Streams<'a> {
+    Streams {
+        piece: 8192,
+        failing_reads: reads,
+        room,
+        failing_writes: writes,
+    }
 }
 
 #[test]
-fn failing_writes(rt: HostRuntime) -> Result<(), Fail> {
+fn failing_writes(rt: HostRuntime) {
     for room in 0..REPORT.len() {
-        let streams = Streams { room, ..AMPLE };
-        expect(
-            &rt,
-            rt.alloc(),
-            ORDER,
-            streams,
-            Status::WriteFault,
-            &REPORT[..room],
-        )?;
+        let streams = failing(&[], room, &[]);
+        expect(&rt, ORDER, streams, Status::WriteFault, &REPORT[..room]);
     }
-    let streams = Streams {
-        room: REPORT.len(),
+    let exact = Streams {
         piece: 1,
-        ..AMPLE
+        ..failing(&[], REPORT.len(), &[])
     };
-    expect(&rt, rt.alloc(), ORDER, streams, Status::Done, REPORT)?;
-    let streams = Streams {
-        failing_writes: &[1],
-        ..AMPLE
-    };
-    expect(&rt, rt.alloc(), ORDER, streams, Status::WriteFault, b"")?;
-    let streams = Streams {
-        failing_reads: &[1],
-        room: 5,
-        ..AMPLE
-    };
-    expect(&rt, rt.alloc(), ORDER, streams, Status::ReadFault, b"fault")
+    expect(&rt, ORDER, exact, Status::Done, REPORT);
+    let first = failing(&[], 1024, &[1]);
+    expect(&rt, ORDER, first, Status::WriteFault, b"");
+    let both = failing(&[1], 5, &[]);
+    expect(&rt, ORDER, both, Status::ReadFault, b"fault");
 }
 
 // So many times the same bytes, and then others.
@@ -131,74 +155,60 @@ fn repeated(alloc: Global, part: &[u8], times: u32, end: &[u8]) -> Result<Vec<u8
     Ok(bytes)
 }
 
+const DEPTH: &[u8] = b"1,D,S,1\n";
+
+const BAD: &[u8] = b"bad\n";
+
+const BLANK: &[u8] = &[b'\n'; 8192];
+
+const TOO_LONG: &[u8] = b"fault too long\n";
+
+const TOO_MANY: &[u8] = b"fault too many records\n";
+
+// Runs over so many times the same bytes, and then others.
+fn expect_of_many<R: Abort + AllocGlobal + Threads + Sync>(
+    rt: &R,
+    part: &[u8],
+    times: u32,
+    end: &[u8],
+    status: Status,
+    text: &[u8],
+) {
+    let streams = Streams {
+        piece: 1_000_000,
+        ..AMPLE
+    };
+    let bytes = repeated(rt.alloc(), part, times, end).expect(rt, "memory");
+    let (found, written) = outcome(rt, &[], bytes, streams);
+    assert_eq!(rt;
+        (found, written.as_slice()),
+        (status, text),
+        "of {times} times {part:?}"
+    );
+}
+
 #[test]
-fn the_largest_inputs(rt: HostRuntime) -> Result<(), Fail> {
-    let alloc = rt.alloc();
-    let depth = b"1,D,S,1\n".as_slice();
-    let bad = b"bad\n".as_slice();
-    let blank = [b'\n'; 8192].as_slice();
-    for (part, times, end, status, text) in [
-        (
-            blank,
-            8192,
-            b"".as_slice(),
-            Status::Done,
-            b"done 0\n".as_slice(),
-        ),
-        (blank, 8192, b"\n", Status::TooLong, b"fault too long\n"),
-        (
-            depth,
-            999_999,
-            bad,
-            Status::BadLine(1_000_000),
-            b"fault line 1000000\n",
-        ),
-        (
-            depth,
-            1_000_001,
-            b"",
-            Status::TooMany,
-            b"fault too many records\n",
-        ),
-        (
-            depth,
-            1_000_000,
-            bad,
-            Status::TooMany,
-            b"fault too many records\n",
-        ),
-        (
-            bad,
-            1_000_001,
-            b"",
-            Status::TooMany,
-            b"fault too many records\n",
-        ),
-        (depth, 8_388_608, bad, Status::TooLong, b"fault too long\n"),
-    ] {
-        let bytes = repeated(alloc, part, times, end)?;
-        let mut source = MemSource::new(bytes, 1_000_000, Vec::new(alloc));
-        let mut sink = MemSink::new(alloc, 1024, Vec::new(alloc))?;
-        let run = run(&rt, alloc, &[], &mut source, &mut sink, &FreeGate);
-        assert_eq!(rt; run.status, status, "of {times} times {part:?}");
-        assert_eq!(rt; sink.bytes(), text, "of {times} times {part:?}");
-    }
-    Ok(())
+fn the_largest_inputs(rt: HostRuntime) {
+    let last = Status::BadLine(1_000_000);
+    expect_of_many(&rt, BLANK, 8192, b"", Status::Done, b"done 0\n");
+    expect_of_many(&rt, BLANK, 8192, b"\n", Status::TooLong, TOO_LONG);
+    expect_of_many(&rt, DEPTH, 999_999, BAD, last, b"fault line 1000000\n");
+    expect_of_many(&rt, DEPTH, 1_000_001, b"", Status::TooMany, TOO_MANY);
+    expect_of_many(&rt, DEPTH, 1_000_000, BAD, Status::TooMany, TOO_MANY);
+    expect_of_many(&rt, BAD, 1_000_001, b"", Status::TooMany, TOO_MANY);
+    expect_of_many(&rt, DEPTH, 8_388_608, BAD, Status::TooLong, TOO_LONG);
 }
 
 // Replays lines that have a long report.
-fn replays(
-    rt: &(impl Abort + Threads + Sync),
-    alloc: Global,
-    orders: Vec<u8>,
-    report: &String,
-) -> Result<(), AllocError> {
-    let mut source = MemSource::new(orders, 65_536, Vec::new(alloc));
-    let mut sink = MemSink::new(alloc, report.len(), Vec::new(alloc))?;
-    let run = run(rt, alloc, &[], &mut source, &mut sink, &FreeGate);
-    assert_eq!(rt; run.status, Status::Done);
-    assert!(rt; sink.bytes() == report.as_bytes());
-    Ok(())
+fn replays<R: Abort + AllocGlobal + Threads + Sync>(rt: &R, orders: Vec<u8>, report: &String) {
+    let streams = Streams {
+        piece: 65_536,
+        room: report.len(),
+        ..AMPLE
+    };
+    let (status, text) = outcome(rt, &[], orders, streams);
+    assert_eq!(rt; status, Status::Done);
+    assert!(rt; text.as_slice() == report.as_bytes());
 }
 
 // Half a million orders, each with a fill that empties it: as many lines as an input may have.
@@ -209,13 +219,15 @@ fn a_million_lines(rt: HostRuntime) -> Result<(), Fail> {
     let mut report = String::new(alloc);
     for pair in 0..500_000_u32 {
         let line = pair.saturating_mul(2).saturating_add(1);
-        writeln!(report, "1:{line} placed")?;
         let next = line.saturating_add(1);
-        writeln!(report, "1:{next} filled 1 rest 0 from 1:{line}=1")?;
+        writeln!(
+            report,
+            "1:{line} placed\n1:{next} filled 1 rest 0 from 1:{line}=1"
+        )?;
     }
     report.push_str("account 7 bought 0 sold 500000\naccount 8 bought 500000 sold 0\n")?;
     report.push_str("done 1000000\n")?;
-    replays(&rt, alloc, orders, &report)?;
+    replays(&rt, orders, &report);
     Ok(())
 }
 
@@ -230,6 +242,6 @@ fn a_million_open_orders(rt: HostRuntime) -> Result<(), Fail> {
         writeln!(report, "1:{line} placed")?;
     }
     report.push_str("S 100 1000000\ndone 1000000\n")?;
-    replays(&rt, alloc, orders, &report)?;
+    replays(&rt, orders, &report);
     Ok(())
 }

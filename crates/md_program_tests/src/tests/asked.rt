@@ -1,53 +1,18 @@
 //! Runs with words.
 
-use crate::tests::{ORDER, REPORT, USAGE};
-use md_outside::{MemSink, MemSource};
-use md_program::{Status, run};
-use md_rounds::FreeGate;
-use std::alloc::Global;
-use std::process::Abort;
-use std::test::Fail;
-use std::thread::Threads;
-
-// Runs with words over streams in memory, and compares the answer.
-fn written_with(
-    rt: &(impl Abort + Threads + Sync),
-    alloc: Global,
-    words: &[&str],
-    input: &[u8],
-    status: Status,
-) -> Result<Vec<u8>, Fail> {
-    let bytes = Vec::from_slice(alloc, input)?;
-    let mut source = MemSource::new(bytes, 8192, Vec::new(alloc));
-    let mut sink = MemSink::new(alloc, 1024, Vec::new(alloc))?;
-    let run = run(rt, alloc, words, &mut source, &mut sink, &FreeGate);
-    assert_eq!(rt; run.status, status, "of {words:?}");
-    Ok(Vec::from_slice(alloc, sink.bytes())?)
-}
-
-// What a run writes that is done.
-pub(crate) fn written(
-    rt: &(impl Abort + Threads + Sync),
-    alloc: Global,
-    words: &[&str],
-    input: &[u8],
-) -> Result<Vec<u8>, Fail> {
-    written_with(rt, alloc, words, input, Status::Done)
-}
+use crate::tests::{AMPLE, ORDER, REPORT, USAGE, expect_with};
+use md_program::Status;
 
 #[test]
-fn words_that_are_not_accepted(rt: HostRuntime) -> Result<(), Fail> {
-    let alloc = rt.alloc();
+fn words_that_are_not_accepted(rt: HostRuntime) {
     for words in [
         ["--callers", "65"].as_slice(),
         &["--make", "1"],
         &["--tries", "1", "--tries", "1"],
         &["--callers=9", "--make=7", "--lines=5"],
     ] {
-        let text = written_with(&rt, alloc, words, ORDER, Status::Usage)?;
-        assert_eq!(rt; text.as_slice(), USAGE, "of {words:?}");
+        expect_with(&rt, words, ORDER, AMPLE, Status::Usage, USAGE);
     }
-    Ok(())
 }
 
 // Two callers at levels and orders of their own: each reply is the same in any order of the lines.
@@ -58,8 +23,7 @@ const TWO_REPORT: &[u8] = b"1:1 placed\n1:2 filled 2 rest 0 from 1:1=2\n2:1 plac
 
 // What is printed doesn't depend on how many callers there may be, nor on nodes or attempts.
 #[test]
-fn reports_of_several_callers(rt: HostRuntime) -> Result<(), Fail> {
-    let alloc = rt.alloc();
+fn reports_of_several_callers(rt: HostRuntime) {
     let last = b"medley,2\n64,D,S,1\n".as_slice();
     let depth = b"64:1 depth 0\ndone 1\n".as_slice();
     for (words, input, want) in [
@@ -70,41 +34,37 @@ fn reports_of_several_callers(rt: HostRuntime) -> Result<(), Fail> {
         (&["--callers", "64"], ORDER, REPORT),
         (&["--callers", "64"], last, depth),
     ] {
-        let text = written(&rt, alloc, words, input)?;
-        assert_eq!(rt; text.as_slice(), want, "of {words:?}");
+        expect_with(&rt, words, input, AMPLE, Status::Done, want);
     }
-    Ok(())
 }
 
 // The first version has eight callers, whatever the words say, and the second as many as they say.
 #[test]
-fn callers_that_there_are_not(rt: HostRuntime) -> Result<(), Fail> {
-    let alloc = rt.alloc();
-    for (words, input, line) in [
-        (["--callers", "64"].as_slice(), b"9,D,S,1\n".as_slice(), 1),
-        (&["--callers=2"], b"1,D,S,1\n3,D,S,1\n", 2),
-        (&["--callers=63"], b"medley,2\n64,D,S,1\n", 2),
+fn callers_that_there_are_not(rt: HostRuntime) {
+    let (first, second) = (b"fault line 1\n".as_slice(), b"fault line 2\n".as_slice());
+    for (words, input, line, text) in [
+        (
+            ["--callers", "64"].as_slice(),
+            b"9,D,S,1\n".as_slice(),
+            1,
+            first,
+        ),
+        (&["--callers=2"], b"1,D,S,1\n3,D,S,1\n", 2, second),
+        (&["--callers=63"], b"medley,2\n64,D,S,1\n", 2, second),
     ] {
-        let text = written_with(&rt, alloc, words, input, Status::BadLine(line))?;
-        let want = format!(in alloc; "fault line {line}\n")?;
-        assert_eq!(rt; text.as_slice(), want.as_bytes(), "of {words:?}");
+        expect_with(&rt, words, input, AMPLE, Status::BadLine(line), text);
     }
-    Ok(())
 }
 
 // Each line in a round of its own, since the first attempt of a round uses up the lane's one.
 #[test]
-fn one_attempt_a_round(rt: HostRuntime) -> Result<(), Fail> {
-    let alloc = rt.alloc();
+fn one_attempt_a_round(rt: HostRuntime) {
     let input = b"1,P,101,B,995,200\n1,P,102,S,1000,150\n1,P,103,S,999,80\n1,D,S,999\n\
         1,F,104,S,999,100\n1,C,1,2\n1,A,104\n1,F,105,B,995,50\n";
     let want = b"1:1 placed\n1:2 placed\n1:3 placed\n1:4 depth 80\n\
         1:5 filled 80 rest 20 from 1:3=80\n1:6 cancelled 150\n1:7 bought 80 sold 0\n\
         1:8 filled 50 rest 0 from 1:1=50\nB 995 150\naccount 101 bought 50 sold 0\n\
         account 103 bought 0 sold 80\naccount 104 bought 80 sold 0\n\
-        account 105 bought 0 sold 50\ndone 8\n"
-        .as_slice();
-    let text = written(&rt, alloc, &["--tries", "1"], input)?;
-    assert_eq!(rt; text.as_slice(), want);
-    Ok(())
+        account 105 bought 0 sold 50\ndone 8\n";
+    expect_with(&rt, &["--tries", "1"], input, AMPLE, Status::Done, want);
 }

@@ -2,10 +2,9 @@
 
 use crate::tests::{AMPLE, expect};
 use md_program::Status;
-use std::test::Fail;
 
 #[test]
-fn bad_inputs(rt: HostRuntime) -> Result<(), Fail> {
+fn bad_inputs(rt: HostRuntime) {
     for input in [
         // Numbers out of range.
         b"1,P,7,S,100,1000001\n".as_slice(),
@@ -62,20 +61,12 @@ fn bad_inputs(rt: HostRuntime) -> Result<(), Fail> {
         b"1,A,\"7\n1,A,8\n",
         b"# 1,A,7\n",
     ] {
-        expect(
-            &rt,
-            rt.alloc(),
-            input,
-            AMPLE,
-            Status::BadLine(1),
-            b"fault line 1\n",
-        )?;
+        expect(&rt, input, AMPLE, Status::BadLine(1), b"fault line 1\n");
     }
-    Ok(())
 }
 
 #[test]
-fn later_bad_inputs(rt: HostRuntime) -> Result<(), Fail> {
+fn later_bad_inputs(rt: HostRuntime) {
     for (input, line, text) in [
         ("1,P,7,S,100,5\n1,P,7,X,100,5\n", 2, "fault line 2\n"),
         ("\n1,A,7\n\n1,C,9,1\n1,A,0\n", 2, "fault line 2\n"),
@@ -85,14 +76,7 @@ fn later_bad_inputs(rt: HostRuntime) -> Result<(), Fail> {
         ("medley,2\n2,A,7\n", 2, "fault line 2\n"),
         ("medley,2\n1,A,7\n64,A,7\n", 3, "fault line 3\n"),
     ] {
-        expect(
-            &rt,
-            rt.alloc(),
-            input.as_bytes(),
-            AMPLE,
-            Status::BadLine(line),
-            text.as_bytes(),
-        )?;
+        let (bytes, status) = (input.as_bytes(), Status::BadLine(line));
+        expect(&rt, bytes, AMPLE, status, text.as_bytes());
     }
-    Ok(())
 }

@@ -4,10 +4,11 @@ ghost use Rattle.std.specs.Prelude.{◌≤◌};
 ghost use Rattle.md_orders.specs.Records.{max_records};
 ghost use Rattle.md_orders.specs.declared.generator.TheConstants.{MAX_MADE_CALLERS};
 
-use crate::tests::asked::written;
+use crate::tests::{AMPLE, expect_with};
 use md_book::{BookReply, Command, LEVELS, MAPS};
 use md_history::{Attempt, Contents, Engine, PlainStore};
 use md_orders::make;
+use md_program::Status;
 use std::alloc::Global;
 use std::test::Fail;
 
@@ -77,28 +78,31 @@ fn summed_in_turn(alloc: Global, number: u32, lines: u32, callers: u32) -> Resul
 // thread and on four, with few renewals and with many.
 #[test]
 fn made_scripts_come_to_the_same(rt: HostRuntime) -> Result<(), Fail> {
-    let alloc = rt.alloc();
-    let want = summed_in_turn(alloc, 7, 20_000, 4)?;
+    let want = summed_in_turn(rt.alloc(), 7, 20_000, 4)?;
     for words in [
         ["--make", "7", "--lines", "20000", "--callers=4"].as_slice(),
         &["--make", "7", "--lines", "20000", "--callers=4"],
         &["--make=7", "--lines=20000", "--callers", "4", "--tries=64"],
         &["--make=7", "--lines=20000", "--callers", "4", "--nodes=99"],
     ] {
-        let text = written(&rt, alloc, words, b"")?;
-        assert_eq!(rt; text.as_slice(), want.as_bytes(), "of {words:?}");
+        expect_with(&rt, words, b"", AMPLE, Status::Done, want.as_bytes());
     }
     Ok(())
 }
 
 #[test]
 fn made_scripts_of_one_caller(rt: HostRuntime) -> Result<(), Fail> {
-    let alloc = rt.alloc();
-    let text = written(&rt, alloc, &["--make", "1", "--lines", "3"], b"")?;
-    let want = b"made 3 placed 165 cancelled 0 filled 0 open 165\n".as_slice();
-    assert_eq!(rt; text.as_slice(), want);
-    let want = summed_in_turn(alloc, 7, 20_000, 1)?;
-    let text = written(&rt, alloc, &["--lines=20000", "--make=7"], b"")?;
-    assert_eq!(rt; text.as_slice(), want.as_bytes());
+    let three = b"made 3 placed 165 cancelled 0 filled 0 open 165\n";
+    expect_with(
+        &rt,
+        &["--make", "1", "--lines", "3"],
+        b"",
+        AMPLE,
+        Status::Done,
+        three,
+    );
+    let want = summed_in_turn(rt.alloc(), 7, 20_000, 1)?;
+    let words = ["--lines=20000", "--make=7"];
+    expect_with(&rt, &words, b"", AMPLE, Status::Done, want.as_bytes());
     Ok(())
 }
