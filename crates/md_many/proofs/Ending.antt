@@ -54,3 +54,32 @@ has-counted turn count next played conflicts tried made now met begun was begun'
 pub most-played : (done played count tried tries : ℕ) → done + played ≤ count → played ≡ tried → tried ≤ tries
     → tries ≤ tried → played ≡ min tries (count - done)
 most-played done played count tried tries within steady few most = omega arith
+
+-- the counts of a turn after so many attempts
+pub record HasTried (count done line lines conflicts tried first last : ℕ) : Type 0 where
+  pub played : line ≡ done + lines
+  pub within : line ≤ count
+  pub few : lines + conflicts ≤ tried
+  pub counted : last ≡ first + tried
+
+-- after an attempt that played the next line, and after one that met a conflict
+module _ (count done played lines conflicts tried first last played' lines' conflicts' last' : ℕ)
+    (is : played ≡ done + lines) (few : lines + conflicts ≤ tried) (counted : last ≡ first + tried)
+    (more : last' ≡ last + 1) where
+  pub tried-line : played' ≡ played + 1 → lines' ≡ lines + 1 → conflicts' ≡ 0 → played < count
+      → HasTried count done played' lines' conflicts' (tried + 1) first last'
+  tried-line next line none inside = record {
+    played = omega arith;
+    within = omega arith;
+    few = omega arith;
+    counted = omega arith;
+  }
+
+  pub tried-vain : played' ≡ played → lines' ≡ lines → conflicts' ≡ conflicts + 1 → played ≤ count
+      → HasTried count done played' lines' conflicts' (tried + 1) first last'
+  tried-vain same none another inside = record {
+    played = omega arith;
+    within = omega arith;
+    few = omega arith;
+    counted = omega arith;
+  }

@@ -1,7 +1,8 @@
 -- What the first line of a round comes to, which the pass of all lanes plays.
-use Rattle.std.proofs.Common.{◌≡◌, ◌+◌, ◌<◌, ◌≤◌, ◌^◌, ℕ, cond, Option, Some, None, IsSome, List, [], ◌++◌, length, refl, sym, ap, subst, ◌∙◌, arith, inl, inr}
-use Rattle.std.specs.Prelude.{◌==◌, IfSome}
+use Rattle.std.proofs.Common.{◌≡◌, ◌+◌, ◌<◌, ◌≤◌, ◌^◌, ℕ, cond, Option, Some, None, IsSome, Result, List, [], ◌++◌, length, take, drop, refl, sym, ap, subst, ◌∙◌, arith, inl, inr}
+use Rattle.std.specs.Prelude.{◌==◌, IfSome, OnOk}
 use Rattle.std.proofs.lemmas.Bool.{cases_Bool, eq-eqb, eqb-true}
+use Rattle.std.proofs.lemmas.Result.{on_ok_weaker}
 use Rattle.md_history.specs.declared.acts.Act.{Act}
 use Rattle.md_history.specs.State.{State}
 use Rattle.md_history.specs.Counts.{Bounds, AllowAll, IsSmall}
@@ -15,6 +16,7 @@ use Rattle.md_many.specs.Course.{of_one, KeepsMore, Stands}
 use Rattle.md_many.specs.Played.{left_after}
 use Rattle.md_many.proofs.Committed.{played-joins}
 use Rattle.md_many.proofs.Coursing.{lines-of-one, joined-suit, stands-more, left-kept, left-fewer}
+use Rattle.md_many.proofs.Handing.{kept-from, written-back}
 
 pub one-own : {R : Type 0} (caller : ℕ) (rs : List R) → of_one caller rs caller ≡ rs
 one-own caller rs = ap (λ b. cond b rs []) (eq-eqb caller caller refl)
@@ -33,6 +35,19 @@ first-small did makes body_at good suits opening cost most laws start tags lanes
     wider : (o : Option _) → IfSome o (λ b. IsSmall cost (makes b) start) → IfSome o (λ b. IsSmall more (makes b) start)
     wider None small = tt
     wider (Some b) small = small-more cost more (makes b) start allow small
+
+-- from the lines played so far to more of them, with these replies of one caller
+pub record IsFurther {R : Type 0} (line_count : ℕ → ℕ) (Standing : List ℕ → Type 0) (done done' : List ℕ) (rs : List R)
+    : Type 0 where
+  pub callers : length done' ≡ length done
+  pub stands : Standing done'
+  pub kept : left_after line_count 0 done' ≤ left_after line_count 0 done
+  pub less : 1 ≤ length rs → left_after line_count 0 done' < left_after line_count 0 done
+
+pub further-less : {R T E : Type 0} (r : Result T E) (line_count : ℕ → ℕ) (Standing : List ℕ → Type 0) (done done' : List ℕ)
+    (rs : List R) → OnOk r (IsFurther line_count Standing done done' rs) → 1 ≤ length rs
+    → OnOk r (left_after line_count 0 done' < left_after line_count 0 done)
+further-less r line_count Standing done done' rs further some = on_ok_weaker r (λ f. f.less some) further
 
 module _ {B R : Type 0} (did : B → List Act → R → Type 0) (makes : B → List Act → Type 0) (body_at : ℕ → ℕ → Option B)
     (line_count : ℕ → ℕ) (told : ℕ → ℕ → Type 0) (keeps : ℕ → List R → Type 0) (good : State → List ℕ → Type 0)
@@ -85,3 +100,24 @@ module _ {B R : Type 0} (did : B → List Act → R → Type 0) (makes : B → L
         left-fewer did makes body_at line_count told keeps good suits opening cost most laws start lanes fronts f
         done stands is f' plays.entries (of_one caller rs) is' joined lines keeps' done' kept has_line caller low high
         (omega (arith, some, ap length (one-own caller rs)))
+
+  -- the same once the caller's replies were handed over and counted, through a part that is the whole
+  pub first-further : {T E : Type 0} (r : Result T E) (keeps' : ℕ → List R → Type 0) (lent new : List ℕ) (len : ℕ)
+      → OnOk r (KeepsMore (of_one caller rs) keeps keeps' lent new) → lent ≡ done → len ≡ length done
+      → ((caller line : ℕ) → IsSome (body_at caller line) → line ≤ line_count caller)
+      → f'.lanes ≡ f.lanes → f'.pending ≡ f.pending → ((line : ℕ) → n < line → line ≤ n + length rs → told caller line)
+      → 1 ≤ caller → caller ≤ length done
+      → OnOk r (IsFurther line_count (Stands did body_at line_count told keeps' good opening start lanes fronts f') done
+      (take len (new ++ drop (length new) done)) rs)
+  first-further r keeps' lent new len kept same long has_line here pending gate low high = on_ok_weaker r
+      (λ more.
+      let now : KeepsMore (of_one caller rs) keeps keeps' done new = kept-from more same in
+      subst (λ ns. IsFurther line_count (Stands did body_at line_count told keeps' good opening start lanes fronts f')
+      done ns rs) (sym (written-back new done len now.callers long))
+      (record {
+        callers = now.callers;
+        stands = first-stands keeps' new now has_line here pending gate;
+        kept = first-kept keeps' new now has_line;
+        less = first-less keeps' new now has_line low high;
+      }))
+      kept

@@ -7,6 +7,7 @@ pub mod TagLaws
 pub mod Parting
 pub mod Turning
 pub mod Joined
+pub mod Halving
 pub mod Merging
 pub mod Standing
 pub mod Walking

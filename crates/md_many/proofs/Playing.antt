@@ -174,7 +174,7 @@ module _ {B R : Type 0} (did : B → List Act → R → Type 0) (body_at : ℕ �
 
   pub played-more : (tried line : ℕ) (b : B) (r : R) (g h : Front) (rs : List R)
       → HasPlayed did body_at caller n tried f g rs → length g.known ≡ length g.seen
-      → line ≡ n + length rs + 1 → body_at caller line ≡ Some b → Commits (did b) (tag_of caller line) r g h
+      → line ≡ n + length rs + 1 → Some b ≡ body_at caller line → Commits (did b) (tag_of caller line) r g h
       → HasPlayed did body_at caller n (tried + 1) f h (rs ++ r ∷ [])
   played-more tried line b r g h rs p fated at there s =
       let more = attempted-more tried p.plays.entries f g h p.attempted p.plays.commits fated (did b) (tag_of caller line) r s in
@@ -183,7 +183,7 @@ module _ {B R : Type 0} (did : B → List Act → R → Type 0) (body_at : ℕ �
           entries = p.plays.entries ++ s.entry ∷ [];
           commits = more.1;
           lines = lines-push did body_at caller n line p.plays.entries rs s.entry r p.plays.lines at
-              (record { tagged = s.tagged; body = b; there = there; did_it = s.did_it });
+              (record { tagged = s.tagged; body = b; there = sym there; did_it = s.did_it });
         };
         attempted = subst (λ k. HasAttempted k f h) (omega arith) more.0;
       }

@@ -48,15 +48,19 @@ module _ {B R : Type 0} (did : B → List Act → R → Type 0) (makes : B → L
 
   module _ (keeps' : ℕ → List R → Type 0) (done' : List ℕ) (kept : KeepsMore (at_caller [] rs) keeps keeps' done done')
       (has_line : (caller line : ℕ) → IsSome (body_at caller line) → line ≤ line_count caller) where
-    pub sides-stand : Stands did body_at line_count told keeps' good opening start lanes fronts f' done'
+    sides-stand : Stands did body_at line_count told keeps' good opening start lanes fronts f' done'
     sides-stand =
         stands-more did makes body_at line_count told keeps good suits opening cost most laws start lanes fronts f done
         stands is f' joined.entries (at_caller [] rs) is' joined.is lines keeps' done' kept has_line all'
         (plays.idle stands.idle) (turns-told did body_at told f f' done lanes rs turns)
 
-    pub sides-kept : left_after line_count 0 done' ≤ left_after line_count 0 done
+    sides-kept : left_after line_count 0 done' ≤ left_after line_count 0 done
     sides-kept = left-kept did makes body_at line_count told keeps good suits opening cost most laws start lanes fronts f
         done stands is f' joined.entries (at_caller [] rs) is' joined.is lines keeps' done' kept has_line
+
+    pub sides-further : Stands did body_at line_count told keeps' good opening start lanes fronts f' done'
+        × (left_after line_count 0 done' ≤ left_after line_count 0 done)
+    sides-further = (sides-stand, sides-kept)
 
 -- the same of a list that is equal
 pub plays-from : {B R : Type 0} {did : B → List Act → R → Type 0} {body_at : ℕ → ℕ → Option B} {told : ℕ → ℕ → Type 0}

@@ -2,7 +2,9 @@
 
 ghost use Rattle.std.specs.Prelude.{◌≡◌, ◌<◌, ◌≤◌, ◌+◌, ◌^◌, [], ℕ, List, length, map, replicate, true};
 ghost use Rattle.std.specs.Prelude.{false, IfOk, IfSome, IfNone, OnOk};
-ghost use Rattle.md_history.specs.Engine.{empty_front};
+ghost use Rattle.md_history.specs.Engine.{bounds_in, empty_front};
+ghost use Rattle.md_many.specs.Lines.{AreFitting, IsSmallLine, PlaysLines};
+ghost use Rattle.md_many.specs.Turns.{most_lines};
 ghost use Rattle.md_many.specs.Tags.{IsInterleaving};
 ghost use Rattle.md_many.specs.Laws.{AreLawful};
 ghost use Rattle.md_many.specs.Rounds.{at_caller, AreWithin};
@@ -19,8 +21,8 @@ use crate::gates::Gate;
 use crate::keepers::Keeper;
 use crate::keeping::{keep_lines, keep_turns};
 use crate::laws::LawfulLines;
-use crate::reply_lists::list_of;
-use crate::turns::{Turns, play_turns};
+use crate::reply_lists::{ReplyList, list_of};
+use crate::turns::{Shared, Turns, play_turns};
 use md_history::{Body, Engine, Front, fresh_is_empty, pass_is_legal};
 use std::alloc::{AllocError, Global};
 use std::thread::Threads;
@@ -125,68 +127,92 @@ fn renewed<E: Engine, L: LawfulLines, K: Keeper<<L::B as Body>::Reply>, G: Gate>
     })
 }
 
+// Plays a caller's next lines, with so many attempts as the turn has, and lists their replies.
+fn play_list<E: Engine, L: Lines, G: Gate, T: ReplyList<<L::B as Body>::Reply>>(
+    alloc: Global,
+    engine: &E,
+    pass: &mut E::Pass,
+    lines: &L,
+    turn: Turn,
+    gate: &G,
+) -> Result<T, AllocError>
+    requires of { E.of engine.now pass.old }
+    requires fits { AreFitting L.B.fits (L.body_at lines.now) (E.start engine.now) }
+    requires done { turn.done ≤ L.line_count lines.now turn.caller }
+    ensures of { E.of engine.now pass.new }
+    ensures lanes { (E.front pass.new).lanes ≡ (E.front pass.old).lanes }
+    ensures pending { (E.front pass.new).pending ≡ (E.front pass.old).pending }
+    ensures lines { IfOk result (λ list. PlaysLines L.B.did (L.body_at lines.now)
+        turn.caller turn.done (E.front pass.old).lanes (E.front pass.old) (E.front pass.new)
+        (T.listed list)) }
+    ensures few { IfOk result (λ list. turn.done + length (T.listed list) < 2 ^ 32) }
+    ensures gate { IfOk result (λ list. (line : ℕ) → turn.done < line
+        → line ≤ turn.done + length (T.listed list)
+        → G.after_called gate.now turn.caller line) }
+    ensures first { E.fresh engine.now pass.old → 1 ≤ (E.limits engine.now).tries
+        → IsSmallLine (bounds_in (E.limits engine.now)) L.B.makes (L.body_at lines.now)
+        turn.caller (turn.done + 1) (E.start engine.now)
+        → 1 ≤ most_lines (L.line_count lines.now) turn
+        → IfOk result (λ list. 1 ≤ length (T.listed list)) }
+{
+    let mut replies = Vec::with_capacity(alloc, turn.tries as usize)?;
+    attempt_lines(engine, pass, lines, turn, gate, &mut replies)?;
+    list_of(alloc, replies)
+}
+
 // The lowest caller's next lines are played by the pass of all lanes, which meets no conflict, with
 // so many attempts.
 fn play_first<E: Engine, L: LawfulLines, G: Gate, K: Keeper<<L::B as Body>::Reply>>(
     alloc: Global,
-    course: Course<E>,
+    course: &mut Course<E>,
     lines: &L,
     gate: &G,
     caller: u32,
     tries: u32,
     keeper: &mut K,
-) -> Result<Course<E>, AllocError>
-    requires of { E.of course.engine course.pass }
+) -> Result<(), AllocError>
+    requires of { E.of course.old.engine course.old.pass }
     requires course { IsInCourse L.B.did L.B.makes L.B.fits (L.body_at lines.now)
         (L.line_count lines.now) (G.after_called gate.now) (K.keeps keeper.old)
         (L.good lines.now) (L.suits lines.now) (L.opening lines.now) (L.cost lines.now)
-        (L.most lines.now) (E.start course.engine) (E.limits course.engine) (E.lanes course.engine)
-        (map E.front course.fronts.items) (E.front course.pass) course.done.items }
+        (L.most lines.now) (E.start course.old.engine) (E.limits course.old.engine)
+        (E.lanes course.old.engine) (map E.front course.old.fronts.items)
+        (E.front course.old.pass) course.old.done.items }
     requires keeper { (c line : ℕ) (r : L.B.Reply) → L.suits lines.now c line r
         → K.can_keep keeper.old c line r }
     requires from_1 { 1 ≤ caller }
-    requires there { caller ≤ length course.done.items }
-    requires left { at_caller 0 course.done.items caller < L.line_count lines.now caller }
+    requires there { caller ≤ length course.old.done.items }
+    requires left { at_caller 0 course.old.done.items caller < L.line_count lines.now caller }
     requires tries { 1 ≤ tries }
-    ensures of { IfOk result (λ c. E.of c.engine c.pass) }
-    ensures course { IfOk result (λ c. IsInCourse L.B.did L.B.makes L.B.fits (L.body_at lines.now)
+    ensures of { OnOk result (E.of course.new.engine course.new.pass) }
+    ensures course { OnOk result (IsInCourse L.B.did L.B.makes L.B.fits (L.body_at lines.now)
         (L.line_count lines.now) (G.after_called gate.now) (K.keeps keeper.new)
         (L.good lines.now) (L.suits lines.now) (L.opening lines.now) (L.cost lines.now)
-        (L.most lines.now) (E.start c.engine) (E.limits c.engine) (E.lanes c.engine)
-        (map E.front c.fronts.items) (E.front c.pass) c.done.items) }
+        (L.most lines.now) (E.start course.new.engine) (E.limits course.new.engine)
+        (E.lanes course.new.engine) (map E.front course.new.fronts.items)
+        (E.front course.new.pass) course.new.done.items) }
     ensures keeper { (c line : ℕ) (r : L.B.Reply) → L.suits lines.now c line r
         → K.can_keep keeper.new c line r }
-    ensures callers { IfOk result (λ c. length c.done.items ≡ length course.done.items) }
-    ensures kept { IfOk result (λ c. left_after (L.line_count lines.now) 0 c.done.items
-        ≤ left_after (L.line_count lines.now) 0 course.done.items) }
-    ensures played { IfOk result (λ c. c.worn ≡ false
-        → left_after (L.line_count lines.now) 0 c.done.items
-        < left_after (L.line_count lines.now) 0 course.done.items) }
-    ensures fresh { E.fresh course.engine course.pass
-        → E.front course.pass ≡ empty_front (E.lanes course.engine)
-        → IfOk result (λ c. c.worn ≡ false) }
+    ensures callers { OnOk result (length course.new.done.items ≡ length course.old.done.items) }
+    ensures kept { OnOk result (left_after (L.line_count lines.now) 0 course.new.done.items
+        ≤ left_after (L.line_count lines.now) 0 course.old.done.items) }
+    ensures played { course.new.worn ≡ false
+        → OnOk result (left_after (L.line_count lines.now) 0 course.new.done.items
+        < left_after (L.line_count lines.now) 0 course.old.done.items) }
+    ensures fresh { E.fresh course.old.engine course.old.pass
+        → E.front course.old.pass ≡ empty_front (E.lanes course.old.engine)
+        → OnOk result (course.new.worn ≡ false) }
 {
-    let mut course = course;
     let turn = Turn {
         caller,
         done: course.done[caller as usize - 1],
         tries,
     };
-    let mut replies = Vec::with_capacity(alloc, tries as usize)?;
     pass_is_legal(&course.engine, &course.pass);
-    attempt_lines(
-        &course.engine,
-        &mut course.pass,
-        lines,
-        turn,
-        gate,
-        &mut replies,
-    )?;
+    let list: K::List = play_list(alloc, &course.engine, &mut course.pass, lines, turn, gate)?;
     pass_is_legal(&course.engine, &course.pass);
-    course.worn = replies.is_empty();
-    let list = list_of(alloc, replies)?;
-    keep_lines(keeper, &mut course.done, caller, list)?;
-    Ok(course)
+    course.worn = list.len() == 0;
+    keep_lines(keeper, &mut course.done, caller, list)
 }
 
 // Whether a turn ended by something that the engine has no more of.
@@ -245,7 +271,15 @@ where
         worn: _,
     } = course;
     pass_is_legal(&engine, &pass);
-    let turns = play_turns(rt, alloc, &engine, pass, lines, gate, 0, tries, &done)?;
+    let shared = Shared {
+        rt,
+        alloc,
+        engine: &engine,
+        lines,
+        gate,
+        tries,
+    };
+    let turns = play_turns(shared, pass, 0, &done)?;
     let Turns { pass, played } = turns;
     pass_is_legal(&engine, &pass);
     let worn = wears(&played);
@@ -308,8 +342,8 @@ where
 {
     let lone = is_lone(lines, &course.done, caller);
     let first = if lone { LONE_TRIES } else { 1 };
-    let course = renewed(course, lines, keeper, gate)?;
-    let course = play_first(alloc, course, lines, gate, caller, first, keeper)?;
+    let mut course = renewed(course, lines, keeper, gate)?;
+    play_first(alloc, &mut course, lines, gate, caller, first, keeper)?;
     if course.worn {
         return Ok(course);
     }

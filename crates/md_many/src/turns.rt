@@ -1,9 +1,10 @@
 //! Turns of callers, side by side.
 
 ghost use Rattle.std.specs.Prelude.{◌≡◌, ◌<◌, ◌≤◌, ◌+◌, ◌-◌, ◌/◌, ◌^◌, ◌∷◌, ◌++◌, [], ℕ};
-ghost use Rattle.std.specs.Prelude.{length, IfOk, OnOk};
+ghost use Rattle.std.specs.Prelude.{List, length, IfOk};
 ghost use Rattle.std.specs.Thread.{IsSync};
-ghost use Rattle.md_history.specs.Engine.{AreApart, Joins};
+ghost use Rattle.md_history.specs.Engine.{IsRising, Splits};
+ghost use Rattle.md_history.specs.Front.{Front as View};
 ghost use Rattle.md_many.specs.Lines.{AreFitting};
 ghost use Rattle.md_many.specs.Rounds.{AreWithin, PlaysTurns, replies_in};
 
@@ -23,6 +24,25 @@ pub struct Turns<P, T> {
     pub pass: P,
     pub played: Vec<Played<T>>,
 }
+
+/// What all turns of a round share.
+pub struct Shared<'a, R, E, L, G> {
+    pub rt: &'a R,
+    pub alloc: Global,
+    pub engine: &'a E,
+    pub lines: &'a L,
+    pub gate: &'a G,
+    /// The most attempts of a turn.
+    pub tries: u32,
+}
+
+impl<R, E, L, G> Clone for Shared<'_, R, E, L, G> {
+    fn clone(&self) -> Result<Self, AllocError> {
+        Ok(*self)
+    }
+}
+
+impl<R, E, L, G> Copy for Shared<'_, R, E, L, G> {}
 
 // Plays a turn on the one lane of a pass.
 fn play_turn<E: Engine, L: Lines, G: Gate, T: ReplyList<<L::B as Body>::Reply>>(
@@ -48,24 +68,39 @@ fn play_turn<E: Engine, L: Lines, G: Gate, T: ReplyList<<L::B as Body>::Reply>>(
     Ok(Turns { pass, played })
 }
 
-// Takes the lanes of other turns, and their results.
-fn join_turns<E: Engine, T: Drop>(
+// Takes the lanes and the results of two turns together, if memory ran out in neither.
+fn join_turns<E, L, G, T>(
     engine: &E,
-    turns: &mut Turns<E::Pass, T>,
-    other: Turns<E::Pass, T>,
-) -> Result<(), AllocError>
-    requires of { E.of engine.now turns.old.pass }
-    requires of_other { E.of engine.now other.pass }
-    requires apart { AreApart (E.front turns.old.pass).lanes (E.front other.pass).lanes }
-    ensures of { E.of engine.now turns.new.pass }
-    ensures joined { Joins (E.front turns.old.pass) (E.front other.pass) (E.front turns.new.pass) }
-    ensures played { OnOk result (turns.new.played.items
-        ≡ turns.old.played.items ++ other.played.items) }
+    lines: &L,
+    gate: &G,
+    first: Result<Turns<E::Pass, T>, AllocError>,
+    second: Result<Turns<E::Pass, T>, AllocError>,
+) -> Result<Turns<E::Pass, T>, AllocError>
+where
+    E: Engine,
+    L: Lines,
+    G: Gate,
+    T: ReplyList<<L::B as Body>::Reply>,
+    requires of { IfOk first (λ t. E.of engine.now t.pass) }
+    requires of_other { IfOk second (λ t. E.of engine.now t.pass) }
+    ensures of { IfOk result (λ t. E.of engine.now t.pass) }
+    ensures turns { (old kept given : View) (before middle : ℕ) (low high : List ℕ)
+        → Splits old kept given → IsRising old.lanes → middle ≡ before + length low
+        → IfOk first (λ t. PlaysTurns L.B.did (L.body_at lines.now) (G.after_called gate.now)
+        before low kept (E.front t.pass) (replies_in T.listed t.played.items))
+        → IfOk second (λ t. PlaysTurns L.B.did (L.body_at lines.now) (G.after_called gate.now)
+        middle high given (E.front t.pass) (replies_in T.listed t.played.items))
+        → IfOk result (λ t. PlaysTurns L.B.did (L.body_at lines.now) (G.after_called gate.now)
+        before (low ++ high) old (E.front t.pass) (replies_in T.listed t.played.items)) }
 {
-    let Turns { pass, played } = other;
-    let mut played = played;
+    let _ = lines;
+    let _ = gate;
+    let mut turns = first?;
+    let Turns { pass, mut played } = second?;
     engine.join(&mut turns.pass, pass);
-    turns.played.append(&mut played)
+    pass_is_legal(engine, &turns.pass);
+    turns.played.append(&mut played)?;
+    Ok(turns)
 }
 
 // How many lines were done by each caller whose lane the pass keeps at a split, and by the others.
@@ -85,7 +120,7 @@ fn halves<'a, L: Lines>(lines: &L, before: u32, done: &'a [u32]) -> (&'a [u32], 
 
 /// Plays one turn of each of some callers, side by side in threads, each on a lane of its own. The
 /// callers are those after the first `before`, as many as the pass has lanes. `done` has the number
-/// of lines that each of them has played, and `tries` is the most attempts that each makes.
+/// of lines that each of them has played.
 ///
 /// The call splits the pass in two, runs itself on both halves by `thread::join`, and joins them
 /// again. So n callers take n - 1 splits, joins of passes and calls of `thread::join`. A turn is
@@ -95,14 +130,9 @@ fn halves<'a, L: Lines>(lines: &L, before: u32, done: &'a [u32]) -> (&'a [u32], 
 /// `AllocError` if memory runs out, here or in an attempt of the engine. Then the pass is lost.
 #[cycle(turns)]
 pub fn play_turns<R, E, L, G, T>(
-    rt: &R,
-    alloc: Global,
-    engine: &E,
+    shared: Shared<'_, R, E, L, G>,
     pass: E::Pass,
-    lines: &L,
-    gate: &G,
     before: u32,
-    tries: u32,
     done: &[u32],
 ) -> Result<Turns<E::Pass, T>, AllocError>
 where
@@ -113,60 +143,60 @@ where
     <L::B as Body>::Reply: Send,
     G: Gate + Sync,
     T: ReplyList<<L::B as Body>::Reply> + Send,
-    requires of { E.of engine.now pass }
-    requires fits { AreFitting L.B.fits (L.body_at lines.now) (E.start engine.now) }
+    requires of { E.of shared.engine.now pass }
+    requires fits { AreFitting L.B.fits (L.body_at shared.lines.now) (E.start shared.engine.now) }
     requires lanes { length done.now ≡ length (E.front pass).lanes }
-    requires within { AreWithin (L.line_count lines.now) before done.now }
+    requires within { AreWithin (L.line_count shared.lines.now) before done.now }
     requires callers { before + length done.now < 2 ^ 32 }
-    ensures of { IfOk result (λ t. E.of engine.now t.pass) }
-    ensures turns { IfOk result (λ t. PlaysTurns L.B.did (L.body_at lines.now)
-        (G.after_called gate.now) before done.now
+    ensures of { IfOk result (λ t. E.of shared.entry.engine.now t.pass) }
+    ensures turns { IfOk result (λ t. PlaysTurns L.B.did (L.body_at shared.entry.lines.now)
+        (G.after_called shared.entry.gate.now) before done.now
         (E.front pass) (E.front t.pass) (replies_in T.listed t.played.items)) }
 {
+    let Shared {
+        engine,
+        lines,
+        gate,
+        ..
+    } = shared;
     pass_is_legal(engine, &pass);
     let mut pass = pass;
     let Some(other) = engine.split(&mut pass) else {
         let turn = Turn {
             caller: before + 1,
             done: done[0],
-            tries,
+            tries: shared.tries,
         };
-        return play_turn(alloc, engine, pass, lines, gate, turn);
+        return play_turn(shared.alloc, engine, pass, lines, gate, turn);
     };
     let (low, high) = halves(lines, before, done);
     let middle = before + low.len() as u32;
     let (first, second) = thread::join(
-        rt,
+        shared.rt,
         move || -> Result<Turns<E::Pass, T>, AllocError>
             requires sync { IsSync R.row × IsSync G.row }
-            requires of { E.of engine.now pass }
-            requires fits { AreFitting L.B.fits (L.body_at lines.now) (E.start engine.now) }
+            requires of { E.of shared.engine.now pass }
+            requires fits { AreFitting L.B.fits (L.body_at shared.lines.now) (E.start shared.engine.now) }
             requires lanes { length low.now ≡ length (E.front pass).lanes }
-            requires within { AreWithin (L.line_count lines.now) before low.now }
+            requires within { AreWithin (L.line_count shared.lines.now) before low.now }
             requires callers { before + length low.now < 2 ^ 32 }
-            ensures of { IfOk result (λ t. E.of engine.entry.now t.pass) }
-            ensures turns { IfOk result (λ t. PlaysTurns L.B.did (L.body_at lines.entry.now)
-                (G.after_called gate.entry.now) before low.entry.now
+            ensures of { IfOk result (λ t. E.of shared.entry.engine.now t.pass) }
+            ensures turns { IfOk result (λ t. PlaysTurns L.B.did (L.body_at shared.entry.lines.now)
+                (G.after_called shared.entry.gate.now) before low.entry.now
                 (E.front pass) (E.front t.pass) (replies_in T.listed t.played.items)) }
-        { play_turns(rt, alloc, engine, pass, lines, gate, before, tries, low) },
+        { play_turns(shared, pass, before, low) },
         move || -> Result<Turns<E::Pass, T>, AllocError>
             requires sync { IsSync R.row × IsSync G.row }
-            requires of { E.of engine.now other }
-            requires fits { AreFitting L.B.fits (L.body_at lines.now) (E.start engine.now) }
+            requires of { E.of shared.engine.now other }
+            requires fits { AreFitting L.B.fits (L.body_at shared.lines.now) (E.start shared.engine.now) }
             requires lanes { length high.now ≡ length (E.front other).lanes }
-            requires within { AreWithin (L.line_count lines.now) middle high.now }
+            requires within { AreWithin (L.line_count shared.lines.now) middle high.now }
             requires callers { middle + length high.now < 2 ^ 32 }
-            ensures of { IfOk result (λ t. E.of engine.entry.now t.pass) }
-            ensures turns { IfOk result (λ t. PlaysTurns L.B.did (L.body_at lines.entry.now)
-                (G.after_called gate.entry.now) middle high.entry.now
+            ensures of { IfOk result (λ t. E.of shared.entry.engine.now t.pass) }
+            ensures turns { IfOk result (λ t. PlaysTurns L.B.did (L.body_at shared.entry.lines.now)
+                (G.after_called shared.entry.gate.now) middle high.entry.now
                 (E.front other) (E.front t.pass) (replies_in T.listed t.played.items)) }
-        { play_turns(rt, alloc, engine, other, lines, gate, middle, tries, high) },
+        { play_turns(shared, other, middle, high) },
     );
-    let mut turns = first?;
-    let more = second?;
-    pass_is_legal(engine, &turns.pass);
-    pass_is_legal(engine, &more.pass);
-    join_turns(engine, &mut turns, more)?;
-    pass_is_legal(engine, &turns.pass);
-    Ok(turns)
+    join_turns(engine, lines, gate, first, second)
 }

@@ -3,8 +3,9 @@ use Rattle.std.specs.Prelude.{IfSome}
 use Rattle.std.proofs.lemmas.Bool.{cases_eq}
 use Rattle.std.proofs.lemmas.List.{length_push}
 use Rattle.md_history.specs.Attempt.{Commits}
+use Rattle.md_many.specs.declared.attempts.TheConstants.{MOST_CONFLICTS}
 use Rattle.md_many.proofs.Playing.{played-none, played-stopped, played-more}
-use Rattle.md_many.proofs.Ending.{has-counted, most-played}
+use Rattle.md_many.proofs.Ending.{has-counted, most-played, tried-line, tried-vain}
 use Rattle.md_many.proofs.Retrying.{no_conflict, no_limit, conflict_counted, stop_counted}
 use Rattle.md_many.proofs.attempts.attempt_lines.Goals as goal
 use Rattle.md_many.proofs.attempts.attempt_lines.Goals.{in-Committed, in-Stopped-Conflict+else-conflicts-eq-MOST_CONFLICTS}
@@ -17,9 +18,11 @@ one_more P done played each next more is line after before = elim (cases_eq line
   | inr other ↦ each line after (omega arith)
 ]
 
--- what is said of a value that is there
-if_some : {A : Type 0} (o : Option A) (x : A) (P : A → Type 0) → o ≡ Some x → IfSome o P → P x
-if_some o x P is h = subst (λ t. IfSome t P) is h
+-- what is said of the first line after those that were done, of the body that was found there
+first-found : {B : Type 0} (body_at : ℕ → Option B) (P : B → Type 0) (done played : ℕ) (b : B) → played ≡ done
+    → Some b ≡ body_at (played + 1) → IfSome (body_at (done + 1)) P → P b
+first-found body_at P done played b same is small =
+    subst (λ o. IfSome o P) (ap (λ n. body_at (n + 1)) (sym same) ∙ sym is) small
 
 pub attempts-init : goal.attempts-init
 attempts-init g c = record {
@@ -46,65 +49,73 @@ attempts-preserved g c =
           ap (λ (v : Vec _ Global). v.items) w.replies-is ∙ w.put.ensures.items in
           let count : length c.match-attempt.replies.items ≡ length c.attempts.replies.items + 1 =
           ap length more ∙ length_push c.attempts.replies.items w.in-Committed.reply in
-          let inside = c.attempts.invariant.within in
-          let test = c.if-played-count.false in
+          let was = c.attempts.invariant in
+          let inside : c.attempts.played < g.L.Lines.line_count c.args.lines.now c.args.turn.caller =
+          omega (arith, was.within, c.len-count.ensures, c.if-played-count.false) in
+          let tried = tried-line (g.L.Lines.line_count c.args.lines.now c.args.turn.caller) c.args.turn.done c.attempts.played
+          (length c.attempts.replies.items) c.attempts.conflicts c.attempts.tried (g.E.Engine.begun c.args.pass.now)
+          (g.E.Engine.begun c.attempts.pass) c.match-attempt.played (length c.match-attempt.replies.items)
+          c.match-attempt.conflicts (g.E.Engine.begun c.attempt.new.pass) was.played was.few was.counted
+          w.in-Committed.ensures.begun w.played-is count w.conflicts-is inside in
           record {
             of = c.attempt.ensures.of;
             fated = c.attempt.ensures.legal.fated;
             lines = rw more (played-more _ _ _ _ _ c.attempts.tried (c.attempts.played + 1) c.in-Some.body
-                w.in-Committed.reply _ _ c.attempts.replies.items c.attempts.invariant.lines
-                c.attempts.invariant.fated (omega (arith, c.attempts.invariant.played)) (sym c.in-Some.ensures)
+                w.in-Committed.reply _ _ c.attempts.replies.items was.lines was.fated (ap (λ n. n + 1) was.played)
+                c.in-Some.ensures
                 (subst (λ tag. Commits (g.L.B.Body.did c.in-Some.body) tag w.in-Committed.reply (g.E.Engine.front c.attempts.pass) (g.E.Engine.front c.attempt.new.pass)) c.line_tag.ensures
                 w.in-Committed.ensures.committed));
-            played = omega (arith, w.played-is, count, c.attempts.invariant.played);
-            within = omega (arith, w.played-is, inside, c.len-count.ensures, test);
-            few = omega (arith, count, w.conflicts-is, c.attempts.invariant.few);
-            calm = rw w.conflicts-is (omega arith);
+            played = tried.played;
+            within = tried.within;
+            few = tried.few;
+            calm = subst (λ n. n < MOST_CONFLICTS) (sym w.conflicts-is) (omega arith);
             room = omega (
               arith,
-              c.attempts.invariant.room,
+              was.room,
               w.put.ensures.capacity,
               ap (λ (v : Vec _ Global). vec_capacity v) w.replies-is,
             );
-            counted = omega (arith, w.in-Committed.ensures.begun, c.attempts.invariant.counted);
-            gate = one_more (g.G.Gate.after_called c.args.gate.now c.args.turn.caller) _ _ c.attempts.invariant.gate
+            counted = tried.counted;
+            gate = one_more (g.G.Gate.after_called c.args.gate.now c.args.turn.caller) _ _ was.gate
                 w.after.ensures _ w.played-is;
             begun = λ none. absurd (omega arith);
             first = λ fresh tries small some. omega (arith, count);
-            steady = λ stops. omega (arith, count, c.attempts.invariant.steady stops);
+            steady = λ stops. count ∙ ap (λ n. n + 1) (was.steady stops);
           }
-      | in-Stopped-Conflict+else-conflicts-eq-MOST_CONFLICTS w ↦ record {
-        of = c.attempt.ensures.of;
-        fated = c.attempt.ensures.legal.fated;
-        lines = rw w.replies-is
-            (played-stopped _ _ _ _ _ c.attempts.tried _ _ _ c.attempts.replies.items c.attempts.invariant.lines
-            c.attempts.invariant.fated w.in-Stopped-Conflict.ensures.stopped);
-        played = rw (w.replies-is, w.played-is) c.attempts.invariant.played;
-        within = rw w.played-is c.attempts.invariant.within;
-        few = rw w.replies-is (omega (arith, w.conflicts-is, c.attempts.invariant.few));
-        calm = omega (arith, w.conflicts-is, c.attempts.invariant.calm, w.if-conflicts-eq-MOST_CONFLICTS.false);
-        room = rw w.replies-is c.attempts.invariant.room;
-        counted = omega (
-          arith,
-          conflict_counted _ _ _ w.in-Stopped-Conflict.field-0-is w.in-Stopped-Conflict.ensures.begun,
-          c.attempts.invariant.counted,
-        );
-        gate = λ line after before. c.attempts.invariant.gate line after (omega (arith, before, w.played-is));
-        begun = λ none. absurd (omega arith);
-        first = λ fresh tries small some. elim (cases_eq c.attempts.tried 0) [
-          | inl none ↦
-              let same : c.args.turn.done + 1 ≡ c.attempts.played + 1 =
-              omega (arith, none, c.attempts.invariant.played, c.attempts.invariant.few) in
-              let is_fresh = subst (g.E.Engine.fresh c.args.engine.now) (sym (c.attempts.invariant.begun none)) fresh in
-              let is_small = if_some _ c.in-Some.body _
-              (ap (g.L.Lines.body_at c.args.lines.now c.args.turn.caller) same ∙ sym c.in-Some.ensures) small in
-              absurd (no_conflict (sym w.in-Stopped-Conflict.field-0-is
-              ∙ w.in-Stopped-Conflict.ensures.small is_fresh tries is_small))
-          | inr later ↦ rw w.replies-is (c.attempts.invariant.first fresh tries small (omega arith))
-        ];
-        steady = λ stops. absurd
-            (no_conflict (sym w.in-Stopped-Conflict.field-0-is ∙ stops _ w.in-Stopped-Conflict.ensures.may_stop));
-      }
+      | in-Stopped-Conflict+else-conflicts-eq-MOST_CONFLICTS w ↦
+          let was = c.attempts.invariant in
+          let here = w.in-Stopped-Conflict.ensures in
+          let count : length c.match-attempt.replies.items ≡ length c.attempts.replies.items =
+          ap (λ (v : Vec _ Global). length v.items) w.replies-is in
+          let tried = tried-vain (g.L.Lines.line_count c.args.lines.now c.args.turn.caller) c.args.turn.done c.attempts.played
+          (length c.attempts.replies.items) c.attempts.conflicts c.attempts.tried (g.E.Engine.begun c.args.pass.now)
+          (g.E.Engine.begun c.attempts.pass) c.match-attempt.played (length c.match-attempt.replies.items)
+          c.match-attempt.conflicts (g.E.Engine.begun c.attempt.new.pass) was.played was.few was.counted
+          (conflict_counted _ _ _ w.in-Stopped-Conflict.field-0-is here.begun) w.played-is count w.conflicts-is was.within in
+          record {
+            of = c.attempt.ensures.of;
+            fated = c.attempt.ensures.legal.fated;
+            lines = rw w.replies-is
+                (played-stopped _ _ _ _ _ c.attempts.tried _ _ _ c.attempts.replies.items was.lines was.fated here.stopped);
+            played = tried.played;
+            within = tried.within;
+            few = tried.few;
+            calm = omega (arith, w.conflicts-is, was.calm, w.if-conflicts-eq-MOST_CONFLICTS.false);
+            room = rw w.replies-is was.room;
+            counted = tried.counted;
+            gate = λ line after before. was.gate line after (subst (λ n. line ≤ n) w.played-is before);
+            begun = λ none. absurd (omega arith);
+            first = λ fresh tries small some. elim (cases_eq c.attempts.tried 0) [
+              | inl none ↦
+                  let same : c.attempts.played ≡ c.args.turn.done = omega (arith, none, was.played, was.few) in
+                  let is_fresh = subst (g.E.Engine.fresh c.args.engine.now) (sym (was.begun none)) fresh in
+                  let is_small = first-found (g.L.Lines.body_at c.args.lines.now c.args.turn.caller) _ c.args.turn.done c.attempts.played
+                  c.in-Some.body same c.in-Some.ensures small in
+                  absurd (no_conflict (sym w.in-Stopped-Conflict.field-0-is ∙ here.small is_fresh tries is_small))
+              | inr later ↦ rw w.replies-is (was.first fresh tries small (omega arith))
+            ];
+            steady = λ stops. absurd (no_conflict (sym w.in-Stopped-Conflict.field-0-is ∙ stops _ here.may_stop));
+          }
     ]
 
 pub returns-in-Stopped-NoMemory : goal.returns-in-Stopped-NoMemory
@@ -153,10 +164,10 @@ returns-in-Stopped-Limit g c =
       no_memory = tt;
       first = λ fresh tries small some. elim (cases_eq c.attempts.tried 0) [
         | inl none ↦
-            let same : c.args.turn.done + 1 ≡ c.attempts.played + 1 = omega (arith, none, was.played, was.few) in
+            let same : c.attempts.played ≡ c.args.turn.done = omega (arith, none, was.played, was.few) in
             let is_fresh = subst (g.E.Engine.fresh c.args.engine.now) (sym (was.begun none)) fresh in
-            let is_small = if_some _ c.in-Some.body _
-            (ap (g.L.Lines.body_at c.args.lines.now c.args.turn.caller) same ∙ sym c.in-Some.ensures) small in
+            let is_small = first-found (g.L.Lines.body_at c.args.lines.now c.args.turn.caller) _ c.args.turn.done c.attempts.played
+            c.in-Some.body same c.in-Some.ensures small in
             absurd (no_limit (sym c.in-Stopped-Limit.field-0-is ∙ here.small is_fresh tries is_small))
         | inr later ↦ was.first fresh tries small (omega arith)
       ];

@@ -1,4 +1,4 @@
-use Rattle.std.proofs.Common.{◌≡◌, ◌+◌, length, refl, ap, subst, ◌∙◌, arith}
+use Rattle.std.proofs.Common.{◌≡◌, ◌+◌, ◌≤◌, length, refl, sym, ap, subst, ◌∙◌, arith}
 use Rattle.std.proofs.lemmas.List.{length-append}
 use Rattle.std.proofs.lemmas.Result.{IfOk-from_err}
 use Rattle.md_many.specs.Lines.{PlaysLines}
@@ -125,4 +125,18 @@ returns-in_err-append g c =
       begun = IfOk-from_err _ _ err;
       end = IfOk-from_err _ _ err;
       gate = IfOk-from_err _ _ err;
+    }
+
+pub returns : goal.returns
+returns g c =
+    let was = c.batches.invariant in
+    record {
+      of = was.of;
+      lanes = was.lanes;
+      pending = was.pending;
+      lines = was.lines;
+      few = omega (arith, was.done, was.within, c.len-count.ensures);
+      begun = record { each = was.each; most = omega (arith, was.counted) };
+      end = omega (arith, was.counted, c.batches-test.false);
+      gate = λ line after before. was.gate line after (subst (λ n. line ≤ n) (sym was.done) before);
     }

@@ -1,5 +1,6 @@
-use Rattle.std.proofs.Common.{rules, ◌≡◌, ◌∙◌, length, sym, ap, arith}
+use Rattle.std.proofs.Common.{rules, ◌≡◌, ◌<◌, ◌^◌, ◌∙◌, length, sym, ap, subst, arith}
 use Rattle.std.proofs.lemmas.List.{length-replicate}
+use Rattle.std.proofs.lemmas.Result.{IfOk-from_err}
 use Rattle.md_history.specs.Engine.{empty_front}
 use Rattle.md_many.specs.Rounds.{at_caller}
 use Rattle.md_many.proofs.Coursing.{stands-first, whole-count, all-played, are-interleaving}
@@ -25,42 +26,57 @@ rounds-init g c =
       count = zeros ∙ c.callers.ensures;
     }
 
-pub returns-clause-all : goal.returns-clause-all
-returns-clause-all g c = c.rounds.invariant.course.stands.all
+pub rounds-preserved : goal.rounds-preserved
+rounds-preserved g c =
+    let round = c.in_ok-course.ensures in
+    record {
+      of = round.of;
+      course = round.course;
+      keeper = c.play_round.ensures.keeper;
+      callers = subst (λ n. n < 2 ^ 32) (sym round.callers) c.rounds.invariant.callers;
+      count = round.callers ∙ c.rounds.invariant.count;
+    }
 
-pub returns-clause-each_line_once : goal.returns-clause-each_line_once
-returns-clause-each_line_once g c = λ fronts contents closed.
+pub returns : goal.returns
+returns g c =
+    let course = c.rounds.invariant.course in
     let all = whole-count _ _ _ _ _ _ _ _ _ _ _ c.requires.laws
-    _ _ _ _ _ c.rounds.invariant.course.stands c.pass_is_legal.ensures
-    (g.L.Lines.caller_count c.args.lines.now) (sym c.rounds.invariant.course.stands.callers ∙ c.rounds.invariant.count)
+    _ _ _ _ _ course.stands c.pass_is_legal.ensures
+    (g.L.Lines.caller_count c.args.lines.now) (sym course.stands.callers ∙ c.rounds.invariant.count)
     ((g.met.L.Lines g.world.𝓛 g.world.𝓜 g.world.𝓡 ((λ s x. x), (λ x. x), (λ x. x), λ x. x)).has_caller c.args.lines.now)
     (λ caller low high. ap (λ ns. at_caller 0 ns caller) (sym c.deref.ensures.value)
     ∙ c.in_default.ensures.none caller low (omega (arith, high, ap length c.deref.ensures.value))) in
-    rw closed.behind
-    (all-played _ _ _ _ _ _ _ _ _ _ _ c.requires.laws
-    _ _ _ _ _ c.rounds.invariant.course.stands c.pass_is_legal.ensures
-    closed.last _ closed.settled closed.replay all)
+    record {
+      of = c.rounds.invariant.of;
+      all = course.stands.all;
+      each_line_once = λ fronts contents closed. rw closed.behind
+          (all-played _ _ _ _ _ _ _ _ _ _ _ c.requires.laws _ _ _ _ _ course.stands c.pass_is_legal.ensures
+          closed.last _ closed.settled closed.replay all);
+      gate = λ caller line low high. course.stands.gate caller line low (omega (arith, high, all caller));
+      interleaving = λ fronts contents closed. rw closed.behind
+          (are-interleaving _ _ _ _ _
+          (all-played _ _ _ _ _ _ _ _ _ _ _ c.requires.laws _ _ _ _ _ course.stands c.pass_is_legal.ensures
+          closed.last _ closed.settled closed.replay all).each);
+    }
 
-pub returns-clause-gate : goal.returns-clause-gate
-returns-clause-gate g c = λ caller line low high.
-    let all = whole-count _ _ _ _ _ _ _ _ _ _ _ c.requires.laws
-    _ _ _ _ _ c.rounds.invariant.course.stands c.pass_is_legal.ensures
-    (g.L.Lines.caller_count c.args.lines.now) (sym c.rounds.invariant.course.stands.callers ∙ c.rounds.invariant.count)
-    ((g.met.L.Lines g.world.𝓛 g.world.𝓜 g.world.𝓡 ((λ s x. x), (λ x. x), (λ x. x), λ x. x)).has_caller c.args.lines.now)
-    (λ caller low high. ap (λ ns. at_caller 0 ns caller) (sym c.deref.ensures.value)
-    ∙ c.in_default.ensures.none caller low (omega (arith, high, ap length c.deref.ensures.value))) in
-    c.rounds.invariant.course.stands.gate caller line low (omega (arith, high, all caller))
+pub returns-in_err-none_done : goal.returns-in_err-none_done
+returns-in_err-none_done g c =
+    let err = c.from_residual.ensures.0 in
+    record {
+      of = IfOk-from_err _ _ err;
+      all = IfOk-from_err _ _ err;
+      each_line_once = IfOk-from_err _ _ err;
+      gate = IfOk-from_err _ _ err;
+      interleaving = IfOk-from_err _ _ err;
+    }
 
-pub returns-clause-interleaving : goal.returns-clause-interleaving
-returns-clause-interleaving g c = λ fronts contents closed.
-    let all = whole-count _ _ _ _ _ _ _ _ _ _ _ c.requires.laws
-    _ _ _ _ _ c.rounds.invariant.course.stands c.pass_is_legal.ensures
-    (g.L.Lines.caller_count c.args.lines.now) (sym c.rounds.invariant.course.stands.callers ∙ c.rounds.invariant.count)
-    ((g.met.L.Lines g.world.𝓛 g.world.𝓜 g.world.𝓡 ((λ s x. x), (λ x. x), (λ x. x), λ x. x)).has_caller c.args.lines.now)
-    (λ caller low high. ap (λ ns. at_caller 0 ns caller) (sym c.deref.ensures.value)
-    ∙ c.in_default.ensures.none caller low (omega (arith, high, ap length c.deref.ensures.value))) in
-    rw closed.behind
-    (are-interleaving _ _ _ _ _
-    (all-played _ _ _ _ _ _ _ _ _ _ _ c.requires.laws
-    _ _ _ _ _ c.rounds.invariant.course.stands c.pass_is_legal.ensures
-    closed.last _ closed.settled closed.replay all).each)
+pub returns-in_err-course : goal.returns-in_err-course
+returns-in_err-course g c =
+    let err = c.from_residual-in_err-course.ensures.0 in
+    record {
+      of = IfOk-from_err _ _ err;
+      all = IfOk-from_err _ _ err;
+      each_line_once = IfOk-from_err _ _ err;
+      gate = IfOk-from_err _ _ err;
+      interleaving = IfOk-from_err _ _ err;
+    }

@@ -6,3 +6,9 @@ play_first-requires-clause-tries g c κs within = search rules depth 1
 
 pub returns-then-course-clause-less : goal.returns-then-course-clause-less
 returns-then-course-clause-less g c = search rules depth 1
+
+pub returns-then-lone-2-clause-less : goal.returns-then-lone-2-clause-less
+returns-then-lone-2-clause-less g c = search rules depth 1
+
+pub returns-clause-less : goal.returns-clause-less
+returns-clause-less g c = search rules depth 1

@@ -1,7 +1,8 @@
 use Rattle.std.proofs.Common.{◌∙◌, sym}
 use Rattle.std.proofs.lemmas.List.{length-map}
+use Rattle.std.proofs.lemmas.Result.{IfOk-from_err}
 use Rattle.md_many.specs.declared.batches.Played.{Played}
-use Rattle.md_many.proofs.Sides.{sides-count, sides-few, sides-suit, sides-stand, sides-kept, plays-from}
+use Rattle.md_many.proofs.Sides.{sides-count, sides-few, sides-suit, sides-further, plays-from}
 use Rattle.md_many.proofs.Handing.{suit-wider, written-back, kept-from}
 use Rattle.md_many.proofs.rounds.play_sides.Goals as goal
 
@@ -29,26 +30,44 @@ keep_turns-requires-clause-few g c = λ caller.
     (sides-few _ _ _ _ _ _ _ _ _ _ _ c.requires.course.laws
     _ _ _ _ _ c.requires.course.stands c.pass_is_legal.ensures _ c.pass_is_legal-2.ensures _ plays caller)
 
-pub returns-clause-course : goal.returns-clause-course
-returns-clause-course g c =
+pub returns : goal.returns
+returns g c =
     let done = c.args.course.done.items in
     let plays = plays-from c.in_ok-turns.ensures.turns c.deref.ensures.value in
     let kept = kept-from c.in_ok-keep_turns.ensures.kept c.deref_mut.ensures.value in
     let whole = written-back c.keep_turns.new.done done c.args.course.done.len kept.callers c.args.course.done.ok.0 in
+    let further = sides-further _ _ _ _ _ _ _ _ _ _ _ c.requires.course.laws
+    _ _ _ _ _ c.requires.course.stands c.pass_is_legal.ensures _ c.pass_is_legal-2.ensures _ plays _ _ kept (λ caller line some. (((g.met.L.Lines g.world.𝓛 g.world.𝓜 g.world.𝓡 ((λ s x. x), (λ x. x), (λ x. x), λ x. x)).has_body c.args.lines.now caller line).0 some).1) in
     record {
-      laws = c.requires.course.laws;
-      runs = c.requires.course.runs;
-      stands = rw whole
-          (sides-stand _ _ _ _ _ _ _ _ _ _ _ c.requires.course.laws
-          _ _ _ _ _ c.requires.course.stands c.pass_is_legal.ensures _ c.pass_is_legal-2.ensures _ plays _ _ kept (λ caller line some. (((g.met.L.Lines g.world.𝓛 g.world.𝓜 g.world.𝓡 ((λ s x. x), (λ x. x), (λ x. x), λ x. x)).has_body c.args.lines.now caller line).0 some).1));
+      of = c.in_ok-turns.ensures.of;
+      course = record {
+        laws = c.requires.course.laws;
+        runs = c.requires.course.runs;
+        stands = rw whole further.0;
+      };
+      keeper = λ other line r suits. c.keep_turns.ensures.can_keep other line r (c.requires.keeper other line r suits);
+      callers = rw whole kept.callers;
+      kept = rw whole further.1;
     }
 
-pub returns-clause-kept : goal.returns-clause-kept
-returns-clause-kept g c =
-    let done = c.args.course.done.items in
-    let plays = plays-from c.in_ok-turns.ensures.turns c.deref.ensures.value in
-    let kept = kept-from c.in_ok-keep_turns.ensures.kept c.deref_mut.ensures.value in
-    let whole = written-back c.keep_turns.new.done done c.args.course.done.len kept.callers c.args.course.done.ok.0 in
-    rw whole
-    (sides-kept _ _ _ _ _ _ _ _ _ _ _ c.requires.course.laws
-    _ _ _ _ _ c.requires.course.stands c.pass_is_legal.ensures _ c.pass_is_legal-2.ensures _ plays _ _ kept (λ caller line some. (((g.met.L.Lines g.world.𝓛 g.world.𝓜 g.world.𝓡 ((λ s x. x), (λ x. x), (λ x. x), λ x. x)).has_body c.args.lines.now caller line).0 some).1))
+pub returns-in_err-turns : goal.returns-in_err-turns
+returns-in_err-turns g c =
+    let err = c.from_residual.ensures.0 in
+    record {
+      of = IfOk-from_err _ _ err;
+      course = IfOk-from_err _ _ err;
+      keeper = c.requires.keeper;
+      callers = IfOk-from_err _ _ err;
+      kept = IfOk-from_err _ _ err;
+    }
+
+pub returns-in_err-keep_turns : goal.returns-in_err-keep_turns
+returns-in_err-keep_turns g c =
+    let err = c.from_residual-in_err-keep_turns.ensures.0 in
+    record {
+      of = IfOk-from_err _ _ err;
+      course = IfOk-from_err _ _ err;
+      keeper = λ other line r suits. c.keep_turns.ensures.can_keep other line r (c.requires.keeper other line r suits);
+      callers = IfOk-from_err _ _ err;
+      kept = IfOk-from_err _ _ err;
+    }

@@ -1,5 +1,6 @@
 use Rattle.std.proofs.Common.{rules, ◌≡◌}
 use Rattle.std.proofs.lemmas.List.{map_push}
+use Rattle.std.proofs.lemmas.Result.{IfOk-from_err}
 use Rattle.md_history.specs.Engine.{empty_front}
 use Rattle.md_many.proofs.Coursing.{has-room, stands-renewed}
 use Rattle.md_many.proofs.rounds.renewed.Goals as goal
@@ -20,4 +21,26 @@ returns-clause-course g c =
           (stands-renewed _ _ _ _ _ _ _ _ _ _ _ c.requires.course.laws _ _ _ _ _ c.requires.course.stands
           c.pass_is_legal.ensures (g.E.Engine.front c.in_ok-engine.front) _ _ _ c.in_ok-engine.ensures.settled
           c.in_ok-engine.ensures.start c.in_ok-engine.ensures.lanes empty);
+    }
+
+pub returns-in_err-engine : goal.returns-in_err-engine
+returns-in_err-engine g c =
+    let err = c.from_residual.ensures.0 in
+    record {
+      of = IfOk-from_err _ _ err;
+      course = IfOk-from_err _ _ err;
+      done = IfOk-from_err _ _ err;
+      fresh = λ worn. IfOk-from_err _ _ err;
+      empty = λ worn. IfOk-from_err _ _ err;
+    }
+
+pub returns-in_err-push : goal.returns-in_err-push
+returns-in_err-push g c =
+    let err = c.from_residual-in_err-push.ensures.0 in
+    record {
+      of = IfOk-from_err _ _ err;
+      course = IfOk-from_err _ _ err;
+      done = IfOk-from_err _ _ err;
+      fresh = λ worn. IfOk-from_err _ _ err;
+      empty = λ worn. IfOk-from_err _ _ err;
     }
