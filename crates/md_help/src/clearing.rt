@@ -55,7 +55,8 @@ pub fn clear<T: Theory>(field: &Field<T>, pass: &mut Pass<T>, word: u32, found: 
     let desc = spot_in(found).desc;
     let status = pass.load(field, field.shape().status(desc));
     let left = pass.load(field, word);
-    if left != found.word() {
+    let moved = left != found.word();
+    if moved {
         return Cleared {
             end: End::Gone,
             left,

@@ -1,4 +1,4 @@
-use Rattle.std.proofs.Common.{◌<◌, sym, subst, inr}
+use Rattle.std.proofs.Common.{◌<◌, sym, ap, subst, ◌∙◌, inr}
 use Rattle.md_words.specs.declared.shape.Shape.{Shape}
 use Rattle.md_words.specs.declared.content.Spot.{Spot}
 use Rattle.md_words.specs.Content.{word_of}
@@ -8,6 +8,7 @@ use Rattle.md_machine.specs.Event.{load}
 use Rattle.md_machine.specs.events.Decide.{HasMet}
 use Rattle.md_machine.specs.events.Uninstall.{desc_in}
 use Rattle.md_rule.specs.Kept.{IsReached}
+use Rattle.md_rule.specs.Views.{PassState}
 use Rattle.md_help.specs.declared.settling.End.TheVariants.{Gone}
 use Rattle.md_help.specs.Settles.{MetStatus, Settled}
 use Rattle.md_help.proofs.Finishing.{finishes_gone, finishes_taken, saw_decided, saw_met, saw_status}
@@ -32,6 +33,11 @@ settle-end-requires-clause-met g c =
     let shape = c.args.field.now.origin.shape in
     let p = c.args.pass.now.view in
     subst (λ (s : Spot). MetStatus shape p s.desc c.args.status) (sym c.spot_in-desc.ensures) (saw_status shape c.args.word (word_of c.args.found) c.args.status p c.requires.saw)
+
+pub take_out-left-requires-clause-field : goal.take_out-left-requires-clause-field
+take_out-left-requires-clause-field g c =
+    let same = c.settle-end.ensures.same in
+    record { table = ap (λ (x : PassState). x.table) same ∙ c.requires.field.table; shape = ap (λ (x : PassState). x.shape) same ∙ c.requires.field.shape }
 
 pub take_out-left-requires-clause-saw : goal.take_out-left-requires-clause-saw
 take_out-left-requires-clause-saw g c =
@@ -62,6 +68,12 @@ returns-in-Gone-clause-finishes g c =
     let last = made_load M o c.args.word c.load-left.result q r c.load-left.ensures.step in
     finishes_gone o.shape c.args.word from c.args.status c.load-left.result p q r s last (flagged_load M o c.args.word c.load-left.result c.load-left.result q r last c.load-left.ensures.step.0)
     (gone_apart M o c.args.word from c.args.status c.load-left.result s.steps p q r c.requires.counted c.requires.odd c.requires.saw s.goes s.ends c.load-left.ensures.step)
+
+pub returns-in-Gone-clause-same : goal.returns-in-Gone-clause-same
+returns-in-Gone-clause-same g c = c.load-left.ensures.same ∙ ap (λ (x : PassState). record x { view = c.load-left.new.self.view }) c.settle-end.ensures.same
+
+pub returns-in_default-clause-same : goal.returns-in_default-clause-same
+returns-in_default-clause-same g c = c.take_out-left.ensures.same ∙ ap (λ (x : PassState). record x { view = c.take_out-left.new.pass.view }) c.settle-end.ensures.same
 
 pub returns-in_default-clause-finishes : goal.returns-in_default-clause-finishes
 returns-in_default-clause-finishes g c =

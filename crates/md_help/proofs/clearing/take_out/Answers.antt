@@ -5,6 +5,7 @@ use Rattle.md_machine.specs.declared.step.TheConstants.{LAST_COUNT}
 use Rattle.md_machine.specs.Event.{uninstall}
 use Rattle.md_machine.specs.events.Uninstall.{uninstalled_word}
 use Rattle.md_rule.proofs.Events.{count_of_word}
+use Rattle.md_rule.specs.Views.{PassState}
 use Rattle.md_help.specs.Clears.{TakenOut, fate_of}
 use Rattle.md_help.proofs.Flagged.{flagged_uninstall}
 use Rattle.md_help.proofs.Steps.{stands_made}
@@ -66,3 +67,9 @@ returns-in-Err-clause-taken g c =
     let take = uninstall_lost M o c.args.word from value c.in-Err.left q r step.0 step.1 in
     taken_out o.shape c.args.word from value c.in-Err.left c.in-Err.left (fate_of c.args.end) p q r c.slot_value-value.ensures.loaded take (inr (step.0, refl)) step.0
     (flagged_uninstall M o c.args.word from value c.in-Err.left c.in-Err.left q r take step.1.0)
+
+pub returns-in-Ok-clause-same : goal.returns-in-Ok-clause-same
+returns-in-Ok-clause-same g c = c.uninstall.ensures.same ∙ ap (λ (x : PassState). record x { view = c.uninstall.new.self.view }) c.slot_value-value.ensures.same
+
+pub returns-in-Err-clause-same : goal.returns-in-Err-clause-same
+returns-in-Err-clause-same g c = c.uninstall.ensures.same ∙ ap (λ (x : PassState). record x { view = c.uninstall.new.self.view }) c.slot_value-value.ensures.same

@@ -4,6 +4,7 @@ use Rattle.md_words.specs.Place.{read_content, read_word}
 use Rattle.md_machine.specs.Event.{load}
 use Rattle.md_machine.specs.declared.step.Kind.TheVariants.{Load}
 use Rattle.md_rule.specs.Steps.{SteppedFrom}
+use Rattle.md_rule.specs.Views.{PassState}
 use Rattle.md_help.proofs.Numbers.{fits_word, read_word_apart, read_word_below}
 use Rattle.md_help.proofs.Reading.{checked}
 use Rattle.md_help.proofs.Steps.{made_load, stands_made}
@@ -49,3 +50,8 @@ returns-clause-checked g c =
     (made_load M o _ c.load-recorded.result b d (subst (λ w. SteppedFrom M o (λ pass. load pass w) w c.load-recorded.result b d) there c.load-recorded.ensures.step))
     (made_load M o c.load-word.result c.load-found.result d e c.load-found.ensures.step)
     c.requires.exists (read_word_apart M o a b c.read_word.result c.load-word.result c.args.desc c.args.i c.requires.exists at c.load-word.ensures.step) c.does_stand.ensures
+
+pub returns-clause-same : goal.returns-clause-same
+returns-clause-same g c =
+    c.load-found.ensures.same ∙ ap (λ (x : PassState). record x { view = c.load-found.new.self.view })
+    (c.load-recorded.ensures.same ∙ ap (λ (x : PassState). record x { view = c.load-recorded.new.self.view }) c.load-word.ensures.same)

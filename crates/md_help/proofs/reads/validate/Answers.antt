@@ -33,3 +33,6 @@ loop-i-init g c = record {
   stands = c.requires.stands;
   so_far = validated_none c.args.field.now.origin.shape c.args.desc c.args.pass.now.view c.requires.desc;
 }
+
+pub returns-then-not-check-clause-same : goal.returns-then-not-check-clause-same
+returns-then-not-check-clause-same g c = c.check.ensures.same ∙ ap (λ (x : PassState). record x { view = c.check.new.pass.view }) c.loop-i.invariant.same

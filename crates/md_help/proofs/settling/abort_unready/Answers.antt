@@ -1,4 +1,4 @@
-use Rattle.std.proofs.Common.{inr, [], ◌∷◌, true, refl, inl, arith, subst}
+use Rattle.std.proofs.Common.{inr, [], ◌∷◌, true, refl, inl, arith, ap, subst, ◌∙◌}
 use Rattle.md_help.specs.Owns.{KnowsEnd}
 use Rattle.md_words.specs.declared.status.Status.TheVariants.{Aborted as IsAborted}
 use Rattle.md_words.specs.Layout.{address}
@@ -7,6 +7,7 @@ use Rattle.md_machine.specs.declared.step.Kind.TheVariants.{Abort}
 use Rattle.md_machine.specs.Event.{abort}
 use Rattle.md_machine.specs.events.Decide.{decided_word}
 use Rattle.md_rule.proofs.LaneLists.{reaches}
+use Rattle.md_rule.specs.Views.{PassState}
 use Rattle.md_help.proofs.Deciding.{abort_lost, abort_won, lost_ready, may_abort, met_made, newer_came, newer_few, reached_after}
 use Rattle.md_help.proofs.Ends.{settled_aborted, settled_newer}
 use Rattle.md_help.proofs.Reading.{validated_none}
@@ -102,3 +103,11 @@ returns-in-Err-clause-own g c own =
     let step = c.in-Err.ensures.step in
     let same = own_same M o (λ pass. abort pass c.args.desc c.args.status) p q c.args.desc c.args.status c.in-Err.newer c.requires.exists c.requires.met own step.1 in
     subst (λ n. KnowsEnd o.shape c.settle_newer.new.pass.view c.args.desc n c.settle_newer.result) same (c.settle_newer.ensures.own same (last_lost o.shape c.args.desc c.args.status c.in-Err.newer Abort p q (abort_lost M o c.args.desc c.args.status c.in-Err.newer p q step.0 step.1) same own))
+
+pub settle_newer-requires-clause-field : goal.settle_newer-requires-clause-field
+settle_newer-requires-clause-field g c =
+    let same = c.abort.ensures.same in
+    record { table = ap (λ (x : PassState). x.table) same ∙ c.requires.field.table; shape = ap (λ (x : PassState). x.shape) same ∙ c.requires.field.shape }
+
+pub returns-in-Err-clause-same : goal.returns-in-Err-clause-same
+returns-in-Err-clause-same g c = c.settle_newer.ensures.same ∙ ap (λ (x : PassState). record x { view = c.settle_newer.new.pass.view }) c.abort.ensures.same

@@ -1,4 +1,6 @@
-use Rattle.std.proofs.Common.{ap, ◌∙◌, inl, [], ◌∷◌, le_refl, true, false, refl, inr}
+use Rattle.std.proofs.Common.{ap, ◌∙◌, inl, [], ◌∷◌, le_refl, true, false, refl, inr, sym, subst, ◌≤◌}
+use Rattle.md_words.specs.declared.limits.TheConstants.{SET}
+use Rattle.md_words.specs.declared.status.StatusWord.{StatusWord}
 use Rattle.md_words.specs.declared.status.Status.TheVariants.{Committed as IsCommitted, Aborted as IsAborted}
 use Rattle.md_words.specs.Layout.{address}
 use Rattle.md_words.specs.Place.{desc_status}
@@ -195,3 +197,28 @@ returns-in-Err-abort-clause-own g c own =
     let same = own_same M o (λ pass. abort pass c.args.desc c.args.status) q r c.args.desc c.args.status newer c.requires.exists
     (met_after o.shape v.steps p q c.args.desc c.args.status v.goes c.requires.met) after step.1 in
     end_lost o.shape c.args.desc c.args.status newer Abort _ q r (abort_lost M o c.args.desc c.args.status newer q r step.0 step.1) same c.end_of-in-Err-abort.ensures after
+
+pub validate-requires-clause-reads : goal.validate-requires-clause-reads
+validate-requires-clause-reads g c = subst (λ (w : StatusWord). w.reads ≤ SET) (sym c.of.ensures.parts) c.requires.few
+
+pub commit-requires-clause-field : goal.commit-requires-clause-field
+commit-requires-clause-field g c =
+    let same = c.validate.ensures.same in
+    (record { table = ap (λ (x : PassState). x.table) same ∙ c.requires.field.table; shape = ap (λ (x : PassState). x.shape) same ∙ c.requires.field.shape }, c.requires.exists)
+
+pub abort-requires-clause-field : goal.abort-requires-clause-field
+abort-requires-clause-field g c =
+    let same = c.validate.ensures.same in
+    (record { table = ap (λ (x : PassState). x.table) same ∙ c.requires.field.table; shape = ap (λ (x : PassState). x.shape) same ∙ c.requires.field.shape }, c.requires.exists)
+
+pub returns-in-Ok-clause-same : goal.returns-in-Ok-clause-same
+returns-in-Ok-clause-same g c = c.commit.ensures.same ∙ ap (λ (x : PassState). record x { view = c.commit.new.self.view }) c.validate.ensures.same
+
+pub returns-in-Err-clause-same : goal.returns-in-Err-clause-same
+returns-in-Err-clause-same g c = c.commit.ensures.same ∙ ap (λ (x : PassState). record x { view = c.commit.new.self.view }) c.validate.ensures.same
+
+pub returns-in-Ok-abort-clause-same : goal.returns-in-Ok-abort-clause-same
+returns-in-Ok-abort-clause-same g c = c.abort.ensures.same ∙ ap (λ (x : PassState). record x { view = c.abort.new.self.view }) c.validate.ensures.same
+
+pub returns-in-Err-abort-clause-same : goal.returns-in-Err-abort-clause-same
+returns-in-Err-abort-clause-same g c = c.abort.ensures.same ∙ ap (λ (x : PassState). record x { view = c.abort.new.self.view }) c.validate.ensures.same

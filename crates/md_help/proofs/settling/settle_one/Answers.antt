@@ -5,6 +5,7 @@ use Rattle.md_words.specs.Status.{serial_of}
 use Rattle.md_machine.specs.declared.step.Kind.TheVariants.{Load}
 use Rattle.md_machine.specs.Event.{load}
 use Rattle.md_rule.specs.Steps.{EventOf, SteppedFrom}
+use Rattle.md_rule.specs.Views.{PassState}
 use Rattle.md_help.proofs.Deciding.{met_made, newer_few, reached_after}
 use Rattle.md_help.proofs.Steps.{both_after, load_finds, made_load, stands_made}
 use Rattle.md_help.proofs.Owns.{last_loaded, own_no_later}
@@ -81,3 +82,11 @@ returns-clause-own g c own =
           (made_load M o (address o.shape (desc_status c.args.desc)) c.load-status.result p q step));
       no_later = own_no_later M o event p q c.args.desc c.load-status.result own step;
     }
+
+pub settle-requires-clause-field : goal.settle-requires-clause-field
+settle-requires-clause-field g c =
+    let same = c.load-status.ensures.same in
+    record { table = ap (λ (x : PassState). x.table) same ∙ c.requires.field.table; shape = ap (λ (x : PassState). x.shape) same ∙ c.requires.field.shape }
+
+pub returns-clause-same : goal.returns-clause-same
+returns-clause-same g c = c.settle.ensures.same ∙ ap (λ (x : PassState). record x { view = c.settle.new.pass.view }) c.load-status.ensures.same

@@ -1,4 +1,4 @@
-use Rattle.std.proofs.Common.{refl, sym, ap, ◌∙◌}
+use Rattle.std.proofs.Common.{refl, sym, ap, ◌∙◌, rules}
 use Rattle.md_words.specs.declared.status.StatusWord.{StatusWord}
 use Rattle.md_help.specs.declared.settling.End.TheVariants.{Committed, Aborted}
 use Rattle.md_help.proofs.Ends.{is_aborted, settled_already}
@@ -27,3 +27,9 @@ returns-in-Committed-clause-own g c own =
     let is = ap (λ (w : StatusWord). w.status) c.of.ensures.parts in
     end_already c.args.field.now.origin.shape c.args.desc c.args.status Committed c.args.pass.now.view c.requires.met
     (sym is ∙ c.in-Committed.is) own
+
+pub returns-in-InProg-clause-settled : goal.returns-in-InProg-clause-settled
+returns-in-InProg-clause-settled g c = search rules depth 1
+
+pub returns-in-InProg-clause-own : goal.returns-in-InProg-clause-own
+returns-in-InProg-clause-own g c = search rules depth 1

@@ -1,12 +1,13 @@
-use Rattle.std.proofs.Common.{arith, rules}
+use Rattle.std.proofs.Common.{arith, rules, ◌∙◌}
 use Rattle.md_nbtc.specs.State.{state}
 use Rattle.md_queue.specs.Operations.{RefusedOtherwise, words_recorded}
 use Rattle.md_queue.specs.Working.{first_words}
 use Rattle.md_queue.proofs.Among.{among_from, answered}
 use Rattle.md_queue.proofs.Firsts.{dequeue_none, first_among}
-use Rattle.md_queue.proofs.Steps.{goes_then, refused_then, unstopped}
+use Rattle.md_queue.proofs.Steps.{goes_then, refused_then, refused_up, unstopped}
 use Rattle.std.proofs.Common.{inl, inr}
 use Rattle.md_history.specs.declared.acts.Op.TheVariants.{Dequeue}
+use Rattle.md_history.specs.declared.stops.Limit.TheVariants.{Reads, Writes}
 use Rattle.md_queue.specs.Refusals.{AsksFront}
 use Rattle.md_queue.proofs.Refusing.{began_on, change_from, move_from, not_by, read_from, if_err}
 use Rattle.md_queue.proofs.first.dequeue.Goals as goal
@@ -171,3 +172,30 @@ returns-in_err-follow_tail-clause-reads g c =
     let stop = c.in_err-follow_tail.field-0.0 in
     if_err c.from_residual-in_err-follow_tail.result stop _ c.from_residual-in_err-follow_tail.ensures.1
     (λ limit began. not_by u stop (began_on M t u 0 0 0 c.in_ok-first.ensures.goes began).unstopped (c.in_err-follow_tail.ensures.no_reads limit))
+
+pub returns-in_err-note_first-clause-pass : goal.returns-in_err-note_first-clause-pass
+returns-in_err-note_first-clause-pass g c = c.in_err-note_first.ensures.pass ∙ c.in_ok-first.ensures.pass
+
+pub returns-then-first-eq0-clause-pass : goal.returns-then-first-eq0-clause-pass
+returns-then-first-eq0-clause-pass g c = c.in_ok-note_first.ensures.pass ∙ c.in_ok-first.ensures.pass
+
+pub returns-in_err-follow_tail-clause-pass : goal.returns-in_err-follow_tail-clause-pass
+returns-in_err-follow_tail-clause-pass g c = c.in_err-follow_tail.ensures.pass ∙ c.in_ok-first.ensures.pass
+
+pub returns-in_err-value-clause-pass : goal.returns-in_err-value-clause-pass
+returns-in_err-value-clause-pass g c = c.in_err-value.ensures.pass ∙ c.in_ok-follow_tail.ensures.pass ∙ c.in_ok-first.ensures.pass
+
+pub returns-clause-pass : goal.returns-clause-pass
+returns-clause-pass g c = c.in_ok-value.ensures.pass ∙ c.in_ok-follow_tail.ensures.pass ∙ c.in_ok-first.ensures.pass
+
+pub returns-in_err-first-clause-stop : goal.returns-in_err-first-clause-stop
+returns-in_err-first-clause-stop g c = if_err c.from_residual.result c.in_err-first.field-0.0 _ c.from_residual.ensures.1
+    (refused_up g.T.Theory.meaning (state c.args.tx.now) (state c.load_first.new.tx) 0 0 2 2 c.in_err-first.field-0.0 c.in_err-first.ensures.stop (omega arith) (omega arith))
+
+pub returns-in_err-first-clause-reads : goal.returns-in_err-first-clause-reads
+returns-in_err-first-clause-reads g c = if_err c.from_residual.result c.in_err-first.field-0.0 _ c.from_residual.ensures.1
+    (λ limit began. not_by (state c.args.tx.now) c.in_err-first.field-0.0 began.unstopped (c.in_err-first.ensures.limits Reads limit))
+
+pub returns-in_err-first-clause-writes : goal.returns-in_err-first-clause-writes
+returns-in_err-first-clause-writes g c = if_err c.from_residual.result c.in_err-first.field-0.0 _ c.from_residual.ensures.1
+    (λ limit began. not_by (state c.args.tx.now) c.in_err-first.field-0.0 began.unstopped (c.in_err-first.ensures.limits Writes limit))

@@ -1,4 +1,5 @@
-use Rattle.std.proofs.Common.{rules, ◌≡◌, [], ◌∷◌, sym, subst, arith}
+use Rattle.std.proofs.Common.{rules, ◌≡◌, [], ◌∷◌, sym, subst, ◌∙◌, arith}
+use Rattle.md_history.specs.declared.stops.Limit.TheVariants.{Reads, Writes}
 use Rattle.md_words.specs.declared.shape.Shape.{Shape}
 use Rattle.md_words.specs.Layout.{address}
 use Rattle.md_words.specs.Link.{linked_node}
@@ -13,9 +14,9 @@ use Rattle.md_queue.proofs.Among.{among_to, answered}
 use Rattle.md_queue.proofs.Data.{half_is}
 use Rattle.md_queue.proofs.Firsts.{first_among, front_none, front_some}
 use Rattle.md_queue.proofs.Looking.{node_readable}
-use Rattle.md_queue.proofs.Steps.{goes_then, pass_goes, refused_then, unstopped}
+use Rattle.md_queue.proofs.Steps.{goes_then, pass_goes, refused_then, refused_up, unstopped}
 use Rattle.md_queue.specs.Refusals.{AsksFront}
-use Rattle.md_queue.proofs.Refusing.{began_on, read_from, if_err}
+use Rattle.md_queue.proofs.Refusing.{began_on, not_by, read_from, if_err}
 use Rattle.md_queue.proofs.first.front.Goals as goal
 
 pub note_first-requires : goal.note_first-requires
@@ -98,3 +99,27 @@ returns-in_err-note_first-clause-reads g c =
     let stop = c.in_err-note_first.field-0.0 in
     if_err c.from_residual-in_err-note_first.result stop _ c.from_residual-in_err-note_first.ensures.1 (λ limit began cs going. read_from M t u v 0 0 cs (AsksFront c.args.queue) goes
     (c.in_err-note_first.ensures.reads limit (began_on M t u 0 0 0 goes began) cs (c.in_ok-first.ensures.sees cs going)))
+
+pub returns-in_err-note_first-clause-pass : goal.returns-in_err-note_first-clause-pass
+returns-in_err-note_first-clause-pass g c = c.in_err-note_first.ensures.pass ∙ c.in_ok-first.ensures.pass
+
+pub returns-then-first-eq0-clause-pass : goal.returns-then-first-eq0-clause-pass
+returns-then-first-eq0-clause-pass g c = c.in_ok-note_first.ensures.pass ∙ c.in_ok-first.ensures.pass
+
+pub returns-clause-pass : goal.returns-clause-pass
+returns-clause-pass g c = c.value_of.ensures.pass ∙ c.in_ok-note_first.ensures.pass ∙ c.in_ok-first.ensures.pass
+
+pub returns-in_err-first-clause-stop : goal.returns-in_err-first-clause-stop
+returns-in_err-first-clause-stop g c = if_err c.from_residual.result c.in_err-first.field-0.0 _ c.from_residual.ensures.1
+    (refused_up g.T.Theory.meaning (state c.args.tx.now) (state c.load_first.new.tx) 0 0 2 0 c.in_err-first.field-0.0 c.in_err-first.ensures.stop (omega arith) (omega arith))
+
+pub returns-in_err-first-clause-reads : goal.returns-in_err-first-clause-reads
+returns-in_err-first-clause-reads g c = if_err c.from_residual.result c.in_err-first.field-0.0 _ c.from_residual.ensures.1
+    (λ limit began. not_by (state c.args.tx.now) c.in_err-first.field-0.0 began.unstopped (c.in_err-first.ensures.limits Reads limit))
+
+pub returns-in_err-first-clause-no_writes : goal.returns-in_err-first-clause-no_writes
+returns-in_err-first-clause-no_writes g c = if_err c.from_residual.result c.in_err-first.field-0.0 _ c.from_residual.ensures.1 (c.in_err-first.ensures.limits Writes)
+
+pub returns-in_err-note_first-clause-no_writes : goal.returns-in_err-note_first-clause-no_writes
+returns-in_err-note_first-clause-no_writes g c = if_err c.from_residual-in_err-note_first.result c.in_err-note_first.field-0.0 _ c.from_residual-in_err-note_first.ensures.1
+    (λ limit. sym c.in_ok-first.ensures.goes.same_stop ∙ c.in_err-note_first.ensures.no_writes limit)

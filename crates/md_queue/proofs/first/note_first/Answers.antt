@@ -28,6 +28,12 @@ note-requires-clause-found g c =
     subst (λ w. IsFoundThere g.T.Theory.meaning t w c.args.first.head) (sym (c.queue_head-head_word.ensures.place ∙ ap (λ s. address s (queue_head c.args.queue)) c.shape.ensures))
     c.requires.sees.1.head_sees.there
 
+pub note-requires-clause-gave : goal.note-requires-clause-gave
+note-requires-clause-gave g c =
+    let t = state c.args.tx.now in
+    subst (λ w. Gave t w c.args.first.head) (sym (c.queue_head-head_word.ensures.place ∙ ap (λ s. address s (queue_head c.args.queue)) c.shape.ensures))
+    c.requires.sees.1.head_sees.gave
+
 pub returns-in_err-note-clause-stop : goal.returns-in_err-note-clause-stop
 returns-in_err-note-clause-stop g c =
     let M = g.T.Theory.meaning in

@@ -383,3 +383,28 @@ returns-in-Err-out-clause-small g c =
     λ fresh new tries small. none_refused f p c.requires.of fresh u (Some refusal) running field refusal refl
     (refused_unworn f p c.requires.of fresh new u (Some refusal) running field refl c.kept.ensures.lanes refusal refl)
     (g.B.Body.makes c.args.body.now) small off.made
+
+-- a committed attempt didn't stop
+pub returns-in-Ok-commit-clause-stopped : goal.returns-in-Ok-commit-clause-stopped
+returns-in-Ok-commit-clause-stopped g c = tt
+
+pub returns-in-Ok-commit-clause-cause : goal.returns-in-Ok-commit-clause-cause
+returns-in-Ok-commit-clause-cause g c = tt
+
+pub returns-in-Ok-commit-clause-may_stop : goal.returns-in-Ok-commit-clause-may_stop
+returns-in-Ok-commit-clause-may_stop g c = tt
+
+pub returns-in-Ok-commit-clause-alone : goal.returns-in-Ok-commit-clause-alone
+returns-in-Ok-commit-clause-alone g c = λ all. tt
+
+pub returns-in-Ok-commit-clause-unworn : goal.returns-in-Ok-commit-clause-unworn
+returns-in-Ok-commit-clause-unworn g c = λ fresh new. tt
+
+pub returns-in-Ok-commit-clause-small : goal.returns-in-Ok-commit-clause-small
+returns-in-Ok-commit-clause-small g c = λ fresh new tries small. tt
+
+pub returns-in-Err-commit-clause-may_stop : goal.returns-in-Err-commit-clause-may_stop
+returns-in-Err-commit-clause-may_stop g c = tt
+
+pub returns-in-Err-commit-clause-unworn : goal.returns-in-Err-commit-clause-unworn
+returns-in-Err-commit-clause-unworn g c = λ fresh new word count e. absurd (cc e)
