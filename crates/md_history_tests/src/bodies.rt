@@ -1,15 +1,15 @@
 //! A body that makes calls runs over the store.
 
-ghost use Rattle.std.specs.Prelude.{◌≡◌, length, IfOk};
+ghost use Rattle.std.specs.Prelude.{◌≡◌, length};
+ghost use Rattle.md_history.specs.Plain.{IsPassOf};
 
 use crate::acts::has_acts;
-use crate::contents::{map_has, push, put, queue_has};
+use crate::contents::{map_is, push, put, queue_is};
 use md_history::{
-    Act, Attempt, Body, Contents, Engine, Entry, Op, PlainStore, Reply, Stop, TxCalls,
+    Act, Attempt, Body, Contents, Engine, Entry, Op, PlainPass, PlainStore, Reply, Stop, TxCalls,
 };
-use std::alloc::{AllocError, Global};
+use std::alloc::AllocGlobal;
 use std::process::Abort;
-use std::test::Fail;
 
 // A body that makes each call once, on one map and one queue, and answers what it dequeued.
 #[derive(Clone, Copy, Drop)]
@@ -85,17 +85,17 @@ fn acts_of(body: EachCall, absent: bool, found: u64, removed: Option<u64>, first
 }
 
 // A map in which 9 has the value 4, and a queue with the value 1.
-fn one_of_each(alloc: Global) -> Result<Contents, AllocError>
-    ensures maps { IfOk result (λ c. length c.maps ≡ 1) }
-    ensures queues { IfOk result (λ c. length c.queues ≡ 1) }
+fn one_of_each(rt: &(impl Abort + AllocGlobal)) -> Contents
+    ensures maps { length result.maps ≡ 1 }
+    ensures queues { length result.queues ≡ 1 }
 {
-    let mut contents = Contents::empty(alloc, 1, 1)?;
-    put(&mut contents, 0, 9, 4)?;
-    push(&mut contents, 0, 1)?;
+    let mut contents = Contents::empty(rt.alloc(), 1, 1).expect(rt, "memory");
+    put(&mut contents, 0, 9, 4).expect(rt, "memory");
+    push(&mut contents, 0, 1).expect(rt, "memory");
     if contents.maps().len() != 1 || contents.queues().len() != 1 {
-        return Err(AllocError);
+        panic!(rt; "another shape")
     }
-    Ok(contents)
+    contents
 }
 
 // The entry is committed on the only lane, and has these acts.
@@ -114,23 +114,42 @@ fn has_both(rt: &impl Abort, entries: &[Entry], first: EachCall, second: EachCal
     is_entry(rt, two, 1, 20, &acts_of(second, false, 6, None, 6));
 }
 
+// Runs a body, and returns what it answered.
+fn end_of(
+    store: &PlainStore,
+    pass: &mut PlainPass,
+    tag: u64,
+    body: EachCall,
+) -> Attempt<Option<u64>>
+    requires of { IsPassOf store.now pass.old }
+    requires maps { length store.now.maps ≡ 1 }
+    requires queues { length store.now.queues ≡ 1 }
+    ensures { IsPassOf store.now pass.new }
+{
+    store.attempt(pass, tag, &body)
+}
+
 #[test]
-fn a_body_runs_twice(rt: HostRuntime) -> Result<(), Fail> {
-    let (store, mut pass) = PlainStore::open(one_of_each(rt.alloc())?);
+fn a_body_runs_twice(rt: HostRuntime) {
+    let (store, mut pass) = PlainStore::open(one_of_each(&rt));
     let first = EachCall { key: 5, value: 6 };
     let second = EachCall { key: 5, value: 7 };
-    let ends = [
-        store.attempt(&mut pass, 30, &first),
-        store.attempt(&mut pass, 20, &second),
-    ];
+    let one = end_of(&store, &mut pass, 30, first);
+    assert_eq!(rt; one, Attempt::Committed(Some(1)));
+    let two = end_of(&store, &mut pass, 20, second);
+    assert_eq!(rt; two, Attempt::Committed(Some(6)));
     has_both(&rt, pass.entries(), first, second);
-    let (contents, _front) = store.contents(pass)?;
-    let map = [Some(1), None, Some(6), None, None];
-    let queue = [Some(1), Some(7), None, None, None];
-    let replies = [Attempt::Committed(Some(1)), Attempt::Committed(Some(6))];
-    assert_eq!(rt;
-        (ends, map_has(&contents, 0), queue_has(&contents, 0)),
-        (replies, Some(map), Some(queue))
+    let (contents, _front) = store.contents(pass).expect(&rt, "memory");
+    map_is(
+        &rt,
+        &contents,
+        0,
+        Some([Some(1), None, Some(6), None, None]),
     );
-    Ok(())
+    queue_is(
+        &rt,
+        &contents,
+        0,
+        Some([Some(1), Some(7), None, None, None]),
+    );
 }

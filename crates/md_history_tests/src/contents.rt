@@ -4,7 +4,7 @@ ghost use Rattle.std.specs.Prelude.{◌<◌, length, IsTrue};
 
 use md_history::Contents;
 use std::alloc::{AllocError, Global};
-use std::test::Fail;
+use std::process::Abort;
 
 // Whether there is such a map.
 fn has_map(contents: &Contents, map: u32) -> bool
@@ -49,7 +49,7 @@ pub(crate) fn push(contents: &mut Contents, queue: u32, value: u64) -> Result<()
 
 // How many pairs a map has, and the values of the keys 4, 5, 7 and 9. `None` if there is no such
 // map.
-pub(crate) fn map_has(contents: &Contents, map: u32) -> Option<[Option<u64>; 5]> {
+fn map_has(contents: &Contents, map: u32) -> Option<[Option<u64>; 5]> {
     if !has_map(contents, map) {
         return None;
     }
@@ -62,6 +62,16 @@ pub(crate) fn map_has(contents: &Contents, map: u32) -> Option<[Option<u64>; 5]>
     ])
 }
 
+// A map has this.
+pub(crate) fn map_is(
+    rt: &impl Abort,
+    contents: &Contents,
+    map: u32,
+    want: Option<[Option<u64>; 5]>,
+) {
+    assert_eq!(rt; map_has(contents, map), want);
+}
+
 // How many values a queue has. `None` if there is no such queue.
 pub(crate) fn queue_len(contents: &Contents, queue: u32) -> Option<u64> {
     if queue as usize >= contents.queues().len() {
@@ -71,7 +81,7 @@ pub(crate) fn queue_len(contents: &Contents, queue: u32) -> Option<u64> {
 }
 
 // How many values a queue has, and its first four values. `None` if there is no such queue.
-pub(crate) fn queue_has(contents: &Contents, queue: u32) -> Option<[Option<u64>; 5]> {
+fn queue_has(contents: &Contents, queue: u32) -> Option<[Option<u64>; 5]> {
     if queue as usize >= contents.queues().len() {
         return None;
     }
@@ -85,6 +95,16 @@ pub(crate) fn queue_has(contents: &Contents, queue: u32) -> Option<[Option<u64>;
     ])
 }
 
+// A queue has this.
+pub(crate) fn queue_is(
+    rt: &impl Abort,
+    contents: &Contents,
+    queue: u32,
+    want: Option<[Option<u64>; 5]>,
+) {
+    assert_eq!(rt; queue_has(contents, queue), want);
+}
+
 // What two puts at one key return. A value goes into a queue, too.
 fn puts_of(contents: &mut Contents) -> Result<[Option<u64>; 2], AllocError> {
     let puts = [put(contents, 0, 5, 6)?, put(contents, 0, 5, 7)?];
@@ -93,42 +113,46 @@ fn puts_of(contents: &mut Contents) -> Result<[Option<u64>; 2], AllocError> {
 }
 
 #[test]
-fn contents_take_values(rt: HostRuntime) -> Result<(), Fail> {
-    let mut contents = Contents::empty(rt.alloc(), 1, 1)?;
-    let puts = puts_of(&mut contents)?;
-    let maps = [map_has(&contents, 0), map_has(&contents, 1)];
-    let queues = [queue_has(&contents, 0), queue_has(&contents, 1)];
-    let map = [Some(1), None, Some(7), None, None];
-    let queue = [Some(1), Some(1), None, None, None];
-    assert_eq!(rt;
-        (puts, maps, queues),
-        ([None, Some(6)], [Some(map), None], [Some(queue), None])
+fn contents_take_values(rt: HostRuntime) {
+    let mut contents = Contents::empty(rt.alloc(), 1, 1).expect(&rt, "memory");
+    let puts = puts_of(&mut contents).expect(&rt, "memory");
+    assert_eq!(rt; puts, [None, Some(6)]);
+    map_is(
+        &rt,
+        &contents,
+        0,
+        Some([Some(1), None, Some(7), None, None]),
     );
-    Ok(())
+    map_is(&rt, &contents, 1, None);
+    queue_is(
+        &rt,
+        &contents,
+        0,
+        Some([Some(1), Some(1), None, None, None]),
+    );
+    queue_is(&rt, &contents, 1, None);
 }
 
-// Sets one of two maps whole. Returns what both have then, and what that one has when it was set
-// again, without pairs.
-fn set_twice(
-    contents: &mut Contents,
-    alloc: Global,
-) -> Result<[Option<[Option<u64>; 5]>; 3], AllocError> {
-    set_map(contents, alloc, 1, &[(9, 2), (7, 3), (9, 4)])?;
-    let other = map_has(contents, 0);
-    let map = map_has(contents, 1);
-    set_map(contents, alloc, 1, &[])?;
-    Ok([other, map, map_has(contents, 1)])
-}
-
+// One of two maps is set whole, and then set again, without pairs.
 #[test]
-fn a_map_is_set_whole(rt: HostRuntime) -> Result<(), Fail> {
-    let mut contents = Contents::empty(rt.alloc(), 2, 0)?;
-    put(&mut contents, 0, 5, 6)?;
-    put(&mut contents, 1, 4, 1)?;
-    let maps = set_twice(&mut contents, rt.alloc())?;
-    let other = [Some(1), None, Some(6), None, None];
-    let map = [Some(2), None, None, Some(3), Some(4)];
-    let none = [Some(0), None, None, None, None];
-    assert_eq!(rt; maps, [Some(other), Some(map), Some(none)]);
-    Ok(())
+fn a_map_is_set_whole(rt: HostRuntime) {
+    let alloc = rt.alloc();
+    let mut contents = Contents::empty(alloc, 2, 0).expect(&rt, "memory");
+    put(&mut contents, 0, 5, 6).expect(&rt, "memory");
+    put(&mut contents, 1, 4, 1).expect(&rt, "memory");
+    set_map(&mut contents, alloc, 1, &[(9, 2), (7, 3), (9, 4)]).expect(&rt, "memory");
+    map_is(
+        &rt,
+        &contents,
+        0,
+        Some([Some(1), None, Some(6), None, None]),
+    );
+    map_is(
+        &rt,
+        &contents,
+        1,
+        Some([Some(2), None, None, Some(3), Some(4)]),
+    );
+    set_map(&mut contents, alloc, 1, &[]).expect(&rt, "memory");
+    map_is(&rt, &contents, 1, Some([Some(0), None, None, None, None]));
 }

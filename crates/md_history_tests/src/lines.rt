@@ -1,13 +1,12 @@
 //! Bodies look at the first values of a queue.
 
-ghost use Rattle.std.specs.Prelude.{◌≡◌, length, IfOk};
+ghost use Rattle.std.specs.Prelude.{◌≡◌, length};
 ghost use Rattle.md_history.specs.Plain.{IsPassOf};
 
-use crate::contents::{push, queue_has, queue_len};
+use crate::contents::{push, queue_is, queue_len};
 use md_history::{Attempt, Body, Contents, Engine, Line, PlainPass, PlainStore, Stop, TxCalls};
-use std::alloc::{AllocError, Global};
+use std::alloc::{AllocError, AllocGlobal};
 use std::process::Abort;
-use std::test::Fail;
 
 // A body that puts 1 and 2 into a queue, and looks at its first value and at its first twelve.
 #[derive(Clone, Copy, Drop)]
@@ -57,15 +56,13 @@ fn push_all(contents: &mut Contents, queue: u32, count: u64) -> Result<(), Alloc
 }
 
 // A queue with the values from 1 to `count`, which is at most 13.
-fn queue_of(alloc: Global, count: u64) -> Result<Contents, AllocError>
-    ensures { IfOk result (λ c. length c.queues ≡ 1) }
+fn queue_of(rt: &(impl Abort + AllocGlobal), count: u64) -> Contents
+    ensures { length result.queues ≡ 1 }
 {
-    let mut contents = Contents::empty(alloc, 0, 1)?;
-    push_all(&mut contents, 0, count)?;
-    if contents.queues().len() != 1 {
-        return Err(AllocError);
-    }
-    Ok(contents)
+    let mut contents = Contents::empty(rt.alloc(), 0, 1).expect(rt, "memory");
+    push_all(&mut contents, 0, count).expect(rt, "memory");
+    assert!(rt; contents.queues().len() == 1);
+    contents
 }
 
 // The values from 1 on, `count` of them, and zeros.
@@ -79,12 +76,34 @@ fn line_of(count: u8) -> Line {
     Line { count, values }
 }
 
+// The line has the values from 1 on, `count` of them.
+fn has_first(rt: &impl Abort, line: &Line, count: u8) {
+    assert_eq!(rt; *line, line_of(count));
+}
+
+// The body was committed, and its lines have the values from 1 on, so many of them.
+fn has_lines(rt: &impl Abort, end: &Attempt<(Line, Line)>, one: u8, two: u8) {
+    let Attempt::Committed(lines) = end else {
+        panic!(rt; "not committed")
+    };
+    has_first(rt, &lines.0, one);
+    has_first(rt, &lines.1, two);
+}
+
 #[test]
-fn lines_are_looked_at(rt: HostRuntime) -> Result<(), Fail> {
-    let (store, mut pass) = PlainStore::open(queue_of(rt.alloc(), 0)?);
-    let lines = store.attempt(&mut pass, 1, &TwoLines);
-    assert_eq!(rt; lines, Attempt::Committed((line_of(1), line_of(2))));
-    Ok(())
+fn lines_are_looked_at(rt: HostRuntime) {
+    let (store, mut pass) = PlainStore::open(queue_of(&rt, 0));
+    let end = store.attempt(&mut pass, 1, &TwoLines);
+    has_lines(&rt, &end, 1, 2);
+}
+
+// Runs the body, whatever its end.
+fn run_once(store: &PlainStore, pass: &mut PlainPass, tag: u64)
+    requires of { IsPassOf store.now pass.old }
+    requires fits { length store.now.queues ≡ 1 }
+    ensures { IsPassOf store.now pass.new }
+{
+    store.attempt(pass, tag, &TwoLines);
 }
 
 // How many entries a pass has before the body runs, and after it.
@@ -94,24 +113,25 @@ fn entries_of(store: &PlainStore, pass: &mut PlainPass) -> [usize; 2]
     ensures { IsPassOf store.now pass.new }
 {
     let before = pass.entries().len();
-    store.attempt(pass, 2, &TwoLines);
+    run_once(store, pass, 2);
     [before, pass.entries().len()]
 }
 
 #[test]
-fn a_renewed_store_goes_on(rt: HostRuntime) -> Result<(), Fail> {
-    let (store, mut pass) = PlainStore::open(queue_of(rt.alloc(), 0)?);
+fn a_renewed_store_goes_on(rt: HostRuntime) {
+    let (store, mut pass) = PlainStore::open(queue_of(&rt, 0));
     let alone = store.split(&mut pass).is_none();
-    store.attempt(&mut pass, 1, &TwoLines);
-    let (store, mut pass, _front) = store.renew(pass)?;
+    run_once(&store, &mut pass, 1);
+    let (store, mut pass, _front) = store.renew(pass).expect(&rt, "memory");
     let entries = entries_of(&store, &mut pass);
-    let (contents, _front) = store.contents(pass)?;
-    let queue = [Some(4), Some(1), Some(2), Some(1), Some(2)];
-    assert_eq!(rt;
-        (alone, entries, queue_has(&contents, 0)),
-        (true, [0, 1], Some(queue))
+    let (contents, _front) = store.contents(pass).expect(&rt, "memory");
+    assert_eq!(rt; (alone, entries), (true, [0, 1]));
+    queue_is(
+        &rt,
+        &contents,
+        0,
+        Some([Some(4), Some(1), Some(2), Some(1), Some(2)]),
     );
-    Ok(())
 }
 
 // A body that looks at the first `n` values of a queue.
@@ -141,37 +161,31 @@ impl Body for FirstValues {
     ghost did_makes = { λ b acts r did. did.follows };
 }
 
-// A body looks at the first `n` values of a queue with the values from 1 to `there`.
-fn first_of(
-    rt: &impl Abort,
-    alloc: Global,
-    there: u64,
-    n: u8,
-) -> Result<Attempt<Line>, AllocError> {
+// A body looks at the first `n` values of a queue with the values from 1 to `there`, and gets
+// `count` of them.
+fn looks_at(rt: &(impl Abort + AllocGlobal), there: u64, n: u8, count: u8) {
     assert!(rt; 1 <= n && n <= 12);
-    let start = queue_of(alloc, there)?;
+    let start = queue_of(rt, there);
     assert_eq!(rt; queue_len(&start, 0), Some(there));
     let (store, mut pass) = PlainStore::open(start);
-    Ok(store.attempt(&mut pass, 1, &FirstValues { n }))
+    let end = store.attempt(&mut pass, 1, &FirstValues { n });
+    let Attempt::Committed(line) = &end else {
+        panic!(rt; "not committed: {n} of {there}")
+    };
+    has_first(rt, line, count);
 }
 
 // What a line has of a queue with the values from 1 on: how many there are, how many are asked for,
 // and how many the line has.
 #[test]
-fn lines_are_the_first_values(rt: HostRuntime) -> Result<(), Fail> {
-    for (there, n, count) in [
-        (0, 1, 0),
-        (0, 12, 0),
-        (1, 1, 1),
-        (1, 12, 1),
-        (2, 1, 1),
-        (11, 12, 11),
-        (12, 12, 12),
-        (13, 12, 12),
-        (13, 2, 2),
-    ] {
-        let end = first_of(&rt, rt.alloc(), there, n)?;
-        assert_eq!(rt; end, Attempt::Committed(line_of(count)), "{n} of {there}");
-    }
-    Ok(())
+fn lines_are_the_first_values(rt: HostRuntime) {
+    looks_at(&rt, 0, 1, 0);
+    looks_at(&rt, 0, 12, 0);
+    looks_at(&rt, 1, 1, 1);
+    looks_at(&rt, 1, 12, 1);
+    looks_at(&rt, 2, 1, 1);
+    looks_at(&rt, 11, 12, 11);
+    looks_at(&rt, 12, 12, 12);
+    looks_at(&rt, 13, 12, 12);
+    looks_at(&rt, 13, 2, 2);
 }

@@ -6,25 +6,24 @@ use crate::lines::EachLine;
 use crate::looks::Look;
 use md_history::{Contents, PlainPass, PlainStore};
 use md_many::{FreeGate, LinesByCaller, Many, run_lines, run_many};
-use std::alloc::{AllocError, Global};
+use std::alloc::{AllocError, AllocGlobal, Global};
 use std::process::Abort;
-use std::test::Fail;
 use std::thread::Threads;
 
 // The rounds of a caller with `count` lines that makes at most `tries` attempts in a turn.
-fn one_caller(
-    rt: &(impl Threads + Sync),
-    alloc: Global,
+fn one_caller<R: Abort + AllocGlobal + Threads + Sync>(
+    rt: &R,
     count: u32,
     tries: u32,
-) -> Result<Many<u64, PlainPass>, AllocError> {
-    let (store, pass) = PlainStore::open(Contents::empty(alloc, 0, 1)?);
+) -> Many<u64, PlainPass> {
+    let alloc = rt.alloc();
+    let (store, pass) = PlainStore::open(Contents::empty(alloc, 0, 1).expect(rt, "memory"));
     let lines = EachLine {
         callers: 1,
         lines: count,
         like: Look { number: 0 },
     };
-    run_many(rt, alloc, store, pass, &lines, tries, &FreeGate)
+    run_many(rt, alloc, store, pass, &lines, tries, &FreeGate).expect(rt, "memory")
 }
 
 // Each of the caller's `count` lines has its tag as reply, and there are no others.
@@ -37,36 +36,41 @@ fn has_replies(rt: &impl Abort, many: &Many<u64, PlainPass>, count: u32) {
     assert_eq!(rt; (next, many.reply(2, 1).copied()), (None, None));
 }
 
+// The rounds of a caller have its replies, and so many fronts.
+fn has_fronts<R: Abort + AllocGlobal + Threads + Sync>(
+    rt: &R,
+    count: u32,
+    tries: u32,
+    fronts: usize,
+) {
+    let many = one_caller(rt, count, tries);
+    has_replies(rt, &many, count);
+    assert_eq!(rt; many.fronts.len(), fronts, "{count} lines, {tries} tries");
+}
+
 // A round plays one line, and then a turn of at most so many tries. The store is renewed before the
 // next round, if the turn made as many attempts as it has tries. There is a front for each renewal,
 // and one for the end. A caller without lines leaves the store as it was.
 #[test]
-fn one_caller_in_rounds(rt: HostRuntime) -> Result<(), Fail> {
-    for (count, tries, fronts) in [
-        (0, 1_000_000, 1),
-        (1, 1_000_000, 1),
-        (2, 1_000_000, 1),
-        (40_000, 1_000_000, 1),
-        // A turn without lines, and turns without tries.
-        (1, 5, 1),
-        (6, 0, 6),
-        // A batch makes at most 128 attempts. A turn goes on after a batch that had no try left.
-        (129, 128, 1),
-        (130, 128, 2),
-        (129, 129, 1),
-        (1_501, 1_500, 1),
-        (1_502, 1_500, 2),
-        (2_049, 2_048, 1),
-        (2_050, 2_048, 2),
-        (2_501, 1_500, 2),
-        (2_501, 2_048, 2),
-        (2_501, u32::MAX, 1),
-    ] {
-        let many = one_caller(&rt, rt.alloc(), count, tries)?;
-        has_replies(&rt, &many, count);
-        assert_eq!(rt; many.fronts.len(), fronts, "{count} lines, {tries} tries");
-    }
-    Ok(())
+fn one_caller_in_rounds(rt: HostRuntime) {
+    has_fronts(&rt, 0, 1_000_000, 1);
+    has_fronts(&rt, 1, 1_000_000, 1);
+    has_fronts(&rt, 2, 1_000_000, 1);
+    has_fronts(&rt, 40_000, 1_000_000, 1);
+    // A turn without lines, and turns without tries.
+    has_fronts(&rt, 1, 5, 1);
+    has_fronts(&rt, 6, 0, 6);
+    // A batch makes at most 128 attempts. A turn goes on after a batch that had no try left.
+    has_fronts(&rt, 129, 128, 1);
+    has_fronts(&rt, 130, 128, 2);
+    has_fronts(&rt, 129, 129, 1);
+    has_fronts(&rt, 1_501, 1_500, 1);
+    has_fronts(&rt, 1_502, 1_500, 2);
+    has_fronts(&rt, 2_049, 2_048, 1);
+    has_fronts(&rt, 2_050, 2_048, 2);
+    has_fronts(&rt, 2_501, 1_500, 2);
+    has_fronts(&rt, 2_501, 2_048, 2);
+    has_fronts(&rt, 2_501, u32::MAX, 1);
 }
 
 // One caller with a list of bodies that have these numbers.
@@ -85,22 +89,32 @@ fn one_list(alloc: Global, numbers: &[u64]) -> Result<LinesByCaller<Look>, Alloc
     }
 }
 
+// The first caller's line has this reply.
+fn has_reply(rt: &impl Abort, many: &Many<u64, PlainPass>, line: u32, number: Option<u64>) {
+    assert_eq!(rt; many.reply(1, line).copied(), number);
+}
+
+// Plays one caller's list of bodies.
+fn list_played<R: Abort + AllocGlobal + Threads + Sync>(
+    rt: &R,
+    lines: &LinesByCaller<Look>,
+) -> Many<u64, PlainPass>
+    requires { length lines.now ≡ 1 }
+{
+    let alloc = rt.alloc();
+    let (store, pass) = PlainStore::open(Contents::empty(alloc, 0, 1).expect(rt, "memory"));
+    run_lines(rt, alloc, store, pass, lines, 3, &FreeGate).expect(rt, "memory")
+}
+
 // A caller with a list of bodies: each is played once, in its order.
 #[test]
-fn one_list_of_bodies(rt: HostRuntime) -> Result<(), Fail> {
-    let alloc = rt.alloc();
-    let (store, pass) = PlainStore::open(Contents::empty(alloc, 0, 1)?);
-    let lines = one_list(alloc, &[7, 5, 7, 9])?;
+fn one_list_of_bodies(rt: HostRuntime) {
+    let lines = one_list(rt.alloc(), &[7, 5, 7, 9]).expect(&rt, "memory");
     assert_eq!(rt; lines.total(), 4);
-    let many = run_lines(&rt, alloc, store, pass, &lines, 3, &FreeGate)?;
-    for (line, number) in [
-        (1, Some(7)),
-        (2, Some(5)),
-        (3, Some(7)),
-        (4, Some(9)),
-        (5, None),
-    ] {
-        assert_eq!(rt; many.reply(1, line).copied(), number);
-    }
-    Ok(())
+    let many = list_played(&rt, &lines);
+    has_reply(&rt, &many, 1, Some(7));
+    has_reply(&rt, &many, 2, Some(5));
+    has_reply(&rt, &many, 3, Some(7));
+    has_reply(&rt, &many, 4, Some(9));
+    has_reply(&rt, &many, 5, None);
 }

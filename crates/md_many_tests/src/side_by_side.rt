@@ -9,7 +9,6 @@ use crate::puts::Put;
 use md_history::{Body, Contents, Engine, PlainStore, pass_is_legal};
 use md_many::{FreeGate, Lines, Turn, attempt_lines};
 use std::alloc::{AllocError, Global};
-use std::test::Fail;
 use std::thread;
 use std::thread::Threads;
 
@@ -104,17 +103,16 @@ where
 }
 
 #[test]
-fn callers_in_threads(rt: HostRuntime) -> Result<(), Fail> {
+fn callers_in_threads(rt: HostRuntime) {
     let alloc = rt.alloc();
-    let (store, pass) = PlainStore::open(Contents::empty(alloc, 0, 1)?);
+    let (store, pass) = PlainStore::open(Contents::empty(alloc, 0, 1).expect(&rt, "memory"));
     let lines = EachLine {
         callers: 2,
         lines: 3,
         like: Put { number: 0 },
     };
-    let pass = two_callers(&rt, alloc, &store, pass, &lines)?;
+    let pass = two_callers(&rt, alloc, &store, pass, &lines).expect(&rt, "memory");
     assert_eq!(rt; pass.entries().len(), 3);
-    let (contents, _) = store.contents(pass)?;
+    let (contents, _) = store.contents(pass).expect(&rt, "memory");
     assert_eq!(rt; contents.queue(0).front().copied(), Some(4_294_967_297));
-    Ok(())
 }

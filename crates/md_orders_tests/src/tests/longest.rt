@@ -3,7 +3,8 @@
 use crate::tests::reports::reported;
 use crate::tests::shown::read;
 use md_book::{BOUGHT, DEPTHS, LEVELS, MAX_ACCOUNT, MAX_PRICE, SOLD};
-use std::alloc::{AllocError, Global};
+use std::alloc::{AllocError, AllocGlobal, Global};
+use std::process::Abort;
 use std::test::Fail;
 
 // As many lines as a file of version 2 can have.
@@ -61,10 +62,10 @@ fn after_numbered<'a>(
 }
 
 // The report of so many fills, with the longest texts.
-fn longest(alloc: Global) -> Result<Vec<u8>, Fail> {
-    let orders = fills(alloc)?;
-    let scripts = read(alloc, &orders, 64)?;
-    reported(alloc, &scripts, 12, &greatest_values(alloc)?)
+fn longest<R: Abort + AllocGlobal>(rt: &R) -> Vec<u8> {
+    let orders = fills(rt.alloc()).expect(rt, "memory");
+    let values = greatest_values(rt.alloc()).expect(rt, "memory");
+    reported(rt, &read(rt, &orders, 64), 12, &values)
 }
 
 // What is left of that report after the lines of the fills and of the book.
@@ -85,9 +86,8 @@ fn after_lines<'a>(alloc: Global, text: &'a [u8]) -> Result<&'a [u8], Fail> {
 // likewise: some 254 million bytes.
 #[test]
 fn the_longest_report(rt: HostRuntime) -> Result<(), Fail> {
-    let alloc = rt.alloc();
-    let text = longest(alloc)?;
-    let left = after_lines(alloc, &text)?;
+    let text = longest(&rt);
+    let left = after_lines(rt.alloc(), &text)?;
     assert_eq!(rt; left, b"done 999999\n".as_slice());
     Ok(())
 }

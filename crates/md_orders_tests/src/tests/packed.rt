@@ -3,90 +3,87 @@
 use crate::tests::in_threads::told;
 use md_book::{BookReply, MAX_PARTS, Part};
 use md_replies::PackedReplies;
-use std::alloc::Global;
-use std::test::Fail;
+use std::alloc::AllocGlobal;
+use std::process::Abort;
+
+const NONE: Part = Part { name: 0, taken: 0 };
+
+const MOST: Part = Part {
+    name: u64::MAX,
+    taken: u32::MAX,
+};
+
+const UNNAMED: Part = Part { name: 0, taken: 7 };
+
+const EMPTY: Part = Part { name: 7, taken: 0 };
 
 // Parts that are zero but for the first three and the last.
 fn parts(first: Part, second: Part, third: Part, last: Part) -> [Part; MAX_PARTS] {
-    let none = Part { name: 0, taken: 0 };
     [
-        first, second, third, none, none, none, none, none, none, none, none, last,
+        first, second, third, NONE, NONE, NONE, NONE, NONE, NONE, NONE, NONE, last,
     ]
 }
 
-// The fills have no part, parts that the count leaves out, and twelve parts.
-fn fills() -> [(u8, [Part; MAX_PARTS]); 9] {
-    let none = Part { name: 0, taken: 0 };
-    let most = Part {
-        name: u64::MAX,
-        taken: u32::MAX,
+// Adds a fill and a reply of another kind. Behind them nothing is added, which changes nothing.
+fn add_pair(
+    rt: &impl Abort,
+    packed: &mut PackedReplies,
+    count: u8,
+    parts: &[Part; MAX_PARTS],
+    other: &BookReply,
+) {
+    let fill = BookReply::Filled {
+        taken: u32::MAX - 1,
+        rest: u32::MAX,
+        count,
+        parts: *parts,
     };
-    let unnamed = Part { name: 0, taken: 7 };
-    let empty = Part { name: 7, taken: 0 };
-    let gap = parts(most, none, unnamed, none);
-    let two = parts(empty, most, none, none);
-    let last = parts(none, none, none, empty);
-    [
-        (0, [none; MAX_PARTS]),
-        (255, [none; MAX_PARTS]),
-        (1, gap),
-        (0, two),
-        (3, last),
-        (12, [most; MAX_PARTS]),
-        (12, gap),
-        (12, two),
-        (12, last),
-    ]
+    packed.append(&[fill, *other]).expect(rt, "memory");
+    packed.append(&[]).expect(rt, "memory");
 }
 
-// Replies of the other kinds, one for each fill.
-fn others() -> [BookReply; 9] {
-    [
-        BookReply::Placed,
-        BookReply::Cancelled(u32::MAX),
-        BookReply::Gone,
-        BookReply::Account {
-            bought: u64::MAX,
-            sold: 1,
-        },
-        BookReply::Killed,
-        BookReply::Depth(u64::MAX),
-        BookReply::Cancelled(0),
-        BookReply::Account {
-            bought: 0,
-            sold: u64::MAX,
-        },
-        BookReply::Depth(0),
-    ]
-}
-
-// Two replies for each fill: the fill, and one of another kind. Between two such pairs nothing is
-// added, which changes nothing.
-fn all_packed(alloc: Global) -> Result<PackedReplies, Fail> {
-    let mut packed = PackedReplies::new(alloc);
-    let (fills, others) = (fills(), others());
-    for ((count, parts), other) in fills.iter().zip(&others) {
-        let fill = BookReply::Filled {
-            taken: u32::MAX - 1,
-            rest: u32::MAX,
-            count: *count,
-            parts: *parts,
-        };
-        packed.append(&[fill, *other])?;
-        packed.append(&[])?;
-    }
-    Ok(packed)
+// Two replies for each fill: the fill, and one of another kind. The fills have no part, parts that
+// the count leaves out, and twelve parts.
+fn all_packed<R: Abort + AllocGlobal>(rt: &R) -> PackedReplies {
+    let gap = parts(MOST, NONE, UNNAMED, NONE);
+    let two = parts(EMPTY, MOST, NONE, NONE);
+    let last = parts(NONE, NONE, NONE, EMPTY);
+    let mut packed = PackedReplies::new(rt.alloc());
+    let all = &mut packed;
+    add_pair(rt, all, 0, &[NONE; MAX_PARTS], &BookReply::Placed);
+    add_pair(
+        rt,
+        all,
+        255,
+        &[NONE; MAX_PARTS],
+        &BookReply::Cancelled(u32::MAX),
+    );
+    add_pair(rt, all, 1, &gap, &BookReply::Gone);
+    let account = &BookReply::Account {
+        bought: u64::MAX,
+        sold: 1,
+    };
+    add_pair(rt, all, 0, &two, account);
+    add_pair(rt, all, 3, &last, &BookReply::Killed);
+    add_pair(rt, all, 12, &[MOST; MAX_PARTS], &BookReply::Depth(u64::MAX));
+    add_pair(rt, all, 12, &gap, &BookReply::Cancelled(0));
+    let account = &BookReply::Account {
+        bought: 0,
+        sold: u64::MAX,
+    };
+    add_pair(rt, all, 12, &two, account);
+    add_pair(rt, all, 12, &last, &BookReply::Depth(0));
+    packed
 }
 
 #[test]
-fn each_reply_is_told_as_it_was(rt: HostRuntime) -> Result<(), Fail> {
-    let alloc = rt.alloc();
-    let packed = all_packed(alloc)?;
-    let lengths = (PackedReplies::new(alloc).is_empty(), packed.len());
+fn each_reply_is_told_as_it_was(rt: HostRuntime) {
+    let packed = all_packed(&rt);
+    let lengths = (PackedReplies::new(rt.alloc()).is_empty(), packed.len());
     let orders = b"1,A,7\n1,A,7\n1,A,7\n1,A,7\n1,A,7\n1,A,7\n1,A,7\n1,A,7\n1,A,7\n\
         1,A,7\n1,A,7\n1,A,7\n1,A,7\n1,A,7\n1,A,7\n1,A,7\n1,A,7\n1,A,7\n"
         .as_slice();
-    let text = told(&rt, alloc, orders, packed)?;
+    let text = told(&rt, orders, packed);
     let want = "\
         1:1 filled 4294967294 rest 4294967295 from\n\
         1:2 placed\n\
@@ -118,5 +115,4 @@ fn each_reply_is_told_as_it_was(rt: HostRuntime) -> Result<(), Fail> {
         0:0=0 0:0=0 0:0=0 0:0=0 0:0=0 0:7=0\n\
         1:18 depth 0\n";
     assert_eq!(rt; (lengths, text.as_slice()), ((true, 18), want.as_bytes()));
-    Ok(())
 }

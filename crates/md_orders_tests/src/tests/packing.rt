@@ -8,7 +8,7 @@ use crate::tests::reports::{reply_with, set_lines};
 use crate::tests::shown::read;
 use md_orders::Scripts;
 use md_replies::{PackedReplies, Replies};
-use std::alloc::Global;
+use std::alloc::{AllocGlobal, Global};
 use std::process::Abort;
 use std::test::Fail;
 
@@ -59,17 +59,27 @@ fn has_same_replies(rt: &impl Abort, replies: &Replies, plain: &Replies) {
     }
 }
 
+// The second caller's replies after its first `done` are the same, set either way.
+fn are_those_set<R: Abort + AllocGlobal>(
+    rt: &R,
+    scripts: &Scripts,
+    done: u32,
+    count: u8,
+) -> Result<(), Fail> {
+    let packed = set_packed(rt.alloc(), scripts, done, count)?;
+    let plain = set_plain(rt.alloc(), scripts, done, count)?;
+    has_same_replies(rt, &packed, &plain);
+    Ok(())
+}
+
 #[test]
 fn packed_replies_are_those_that_were_set(rt: HostRuntime) -> Result<(), Fail> {
-    let alloc = rt.alloc();
     let orders = b"medley,2\n2,P,7,S,100,5\n2,C,1,1\n2,F,8,S,100,12\n2,F,8,S,100,1000000\n\
         2,F,8,S,100,3\n2,K,8,S,100,3\n2,D,S,3\n2,A,7\n"
         .as_slice();
-    let scripts = read(alloc, orders, 2)?;
-    for (done, count) in [(0, 12), (0, 0), (3, 2), (8, 1)] {
-        let packed = set_packed(alloc, &scripts, done, count)?;
-        let plain = set_plain(alloc, &scripts, done, count)?;
-        has_same_replies(&rt, &packed, &plain);
-    }
-    Ok(())
+    let scripts = read(&rt, orders, 2);
+    are_those_set(&rt, &scripts, 0, 12)?;
+    are_those_set(&rt, &scripts, 0, 0)?;
+    are_those_set(&rt, &scripts, 3, 2)?;
+    are_those_set(&rt, &scripts, 8, 1)
 }

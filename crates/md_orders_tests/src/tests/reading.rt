@@ -3,35 +3,30 @@
 ghost use Rattle.std.specs.Prelude.{◌≤◌};
 ghost use Rattle.md_book.specs.declared.limits.TheConstants.{MAX_CALLER};
 
-use crate::tests::shown::shown;
+use crate::tests::shown::{read, shown};
 use md_book::{Command, Side};
 use md_orders::{OrderFault, Scripts, read_orders, read_orders_in_threads};
 use std::alloc::{AllocGlobal, Global};
 use std::process::Abort;
-use std::test::Fail;
 use std::thread::Threads;
 
 // Reads files, and compares what is read with what is told. There is a sign `|` between two files,
 // and each is the text of its bytes, the sign `=`, and what is told of it: the commands or the fault.
-fn read_as_told<R: Abort + AllocGlobal>(rt: &R, callers: u32, files: &str) -> Result<(), Fail>
+fn read_as_told<R: Abort + AllocGlobal>(rt: &R, callers: u32, files: &str)
     requires { (1 ≤ callers) × (callers ≤ MAX_CALLER) }
 {
     for file in files.split('|') {
         let Some((text, want)) = file.split_once('=') else {
-            return Err(Fail::new("nothing is told"));
+            panic!(rt; "nothing is told")
         };
-        let read = shown(
-            rt.alloc(),
-            read_orders(rt.alloc(), text.as_bytes(), callers),
-        )?;
+        let read = shown(rt, read_orders(rt.alloc(), text.as_bytes(), callers));
         assert_eq!(rt; read.as_str(), want, "of {text}");
     }
-    Ok(())
 }
 
 // An order's name is 4294967296 times its caller and its line.
 #[test]
-fn records_are_commands(rt: HostRuntime) -> Result<(), Fail> {
+fn records_are_commands(rt: HostRuntime) {
     let files = "\
         =|\
         \n\n=|\
@@ -57,11 +52,11 @@ fn records_are_commands(rt: HostRuntime) -> Result<(), Fail> {
         1:1 Depth { side: Buy, price: 1 };\
         2:1 Depth { side: Sell, price: 3 };\
         2:2 Depth { side: Sell, price: 4 };";
-    read_as_told(&rt, 2, files)
+    read_as_told(&rt, 2, files);
 }
 
 #[test]
-fn the_first_record_that_breaks_the_grammar_is_told(rt: HostRuntime) -> Result<(), Fail> {
+fn the_first_record_that_breaks_the_grammar_is_told(rt: HostRuntime) {
     let files = "\
         1,P,7,S,10=BadLine(1)|\
         1,P,7,S,100,=BadLine(1)|\
@@ -95,14 +90,13 @@ fn the_first_record_that_breaks_the_grammar_is_told(rt: HostRuntime) -> Result<(
         0,D,B,1=BadLine(1)|\
         3,D,B,1=BadLine(1)|\
         1,P,7,S,100,5\n\n1,P,7,X,100,5\n1,D,Y,1\n=BadLine(2)";
-    read_as_told(&rt, 2, files)?;
+    read_as_told(&rt, 2, files);
     let fault = read_orders(rt.alloc(), b"1,\xff,S,100", 2).err();
     assert_eq!(rt; fault, Some(OrderFault::BadLine(1)));
-    Ok(())
 }
 
 #[test]
-fn a_file_has_a_version(rt: HostRuntime) -> Result<(), Fail> {
+fn a_file_has_a_version(rt: HostRuntime) {
     let files = "\
         1,F,8,B,99,3\n1,K,8,B,99,3\n=\
         1:1 Fill { account: 8, side: Buy, price: 99, quantity: 3, places: 4 };\
@@ -118,11 +112,11 @@ fn a_file_has_a_version(rt: HostRuntime) -> Result<(), Fail> {
         1:1 Depth { side: Buy, price: 1 };\
         1:2 Place { name: 4294967298, account: 9999, side: Sell, price: 1000, quantity: 1000000 };|\
         medley,2\n1,C,64,1\n=1:1 Cancel { name: 274877906945 };";
-    read_as_told(&rt, 2, files)
+    read_as_told(&rt, 2, files);
 }
 
 #[test]
-fn a_version_record_stands_first_and_alone(rt: HostRuntime) -> Result<(), Fail> {
+fn a_version_record_stands_first_and_alone(rt: HostRuntime) {
     let files = "\
         medley,3\n=BadLine(1)|\
         medley,02\n=BadLine(1)|\
@@ -143,24 +137,24 @@ fn a_version_record_stands_first_and_alone(rt: HostRuntime) -> Result<(), Fail> 
         1,K,8,B,99,0\n=BadLine(1)|\
         1,K,8,B,99,3,3\n=BadLine(1)|\
         1,k,8,B,99,3\n=BadLine(1)";
-    read_as_told(&rt, 2, files)
+    read_as_told(&rt, 2, files);
 }
 
 // Up to 64 callers, but in version 1 no more than 8.
 #[test]
-fn callers_are_within_the_version(rt: HostRuntime) -> Result<(), Fail> {
+fn callers_are_within_the_version(rt: HostRuntime) {
     let files = "\
         8,D,B,1\n=8:1 Depth { side: Buy, price: 1 };|\
         9,D,B,1\n=BadLine(1)|\
         medley,2\n64,D,B,1\n=64:1 Depth { side: Buy, price: 1 };|\
         medley,2\n65,D,B,1\n=BadLine(2)";
-    read_as_told(&rt, 64, files)?;
-    read_as_told(&rt, 7, "8,D,B,1\n=BadLine(1)")?;
-    read_as_told(&rt, 63, "medley,2\n64,D,B,1\n=BadLine(2)")?;
+    read_as_told(&rt, 64, files);
+    read_as_told(&rt, 7, "8,D,B,1\n=BadLine(1)");
+    read_as_told(&rt, 63, "medley,2\n64,D,B,1\n=BadLine(2)");
     let files = "\
         medley,2\n9,D,B,1\n=BadLine(2)|\
         medley,2\n1,D,B,1\n64,D,B,1\n=BadLine(3)";
-    read_as_told(&rt, 1, files)
+    read_as_told(&rt, 1, files);
 }
 
 // How many lines were read, or the fault.
@@ -179,37 +173,52 @@ fn totals<R: Threads + Sync>(rt: &R, alloc: Global, text: &[u8]) -> [Result<u32,
     ]
 }
 
-#[test]
-fn a_million_records_are_read_and_no_more(rt: HostRuntime) -> Result<(), Fail> {
+// A file has this first record, and 999,999 good ones behind it. So much is read of it, and no more
+// with one record behind them.
+fn a_million_from<R: Abort + AllocGlobal + Threads + Sync>(
+    rt: &R,
+    first: &[u8],
+    last: &[u8],
+    want: Result<u32, OrderFault>,
+) {
     let alloc = rt.alloc();
-    let good = b"1,D,S,1\n".as_slice();
-    let bad = b"1,D,X,1\n".as_slice();
-    let version = b"medley,2\n".as_slice();
-    let rows = [
-        (good, good, Ok(1_000_000)),
-        (good, bad, Ok(1_000_000)),
-        (bad, good, Err(OrderFault::BadLine(1))),
-        (version, good, Ok(999_999)),
-        (version, bad, Ok(999_999)),
-    ];
-    for (first, last, want) in rows {
-        let mut text = first.to_vec(alloc)?;
-        for made in 0..999_999 {
-            text.extend_from_slice(good)?;
-        }
-        let read = totals(&rt, alloc, &text);
-        text.extend_from_slice(last)?;
-        let more = Err(OrderFault::TooMany);
-        assert_eq!(rt; (read, totals(&rt, alloc, &text)), ([want; 2], [more; 2]));
+    let mut text = first.to_vec(alloc).expect(rt, "memory");
+    for made in 0..999_999 {
+        text.extend_from_slice(GOOD).expect(rt, "memory");
     }
-    Ok(())
+    assert_eq!(rt; totals(rt, alloc, &text), [want; 2]);
+    text.extend_from_slice(last).expect(rt, "memory");
+    assert_eq!(rt; totals(rt, alloc, &text), [Err(OrderFault::TooMany); 2]);
+}
+
+const GOOD: &[u8] = b"1,D,S,1\n";
+
+const BAD: &[u8] = b"1,D,X,1\n";
+
+const VERSION: &[u8] = b"medley,2\n";
+
+#[test]
+fn a_million_records_are_read_and_no_more(rt: HostRuntime) {
+    a_million_from(&rt, GOOD, GOOD, Ok(1_000_000));
+    a_million_from(&rt, GOOD, BAD, Ok(1_000_000));
+    a_million_from(&rt, BAD, GOOD, Err(OrderFault::BadLine(1)));
+    a_million_from(&rt, VERSION, GOOD, Ok(999_999));
+    a_million_from(&rt, VERSION, BAD, Ok(999_999));
+}
+
+// The caller's line has this command.
+fn has_command(
+    rt: &impl Abort,
+    scripts: &Scripts,
+    (caller, line): (u32, u32),
+    command: &Option<Command>,
+) {
+    assert_eq!(rt; scripts.command(caller, line), *command);
 }
 
 #[test]
-fn lines_are_counted_by_caller(rt: HostRuntime) -> Result<(), Fail> {
-    let Ok(scripts) = read_orders(rt.alloc(), b"2,D,S,3\n1,D,B,1\n2,D,S,4\n", 3) else {
-        return Err(Fail::new("refused"));
-    };
+fn lines_are_counted_by_caller(rt: HostRuntime) {
+    let scripts = read(&rt, b"2,D,S,3\n1,D,B,1\n2,D,S,4\n", 3);
     let counts = [
         scripts.callers(),
         scripts.total(),
@@ -219,19 +228,13 @@ fn lines_are_counted_by_caller(rt: HostRuntime) -> Result<(), Fail> {
         scripts.len(3),
         scripts.len(4),
     ];
-    let commands = [
-        scripts.command(2, 2),
-        scripts.command(1, 0),
-        scripts.command(2, 3),
-        scripts.command(4, 1),
-    ];
+    assert_eq!(rt; counts, [3, 3, 0, 1, 2, 0, 0]);
     let second = Command::Depth {
         side: Side::Sell,
         price: 4,
     };
-    assert_eq!(rt;
-        (counts, commands),
-        ([3, 3, 0, 1, 2, 0, 0], [Some(second), None, None, None])
-    );
-    Ok(())
+    has_command(&rt, &scripts, (2, 2), &Some(second));
+    has_command(&rt, &scripts, (1, 0), &None);
+    has_command(&rt, &scripts, (2, 3), &None);
+    has_command(&rt, &scripts, (4, 1), &None);
 }

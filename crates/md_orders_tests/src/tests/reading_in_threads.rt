@@ -7,7 +7,6 @@ use crate::tests::shown::shown;
 use md_orders::{OrderFault, read_orders, read_orders_in_threads};
 use std::alloc::{AllocError, AllocGlobal, Global};
 use std::process::Abort;
-use std::test::Fail;
 use std::thread::Threads;
 
 // About as long as the files are.
@@ -43,18 +42,13 @@ fn text_of(
 }
 
 // A file that is read in parts gives what it gives if it is read whole.
-fn is_read_alike<R: Threads + Sync + Abort + AllocGlobal>(
-    rt: &R,
-    text: &[u8],
-    callers: u32,
-) -> Result<(), Fail>
+fn is_read_alike<R: Threads + Sync + Abort + AllocGlobal>(rt: &R, text: &[u8], callers: u32)
     requires { (1 ≤ callers) × (callers ≤ MAX_CALLER) }
 {
-    let whole = shown(rt.alloc(), read_orders(rt.alloc(), text, callers))?;
+    let whole = shown(rt, read_orders(rt.alloc(), text, callers));
     let read = read_orders_in_threads(rt, rt.alloc(), text, callers);
-    let read = shown(rt.alloc(), read)?;
+    let read = shown(rt, read);
     assert_eq!(rt; read.as_str(), whole.as_str());
-    Ok(())
 }
 
 // So do files with these lines at some places, from each of some first steps on.
@@ -65,19 +59,18 @@ fn are_read_alike<R: Threads + Sync + Abort + AllocGlobal>(
     callers: u32,
     places: &[usize],
     firsts: &[usize],
-) -> Result<(), Fail>
+)
     requires { (1 ≤ callers) × (callers ≤ MAX_CALLER) }
 {
     for first in firsts {
-        let text = text_of(rt.alloc(), start, lines, places, *first)?;
-        is_read_alike(rt, &text, callers)?;
+        let text = text_of(rt.alloc(), start, lines, places, *first).expect(rt, "memory");
+        is_read_alike(rt, &text, callers);
     }
-    Ok(())
 }
 
 // A file of one caller is read in eight parts, and one of several callers in three.
 #[test]
-fn parts_give_what_the_whole_gives(rt: HostRuntime) -> Result<(), Fail> {
+fn parts_give_what_the_whole_gives(rt: HostRuntime) {
     let starts = "|medley,2\n|medley,2\r\n|medley,2|\"medley\",2\n|\n\rmedley,2\n|\u{feff}|\
         \u{feff}medley,2\n|medley,2\n\u{feff}|medley,3\n";
     let all_lines = "\
@@ -93,11 +86,10 @@ fn parts_give_what_the_whole_gives(rt: HostRuntime) -> Result<(), Fail> {
     let eighths = [8_290, 16_540, 24_790, 33_040, 41_290, 49_540, 57_790].as_slice();
     for start in starts.split('|') {
         for lines in all_lines.split('|') {
-            are_read_alike(&rt, start, lines, 3, thirds, &[0, 2, 4, 6, 8, 10])?;
-            are_read_alike(&rt, start, lines, 1, eighths, &[0, 7])?;
+            are_read_alike(&rt, start, lines, 3, thirds, &[0, 2, 4, 6, 8, 10]);
+            are_read_alike(&rt, start, lines, 1, eighths, &[0, 7]);
         }
     }
-    Ok(())
 }
 
 // Adds a record with blank lines round it, so that eight such records are a file that is read in
@@ -118,18 +110,25 @@ fn bad_from(alloc: Global, start: &str, bad: u32) -> Result<Vec<u8>, AllocError>
     Ok(text)
 }
 
+// The first bad line of such a file has this number.
+fn has_bad_line<R: Threads + Sync + Abort + AllocGlobal>(
+    rt: &R,
+    start: &str,
+    bad: u32,
+    number: u32,
+) {
+    let text = bad_from(rt.alloc(), start, bad).expect(rt, "memory");
+    let fault = read_orders_in_threads(rt, rt.alloc(), &text, 1).err();
+    assert_eq!(rt; fault, Some(OrderFault::BadLine(number)));
+}
+
 // The first bad line is in each of the eight parts.
 #[test]
-fn a_bad_line_has_its_number_in_the_file(rt: HostRuntime) -> Result<(), Fail> {
-    let alloc = rt.alloc();
-    for (start, first) in [("", 1), ("medley,2\n", 2)] {
-        for bad in 0..8_u32 {
-            let text = bad_from(alloc, start, bad)?;
-            let fault = read_orders_in_threads(&rt, alloc, &text, 1).err();
-            assert_eq!(rt; fault, Some(OrderFault::BadLine(first + bad)));
-        }
+fn a_bad_line_has_its_number_in_the_file(rt: HostRuntime) {
+    for bad in 0..8_u32 {
+        has_bad_line(&rt, "", bad, 1 + bad);
+        has_bad_line(&rt, "medley,2\n", bad, 2 + bad);
     }
-    Ok(())
 }
 
 // A file with these records, which have the sign `|` between two.
@@ -142,11 +141,11 @@ fn file_of(alloc: Global, records: &str) -> Result<Vec<u8>, AllocError> {
 }
 
 #[test]
-fn an_order_of_the_last_part_has_the_name_of_its_line(rt: HostRuntime) -> Result<(), Fail> {
+fn an_order_of_the_last_part_has_the_name_of_its_line(rt: HostRuntime) {
     let alloc = rt.alloc();
     let records = "1,A,7|2,A,7|1,A,7|1,A,7|1,A,7|2,A,7|2,P,7,B,1,5|1,P,7,S,10,5|1,C,1,5";
-    let text = file_of(alloc, records)?;
-    let read = shown(alloc, read_orders_in_threads(&rt, alloc, &text, 2))?;
+    let text = file_of(alloc, records).expect(&rt, "memory");
+    let read = shown(&rt, read_orders_in_threads(&rt, alloc, &text, 2));
     // An order's name is 4294967296 times its caller and its line.
     let want = "1:1 Account { account: 7 };1:2 Account { account: 7 };1:3 Account { account: 7 };\
         1:4 Account { account: 7 };\
@@ -155,5 +154,4 @@ fn an_order_of_the_last_part_has_the_name_of_its_line(rt: HostRuntime) -> Result
         2:1 Account { account: 7 };2:2 Account { account: 7 };\
         2:3 Place { name: 8589934595, account: 7, side: Buy, price: 1, quantity: 5 };";
     assert_eq!(rt; read.as_str(), want);
-    Ok(())
 }

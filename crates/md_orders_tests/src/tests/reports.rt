@@ -1,6 +1,6 @@
 //! Replies, and a report from outside.
 
-ghost use Rattle.std.specs.Prelude.{◌≡◌, ◌≤◌, length, IfOk};
+ghost use Rattle.std.specs.Prelude.{◌≡◌, ◌≤◌, length};
 ghost use Rattle.md_book.specs.Suits.{IsTaken, Suits};
 ghost use Rattle.md_book.specs.Commands.{IsCommand};
 
@@ -10,21 +10,21 @@ use md_history::Contents;
 use md_orders::Scripts;
 use md_replies::Replies;
 use md_report::{report, summary};
-use std::alloc::Global;
-use std::test::Fail;
+use std::alloc::AllocGlobal;
+use std::process::Abort;
 
 // A book's maps with values in them: a map, a key and a value each.
-pub(crate) fn contents_of(alloc: Global, values: &[(u32, u64, u64)]) -> Result<Contents, Fail>
-    ensures { IfOk result (λ contents. MAPS ≤ length contents.maps) }
+pub(crate) fn contents_of<R: Abort + AllocGlobal>(rt: &R, values: &[(u32, u64, u64)]) -> Contents
+    ensures { MAPS ≤ length result.maps }
 {
-    let mut contents = Contents::empty(alloc, MAPS, 0)?;
+    let mut contents = Contents::empty(rt.alloc(), MAPS, 0).expect(rt, "memory");
     for (map, key, value) in values {
         if *map >= MAPS {
-            return Err(Fail::new("no such map"));
+            panic!(rt; "no such map")
         }
-        contents.put(*map, *key, *value)?;
+        contents.put(*map, *key, *value).expect(rt, "memory");
     }
-    Ok(contents)
+    contents
 }
 
 // A reply that suits a command: of a fill the whole quantity, from the largest name.
@@ -151,59 +151,68 @@ pub(crate) fn set_all(replies: &mut Replies, scripts: &Scripts, count: u8)
 }
 
 // The report of scripts with such replies and these values.
-pub(crate) fn reported(
-    alloc: Global,
+pub(crate) fn reported<R: Abort + AllocGlobal>(
+    rt: &R,
     scripts: &Scripts,
     count: u8,
     values: &[(u32, u64, u64)],
-) -> Result<Vec<u8>, Fail> {
-    let mut replies = Replies::empty(alloc, scripts)?;
+) -> Vec<u8> {
+    let mut replies = Replies::empty(rt.alloc(), scripts).expect(rt, "memory");
     set_all(&mut replies, scripts, count);
-    let contents = contents_of(alloc, values)?;
-    let text = report(alloc, scripts, &replies, &contents)?;
-    Ok(text)
+    let contents = contents_of(rt, values);
+    report(rt.alloc(), scripts, &replies, &contents).expect(rt, "memory")
 }
 
 // The replies of scripts of two callers, with one at each line of the second caller but its first.
-fn told_from_the_second_line(alloc: Global, scripts: &Scripts) -> Result<Replies, Fail> {
-    let mut replies = Replies::empty(alloc, scripts)?;
+fn told_from_the_second_line<R: Abort + AllocGlobal>(rt: &R, scripts: &Scripts) -> Replies {
+    let mut replies = Replies::empty(rt.alloc(), scripts).expect(rt, "memory");
     set_lines(&mut replies, scripts, 2, 2, u8::MAX);
-    Ok(replies)
+    replies
+}
+
+// Adds the reply at a line.
+fn add_reply(rt: &impl Abort, text: &mut String, replies: &Replies, caller: u32, line: u32) {
+    write!(text, "{:?};", replies.get(caller, line)).expect(rt, "memory");
 }
 
 // Two lines with a reply, and lines that have none or don't exist, as text.
-fn seven_of(alloc: Global, replies: &Replies) -> Result<String, Fail> {
-    let mut text = String::new(alloc);
-    for (caller, line) in [(2, 2), (2, 6), (2, 1), (1, 1), (2, 8), (0, 1), (3, 1)] {
-        write!(text, "{:?};", replies.get(caller, line))?;
-    }
-    Ok(text)
+fn seven_of(rt: &(impl Abort + AllocGlobal), replies: &Replies) -> String {
+    let mut text = String::new(rt.alloc());
+    add_reply(rt, &mut text, replies, 2, 2);
+    add_reply(rt, &mut text, replies, 2, 6);
+    add_reply(rt, &mut text, replies, 2, 1);
+    add_reply(rt, &mut text, replies, 1, 1);
+    add_reply(rt, &mut text, replies, 2, 8);
+    add_reply(rt, &mut text, replies, 0, 1);
+    add_reply(rt, &mut text, replies, 3, 1);
+    text
 }
 
 // The report, the sign `|`, and the summary.
-fn report_and_summary(
-    alloc: Global,
+fn report_and_summary<R: Abort + AllocGlobal>(
+    rt: &R,
     scripts: &Scripts,
     replies: &Replies,
     values: &[(u32, u64, u64)],
-) -> Result<Vec<u8>, Fail> {
-    let contents = contents_of(alloc, values)?;
-    let mut text = report(alloc, scripts, replies, &contents)?;
-    text.push(b'|')?;
-    text.extend_from_slice(&summary(alloc, scripts, replies, &contents)?)?;
-    Ok(text)
+) -> Vec<u8> {
+    let alloc = rt.alloc();
+    let contents = contents_of(rt, values);
+    let mut text = report(alloc, scripts, replies, &contents).expect(rt, "memory");
+    let end = summary(alloc, scripts, replies, &contents).expect(rt, "memory");
+    text.push(b'|').expect(rt, "memory");
+    text.extend_from_slice(&end).expect(rt, "memory");
+    text
 }
 
 #[test]
-fn a_report_has_its_text(rt: HostRuntime) -> Result<(), Fail> {
-    let alloc = rt.alloc();
+fn a_report_has_its_text(rt: HostRuntime) {
     let orders = b"2,D,S,3\n1,P,7,S,100,5\n2,D,S,4\n2,P,7,S,100,5\n2,C,1,1\n\
         2,F,8,S,100,1000000\n2,K,8,S,100,3\n2,A,7\n"
         .as_slice();
-    let scripts = read(alloc, orders, 2)?;
-    let replies = told_from_the_second_line(alloc, &scripts)?;
+    let scripts = read(&rt, orders, 2);
+    let replies = told_from_the_second_line(&rt, &scripts);
     let seven = "Some(Depth(18446744073709551615));Some(Killed);None;None;None;None;None;";
-    assert_eq!(rt; seven_of(alloc, &replies)?.as_str(), seven);
+    assert_eq!(rt; seven_of(&rt, &replies).as_str(), seven);
     let values = [
         (DEPTHS, 1_999, 7),
         (DEPTHS, 1_000, 6),
@@ -213,8 +222,9 @@ fn a_report_has_its_text(rt: HostRuntime) -> Result<(), Fail> {
         (BOUGHT, 9_999, 3),
         (BOUGHT, 5, 0),
         (SOLD, 1, 2),
-    ];
-    let text = report_and_summary(alloc, &scripts, &replies, &values)?;
+    ]
+    .as_slice();
+    let text = report_and_summary(&rt, &scripts, &replies, values);
     let want = b"2:2 depth 18446744073709551615\n2:3 placed\n2:4 cancelled 5\n\
         2:5 filled 1000000 rest 0 from 64:1000000=1000000\n2:6 killed\n2:7 bought 5 sold 6\n\
         B 1 4\nB 1000 5\nS 1 6\nS 1000 7\n\
@@ -222,57 +232,39 @@ fn a_report_has_its_text(rt: HostRuntime) -> Result<(), Fail> {
         made 8 placed 10 cancelled 5 filled 1000000 open 22\n"
         .as_slice();
     assert_eq!(rt; text.as_slice(), want);
-    Ok(())
 }
 
-// The report of a file, whose fills have so many parts.
-fn report_of(
-    alloc: Global,
+// The report of a file, whose fills have so many parts, is this.
+fn has_report<R: Abort + AllocGlobal>(
+    rt: &R,
     orders: &str,
     count: u8,
     values: &[(u32, u64, u64)],
-) -> Result<Vec<u8>, Fail> {
-    let scripts = read(alloc, orders.as_bytes(), 64)?;
-    reported(alloc, &scripts, count, values)
+    want: &str,
+) {
+    let scripts = read(rt, orders.as_bytes(), 64);
+    let text = reported(rt, &scripts, count, values);
+    assert_eq!(rt; text.as_slice(), want.as_bytes());
 }
 
 #[test]
-fn each_line_has_its_text(rt: HostRuntime) -> Result<(), Fail> {
-    let alloc = rt.alloc();
-    let rows = [
-        ("", 0, [].as_slice(), "done 0\n"),
-        (
-            "1,P,7,B,50,5\n1,C,1,1\n1,F,8,B,50,3\n1,A,8\n",
-            0,
-            &[],
-            "1:1 placed\n1:2 cancelled 5\n1:3 filled 0 rest 3\n1:4 bought 5 sold 6\ndone 4\n",
-        ),
-        (
-            "1,F,8,S,100,2\n",
-            2,
-            &[(SOLD, 7, 2), (BOUGHT, 8, 2)],
-            "1:1 filled 2 rest 0 from 1:1=1 1:2=1\n\
-            account 7 bought 0 sold 2\naccount 8 bought 2 sold 0\ndone 1\n",
-        ),
-        (
-            "1,F,8,S,100,5\n",
-            4,
-            &[(DEPTHS, 1_099, 1), (SOLD, 7, 4), (BOUGHT, 8, 4)],
-            "1:1 filled 4 rest 1 from 1:1=1 1:2=1 1:3=1 1:4=1\nS 100 1\n\
-            account 7 bought 0 sold 4\naccount 8 bought 4 sold 0\ndone 1\n",
-        ),
-        (
-            "medley,2\n64,F,8,S,100,12\n1,K,8,S,100,1\n",
-            12,
-            &[(SOLD, 7, 12), (BOUGHT, 8, 12)],
-            "1:1 killed\n64:1 filled 12 rest 0 from 1:1=1 1:2=1 1:3=1 1:4=1 1:5=1 1:6=1 \
-            1:7=1 1:8=1 1:9=1 1:10=1 1:11=1 1:12=1\n\
-            account 7 bought 0 sold 12\naccount 8 bought 12 sold 0\ndone 2\n",
-        ),
-    ];
-    for (orders, count, values, want) in rows {
-        let text = report_of(alloc, orders, count, values)?;
-        assert_eq!(rt; text.as_slice(), want.as_bytes());
-    }
-    Ok(())
+fn each_line_has_its_text(rt: HostRuntime) {
+    has_report(&rt, "", 0, &[], "done 0\n");
+    let orders = "1,P,7,B,50,5\n1,C,1,1\n1,F,8,B,50,3\n1,A,8\n";
+    let want = "1:1 placed\n1:2 cancelled 5\n1:3 filled 0 rest 3\n1:4 bought 5 sold 6\ndone 4\n";
+    has_report(&rt, orders, 0, &[], want);
+    let values = [(SOLD, 7, 2), (BOUGHT, 8, 2)].as_slice();
+    let want = "1:1 filled 2 rest 0 from 1:1=1 1:2=1\n\
+        account 7 bought 0 sold 2\naccount 8 bought 2 sold 0\ndone 1\n";
+    has_report(&rt, "1,F,8,S,100,2\n", 2, values, want);
+    let values = [(DEPTHS, 1_099, 1), (SOLD, 7, 4), (BOUGHT, 8, 4)].as_slice();
+    let want = "1:1 filled 4 rest 1 from 1:1=1 1:2=1 1:3=1 1:4=1\nS 100 1\n\
+        account 7 bought 0 sold 4\naccount 8 bought 4 sold 0\ndone 1\n";
+    has_report(&rt, "1,F,8,S,100,5\n", 4, values, want);
+    let orders = "medley,2\n64,F,8,S,100,12\n1,K,8,S,100,1\n";
+    let values = [(SOLD, 7, 12), (BOUGHT, 8, 12)].as_slice();
+    let want = "1:1 killed\n64:1 filled 12 rest 0 from 1:1=1 1:2=1 1:3=1 1:4=1 1:5=1 1:6=1 \
+        1:7=1 1:8=1 1:9=1 1:10=1 1:11=1 1:12=1\n\
+        account 7 bought 0 sold 12\naccount 8 bought 12 sold 0\ndone 2\n";
+    has_report(&rt, orders, 12, values, want);
 }

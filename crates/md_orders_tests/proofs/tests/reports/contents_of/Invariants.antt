@@ -3,4 +3,4 @@ use Rattle.md_book.specs.declared.maps.TheConstants.{MAPS}
 use Rattle.md_orders_tests.proofs.tests.reports.contents_of.Given as goal
 
 abbrev pub invariant-loop-map : goal.invariant-loop-map
-invariant-loop-map l = MAPS ≤ length l.contents.maps
+invariant-loop-map g l = MAPS ≤ length l.contents.maps

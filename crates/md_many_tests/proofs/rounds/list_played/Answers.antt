@@ -1,6 +1,6 @@
 use Rattle.md_many_tests.specs.declared.looks.Look.{Look}
 use Rattle.md_many_tests.proofs.Looking.{looks-lawful}
-use Rattle.md_many_tests.proofs.rounds.one_list_of_bodies.Goals as goal
+use Rattle.md_many_tests.proofs.rounds.list_played.Goals as goal
 
 pub run_lines-requires-clause-laws : goal.run_lines-requires-clause-laws
-run_lines-requires-clause-laws g c κs = looks-lawful (λ (b : Look). b.number)
+run_lines-requires-clause-laws g c κs within = looks-lawful (λ (b : Look). b.number)
