@@ -9,5 +9,3 @@ mod attempts;
 mod laws;
 mod lowest;
 mod nodes;
-#[cfg(test)]
-mod tests;

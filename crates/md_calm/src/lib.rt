@@ -9,5 +9,3 @@ pub use first::first_attempts_stay_low;
 
 mod calm;
 mod first;
-#[cfg(test)]
-mod tests;

@@ -17,6 +17,4 @@ pub use rows::cell_rows;
 pub use theory::{CellTheory, cell_schedules};
 
 mod rows;
-#[cfg(test)]
-mod tests;
 mod theory;

@@ -16,5 +16,3 @@
 pub use counts::{certificates_are_few, worked_counts};
 
 mod counts;
-#[cfg(test)]
-mod tests;

@@ -18,5 +18,3 @@ pub use one_list::{ListTheory, one_list_schedules};
 
 mod hash_table;
 mod one_list;
-#[cfg(test)]
-mod tests;

@@ -9,5 +9,3 @@ pub use settling::{End, settle_one};
 mod clearing;
 mod reads;
 mod settling;
-#[cfg(test)]
-mod tests;

@@ -17,5 +17,3 @@ pub use one_list::{one_list_laws, worked_list};
 
 pub mod lists;
 mod one_list;
-#[cfg(test)]
-mod tests;

@@ -5,6 +5,8 @@ ghost use Rattle.md_rule.specs.Views.{IsOf};
 ghost use Rattle.md_nbtc_tests.specs.Tested.{IsOpen};
 ghost use Rattle.md_nbtc.specs.State.{state};
 
+mod calm;
+
 use md_cell::{CellTheory, cell_rows};
 use md_history::{Limit, Shown, Stop};
 use md_nbtc::{Kind, Receipt, Seen, Sets, Txn};

@@ -6,5 +6,3 @@ pub use playing::{MAX_LANE_NODES, OpenStore, open_store, play_on_store, play_ope
 
 mod closing;
 mod playing;
-#[cfg(test)]
-mod tests;

@@ -4,7 +4,9 @@ mod asked;
 mod bad;
 mod edge;
 mod making;
+mod played;
 mod rows;
+mod witnesses;
 mod words;
 
 use md_outside::{MemSink, MemSource, Sink, Source};

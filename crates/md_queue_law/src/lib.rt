@@ -15,6 +15,4 @@ pub use rows::worked_rows;
 pub use theory::{HasQueues, QueueTheory, queue_facts};
 
 mod rows;
-#[cfg(test)]
-mod tests;
 pub mod theory;

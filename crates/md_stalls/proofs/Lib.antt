@@ -1,6 +1,6 @@
 mod First
 mod Trails
 mod Slots
-mod Looking
+pub mod Looking
 mod Inserted
 mod Entering

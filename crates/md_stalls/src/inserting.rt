@@ -94,9 +94,14 @@ fn commit(field: &Field<CellTheory>, pass: &mut Pass<CellTheory>, desc: u32) -> 
         .is_ok()
 }
 
-// A transaction of a lane's first attempt inserts a value, becomes ready, and is committed if
-// `decides` says so. It is left there. Whether each step won.
-pub(crate) fn insert(
+/// A transaction of a lane's first attempt inserts a value into a cell that has none, becomes ready,
+/// and is committed if `decides` says so. It is left there, with its descriptor in the word. The
+/// content has an even count that is at most `LAST_COUNT`, and the pass has nothing in hand, before
+/// and afterwards.
+///
+/// The answer says whether each step won. It is false without a step if the content has a value,
+/// or if `value` is the largest `u32`. No clause speaks of the answer.
+pub fn insert(
     field: &Field<CellTheory>,
     pass: &mut Pass<CellTheory>,
     found: Content,

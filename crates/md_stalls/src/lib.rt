@@ -4,12 +4,10 @@
 //! The field is one of the cell, and the word is the cell's.
 #![tactic(auto)]
 
+pub use inserting::insert;
 pub use meeting::{Met, meet};
 pub use stalling::stall;
 
-#[cfg(test)]
 mod inserting;
 mod meeting;
 mod stalling;
-#[cfg(test)]
-mod tests;

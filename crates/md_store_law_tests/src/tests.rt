@@ -1,4 +1,4 @@
-//! The theory of stores, fields that are read off, and contents that are laid.
+//! The theories of lists, queues and stores, fields that are read off, and contents that are laid.
 
 ghost use Rattle.std.specs.Prelude.{◌≡◌, ◌<◌, length, OnOk};
 
@@ -7,7 +7,11 @@ use md_store_law::needed;
 use std::alloc::{AllocError, AllocGlobal, Global};
 use std::process::Abort;
 
+mod count;
+mod hash;
 mod laying;
+mod list;
+mod queue;
 mod reading;
 mod theory;
 
@@ -48,8 +52,15 @@ fn contents_of(
 
 // Both have the same maps and the same queues.
 fn assert_same(rt: &impl Abort, found: &Contents, want: &Contents) {
-    assert_eq!(rt; found.maps(), want.maps());
-    assert_eq!(rt; found.queues(), want.queues());
+    assert_eq!(rt;
+        (found.maps(), found.queues()),
+        (want.maps(), want.queues())
+    );
+}
+
+// The contents need so many nodes.
+fn assert_nodes(rt: &impl Abort, contents: &Contents, nodes: u64) {
+    assert_eq!(rt; needed(contents), nodes);
 }
 
 // The contents need so many nodes, and are a map with these pairs and a queue with these values.
@@ -59,8 +70,8 @@ fn assert_contents<R: Abort + AllocGlobal>(
     nodes: u64,
     pairs: &[(u64, u64)],
     values: &[u64],
-) -> Result<(), AllocError> {
-    assert_eq!(rt; needed(found), nodes);
-    assert_same(rt, found, &contents_of(rt.alloc(), pairs, values)?);
-    Ok(())
+) {
+    assert_nodes(rt, found, nodes);
+    let want = contents_of(rt.alloc(), pairs, values).expect(rt, "memory");
+    assert_same(rt, found, &want);
 }

@@ -1,5 +1,6 @@
-//! Tests of md_store: stores that are opened, divided, settled, renewed and closed, and bodies that
-//! are run over them one after another.
+//! Tests of md_store: stores that are opened, divided, settled, renewed and closed; bodies that are
+//! run over them one after another; and the bodies of md_trials, beside a store for one thread and
+//! on threads.
 #![tactic(auto)]
 
 #[cfg(test)]

@@ -7,25 +7,26 @@ ghost use Rattle.md_store.specs.Store.{IsFresh, IsPassOf, room_of, start_of};
 
 use md_history::Contents;
 use md_store::{OpenFault, Store, StorePass};
-use md_words::Shape;
-use std::alloc::{AllocError, Global};
-use std::test::Fail;
+use md_words::{Shape, ShapeFault};
+use std::alloc::{AllocGlobal, Global};
+use std::process::Abort;
 
 mod attempts;
+mod trials;
 
 // Two pairs in two maps, and three values in two queues.
-fn pairs_and_values(alloc: Global) -> Result<Contents, AllocError> {
-    let mut contents = Contents::empty(alloc, 2, 2)?;
-    contents.put(0, 5, 6)?;
-    contents.put(1, 7, 8)?;
-    contents.push(0, 1)?;
-    contents.push(0, 2)?;
-    contents.push(1, 3)?;
-    Ok(contents)
+fn pairs_and_values<R: Abort + AllocGlobal>(rt: &R) -> Contents {
+    let mut contents = Contents::empty(rt.alloc(), 2, 2).expect(rt, "memory");
+    contents.put(0, 5, 6).expect(rt, "memory");
+    contents.put(1, 7, 8).expect(rt, "memory");
+    contents.push(0, 1).expect(rt, "memory");
+    contents.push(0, 2).expect(rt, "memory");
+    contents.push(1, 3).expect(rt, "memory");
+    contents
 }
 
 // Opens a store, if the contents have as many maps and queues as the shape.
-fn opened(alloc: Global, shape: Shape, start: &Contents) -> Result<(Store, StorePass), OpenFault>
+fn try_open(alloc: Global, shape: Shape, start: &Contents) -> Result<(Store, StorePass), OpenFault>
     ensures of { IfOk result (λ r. IsPassOf r.0 r.1) }
     ensures fresh { IfOk result (λ r. IsFresh r.1) }
     ensures room { IfOk result (λ r. needed (start_of r.0) ≤ room_of r.0.origin.shape) }
@@ -38,112 +39,118 @@ fn opened(alloc: Global, shape: Shape, start: &Contents) -> Result<(Store, Store
     Store::open(alloc, shape, start)
 }
 
+// The store that is opened so.
+fn opened<R: Abort + AllocGlobal>(
+    rt: &R,
+    shape: Result<Shape, ShapeFault>,
+    start: &Contents,
+) -> (Store, StorePass)
+    ensures of { IsPassOf result.0 result.1 }
+    ensures fresh { IsFresh result.1 }
+    ensures room { needed (start_of result.0) ≤ room_of result.0.origin.shape }
+{
+    let shape = shape.expect(rt, "a shape");
+    try_open(rt.alloc(), shape, start).expect(rt, "a store")
+}
+
 // Renews a store whose pass has seen nothing.
-fn renewed(store: Store, pass: StorePass) -> Result<(Store, StorePass), AllocError>
+fn renewed(rt: &impl Abort, store: Store, pass: StorePass) -> (Store, StorePass)
     requires of { IsPassOf store pass }
     requires fresh { IsFresh pass }
     requires room { needed (start_of store) ≤ room_of store.origin.shape }
-    ensures of { IfOk result (λ r. IsPassOf r.0 r.1) }
-    ensures fresh { IfOk result (λ r. IsFresh r.1) }
-    ensures room { IfOk result (λ r. needed (start_of r.0) ≤ room_of r.0.origin.shape) }
+    ensures of { IsPassOf result.0 result.1 }
+    ensures fresh { IsFresh result.1 }
+    ensures room { needed (start_of result.0) ≤ room_of result.0.origin.shape }
 {
-    let (again, first, _) = store.renew(pass)?;
-    Ok((again, first))
+    let (again, first, _) = store.renew(pass).expect(rt, "memory");
+    (again, first)
 }
 
-// Closes a store and reads off its maps from a number on, if the pass holds all lanes.
-fn with_maps_from(store: Store, pass: StorePass, first: u32) -> Result<Option<Contents>, AllocError>
+// The maps and queues of both are the same.
+fn assert_same(rt: &impl Abort, back: &Contents, want: &Contents) {
+    assert_eq!(rt; back.maps(), want.maps());
+    assert_eq!(rt; back.queues(), want.queues());
+}
+
+// Closes a store and reads off its maps from a number on. The pass holds all lanes.
+fn has_maps_from(rt: &impl Abort, store: Store, pass: StorePass, first: u32, want: &Contents)
     requires { IsPassOf store pass }
 {
-    if store.holds_all(&pass) {
-        let (contents, _) = store.close_maps(pass, first)?;
-        return Ok(Some(contents));
+    if !store.holds_all(&pass) {
+        panic!(rt; "all lanes")
     }
-    Ok(None)
+    let (contents, _) = store.close_maps(pass, first).expect(rt, "memory");
+    assert_same(rt, &contents, want);
 }
 
-// Settles a store and closes it, if the pass holds all lanes.
-fn closed(store: Store, mut pass: StorePass) -> Result<Option<Contents>, AllocError>
+// Settles a store and closes it: it has these contents. The pass holds all lanes.
+fn gives_back(rt: &impl Abort, store: Store, mut pass: StorePass, want: &Contents)
     requires { IsPassOf store pass }
 {
-    if store.holds_all(&pass) {
-        store.settle(&mut pass);
-        let (contents, _) = store.close(pass)?;
-        return Ok(Some(contents));
+    if !store.holds_all(&pass) {
+        panic!(rt; "all lanes")
     }
-    Ok(None)
+    store.settle(&mut pass);
+    let (contents, _) = store.close(pass).expect(rt, "memory");
+    assert_same(rt, &contents, want);
 }
 
 #[test]
-fn an_empty_store_is_closed(rt: HostRuntime) -> Result<(), Fail> {
-    let start = Contents::empty(rt.alloc(), 1, 0)?;
-    let shape = Shape::new(1, 1, 0, 1, 1, 1, 0)?;
-    let (store, pass) = opened(rt.alloc(), shape, &start)?;
-    let back = closed(store, pass)?.expect(&rt, "the one lane");
-    assert_eq!(rt; back.maps(), start.maps());
-    assert_eq!(rt; back.queues(), start.queues());
-    Ok(())
+fn an_empty_store_is_closed(rt: HostRuntime) {
+    let start = Contents::empty(rt.alloc(), 1, 0).expect(&rt, "memory");
+    let (store, pass) = opened(&rt, Shape::new(1, 1, 0, 1, 1, 1, 0), &start);
+    gives_back(&rt, store, pass, &start);
 }
 
 #[test]
-fn contents_come_back(rt: HostRuntime) -> Result<(), Fail> {
-    let start = pairs_and_values(rt.alloc())?;
-    let shape = Shape::new(4, 2, 7, 3, 2, 4, 2)?;
-    let (store, pass) = opened(rt.alloc(), shape, &start)?;
-    let back = closed(store, pass)?.expect(&rt, "all lanes");
-    assert_eq!(rt; back.maps(), start.maps());
-    assert_eq!(rt; back.queues(), start.queues());
-    Ok(())
+fn contents_come_back(rt: HostRuntime) {
+    let start = pairs_and_values(&rt);
+    let (store, pass) = opened(&rt, Shape::new(4, 2, 7, 3, 2, 4, 2), &start);
+    gives_back(&rt, store, pass, &start);
 }
 
 #[test]
-fn only_the_maps_from_a_number_on_come_back(rt: HostRuntime) -> Result<(), Fail> {
-    let start = pairs_and_values(rt.alloc())?;
-    let shape = Shape::new(4, 2, 7, 3, 2, 4, 2)?;
-    let (store, pass) = opened(rt.alloc(), shape, &start)?;
-    let back = with_maps_from(store, pass, 1)?.expect(&rt, "all lanes");
-    let mut expected = Contents::empty(rt.alloc(), 2, 2)?;
-    expected.put(1, 7, 8)?;
-    assert_eq!(rt; back.maps(), expected.maps());
-    assert_eq!(rt; back.queues(), expected.queues());
-    Ok(())
+fn only_the_maps_from_a_number_on_come_back(rt: HostRuntime) {
+    let start = pairs_and_values(&rt);
+    let (store, pass) = opened(&rt, Shape::new(4, 2, 7, 3, 2, 4, 2), &start);
+    let mut expected = Contents::empty(rt.alloc(), 2, 2).expect(&rt, "memory");
+    expected.put(1, 7, 8).expect(&rt, "memory");
+    has_maps_from(&rt, store, pass, 1, &expected);
 }
 
 #[test]
-fn contents_outlast_renewals(rt: HostRuntime) -> Result<(), Fail> {
-    let start = pairs_and_values(rt.alloc())?;
-    let shape = Shape::new(4, 2, 20, 3, 2, 4, 2)?;
-    let (store, pass) = opened(rt.alloc(), shape, &start)?;
-    let (store, pass) = renewed(store, pass)?;
+fn contents_outlast_renewals(rt: HostRuntime) {
+    let start = pairs_and_values(&rt);
+    let (store, pass) = opened(&rt, Shape::new(4, 2, 20, 3, 2, 4, 2), &start);
+    let (store, pass) = renewed(&rt, store, pass);
     assert_eq!(rt; store.field().shape().base, 7);
-    let (store, pass) = renewed(store, pass)?;
-    let back = closed(store, pass)?.expect(&rt, "all lanes");
-    assert_eq!(rt; back.maps(), start.maps());
-    assert_eq!(rt; back.queues(), start.queues());
-    Ok(())
+    let (store, pass) = renewed(&rt, store, pass);
+    gives_back(&rt, store, pass, &start);
 }
 
 #[test]
-fn a_queue_needs_a_base_node(rt: HostRuntime) -> Result<(), Fail> {
-    let start = Contents::empty(rt.alloc(), 1, 1)?;
-    let shape = Shape::new(2, 16, 0, 4, 1, 64, 1)?;
-    let fault = opened(rt.alloc(), shape, &start).err();
+fn a_queue_needs_a_base_node(rt: HostRuntime) {
+    let start = Contents::empty(rt.alloc(), 1, 1).expect(&rt, "memory");
+    let shape = Shape::new(2, 16, 0, 4, 1, 64, 1).expect(&rt, "a shape");
+    let fault = try_open(rt.alloc(), shape, &start).err();
     assert_eq!(rt; fault, Some(OpenFault::NoRoom { needed: 1, base: 0 }));
-    Ok(())
+}
+
+// Divides a store of two lanes, and puts it together again.
+fn part_and_meet(rt: &impl Abort, store: &Store, pass: &mut StorePass)
+    requires { IsPassOf store.now pass.old }
+    ensures { IsPassOf store.now pass.new }
+{
+    let second = store.split(pass).expect(rt, "two lanes");
+    assert_eq!(rt; [pass.pass.lanes(), second.pass.lanes()], [1, 1]);
+    assert!(rt; store.split(pass).is_none());
+    store.join(pass, second);
 }
 
 #[test]
-fn two_lanes_part_and_meet(rt: HostRuntime) -> Result<(), Fail> {
-    let start = pairs_and_values(rt.alloc())?;
-    let shape = Shape::new(2, 1, 7, 1, 2, 4, 2)?;
-    let (store, mut first) = opened(rt.alloc(), shape, &start)?;
-    let second = store.split(&mut first).expect(&rt, "two lanes");
-    assert_eq!(rt; first.pass.lanes(), 1);
-    assert_eq!(rt; second.pass.lanes(), 1);
-    assert!(rt; store.split(&mut first).is_none());
-    store.join(&mut first, second);
-    let back = closed(store, first)?.expect(&rt, "both lanes");
-    assert_eq!(rt; back.maps(), start.maps());
-    assert_eq!(rt; back.queues(), start.queues());
-    Ok(())
+fn two_lanes_part_and_meet(rt: HostRuntime) {
+    let start = pairs_and_values(&rt);
+    let (store, mut pass) = opened(&rt, Shape::new(2, 1, 7, 1, 2, 4, 2), &start);
+    part_and_meet(&rt, &store, &mut pass);
+    gives_back(&rt, store, pass, &start);
 }

@@ -11,6 +11,4 @@ pub use opening::dispenser;
 pub use tickets::{renew, take_ticket, ticket_word};
 
 mod opening;
-#[cfg(test)]
-mod tests;
 mod tickets;

@@ -1,4 +1,4 @@
-//! Bodies for tests of the store. The tests of this crate run them over the store beside a store
+//! Bodies for tests of the store. The tests of md_store_tests run them over the store beside a store
 //! for one thread, and on several threads. The meanings of the bodies hold of all acts, so no
 //! clause says what they do. The tests compare their replies and the contents that they leave.
 #![tactic(auto)]
@@ -10,7 +10,5 @@ pub use turns::{KEPT, Turn, Turned, key_of};
 
 mod counts;
 mod mix;
-#[cfg(test)]
-mod tests;
 mod transfers;
 mod turns;

@@ -5,8 +5,6 @@ mod moves;
 mod places;
 mod run;
 mod shifts;
-#[cfg(test)]
-mod tests;
 
 pub use moves::{Move, Step};
 pub use places::{FINISHED, LOWEST, MAPS, MAX_JOBS, MAX_WORKERS, PRIORITIES, RUNNING};

@@ -5,8 +5,6 @@ mod bank;
 mod day;
 mod journal;
 mod playing;
-#[cfg(test)]
-mod tests;
 mod threads;
 
 pub use bank::{ACCOUNTS, JOURNAL, Outcome, Refusal, Transfer};

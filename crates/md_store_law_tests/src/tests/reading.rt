@@ -9,7 +9,8 @@ ghost use Rattle.md_store_law_tests.specs.UsedRow.{written, are_below};
 use super::assert_contents;
 use md_store_law::{compact, read_off};
 use md_words::Shape;
-use std::alloc::{AllocError, Global};
+use std::alloc::{AllocError, AllocGlobal, Global};
+use std::process::Abort;
 use std::test::Fail;
 
 // the word of the value 1 and the count 0
@@ -42,12 +43,11 @@ fn small_field(alloc: Global, shape: &Shape) -> Result<Vec<u64>, AllocError>
 }
 
 #[test]
-fn a_small_field_is_read_off(rt: HostRuntime) -> Result<(), Fail> {
-    let shape = Shape::new(2, 16, 3, 4, 1, 64, 1)?;
-    let words = small_field(rt.alloc(), &shape)?;
-    let contents = read_off(rt.alloc(), &shape, &words)?;
-    assert_contents(&rt, &contents, 3, &[(5, 6)], &[9])?;
-    Ok(())
+fn a_small_field_is_read_off(rt: HostRuntime) {
+    let shape = Shape::new(2, 16, 3, 4, 1, 64, 1).expect(&rt, "a shape");
+    let words = small_field(rt.alloc(), &shape).expect(&rt, "memory");
+    let contents = read_off(rt.alloc(), &shape, &words).expect(&rt, "memory");
+    assert_contents(&rt, &contents, 3, &[(5, 6)], &[9]);
 }
 
 // A field of 0 after writes, each of a word and what it holds.
@@ -101,12 +101,11 @@ fn used_field(alloc: Global, shape: &Shape) -> Result<Vec<u64>, AllocError>
 }
 
 #[test]
-fn a_used_field_is_read_off(rt: HostRuntime) -> Result<(), Fail> {
-    let shape = Shape::new(2, 16, 3, 4, 1, 64, 1)?;
-    let words = used_field(rt.alloc(), &shape)?;
-    let contents = read_off(rt.alloc(), &shape, &words)?;
-    assert_contents(&rt, &contents, 5, &[(6, 50), (134, 54)], &[16, 18])?;
-    Ok(())
+fn a_used_field_is_read_off(rt: HostRuntime) {
+    let shape = Shape::new(2, 16, 3, 4, 1, 64, 1).expect(&rt, "a shape");
+    let words = used_field(rt.alloc(), &shape).expect(&rt, "memory");
+    let contents = read_off(rt.alloc(), &shape, &words).expect(&rt, "memory");
+    assert_contents(&rt, &contents, 5, &[(6, 50), (134, 54)], &[16, 18]);
 }
 
 // The words of the field after it was compacted. Nodes 1 to 5 are the dummy, keys 6 and 134, and the
@@ -132,15 +131,20 @@ fn compacted_words(alloc: Global) -> Result<Vec<u64>, AllocError> {
     Ok(words)
 }
 
+// The shape and the words are those of the compacted field.
+fn assert_compacted<R: Abort + AllocGlobal>(rt: &R, shape: &Shape, words: &[u64]) {
+    let small = Shape::new(2, 16, 5, 4, 1, 64, 1).expect(rt, "a shape");
+    let want = compacted_words(rt.alloc()).expect(rt, "memory");
+    assert_eq!(rt; (*shape, words), (small, want.as_slice()));
+}
+
 #[test]
 fn a_used_field_is_compacted(rt: HostRuntime) -> Result<(), Fail> {
     let shape = Shape::new(2, 16, 3, 4, 1, 64, 1)?;
     let words = used_field(rt.alloc(), &shape)?;
-    let (fresh, row) = compact(rt.alloc(), &shape, words)?;
-    let small = Shape::new(2, 16, 5, 4, 1, 64, 1)?;
-    let contents = read_off(rt.alloc(), &fresh, &row)?;
-    let want = compacted_words(rt.alloc())?;
-    assert_eq!(rt; (fresh, row), (small, want));
-    assert_contents(&rt, &contents, 5, &[(6, 50), (134, 54)], &[16, 18])?;
+    let (fresh, row) = compact(rt.alloc(), &shape, words).expect(&rt, "memory");
+    let contents = read_off(rt.alloc(), &fresh, &row).expect(&rt, "memory");
+    assert_compacted(&rt, &fresh, &row);
+    assert_contents(&rt, &contents, 5, &[(6, 50), (134, 54)], &[16, 18]);
     Ok(())
 }

@@ -47,70 +47,82 @@ impl Body for EachCall {
     ghost did_makes = { λ b acts r did. did.follows };
 }
 
-// Runs a body, if the store has a map and a queue.
-fn ran(
+// Runs a body, if the store has a map and a queue: its end is this.
+fn ends(
+    rt: &impl Abort,
     store: &Store,
     pass: &mut StorePass,
     tag: u64,
     body: EachCall,
-) -> Option<Attempt<Option<u64>>>
+    end: Attempt<Option<u64>>,
+)
     requires of { IsPassOf store.now pass.old }
     ensures of { IsPassOf store.now pass.new }
 {
     let shape = store.field().shape();
     if shape.maps == 0 || shape.queues == 0 {
-        return None;
+        panic!(rt; "a map and a queue")
     }
-    Some(store.attempt(pass, tag, &body))
+    assert_eq!(rt; store.attempt(pass, tag, &body), end);
 }
 
 // A pair in a map, and a value in a queue.
-fn pair_and_value(alloc: Global) -> Result<Contents, AllocError> {
-    let mut contents = Contents::empty(alloc, 1, 1)?;
-    contents.put(0, 9, 4)?;
-    contents.push(0, 1)?;
-    Ok(contents)
+fn pair_and_value<R: Abort + AllocGlobal>(rt: &R, key: u64, value: u64, first: u64) -> Contents {
+    let mut contents = Contents::empty(rt.alloc(), 1, 1).expect(rt, "memory");
+    contents.put(0, key, value).expect(rt, "memory");
+    contents.push(0, first).expect(rt, "memory");
+    contents
 }
 
 #[test]
-fn a_body_runs_twice(rt: HostRuntime) -> Result<(), Fail> {
-    let start = pair_and_value(rt.alloc())?;
-    let shape = Shape::new(1, 16, 3, 4, 1, 2, 1)?;
-    let (store, mut pass) = opened(rt.alloc(), shape, &start)?;
-    let first = ran(&store, &mut pass, 30, EachCall { key: 5, value: 6 });
-    assert_eq!(rt; first, Some(Attempt::Committed(Some(1))));
-    let second = ran(&store, &mut pass, 20, EachCall { key: 5, value: 7 });
-    assert_eq!(rt; second, Some(Attempt::Committed(Some(6))));
-    let back = closed(store, pass)?.expect(&rt, "the one lane");
-    let mut want = Contents::empty(rt.alloc(), 1, 1)?;
-    want.put(0, 5, 6)?;
-    want.push(0, 7)?;
-    assert_eq!(rt; back.maps(), want.maps());
-    assert_eq!(rt; back.queues(), want.queues());
-    Ok(())
+fn a_body_runs_twice(rt: HostRuntime) {
+    let start = pair_and_value(&rt, 9, 4, 1);
+    let (store, mut pass) = opened(&rt, Shape::new(1, 16, 3, 4, 1, 2, 1), &start);
+    let first = EachCall { key: 5, value: 6 };
+    ends(
+        &rt,
+        &store,
+        &mut pass,
+        30,
+        first,
+        Attempt::Committed(Some(1)),
+    );
+    let second = EachCall { key: 5, value: 7 };
+    ends(
+        &rt,
+        &store,
+        &mut pass,
+        20,
+        second,
+        Attempt::Committed(Some(6)),
+    );
+    gives_back(&rt, store, pass, &pair_and_value(&rt, 5, 6, 7));
 }
 
 #[test]
-fn a_body_without_nodes_leaves_nothing(rt: HostRuntime) -> Result<(), Fail> {
-    let start = pair_and_value(rt.alloc())?;
-    let shape = Shape::new(1, 1, 3, 4, 1, 2, 1)?;
-    let (store, mut pass) = opened(rt.alloc(), shape, &start)?;
-    let answer = ran(&store, &mut pass, 1, EachCall { key: 5, value: 6 });
-    assert_eq!(rt; answer, Some(Attempt::Stopped(Stop::Limit(Limit::Nodes))));
-    let back = closed(store, pass)?.expect(&rt, "the one lane");
-    assert_eq!(rt; back.maps(), start.maps());
-    assert_eq!(rt; back.queues(), start.queues());
-    Ok(())
+fn a_body_without_nodes_leaves_nothing(rt: HostRuntime) {
+    let start = pair_and_value(&rt, 9, 4, 1);
+    let (store, mut pass) = opened(&rt, Shape::new(1, 1, 3, 4, 1, 2, 1), &start);
+    let body = EachCall { key: 5, value: 6 };
+    let end = Attempt::Stopped(Stop::Limit(Limit::Nodes));
+    ends(&rt, &store, &mut pass, 1, body, end);
+    gives_back(&rt, store, pass, &start);
 }
 
 #[test]
-fn a_lane_runs_out_of_attempts(rt: HostRuntime) -> Result<(), Fail> {
-    let start = pair_and_value(rt.alloc())?;
-    let shape = Shape::new(1, 16, 3, 1, 1, 2, 1)?;
-    let (store, mut pass) = opened(rt.alloc(), shape, &start)?;
-    let first = ran(&store, &mut pass, 1, EachCall { key: 5, value: 6 });
-    assert_eq!(rt; first, Some(Attempt::Committed(Some(1))));
-    let second = ran(&store, &mut pass, 2, EachCall { key: 7, value: 8 });
-    assert_eq!(rt; second, Some(Attempt::Stopped(Stop::Limit(Limit::Tries))));
-    Ok(())
+fn a_lane_runs_out_of_attempts(rt: HostRuntime) {
+    let start = pair_and_value(&rt, 9, 4, 1);
+    let (store, mut pass) = opened(&rt, Shape::new(1, 16, 3, 1, 1, 2, 1), &start);
+    let first = EachCall { key: 5, value: 6 };
+    ends(
+        &rt,
+        &store,
+        &mut pass,
+        1,
+        first,
+        Attempt::Committed(Some(1)),
+    );
+    let second = EachCall { key: 7, value: 8 };
+    let end = Attempt::Stopped(Stop::Limit(Limit::Tries));
+    ends(&rt, &store, &mut pass, 2, second, end);
 }

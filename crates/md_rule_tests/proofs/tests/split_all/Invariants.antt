@@ -1,6 +1,0 @@
-use Rattle.std.proofs.Common.{All}
-use Rattle.md_rule.specs.Views.{IsOf}
-use Rattle.md_rule_tests.proofs.tests.split_all.Given as goal
-
-abbrev pub invariant-loop-i : goal.invariant-loop-i
-invariant-loop-i l = All (λ p. IsOf p l.field) l.passes.items

@@ -1,5 +1,0 @@
-use Rattle.md_store.specs.Store.{IsPassOf}
-use Rattle.md_trials.proofs.tests.running.run_bodies.Given as goal
-
-abbrev pub invariant-loop-tag : goal.invariant-loop-tag
-invariant-loop-tag g l = IsPassOf l.store l.pass
