@@ -19,8 +19,10 @@ pub mod WrittenWords
 pub mod ListRefusals
 pub mod QueueRefusals
 pub mod Runs
+pub mod ListBegun
 pub mod Attempts
 pub mod Untouched
 pub mod FirstAttempts
 pub mod Small
+pub mod Ends
 pub mod Numbers

@@ -4,3 +4,4 @@ pub mod Settling
 pub mod Ending
 pub mod Laws
 pub mod Running
+pub mod Attempted

@@ -6,8 +6,19 @@ use Rattle.md_nbtc_law.specs.State.{shape_in}
 use Rattle.md_nbtc.specs.State.{state}
 use Rattle.md_list.specs.Operations.{HasStopButNodes}
 use Rattle.md_store.proofs.ListRefusals.{needs_slot}
+use Rattle.md_store.proofs.ListBegun.{has_map, list_begun}
 use Rattle.md_store.proofs.Runs.{IsStarted, answered_runs, is_head_of, list_ends, list_runs, may_end, none_stood, unstopped}
 use Rattle.md_store.proofs.on_maps.get_in.Goals as goal
+
+pub map_head-head-requires : goal.map_head-head-requires
+map_head-head-requires c =
+    has_map (shape_in (state c.args.txn.now)) (shape_in (state c.start_op.new.self)) c.shape.result.now c.args.map (ap shape_in c.start_op.ensures.begun)
+    c.shape.ensures c.requires.map
+
+pub get-requires-clause-begun : goal.get-requires-clause-begun
+get-requires-clause-begun c =
+    list_begun (state c.args.txn.now) (state c.start_op.new.self) c.requires.running.going
+    (record { on = c.start_op.ensures.on; is = c.start_op.ensures.begun })
 
 pub get-requires-clause-head : goal.get-requires-clause-head
 get-requires-clause-head c = (
