@@ -1,6 +1,6 @@
 -- Lists by caller, kept in vectors.
 use Rattle.std.proofs.Common.{◌≡◌, ◌≢◌, ◌≤◌, ◌∷◌, [], ◌∙◌, ℕ, zero, suc, List, Vec, Global, Result, Ok, Err, true, length, refl, sym, ap, arith}
-use Rattle.std.specs.Prelude.{◌-◌, slice_set, slice_index_or, is_ok, OnOk}
+use Rattle.std.specs.Prelude.{◌-◌, None, slice_set, slice_get, slice_index_or, is_ok, OnOk}
 use Rattle.md_many.specs.Rounds.{at_caller}
 use Rattle.md_many.specs.Played.{lists_in}
 
@@ -40,6 +40,12 @@ list-there (w ∷ lists) (suc zero) v low high is = ap (λ x. x.items) (sym is)
 list-there (w ∷ lists) (suc (suc i)) v low high is =
     let next : suc (suc i) - 1 ≡ suc (suc i - 1) = omega arith in
     list-there lists (suc i) v (omega arith) (omega arith) (is ∙ ap (λ k. slice_index_or (w ∷ lists) k v) next)
+
+-- a list has nothing past its end
+pub past-none : {R : Type 0} (xs : List R) (l : ℕ) → length xs ≤ l → slice_get xs l ≡ None
+past-none [] l past = refl
+past-none (x ∷ xs) zero past = absurd (omega arith)
+past-none (x ∷ xs) (suc l) past = past-none xs l (omega arith)
 
 -- what is so where a result is Ok
 pub on-ok : {A E : Type 0} (r : Result A E) (P : Type 0) → (is_ok r ≡ true → P) → OnOk r P

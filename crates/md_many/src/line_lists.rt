@@ -108,7 +108,8 @@ impl<T: Body + Copy + Drop + Sync> Lines for LinesByCaller<T> {
         if line == 0 || line as usize > list.len() {
             return None;
         }
-        Some(list[line as usize - 1])
+        let index = line as usize - 1;
+        Some(list[index])
     }
 
     ghost has_body = { λ l caller line. has-line l caller line };

@@ -118,6 +118,36 @@ attempts-preserved g c =
           }
     ]
 
+-- the caller has no line left
+pub returns-then-played-count : goal.returns-then-played-count
+returns-then-played-count g c =
+    let was = c.attempts.invariant in
+    let counted = has-counted c.args.turn _ _ _ _ _ 0 c.attempts.tried _ _ _ (g.E.Engine.begun c.attempts.pass) was.played was.within (omega (arith, c.len-count.ensures)) was.few
+    was.counted (omega arith) (omega (arith, c.attempts-test.true)) was.lines.attempted.few (omega arith, omega arith) in
+    record {
+      of = was.of;
+      lanes = was.lines.attempted.lanes;
+      pending = was.lines.attempted.pending;
+      lines = was.lines.plays;
+      within = counted.within;
+      few = counted.few;
+      tries = counted.tries;
+      begun = counted.begun;
+      end = omega (arith, was.played, c.if-played-count.true, c.len-count.ensures);
+      gate = λ line after before. was.gate line after (subst (λ n. line ≤ n) (sym was.played) before);
+      room = was.room;
+      no_memory = tt;
+      first = λ fresh tries small some. omega (arith, some, was.played, c.if-played-count.true, c.len-count.ensures);
+      steady = λ stops. omega (
+        arith,
+        was.steady stops,
+        was.played,
+        c.if-played-count.true,
+        c.len-count.ensures,
+        c.attempts-test.true,
+      );
+    }
+
 pub returns-in-Stopped-NoMemory : goal.returns-in-Stopped-NoMemory
 returns-in-Stopped-NoMemory g c =
     let was = c.attempts.invariant in

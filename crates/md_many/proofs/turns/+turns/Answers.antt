@@ -1,4 +1,7 @@
-use Rattle.std.proofs.Common.{rules, ◌≡◌, ◌≤◌, length, sym, subst, arith}
+use Rattle.std.proofs.Common.{rules, ◌≡◌, ◌≤◌, ◌+◌, ◌∷◌, [], ◌∙◌, ℕ, List, length, refl, sym, subst, arith}
+use Rattle.std.specs.Prelude.{slice_index_or}
+use Rattle.std.proofs.lemmas.Result.{IfOk-weaker}
+use Rattle.md_many.proofs.Coursing.{within-at}
 use Rattle.md_many.proofs.Halving.{split-more, kept-count, given-count}
 use Rattle.md_many.proofs.turns.+turns.Goals as goal
 
@@ -19,3 +22,57 @@ returns-clause-turns g t c =
     rw c.halves.ensures.whole
     (c.join_turns.ensures.turns _ _ _ c.args.before _ _ _ c.in-Some.ensures.split c.pass_is_legal.ensures.rising (omega arith)
     c.join-first.ensures.first.1 c.join-first.ensures.second.1)
+
+-- a list of one number
+one-alone : (ns : List ℕ) → length ns ≡ 1 → ns ≡ slice_index_or ns 0 0 ∷ []
+one-alone [] one = absurd (omega (arith, one))
+one-alone (n ∷ []) one = refl
+one-alone (n ∷ m ∷ ns) one = absurd (omega (arith, one))
+
+pub play_turn-requires-clause-done : goal.play_turn-requires-clause-done
+play_turn-requires-clause-done g t c κs within =
+    let lone : length (g.E.Engine.front c.args.pass).lanes ≡ 1 = search rules in
+    let caller : c.args.before + 1 + 0 ≡ c.args.before + 1 = omega arith in
+    subst (λ k. slice_index_or c.args.done.now 0 0 ≤ g.L.Lines.line_count c.args.shared.lines.now k) caller
+    (within-at (g.L.Lines.line_count c.args.shared.lines.now) c.args.before c.args.done.now c.requires.within 0
+    (omega (arith, c.requires.lanes, lone)))
+
+pub returns-in_default-clause-turns : goal.returns-in_default-clause-turns
+returns-in_default-clause-turns g t c =
+    let lone : length (g.E.Engine.front c.args.pass).lanes ≡ 1 = search rules in
+    let same : g.E.Engine.front c.split.new.pass ≡ g.E.Engine.front c.args.pass = search rules in
+    rw (one-alone c.args.done.now (c.requires.lanes ∙ lone), ← same)
+    (IfOk-weaker c.play_turn.result _ _ (λ r turns. turns c.args.before refl) c.play_turn.ensures.turns)
+
+pub play_turn-requires-clause-of : goal.play_turn-requires-clause-of
+play_turn-requires-clause-of g t c = search rules depth 1
+
+pub play_turn-requires-clause-fits : goal.play_turn-requires-clause-fits
+play_turn-requires-clause-fits g t c = search rules depth 1
+
+pub play_turn-requires-clause-one : goal.play_turn-requires-clause-one
+play_turn-requires-clause-one g t c = search rules depth 1
+
+pub returns-in_default-clause-of : goal.returns-in_default-clause-of
+returns-in_default-clause-of g t c = search rules depth 1
+
+pub overflow_add-turn : goal.overflow_add-turn
+overflow_add-turn g t c = search rules depth 1
+
+pub bounds-done-0 : goal.bounds-done-0
+bounds-done-0 g t c = search rules depth 1
+
+pub halves-requires-after_bounds : goal.halves-requires-after_bounds
+halves-requires-after_bounds g t c = search rules depth 1
+
+pub join_turns-requires-clause-of : goal.join_turns-requires-clause-of
+join_turns-requires-clause-of g t c = search rules depth 1
+
+pub join_turns-requires-clause-of_other : goal.join_turns-requires-clause-of_other
+join_turns-requires-clause-of_other g t c = search rules depth 1
+
+pub returns-clause-of : goal.returns-clause-of
+returns-clause-of g t c = search rules depth 1
+
+pub pass_is_legal-requires-after_bounds : goal.pass_is_legal-requires-after_bounds
+pass_is_legal-requires-after_bounds g t c = search rules depth 1

@@ -1,16 +1,11 @@
-use Rattle.std.proofs.Common.{Bor, ◌≡◌, ◌≤◌, ◌<◌, [], ◌∷◌, ℕ, zero, suc, List, length, refl, sym, ap, ◌∙◌, arith}
+use Rattle.std.proofs.Common.{Bor, ◌≡◌, ◌≤◌, ◌<◌, [], ℕ, zero, suc, List, length, refl, sym, ap, ◌∙◌, arith}
 use Rattle.std.specs.Prelude.{◌-◌, Option, Some, None, option_map, slice_get, slice_index_or}
 use Rattle.std.specs.Slice.{IsItemAt}
 use Rattle.std.proofs.lemmas.Option.{slice_get-get_or}
 use Rattle.md_many.specs.Rounds.{at_caller}
 use Rattle.md_many.specs.Played.{lists_in, line_at}
-use Rattle.md_many.proofs.Lists.{list-there}
+use Rattle.md_many.proofs.Lists.{list-there, past-none}
 use Rattle.md_many.proofs.many.Many.reply.Goals as goal
-
-past-none : {R : Type 0} (xs : List R) (l : ℕ) → length xs ≤ l → slice_get xs l ≡ None
-past-none [] l past = refl
-past-none (x ∷ xs) zero past = absurd (omega arith)
-past-none (x ∷ xs) (suc l) past = past-none xs l (omega arith)
 
 -- an element that was found, or none past the end
 found : {R : Type 0} (xs : List R) (r : Option (Bor R)) (line : ℕ) (lists : List (List R)) (caller : ℕ)
