@@ -1,14 +1,11 @@
 -- A transaction that inserts a value into the cell: its steps may be made, and what they leave.
-use Rattle.std.proofs.Common.{◌≡◌, ◌≢◌, ◌++◌, ◌∷◌, ◌+◌, ◌≤◌, ◌⊎◌, ℕ, suc, true, List, [], Some, refl, sym, ap, ◌∙◌, subst, ⊎_elim, eq-eqb, append_assoc, arith, inr, if◌then◌else◌}
+use Rattle.std.proofs.Common.{◌≡◌, ◌≢◌, ◌++◌, ◌∷◌, ◌+◌, ◌≤◌, ℕ, suc, true, List, [], Some, refl, sym, ap, ◌∙◌, subst, ⊎_elim, append_assoc, arith, inr}
 use Rattle.std.specs.List.{Contains}
-use prog.Atomic.{either}
-use Rattle.std.proofs.lemmas.Bool.{cases_Bool}
 use Rattle.std.proofs.lemmas.List.Elements.{All-nil, All-push, Contains-append_left, Contains-push, Contains-push_cases}
 use Rattle.md_words.specs.declared.content.Spot.{Spot}
-use Rattle.md_words.specs.declared.shape.Shape.{Shape}
 use Rattle.md_words.specs.Content.{count_of, value_of, spot_value}
 use Rattle.md_words.specs.Layout.{address}
-use Rattle.md_words.specs.Place.{desc_status, slot_new}
+use Rattle.md_words.specs.Place.{slot_new}
 use Rattle.md_words.proofs.Words.{count_of-counted_word}
 use Rattle.md_history.specs.declared.acts.Op.{Op}
 use Rattle.md_history.specs.declared.acts.Op.TheVariants.{Insert}
@@ -20,24 +17,22 @@ use Rattle.md_machine.specs.declared.attempt.Hand.{Hand}
 use Rattle.md_machine.specs.declared.certificate.Certificate.{Certificate}
 use Rattle.md_machine.specs.declared.certificate.Change.{Change}
 use Rattle.md_machine.specs.declared.pass.PassView.{PassView}
-use Rattle.md_machine.specs.declared.step.Kind.TheVariants.{Load, Ready}
+use Rattle.md_machine.specs.declared.step.Kind.TheVariants.{Load}
 use Rattle.md_machine.specs.declared.step.Step.{Step}
 use Rattle.md_machine.specs.declared.step.TheConstants.{LAST_COUNT}
-use Rattle.md_machine.specs.Event.{mark_start, ready}
-use Rattle.md_machine.specs.Machine.{Machine, attempt_of, content, shape_of}
-use Rattle.md_machine.specs.Stepping.{exchanged, left_by, step_of, wins}
+use Rattle.md_machine.specs.Event.{mark_start}
+use Rattle.md_machine.specs.Machine.{attempt_of, content}
+use Rattle.md_machine.specs.Stepping.{step_of}
 use Rattle.md_machine.specs.Trail.{LastStored, SomeStepOf, StoresFor}
-use Rattle.md_machine.specs.events.Decide.{SinceStatus}
 use Rattle.md_machine.specs.events.Install.{installed_word}
 use Rattle.md_machine.specs.events.Mark.{after_mark_act, after_mark_start, hand_after_mark_act, new_hand}
-use Rattle.md_machine.specs.events.Ready.{fates_after_ready, history_after_ready, ready_word, unready_word, view_after_ready}
 use Rattle.md_machine.specs.events.Start.{WonInstall}
 use Rattle.md_machine.proofs.lists.Options.{some_same}
 use Rattle.md_cell.specs.CellMeaning.{CellCertifies, cell_meaning, cell_word}
 use Rattle.md_cell.specs.CellRows.{sets}
-use Rattle.md_rule.specs.Steps.{Acted, May, MayAct, Stepped, SteppedFrom}
+use Rattle.md_rule.specs.Steps.{Acted, May, MayAct, Stepped}
 use Rattle.md_rule.specs.Views.{Origin}
-use Rattle.md_rule.proofs.Told.{told_act, told_mark_start, told_ready}
+use Rattle.md_rule.proofs.Told.{told_act, told_mark_start}
 use Rattle.md_stalls.specs.Inserting.{HasPut, Inserts, inserted}
 use Rattle.md_stalls.specs.Stalled.{HasFirst, IsPut, MakesStep, PutsIn}
 use Rattle.md_stalls.proofs.Trails.{every_more}
@@ -205,36 +200,3 @@ module _ (o : Origin) (desc : ℕ) where
           room = room;
           put = still_put p q from (value + 1) mark refl makes h;
         }
-
-  -- what the ready step leaves is met
-  pub since : (p q : PassView) (h : Hand) → p.hand ≡ Some h → h.attempt ≡ a
-      → SteppedFrom cell_meaning o (λ pass. ready pass 0) (address o.shape (desc_status desc)) (unready_word a) p q → SinceStatus o.shape q desc (ready_word a 0)
-  since p q h held of (s, is) =
-      let m = s.machine in
-      let told = told_ready cell_meaning o p q 0 s in
-      let same : told.0.attempt ≡ a = ap (λ (x : Hand). x.attempt) (some_same told.0 h (sym told.2.held ∙ held)) ∙ of in
-      let word = address (shape_of m) (desc_status desc) in
-      let at : word ≡ address o.shape (desc_status desc) = ap (λ (x : Shape). address x (desc_status desc)) s.admitted.shape in
-      let there : content m word ≡ unready_word a = ap (content m) at ∙ is in
-      let won : wins m word (unready_word a) ≡ true = eq-eqb (content m word) (unready_word a) there in
-      let step : Step = step_of m p Ready word (left_by m word (unready_word a) (ready_word a 0)) in
-      let trail : q.trail ≡ p.trail ++ step ∷ [] = ap (λ (x : PassView). x.trail) told.3
-      ∙ ready_trail m p told.0 told.1
-      ∙ ap (λ (x : AttemptId). p.trail ++ step_of m p Ready (address (shape_of m) (desc_status x.desc)) (left_by m (address (shape_of m) (desc_status x.desc)) (unready_word x) (ready_word x 0)) ∷ []) same in record {
-        earlier = p.trail;
-        step = step;
-        later = [];
-        segment = subst (λ l. Contains (q.past ++ q.trail ∷ []) l) trail (Contains-push q.past q.trail);
-        such = inr (record { there = at; after = ap (λ b. either b (ready_word a 0) (content m word)) won });
-      }
-    where
-      ready_trail : (m : Machine) (p : PassView) (h : Hand) (cs : List Certificate) → (view_after_ready m p h cs 0).trail
-          ≡ p.trail ++ step_of m p Ready (address (shape_of m) (desc_status h.attempt.desc))
-          (left_by m (address (shape_of m) (desc_status h.attempt.desc)) (unready_word h.attempt) (ready_word h.attempt 0)) ∷ []
-      ready_trail m p h cs = ⊎_elim
-          (λ t. ap (λ b. (if b then record (exchanged m p Ready (at h) (unready_word h.attempt) (ready_word h.attempt 0)) { seen = history_after_ready m h cs 0; known = fates_after_ready m } else exchanged m p Ready (at h) (unready_word h.attempt) (ready_word h.attempt 0)).trail) t)
-          (λ f. ap (λ b. (if b then record (exchanged m p Ready (at h) (unready_word h.attempt) (ready_word h.attempt 0)) { seen = history_after_ready m h cs 0; known = fates_after_ready m } else exchanged m p Ready (at h) (unready_word h.attempt) (ready_word h.attempt 0)).trail) f)
-          (cases_Bool (wins m (at h) (unready_word h.attempt)))
-        where
-          at : Hand → ℕ
-          at h = address (shape_of m) (desc_status h.attempt.desc)

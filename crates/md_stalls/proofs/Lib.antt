@@ -4,3 +4,5 @@ mod Slots
 pub mod Looking
 mod Inserted
 mod Entering
+mod Statuses
+mod Puts

@@ -1,14 +1,17 @@
 //! A transaction that inserts a value into the cell, and goes as far as it is told.
 
-ghost use Rattle.std.specs.Prelude.{◌≡◌, ◌+◌, ◌<◌, ◌≤◌, ◌^◌, IfNone, IfSome, None, true};
+ghost use Rattle.std.specs.Prelude.{◌≡◌, ◌+◌, ◌<◌, ◌≤◌, ◌^◌, ◌∷◌, ℕ, IfNone, IfSome, None, Some};
+ghost use Rattle.std.specs.Prelude.{[], false, true};
 ghost use Rattle.md_words.specs.declared.status.Status.TheVariants.{InProg};
 ghost use Rattle.md_words.specs.Content.{is_even, word_of};
 ghost use Rattle.md_words.specs.Layout.{desc_count};
 ghost use Rattle.md_words.specs.Status.{status_word};
+ghost use Rattle.md_machine.specs.declared.step.Step.{Step};
 ghost use Rattle.md_machine.specs.declared.step.TheConstants.{LAST_COUNT};
 ghost use Rattle.md_machine.specs.events.Decide.{SinceStatus};
 ghost use Rattle.md_rule.specs.Views.{IsOf};
-ghost use Rattle.md_stalls.specs.Inserting.{HasInserted};
+ghost use Rattle.md_stalls.specs.Inserting.{CarriesOut, HasInserted, HasNoInstall, Inserts, IsTried};
+ghost use Rattle.md_stalls.specs.Inserting.{Loses, MakesCommit, MakesReady, Puts, inserted};
 
 use crate::stalling::{begin, put, store_slot};
 use md_cell::CellTheory;
@@ -19,8 +22,8 @@ use std::marker::Brand;
 use std::snapshot::Snapshot;
 
 // Inserts a value into a cell that has none, as an operation of a transaction, which is in hand
-// then. Its descriptor; None if no lane has its first attempt, or if another step changed the word
-// first. Then nothing is in hand.
+// then. Its descriptor; None if no lane has its first attempt, or if the word doesn't hold the
+// content. Then nothing is in hand.
 fn operate(
     field: &Field<CellTheory>,
     pass: &mut Pass<CellTheory>,
@@ -34,8 +37,13 @@ fn operate(
     requires none { found.value ≡ 0 }
     requires fits { value + 1 < 2 ^ 32 }
     ensures field { IsOf pass.new field.now }
-    ensures some { IfSome result (λ desc. HasInserted field.now.origin.shape desc pass.new.view) }
-    ensures none { IfNone result (pass.new.view.hand ≡ None) }
+    ensures some { IfSome result (λ desc. Inserts field.now.origin.shape desc (word_of found) value
+        pass.new.view) }
+    ensures puts { IfSome result (λ desc. (act : Step) × Puts field.now.origin.shape desc
+        (word_of found) value true (act ∷ []) pass.old.view pass.new.view) }
+    ensures idle { IfNone result (pass.new.view.hand ≡ None) }
+    ensures none { IfNone result (HasNoInstall field.now.origin.shape (word_of found) value
+        pass.old pass.new) }
 {
     let Some(desc) = begin(field, pass) else {
         return None;
@@ -75,6 +83,8 @@ fn enter(field: &Field<CellTheory>, pass: &mut Pass<CellTheory>, desc: u32) -> b
     ensures exists { desc < desc_count field.now.origin.shape }
     ensures since { result ≡ true → SinceStatus field.now.origin.shape pass.new.view desc
         (status_word InProg 0 0) }
+    ensures readies { (value : ℕ) → pass.old.view.hand ≡ Some (inserted desc value)
+        → MakesReady field.now.origin.shape desc value result pass.old.view pass.new.view }
 {
     let unready = first_status(Status::InPrep);
     match pass.ready::<Brand, _>(field, desc, unready, 0, Snapshot::of(&())) {
@@ -89,6 +99,7 @@ fn commit(field: &Field<CellTheory>, pass: &mut Pass<CellTheory>, desc: u32) -> 
     requires exists { desc < desc_count field.now.origin.shape }
     requires since { SinceStatus field.now.origin.shape pass.old.view desc (status_word InProg 0 0) }
     ensures field { IsOf pass.new field.now }
+    ensures commits { MakesCommit field.now.origin.shape desc result pass.old.view pass.new.view }
 {
     pass.commit(field, desc, first_status(Status::InProg))
         .is_ok()
@@ -99,8 +110,13 @@ fn commit(field: &Field<CellTheory>, pass: &mut Pass<CellTheory>, desc: u32) -> 
 /// content has an even count that is at most `LAST_COUNT`, and the pass has nothing in hand, before
 /// and afterwards.
 ///
-/// The answer says whether each step won. It is false without a step if the content has a value,
-/// or if `value` is the largest `u32`. No clause speaks of the answer.
+/// The answer says whether each step won. Then the attempt joined the history with this insert, and
+/// its status was changed to in progress, and to committed if `decides` says so.
+///
+/// It is false without a step if the content has a value, if `value` is the largest `u32`, if the
+/// lowest lane that has an attempt left has begun one before, or if no lane has one left. Otherwise
+/// it is false only if the word didn't hold `found`, or if the attempt no longer had the status that
+/// a step expects: in preparation to become ready, and in progress to be committed.
 pub fn insert(
     field: &Field<CellTheory>,
     pass: &mut Pass<CellTheory>,
@@ -114,6 +130,11 @@ pub fn insert(
     requires room { found.count ≤ LAST_COUNT }
     ensures field { IsOf pass.new field.now }
     ensures idle { pass.new.view.hand ≡ None }
+    ensures refused { ¬ IsTried found value → (result ≡ false) × (pass.new ≡ pass.old) }
+    ensures won { result ≡ true → CarriesOut field.now.origin.shape (word_of found) value decides
+        true pass.old.view pass.new.view }
+    ensures lost { IsTried found value → result ≡ false → Loses field.now.origin.shape
+        (word_of found) value decides pass.old pass.new }
 {
     if found.value != 0 || value == u32::MAX {
         return false;

@@ -1,4 +1,4 @@
-use Rattle.std.proofs.Common.{◌≡◌, ◌+◌, ◌≤◌, [], ℕ, true, Some, sym, ap, subst, ◌∙◌, arith}
+use Rattle.std.proofs.Common.{◌≡◌, ◌+◌, ◌≤◌, [], ℕ, true, false, Some, sym, ap, subst, ◌∙◌, arith, inr}
 use Rattle.md_words.specs.declared.content.Content.{Content}
 use Rattle.md_words.specs.Content.{count_of, value_of, word_of}
 use Rattle.md_words.proofs.Words.{count_of-counted_word, value_of-counted_word}
@@ -11,6 +11,7 @@ use Rattle.md_rule.specs.Views.{Origin}
 use Rattle.md_rule.proofs.Told.{told_leave}
 use Rattle.md_stalls.specs.Stalled.{AddsChange, Begins, PutsIn, StoresSlot}
 use Rattle.md_stalls.proofs.Inserted.{acted, changed, changing, has_put, may_act, may_start, started}
+use Rattle.md_stalls.proofs.Puts.{and_step, makes_act, makes_leave, makes_start, six_steps}
 use Rattle.md_stalls.proofs.Slots.{holds_new, holds_slot}
 use Rattle.md_stalls.proofs.inserting.operate.Goals as goal
 
@@ -43,8 +44,8 @@ put-requires-clause-slot c =
     let o = c.args.field.now.origin in
     holds_slot o.shape c.in-Some.desc (word_of c.args.found) (c.args.value + 1) c.mark_start.new.self.view c.store_slot.new.pass.view (c.store_slot.ensures.first.exists, omega arith) c.store_slot.ensures.stores
 
-pub returns-then-not-put-clause-none : goal.returns-then-not-put-clause-none
-returns-then-not-put-clause-none c =
+pub returns-then-not-put-clause-idle : goal.returns-then-not-put-clause-idle
+returns-then-not-put-clause-idle c =
     ap (λ (x : PassView). x.hand) (told_leave cell_meaning c.args.field.now.origin c.put.new.pass.view c.mark_leave.new.self.view c.mark_leave.ensures.step)
 
 pub mark_act-requires-clause-may : goal.mark_act-requires-clause-may
@@ -74,4 +75,38 @@ returns-clause-some c =
     c.store_slot.ensures.stores c.store_slot.ensures.hand t (subst (λ won. AddsChange o.shape desc from won s t) c.if-not-put.false c.put.ensures.hand) none room in
     let put = has_put o desc s t from (value + 1) c.store_slot.ensures.first room (subst (λ won. PutsIn o.shape desc from won s t) c.if-not-put.false c.put.ensures.puts)
     (holds_new o.shape desc from (value + 1) c.mark_start.new.self.view s c.store_slot.ensures.stores) in
-    (from, value, acted o desc t c.mark_act.new.self.view from value none room hand put c.mark_act.ensures.step)
+    acted o desc t c.mark_act.new.self.view from value none room hand put c.mark_act.ensures.step
+
+pub returns-then-not-put-clause-none : goal.returns-then-not-put-clause-none
+returns-then-not-put-clause-none c =
+    let o = c.args.field.now.origin in
+    let desc = c.in-Some.desc in
+    let p = c.args.pass.now.view in
+    let q = c.begin.new.pass.view in
+    let r = c.mark_start.new.self.view in
+    let s = c.store_slot.new.pass.view in
+    let t = c.put.new.pass.view in
+    let u = c.mark_leave.new.self.view in
+    let from = word_of c.args.found in
+    let start = makes_start o q r c.mark_start.ensures.step in
+    let leave = makes_leave o t u c.mark_leave.ensures.step in
+    let lost = subst (λ won. PutsIn o.shape desc from won s t) c.if-not-put.true c.put.ensures.puts in
+    let six = six_steps o.shape desc from c.args.value false p q r s t start.0 c.in-Some.ensures.some start.1 c.store_slot.ensures.stores lost in
+    inr (desc, leave.0, and_step o.shape desc from c.args.value false [] p t u leave.0 six leave.1)
+
+pub returns-clause-puts : goal.returns-clause-puts
+returns-clause-puts c =
+    let o = c.args.field.now.origin in
+    let desc = c.in-Some.desc in
+    let p = c.args.pass.now.view in
+    let q = c.begin.new.pass.view in
+    let r = c.mark_start.new.self.view in
+    let s = c.store_slot.new.pass.view in
+    let t = c.put.new.pass.view in
+    let u = c.mark_act.new.self.view in
+    let from = word_of c.args.found in
+    let start = makes_start o q r c.mark_start.ensures.step in
+    let act = makes_act o t u _ _ c.mark_act.ensures.step in
+    let won = subst (λ won. PutsIn o.shape desc from won s t) c.if-not-put.false c.put.ensures.puts in
+    let six = six_steps o.shape desc from c.args.value true p q r s t start.0 c.in-Some.ensures.some start.1 c.store_slot.ensures.stores won in
+    (act.0, and_step o.shape desc from c.args.value true [] p t u act.0 six act.1)
