@@ -1,0 +1,11 @@
+use Rattle.std.proofs.Common.{◌∙◌, ◌%◌, ◌^◌, ap, sym, sum, zero-add}
+use Rattle.std.specs.FinMap as fin
+use Rattle.transfers.proofs.Sums.{sum-values}
+use Rattle.transfers.proofs.journal.sum_of.Goals as goal
+
+pub loop-balance-init : goal.loop-balance-init
+loop-balance-init c =
+    ap (λ n. n % 2 ^ 64) (zero-add _
+    ∙ ap sum (c.into_iter-balance-iterator.ensures.into_iter_gives ∙ c.values-balance-items.ensures.rest)
+    ∙ sym (sum-values c.map.result.now c.values-balance-items.ensures.ordered)
+    ∙ ap (λ t. sum (fin.values t)) c.map.ensures)
