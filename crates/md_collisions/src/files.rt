@@ -46,6 +46,15 @@ pub fn callers_of(number: u64) -> u32
     (number % 3) as u32 + 2
 }
 
+// The word of a line that places or fills.
+fn word_of(kind: u32, second: bool) -> &'static str {
+    match kind {
+        0..=7 => "P",
+        12..=13 if second => "K",
+        _ => "F",
+    }
+}
+
 // Writes a line of a caller. Few accounts and levels, so that callers collide.
 fn write_line(
     text: &mut String,
@@ -63,10 +72,8 @@ fn write_line(
     let quantity = draws.up_to(3);
     let (other, line) = (draws.up_to(callers), draws.up_to(6));
     match kind {
-        0..=7 => writeln!(text, "{caller},P,{account},{side},{price},{quantity}"),
-        8..=11 => writeln!(text, "{caller},F,{account},{side},{price},{quantity}"),
-        12..=13 => {
-            let word = if second { "K" } else { "F" };
+        0..=13 => {
+            let word = word_of(kind, second);
             writeln!(text, "{caller},{word},{account},{side},{price},{quantity}")
         }
         14..=16 => writeln!(text, "{caller},C,{other},{line}"),

@@ -165,24 +165,49 @@ impl Book {
         BookReply::Gone
     }
 
-    // The maps that a store has for this book.
-    fn maps(&self, alloc: Global) -> Result<[BTreeMap<u64, u64>; 4], AllocError> {
+    // The map of open orders that a store has for this book.
+    fn open(&self, alloc: Global) -> Result<BTreeMap<u64, u64>, AllocError> {
         let mut open = BTreeMap::new(alloc);
-        let mut depths = BTreeMap::new(alloc);
         for order in self.orders.iter() {
             if order.left != 0 {
                 open.insert(order.name, packed(order))?;
             }
+        }
+        Ok(open)
+    }
+
+    // And that of depths.
+    fn depths(&self, alloc: Global) -> Result<BTreeMap<u64, u64>, AllocError> {
+        let mut depths = BTreeMap::new(alloc);
+        for order in self.orders.iter() {
             let level = level_of(order.side, order.price);
             put(&mut depths, u64::from(level), self.depth(level))?;
         }
-        let mut bought = BTreeMap::new(alloc);
-        let mut sold = BTreeMap::new(alloc);
+        Ok(depths)
+    }
+
+    // And that of what each account bought, or sold.
+    fn traded(&self, alloc: Global, side: Side) -> Result<BTreeMap<u64, u64>, AllocError> {
+        let mut traded = BTreeMap::new(alloc);
         for (account, sums) in self.accounts.iter() {
-            put(&mut bought, u64::from(*account), sums.bought)?;
-            put(&mut sold, u64::from(*account), sums.sold)?;
+            let sum = match side {
+                Side::Buy => sums.bought,
+                Side::Sell => sums.sold,
+            };
+            put(&mut traded, u64::from(*account), sum)?;
         }
-        Ok([open, depths, bought, sold])
+        Ok(traded)
+    }
+
+    // Whether these are the maps that a store has for this book.
+    fn has_maps(&self, alloc: Global, maps: &[BTreeMap<u64, u64>]) -> Result<bool, AllocError> {
+        Ok(
+            maps.len() == 4
+                && maps.get(0) == Some(&self.open(alloc)?)
+                && maps.get(1) == Some(&self.depths(alloc)?)
+                && maps.get(2) == Some(&self.traded(alloc, Side::Buy)?)
+                && maps.get(3) == Some(&self.traded(alloc, Side::Sell)?),
+        )
     }
 
     // Whether the places of a level that no fill passed are these.
@@ -202,8 +227,7 @@ impl Book {
     /// Whether the contents of a store are this book, to the last key and place. `AllocError` if
     /// memory runs out.
     pub fn is_in(&self, alloc: Global, contents: &Contents) -> Result<bool, AllocError> {
-        let maps = self.maps(alloc)?;
-        if contents.maps() != maps.as_slice() {
+        if !self.has_maps(alloc, contents.maps())? {
             return Ok(false);
         }
         for (level, queue) in contents.queues().iter().enumerate() {

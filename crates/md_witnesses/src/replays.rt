@@ -78,6 +78,42 @@ fn no_lines(alloc: Global, callers: u32) -> Result<Vec<Vec<Told>>, AllocError> {
     Ok(lists)
 }
 
+// Plays the next line of a caller, if it has one left.
+fn play_next<G: Gate>(
+    plain: &mut Plain,
+    callers: &mut [Vec<Told>],
+    scripts: &Scripts,
+    caller: u32,
+    gate: &G,
+) -> Result<(), AllocError> {
+    let Some(lines) = callers.get_mut((caller as usize).saturating_sub(1)) else {
+        return Ok(());
+    };
+    let line = u32::try_from(lines.len())
+        .unwrap_or(u32::MAX)
+        .saturating_add(1);
+    let Some(command) = scripts.command(caller, line) else {
+        return Ok(());
+    };
+    let reply = plain.play(caller, line, &command, gate)?;
+    lines.push(Told { command, reply })?;
+    Ok(())
+}
+
+// Plays the next line of each caller that the order names.
+fn play_each<G: Gate>(
+    plain: &mut Plain,
+    callers: &mut [Vec<Told>],
+    scripts: &Scripts,
+    order: &[u32],
+    gate: &G,
+) -> Result<(), AllocError> {
+    for caller in order.iter().copied() {
+        play_next(plain, callers, scripts, caller, gate)?;
+    }
+    Ok(())
+}
+
 /// Plays lines on an empty book, one after another in one thread: for each caller that the order
 /// names, counted from 1, the next of its lines, if it has one left. The gate is called before and
 /// after each line. `AllocError` if memory runs out.
@@ -89,19 +125,7 @@ pub fn play_in_order<G: Gate>(
 ) -> Result<Replayed, AllocError> {
     let mut plain = Plain::empty(alloc)?;
     let mut callers = no_lines(alloc, scripts.callers())?;
-    for caller in order.iter().copied() {
-        let Some(lines) = callers.get_mut((caller as usize).saturating_sub(1)) else {
-            continue;
-        };
-        let line = u32::try_from(lines.len())
-            .unwrap_or(u32::MAX)
-            .saturating_add(1);
-        let Some(command) = scripts.command(caller, line) else {
-            continue;
-        };
-        let reply = plain.play(caller, line, &command, gate)?;
-        lines.push(Told { command, reply })?;
-    }
+    play_each(&mut plain, &mut callers, scripts, order, gate)?;
     let contents = plain.contents()?;
     Ok(Replayed { callers, contents })
 }

@@ -26,7 +26,7 @@ pub struct Orders {
 }
 
 // What orders of some first lines of each caller lead to, if the replies are those that were given.
-#[derive(Clone, Drop)]
+#[derive(Drop)]
 struct Stage {
     // How many lines of each caller there are.
     played: Vec<usize>,
@@ -99,6 +99,37 @@ fn may_be_next(book: &Book, command: &Command, closing: &Contents) -> bool {
     true
 }
 
+// The book after a line, if its reply is the one that was given.
+fn book_after(book: &Book, told: &Told) -> Result<Option<Book>, AllocError> {
+    let mut after = book.clone()?;
+    if after.play(&told.command)? != told.reply {
+        return Ok(None);
+    }
+    Ok(Some(after))
+}
+
+// The stage after one more line of a caller, which leaves this book.
+fn with_line(stage: &Stage, caller: u32, book: Book) -> Result<Stage, AllocError> {
+    let mut played = stage.played.clone()?;
+    if let Some(counted) = played.get_mut((caller as usize).saturating_sub(1)) {
+        *counted = counted.saturating_add(1);
+    }
+    let mut one = stage.one.clone()?;
+    one.push(caller)?;
+    Ok(Stage {
+        played,
+        book,
+        count: stage.count,
+        one,
+    })
+}
+
+// The next line of a caller.
+fn next_line<'a>(stage: &Stage, caller: u32, lines: &'a [Told]) -> Option<&'a Told> {
+    let number = (caller as usize).saturating_sub(1);
+    lines.get(stage.played.get(number).copied().unwrap_or(0))
+}
+
 // The stage after the next line of a caller, if there is one and its reply is the one that was
 // given.
 fn after_line(
@@ -107,29 +138,16 @@ fn after_line(
     lines: &[Told],
     closing: &Contents,
 ) -> Result<Option<Stage>, AllocError> {
-    let number = (caller as usize).saturating_sub(1);
-    let played = stage.played.get(number).copied().unwrap_or(0);
-    let Some(told) = lines.get(played) else {
+    let Some(told) = next_line(stage, caller, lines) else {
         return Ok(None);
     };
     if !may_be_next(&stage.book, &told.command, closing) {
         return Ok(None);
     }
-    let mut book = stage.book.clone()?;
-    if book.play(&told.command)? != told.reply {
-        return Ok(None);
+    match book_after(&stage.book, told)? {
+        Some(book) => Ok(Some(with_line(stage, caller, book)?)),
+        None => Ok(None),
     }
-    let mut next = Stage {
-        played: stage.played.clone()?,
-        book,
-        count: stage.count,
-        one: stage.one.clone()?,
-    };
-    if let Some(counted) = next.played.get_mut(number) {
-        *counted = played.saturating_add(1);
-    }
-    next.one.push(caller)?;
-    Ok(Some(next))
 }
 
 // Adds a stage to others. Orders that come to the same are one stage: what can follow is the same.
@@ -180,6 +198,23 @@ fn first_stage(alloc: Global, callers: &[Vec<Told>]) -> Result<Vec<Stage>, Alloc
     Ok(stages)
 }
 
+// The stages after all lines, and how many stages were looked at.
+fn last_stages(
+    alloc: Global,
+    callers: &[Vec<Told>],
+    closing: &Contents,
+) -> Result<(Vec<Stage>, u64), AllocError> {
+    let mut stages = first_stage(alloc, callers)?;
+    let mut looked: u64 = 0;
+    for lines in callers {
+        for _ in lines.iter() {
+            stages = next_stages(alloc, &stages, callers, closing)?;
+            looked = looked.saturating_add(stages.len() as u64);
+        }
+    }
+    Ok((stages, looked))
+}
+
 /// Looks for orders of all lines, each caller's in its own order, that explain the replies and the
 /// book at the end: if the lines are played one after another on an empty book, they have these
 /// replies and leave these contents. If `count` is 0, no order explains them.
@@ -195,14 +230,7 @@ pub fn orders_that_explain(
     callers: &[Vec<Told>],
     closing: &Contents,
 ) -> Result<Orders, AllocError> {
-    let mut stages = first_stage(alloc, callers)?;
-    let mut looked: u64 = 0;
-    for lines in callers {
-        for _ in lines.iter() {
-            stages = next_stages(alloc, &stages, callers, closing)?;
-            looked = looked.saturating_add(stages.len() as u64);
-        }
-    }
+    let (stages, looked) = last_stages(alloc, callers, closing)?;
     let mut orders = Orders {
         count: 0,
         one: Vec::new(alloc),
