@@ -12,6 +12,7 @@ use md_rule::Pass;
 use md_store::{Store, StorePass};
 use md_store_law::StoreTheory;
 use md_words::Shape;
+use overlaps::{Script, overlap};
 use std::alloc::AllocGlobal;
 use std::collections::{BTreeMap, VecDeque};
 use std::process::Abort;
@@ -19,11 +20,25 @@ use std::process::Abort;
 // What an operation replied, or why it was stopped.
 type Told = Result<Reply, Stop>;
 
-// How a transaction ended.
-type Ended = Result<(), Stop>;
+// How a transaction ended: whether it was committed or left ready, or why it wasn't committed.
+type Ended = Result<bool, Stop>;
+
+// A way in which a transaction is ended.
+#[derive(Clone, Copy)]
+enum Way {
+    // It is left before it is ready.
+    Leave,
+    // It is stopped.
+    Stop,
+    // It is left ready.
+    LeaveReady,
+    // It commits.
+    Commit,
+}
 
 mod at_random;
 mod limits;
+mod overlaps;
 mod rows;
 mod stalled;
 
@@ -48,6 +63,24 @@ fn opened<R: Abort + AllocGlobal>(rt: &R, shape: Shape, start: &Contents) -> (St
     assert!(rt; start.maps().len() == shape.maps as usize);
     assert!(rt; start.queues().len() == shape.queues as usize);
     Store::open(rt.alloc(), shape, start).expect(rt, "a store")
+}
+
+// Takes half of the lanes out of a pass that holds several.
+fn halved<R: Abort>(rt: &R, store: &Store, pass: &mut StorePass) -> StorePass
+    requires { IsPassOf store.now pass.old }
+    ensures of { IsPassOf store.now pass.new }
+    ensures of_other { IsPassOf store.now result }
+{
+    store.split(pass).expect(rt, "several lanes")
+}
+
+// Puts the lanes of two passes together.
+fn meet(store: &Store, pass: &mut StorePass, other: StorePass)
+    requires of { IsPassOf store.now pass.old }
+    requires of_other { IsPassOf store.now other }
+    ensures { IsPassOf store.now pass.new }
+{
+    store.join(pass, other);
 }
 
 // Settles a store and closes it. The pass holds all lanes.
@@ -75,79 +108,117 @@ fn begun<'a, R: Abort>(
     begin(store, pass, tag, sets).expect(rt, "an attempt")
 }
 
-// Makes operations one after another, as one transaction: the replies, and how it ended.
-fn all<R: Abort>(
-    rt: &R,
-    store: &Store,
-    pass: &mut Pass<StoreTheory>,
-    ops: &[Op],
-    replies: &mut Vec<Reply>,
-) -> Ended
-    requires { IsPassOf store.now pass.old }
-    ensures { IsPassOf store.now pass.new }
+// Ends a transaction in this way.
+fn end_by(txn: Txn<'_, StoreTheory>, why: Option<Stop>, store: &Store, way: Way) -> Ended
+    requires { IsActing store.now (state txn) why }
+    ensures { IsPassOf store.now txn.exit.0.now }
 {
-    let mut sets = Sets::new();
-    let mut txn = begun(rt, store, pass, 5, &mut sets);
-    let mut why = None;
-    all_in(rt, &mut txn, &mut why, store, ops, replies);
-    commit(txn, why, store)
+    match way {
+        Way::Leave => {
+            leave(txn, why, store);
+            Ok(false)
+        }
+        Way::Stop => {
+            stop(txn, why, store);
+            Ok(false)
+        }
+        Way::LeaveReady => Ok(leave_ready(txn, why, store)),
+        Way::Commit => match commit(txn, why, store) {
+            Ok(()) => Ok(true),
+            Err(stop) => Err(stop),
+        },
+    }
 }
 
-// Makes operations of a transaction, and keeps their replies.
+// Makes operations of a transaction, and keeps what they were told.
 fn all_in<R: Abort>(
     rt: &R,
     txn: &mut Txn<'_, StoreTheory>,
     why: &mut Option<Stop>,
     store: &Store,
     ops: &[Op],
-    replies: &mut Vec<Reply>,
+    told: &mut Vec<Told>,
 )
     requires { IsActing store.now (state txn.old) why.old }
     ensures pass { txn.new.pass.ghost_name ≡ txn.old.pass.ghost_name }
     ensures acting { IsActing store.now (state txn.new) why.new }
 {
     for op in ops {
-        if let Ok(reply) = act(txn, why, store, *op) {
-            replies.push(reply).expect(rt, "memory");
-        }
+        told.push(act(txn, why, store, *op)).expect(rt, "memory");
     }
 }
 
-// Makes operations as one transaction, which ends and replies so.
-fn replies_are<R: Abort + AllocGlobal>(
+// Makes operations one after another, as one transaction, which ends in this way. Keeps what they
+// were told.
+fn all<R: Abort>(
     rt: &R,
     store: &Store,
     pass: &mut Pass<StoreTheory>,
+    tag: u64,
     ops: &[Op],
-    end: Ended,
-    want: &[Reply],
-)
-    requires { IsPassOf store.now pass.old }
-    ensures { IsPassOf store.now pass.new }
-{
-    let mut replies = Vec::new(rt.alloc());
-    let found = all(rt, store, pass, ops, &mut replies);
-    assert_eq!(rt; (found, replies.as_slice()), (end, want));
-}
-
-// Makes one operation, as a transaction of its own: its reply, if it committed.
-fn one<R: Abort>(rt: &R, store: &Store, pass: &mut Pass<StoreTheory>, op: Op) -> Told
+    way: Way,
+    told: &mut Vec<Told>,
+) -> Ended
     requires { IsPassOf store.now pass.old }
     ensures { IsPassOf store.now pass.new }
 {
     let mut sets = Sets::new();
-    let mut txn = begun(rt, store, pass, 6, &mut sets);
+    let mut txn = begun(rt, store, pass, tag, &mut sets);
     let mut why = None;
-    let reply = act(&mut txn, &mut why, store, op);
-    let end = commit(txn, why, store);
-    told(reply, end)
+    all_in(rt, &mut txn, &mut why, store, ops, told);
+    end_by(txn, why, store, way)
 }
 
-// What an operation replied whose transaction ended so.
-fn told(reply: Told, end: Ended) -> Told {
-    match end {
-        Ok(()) => reply,
-        Err(stop) => Err(stop),
+// What operations were told, and how their transaction ended, is what was wanted.
+fn are_same<R: Abort>(rt: &R, told: &[Told], end: Ended, want: &[Told], want_end: Ended) {
+    assert_eq!(rt; (told, end), (want, want_end));
+}
+
+// Makes operations as one transaction that is to commit. They are told this, and it ends so.
+fn are_told<R: Abort + AllocGlobal>(
+    rt: &R,
+    store: &Store,
+    pass: &mut Pass<StoreTheory>,
+    tag: u64,
+    ops: &[Op],
+    want: &[Told],
+    want_end: Ended,
+)
+    requires { IsPassOf store.now pass.old }
+    ensures { IsPassOf store.now pass.new }
+{
+    let mut told = Vec::new(rt.alloc());
+    let end = all(rt, store, pass, tag, ops, Way::Commit, &mut told);
+    are_same(rt, told.as_slice(), end, want, want_end);
+}
+
+// Makes one operation, as a transaction of its own, which commits. It replies so.
+fn replies<R: Abort + AllocGlobal>(
+    rt: &R,
+    store: &Store,
+    pass: &mut Pass<StoreTheory>,
+    op: Op,
+    reply: Reply,
+)
+    requires { IsPassOf store.now pass.old }
+    ensures { IsPassOf store.now pass.new }
+{
+    are_told(rt, store, pass, 6, &[op], &[Ok(reply)], Ok(true));
+}
+
+// What stands in a word of the field is what was wanted.
+fn stands<R: Abort>(rt: &R, found: (u32, u64), want: (u32, u64)) {
+    assert_eq!(rt; found, want);
+}
+
+// Words of the field have these values.
+fn show<R: Abort>(rt: &R, store: &Store, pass: &mut Pass<StoreTheory>, words: &[(u32, u64)])
+    requires { IsPassOf store.now pass.old }
+    ensures { IsPassOf store.now pass.new }
+{
+    for (at, value) in words {
+        let found = word(pass, store, *at);
+        stands(rt, (*at, found), (*at, *value));
     }
 }
 
@@ -165,7 +236,7 @@ fn divided<R: Abort + AllocGlobal>(rt: &R, start: &[(u64, u64)]) -> (Store, Stor
     ensures of_other { IsPassOf result.0 result.2 }
 {
     let (store, mut pass) = started(rt, start);
-    let other = store.split(&mut pass).expect(rt, "two lanes");
+    let other = halved(rt, &store, &mut pass);
     (store, pass, other)
 }
 
@@ -199,9 +270,8 @@ fn ends_with<R: Abort + AllocGlobal>(
     requires of { IsPassOf store pass }
     requires of_other { IsPassOf store other }
 {
-    store.join(&mut pass, other);
-    let put = one(rt, &store, &mut pass.pass, insert(3, 30));
-    assert_eq!(rt; put, Ok(Reply::Flag(true)));
+    meet(&store, &mut pass, other);
+    replies(rt, &store, &mut pass.pass, insert(3, 30), Reply::Flag(true));
     closes_with(rt, store, pass, left);
 }
 

@@ -14,7 +14,6 @@ use md_program::{Status, run};
 use md_rounds::FreeGate;
 use std::alloc::{AllocError, AllocGlobal, Global};
 use std::process::Abort;
-use std::test::Fail;
 use std::thread::Threads;
 
 // How the streams of a run behave.
@@ -35,32 +34,50 @@ const AMPLE: Streams<'static> = Streams {
 };
 
 // Runs, and says nothing of it in a clause. So what follows is proved without the run's contract.
-fn status_of<R: Threads + Sync, I: Source, O: Sink>(
+fn status_of<R: AllocGlobal + Threads + Sync, I: Source, O: Sink>(
     rt: &R,
-    alloc: Global,
     words: &[&str],
     input: &mut I,
     output: &mut O,
 ) -> Status {
-    run(rt, alloc, words, input, output, &FreeGate).status
+    run(rt, rt.alloc(), words, input, output, &FreeGate).status
 }
 
-// Runs over streams in memory: the status, and what was written.
+// A source in memory of these bytes.
+fn source_of<R: Abort + AllocGlobal>(rt: &R, bytes: Vec<u8>, streams: Streams) -> MemSource {
+    assert!(rt; streams.piece >= 1);
+    let failing = Vec::from_slice(rt.alloc(), streams.failing_reads).expect(rt, "memory");
+    MemSource::new(bytes, streams.piece, failing)
+}
+
+// An empty sink in memory.
+fn sink_of<R: Abort + AllocGlobal>(rt: &R, streams: Streams) -> MemSink {
+    let failing = Vec::from_slice(rt.alloc(), streams.failing_writes).expect(rt, "memory");
+    MemSink::new(rt.alloc(), streams.room, failing).expect(rt, "memory")
+}
+
+// Runs over streams in memory: the status, and the sink with what was written.
 fn outcome<R: Abort + AllocGlobal + Threads + Sync>(
     rt: &R,
     words: &[&str],
     input: Vec<u8>,
     streams: Streams,
-) -> (Status, Vec<u8>) {
-    let alloc = rt.alloc();
-    assert!(rt; streams.piece >= 1);
-    let failing_reads = Vec::from_slice(alloc, streams.failing_reads).expect(rt, "memory");
-    let failing_writes = Vec::from_slice(alloc, streams.failing_writes).expect(rt, "memory");
-    let mut source = MemSource::new(input, streams.piece, failing_reads);
-    let mut sink = MemSink::new(alloc, streams.room, failing_writes).expect(rt, "memory");
-    let status = status_of(rt, alloc, words, &mut source, &mut sink);
-    let text = Vec::from_slice(alloc, sink.bytes()).expect(rt, "memory");
-    (status, text)
+) -> (Status, MemSink) {
+    let mut source = source_of(rt, input, streams);
+    let mut sink = sink_of(rt, streams);
+    let status = status_of(rt, words, &mut source, &mut sink);
+    (status, sink)
+}
+
+// Compares a status and what was written with what an input should come to.
+fn compare(
+    rt: &impl Abort,
+    found: (Status, &[u8]),
+    wanted: (Status, &[u8]),
+    words: &[&str],
+    input: &[u8],
+) {
+    assert_eq!(rt; found, wanted, "of {words:?} and {input:?}");
 }
 
 // Runs with words over streams in memory, and compares the status and what was written.
@@ -73,12 +90,8 @@ fn expect_with<R: Abort + AllocGlobal + Threads + Sync>(
     text: &[u8],
 ) {
     let bytes = Vec::from_slice(rt.alloc(), input).expect(rt, "memory");
-    let (found, written) = outcome(rt, words, bytes, streams);
-    assert_eq!(rt;
-        (found, written.as_slice()),
-        (status, text),
-        "of {words:?} and {input:?}"
-    );
+    let (found, sink) = outcome(rt, words, bytes, streams);
+    compare(rt, (found, sink.bytes()), (status, text), words, input);
 }
 
 // The same without words.
@@ -106,18 +119,27 @@ const USAGE: &[u8] =
 fn failing_reads(rt: HostRuntime) {
     // In pieces of 4 bytes there are four reads that give some, and a fifth that gives none.
     for failing in 1..=6 {
-        let streams = Streams {
-            piece: 4,
-            failing_reads: &[failing],
-            ..AMPLE
-        };
-        let (status, text) = if failing <= 5 {
-            (Status::ReadFault, READ_FAULT)
+        if failing <= 5 {
+            expect_of_read(&rt, failing, Status::ReadFault, READ_FAULT);
         } else {
-            (Status::Done, REPORT)
-        };
-        expect(&rt, ORDER, streams, status, text);
+            expect_of_read(&rt, failing, Status::Done, REPORT);
+        }
     }
+}
+
+// Runs over an order in pieces of 4 bytes, of which one read fails.
+fn expect_of_read<R: Abort + AllocGlobal + Threads + Sync>(
+    rt: &R,
+    failing: u32,
+    status: Status,
+    text: &[u8],
+) {
+    let streams = Streams {
+        piece: 4,
+        failing_reads: &[failing],
+        ..AMPLE
+    };
+    expect(rt, ORDER, streams, status, text);
 }
 
 // Streams with so much room, of which these reads and writes fail.
@@ -130,12 +152,17 @@ fn failing<'a>(reads: &'a [u32], room: usize, writes: &'a [u32]) -> Streams<'a> 
     }
 }
 
-#[test]
-fn failing_writes(rt: HostRuntime) {
+// A report for which there is too little room, at each length.
+fn little_room<R: Abort + AllocGlobal + Threads + Sync>(rt: &R) {
     for room in 0..REPORT.len() {
         let streams = failing(&[], room, &[]);
-        expect(&rt, ORDER, streams, Status::WriteFault, &REPORT[..room]);
+        expect(rt, ORDER, streams, Status::WriteFault, &REPORT[..room]);
     }
+}
+
+#[test]
+fn failing_writes(rt: HostRuntime) {
+    little_room(&rt);
     let exact = Streams {
         piece: 1,
         ..failing(&[], REPORT.len(), &[])
@@ -161,8 +188,6 @@ const DEPTH: &[u8] = b"1,D,S,1\n";
 
 const BAD: &[u8] = b"bad\n";
 
-const BLANK: &[u8] = &[b'\n'; 8192];
-
 const TOO_LONG: &[u8] = b"fault too long\n";
 
 const TOO_MANY: &[u8] = b"fault too many records\n";
@@ -181,19 +206,21 @@ fn expect_of_many<R: Abort + AllocGlobal + Threads + Sync>(
         ..AMPLE
     };
     let bytes = repeated(rt.alloc(), part, times, end).expect(rt, "memory");
-    let (found, written) = outcome(rt, &[], bytes, streams);
-    assert_eq!(rt;
-        (found, written.as_slice()),
-        (status, text),
-        "of {times} times {part:?}"
-    );
+    let (found, sink) = outcome(rt, &[], bytes, streams);
+    compare(rt, (found, sink.bytes()), (status, text), &[], part);
+}
+
+// Runs over as many line ends as an input may have, and over one more.
+fn blank_lines<R: Abort + AllocGlobal + Threads + Sync>(rt: &R) {
+    let blank = repeated(rt.alloc(), b"\n", 8192, b"").expect(rt, "memory");
+    expect_of_many(rt, &blank, 8192, b"", Status::Done, b"done 0\n");
+    expect_of_many(rt, &blank, 8192, b"\n", Status::TooLong, TOO_LONG);
 }
 
 #[test]
 fn the_largest_inputs(rt: HostRuntime) {
     let last = Status::BadLine(1_000_000);
-    expect_of_many(&rt, BLANK, 8192, b"", Status::Done, b"done 0\n");
-    expect_of_many(&rt, BLANK, 8192, b"\n", Status::TooLong, TOO_LONG);
+    blank_lines(&rt);
     expect_of_many(&rt, DEPTH, 999_999, BAD, last, b"fault line 1000000\n");
     expect_of_many(&rt, DEPTH, 1_000_001, b"", Status::TooMany, TOO_MANY);
     expect_of_many(&rt, DEPTH, 1_000_000, BAD, Status::TooMany, TOO_MANY);
@@ -201,49 +228,73 @@ fn the_largest_inputs(rt: HostRuntime) {
     expect_of_many(&rt, DEPTH, 8_388_608, BAD, Status::TooLong, TOO_LONG);
 }
 
-// Replays lines that have a long report.
-fn replays<R: Abort + AllocGlobal + Threads + Sync>(rt: &R, orders: Vec<u8>, report: &String) {
+// Compares a status with that of a whole run, and what was written with a long report.
+fn compare_report(rt: &impl Abort, found: (Status, &[u8]), report: &[u8]) {
+    assert!(rt; found == (Status::Done, report));
+}
+
+// Replays so many times the same lines, which have a long report.
+fn replays<R: Abort + AllocGlobal + Threads + Sync>(
+    rt: &R,
+    lines: &[u8],
+    times: u32,
+    report: &[u8],
+) {
     let streams = Streams {
         piece: 65_536,
         room: report.len(),
         ..AMPLE
     };
-    let (status, text) = outcome(rt, &[], orders, streams);
-    assert_eq!(rt; status, Status::Done);
-    assert!(rt; text.as_slice() == report.as_bytes());
+    let orders = repeated(rt.alloc(), lines, times, b"").expect(rt, "memory");
+    let (status, sink) = outcome(rt, &[], orders, streams);
+    compare_report(rt, (status, sink.bytes()), report);
+}
+
+// Writes the replies to an order and the fill that empties it.
+fn write_pair(report: &mut String, pair: u32) -> Result<(), AllocError> {
+    let line = pair.saturating_mul(2).saturating_add(1);
+    let next = line.saturating_add(1);
+    writeln!(
+        report,
+        "1:{line} placed\n1:{next} filled 1 rest 0 from 1:{line}=1"
+    )
+}
+
+// Writes the replies to so many orders, each with a fill that empties it.
+fn write_pairs(report: &mut String, pairs: u32) -> Result<(), AllocError> {
+    for pair in 0..pairs {
+        write_pair(report, pair)?;
+    }
+    Ok(())
 }
 
 // Half a million orders, each with a fill that empties it: as many lines as an input may have.
 #[test]
-fn a_million_lines(rt: HostRuntime) -> Result<(), Fail> {
-    let alloc = rt.alloc();
-    let orders = repeated(alloc, b"1,P,7,S,100,1\n1,F,8,S,100,1\n", 500_000, b"")?;
-    let mut report = String::new(alloc);
-    for pair in 0..500_000_u32 {
-        let line = pair.saturating_mul(2).saturating_add(1);
-        let next = line.saturating_add(1);
-        writeln!(
-            report,
-            "1:{line} placed\n1:{next} filled 1 rest 0 from 1:{line}=1"
-        )?;
+fn a_million_lines(rt: HostRuntime) {
+    let mut report = String::new(rt.alloc());
+    write_pairs(&mut report, 500_000).expect(&rt, "memory");
+    let accounts = "account 7 bought 0 sold 500000\naccount 8 bought 500000 sold 0\n";
+    report.push_str(accounts).expect(&rt, "memory");
+    report.push_str("done 1000000\n").expect(&rt, "memory");
+    let lines = b"1,P,7,S,100,1\n1,F,8,S,100,1\n";
+    replays(&rt, lines, 500_000, report.as_bytes());
+}
+
+// Writes the replies to so many orders.
+fn write_placed(report: &mut String, lines: u32) -> Result<(), AllocError> {
+    for line in 1..=lines {
+        writeln!(report, "1:{line} placed")?;
     }
-    report.push_str("account 7 bought 0 sold 500000\naccount 8 bought 500000 sold 0\n")?;
-    report.push_str("done 1000000\n")?;
-    replays(&rt, orders, &report);
     Ok(())
 }
 
 // As many open orders as there can be, all at one level: a map has a million keys, and a queue a
 // million values.
 #[test]
-fn a_million_open_orders(rt: HostRuntime) -> Result<(), Fail> {
-    let alloc = rt.alloc();
-    let orders = repeated(alloc, b"1,P,7,S,100,1\n", 1_000_000, b"")?;
-    let mut report = String::new(alloc);
-    for line in 1..=1_000_000_u32 {
-        writeln!(report, "1:{line} placed")?;
-    }
-    report.push_str("S 100 1000000\ndone 1000000\n")?;
-    replays(&rt, orders, &report);
-    Ok(())
+fn a_million_open_orders(rt: HostRuntime) {
+    let mut report = String::new(rt.alloc());
+    write_placed(&mut report, 1_000_000).expect(&rt, "memory");
+    let end = "S 100 1000000\ndone 1000000\n";
+    report.push_str(end).expect(&rt, "memory");
+    replays(&rt, b"1,P,7,S,100,1\n", 1_000_000, report.as_bytes());
 }

@@ -5,11 +5,10 @@
 ghost use Rattle.md_store.specs.Store.{IsPassOf};
 
 use super::*;
-use history::History;
 use md_history::Fate;
 use pairs::{around, learn, pair};
 use plain::Plain;
-use world::{End, LANES, MAPS, QUEUES, World};
+use world::{LANES, MAPS, QUEUES, World};
 
 mod history;
 mod pairs;
@@ -24,9 +23,9 @@ fn split<R: Abort>(rt: &R, store: &Store, pass: &mut StorePass) -> (StorePass, S
     ensures third { IsPassOf store.now result.1 }
     ensures fourth { IsPassOf store.now result.2 }
 {
-    let mut third = store.split(pass).expect(rt, "four lanes");
-    let second = store.split(pass).expect(rt, "two lanes");
-    let fourth = store.split(&mut third).expect(rt, "two lanes");
+    let mut third = halved(rt, store, pass);
+    let second = halved(rt, store, pass);
+    let fourth = halved(rt, store, &mut third);
     (second, third, fourth)
 }
 
@@ -146,9 +145,9 @@ fn played_by<R: Abort>(
         world,
         count,
     );
-    store.join(&mut a, b);
-    store.join(&mut a, c);
-    store.join(&mut a, d);
+    meet(&store, &mut a, b);
+    meet(&store, &mut a, c);
+    meet(&store, &mut a, d);
     closed(rt, store, a)
 }
 
@@ -159,11 +158,13 @@ fn played<R: Abort + AllocGlobal>(rt: &R, world: &mut World, count: u64) -> Cont
     played_by(rt, store, a, b, c, d, world, count)
 }
 
-// One thread makes the committed transactions again: it has the same replies, and leaves the same.
-fn replays_to<R: Abort + AllocGlobal>(rt: &R, history: &History, left: &Contents) {
+// Each transaction that became ready was decided, and none met a limit. One thread makes the
+// committed ones again: it has the same replies, and leaves the same.
+fn replays_to<R: Abort + AllocGlobal>(rt: &R, world: &World, left: &Contents) {
     let mut plain = Plain::empty(rt, MAPS as u32, QUEUES as u32);
-    let other = history.replay(&mut plain).expect(rt, "memory");
-    assert_eq!(rt; other, None);
+    let other = world.history.replay(rt, &mut plain);
+    let undecided = world.history.count(Fate::Undecided);
+    assert_eq!(rt; (other, undecided, world.ends.limit), (None, 0, 0));
     contains(rt, left, &plain.maps, &plain.queues);
 }
 
@@ -171,8 +172,8 @@ fn replays_to<R: Abort + AllocGlobal>(rt: &R, history: &History, left: &Contents
 fn least_count(world: &World) -> usize {
     let committed = world.history.count(Fate::Committed);
     let aborted = world.history.count(Fate::Aborted);
-    let stopped = world.count(End::Conflict).min(world.count(End::Stopped));
-    let left = world.count(End::Left).min(world.count(End::LeftReady));
+    let stopped = world.ends.conflict.min(world.ends.stopped);
+    let left = world.ends.left.min(world.ends.left_ready);
     committed.min(aborted).min(stopped).min(left)
 }
 
@@ -180,12 +181,7 @@ fn least_count(world: &World) -> usize {
 fn transactions_take_place_in_the_order_of_their_ready_steps(rt: HostRuntime) {
     let mut world = World::new(rt.alloc(), 11);
     let left = played(&rt, &mut world, 10_000);
-    replays_to(&rt, &world.history, &left);
-    let never = (
-        world.history.count(Fate::Undecided),
-        world.count(End::Limit),
-    );
-    assert_eq!(rt; never, (0, 0));
+    replays_to(&rt, &world, &left);
     assert!(rt; least_count(&world) > 100);
     assert!(rt; world.made() > 80_000);
 }

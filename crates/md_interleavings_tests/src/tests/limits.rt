@@ -4,10 +4,10 @@ use super::*;
 
 // Makes operations as one transaction of a new store that has a map with 256 buckets, and so many
 // nodes a lane. It ends and replies so, and leaves nothing.
-fn alone<R: Abort + AllocGlobal>(rt: &R, nodes: u32, ops: &[Op], end: Ended, want: &[Reply]) {
+fn alone<R: Abort + AllocGlobal>(rt: &R, nodes: u32, ops: &[Op], end: Ended, want: &[Told]) {
     let shape = Shape::new(2, nodes, 1, 4, 1, 256, 1).expect(rt, "a shape");
     let (store, mut pass) = opened(rt, shape, &pairs(rt, &[]));
-    replies_are(rt, &store, &mut pass.pass, ops, end, want);
+    are_told(rt, &store, &mut pass.pass, 5, ops, want, end);
     closes_with(rt, store, pass, &[]);
 }
 
@@ -17,8 +17,10 @@ fn a_transaction_looks_at_128_absent_keys(rt: HostRuntime) {
     for key in 1..130 {
         ops.push(get(key)).expect(&rt, "memory");
     }
-    let end = Err(Stop::Limit(Limit::Reads));
-    alone(&rt, 16, &ops, end, &[Reply::Value(None); 128]);
+    let end = Stop::Limit(Limit::Reads);
+    let mut want: [Told; 129] = [Ok(Reply::Value(None)); 129];
+    want[128] = Err(end);
+    alone(&rt, 16, &ops, Err(end), &want);
 }
 
 #[test]
@@ -27,15 +29,19 @@ fn a_transaction_inserts_128_keys(rt: HostRuntime) {
     for key in 1..130 {
         ops.push(insert(key, key + 1)).expect(&rt, "memory");
     }
-    let end = Err(Stop::Limit(Limit::Writes));
-    alone(&rt, 192, &ops, end, &[Reply::Flag(true); 128]);
+    let end = Stop::Limit(Limit::Writes);
+    let mut want: [Told; 129] = [Ok(Reply::Flag(true)); 129];
+    want[128] = Err(end);
+    alone(&rt, 192, &ops, Err(end), &want);
 }
 
 #[test]
 fn a_lane_enqueues_as_many_values_as_it_has_nodes(rt: HostRuntime) {
     let (store, mut a, b) = divided(&rt, &[]);
-    let end = Err(Stop::Limit(Limit::Nodes));
-    let (ops, want) = ([enqueue(7); 17], [Reply::Nothing; 16]);
-    replies_are(&rt, &store, &mut a.pass, &ops, end, &want);
+    let end = Stop::Limit(Limit::Nodes);
+    let mut want: [Told; 17] = [Ok(Reply::Nothing); 17];
+    want[16] = Err(end);
+    let ops = [enqueue(7); 17];
+    are_told(&rt, &store, &mut a.pass, 5, &ops, &want, Err(end));
     ends_with(&rt, store, a, b, &[(3, 30)]);
 }

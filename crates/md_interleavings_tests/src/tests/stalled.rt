@@ -13,64 +13,21 @@ struct Found {
     status: (u32, u64),
 }
 
-// Makes operations of a transaction, and leaves it, ready or not. Whether it is ready.
+// Makes operations of a transaction, and leaves it, ready or not. It is ready if it is to be.
 fn left<R: Abort + AllocGlobal>(
     rt: &R,
     store: &Store,
     pass: &mut Pass<StoreTheory>,
     ops: &[Op],
     ready: bool,
-) -> bool
+)
     requires { IsPassOf store.now pass.old }
     ensures { IsPassOf store.now pass.new }
 {
-    let mut sets = Sets::new();
-    let mut txn = begun(rt, store, pass, 7, &mut sets);
-    let mut why = None;
-    let mut replies = Vec::new(rt.alloc());
-    all_in(rt, &mut txn, &mut why, store, ops, &mut replies);
-    if ready {
-        return leave_ready(txn, why, store);
-    }
-    leave(txn, why, store);
-    false
-}
-
-// A transaction looks at key 2, another inserts it, and the first one inserts key 1 and is left
-// ready. Whether all went so.
-fn overtaken<R: Abort>(
-    rt: &R,
-    store: &Store,
-    pass: &mut Pass<StoreTheory>,
-    other: &mut Pass<StoreTheory>,
-) -> bool
-    requires of { IsPassOf store.now pass.old }
-    requires of_other { IsPassOf store.now other.old }
-    ensures of { IsPassOf store.now pass.new }
-    ensures of_other { IsPassOf store.now other.new }
-{
-    let mut sets = Sets::new();
-    let mut txn = begun(rt, store, pass, 7, &mut sets);
-    let mut why = None;
-    let seen = act(&mut txn, &mut why, store, get(2)) == Ok(Reply::Value(None));
-    let overtook = one(rt, store, other, insert(2, 20)) == Ok(Reply::Flag(true));
-    let done = act(&mut txn, &mut why, store, insert(1, 10)) == Ok(Reply::Flag(true));
-    let ready = leave_ready(txn, why, store);
-    ready & seen & overtook & done
-}
-
-// Looks at key 1: its value, and what then stands in the head of its bucket and in another word.
-fn found_by<R: Abort>(
-    rt: &R,
-    store: &Store,
-    pass: &mut Pass<StoreTheory>,
-    status: u32,
-) -> (Told, [u64; 2])
-    requires { IsPassOf store.now pass.old }
-    ensures { IsPassOf store.now pass.new }
-{
-    let seen = one(rt, store, pass, get(1));
-    (seen, [word(pass, store, 2), word(pass, store, status)])
+    let way = if ready { Way::LeaveReady } else { Way::Leave };
+    let mut told = Vec::new(rt.alloc());
+    let is_ready = matches!(all(rt, store, pass, 7, ops, way, &mut told), Ok(true));
+    assert!(rt; is_ready == ready);
 }
 
 // Looks at key 1 by the pass `other`, then goes on with both passes joined.
@@ -85,12 +42,22 @@ fn looked<R: Abort + AllocGlobal>(
     requires of { IsPassOf store pass }
     requires of_other { IsPassOf store other }
 {
-    let seen = found_by(rt, &store, &mut other.pass, found.status.0);
-    assert_eq!(rt;
-        seen,
-        (Ok(Reply::Value(found.value)), [found.head, found.status.1])
-    );
+    found_by(rt, &store, &mut other.pass, found);
     ends_with(rt, store, pass, other, left);
+}
+
+// Looks at key 1 by a pass: its value, and what then stands in both words.
+fn found_by<R: Abort + AllocGlobal>(
+    rt: &R,
+    store: &Store,
+    pass: &mut Pass<StoreTheory>,
+    found: &Found,
+)
+    requires { IsPassOf store.now pass.old }
+    ensures { IsPassOf store.now pass.new }
+{
+    replies(rt, store, pass, get(1), Reply::Value(found.value));
+    show(rt, store, pass, &[(2, found.head), found.status]);
 }
 
 // A transaction with these operations is left over these pairs.
@@ -103,7 +70,7 @@ fn stalled<R: Abort + AllocGlobal>(
     end: &[(u64, u64)],
 ) {
     let (store, mut a, b) = divided(rt, start);
-    assert_eq!(rt; left(rt, &store, &mut a.pass, ops, ready), ready);
+    left(rt, &store, &mut a.pass, ops, ready);
     looked(rt, store, a, b, found, end);
 }
 
@@ -149,10 +116,29 @@ fn a_look_that_still_holds_is_committed(rt: HostRuntime) {
     stalled(&rt, &[], &[get(2), insert(1, 10)], true, &found, &end);
 }
 
+// A transaction looks at key 2, another inserts it, and the first one inserts key 1 and is left
+// ready.
 #[test]
 fn a_look_that_was_overtaken_is_aborted(rt: HostRuntime) {
     let (store, mut a, mut b) = divided(&rt, &[]);
-    assert!(rt; overtaken(&rt, &store, &mut a.pass, &mut b.pass));
+    let script = Script {
+        tag: 7,
+        before: &[get(2)],
+        between: Some((insert(2, 20), Reply::Flag(true))),
+        words: &[],
+        after: &[insert(1, 10)],
+        way: Way::LeaveReady,
+    };
+    let want = [Ok(Reply::Value(None)), Ok(Reply::Flag(true))];
+    overlap(
+        &rt,
+        &store,
+        &mut a.pass,
+        &mut b.pass,
+        &script,
+        &want,
+        Ok(true),
+    );
     let found = Found {
         value: None,
         head: 2,
@@ -174,8 +160,7 @@ fn a_remove_that_is_ready_is_committed(rt: HostRuntime) {
 // Leaves an insert of one pass that holds all lanes: what is left at the end.
 fn left_alone<R: Abort + AllocGlobal>(rt: &R, ready: bool, end: &[(u64, u64)]) {
     let (store, mut pass) = started(rt, &[]);
-    let is_ready = left(rt, &store, &mut pass.pass, &[insert(1, 10)], ready);
-    assert_eq!(rt; is_ready, ready);
+    left(rt, &store, &mut pass.pass, &[insert(1, 10)], ready);
     closes_with(rt, store, pass, end);
 }
 
@@ -185,43 +170,39 @@ fn closing_settles_what_was_left(rt: HostRuntime) {
     left_alone(&rt, true, &[(1, 10)]);
 }
 
-// A transaction looks at key 1 and inserts it: what it was told, and how it ended. Then what another
-// pass sees in between: the head of that key's bucket, and the word of the status. At last the head
-// after the end.
-fn next_of_the_lane<R: Abort>(
-    rt: &R,
-    store: &Store,
-    pass: &mut Pass<StoreTheory>,
-    other: &mut Pass<StoreTheory>,
-) -> ([Told; 2], Ended, [u64; 3])
-    requires of { IsPassOf store.now pass.old }
-    requires of_other { IsPassOf store.now other.old }
-{
-    let mut sets = Sets::new();
-    let mut txn = begun(rt, store, pass, 8, &mut sets);
-    let mut why = None;
-    let seen = act(&mut txn, &mut why, store, get(1));
-    let head = word(other, store, 2);
-    let status = word(other, store, 166);
-    let done = act(&mut txn, &mut why, store, insert(1, 11));
-    let end = commit(txn, why, store);
-    ([seen, done], end, [head, status, word(other, store, 2)])
-}
-
+// The next transaction looks at key 1 and inserts it. In between another pass sees the head of that
+// key's bucket, and the word of the status. At last it sees the head after the end.
 #[test]
 fn the_next_transaction_of_the_lane_settles_it(rt: HostRuntime) {
     let (store, mut a, mut b) = divided(&rt, &[]);
-    assert!(rt; !left(&rt, &store, &mut a.pass, &[insert(1, 10)], false));
-    let seen = next_of_the_lane(&rt, &store, &mut a.pass, &mut b.pass);
-    let told = [Ok(Reply::Value(None)), Ok(Reply::Flag(true))];
-    assert_eq!(rt; seen, (told, Ok(()), [2, 1024, 25_769_803_780]));
+    left(&rt, &store, &mut a.pass, &[insert(1, 10)], false);
+    let script = Script {
+        tag: 8,
+        before: &[get(1)],
+        between: None,
+        words: &[(2, 2), (166, 1024)],
+        after: &[insert(1, 11)],
+        way: Way::Commit,
+    };
+    let want = [Ok(Reply::Value(None)), Ok(Reply::Flag(true))];
+    overlap(
+        &rt,
+        &store,
+        &mut a.pass,
+        &mut b.pass,
+        &script,
+        &want,
+        Ok(true),
+    );
+    show(&rt, &store, &mut b.pass, &[(2, 25_769_803_780)]);
+    ends_with(&rt, store, a, b, &[(1, 11), (3, 30)]);
 }
 
 #[test]
 fn the_next_transaction_of_the_lane_commits_it(rt: HostRuntime) {
     let (store, mut a, b) = divided(&rt, &[]);
-    let ready = left(&rt, &store, &mut a.pass, &[insert(1, 10)], true);
-    let seen = one(&rt, &store, &mut a.pass, get(1));
-    assert_eq!(rt; (ready, seen), (true, Ok(Reply::Value(Some(10)))));
+    left(&rt, &store, &mut a.pass, &[insert(1, 10)], true);
+    let found = Reply::Value(Some(10));
+    replies(&rt, &store, &mut a.pass, get(1), found);
     ends_with(&rt, store, a, b, &[(1, 10), (3, 30)]);
 }

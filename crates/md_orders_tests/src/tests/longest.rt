@@ -1,9 +1,9 @@
 //! The longest report.
 
 use crate::tests::reports::reported;
-use crate::tests::shown::read;
+use crate::tests::shown::{are_bytes, extend, read};
 use md_book::{BOUGHT, DEPTHS, LEVELS, MAX_ACCOUNT, MAX_PRICE, SOLD};
-use std::alloc::{AllocError, AllocGlobal, Global};
+use std::alloc::{AllocGlobal, Global};
 use std::process::Abort;
 use std::test::Fail;
 
@@ -11,26 +11,42 @@ use std::test::Fail;
 const LINES: u32 = 999_999;
 
 // A file of version 2 with so many fills of the last caller.
-fn fills(alloc: Global) -> Result<Vec<u8>, AllocError> {
-    let mut text = b"medley,2\n".to_vec(alloc)?;
+fn fills<R: Abort + AllocGlobal>(rt: &R) -> Vec<u8> {
+    let mut text = Vec::new(rt.alloc());
+    extend(rt, &mut text, b"medley,2\n");
     for _ in 0..LINES {
-        text.extend_from_slice(b"64,F,9999,S,1000,1000000\n")?;
+        extend(rt, &mut text, b"64,F,9999,S,1000,1000000\n");
     }
-    Ok(text)
+    text
+}
+
+// Adds the greatest value of a key of a map.
+fn add_greatest(rt: &impl Abort, values: &mut Vec<(u32, u64, u64)>, map: u32, key: u64) {
+    values.push((map, key, u64::MAX)).expect(rt, "memory");
+}
+
+// Adds the greatest depth at each level.
+fn add_depths(rt: &impl Abort, values: &mut Vec<(u32, u64, u64)>) {
+    for level in 0..LEVELS {
+        add_greatest(rt, values, DEPTHS, u64::from(level));
+    }
+}
+
+// Adds the greatest sums of each account.
+fn add_sums(rt: &impl Abort, values: &mut Vec<(u32, u64, u64)>) {
+    for before in 0..MAX_ACCOUNT {
+        let account = u64::from(before) + 1;
+        add_greatest(rt, values, BOUGHT, account);
+        add_greatest(rt, values, SOLD, account);
+    }
 }
 
 // The greatest depth at each level, and the greatest sums of each account.
-fn greatest_values(alloc: Global) -> Result<Vec<(u32, u64, u64)>, AllocError> {
-    let mut values = Vec::new(alloc);
-    for level in 0..LEVELS {
-        values.push((DEPTHS, u64::from(level), u64::MAX))?;
-    }
-    for before in 0..MAX_ACCOUNT {
-        let account = u64::from(before) + 1;
-        values.push((BOUGHT, account, u64::MAX))?;
-        values.push((SOLD, account, u64::MAX))?;
-    }
-    Ok(values)
+fn greatest_values<R: Abort + AllocGlobal>(rt: &R) -> Vec<(u32, u64, u64)> {
+    let mut values = Vec::new(rt.alloc());
+    add_depths(rt, &mut values);
+    add_sums(rt, &mut values);
+    values
 }
 
 // What is left of a text after a piece that it has to begin with.
@@ -40,6 +56,19 @@ fn after<'a>(text: &'a [u8], piece: &str) -> Result<&'a [u8], Fail> {
         return Err(Fail::new("another text"));
     }
     Ok(&text[piece.len()..])
+}
+
+// What is left of a text after a line with a number between two pieces. The line is made anew.
+fn after_line<'a>(
+    line: &mut String,
+    text: &'a [u8],
+    before: &str,
+    number: u32,
+    behind: &str,
+) -> Result<&'a [u8], Fail> {
+    line.clear();
+    writeln!(line, "{before}{number}{behind}")?;
+    after(text, line.as_str())
 }
 
 // What is left of a text after lines that are numbered from 1 on, each number between two pieces.
@@ -53,19 +82,15 @@ fn after_numbered<'a>(
     let mut left = text;
     let mut line = String::new(alloc);
     for earlier in 0..count {
-        let number = earlier + 1;
-        line.clear();
-        writeln!(line, "{before}{number}{behind}")?;
-        left = after(left, line.as_str())?;
+        left = after_line(&mut line, left, before, earlier + 1, behind)?;
     }
     Ok(left)
 }
 
 // The report of so many fills, with the longest texts.
 fn longest<R: Abort + AllocGlobal>(rt: &R) -> Vec<u8> {
-    let orders = fills(rt.alloc()).expect(rt, "memory");
-    let values = greatest_values(rt.alloc()).expect(rt, "memory");
-    reported(rt, &read(rt, &orders, 64), 12, &values)
+    let scripts = read(rt, &fills(rt), 64);
+    reported(rt, &scripts, 12, &greatest_values(rt))
 }
 
 // What is left of that report after the lines of the fills and of the book.
@@ -88,6 +113,6 @@ fn after_lines<'a>(alloc: Global, text: &'a [u8]) -> Result<&'a [u8], Fail> {
 fn the_longest_report(rt: HostRuntime) -> Result<(), Fail> {
     let text = longest(&rt);
     let left = after_lines(rt.alloc(), &text)?;
-    assert_eq!(rt; left, b"done 999999\n".as_slice());
+    are_bytes(&rt, left, b"done 999999\n");
     Ok(())
 }

@@ -1,9 +1,15 @@
 //! Made scripts.
 
-use crate::tests::shown::shown;
+use crate::tests::shown::are_alike;
 use md_book::{Command, order_name};
 use md_orders::{Scripts, make, read_orders};
 use std::process::Abort;
+
+// Three lines were made, and there is none before them and none behind.
+fn has_three_lines(rt: &impl Abort, made: &Scripts) {
+    let others = [made.command(1, 0).is_none(), made.command(1, 4).is_none()];
+    assert_eq!(rt; (made.total(), others), (3, [true; 2]));
+}
 
 // The first fifteen draws of the standard's example are 16838, 5758, 10113, 17515, 31051, 5627,
 // 23010, 7419, 16212, 4086, 2749, 12767, 9084, 12060 and 32225: five for each line.
@@ -11,15 +17,9 @@ use std::process::Abort;
 fn made_scripts_are_those_of_a_file(rt: HostRuntime) {
     let alloc = rt.alloc();
     let made = make(alloc, 1, 3, 1).expect(&rt, "memory");
-    let total = made.total();
-    let others = [made.command(1, 0).is_none(), made.command(1, 4).is_none()];
-    let text = shown(&rt, Ok(made));
+    has_three_lines(&rt, &made);
     let orders = b"1,P,1758,S,41,52\n1,P,1010,S,17,87\n1,P,1767,B,1,26\n";
-    let read = shown(&rt, read_orders(alloc, orders, 1));
-    assert_eq!(rt;
-        (total, others, text.as_str()),
-        (3, [true; 2], read.as_str())
-    );
+    are_alike(&rt, Ok(made), read_orders(alloc, orders, 1));
 }
 
 // The order that a line of the first caller cancels.
@@ -37,22 +37,26 @@ fn is_cancel(rt: &impl Abort, made: &Scripts, line: u32, of: u32) {
 
 // A cancel at a line after 32,767 shows a draw as it is: it names the order of the line whose number
 // is one more.
+fn has_draws(rt: &impl Abort, made: &Scripts) {
+    is_cancel(rt, made, 32_770, 10_467);
+    is_cancel(rt, made, 32_771, 24_770);
+    is_cancel(rt, made, 32_786, 27_376);
+    is_cancel(rt, made, 32_795, 28_489);
+    is_cancel(rt, made, 32_812, 14_306);
+    is_cancel(rt, made, 32_821, 16_794);
+    is_cancel(rt, made, 32_828, 28_804);
+    is_cancel(rt, made, 32_835, 4_710);
+    is_cancel(rt, made, 32_854, 2_385);
+    is_cancel(rt, made, 32_869, 7_664);
+    is_cancel(rt, made, 32_874, 31_810);
+    is_cancel(rt, made, 32_876, 29_461);
+    is_cancel(rt, made, 32_883, 16_052);
+    is_cancel(rt, made, 32_893, 12_239);
+    is_cancel(rt, made, 32_895, 31_170);
+}
+
 #[test]
 fn draws_are_those_of_the_standard(rt: HostRuntime) {
     let made = make(rt.alloc(), 1, 33_000, 1).expect(&rt, "memory");
-    is_cancel(&rt, &made, 32_770, 10_467);
-    is_cancel(&rt, &made, 32_771, 24_770);
-    is_cancel(&rt, &made, 32_786, 27_376);
-    is_cancel(&rt, &made, 32_795, 28_489);
-    is_cancel(&rt, &made, 32_812, 14_306);
-    is_cancel(&rt, &made, 32_821, 16_794);
-    is_cancel(&rt, &made, 32_828, 28_804);
-    is_cancel(&rt, &made, 32_835, 4_710);
-    is_cancel(&rt, &made, 32_854, 2_385);
-    is_cancel(&rt, &made, 32_869, 7_664);
-    is_cancel(&rt, &made, 32_874, 31_810);
-    is_cancel(&rt, &made, 32_876, 29_461);
-    is_cancel(&rt, &made, 32_883, 16_052);
-    is_cancel(&rt, &made, 32_893, 12_239);
-    is_cancel(&rt, &made, 32_895, 31_170);
+    has_draws(&rt, &made);
 }

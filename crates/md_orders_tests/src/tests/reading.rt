@@ -3,12 +3,20 @@
 ghost use Rattle.std.specs.Prelude.{◌≤◌};
 ghost use Rattle.md_book.specs.declared.limits.TheConstants.{MAX_CALLER};
 
-use crate::tests::shown::{read, shown};
+use crate::tests::shown::{extend, is_bad_line, read, shown};
 use md_book::{Command, Side};
 use md_orders::{OrderFault, Scripts, read_orders, read_orders_in_threads};
 use std::alloc::{AllocGlobal, Global};
 use std::process::Abort;
 use std::thread::Threads;
+
+// What is read of a file is what is told: the commands or the fault.
+fn is_told<R: Abort + AllocGlobal>(rt: &R, callers: u32, text: &str, want: &str)
+    requires { (1 ≤ callers) × (callers ≤ MAX_CALLER) }
+{
+    let read = shown(rt, read_orders(rt.alloc(), text.as_bytes(), callers));
+    assert_eq!(rt; read.as_str(), want, "of {text}");
+}
 
 // Reads files, and compares what is read with what is told. There is a sign `|` between two files,
 // and each is the text of its bytes, the sign `=`, and what is told of it: the commands or the fault.
@@ -19,8 +27,7 @@ fn read_as_told<R: Abort + AllocGlobal>(rt: &R, callers: u32, files: &str)
         let Some((text, want)) = file.split_once('=') else {
             panic!(rt; "nothing is told")
         };
-        let read = shown(rt, read_orders(rt.alloc(), text.as_bytes(), callers));
-        assert_eq!(rt; read.as_str(), want, "of {text}");
+        is_told(rt, callers, text, want);
     }
 }
 
@@ -91,8 +98,7 @@ fn the_first_record_that_breaks_the_grammar_is_told(rt: HostRuntime) {
         3,D,B,1=BadLine(1)|\
         1,P,7,S,100,5\n\n1,P,7,X,100,5\n1,D,Y,1\n=BadLine(2)";
     read_as_told(&rt, 2, files);
-    let fault = read_orders(rt.alloc(), b"1,\xff,S,100", 2).err();
-    assert_eq!(rt; fault, Some(OrderFault::BadLine(1)));
+    is_bad_line(&rt, read_orders(rt.alloc(), b"1,\xff,S,100", 2).err(), 1);
 }
 
 #[test]
@@ -173,22 +179,36 @@ fn totals<R: Threads + Sync>(rt: &R, alloc: Global, text: &[u8]) -> [Result<u32,
     ]
 }
 
-// A file has this first record, and 999,999 good ones behind it. So much is read of it, and no more
-// with one record behind them.
+// So much is read of a file, either way.
+fn has_totals<R: Abort + AllocGlobal + Threads + Sync>(
+    rt: &R,
+    text: &[u8],
+    want: Result<u32, OrderFault>,
+) {
+    assert_eq!(rt; totals(rt, rt.alloc(), text), [want; 2]);
+}
+
+// A file with this first record, and 999,999 good ones behind it.
+fn with_a_million<R: Abort + AllocGlobal>(rt: &R, first: &[u8]) -> Vec<u8> {
+    let mut text = Vec::new(rt.alloc());
+    extend(rt, &mut text, first);
+    for made in 0..999_999 {
+        extend(rt, &mut text, GOOD);
+    }
+    text
+}
+
+// So much is read of such a file, and no more with one record behind the others.
 fn a_million_from<R: Abort + AllocGlobal + Threads + Sync>(
     rt: &R,
     first: &[u8],
     last: &[u8],
     want: Result<u32, OrderFault>,
 ) {
-    let alloc = rt.alloc();
-    let mut text = first.to_vec(alloc).expect(rt, "memory");
-    for made in 0..999_999 {
-        text.extend_from_slice(GOOD).expect(rt, "memory");
-    }
-    assert_eq!(rt; totals(rt, alloc, &text), [want; 2]);
-    text.extend_from_slice(last).expect(rt, "memory");
-    assert_eq!(rt; totals(rt, alloc, &text), [Err(OrderFault::TooMany); 2]);
+    let mut text = with_a_million(rt, first);
+    has_totals(rt, &text, want);
+    extend(rt, &mut text, last);
+    has_totals(rt, &text, Err(OrderFault::TooMany));
 }
 
 const GOOD: &[u8] = b"1,D,S,1\n";
@@ -216,9 +236,8 @@ fn has_command(
     assert_eq!(rt; scripts.command(caller, line), *command);
 }
 
-#[test]
-fn lines_are_counted_by_caller(rt: HostRuntime) {
-    let scripts = read(&rt, b"2,D,S,3\n1,D,B,1\n2,D,S,4\n", 3);
+// There are these numbers of callers and lines.
+fn has_counts(rt: &impl Abort, scripts: &Scripts) {
     let counts = [
         scripts.callers(),
         scripts.total(),
@@ -229,12 +248,23 @@ fn lines_are_counted_by_caller(rt: HostRuntime) {
         scripts.len(4),
     ];
     assert_eq!(rt; counts, [3, 3, 0, 1, 2, 0, 0]);
+}
+
+// The second caller's second line has its command, and no line that isn't there has one.
+fn has_commands(rt: &impl Abort, scripts: &Scripts) {
     let second = Command::Depth {
         side: Side::Sell,
         price: 4,
     };
-    has_command(&rt, &scripts, (2, 2), &Some(second));
-    has_command(&rt, &scripts, (1, 0), &None);
-    has_command(&rt, &scripts, (2, 3), &None);
-    has_command(&rt, &scripts, (4, 1), &None);
+    has_command(rt, scripts, (2, 2), &Some(second));
+    has_command(rt, scripts, (1, 0), &None);
+    has_command(rt, scripts, (2, 3), &None);
+    has_command(rt, scripts, (4, 1), &None);
+}
+
+#[test]
+fn lines_are_counted_by_caller(rt: HostRuntime) {
+    let scripts = read(&rt, b"2,D,S,3\n1,D,B,1\n2,D,S,4\n", 3);
+    has_counts(&rt, &scripts);
+    has_commands(&rt, &scripts);
 }

@@ -3,9 +3,9 @@
 ghost use Rattle.std.specs.Prelude.{◌≤◌};
 ghost use Rattle.md_book.specs.declared.limits.TheConstants.{MAX_CALLER};
 
-use crate::tests::shown::shown;
-use md_orders::{OrderFault, read_orders, read_orders_in_threads};
-use std::alloc::{AllocError, AllocGlobal, Global};
+use crate::tests::shown::{are_alike, extend, is_bad_line, is_text, shown};
+use md_orders::{read_orders, read_orders_in_threads};
+use std::alloc::AllocGlobal;
 use std::process::Abort;
 use std::thread::Threads;
 
@@ -13,42 +13,44 @@ use std::thread::Threads;
 const LENGTH: usize = 66_000;
 
 // Adds blank lines up to a length.
-fn pad(text: &mut Vec<u8>, length: usize) -> Result<(), AllocError> {
+fn pad(rt: &impl Abort, text: &mut Vec<u8>, length: usize) {
     for _ in text.len()..length {
-        text.push(b'\n')?;
+        text.push(b'\n').expect(rt, "memory");
     }
-    Ok(())
+}
+
+// Adds lines at a place.
+fn add_lines(rt: &impl Abort, text: &mut Vec<u8>, place: usize, lines: &str) {
+    pad(rt, text, place);
+    extend(rt, text, lines.as_bytes());
 }
 
 // A start, and the same lines at each of some places and at the end. From one place to the next they
 // begin seven bytes earlier than there, and after twelve places again where they did at the first.
-fn text_of(
-    alloc: Global,
+fn text_of<R: Abort + AllocGlobal>(
+    rt: &R,
     start: &str,
     lines: &str,
     places: &[usize],
     first: usize,
-) -> Result<Vec<u8>, AllocError> {
-    let mut text = start.as_bytes().to_vec(alloc)?;
+) -> Vec<u8> {
+    let mut text = Vec::new(rt.alloc());
+    extend(rt, &mut text, start.as_bytes());
     let mut step = first;
     for place in places {
-        pad(&mut text, place.saturating_sub(7 * (step % 12)))?;
-        text.extend_from_slice(lines.as_bytes())?;
+        add_lines(rt, &mut text, place.saturating_sub(7 * (step % 12)), lines);
         step = step.saturating_add(1);
     }
-    pad(&mut text, LENGTH)?;
-    text.extend_from_slice(lines.as_bytes())?;
-    Ok(text)
+    add_lines(rt, &mut text, LENGTH, lines);
+    text
 }
 
 // A file that is read in parts gives what it gives if it is read whole.
 fn is_read_alike<R: Threads + Sync + Abort + AllocGlobal>(rt: &R, text: &[u8], callers: u32)
     requires { (1 ≤ callers) × (callers ≤ MAX_CALLER) }
 {
-    let whole = shown(rt, read_orders(rt.alloc(), text, callers));
     let read = read_orders_in_threads(rt, rt.alloc(), text, callers);
-    let read = shown(rt, read);
-    assert_eq!(rt; read.as_str(), whole.as_str());
+    are_alike(rt, read, read_orders(rt.alloc(), text, callers));
 }
 
 // So do files with these lines at some places, from each of some first steps on.
@@ -63,8 +65,7 @@ fn are_read_alike<R: Threads + Sync + Abort + AllocGlobal>(
     requires { (1 ≤ callers) × (callers ≤ MAX_CALLER) }
 {
     for first in firsts {
-        let text = text_of(rt.alloc(), start, lines, places, *first).expect(rt, "memory");
-        is_read_alike(rt, &text, callers);
+        is_read_alike(rt, &text_of(rt, start, lines, places, *first), callers);
     }
 }
 
@@ -94,20 +95,20 @@ fn parts_give_what_the_whole_gives(rt: HostRuntime) {
 
 // Adds a record with blank lines round it, so that eight such records are a file that is read in
 // parts, and each of its eight parts has one.
-fn add_record(text: &mut Vec<u8>, record: &str) -> Result<(), AllocError> {
+fn add_record(rt: &impl Abort, text: &mut Vec<u8>, record: &str) {
     let middle = text.len().saturating_add(4_150);
-    pad(text, middle)?;
-    text.extend_from_slice(record.as_bytes())?;
-    pad(text, middle.saturating_add(4_150))
+    add_lines(rt, text, middle, record);
+    pad(rt, text, middle.saturating_add(4_150));
 }
 
 // A file with a record in each of its eight parts, which is bad from one part on.
-fn bad_from(alloc: Global, start: &str, bad: u32) -> Result<Vec<u8>, AllocError> {
-    let mut text = start.as_bytes().to_vec(alloc)?;
+fn bad_from<R: Abort + AllocGlobal>(rt: &R, start: &str, bad: u32) -> Vec<u8> {
+    let mut text = Vec::new(rt.alloc());
+    extend(rt, &mut text, start.as_bytes());
     for part in 0..8 {
-        add_record(&mut text, if part < bad { "1,A,7" } else { "1,A,0" })?;
+        add_record(rt, &mut text, if part < bad { "1,A,7" } else { "1,A,0" });
     }
-    Ok(text)
+    text
 }
 
 // The first bad line of such a file has this number.
@@ -117,9 +118,12 @@ fn has_bad_line<R: Threads + Sync + Abort + AllocGlobal>(
     bad: u32,
     number: u32,
 ) {
-    let text = bad_from(rt.alloc(), start, bad).expect(rt, "memory");
-    let fault = read_orders_in_threads(rt, rt.alloc(), &text, 1).err();
-    assert_eq!(rt; fault, Some(OrderFault::BadLine(number)));
+    let text = bad_from(rt, start, bad);
+    is_bad_line(
+        rt,
+        read_orders_in_threads(rt, rt.alloc(), &text, 1).err(),
+        number,
+    );
 }
 
 // The first bad line is in each of the eight parts.
@@ -132,20 +136,19 @@ fn a_bad_line_has_its_number_in_the_file(rt: HostRuntime) {
 }
 
 // A file with these records, which have the sign `|` between two.
-fn file_of(alloc: Global, records: &str) -> Result<Vec<u8>, AllocError> {
-    let mut text = Vec::new(alloc);
+fn file_of<R: Abort + AllocGlobal>(rt: &R, records: &str) -> Vec<u8> {
+    let mut text = Vec::new(rt.alloc());
     for record in records.split('|') {
-        add_record(&mut text, record)?;
+        add_record(rt, &mut text, record);
     }
-    Ok(text)
+    text
 }
 
 #[test]
 fn an_order_of_the_last_part_has_the_name_of_its_line(rt: HostRuntime) {
-    let alloc = rt.alloc();
     let records = "1,A,7|2,A,7|1,A,7|1,A,7|1,A,7|2,A,7|2,P,7,B,1,5|1,P,7,S,10,5|1,C,1,5";
-    let text = file_of(alloc, records).expect(&rt, "memory");
-    let read = shown(&rt, read_orders_in_threads(&rt, alloc, &text, 2));
+    let text = file_of(&rt, records);
+    let read = shown(&rt, read_orders_in_threads(&rt, rt.alloc(), &text, 2));
     // An order's name is 4294967296 times its caller and its line.
     let want = "1:1 Account { account: 7 };1:2 Account { account: 7 };1:3 Account { account: 7 };\
         1:4 Account { account: 7 };\
@@ -153,5 +156,5 @@ fn an_order_of_the_last_part_has_the_name_of_its_line(rt: HostRuntime) {
         1:6 Cancel { name: 4294967301 };\
         2:1 Account { account: 7 };2:2 Account { account: 7 };\
         2:3 Place { name: 8589934595, account: 7, side: Buy, price: 1, quantity: 5 };";
-    assert_eq!(rt; read.as_str(), want);
+    is_text(&rt, read.as_str(), want);
 }

@@ -4,7 +4,7 @@ ghost use Rattle.std.specs.Prelude.{◌≡◌, ◌≤◌, length};
 ghost use Rattle.md_book.specs.Suits.{IsTaken, Suits};
 ghost use Rattle.md_book.specs.Commands.{IsCommand};
 
-use crate::tests::shown::read;
+use crate::tests::shown::{are_bytes, extend, is_text, read};
 use md_book::{BOUGHT, BookReply, Command, DEPTHS, MAPS, MAX_PARTS, Part, SOLD, order_name};
 use md_history::Contents;
 use md_orders::Scripts;
@@ -13,16 +13,24 @@ use md_report::{report, summary};
 use std::alloc::AllocGlobal;
 use std::process::Abort;
 
+// Puts a value into a map of a book.
+fn put(rt: &impl Abort, contents: &mut Contents, map: u32, key: u64, value: u64)
+    requires { MAPS ≤ length contents.old.maps }
+    ensures { MAPS ≤ length contents.new.maps }
+{
+    if map >= MAPS {
+        panic!(rt; "no such map")
+    }
+    contents.put(map, key, value).expect(rt, "memory");
+}
+
 // A book's maps with values in them: a map, a key and a value each.
 pub(crate) fn contents_of<R: Abort + AllocGlobal>(rt: &R, values: &[(u32, u64, u64)]) -> Contents
     ensures { MAPS ≤ length result.maps }
 {
     let mut contents = Contents::empty(rt.alloc(), MAPS, 0).expect(rt, "memory");
-    for (map, key, value) in values {
-        if *map >= MAPS {
-            panic!(rt; "no such map")
-        }
-        contents.put(*map, *key, *value).expect(rt, "memory");
+    'values: for (map, key, value) in values {
+        put(rt, &mut contents, *map, *key, *value);
     }
     contents
 }
@@ -150,6 +158,35 @@ pub(crate) fn set_all(replies: &mut Replies, scripts: &Scripts, count: u8)
     }
 }
 
+// Such a reply at each line of each caller.
+fn replies_of<R: Abort + AllocGlobal>(rt: &R, scripts: &Scripts, count: u8) -> Replies {
+    let mut replies = Replies::empty(rt.alloc(), scripts).expect(rt, "memory");
+    set_all(&mut replies, scripts, count);
+    replies
+}
+
+// The report of scripts with replies and these values.
+fn report_of<R: Abort + AllocGlobal>(
+    rt: &R,
+    scripts: &Scripts,
+    replies: &Replies,
+    values: &[(u32, u64, u64)],
+) -> Vec<u8> {
+    let contents = contents_of(rt, values);
+    report(rt.alloc(), scripts, replies, &contents).expect(rt, "memory")
+}
+
+// The summary of them.
+fn summary_of<R: Abort + AllocGlobal>(
+    rt: &R,
+    scripts: &Scripts,
+    replies: &Replies,
+    values: &[(u32, u64, u64)],
+) -> Vec<u8> {
+    let contents = contents_of(rt, values);
+    summary(rt.alloc(), scripts, replies, &contents).expect(rt, "memory")
+}
+
 // The report of scripts with such replies and these values.
 pub(crate) fn reported<R: Abort + AllocGlobal>(
     rt: &R,
@@ -157,10 +194,7 @@ pub(crate) fn reported<R: Abort + AllocGlobal>(
     count: u8,
     values: &[(u32, u64, u64)],
 ) -> Vec<u8> {
-    let mut replies = Replies::empty(rt.alloc(), scripts).expect(rt, "memory");
-    set_all(&mut replies, scripts, count);
-    let contents = contents_of(rt, values);
-    report(rt.alloc(), scripts, &replies, &contents).expect(rt, "memory")
+    report_of(rt, scripts, &replies_of(rt, scripts, count), values)
 }
 
 // The replies of scripts of two callers, with one at each line of the second caller but its first.
@@ -175,17 +209,23 @@ fn add_reply(rt: &impl Abort, text: &mut String, replies: &Replies, caller: u32,
     write!(text, "{:?};", replies.get(caller, line)).expect(rt, "memory");
 }
 
-// Two lines with a reply, and lines that have none or don't exist, as text.
-fn seven_of(rt: &(impl Abort + AllocGlobal), replies: &Replies) -> String {
+// Adds two lines with a reply, and lines that have none or don't exist.
+fn add_seven(rt: &impl Abort, text: &mut String, replies: &Replies) {
+    add_reply(rt, text, replies, 2, 2);
+    add_reply(rt, text, replies, 2, 6);
+    add_reply(rt, text, replies, 2, 1);
+    add_reply(rt, text, replies, 1, 1);
+    add_reply(rt, text, replies, 2, 8);
+    add_reply(rt, text, replies, 0, 1);
+    add_reply(rt, text, replies, 3, 1);
+}
+
+// Those lines are these.
+fn has_seven<R: Abort + AllocGlobal>(rt: &R, replies: &Replies) {
     let mut text = String::new(rt.alloc());
-    add_reply(rt, &mut text, replies, 2, 2);
-    add_reply(rt, &mut text, replies, 2, 6);
-    add_reply(rt, &mut text, replies, 2, 1);
-    add_reply(rt, &mut text, replies, 1, 1);
-    add_reply(rt, &mut text, replies, 2, 8);
-    add_reply(rt, &mut text, replies, 0, 1);
-    add_reply(rt, &mut text, replies, 3, 1);
-    text
+    add_seven(rt, &mut text, replies);
+    let seven = "Some(Depth(18446744073709551615));Some(Killed);None;None;None;None;None;";
+    is_text(rt, text.as_str(), seven);
 }
 
 // The report, the sign `|`, and the summary.
@@ -195,24 +235,14 @@ fn report_and_summary<R: Abort + AllocGlobal>(
     replies: &Replies,
     values: &[(u32, u64, u64)],
 ) -> Vec<u8> {
-    let alloc = rt.alloc();
-    let contents = contents_of(rt, values);
-    let mut text = report(alloc, scripts, replies, &contents).expect(rt, "memory");
-    let end = summary(alloc, scripts, replies, &contents).expect(rt, "memory");
-    text.push(b'|').expect(rt, "memory");
-    text.extend_from_slice(&end).expect(rt, "memory");
+    let mut text = report_of(rt, scripts, replies, values);
+    extend(rt, &mut text, b"|");
+    extend(rt, &mut text, &summary_of(rt, scripts, replies, values));
     text
 }
 
-#[test]
-fn a_report_has_its_text(rt: HostRuntime) {
-    let orders = b"2,D,S,3\n1,P,7,S,100,5\n2,D,S,4\n2,P,7,S,100,5\n2,C,1,1\n\
-        2,F,8,S,100,1000000\n2,K,8,S,100,3\n2,A,7\n"
-        .as_slice();
-    let scripts = read(&rt, orders, 2);
-    let replies = told_from_the_second_line(&rt, &scripts);
-    let seven = "Some(Depth(18446744073709551615));Some(Killed);None;None;None;None;None;";
-    assert_eq!(rt; seven_of(&rt, &replies).as_str(), seven);
+// The report and the summary are these.
+fn has_report_and_summary<R: Abort + AllocGlobal>(rt: &R, scripts: &Scripts, replies: &Replies) {
     let values = [
         (DEPTHS, 1_999, 7),
         (DEPTHS, 1_000, 6),
@@ -224,14 +254,22 @@ fn a_report_has_its_text(rt: HostRuntime) {
         (SOLD, 1, 2),
     ]
     .as_slice();
-    let text = report_and_summary(&rt, &scripts, &replies, values);
     let want = b"2:2 depth 18446744073709551615\n2:3 placed\n2:4 cancelled 5\n\
         2:5 filled 1000000 rest 0 from 64:1000000=1000000\n2:6 killed\n2:7 bought 5 sold 6\n\
         B 1 4\nB 1000 5\nS 1 6\nS 1000 7\n\
         account 1 bought 0 sold 2\naccount 9999 bought 3 sold 0\ndone 8\n|\
-        made 8 placed 10 cancelled 5 filled 1000000 open 22\n"
-        .as_slice();
-    assert_eq!(rt; text.as_slice(), want);
+        made 8 placed 10 cancelled 5 filled 1000000 open 22\n";
+    are_bytes(rt, &report_and_summary(rt, scripts, replies, values), want);
+}
+
+#[test]
+fn a_report_has_its_text(rt: HostRuntime) {
+    let orders = b"2,D,S,3\n1,P,7,S,100,5\n2,D,S,4\n2,P,7,S,100,5\n2,C,1,1\n\
+        2,F,8,S,100,1000000\n2,K,8,S,100,3\n2,A,7\n";
+    let scripts = read(&rt, orders, 2);
+    let replies = told_from_the_second_line(&rt, &scripts);
+    has_seven(&rt, &replies);
+    has_report_and_summary(&rt, &scripts, &replies);
 }
 
 // The report of a file, whose fills have so many parts, is this.
@@ -243,8 +281,7 @@ fn has_report<R: Abort + AllocGlobal>(
     want: &str,
 ) {
     let scripts = read(rt, orders.as_bytes(), 64);
-    let text = reported(rt, &scripts, count, values);
-    assert_eq!(rt; text.as_slice(), want.as_bytes());
+    are_bytes(rt, &reported(rt, &scripts, count, values), want.as_bytes());
 }
 
 #[test]

@@ -7,14 +7,38 @@ use md_orders::{OrderFault, Scripts, read_orders};
 use std::alloc::AllocGlobal;
 use std::process::Abort;
 
-// Adds the commands of all callers, each behind its caller and its line.
+/// Adds bytes to a text.
+pub(super) fn extend(rt: &impl Abort, text: &mut Vec<u8>, more: &[u8]) {
+    text.extend_from_slice(more).expect(rt, "memory");
+}
+
+/// A text is the one that is wanted.
+pub(super) fn is_text(rt: &impl Abort, text: &str, want: &str) {
+    assert_eq!(rt; text, want);
+}
+
+/// The bytes of a text are those that are wanted.
+pub(super) fn are_bytes(rt: &impl Abort, text: &[u8], want: &[u8]) {
+    assert_eq!(rt; text, want);
+}
+
+/// A file was refused for its line of this number.
+pub(super) fn is_bad_line(rt: &impl Abort, fault: Option<OrderFault>, number: u32) {
+    assert_eq!(rt; fault, Some(OrderFault::BadLine(number)));
+}
+
+// Adds the command of a line, if there is one, behind its caller and its line.
+fn add_command(rt: &impl Abort, text: &mut String, scripts: &Scripts, caller: u32, line: u32) {
+    if let Some(command) = scripts.command(caller, line) {
+        write!(text, "{caller}:{line} {command:?};").expect(rt, "memory");
+    }
+}
+
+// Adds the commands of all callers.
 fn add_commands(rt: &impl Abort, text: &mut String, scripts: &Scripts) {
     for before in 0..scripts.callers() {
         for earlier in 0..scripts.len(before + 1) {
-            let (caller, line) = (before + 1, earlier + 1);
-            if let Some(command) = scripts.command(caller, line) {
-                write!(text, "{caller}:{line} {command:?};").expect(rt, "memory");
-            }
+            add_command(rt, text, scripts, before + 1, earlier + 1);
         }
     }
 }
@@ -37,4 +61,14 @@ pub(super) fn shown<R: Abort + AllocGlobal>(rt: &R, read: Result<Scripts, OrderF
         Err(fault) => write!(text, "{fault:?}").expect(rt, "memory"),
     }
     text
+}
+
+/// Two files, or two readings of one, give the same commands or the same fault.
+pub(super) fn are_alike<R: Abort + AllocGlobal>(
+    rt: &R,
+    one: Result<Scripts, OrderFault>,
+    other: Result<Scripts, OrderFault>,
+) {
+    let text = shown(rt, one);
+    is_text(rt, text.as_str(), shown(rt, other).as_str());
 }

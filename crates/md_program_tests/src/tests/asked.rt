@@ -3,14 +3,16 @@
 use crate::tests::{AMPLE, ORDER, REPORT, USAGE, expect_with};
 use md_program::Status;
 
+const NOT_ACCEPTED: &[&[&str]] = &[
+    &["--callers", "65"],
+    &["--make", "1"],
+    &["--tries", "1", "--tries", "1"],
+    &["--callers=9", "--make=7", "--lines=5"],
+];
+
 #[test]
 fn words_that_are_not_accepted(rt: HostRuntime) {
-    for words in [
-        ["--callers", "65"].as_slice(),
-        &["--make", "1"],
-        &["--tries", "1", "--tries", "1"],
-        &["--callers=9", "--make=7", "--lines=5"],
-    ] {
+    for words in NOT_ACCEPTED {
         expect_with(&rt, words, ORDER, AMPLE, Status::Usage, USAGE);
     }
 }
@@ -21,38 +23,50 @@ const TWO: &[u8] = b"1,P,7,S,100,5\n1,F,8,S,100,2\n2,P,17,B,200,4\n2,C,2,1\n";
 const TWO_REPORT: &[u8] = b"1:1 placed\n1:2 filled 2 rest 0 from 1:1=2\n2:1 placed\n\
     2:2 cancelled 4\nS 100 3\naccount 7 bought 0 sold 2\naccount 8 bought 2 sold 0\ndone 4\n";
 
+// Words, an input, and its report.
+const REPORTS: &[(&[&str], &[u8], &[u8])] = &[
+    (&["--callers", "2"], TWO, TWO_REPORT),
+    (&["--callers=2", "--tries=1"], TWO, TWO_REPORT),
+    (&["--callers=2", "--nodes=16"], TWO, TWO_REPORT),
+    (&["--callers=8"], TWO, TWO_REPORT),
+    (&["--callers", "64"], ORDER, REPORT),
+    (
+        &["--callers", "64"],
+        b"medley,2\n64,D,S,1\n",
+        b"64:1 depth 0\ndone 1\n",
+    ),
+];
+
 // What is printed doesn't depend on how many callers there may be, nor on nodes or attempts.
 #[test]
 fn reports_of_several_callers(rt: HostRuntime) {
-    let last = b"medley,2\n64,D,S,1\n".as_slice();
-    let depth = b"64:1 depth 0\ndone 1\n".as_slice();
-    for (words, input, want) in [
-        (["--callers", "2"].as_slice(), TWO, TWO_REPORT),
-        (&["--callers=2", "--tries=1"], TWO, TWO_REPORT),
-        (&["--callers=2", "--nodes=16"], TWO, TWO_REPORT),
-        (&["--callers=8"], TWO, TWO_REPORT),
-        (&["--callers", "64"], ORDER, REPORT),
-        (&["--callers", "64"], last, depth),
-    ] {
+    for (words, input, want) in REPORTS {
         expect_with(&rt, words, input, AMPLE, Status::Done, want);
     }
 }
 
+// Words, an input with a caller that there is not, and the number of its line.
+const OTHER_CALLERS: &[(&[&str], &[u8], u32, &[u8])] = &[
+    (&["--callers", "64"], b"9,D,S,1\n", 1, b"fault line 1\n"),
+    (
+        &["--callers=2"],
+        b"1,D,S,1\n3,D,S,1\n",
+        2,
+        b"fault line 2\n",
+    ),
+    (
+        &["--callers=63"],
+        b"medley,2\n64,D,S,1\n",
+        2,
+        b"fault line 2\n",
+    ),
+];
+
 // The first version has eight callers, whatever the words say, and the second as many as they say.
 #[test]
 fn callers_that_there_are_not(rt: HostRuntime) {
-    let (first, second) = (b"fault line 1\n".as_slice(), b"fault line 2\n".as_slice());
-    for (words, input, line, text) in [
-        (
-            ["--callers", "64"].as_slice(),
-            b"9,D,S,1\n".as_slice(),
-            1,
-            first,
-        ),
-        (&["--callers=2"], b"1,D,S,1\n3,D,S,1\n", 2, second),
-        (&["--callers=63"], b"medley,2\n64,D,S,1\n", 2, second),
-    ] {
-        expect_with(&rt, words, input, AMPLE, Status::BadLine(line), text);
+    for (words, input, line, text) in OTHER_CALLERS {
+        expect_with(&rt, words, input, AMPLE, Status::BadLine(*line), text);
     }
 }
 

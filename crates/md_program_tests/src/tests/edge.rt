@@ -1,7 +1,9 @@
 //! The program from its arguments to its exit status, and streams of std that fail once or end
 //! early.
 
-use crate::tests::{ORDER, REPORT, USAGE, status_of};
+use crate::tests::{
+    AMPLE, ORDER, REPORT, Streams, USAGE, compare, failing, sink_of, source_of, status_of,
+};
 use md_outside::{MemSink, MemSource, Sink, Source, StdSink, StdSource};
 use md_program::{Status, exit_of_program, run_program};
 use std::alloc::{AllocError, AllocGlobal, Global};
@@ -22,14 +24,19 @@ fn args_of(alloc: Global, texts: &[&str]) -> Result<Args, AllocError> {
 }
 
 // Runs with arguments, and says nothing of it in a clause.
-fn program_status<R: Threads + Sync, I: Source, O: Sink>(
+fn program_status<R: AllocGlobal + Threads + Sync, I: Source, O: Sink>(
     rt: &R,
-    alloc: Global,
     args: io::Result<Args>,
     input: &mut I,
     output: &mut O,
 ) -> Status {
-    run_program(rt, alloc, args, input, output).status
+    run_program(rt, rt.alloc(), args, input, output).status
+}
+
+// Compares how a read of what is left ends.
+fn expect_left(rt: &impl Abort, source: &mut MemSource, left: usize) {
+    let mut unread = [0; 32];
+    assert!(rt; source.read(&mut unread) == Ok(left));
 }
 
 // Runs with arguments, and compares the status, what was written, and how much of the input is
@@ -41,137 +48,153 @@ fn expect<R: Abort + AllocGlobal + Threads + Sync>(
     text: &[u8],
     left: usize,
 ) {
-    let alloc = rt.alloc();
-    let bytes = Vec::from_slice(alloc, ORDER).expect(rt, "memory");
-    let mut source = MemSource::new(bytes, 8192, Vec::new(alloc));
-    let mut sink = MemSink::new(alloc, 1024, Vec::new(alloc)).expect(rt, "memory");
-    let found = program_status(rt, alloc, args, &mut source, &mut sink);
-    let mut unread = [0; 32];
-    let rest = source.read(&mut unread);
-    assert_eq!(rt; (found, sink.bytes(), rest), (status, text, Ok(left)));
+    let bytes = Vec::from_slice(rt.alloc(), ORDER).expect(rt, "memory");
+    let mut source = source_of(rt, bytes, AMPLE);
+    let mut sink = sink_of(rt, AMPLE);
+    let found = program_status(rt, args, &mut source, &mut sink);
+    compare(rt, (found, sink.bytes()), (status, text), &[], ORDER);
+    expect_left(rt, &mut source, left);
 }
 
-// The same, with arguments that are there.
+// The same, with arguments that are there. The input is left as it was, or nothing of it.
 fn expect_of<R: Abort + AllocGlobal + Threads + Sync>(
     rt: &R,
     texts: &[&str],
     status: Status,
     text: &[u8],
-    left: usize,
+    is_left: bool,
 ) {
     let args = args_of(rt.alloc(), texts).expect(rt, "memory");
+    let left = if is_left { ORDER.len() } else { 0 };
     expect(rt, Ok(args), status, text, left);
 }
 
+// Arguments, the status and the text, and whether the input is left.
+const ARGUMENTS: &[(&[&str], Status, &[u8], bool)] = &[
+    (&[], Status::Done, REPORT, false),
+    (&["medley"], Status::Done, REPORT, false),
+    (&["--callers"], Status::Done, REPORT, false),
+    (&["medley", ""], Status::Usage, USAGE, true),
+    (&["medley", "medley"], Status::Usage, USAGE, true),
+    (&["medley", "--callers", "2"], Status::Done, REPORT, false),
+    (&["medley", "--callers", "65"], Status::Usage, USAGE, true),
+    (
+        &["medley", "--make=1", "--lines=3"],
+        Status::Done,
+        b"made 3 placed 165 cancelled 0 filled 0 open 165\n",
+        true,
+    ),
+];
+
 #[test]
 fn arguments_are_words_after_the_first(rt: HostRuntime) {
-    let all = ORDER.len();
-    expect_of(&rt, &[], Status::Done, REPORT, 0);
-    expect_of(&rt, &["medley"], Status::Done, REPORT, 0);
-    expect_of(&rt, &["--callers"], Status::Done, REPORT, 0);
-    expect_of(&rt, &["medley", ""], Status::Usage, USAGE, all);
-    expect_of(&rt, &["medley", "medley"], Status::Usage, USAGE, all);
-    let two = ["medley", "--callers", "2"];
-    expect_of(&rt, &two, Status::Done, REPORT, 0);
-    let many = ["medley", "--callers", "65"];
-    expect_of(&rt, &many, Status::Usage, USAGE, all);
-    let made = b"made 3 placed 165 cancelled 0 filled 0 open 165\n";
-    let making = ["medley", "--make=1", "--lines=3"];
-    expect_of(&rt, &making, Status::Done, made, all);
+    for (texts, status, text, is_left) in ARGUMENTS {
+        expect_of(&rt, texts, *status, text, *is_left);
+    }
+}
+
+// So many times the same argument.
+fn repeated_args(alloc: Global, text: &str, times: u32) -> Result<Args, AllocError> {
+    let mut args = Vec::new(alloc);
+    for _ in 0..times {
+        args.push(String::from_str(alloc, text)?)?;
+    }
+    Ok(args.into_iter())
 }
 
 // More words after the name than two bytes can count.
 #[test]
-fn many_words(rt: HostRuntime) -> Result<(), Fail> {
-    let alloc = rt.alloc();
-    let mut args = Vec::new(alloc);
-    for _ in 0..65_538 {
-        args.push(String::from_str(alloc, "medley")?)?;
-    }
-    let all = ORDER.len();
-    expect(&rt, Ok(args.into_iter()), Status::Usage, USAGE, all);
-    Ok(())
+fn many_words(rt: HostRuntime) {
+    let args = repeated_args(rt.alloc(), "medley", 65_538).expect(&rt, "memory");
+    expect(&rt, Ok(args), Status::Usage, USAGE, ORDER.len());
+}
+
+// Runs with no arguments for a reason, and compares the status and what was written. The input is
+// left.
+fn expect_err<R: Abort + AllocGlobal + Threads + Sync>(
+    rt: &R,
+    kind: ErrorKind,
+    status: Status,
+    text: &[u8],
+) {
+    expect(rt, Err(kind.into()), status, text, ORDER.len());
 }
 
 #[test]
 fn arguments_that_are_not_there(rt: HostRuntime) {
-    let all = ORDER.len();
-    for (kind, status, text) in [
-        (ErrorKind::InvalidData, Status::Usage, USAGE),
-        (ErrorKind::Other, Status::Usage, USAGE),
-        (
-            ErrorKind::OutOfMemory,
-            Status::NoMemory,
-            b"fault memory\n".as_slice(),
-        ),
-    ] {
-        expect(&rt, Err(kind.into()), status, text, all);
-    }
+    let memory = b"fault memory\n";
+    expect_err(&rt, ErrorKind::InvalidData, Status::Usage, USAGE);
+    expect_err(&rt, ErrorKind::Other, Status::Usage, USAGE);
+    expect_err(&rt, ErrorKind::OutOfMemory, Status::NoMemory, memory);
 }
+
+// Compares an exit.
+fn expect_number(rt: &impl Abort, code: ExitCode, number: u8) {
+    assert_eq!(rt; code, ExitCode::from(number));
+}
+
+// Each status, and the number of its exit.
+const EXITS: &[(Status, u8)] = &[
+    (Status::Done, 0),
+    (Status::Usage, 2),
+    (Status::BadLine(1), 3),
+    (Status::BadLine(256), 3),
+    (Status::ReadFault, 4),
+    (Status::WriteFault, 5),
+    (Status::NoMemory, 6),
+    (Status::TooLong, 7),
+    (Status::TooMany, 8),
+];
 
 #[test]
 fn each_status_has_its_exit(rt: HostRuntime) {
-    for (status, number) in [
-        (Status::Done, 0),
-        (Status::Usage, 2),
-        (Status::BadLine(1), 3),
-        (Status::BadLine(256), 3),
-        (Status::ReadFault, 4),
-        (Status::WriteFault, 5),
-        (Status::NoMemory, 6),
-        (Status::TooLong, 7),
-        (Status::TooMany, 8),
-    ] {
-        assert_eq!(rt; ExitCode::from(status), ExitCode::from(number));
+    for (status, number) in EXITS {
+        expect_number(&rt, ExitCode::from(*status), *number);
     }
 }
 
 // Runs, and says nothing of it in a clause: the exit.
-fn exit_of<R: Threads + Sync, I: Source, O: Sink>(
+fn exit_of<R: AllocGlobal + Threads + Sync, I: Source, O: Sink>(
     rt: &R,
-    alloc: Global,
     args: io::Result<Args>,
     input: &mut I,
     output: &mut O,
 ) -> ExitCode {
-    exit_of_program(rt, alloc, args, input, output)
+    exit_of_program(rt, rt.alloc(), args, input, output)
 }
 
 // Runs with one argument and these streams, and compares the exit.
 fn expect_exit<R: Abort + AllocGlobal + Threads + Sync>(
     rt: &R,
     input: &[u8],
-    failing_reads: &[u32],
-    room: usize,
+    streams: Streams,
     exit: u8,
 ) {
-    let alloc = rt.alloc();
-    let args = args_of(alloc, &["medley"]).expect(rt, "memory");
-    let bytes = Vec::from_slice(alloc, input).expect(rt, "memory");
-    let failing = Vec::from_slice(alloc, failing_reads).expect(rt, "memory");
-    let mut source = MemSource::new(bytes, 8192, failing);
-    let mut sink = MemSink::new(alloc, room, Vec::new(alloc)).expect(rt, "memory");
-    let code = exit_of(rt, alloc, Ok(args), &mut source, &mut sink);
-    assert_eq!(rt; code, ExitCode::from(exit), "of {input:?}");
+    let args = args_of(rt.alloc(), &["medley"]).expect(rt, "memory");
+    let bytes = Vec::from_slice(rt.alloc(), input).expect(rt, "memory");
+    let mut source = source_of(rt, bytes, streams);
+    let mut sink = sink_of(rt, streams);
+    let code = exit_of(rt, Ok(args), &mut source, &mut sink);
+    expect_number(rt, code, exit);
 }
 
 #[test]
 fn the_exit_is_that_of_the_run(rt: HostRuntime) {
-    expect_exit(&rt, ORDER, &[], 1024, 0);
-    expect_exit(&rt, b"1,A,0\n", &[], 1024, 3);
-    expect_exit(&rt, ORDER, &[1], 1024, 4);
-    expect_exit(&rt, ORDER, &[], 5, 5);
+    expect_exit(&rt, ORDER, failing(&[], 1024, &[]), 0);
+    expect_exit(&rt, b"1,A,0\n", failing(&[], 1024, &[]), 3);
+    expect_exit(&rt, ORDER, failing(&[1], 1024, &[]), 4);
+    expect_exit(&rt, ORDER, failing(&[], 5, &[]), 5);
 }
 
 // The one word of a test's process is the test's name. So this drives the program on its real
 // words, which it doesn't accept, and on its real output.
 #[test]
 fn the_program_is_given_its_words(rt: HostRuntime) -> Result<(), Fail> {
-    assert_eq!(rt; env::args(&rt)?.len(), 2);
+    assert!(rt; env::args(&rt)?.len() == 2);
     let mut input = StdSource::new(ORDER);
     let mut output = StdSink::new(rt.stdout());
-    let code = exit_of(&rt, rt.alloc(), env::args(&rt), &mut input, &mut output);
-    assert_eq!(rt; code, ExitCode::from(2));
+    let code = exit_of(&rt, env::args(&rt), &mut input, &mut output);
+    expect_number(&rt, code, 2);
     Ok(())
 }
 
@@ -208,8 +231,21 @@ fn written_once<R: AllocGlobal + Threads + Sync>(rt: &R, failing: usize) -> (Sta
     };
     let mut source = StdSource::new(ORDER);
     let mut sink = StdSink::new(&mut writer);
-    let status = status_of(rt, rt.alloc(), &[], &mut source, &mut sink);
+    let status = status_of(rt, &[], &mut source, &mut sink);
     (status, writer)
+}
+
+// Compares a status, a count of calls, and bytes.
+fn compare_calls(rt: &impl Abort, found: (Status, usize, &[u8]), wanted: (Status, usize, &[u8])) {
+    assert_eq!(rt; found, wanted);
+}
+
+// Runs with a writer that fails at this call, which is its last, after so many bytes.
+fn expect_written<R: Abort + AllocGlobal + Threads + Sync>(rt: &R, failing: usize, bytes: usize) {
+    let (status, writer) = written_once(rt, failing);
+    let text = &REPORT[..bytes.min(REPORT.len())];
+    let found = (status, writer.calls, writer.taken.as_slice());
+    compare_calls(rt, found, (Status::WriteFault, failing, text));
 }
 
 // No write follows one that failed, not even the same again.
@@ -223,9 +259,7 @@ fn a_write_that_failed_is_the_last(rt: HostRuntime) {
         let before = failing.saturating_sub(1);
         let rest = before.saturating_sub(first).saturating_mul(4);
         let bytes = before.saturating_mul(4).min(line).saturating_add(rest);
-        let (status, writer) = written_once(&rt, failing);
-        assert_eq!(rt; (status, writer.calls), (Status::WriteFault, failing));
-        assert_eq!(rt; writer.taken.as_slice(), &REPORT[..bytes.min(REPORT.len())]);
+        expect_written(&rt, failing, bytes);
     }
 }
 
@@ -246,15 +280,22 @@ impl Read for GoesOn {
     }
 }
 
+// Runs with a reader that goes on.
+fn read_past_the_end<R: AllocGlobal + Threads + Sync>(
+    rt: &R,
+    reader: &mut GoesOn,
+    sink: &mut MemSink,
+) -> Status {
+    let mut source = StdSource::new(&mut *reader);
+    status_of(rt, &[], &mut source, sink)
+}
+
 // No read follows the one that told the end.
 #[test]
-fn the_end_is_the_last_read(rt: HostRuntime) -> Result<(), Fail> {
-    let alloc = rt.alloc();
+fn the_end_is_the_last_read(rt: HostRuntime) {
     let mut reader = GoesOn { calls: 0 };
-    let mut source = StdSource::new(&mut reader);
-    let mut sink = MemSink::new(alloc, 1024, Vec::new(alloc))?;
-    let status = status_of(&rt, alloc, &[], &mut source, &mut sink);
-    assert_eq!(rt; (status, sink.bytes()), (Status::Done, REPORT));
-    assert_eq!(rt; reader.calls, 2);
-    Ok(())
+    let mut sink = sink_of(&rt, AMPLE);
+    let status = read_past_the_end(&rt, &mut reader, &mut sink);
+    let found = (status, reader.calls, sink.bytes());
+    compare_calls(&rt, found, (Status::Done, 2, REPORT));
 }

@@ -2,13 +2,15 @@
 
 ghost use Rattle.std.specs.Prelude.{◌≡◌, ◌≤◌, length, IfOk};
 
+use crate::tests::repeated;
 use md_book::BookReply;
 use md_many::FreeGate;
 use md_orders::{Scripts, make, read_orders};
 use md_play::play_on_store;
 use md_report::summary;
-use md_rounds::summaries_add_up;
+use md_rounds::{Outcome, summaries_add_up};
 use std::alloc::{AllocError, Global};
+use std::process::Abort;
 use std::test::Fail;
 use std::thread::Threads;
 
@@ -24,6 +26,29 @@ fn scripts_of(alloc: Global, text: &[u8]) -> Result<Scripts, Fail>
     }
 }
 
+// A caller, a line of it, and its reply.
+type Told = (u32, u32, Option<BookReply>);
+
+// Compares replies.
+fn expect_replies<R: Abort, P>(rt: &R, played: &Outcome<P>, told: &[Told]) {
+    for (caller, line, want) in told {
+        assert_eq!(rt; played.replies.get(*caller, *line), *want);
+    }
+}
+
+// Compares the replies to six lines of two callers.
+fn expect_six<P>(rt: &impl Abort, played: &Outcome<P>) {
+    let told = [
+        (1, 1, Some(BookReply::Placed)),
+        (1, 3, Some(BookReply::Depth(3))),
+        (2, 1, Some(BookReply::Placed)),
+        (2, 2, Some(BookReply::Cancelled(4))),
+        (2, 3, Some(BookReply::Depth(0))),
+        (2, 4, None),
+    ];
+    expect_replies(rt, played, told.as_slice());
+}
+
 // Two callers at levels and orders of their own: each reply is the same in any order of the lines.
 #[test]
 fn two_callers(rt: HostRuntime) -> Result<(), Fail> {
@@ -31,28 +56,31 @@ fn two_callers(rt: HostRuntime) -> Result<(), Fail> {
     let text = "1,P,7,S,100,5\n1,F,8,S,100,2\n1,D,S,100\n2,P,17,B,200,4\n2,C,2,1\n2,D,B,200\n";
     let scripts = scripts_of(alloc, text.as_bytes())?;
     let played = play_on_store(&rt, alloc, &scripts, 64, 64, &FreeGate)?;
-    assert_eq!(rt; played.replies.get(1, 1), Some(BookReply::Placed));
-    assert_eq!(rt; played.replies.get(1, 3), Some(BookReply::Depth(3)));
-    assert_eq!(rt; played.replies.get(2, 1), Some(BookReply::Placed));
-    assert_eq!(rt; played.replies.get(2, 2), Some(BookReply::Cancelled(4)));
-    assert_eq!(rt; played.replies.get(2, 3), Some(BookReply::Depth(0)));
-    assert_eq!(rt; played.replies.get(2, 4), None);
+    expect_six(&rt, &played);
     Ok(())
+}
+
+// Compares the last reply of a hundred, and the number of fronts.
+fn expect_hundred<R: Abort, P>(rt: &R, played: &Outcome<P>) {
+    expect_replies(rt, played, &[(2, 100, Some(BookReply::Placed))]);
+    assert!(rt; played.fronts.len() == 1);
+}
+
+// The scripts of two callers, of whom one has a hundred lines.
+fn scripts_of_one(alloc: Global) -> Result<Scripts, Fail>
+    ensures { IfOk result (λ scripts. length scripts ≡ 2) }
+{
+    let text = repeated(alloc, b"2,P,7,S,100,5\n", 100, b"")?;
+    let scripts = scripts_of(alloc, &text)?;
+    Ok(scripts)
 }
 
 // Only one of two callers has lines. A place takes three nodes, and both lanes together have enough.
 #[test]
 fn a_lone_caller_takes_the_nodes_of_all_lanes(rt: HostRuntime) -> Result<(), Fail> {
-    let alloc = rt.alloc();
-    let mut text = Vec::new(alloc);
-    for line in 0..100 {
-        let _ = line;
-        text.extend_from_slice(b"2,P,7,S,100,5\n")?;
-    }
-    let scripts = scripts_of(alloc, &text)?;
-    let played = play_on_store(&rt, alloc, &scripts, 192, 100, &FreeGate)?;
-    assert_eq!(rt; played.replies.get(2, 100), Some(BookReply::Placed));
-    assert_eq!(rt; played.fronts.len(), 1);
+    let scripts = scripts_of_one(rt.alloc())?;
+    let played = play_on_store(&rt, rt.alloc(), &scripts, 192, 100, &FreeGate)?;
+    expect_hundred(&rt, &played);
     Ok(())
 }
 
@@ -75,6 +103,11 @@ fn summed<R: Threads + Sync>(
     Ok(summary(alloc, &scripts, &played.replies, &played.contents)?)
 }
 
+// Compares two texts.
+fn expect_same(rt: &impl Abort, one: &[u8], other: &[u8]) {
+    assert_eq!(rt; one, other);
+}
+
 // Made callers don't touch one another's orders, so what their lines come to is the same over few
 // nodes and attempts, with many renewals, and over many; and whatever the threads do.
 #[test]
@@ -83,8 +116,8 @@ fn made_callers(rt: HostRuntime) -> Result<(), Fail> {
     let many = summed(&rt, alloc, 7, 4, 4_096, 4_096)?;
     let again = summed(&rt, alloc, 7, 4, 4_096, 4_096)?;
     let few = summed(&rt, alloc, 7, 4, 128, 64)?;
-    assert_eq!(rt; many.as_slice(), again.as_slice());
-    assert_eq!(rt; many.as_slice(), few.as_slice());
+    expect_same(&rt, &many, &again);
+    expect_same(&rt, &many, &few);
     assert!(rt; many.starts_with(b"made 4000 placed ".as_slice()));
     Ok(())
 }

@@ -6,7 +6,7 @@ ghost use Rattle.md_nbtc.specs.State.{state};
 ghost use Rattle.md_store.specs.Store.{IsPassOf};
 
 use super::super::*;
-use super::world::{Course, Way, World};
+use super::world::{Course, World};
 use md_history::Act;
 use md_nbtc::{Sets, Txn};
 
@@ -23,13 +23,18 @@ pub(super) fn learn(pass: &mut Pass<StoreTheory>, store: &Store, world: &mut Wor
 }
 
 // The course of a pass's next transaction.
-fn course(pass: &mut Pass<StoreTheory>, store: &Store, world: &mut World) -> Course
+fn course<R: Abort>(
+    rt: &R,
+    pass: &mut Pass<StoreTheory>,
+    store: &Store,
+    world: &mut World,
+) -> Course
     requires { IsPassOf store.now pass.old }
     ensures of { IsPassOf store.now pass.new }
     ensures none { result.stop ≡ None }
 {
     learn(pass, store, world);
-    world.course(first_lane(pass))
+    world.course(rt, first_lane(pass))
 }
 
 // Makes one more operation.
@@ -46,7 +51,7 @@ fn step<R: Abort>(
 {
     let op = world.op();
     if let Ok(reply) = act(txn, &mut course.stop, store, op) {
-        course.acts.push(Act { op, reply }).expect(rt, "memory");
+        world.history.did(rt, course.place, Act { op, reply });
     }
 }
 
@@ -65,6 +70,30 @@ fn steps<R: Abort>(
     for made in 0..world.draw(4) {
         let _ = made;
         step(rt, txn, course, store, world);
+    }
+}
+
+// Makes one more operation of one of two transactions.
+fn turn<R: Abort>(
+    rt: &R,
+    first: &mut Txn<'_, StoreTheory>,
+    one: &mut Course,
+    second: &mut Txn<'_, StoreTheory>,
+    two: &mut Course,
+    store: &Store,
+    world: &mut World,
+)
+    requires one { IsActing store.now (state first.old) one.old.stop }
+    requires two { IsActing store.now (state second.old) two.old.stop }
+    ensures first { first.new.pass.ghost_name ≡ first.old.pass.ghost_name }
+    ensures second { second.new.pass.ghost_name ≡ second.old.pass.ghost_name }
+    ensures one { IsActing store.now (state first.new) one.new.stop }
+    ensures two { IsActing store.now (state second.new) two.new.stop }
+{
+    if world.draw(2) == 0 {
+        step(rt, first, one, store, world);
+    } else {
+        step(rt, second, two, store, world);
     }
 }
 
@@ -87,30 +116,7 @@ fn turns<R: Abort>(
 {
     for made in 0..world.draw(12) {
         let _ = made;
-        if world.draw(2) == 0 {
-            step(rt, first, one, store, world);
-        } else {
-            step(rt, second, two, store, world);
-        }
-    }
-}
-
-// Ends a transaction in this way. Whether it was committed, or left ready.
-fn end_by(txn: Txn<'_, StoreTheory>, why: Option<Stop>, store: &Store, way: Way) -> bool
-    requires { IsActing store.now (state txn) why }
-    ensures { IsPassOf store.now txn.exit.0.now }
-{
-    match way {
-        Way::Leave => {
-            leave(txn, why, store);
-            false
-        }
-        Way::Stop => {
-            stop(txn, why, store);
-            false
-        }
-        Way::LeaveReady => leave_ready(txn, why, store),
-        Way::Commit => commit(txn, why, store).is_ok(),
+        turn(rt, first, one, second, two, store, world);
     }
 }
 
@@ -126,16 +132,19 @@ fn end<R: Abort>(
     ensures { IsPassOf store.now txn.exit.0.now }
 {
     let way = world.way(course.stop);
-    let held = end_by(txn, course.stop, store, way);
+    let held = matches!(end_by(txn, course.stop, store, way), Ok(true));
     world.keep(rt, course, way, held);
 }
 
-// Two transactions at the same time. After the first one has ended, the second one goes on.
-pub(super) fn pair<R: Abort>(
+// Two transactions at the same time, with room for both. After the first one has ended, the second
+// one goes on.
+fn pair_in<R: Abort>(
     rt: &R,
     store: &Store,
     a: &mut Pass<StoreTheory>,
     b: &mut Pass<StoreTheory>,
+    sets: &mut Sets,
+    others: &mut Sets,
     world: &mut World,
 )
     requires a { IsPassOf store.now a.old }
@@ -143,12 +152,10 @@ pub(super) fn pair<R: Abort>(
     ensures a { IsPassOf store.now a.new }
     ensures b { IsPassOf store.now b.new }
 {
-    let mut one = course(a, store, world);
-    let mut two = course(b, store, world);
-    let mut sets = Sets::new();
-    let mut others = Sets::new();
-    let mut first = begun(rt, store, a, 1, &mut sets);
-    let mut second = begun(rt, store, b, 2, &mut others);
+    let mut one = course(rt, a, store, world);
+    let mut two = course(rt, b, store, world);
+    let mut first = begun(rt, store, a, 1, sets);
+    let mut second = begun(rt, store, b, 2, others);
     turns(
         rt,
         &mut first,
@@ -161,6 +168,24 @@ pub(super) fn pair<R: Abort>(
     end(rt, first, one, store, world);
     steps(rt, &mut second, &mut two, store, world);
     end(rt, second, two, store, world);
+}
+
+// Two transactions at the same time.
+pub(super) fn pair<R: Abort>(
+    rt: &R,
+    store: &Store,
+    a: &mut Pass<StoreTheory>,
+    b: &mut Pass<StoreTheory>,
+    world: &mut World,
+)
+    requires a { IsPassOf store.now a.old }
+    requires b { IsPassOf store.now b.old }
+    ensures a { IsPassOf store.now a.new }
+    ensures b { IsPassOf store.now b.new }
+{
+    let mut sets = Sets::new();
+    let mut others = Sets::new();
+    pair_in(rt, store, a, b, &mut sets, &mut others, world);
 }
 
 // Makes operations of a transaction, and between them transactions of two other passes.
@@ -204,7 +229,7 @@ pub(super) fn around<R: Abort>(
     ensures b { IsPassOf store.now b.new }
     ensures c { IsPassOf store.now c.new }
 {
-    let mut one = course(a, store, world);
+    let mut one = course(rt, a, store, world);
     let mut sets = Sets::new();
     let mut txn = begun(rt, store, a, 3, &mut sets);
     within(rt, &mut txn, &mut one, store, b, c, world);

@@ -1,7 +1,7 @@
 //! Maps and queues for one thread, in plain collections.
 
 use md_history::{Line, Op, Reply};
-use std::alloc::{AllocError, AllocGlobal};
+use std::alloc::AllocGlobal;
 use std::collections::{BTreeMap, VecDeque};
 use std::process::Abort;
 
@@ -36,52 +36,54 @@ impl Plain {
     }
 
     // Makes an operation. `None` if its map or its queue isn't there.
-    pub(super) fn make(&mut self, op: Op) -> Result<Option<Reply>, AllocError> {
+    pub(super) fn make<R: Abort>(&mut self, rt: &R, op: Op) -> Option<Reply> {
         match op {
             Op::Get { map, .. } | Op::Insert { map, .. } | Op::Remove { map, .. } => {
-                match self.maps.get_mut(map as usize) {
-                    Some(map) => Ok(Some(on_map(map, op)?)),
-                    None => Ok(None),
-                }
+                let map = self.maps.get_mut(map as usize)?;
+                Some(on_map(rt, map, op))
             }
             Op::Enqueue { queue, .. }
             | Op::Dequeue { queue }
             | Op::Front { queue }
-            | Op::Line { queue, .. } => match self.queues.get_mut(queue as usize) {
-                Some(queue) => Ok(Some(on_queue(queue, op)?)),
-                None => Ok(None),
-            },
+            | Op::Line { queue, .. } => {
+                let queue = self.queues.get_mut(queue as usize)?;
+                Some(on_queue(rt, queue, op))
+            }
         }
     }
 }
 
 // Makes an operation of a map.
-fn on_map(map: &mut BTreeMap<u64, u64>, op: Op) -> Result<Reply, AllocError> {
+fn on_map<R: Abort>(rt: &R, map: &mut BTreeMap<u64, u64>, op: Op) -> Reply {
     match op {
-        Op::Get { key, .. } => Ok(Reply::Value(map.get(&key).copied())),
-        Op::Remove { key, .. } => Ok(Reply::Value(map.remove(&key))),
-        Op::Insert { key, value, .. } => {
-            let absent = !map.contains_key(&key);
-            if absent {
-                map.insert(key, value)?;
-            }
-            Ok(Reply::Flag(absent))
-        }
-        _ => Ok(Reply::Nothing),
+        Op::Get { key, .. } => Reply::Value(map.get(&key).copied()),
+        Op::Remove { key, .. } => Reply::Value(map.remove(&key)),
+        Op::Insert { key, value, .. } => Reply::Flag(insert(rt, map, key, value)),
+        _ => Reply::Nothing,
     }
 }
 
+// Inserts a key if it is absent. Whether it was.
+fn insert<R: Abort>(rt: &R, map: &mut BTreeMap<u64, u64>, key: u64, value: u64) -> bool {
+    let absent = !map.contains_key(&key);
+    if absent {
+        let kept: Result<_, _> = map.insert(key, value);
+        kept.expect(rt, "memory");
+    }
+    absent
+}
+
 // Makes an operation of a queue.
-fn on_queue(queue: &mut VecDeque<u64>, op: Op) -> Result<Reply, AllocError> {
+fn on_queue<R: Abort>(rt: &R, queue: &mut VecDeque<u64>, op: Op) -> Reply {
     match op {
         Op::Enqueue { value, .. } => {
-            queue.push_back(value)?;
-            Ok(Reply::Nothing)
+            queue.push_back(value).expect(rt, "memory");
+            Reply::Nothing
         }
-        Op::Dequeue { .. } => Ok(Reply::Value(queue.pop_front())),
-        Op::Front { .. } => Ok(Reply::Value(queue.front().copied())),
-        Op::Line { n, .. } => Ok(Reply::Line(line_of(queue, n))),
-        _ => Ok(Reply::Nothing),
+        Op::Dequeue { .. } => Reply::Value(queue.pop_front()),
+        Op::Front { .. } => Reply::Value(queue.front().copied()),
+        Op::Line { n, .. } => Reply::Line(line_of(queue, n)),
+        _ => Reply::Nothing,
     }
 }
 

@@ -2,8 +2,9 @@
 
 ghost use Rattle.std.specs.Prelude.{◌≡◌, ◌<◌, None};
 
+use super::super::Way;
 use super::history::History;
-use md_history::{Act, Op, Stop};
+use md_history::{Op, Stop};
 use std::alloc::Global;
 use std::process::Abort;
 
@@ -16,49 +17,35 @@ pub(super) const QUEUES: u64 = 2;
 
 pub(super) const KEYS: u64 = 12;
 
-// A transaction that becomes ready is counted by its fate, any other by its end.
-#[derive(Clone, Copy, PartialEq, Eq)]
-pub(super) enum End {
+// How transactions ended that didn't become ready, and how many were left ready.
+#[derive(Clone, Copy)]
+pub(super) struct Ends {
     // An operation, or the step that makes it ready, met a conflict.
-    Conflict,
+    pub(super) conflict: usize,
     // An operation met a limit.
-    Limit,
+    pub(super) limit: usize,
     // It was stopped, although nothing stood against it.
-    Stopped,
+    pub(super) stopped: usize,
     // It was left before it was ready.
-    Left,
+    pub(super) left: usize,
     // It was left ready.
-    LeftReady,
+    pub(super) left_ready: usize,
 }
 
-// A transaction under way: the lane of its pass, what it did, and why it stopped.
-#[derive(Drop)]
+// A transaction under way: the lane of its pass, its place in the history, and why it stopped.
+#[derive(Clone, Copy)]
 pub(super) struct Course {
     pub(super) lane: u32,
-    pub(super) acts: Vec<Act>,
+    pub(super) place: usize,
     pub(super) stop: Option<Stop>,
-}
-
-// A way in which a transaction is ended.
-#[derive(Clone, Copy, PartialEq, Eq)]
-pub(super) enum Way {
-    // It is left before it is ready.
-    Leave,
-    // It is stopped.
-    Stop,
-    // It is left ready.
-    LeaveReady,
-    // It commits.
-    Commit,
 }
 
 #[derive(Drop)]
 pub(super) struct World {
-    alloc: Global,
     state: u64,
     made: u64,
     pub(super) history: History,
-    pub(super) ends: Vec<End>,
+    pub(super) ends: Ends,
     // For each lane the place in the history of the one that it left ready.
     undecided: [Option<usize>; 4],
 }
@@ -66,11 +53,16 @@ pub(super) struct World {
 impl World {
     pub(super) fn new(alloc: Global, seed: u64) -> World {
         World {
-            alloc,
             state: seed,
             made: 0,
             history: History::new(alloc),
-            ends: Vec::new(alloc),
+            ends: Ends {
+                conflict: 0,
+                limit: 0,
+                stopped: 0,
+                left: 0,
+                left_ready: 0,
+            },
             undecided: [None; 4],
         }
     }
@@ -108,12 +100,14 @@ impl World {
         }
     }
 
-    pub(super) fn course(&self, lane: u32) -> Course
+    // The course of a new transaction of a pass with this lane.
+    pub(super) fn course<R: Abort>(&mut self, rt: &R, lane: u32) -> Course
         ensures { result.stop ≡ None }
     {
+        let place = self.history.enter(rt);
         Course {
             lane,
-            acts: Vec::new(self.alloc),
+            place,
             stop: None,
         }
     }
@@ -136,36 +130,28 @@ impl World {
 
     // Keeps a transaction that was ended: whether it was committed, or left ready.
     pub(super) fn keep<R: Abort>(&mut self, rt: &R, course: Course, way: Way, held: bool) {
-        let Course { lane, acts, stop } = course;
         match way {
-            Way::Leave => self.count_end(rt, End::Left),
-            Way::Stop => self.count_end(rt, end_of(stop)),
+            Way::Leave => add_one(&mut self.ends.left),
+            Way::Stop => self.ends.count_stop(course.stop),
             Way::LeaveReady => {
                 if held {
-                    self.keep_ready(rt, lane, acts);
+                    self.keep_ready(rt, course);
                 }
             }
-            Way::Commit => self.keep_decided(rt, acts, held),
+            Way::Commit => {
+                self.history.is_ready(rt, course.place);
+                self.history.decide(course.place, held);
+            }
         }
     }
 
-    // Keeps a transaction that a pass with this lane left ready, and its place.
-    fn keep_ready<R: Abort>(&mut self, rt: &R, lane: u32, acts: Vec<Act>) {
-        let place = self.history.enter(acts).expect(rt, "memory");
-        if let Some(kept) = self.undecided.get_mut(lane as usize) {
-            *kept = Some(place);
+    // Keeps a transaction that was left ready.
+    fn keep_ready<R: Abort>(&mut self, rt: &R, course: Course) {
+        self.history.is_ready(rt, course.place);
+        if let Some(kept) = self.undecided.get_mut(course.lane as usize) {
+            *kept = Some(course.place);
         }
-        self.count_end(rt, End::LeftReady);
-    }
-
-    // Keeps a transaction that was decided as soon as it was ready.
-    fn keep_decided<R: Abort>(&mut self, rt: &R, acts: Vec<Act>, committed: bool) {
-        let place = self.history.enter(acts).expect(rt, "memory");
-        self.history.decide(place, committed);
-    }
-
-    fn count_end<R: Abort>(&mut self, rt: &R, end: End) {
-        self.ends.push(end).expect(rt, "memory");
+        add_one(&mut self.ends.left_ready);
     }
 
     // Takes the place of the one that a pass with this lane left ready.
@@ -177,17 +163,20 @@ impl World {
     pub(super) fn made(&self) -> u64 {
         self.made
     }
+}
 
-    pub(super) fn count(&self, end: End) -> usize {
-        self.ends.iter().filter(|e| **e == end).count()
+impl Ends {
+    // Counts a transaction that was stopped, by its stop.
+    fn count_stop(&mut self, stop: Option<Stop>) {
+        match stop {
+            Some(Stop::Conflict(_)) => add_one(&mut self.conflict),
+            Some(_) => add_one(&mut self.limit),
+            None => add_one(&mut self.stopped),
+        }
     }
 }
 
-// The end of a transaction that is stopped, by its stop.
-fn end_of(stop: Option<Stop>) -> End {
-    match stop {
-        Some(Stop::Conflict(_)) => End::Conflict,
-        Some(_) => End::Limit,
-        None => End::Stopped,
-    }
+// Counts one more.
+fn add_one(count: &mut usize) {
+    *count = count.wrapping_add(1);
 }

@@ -3,6 +3,8 @@
 use super::*;
 use md_book::{BookReply, MAX_PARTS, Part, order_name};
 use md_many::FreeGate;
+use std::alloc::AllocGlobal;
+use std::process::Abort;
 
 // The reply to a fill that took one from caller 1's first order.
 fn took_the_last() -> BookReply {
@@ -28,6 +30,17 @@ fn change(callers: &mut [Vec<Told>], (caller, line): (usize, usize), reply: Book
     }
 }
 
+// Plays a file of two callers in an order.
+fn played(alloc: Global, text: &str, order: &[u32]) -> Result<Replayed, Fail> {
+    let scripts = scripts_of(alloc, text, 2)?;
+    Ok(play_in_order(alloc, &scripts, order, &FreeGate)?)
+}
+
+// How many orders explain a play.
+fn count_of(alloc: Global, played: &Replayed) -> Result<u64, AllocError> {
+    Ok(orders_that_explain(alloc, &played.callers, &played.contents)?.count)
+}
+
 // Plays a file of two callers in an order: how many orders explain what comes of that, and how many
 // explain it when the reply of a line is changed.
 fn counts(
@@ -37,11 +50,10 @@ fn counts(
     place: (usize, usize),
     reply: BookReply,
 ) -> Result<(u64, u64), Fail> {
-    let scripts = scripts_of(alloc, text, 2)?;
-    let mut played = play_in_order(alloc, &scripts, order.as_slice(), &FreeGate)?;
-    let honest = orders_that_explain(alloc, &played.callers, &played.contents)?.count;
-    change(&mut played.callers, place, reply);
-    let changed = orders_that_explain(alloc, &played.callers, &played.contents)?.count;
+    let mut replayed = played(alloc, text, order.as_slice())?;
+    let honest = count_of(alloc, &replayed)?;
+    change(&mut replayed.callers, place, reply);
+    let changed = count_of(alloc, &replayed)?;
     Ok((honest, changed))
 }
 
@@ -73,19 +85,35 @@ fn explained(
     orders_that_explain(alloc, told, &played.contents)
 }
 
+// Compares the number of orders that explain what callers were told, beside the book that their
+// lines leave in some order, and the one that is found.
+fn expect_explained<R: Abort + AllocGlobal>(
+    rt: &R,
+    scripts: &Scripts,
+    told: &[Vec<Told>],
+    order: &[u32],
+    count: u64,
+    one: &[u32],
+) {
+    let orders = explained(rt.alloc(), scripts, told, order).expect(rt, "memory");
+    assert_eq!(rt; (orders.count, orders.one.as_slice()), (count, one));
+}
+
+// Orders of two lines, of which the last lacks one; how many explain the replies, and one.
+const BOOKS: &[(&[u32], u64, &[u32])] = &[
+    (&[1, 2], 1, &[1, 2]),
+    (&[2, 1], 1, &[2, 1]),
+    (&[1], 0, &[]),
+];
+
 // Replies that an order explains, beside a book that lacks the last line.
 #[test]
 fn no_order_explains_another_book(rt: HostRuntime) -> Result<(), Fail> {
     let alloc = rt.alloc();
     let scripts = scripts_of(alloc, "1,P,7,S,100,1\n2,P,7,S,100,1\n", 2)?;
     let told = play_in_order(alloc, &scripts, [1, 2].as_slice(), &FreeGate)?.callers;
-    for (order, count, one) in [
-        ([1, 2].as_slice(), 1, [1, 2].as_slice()),
-        (&[2, 1], 1, &[2, 1]),
-        (&[1], 0, &[]),
-    ] {
-        let orders = explained(alloc, &scripts, &told, order)?;
-        assert_eq!(rt; (orders.count, orders.one.as_slice()), (count, one));
+    for (order, count, one) in BOOKS {
+        expect_explained(&rt, &scripts, &told, order, *count, one);
     }
     Ok(())
 }

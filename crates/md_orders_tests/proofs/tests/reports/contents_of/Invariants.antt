@@ -2,5 +2,5 @@ use Rattle.std.proofs.Common.{◌≤◌, length}
 use Rattle.md_book.specs.declared.maps.TheConstants.{MAPS}
 use Rattle.md_orders_tests.proofs.tests.reports.contents_of.Given as goal
 
-abbrev pub invariant-loop-map : goal.invariant-loop-map
-invariant-loop-map g l = MAPS ≤ length l.contents.maps
+abbrev pub invariant-values : goal.invariant-values
+invariant-values g l = MAPS ≤ length l.contents.maps

@@ -1,4 +1,4 @@
-use Rattle.std.proofs.Common.{◌≡◌, length, arith}
+use Rattle.std.proofs.Common.{arith}
 use Rattle.md_program_tests.proofs.tests.played.closing.the_sums_of_a_closed_store.Goals as goal
 
 -- the store was closed to whole contents, which stand for a book

@@ -1,6 +1,6 @@
 use Rattle.std.proofs.Common.{sym, subst, ◌∙◌}
 use Rattle.md_store.specs.Store.{IsPassOf}
-use Rattle.md_interleavings_tests.proofs.tests.at_random.pairs.pair.Goals as goal
+use Rattle.md_interleavings_tests.proofs.tests.at_random.pairs.pair_in.Goals as goal
 
 pub returns-clause-a : goal.returns-clause-a
 returns-clause-a g c =

@@ -1,5 +1,5 @@
-use Rattle.md_program_tests.proofs.tests.making.summed_in_turn.Goals.{in-Some+in-Committed, in-Some+in-Stopped, in_default}
-use Rattle.md_program_tests.proofs.tests.making.summed_in_turn.Goals as goal
+use Rattle.md_program_tests.proofs.tests.making.sums_in_turn.Goals.{in-Some+in-Committed, in-Some+in-Stopped, in_default}
+use Rattle.md_program_tests.proofs.tests.making.sums_in_turn.Goals as goal
 
 pub turns-preserved : goal.turns-preserved
 turns-preserved c = elim c.match-command.branch [

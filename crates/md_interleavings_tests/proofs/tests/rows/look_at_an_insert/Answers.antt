@@ -1,6 +1,0 @@
-use Rattle.std.proofs.Common.{sym, subst, ◌∙◌}
-use Rattle.md_store.specs.Store.{IsPassOf}
-use Rattle.md_interleavings_tests.proofs.tests.rows.look_at_an_insert.Goals as goal
-
-pub returns-clause-of : goal.returns-clause-of
-returns-clause-of g c = subst (IsPassOf c.args.store.now) (sym (c.pass-1.given.1 (sym (c.act-done.ensures.pass ∙ c.begun-inserts.ensures.pass)))) c.commit.ensures
