@@ -1,4 +1,4 @@
-use Rattle.std.proofs.Common.{ap, ℕ, Option, refl, Result, Ok, Err}
+use Rattle.std.proofs.Common.{rules, ap, ℕ, Option, refl, Result, Ok, Err}
 use Rattle.md_history.specs.declared.stops.Stop.{Stop}
 use Rattle.md_history.specs.declared.acts.Op.TheVariants.{Get}
 use Rattle.md_history.specs.declared.acts.Reply.TheVariants.{Value}
@@ -72,3 +72,6 @@ returns-in-Err-clause-runs c =
       writes = λ is. needs_slot (c.in-Err.ensures.no_slot none (ap Err is));
       nodes = λ is. absurd (stops.1 is);
     })
+
+pub returns-in-Ok-clause-ok : goal.returns-in-Ok-clause-ok
+returns-in-Ok-clause-ok c = search rules depth 1

@@ -1,4 +1,4 @@
-use Rattle.std.proofs.Common.{ap, Bool, refl, Result, Ok, Err}
+use Rattle.std.proofs.Common.{rules, ap, Bool, refl, Result, Ok, Err}
 use Rattle.md_history.specs.declared.stops.Stop.{Stop}
 use Rattle.md_history.specs.declared.acts.Op.TheVariants.{Insert}
 use Rattle.md_history.specs.declared.acts.Reply.TheVariants.{Flag}
@@ -71,3 +71,6 @@ returns-in-Err-clause-runs c =
       writes = λ is. c.in-Err.ensures.no_slot none (ap Err is);
       nodes = λ is. (c.args.value, (λ map. refl), c.in-Err.ensures.no_node none (ap Err is));
     })
+
+pub returns-in-Ok-clause-ok : goal.returns-in-Ok-clause-ok
+returns-in-Ok-clause-ok c = search rules depth 1

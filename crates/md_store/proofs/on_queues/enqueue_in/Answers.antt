@@ -1,4 +1,4 @@
-use Rattle.std.proofs.Common.{refl}
+use Rattle.std.proofs.Common.{rules, refl}
 use Rattle.md_history.specs.declared.acts.Op.TheVariants.{Enqueue}
 use Rattle.md_history.specs.declared.acts.Reply.TheVariants.{Nothing}
 use Rattle.md_nbtc.specs.State.{state}
@@ -45,3 +45,6 @@ returns-in-Err-clause-runs c =
       writes = λ is alone. c.in-Err.ensures.writes is alone (cs c.args.before.now.value t s c.args.broken.now c.in_default.is c.requires.running start) (counted c.args.before.now.value t s c.args.broken.now c.in_default.is c.requires.running start).going;
       nodes = λ is. ((λ r. refl), c.in-Err.ensures.no_node is none);
     })
+
+pub returns-in-Ok-clause-ok : goal.returns-in-Ok-clause-ok
+returns-in-Ok-clause-ok c = search rules depth 1

@@ -1,4 +1,4 @@
-use Rattle.std.proofs.Common.{refl}
+use Rattle.std.proofs.Common.{rules, refl}
 use Rattle.md_history.specs.declared.acts.Op.TheVariants.{Front}
 use Rattle.md_history.specs.declared.acts.Reply.TheVariants.{Value}
 use Rattle.md_nbtc.specs.State.{state}
@@ -46,3 +46,6 @@ returns-in-Err-clause-runs c =
       writes = λ is alone. absurd (stands_not none (c.in-Err.ensures.no_writes is));
       nodes = λ is. absurd (stands_not none (c.in-Err.ensures.stop.no_nodes is));
     })
+
+pub returns-in-Ok-clause-ok : goal.returns-in-Ok-clause-ok
+returns-in-Ok-clause-ok c = search rules depth 1

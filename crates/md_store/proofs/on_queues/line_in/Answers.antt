@@ -1,4 +1,4 @@
-use Rattle.std.proofs.Common.{refl, ◌+◌}
+use Rattle.std.proofs.Common.{rules, refl, ◌+◌}
 use Rattle.md_history.specs.declared.acts.Op.TheVariants.{Line as TheLine}
 use Rattle.md_history.specs.declared.acts.Reply.TheVariants.{Line as InLine}
 use Rattle.md_nbtc.specs.State.{state}
@@ -44,3 +44,6 @@ returns-in-Err-clause-runs c =
       writes = λ is alone. absurd (stands_not none (c.in-Err.ensures.no_writes is));
       nodes = λ is. absurd (stands_not none (c.in-Err.ensures.stop.no_nodes is));
     })
+
+pub returns-in-Ok-clause-ok : goal.returns-in-Ok-clause-ok
+returns-in-Ok-clause-ok c = search rules depth 1
