@@ -1,6 +1,6 @@
-use Rattle.std.proofs.Common.{◌≡◌, ◌<◌, ◌≤◌, ◌+◌, ℕ, ◌∙◌, ◌++◌, ◌∷◌, [], Option, Some, Vec, Global, length, ap, sym, subst, refl, inl, inr, arith, vec_capacity}
+use Rattle.std.proofs.Common.{rules, ◌≡◌, ◌<◌, ◌≤◌, ◌+◌, ℕ, ◌∙◌, ◌++◌, ◌∷◌, [], Option, Some, Vec, Global, length, ap, sym, subst, refl, inl, inr, arith, vec_capacity}
 use Rattle.std.specs.Prelude.{IfSome}
-use Rattle.std.proofs.lemmas.Bool.{cases_eq}
+use Rattle.std.proofs.lemmas.Bool.{cases_eq, false≢true}
 use Rattle.std.proofs.lemmas.List.{length_push}
 use Rattle.md_history.specs.Attempt.{Commits}
 use Rattle.md_many.specs.declared.attempts.TheConstants.{MOST_CONFLICTS}
@@ -23,6 +23,13 @@ first-found : {B : Type 0} (body_at : ℕ → Option B) (P : B → Type 0) (done
     → Some b ≡ body_at (played + 1) → IfSome (body_at (done + 1)) P → P b
 first-found body_at P done played b same is small =
     subst (λ o. IfSome o P) (ap (λ n. body_at (n + 1)) (sym same) ∙ sym is) small
+
+-- what follows of numbers from a contradiction: named, so that the check needn't write out the clause that asks for it
+same-of : (n m : ℕ) → ⊥ → n ≡ m
+same-of n m none = absurd none
+
+some-of : (n : ℕ) → ⊥ → 1 ≤ n
+some-of n none = absurd none
 
 pub attempts-init : goal.attempts-init
 attempts-init g c = record {
@@ -111,10 +118,10 @@ attempts-preserved g c =
                   let is_fresh = subst (g.E.Engine.fresh c.args.engine.now) (sym (was.begun none)) fresh in
                   let is_small = first-found (g.L.Lines.body_at c.args.lines.now c.args.turn.caller) _ c.args.turn.done c.attempts.played
                   c.in-Some.body same c.in-Some.ensures small in
-                  absurd (no_conflict (sym w.in-Stopped-Conflict.field-0-is ∙ here.small is_fresh tries is_small))
+                  some-of _ (no_conflict (sym w.in-Stopped-Conflict.field-0-is ∙ here.small is_fresh tries is_small))
               | inr later ↦ rw w.replies-is (was.first fresh tries small (omega arith))
             ];
-            steady = λ stops. absurd (no_conflict (sym w.in-Stopped-Conflict.field-0-is ∙ stops _ here.may_stop));
+            steady = λ stops. same-of _ _ (no_conflict (sym w.in-Stopped-Conflict.field-0-is ∙ stops _ here.may_stop));
           }
     ]
 
@@ -198,10 +205,10 @@ returns-in-Stopped-Limit g c =
             let is_fresh = subst (g.E.Engine.fresh c.args.engine.now) (sym (was.begun none)) fresh in
             let is_small = first-found (g.L.Lines.body_at c.args.lines.now c.args.turn.caller) _ c.args.turn.done c.attempts.played
             c.in-Some.body same c.in-Some.ensures small in
-            absurd (no_limit (sym c.in-Stopped-Limit.field-0-is ∙ here.small is_fresh tries is_small))
+            some-of _ (no_limit (sym c.in-Stopped-Limit.field-0-is ∙ here.small is_fresh tries is_small))
         | inr later ↦ was.first fresh tries small (omega arith)
       ];
-      steady = λ stops. absurd (no_limit (sym c.in-Stopped-Limit.field-0-is ∙ stops _ here.may_stop));
+      steady = λ stops. same-of _ _ (no_limit (sym c.in-Stopped-Limit.field-0-is ∙ stops _ here.may_stop));
     }
 
 pub returns-then-conflicts-eq-MOST_CONFLICTS : goal.returns-then-conflicts-eq-MOST_CONFLICTS
@@ -235,7 +242,7 @@ returns-then-conflicts-eq-MOST_CONFLICTS g c =
       no_memory = tt;
       first = λ fresh tries small some. was.first fresh tries small
           (omega (arith, was.few, c.if-conflicts-eq-MOST_CONFLICTS.true));
-      steady = λ stops. absurd (no_conflict (sym c.in-Stopped-Conflict.field-0-is ∙ stops _ here.may_stop));
+      steady = λ stops. same-of _ _ (no_conflict (sym c.in-Stopped-Conflict.field-0-is ∙ stops _ here.may_stop));
     }
 
 pub returns : goal.returns
@@ -259,3 +266,29 @@ returns g c =
       first = λ fresh tries small some. was.first fresh tries small (omega (arith, c.attempts-test.false, some));
       steady = λ stops. most-played _ _ _ _ _ counted.within (was.steady stops) (omega arith) c.attempts-test.false;
     }
+
+pub attempt-requires-clause-of : goal.attempt-requires-clause-of
+attempt-requires-clause-of g c = search rules depth 1
+
+pub attempt-requires-clause-fits : goal.attempt-requires-clause-fits
+attempt-requires-clause-fits g c = search rules depth 1
+
+pub put-requires : goal.put-requires
+put-requires g c = search rules depth 1
+
+pub after-requires : goal.after-requires
+after-requires g c = search rules depth 1
+
+pub overflow_add-line : goal.overflow_add-line
+overflow_add-line g c = omega arith
+
+pub pass_is_legal-requires-after_bounds : goal.pass_is_legal-requires-after_bounds
+pass_is_legal-requires-after_bounds g c κs within = c.requires.of
+
+-- there is a body for each line
+pub unreachable-requires : goal.unreachable-requires
+unreachable-requires g c =
+    let has_body = (g.met.L.Lines g.world.𝓛 g.world.𝓜 g.world.𝓡 ((λ s x. x), (λ x. x), (λ x. x), λ x. x)).has_body in
+    let there = (has_body c.args.lines.now c.args.turn.caller (c.attempts.played + 1)).1
+    (omega arith, omega (arith, c.attempts.invariant.within, c.len-count.ensures)) in
+    false≢true (rw (← c.in_default.ensures) at there)

@@ -12,3 +12,39 @@ returns-then-lone-2-clause-less g c = search rules depth 1
 
 pub returns-clause-less : goal.returns-clause-less
 returns-clause-less g c = search rules depth 1
+
+pub returns-then-course-clause-of : goal.returns-then-course-clause-of
+returns-then-course-clause-of g c = search rules depth 1
+
+pub returns-then-course-clause-course : goal.returns-then-course-clause-course
+returns-then-course-clause-course g c = search rules depth 1
+
+pub returns-then-course-clause-keeper : goal.returns-then-course-clause-keeper
+returns-then-course-clause-keeper g c = search rules depth 1
+
+pub returns-then-course-clause-callers : goal.returns-then-course-clause-callers
+returns-then-course-clause-callers g c = search rules depth 1
+
+pub returns-then-lone-2-clause-of : goal.returns-then-lone-2-clause-of
+returns-then-lone-2-clause-of g c = search rules depth 1
+
+pub returns-then-lone-2-clause-course : goal.returns-then-lone-2-clause-course
+returns-then-lone-2-clause-course g c = search rules depth 1
+
+pub returns-then-lone-2-clause-keeper : goal.returns-then-lone-2-clause-keeper
+returns-then-lone-2-clause-keeper g c = search rules depth 1
+
+pub returns-then-lone-2-clause-callers : goal.returns-then-lone-2-clause-callers
+returns-then-lone-2-clause-callers g c = search rules depth 1
+
+pub returns-clause-of : goal.returns-clause-of
+returns-clause-of g c = search rules depth 1
+
+pub returns-clause-course : goal.returns-clause-course
+returns-clause-course g c = search rules depth 1
+
+pub returns-clause-keeper : goal.returns-clause-keeper
+returns-clause-keeper g c = search rules depth 1
+
+pub returns-clause-callers : goal.returns-clause-callers
+returns-clause-callers g c = search rules depth 1

@@ -55,3 +55,66 @@ returns-clause-stopped g c =
 
 pub returns-clause-begun : goal.returns-clause-begun
 returns-clause-begun g c = search rules depth 1
+
+pub returns-in_default-2-clause-stopped : goal.returns-in_default-2-clause-stopped
+returns-in_default-2-clause-stopped g c = search rules depth 1
+
+pub returns-in_default-2-clause-legal : goal.returns-in_default-2-clause-legal
+returns-in_default-2-clause-legal g c = search rules depth 1
+
+pub returns-in_default-2-clause-of : goal.returns-in_default-2-clause-of
+returns-in_default-2-clause-of g c = search rules depth 1
+
+pub returns-in_default-2-clause-begun : goal.returns-in_default-2-clause-begun
+returns-in_default-2-clause-begun g c = search rules depth 1
+
+pub returns-in_default-2-clause-again : goal.returns-in_default-2-clause-again
+returns-in_default-2-clause-again g c = search rules depth 1
+
+pub returns-in_default-2-clause-may_stop : goal.returns-in_default-2-clause-may_stop
+returns-in_default-2-clause-may_stop g c = search rules depth 1
+
+pub returns-in_default-2-clause-alone : goal.returns-in_default-2-clause-alone
+returns-in_default-2-clause-alone g c = search rules depth 1
+
+pub returns-in_default-2-clause-once : goal.returns-in_default-2-clause-once
+returns-in_default-2-clause-once g c = search rules depth 1
+
+pub returns-in_default-2-clause-small : goal.returns-in_default-2-clause-small
+returns-in_default-2-clause-small g c = search rules depth 1
+
+pub returns-clause-legal : goal.returns-clause-legal
+returns-clause-legal g c = search rules depth 1
+
+pub returns-clause-of : goal.returns-clause-of
+returns-clause-of g c = search rules depth 1
+
+pub returns-clause-again : goal.returns-clause-again
+returns-clause-again g c = search rules depth 1
+
+pub returns-clause-may_stop : goal.returns-clause-may_stop
+returns-clause-may_stop g c = search rules depth 1
+
+pub returns-clause-alone : goal.returns-clause-alone
+returns-clause-alone g c = search rules depth 1
+
+pub returns-clause-once : goal.returns-clause-once
+returns-clause-once g c = search rules depth 1
+
+pub returns-clause-small : goal.returns-clause-small
+returns-clause-small g c = search rules depth 1
+
+pub attempt-requires-clause-of : goal.attempt-requires-clause-of
+attempt-requires-clause-of g c = search rules depth 1
+
+pub attempt-requires-clause-fits : goal.attempt-requires-clause-fits
+attempt-requires-clause-fits g c = search rules depth 1
+
+pub attempt-requires-2-clause-of : goal.attempt-requires-2-clause-of
+attempt-requires-2-clause-of g c = search rules depth 1
+
+pub attempt-requires-2-clause-fits : goal.attempt-requires-2-clause-fits
+attempt-requires-2-clause-fits g c = search rules depth 1
+
+pub overflow_add-tried : goal.overflow_add-tried
+overflow_add-tried g c = omega arith
