@@ -1,4 +1,4 @@
-use Rattle.std.proofs.Common.{rules, ◌≡◌, ◌+◌, ◌≤◌, length, refl, sym, ap, subst, ◌∙◌, arith}
+use Rattle.std.proofs.Common.{◌≡◌, ◌+◌, ◌≤◌, length, refl, sym, ap, subst, ◌∙◌, arith}
 use Rattle.std.proofs.lemmas.List.{length-append}
 use Rattle.std.proofs.lemmas.Result.{IfOk-from_err}
 use Rattle.md_many.specs.Lines.{PlaysLines}
@@ -140,33 +140,3 @@ returns g c =
       end = omega (arith, was.counted, c.batches-test.false);
       gate = λ line after before. was.gate line after (subst (λ n. line ≤ n) (sym was.done) before);
     }
-
-pub attempt_lines-requires-clause-of : goal.attempt_lines-requires-clause-of
-attempt_lines-requires-clause-of g c = search rules depth 1
-
-pub attempt_lines-requires-clause-fits : goal.attempt_lines-requires-clause-fits
-attempt_lines-requires-clause-fits g c = search rules depth 1
-
-pub attempt_lines-requires-clause-done : goal.attempt_lines-requires-clause-done
-attempt_lines-requires-clause-done g c = search rules depth 1
-
-pub attempt_lines-requires-clause-empty : goal.attempt_lines-requires-clause-empty
-attempt_lines-requires-clause-empty g c = search rules depth 1
-
-pub attempt_lines-requires-clause-room : goal.attempt_lines-requires-clause-room
-attempt_lines-requires-clause-room g c = search rules depth 1
-
-pub overflow_add-done : goal.overflow_add-done
-overflow_add-done g c = omega arith
-
-pub overflow_sub-left : goal.overflow_sub-left
-overflow_sub-left g c = omega arith
-
-pub overflow_cast-done : goal.overflow_cast-done
-overflow_cast-done g c = omega arith
-
-pub overflow_sub-count : goal.overflow_sub-count
-overflow_sub-count g c = omega arith
-
-pub overflow_cast-min : goal.overflow_cast-min
-overflow_cast-min g c = omega arith

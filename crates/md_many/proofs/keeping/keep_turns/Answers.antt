@@ -78,9 +78,3 @@ returns-in_err-keep_lines g c = record {
   can_keep = λ other line r can. c.keep_lines.ensures.can_keep other line r (c.turns.invariant.can_keep other line r can);
   kept = IfOk-from_err _ _ c.from_residual.ensures.0;
 }
-
-pub returns-clause-can_keep : goal.returns-clause-can_keep
-returns-clause-can_keep g c = search rules depth 1
-
-pub keep_lines-requires-clause-from_1 : goal.keep_lines-requires-clause-from_1
-keep_lines-requires-clause-from_1 g c = omega arith

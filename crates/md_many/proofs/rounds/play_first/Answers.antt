@@ -1,4 +1,4 @@
-use Rattle.std.proofs.Common.{rules, ◌≡◌, ◌+◌, ◌≤◌, ◌<◌, ◌∷◌, [], ℕ, zero, suc, List, length, refl, sym, ap, ◌∙◌, arith}
+use Rattle.std.proofs.Common.{◌≡◌, ◌+◌, ◌≤◌, ◌<◌, ◌∷◌, [], ℕ, zero, suc, List, length, refl, sym, ap, ◌∙◌, arith}
 use Rattle.std.specs.Prelude.{◌-◌, ◌==◌, false, slice_index_or}
 use Rattle.std.proofs.lemmas.Bool.{eq-eqb, ne_eqb, false≢true}
 use Rattle.std.proofs.lemmas.Result.{on_ok_weaker}
@@ -75,36 +75,3 @@ returns g c =
           let some = list.first fresh c.requires.course.runs.tries small (omega (arith, at, c.requires.left, c.requires.tries)) in
           on_ok_weaker c.keep_lines.result (λ _. ne_eqb _ 0 (λ none. omega (arith, some, none, c.len.ensures))) kept;
     }
-
-pub play_list-requires-clause-of : goal.play_list-requires-clause-of
-play_list-requires-clause-of g c = search rules depth 1
-
-pub play_list-requires-clause-fits : goal.play_list-requires-clause-fits
-play_list-requires-clause-fits g c = search rules depth 1
-
-pub keep_lines-requires-clause-from_1 : goal.keep_lines-requires-clause-from_1
-keep_lines-requires-clause-from_1 g c = search rules depth 1
-
-pub keep_lines-requires-clause-there : goal.keep_lines-requires-clause-there
-keep_lines-requires-clause-there g c = search rules depth 1
-
-pub returns-in_err-list-clause-of : goal.returns-in_err-list-clause-of
-returns-in_err-list-clause-of g c = search rules depth 1
-
-pub returns-in_err-list-clause-course : goal.returns-in_err-list-clause-course
-returns-in_err-list-clause-course g c = search rules depth 1
-
-pub returns-in_err-list-clause-keeper : goal.returns-in_err-list-clause-keeper
-returns-in_err-list-clause-keeper g c = search rules depth 1
-
-pub returns-in_err-list-clause-callers : goal.returns-in_err-list-clause-callers
-returns-in_err-list-clause-callers g c = search rules depth 1
-
-pub returns-in_err-list-clause-kept : goal.returns-in_err-list-clause-kept
-returns-in_err-list-clause-kept g c = search rules depth 1
-
-pub returns-in_err-list-clause-played : goal.returns-in_err-list-clause-played
-returns-in_err-list-clause-played g c = search rules depth 1
-
-pub returns-in_err-list-clause-fresh : goal.returns-in_err-list-clause-fresh
-returns-in_err-list-clause-fresh g c = search rules depth 1

@@ -80,30 +80,3 @@ returns-in_err-course g c =
       gate = IfOk-from_err _ _ err;
       interleaving = IfOk-from_err _ _ err;
     }
-
-pub next_caller-requires-clause-few : goal.next_caller-requires-clause-few
-next_caller-requires-clause-few g c = search rules depth 1
-
-pub next_caller-requires-clause-within : goal.next_caller-requires-clause-within
-next_caller-requires-clause-within g c = search rules depth 1
-
-pub play_round-requires-clause-of : goal.play_round-requires-clause-of
-play_round-requires-clause-of g c = search rules depth 1
-
-pub play_round-requires-clause-course : goal.play_round-requires-clause-course
-play_round-requires-clause-course g c = search rules depth 1
-
-pub play_round-requires-clause-keeper : goal.play_round-requires-clause-keeper
-play_round-requires-clause-keeper g c = search rules depth 1
-
-pub play_round-requires-clause-callers : goal.play_round-requires-clause-callers
-play_round-requires-clause-callers g c = search rules depth 1
-
-pub play_round-requires-clause-from_1 : goal.play_round-requires-clause-from_1
-play_round-requires-clause-from_1 g c = search rules depth 1
-
-pub play_round-requires-clause-there : goal.play_round-requires-clause-there
-play_round-requires-clause-there g c = search rules depth 1
-
-pub play_round-requires-clause-left : goal.play_round-requires-clause-left
-play_round-requires-clause-left g c = search rules depth 1

@@ -1,4 +1,4 @@
-use Rattle.std.proofs.Common.{rules, ◌∙◌, sym}
+use Rattle.std.proofs.Common.{◌∙◌, sym}
 use Rattle.std.proofs.lemmas.List.{length-map}
 use Rattle.std.proofs.lemmas.Result.{IfOk-from_err}
 use Rattle.md_many.specs.declared.batches.Played.{Played}
@@ -71,21 +71,3 @@ returns-in_err-keep_turns g c =
       callers = IfOk-from_err _ _ err;
       kept = IfOk-from_err _ _ err;
     }
-
-pub play_turns-requires-clause-of : goal.play_turns-requires-clause-of
-play_turns-requires-clause-of g c = search rules depth 1
-
-pub play_turns-requires-clause-fits : goal.play_turns-requires-clause-fits
-play_turns-requires-clause-fits g c = search rules depth 1
-
-pub play_turns-requires-clause-lanes : goal.play_turns-requires-clause-lanes
-play_turns-requires-clause-lanes g c = search rules depth 1
-
-pub play_turns-requires-clause-within : goal.play_turns-requires-clause-within
-play_turns-requires-clause-within g c = search rules depth 1
-
-pub play_turns-requires-clause-callers : goal.play_turns-requires-clause-callers
-play_turns-requires-clause-callers g c = search rules depth 1
-
-pub keep_turns-requires-clause-few_callers : goal.keep_turns-requires-clause-few_callers
-keep_turns-requires-clause-few_callers g c = search rules depth 1

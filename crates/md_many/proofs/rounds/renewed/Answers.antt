@@ -44,33 +44,3 @@ returns-in_err-push g c =
       fresh = λ worn. IfOk-from_err _ _ err;
       empty = λ worn. IfOk-from_err _ _ err;
     }
-
-pub returns-clause-of : goal.returns-clause-of
-returns-clause-of g c = search rules depth 1
-
-pub returns-clause-done : goal.returns-clause-done
-returns-clause-done g c = search rules depth 1
-
-pub returns-clause-fresh : goal.returns-clause-fresh
-returns-clause-fresh g c = search rules depth 1
-
-pub returns-clause-empty : goal.returns-clause-empty
-returns-clause-empty g c = search rules depth 1
-
-pub renew-requires-clause-of : goal.renew-requires-clause-of
-renew-requires-clause-of g c = search rules depth 1
-
-pub returns-then-not-course-clause-of : goal.returns-then-not-course-clause-of
-returns-then-not-course-clause-of g c = search rules depth 1
-
-pub returns-then-not-course-clause-course : goal.returns-then-not-course-clause-course
-returns-then-not-course-clause-course g c = search rules depth 1
-
-pub returns-then-not-course-clause-done : goal.returns-then-not-course-clause-done
-returns-then-not-course-clause-done g c = search rules depth 1
-
-pub returns-then-not-course-clause-fresh : goal.returns-then-not-course-clause-fresh
-returns-then-not-course-clause-fresh g c = search rules depth 1
-
-pub returns-then-not-course-clause-empty : goal.returns-then-not-course-clause-empty
-returns-then-not-course-clause-empty g c = search rules depth 1
