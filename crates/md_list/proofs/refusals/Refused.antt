@@ -30,6 +30,10 @@ module _ (A : Type 0) (s : Stop) where
   no_conflict : {B : Type 0} (shown : Shown) (limit : Limit) → s ≡ Limited limit → s ≡ Conflict shown → B
   no_conflict shown limit is other = absurd (cc (is, other))
 
+-- an answer is no refusal
+pub no_refusal : {B : Type 0} (A : Type 0) (x : A) (s : Stop) → (let r : Result A Stop = Ok x in r) ≡ Err s → B
+no_refusal A x s e = absurd (cc e)
+
 pub reads_or_writes : Writes ≡ Reads → ⊥
 reads_or_writes e = cc e
 

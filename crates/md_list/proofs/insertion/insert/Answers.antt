@@ -26,7 +26,7 @@ use Rattle.md_list.proofs.answers.Getting.{noted_ok}
 use Rattle.md_list.proofs.answers.Inserting.{inserted, linked, may_link, needs_link}
 use Rattle.md_list.proofs.answers.LookUps.{answered_so, found_exists, here_node, is_absent_there, needs_read, shows_there}
 use Rattle.md_list.proofs.changes.Noted.{NotesOnly, notes_only}
-use Rattle.md_list.proofs.refusals.Refused.{exchange_full, exchange_reads, exchange_unstopped, fresh_limit, note_full, note_limit, note_unstopped, reads_or_writes, refused_by, refused_else, refused_never, refused_within}
+use Rattle.md_list.proofs.refusals.Refused.{exchange_full, exchange_reads, exchange_unstopped, fresh_limit, note_full, note_limit, note_unstopped, reads_or_writes, refused_by, refused_else, refused_never, refused_within, no_refusal}
 use Rattle.md_list.proofs.walking.Marks.{link_is}
 use Rattle.md_list.proofs.answers.Rows.{begun_walks, by_same, found_of}
 use Rattle.md_list.proofs.walking.Steps.{exchanged_ok, exchanged_reads}
@@ -35,6 +35,8 @@ use Rattle.md_list.proofs.walking.Walked.{has_stop, stop_leaves}
 use Rattle.md_list.specs.declared.walk.Found.{Found}
 use Rattle.md_history.specs.declared.stops.Limit.TheVariants.{Nodes, Reads, Writes}
 use Rattle.md_history.specs.declared.stops.Stop.TheVariants.{Limit as Limited}
+use Rattle.std.proofs.lemmas.Result.{IfOk-from_err}
+use Rattle.std.proofs.lemmas.Bool.{false≢true, true≢false}
 use Rattle.md_list.proofs.insertion.insert.Goals as goal
 
 pub find-requires : goal.find-requires
@@ -444,3 +446,93 @@ returns-in_err-exchange-clause-no_node g c =
     let fresh = after_ok ℕ t u t.stop node (Freshened t u c.args.key c.args.value found.at.value (Ok node)) c.in_ok-node.ensures.fresh in
     refused_else M Bool s v c.from_residual-in_err-exchange.result stop c.from_residual-in_err-exchange.ensures.1 Nodes (NeedsNode M s c.args.head c.args.key)
     (λ _. (exchange_stops M u v stop (ap (λ x. x.stop) fresh.new ∙ none.1) found.prev found.at (node * 2) Critical c.in_err-exchange.ensures.exchanged).1)
+
+pub returns-in_err-found-clause-pass : goal.returns-in_err-found-clause-pass
+returns-in_err-found-clause-pass g c = c.in_err-found.ensures.pass
+
+pub returns-in_err-note-clause-pass : goal.returns-in_err-note-clause-pass
+returns-in_err-note-clause-pass g c = c.in_err-note.ensures.pass ∙ c.in_ok-found.ensures.pass
+
+pub returns-then-found-clause-pass : goal.returns-then-found-clause-pass
+returns-then-found-clause-pass g c = c.in_ok-note.ensures.pass ∙ c.in_ok-found.ensures.pass
+
+pub returns-in_err-node-clause-pass : goal.returns-in_err-node-clause-pass
+returns-in_err-node-clause-pass g c = c.in_err-node.ensures.pass ∙ c.in_ok-found.ensures.pass
+
+pub returns-in_err-exchange-clause-pass : goal.returns-in_err-exchange-clause-pass
+returns-in_err-exchange-clause-pass g c = c.in_err-exchange.ensures.pass ∙ c.in_ok-node.ensures.pass ∙ c.in_ok-found.ensures.pass
+
+pub returns-clause-pass : goal.returns-clause-pass
+returns-clause-pass g c = c.in_ok-exchange.ensures.pass ∙ c.in_ok-node.ensures.pass ∙ c.in_ok-found.ensures.pass
+
+pub returns-in_err-found-clause-placed : goal.returns-in_err-found-clause-placed
+returns-in_err-found-clause-placed g c = IfOk-from_err c.from_residual.result _ c.from_residual.ensures.0
+
+pub returns-in_err-found-clause-there : goal.returns-in_err-found-clause-there
+returns-in_err-found-clause-there g c = IfOk-from_err c.from_residual.result _ c.from_residual.ensures.0
+
+pub returns-in_err-found-clause-answer : goal.returns-in_err-found-clause-answer
+returns-in_err-found-clause-answer g c = IfOk-from_err c.from_residual.result _ c.from_residual.ensures.0
+
+pub returns-in_err-note-clause-placed : goal.returns-in_err-note-clause-placed
+returns-in_err-note-clause-placed g c = IfOk-from_err c.from_residual-in_err-note.result _ c.from_residual-in_err-note.ensures.0
+
+pub returns-in_err-note-clause-there : goal.returns-in_err-note-clause-there
+returns-in_err-note-clause-there g c = IfOk-from_err c.from_residual-in_err-note.result _ c.from_residual-in_err-note.ensures.0
+
+pub returns-in_err-note-clause-answer : goal.returns-in_err-note-clause-answer
+returns-in_err-note-clause-answer g c = IfOk-from_err c.from_residual-in_err-note.result _ c.from_residual-in_err-note.ensures.0
+
+pub returns-in_err-node-clause-placed : goal.returns-in_err-node-clause-placed
+returns-in_err-node-clause-placed g c = IfOk-from_err c.from_residual-in_err-node.result _ c.from_residual-in_err-node.ensures.0
+
+pub returns-in_err-node-clause-there : goal.returns-in_err-node-clause-there
+returns-in_err-node-clause-there g c = IfOk-from_err c.from_residual-in_err-node.result _ c.from_residual-in_err-node.ensures.0
+
+pub returns-in_err-node-clause-answer : goal.returns-in_err-node-clause-answer
+returns-in_err-node-clause-answer g c = IfOk-from_err c.from_residual-in_err-node.result _ c.from_residual-in_err-node.ensures.0
+
+pub returns-in_err-exchange-clause-placed : goal.returns-in_err-exchange-clause-placed
+returns-in_err-exchange-clause-placed g c = IfOk-from_err c.from_residual-in_err-exchange.result _ c.from_residual-in_err-exchange.ensures.0
+
+pub returns-in_err-exchange-clause-there : goal.returns-in_err-exchange-clause-there
+returns-in_err-exchange-clause-there g c = IfOk-from_err c.from_residual-in_err-exchange.result _ c.from_residual-in_err-exchange.ensures.0
+
+pub returns-in_err-exchange-clause-answer : goal.returns-in_err-exchange-clause-answer
+returns-in_err-exchange-clause-answer g c = IfOk-from_err c.from_residual-in_err-exchange.result _ c.from_residual-in_err-exchange.ensures.0
+
+pub returns-then-found-clause-placed : goal.returns-then-found-clause-placed
+returns-then-found-clause-placed g c e = absurd (false≢true e)
+
+pub returns-clause-there : goal.returns-clause-there
+returns-clause-there g c e = absurd (true≢false e)
+
+pub returns-then-found-clause-no_read : goal.returns-then-found-clause-no_read
+returns-then-found-clause-no_read g c none is = no_refusal Bool _ _ is
+
+pub returns-clause-no_read : goal.returns-clause-no_read
+returns-clause-no_read g c none is = no_refusal Bool _ _ is
+
+pub returns-then-found-clause-no_slot : goal.returns-then-found-clause-no_slot
+returns-then-found-clause-no_slot g c none is = no_refusal Bool _ _ is
+
+pub returns-clause-no_slot : goal.returns-clause-no_slot
+returns-clause-no_slot g c none is = no_refusal Bool _ _ is
+
+pub returns-then-found-clause-no_node : goal.returns-then-found-clause-no_node
+returns-then-found-clause-no_node g c none is = no_refusal Bool _ _ is
+
+pub returns-clause-no_node : goal.returns-clause-no_node
+returns-clause-no_node g c none is = no_refusal Bool _ _ is
+
+pub note-requires-clause-going : goal.note-requires-clause-going
+note-requires-clause-going g c = (c.requires.begun.going.0, c.in_ok-found.ensures.leaves.on.going c.requires.begun.going.0 c.requires.begun.going.1)
+
+pub note-requires-clause-operates : goal.note-requires-clause-operates
+note-requires-clause-operates g c = c.in_ok-found.ensures.leaves.operates
+
+pub fresh-requires-clause-going : goal.fresh-requires-clause-going
+fresh-requires-clause-going g c = (c.requires.begun.going.0, c.in_ok-found.ensures.leaves.on.going c.requires.begun.going.0 c.requires.begun.going.1)
+
+pub fresh-requires-clause-operates : goal.fresh-requires-clause-operates
+fresh-requires-clause-operates g c = c.in_ok-found.ensures.leaves.operates

@@ -25,13 +25,14 @@ use Rattle.md_list.proofs.answers.FoundOn.{found_on}
 use Rattle.md_list.proofs.answers.Getting.{is_absent, is_there, noted_ok, value_data}
 use Rattle.md_list.proofs.answers.LookUps.{answered_so, found_exists, here_node, needs_read, shows_absent, shows_value}
 use Rattle.md_list.proofs.changes.Noted.{NotesOnly, notes_only}
-use Rattle.md_list.proofs.refusals.Refused.{note_full, note_limit, note_unstopped, reads_or_writes, refused_by, refused_else, refused_never, refused_within}
+use Rattle.md_list.proofs.refusals.Refused.{note_full, note_limit, note_unstopped, reads_or_writes, refused_by, refused_else, refused_never, refused_within, no_refusal}
 use Rattle.md_list.proofs.answers.Rows.{begun_walks, by_same, found_of}
 use Rattle.md_list.proofs.refusals.Stops.{answers_other, none_stood, note_stops, noted_stop_ok, passed_on, stop_after_ok}
 use Rattle.md_list.proofs.walking.Walked.{stop_leaves}
 use Rattle.md_list.specs.declared.walk.Found.{Found}
 use Rattle.md_history.specs.declared.stops.Limit.TheVariants.{Nodes, Reads, Writes}
 use Rattle.md_history.specs.declared.stops.Stop.TheVariants.{Limit as Limited}
+use Rattle.std.proofs.lemmas.Result.{IfOk-from_err}
 use Rattle.md_list.proofs.lookup.get.Goals as goal
 
 pub find-requires : goal.find-requires
@@ -315,3 +316,51 @@ returns-clause-stops g c =
     let none = stop_after_ok Found s t c.in_ok-found.found c.in_ok-found.ensures.stops in
     none_stood (Option ℕ) s u _ (u.stop ≡ None) none.0
     (noted_stop_ok g.T.Theory.meaning x u c.node_next-next_word.result c.in_ok-found.found.next c.in_ok-note-2.ensures.noted ∙ ap (λ y. y.stop) c.field_of-value.ensures.same ∙ none.1)
+
+pub returns-in_err-found-clause-pass : goal.returns-in_err-found-clause-pass
+returns-in_err-found-clause-pass g c = c.in_err-found.ensures.pass
+
+pub returns-in_err-note-clause-pass : goal.returns-in_err-note-clause-pass
+returns-in_err-note-clause-pass g c = c.in_err-note.ensures.pass ∙ c.in_ok-found.ensures.pass
+
+pub returns-then-not-found-clause-pass : goal.returns-then-not-found-clause-pass
+returns-then-not-found-clause-pass g c = c.in_ok-note.ensures.pass ∙ c.in_ok-found.ensures.pass
+
+pub returns-in_err-note-2-clause-pass : goal.returns-in_err-note-2-clause-pass
+returns-in_err-note-2-clause-pass g c = c.in_err-note-2.ensures.pass ∙ c.field_of-value.ensures.pass ∙ c.in_ok-found.ensures.pass
+
+pub returns-clause-pass : goal.returns-clause-pass
+returns-clause-pass g c = c.in_ok-note-2.ensures.pass ∙ c.field_of-value.ensures.pass ∙ c.in_ok-found.ensures.pass
+
+pub returns-in_err-found-clause-answer : goal.returns-in_err-found-clause-answer
+returns-in_err-found-clause-answer g c = IfOk-from_err c.from_residual.result _ c.from_residual.ensures.0
+
+pub returns-in_err-note-clause-answer : goal.returns-in_err-note-clause-answer
+returns-in_err-note-clause-answer g c = IfOk-from_err c.from_residual-in_err-note.result _ c.from_residual-in_err-note.ensures.0
+
+pub returns-in_err-note-2-clause-answer : goal.returns-in_err-note-2-clause-answer
+returns-in_err-note-2-clause-answer g c = IfOk-from_err c.from_residual-in_err-note-2.result _ c.from_residual-in_err-note-2.ensures.0
+
+pub returns-then-not-found-clause-no_read : goal.returns-then-not-found-clause-no_read
+returns-then-not-found-clause-no_read g c none is = no_refusal (Option ℕ) _ _ is
+
+pub returns-clause-no_read : goal.returns-clause-no_read
+returns-clause-no_read g c none is = no_refusal (Option ℕ) _ _ is
+
+pub returns-then-not-found-clause-no_slot : goal.returns-then-not-found-clause-no_slot
+returns-then-not-found-clause-no_slot g c none is = no_refusal (Option ℕ) _ _ is
+
+pub returns-clause-no_slot : goal.returns-clause-no_slot
+returns-clause-no_slot g c none is = no_refusal (Option ℕ) _ _ is
+
+pub note-requires-clause-going : goal.note-requires-clause-going
+note-requires-clause-going g c = (c.requires.begun.going.0, c.in_ok-found.ensures.leaves.on.going c.requires.begun.going.0 c.requires.begun.going.1)
+
+pub note-requires-clause-operates : goal.note-requires-clause-operates
+note-requires-clause-operates g c = c.in_ok-found.ensures.leaves.operates
+
+pub field_of-value-requires-clause-going : goal.field_of-value-requires-clause-going
+field_of-value-requires-clause-going g c = (c.requires.begun.going.0, c.in_ok-found.ensures.leaves.on.going c.requires.begun.going.0 c.requires.begun.going.1)
+
+pub note-requires-2-clause-operates : goal.note-requires-2-clause-operates
+note-requires-2-clause-operates g c = ap (λ x. x.hand.operating) c.field_of-value.ensures.same ∙ c.in_ok-found.ensures.leaves.operates

@@ -30,7 +30,7 @@ use Rattle.md_list.proofs.answers.LookUps.{answered_so, found_exists, here_node,
 use Rattle.md_list.proofs.walking.Marks.{mark_fits}
 use Rattle.md_list.proofs.answers.Removing.{goes_kept, keeps_unlink, marked_by, may_mark, needs_mark, none_yet, removed, written_for}
 use Rattle.md_list.proofs.changes.Noted.{notes_only}
-use Rattle.md_list.proofs.refusals.Refused.{exchange_full, exchange_reads, exchange_unstopped, note_full, note_limit, note_unstopped, reads_or_writes, refused_by, refused_else, refused_never, refused_within}
+use Rattle.md_list.proofs.refusals.Refused.{exchange_full, exchange_reads, exchange_unstopped, note_full, note_limit, note_unstopped, reads_or_writes, refused_by, refused_else, refused_never, refused_within, no_refusal}
 use Rattle.md_list.proofs.answers.Rows.{begun_walks, by_same, found_of}
 use Rattle.md_list.proofs.walking.Steps.{exchanged_ok, exchanged_reads}
 use Rattle.md_list.proofs.refusals.Stops.{answers_other, exchange_stops, exchanged_stop, none_stood, note_stops, noted_stop_ok, passed_on, stop_after_ok}
@@ -38,6 +38,7 @@ use Rattle.md_list.proofs.walking.Walked.{stop_leaves}
 use Rattle.md_list.specs.declared.walk.Found.{Found}
 use Rattle.md_history.specs.declared.stops.Limit.TheVariants.{Nodes, Reads, Writes}
 use Rattle.md_history.specs.declared.stops.Stop.TheVariants.{Limit as Limited}
+use Rattle.std.proofs.lemmas.Result.{IfOk-from_err}
 use Rattle.md_list.proofs.removal.remove.Goals as goal
 
 pub find-requires : goal.find-requires
@@ -393,3 +394,72 @@ returns-in_err-exchange-clause-no_slot g c =
     (subst (λ x. Known M v (λ w k. data_at k (place_at x c.node_value-value_word.result) ≡ c.field_of-value.result)) (sym shape) c.field_of-value.ensures.known)
     (omega arith) (ap (is_written (writes_in v)) (sym word_is) ∙ full.0) map
     (subst (λ x. IsHeadOf x map c.args.key c.args.head) (sym (shape_later s v goes.later)) is))))
+
+pub returns-in_err-found-clause-pass : goal.returns-in_err-found-clause-pass
+returns-in_err-found-clause-pass g c = c.in_err-found.ensures.pass
+
+pub returns-in_err-note-clause-pass : goal.returns-in_err-note-clause-pass
+returns-in_err-note-clause-pass g c = c.in_err-note.ensures.pass ∙ c.in_ok-found.ensures.pass
+
+pub returns-then-not-found-clause-pass : goal.returns-then-not-found-clause-pass
+returns-then-not-found-clause-pass g c = c.in_ok-note.ensures.pass ∙ c.in_ok-found.ensures.pass
+
+pub returns-in_err-exchange-clause-pass : goal.returns-in_err-exchange-clause-pass
+returns-in_err-exchange-clause-pass g c = c.in_err-exchange.ensures.pass ∙ c.field_of-value.ensures.pass ∙ c.in_ok-found.ensures.pass
+
+pub returns-clause-pass : goal.returns-clause-pass
+returns-clause-pass g c = c.later.ensures.pass ∙ c.in_ok-exchange.ensures.pass ∙ c.field_of-value.ensures.pass ∙ c.in_ok-found.ensures.pass
+
+pub returns-in_err-found-clause-marked : goal.returns-in_err-found-clause-marked
+returns-in_err-found-clause-marked g c = IfOk-from_err c.from_residual.result _ c.from_residual.ensures.0
+
+pub returns-in_err-found-clause-unlink : goal.returns-in_err-found-clause-unlink
+returns-in_err-found-clause-unlink g c = IfOk-from_err c.from_residual.result _ c.from_residual.ensures.0
+
+pub returns-in_err-found-clause-answer : goal.returns-in_err-found-clause-answer
+returns-in_err-found-clause-answer g c = IfOk-from_err c.from_residual.result _ c.from_residual.ensures.0
+
+pub returns-in_err-note-clause-marked : goal.returns-in_err-note-clause-marked
+returns-in_err-note-clause-marked g c = IfOk-from_err c.from_residual-in_err-note.result _ c.from_residual-in_err-note.ensures.0
+
+pub returns-in_err-note-clause-unlink : goal.returns-in_err-note-clause-unlink
+returns-in_err-note-clause-unlink g c = IfOk-from_err c.from_residual-in_err-note.result _ c.from_residual-in_err-note.ensures.0
+
+pub returns-in_err-note-clause-answer : goal.returns-in_err-note-clause-answer
+returns-in_err-note-clause-answer g c = IfOk-from_err c.from_residual-in_err-note.result _ c.from_residual-in_err-note.ensures.0
+
+pub returns-in_err-exchange-clause-marked : goal.returns-in_err-exchange-clause-marked
+returns-in_err-exchange-clause-marked g c = IfOk-from_err c.from_residual-in_err-exchange.result _ c.from_residual-in_err-exchange.ensures.0
+
+pub returns-in_err-exchange-clause-unlink : goal.returns-in_err-exchange-clause-unlink
+returns-in_err-exchange-clause-unlink g c = IfOk-from_err c.from_residual-in_err-exchange.result _ c.from_residual-in_err-exchange.ensures.0
+
+pub returns-in_err-exchange-clause-answer : goal.returns-in_err-exchange-clause-answer
+returns-in_err-exchange-clause-answer g c = IfOk-from_err c.from_residual-in_err-exchange.result _ c.from_residual-in_err-exchange.ensures.0
+
+pub returns-then-not-found-clause-marked : goal.returns-then-not-found-clause-marked
+returns-then-not-found-clause-marked g c = tt
+
+pub returns-then-not-found-clause-unlink : goal.returns-then-not-found-clause-unlink
+returns-then-not-found-clause-unlink g c = tt
+
+pub returns-then-not-found-clause-no_read : goal.returns-then-not-found-clause-no_read
+returns-then-not-found-clause-no_read g c none is = no_refusal (Option ℕ) _ _ is
+
+pub returns-clause-no_read : goal.returns-clause-no_read
+returns-clause-no_read g c none is = no_refusal (Option ℕ) _ _ is
+
+pub returns-then-not-found-clause-no_slot : goal.returns-then-not-found-clause-no_slot
+returns-then-not-found-clause-no_slot g c none is = no_refusal (Option ℕ) _ _ is
+
+pub returns-clause-no_slot : goal.returns-clause-no_slot
+returns-clause-no_slot g c none is = no_refusal (Option ℕ) _ _ is
+
+pub note-requires-clause-going : goal.note-requires-clause-going
+note-requires-clause-going g c = (c.requires.begun.going.0, c.in_ok-found.ensures.leaves.on.going c.requires.begun.going.0 c.requires.begun.going.1)
+
+pub note-requires-clause-operates : goal.note-requires-clause-operates
+note-requires-clause-operates g c = c.in_ok-found.ensures.leaves.operates
+
+pub field_of-value-requires-clause-going : goal.field_of-value-requires-clause-going
+field_of-value-requires-clause-going g c = (c.requires.begun.going.0, c.in_ok-found.ensures.leaves.on.going c.requires.begun.going.0 c.requires.begun.going.1)

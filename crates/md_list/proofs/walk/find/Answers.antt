@@ -13,7 +13,7 @@ use Rattle.md_list.proofs.walking.MarkedNext.{may_unlink}
 use Rattle.md_list.proofs.walking.OnNode.{named_exists}
 use Rattle.md_list.proofs.walking.Steps.{exchanged_ok, head_counted, head_looked, key_data, key_is, looked_ok, next_is, next_looked, node_is, unlinked_ok, walked_exchange, walked_same}
 use Rattle.md_list.proofs.refusals.Stops.{answers_other, exchange_stops, exchanged_stop, look_other, look_stops, none_stands, none_stood, ok_unstopped, passed_on}
-use Rattle.md_list.proofs.refusals.Refused.{exchange_full, exchange_reads, look_unlimited, never_refused, refused_by, refused_else}
+use Rattle.md_list.proofs.refusals.Refused.{exchange_full, exchange_reads, look_unlimited, never_refused, refused_by, refused_else, no_refusal}
 use Rattle.md_list.proofs.refusals.Would.{needs_unlink, unlink_of_walk}
 use Rattle.md_list.proofs.walking.Walked.{has_stop, stop_leaves, walk_leaves, walked_one}
 use Rattle.md_list.proofs.charges.Adding.{goes_over, leaves_none}
@@ -29,6 +29,7 @@ use Rattle.md_machine.proofs.chain.SameNodes.{next_counted}
 use Rattle.md_list_law.specs.ListShape.{next_word}
 use Rattle.md_list.proofs.walking.Keyed.{key_finds, key_walks}
 use Rattle.md_list.proofs.walk.find.Goals.{then-next, else-next}
+use Rattle.std.proofs.lemmas.Result.{IfOk-from_err}
 use Rattle.md_list.proofs.walk.find.Goals as goal
 
 pub load-requires-clause-counted : goal.load-requires-clause-counted
@@ -422,3 +423,33 @@ returns-in_err-at-2-clause-no_slot g c =
     unlink_of_walk M s u c.args.head goes.later w o.0.stands.walking (o.1 ∙ (i.stands w).1)
     (needs_unlink M g.T.Theory.lawful g.met.T.HasLists.has_lists u c.args.head c.args.key i.visited prev at next o.0 (odd_is_marked next.value c.if-next-eq1.true) i.small kind
     (elim c.if-next.branch [ then-next b ↦ inl b.if-next.true | else-next b ↦ inr b.kind-is ]) full.0 full.1))
+
+pub load-requires-clause-going : goal.load-requires-clause-going
+load-requires-clause-going g c = (c.requires.walking.certificates, c.requires.walking.going)
+
+pub returns-in_err-at-clause-found : goal.returns-in_err-at-clause-found
+returns-in_err-at-clause-found g c = IfOk-from_err c.from_residual.result _ c.from_residual.ensures.0
+
+pub returns-in_err-next-clause-found : goal.returns-in_err-next-clause-found
+returns-in_err-next-clause-found g c = IfOk-from_err c.from_residual-in_err-next.result _ c.from_residual-in_err-next.ensures.0
+
+pub returns-in_err-at-2-clause-found : goal.returns-in_err-at-2-clause-found
+returns-in_err-at-2-clause-found g c = IfOk-from_err c.from_residual-in_err-at-2.result _ c.from_residual-in_err-at-2.ensures.0
+
+pub returns-then-node_key-key-clause-no_read : goal.returns-then-node_key-key-clause-no_read
+returns-then-node_key-key-clause-no_read g c none is = no_refusal Found _ _ is
+
+pub returns-then-node_key-key-clause-no_slot : goal.returns-then-node_key-key-clause-no_slot
+returns-then-node_key-key-clause-no_slot g c none is = no_refusal Found _ _ is
+
+pub returns-after-loop-clause-no_read : goal.returns-after-loop-clause-no_read
+returns-after-loop-clause-no_read g c none is = no_refusal Found _ _ is
+
+pub returns-after-loop-clause-no_slot : goal.returns-after-loop-clause-no_slot
+returns-after-loop-clause-no_slot g c none is = no_refusal Found _ _ is
+
+pub returns-then-node-eq0-clause-no_read : goal.returns-then-node-eq0-clause-no_read
+returns-then-node-eq0-clause-no_read g c none is = no_refusal Found _ _ is
+
+pub returns-then-node-eq0-clause-no_slot : goal.returns-then-node-eq0-clause-no_slot
+returns-then-node-eq0-clause-no_slot g c none is = no_refusal Found _ _ is
