@@ -132,6 +132,25 @@ refused_after M s t u a b c d e f x y z stop goes next reads writes nodes =
     let is = next goes.leaves.operates in
     record { leaves = leaves_then M s t u a b c d e f x y z goes.leaves is.leaves reads writes nodes; kept = is.kept }
 
+-- within wider bounds
+pub refused_within : (M : Meaning) (t u : TxnState) (a b c x y z : ℕ) (stop : Stop) → Refused M t u a b c stop → a ≤ x → b ≤ y → c ≤ z → Refused M t u x y z stop
+refused_within M t u a b c x y z stop is reads writes nodes =
+    let r = is.leaves.reads_few in
+    let w = is.leaves.writes_few in
+    let n = is.leaves.nodes_few in
+    record {
+      leaves = record {
+        on = is.leaves.on;
+        stay = is.leaves.stay;
+        acts = is.leaves.acts;
+        operates = is.leaves.operates;
+        reads_few = omega (arith, r, reads);
+        writes_few = omega (arith, w, writes);
+        nodes_few = omega (arith, n, nodes);
+      };
+      kept = is.kept;
+    }
+
 -- where no node more was taken, the own nodes are the same
 pub no_more_nodes : (t u : TxnState) → IsPrefix t.nodes u.nodes → length u.nodes ≤ length t.nodes + 0 → u.nodes ≡ t.nodes
 no_more_nodes t u first few = first.is ∙ none first.rest (let l = ap (λ (x : List OwnNode). length x) first.is ∙ length-append t.nodes first.rest in omega (arith, l, few))

@@ -25,7 +25,7 @@ use Rattle.md_nbtc_law.proofs.preparing.Heaps.{later_self}
 use Rattle.md_nbtc_law.proofs.preparing.Later.{later_over}
 use Rattle.md_nbtc_law.proofs.structures.Answering.{IsStopped, exchange_refused, note_refused}
 use Rattle.md_nbtc_law.proofs.structures.NodesKnown.{shape_later}
-use Rattle.md_queue.specs.Operations.{GoesBy, RecordsAmong, words_recorded}
+use Rattle.md_queue.specs.Operations.{GoesBy, RecordsAmong, StaysStopped, words_recorded}
 use Rattle.md_queue.specs.Refusals.{AsksLine, BeganAlone, ChangeRefused, MoveRefused, ReadRefused, WasRefused}
 use Rattle.md_queue.proofs.Among.{among_from, no_more_reads}
 
@@ -133,6 +133,19 @@ pub if_err : {A : Type 0} (result : Result A Stop) (stop : Stop) (P : Stop → T
 if_err {A} result stop P is holds =
     let e = err_from_is_err_and result is in
     subst (λ r. IfErr r P) (sym (e.1 ∙ ap (λ x. let r : Result A Stop = Err x in r) e.2)) holds
+
+-- a stop that stood before a call is the call's answer, and an operation passes it on
+pub after_stays : {A : Type 0} (t u : TxnState) (stop : Stop) (P : Type 0) → AfterStop t.stop t u (let r : Result A Stop = Err stop in r) P → StaysStopped t u (let r : Result A Stop = Err stop in r)
+after_stays {A} t u stop P after s is = subst (λ o. AfterStop o t u (let r : Result A Stop = Err stop in r) P) is after
+
+pub stays_on : {A B : Type 0} (t u : TxnState) (result : Result B Stop) (stop : Stop) → IsErrAnd result (λ e. e ≡ stop) → StaysStopped t u (let r : Result A Stop = Err stop in r) → StaysStopped t u result
+stays_on {A} {B} t u result stop is stays s some =
+    let e = err_from_is_err_and result is in
+    let old = stays s some in
+    (e.1 ∙ ap (λ x. let r : Result B Stop = Err x in r) (e.2 ∙ same old.0), old.1)
+  where
+    same : (let r : Result A Stop = Err stop in r) ≡ Err s → stop ≡ s
+    same e = cc e
 
 -- after other calls
 pub began_on : (M : Meaning) (t u : TxnState) (a b c : ℕ) → GoesBy M t u a b c → BeganAlone t → BeganAlone u

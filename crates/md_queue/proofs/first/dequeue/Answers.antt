@@ -1,4 +1,4 @@
-use Rattle.std.proofs.Common.{arith, rules, ◌∙◌}
+use Rattle.std.proofs.Common.{arith, ◌∙◌}
 use Rattle.md_nbtc.specs.State.{state}
 use Rattle.md_queue.specs.Operations.{RefusedOtherwise, words_recorded}
 use Rattle.md_queue.specs.Working.{first_words}
@@ -9,7 +9,8 @@ use Rattle.std.proofs.Common.{inl, inr}
 use Rattle.md_history.specs.declared.acts.Op.TheVariants.{Dequeue}
 use Rattle.md_history.specs.declared.stops.Limit.TheVariants.{Reads, Writes}
 use Rattle.md_queue.specs.Refusals.{AsksFront}
-use Rattle.md_queue.proofs.Refusing.{began_on, change_from, move_from, not_by, read_from, if_err}
+use Rattle.md_queue.proofs.Refusing.{began_on, change_from, move_from, not_by, read_from, if_err, stays_on}
+use Rattle.std.proofs.lemmas.Result.{IfOk-from_err}
 use Rattle.md_queue.proofs.first.dequeue.Goals as goal
 
 pub note_first-requires : goal.note_first-requires
@@ -48,7 +49,7 @@ returns-in_err-follow_tail-clause-stop g c =
     let u = state c.follow_tail.new.tx in
     let stop = c.in_err-follow_tail.field-0.0 in
     let refused : RefusedOtherwise M s u 2 2 stop = refused_then M s t u 0 0 0 1 2 2 stop c.in_ok-first.ensures.goes (λ _. c.in_err-follow_tail.ensures.stop) (omega arith) (omega arith) in
-    search rules
+    if_err c.from_residual-in_err-follow_tail.result stop _ c.from_residual-in_err-follow_tail.ensures.1 refused
 
 pub returns-in_err-value-clause-stop : goal.returns-in_err-value-clause-stop
 returns-in_err-value-clause-stop g c =
@@ -60,7 +61,7 @@ returns-in_err-value-clause-stop g c =
     let stop = c.in_err-value.field-0.0 in
     let refused : RefusedOtherwise M s v 2 2 stop = refused_then M s u v 0 1 1 1 2 2 stop
     (goes_then M s t u 0 0 0 0 1 0 0 1 0 c.in_ok-first.ensures.goes (λ _. c.in_ok-follow_tail.ensures.goes) (omega arith) (omega arith) (omega arith)) (λ _. c.in_err-value.ensures.stop) (omega arith) (omega arith) in
-    search rules
+    if_err c.from_residual-in_err-value.result stop _ c.from_residual-in_err-value.ensures.1 refused
 
 pub returns-clause-answer : goal.returns-clause-answer
 returns-clause-answer g c =
@@ -107,7 +108,7 @@ returns-in_err-note_first-clause-stop g c =
     let u = state c.note_first.new.tx in
     let stop = c.in_err-note_first.field-0.0 in
     let refused : RefusedOtherwise M s u 2 2 stop = refused_then M s t u 0 0 2 0 2 2 stop c.in_ok-first.ensures.goes (λ _. c.in_err-note_first.ensures.stop) (omega arith) (omega arith) in
-    search rules
+    if_err c.from_residual-in_err-note_first.result stop _ c.from_residual-in_err-note_first.ensures.1 refused
 
 pub returns-in_err-note_first-clause-reads : goal.returns-in_err-note_first-clause-reads
 returns-in_err-note_first-clause-reads g c =
@@ -199,3 +200,70 @@ returns-in_err-first-clause-reads g c = if_err c.from_residual.result c.in_err-f
 pub returns-in_err-first-clause-writes : goal.returns-in_err-first-clause-writes
 returns-in_err-first-clause-writes g c = if_err c.from_residual.result c.in_err-first.field-0.0 _ c.from_residual.ensures.1
     (λ limit began. not_by (state c.args.tx.now) c.in_err-first.field-0.0 began.unstopped (c.in_err-first.ensures.limits Writes limit))
+
+pub load_first-requires : goal.load_first-requires
+load_first-requires g c = record { begun = c.requires.begun }
+
+pub returns-in_err-first-clause-pass : goal.returns-in_err-first-clause-pass
+returns-in_err-first-clause-pass g c = c.in_err-first.ensures.pass
+
+pub returns-in_err-first-clause-answer : goal.returns-in_err-first-clause-answer
+returns-in_err-first-clause-answer g c = IfOk-from_err c.from_residual.result _ c.from_residual.ensures.0
+
+pub returns-in_err-first-clause-tail : goal.returns-in_err-first-clause-tail
+returns-in_err-first-clause-tail g c = IfOk-from_err c.from_residual.result _ c.from_residual.ensures.0
+
+pub returns-in_err-first-clause-stopped : goal.returns-in_err-first-clause-stopped
+returns-in_err-first-clause-stopped g c = stays_on (state c.args.tx.now) (state c.load_first.new.tx) c.from_residual.result c.in_err-first.field-0.0 c.from_residual.ensures.1
+    (c.in_err-first.ensures.stopped)
+
+pub returns-in_err-note_first-clause-answer : goal.returns-in_err-note_first-clause-answer
+returns-in_err-note_first-clause-answer g c = IfOk-from_err c.from_residual-in_err-note_first.result _ c.from_residual-in_err-note_first.ensures.0
+
+pub returns-in_err-note_first-clause-tail : goal.returns-in_err-note_first-clause-tail
+returns-in_err-note_first-clause-tail g c = IfOk-from_err c.from_residual-in_err-note_first.result _ c.from_residual-in_err-note_first.ensures.0
+
+pub returns-then-first-eq0-clause-tail : goal.returns-then-first-eq0-clause-tail
+returns-then-first-eq0-clause-tail g c = tt
+
+pub returns-then-first-eq0-clause-stop : goal.returns-then-first-eq0-clause-stop
+returns-then-first-eq0-clause-stop g c = tt
+
+pub returns-then-first-eq0-clause-reads : goal.returns-then-first-eq0-clause-reads
+returns-then-first-eq0-clause-reads g c = tt
+
+pub returns-then-first-eq0-clause-writes : goal.returns-then-first-eq0-clause-writes
+returns-then-first-eq0-clause-writes g c = tt
+
+pub follow_tail-requires-clause-some : goal.follow_tail-requires-clause-some
+follow_tail-requires-clause-some g c = c.if-first-eq0.false
+
+pub returns-in_err-follow_tail-clause-answer : goal.returns-in_err-follow_tail-clause-answer
+returns-in_err-follow_tail-clause-answer g c = IfOk-from_err c.from_residual-in_err-follow_tail.result _ c.from_residual-in_err-follow_tail.ensures.0
+
+pub returns-in_err-follow_tail-clause-tail : goal.returns-in_err-follow_tail-clause-tail
+returns-in_err-follow_tail-clause-tail g c = IfOk-from_err c.from_residual-in_err-follow_tail.result _ c.from_residual-in_err-follow_tail.ensures.0
+
+pub take_first-requires-clause-some : goal.take_first-requires-clause-some
+take_first-requires-clause-some g c = c.if-first-eq0.false
+
+pub take_first-requires-clause-apart : goal.take_first-requires-clause-apart
+take_first-requires-clause-apart g c = c.in_ok-follow_tail.ensures.apart
+
+pub returns-in_err-value-clause-answer : goal.returns-in_err-value-clause-answer
+returns-in_err-value-clause-answer g c = IfOk-from_err c.from_residual-in_err-value.result _ c.from_residual-in_err-value.ensures.0
+
+pub returns-in_err-value-clause-tail : goal.returns-in_err-value-clause-tail
+returns-in_err-value-clause-tail g c = IfOk-from_err c.from_residual-in_err-value.result _ c.from_residual-in_err-value.ensures.0
+
+pub returns-clause-tail : goal.returns-clause-tail
+returns-clause-tail g c = c.in_ok-value.ensures.tail
+
+pub returns-clause-stop : goal.returns-clause-stop
+returns-clause-stop g c = tt
+
+pub returns-clause-reads : goal.returns-clause-reads
+returns-clause-reads g c = tt
+
+pub returns-clause-writes : goal.returns-clause-writes
+returns-clause-writes g c = tt

@@ -1,4 +1,4 @@
-use Rattle.std.proofs.Common.{ap, sym, subst, ◌∙◌, arith, rules}
+use Rattle.std.proofs.Common.{ap, sym, subst, ◌∙◌, arith}
 use Rattle.md_words.specs.Layout.{address}
 use Rattle.md_words.specs.Place.{queue_tail}
 use Rattle.md_words.specs.PlaceAt.{IsCounted}
@@ -9,13 +9,14 @@ use Rattle.md_queue.specs.Operations.{RefusedOtherwise}
 use Rattle.md_queue.specs.Words.{move_kind, tail_at}
 use Rattle.md_queue.proofs.Following.{first_moved, first_stays, may_follow, moved_apart, tail_seen}
 use Rattle.md_queue.proofs.Looking.{tail_counted}
-use Rattle.md_queue.proofs.Steps.{exchange_goes, exchange_ok, exchange_stops, goes_then, goes_up, look_goes, look_ok, look_stops, refused_then, refused_up}
-use Rattle.md_history.specs.declared.stops.Limit.TheVariants.{Writes}
+use Rattle.md_queue.proofs.Steps.{exchange_goes, exchange_ok, exchange_stops, goes_then, goes_up, look_goes, look_ok, look_stops, refused_then, refused_up, exchange_no_reads}
+use Rattle.md_history.specs.declared.stops.Limit.TheVariants.{Writes, Reads}
 use Rattle.md_history.specs.declared.stops.Stop.TheVariants.{Limit as Limited}
 use Rattle.std.proofs.Common.{◌<◌, ◌^◌}
 use Rattle.md_queue.proofs.Following.{follow_refused}
 use Rattle.md_queue.proofs.Refusing.{began_on, exchange_critical, exchange_unwritten, exchange_was, not_by, was_after, if_err}
 use Rattle.md_queue.proofs.Steps.{look_not_by}
+use Rattle.std.proofs.lemmas.Result.{IfOk-from_err}
 use Rattle.md_queue.proofs.first.follow_tail.Goals as goal
 
 pub load-requires-clause-counted : goal.load-requires-clause-counted
@@ -34,7 +35,7 @@ returns-in_err-tail-clause-stop g c =
     let stop = c.in_err-tail.field-0.0 in
     let refused : RefusedOtherwise M t u 0 1 stop = refused_up M t u 0 0 0 1 stop
     (look_stops M t u c.in_err-tail.ensures.on c.queue_tail-tail_word.result stop c.in_err-tail.ensures.looked s.working.operates) (omega arith) (omega arith) in
-    search rules
+    if_err c.from_residual.result stop _ c.from_residual.ensures.1 refused
 
 pub move_tail-requires : goal.move_tail-requires
 move_tail-requires g c =
@@ -71,7 +72,7 @@ returns-in_err-move_tail-clause-stop g c =
     (look_goes M t u on c.queue_tail-tail_word.result tail c.in_ok-tail.ensures.looked s.working.operates)
     (exchange_stops M u v c.in_err-move_tail.ensures.on (tail_at u c.args.queue) tail c.args.first.next.value (move_kind c.args.first.next) stop
     c.in_err-move_tail.ensures.exchanged) (omega arith) (omega arith) in
-    search rules
+    if_err c.from_residual-in_err-move_tail.result stop _ c.from_residual-in_err-move_tail.ensures.1 refused
 
 pub returns-in_ok-move_tail-clause-goes : goal.returns-in_ok-move_tail-clause-goes
 returns-in_ok-move_tail-clause-goes g c =
@@ -200,3 +201,63 @@ returns-in_err-tail-clause-writes g c =
     let stop = c.in_err-tail.field-0.0 in
     if_err c.from_residual.result stop _ c.from_residual.ensures.1 (λ limit began. not_by t stop began.unstopped
     (look_not_by M t u c.in_err-tail.ensures.on c.queue_tail-tail_word.result stop c.in_err-tail.ensures.looked Writes limit))
+
+pub load-requires-clause-going : goal.load-requires-clause-going
+load-requires-clause-going g c = (c.requires.sees.0, c.requires.sees.1.working.going)
+
+pub returns-in_err-tail-clause-pass : goal.returns-in_err-tail-clause-pass
+returns-in_err-tail-clause-pass g c = c.in_err-tail.ensures.pass
+
+pub returns-in_err-tail-clause-goes : goal.returns-in_err-tail-clause-goes
+returns-in_err-tail-clause-goes g c = IfOk-from_err c.from_residual.result _ c.from_residual.ensures.0
+
+pub returns-in_err-tail-clause-sees : goal.returns-in_err-tail-clause-sees
+returns-in_err-tail-clause-sees g c = IfOk-from_err c.from_residual.result _ c.from_residual.ensures.0
+
+pub returns-in_err-tail-clause-apart : goal.returns-in_err-tail-clause-apart
+returns-in_err-tail-clause-apart g c = IfOk-from_err c.from_residual.result _ c.from_residual.ensures.0
+
+pub returns-in_err-tail-clause-no_reads : goal.returns-in_err-tail-clause-no_reads
+returns-in_err-tail-clause-no_reads g c = if_err c.from_residual.result c.in_err-tail.field-0.0 _ c.from_residual.ensures.1
+    (look_not_by g.T.Theory.meaning (state c.args.tx.now) (state c.load.new.self) c.in_err-tail.ensures.on c.queue_tail-tail_word.result c.in_err-tail.field-0.0 c.in_err-tail.ensures.looked Reads)
+
+pub returns-in_err-move_tail-clause-pass : goal.returns-in_err-move_tail-clause-pass
+returns-in_err-move_tail-clause-pass g c = c.in_err-move_tail.ensures.pass ∙ c.in_ok-tail.ensures.pass
+
+pub returns-in_err-move_tail-clause-goes : goal.returns-in_err-move_tail-clause-goes
+returns-in_err-move_tail-clause-goes g c = IfOk-from_err c.from_residual-in_err-move_tail.result _ c.from_residual-in_err-move_tail.ensures.0
+
+pub returns-in_err-move_tail-clause-sees : goal.returns-in_err-move_tail-clause-sees
+returns-in_err-move_tail-clause-sees g c = IfOk-from_err c.from_residual-in_err-move_tail.result _ c.from_residual-in_err-move_tail.ensures.0
+
+pub returns-in_err-move_tail-clause-apart : goal.returns-in_err-move_tail-clause-apart
+returns-in_err-move_tail-clause-apart g c = IfOk-from_err c.from_residual-in_err-move_tail.result _ c.from_residual-in_err-move_tail.ensures.0
+
+pub returns-in_err-move_tail-clause-no_reads : goal.returns-in_err-move_tail-clause-no_reads
+returns-in_err-move_tail-clause-no_reads g c = if_err c.from_residual-in_err-move_tail.result c.in_err-move_tail.field-0.0 _ c.from_residual-in_err-move_tail.ensures.1
+    (λ limit. sym (look_goes g.T.Theory.meaning (state c.args.tx.now) (state c.load.new.self) c.in_ok-tail.ensures.on c.queue_tail-tail_word.result c.in_ok-tail.tail c.in_ok-tail.ensures.looked c.requires.sees.1.working.operates).same_stop
+    ∙ exchange_no_reads g.T.Theory.meaning (state c.load.new.self) (state c.move_tail.new.tx) c.in_err-move_tail.ensures.on (tail_at (state c.load.new.self) c.args.queue) c.in_ok-tail.tail c.args.first.next.value (move_kind c.args.first.next) c.in_err-move_tail.field-0.0 c.in_err-move_tail.ensures.exchanged limit)
+
+pub returns-in_ok-move_tail-clause-pass : goal.returns-in_ok-move_tail-clause-pass
+returns-in_ok-move_tail-clause-pass g c = c.in_ok-move_tail.ensures.pass ∙ c.in_ok-tail.ensures.pass
+
+pub returns-in_ok-move_tail-clause-stop : goal.returns-in_ok-move_tail-clause-stop
+returns-in_ok-move_tail-clause-stop g c = tt
+
+pub returns-in_ok-move_tail-clause-writes : goal.returns-in_ok-move_tail-clause-writes
+returns-in_ok-move_tail-clause-writes g c = tt
+
+pub returns-in_ok-move_tail-clause-no_reads : goal.returns-in_ok-move_tail-clause-no_reads
+returns-in_ok-move_tail-clause-no_reads g c = tt
+
+pub returns-else-tail-first-clause-pass : goal.returns-else-tail-first-clause-pass
+returns-else-tail-first-clause-pass g c = c.in_ok-tail.ensures.pass
+
+pub returns-else-tail-first-clause-stop : goal.returns-else-tail-first-clause-stop
+returns-else-tail-first-clause-stop g c = tt
+
+pub returns-else-tail-first-clause-writes : goal.returns-else-tail-first-clause-writes
+returns-else-tail-first-clause-writes g c = tt
+
+pub returns-else-tail-first-clause-no_reads : goal.returns-else-tail-first-clause-no_reads
+returns-else-tail-first-clause-no_reads g c = tt

@@ -1,4 +1,4 @@
-use Rattle.std.proofs.Common.{rules, ◌≡◌, [], ◌∷◌, sym, subst, ◌∙◌, arith}
+use Rattle.std.proofs.Common.{◌≡◌, [], ◌∷◌, sym, subst, ◌∙◌, arith}
 use Rattle.md_history.specs.declared.stops.Limit.TheVariants.{Reads, Writes}
 use Rattle.md_words.specs.declared.shape.Shape.{Shape}
 use Rattle.md_words.specs.Layout.{address}
@@ -16,7 +16,8 @@ use Rattle.md_queue.proofs.Firsts.{first_among, front_none, front_some}
 use Rattle.md_queue.proofs.Looking.{node_readable}
 use Rattle.md_queue.proofs.Steps.{goes_then, pass_goes, refused_then, refused_up, unstopped}
 use Rattle.md_queue.specs.Refusals.{AsksFront}
-use Rattle.md_queue.proofs.Refusing.{began_on, not_by, read_from, if_err}
+use Rattle.md_queue.proofs.Refusing.{began_on, not_by, read_from, if_err, stays_on}
+use Rattle.std.proofs.lemmas.Result.{IfOk-from_err}
 use Rattle.md_queue.proofs.first.front.Goals as goal
 
 pub note_first-requires : goal.note_first-requires
@@ -87,7 +88,7 @@ returns-in_err-note_first-clause-stop g c =
     let u = state c.note_first.new.tx in
     let stop = c.in_err-note_first.field-0.0 in
     let refused : RefusedOtherwise M s u 2 0 stop = refused_then M s t u 0 0 2 0 2 0 stop c.in_ok-first.ensures.goes (λ _. c.in_err-note_first.ensures.stop) (omega arith) (omega arith) in
-    search rules
+    if_err c.from_residual-in_err-note_first.result stop _ c.from_residual-in_err-note_first.ensures.1 refused
 
 pub returns-in_err-note_first-clause-reads : goal.returns-in_err-note_first-clause-reads
 returns-in_err-note_first-clause-reads g c =
@@ -123,3 +124,37 @@ returns-in_err-first-clause-no_writes g c = if_err c.from_residual.result c.in_e
 pub returns-in_err-note_first-clause-no_writes : goal.returns-in_err-note_first-clause-no_writes
 returns-in_err-note_first-clause-no_writes g c = if_err c.from_residual-in_err-note_first.result c.in_err-note_first.field-0.0 _ c.from_residual-in_err-note_first.ensures.1
     (λ limit. sym c.in_ok-first.ensures.goes.same_stop ∙ c.in_err-note_first.ensures.no_writes limit)
+
+pub load_first-requires : goal.load_first-requires
+load_first-requires g c = record { begun = c.requires.begun }
+
+pub returns-in_err-first-clause-pass : goal.returns-in_err-first-clause-pass
+returns-in_err-first-clause-pass g c = c.in_err-first.ensures.pass
+
+pub returns-in_err-first-clause-answer : goal.returns-in_err-first-clause-answer
+returns-in_err-first-clause-answer g c = IfOk-from_err c.from_residual.result _ c.from_residual.ensures.0
+
+pub returns-in_err-first-clause-stopped : goal.returns-in_err-first-clause-stopped
+returns-in_err-first-clause-stopped g c = stays_on (state c.args.tx.now) (state c.load_first.new.tx) c.from_residual.result c.in_err-first.field-0.0 c.from_residual.ensures.1
+    (c.in_err-first.ensures.stopped)
+
+pub returns-in_err-note_first-clause-answer : goal.returns-in_err-note_first-clause-answer
+returns-in_err-note_first-clause-answer g c = IfOk-from_err c.from_residual-in_err-note_first.result _ c.from_residual-in_err-note_first.ensures.0
+
+pub returns-then-first-eq0-clause-stop : goal.returns-then-first-eq0-clause-stop
+returns-then-first-eq0-clause-stop g c = tt
+
+pub returns-then-first-eq0-clause-reads : goal.returns-then-first-eq0-clause-reads
+returns-then-first-eq0-clause-reads g c = tt
+
+pub returns-then-first-eq0-clause-no_writes : goal.returns-then-first-eq0-clause-no_writes
+returns-then-first-eq0-clause-no_writes g c = tt
+
+pub returns-clause-stop : goal.returns-clause-stop
+returns-clause-stop g c = tt
+
+pub returns-clause-reads : goal.returns-clause-reads
+returns-clause-reads g c = tt
+
+pub returns-clause-no_writes : goal.returns-clause-no_writes
+returns-clause-no_writes g c = tt

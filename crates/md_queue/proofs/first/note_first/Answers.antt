@@ -1,4 +1,4 @@
-use Rattle.std.proofs.Common.{◌/◌, [], ◌∷◌, ap, sym, subst, ◌∙◌, arith, rules}
+use Rattle.std.proofs.Common.{◌/◌, [], ◌∷◌, ap, sym, subst, ◌∙◌, arith}
 use Rattle.md_words.specs.Layout.{IsNode, address}
 use Rattle.md_words.specs.Link.{linked_node}
 use Rattle.md_words.specs.Place.{node_next, queue_head}
@@ -13,13 +13,14 @@ use Rattle.md_queue.specs.Words.{head_at, next_at}
 use Rattle.md_queue.proofs.Among.{among_then}
 use Rattle.md_queue.proofs.Data.{half_is}
 use Rattle.md_queue.proofs.Firsts.{noted_first, noted_head}
-use Rattle.md_queue.proofs.Steps.{goes_then, note_among, note_goes, note_ok, note_stops, refused_then, refused_up}
-use Rattle.md_history.specs.declared.stops.Limit.TheVariants.{Reads}
+use Rattle.md_queue.proofs.Steps.{goes_then, note_among, note_goes, note_ok, note_stops, refused_then, refused_up, note_not_by}
+use Rattle.md_history.specs.declared.stops.Limit.TheVariants.{Reads, Writes}
 use Rattle.md_history.specs.declared.stops.Stop.TheVariants.{Limit as Limited}
 use Rattle.std.proofs.Common.{◌<◌, ◌^◌, refl}
 use Rattle.md_nbtc_law.proofs.preparing.Heaps.{later_self}
 use Rattle.md_queue.proofs.Full.{head_full, next_full}
 use Rattle.md_queue.proofs.Refusing.{began_on, note_unread, note_unwritten, note_was, was_after, if_err}
+use Rattle.std.proofs.lemmas.Result.{IfOk-from_err}
 use Rattle.md_queue.proofs.first.note_first.Goals as goal
 
 pub note-requires-clause-found : goal.note-requires-clause-found
@@ -43,7 +44,7 @@ returns-in_err-note-clause-stop g c =
     let stop = c.in_err-note.field-0.0 in
     let refused : RefusedOtherwise M t u 2 0 stop = refused_up M t u 0 0 2 0 stop
     (note_stops M t u c.in_err-note.ensures.on c.queue_head-head_word.result c.args.first.head stop c.in_err-note.ensures.noted s.working.operates) (omega arith) (omega arith) in
-    search rules
+    if_err c.from_residual.result stop _ c.from_residual.ensures.1 refused
 
 pub note_next-requires : goal.note_next-requires
 note_next-requires g c =
@@ -81,7 +82,7 @@ returns-in_err-note_next-clause-stop g c =
     (note_goes M t u on c.queue_head-head_word.result first.head c.in_ok-note.ensures.noted s.working.operates)
     (note_stops M u v c.in_err-note_next.ensures.on (next_at u (first.head.value / 2)) first.next stop c.in_err-note_next.ensures.noted)
     (omega arith) (omega arith) in
-    search rules
+    if_err c.from_residual-in_err-note_next.result stop _ c.from_residual-in_err-note_next.ensures.1 refused
 
 pub returns-clause-goes : goal.returns-clause-goes
 returns-clause-goes g c =
@@ -173,3 +174,54 @@ returns-in_err-note_next-clause-reads g c =
           (λ h of. n.head_noted.value u (later_self u) n.working.going.prepared h of ∙ n.head_named.is)
           (subst (λ w. RecordsAmong t u (w ∷ [])) at_u among),
     ))
+
+pub note-requires-clause-going : goal.note-requires-clause-going
+note-requires-clause-going g c = (c.requires.sees.0, c.requires.sees.1.working.going)
+
+pub note-requires-clause-operates : goal.note-requires-clause-operates
+note-requires-clause-operates g c = c.requires.sees.1.working.operates
+
+pub returns-in_err-note-clause-pass : goal.returns-in_err-note-clause-pass
+returns-in_err-note-clause-pass g c = c.in_err-note.ensures.pass
+
+pub returns-in_err-note-clause-goes : goal.returns-in_err-note-clause-goes
+returns-in_err-note-clause-goes g c = IfOk-from_err c.from_residual.result _ c.from_residual.ensures.0
+
+pub returns-in_err-note-clause-among : goal.returns-in_err-note-clause-among
+returns-in_err-note-clause-among g c = IfOk-from_err c.from_residual.result _ c.from_residual.ensures.0
+
+pub returns-in_err-note-clause-noted : goal.returns-in_err-note-clause-noted
+returns-in_err-note-clause-noted g c = IfOk-from_err c.from_residual.result _ c.from_residual.ensures.0
+
+pub returns-in_err-note-clause-no_writes : goal.returns-in_err-note-clause-no_writes
+returns-in_err-note-clause-no_writes g c = if_err c.from_residual.result c.in_err-note.field-0.0 _ c.from_residual.ensures.1
+    (note_not_by g.T.Theory.meaning (state c.args.tx.now) (state c.note.new.self) c.in_err-note.ensures.on c.queue_head-head_word.result c.args.first.head c.in_err-note.field-0.0 c.in_err-note.ensures.noted Writes (λ e. cc e))
+
+pub returns-in_err-note_next-clause-pass : goal.returns-in_err-note_next-clause-pass
+returns-in_err-note_next-clause-pass g c = c.in_err-note_next.ensures.pass ∙ c.in_ok-note.ensures.pass
+
+pub returns-in_err-note_next-clause-goes : goal.returns-in_err-note_next-clause-goes
+returns-in_err-note_next-clause-goes g c = IfOk-from_err c.from_residual-in_err-note_next.result _ c.from_residual-in_err-note_next.ensures.0
+
+pub returns-in_err-note_next-clause-among : goal.returns-in_err-note_next-clause-among
+returns-in_err-note_next-clause-among g c = IfOk-from_err c.from_residual-in_err-note_next.result _ c.from_residual-in_err-note_next.ensures.0
+
+pub returns-in_err-note_next-clause-noted : goal.returns-in_err-note_next-clause-noted
+returns-in_err-note_next-clause-noted g c = IfOk-from_err c.from_residual-in_err-note_next.result _ c.from_residual-in_err-note_next.ensures.0
+
+pub returns-in_err-note_next-clause-no_writes : goal.returns-in_err-note_next-clause-no_writes
+returns-in_err-note_next-clause-no_writes g c = if_err c.from_residual-in_err-note_next.result c.in_err-note_next.field-0.0 _ c.from_residual-in_err-note_next.ensures.1
+    (λ limit. sym (note_goes g.T.Theory.meaning (state c.args.tx.now) (state c.note.new.self) c.in_ok-note.ensures.on c.queue_head-head_word.result c.args.first.head c.in_ok-note.ensures.noted c.requires.sees.1.working.operates).same_stop
+    ∙ note_not_by g.T.Theory.meaning (state c.note.new.self) (state c.note_next.new.tx) c.in_err-note_next.ensures.on (next_at (state c.note.new.self) (c.args.first.head.value / 2)) c.args.first.next c.in_err-note_next.field-0.0 c.in_err-note_next.ensures.noted Writes (λ e. cc e) limit)
+
+pub returns-clause-pass : goal.returns-clause-pass
+returns-clause-pass g c = c.in_ok-note_next.ensures.pass ∙ c.in_ok-note.ensures.pass
+
+pub returns-clause-stop : goal.returns-clause-stop
+returns-clause-stop g c = tt
+
+pub returns-clause-reads : goal.returns-clause-reads
+returns-clause-reads g c = tt
+
+pub returns-clause-no_writes : goal.returns-clause-no_writes
+returns-clause-no_writes g c = tt

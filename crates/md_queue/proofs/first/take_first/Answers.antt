@@ -1,4 +1,4 @@
-use Rattle.std.proofs.Common.{◌≡◌, ◌/◌, ◌<◌, ◌^◌, [], ◌∷◌, ap, sym, subst, ◌∙◌, arith, rules}
+use Rattle.std.proofs.Common.{◌≡◌, ◌/◌, ◌<◌, ◌^◌, [], ◌∷◌, ap, sym, subst, ◌∙◌, arith}
 use Rattle.md_words.specs.Layout.{IsNode, address}
 use Rattle.md_words.specs.Link.{linked_node}
 use Rattle.md_words.specs.Place.{node_next, queue_head}
@@ -33,6 +33,7 @@ use Rattle.md_queue.proofs.Looking.{head_named}
 use Rattle.md_queue.proofs.Refusing.{began_on, exchange_unwritten, exchange_was, not_by, note_unread, note_unwritten, note_was, was_after, if_err}
 use Rattle.md_queue.proofs.Steps.{exchange_no_reads, note_not_by}
 use Rattle.md_queue.proofs.Takings.{was_to_take}
+use Rattle.std.proofs.lemmas.Result.{IfOk-from_err}
 use Rattle.md_queue.proofs.first.take_first.Goals as goal
 
 pub note_next-requires : goal.note_next-requires
@@ -62,7 +63,7 @@ returns-in_err-note_next-clause-stop g c =
     let stop = c.in_err-note_next.field-0.0 in
     let refused : RefusedOtherwise M t u 1 1 stop = refused_up M t u 0 0 1 1 stop
     (note_stops M t u c.in_err-note_next.ensures.on (next_at t (first.head.value / 2)) first.next stop c.in_err-note_next.ensures.noted s.working.operates) (omega arith) (omega arith) in
-    search rules
+    if_err c.from_residual.result stop _ c.from_residual.ensures.1 refused
 
 pub value_of-value-requires : goal.value_of-value-requires
 value_of-value-requires g c =
@@ -125,7 +126,7 @@ returns-in_err-exchange-clause-stop g c =
     let refused : RefusedOtherwise M t x 1 1 stop = refused_then M t v x 1 0 0 0 1 1 stop goes
     (exchange_stops M v x c.in_err-exchange.ensures.on c.queue_head-head_word.result first.head first.next.value Critical stop
     c.in_err-exchange.ensures.exchanged) (omega arith) (omega arith) in
-    search rules
+    if_err c.from_residual-in_err-exchange.result stop _ c.from_residual-in_err-exchange.ensures.1 refused
 
 pub returns-clause-goes : goal.returns-clause-goes
 returns-clause-goes g c =
@@ -297,3 +298,39 @@ returns-in_err-exchange-clause-reads g c =
     (pass_goes M u v c.value_of-value.ensures.on c.value_of-value.ensures.same) (omega arith) (omega arith) (omega arith) in
     if_err c.from_residual-in_err-exchange.result stop _ c.from_residual-in_err-exchange.ensures.1 (λ limit began. not_by v stop (began_on M t v 1 0 0 goes began).unstopped
     (exchange_no_reads M v x c.in_err-exchange.ensures.on c.queue_head-head_word.result first.head first.next.value Critical stop c.in_err-exchange.ensures.exchanged limit))
+
+pub returns-in_err-note_next-clause-pass : goal.returns-in_err-note_next-clause-pass
+returns-in_err-note_next-clause-pass g c = c.in_err-note_next.ensures.pass
+
+pub returns-in_err-note_next-clause-goes : goal.returns-in_err-note_next-clause-goes
+returns-in_err-note_next-clause-goes g c = IfOk-from_err c.from_residual.result _ c.from_residual.ensures.0
+
+pub returns-in_err-note_next-clause-answer : goal.returns-in_err-note_next-clause-answer
+returns-in_err-note_next-clause-answer g c = IfOk-from_err c.from_residual.result _ c.from_residual.ensures.0
+
+pub returns-in_err-note_next-clause-tail : goal.returns-in_err-note_next-clause-tail
+returns-in_err-note_next-clause-tail g c = IfOk-from_err c.from_residual.result _ c.from_residual.ensures.0
+
+pub returns-in_err-exchange-clause-pass : goal.returns-in_err-exchange-clause-pass
+returns-in_err-exchange-clause-pass g c = c.in_err-exchange.ensures.pass ∙ c.value_of-value.ensures.pass ∙ c.in_ok-note_next.ensures.pass
+
+pub returns-in_err-exchange-clause-goes : goal.returns-in_err-exchange-clause-goes
+returns-in_err-exchange-clause-goes g c = IfOk-from_err c.from_residual-in_err-exchange.result _ c.from_residual-in_err-exchange.ensures.0
+
+pub returns-in_err-exchange-clause-answer : goal.returns-in_err-exchange-clause-answer
+returns-in_err-exchange-clause-answer g c = IfOk-from_err c.from_residual-in_err-exchange.result _ c.from_residual-in_err-exchange.ensures.0
+
+pub returns-in_err-exchange-clause-tail : goal.returns-in_err-exchange-clause-tail
+returns-in_err-exchange-clause-tail g c = IfOk-from_err c.from_residual-in_err-exchange.result _ c.from_residual-in_err-exchange.ensures.0
+
+pub returns-clause-pass : goal.returns-clause-pass
+returns-clause-pass g c = c.in_ok-exchange.ensures.pass ∙ c.value_of-value.ensures.pass ∙ c.in_ok-note_next.ensures.pass
+
+pub returns-clause-stop : goal.returns-clause-stop
+returns-clause-stop g c = tt
+
+pub returns-clause-reads : goal.returns-clause-reads
+returns-clause-reads g c = tt
+
+pub returns-clause-writes : goal.returns-clause-writes
+returns-clause-writes g c = tt

@@ -1,4 +1,4 @@
-use Rattle.std.proofs.Common.{◌≡◌, ◌+◌, ◌*◌, ◌/◌, ◌<◌, ◌^◌, ◌++◌, ◌∷◌, [], ℕ, List, Ok, false, sym, ap, subst, ◌∙◌, arith, rules}
+use Rattle.std.proofs.Common.{◌≡◌, ◌+◌, ◌*◌, ◌/◌, ◌<◌, ◌^◌, ◌++◌, ◌∷◌, [], ℕ, List, Ok, false, sym, ap, subst, ◌∙◌, arith}
 use Rattle.md_words.specs.declared.shape.Shape.{Shape}
 use Rattle.md_words.specs.Layout.{IsNode, address}
 use Rattle.md_words.specs.Link.{linked_node}
@@ -26,20 +26,21 @@ use Rattle.md_queue.proofs.Changing.{exchanged_nodes}
 use Rattle.md_queue.proofs.Among.{among_none, answered}
 use Rattle.md_queue.proofs.Data.{half_is}
 use Rattle.md_queue.proofs.Ends.{node_limit}
-use Rattle.md_queue.proofs.Enqueuing.{fresh_goes, fresh_stops, keeps_goes, no_more_nodes, puts_last, refused_after}
+use Rattle.md_queue.proofs.Enqueuing.{fresh_goes, fresh_stops, keeps_goes, no_more_nodes, puts_last, refused_after, refused_within}
 use Rattle.md_queue.proofs.Looking.{node_readable}
 use Rattle.md_queue.proofs.Putting.{IsPutting, bare_then, double_is, may_answer_put, may_keep, may_put, putting, rank_low, written_for}
-use Rattle.md_queue.proofs.Steps.{exchange_goes, exchange_ok, exchange_stops, goes_then, pass_goes}
+use Rattle.md_queue.proofs.Steps.{exchange_goes, exchange_ok, exchange_stops, goes_then, pass_goes, unstopped, exchange_no_reads}
 use Rattle.md_queue.proofs.last.enqueue.Given.{Over}
 use Rattle.md_queue.proofs.last.enqueue.Goals.{After-node_next-next_word, After-queue_tail-tail, After-rank_of-rank}
-use Rattle.md_history.specs.declared.stops.Limit.TheVariants.{Writes}
+use Rattle.md_history.specs.declared.stops.Limit.TheVariants.{Writes, Reads}
 use Rattle.md_history.specs.declared.stops.Stop.TheVariants.{Limit as Limited}
 use Rattle.std.proofs.Common.{inl, inr}
 use Rattle.md_machine.specs.Certified.{is_written}
 use Rattle.md_nbtc_law.specs.State.{writes_in}
 use Rattle.md_queue.proofs.Enqueuing.{fresh_not_by}
 use Rattle.md_queue.proofs.Putting.{was_to_put}
-use Rattle.md_queue.proofs.Refusing.{began_on, exchange_unwritten, exchange_was, not_by, was_after, if_err}
+use Rattle.md_queue.proofs.Refusing.{began_on, exchange_unwritten, exchange_was, not_by, was_after, if_err, stays_on}
+use Rattle.std.proofs.lemmas.Result.{IfOk-from_err}
 use Rattle.md_queue.proofs.last.enqueue.Goals as goal
 
 pub rank_of-rank-requires : goal.rank_of-rank-requires
@@ -106,7 +107,7 @@ returns-in_err-node-clause-stop g c =
     let refused : Refused M s u 0 2 1 stop = refused_after M s t u 0 1 0 0 0 0 0 2 1 stop (found_goes g (goal.at.returns-in_err-node-clause-stop g c).After-rank_of-rank)
     (λ operates. fresh_stops M t u c.in_err-node.ensures.on operates (c.rank_of-rank.result + 1) c.args.value 0 stop c.in_err-node.ensures.fresh)
     (omega arith) (omega arith) (omega arith) in
-    search rules
+    if_err c.from_residual-in_err-node.result stop _ c.from_residual-in_err-node.ensures.1 refused
 
 pub returns-in_err-node-clause-stopped : goal.returns-in_err-node-clause-stopped
 returns-in_err-node-clause-stopped g c s is =
@@ -184,7 +185,7 @@ returns-in_err-exchange-clause-stop g c =
     (λ operates. (exchange_stops M u v c.in_err-exchange.ensures.on c.node_next-next_word.result c.in_ok-end.end.next (c.in_ok-node.node * 2) Critical stop
     c.in_err-exchange.ensures.exchanged operates).refused)
     (omega arith) (omega arith) (omega arith) in
-    search rules
+    if_err c.from_residual-in_err-exchange.result stop _ c.from_residual-in_err-exchange.ensures.1 refused
 
 -- its link was made
 linked : (g : Over) (c : After-queue_tail-tail g) → c.node_next-next_word.result ≡ next_at (state c.fresh.new.self) (linked_node c.in_ok-end.end.tail.value)
@@ -390,3 +391,97 @@ returns-in_err-exchange-clause-no_node g c =
     if_err c.from_residual-in_err-exchange.result stop _ c.from_residual-in_err-exchange.ensures.1 (λ limit none. not_by u stop (goes.same_stop ∙ none)
     ((exchange_stops M u v c.in_err-exchange.ensures.on c.node_next-next_word.result c.in_ok-end.end.next (c.in_ok-node.node * 2) Critical stop
     c.in_err-exchange.ensures.exchanged goes.leaves.operates).no_nodes limit))
+
+pub find_last-requires : goal.find_last-requires
+find_last-requires g c = record { begun = c.requires.begun }
+
+pub returns-in_err-end-clause-pass : goal.returns-in_err-end-clause-pass
+returns-in_err-end-clause-pass g c = c.in_err-end.ensures.pass
+
+pub returns-in_err-end-clause-answer : goal.returns-in_err-end-clause-answer
+returns-in_err-end-clause-answer g c = IfOk-from_err c.from_residual.result _ c.from_residual.ensures.0
+
+pub returns-in_err-end-clause-puts : goal.returns-in_err-end-clause-puts
+returns-in_err-end-clause-puts g c = IfOk-from_err c.from_residual.result _ c.from_residual.ensures.0
+
+pub returns-in_err-end-clause-no_reads : goal.returns-in_err-end-clause-no_reads
+returns-in_err-end-clause-no_reads g c = if_err c.from_residual.result c.in_err-end.field-0.0 _ c.from_residual.ensures.1
+    (c.in_err-end.ensures.no_reads)
+
+pub returns-in_err-end-clause-stopped : goal.returns-in_err-end-clause-stopped
+returns-in_err-end-clause-stopped g c = stays_on (state c.args.tx.now) (state c.find_last.new.tx) c.from_residual.result c.in_err-end.field-0.0 c.from_residual.ensures.1
+    (c.in_err-end.ensures.stopped)
+
+pub fresh-requires-clause-operates : goal.fresh-requires-clause-operates
+fresh-requires-clause-operates g c = ap (λ x. x.hand.operating) c.rank_of-rank.ensures.same ∙ c.in_ok-end.ensures.goes.leaves.operates
+
+pub returns-in_err-node-clause-pass : goal.returns-in_err-node-clause-pass
+returns-in_err-node-clause-pass g c = c.in_err-node.ensures.pass ∙ c.rank_of-rank.ensures.pass ∙ c.in_ok-end.ensures.pass
+
+pub returns-in_err-node-clause-answer : goal.returns-in_err-node-clause-answer
+returns-in_err-node-clause-answer g c = IfOk-from_err c.from_residual-in_err-node.result _ c.from_residual-in_err-node.ensures.0
+
+pub returns-in_err-node-clause-puts : goal.returns-in_err-node-clause-puts
+returns-in_err-node-clause-puts g c = IfOk-from_err c.from_residual-in_err-node.result _ c.from_residual-in_err-node.ensures.0
+
+pub returns-in_err-exchange-clause-pass : goal.returns-in_err-exchange-clause-pass
+returns-in_err-exchange-clause-pass g c = c.in_err-exchange.ensures.pass ∙ c.in_ok-node.ensures.pass ∙ c.rank_of-rank.ensures.pass ∙ c.in_ok-end.ensures.pass
+
+pub returns-in_err-exchange-clause-answer : goal.returns-in_err-exchange-clause-answer
+returns-in_err-exchange-clause-answer g c = IfOk-from_err c.from_residual-in_err-exchange.result _ c.from_residual-in_err-exchange.ensures.0
+
+pub returns-in_err-exchange-clause-puts : goal.returns-in_err-exchange-clause-puts
+returns-in_err-exchange-clause-puts g c = IfOk-from_err c.from_residual-in_err-exchange.result _ c.from_residual-in_err-exchange.ensures.0
+
+pub returns-in_err-exchange-clause-stopped : goal.returns-in_err-exchange-clause-stopped
+returns-in_err-exchange-clause-stopped g c s is = unstopped (state c.args.tx.now) (state c.find_last.new.tx) c.in_ok-end.end c.in_ok-end.ensures.stopped s is
+
+pub returns-clause-pass : goal.returns-clause-pass
+returns-clause-pass g c = c.later.ensures.pass ∙ c.in_ok-exchange.ensures.pass ∙ c.in_ok-node.ensures.pass ∙ c.rank_of-rank.ensures.pass ∙ c.in_ok-end.ensures.pass
+
+pub returns-clause-stop : goal.returns-clause-stop
+returns-clause-stop g c = tt
+
+pub returns-clause-writes : goal.returns-clause-writes
+returns-clause-writes g c = tt
+
+pub returns-clause-no_node : goal.returns-clause-no_node
+returns-clause-no_node g c = tt
+
+pub returns-clause-no_reads : goal.returns-clause-no_reads
+returns-clause-no_reads g c = tt
+
+pub returns-clause-stopped : goal.returns-clause-stopped
+returns-clause-stopped g c s is = unstopped (state c.args.tx.now) (state c.find_last.new.tx) c.in_ok-end.end c.in_ok-end.ensures.stopped s is
+
+pub returns-in_err-end-clause-stop : goal.returns-in_err-end-clause-stop
+returns-in_err-end-clause-stop g c = if_err c.from_residual.result c.in_err-end.field-0.0 _ c.from_residual.ensures.1
+    (refused_within g.T.Theory.meaning (state c.args.tx.now) (state c.find_last.new.tx) 0 1 0 0 2 1 c.in_err-end.field-0.0 c.in_err-end.ensures.stop.refused (omega arith) (omega arith) (omega arith))
+
+pub returns-in_err-node-clause-no_reads : goal.returns-in_err-node-clause-no_reads
+returns-in_err-node-clause-no_reads g c =
+    let M = g.T.Theory.meaning in
+    let t = state c.rank_of-rank.new.tx in
+    let u = state c.fresh.new.self in
+    let goes = found_goes g (goal.at.returns-in_err-node-clause-no_reads g c).After-rank_of-rank in
+    let stop = c.in_err-node.field-0.0 in
+    if_err c.from_residual-in_err-node.result stop _ c.from_residual-in_err-node.ensures.1 (λ limit. sym goes.same_stop
+    ∙ fresh_not_by M t u c.in_err-node.ensures.on goes.leaves.operates Reads (λ e. cc e) (λ word count e. cc e) (c.rank_of-rank.result + 1) c.args.value 0 stop c.in_err-node.ensures.fresh limit)
+
+pub returns-in_err-exchange-clause-no_reads : goal.returns-in_err-exchange-clause-no_reads
+returns-in_err-exchange-clause-no_reads g c =
+    let M = g.T.Theory.meaning in
+    let u = state c.fresh.new.self in
+    let v = state c.exchange.new.self in
+    let goes = taken_goes g (goal.at.returns-in_err-exchange-clause-no_reads g c).After-node_next-next_word
+    (found_goes g (goal.at.returns-in_err-exchange-clause-no_reads g c).After-rank_of-rank) in
+    let stop = c.in_err-exchange.field-0.0 in
+    if_err c.from_residual-in_err-exchange.result stop _ c.from_residual-in_err-exchange.ensures.1 (λ limit. sym goes.same_stop
+    ∙ exchange_no_reads M u v c.in_err-exchange.ensures.on c.node_next-next_word.result c.in_ok-end.end.next (c.in_ok-node.node * 2) Critical stop c.in_err-exchange.ensures.exchanged limit)
+
+pub queue_tail-tail-requires : goal.queue_tail-tail-requires
+queue_tail-tail-requires g c =
+    let u = state c.fresh.new.self in
+    let p = some_found g (goal.at.queue_tail-tail-requires g c).After-rank_of-rank in
+    subst (λ (x : Shape). c.args.queue < x.queues)
+    (sym (c.shape-2.ensures ∙ shape_later u (state c.exchange.new.self) c.in_ok-exchange.ensures.on.later ∙ shape_later (state c.rank_of-rank.new.tx) u c.in_ok-node.ensures.on.later)) p.working.within

@@ -1,11 +1,13 @@
-use Rattle.std.proofs.Common.{◌∙◌, arith, rules}
+use Rattle.std.proofs.Common.{◌∙◌, arith, sym}
 use Rattle.md_nbtc_law.specs.State.{shape_in}
 use Rattle.md_nbtc.specs.State.{state}
 use Rattle.md_queue.specs.Operations.{RefusedOtherwise}
 use Rattle.md_queue.specs.Working.{other_count, own_count}
 use Rattle.md_queue.proofs.Ends.{counts_one, end_fits, goes_moved, node_limit}
-use Rattle.md_queue.proofs.Steps.{goes_up, refused_then}
-use Rattle.md_queue.proofs.Refusing.{began_on, move_from, if_err}
+use Rattle.md_queue.proofs.Steps.{goes_up, refused_then, unstopped, refused_up}
+use Rattle.md_queue.proofs.Refusing.{began_on, move_from, if_err, not_by, stays_on}
+use Rattle.std.proofs.lemmas.Result.{IfOk-from_err}
+use Rattle.md_history.specs.declared.stops.Limit.TheVariants.{Reads, Writes}
 use Rattle.md_queue.proofs.last.find_last.Goals as goal
 
 pub loop-init : goal.loop-init
@@ -30,7 +32,7 @@ returns-in_err-end-2-clause-stop g c =
     let stop = c.in_err-end-2.field-0.0 in
     let one = counts_one tail in
     let refused : RefusedOtherwise M s u 0 1 stop = refused_then M s t u 0 (own_count tail) 0 (other_count tail) 0 1 stop c.loop.invariant.goes (λ _. c.in_err-end-2.ensures.stop) (omega arith) (omega (arith, one)) in
-    search rules
+    if_err c.from_residual-in_err-end-2.result stop _ c.from_residual-in_err-end-2.ensures.1 refused
 
 pub loop-preserved : goal.loop-preserved
 loop-preserved g c =
@@ -91,3 +93,80 @@ returns-in_err-end-2-clause-writes g c =
     let stop = c.in_err-end-2.field-0.0 in
     if_err c.from_residual-in_err-end-2.result stop _ c.from_residual-in_err-end-2.ensures.1 (λ limit began cs going. move_from M s t u own 0 cs c.args.queue i.goes
     (c.in_err-end-2.ensures.writes limit (began_on M s t 0 own 0 i.goes began) cs c.loop.counter (i.sees cs going)))
+
+pub load_end-requires : goal.load_end-requires
+load_end-requires g c = record { begun = c.requires.begun }
+
+pub returns-in_err-end-clause-pass : goal.returns-in_err-end-clause-pass
+returns-in_err-end-clause-pass g c = c.in_err-end.ensures.pass
+
+pub returns-in_err-end-clause-goes : goal.returns-in_err-end-clause-goes
+returns-in_err-end-clause-goes g c = IfOk-from_err c.from_residual.result _ c.from_residual.ensures.0
+
+pub returns-in_err-end-clause-sees : goal.returns-in_err-end-clause-sees
+returns-in_err-end-clause-sees g c = IfOk-from_err c.from_residual.result _ c.from_residual.ensures.0
+
+pub returns-in_err-end-clause-last : goal.returns-in_err-end-clause-last
+returns-in_err-end-clause-last g c = IfOk-from_err c.from_residual.result _ c.from_residual.ensures.0
+
+pub returns-in_err-end-clause-stop : goal.returns-in_err-end-clause-stop
+returns-in_err-end-clause-stop g c = if_err c.from_residual.result c.in_err-end.field-0.0 _ c.from_residual.ensures.1
+    (refused_up g.T.Theory.meaning (state c.args.tx.now) (state c.load_end.new.tx) 0 0 0 1 c.in_err-end.field-0.0 c.in_err-end.ensures.stop (omega arith) (omega arith))
+
+pub returns-in_err-end-clause-writes : goal.returns-in_err-end-clause-writes
+returns-in_err-end-clause-writes g c = if_err c.from_residual.result c.in_err-end.field-0.0 _ c.from_residual.ensures.1
+    (λ limit began. not_by (state c.args.tx.now) c.in_err-end.field-0.0 began.unstopped (c.in_err-end.ensures.limits Writes limit))
+
+pub returns-in_err-end-clause-no_reads : goal.returns-in_err-end-clause-no_reads
+returns-in_err-end-clause-no_reads g c = if_err c.from_residual.result c.in_err-end.field-0.0 _ c.from_residual.ensures.1
+    (c.in_err-end.ensures.limits Reads)
+
+pub returns-in_err-end-clause-stopped : goal.returns-in_err-end-clause-stopped
+returns-in_err-end-clause-stopped g c = stays_on (state c.args.tx.now) (state c.load_end.new.tx) c.from_residual.result c.in_err-end.field-0.0 c.from_residual.ensures.1
+    (c.in_err-end.ensures.stopped)
+
+pub returns-in_err-end-2-clause-pass : goal.returns-in_err-end-2-clause-pass
+returns-in_err-end-2-clause-pass g c = c.in_err-end-2.ensures.pass ∙ c.loop.invariant.pass
+
+pub returns-in_err-end-2-clause-goes : goal.returns-in_err-end-2-clause-goes
+returns-in_err-end-2-clause-goes g c = IfOk-from_err c.from_residual-in_err-end-2.result _ c.from_residual-in_err-end-2.ensures.0
+
+pub returns-in_err-end-2-clause-sees : goal.returns-in_err-end-2-clause-sees
+returns-in_err-end-2-clause-sees g c = IfOk-from_err c.from_residual-in_err-end-2.result _ c.from_residual-in_err-end-2.ensures.0
+
+pub returns-in_err-end-2-clause-last : goal.returns-in_err-end-2-clause-last
+returns-in_err-end-2-clause-last g c = IfOk-from_err c.from_residual-in_err-end-2.result _ c.from_residual-in_err-end-2.ensures.0
+
+pub returns-in_err-end-2-clause-no_reads : goal.returns-in_err-end-2-clause-no_reads
+returns-in_err-end-2-clause-no_reads g c = if_err c.from_residual-in_err-end-2.result c.in_err-end-2.field-0.0 _ c.from_residual-in_err-end-2.ensures.1
+    (λ limit. sym c.loop.invariant.goes.same_stop ∙ c.in_err-end-2.ensures.no_reads limit)
+
+pub returns-in_err-end-2-clause-stopped : goal.returns-in_err-end-2-clause-stopped
+returns-in_err-end-2-clause-stopped g c s is = unstopped (state c.args.tx.now) (state c.load_end.new.tx) c.in_ok-end.end c.in_ok-end.ensures.stopped s is
+
+pub returns-then-end-eq0-clause-pass : goal.returns-then-end-eq0-clause-pass
+returns-then-end-eq0-clause-pass g c = c.loop.invariant.pass
+
+pub returns-then-end-eq0-clause-last : goal.returns-then-end-eq0-clause-last
+returns-then-end-eq0-clause-last g c = c.if-end-eq0.true
+
+pub returns-then-end-eq0-clause-stop : goal.returns-then-end-eq0-clause-stop
+returns-then-end-eq0-clause-stop g c = tt
+
+pub returns-then-end-eq0-clause-writes : goal.returns-then-end-eq0-clause-writes
+returns-then-end-eq0-clause-writes g c = tt
+
+pub returns-then-end-eq0-clause-no_reads : goal.returns-then-end-eq0-clause-no_reads
+returns-then-end-eq0-clause-no_reads g c = tt
+
+pub returns-after-loop-clause-pass : goal.returns-after-loop-clause-pass
+returns-after-loop-clause-pass g c = c.loop.invariant.pass
+
+pub returns-after-loop-clause-stop : goal.returns-after-loop-clause-stop
+returns-after-loop-clause-stop g c = tt
+
+pub returns-after-loop-clause-writes : goal.returns-after-loop-clause-writes
+returns-after-loop-clause-writes g c = tt
+
+pub returns-after-loop-clause-no_reads : goal.returns-after-loop-clause-no_reads
+returns-after-loop-clause-no_reads g c = tt

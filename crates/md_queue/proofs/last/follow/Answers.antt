@@ -1,4 +1,4 @@
-use Rattle.std.proofs.Common.{◌/◌, ◌+◌, length, ap, sym, subst, arith, rules}
+use Rattle.std.proofs.Common.{◌/◌, ◌+◌, length, ap, sym, subst, arith, ◌∙◌}
 use Rattle.md_words.specs.Layout.{IsNode}
 use Rattle.md_nbtc_law.specs.Seeing.{KeepsGiven, Looks}
 use Rattle.md_nbtc_law.specs.State.{shape_in}
@@ -9,10 +9,12 @@ use Rattle.md_queue.specs.Working.{other_count}
 use Rattle.md_queue.proofs.Data.{half_is}
 use Rattle.md_queue.proofs.Ends.{end_seen, followed, goes_within, may_follow, moved_counts}
 use Rattle.md_queue.proofs.Looking.{tail_named}
-use Rattle.md_queue.proofs.Steps.{exchange_goes, exchange_ok, exchange_stops, goes_then, look_goes, look_ok, look_stops, refused_then, refused_up}
+use Rattle.md_queue.proofs.Steps.{exchange_goes, exchange_ok, exchange_stops, goes_then, look_goes, look_ok, look_stops, refused_then, refused_up, look_not_by, exchange_no_reads}
 use Rattle.std.proofs.Common.{◌<◌, ◌^◌}
 use Rattle.md_queue.proofs.Ends.{end_refused}
-use Rattle.md_queue.proofs.Refusing.{exchange_critical, exchange_unwritten, exchange_was, if_err}
+use Rattle.md_queue.proofs.Refusing.{exchange_critical, exchange_unwritten, exchange_was, if_err, not_by}
+use Rattle.std.proofs.lemmas.Result.{IfOk-from_err}
+use Rattle.md_history.specs.declared.stops.Limit.TheVariants.{Reads, Writes}
 use Rattle.md_queue.proofs.last.follow.Goals as goal
 
 pub move_tail-requires : goal.move_tail-requires
@@ -37,7 +39,7 @@ returns-in_err-tail-clause-stop g c =
     let refused : RefusedOtherwise M t u 0 (other_count end.tail) stop = refused_up M t u 0 0 0 (other_count end.tail) stop
     (exchange_stops M t u c.in_err-tail.ensures.on (tail_at t c.args.queue) end.tail end.next.value (move_kind end.next) stop c.in_err-tail.ensures.exchanged s.sees_tail.working.operates)
     (omega arith) (omega arith) in
-    search rules
+    if_err c.from_residual.result stop _ c.from_residual.ensures.1 refused
 
 pub load_next-requires : goal.load_next-requires
 load_next-requires g c =
@@ -75,7 +77,7 @@ returns-in_err-next-clause-stop g c =
     let refused : RefusedOtherwise M t v 0 (other_count end.tail) stop = refused_then M t u v 0 (other_count end.tail) 0 0 0 (other_count end.tail) stop
     (goes_within M t u 1 (other_count end.tail) goes counts.1)
     (look_stops M u v c.in_err-next.ensures.on (next_at u (tail.value / 2)) stop c.in_err-next.ensures.looked) (omega arith) (omega arith) in
-    search rules
+    if_err c.from_residual-in_err-next.result stop _ c.from_residual-in_err-next.ensures.1 refused
 
 pub returns-clause-goes : goal.returns-clause-goes
 returns-clause-goes g c =
@@ -145,3 +147,72 @@ returns-in_err-tail-clause-writes g c =
           (exchange_unwritten M t u stop began.unstopped (tail_at t queue) tail next.value (move_kind next) limit told)
           (exchange_critical M t u stop began.unstopped (tail_at t queue) tail next.value (move_kind next) limit told),
     ))
+
+pub returns-in_err-tail-clause-pass : goal.returns-in_err-tail-clause-pass
+returns-in_err-tail-clause-pass g c = c.in_err-tail.ensures.pass
+
+pub returns-in_err-tail-clause-goes : goal.returns-in_err-tail-clause-goes
+returns-in_err-tail-clause-goes g c = IfOk-from_err c.from_residual.result _ c.from_residual.ensures.0
+
+pub returns-in_err-tail-clause-counts : goal.returns-in_err-tail-clause-counts
+returns-in_err-tail-clause-counts g c = IfOk-from_err c.from_residual.result _ c.from_residual.ensures.0
+
+pub returns-in_err-tail-clause-sees : goal.returns-in_err-tail-clause-sees
+returns-in_err-tail-clause-sees g c = IfOk-from_err c.from_residual.result _ c.from_residual.ensures.0
+
+pub returns-in_err-tail-clause-no_reads : goal.returns-in_err-tail-clause-no_reads
+returns-in_err-tail-clause-no_reads g c = if_err c.from_residual.result c.in_err-tail.field-0.0 _ c.from_residual.ensures.1
+    (exchange_no_reads g.T.Theory.meaning (state c.args.tx.now) (state c.move_tail.new.tx) c.in_err-tail.ensures.on (tail_at (state c.args.tx.now) c.args.queue) c.args.end.tail c.args.end.next.value (move_kind c.args.end.next) c.in_err-tail.field-0.0 c.in_err-tail.ensures.exchanged)
+
+pub returns-in_err-next-clause-pass : goal.returns-in_err-next-clause-pass
+returns-in_err-next-clause-pass g c = c.in_err-next.ensures.pass ∙ c.in_ok-tail.ensures.pass
+
+pub returns-in_err-next-clause-goes : goal.returns-in_err-next-clause-goes
+returns-in_err-next-clause-goes g c = IfOk-from_err c.from_residual-in_err-next.result _ c.from_residual-in_err-next.ensures.0
+
+pub returns-in_err-next-clause-counts : goal.returns-in_err-next-clause-counts
+returns-in_err-next-clause-counts g c = IfOk-from_err c.from_residual-in_err-next.result _ c.from_residual-in_err-next.ensures.0
+
+pub returns-in_err-next-clause-sees : goal.returns-in_err-next-clause-sees
+returns-in_err-next-clause-sees g c = IfOk-from_err c.from_residual-in_err-next.result _ c.from_residual-in_err-next.ensures.0
+
+pub returns-in_err-next-clause-writes : goal.returns-in_err-next-clause-writes
+returns-in_err-next-clause-writes g c =
+    let M = g.T.Theory.meaning in
+    let t = state c.args.tx.now in
+    let u = state c.move_tail.new.tx in
+    let end = c.args.end in
+    let tail = c.in_ok-tail.tail in
+    let on = c.in_ok-tail.ensures.on in
+    let stop = c.in_err-next.field-0.0 in
+    let ex = exchange_ok M t u on (tail_at t c.args.queue) end.tail end.next.value (move_kind end.next) tail c.in_ok-tail.ensures.exchanged in
+    let goes = exchange_goes M t u on (tail_at t c.args.queue) end.tail end.next.value (move_kind end.next) tail ex c.requires.sees.2.sees_tail.working.operates in
+    if_err c.from_residual-in_err-next.result stop _ c.from_residual-in_err-next.ensures.1
+    (λ limit began. not_by u stop (goes.same_stop ∙ began.unstopped)
+    (look_not_by M u (state c.load_next.new.tx) c.in_err-next.ensures.on (next_at u (tail.value / 2)) stop c.in_err-next.ensures.looked Writes limit))
+
+pub returns-in_err-next-clause-no_reads : goal.returns-in_err-next-clause-no_reads
+returns-in_err-next-clause-no_reads g c =
+    let M = g.T.Theory.meaning in
+    let t = state c.args.tx.now in
+    let u = state c.move_tail.new.tx in
+    let end = c.args.end in
+    let tail = c.in_ok-tail.tail in
+    let on = c.in_ok-tail.ensures.on in
+    let stop = c.in_err-next.field-0.0 in
+    let ex = exchange_ok M t u on (tail_at t c.args.queue) end.tail end.next.value (move_kind end.next) tail c.in_ok-tail.ensures.exchanged in
+    let goes = exchange_goes M t u on (tail_at t c.args.queue) end.tail end.next.value (move_kind end.next) tail ex c.requires.sees.2.sees_tail.working.operates in
+    if_err c.from_residual-in_err-next.result stop _ c.from_residual-in_err-next.ensures.1
+    (λ limit. sym goes.same_stop ∙ look_not_by M u (state c.load_next.new.tx) c.in_err-next.ensures.on (next_at u (tail.value / 2)) stop c.in_err-next.ensures.looked Reads limit)
+
+pub returns-clause-pass : goal.returns-clause-pass
+returns-clause-pass g c = c.in_ok-next.ensures.pass ∙ c.in_ok-tail.ensures.pass
+
+pub returns-clause-stop : goal.returns-clause-stop
+returns-clause-stop g c = tt
+
+pub returns-clause-writes : goal.returns-clause-writes
+returns-clause-writes g c = tt
+
+pub returns-clause-no_reads : goal.returns-clause-no_reads
+returns-clause-no_reads g c = tt

@@ -1,4 +1,4 @@
-use Rattle.std.proofs.Common.{◌/◌, [], ap, sym, subst, ◌∙◌, arith, rules}
+use Rattle.std.proofs.Common.{◌/◌, [], ap, sym, subst, ◌∙◌, arith, Err}
 use Rattle.md_words.specs.Layout.{IsNode, address}
 use Rattle.md_words.specs.Place.{queue_tail}
 use Rattle.md_words.specs.PlaceAt.{IsCounted}
@@ -11,7 +11,10 @@ use Rattle.md_queue.proofs.Data.{half_is}
 use Rattle.md_queue.proofs.Ends.{end_seen, tail_seen}
 use Rattle.md_queue.proofs.Firsts.{begun_working}
 use Rattle.md_queue.proofs.Looking.{tail_counted, tail_named}
-use Rattle.md_queue.proofs.Steps.{goes_then, look_goes, look_ok, look_stopped, look_stops, refused_then}
+use Rattle.md_queue.proofs.Steps.{goes_then, look_goes, look_ok, look_stops, refused_then, look_not_by, look_unstopped}
+use Rattle.std.proofs.lemmas.Result.{IfOk-from_err}
+use Rattle.md_nbtc_law.specs.Calls.{Looked}
+use Rattle.md_queue.proofs.Refusing.{if_err, after_stays, stays_on}
 use Rattle.md_queue.proofs.last.load_end.Goals as goal
 
 pub load-requires-clause-counted : goal.load-requires-clause-counted
@@ -49,7 +52,7 @@ returns-in_err-next-clause-stop g c =
     let refused : RefusedOtherwise M t v 0 0 stop = refused_then M t u v 0 0 0 0 0 0 stop
     (look_goes M t u on c.queue_tail-tail_word.result c.in_ok-tail.tail c.in_ok-tail.ensures.looked c.requires.begun.operates)
     (look_stops M u v c.in_err-next.ensures.on (next_at u (c.in_ok-tail.tail.value / 2)) stop c.in_err-next.ensures.looked) (omega arith) (omega arith) in
-    search rules
+    if_err c.from_residual-in_err-next.result stop _ c.from_residual-in_err-next.ensures.1 refused
 
 pub returns-clause-goes : goal.returns-clause-goes
 returns-clause-goes g c =
@@ -79,11 +82,55 @@ returns-clause-sees g c cs going =
     (subst (λ n. KeepsGiven u v (next_at u n)) (half_is tail.value) c.in_ok-next.ensures.given)
     (subst (λ n. Looks M u v (next_at u n) next) (half_is tail.value) next_is.1)
 
+pub load-requires-clause-going : goal.load-requires-clause-going
+load-requires-clause-going g c = c.requires.begun.going
+
+pub returns-in_err-tail-clause-pass : goal.returns-in_err-tail-clause-pass
+returns-in_err-tail-clause-pass g c = c.in_err-tail.ensures.pass
+
+pub returns-in_err-tail-clause-goes : goal.returns-in_err-tail-clause-goes
+returns-in_err-tail-clause-goes g c = IfOk-from_err c.from_residual.result _ c.from_residual.ensures.0
+
+pub returns-in_err-tail-clause-sees : goal.returns-in_err-tail-clause-sees
+returns-in_err-tail-clause-sees g c = IfOk-from_err c.from_residual.result _ c.from_residual.ensures.0
+
+pub returns-in_err-tail-clause-stop : goal.returns-in_err-tail-clause-stop
+returns-in_err-tail-clause-stop g c = if_err c.from_residual.result c.in_err-tail.field-0.0 _ c.from_residual.ensures.1
+    (look_stops g.T.Theory.meaning (state c.args.tx.now) (state c.load.new.self) c.in_err-tail.ensures.on c.queue_tail-tail_word.result c.in_err-tail.field-0.0 c.in_err-tail.ensures.looked c.requires.begun.operates)
+
+pub returns-in_err-tail-clause-limits : goal.returns-in_err-tail-clause-limits
+returns-in_err-tail-clause-limits g c = if_err c.from_residual.result c.in_err-tail.field-0.0 _ c.from_residual.ensures.1
+    (look_not_by g.T.Theory.meaning (state c.args.tx.now) (state c.load.new.self) c.in_err-tail.ensures.on c.queue_tail-tail_word.result c.in_err-tail.field-0.0 c.in_err-tail.ensures.looked)
+
 pub returns-in_err-tail-clause-stopped : goal.returns-in_err-tail-clause-stopped
-returns-in_err-tail-clause-stopped g c s is =
-    let M = g.T.Theory.meaning in
-    let t = state c.args.tx.now in
-    let u = state c.load.new.self in
-    let stop = c.in_err-tail.field-0.0 in
-    let same = look_stopped M t u c.in_err-tail.ensures.on c.queue_tail-tail_word.result stop c.in_err-tail.ensures.looked s is in
-    search rules
+returns-in_err-tail-clause-stopped g c = stays_on (state c.args.tx.now) (state c.load.new.self) c.from_residual.result c.in_err-tail.field-0.0 c.from_residual.ensures.1
+    (after_stays (state c.args.tx.now) (state c.load.new.self) c.in_err-tail.field-0.0 (Looked g.T.Theory.meaning (state c.args.tx.now) (state c.load.new.self) c.queue_tail-tail_word.result (Err c.in_err-tail.field-0.0)) c.in_err-tail.ensures.looked)
+
+pub returns-in_err-next-clause-pass : goal.returns-in_err-next-clause-pass
+returns-in_err-next-clause-pass g c = c.in_err-next.ensures.pass ∙ c.in_ok-tail.ensures.pass
+
+pub returns-in_err-next-clause-goes : goal.returns-in_err-next-clause-goes
+returns-in_err-next-clause-goes g c = IfOk-from_err c.from_residual-in_err-next.result _ c.from_residual-in_err-next.ensures.0
+
+pub returns-in_err-next-clause-sees : goal.returns-in_err-next-clause-sees
+returns-in_err-next-clause-sees g c = IfOk-from_err c.from_residual-in_err-next.result _ c.from_residual-in_err-next.ensures.0
+
+pub returns-in_err-next-clause-limits : goal.returns-in_err-next-clause-limits
+returns-in_err-next-clause-limits g c = if_err c.from_residual-in_err-next.result c.in_err-next.field-0.0 _ c.from_residual-in_err-next.ensures.1
+    (λ limit is. sym (look_goes g.T.Theory.meaning (state c.args.tx.now) (state c.load.new.self) c.in_ok-tail.ensures.on c.queue_tail-tail_word.result c.in_ok-tail.tail c.in_ok-tail.ensures.looked c.requires.begun.operates).same_stop
+    ∙ look_not_by g.T.Theory.meaning (state c.load.new.self) (state c.load_next.new.tx) c.in_err-next.ensures.on (next_at (state c.load.new.self) (c.in_ok-tail.tail.value / 2)) c.in_err-next.field-0.0 c.in_err-next.ensures.looked limit is)
+
+pub returns-in_err-next-clause-stopped : goal.returns-in_err-next-clause-stopped
+returns-in_err-next-clause-stopped g c s is = look_unstopped g.T.Theory.meaning (state c.args.tx.now) (state c.load.new.self) c.in_ok-tail.ensures.on c.queue_tail-tail_word.result c.in_ok-tail.tail c.in_ok-tail.ensures.looked s is
+
+pub returns-clause-stopped : goal.returns-clause-stopped
+returns-clause-stopped g c s is = look_unstopped g.T.Theory.meaning (state c.args.tx.now) (state c.load.new.self) c.in_ok-tail.ensures.on c.queue_tail-tail_word.result c.in_ok-tail.tail c.in_ok-tail.ensures.looked s is
+
+pub returns-clause-pass : goal.returns-clause-pass
+returns-clause-pass g c = c.in_ok-next.ensures.pass ∙ c.in_ok-tail.ensures.pass
+
+pub returns-clause-stop : goal.returns-clause-stop
+returns-clause-stop g c = tt
+
+pub returns-clause-limits : goal.returns-clause-limits
+returns-clause-limits g c = tt

@@ -1,4 +1,4 @@
-use Rattle.std.proofs.Common.{rules, ◌≡◌, ◌<◌, ◌+◌, ◌++◌, [], ◌∷◌, List, length, Some, None, refl, sym, ap, ◌∙◌, subst, arith}
+use Rattle.std.proofs.Common.{◌≡◌, ◌<◌, ◌+◌, ◌++◌, [], ◌∷◌, List, length, Some, None, refl, sym, ap, ◌∙◌, subst, arith}
 use Rattle.std.proofs.lemmas.List.{length-append, length-map, map-append}
 use Rattle.md_words.specs.declared.shape.Shape.{Shape}
 use Rattle.md_words.specs.Layout.{address}
@@ -18,10 +18,11 @@ use Rattle.md_queue.specs.Words.{next_at}
 use Rattle.md_queue.proofs.Along.{looked_enough, looked_to_end, words_more}
 use Rattle.md_queue.proofs.Among.{AnswersBy, among_then, answered}
 use Rattle.md_queue.proofs.Lined.{line_more, values_of}
-use Rattle.md_queue.proofs.Steps.{goes_then, goes_up, refused_then}
+use Rattle.md_queue.proofs.Steps.{goes_then, goes_up, refused_then, refused_up}
 use Rattle.std.proofs.Common.{◌≤◌}
-use Rattle.md_queue.proofs.Refusing.{began_on, line_asks, if_err}
+use Rattle.md_queue.proofs.Refusing.{began_on, line_asks, if_err, stays_on}
 use Rattle.md_queue.proofs.Steps.{unstopped}
+use Rattle.std.proofs.lemmas.Result.{IfOk-from_err}
 use Rattle.md_queue.proofs.lines.line.Goals as goal
 
 pub loop-i-init : goal.loop-i-init
@@ -126,7 +127,7 @@ returns-in_err-passed-clause-stop g c =
     let stop = c.in_err-passed.field-0.0 in
     let refused : RefusedOtherwise M s u (c.args.n + 1) 0 stop = refused_then M s t u (i + 1) 0 1 0 (c.args.n + 1) 0 stop c.loop-i.invariant.has.goes (λ _. c.in_err-passed.ensures.stop)
     (omega arith) (omega arith) in
-    search rules
+    if_err c.from_residual-in_err-passed.result stop _ c.from_residual-in_err-passed.ensures.1 refused
 
 pub returns-in_default-clause-stopped : goal.returns-in_default-clause-stopped
 returns-in_default-clause-stopped g c s is = unstopped (state c.args.tx.now) (state c.pass_head.new.tx) c.in_ok-node.node c.in_ok-node.ensures.stopped s is
@@ -155,3 +156,64 @@ returns-in_err-passed-clause-reads g c =
     let stop = c.in_err-passed.field-0.0 in
     if_err c.from_residual-in_err-passed.result stop _ c.from_residual-in_err-passed.ensures.1 (λ limit began cs going. line_asks M s u cs queue (length h.seen + 1) n few
     (c.in_err-passed.ensures.reads limit (began_on M s t (c.loop-i.i + 1) 0 0 h.goes began) s queue cs h.dummy h.seen h.goes.leaves.on.later (h.looked cs going) h.among))
+
+pub pass_head-requires : goal.pass_head-requires
+pass_head-requires g c = record { begun = c.requires.begun }
+
+pub returns-in_err-node-clause-pass : goal.returns-in_err-node-clause-pass
+returns-in_err-node-clause-pass g c = c.in_err-node.ensures.pass
+
+pub returns-in_err-node-clause-answer : goal.returns-in_err-node-clause-answer
+returns-in_err-node-clause-answer g c = IfOk-from_err c.from_residual.result _ c.from_residual.ensures.0
+
+pub returns-in_err-node-clause-stop : goal.returns-in_err-node-clause-stop
+returns-in_err-node-clause-stop g c = if_err c.from_residual.result c.in_err-node.field-0.0 _ c.from_residual.ensures.1
+    (refused_up g.T.Theory.meaning (state c.args.tx.now) (state c.pass_head.new.tx) 1 0 (c.args.n + 1) 0 c.in_err-node.field-0.0 c.in_err-node.ensures.stop (omega arith) (omega arith))
+
+pub returns-in_err-node-clause-no_writes : goal.returns-in_err-node-clause-no_writes
+returns-in_err-node-clause-no_writes g c = if_err c.from_residual.result c.in_err-node.field-0.0 _ c.from_residual.ensures.1
+    (c.in_err-node.ensures.no_writes)
+
+pub returns-in_err-node-clause-stopped : goal.returns-in_err-node-clause-stopped
+returns-in_err-node-clause-stopped g c = stays_on (state c.args.tx.now) (state c.pass_head.new.tx) c.from_residual.result c.in_err-node.field-0.0 c.from_residual.ensures.1
+    (c.in_err-node.ensures.stopped)
+
+pub returns-in_err-passed-clause-pass : goal.returns-in_err-passed-clause-pass
+returns-in_err-passed-clause-pass g c = c.in_err-passed.ensures.pass ∙ c.loop-i.invariant.pass
+
+pub returns-in_err-passed-clause-answer : goal.returns-in_err-passed-clause-answer
+returns-in_err-passed-clause-answer g c = IfOk-from_err c.from_residual-in_err-passed.result _ c.from_residual-in_err-passed.ensures.0
+
+pub returns-in_err-passed-clause-no_writes : goal.returns-in_err-passed-clause-no_writes
+returns-in_err-passed-clause-no_writes g c = if_err c.from_residual-in_err-passed.result c.in_err-passed.field-0.0 _ c.from_residual-in_err-passed.ensures.1
+    (λ limit. sym c.loop-i.invariant.has.goes.same_stop ∙ c.in_err-passed.ensures.no_writes limit)
+
+pub returns-in_err-passed-clause-stopped : goal.returns-in_err-passed-clause-stopped
+returns-in_err-passed-clause-stopped g c s is = unstopped (state c.args.tx.now) (state c.pass_head.new.tx) c.in_ok-node.node c.in_ok-node.ensures.stopped s is
+
+pub returns-in_default-clause-pass : goal.returns-in_default-clause-pass
+returns-in_default-clause-pass g c = c.in_ok-passed.ensures.pass ∙ c.loop-i.invariant.pass
+
+pub returns-in_default-clause-stop : goal.returns-in_default-clause-stop
+returns-in_default-clause-stop g c = tt
+
+pub returns-in_default-clause-reads : goal.returns-in_default-clause-reads
+returns-in_default-clause-reads g c = tt
+
+pub returns-in_default-clause-no_writes : goal.returns-in_default-clause-no_writes
+returns-in_default-clause-no_writes g c = tt
+
+pub returns-after-loop-i-clause-pass : goal.returns-after-loop-i-clause-pass
+returns-after-loop-i-clause-pass g c = c.loop-i.invariant.pass
+
+pub returns-after-loop-i-clause-stop : goal.returns-after-loop-i-clause-stop
+returns-after-loop-i-clause-stop g c = tt
+
+pub returns-after-loop-i-clause-reads : goal.returns-after-loop-i-clause-reads
+returns-after-loop-i-clause-reads g c = tt
+
+pub returns-after-loop-i-clause-no_writes : goal.returns-after-loop-i-clause-no_writes
+returns-after-loop-i-clause-no_writes g c = tt
+
+pub returns-after-loop-i-clause-stopped : goal.returns-after-loop-i-clause-stopped
+returns-after-loop-i-clause-stopped g c s is = unstopped (state c.args.tx.now) (state c.pass_head.new.tx) c.in_ok-node.node c.in_ok-node.ensures.stopped s is

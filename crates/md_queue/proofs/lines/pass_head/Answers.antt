@@ -1,4 +1,4 @@
-use Rattle.std.proofs.Common.{[], ◌∷◌, ap, sym, subst, ◌∙◌, arith, rules}
+use Rattle.std.proofs.Common.{[], ◌∷◌, ap, sym, subst, ◌∙◌, arith, Err}
 use Rattle.md_words.specs.Layout.{address}
 use Rattle.md_words.specs.Place.{queue_head}
 use Rattle.md_words.specs.PlaceAt.{IsCounted}
@@ -15,11 +15,13 @@ use Rattle.md_queue.proofs.Data.{half_is}
 use Rattle.md_queue.proofs.Firsts.{begun_working, sees_head}
 use Rattle.md_queue.proofs.Looking.{head_counted}
 use Rattle.md_queue.proofs.Passing.{shape_head}
-use Rattle.md_queue.proofs.Steps.{goes_then, look_goes, look_ok, look_stops, note_among, note_goes, note_ok, note_stops, refused_then, refused_up}
-use Rattle.md_history.specs.declared.stops.Limit.TheVariants.{Reads}
+use Rattle.md_queue.proofs.Steps.{goes_then, look_goes, look_ok, look_stops, note_among, note_goes, note_ok, note_stops, refused_then, refused_up, look_not_by, look_unstopped, note_not_by}
+use Rattle.md_history.specs.declared.stops.Limit.TheVariants.{Reads, Writes}
 use Rattle.md_history.specs.declared.stops.Stop.TheVariants.{Limit as Limited}
 use Rattle.md_queue.proofs.Full.{line_head_full}
-use Rattle.md_queue.proofs.Refusing.{began_on, note_unread, note_unwritten, note_was, was_after, if_err}
+use Rattle.md_queue.proofs.Refusing.{began_on, note_unread, note_unwritten, note_was, was_after, if_err, after_stays, not_by, stays_on}
+use Rattle.std.proofs.lemmas.Result.{IfOk-from_err}
+use Rattle.md_nbtc_law.specs.Calls.{Looked}
 use Rattle.md_queue.proofs.lines.pass_head.Goals as goal
 
 pub load-requires-clause-counted : goal.load-requires-clause-counted
@@ -62,7 +64,7 @@ returns-in_err-head-clause-stop g c =
     let stop = c.in_err-head.field-0.0 in
     let refused : RefusedOtherwise M t u 1 0 stop = refused_up M t u 0 0 1 0 stop
     (look_stops M t u c.in_err-head.ensures.on c.queue_head-head_word.result stop c.in_err-head.ensures.looked c.requires.begun.operates) (omega arith) (omega arith) in
-    search rules
+    if_err c.from_residual.result stop _ c.from_residual.ensures.1 refused
 
 pub returns-in_err-note-clause-stop : goal.returns-in_err-note-clause-stop
 returns-in_err-note-clause-stop g c =
@@ -76,7 +78,7 @@ returns-in_err-note-clause-stop g c =
     let refused : RefusedOtherwise M t v 1 0 stop = refused_then M t u v 0 0 0 0 1 0 stop
     (look_goes M t u on c.queue_head-head_word.result head c.in_ok-head.ensures.looked c.requires.begun.operates)
     (note_stops M u v c.in_err-note.ensures.on c.queue_head-head_word.result head stop c.in_err-note.ensures.noted) (omega arith) (omega arith) in
-    search rules
+    if_err c.from_residual-in_err-note.result stop _ c.from_residual-in_err-note.ensures.1 refused
 
 pub returns-clause-goes : goal.returns-clause-goes
 returns-clause-goes g c =
@@ -143,3 +145,68 @@ returns-in_err-note-clause-reads g c =
       line_head_full M g.T.Theory.lawful g.met.T.HasQueues.has_queues u queue cs s.changes s.working t word (place ∙ sym (shape_head M t u on.later queue))
           (note_unread M u v stop none word head limit told) (note_unwritten M u v stop none word head limit told) (ap (λ x. x.reads) is.0),
     ))
+
+pub load-requires-clause-going : goal.load-requires-clause-going
+load-requires-clause-going g c = c.requires.begun.going
+
+pub note-requires-clause-going : goal.note-requires-clause-going
+note-requires-clause-going g c = (c.requires.begun.going.0, c.in_ok-head.ensures.on.going c.requires.begun.going.0 c.requires.begun.going.1)
+
+pub returns-in_err-head-clause-pass : goal.returns-in_err-head-clause-pass
+returns-in_err-head-clause-pass g c = c.in_err-head.ensures.pass
+
+pub returns-in_err-head-clause-goes : goal.returns-in_err-head-clause-goes
+returns-in_err-head-clause-goes g c = IfOk-from_err c.from_residual.result _ c.from_residual.ensures.0
+
+pub returns-in_err-head-clause-among : goal.returns-in_err-head-clause-among
+returns-in_err-head-clause-among g c = IfOk-from_err c.from_residual.result _ c.from_residual.ensures.0
+
+pub returns-in_err-head-clause-looked : goal.returns-in_err-head-clause-looked
+returns-in_err-head-clause-looked g c = IfOk-from_err c.from_residual.result _ c.from_residual.ensures.0
+
+pub returns-in_err-head-clause-reads : goal.returns-in_err-head-clause-reads
+returns-in_err-head-clause-reads g c = if_err c.from_residual.result c.in_err-head.field-0.0 _ c.from_residual.ensures.1
+    (λ limit began. not_by (state c.args.tx.now) c.in_err-head.field-0.0 began.unstopped (look_not_by g.T.Theory.meaning (state c.args.tx.now) (state c.load.new.self) c.in_err-head.ensures.on c.queue_head-head_word.result c.in_err-head.field-0.0 c.in_err-head.ensures.looked Reads limit))
+
+pub returns-in_err-head-clause-no_writes : goal.returns-in_err-head-clause-no_writes
+returns-in_err-head-clause-no_writes g c = if_err c.from_residual.result c.in_err-head.field-0.0 _ c.from_residual.ensures.1
+    (look_not_by g.T.Theory.meaning (state c.args.tx.now) (state c.load.new.self) c.in_err-head.ensures.on c.queue_head-head_word.result c.in_err-head.field-0.0 c.in_err-head.ensures.looked Writes)
+
+pub returns-in_err-head-clause-stopped : goal.returns-in_err-head-clause-stopped
+returns-in_err-head-clause-stopped g c = stays_on (state c.args.tx.now) (state c.load.new.self) c.from_residual.result c.in_err-head.field-0.0 c.from_residual.ensures.1
+    (after_stays (state c.args.tx.now) (state c.load.new.self) c.in_err-head.field-0.0 (Looked g.T.Theory.meaning (state c.args.tx.now) (state c.load.new.self) c.queue_head-head_word.result (Err c.in_err-head.field-0.0)) c.in_err-head.ensures.looked)
+
+pub returns-in_err-note-clause-pass : goal.returns-in_err-note-clause-pass
+returns-in_err-note-clause-pass g c = c.in_err-note.ensures.pass ∙ c.in_ok-head.ensures.pass
+
+pub returns-in_err-note-clause-goes : goal.returns-in_err-note-clause-goes
+returns-in_err-note-clause-goes g c = IfOk-from_err c.from_residual-in_err-note.result _ c.from_residual-in_err-note.ensures.0
+
+pub returns-in_err-note-clause-among : goal.returns-in_err-note-clause-among
+returns-in_err-note-clause-among g c = IfOk-from_err c.from_residual-in_err-note.result _ c.from_residual-in_err-note.ensures.0
+
+pub returns-in_err-note-clause-looked : goal.returns-in_err-note-clause-looked
+returns-in_err-note-clause-looked g c = IfOk-from_err c.from_residual-in_err-note.result _ c.from_residual-in_err-note.ensures.0
+
+pub returns-in_err-note-clause-no_writes : goal.returns-in_err-note-clause-no_writes
+returns-in_err-note-clause-no_writes g c = if_err c.from_residual-in_err-note.result c.in_err-note.field-0.0 _ c.from_residual-in_err-note.ensures.1
+    (λ limit. sym (look_goes g.T.Theory.meaning (state c.args.tx.now) (state c.load.new.self) c.in_ok-head.ensures.on c.queue_head-head_word.result c.in_ok-head.head c.in_ok-head.ensures.looked c.requires.begun.operates).same_stop
+    ∙ note_not_by g.T.Theory.meaning (state c.load.new.self) (state c.note.new.self) c.in_err-note.ensures.on c.queue_head-head_word.result c.in_ok-head.head c.in_err-note.field-0.0 c.in_err-note.ensures.noted Writes (λ e. cc e) limit)
+
+pub returns-in_err-note-clause-stopped : goal.returns-in_err-note-clause-stopped
+returns-in_err-note-clause-stopped g c s is = look_unstopped g.T.Theory.meaning (state c.args.tx.now) (state c.load.new.self) c.in_ok-head.ensures.on c.queue_head-head_word.result c.in_ok-head.head c.in_ok-head.ensures.looked s is
+
+pub returns-clause-pass : goal.returns-clause-pass
+returns-clause-pass g c = c.in_ok-note.ensures.pass ∙ c.in_ok-head.ensures.pass
+
+pub returns-clause-stop : goal.returns-clause-stop
+returns-clause-stop g c = tt
+
+pub returns-clause-reads : goal.returns-clause-reads
+returns-clause-reads g c = tt
+
+pub returns-clause-no_writes : goal.returns-clause-no_writes
+returns-clause-no_writes g c = tt
+
+pub returns-clause-stopped : goal.returns-clause-stopped
+returns-clause-stopped g c s is = look_unstopped g.T.Theory.meaning (state c.args.tx.now) (state c.load.new.self) c.in_ok-head.ensures.on c.queue_head-head_word.result c.in_ok-head.head c.in_ok-head.ensures.looked s is

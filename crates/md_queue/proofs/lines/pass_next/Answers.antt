@@ -1,4 +1,4 @@
-use Rattle.std.proofs.Common.{◌≡◌, ◌++◌, [], ◌∷◌, ap, sym, subst, ◌∙◌, arith, rules}
+use Rattle.std.proofs.Common.{◌≡◌, ◌++◌, [], ◌∷◌, ap, sym, subst, ◌∙◌, arith}
 use Rattle.md_words.specs.declared.shape.Shape.{Shape}
 use Rattle.md_words.specs.Layout.{address}
 use Rattle.md_words.specs.Link.{linked_node}
@@ -15,8 +15,8 @@ use Rattle.md_queue.proofs.Along.{ended, further, next_looked_at, next_noted}
 use Rattle.md_queue.proofs.Among.{among_from, among_to}
 use Rattle.md_queue.proofs.Data.{half_is}
 use Rattle.md_queue.proofs.Looking.{node_readable}
-use Rattle.md_queue.proofs.Steps.{goes_then, look_goes, look_ok, look_stops, note_among, note_goes, note_ok, note_stops, pass_goes, refused_then, refused_up}
-use Rattle.md_history.specs.declared.stops.Limit.TheVariants.{Reads}
+use Rattle.md_queue.proofs.Steps.{goes_then, look_goes, look_ok, look_stops, note_among, note_goes, note_ok, note_stops, pass_goes, refused_then, refused_up, look_not_by, note_not_by}
+use Rattle.md_history.specs.declared.stops.Limit.TheVariants.{Reads, Writes}
 use Rattle.md_history.specs.declared.stops.Stop.TheVariants.{Limit as Limited}
 use Rattle.std.proofs.Common.{refl}
 use Rattle.md_nbtc_law.specs.State.{shape_in}
@@ -24,7 +24,8 @@ use Rattle.md_queue.specs.Along.{words_along}
 use Rattle.md_queue.proofs.Along.{looked_on}
 use Rattle.md_queue.proofs.Full.{line_next_full}
 use Rattle.md_queue.proofs.Passing.{working_on}
-use Rattle.md_queue.proofs.Refusing.{began_on, note_unread, note_unwritten, note_was, was_after, if_err}
+use Rattle.md_queue.proofs.Refusing.{began_on, note_unread, note_unwritten, note_was, was_after, if_err, not_by}
+use Rattle.std.proofs.lemmas.Result.{IfOk-from_err}
 use Rattle.md_queue.proofs.lines.pass_next.Goals as goal
 
 pub load_next-requires : goal.load_next-requires
@@ -41,7 +42,7 @@ returns-in_err-next-clause-stop g c =
     let stop = c.in_err-next.field-0.0 in
     let refused : RefusedOtherwise M t u 1 0 stop = refused_up M t u 0 0 1 0 stop
     (look_stops M t u c.in_err-next.ensures.on (next_at t c.args.node) stop c.in_err-next.ensures.looked s.working.operates) (omega arith) (omega arith) in
-    search rules
+    if_err c.from_residual.result stop _ c.from_residual.ensures.1 refused
 
 pub note_next-requires : goal.note_next-requires
 note_next-requires g c =
@@ -79,7 +80,7 @@ returns-in_err-note_next-clause-stop g c =
     let refused : RefusedOtherwise M t v 1 0 stop = refused_then M t u v 0 0 0 0 1 0 stop
     (look_goes M t u on (next_at t c.args.node) next c.in_ok-next.ensures.looked s.working.operates)
     (note_stops M u v c.in_err-note_next.ensures.on (next_at u c.args.node) next stop c.in_err-note_next.ensures.noted) (omega arith) (omega arith) in
-    search rules
+    if_err c.from_residual-in_err-note_next.result stop _ c.from_residual-in_err-note_next.ensures.1 refused
 
 pub returns-then-next-eq0-clause-goes : goal.returns-then-next-eq0-clause-goes
 returns-then-next-eq0-clause-goes g c =
@@ -229,3 +230,64 @@ returns-in_err-note_next-clause-reads g c =
       line_next_full M g.T.Theory.lawful g.met.T.HasQueues.has_queues u queue cs dummy node seen l before word refl
           (note_unread M u v stop none word next limit told) (note_unwritten M u v stop none word next limit told) along,
     ))
+
+pub returns-in_err-next-clause-pass : goal.returns-in_err-next-clause-pass
+returns-in_err-next-clause-pass g c = c.in_err-next.ensures.pass
+
+pub returns-in_err-next-clause-goes : goal.returns-in_err-next-clause-goes
+returns-in_err-next-clause-goes g c = IfOk-from_err c.from_residual.result _ c.from_residual.ensures.0
+
+pub returns-in_err-next-clause-among : goal.returns-in_err-next-clause-among
+returns-in_err-next-clause-among g c = IfOk-from_err c.from_residual.result _ c.from_residual.ensures.0
+
+pub returns-in_err-next-clause-further : goal.returns-in_err-next-clause-further
+returns-in_err-next-clause-further g c = IfOk-from_err c.from_residual.result _ c.from_residual.ensures.0
+
+pub returns-in_err-next-clause-reads : goal.returns-in_err-next-clause-reads
+returns-in_err-next-clause-reads g c = if_err c.from_residual.result c.in_err-next.field-0.0 _ c.from_residual.ensures.1
+    (λ limit began. not_by (state c.args.tx.now) c.in_err-next.field-0.0 began.unstopped (look_not_by g.T.Theory.meaning (state c.args.tx.now) (state c.load_next.new.tx) c.in_err-next.ensures.on (next_at (state c.args.tx.now) c.args.node) c.in_err-next.field-0.0 c.in_err-next.ensures.looked Reads limit))
+
+pub returns-in_err-next-clause-no_writes : goal.returns-in_err-next-clause-no_writes
+returns-in_err-next-clause-no_writes g c = if_err c.from_residual.result c.in_err-next.field-0.0 _ c.from_residual.ensures.1
+    (look_not_by g.T.Theory.meaning (state c.args.tx.now) (state c.load_next.new.tx) c.in_err-next.ensures.on (next_at (state c.args.tx.now) c.args.node) c.in_err-next.field-0.0 c.in_err-next.ensures.looked Writes)
+
+pub returns-in_err-note_next-clause-pass : goal.returns-in_err-note_next-clause-pass
+returns-in_err-note_next-clause-pass g c = c.in_err-note_next.ensures.pass ∙ c.in_ok-next.ensures.pass
+
+pub returns-in_err-note_next-clause-goes : goal.returns-in_err-note_next-clause-goes
+returns-in_err-note_next-clause-goes g c = IfOk-from_err c.from_residual-in_err-note_next.result _ c.from_residual-in_err-note_next.ensures.0
+
+pub returns-in_err-note_next-clause-among : goal.returns-in_err-note_next-clause-among
+returns-in_err-note_next-clause-among g c = IfOk-from_err c.from_residual-in_err-note_next.result _ c.from_residual-in_err-note_next.ensures.0
+
+pub returns-in_err-note_next-clause-further : goal.returns-in_err-note_next-clause-further
+returns-in_err-note_next-clause-further g c = IfOk-from_err c.from_residual-in_err-note_next.result _ c.from_residual-in_err-note_next.ensures.0
+
+pub returns-in_err-note_next-clause-no_writes : goal.returns-in_err-note_next-clause-no_writes
+returns-in_err-note_next-clause-no_writes g c = if_err c.from_residual-in_err-note_next.result c.in_err-note_next.field-0.0 _ c.from_residual-in_err-note_next.ensures.1
+    (λ limit. sym (look_goes g.T.Theory.meaning (state c.args.tx.now) (state c.load_next.new.tx) c.in_ok-next.ensures.on (next_at (state c.args.tx.now) c.args.node) c.in_ok-next.next c.in_ok-next.ensures.looked c.requires.looked.4.working.operates).same_stop
+    ∙ note_not_by g.T.Theory.meaning (state c.load_next.new.tx) (state c.note_next.new.tx) c.in_err-note_next.ensures.on (next_at (state c.load_next.new.tx) c.args.node) c.in_ok-next.next c.in_err-note_next.field-0.0 c.in_err-note_next.ensures.noted Writes (λ e. cc e) limit)
+
+pub returns-then-next-eq0-clause-pass : goal.returns-then-next-eq0-clause-pass
+returns-then-next-eq0-clause-pass g c = c.in_ok-note_next.ensures.pass ∙ c.in_ok-next.ensures.pass
+
+pub returns-then-next-eq0-clause-stop : goal.returns-then-next-eq0-clause-stop
+returns-then-next-eq0-clause-stop g c = tt
+
+pub returns-then-next-eq0-clause-reads : goal.returns-then-next-eq0-clause-reads
+returns-then-next-eq0-clause-reads g c = tt
+
+pub returns-then-next-eq0-clause-no_writes : goal.returns-then-next-eq0-clause-no_writes
+returns-then-next-eq0-clause-no_writes g c = tt
+
+pub returns-clause-pass : goal.returns-clause-pass
+returns-clause-pass g c = c.value_of-value.ensures.pass ∙ c.in_ok-note_next.ensures.pass ∙ c.in_ok-next.ensures.pass
+
+pub returns-clause-stop : goal.returns-clause-stop
+returns-clause-stop g c = tt
+
+pub returns-clause-reads : goal.returns-clause-reads
+returns-clause-reads g c = tt
+
+pub returns-clause-no_writes : goal.returns-clause-no_writes
+returns-clause-no_writes g c = tt
