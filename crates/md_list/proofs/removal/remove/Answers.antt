@@ -463,3 +463,24 @@ note-requires-clause-operates g c = c.in_ok-found.ensures.leaves.operates
 
 pub field_of-value-requires-clause-going : goal.field_of-value-requires-clause-going
 field_of-value-requires-clause-going g c = (c.requires.begun.going.0, c.in_ok-found.ensures.leaves.on.going c.requires.begun.going.0 c.requires.begun.going.1)
+
+pub later-requires-clause-operates : goal.later-requires-clause-operates
+later-requires-clause-operates g c =
+    let M = g.T.Theory.meaning in
+    let s = state c.args.tx.now in
+    let t = state c.find.new.tx in
+    let v = state c.field_of-value.new.self in
+    let u = state c.exchange.new.self in
+    let found = c.in_ok-found.found in
+    let has = (found_on M g.T.Theory.lawful g.met.T.HasLists.has_lists t c.args.head c.args.key found (found_of g.T.Theory.meaning (state c.args.tx.now) (state c.find.new.tx) c.args.head c.args.key c.in_ok-found.found c.in_ok-found.ensures.found c.requires.begun c.requires.head) v
+    c.field_of-value.ensures.on c.field_of-value.ensures.same c.field_of-value.ensures.given).0 in
+    let next_is = c.node_next-next_word.ensures.place ∙ ap (λ x. address x (node_next found.node)) c.shape-2.ensures in
+    let here = is_there found.here c.if-not-found.false in
+    let gave = subst (λ x. Gave u x c.in_ok-exchange.field-0) next_is c.in_ok-exchange.ensures.gave in
+    let changed = subst (λ x. HasExchanged M v x found.next (found.next.value + 1) Critical u c.in_ok-exchange.field-0) next_is
+    (exchanged_ok M v u c.node_next-next_word.result found.next (found.next.value + 1) Critical c.in_ok-exchange.field-0 c.in_ok-exchange.ensures.exchanged) in
+    let did = marked_by M g.T.Theory.lawful g.met.T.HasLists.has_lists v c.args.head c.args.key found has here u c.in_ok-exchange.ensures.on c.in_ok-exchange.field-0 gave changed in
+    let on = c.field_of-value.ensures.on in
+    let value_read = leaves_more M s t v 0 0 0 0 0 0 c.in_ok-found.ensures.leaves c.field_of-value.ensures.on (adds_steps t v c.field_of-value.ensures.same) in
+    let marked = leaves_more M s v u 0 0 0 0 1 0 value_read c.in_ok-exchange.ensures.on (adds_change M v (next_word (shape_in v) found.node) found.next (found.next.value + 1) u c.in_ok-exchange.field-0 did) in
+    marked.operates
