@@ -3,12 +3,11 @@
 ghost use Rattle.std.specs.Prelude.{◌≡◌, None};
 ghost use Rattle.md_rule.specs.Views.{IsOf};
 
-use super::blank;
+use super::idle;
 use md_cell::CellTheory;
 use md_help::{End, settle_one};
 use md_rule::{Field, Pass};
 use md_words::Shape;
-use std::test::Fail;
 
 // Takes an attempt of the lowest lane that the pass has, if there is one left, and settles the
 // lane's descriptor.
@@ -28,14 +27,21 @@ fn settle_next(field: &Field<CellTheory>, pass: &mut Pass<CellTheory>) -> Option
     Some(settle_one(field, pass, desc))
 }
 
-#[test]
-fn an_attempt_that_is_not_ready_is_aborted_once(rt: HostRuntime) -> Result<(), Fail> {
-    let shape = Shape::new(2, 16, 1, 4, 1, 64, 1)?;
-    let (field, mut pass) = blank(rt.alloc(), shape)?;
-    assert_eq!(rt; settle_next(&field, &mut pass), Some(End::Aborted));
-    assert_eq!(rt; settle_next(&field, &mut pass), Some(End::Aborted));
+// The status of the descriptor 0.
+fn first_status(field: &Field<CellTheory>, pass: &mut Pass<CellTheory>) -> u64
+    requires { IsOf pass.old field.now }
+{
     let desc = field.shape().desc_of(0);
-    let status = field.shape().status(desc);
-    assert_eq!(rt; pass.load(&field, status), 3);
-    Ok(())
+    pass.load(field, field.shape().status(desc))
+}
+
+#[test]
+fn an_attempt_that_is_not_ready_is_aborted_once(rt: HostRuntime) {
+    let (field, mut pass) = idle(&rt, Shape::new(2, 16, 1, 4, 1, 64, 1));
+    let ends = [
+        settle_next(&field, &mut pass),
+        settle_next(&field, &mut pass),
+    ];
+    let found = (ends, first_status(&field, &mut pass));
+    assert_eq!(rt; found, ([Some(End::Aborted); 2], 3));
 }

@@ -4,14 +4,13 @@ ghost use Rattle.std.specs.Prelude.{◌≡◌, ◌<◌, ◌≤◌, ◌%◌, All,
 ghost use Rattle.md_machine.specs.declared.step.TheConstants.{LAST_COUNT};
 ghost use Rattle.md_rule.specs.Views.{IsOf};
 
-use super::blank;
+use super::{blank, join_one, part_of, split};
 use md_cell::CellTheory;
 use md_machine::step::LAST_COUNT;
 use md_rule::{Field, Pass};
 use md_words::{Content, Shape};
 use std::alloc::{AllocError, Global};
 use std::process::Abort;
-use std::test::Fail;
 use std::thread::{Threads, join};
 
 // What the cell holds.
@@ -65,15 +64,6 @@ fn churn_own(
     (churn(field, &mut pass, turns), pass)
 }
 
-// Joins two passes.
-fn join_one(field: &Field<CellTheory>, pass: &mut Pass<CellTheory>, other: Pass<CellTheory>)
-    requires of { IsOf pass.old field.now }
-    requires of_other { IsOf other field.now }
-    ensures { IsOf pass.new field.now }
-{
-    pass.join(field, other);
-}
-
 // Two threads churn, and their passes are joined: how many changes won.
 fn churn_both<R: Threads + Sync>(
     rt: &R,
@@ -110,15 +100,6 @@ fn held(pass: &Pass<CellTheory>) -> (u32, u64) {
     (lanes, bits)
 }
 
-// Splits a pass. None if it has one lane.
-fn split(field: &Field<CellTheory>, pass: &mut Pass<CellTheory>) -> Option<Pass<CellTheory>>
-    requires { IsOf pass.old field.now }
-    ensures kept { IsOf pass.new field.now }
-    ensures given { IfSome result (λ p. IsOf p field.now) }
-{
-    pass.split(field)
-}
-
 // Splits a pass that has several lanes. Those that it keeps and those that it gives have these bits.
 fn halved(
     rt: &impl Abort,
@@ -131,7 +112,7 @@ fn halved(
     ensures kept { IsOf pass.new field.now }
     ensures given { IsOf result field.now }
 {
-    let other = split(field, pass).expect(rt, "several lanes");
+    let other = part_of(rt, field, pass);
     let want = [(kept.count_ones(), kept), (given.count_ones(), given)];
     assert_eq!(rt; [held(pass), held(&other)], want);
     other
@@ -274,10 +255,9 @@ fn join_all(
 }
 
 #[test]
-fn two_passes_change_one_word_at_once(rt: HostRuntime) -> Result<(), Fail> {
-    let shape = Shape::new(2, 1, 0, 1, 1, 1, 0)?;
-    let (field, mut first) = blank(rt.alloc(), shape)?;
-    let second = split(&field, &mut first).expect(&rt, "two lanes");
+fn two_passes_change_one_word_at_once(rt: HostRuntime) {
+    let (field, mut first) = blank(&rt, Shape::new(2, 1, 0, 1, 1, 1, 0));
+    let second = part_of(&rt, &field, &mut first);
     let (won, mut pass) = churn_both(&rt, &field, first, second);
     let last = Content {
         value: 0,
@@ -285,13 +265,11 @@ fn two_passes_change_one_word_at_once(rt: HostRuntime) -> Result<(), Fail> {
     };
     let found = (cell(&field, &mut pass), pass.holds_all(&field));
     assert_eq!(rt; found, (last, true));
-    Ok(())
 }
 
 #[test]
-fn a_pass_of_the_only_lane_has_the_words(rt: HostRuntime) -> Result<(), Fail> {
-    let shape = Shape::new(1, 1, 0, 1, 1, 1, 0)?;
-    let (field, mut pass) = blank(rt.alloc(), shape)?;
+fn a_pass_of_the_only_lane_has_the_words(rt: HostRuntime) {
+    let (field, mut pass) = blank(&rt, Shape::new(1, 1, 0, 1, 1, 1, 0));
     let first = Content { value: 0, count: 0 };
     let last = Content {
         value: 0,
@@ -307,23 +285,19 @@ fn a_pass_of_the_only_lane_has_the_words(rt: HostRuntime) -> Result<(), Fail> {
         (churned, lost),
         ((true, 1000, last), (Err(last.word()), last))
     );
-    Ok(())
 }
 
 #[test]
-fn two_lanes_are_split_once(rt: HostRuntime) -> Result<(), Fail> {
-    let shape = Shape::new(2, 16, 1, 4, 1, 64, 1)?;
-    let (field, mut first) = blank(rt.alloc(), shape)?;
+fn two_lanes_are_split_once(rt: HostRuntime) {
+    let (field, mut first) = blank(&rt, Shape::new(2, 16, 1, 4, 1, 64, 1));
     let mut second = halved(&rt, &field, &mut first, 0b01, 0b10);
     assert_single(&rt, &field, &mut first, 0b01);
     assert_single(&rt, &field, &mut second, 0b10);
-    Ok(())
 }
 
 #[test]
-fn eight_lanes_are_split_and_joined(rt: HostRuntime) -> Result<(), Fail> {
-    let shape = Shape::new(8, 1, 0, 1, 1, 1, 0)?;
-    let (field, mut a) = blank(rt.alloc(), shape)?;
+fn eight_lanes_are_split_and_joined(rt: HostRuntime) {
+    let (field, mut a) = blank(&rt, Shape::new(8, 1, 0, 1, 1, 1, 0));
     assert!(rt; a.holds_all(&field));
     let mut b = halved(&rt, &field, &mut a, 0b0000_1111, 0b1111_0000);
     let mut c = halved(&rt, &field, &mut a, 0b0000_0011, 0b0000_1100);
@@ -332,17 +306,14 @@ fn eight_lanes_are_split_and_joined(rt: HostRuntime) -> Result<(), Fail> {
     joined(&rt, &field, &mut b, d, 0b1111_1000, false);
     joined(&rt, &field, &mut b, a, 0b1111_1011, false);
     joined(&rt, &field, &mut b, c, 0b1111_1111, true);
-    Ok(())
 }
 
 #[test]
-fn sixty_four_lanes_are_joined_in_another_order(rt: HostRuntime) -> Result<(), Fail> {
-    let shape = Shape::new(64, 1, 0, 1, 1, 1, 0)?;
-    let (field, first) = blank(rt.alloc(), shape)?;
-    let passes = split_all(rt.alloc(), &field, first)?;
+fn sixty_four_lanes_are_joined_in_another_order(rt: HostRuntime) {
+    let (field, first) = blank(&rt, Shape::new(64, 1, 0, 1, 1, 1, 0));
+    let passes = split_all(rt.alloc(), &field, first).expect(&rt, "memory");
     let parts = passes.len();
     let whole = join_all(&field, passes).expect(&rt, "64 passes");
     let found = (parts, whole.holds_all(&field), whole.lanes());
     assert_eq!(rt; found, (64, true, 64));
-    Ok(())
 }

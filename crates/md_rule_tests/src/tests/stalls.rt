@@ -6,15 +6,15 @@ ghost use Rattle.md_words.specs.Layout.{words_of};
 ghost use Rattle.md_machine.specs.declared.step.TheConstants.{LAST_COUNT};
 ghost use Rattle.md_rule.specs.Views.{IsOf};
 
+use super::idle;
 use md_cell::CellTheory;
 use md_help::{Cleared, End};
 use md_machine::step::LAST_COUNT;
 use md_rule::{Field, Pass};
 use md_stalls::{Met, insert, meet, stall};
-use md_tickets::{dispenser, renew, ticket_word};
+use md_tickets::{renew, ticket_word};
 use md_words::{Content, Shape};
 use std::process::Abort;
-use std::test::Fail;
 use std::thread::{Threads, join};
 
 const TURNS: u32 = 20000;
@@ -27,6 +27,30 @@ const STALLS: u32 = 500;
 struct Won {
     installs: u32,
     exchanges: u32,
+}
+
+// What a pass that has several lanes, and nothing in hand, gives when it is split.
+fn half_of(
+    rt: &impl Abort,
+    field: &Field<CellTheory>,
+    pass: &mut Pass<CellTheory>,
+) -> Pass<CellTheory>
+    requires field { IsOf pass.old field.now }
+    requires idle { pass.old.view.hand ≡ None }
+    ensures kept { IsOf pass.new field.now × (pass.new.view.hand ≡ None) }
+    ensures given { IsOf result field.now × (result.view.hand ≡ None) }
+{
+    pass.split(field).expect(rt, "several lanes")
+}
+
+// Joins two passes that have nothing in hand.
+fn join_idle(field: &Field<CellTheory>, pass: &mut Pass<CellTheory>, other: Pass<CellTheory>)
+    requires field { IsOf pass.old field.now × IsOf other field.now }
+    requires idle { (pass.old.view.hand ≡ None) × (other.view.hand ≡ None) }
+    ensures field { IsOf pass.new field.now }
+    ensures idle { pass.new.view.hand ≡ None }
+{
+    pass.join(field, other);
 }
 
 // The content of the word, unless a descriptor stood there, which is cleared then, or it may not be
@@ -124,7 +148,49 @@ fn turns_of_two<R: Threads + Sync>(
         || turns(field, one, TURNS),
         || turns(field, other, TURNS),
     );
-    pass.join(field, rest);
+    join_idle(field, &mut pass, rest);
+    let won = Won {
+        installs: first.installs + second.installs,
+        exchanges: first.exchanges + second.exchanges,
+    };
+    (won, pass)
+}
+
+// Four threads take their turns, and their passes are joined.
+fn turns_of_four<R: Threads + Sync>(
+    rt: &R,
+    field: &Field<CellTheory>,
+    a: Pass<CellTheory>,
+    b: Pass<CellTheory>,
+    c: Pass<CellTheory>,
+    d: Pass<CellTheory>,
+) -> (Won, Pass<CellTheory>)
+    requires a { IsOf a field.now × (a.view.hand ≡ None) }
+    requires b { IsOf b field.now × (b.view.hand ≡ None) }
+    requires c { IsOf c field.now × (c.view.hand ≡ None) }
+    requires d { IsOf d field.now × (d.view.hand ≡ None) }
+    ensures field { IsOf result.1 field.now }
+    ensures idle { result.1.view.hand ≡ None }
+    ensures few { (result.0.installs ≤ 80000) × (result.0.exchanges ≤ 80000) }
+{
+    let ((first, mut pass), (second, rest)) = join(
+        rt,
+        move || -> (Won, Pass<CellTheory>)
+            requires a { IsOf a field.now × (a.view.hand ≡ None) }
+            requires b { IsOf b field.now × (b.view.hand ≡ None) }
+            ensures field { IsOf result.1 field.entry.now }
+            ensures idle { result.1.view.hand ≡ None }
+            ensures few { (result.0.installs ≤ 40000) × (result.0.exchanges ≤ 40000) }
+        { turns_of_two(rt, field, a, b) },
+        move || -> (Won, Pass<CellTheory>)
+            requires c { IsOf c field.now × (c.view.hand ≡ None) }
+            requires d { IsOf d field.now × (d.view.hand ≡ None) }
+            ensures field { IsOf result.1 field.entry.now }
+            ensures idle { result.1.view.hand ≡ None }
+            ensures few { (result.0.installs ≤ 40000) × (result.0.exchanges ≤ 40000) }
+        { turns_of_two(rt, field, c, d) },
+    );
+    join_idle(field, &mut pass, rest);
     let won = Won {
         installs: first.installs + second.installs,
         exchanges: first.exchanges + second.exchanges,
@@ -250,10 +316,9 @@ fn assert_left(rt: &impl Abort, field: &Field<CellTheory>, pass: &mut Pass<CellT
 }
 
 #[test]
-fn a_transaction_that_stalls_is_aborted_and_taken_out(rt: HostRuntime) -> Result<(), Fail> {
-    let shape = Shape::new(2, 16, 1, 4, 1, 64, 1)?;
-    let (field, mut a) = dispenser(rt.alloc(), shape)?;
-    let mut b = a.split(&field).expect(&rt, "two lanes");
+fn a_transaction_that_stalls_is_aborted_and_taken_out(rt: HostRuntime) {
+    let (field, mut a) = idle(&rt, Shape::new(2, 16, 1, 4, 1, 64, 1));
+    let mut b = half_of(&rt, &field, &mut a);
     let held = [(423, 1), (424, 0), (425, 7), (1, 1)];
     assert_eq!(rt; stalled(&field, &mut a, 7), Some((true, held)));
     let cleared = Cleared {
@@ -262,13 +327,11 @@ fn a_transaction_that_stalls_is_aborted_and_taken_out(rt: HostRuntime) -> Result
     };
     let found = (meet(&field, &mut b), status_and_cell(&field, &mut b));
     assert_eq!(rt; found, (Met::Cleared(cleared), [(166, 3), (1, 2)]));
-    Ok(())
 }
 
 #[test]
-fn a_transaction_is_committed_by_its_pass(rt: HostRuntime) -> Result<(), Fail> {
-    let shape = Shape::new(2, 16, 1, 4, 1, 64, 1)?;
-    let (field, mut a) = dispenser(rt.alloc(), shape)?;
+fn a_transaction_is_committed_by_its_pass(rt: HostRuntime) {
+    let (field, mut a) = idle(&rt, Shape::new(2, 16, 1, 4, 1, 64, 1));
     let after = Content { value: 7, count: 2 };
     let cleared = Cleared {
         end: End::Committed,
@@ -281,14 +344,12 @@ fn a_transaction_is_committed_by_its_pass(rt: HostRuntime) -> Result<(), Fail> {
     );
     let met = [Met::Cleared(cleared), Met::Plain(after)];
     assert_eq!(rt; found, (Some(true), [(166, 2), (1, 1)], met));
-    Ok(())
 }
 
 #[test]
-fn another_pass_commits_a_ready_transaction(rt: HostRuntime) -> Result<(), Fail> {
-    let shape = Shape::new(2, 16, 1, 4, 1, 64, 1)?;
-    let (field, mut a) = dispenser(rt.alloc(), shape)?;
-    let mut b = a.split(&field).expect(&rt, "two lanes");
+fn another_pass_commits_a_ready_transaction(rt: HostRuntime) {
+    let (field, mut a) = idle(&rt, Shape::new(2, 16, 1, 4, 1, 64, 1));
+    let mut b = half_of(&rt, &field, &mut a);
     let after = Content { value: 7, count: 2 };
     let cleared = Cleared {
         end: End::Committed,
@@ -309,46 +370,30 @@ fn another_pass_commits_a_ready_transaction(rt: HostRuntime) -> Result<(), Fail>
         Met::Plain(after),
     );
     assert_eq!(rt; found, want);
-    Ok(())
 }
 
 #[test]
-fn a_pass_alone_clears_each_stalled_transaction(rt: HostRuntime) -> Result<(), Fail> {
-    let shape = Shape::new(4, 1, 0, 1, 1, 1, 0)?;
-    let (field, pass) = dispenser(rt.alloc(), shape)?;
+fn a_pass_alone_clears_each_stalled_transaction(rt: HostRuntime) {
+    let (field, pass) = idle(&rt, Shape::new(4, 1, 0, 1, 1, 1, 0));
     let (won, mut pass) = turns(&field, pass, TURNS);
     assert_eq!(rt; won.installs, 4);
     assert_left(&rt, &field, &mut pass, won);
-    Ok(())
 }
 
 #[test]
-fn two_threads_clear_stalled_transactions(rt: HostRuntime) -> Result<(), Fail> {
-    let shape = Shape::new(64, 1, 0, 1, 1, 1, 0)?;
-    let (field, mut one) = dispenser(rt.alloc(), shape)?;
-    let other = one.split(&field).expect(&rt, "64 lanes");
+fn two_threads_clear_stalled_transactions(rt: HostRuntime) {
+    let (field, mut one) = idle(&rt, Shape::new(64, 1, 0, 1, 1, 1, 0));
+    let other = half_of(&rt, &field, &mut one);
     let (won, mut pass) = turns_of_two(&rt, &field, one, other);
     assert_left(&rt, &field, &mut pass, won);
-    Ok(())
 }
 
 #[test]
-fn four_threads_clear_stalled_transactions(rt: HostRuntime) -> Result<(), Fail> {
-    let shape = Shape::new(64, 1, 0, 1, 1, 1, 0)?;
-    let (field, mut a) = dispenser(rt.alloc(), shape)?;
-    let mut c = a.split(&field).expect(&rt, "64 lanes");
-    let b = a.split(&field).expect(&rt, "32 lanes");
-    let d = c.split(&field).expect(&rt, "32 lanes");
-    let ((first, mut pass), (second, rest)) = join(
-        &rt,
-        || turns_of_two(&rt, &field, a, b),
-        || turns_of_two(&rt, &field, c, d),
-    );
-    pass.join(&field, rest);
-    let won = Won {
-        installs: first.installs + second.installs,
-        exchanges: first.exchanges + second.exchanges,
-    };
+fn four_threads_clear_stalled_transactions(rt: HostRuntime) {
+    let (field, mut a) = idle(&rt, Shape::new(64, 1, 0, 1, 1, 1, 0));
+    let mut c = half_of(&rt, &field, &mut a);
+    let b = half_of(&rt, &field, &mut a);
+    let d = half_of(&rt, &field, &mut c);
+    let (won, mut pass) = turns_of_four(&rt, &field, a, b, c, d);
     assert_left(&rt, &field, &mut pass, won);
-    Ok(())
 }
