@@ -1,6 +1,6 @@
 //! Bodies look at the first values of a queue.
 
-ghost use Rattle.std.specs.Prelude.{◌≡◌, length};
+ghost use Rattle.std.specs.Prelude.{◌≡◌, ◌≤◌, length};
 ghost use Rattle.md_history.specs.Plain.{IsPassOf};
 
 use crate::contents::{push, queue_is, queue_len};
@@ -161,18 +161,33 @@ impl Body for FirstValues {
     ghost did_makes = { λ b acts r did. did.follows };
 }
 
+// A queue with the values from 1 to `there`, as many as that.
+fn counted_queue(rt: &(impl Abort + AllocGlobal), there: u64) -> Contents
+    ensures { length result.queues ≡ 1 }
+{
+    let start = queue_of(rt, there);
+    assert_eq!(rt; queue_len(&start, 0), Some(there));
+    start
+}
+
+// What a body answers that looks at the first `n` values of the queue.
+fn first_values(store: &PlainStore, pass: &mut PlainPass, n: u8) -> Attempt<Line>
+    requires of { IsPassOf store.now pass.old }
+    requires queue { length store.now.queues ≡ 1 }
+    requires few { (1 ≤ n) × (n ≤ 12) }
+{
+    store.attempt(pass, 1, &FirstValues { n })
+}
+
 // A body looks at the first `n` values of a queue with the values from 1 to `there`, and gets
 // `count` of them.
 fn looks_at(rt: &(impl Abort + AllocGlobal), there: u64, n: u8, count: u8) {
     assert!(rt; 1 <= n && n <= 12);
-    let start = queue_of(rt, there);
-    assert_eq!(rt; queue_len(&start, 0), Some(there));
-    let (store, mut pass) = PlainStore::open(start);
-    let end = store.attempt(&mut pass, 1, &FirstValues { n });
-    let Attempt::Committed(line) = &end else {
+    let (store, mut pass) = PlainStore::open(counted_queue(rt, there));
+    let Attempt::Committed(line) = first_values(&store, &mut pass, n) else {
         panic!(rt; "not committed: {n} of {there}")
     };
-    has_first(rt, line, count);
+    has_first(rt, &line, count);
 }
 
 // What a line has of a queue with the values from 1 on: how many there are, how many are asked for,

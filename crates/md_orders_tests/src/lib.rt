@@ -1,5 +1,5 @@
 //! Tests of order files: bytes from outside, the commands that they write, and reports to their last
-//! byte.
+//! byte. And of the order book: days of commands over the store for one thread, and the limits.
 #![tactic(auto)]
 
 #[cfg(test)]

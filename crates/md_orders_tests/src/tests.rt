@@ -1,5 +1,6 @@
-//! What no clause says: that calls succeed, and bytes, commands and reports from outside.
+//! What no clause says: that calls succeed, and bytes, commands, days and reports from outside.
 
+mod book;
 mod in_threads;
 mod longest;
 mod making;

@@ -1,29 +1,22 @@
 //! Streams over readers and writers of std.
 
-use crate::logs::{read_log, write_log};
+use crate::logs::{reads, writes};
 use md_outside::{StdSink, StdSource};
-use std::alloc::Global;
+use std::alloc::AllocGlobal;
 use std::io::{self, ErrorKind, Read, Write};
-use std::test::Fail;
+use std::process::Abort;
 
 #[test]
-fn readers_of_std_pass_all_bytes(rt: HostRuntime) -> Result<(), Fail> {
+fn readers_of_std_pass_all_bytes(rt: HostRuntime) {
     let mut source = StdSource::new(b"hello".as_slice());
-    let log = read_log(rt.alloc(), &mut source, 4)?;
-    assert_eq!(rt; log.as_slice(), b"hel|lo|..".as_slice());
-    Ok(())
+    reads(&rt, &mut source, 4, b"hel|lo|..");
 }
 
 #[test]
-fn writers_of_std_pass_all_bytes(rt: HostRuntime) -> Result<(), Fail> {
+fn writers_of_std_pass_all_bytes(rt: HostRuntime) {
     let mut written = Vec::new(rt.alloc());
-    let mut sink = StdSink::new(&mut written);
-    let log = write_log(rt.alloc(), &mut sink, b"hello", 3)?;
-    assert_eq!(rt;
-        (log.as_str(), written.as_slice()),
-        ("5|", b"hello".as_slice())
-    );
-    Ok(())
+    writes(&rt, &mut StdSink::new(&mut written), "5|");
+    assert_eq!(rt; written.as_slice(), b"hello".as_slice());
 }
 
 // A reader that gives one letter at a call, in order, but for one call, which is interrupted.
@@ -50,15 +43,13 @@ impl Read for Letters {
 }
 
 #[test]
-fn a_reader_that_fails_once_goes_on(rt: HostRuntime) -> Result<(), Fail> {
+fn a_reader_that_fails_once_goes_on(rt: HostRuntime) {
     let mut source = StdSource::new(Letters {
         next: b'a',
         calls: 0,
         failing: 3,
     });
-    let log = read_log(rt.alloc(), &mut source, 5)?;
-    assert_eq!(rt; log.as_slice(), b"a|b|!c|d|".as_slice());
-    Ok(())
+    reads(&rt, &mut source, 5, b"a|b|!c|d|");
 }
 
 // A writer that takes at most so many bytes at a call, and counts them and its flushes, one of
@@ -87,25 +78,21 @@ impl Write for Counter {
     }
 }
 
-// What three writes of `hello` answer, if the writer takes at most so many bytes at a call and the
-// second flush fails; how many bytes it took, and how often it was flushed.
-fn write_hello(alloc: Global, most: usize) -> Result<(String, usize, u8), Fail> {
+// Three writes of `hello` give this log, if the writer takes at most so many bytes at a call and the
+// second flush fails. It takes so many bytes then, and is flushed three times.
+fn flushes<R: Abort + AllocGlobal>(rt: &R, most: usize, want: &str, taken: usize) {
     let mut writer = Counter {
         most,
         taken: 0,
         flushes: 0,
         failing: 2,
     };
-    let mut sink = StdSink::new(&mut writer);
-    let log = write_log(alloc, &mut sink, b"hello", 3)?;
-    Ok((log, writer.taken, writer.flushes))
+    writes(rt, &mut StdSink::new(&mut writer), want);
+    assert_eq!(rt; (writer.taken, writer.flushes), (taken, 3));
 }
 
 #[test]
-fn each_write_is_flushed(rt: HostRuntime) -> Result<(), Fail> {
-    for (most, want, taken) in [(2, "2|!2|", 6), (0, "!!!", 0)] {
-        let (log, bytes, flushes) = write_hello(rt.alloc(), most)?;
-        assert_eq!(rt; (log.as_str(), bytes, flushes), (want, taken, 3));
-    }
-    Ok(())
+fn each_write_is_flushed(rt: HostRuntime) {
+    flushes(&rt, 2, "2|!2|", 6);
+    flushes(&rt, 0, "!!!", 0);
 }

@@ -1,5 +1,5 @@
 use Rattle.md_history.specs.Plain.{IsPassOf}
-use Rattle.md_book_tests.proofs.tests.first_other.Given as goal
+use Rattle.md_orders_tests.proofs.tests.book.first_other.Given as goal
 
 abbrev pub invariant-loop-row : goal.invariant-loop-row
 invariant-loop-row l = IsPassOf l.store l.pass

@@ -1,12 +1,20 @@
 //! The addresses of a field with two lanes.
 
-use md_words::{SET, Shape, ShapeFault};
-use std::test::Fail;
+use md_words::{SET, Shape};
+use std::process::Abort;
 
 // Two lanes with 16 nodes and four attempts each, one base node, a map with 64 buckets, and a
 // queue.
-fn two_lanes() -> Result<Shape, ShapeFault> {
-    Shape::new(2, 16, 1, 4, 1, 64, 1)
+fn two_lanes(rt: &impl Abort) -> Shape {
+    Shape::new(2, 16, 1, 4, 1, 64, 1).expect(rt, "a shape")
+}
+
+// The head of the bucket of a key in the first map. `None` if there is no map.
+fn map_word(shape: &Shape, key: u64) -> Option<u32> {
+    if shape.maps == 0 {
+        return None;
+    }
+    Some(shape.map_head(0, key))
 }
 
 // The head and the tail of a queue. `None` if there is no such queue.
@@ -58,37 +66,38 @@ fn owned(shape: &Shape, lane: u32) -> Option<[u32; 2]> {
 }
 
 #[test]
-fn heads_and_nodes(rt: HostRuntime) -> Result<(), Fail> {
-    let shape = two_lanes()?;
-    for (key, want) in [(1, 2), (64, 1)] {
-        assert_eq!(rt; shape.map_head(0, key), want);
-    }
+fn heads_and_nodes(rt: HostRuntime) {
+    let shape = two_lanes(&rt);
+    let heads = [map_word(&shape, 1), map_word(&shape, 64)];
+    assert_eq!(rt; heads, [Some(2), Some(1)]);
     assert_eq!(rt; queue_words(&shape, 0), Some([65, 66]));
-    for (node, want) in [(1, [67, 68, 69]), (2, [70, 71, 72])] {
-        assert_eq!(rt; node_words(&shape, node), Some(want));
-    }
-    Ok(())
+    let nodes = [node_words(&shape, 1), node_words(&shape, 2)];
+    assert_eq!(rt; nodes, [Some([67, 68, 69]), Some([70, 71, 72])]);
 }
 
 #[test]
-fn descriptors(rt: HostRuntime) -> Result<(), Fail> {
-    let shape = two_lanes()?;
-    for (desc, i, want) in [
-        (0, 0, [166, 167, 168, 423, 424, 425]),
-        (1, 0, [807, 808, 809, 1064, 1065, 1066]),
-        (1, 127, [807, 1062, 1063, 1445, 1446, 1447]),
-    ] {
-        assert_eq!(rt; desc_words(&shape, desc, i), Some(want));
-    }
-    for (lane, want) in [(0, [2, 0]), (1, [18, 1])] {
-        assert_eq!(rt; owned(&shape, lane), Some(want));
-    }
-    Ok(())
+fn descriptors(rt: HostRuntime) {
+    let shape = two_lanes(&rt);
+    let words = [
+        desc_words(&shape, 0, 0),
+        desc_words(&shape, 1, 0),
+        desc_words(&shape, 1, 127),
+    ];
+    let want = [
+        Some([166, 167, 168, 423, 424, 425]),
+        Some([807, 808, 809, 1064, 1065, 1066]),
+        Some([807, 1062, 1063, 1445, 1446, 1447]),
+    ];
+    assert_eq!(rt; words, want);
+    assert_eq!(rt;
+        [owned(&shape, 0), owned(&shape, 1)],
+        [Some([2, 0]), Some([18, 1])]
+    );
 }
 
 #[test]
-fn counted_words(rt: HostRuntime) -> Result<(), Fail> {
-    let shape = two_lanes()?;
+fn counted_words(rt: HostRuntime) {
+    let shape = two_lanes(&rt);
     for (word, want) in [
         (0, false),
         (2, true),
@@ -100,5 +109,4 @@ fn counted_words(rt: HostRuntime) -> Result<(), Fail> {
     ] {
         assert_eq!(rt; shape.is_counted(word), want, "at {word}");
     }
-    Ok(())
 }
