@@ -1,5 +1,5 @@
 //! Stores that are opened, divided, put together again, settled, renewed and closed, without
-//! transactions; `attempts` runs bodies.
+//! transactions; `attempts` runs bodies, and `fields` opens fields alone.
 
 ghost use Rattle.std.specs.Prelude.{◌≤◌, IfOk};
 ghost use Rattle.md_history.specs.Engine.{needed};
@@ -12,6 +12,7 @@ use std::alloc::{AllocGlobal, Global};
 use std::process::Abort;
 
 mod attempts;
+mod fields;
 mod trials;
 
 // Two pairs in two maps, and three values in two queues.

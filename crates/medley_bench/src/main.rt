@@ -5,8 +5,6 @@
 mod field;
 mod fill;
 mod steps;
-#[cfg(test)]
-mod tests;
 
 use field::{Sizing, measured};
 use md_words::Shape;

@@ -1,7 +1,7 @@
 use Rattle.std.proofs.Common.{sym, subst}
 use Rattle.md_rule.specs.Closing.{MayClose}
-use Rattle.medley_bench.proofs.Unstepped.{may_close}
-use Rattle.medley_bench.proofs.tests.closed.Goals as goal
+use Rattle.md_store_tests.proofs.Unstepped.{may_close}
+use Rattle.md_store_tests.proofs.tests.fields.closed.Goals as goal
 
 pub close-requires-clause-may : goal.close-requires-clause-may
 close-requires-clause-may g c =
