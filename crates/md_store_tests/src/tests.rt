@@ -1,7 +1,7 @@
 //! Stores that are opened, divided, put together again, settled, renewed and closed, without
 //! transactions; `attempts` runs bodies, and `fields` opens fields alone.
 
-ghost use Rattle.std.specs.Prelude.{◌≤◌, IfOk};
+ghost use Rattle.std.specs.Prelude.{◌≤◌, IfOk, IfSome};
 ghost use Rattle.md_history.specs.Engine.{needed};
 ghost use Rattle.md_store.specs.Store.{IsFresh, IsPassOf, room_of, start_of};
 
@@ -23,6 +23,14 @@ fn pairs_and_values<R: Abort + AllocGlobal>(rt: &R) -> Contents {
     contents.push(0, 1).expect(rt, "memory");
     contents.push(0, 2).expect(rt, "memory");
     contents.push(1, 3).expect(rt, "memory");
+    contents
+}
+
+// A pair in a map, and a value in a queue.
+fn pair_and_value<R: Abort + AllocGlobal>(rt: &R, key: u64, value: u64, first: u64) -> Contents {
+    let mut contents = Contents::empty(rt.alloc(), 1, 1).expect(rt, "memory");
+    contents.put(0, key, value).expect(rt, "memory");
+    contents.push(0, first).expect(rt, "memory");
     contents
 }
 
@@ -137,14 +145,23 @@ fn a_queue_needs_a_base_node(rt: HostRuntime) {
     assert_eq!(rt; fault, Some(OpenFault::NoRoom { needed: 1, base: 0 }));
 }
 
+// Divides a store: the other part. `None` if the pass has one lane.
+fn split(store: &Store, pass: &mut StorePass) -> Option<StorePass>
+    requires { IsPassOf store.now pass.old }
+    ensures kept { IsPassOf store.now pass.new }
+    ensures given { IfSome result (λ p. IsPassOf store.now p) }
+{
+    store.split(pass)
+}
+
 // Divides a store of two lanes, and puts it together again.
 fn part_and_meet(rt: &impl Abort, store: &Store, pass: &mut StorePass)
     requires { IsPassOf store.now pass.old }
     ensures { IsPassOf store.now pass.new }
 {
-    let second = store.split(pass).expect(rt, "two lanes");
+    let second = split(store, pass).expect(rt, "two lanes");
     assert_eq!(rt; [pass.pass.lanes(), second.pass.lanes()], [1, 1]);
-    assert!(rt; store.split(pass).is_none());
+    assert!(rt; split(store, pass).is_none());
     store.join(pass, second);
 }
 

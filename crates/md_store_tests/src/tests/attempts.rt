@@ -47,7 +47,25 @@ impl Body for EachCall {
     ghost did_makes = { λ b acts r did. did.follows };
 }
 
-// Runs a body, if the store has a map and a queue: its end is this.
+// Runs a body, if the store has a map and a queue.
+fn end_of(
+    rt: &impl Abort,
+    store: &Store,
+    pass: &mut StorePass,
+    tag: u64,
+    body: EachCall,
+) -> Attempt<Option<u64>>
+    requires { IsPassOf store.now pass.old }
+    ensures { IsPassOf store.now pass.new }
+{
+    let shape = store.field().shape();
+    if shape.maps == 0 || shape.queues == 0 {
+        panic!(rt; "a map and a queue")
+    }
+    store.attempt(pass, tag, &body)
+}
+
+// Runs a body: its end is this.
 fn ends(
     rt: &impl Abort,
     store: &Store,
@@ -59,19 +77,7 @@ fn ends(
     requires of { IsPassOf store.now pass.old }
     ensures of { IsPassOf store.now pass.new }
 {
-    let shape = store.field().shape();
-    if shape.maps == 0 || shape.queues == 0 {
-        panic!(rt; "a map and a queue")
-    }
-    assert_eq!(rt; store.attempt(pass, tag, &body), end);
-}
-
-// A pair in a map, and a value in a queue.
-fn pair_and_value<R: Abort + AllocGlobal>(rt: &R, key: u64, value: u64, first: u64) -> Contents {
-    let mut contents = Contents::empty(rt.alloc(), 1, 1).expect(rt, "memory");
-    contents.put(0, key, value).expect(rt, "memory");
-    contents.push(0, first).expect(rt, "memory");
-    contents
+    assert_eq!(rt; end_of(rt, store, pass, tag, body), end);
 }
 
 #[test]

@@ -3,6 +3,7 @@
 ghost use Rattle.std.specs.Prelude.{◌≡◌};
 ghost use Rattle.md_machine.specs.Event.{first_pass};
 ghost use Rattle.md_rule.specs.Views.{IsOf};
+ghost use Rattle.md_store_law.specs.Opens.{OpensWith};
 
 use super::*;
 use md_machine::Theory;
@@ -27,24 +28,41 @@ fn bits_of(words: &[u64]) -> u64 {
     bits
 }
 
-// The words of contents that are of a shape and fit it, and those that a field leaves which was
-// opened with them.
-fn laid_and_closed<R: Abort + AllocGlobal>(
-    rt: &R,
-    shape: Result<Shape, ShapeFault>,
-    contents: &Contents,
-) -> (Vec<u64>, Vec<u64>) {
-    let shape = shape.expect(rt, "a shape");
+// The words of contents, if they are of the shape and fit it.
+fn laid<R: Abort + AllocGlobal>(rt: &R, shape: &Shape, contents: &Contents) -> Vec<u64>
+    ensures { OpensWith shape.now result.items contents.now }
+{
     let maps = contents.maps().len() == shape.maps as usize;
     let queues = contents.queues().len() == shape.queues as usize;
     if !maps || !queues || needed(contents) > shape.base as u64 {
         panic!(rt; "another shape")
     }
-    let words = lay(rt.alloc(), &shape, contents).expect(rt, "memory");
+    lay(rt.alloc(), shape, contents).expect(rt, "memory")
+}
+
+// The words of contents, and those that a field leaves which was opened with them.
+fn laid_and_closed<R: Abort + AllocGlobal>(
+    rt: &R,
+    shape: Shape,
+    contents: &Contents,
+) -> (Vec<u64>, Vec<u64>) {
+    let words = laid(rt, &shape, contents);
     let copy = words.clone().expect(rt, "memory");
     let opened = Field::<StoreTheory>::open(rt.alloc(), shape, words);
     let (field, pass) = opened.expect(rt, "memory");
     (copy, closed(rt, field, pass))
+}
+
+// A field that is opened with contents and closed leaves their words, and so many.
+fn leaves<R: Abort + AllocGlobal>(
+    rt: &R,
+    shape: Result<Shape, ShapeFault>,
+    contents: &Contents,
+) -> usize {
+    let shape = shape.expect(rt, "a shape");
+    let (laid, left) = laid_and_closed(rt, shape, contents);
+    assert_eq!(rt; left, laid);
+    left.len()
 }
 
 #[test]
@@ -59,11 +77,8 @@ fn an_empty_field_is_closed_as_it_was_opened(rt: HostRuntime) {
 #[test]
 fn a_laid_field_is_closed_as_it_was_opened(rt: HostRuntime) {
     let empty = Contents::empty(rt.alloc(), 1, 1).expect(&rt, "memory");
-    let (laid, left) = laid_and_closed(&rt, Shape::new(2, 16, 1, 4, 1, 64, 1), &empty);
-    assert_eq!(rt; (left.len(), &left), (1448, &laid));
-    let mut contents = Contents::empty(rt.alloc(), 1, 1).expect(&rt, "memory");
-    contents.put(0, 5, 6).expect(&rt, "memory");
-    contents.push(0, 7).expect(&rt, "memory");
-    let (laid, left) = laid_and_closed(&rt, Shape::new(2, 16, 4, 4, 1, 64, 1), &contents);
-    assert_eq!(rt; left, laid);
+    let words = leaves(&rt, Shape::new(2, 16, 1, 4, 1, 64, 1), &empty);
+    assert_eq!(rt; words, 1448);
+    let contents = pair_and_value(&rt, 5, 6, 7);
+    leaves(&rt, Shape::new(2, 16, 4, 4, 1, 64, 1), &contents);
 }

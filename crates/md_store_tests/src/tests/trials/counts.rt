@@ -65,13 +65,17 @@ fn counts_in(contents: &Contents) -> Option<(usize, usize, Found)> {
     Some((map.len(), queue.len(), found))
 }
 
+// How many numbers threads found, and whether these are the numbers from 0 on.
+fn found_by<R: Abort + AllocGlobal>(rt: &R, threads: &[Vec<Found>]) -> (u64, bool) {
+    let numbers = numbers_found(rt, threads).expect(rt, "copies that rise");
+    (numbers.len() as u64, are_all_numbers(&numbers))
+}
+
 #[test]
 fn four_threads_count(rt: HostRuntime) {
     let ran = counted(&rt);
-    let numbers = numbers_found(&rt, &ran.replies).expect(&rt, "copies that rise");
     let all = 4 * TURNS as u64;
-    assert_eq!(rt; numbers.len() as u64, all);
-    assert!(rt; are_all_numbers(&numbers));
+    assert_eq!(rt; found_by(&rt, &ran.replies), (all, true));
     let count = Some(all);
     assert_eq!(rt; counts_in(&ran.left), Some((1, 1, (count, count))));
 }

@@ -192,8 +192,7 @@ fn run_two<R: Abort + AllocGlobal>(
 
 // What is left is what the store for one thread contains.
 fn leaves<R: Abort>(rt: &R, plain: Plain, left: &Contents) {
-    let want = plain.contents(rt);
-    assert_eq!(rt; (left.maps(), left.queues()), (want.maps(), want.queues()));
+    assert_same(rt, left, &plain.contents(rt));
 }
 
 // A shape with two maps and two queues.

@@ -7,6 +7,9 @@ use std::thread::Threads;
 // What each of the two keys has at first.
 const START: u64 = 1000;
 
+// How many keys a map has, and what key 1 has and key 2.
+type Keys = (usize, Option<u64>, Option<u64>);
+
 // The transfers of a thread: those of an even one go from key 1 to key 2, those of an odd one go
 // back. Every third only looks.
 fn transfers_of<R: Abort + AllocGlobal>(rt: &R, thread: u64) -> Vec<Transfer> {
@@ -75,18 +78,27 @@ fn two_keys<R: Abort + AllocGlobal>(rt: &R) -> Contents {
 }
 
 // How many keys the first map has, and what key 1 has and key 2.
-fn keys_in(contents: &Contents) -> Option<(usize, Option<u64>, Option<u64>)> {
+fn keys_in(contents: &Contents) -> Option<Keys> {
     let keys = contents.maps().first()?;
     Some((keys.len(), keys.get(&1).copied(), keys.get(&2).copied()))
 }
 
+// Threads make transfers, and each sees the sum. What key 1 has after them, and what the keys have
+// in the end.
+fn sums_after<R: Abort + AllocGlobal + Threads + Sync>(
+    rt: &R,
+    own: &[Vec<Transfer>],
+) -> (u64, Option<Keys>) {
+    let ran = run_on_new(rt, &two_keys(rt), own);
+    let left = left_after(own, &ran.replies).expect(rt, "the sum each time");
+    (left, keys_in(&ran.left))
+}
+
 // So many threads move value. Each saw the sum, and the end has what the moves add up to.
 fn keep_a_sum<R: Abort + AllocGlobal + Threads + Sync>(rt: &R, threads: u64) {
-    let own = transfers_of_all(rt, threads);
-    let ran = run_on_new(rt, &two_keys(rt), &own);
-    let left = left_after(&own, &ran.replies).expect(rt, "the sum each time");
+    let (left, keys) = sums_after(rt, &transfers_of_all(rt, threads));
     let there = (2 * START).wrapping_sub(left);
-    assert_eq!(rt; keys_in(&ran.left), Some((2, Some(left), Some(there))));
+    assert_eq!(rt; keys, Some((2, Some(left), Some(there))));
 }
 
 #[test]

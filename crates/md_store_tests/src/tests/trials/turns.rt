@@ -118,11 +118,17 @@ fn last_keys<R: Abort + AllocGlobal>(rt: &R) -> BTreeMap<u64, u64> {
     keys
 }
 
+// Whether the values that threads took and those that are left in the first queue are those of all
+// turns.
+fn are_all_there<R: Abort + AllocGlobal>(rt: &R, threads: &[Vec<Turned>], left: &Contents) -> bool {
+    let queue = left.queues().first().expect(rt, "a queue");
+    let values = values_of(rt, threads, queue).expect(rt, "whole turns in order");
+    values == all_values(rt)
+}
+
 #[test]
 fn four_threads_take_turns(rt: HostRuntime) {
     let Ran { replies, left } = turned(&rt);
-    let queue = left.queues().first().expect(&rt, "a queue");
-    let values = values_of(&rt, &replies, queue).expect(&rt, "whole turns in order");
-    assert!(rt; values == all_values(&rt));
+    assert!(rt; are_all_there(&rt, &replies, &left));
     assert_eq!(rt; left.maps().first(), Some(&last_keys(&rt)));
 }
