@@ -1,6 +1,5 @@
 //! Commands over the store for one thread.
 
-ghost use Rattle.std.specs.Prelude.{IfOk};
 ghost use Rattle.md_history.specs.Plain.{IsPassOf};
 ghost use Rattle.md_book.specs.Stands.{IsBookSized};
 
@@ -14,17 +13,31 @@ use lawful::is_lawful;
 use md_book::{LEVELS, MAPS};
 use md_history::{Attempt, Contents, Engine, PlainPass, PlainStore};
 use rows::step_in;
-use std::alloc::Global;
-use std::test::Fail;
+use std::alloc::AllocGlobal;
+use std::process::Abort;
+
+// Whether a command gets the reply beside it.
+fn gets_its_reply(rt: &impl Abort, store: &PlainStore, pass: &mut PlainPass, row: &str) -> bool
+    requires sized { IsBookSized store.now }
+    requires of { IsPassOf store.now pass.old }
+    ensures { IsPassOf store.now pass.new }
+{
+    let (command, reply) = step_in(row).expect(rt, "a row that can be read");
+    if !is_lawful(command) {
+        panic!(rt; "a command is out of range")
+    }
+    store.attempt(pass, 1, &command) == Attempt::Committed(reply)
+}
 
 // Plays the rows of a day, each on a line of its own, up to the first whose reply is another than
 // the one beside it. It answers how many had their replies, and that row or nothing. A line without
 // the sign `|` is a remark.
 fn first_other<'a>(
+    rt: &impl Abort,
     store: &PlainStore,
     pass: &mut PlainPass,
     day: &'a str,
-) -> Result<(u32, &'a str), Fail>
+) -> (u32, &'a str)
     requires sized { IsBookSized store.now }
     requires of { IsPassOf store.now pass.old }
     ensures { IsPassOf store.now pass.new }
@@ -32,28 +45,39 @@ fn first_other<'a>(
     let mut played = 0u32;
     for row in day.lines() {
         if row.contains('|') {
-            let Some((command, reply)) = step_in(row) else {
-                return Err(Fail::new("a row can't be read"));
-            };
-            if !is_lawful(command) {
-                return Err(Fail::new("a command is out of range"));
-            }
-            if store.attempt(pass, 1, &command) != Attempt::Committed(reply) {
-                return Ok((played, row));
+            if !gets_its_reply(rt, store, pass, row) {
+                return (played, row);
             }
             played = played.saturating_add(1);
         }
     }
-    Ok((played, ""))
+    (played, "")
 }
 
-// Plays the rows of a day on an empty book, as `first_other` does. It answers what the store
-// contains then, too.
-fn play(alloc: Global, day: &str) -> Result<((u32, &str), Contents), Fail>
-    ensures { IfOk result (λ r. IsBookSized r.1) }
+// A store with an empty book.
+fn empty_book<R: Abort + AllocGlobal>(rt: &R) -> (PlainStore, PlainPass)
+    ensures sized { IsBookSized result.0 }
+    ensures of { IsPassOf result.0 result.1 }
 {
-    let (store, mut pass) = PlainStore::open(Contents::empty(alloc, MAPS, LEVELS)?);
-    let played = first_other(&store, &mut pass, day)?;
-    let (contents, _) = store.contents(pass)?;
-    Ok((played, contents))
+    PlainStore::open(Contents::empty(rt.alloc(), MAPS, LEVELS).expect(rt, "memory"))
+}
+
+// So many rows of a day, all that it has, get their replies.
+fn assert_played(rt: &impl Abort, store: &PlainStore, pass: &mut PlainPass, day: &str, rows: u32)
+    requires sized { IsBookSized store.now }
+    requires of { IsPassOf store.now pass.old }
+    ensures { IsPassOf store.now pass.new }
+{
+    assert_eq!(rt; first_other(rt, store, pass, day), (rows, ""));
+}
+
+// Plays the rows of a day on an empty book, so many of them. It answers what the store contains
+// then.
+fn play<R: Abort + AllocGlobal>(rt: &R, day: &str, rows: u32) -> Contents
+    ensures { IsBookSized result }
+{
+    let (store, mut pass) = empty_book(rt);
+    assert_played(rt, &store, &mut pass, day, rows);
+    let (contents, _) = store.contents(pass).expect(rt, "memory");
+    contents
 }

@@ -2,10 +2,9 @@
 
 use super::play;
 use md_book::{DEPTHS, OPEN_ORDERS, order_name};
-use std::test::Fail;
 
 #[test]
-fn trades(rt: HostRuntime) -> Result<(), Fail> {
+fn trades(rt: HostRuntime) {
     let day = "
         # each kind
         P 1:1 7 S 100 5 | placed
@@ -85,7 +84,7 @@ fn trades(rt: HostRuntime) -> Result<(), Fail> {
         A 77 | bought 0 sold 4
         D S 600 | depth 1
     ";
-    let (played, contents) = play(rt.alloc(), day)?;
+    let contents = play(&rt, day, 69);
     let last = order_name(1, 72);
     let left = [
         contents.get(OPEN_ORDERS, last),
@@ -94,12 +93,11 @@ fn trades(rt: HostRuntime) -> Result<(), Fail> {
         contents.queue(1599).front().copied(),
     ];
     let want = [Some(167_059_128_321), Some(1), None, Some(last)];
-    assert_eq!(rt; (played, left), ((69, ""), want));
-    Ok(())
+    assert_eq!(rt; left, want);
 }
 
 #[test]
-fn a_fill_looks_at_twelve_places(rt: HostRuntime) -> Result<(), Fail> {
+fn a_fill_looks_at_twelve_places(rt: HostRuntime) {
     let day = "
         # five orders, all within its places
         P 1:1 7 S 100 1 | placed
@@ -136,7 +134,5 @@ fn a_fill_looks_at_twelve_places(rt: HostRuntime) -> Result<(), Fail> {
         D S 300 | depth 7
         C 64:1000000 | cancelled 7
     ";
-    let (played, _) = play(rt.alloc(), day)?;
-    assert_eq!(rt; played, (30, ""));
-    Ok(())
+    play(&rt, day, 30);
 }

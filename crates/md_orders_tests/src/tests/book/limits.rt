@@ -5,11 +5,10 @@ use md_book::{
     MAX_CALLER, MAX_PARTS, MAX_PRICE, MAX_QUANTITY, MAX_SCRIPT_LINE, OPEN_ORDERS,
     PLACES_IN_VERSION_1, PLACES_IN_VERSION_2, SOLD,
 };
-use std::test::Fail;
 
 // All else stands by these names alone, so no proof can tell a wrong number from the right one.
 #[test]
-fn limits_are_those_of_the_order_file(rt: HostRuntime) -> Result<(), Fail> {
+fn limits_are_those_of_the_order_file(rt: HostRuntime) {
     let places = (PLACES_IN_VERSION_1, PLACES_IN_VERSION_2, MAX_PARTS);
     let highest = [
         MAX_CALLER,
@@ -29,5 +28,4 @@ fn limits_are_those_of_the_order_file(rt: HostRuntime) -> Result<(), Fail> {
             [0, 1, 2, 3, 4, 2_000]
         )
     );
-    Ok(())
 }
