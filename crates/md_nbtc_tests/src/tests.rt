@@ -12,10 +12,9 @@ use md_history::{Limit, Shown, Stop};
 use md_nbtc::{Kind, Receipt, Seen, Sets, Txn};
 use md_nbtc_law::WORN;
 use md_rule::{Field, Pass};
-use md_words::Shape;
-use std::alloc::{AllocError, Global};
+use md_words::{Shape, ShapeFault};
+use std::alloc::{AllocError, AllocGlobal, Global};
 use std::process::Abort;
-use std::test::Fail;
 
 fn zeros(alloc: Global, count: usize) -> Result<Vec<u64>, AllocError>
     ensures { IfOk result (λ v. v.items ≡ replicate count 0) }
@@ -40,6 +39,39 @@ fn worn(alloc: Global, shape: Shape) -> Result<(Field<CellTheory>, Pass<CellTheo
     let mut words = zeros(alloc, shape.words() as usize)?;
     words[1] = WORN as u64;
     Field::open(alloc, shape, words)
+}
+
+// Such a field, which is opened with a shape and memory.
+fn open_blank<R: Abort + AllocGlobal>(
+    rt: &R,
+    shape: Result<Shape, ShapeFault>,
+) -> (Field<CellTheory>, Pass<CellTheory>)
+    ensures { IsOf result.1 result.0 }
+{
+    blank(rt.alloc(), shape.expect(rt, "a shape")).expect(rt, "memory")
+}
+
+// Such a field with a worn head.
+fn open_worn<R: Abort + AllocGlobal>(
+    rt: &R,
+    shape: Result<Shape, ShapeFault>,
+) -> (Field<CellTheory>, Pass<CellTheory>)
+    ensures { IsOf result.1 result.0 }
+{
+    worn(rt.alloc(), shape.expect(rt, "a shape")).expect(rt, "memory")
+}
+
+// What a pass that has several lanes gives when it is split.
+fn part_of(
+    rt: &impl Abort,
+    field: &Field<CellTheory>,
+    pass: &mut Pass<CellTheory>,
+) -> Pass<CellTheory>
+    requires { IsOf pass.old field.now }
+    ensures kept { IsOf pass.new field.now }
+    ensures given { IsOf result field.now }
+{
+    pass.split(field).expect(rt, "two lanes")
 }
 
 // Begins a transaction and goes no further.
@@ -127,6 +159,21 @@ fn begin<'a>(
     let mut txn = begun.with(sets);
     txn.start_op();
     Ok(txn)
+}
+
+// Begins a transaction, for which an attempt is left.
+fn begun<'a>(
+    rt: &impl Abort,
+    pass: &'a mut Pass<CellTheory>,
+    field: &'a Field<CellTheory>,
+    tag: u64,
+    sets: &'a mut Sets,
+) -> Txn<'a, CellTheory>
+    requires { IsOf pass.old field.now }
+    ensures pass { result.pass.ghost_name ≡ pass.entry.ghost_name }
+    ensures open { IsOpen field.now (state result) }
+{
+    begin(pass, field, tag, sets).expect(rt, "an attempt is left")
 }
 
 // Stops a transaction.
@@ -341,7 +388,7 @@ fn assert_stopped(
     requires { IsOf pass.old field.now }
     ensures { IsOf pass.new field.now }
 {
-    let mut txn = begin(pass, field, tag, sets).expect(rt, "an attempt is left");
+    let mut txn = begun(rt, pass, field, tag, sets);
     assert_calls(rt, &mut txn, field, calls);
     stop(txn, field);
 }
@@ -358,16 +405,15 @@ fn head_left(
     requires { IsOf pass.old field.now }
     ensures { IsOf pass.new field.now }
 {
-    let mut txn = begin(pass, field, tag, sets).expect(rt, "an attempt is left");
+    let mut txn = begun(rt, pass, field, tag, sets);
     assert_calls(rt, &mut txn, field, calls);
     leave(txn, field);
     head(pass, field)
 }
 
 #[test]
-fn a_lane_begins_no_more_attempts_than_it_has(rt: HostRuntime) -> Result<(), Fail> {
-    let shape = Shape::new(1, 1, 0, 3, 1, 1, 0)?;
-    let (field, mut pass) = blank(rt.alloc(), shape)?;
+fn a_lane_begins_no_more_attempts_than_it_has(rt: HostRuntime) {
+    let (field, mut pass) = open_blank(&rt, Shape::new(1, 1, 0, 3, 1, 1, 0));
     let begun = [
         begin_and_leave(&mut pass, &field, 0),
         begin_and_leave(&mut pass, &field, 1),
@@ -375,13 +421,11 @@ fn a_lane_begins_no_more_attempts_than_it_has(rt: HostRuntime) -> Result<(), Fai
         begin_and_leave(&mut pass, &field, 3),
     ];
     assert_eq!(rt; begun, [Ok(()), Ok(()), Ok(()), Err(Limit::Tries)]);
-    Ok(())
 }
 
 #[test]
-fn a_transaction_records_128_words(rt: HostRuntime) -> Result<(), Fail> {
-    let shape = Shape::new(1, 1, 0, 3, 1, 256, 0)?;
-    let (field, mut pass) = blank(rt.alloc(), shape)?;
+fn a_transaction_records_128_words(rt: HostRuntime) {
+    let (field, mut pass) = open_blank(&rt, Shape::new(1, 1, 0, 3, 1, 256, 0));
     let full = Err(Stop::Limit(Limit::Reads));
     let calls = [
         (Call::NoteMany(128), plain(0, 0)),
@@ -391,13 +435,11 @@ fn a_transaction_records_128_words(rt: HostRuntime) -> Result<(), Fail> {
         (Call::Change(0, 1), full),
     ];
     assert_stopped(&rt, &mut pass, &field, 7, &mut Sets::new(), &calls);
-    Ok(())
 }
 
 #[test]
-fn a_transaction_changes_128_words(rt: HostRuntime) -> Result<(), Fail> {
-    let shape = Shape::new(1, 1, 0, 3, 1, 256, 0)?;
-    let (field, mut pass) = blank(rt.alloc(), shape)?;
+fn a_transaction_changes_128_words(rt: HostRuntime) {
+    let (field, mut pass) = open_blank(&rt, Shape::new(1, 1, 0, 3, 1, 256, 0));
     let mut sets = Sets::new();
     let full = Err(Stop::Limit(Limit::Writes));
     let calls = [
@@ -412,13 +454,11 @@ fn a_transaction_changes_128_words(rt: HostRuntime) -> Result<(), Fail> {
     ];
     assert_stopped(&rt, &mut pass, &field, 7, &mut sets, &calls);
     assert_stopped(&rt, &mut pass, &field, 8, &mut sets, &next);
-    Ok(())
 }
 
 #[test]
-fn a_transaction_sees_its_own_new_value(rt: HostRuntime) -> Result<(), Fail> {
-    let shape = Shape::new(1, 1, 0, 3, 1, 1, 0)?;
-    let (field, mut pass) = blank(rt.alloc(), shape)?;
+fn a_transaction_sees_its_own_new_value(rt: HostRuntime) {
+    let (field, mut pass) = open_blank(&rt, Shape::new(1, 1, 0, 3, 1, 1, 0));
     let calls = [
         (Call::Look(0), plain(0, 0)),
         (Call::Change(0, 5), own(5, 1)),
@@ -427,13 +467,11 @@ fn a_transaction_sees_its_own_new_value(rt: HostRuntime) -> Result<(), Fail> {
         (Call::Look(0), own(9, 1)),
     ];
     assert_stopped(&rt, &mut pass, &field, 7, &mut Sets::new(), &calls);
-    Ok(())
 }
 
 #[test]
-fn the_next_transaction_takes_a_left_one_out(rt: HostRuntime) -> Result<(), Fail> {
-    let shape = Shape::new(1, 1, 0, 3, 1, 1, 0)?;
-    let (field, mut pass) = blank(rt.alloc(), shape)?;
+fn the_next_transaction_takes_a_left_one_out(rt: HostRuntime) {
+    let (field, mut pass) = open_blank(&rt, Shape::new(1, 1, 0, 3, 1, 1, 0));
     let mut sets = Sets::new();
     let change = [(Call::Change(0, 5), own(5, 1))];
     let heads = [
@@ -441,7 +479,6 @@ fn the_next_transaction_takes_a_left_one_out(rt: HostRuntime) -> Result<(), Fail
         head_left(&rt, &mut pass, &field, 8, &mut sets, &[]),
     ];
     assert_eq!(rt; heads, [1, 2]);
-    Ok(())
 }
 
 // Another transaction meets one that has changed the first head and stalls.
@@ -463,7 +500,7 @@ fn assert_aborted(
     }));
     let calls = [(Call::Look(0), lost), (Call::Change(0, 6), lost)];
     let mut sets = Sets::new();
-    let mut other = begin(pass, field, 8, &mut sets).expect(rt, "an attempt is left");
+    let mut other = begun(rt, pass, field, 8, &mut sets);
     assert_calls(rt, &mut other, field, &[(Call::Look(0), plain(0, 2))]);
     assert_calls(rt, one, field, &calls);
     assert_calls(rt, &mut other, field, &[(Call::Change(0, 6), own(6, 3))]);
@@ -471,16 +508,14 @@ fn assert_aborted(
 }
 
 #[test]
-fn a_stalled_transaction_is_aborted_by_another(rt: HostRuntime) -> Result<(), Fail> {
-    let shape = Shape::new(2, 1, 0, 3, 1, 1, 0)?;
-    let (field, mut a) = blank(rt.alloc(), shape)?;
-    let mut b = a.split(&field).expect(&rt, "two lanes");
+fn a_stalled_transaction_is_aborted_by_another(rt: HostRuntime) {
+    let (field, mut a) = open_blank(&rt, Shape::new(2, 1, 0, 3, 1, 1, 0));
+    let mut b = part_of(&rt, &field, &mut a);
     let mut sets = Sets::new();
-    let mut one = begin(&mut a, &field, 7, &mut sets).expect(&rt, "an attempt is left");
+    let mut one = begun(&rt, &mut a, &field, 7, &mut sets);
     assert_calls(&rt, &mut one, &field, &[(Call::Change(0, 5), own(5, 1))]);
     assert_aborted(&rt, &mut one, &mut b, &field);
     stop(one, &field);
-    Ok(())
 }
 
 // While a transaction is under way, another one changes the first head, which it has recorded.
@@ -512,21 +547,18 @@ fn assert_moved(
 }
 
 #[test]
-fn a_recorded_word_that_moved_is_a_conflict(rt: HostRuntime) -> Result<(), Fail> {
-    let shape = Shape::new(2, 1, 0, 3, 1, 1, 0)?;
-    let (field, mut a) = blank(rt.alloc(), shape)?;
-    let mut b = a.split(&field).expect(&rt, "two lanes");
+fn a_recorded_word_that_moved_is_a_conflict(rt: HostRuntime) {
+    let (field, mut a) = open_blank(&rt, Shape::new(2, 1, 0, 3, 1, 1, 0));
+    let mut b = part_of(&rt, &field, &mut a);
     let mut sets = Sets::new();
-    let mut one = begin(&mut a, &field, 7, &mut sets).expect(&rt, "an attempt is left");
+    let mut one = begun(&rt, &mut a, &field, 7, &mut sets);
     assert_moved(&rt, &mut one, &mut b, &field);
     stop(one, &field);
-    Ok(())
 }
 
 #[test]
-fn nodes_are_taken_from_the_lowest(rt: HostRuntime) -> Result<(), Fail> {
-    let shape = Shape::new(1, 16, 1, 3, 1, 1, 0)?;
-    let (field, mut pass) = blank(rt.alloc(), shape)?;
+fn nodes_are_taken_from_the_lowest(rt: HostRuntime) {
+    let (field, mut pass) = open_blank(&rt, Shape::new(1, 16, 1, 3, 1, 1, 0));
     let mut sets = Sets::new();
     let none = Err(Stop::Limit(Limit::Nodes));
     let calls = [
@@ -538,24 +570,20 @@ fn nodes_are_taken_from_the_lowest(rt: HostRuntime) -> Result<(), Fail> {
     let next = [(Call::Take(1), node(2))];
     assert_stopped(&rt, &mut pass, &field, 7, &mut sets, &calls);
     assert_stopped(&rt, &mut pass, &field, 8, &mut sets, &next);
-    Ok(())
 }
 
 #[test]
-fn a_transaction_without_operations_commits(rt: HostRuntime) -> Result<(), Fail> {
-    let shape = Shape::new(2, 1, 0, 3, 1, 1, 0)?;
-    let (field, mut a) = blank(rt.alloc(), shape)?;
-    let mut b = a.split(&field).expect(&rt, "two lanes");
+fn a_transaction_without_operations_commits(rt: HostRuntime) {
+    let (field, mut a) = open_blank(&rt, Shape::new(2, 1, 0, 3, 1, 1, 0));
+    let mut b = part_of(&rt, &field, &mut a);
     let ready = ready_and_leave(&mut a, &field, 7);
     let committed = commit(&mut b, &field, 8);
     assert_eq!(rt; (ready, committed), (Ok(true), Ok(Some((8, 0)))));
-    Ok(())
 }
 
 #[test]
-fn a_worn_word_is_not_changed(rt: HostRuntime) -> Result<(), Fail> {
-    let shape = Shape::new(1, 1, 0, 3, 1, 1, 0)?;
-    let (field, mut pass) = worn(rt.alloc(), shape)?;
+fn a_worn_word_is_not_changed(rt: HostRuntime) {
+    let (field, mut pass) = open_worn(&rt, Shape::new(1, 1, 0, 3, 1, 1, 0));
     let limit = Err(Stop::Limit(Limit::Worn {
         word: 1,
         count: 4_294_967_292,
@@ -566,5 +594,4 @@ fn a_worn_word_is_not_changed(rt: HostRuntime) -> Result<(), Fail> {
         (Call::Note(0), limit),
     ];
     assert_stopped(&rt, &mut pass, &field, 7, &mut Sets::new(), &calls);
-    Ok(())
 }
