@@ -78,8 +78,8 @@ impl Write for Counter {
     }
 }
 
-// Three writes of `hello` give this log, if the writer takes at most so many bytes at a call and the
-// second flush fails. It takes so many bytes then, and is flushed three times.
+// Three writes of `hello` give this log, if the writer takes at most so many bytes at a call and
+// the second flush fails. It takes so many bytes then, and is flushed three times.
 fn flushes<R: Abort + AllocGlobal>(rt: &R, most: usize, want: &str, taken: usize) {
     let mut writer = Counter {
         most,

@@ -42,7 +42,7 @@ fn taken_and_given_back(pass: &mut Pass<CellTheory>) -> Result<u32, Limit> {
     Ok(node)
 }
 
-// What a pass answers that takes a node.
+// A pass takes a node, and answers this.
 fn assert_takes_one(rt: &impl Abort, pass: &mut Pass<CellTheory>, want: Result<u32, Limit>) {
     assert_eq!(rt; take(pass), want);
 }
@@ -69,7 +69,7 @@ fn assert_take_in_turns(
     assert_takes_one(rt, second, Err(Limit::Nodes));
 }
 
-// What a pass answers that begins an attempt.
+// A pass begins an attempt, and answers this.
 fn assert_begins_one(rt: &impl Abort, pass: &mut Pass<CellTheory>, want: Result<u32, Limit>) {
     assert_eq!(rt; begin(pass), want);
 }
