@@ -75,6 +75,15 @@ write_both t from to =
     call (Remove ACCOUNTS t.to) (λ _. call (Insert ACCOUNTS t.to to) (λ _.
     call (Enqueue JOURNAL t.number) (λ _. done Moved)))))
 
+-- what is left of that after the first balance, and after both
+abbrev pub write_second : Transfer → ℕ → Script Outcome
+write_second t to =
+    call (Remove ACCOUNTS t.to) (λ _. call (Insert ACCOUNTS t.to to) (λ _.
+    call (Enqueue JOURNAL t.number) (λ _. done Moved)))
+
+abbrev pub write_journal : Transfer → Script Outcome
+write_journal t = call (Enqueue JOURNAL t.number) (λ _. done Moved)
+
 abbrev pub decided : Transfer → Result (ℕ × ℕ) Refusal → Script Outcome
 decided t (Err why) = done (Refused why)
 decided t (Ok new) = write_both t new.0 new.1

@@ -2,7 +2,7 @@
 
 ghost use Rattle.std.specs.Prelude.{◌≡◌, ◌<◌, None};
 ghost use Rattle.md_history.specs.Playing.{PlaysPart};
-ghost use Rattle.transfers.specs.Bank.{new_balances, write_both};
+ghost use Rattle.transfers.specs.Bank.{new_balances, write_both, write_second, write_journal};
 
 use medley_transactions::{Body, LawfulBody, Stop, TxCalls};
 
@@ -69,7 +69,32 @@ impl Transfer {
     }
 }
 
-// Writes both balances, and the transfer's number into the journal.
+// Writes the transfer's number into the journal.
+fn write_journal<T: TxCalls>(t: &mut T, transfer: &Transfer) -> Result<Outcome, Stop>
+    requires going { T.stop t.old ≡ None }
+    requires journal { JOURNAL < T.queues (T.kept t.old) }
+    ensures plays { PlaysPart (write_journal transfer.now) result T.acts T.stop t.old t.new }
+    ensures kept { T.kept t.new ≡ T.kept t.old }
+{
+    t.enqueue(JOURNAL, transfer.number)?;
+    Ok(Outcome::Moved)
+}
+
+// Writes the second balance, and then the journal.
+fn write_second<T: TxCalls>(t: &mut T, transfer: &Transfer, to: u64) -> Result<Outcome, Stop>
+    requires going { T.stop t.old ≡ None }
+    requires accounts { ACCOUNTS < T.maps (T.kept t.old) }
+    requires journal { JOURNAL < T.queues (T.kept t.old) }
+    ensures plays { PlaysPart (write_second transfer.now to) result T.acts T.stop t.old t.new }
+    ensures kept { T.kept t.new ≡ T.kept t.old }
+{
+    t.remove(ACCOUNTS, transfer.to)?;
+    t.insert(ACCOUNTS, transfer.to, to)?;
+    write_journal(t, transfer)
+}
+
+// Writes both balances, and the transfer's number into the journal. It is in three parts, since the
+// proof of a part grows with the calls that may be refused before its end.
 fn write_both<T: TxCalls>(
     t: &mut T,
     transfer: &Transfer,
@@ -84,10 +109,7 @@ fn write_both<T: TxCalls>(
 {
     t.remove(ACCOUNTS, transfer.from)?;
     t.insert(ACCOUNTS, transfer.from, from)?;
-    t.remove(ACCOUNTS, transfer.to)?;
-    t.insert(ACCOUNTS, transfer.to, to)?;
-    t.enqueue(JOURNAL, transfer.number)?;
-    Ok(Outcome::Moved)
+    write_second(t, transfer, to)
 }
 
 impl Body for Transfer {
