@@ -3,6 +3,7 @@ pub mod Parts
 pub mod Complete
 pub mod Unreadable
 pub mod Unread
+pub mod Stopped
 pub mod Settings
 pub mod Ranges
 pub mod Asked

@@ -1,12 +1,12 @@
 -- One read or write more, and one text more.
 use Rattle.std.proofs.Common.{◌≡◌, ◌<◌, ◌≤◌, ◌+◌, ◌∙◌, ◌++◌, ℕ, List, [], length, take, drop, Option, Some, None, subst, sym, ap, refl, append_assoc, length-append}
-use Rattle.std.specs.Io.KnownBytes.{Consumes, Appends, Keeps}
+use Rattle.std.specs.Io.KnownBytes.{Consumes, Appends, IsAtEnd, Keeps}
 use Rattle.std.proofs.KnownBytes.{Consumes-trans, Appends-nil, Appends-trans, Appends-kept}
 use Rattle.std.proofs.Math.Seq.{take-add}
-use Rattle.std.proofs.lemmas.List.{length-take-le, take-append-drop}
+use Rattle.std.proofs.lemmas.List.{append-nil, length-take-le, take-append-drop}
 use Rattle.md_outside.specs.Steps.{Step}
 use Rattle.md_outside.proofs.Chains.{Moves-none, Moves-append, Moves-one_more-take}
-use Rattle.md_program.specs.Run.{HasRead, IsWritten, HasWriteFault}
+use Rattle.md_program.specs.Run.{HasRead, IsRead, IsReadInPart, IsWritten, HasWriteFault}
 use Rattle.md_outside.specs.Causes.{Rose}
 
 -- a read that gave some bytes
@@ -17,6 +17,18 @@ read-more gives left faults a b c bytes count buffer so_far step told kept some 
   reads = Moves-one_more-take count buffer so_far.reads step some fits;
   told = Consumes-trans (left a) (left b) (left c) bytes (take count buffer) so_far.told told;
   kept = kept ∙ so_far.kept;
+}
+
+-- a read that gave none: the end
+pub read-end : {I : Type 0} (gives : Step I) (left : I → Option (List ℕ)) (faults : I → ℕ) (a b c : I) (bytes : List ℕ)
+    → IsReadInPart gives left faults a b bytes → gives b (Some []) c → Consumes (left b) (left c) [] → IsAtEnd (left c) → faults c ≡ faults b
+    → IsRead gives left faults a c bytes
+read-end gives left faults a b c bytes so_far step told ended kept = record {
+  reads = (b, so_far.read.reads, step);
+  told = subst (Consumes (left a) (left c)) (append-nil bytes) (Consumes-trans (left a) (left b) (left c) bytes [] so_far.read.told told);
+  ended = ended;
+  short = so_far.short;
+  kept = kept ∙ so_far.read.kept;
 }
 
 -- how long the bytes are then
