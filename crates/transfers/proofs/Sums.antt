@@ -1,5 +1,5 @@
 -- Sums of a map's values, and counts of transfers that moved money.
-use Rattle.std.proofs.Common.{◌≡◌, ℕ, zero, suc, ◌+◌, ◌%◌, ◌^◌, ◌<◌, List, [], ◌∷◌, map, length, take, slice_index_or, Vec, Global, refl, sym, ap, ◌∙◌, arith, sum}
+use Rattle.std.proofs.Common.{◌≡◌, ℕ, suc, ◌+◌, ◌-◌, ◌%◌, ◌^◌, ◌<◌, List, [], ◌∷◌, map, length, take, slice_index_or, Vec, Global, refl, sym, ap, ◌∙◌, arith, sum}
 use Rattle.std.specs.Prelude.{count_by}
 use Rattle.std.specs.Ordering.{nat_cmp}
 use Rattle.std.specs.Cmp.{nat_cmp_total}
@@ -11,6 +11,7 @@ use Rattle.md_history.specs.Contents.{table_of}
 use Rattle.md_history.proofs.Weights.{weigh-insert}
 use Rattle.md_store_law.proofs.Sums.{KeysApart, apart_sorted}
 use Rattle.md_many.specs.Played.{lists_in}
+use Rattle.md_many.proofs.Lists.{list-there}
 use Rattle.transfers.specs.declared.bank.Outcome.{Outcome}
 use Rattle.transfers.specs.Journal.{is_moved, moved_among}
 
@@ -38,9 +39,9 @@ wraps a b c is = omega (arith, is)
 -- a list of lists that vectors have
 pub item-there : {R : Type 0} (vs : List (Vec R Global)) (i : ℕ) (v : Vec R Global) → i < length vs
     → v ≡ slice_index_or vs i v → slice_index_or (lists_in vs) i [] ≡ v.items
-item-there [] i v low is = absurd (omega (arith, low))
-item-there (w ∷ vs) zero v low is = ap (λ x. x.items) (sym is)
-item-there (w ∷ vs) (suc i) v low is = item-there vs i v (omega (arith, low)) is
+item-there vs i v low is =
+    let at : i ≡ suc i - 1 = omega arith in
+    list-there vs (suc i) v (omega arith) (omega (arith, low)) (is ∙ ap (λ k. slice_index_or vs k v) at)
 
 pub length-lists : {R : Type 0} (vs : List (Vec R Global)) → length (lists_in vs) ≡ length vs
 length-lists [] = refl
