@@ -67,23 +67,20 @@ bank_after b t = after_balances b t (balances_of b t)
 abbrev pub outcome_in : Bank → Transfer → Outcome
 outcome_in b t = outcome_of_balances (balances_of b t)
 
--- what a transfer does as a transaction: it looks both accounts up, and writes both balances and the journal, unless it
--- is refused
-abbrev pub write_both : Transfer → ℕ → ℕ → Script Outcome
-write_both t from to =
-    call (Remove ACCOUNTS t.from) (λ _. call (Insert ACCOUNTS t.from from) (λ _.
-    call (Remove ACCOUNTS t.to) (λ _. call (Insert ACCOUNTS t.to to) (λ _.
-    call (Enqueue JOURNAL t.number) (λ _. done Moved)))))
-
--- what is left of that after the first balance, and after both
-abbrev pub write_second : Transfer → ℕ → Script Outcome
-write_second t to =
-    call (Remove ACCOUNTS t.to) (λ _. call (Insert ACCOUNTS t.to to) (λ _.
-    call (Enqueue JOURNAL t.number) (λ _. done Moved)))
-
+-- what a transfer that isn't refused writes, from its end: the journal, the second balance before it, and both balances
 abbrev pub write_journal : Transfer → Script Outcome
 write_journal t = call (Enqueue JOURNAL t.number) (λ _. done Moved)
 
+abbrev pub write_second : Transfer → ℕ → Script Outcome
+write_second t to =
+    call (Remove ACCOUNTS t.to) (λ _. call (Insert ACCOUNTS t.to to) (λ _. write_journal t))
+
+abbrev pub write_both : Transfer → ℕ → ℕ → Script Outcome
+write_both t from to =
+    call (Remove ACCOUNTS t.from) (λ _. call (Insert ACCOUNTS t.from from) (λ _. write_second t to))
+
+-- what a transfer does as a transaction: it looks both accounts up, and writes both balances and the journal, unless it
+-- is refused
 abbrev pub decided : Transfer → Result (ℕ × ℕ) Refusal → Script Outcome
 decided t (Err why) = done (Refused why)
 decided t (Ok new) = write_both t new.0 new.1
