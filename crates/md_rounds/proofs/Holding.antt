@@ -1,14 +1,14 @@
 -- Replies of several callers, as they are put where they are kept.
-use Rattle.std.proofs.Common.{◌≡◌, ◌≢◌, ◌<◌, ◌≤◌, ◌∙◌, ◌+◌, ◌++◌, ◌∷◌, ℕ, zero, suc, List, [], Option, Some, None, length, refl, sym, ap, subst, arith, inl, inr, append_assoc}
+use Rattle.std.proofs.Common.{◌≡◌, ◌≢◌, ◌<◌, ◌≤◌, ◌∙◌, ◌+◌, ◌++◌, ◌∷◌, ℕ, zero, suc, List, [], Option, Some, length, refl, sym, ap, subst, arith, inl, inr, append_assoc}
 use Rattle.std.specs.Prelude.{◌==◌, slice_get, option_and_then}
 use Rattle.std.specs.Option.{IsSomeAnd}
 use Rattle.std.proofs.lemmas.Bool.{cases_Bool, eqb-true, eq-eqb, false≢true, cases_eq}
-use Rattle.std.proofs.lemmas.List.{append-nil, length-replicate, length-map, length_push, get_or_past}
+use Rattle.std.proofs.lemmas.List.{append-nil, length_push, get_or_past}
 use Rattle.md_book.specs.declared.commands.Command.{Command}
 use Rattle.md_book.specs.declared.commands.BookReply.{BookReply}
 use Rattle.md_book.specs.Suits.{Suits}
 use Rattle.md_orders.specs.Scripts.{list_of, at_line}
-use Rattle.md_replies.specs.Replies.{reply_at, with_reply, with_replies, no_replies, AllSuit}
+use Rattle.md_replies.specs.Replies.{reply_at, with_reply, with_replies, AllSuit}
 use Rattle.md_orders.proofs.ByCaller.{list_of-with_list-same, list_of-with_list-other, length-with_list}
 use Rattle.md_rounds.specs.Kept.{HasReplies}
 use Rattle.md_rounds.proofs.Keeping.{length-with_line, slice_get-set-same, slice_get-set-other}
@@ -145,18 +145,3 @@ holds-other scripts caller other (r ∷ batch) n replies rs apart has suit =
           (there scripts caller (n + 1) (λ c. Suits (c, r)) suit.0) has.callers has.places;
       each = λ i low. reply-other-caller replies caller (n + 1) other (i + 1) r apart ∙ has.each i low;
     }) suit.1
-
--- at the beginning there is a place for each line, and no reply
-pub holds-none : (scripts : List (List Command)) (caller : ℕ) → HasReplies scripts (no_replies scripts) caller []
-holds-none scripts caller = record {
-  callers = length-map scripts _;
-  places = places scripts;
-  each = λ i low. absurd (omega arith);
-}
-  where
-    places : (scripts : List (List Command)) (c : ℕ)
-        → length (list_of (no_replies scripts) c) ≡ length (list_of scripts c)
-    places scripts zero = refl
-    places [] (suc c) = refl
-    places (script ∷ scripts) (suc zero) = length-replicate (length script) None
-    places (script ∷ scripts) (suc (suc c)) = places scripts (suc c)

@@ -1,10 +1,8 @@
 mod Names
 pub mod Folding
 mod TradingDay
-mod CallerLines
 mod Suiting
 mod Keeping
-pub mod OneCaller
 pub mod Few
 pub mod Pigeons
 pub mod Room

@@ -2,7 +2,6 @@
 #![tactic(auto)]
 
 mod all;
-mod alone;
 mod kept;
 mod kept_lists;
 mod laws;
@@ -12,7 +11,6 @@ mod round_replies;
 mod summed;
 
 pub use all::{OpenOutcome, Outcome, run_all, run_all_open};
-pub use alone::{Played, play_alone};
 pub use limits::limits_hold;
 pub use md_many::{FreeGate, Gate, OpenRounds, Rounds};
 pub use summed::summaries_add_up;

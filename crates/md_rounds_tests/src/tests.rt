@@ -7,7 +7,7 @@ use md_history::{Contents, PlainPass, PlainStore};
 use md_orders::{Scripts, read_orders};
 use md_replies::Replies;
 use md_report::summary;
-use md_rounds::{FreeGate, Outcome, Played, play_alone, run_all, summaries_add_up};
+use md_rounds::{FreeGate, Outcome, run_all, summaries_add_up};
 use md_words::limits::{MAX_MAPS, MAX_QUEUES};
 use std::alloc::{AllocError, Global};
 use std::process::Abort;
@@ -24,17 +24,8 @@ fn script_of(alloc: Global, text: &str) -> Result<Scripts, Fail>
     }
 }
 
-// Plays such a script alone, on an empty book.
-fn played_alone(alloc: Global, scripts: &Scripts) -> Result<Played<PlainPass>, AllocError>
-    requires { length scripts.now ≡ 1 }
-    ensures { IfOk result (λ played. MAPS ≤ length played.contents.maps) }
-{
-    let (store, pass) = PlainStore::open(Contents::empty(alloc, MAPS, LEVELS)?);
-    play_alone(alloc, store, pass, scripts)
-}
-
-// Plays it in rounds, on an empty book.
-fn played_in_rounds(
+// Plays such a script in rounds, on an empty book.
+fn play_script(
     rt: &(impl Threads + Sync),
     alloc: Global,
     scripts: &Scripts,
@@ -47,10 +38,10 @@ fn played_in_rounds(
 }
 
 #[test]
-fn one_caller_alone(rt: HostRuntime) -> Result<(), Fail> {
+fn one_caller(rt: HostRuntime) -> Result<(), Fail> {
     let alloc = rt.alloc();
     let scripts = script_of(alloc, "1,P,7,S,100,5\n1,F,8,S,100,3\n1,D,S,100\n")?;
-    let played = played_alone(alloc, &scripts)?;
+    let played = play_script(&rt, alloc, &scripts)?;
     let replies = [played.replies.get(1, 1), played.replies.get(1, 3)];
     let depth = played.contents.get(DEPTHS, 1099);
     let want = [Some(BookReply::Placed), Some(BookReply::Depth(2))];
@@ -119,14 +110,19 @@ fn are_those_of(rt: &impl Abort, replies: &Replies, count: u32) {
     }
 }
 
-// More lines than many batches have, and than 16 bits count: each reply stands at its own line.
+// More lines than many batches have, and than 16 bits count: each reply stands at its own line, and
+// the summary adds up.
 #[test]
 fn batches_of_lines(rt: HostRuntime) -> Result<(), Fail> {
     let alloc = rt.alloc();
     let scripts = cycles(alloc, 10_000)?;
-    let played = played_alone(alloc, &scripts)?;
+    let played = play_script(&rt, alloc, &scripts)?;
     are_those_of(&rt, &played.replies, 10_000);
-    assert_eq!(rt; played.replies.get(1, 70_001), None);
+    summaries_add_up();
+    let line = summary(alloc, &scripts, &played.replies, &played.contents)?;
+    let want = b"made 70000 placed 50000 cancelled 10000 filled 40000 open 0\n".as_slice();
+    let ends = (played.fronts.len(), played.replies.get(1, 70_001));
+    assert_eq!(rt; (ends, line.as_slice()), ((1, None), want));
     Ok(())
 }
 
@@ -138,20 +134,5 @@ fn the_largest_contents(rt: HostRuntime) -> Result<(), Fail> {
         (contents.maps().len(), contents.queues().len()),
         (16, 4_096)
     );
-    Ok(())
-}
-
-// The rounds of one caller, over many more lines than one turn plays, give the replies that
-// playing alone gives, and a summary that adds up. A turn has many batches of replies.
-#[test]
-fn one_caller_in_rounds(rt: HostRuntime) -> Result<(), Fail> {
-    let alloc = rt.alloc();
-    let scripts = cycles(alloc, 1_000)?;
-    let played = played_in_rounds(&rt, alloc, &scripts)?;
-    are_those_of(&rt, &played.replies, 1_000);
-    summaries_add_up();
-    let line = summary(alloc, &scripts, &played.replies, &played.contents)?;
-    let want = b"made 7000 placed 5000 cancelled 1000 filled 4000 open 0\n".as_slice();
-    assert_eq!(rt; (played.fronts.len(), line.as_slice()), (1, want));
     Ok(())
 }
