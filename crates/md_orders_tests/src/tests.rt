@@ -9,4 +9,5 @@ mod packing;
 mod reading;
 mod reading_in_threads;
 mod reports;
+mod rounds;
 mod shown;

@@ -12,7 +12,9 @@ use std::alloc::{AllocGlobal, Global};
 use std::process::Abort;
 
 mod attempts;
+mod examples;
 mod fields;
+mod interleavings;
 mod trials;
 
 // Two pairs in two maps, and three values in two queues.

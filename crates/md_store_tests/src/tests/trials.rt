@@ -14,8 +14,8 @@ use std::process::Abort;
 
 mod counts;
 mod model;
+mod moves;
 mod running;
-mod transfers;
 mod turns;
 
 // Opens a store, if the contents and the shape have two maps and two queues.

@@ -1,0 +1,13 @@
+use Rattle.std.proofs.Common.{◌≡◌}
+use Rattle.md_interleavings.specs.Acting.{IsActing}
+use Rattle.md_nbtc.specs.State.{state}
+use Rattle.md_store.specs.Store.{IsPassOf}
+use Rattle.md_store_tests.proofs.tests.interleavings.at_random.pairs.within.Given as goal
+
+abbrev pub invariant-loop-made : goal.invariant-loop-made
+invariant-loop-made g l = record {
+  pass : l.txn.pass.ghost_name ≡ l.fn.txn.pass.ghost_name;
+  acting : IsActing l.store (state l.txn) l.course.stop;
+  b : IsPassOf l.store l.b;
+  c : IsPassOf l.store l.c;
+}
