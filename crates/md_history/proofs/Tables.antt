@@ -1,5 +1,5 @@
 -- A `BTreeMap`'s entries as a finite map.
-use Rattle.std.proofs.Common.{◌≡◌, ℕ, cond, List, [], ◌∷◌, refl, sym, ap, ◌∙◌, Some, None, map, length, ◌++◌, reverse, slice_index_or, slice_set, ◌<◌}
+use Rattle.std.proofs.Common.{◌≡◌, ℕ, cond, List, [], ◌∷◌, refl, sym, ap, ◌∙◌, Some, None, map, length, ◌++◌, reverse, slice_index_or, slice_set, ◌<◌, ◌+◌, replicate}
 use Rattle.std.specs.Ordering.{nat_cmp, eq_by_cmp}
 use Rattle.std.specs.Cmp.{nat_cmp_total, eq_by_cmp_equiv}
 use Rattle.std.specs.Map.{lookup, update_all}
@@ -9,8 +9,8 @@ use Rattle.std.specs.BTreeMap.{BTreeMap}
 use Rattle.std.specs.declared.collections.VecDeque.{VecDeque}
 use Rattle.std.proofs.Common.{Global, arith}
 use Rattle.std.proofs.lemmas.List.{map-set, get_or-map, length-map, reverse-append, append_assoc, append-nil}
-use Rattle.std.proofs.lemmas.List.{set-get_or}
-use Rattle.md_history.specs.State.{State, Table, map_at, queue_at, with_map, with_queue}
+use Rattle.std.proofs.lemmas.List.{set-get_or, map-append, replicate-append-replicate}
+use Rattle.md_history.specs.State.{State, Table, map_at, queue_at, with_map, with_queue, empty_state}
 use Rattle.md_history.specs.Contents.{table_of, table_of_pairs, state_of}
 
 -- the finite map of entries
@@ -103,3 +103,19 @@ module _ (ms : List (BTreeMap ℕ ℕ)) (qs : List (VecDeque ℕ Global)) (s : S
   state_of-same_queue i m n is same =
       ap (λ (t : List (List ℕ)). record { maps = (state_of ms qs).maps; queues = t }) (keep_map (λ q. q.items) qs i m is n same)
       ∙ e
+
+-- one more that is empty
+pub replicated-more : {A B : Type 0} (f : A → B) (none : B) (xs xs' : List A) (x : A) (n : ℕ) → map {0, 0} f xs ≡ replicate n none
+    → xs' ≡ xs ++ x ∷ [] → f x ≡ none → map {0, 0} f xs' ≡ replicate (n + 1) none
+replicated-more f none xs xs' x n all more new =
+    ap (map {0, 0} f) more ∙ map-append f xs (x ∷ []) ∙ ap (λ ys. ys ++ f x ∷ []) all ∙ ap (λ y. replicate n none ++ y ∷ []) new
+    ∙ replicate-append-replicate n 1 none
+
+-- as many empty maps and queues as were made
+pub state_of-empty : (maps : List (BTreeMap ℕ ℕ)) (queues : List (VecDeque ℕ Global)) (m m' q q' : ℕ)
+    → map {0, 0} table_of maps ≡ replicate m' (let none : Table = fin.empty in none) → m' ≡ m
+    → map {0, 0} (λ q. q.items) queues ≡ replicate q' [] → q' ≡ q → state_of maps queues ≡ empty_state m q
+state_of-empty maps queues m m' q q' no_maps ms no_queues qs =
+    ap (λ ts. let s : State = record { maps = ts; queues = map (λ q. q.items) queues } in s)
+    (no_maps ∙ ap (λ n. replicate n (let none : Table = fin.empty in none)) ms)
+    ∙ ap (λ ls. let s : State = record { maps = replicate m fin.empty; queues = ls } in s) (no_queues ∙ ap (λ n. replicate n []) qs)

@@ -1,10 +1,11 @@
-use Rattle.std.proofs.Common.{[], ◌∷◌, ap, refl, sym, subst, ◌≡◌, ◌∙◌, length}
+use Rattle.std.proofs.Common.{[], ◌∷◌, ap, refl, sym, subst, ◌≡◌, ◌∙◌, length, arith, Bool, cond, ◌+◌}
 use Rattle.md_history.specs.State.{State, run, IsRight}
 use Rattle.md_history.specs.History.{acts_of}
-use Rattle.md_history.specs.Front.{replay_of}
+use Rattle.md_history.specs.Front.{LegalFrom, replay_of}
 use Rattle.md_history.specs.Engine.{IsFrontFrom}
-use Rattle.md_history.specs.Plain.{front_from, Plain, Running, refusal_of, front_of}
+use Rattle.md_history.specs.Plain.{front_from, Plain, Running, refusal_of, front_of, begun_by}
 use Rattle.md_history.proofs.PlainFronts.{stops, commits-same, front_is, kept-more, replay_of-all}
+use Rattle.md_history.proofs.PlainAttempts.{kept-broken, of-same, begun-broken, counted-broken, begun-more, refused-for_memory}
 use Rattle.md_history.proofs.Runs.{replay-numbers}
 use Rattle.md_history.proofs.plain_engine.PlainStoreEngine.attempt.Goals as goal
 
@@ -56,3 +57,78 @@ returns-in-Ok-clause-stopped g c = stops _ _ _ (c.in-Err-push.ensures.items ∙ 
 
 pub returns-clause-stopped : goal.returns-clause-stopped
 returns-clause-stopped g c = stops _ _ _ (ap (λ (p : Plain). p.entries) (c.pass-2.view_is ∙ c.begin-tx.ensures.pass))
+
+pub returns-then-pass-clause-legal : goal.returns-then-pass-clause-legal
+returns-then-pass-clause-legal g c = c.requires.of.front.legal
+
+pub returns-then-pass-clause-of : goal.returns-then-pass-clause-of
+returns-then-pass-clause-of g c = c.requires.of
+
+pub returns-then-pass-clause-breaks : goal.returns-then-pass-clause-breaks
+returns-then-pass-clause-breaks g c = sym (ap (λ (p : Plain). p.broken) c.pass.view_is) ∙ c.if-pass.true
+
+pub returns-then-pass-clause-begun : goal.returns-then-pass-clause-begun
+returns-then-pass-clause-begun g c = (omega arith, omega arith)
+
+pub returns-then-pass-clause-exact : goal.returns-then-pass-clause-exact
+returns-then-pass-clause-exact g c = rw (sym (ap (λ (p : Plain). p.broken) c.pass.view_is) ∙ c.if-pass.true) (omega arith)
+
+pub begin-tx-requires : goal.begin-tx-requires
+begin-tx-requires g c = sym (ap (λ (p : Plain). p.broken) c.pass.view_is) ∙ c.if-pass.false
+
+pub go-outcome-requires-clause-none : goal.go-outcome-requires-clause-none
+go-outcome-requires-clause-none g c = ap (λ (t : Running). t.acts) c.begin-tx.ensures.tx
+
+pub go-outcome-requires-clause-going : goal.go-outcome-requires-clause-going
+go-outcome-requires-clause-going g c = ap (λ (t : Running). refusal_of t.refused) c.begin-tx.ensures.tx
+
+pub returns-in-Ok-push-clause-whole : goal.returns-in-Ok-push-clause-whole
+returns-in-Ok-push-clause-whole g c = (sym (ap (λ (p : Plain). p.broken) c.pass.view_is) ∙ c.if-pass.false, refl)
+
+pub returns-in-Ok-push-clause-exact : goal.returns-in-Ok-push-clause-exact
+returns-in-Ok-push-clause-exact g c = begun-more c.args.pass.now _ _ _ (sym (ap (λ (p : Plain). p.broken) c.pass.view_is) ∙ c.if-pass.false) (ap (λ (p : Plain). p.entries) (c.pass-2.view_is ∙ c.begin-tx.ensures.pass)) c.in-Ok-push.ensures.items
+
+pub returns-in-Ok-push-clause-begun : goal.returns-in-Ok-push-clause-begun
+returns-in-Ok-push-clause-begun g c = returns-in-Ok-push-clause-exact g c ∙ ap (λ (b : Bool). begun_by c.args.pass.now + cond b 0 1) (sym (ap (λ (p : Plain). p.broken) c.pass.view_is) ∙ c.if-pass.false)
+
+pub invariant_of-pass-in-Err-push : goal.invariant_of-pass-in-Err-push
+invariant_of-pass-in-Err-push g c = kept-broken _ _ _ _ _ _ c.pass-2.invariant (ap (λ (p : Plain). p.broken) (c.pass-2.view_is ∙ c.begin-tx.ensures.pass)) c.in-Err-push.ensures.items
+
+pub returns-in-Ok-clause-legal : goal.returns-in-Ok-clause-legal
+returns-in-Ok-clause-legal g c = subst (λ es. LegalFrom c.args.self.now (front_from es)) (sym (c.in-Err-push.ensures.items ∙ ap (λ (p : Plain). p.entries) (c.pass-2.view_is ∙ c.begin-tx.ensures.pass))) c.requires.of.front.legal
+
+pub returns-in-Ok-clause-of : goal.returns-in-Ok-clause-of
+returns-in-Ok-clause-of g c = of-same _ _ _ _ _ c.requires.of (ap (λ (p : Plain). p.start) (c.pass-2.view_is ∙ c.begin-tx.ensures.pass)) (c.in-Err-push.ensures.items ∙ ap (λ (p : Plain). p.entries) (c.pass-2.view_is ∙ c.begin-tx.ensures.pass))
+
+pub returns-in-Ok-clause-no_memory : goal.returns-in-Ok-clause-no_memory
+returns-in-Ok-clause-no_memory g c = refl
+
+pub returns-in-Ok-clause-breaks : goal.returns-in-Ok-clause-breaks
+returns-in-Ok-clause-breaks g c = ap (λ (p : Plain). p.broken) (c.pass-2.view_is ∙ c.begin-tx.ensures.pass)
+
+pub returns-in-Ok-clause-exact : goal.returns-in-Ok-clause-exact
+returns-in-Ok-clause-exact g c = begun-broken c.args.pass.now _ _ (sym (ap (λ (p : Plain). p.broken) c.pass.view_is) ∙ c.if-pass.false) (c.in-Err-push.ensures.items ∙ ap (λ (p : Plain). p.entries) (c.pass-2.view_is ∙ c.begin-tx.ensures.pass)) (ap (λ (p : Plain). p.broken) (c.pass-2.view_is ∙ c.begin-tx.ensures.pass))
+
+pub returns-in-Ok-clause-begun : goal.returns-in-Ok-clause-begun
+returns-in-Ok-clause-begun g c = counted-broken _ c.args.pass.now _ _ (refl) (sym (ap (λ (p : Plain). p.broken) c.pass.view_is) ∙ c.if-pass.false) (c.in-Err-push.ensures.items ∙ ap (λ (p : Plain). p.entries) (c.pass-2.view_is ∙ c.begin-tx.ensures.pass)) (ap (λ (p : Plain). p.broken) (c.pass-2.view_is ∙ c.begin-tx.ensures.pass))
+
+pub invariant_of-pass-in-Err : goal.invariant_of-pass-in-Err
+invariant_of-pass-in-Err g c = kept-broken _ _ _ _ _ _ c.pass-2.invariant (ap (λ (p : Plain). p.broken) (c.pass-2.view_is ∙ c.begin-tx.ensures.pass)) refl
+
+pub returns-clause-legal : goal.returns-clause-legal
+returns-clause-legal g c = subst (λ es. LegalFrom c.args.self.now (front_from es)) (sym (ap (λ (p : Plain). p.entries) (c.pass-2.view_is ∙ c.begin-tx.ensures.pass))) c.requires.of.front.legal
+
+pub returns-clause-of : goal.returns-clause-of
+returns-clause-of g c = of-same _ _ _ _ _ c.requires.of (ap (λ (p : Plain). p.start) (c.pass-2.view_is ∙ c.begin-tx.ensures.pass)) (ap (λ (p : Plain). p.entries) (c.pass-2.view_is ∙ c.begin-tx.ensures.pass))
+
+pub returns-clause-no_memory : goal.returns-clause-no_memory
+returns-clause-no_memory g c = sym c.in-Err.ensures.err.same ∙ refused-for_memory _ _ (ap (λ (t : Running). refusal_of t.refused) c.tx.view_is ∙ c.in-Err.ensures.err.stopped)
+
+pub returns-clause-breaks : goal.returns-clause-breaks
+returns-clause-breaks g c = ap (λ (p : Plain). p.broken) (c.pass-2.view_is ∙ c.begin-tx.ensures.pass)
+
+pub returns-clause-exact : goal.returns-clause-exact
+returns-clause-exact g c = begun-broken c.args.pass.now _ _ (sym (ap (λ (p : Plain). p.broken) c.pass.view_is) ∙ c.if-pass.false) (ap (λ (p : Plain). p.entries) (c.pass-2.view_is ∙ c.begin-tx.ensures.pass)) (ap (λ (p : Plain). p.broken) (c.pass-2.view_is ∙ c.begin-tx.ensures.pass))
+
+pub returns-clause-begun : goal.returns-clause-begun
+returns-clause-begun g c = counted-broken _ c.args.pass.now _ _ (sym c.in-Err.ensures.err.same ∙ refused-for_memory _ _ (ap (λ (t : Running). refusal_of t.refused) c.tx.view_is ∙ c.in-Err.ensures.err.stopped)) (sym (ap (λ (p : Plain). p.broken) c.pass.view_is) ∙ c.if-pass.false) (ap (λ (p : Plain). p.entries) (c.pass-2.view_is ∙ c.begin-tx.ensures.pass)) (ap (λ (p : Plain). p.broken) (c.pass-2.view_is ∙ c.begin-tx.ensures.pass))
