@@ -13,10 +13,10 @@ use Rattle.md_history.specs.Engine.{IsFrontFrom}
 use Rattle.md_history.specs.Plain.{Plain, front_from, AreNumbered, IsKept, IsPassOf, refusal_of, begun_by}
 use Rattle.md_history.proofs.PlainFronts.{front_is}
 
--- a broken pass keeps its entries, whatever it contains
-pub kept-broken : (start now then : State) (es es' : List Entry) (b : Bool) → IsKept start now es b → b ≡ true → es' ≡ es
-    → IsKept start then es' b
-kept-broken start now then es es' b k broken same = record {
+-- a pass that is broken keeps its entries, whatever it contains
+pub kept-broken : (start now then : State) (es es' : List Entry) (b b' : Bool) → IsKept start now es b → b' ≡ true → es' ≡ es
+    → IsKept start then es' b'
+kept-broken start now then es es' b b' k broken same = record {
   numbered = subst (AreNumbered 0) (sym same) k.numbered;
   right = subst (λ xs. IsRight start (acts_of xs)) (sym same) k.right;
   state = λ whole. let both : true ≡ false = sym broken ∙ whole in cc;

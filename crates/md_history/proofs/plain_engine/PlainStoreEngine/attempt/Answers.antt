@@ -92,7 +92,7 @@ pub returns-in-Ok-push-clause-begun : goal.returns-in-Ok-push-clause-begun
 returns-in-Ok-push-clause-begun g c = returns-in-Ok-push-clause-exact g c ∙ ap (λ (b : Bool). begun_by c.args.pass.now + cond b 0 1) (sym (ap (λ (p : Plain). p.broken) c.pass.view_is) ∙ c.if-pass.false)
 
 pub invariant_of-pass-in-Err-push : goal.invariant_of-pass-in-Err-push
-invariant_of-pass-in-Err-push g c = kept-broken _ _ _ _ _ _ c.pass-2.invariant (ap (λ (p : Plain). p.broken) (c.pass-2.view_is ∙ c.begin-tx.ensures.pass)) c.in-Err-push.ensures.items
+invariant_of-pass-in-Err-push g c = kept-broken _ _ _ _ _ _ _ c.pass-2.invariant (ap (λ (p : Plain). p.broken) (c.pass-2.view_is ∙ c.begin-tx.ensures.pass)) c.in-Err-push.ensures.items
 
 pub returns-in-Ok-clause-legal : goal.returns-in-Ok-clause-legal
 returns-in-Ok-clause-legal g c = subst (λ es. LegalFrom c.args.self.now (front_from es)) (sym (c.in-Err-push.ensures.items ∙ ap (λ (p : Plain). p.entries) (c.pass-2.view_is ∙ c.begin-tx.ensures.pass))) c.requires.of.front.legal
@@ -113,7 +113,7 @@ pub returns-in-Ok-clause-begun : goal.returns-in-Ok-clause-begun
 returns-in-Ok-clause-begun g c = counted-broken _ c.args.pass.now _ _ (refl) (sym (ap (λ (p : Plain). p.broken) c.pass.view_is) ∙ c.if-pass.false) (c.in-Err-push.ensures.items ∙ ap (λ (p : Plain). p.entries) (c.pass-2.view_is ∙ c.begin-tx.ensures.pass)) (ap (λ (p : Plain). p.broken) (c.pass-2.view_is ∙ c.begin-tx.ensures.pass))
 
 pub invariant_of-pass-in-Err : goal.invariant_of-pass-in-Err
-invariant_of-pass-in-Err g c = kept-broken _ _ _ _ _ _ c.pass-2.invariant (ap (λ (p : Plain). p.broken) (c.pass-2.view_is ∙ c.begin-tx.ensures.pass)) refl
+invariant_of-pass-in-Err g c = kept-broken _ _ _ _ _ _ _ c.pass-2.invariant (ap (λ (p : Plain). p.broken) (c.pass-2.view_is ∙ c.begin-tx.ensures.pass)) refl
 
 pub returns-clause-legal : goal.returns-clause-legal
 returns-clause-legal g c = subst (λ es. LegalFrom c.args.self.now (front_from es)) (sym (ap (λ (p : Plain). p.entries) (c.pass-2.view_is ∙ c.begin-tx.ensures.pass))) c.requires.of.front.legal
@@ -132,3 +132,9 @@ returns-clause-exact g c = begun-broken c.args.pass.now _ _ (sym (ap (λ (p : Pl
 
 pub returns-clause-begun : goal.returns-clause-begun
 returns-clause-begun g c = counted-broken _ c.args.pass.now _ _ (sym c.in-Err.ensures.err.same ∙ refused-for_memory _ _ (ap (λ (t : Running). refusal_of t.refused) c.tx.view_is ∙ c.in-Err.ensures.err.stopped)) (sym (ap (λ (p : Plain). p.broken) c.pass.view_is) ∙ c.if-pass.false) (ap (λ (p : Plain). p.entries) (c.pass-2.view_is ∙ c.begin-tx.ensures.pass)) (ap (λ (p : Plain). p.broken) (c.pass-2.view_is ∙ c.begin-tx.ensures.pass))
+
+pub returns-in-Ok-clause-committed : goal.returns-in-Ok-clause-committed
+returns-in-Ok-clause-committed g c = tt
+
+pub returns-in-Ok-clause-whole : goal.returns-in-Ok-clause-whole
+returns-in-Ok-clause-whole g c = tt

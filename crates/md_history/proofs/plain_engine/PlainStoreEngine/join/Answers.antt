@@ -1,4 +1,4 @@
-use Rattle.std.proofs.Common.{refl, arith, rules}
+use Rattle.std.proofs.Common.{refl, arith}
 use Rattle.md_history.proofs.plain_engine.PlainStoreEngine.join.Goals as goal
 
 -- both passes would hold the one lane
@@ -9,4 +9,4 @@ pub returns-clause-begun : goal.returns-clause-begun
 returns-clause-begun c = λ apart. absurd (apart 0 (0, omega arith, refl) (0, omega arith, refl))
 
 pub returns-clause-unchanged : goal.returns-clause-unchanged
-returns-clause-unchanged c = search rules depth 1
+returns-clause-unchanged c = refl

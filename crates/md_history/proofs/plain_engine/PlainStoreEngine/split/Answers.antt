@@ -1,8 +1,8 @@
-use Rattle.std.proofs.Common.{rules}
+use Rattle.std.proofs.Common.{refl}
 use Rattle.md_history.proofs.plain_engine.PlainStoreEngine.split.Goals as goal
 
 pub returns-clause-unchanged : goal.returns-clause-unchanged
-returns-clause-unchanged c = search rules depth 1
+returns-clause-unchanged c = refl
 
 pub returns-clause-none : goal.returns-clause-none
-returns-clause-none c = search rules depth 1
+returns-clause-none c = refl
