@@ -2,8 +2,8 @@ pub mod Lines
 pub mod Tables
 pub mod Runs
 pub mod PlainFronts
-pub mod PlainAttempts
-pub mod PlainCalls
+mod PlainAttempts
+mod PlainCalls
 pub mod Branching
 pub mod Parts
 pub mod Plays

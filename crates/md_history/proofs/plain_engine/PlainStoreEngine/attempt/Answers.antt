@@ -86,19 +86,32 @@ pub returns-in-Ok-push-clause-whole : goal.returns-in-Ok-push-clause-whole
 returns-in-Ok-push-clause-whole g c = (sym (ap (λ (p : Plain). p.broken) c.pass.view_is) ∙ c.if-pass.false, refl)
 
 pub returns-in-Ok-push-clause-exact : goal.returns-in-Ok-push-clause-exact
-returns-in-Ok-push-clause-exact g c = begun-more c.args.pass.now _ _ _ (sym (ap (λ (p : Plain). p.broken) c.pass.view_is) ∙ c.if-pass.false) (ap (λ (p : Plain). p.entries) (c.pass-2.view_is ∙ c.begin-tx.ensures.pass)) c.in-Ok-push.ensures.items
+returns-in-Ok-push-clause-exact g c =
+    let whole = sym (ap (λ (p : Plain). p.broken) c.pass.view_is) ∙ c.if-pass.false in
+    let same = c.pass-2.view_is ∙ c.begin-tx.ensures.pass in
+    begun-more c.args.pass.now _ _ _ whole (ap (λ (p : Plain). p.entries) same) c.in-Ok-push.ensures.items
 
 pub returns-in-Ok-push-clause-begun : goal.returns-in-Ok-push-clause-begun
-returns-in-Ok-push-clause-begun g c = returns-in-Ok-push-clause-exact g c ∙ ap (λ (b : Bool). begun_by c.args.pass.now + cond b 0 1) (sym (ap (λ (p : Plain). p.broken) c.pass.view_is) ∙ c.if-pass.false)
+returns-in-Ok-push-clause-begun g c =
+    let whole = sym (ap (λ (p : Plain). p.broken) c.pass.view_is) ∙ c.if-pass.false in
+    returns-in-Ok-push-clause-exact g c ∙ ap (λ (b : Bool). begun_by c.args.pass.now + cond b 0 1) whole
 
 pub invariant_of-pass-in-Err-push : goal.invariant_of-pass-in-Err-push
-invariant_of-pass-in-Err-push g c = kept-broken _ _ _ _ _ _ _ c.pass-2.invariant (ap (λ (p : Plain). p.broken) (c.pass-2.view_is ∙ c.begin-tx.ensures.pass)) c.in-Err-push.ensures.items
+invariant_of-pass-in-Err-push g c =
+    let same = c.pass-2.view_is ∙ c.begin-tx.ensures.pass in
+    kept-broken _ _ _ _ _ _ _ c.pass-2.invariant (ap (λ (p : Plain). p.broken) same) c.in-Err-push.ensures.items
 
 pub returns-in-Ok-clause-legal : goal.returns-in-Ok-clause-legal
-returns-in-Ok-clause-legal g c = subst (λ es. LegalFrom c.args.self.now (front_from es)) (sym (c.in-Err-push.ensures.items ∙ ap (λ (p : Plain). p.entries) (c.pass-2.view_is ∙ c.begin-tx.ensures.pass))) c.requires.of.front.legal
+returns-in-Ok-clause-legal g c =
+    let same = c.pass-2.view_is ∙ c.begin-tx.ensures.pass in
+    let entries = c.in-Err-push.ensures.items ∙ ap (λ (p : Plain). p.entries) same in
+    subst (λ es. LegalFrom c.args.self.now (front_from es)) (sym entries) c.requires.of.front.legal
 
 pub returns-in-Ok-clause-of : goal.returns-in-Ok-clause-of
-returns-in-Ok-clause-of g c = of-same _ _ _ _ _ c.requires.of (ap (λ (p : Plain). p.start) (c.pass-2.view_is ∙ c.begin-tx.ensures.pass)) (c.in-Err-push.ensures.items ∙ ap (λ (p : Plain). p.entries) (c.pass-2.view_is ∙ c.begin-tx.ensures.pass))
+returns-in-Ok-clause-of g c =
+    let same = c.pass-2.view_is ∙ c.begin-tx.ensures.pass in
+    let entries = c.in-Err-push.ensures.items ∙ ap (λ (p : Plain). p.entries) same in
+    of-same _ _ _ _ _ c.requires.of (ap (λ (p : Plain). p.start) same) entries
 
 pub returns-in-Ok-clause-no_memory : goal.returns-in-Ok-clause-no_memory
 returns-in-Ok-clause-no_memory g c = refl
@@ -107,19 +120,33 @@ pub returns-in-Ok-clause-breaks : goal.returns-in-Ok-clause-breaks
 returns-in-Ok-clause-breaks g c = ap (λ (p : Plain). p.broken) (c.pass-2.view_is ∙ c.begin-tx.ensures.pass)
 
 pub returns-in-Ok-clause-exact : goal.returns-in-Ok-clause-exact
-returns-in-Ok-clause-exact g c = begun-broken c.args.pass.now _ _ (sym (ap (λ (p : Plain). p.broken) c.pass.view_is) ∙ c.if-pass.false) (c.in-Err-push.ensures.items ∙ ap (λ (p : Plain). p.entries) (c.pass-2.view_is ∙ c.begin-tx.ensures.pass)) (ap (λ (p : Plain). p.broken) (c.pass-2.view_is ∙ c.begin-tx.ensures.pass))
+returns-in-Ok-clause-exact g c =
+    let whole = sym (ap (λ (p : Plain). p.broken) c.pass.view_is) ∙ c.if-pass.false in
+    let same = c.pass-2.view_is ∙ c.begin-tx.ensures.pass in
+    let entries = c.in-Err-push.ensures.items ∙ ap (λ (p : Plain). p.entries) same in
+    begun-broken c.args.pass.now _ _ whole entries (ap (λ (p : Plain). p.broken) same)
 
 pub returns-in-Ok-clause-begun : goal.returns-in-Ok-clause-begun
-returns-in-Ok-clause-begun g c = counted-broken _ c.args.pass.now _ _ (refl) (sym (ap (λ (p : Plain). p.broken) c.pass.view_is) ∙ c.if-pass.false) (c.in-Err-push.ensures.items ∙ ap (λ (p : Plain). p.entries) (c.pass-2.view_is ∙ c.begin-tx.ensures.pass)) (ap (λ (p : Plain). p.broken) (c.pass-2.view_is ∙ c.begin-tx.ensures.pass))
+returns-in-Ok-clause-begun g c =
+    let whole = sym (ap (λ (p : Plain). p.broken) c.pass.view_is) ∙ c.if-pass.false in
+    let same = c.pass-2.view_is ∙ c.begin-tx.ensures.pass in
+    let entries = c.in-Err-push.ensures.items ∙ ap (λ (p : Plain). p.entries) same in
+    counted-broken _ c.args.pass.now _ _ refl whole entries (ap (λ (p : Plain). p.broken) same)
 
 pub invariant_of-pass-in-Err : goal.invariant_of-pass-in-Err
-invariant_of-pass-in-Err g c = kept-broken _ _ _ _ _ _ _ c.pass-2.invariant (ap (λ (p : Plain). p.broken) (c.pass-2.view_is ∙ c.begin-tx.ensures.pass)) refl
+invariant_of-pass-in-Err g c =
+    let same = c.pass-2.view_is ∙ c.begin-tx.ensures.pass in
+    kept-broken _ _ _ _ _ _ _ c.pass-2.invariant (ap (λ (p : Plain). p.broken) same) refl
 
 pub returns-clause-legal : goal.returns-clause-legal
-returns-clause-legal g c = subst (λ es. LegalFrom c.args.self.now (front_from es)) (sym (ap (λ (p : Plain). p.entries) (c.pass-2.view_is ∙ c.begin-tx.ensures.pass))) c.requires.of.front.legal
+returns-clause-legal g c =
+    let same = c.pass-2.view_is ∙ c.begin-tx.ensures.pass in
+    subst (λ es. LegalFrom c.args.self.now (front_from es)) (sym (ap (λ (p : Plain). p.entries) same)) c.requires.of.front.legal
 
 pub returns-clause-of : goal.returns-clause-of
-returns-clause-of g c = of-same _ _ _ _ _ c.requires.of (ap (λ (p : Plain). p.start) (c.pass-2.view_is ∙ c.begin-tx.ensures.pass)) (ap (λ (p : Plain). p.entries) (c.pass-2.view_is ∙ c.begin-tx.ensures.pass))
+returns-clause-of g c =
+    let same = c.pass-2.view_is ∙ c.begin-tx.ensures.pass in
+    of-same _ _ _ _ _ c.requires.of (ap (λ (p : Plain). p.start) same) (ap (λ (p : Plain). p.entries) same)
 
 pub returns-clause-no_memory : goal.returns-clause-no_memory
 returns-clause-no_memory g c = sym c.in-Err.ensures.err.same ∙ refused-for_memory _ _ (ap (λ (t : Running). refusal_of t.refused) c.tx.view_is ∙ c.in-Err.ensures.err.stopped)
@@ -128,10 +155,16 @@ pub returns-clause-breaks : goal.returns-clause-breaks
 returns-clause-breaks g c = ap (λ (p : Plain). p.broken) (c.pass-2.view_is ∙ c.begin-tx.ensures.pass)
 
 pub returns-clause-exact : goal.returns-clause-exact
-returns-clause-exact g c = begun-broken c.args.pass.now _ _ (sym (ap (λ (p : Plain). p.broken) c.pass.view_is) ∙ c.if-pass.false) (ap (λ (p : Plain). p.entries) (c.pass-2.view_is ∙ c.begin-tx.ensures.pass)) (ap (λ (p : Plain). p.broken) (c.pass-2.view_is ∙ c.begin-tx.ensures.pass))
+returns-clause-exact g c =
+    let whole = sym (ap (λ (p : Plain). p.broken) c.pass.view_is) ∙ c.if-pass.false in
+    let same = c.pass-2.view_is ∙ c.begin-tx.ensures.pass in
+    begun-broken c.args.pass.now _ _ whole (ap (λ (p : Plain). p.entries) same) (ap (λ (p : Plain). p.broken) same)
 
 pub returns-clause-begun : goal.returns-clause-begun
-returns-clause-begun g c = counted-broken _ c.args.pass.now _ _ (sym c.in-Err.ensures.err.same ∙ refused-for_memory _ _ (ap (λ (t : Running). refusal_of t.refused) c.tx.view_is ∙ c.in-Err.ensures.err.stopped)) (sym (ap (λ (p : Plain). p.broken) c.pass.view_is) ∙ c.if-pass.false) (ap (λ (p : Plain). p.entries) (c.pass-2.view_is ∙ c.begin-tx.ensures.pass)) (ap (λ (p : Plain). p.broken) (c.pass-2.view_is ∙ c.begin-tx.ensures.pass))
+returns-clause-begun g c =
+    let whole = sym (ap (λ (p : Plain). p.broken) c.pass.view_is) ∙ c.if-pass.false in
+    let same = c.pass-2.view_is ∙ c.begin-tx.ensures.pass in
+    counted-broken _ c.args.pass.now _ _ (returns-clause-no_memory g c) whole (ap (λ (p : Plain). p.entries) same) (ap (λ (p : Plain). p.broken) same)
 
 pub returns-in-Ok-clause-committed : goal.returns-in-Ok-clause-committed
 returns-in-Ok-clause-committed g c = tt
