@@ -17,6 +17,7 @@ use Rattle.csv.specs.declared.parser.Action.{Action}
 use Rattle.csv.specs.declared.parser.Action.TheVariants as act
 use Rattle.csv.proofs.ReadFacts.{rows-more, rows-end}
 use Rattle.md_orders.specs.Records.{Row, order_records}
+use Rattle.md_orders.specs.Rows.{IsReadSoFar, IsNext}
 
 -- a record ends in a state that the end of the text doesn't end again
 record Rests (p : State × Action) : Type 0 where
@@ -122,24 +123,14 @@ reached_some cfg (suc n) s s2 xs ys [] h few = omega arith
 reached_some cfg (suc n) s s2 xs ys (r ∷ rs) h few = rw h.1 (let more = reached_some cfg n h.0.1 s2 h.0.2 ys rs h.3 (omega arith) in omega arith)
 
 -- the records of an order file, from those read up to its end
-pub all_read : (bytes ys : List ℕ) (rows : List Row) (s2 : State)
+all_read : (bytes ys : List ℕ) (rows : List Row) (s2 : State)
     → Reached default_config st.StartRecord (strip_bom bytes) rows s2 ys → next_record default_config s2 [] [] ys ≡ None → order_records bytes ≡ rows
 unfolding order_records
 all_read bytes ys rows s2 h none = reached_all default_config (length (strip_bom bytes) + 1) st.StartRecord s2 (strip_bom bytes) ys rows h none
     (let short = reached_short default_config st.StartRecord s2 (strip_bom bytes) ys rows refl h in omega arith)
 
--- these records were read, and the reader goes on after them
-pub record IsReadSoFar (bytes : List ℕ) (reader : Reader (Bor (List ℕ))) (rows : List Row) : Type 0 where
-  pub trim : reader_trim reader ≡ trim.None
-  pub flexible : is_flexible reader ≡ true
-  pub ready : Ready reader
-  pub config : reader_config reader ≡ default_config
-  pub left : List ℕ
-  pub source : source_of (λ (s : Bor (List ℕ)). Some s.now) reader ≡ Some left
-  pub reached : Reached default_config st.StartRecord (strip_bom bytes) rows (reader_state reader) left
-
 -- a read that gave a record: it was read too
-pub read_more : (bytes : List ℕ) (rows : List Row) (old new : Reader (Bor (List ℕ))) (fields : Row)
+read_more : (bytes : List ℕ) (rows : List Row) (old new : Reader (Bor (List ℕ))) (fields : Row)
     → IsReadSoFar bytes old rows → ReadRecord (λ (s : Bor (List ℕ)). Some s.now) old new true fields → took_first new ≡ true → is_flexible new ≡ is_flexible old
     → IsReadSoFar bytes new (rows ++ (fields ∷ []))
 read_more bytes rows old new fields so_far read first flexible =
@@ -147,10 +138,17 @@ read_more bytes rows old new fields so_far read first flexible =
     record { trim = read.3 ∙ so_far.trim; flexible = flexible ∙ so_far.flexible; ready = inl first; config = read.2 ∙ so_far.config; left = more.0; source = more.1; reached = more.2 }
 
 -- a read that gave none: the records that were read are all
-pub read_end : (bytes : List ℕ) (rows : List Row) (old new : Reader (Bor (List ℕ))) (fields : Row)
+read_end : (bytes : List ℕ) (rows : List Row) (old new : Reader (Bor (List ℕ))) (fields : Row)
     → IsReadSoFar bytes old rows → ReadRecord (λ (s : Bor (List ℕ)). Some s.now) old new false fields → order_records bytes ≡ rows
 read_end bytes rows old new fields so_far read =
     all_read bytes so_far.left rows (reader_state old) so_far.reached (rows-end (λ (s : Bor (List ℕ)). Some s.now) old new fields default_config so_far.left so_far.config so_far.source read)
+
+-- so a read that succeeds found the next record, or the end
+pub read_next : (bytes : List ℕ) (rows : List Row) (old new : Reader (Bor (List ℕ))) (fields : Row) (found : Bool)
+    → IsReadSoFar bytes old rows → ReadRecord (λ (s : Bor (List ℕ)). Some s.now) old new found fields → took_first new ≡ true → is_flexible new ≡ is_flexible old
+    → IsNext bytes rows new fields found
+read_next bytes rows old new fields true so_far read first flexible = read_more bytes rows old new fields so_far read first flexible
+read_next bytes rows old new fields false so_far read first flexible = read_end bytes rows old new fields so_far read
 
 -- a read of a flexible reader fails for the reader underneath or for memory
 pub only_stops : (old new : Reader (Bor (List ℕ))) (k : ErrorKind) → is_flexible old ≡ true

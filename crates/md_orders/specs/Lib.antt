@@ -1,4 +1,5 @@
 pub mod Records
+pub mod Rows
 pub mod Version
 pub mod Grammar
 pub mod Lists

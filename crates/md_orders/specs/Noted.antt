@@ -1,5 +1,5 @@
 -- What is noted of an order file's records as they are read.
-use Rattle.std.specs.Prelude.{◌≡◌, ◌≤◌, ◌==◌, ◌&&◌, Bool, false, ℕ, List, Option, Some, None, Result, Ok, Err, length, filter}
+use Rattle.std.specs.Prelude.{◌≡◌, ◌≤◌, ◌==◌, ◌&&◌, Bool, true, false, ℕ, List, Option, Some, None, Result, Ok, Err, length, filter}
 use Rattle.md_book.specs.declared.commands.Command.{Command}
 use Rattle.md_orders.specs.declared.version.Version.{Version}
 use Rattle.md_orders.specs.declared.read.Notes.{Notes}
@@ -44,6 +44,11 @@ pub record IsNoted (known : Option Version) (callers : ℕ) (rows : List Row) (c
 -- the same, of notes
 abbrev pub AreNotes : Option Version → ℕ → List Row → Notes → Type 0
 AreNotes known callers rows notes = IsNoted known callers rows notes.count notes.version notes.scripts notes.bad
+
+-- notes of all records, if this is so; else there are too many
+abbrev pub AreAllNoted : Option Version → ℕ → List Row → Notes → Bool → Type 0
+AreAllNoted known callers rows notes true = AreNotes known callers rows notes × AreFewRecords rows
+AreAllNoted known callers rows notes false = ¬ AreFewRecords rows
 
 -- what a read of records returns: notes of them, or that they are too many; or memory ran out
 abbrev pub IsRead : Option Version → ℕ → List Row → Result Notes OrderFault → Type 0

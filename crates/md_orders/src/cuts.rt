@@ -28,11 +28,11 @@ fn line_end(bytes: &[u8], place: usize) -> Option<usize>
     None
 }
 
-/// Cuts bytes into two parts whose records are those of the whole. The cut is at the end of the
-/// line that the byte at `place` belongs to. `None` if there is no such line, if nothing follows it,
-/// or if the cut isn't known to be right. A line feed may stand inside a field if there is a double
-/// quote before it, and neither part may begin with the first byte of a byte order mark.
-pub(crate) fn cut(bytes: &[u8], place: usize) -> Option<(&[u8], &[u8])>
+// Cuts bytes into two parts whose records are those of the whole. The cut is at the end of the
+// line that the byte at `place` belongs to. `None` if there is no such line, if nothing follows it,
+// or if the cut isn't known to be right. A line feed may stand inside a field if there is a double
+// quote before it, and neither part may begin with the first byte of a byte order mark.
+fn cut(bytes: &[u8], place: usize) -> Option<(&[u8], &[u8])>
     ensures { IfSome result (λ parts. order_records bytes.now
         ≡ order_records parts.0.now ++ order_records parts.1.now) }
 {
@@ -45,6 +45,19 @@ pub(crate) fn cut(bytes: &[u8], place: usize) -> Option<(&[u8], &[u8])>
         return None;
     }
     Some((low, high))
+}
+
+/// Cuts the first of so many parts off some bytes. The records of both are those of the whole.
+/// `None` if there is to be no more than one part, or if no cut is known to be right.
+pub(crate) fn cut_off(bytes: &[u8], parts: u32) -> Option<(&[u8], &[u8])>
+    ensures several { IfSome result (λ both. 1 < parts) }
+    ensures records { IfSome result (λ both. order_records bytes.now
+        ≡ order_records both.0.now ++ order_records both.1.now) }
+{
+    if parts <= 1 {
+        return None;
+    }
+    cut(bytes, bytes.len() / parts as usize)
 }
 
 // What stands behind this start of some bytes, if they begin so and no byte order mark may follow.

@@ -1,6 +1,6 @@
 //! Made scripts: commands from a number.
 
-ghost use Rattle.std.specs.Prelude.{◌≡◌, ◌≤◌, ◌/◌, ◌^◌, IfOk};
+ghost use Rattle.std.specs.Prelude.{◌≡◌, ◌≤◌, ◌+◌, ◌/◌, ◌%◌, ◌^◌, IfOk};
 ghost use Rattle.md_orders.specs.Records.{max_records};
 ghost use Rattle.md_orders.specs.Generator.{next_state, state_after, draws_from, made_command, AreMade};
 
@@ -96,6 +96,14 @@ fn made_command(caller: u32, line: u32, draws: &Draws) -> Command
     }
 }
 
+// The caller of a command that has this number, counted from 0. The callers take turns.
+fn turn(at: u32, callers: u32) -> u32
+    requires { 1 ≤ callers }
+    ensures { result ≡ at % callers + 1 }
+{
+    1 + at % callers
+}
+
 /// Makes scripts from a number: `lines` commands, 1 to 1,000,000, for `callers` callers in turn, 1
 /// to `MAX_MADE_CALLERS`. The number may be any. A fill looks at `PLACES_IN_VERSION_1` places, and
 /// there are no kills. The callers have different prices, accounts and orders, so no command of one
@@ -111,7 +119,7 @@ pub fn make(alloc: Global, number: u32, lines: u32, callers: u32) -> Result<Scri
     let mut generator = Generator { state: number };
     let mut scripts = Scripts::empty(alloc, callers, lines / callers + 1)?;
     for at in 0..lines {
-        let caller = at % callers + 1;
+        let caller = turn(at, callers);
         let line = scripts.len(caller) + 1;
         let draws = generator.draws();
         scripts.add(caller, made_command(caller, line, &draws))?;

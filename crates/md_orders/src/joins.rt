@@ -1,17 +1,18 @@
 //! What was noted of two parts of a file, put together.
 
 ghost use Rattle.std.specs.Prelude.{◌≤◌, ◌++◌, List, Some};
+ghost use Rattle.md_orders.specs.declared.version.Version.{Version};
 ghost use Rattle.md_orders.specs.Records.{Row, max_records};
 ghost use Rattle.md_orders.specs.Noted.{AreNotes, IsRead};
 
 use crate::read::{MAX_RECORDS, Notes, OrderFault};
 use md_book::MAX_CALLER;
 
-/// What is noted of a file, from what was noted of two parts of it: orders get the names of their
-/// lines in the file, and the first record that breaks the grammar gets its number there. The
-/// result is `TooMany` if the parts together have more than 1,000,000 records, and may be
-/// `NoMemory` if memory runs out.
-pub(crate) fn join_notes(mut first: Notes, second: Notes, callers: u32) -> Result<Notes, OrderFault>
+// What is noted of a file, from what was noted of two parts of it: orders get the names of their
+// lines in the file, and the first record that breaks the grammar gets its number there. The
+// result is `TooMany` if the parts together have more than 1,000,000 records, and may be
+// `NoMemory` if memory runs out.
+fn join_notes(mut first: Notes, second: Notes, callers: u32) -> Result<Notes, OrderFault>
     requires few { callers ≤ MAX_CALLER }
     requires counts { (first.count ≤ max_records) × (second.count ≤ max_records) }
     requires notes { (low : List Row) × (high : List Row)
@@ -41,4 +42,20 @@ pub(crate) fn join_notes(mut first: Notes, second: Notes, callers: u32) -> Resul
         }
         Err(_) => Err(OrderFault::NoMemory),
     }
+}
+
+/// What a read of a file returns, from what the reads of its two parts returned.
+pub(crate) fn join_reads(
+    first: Result<Notes, OrderFault>,
+    second: Result<Notes, OrderFault>,
+    callers: u32,
+) -> Result<Notes, OrderFault>
+    requires few { callers ≤ MAX_CALLER }
+    requires reads { (version : Version) × (low : List Row) × (high : List Row)
+        × IsRead (Some version) callers low first × IsRead (Some version) callers high second }
+    ensures { (version : Version) → (low : List Row) → (high : List Row)
+        → IsRead (Some version) callers low first → IsRead (Some version) callers high second
+        → IsRead (Some version) callers (low ++ high) result }
+{
+    join_notes(first?, second?, callers)
 }

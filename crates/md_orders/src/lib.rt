@@ -8,6 +8,7 @@ mod grammar;
 mod joins;
 mod read;
 mod read_in_threads;
+mod reading;
 mod scripts;
 mod segments;
 mod version;

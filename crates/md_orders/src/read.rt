@@ -1,18 +1,19 @@
 //! Reading an order file.
 
-ghost use Rattle.std.specs.Prelude.{◌≡◌, ◌≤◌, ◌<◌, ◌++◌, ◌∷◌, ℕ, List, true, false, Some, [], IfOk, IfSome, IfNone, OnOk, IsErrOf};
-ghost use Rattle.csv.specs.Reading.{error_kind, stops_reader};
+ghost use Rattle.std.specs.Prelude.{◌≡◌, ◌≤◌, ◌<◌, ◌++◌, ◌∷◌, ℕ, List, false, Some, [], IfOk, IfSome, IfNone, OnOk, IsErrOf};
 ghost use Rattle.csv.specs.Records.{fields_of};
 ghost use Rattle.md_orders.specs.Records.{Row, order_records, max_records, AreFewRecords};
 ghost use Rattle.md_orders.specs.Grammar.{keeps, first_bad};
 ghost use Rattle.md_orders.specs.Scripts.{AreScripts, count_of};
 ghost use Rattle.md_orders.specs.Line.{IsLine};
-ghost use Rattle.md_orders.specs.Noted.{AreNotes, IsRead, shows_version_2};
+ghost use Rattle.md_orders.specs.Noted.{AreNotes, AreAllNoted, IsRead, shows_version_2};
+ghost use Rattle.md_orders.specs.Rows.{IsReadSoFar};
 
 use crate::grammar::{caller_of, command_of};
+use crate::reading::{read_row, reader_of};
 use crate::scripts::Scripts;
 use crate::version::{Version, begins_version_2};
-use csv::{ByteRecord, Error, ErrorKind, ReaderBuilder};
+use csv::{ByteRecord, Reader};
 use md_book::{Command, MAX_CALLER, order_name};
 use std::alloc::{AllocError, Global};
 
@@ -38,17 +39,6 @@ const RECORD_BYTES: usize = 16;
 // larger memory later.
 fn likely_lines(bytes: &[u8]) -> u32 {
     (bytes.len() / RECORD_BYTES).min(MAX_RECORDS as usize) as u32
-}
-
-// A read of a slice by a flexible reader fails only when it is out of memory.
-fn want(error: &Error) -> OrderFault
-    requires { stops_reader (error_kind error.now) ≡ true }
-    ensures { result ≡ OrderFault.NoMemory }
-{
-    match error.kind() {
-        ErrorKind::OutOfMemory | ErrorKind::Io(_) => OrderFault::NoMemory,
-        _ => unreachable!(),
-    }
 }
 
 // What was noted of the records so far: how many there are, their version, the scripts of its
@@ -112,6 +102,63 @@ fn note(
     Ok(())
 }
 
+// Reads records one by one, up to their end, and notes each. The result is false if there are more
+// than an order file may have.
+fn note_rows(
+    reader: &mut Reader<&[u8]>,
+    row: &mut ByteRecord,
+    notes: &mut Notes,
+    known: Option<Version>,
+    callers: u32,
+) -> Result<bool, AllocError>
+    requires unread { (bytes : List ℕ) × IsReadSoFar bytes reader.old [] }
+    requires none { AreNotes known callers [] notes.old }
+    ensures { IfOk result (λ all. (bytes : List ℕ) → IsReadSoFar bytes reader.old []
+        → AreAllNoted known callers (order_records bytes) notes.new all) }
+{
+    for _before in 0..MAX_RECORDS {
+        if !read_row(reader, row)? {
+            return Ok(true);
+        }
+        note(notes, known, callers, row)?;
+    }
+    Ok(!read_row(reader, row)?)
+}
+
+// Reads the records of a text, and notes each. The result is false if there are more than an order
+// file may have.
+fn note_all(
+    alloc: Global,
+    bytes: &[u8],
+    notes: &mut Notes,
+    known: Option<Version>,
+    callers: u32,
+) -> Result<bool, AllocError>
+    requires { AreNotes known callers [] notes.old }
+    ensures { IfOk result (AreAllNoted known callers (order_records bytes.now) notes.new) }
+{
+    let mut reader = reader_of(alloc, bytes);
+    let mut row = ByteRecord::new(alloc);
+    note_rows(&mut reader, &mut row, notes, known, callers)
+}
+
+// Notes of no records.
+fn no_notes(
+    alloc: Global,
+    callers: u32,
+    known: Option<Version>,
+    room: u32,
+) -> Result<Notes, AllocError>
+    ensures { IfOk result (AreNotes known callers []) }
+{
+    Ok(Notes {
+        count: 0,
+        version: known.unwrap_or(Version::First),
+        scripts: Scripts::empty(alloc, callers, room)?,
+        bad: None,
+    })
+}
+
 /// Reads the records of a text, and notes their lines. If the version is known, each record is a
 /// line of it; otherwise the version is the one that the records show.
 ///
@@ -127,34 +174,14 @@ pub(crate) fn read_records(
     requires { (1 ≤ callers) × (callers ≤ MAX_CALLER) }
     ensures { IsRead known callers (order_records bytes.now) result }
 {
-    let mut reader = ReaderBuilder::new()
-        .has_headers(false)
-        .flexible(true)
-        .from_reader(alloc, bytes);
-    let mut row = ByteRecord::new(alloc);
-    let Ok(scripts) = Scripts::empty(alloc, callers, likely_lines(bytes) / callers) else {
+    let Ok(mut notes) = no_notes(alloc, callers, known, likely_lines(bytes) / callers) else {
         return Err(OrderFault::NoMemory);
     };
-    let mut notes = Notes {
-        count: 0,
-        version: known.unwrap_or(Version::First),
-        scripts,
-        bad: None,
-    };
-    for before in 0..MAX_RECORDS + 1 {
-        match reader.read_byte_record(&mut row) {
-            Ok(true) => {}
-            Ok(false) => return Ok(notes),
-            Err(error) => return Err(want(&error)),
-        }
-        if before == MAX_RECORDS {
-            return Err(OrderFault::TooMany);
-        }
-        if note(&mut notes, known, callers, &row).is_err() {
-            return Err(OrderFault::NoMemory);
-        }
+    match note_all(alloc, bytes, &mut notes, known, callers) {
+        Ok(true) => Ok(notes),
+        Ok(false) => Err(OrderFault::TooMany),
+        Err(_) => Err(OrderFault::NoMemory),
     }
-    unreachable!()
 }
 
 /// Reads the scripts of an order file: for each caller, 1 to `callers`, the commands of its

@@ -1,15 +1,15 @@
 //! Reading an order file in threads.
 
-ghost use Rattle.std.specs.Prelude.{◌≡◌, ◌≤◌, ◌∷◌, ℕ, Some, IfOk, IsErrOf};
+ghost use Rattle.std.specs.Prelude.{◌≡◌, ◌≤◌, ◌∷◌, ℕ, List, Some, IfOk, IsErrOf};
 ghost use Rattle.std.specs.Thread.{IsSync};
-ghost use Rattle.md_orders.specs.Records.{order_records, AreFewRecords};
+ghost use Rattle.md_orders.specs.Records.{Row, order_records, AreFewRecords};
 ghost use Rattle.md_orders.specs.Version.{version_record};
 ghost use Rattle.md_orders.specs.Grammar.{first_bad};
 ghost use Rattle.md_orders.specs.Scripts.{AreScripts};
-ghost use Rattle.md_orders.specs.Noted.{IsRead, IsReadAs};
+ghost use Rattle.md_orders.specs.Noted.{AreNotes, IsRead, IsReadAs};
 
-use crate::cuts::{cut, lines_of_version_2};
-use crate::joins::join_notes;
+use crate::cuts::{cut_off, lines_of_version_2};
+use crate::joins::join_reads;
 use crate::read::{MAX_RECORDS, Notes, OrderFault, read_orders, read_records};
 use crate::scripts::Scripts;
 use crate::version::Version;
@@ -44,10 +44,7 @@ fn read_parts<R: Threads + Sync>(
     requires { (1 ≤ callers) × (callers ≤ MAX_CALLER) }
     ensures { IsRead (Some version) callers (order_records bytes.now) result }
 {
-    if parts <= 1 {
-        return read_records(alloc, bytes, callers, Some(version));
-    }
-    let Some((low, high)) = cut(bytes, bytes.len() / parts as usize) else {
+    let Some((low, high)) = cut_off(bytes, parts) else {
         return read_records(alloc, bytes, callers, Some(version));
     };
     let fewer = parts - 1;
@@ -63,7 +60,25 @@ fn read_parts<R: Threads + Sync>(
             ensures { IsRead (Some version) callers (order_records high.entry.now) result }
         { read_parts(rt, alloc, high, callers, version, fewer) },
     );
-    join_notes(first?, second?, callers)
+    join_reads(first, second, callers)
+}
+
+// The scripts of a file of version 2, from what was noted of its lines. They stand after its first
+// record, which counts as one, too.
+fn scripts_of_version_2(notes: Notes) -> Result<Scripts, OrderFault>
+    requires { (callers : ℕ) × (lines : List Row)
+        × AreNotes (Some Version.Second) callers lines notes × AreFewRecords lines }
+    ensures { (callers : ℕ) → (lines : List Row)
+        → AreNotes (Some Version.Second) callers lines notes → AreFewRecords lines
+        → IsReadAs callers (version_record ∷ lines) result }
+{
+    if notes.count == MAX_RECORDS {
+        return Err(OrderFault::TooMany);
+    }
+    match notes.bad {
+        Some(number) => Err(OrderFault::BadLine(number + 1)),
+        None => Ok(notes.scripts),
+    }
 }
 
 // Reads the lines of a file of version 2, which stand after its first record.
@@ -77,14 +92,7 @@ fn read_version_2<R: Threads + Sync>(
     requires { (1 ≤ callers) × (callers ≤ MAX_CALLER) }
     ensures { IsReadAs callers (version_record ∷ order_records lines.now) result }
 {
-    let notes = read_parts(rt, alloc, lines, callers, Version::Second, parts)?;
-    if notes.count == MAX_RECORDS {
-        return Err(OrderFault::TooMany);
-    }
-    match notes.bad {
-        Some(number) => Err(OrderFault::BadLine(number + 1)),
-        None => Ok(notes.scripts),
-    }
+    scripts_of_version_2(read_parts(rt, alloc, lines, callers, Version::Second, parts)?)
 }
 
 // Reads the scripts of an order file, as `read_orders` does, in at most so many parts, or in one if

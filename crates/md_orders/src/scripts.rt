@@ -60,6 +60,14 @@ fn push_to(lists: &mut Vec<Segments>, caller: u32, command: Command) -> Result<(
     Ok(())
 }
 
+// Adds a caller's commands and, behind them, others of that caller.
+fn push_joined(lists: &mut Vec<Segments>, low: Segments, high: Segments) -> Result<(), AllocError>
+    ensures { OnOk result (lists.new.items ≡ lists.old.items ++ (low ++ high) ∷ []) }
+{
+    lists.push(low.joined(high)?)?;
+    Ok(())
+}
+
 // The commands of each caller, and behind them others of that caller.
 fn joined_by_caller(
     first: Vec<Segments>,
@@ -70,7 +78,7 @@ fn joined_by_caller(
 {
     let mut lists = Vec::with_capacity(*first.allocator(), first.len())?;
     for (low, high) in first.into_iter().zip(second) {
-        lists.push(low.joined(high)?)?;
+        push_joined(&mut lists, low, high)?;
     }
     Ok(lists)
 }

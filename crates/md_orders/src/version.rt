@@ -46,7 +46,8 @@ impl Version {
 pub(crate) fn begins_version_2(number: u32, row: &ByteRecord) -> bool
     ensures { result ≡ (number == 1) && is_version_record (fields_of row.now) }
 {
-    number == 1 && is_version_record(row)
+    let is_first = number == 1;
+    is_first && is_version_record(row)
 }
 
 fn is_version_record(row: &ByteRecord) -> bool

@@ -17,7 +17,8 @@ loop-at-init c = record {
 pub loop-at-preserved : goal.loop-at-preserved
 loop-at-preserved c =
     let scripts = c.loop-at.scripts in
-    let caller = c.loop-at.at % c.args.callers + 1 in
+    let caller = c.turn-caller.result in
+    let turn = c.turn-caller.ensures in
     let line = c.len-line.result + 1 in
     let low = c.requires.callers.0 in
     let below : c.loop-at.at % c.args.callers < c.args.callers = mod-lt c.loop-at.at (omega arith) in
@@ -30,7 +31,7 @@ loop-at-preserved c =
     record {
       made = subst (AreMade c.args.number (c.loop-at.at + 1) c.args.callers)
           (sym (added ∙ ap (λ x. with_list scripts caller (list_of scripts caller ++ x ∷ [])) is))
-          (made-more c.args.number c.loop-at.at c.args.callers caller line scripts made refl (omega arith) (ap (λ n. n + 1) c.len-line.ensures.count));
+          (made-more c.args.number c.loop-at.at c.args.callers caller line scripts made turn (omega arith) (ap (λ n. n + 1) c.len-line.ensures.count));
       state = c.draws-draws.ensures.state ∙ five_more c.args.number c.loop-at.at c.loop-at.generator.state c.loop-at.invariant.state;
       count = rw added (more ∙ ap (λ n. n + 1) c.loop-at.invariant.count);
     }

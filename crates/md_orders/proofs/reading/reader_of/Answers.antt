@@ -1,0 +1,19 @@
+use Rattle.std.proofs.Common.{◌∙◌, refl, sym, inr}
+use Rattle.csv.specs.Reading.{Reached}
+use Rattle.md_orders.proofs.reading.reader_of.Goals as goal
+
+pub returns : goal.returns
+unfolding Reached
+returns c =
+    let fr = c.from_reader.ensures in
+    let e = c.has_headers.ensures in
+    let f = c.flexible.ensures in
+    record {
+      trim = rw (f, e) at fr.trim ∙ c.new.ensures.trim;
+      ready = inr (inr (rw (f, e) at fr.has_headers, fr.headers));
+      flexible = rw f at fr.flexible;
+      config = rw (f, e) at fr.config ∙ c.new.ensures.config;
+      left = _;
+      source = fr.source;
+      reached = (sym fr.state, refl);
+    }
