@@ -3,11 +3,10 @@ use Rattle.std.proofs.Common.{Bor, ◌++◌, ◌≡◌, ◌<◌, ◌≤◌, ◌+
 use Rattle.std.specs.Prelude.{◌==◌, ◌&&◌, if◌then◌else◌}
 use Rattle.std.proofs.lemmas.Bool.{cases_Bool, false≢true}
 use Rattle.csv.specs.Machine.{Read, next_record, step, is_end, ends_at_end, fields_after, field_after, in_field, start_field, start_record, after_end, ends_with, is_byte}
-use Rattle.csv.specs.Reading.{Reached, records_from, default_config, strip_bom, Ready, ReadRecord, ExplainsRead, source_of, reader_config, reader_state, reader_trim, took_first, is_flexible, stops_reader}
+use Rattle.csv.specs.Reading.{Reached, records_from, default_config, strip_bom, ReadRecord, ExplainsRead, reader_state, took_first, is_flexible, stops_reader}
 use Rattle.csv.specs.declared.error.ErrorKind.{ErrorKind}
 use Rattle.csv.specs.declared.error.ErrorKind.TheVariants as kind
 use Rattle.csv.specs.declared.reader.Reader.{Reader}
-use Rattle.csv.specs.declared.reader.Trim.TheVariants as trim
 use Rattle.csv.specs.declared.parser.Config.{Config}
 use Rattle.csv.specs.declared.parser.Terminator.{Terminator}
 use Rattle.csv.specs.declared.parser.Terminator.TheVariants as term

@@ -32,10 +32,7 @@ fn want(error: &Error) -> AllocError
 
 /// Reads the next record of a text. The result is false if there is none, and `AllocError` if
 /// memory runs out.
-pub(crate) fn read_row(
-    reader: &mut Reader<&[u8]>,
-    row: &mut ByteRecord,
-) -> Result<bool, AllocError>
+pub(crate) fn read_row(reader: &mut Reader<&[u8]>, row: &mut ByteRecord) -> Result<bool, AllocError>
     requires { (bytes : List ℕ) × (rows : List Row) × IsReadSoFar bytes reader.old rows }
     ensures { IfOk result (λ found. (bytes : List ℕ) → (rows : List Row)
         → IsReadSoFar bytes reader.old rows

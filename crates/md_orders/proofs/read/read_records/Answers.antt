@@ -1,4 +1,3 @@
-use Rattle.std.proofs.Common.{rules}
 use Rattle.md_orders.proofs.read.read_records.Goals as goal
 
 pub returns-in-Ok-true : goal.returns-in-Ok-true
