@@ -1,6 +1,6 @@
 //! The lines of the callers in a report, which threads write side by side.
 
-ghost use Rattle.std.specs.Prelude.{◌≡◌, ◌<◌, ◌+◌, ◌^◌, ◌++◌, [], IfOk};
+ghost use Rattle.std.specs.Prelude.{◌≡◌, ◌<◌, ◌+◌, ◌^◌, ◌++◌, ℕ, List, [], IfOk};
 ghost use Rattle.std.specs.Thread.{IsSync};
 ghost use Rattle.md_report.specs.Report.{lines_text, callers_text_after, replies_text, whole_text};
 
@@ -28,12 +28,18 @@ fn one_part(alloc: Global, text: Vec<u8>) -> Result<Vec<Vec<u8>>, AllocError>
     Ok(parts)
 }
 
-// One text after the other. Parts are moved, and no text is copied.
-fn joined(mut first: Vec<Vec<u8>>, mut second: Vec<Vec<u8>>) -> Result<Vec<Vec<u8>>, AllocError>
-    ensures { IfOk result (λ parts. whole_text parts.items
-        ≡ whole_text first.items ++ whole_text second.items) }
+// One text after the other, if both are there. Parts are moved, and no text is copied.
+fn joined(
+    first: Result<Vec<Vec<u8>>, AllocError>,
+    second: Result<Vec<Vec<u8>>, AllocError>,
+) -> Result<Vec<Vec<u8>>, AllocError>
+    ensures { (low : List ℕ) → (high : List ℕ)
+        → IfOk first (λ parts. whole_text parts.items ≡ low)
+        → IfOk second (λ parts. whole_text parts.items ≡ high)
+        → IfOk result (λ parts. whole_text parts.items ≡ low ++ high) }
 {
-    first.append(&mut second)?;
+    let mut first = first?;
+    first.append(&mut second?)?;
     Ok(first)
 }
 
@@ -49,6 +55,24 @@ fn room_for(alloc: Global, of: &Scripts, before: u32, count: u32) -> Result<Vec<
     let mut out = Vec::new(alloc);
     make_room(&mut out, lines)?;
     Ok(out)
+}
+
+// The lines of a caller after its first `before`, in one part.
+fn one_range(
+    alloc: Global,
+    replies: &RepliesByCaller,
+    caller: u32,
+    before: u32,
+    count: u32,
+) -> Result<Vec<Vec<u8>>, AllocError>
+    requires { before + count < 2 ^ 32 }
+    ensures { IfOk result (λ parts. whole_text parts.items
+        ≡ lines_text replies.now caller before count) }
+{
+    let mut out = Vec::new(alloc);
+    make_room(&mut out, count)?;
+    lines(&mut out, replies, caller, before, count)?;
+    one_part(alloc, out)
 }
 
 // The lines of a caller after its first `before`, in at most so many ranges, by halves in threads.
@@ -67,10 +91,7 @@ fn lines_in_ranges<R: Threads + Sync>(
         ≡ lines_text replies.now caller before count) }
 {
     if ranges <= 1 || count < MANY_LINES {
-        let mut out = Vec::new(alloc);
-        make_room(&mut out, count)?;
-        lines(&mut out, replies, caller, before, count)?;
-        return one_part(alloc, out);
+        return one_range(alloc, replies, caller, before, count);
     }
     let high = count / 2;
     let low = count - high;
@@ -90,7 +111,24 @@ fn lines_in_ranges<R: Threads + Sync>(
                 ≡ lines_text replies.entry.now caller middle high) }
         { lines_in_ranges(rt, alloc, replies, caller, middle, high, ranges / 2) },
     );
-    joined(earlier?, later?)
+    joined(earlier, later)
+}
+
+// The lines of the `count` callers after the first `before`, in one part.
+fn callers_in_one(
+    alloc: Global,
+    of: &Scripts,
+    replies: &RepliesByCaller,
+    before: u32,
+    count: u32,
+) -> Result<Vec<Vec<u8>>, AllocError>
+    requires { before + count < 2 ^ 32 }
+    ensures { IfOk result (λ parts. whole_text parts.items
+        ≡ callers_text_after of.now replies.now before count) }
+{
+    let mut out = room_for(alloc, of, before, count)?;
+    callers_lines(&mut out, of, replies, before, count)?;
+    one_part(alloc, out)
 }
 
 // The lines of the `count` callers after the first `before`, in at most so many ranges, by halves
@@ -114,9 +152,7 @@ fn lines_of_callers<R: Threads + Sync>(
         return lines_in_ranges(rt, alloc, replies, caller, 0, of.len(caller), ranges);
     }
     if ranges <= 1 || count == 0 {
-        let mut out = room_for(alloc, of, before, count)?;
-        callers_lines(&mut out, of, replies, before, count)?;
-        return one_part(alloc, out);
+        return callers_in_one(alloc, of, replies, before, count);
     }
     let high = count / 2;
     let low = count - high;
@@ -136,7 +172,7 @@ fn lines_of_callers<R: Threads + Sync>(
                 ≡ callers_text_after of.entry.now replies.entry.now middle high) }
         { lines_of_callers(rt, alloc, of, replies, middle, high, ranges / 2) },
     );
-    joined(first?, second?)
+    joined(first, second)
 }
 
 /// The lines of all callers in a report, as a text in parts: the parts are the text one after
