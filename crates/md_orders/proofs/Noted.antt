@@ -1,7 +1,6 @@
 -- What was noted of the records that were read: their scripts, or the first that breaks the grammar.
 use Rattle.std.proofs.Common.{◌≡◌, ◌<◌, ◌≤◌, ◌+◌, ◌∙◌, ◌++◌, ◌∷◌, ℕ, suc, zero, List, [], true, false, cond, Option, Some, None, is_some, length, unwrap_or, replicate, refl, sym, ap, subst, arith, inl, inr, length-append}
-use Rattle.std.specs.Prelude.{◌==◌, ◌^◌, nat_lt, filter, IfSome, OnOk, Result, Ok, Err}
-use Rattle.std.specs.Result.{is_ok}
+use Rattle.std.specs.Prelude.{◌==◌, ◌^◌, nat_lt, filter, IfSome}
 use borrow.Author.Tests.{ltb-true, ltb-false}
 use Rattle.std.specs.List.{filter_map, cons_option, enumerate_from}
 use Rattle.std.specs.Option.{option_map_or}
@@ -239,8 +238,3 @@ noted-sizes known callers rows count version scripts None none noted =
     let lines = lines-few known rows in
     (so_far.number, omega arith)
 noted-sizes known callers rows count version scripts (Some n) none noted = cc none
-
--- what holds on Ok holds of a result that is Ok
-pub on_ok : {T E : Type 0} {P : Type 0} (r : Result T E) → is_ok r ≡ true → OnOk r P → P
-on_ok (Ok x) is p = p
-on_ok (Err e) is p = cc is
