@@ -38,11 +38,11 @@ pub record HasCounted (turn : Turn) (count played tried first last : ℕ) : Type
   pub begun : IsWithinTries turn played first last
 
 -- by the counts before its last attempt, if that made any
-pub has-counted : (turn : Turn) (count next played conflicts tried made now met begun was begun' : ℕ)
-    → next ≡ turn.done + played → next ≤ count → count < 2 ^ 32 → played + conflicts ≤ tried → was ≡ begun + tried
+pub has-counted : (turn : Turn) (count played conflicts tried made now met begun was begun' : ℕ)
+    → turn.done + played ≤ count → count < 2 ^ 32 → played + conflicts ≤ tried → was ≡ begun + tried
     → now ≡ tried + made → now ≤ turn.tries → met ≤ now → (was ≤ begun') × (begun' ≤ was + made)
     → HasCounted turn count played met begun begun'
-has-counted turn count next played conflicts tried made now met begun was begun' at within few each counted is left seen more =
+has-counted turn count played conflicts tried made now met begun was begun' within few each counted is left seen more =
     record {
       within = omega arith;
       few = omega arith;
@@ -54,32 +54,3 @@ has-counted turn count next played conflicts tried made now met begun was begun'
 pub most-played : (done played count tried tries : ℕ) → done + played ≤ count → played ≡ tried → tried ≤ tries
     → tries ≤ tried → played ≡ min tries (count - done)
 most-played done played count tried tries within steady few most = omega arith
-
--- the counts of a turn after so many attempts
-pub record HasTried (count done line lines conflicts tried first last : ℕ) : Type 0 where
-  pub played : line ≡ done + lines
-  pub within : line ≤ count
-  pub few : lines + conflicts ≤ tried
-  pub counted : last ≡ first + tried
-
--- after an attempt that played the next line, and after one that met a conflict
-module _ (count done played lines conflicts tried first last played' lines' conflicts' last' : ℕ)
-    (is : played ≡ done + lines) (few : lines + conflicts ≤ tried) (counted : last ≡ first + tried)
-    (more : last' ≡ last + 1) where
-  pub tried-line : played' ≡ played + 1 → lines' ≡ lines + 1 → conflicts' ≡ 0 → played < count
-      → HasTried count done played' lines' conflicts' (tried + 1) first last'
-  tried-line next line none inside = record {
-    played = omega arith;
-    within = omega arith;
-    few = omega arith;
-    counted = omega arith;
-  }
-
-  pub tried-vain : played' ≡ played → lines' ≡ lines → conflicts' ≡ conflicts + 1 → played ≤ count
-      → HasTried count done played' lines' conflicts' (tried + 1) first last'
-  tried-vain same none another inside = record {
-    played = omega arith;
-    within = omega arith;
-    few = omega arith;
-    counted = omega arith;
-  }

@@ -3,6 +3,7 @@ pub mod Playing
 pub mod Retrying
 pub mod Following
 pub mod Ending
+pub mod Trying
 pub mod TagLaws
 pub mod Parting
 pub mod Turning
@@ -17,6 +18,7 @@ pub mod Coursing
 pub mod Handing
 pub mod First
 pub mod Sides
+pub mod Rounding
 pub mod Lists
 pub mod Serial
 pub mod Reaching

@@ -2,6 +2,7 @@ pub mod Tags
 pub mod Joined
 pub mod Lines
 pub mod Turns
+pub mod Tried
 pub mod Until
 pub mod Rounds
 pub mod LineLists

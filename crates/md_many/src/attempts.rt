@@ -1,6 +1,6 @@
 //! Attempts at lines, over any store.
 
-ghost use Rattle.std.specs.Prelude.{◌≡◌, ◌<◌, ◌≤◌, ◌+◌, ◌^◌, ◌∷◌, ◌++◌, [], ℕ, length, vec_len, vec_capacity};
+ghost use Rattle.std.specs.Prelude.{◌≡◌, ◌<◌, ◌≤◌, ◌+◌, ◌^◌, [], ℕ, length, vec_capacity};
 ghost use Rattle.std.specs.Prelude.{OnOk, OnErr, IfOk};
 ghost use Rattle.md_history.specs.Counts.{IsSmall};
 ghost use Rattle.md_history.specs.Front.{LegalFrom};
@@ -15,6 +15,7 @@ use crate::callers::Lines;
 use crate::gates::Gate;
 use crate::pauses::pause;
 use crate::tags::line_tag;
+use crate::tries::{after_stop, next_line, try_line};
 use md_history::{Attempt, Body, Engine, Limit, Stop, pass_is_legal};
 use std::alloc::AllocError;
 
@@ -82,18 +83,6 @@ pub fn attempt_line<E: Engine, B: Body, G: Gate>(
     attempt
 }
 
-// Appends a reply to a list that has room for it.
-fn put<R: Drop>(replies: &mut Vec<R>, reply: R)
-    requires { vec_len replies.old < vec_capacity replies.old }
-    ensures items { replies.new.items ≡ replies.old.items ++ reply ∷ [] }
-    ensures len { vec_len replies.new ≡ vec_len replies.old + 1 }
-    ensures capacity { vec_capacity replies.old ≤ vec_capacity replies.new }
-{
-    let Ok(()) = replies.push(reply) else {
-        unreachable!()
-    };
-}
-
 /// Plays a caller's turn: it attempts the caller's lines after the first `turn.done`, in order. If
 /// a line is committed, its reply goes to the end of `replies`, and the next line follows. If a
 /// line meets a conflict, it is attempted again. The turn ends when the caller has no line left,
@@ -152,35 +141,20 @@ pub fn attempt_lines<E: Engine, L: Lines, G: Gate>(
 {
     pass_is_legal(engine, pass);
     let count = lines.len(turn.caller);
-    let mut played = turn.done;
     let mut conflicts = 0;
     let mut random = line_tag(turn.caller, turn.done);
     'attempts: for tried in 0..turn.tries {
-        if played == count {
+        let Some(line) = next_line(turn.done, replies.len(), count) else {
             return Ok(End::Lines);
-        }
-        let line = played + 1;
-        let Some(body) = lines.body(turn.caller, line) else {
-            unreachable!()
         };
-        // As `attempt_line`, whose result would be copied once more.
-        gate.before(turn.caller, line);
-        match engine.attempt(pass, line_tag(turn.caller, line), &body) {
-            Attempt::Committed(reply) => {
-                put(replies, reply);
-                gate.after(turn.caller, line);
-                played = line;
-                conflicts = 0;
-            }
-            Attempt::Stopped(Stop::Conflict(_)) => {
-                conflicts += 1;
-                if conflicts == MOST_CONFLICTS {
-                    return Ok(End::Conflicts);
+        match try_line(engine, pass, lines, turn.caller, line, gate, replies) {
+            None => conflicts = 0,
+            Some(stop) => {
+                if let Some(end) = after_stop(stop, &mut conflicts)? {
+                    return Ok(end);
                 }
                 random = pause(random, conflicts);
             }
-            Attempt::Stopped(Stop::Limit(limit)) => return Ok(End::Limit(limit)),
-            Attempt::Stopped(Stop::NoMemory) => return Err(AllocError),
         }
     }
     Ok(End::Tries)

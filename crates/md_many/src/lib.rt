@@ -16,6 +16,7 @@ mod reply_lists;
 mod rounds;
 mod running;
 mod tags;
+mod tries;
 mod turns;
 mod until;
 

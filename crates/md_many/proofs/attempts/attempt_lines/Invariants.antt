@@ -11,13 +11,13 @@ invariant-attempts g l = record {
   fated : length (g.E.Engine.front l.pass).known ≡ length (g.E.Engine.front l.pass).seen;
   lines : HasPlayed g.L.B.Body.did (g.L.Lines.body_at l.lines) l.turn.caller l.turn.done l.tried
       (g.E.Engine.front l.fn.pass) (g.E.Engine.front l.pass) l.replies.items;
-  played : l.played ≡ l.turn.done + length l.replies.items;
-  within : l.played ≤ g.L.Lines.line_count l.lines l.turn.caller;
+  within : l.turn.done + length l.replies.items ≤ g.L.Lines.line_count l.lines l.turn.caller;
   few : length l.replies.items + l.conflicts ≤ l.tried;
   calm : l.conflicts < MOST_CONFLICTS;
   room : vec_capacity l.fn.replies ≤ vec_capacity l.replies;
   counted : g.E.Engine.begun l.pass ≡ g.E.Engine.begun l.fn.pass + l.tried;
-  gate : (line : ℕ) → l.turn.done < line → line ≤ l.played → g.G.Gate.after_called l.gate l.turn.caller line;
+  gate : (line : ℕ) → l.turn.done < line → line ≤ l.turn.done + length l.replies.items
+      → g.G.Gate.after_called l.gate l.turn.caller line;
   begun : l.tried ≡ 0 → l.pass ≡ l.fn.pass;
   first : g.E.Engine.fresh l.engine l.fn.pass → 1 ≤ (g.E.Engine.limits l.engine).tries
       → IsSmallLine (bounds_in (g.E.Engine.limits l.engine)) g.L.B.Body.makes (g.L.Lines.body_at l.lines)
