@@ -44,3 +44,9 @@ returns-in_err-push g c =
       fresh = λ worn. IfOk-from_err _ _ err;
       empty = λ worn. IfOk-from_err _ _ err;
     }
+
+pub returns-then-not-course-clause-fresh : goal.returns-then-not-course-clause-fresh
+returns-then-not-course-clause-fresh g c = search rules depth 1
+
+pub returns-then-not-course-clause-empty : goal.returns-then-not-course-clause-empty
+returns-then-not-course-clause-empty g c = search rules depth 1
