@@ -13,9 +13,9 @@ use Rattle.md_history.specs.declared.stops.Stop.{Stop}
 use Rattle.md_history.specs.declared.stops.Stop.TheVariants.{Conflict, Limit, NoMemory}
 use Rattle.md_history.specs.declared.stops.Attempt.{Attempt}
 use Rattle.md_history.specs.declared.stops.Attempt.TheVariants.{Committed as Done, Stopped}
-use Rattle.md_history.specs.Attempt.{Commits, Stops, NoneOrAborted, IsStopCounted, IfCommitted, IfStopped}
+use Rattle.md_history.specs.Attempt.{Commits, Stops, NoneOrAborted, IsCounted, IsStopCounted, IfCommitted, IfStopped}
 use Rattle.md_many.specs.Joined.{entries_after}
-use Rattle.md_many.specs.Until.{AreAborted, AllStop, CommitsAtLast}
+use Rattle.md_many.specs.Until.{AreAborted, AllStop, CommitsAtLast, IsEndOfTries, MeetsConflict}
 use Rattle.md_many.proofs.Joining.{AreDecided, entries-more, entries-none}
 
 -- a conflict isn't a want of memory
@@ -36,6 +36,37 @@ stop_counted NoMemory begun begun' is = is
 pub conflict_counted : {shown : Shown} (s : Stop) (begun begun' : ℕ) → s ≡ Conflict shown → IsStopCounted s begun begun'
     → begun' ≡ begun + 1
 conflict_counted s begun begun' is counted = subst (λ t. IsStopCounted t begun begun') is counted
+
+-- what ended an attempt that met a conflict, and what is said of its stop
+pub met-conflict : {R : Type 0} (a : Attempt R) → MeetsConflict a → (shown : Shown) × (a ≡ Stopped (Conflict shown))
+met-conflict (Done r) met = absurd met
+met-conflict (Stopped (Conflict shown)) met = (shown, refl)
+met-conflict (Stopped (Limit limit)) met = absurd met
+met-conflict (Stopped NoMemory) met = absurd met
+
+pub of-stop : {R : Type 0} (P : Stop → Type 0) (a : Attempt R) (s : Stop) → a ≡ Stopped s → IfStopped a P → P s
+of-stop P a s is said = subst (λ b. IfStopped b P) is said
+
+pub conflict-began : {R : Type 0} (a : Attempt R) (begun begun' : ℕ) → MeetsConflict a → IsCounted a begun begun'
+    → begun' ≡ begun + 1
+conflict-began (Done r) begun begun' met counted = absurd met
+conflict-began (Stopped (Conflict shown)) begun begun' met counted = counted
+conflict-began (Stopped (Limit limit)) begun begun' met counted = absurd met
+conflict-began (Stopped NoMemory) begun begun' met counted = absurd met
+
+-- an attempt after so many others that ends them, and that it began one at most
+pub ends-tries : {R : Type 0} (a : Attempt R) (first tried tries begun begun' : ℕ) → (MeetsConflict a → ⊥)
+    → begun ≡ first + tried → tried < tries → IsCounted a begun begun' → IsEndOfTries a tries first begun'
+ends-tries (Done r) first tried tries begun begun' not was few counted = (omega arith, omega arith)
+ends-tries (Stopped (Conflict shown)) first tried tries begun begun' not was few counted = absurd (not tt)
+ends-tries (Stopped (Limit limit)) first tried tries begun begun' not was few counted =
+    (omega (arith, counted.0), omega (arith, counted.1))
+ends-tries (Stopped NoMemory) first tried tries begun begun' not was few counted =
+    (omega (arith, counted.0), omega (arith, counted.1))
+
+pub began-one : {R : Type 0} (a : Attempt R) (begun begun' : ℕ) → IsCounted a begun begun' → begun' ≤ begun + 1
+began-one (Done r) begun begun' counted = omega (arith, counted)
+began-one (Stopped s) begun begun' counted = (stop_counted s begun begun' counted).1
 
 -- what is aborted is decided
 aborted-fates : (tag : ℕ) (ps : List (Entry × Fate)) → AreAborted tag ps → AreDecided ps

@@ -54,3 +54,10 @@ IsStopOfTries NoMemory tries begun begun' = (begun ≤ begun') × (begun' ≤ be
 abbrev pub IsEndOfTries : {R : Type 0} → Attempt R → ℕ → ℕ → ℕ → Type 0
 IsEndOfTries (Done r) tries begun begun' = (begun + 1 ≤ begun') × (begun' ≤ begun + tries)
 IsEndOfTries (Stopped s) tries begun begun' = IsStopOfTries s tries begun begun'
+
+-- an attempt met a conflict
+abbrev pub MeetsConflict : {R : Type 0} → Attempt R → Type 0
+MeetsConflict (Done r) = ⊥
+MeetsConflict (Stopped (Conflict shown)) = Unit {0}
+MeetsConflict (Stopped (Limit limit)) = ⊥
+MeetsConflict (Stopped NoMemory) = ⊥

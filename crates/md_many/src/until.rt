@@ -1,15 +1,24 @@
 //! Attempts at one body until it is committed.
 
-ghost use Rattle.std.specs.Prelude.{◌≡◌, ◌≤◌, ◌+◌, length};
+ghost use Rattle.std.specs.Prelude.{◌≡◌, ◌≤◌, ◌+◌, length, true, false};
 ghost use Rattle.md_history.specs.declared.stops.Shown.{Shown};
 ghost use Rattle.md_history.specs.Counts.{IsSmall};
 ghost use Rattle.md_history.specs.Front.{LegalFrom};
 ghost use Rattle.md_history.specs.Attempt.{IfCommitted, IfStopped};
 ghost use Rattle.md_history.specs.Engine.{bounds_in, IsNoConflict};
-ghost use Rattle.md_many.specs.Until.{AllStop, CommitsAtLast, IsEndOfTries};
+ghost use Rattle.md_many.specs.Until.{AllStop, CommitsAtLast, IsEndOfTries, MeetsConflict};
 
 use crate::pauses::pause;
 use md_history::{Attempt, Body, Engine, Stop, pass_is_legal};
+
+// Whether an attempt met a conflict. Nothing else lets the body be attempted again.
+#[inline(always)]
+fn is_conflict<R>(attempt: &Attempt<R>) -> bool
+    ensures conflict { result ≡ true → MeetsConflict attempt.now }
+    ensures other { result ≡ false → MeetsConflict attempt.now → ⊥ }
+{
+    matches!(attempt, Attempt::Stopped(Stop::Conflict(_)))
+}
 
 /// Attempts a body until it is committed, under one tag, which may be any number. `tries` is the
 /// most attempts: 1 or more, and `u32::MAX` for as many as it takes.
@@ -54,10 +63,11 @@ pub fn attempt_until_committed<E: Engine, B: Body>(
     pass_is_legal(engine, pass);
     let mut random = tag;
     'attempts: for tried in 0..tries - 1 {
-        match engine.attempt(pass, tag, body) {
-            Attempt::Stopped(Stop::Conflict(_)) => random = pause(random, tried + 1),
-            end => return end,
+        let end = engine.attempt(pass, tag, body);
+        if !is_conflict(&end) {
+            return end;
         }
+        random = pause(random, tried + 1);
     }
     engine.attempt(pass, tag, body)
 }
