@@ -1,4 +1,4 @@
-use Rattle.std.proofs.Common.{refl, rules}
+use Rattle.std.proofs.Common.{refl, rules, tests}
 use Rattle.md_rule.specs.Views.{Origin}
 use Rattle.md_rule.proofs.Moves.{opens_so}
 use Rattle.md_rule.proofs.field.Field.open.Goals as goal
@@ -15,3 +15,9 @@ of_words-requires-else-shape-eq1 g c =
 
 pub invariant_of-result : goal.invariant_of-result
 invariant_of-result g c = search rules depth 1
+
+pub of-requires-then-shape-eq1-clause-private : goal.of-requires-then-shape-eq1-clause-private
+of-requires-then-shape-eq1-clause-private g c = record { same = search (rules, tests); one = (c.if-shape-eq1.true, search rules); more = tt }
+
+pub of-requires-else-shape-eq1-clause-private : goal.of-requires-else-shape-eq1-clause-private
+of-requires-else-shape-eq1-clause-private g c = record { same = search (rules, tests); one = tt; more = c.if-shape-eq1.false }
