@@ -45,7 +45,11 @@ follow-requires-clause-may g c = λ s seen.
     (told.0, told.1, (subst (λ n. tells n me.view told.0.view) (sym found) told.2, told.3, told.4 ∙ sym c.of.ensures))
 
 pub returns-then-found-from-clause-told : goal.returns-then-found-from-clause-told
-returns-then-found-from-clause-told g c = search rules depth 1
+returns-then-found-from-clause-told g c =
+    let told : g.K.Telling.tells c.match-private.found c.args.seat.now.me.0.view c.match-private.seat.me.0.view = search rules depth 1 in
+    subst (λ n. g.K.Telling.tells n c.args.seat.now.me.0.view c.match-private.seat.me.0.view) c.if-found-from.true told
 
 pub returns-else-found-from-clause-told : goal.returns-else-found-from-clause-told
-returns-else-found-from-clause-told g c = search rules depth 1
+returns-else-found-from-clause-told g c =
+    let told : g.K.Telling.tells c.match-private.found c.args.seat.now.me.0.view c.match-private.seat.me.0.view = search rules depth 1 in
+    (c.if-found-from.false, told)
