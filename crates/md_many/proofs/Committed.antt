@@ -13,10 +13,17 @@ use Rattle.md_history.specs.Front.{Front, IsPrefix, AllStay, AllDecidedOn, commi
 use Rattle.md_history.specs.FrontLaws.{lane_passes}
 use Rattle.md_history.specs.OwnLaws.{committed_pairs, own-grows, settles-own}
 use Rattle.md_history.specs.Engine.{IsFrontFrom, SettlesFrom}
-use Rattle.md_many.specs.Lines.{PlaysLines}
-use Rattle.md_many.specs.Joined.{entries_after}
-use Rattle.md_many.proofs.Joining.{committed_on-more}
+use Rattle.md_attempts.specs.Lines.{PlaysLines}
+use Rattle.md_attempts.specs.Joined.{HasCommitted, entries_after}
 use Rattle.md_many.proofs.Merging.{filter-none, all-weaker}
+
+-- Where the fates of lanes' entries were decided, what the lanes have committed is what they had committed, and then
+-- these entries.
+pub committed_on-more : (lanes : List ℕ) (es : List Entry) (f g : Front) → HasCommitted lanes es f g
+    → length f.known ≡ length f.seen → AllDecidedOn lanes f.seen f.known
+    → committed_on lanes g ≡ committed_on lanes f ++ es
+committed_on-more lanes es f g h fated decided =
+    own-grows lanes f g fated h.begins.seen h.begins.known decided ∙ ap (λ xs. committed_on lanes f ++ xs) h.joined
 
 -- where every entry is of the lanes, what they committed is all that is committed
 committed-all : (lanes : List ℕ) (es : List Entry) (fs : List Fate)

@@ -1,14 +1,15 @@
 -- How many lines are left when some were played.
-use Rattle.std.proofs.Common.{◌≡◌, ◌≤◌, ◌<◌, ◌+◌, ℕ, zero, suc, Bool, true, false, cond, not, List, [], ◌∷◌, ◌++◌, length, take, get_or, refl, sym, ap, subst, ◌∙◌, arith, inl, inr}
-use Rattle.std.specs.Prelude.{◌==◌, ◌||◌, All, sum_by}
+use Rattle.std.proofs.Common.{◌≡◌, ◌≤◌, ◌<◌, ◌+◌, ℕ, zero, suc, Bool, true, false, cond, not, List, [], ◌∷◌, ◌++◌, length, refl, sym, ap, subst, ◌∙◌, arith, inl, inr}
+use Rattle.std.specs.Prelude.{◌==◌, ◌||◌, All}
 use Rattle.std.specs.List.{list_any, AllByRecursion}
-use Rattle.std.proofs.lemmas.Bool.{cases_Bool, cases_eq, cases_lt, eq-eqb, eqb-true, ne_eqb, false≢true}
-use Rattle.std.proofs.lemmas.List.{length-append, take_more, take_all, get_or_past}
+use Rattle.std.proofs.lemmas.Bool.{cases_Bool, cases_eq, eq-eqb, eqb-true, ne_eqb, false≢true}
+use Rattle.std.proofs.lemmas.List.{length-append}
 use Rattle.std.proofs.lemmas.List.Elements.{recursion_from_All}
-use Rattle.std.proofs.lemmas.List.Sums.{sum_by-cons, sum_by_push, count_by-le-length, get_or-le-sum_by}
-use Rattle.md_many.specs.Tags.{tag_of, tags_after}
-use Rattle.md_many.specs.Rounds.{at_caller}
-use Rattle.md_many.specs.Left.{left_of, all_tags, lines_of}
+use Rattle.std.proofs.lemmas.List.Sums.{sum_by-cons, count_by-le-length}
+use Rattle.md_attempts.specs.Tags.{tag_of}
+use Rattle.md_many.specs.Tags.{tags_after}
+use Rattle.md_attempts.specs.ByCaller.{lines_of}
+use Rattle.md_many.specs.Left.{left_of, all_tags}
 use Rattle.md_many.proofs.TagLaws.{length-tags_after}
 
 abbrev Has : List ℕ → ℕ → Type 0
@@ -124,32 +125,4 @@ has-all line_count (suc c) caller line from_1 there low high = elim (cases_eq (s
       (has-line caller 0 (line_count caller) line low (omega (arith, high))))
   | inr other ↦ has-left (all_tags line_count c) (tags_after (suc c) 0 (line_count (suc c))) (tag_of caller line)
       (has-all line_count c caller line from_1 (omega (arith, there, other)) low high)
-]
-
--- the lines of lists are as many as their elements
-pub count-lists : {A : Type 0} (lists : List (List A))
-    → lines_of (λ caller. length (at_caller [] lists caller)) (length lists) ≡ sum_by length lists
-count-lists lists = up-to (length lists) (omega arith) ∙ ap (sum_by length) (take_all (length lists) lists (omega arith))
-  where
-    up-to : (n : ℕ) → n ≤ length lists
-        → lines_of (λ caller. length (at_caller [] lists caller)) n ≡ sum_by length (take n lists)
-    up-to zero few = refl
-    up-to (suc n) few =
-        let next : suc n ≡ n + 1 = omega arith in
-        let more : take (suc n) lists ≡ take n lists ++ get_or lists n [] ∷ [] =
-        ap (λ k. take k lists) next ∙ take_more lists n [] (omega (arith, few)) in
-        omega (
-          arith,
-          up-to n (omega (arith, few)),
-          ap (sum_by length) more,
-          sum_by_push length (take n lists) (get_or lists n []),
-        )
-
--- a list has no more elements than there are lines
-pub list-few : {A : Type 0} (lists : List (List A)) (caller : ℕ)
-    → length (at_caller [] lists caller) ≤ sum_by length lists
-list-few lists zero = omega arith
-list-few lists (suc c) = elim (cases_lt c (length lists)) [
-  | inl inside ↦ get_or-le-sum_by length lists c [] inside
-  | inr past ↦ omega (arith, ap length (get_or_past lists c [] past))
 ]

@@ -1,9 +1,3 @@
-pub mod Joining
-pub mod Playing
-pub mod Retrying
-pub mod Following
-pub mod Ending
-pub mod Trying
 pub mod TagLaws
 pub mod Parting
 pub mod Turning

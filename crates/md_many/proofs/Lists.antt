@@ -1,8 +1,7 @@
 -- Lists by caller, kept in vectors.
-use Rattle.std.proofs.Common.{◌≡◌, ◌≢◌, ◌≤◌, ◌∷◌, [], ◌∙◌, ℕ, zero, suc, List, Vec, Global, Result, Ok, Err, true, length, refl, sym, ap, arith}
-use Rattle.std.specs.Prelude.{◌-◌, None, slice_set, slice_get, slice_index_or, is_ok, OnOk}
-use Rattle.md_many.specs.Rounds.{at_caller}
-use Rattle.md_many.specs.Played.{lists_in}
+use Rattle.std.proofs.Common.{◌≡◌, ◌≢◌, ◌≤◌, ◌∷◌, [], ◌∙◌, ℕ, zero, suc, List, Vec, Global, Result, Ok, Err, true, length, refl, ap, arith}
+use Rattle.std.specs.Prelude.{◌-◌, slice_set, is_ok, OnOk}
+use Rattle.md_attempts.specs.ByCaller.{at_caller, lists_in}
 
 -- the lists with another one for a caller
 pub set-same : {R : Type 0} (lists : List (Vec R Global)) (caller : ℕ) (v : Vec R Global) → 1 ≤ caller
@@ -30,22 +29,6 @@ set-other (w ∷ lists) (suc (suc i)) (suc (suc j)) v low apart =
     let next : suc (suc i) - 1 ≡ suc (suc i - 1) = omega arith in
     ap (λ k. at_caller [] (lists_in (slice_set (w ∷ lists) k v)) (suc (suc j))) next
     ∙ set-other lists (suc i) (suc j) v (omega arith) (λ same. apart (ap suc same))
-
--- a caller's list, by its index
-pub list-there : {R : Type 0} (lists : List (Vec R Global)) (caller : ℕ) (v : Vec R Global) → 1 ≤ caller
-    → caller ≤ length lists → v ≡ slice_index_or lists (caller - 1) v → at_caller [] (lists_in lists) caller ≡ v.items
-list-there [] caller v low high is = absurd (omega arith)
-list-there (w ∷ lists) zero v low high is = absurd (omega arith)
-list-there (w ∷ lists) (suc zero) v low high is = ap (λ x. x.items) (sym is)
-list-there (w ∷ lists) (suc (suc i)) v low high is =
-    let next : suc (suc i) - 1 ≡ suc (suc i - 1) = omega arith in
-    list-there lists (suc i) v (omega arith) (omega arith) (is ∙ ap (λ k. slice_index_or (w ∷ lists) k v) next)
-
--- a list has nothing past its end
-pub past-none : {R : Type 0} (xs : List R) (l : ℕ) → length xs ≤ l → slice_get xs l ≡ None
-past-none [] l past = refl
-past-none (x ∷ xs) zero past = absurd (omega arith)
-past-none (x ∷ xs) (suc l) past = past-none xs l (omega arith)
 
 -- what is so where a result is Ok
 pub on-ok : {A E : Type 0} (r : Result A E) (P : Type 0) → (is_ok r ≡ true → P) → OnOk r P

@@ -1,5 +1,5 @@
 -- A round leaves fewer lines, or as many and a worn engine.
-use Rattle.std.proofs.Common.{◌≡◌, ◌<◌, ◌≤◌, ℕ, Bool, true, false, List, ap, sym, ◌∙◌, arith, refl, Vec, Global}
+use Rattle.std.proofs.Common.{◌≡◌, ◌<◌, ◌≤◌, ℕ, Bool, true, false, ap, sym, arith, refl, Vec, Global}
 use Rattle.std.proofs.lemmas.Bool.{false≢true}
 use Rattle.md_many.specs.Played.{left_after, rounds_left}
 

@@ -1,14 +1,9 @@
--- How many lines callers have, and how many are left where some were played.
-use Rattle.std.specs.Prelude.{◌+◌, ◌==◌, ℕ, zero, suc, not, List, [], ◌++◌}
+-- How many lines are left where some were played.
+use Rattle.std.specs.Prelude.{◌==◌, ℕ, zero, suc, not, List, [], ◌++◌}
 use Rattle.std.specs.List.{list_any, count_by}
 use Rattle.md_many.specs.Tags.{tags_after}
 
--- how many lines so many callers have
-abbrev pub lines_of : (ℕ → ℕ) → ℕ → ℕ
-lines_of line_count zero = 0
-lines_of line_count (suc callers) = lines_of line_count callers + line_count (suc callers)
-
--- the tags of these lines
+-- the tags of the lines of so many callers
 abbrev pub all_tags : (ℕ → ℕ) → ℕ → List ℕ
 all_tags line_count zero = []
 all_tags line_count (suc callers) = all_tags line_count callers ++ tags_after (suc callers) 0 (line_count (suc callers))

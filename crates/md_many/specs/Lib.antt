@@ -1,11 +1,5 @@
 pub mod Tags
-pub mod Joined
-pub mod Lines
-pub mod Turns
-pub mod Tried
-pub mod Until
 pub mod Rounds
-pub mod LineLists
 pub mod Laws
 pub mod Played
 pub mod Replied

@@ -1,23 +1,12 @@
 -- What the rounds of callers come to: each line once.
-use Rattle.std.specs.Prelude.{◌≡◌, ◌+◌, ◌-◌, ◌*◌, ℕ, zero, suc, Bool, if◌then◌else◌, Option, None, List, [], ◌∷◌, length, map, flat_map, slice_get}
-use Rattle.std.specs.Prelude.{Vec}
-use Rattle.std.specs.declared.alloc.Global.{Global}
+use Rattle.std.specs.Prelude.{◌≡◌, ◌+◌, ◌-◌, ◌*◌, ℕ, Bool, if◌then◌else◌, Option, List, [], ◌∷◌, length, map, flat_map}
 use Rattle.md_history.specs.declared.acts.Act.{Act}
 use Rattle.md_history.specs.declared.entries.Entry.{Entry}
 use Rattle.md_history.specs.State.{State}
 use Rattle.md_history.specs.History.{AllDecided}
 use Rattle.md_history.specs.Front.{Front, LegalFrom, committed_in, replay_of}
-use Rattle.md_many.specs.Lines.{AreLines}
-use Rattle.md_many.specs.Rounds.{at_caller, of_caller}
-
--- the lists that vectors have
-abbrev pub lists_in : {A : Type 0} → List (Vec A Global) → List (List A)
-lists_in vectors = map (λ v. v.items) vectors
-
--- what a caller's list has at a line, both counted from 1
-abbrev pub line_at : {A : Type 0} → List (List A) → ℕ → ℕ → Option A
-line_at lists caller zero = None
-line_at lists caller (suc line) = slice_get (at_caller [] lists caller) line
+use Rattle.md_attempts.specs.Lines.{AreLines}
+use Rattle.md_many.specs.Rounds.{of_caller}
 
 -- the committed entries of fronts, one front after another
 abbrev pub committed_of : List Front → List Entry

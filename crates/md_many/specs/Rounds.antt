@@ -1,15 +1,10 @@
 -- Rounds: each caller plays a turn on a lane of its own, side by side.
-use Rattle.std.specs.Prelude.{◌≡◌, ◌<◌, ◌≤◌, ◌+◌, ◌^◌, ◌/◌, ◌==◌, ℕ, zero, suc, Option, List, [], ◌∷◌, ◌++◌, length, map, filter, slice_index_or}
+use Rattle.std.specs.Prelude.{◌≡◌, ◌<◌, ◌≤◌, ◌+◌, ◌^◌, ◌/◌, ◌==◌, ℕ, Option, List, [], ◌∷◌, ◌++◌, length, map, filter}
 use Rattle.md_history.specs.declared.acts.Act.{Act}
 use Rattle.md_history.specs.declared.entries.Entry.{Entry}
 use Rattle.md_history.specs.Front.{Front, IsPrefix, AllStay}
-use Rattle.md_many.specs.declared.batches.Played.{Played}
-use Rattle.md_many.specs.Lines.{AreLines}
-
--- what a list has for a caller, counted from 1; for who is no caller, another thing
-abbrev pub at_caller : {A : Type 0} → A → List A → ℕ → A
-at_caller other xs zero = other
-at_caller other xs (suc caller) = slice_index_or xs caller other
+use Rattle.md_attempts.specs.declared.batches.Played.{Played}
+use Rattle.md_attempts.specs.Lines.{AreLines}
 
 -- the entries with a caller's tags
 abbrev pub of_caller : ℕ → List Entry → List Entry

@@ -1,8 +1,6 @@
--- Tags: an attempt at a line has the line's tag. Callers and lines are counted from 1.
-use Rattle.std.specs.Prelude.{◌≡◌, ℕ, zero, suc, ◌+◌, ◌*◌, ◌/◌, ◌^◌, ◌==◌, List, [], ◌∷◌, filter}
-
-abbrev pub tag_of : ℕ → ℕ → ℕ
-tag_of caller line = caller * 2 ^ 32 + line
+-- The tags of lines. Callers and lines are counted from 1.
+use Rattle.std.specs.Prelude.{◌≡◌, ℕ, zero, suc, ◌+◌, ◌/◌, ◌^◌, ◌==◌, List, [], ◌∷◌, filter}
+use Rattle.md_attempts.specs.Tags.{tag_of}
 
 -- the tags of so many lines of a caller, those after its first n
 abbrev pub tags_after : ℕ → ℕ → ℕ → List ℕ

@@ -7,10 +7,10 @@ ghost use Rattle.md_many.specs.Closed.{IsClosed};
 ghost use Rattle.md_many.specs.Course.{CanRun};
 ghost use Rattle.md_many.specs.Played.{EachLineOnce, committed_of, tags_of};
 
-use crate::gates::Gate;
 use crate::keepers::Keeper;
 use crate::laws::LawfulLines;
 use crate::rounds::play_open_rounds;
+use md_attempts::Gate;
 use md_history::{Body, Contents, Engine, Front};
 use std::alloc::{AllocError, Global};
 use std::thread::Threads;

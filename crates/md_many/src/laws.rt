@@ -4,7 +4,7 @@ ghost use Rattle.std.specs.Prelude.{ℕ, List};
 ghost use Rattle.md_history.specs.State.{State};
 ghost use Rattle.md_history.specs.Counts.{Bounds};
 
-use crate::callers::Lines;
+use md_attempts::Lines;
 use md_history::Body;
 
 /// Lines, with the words in which their laws are stated. The laws (`AreLawful`) say that the lines

@@ -3,26 +3,23 @@
 ghost use Rattle.std.specs.Prelude.{◌≡◌, ◌<◌, ◌≤◌, ◌+◌, ◌^◌, [], ℕ, List, length, map, replicate, true};
 ghost use Rattle.std.specs.Prelude.{false, IfOk, IfSome, IfNone, OnOk};
 ghost use Rattle.md_history.specs.Engine.{bounds_in, empty_front};
-ghost use Rattle.md_many.specs.Lines.{AreFitting, IsSmallLine, PlaysLines};
-ghost use Rattle.md_many.specs.Turns.{most_lines};
+ghost use Rattle.md_attempts.specs.Lines.{AreFitting, IsSmallLine, PlaysLines};
+ghost use Rattle.md_attempts.specs.Turns.{most_lines};
 ghost use Rattle.md_many.specs.Tags.{IsInterleaving};
 ghost use Rattle.md_many.specs.Laws.{AreLawful};
-ghost use Rattle.md_many.specs.Rounds.{at_caller, AreWithin};
+ghost use Rattle.md_attempts.specs.ByCaller.{at_caller};
+ghost use Rattle.md_many.specs.Rounds.{AreWithin};
 ghost use Rattle.md_many.specs.Course.{CanRun, IsInCourse};
 ghost use Rattle.md_many.specs.Closed.{ClosesTo};
 ghost use Rattle.md_many.specs.Played.{EachLineOnce, committed_of, tags_of};
 ghost use Rattle.md_many.specs.Played.{left_after, rounds_left};
 
-use crate::attempts::{End, Turn, attempt_lines};
-use crate::batches::Played;
-use crate::callers::Lines;
 use crate::closing::OpenRounds;
-use crate::gates::Gate;
 use crate::keepers::Keeper;
 use crate::keeping::{keep_lines, keep_turns};
 use crate::laws::LawfulLines;
-use crate::reply_lists::{ReplyList, list_of};
 use crate::turns::{Shared, Turns, play_turns};
+use md_attempts::{End, Gate, Lines, Played, ReplyList, Turn, attempt_lines};
 use md_history::{Body, Engine, Front, fresh_is_empty, pass_is_legal};
 use std::alloc::{AllocError, Global};
 use std::thread::Threads;
@@ -125,6 +122,15 @@ fn renewed<E: Engine, L: LawfulLines, K: Keeper<<L::B as Body>::Reply>, G: Gate>
         done,
         worn: false,
     })
+}
+
+// A list of some replies.
+fn list_of<R: Drop, T: ReplyList<R>>(alloc: Global, replies: Vec<R>) -> Result<T, AllocError>
+    ensures { IfOk result (λ list. T.listed list ≡ replies.items) }
+{
+    let mut list = T::new(alloc);
+    list.append(replies)?;
+    Ok(list)
 }
 
 // Plays a caller's next lines, with so many attempts as the turn has, and lists their replies.

@@ -5,14 +5,10 @@ ghost use Rattle.std.specs.Prelude.{List, length, IfOk};
 ghost use Rattle.std.specs.Thread.{IsSync};
 ghost use Rattle.md_history.specs.Engine.{IsRising, Splits};
 ghost use Rattle.md_history.specs.Front.{Front as View};
-ghost use Rattle.md_many.specs.Lines.{AreFitting};
+ghost use Rattle.md_attempts.specs.Lines.{AreFitting};
 ghost use Rattle.md_many.specs.Rounds.{AreWithin, PlaysTurns, replies_in};
 
-use crate::attempts::Turn;
-use crate::batches::{Played, play_batches};
-use crate::callers::Lines;
-use crate::gates::Gate;
-use crate::reply_lists::ReplyList;
+use md_attempts::{Gate, Lines, Played, ReplyList, Turn, play_batches};
 use md_history::{Body, Engine, pass_is_legal};
 use std::alloc::{AllocError, Global};
 use std::thread;

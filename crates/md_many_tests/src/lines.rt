@@ -1,7 +1,7 @@
 //! Lines whose replies are their tags.
 
 ghost use Rattle.std.specs.Prelude.{◌≡◌, ℕ};
-ghost use Rattle.md_many.specs.Tags.{tag_of};
+ghost use Rattle.md_attempts.specs.Tags.{tag_of};
 
 use md_history::Body;
 use md_many::{Lines, line_tag};

@@ -4,7 +4,7 @@ use Rattle.md_history.specs.Front.{Front}
 use Rattle.md_history.specs.Script.{Did}
 use Rattle.md_history.specs.State.{State}
 use Rattle.md_many.specs.Played.{EachLineOnce}
-use Rattle.md_many.specs.Rounds.{at_caller}
+use Rattle.md_attempts.specs.ByCaller.{at_caller}
 use Rattle.scheduler.specs.Jobs.{KeepsJobs}
 use Rattle.scheduler.specs.Moves.{script_of, body_of, line_count_of}
 

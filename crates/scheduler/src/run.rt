@@ -2,7 +2,7 @@
 
 ghost use Rattle.std.specs.Prelude.{◌≡◌, ◌≤◌, ◌+◌, ◌<◌, [], ℕ, length, map, IfOk};
 ghost use Rattle.md_words.specs.Layout.{HasNumbers};
-ghost use Rattle.md_many.specs.Played.{lists_in};
+ghost use Rattle.md_attempts.specs.ByCaller.{lists_in};
 ghost use Rattle.md_store.specs.Store.{front_in};
 ghost use Rattle.scheduler.specs.Jobs.{Holds};
 ghost use Rattle.scheduler.specs.Shifts.{IsShift};

@@ -2,8 +2,7 @@
 use Rattle.std.proofs.Common.{◌≡◌, ◌≢◌, ◌↔◌, ℕ, zero, suc, ◌/◌, ◌^◌, ◌==◌, ◌<◌, true, List, [], ◌∷◌, ◌++◌, length, drop, replicate, slice_index_or, Vec, Global, Option, Some, None, is_some, true≢false, inl, inr, refl, sym, ap, subst, ◌∙◌, arith}
 use Rattle.std.proofs.lemmas.Bool.{cases_Bool}
 use Rattle.std.proofs.lemmas.List.{append_cancel_left}
-use Rattle.md_many.specs.Rounds.{at_caller}
-use Rattle.md_many.specs.Played.{lists_in}
+use Rattle.md_attempts.specs.ByCaller.{at_caller, lists_in}
 use Rattle.transfers.specs.declared.bank.Outcome.{Outcome}
 use Rattle.transfers.specs.Journal.{moved_after, of_teller, from_next, left_of, IsJournalOf}
 use Rattle.transfers.proofs.Sums.{item-there}

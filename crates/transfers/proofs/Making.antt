@@ -7,8 +7,8 @@ use Rattle.md_history.specs.declared.entries.Entry.{Entry}
 use Rattle.md_history.specs.State.{State}
 use Rattle.md_history.specs.Script.{Did}
 use Rattle.md_many.specs.Tags.{IsInterleaving}
-use Rattle.md_many.specs.Rounds.{at_caller}
-use Rattle.md_many.specs.Played.{line_at, tags_of}
+use Rattle.md_attempts.specs.ByCaller.{at_caller, line_at}
+use Rattle.md_many.specs.Played.{tags_of}
 use Rattle.md_many.specs.Serial.{IsSerialRun, at_tags, added_by}
 use Rattle.md_many.proofs.Serial.{serial-does, each-same, each-adds}
 use Rattle.transfers.specs.declared.bank.Transfer.{Transfer}

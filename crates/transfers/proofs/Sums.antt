@@ -10,8 +10,8 @@ use Rattle.std.proofs.lemmas.List.Sums.{sum_by-cons, sum_by_more}
 use Rattle.md_history.specs.Contents.{table_of}
 use Rattle.md_history.proofs.Weights.{weigh-insert}
 use Rattle.md_store_law.proofs.Sums.{KeysApart, apart_sorted}
-use Rattle.md_many.specs.Played.{lists_in}
-use Rattle.md_many.proofs.Lists.{list-there}
+use Rattle.md_attempts.specs.ByCaller.{lists_in}
+use Rattle.md_attempts.proofs.Lists.{list-there}
 use Rattle.transfers.specs.declared.bank.Outcome.{Outcome}
 use Rattle.transfers.specs.Journal.{is_moved, moved_among}
 

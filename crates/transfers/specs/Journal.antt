@@ -1,7 +1,7 @@
 -- How many transfers moved money, and which numbers a journal is to have that was empty at first.
 use Rattle.std.specs.Prelude.{◌≡◌, ◌+◌, ◌/◌, ◌^◌, ◌==◌, ℕ, Bool, true, false, Option, Some, None, List, [], ◌∷◌, drop, filter, sum_by, count_by}
-use Rattle.md_many.specs.Tags.{tag_of}
-use Rattle.md_many.specs.Rounds.{at_caller}
+use Rattle.md_attempts.specs.Tags.{tag_of}
+use Rattle.md_attempts.specs.ByCaller.{at_caller}
 use Rattle.transfers.specs.declared.bank.Outcome.{Outcome}
 use Rattle.transfers.specs.declared.bank.Outcome.TheVariants.{Moved, Refused}
 

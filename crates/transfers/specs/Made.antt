@@ -3,8 +3,8 @@ use Rattle.std.specs.Prelude.{◌≡◌, ◌++◌, ℕ, List, [], ◌∷◌, len
 use Rattle.md_history.specs.State.{State}
 use Rattle.md_history.specs.Front.{Front}
 use Rattle.md_many.specs.Tags.{IsInterleaving}
-use Rattle.md_many.specs.Rounds.{at_caller}
-use Rattle.md_many.specs.Played.{committed_of, tags_of, AreDecidedAndLegal, line_at}
+use Rattle.md_attempts.specs.ByCaller.{at_caller, line_at}
+use Rattle.md_many.specs.Played.{committed_of, tags_of, AreDecidedAndLegal}
 use Rattle.md_many.specs.Serial.{at_tags, after_each, reply_of_each, added_by}
 use Rattle.transfers.specs.declared.bank.Transfer.{Transfer}
 use Rattle.transfers.specs.declared.bank.Outcome.{Outcome}

@@ -2,7 +2,7 @@
 
 ghost use Rattle.std.specs.Prelude.{◌≡◌, ◌≢◌, ◌<◌, ◌+◌, ◌/◌, ◌%◌, ◌^◌, ◌↔◌, ℕ, List, [], ◌∷◌, ◌++◌};
 ghost use Rattle.std.specs.Prelude.{length, drop, count_by, IsTrue, IfSome, IfOk, false};
-ghost use Rattle.md_many.specs.Played.{lists_in};
+ghost use Rattle.md_attempts.specs.ByCaller.{lists_in};
 ghost use Rattle.transfers.specs.Bank.{IsBank, bank_in, total};
 ghost use Rattle.transfers.specs.Journal.{is_moved, moved_among, moved_after, from_next, left_of};
 ghost use Rattle.transfers.specs.Journal.{of_teller, IsJournalOf};

@@ -3,7 +3,7 @@
 ghost use Rattle.std.specs.Prelude.{◌≡◌, ◌≤◌, ◌+◌, length, map, sum_by, IfOk};
 ghost use Rattle.md_history.specs.Counts.{AllowAll};
 ghost use Rattle.md_history.specs.Engine.{bounds_in, needed};
-ghost use Rattle.md_many.specs.Played.{lists_in};
+ghost use Rattle.md_attempts.specs.ByCaller.{lists_in};
 ghost use Rattle.transfers.specs.Bank.{IsBank, transfer_bounds};
 ghost use Rattle.transfers.specs.Made.{AreMade};
 

@@ -2,7 +2,7 @@
 
 ghost use Rattle.std.specs.Prelude.{◌≡◌, ◌≤◌, ◌<◌, ◌+◌, Err, length, map, sum_by, IfErr, IfOk};
 ghost use Rattle.md_history.specs.Engine.{needed};
-ghost use Rattle.md_many.specs.Played.{lists_in};
+ghost use Rattle.md_attempts.specs.ByCaller.{lists_in};
 ghost use Rattle.md_store.specs.Store.{front_in};
 ghost use Rattle.md_words.specs.Layout.{HasNumbers};
 ghost use Rattle.transfers.specs.Bank.{IsBank};

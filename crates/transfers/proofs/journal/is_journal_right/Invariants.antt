@@ -1,6 +1,6 @@
 use Rattle.std.proofs.Common.{◌≡◌, ◌↔◌, length}
 use Rattle.std.specs.VecDeque.Iter.{deque_iter_rest}
-use Rattle.md_many.specs.Played.{lists_in}
+use Rattle.md_attempts.specs.ByCaller.{lists_in}
 use Rattle.transfers.specs.Bank.{bank_in}
 use Rattle.transfers.specs.Journal.{IsJournalOf}
 use Rattle.transfers.proofs.Journals.{Matches}

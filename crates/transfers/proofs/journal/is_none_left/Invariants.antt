@@ -1,5 +1,5 @@
 use Rattle.std.proofs.Common.{◌≡◌, ◌+◌, ◌<◌, ℕ, []}
-use Rattle.md_many.specs.Played.{lists_in}
+use Rattle.md_attempts.specs.ByCaller.{lists_in}
 use Rattle.transfers.specs.Journal.{left_of}
 use Rattle.transfers.proofs.journal.is_none_left.Given as goal
 

@@ -1,6 +1,6 @@
 use Rattle.std.proofs.Common.{◌≡◌, ◌^◌, take}
 use Rattle.std.specs.Prelude.{◌%◌}
-use Rattle.md_many.specs.Played.{lists_in}
+use Rattle.md_attempts.specs.ByCaller.{lists_in}
 use Rattle.transfers.specs.Journal.{moved_among}
 use Rattle.transfers.proofs.journal.moved_in.Given as goal
 

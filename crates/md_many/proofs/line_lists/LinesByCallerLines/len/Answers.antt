@@ -1,5 +1,0 @@
-use Rattle.std.proofs.Common.{rules}
-use Rattle.md_many.proofs.line_lists.LinesByCallerLines.len.Goals as goal
-
-pub returns : goal.returns
-returns g c = search rules depth 1
