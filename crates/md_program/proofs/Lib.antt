@@ -1,10 +1,6 @@
-pub mod Pieces
-pub mod Parts
 pub mod Complete
 pub mod Unreadable
 pub mod Unread
 pub mod Stopped
-pub mod Settings
-pub mod Ranges
 pub mod Asked
 pub mod Ran

@@ -1,7 +1,4 @@
-pub mod Faults
 pub mod Words
 pub mod Replay
 pub mod Run
 pub mod Program
-pub mod Options
-pub mod Reading

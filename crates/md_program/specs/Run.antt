@@ -1,105 +1,24 @@
 -- What a run takes from its source, and what it leaves in its sink, by the status that it answers.
-use Rattle.std.specs.Prelude.{◌≡◌, ◌≤◌, ◌+◌, ◌⊎◌, ℕ, List, [], ◌++◌, length, codes, decimal, Option, Some, None}
-use Rattle.std.specs.Io.KnownBytes.{Appends, Consumes, IsAtEnd}
+use Rattle.std.specs.Prelude.{◌≡◌, ◌≤◌, ◌⊎◌, ℕ, List, [], length, Option, Some, None}
 use Rattle.md_history.specs.Front.{Front}
 use Rattle.md_outside.specs.Causes.{Rose}
-use Rattle.md_outside.specs.Steps.{Step, Reads, ReadsToEnd, ReadsThenFails, Writes, WritesThenFails}
+use Rattle.md_outside.specs.Steps.{Step}
 use Rattle.md_orders.specs.Records.{order_records, AreFewRecords}
 use Rattle.md_orders.specs.Grammar.{first_bad}
-use Rattle.md_program.specs.declared.status.Status.{Status}
-use Rattle.md_program.specs.declared.status.Status.TheVariants.{Done, Usage, BadLine, ReadFault, WriteFault, NoMemory}
-use Rattle.md_program.specs.declared.status.Status.TheVariants.{TooLong, TooMany}
-use Rattle.md_program.specs.declared.words.Making.{Making}
-use Rattle.md_program.specs.declared.words.Options.{Options}
+use Rattle.md_edge.specs.declared.status.Status.{Status}
+use Rattle.md_edge.specs.declared.status.Status.TheVariants.{Done, Usage, BadLine, ReadFault, WriteFault, NoMemory}
+use Rattle.md_edge.specs.declared.status.Status.TheVariants.{TooLong, TooMany}
+use Rattle.md_edge.specs.declared.words.Making.{Making}
+use Rattle.md_edge.specs.declared.words.Options.{Options}
+use Rattle.md_edge.specs.Status.{status_text}
+use Rattle.md_edge.specs.Streams.{max_bytes, IsRead, IsReadInPart, IsOverlong, HasReadFault, IsWritten, HasWriteFault, Tells}
 use Rattle.md_program.specs.Replay.{IsReplay, IsSummed}
-
--- the most bytes that an input may have
-abbrev pub max_bytes : ℕ
-max_bytes = 67108864
-
--- the line that a status writes
-abbrev pub status_text : Status → List ℕ
-status_text Usage = codes "usage: medley [--callers N] [--nodes K] [--tries K] [--make NUMBER --lines N]\n"
-status_text (BadLine n) = codes "fault line " ++ decimal n ++ codes "\n"
-status_text ReadFault = codes "fault read\n"
-status_text NoMemory = codes "fault memory\n"
-status_text TooLong = codes "fault too long\n"
-status_text TooMany = codes "fault too many records\n"
-status_text Done = []
-status_text WriteFault = []
-
--- the number that the program exits with
-abbrev pub status_number : Status → ℕ
-status_number Done = 0
-status_number Usage = 2
-status_number (BadLine n) = 3
-status_number ReadFault = 4
-status_number WriteFault = 5
-status_number NoMemory = 6
-status_number TooLong = 7
-status_number TooMany = 8
-
--- A source is seen by what its reads may give, by the bytes that it has left where it tells them, and by its faults.
-module _ {I : Type 0} (gives : Step I) (left : I → Option (List ℕ)) (faults : I → ℕ) (old new : I) where
-  -- reads gave these bytes, and neither the end nor a fault
-  pub record HasRead (bytes : List ℕ) : Type 0 where
-    pub reads : Reads gives old bytes new
-    pub told : Consumes (left old) (left new) bytes
-    pub kept : faults new ≡ faults old
-
-  -- the input was read to its end, and these are its bytes; no read was made after the one that gave none
-  pub record IsRead (bytes : List ℕ) : Type 0 where
-    pub reads : ReadsToEnd gives old bytes new
-    pub told : Consumes (left old) (left new) bytes
-    pub ended : IsAtEnd (left new)
-    pub short : length bytes ≤ max_bytes
-    pub kept : faults new ≡ faults old
-
-  -- the input was read in part: no more than an input may have
-  pub record IsReadInPart (bytes : List ℕ) : Type 0 where
-    pub read : HasRead bytes
-    pub short : length bytes ≤ max_bytes
-
-  -- the reads gave one byte more than an input may have
-  pub record IsOverlong : Type 0 where
-    pub bytes : List ℕ
-    pub read : HasRead bytes
-    pub long : length bytes ≡ max_bytes + 1
-
-  -- the last read failed
-  pub record HasReadFault : Type 0 where
-    pub bytes : List ℕ
-    pub reads : ReadsThenFails gives old bytes new
-    pub told : Consumes (left old) (left new) bytes
-    pub short : length bytes ≤ max_bytes
-    pub rose : Rose (faults old) (faults new)
 
 -- the bytes are within the limits, and none of their records is bad for so many callers
 pub record IsGood (callers : ℕ) (bytes : List ℕ) : Type 0 where
   pub short : length bytes ≤ max_bytes
   pub few : AreFewRecords (order_records bytes)
   pub lawful : first_bad callers (order_records bytes) ≡ None
-
--- A sink is seen by what its writes may take, by the bytes that it holds where it tells them, and by its faults.
-module _ {O : Type 0} (takes : Step O) (holds : O → Option (List ℕ)) (faults : O → ℕ) (old new : O) where
-  -- the text was written whole
-  pub record IsWritten (text : List ℕ) : Type 0 where
-    pub writes : Writes takes old text new
-    pub told : Appends (holds old) (holds new) text
-    pub kept : faults new ≡ faults old
-
-  -- a write failed, and before it a first part of the text was written
-  pub record HasWriteFault (text : List ℕ) : Type 0 where
-    pub written : List ℕ
-    pub rest : List ℕ
-    pub whole : text ≡ written ++ rest
-    pub writes : WritesThenFails takes old written new
-    pub told : Appends (holds old) (holds new) written
-    pub rose : Rose (faults old) (faults new)
-
-  -- a line was written, as far as the sink took it
-  abbrev pub Tells : List ℕ → Type 0
-  Tells line = IsWritten line ⊎ HasWriteFault line
 
 -- A run's input, by the number of its callers.
 module _ {I : Type 0} (gives : Step I) (left : I → Option (List ℕ)) (faults : I → ℕ) (old new : I) (callers : ℕ) where

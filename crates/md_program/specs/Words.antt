@@ -1,6 +1,5 @@
 -- The words of a program, and which of them it accepts.
 use Rattle.std.specs.Prelude.{◌≡◌, ℕ, List, map, drop, Result, Ok, Err, string_bytes}
-use Rattle.std.specs.Borrow.{Bor}
 use Rattle.std.specs.Vec.Iter.{into_iter_items}
 use Rattle.std.specs.IoError.{error_kind}
 use Rattle.std.specs.declared.alloc.Global.{Global}
@@ -8,12 +7,8 @@ use Rattle.std.specs.declared.string.String.{String}
 use Rattle.std.specs.declared.vec.IntoIter.{IntoIter}
 use Rattle.std.specs.declared.io.Error.{Error}
 use Rattle.std.specs.declared.io.ErrorKind.TheVariants.{OutOfMemory}
-use Rattle.md_program.specs.declared.words.Options.{Options}
-use Rattle.md_program.specs.Options.{Write}
-
--- words as texts
-abbrev pub texts : List (Bor (List ℕ)) → List (List ℕ)
-texts words = map (λ word. word.now) words
+use Rattle.md_edge.specs.declared.words.Options.{Options}
+use Rattle.md_edge.specs.Options.{Write}
 
 -- words are accepted where they write options
 abbrev pub AreAccepted : List (List ℕ) → Type 0

@@ -1,16 +1,14 @@
-//! The program `medley` as a library: its words, its runs and their answers.
+//! The program `medley` as a library: its runs and their answers. Its words, its reads and writes, and
+//! its statuses are those of md_edge.
 #![tactic(auto)]
 
-mod input;
-mod output;
 mod play;
 mod program;
 mod report;
 mod runs;
 mod status;
-mod words;
 
+pub use md_edge::{Making, Options, Status, read_options};
 pub use program::{exit_of_program, run_program};
 pub use runs::run;
-pub use status::{Run, Status};
-pub use words::{Making, Options, read_options};
+pub use status::Run;

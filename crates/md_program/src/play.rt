@@ -8,10 +8,10 @@ ghost use Rattle.md_rounds.specs.Replay.{IsPlayed};
 ghost use Rattle.md_play.specs.Opened.{IsOpenFor};
 ghost use Rattle.md_play.specs.declared.playing.TheConstants.{MAX_LANE_NODES, MAX_STORE_NODES};
 ghost use Rattle.md_store.specs.Store.{front_in};
-ghost use Rattle.md_program.specs.Options.{AreInRange};
+ghost use Rattle.md_edge.specs.Options.{AreInRange};
 
-use crate::words::Options;
 use md_book::COMMAND_NODES;
+use md_edge::Options;
 use md_orders::Scripts;
 use md_play::{OpenStore, open_store, play_on_store};
 use md_rounds::{Gate, Outcome};

@@ -9,19 +9,18 @@ ghost use Rattle.md_report.specs.Report.{whole_text};
 ghost use Rattle.md_orders.specs.Scripts.{AreScripts};
 ghost use Rattle.md_play.specs.Opened.{IsOpenFor};
 ghost use Rattle.md_store.specs.Store.{front_in};
-ghost use Rattle.md_program.specs.Words.{texts, AreAccepted};
-ghost use Rattle.md_program.specs.Options.{AreInRange, Write};
+ghost use Rattle.md_edge.specs.Words.{texts};
+ghost use Rattle.md_edge.specs.Options.{AreInRange, Write};
+ghost use Rattle.md_program.specs.Words.{AreAccepted};
 ghost use Rattle.md_program.specs.Replay.{IsSummed};
 ghost use Rattle.md_program.specs.Run.{Answers, EndsWell, HasPlayed, StopsReplay, StopsWith, IsReplayed};
 ghost use Rattle.md_program.specs.Run.{IsBadInput, IsGood, Refused, ToldAlone};
 
-use crate::input::read_all;
-use crate::output::{tell, write_parts};
 use crate::play::{open_for, play};
 use crate::report::{Played, tell_and_close, with_last};
-use crate::status::{Run, Status};
-use crate::words::{Making, Options, read_options};
+use crate::status::Run;
 use md_book::MAX_CALLER;
+use md_edge::{Making, Options, Status, read_all, read_options, tell, write_parts};
 use md_orders::{OrderFault, Scripts, make, read_orders_in_threads};
 use md_outside::{Failed, Sink, Source};
 use md_play::{OpenStore, play_opened};
@@ -129,8 +128,8 @@ where
     }
 }
 
-/// Ends a run that has no report or summary: it writes the line of the status (`tell`). The run has
-/// this status and no fronts.
+/// Ends a run that has no report or summary: it writes the line of the status (`tell` of md_edge).
+/// The run has this status and no fronts.
 pub fn stop<O: Sink>(alloc: Global, output: &mut O, status: Status) -> Run
     ensures status { result.status ≡ status }
     ensures alone { ToldAlone O.takes O.holds O.faults output.old output.new
@@ -181,10 +180,10 @@ where
 /// for each caller, and writes the report or the summary.
 ///
 /// It reads the words first (`read_options`). Without `--make` it reads the input to its end
-/// (`read_all`), reads the records as scripts (`read_orders_in_threads` of md_orders) while it opens
-/// the store, plays them, and writes the report: each reply, and then the book. With `--make` it
-/// makes scripts (`make` of md_orders), plays them, and writes the summary, which is one line. It
-/// then reads no input.
+/// (`read_all` of md_edge), reads the records as scripts (`read_orders_in_threads` of md_orders)
+/// while it opens the store, plays them, and writes the report: each reply, and then the book. With
+/// `--make` it makes scripts (`make` of md_orders), plays them, and writes the summary, which is one
+/// line. It then reads no input.
 ///
 /// Whatever the threads do, the replies and the book are those of one thread that runs the
 /// committed commands in the order in which they became ready. They are all lines, each once, and

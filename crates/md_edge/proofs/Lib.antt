@@ -1,0 +1,4 @@
+pub mod Pieces
+pub mod Parts
+pub mod Settings
+pub mod Ranges
