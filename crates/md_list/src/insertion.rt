@@ -4,17 +4,38 @@ ghost use Rattle.std.specs.Prelude.{◌≡◌, ℕ, IfOk, false, true};
 ghost use Rattle.md_history.specs.declared.acts.Op.TheVariants.{Insert};
 ghost use Rattle.md_history.specs.declared.acts.Reply.TheVariants.{Flag};
 ghost use Rattle.md_history.specs.declared.stops.Limit.TheVariants.{Nodes, Reads, Writes};
-ghost use Rattle.md_nbtc_law.specs.Calls.{AfterStop};
+ghost use Rattle.md_nbtc_law.specs.Calls.{AfterStop, FreshKeepsGiven, Freshened, GoesOn};
+ghost use Rattle.md_nbtc_law.specs.Going.{IsUnderWay};
 ghost use Rattle.md_nbtc_law.specs.State.{shape_in};
 ghost use Rattle.md_nbtc.specs.State.{state};
 ghost use Rattle.md_list.specs.Operations.{Answers, HasStop, IsBegun, Leaves};
 ghost use Rattle.md_list.specs.Refusals.{NeedsNode, NeedsRead, NeedsSlot, RefusedBy};
 ghost use Rattle.md_list.specs.Walking.{IsHeadOf};
 
-use crate::walk::find;
+use crate::walk::{Found, find};
 use md_history::Stop;
 use md_list_law::HasLists;
+use md_machine::Theory;
 use md_nbtc::{Kind, Txn};
+
+// Takes a node for a key. It names the node that the word before the key's place names.
+#[inline(always)]
+fn take_node<'a, T: Theory>(
+    tx: &mut Txn<'a, T>,
+    key: u64,
+    value: u64,
+    found: Found,
+) -> Result<u32, Stop>
+    requires going { IsUnderWay T.meaning (state tx.old) }
+    requires operates { (state tx.old).hand.operating ≡ true }
+    ensures pass { tx.new.pass.ghost_name ≡ tx.old.pass.ghost_name }
+    ensures on { GoesOn T.meaning (state tx.old) (state tx.new) }
+    ensures fresh { AfterStop (state tx.old).stop (state tx.old) (state tx.new) result
+        (Freshened (state tx.old) (state tx.new) key value found.at.value result) }
+    ensures given { FreshKeepsGiven (state tx.old) (state tx.new) result }
+{
+    tx.fresh(key, value, found.at.value)
+}
 
 /// Inserts a key with a value into a map if the key isn't there, and returns whether it was absent,
 /// as an operation of a transaction that was just begun. `head` is the head of the key's own
@@ -78,7 +99,7 @@ pub fn insert<'a, T: HasLists>(
         tx.note(next_word, found.next)?;
         return Ok(false);
     }
-    let node = tx.fresh(key, value, found.at.value)?;
+    let node = take_node(tx, key, value, found)?;
     tx.exchange(found.prev, found.at, node * 2, Kind::Critical)?;
     Ok(true)
 }

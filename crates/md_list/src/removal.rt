@@ -1,20 +1,51 @@
 //! How a key is removed.
 
-ghost use Rattle.std.specs.Prelude.{◌≡◌, ℕ, IfOk, IfSome};
+ghost use Rattle.std.specs.Prelude.{◌≡◌, ◌<◌, ◌+◌, ◌^◌, ℕ, IfOk, IfSome};
+ghost use Rattle.md_words.specs.Layout.{IsNode};
 ghost use Rattle.md_history.specs.declared.acts.Op.TheVariants.{Remove};
 ghost use Rattle.md_history.specs.declared.acts.Reply.TheVariants.{Value};
 ghost use Rattle.md_history.specs.declared.stops.Limit.TheVariants.{Reads, Writes};
-ghost use Rattle.md_nbtc_law.specs.Calls.{AfterStop};
+ghost use Rattle.md_nbtc_law.specs.declared.seen.Kind.TheVariants.{Critical};
+ghost use Rattle.md_nbtc_law.specs.Calls.{AfterStop, Exchanges, GoesOn, MayExchange};
+ghost use Rattle.md_nbtc_law.specs.Calls.{exchange_case};
+ghost use Rattle.md_nbtc_law.specs.Going.{IsUnderWay};
+ghost use Rattle.md_nbtc_law.specs.Seeing.{Gave, KeepsGiven};
 ghost use Rattle.md_nbtc_law.specs.State.{shape_in};
 ghost use Rattle.md_nbtc.specs.State.{state};
+ghost use Rattle.md_list_law.specs.ListShape.{next_word};
 ghost use Rattle.md_list.specs.Operations.{Answers, HasStopButNodes, IsBegun, KeepsUnlink, Leaves};
 ghost use Rattle.md_list.specs.Refusals.{NeedsRead, NeedsSlot, RefusedBy};
 ghost use Rattle.md_list.specs.Walking.{IsHeadOf};
 
-use crate::walk::find;
+use crate::walk::{Found, find};
 use md_history::Stop;
 use md_list_law::HasLists;
-use md_nbtc::{Cleanup, Kind, Txn};
+use md_machine::Theory;
+use md_nbtc::{Cleanup, Kind, Seen, Txn};
+
+// Marks the next word of the node that was found, as a part of the transaction.
+#[inline(always)]
+fn mark<'a, T: Theory>(tx: &mut Txn<'a, T>, found: Found) -> Result<Seen, Stop>
+    requires going { IsUnderWay T.meaning (state tx.old) }
+    requires exists { IsNode (shape_in (state tx.old)) found.node }
+    requires fits { found.next.value + 1 < 2 ^ 32 }
+    requires may { MayExchange T.meaning (state tx.old)
+        (next_word (shape_in (state tx.old)) found.node) found.next (found.next.value + 1)
+        Critical }
+    ensures pass { tx.new.pass.ghost_name ≡ tx.old.pass.ghost_name }
+    ensures on { GoesOn T.meaning (state tx.old) (state tx.new) }
+    ensures exchanged { let word : ℕ = next_word (shape_in (state tx.old)) found.node in
+        AfterStop (state tx.old).stop (state tx.old) (state tx.new) result
+        (Exchanges (exchange_case (state tx.old) word found.next Critical) T.meaning (state tx.old)
+        (state tx.new) word found.next (found.next.value + 1) result) }
+    ensures given { KeepsGiven (state tx.old) (state tx.new)
+        (next_word (shape_in (state tx.old)) found.node) }
+    ensures gave { IfOk result (λ seen. Gave (state tx.new)
+        (next_word (shape_in (state tx.old)) found.node) seen) }
+{
+    let next_word = tx.shape().node_next(found.node);
+    tx.exchange(next_word, found.next, found.next.value + 1, Kind::Critical)
+}
 
 /// Removes a key of a map, and returns the value that it had, or `None` if the key isn't there, as
 /// an operation of a transaction that was just begun. `head` is the head of the key's own bucket.
@@ -74,8 +105,7 @@ pub fn remove<'a, T: HasLists>(
     }
     let value_word = tx.shape().node_value(found.node);
     let value = tx.field_of(value_word);
-    let next_word = tx.shape().node_next(found.node);
-    tx.exchange(next_word, found.next, found.next.value + 1, Kind::Critical)?;
+    mark(tx, found)?;
     // Michael's remove unlinks the node here. The mark isn't decided yet, so the unlink waits for
     // the commit.
     tx.later(Cleanup::Unlink {

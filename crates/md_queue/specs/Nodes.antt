@@ -3,13 +3,16 @@ use Rattle.std.specs.Prelude.{◌≡◌, ◌<◌, ◌⊎◌, ℕ, Contains, true
 use Rattle.md_words.specs.Layout.{IsNode}
 use Rattle.md_machine.specs.declared.node.Structure.{Structure}
 use Rattle.md_machine.specs.Meaning.{Meaning}
+use Rattle.md_nbtc_law.specs.declared.seen.Kind.TheVariants.{Critical}
 use Rattle.md_nbtc_law.specs.declared.seen.Seen.{Seen}
 use Rattle.md_nbtc_law.specs.Calls.{MayExchange}
+use Rattle.md_nbtc_law.specs.Cleaning.{IsWrittenFor}
 use Rattle.md_nbtc_law.specs.Going.{IsFoundThere, IsUnderWay}
 use Rattle.md_nbtc_law.specs.Known.{KnowsPlaced}
 use Rattle.md_nbtc_law.specs.Seeing.{Gave}
 use Rattle.md_nbtc_law.specs.State.{OwnNode, TxnState, shape_in}
-use Rattle.md_queue.specs.Words.{move_kind, next_at, tail_at}
+use Rattle.md_queue_law.specs.QueueShape.{link}
+use Rattle.md_queue.specs.Words.{move_kind, next_at, tail_at, tail_move}
 
 module _ (M : Meaning) (t : TxnState) where
   -- the transaction is under way, and the node is one of the field
@@ -40,3 +43,16 @@ module _ (M : Meaning) (t : TxnState) where
     pub going : IsUnderWay M t
     pub within : queue < (shape_in t).queues
     pub may : MayExchange M t (tail_at t queue) tail next.value (move_kind next)
+
+  -- a node's next word may be changed to name a new one
+  pub record MayLink (node : ℕ) (next : Seen) (new : ℕ) : Type 0 where
+    pub going : IsUnderWay M t
+    pub exists : IsNode (shape_in t) node
+    pub new_exists : IsNode (shape_in t) new
+    pub may : MayExchange M t (next_at t node) next (link new) Critical
+
+-- the next word of the tail's node was written so that the move of the tail to the new node may be kept
+pub record MayMoveLater (t : TxnState) (queue : ℕ) (tail : Seen) (node : ℕ) : Type 0 where
+  pub operates : t.hand.operating ≡ true
+  pub within : queue < (shape_in t).queues
+  pub written : IsWrittenFor t (tail_move t queue tail node)

@@ -13,9 +13,9 @@ ghost use Rattle.md_queue.specs.Operations.{Refused, RefusedOtherwise, StaysStop
 ghost use Rattle.md_queue.specs.Refusals.{IfBy, MoveRefused, RefusesWrites, TakesNone};
 ghost use Rattle.md_queue.specs.Working.{SeesEnd, other_count, own_count};
 
-use crate::words::{load_next, move_tail, rank_of};
+use crate::words::{link_next, load_next, move_later, move_tail, rank_of, take_node};
 use md_history::Stop;
-use md_nbtc::{Cleanup, Kind, Seen, Txn};
+use md_nbtc::{Seen, Txn};
 use md_queue_law::HasQueues;
 
 // What was seen in the tail, and in the next word of its node.
@@ -147,14 +147,8 @@ pub fn enqueue<'a, T: HasQueues>(tx: &mut Txn<'a, T>, queue: u32, value: u64) ->
     let end = find_last(tx, queue)?;
     let last = end.tail.value / 2;
     let rank = rank_of(tx, last);
-    let node = tx.fresh(rank + 1, value, 0)?;
-    let next_word = tx.shape().node_next(last);
-    tx.exchange(next_word, end.next, node * 2, Kind::Critical)?;
-    let tail = tx.shape().queue_tail(queue);
-    tx.later(Cleanup::MoveTail {
-        tail,
-        from: last,
-        to: node,
-    });
+    let node = take_node(tx, rank, value)?;
+    link_next(tx, last, end.next, node)?;
+    move_later(tx, queue, end.tail, node);
     Ok(())
 }

@@ -75,7 +75,7 @@ returns-then-found-clause-answer g c map is cs going =
 pub overflow_mul-node : goal.overflow_mul-node
 overflow_mul-node g c =
     let t = state c.find.new.tx in
-    let u = state c.fresh.new.self in
+    let u = state c.take_node.new.tx in
     let fresh = after_ok ℕ t u t.stop c.in_ok-node.node (Freshened t u c.args.key c.args.value c.in_ok-found.found.at.value (Ok c.in_ok-node.node)) c.in_ok-node.ensures.fresh in
     let fits = nodes_fit_values (shape_in t) c.in_ok-node.node false fresh.exists.1 in
     let is = link_is c.in_ok-node.node in
@@ -90,7 +90,7 @@ pub exchange-requires-clause-may : goal.exchange-requires-clause-may
 exchange-requires-clause-may g c =
     let M = g.T.Theory.meaning in
     let t = state c.find.new.tx in
-    let u = state c.fresh.new.self in
+    let u = state c.take_node.new.tx in
     let fresh = after_ok ℕ t u t.stop c.in_ok-node.node (Freshened t u c.args.key c.args.value c.in_ok-found.found.at.value (Ok c.in_ok-node.node)) c.in_ok-node.ensures.fresh in
     subst (λ x. MayExchange M u c.in_ok-found.found.prev c.in_ok-found.found.at x Critical) (link_is c.in_ok-node.node)
     (may_link M g.T.Theory.lawful g.met.T.HasLists.has_lists t c.args.head c.args.key c.in_ok-found.found (found_of g.T.Theory.meaning (state c.args.tx.now) (state c.find.new.tx) c.args.head c.args.key c.in_ok-found.found c.in_ok-found.ensures.found c.requires.begun c.requires.head) c.if-found.false c.args.value u c.in_ok-node.ensures.on
@@ -161,7 +161,7 @@ returns-in_err-node-clause-leaves g c =
     let M = g.T.Theory.meaning in
     let s = state c.args.tx.now in
     let t = state c.find.new.tx in
-    let u = state c.fresh.new.self in
+    let u = state c.take_node.new.tx in
     let stop = c.in_err-node.field-0.0 in
     leaves_within M s u 0 0 0 1 1 1 (omega arith) (omega arith) (omega arith) (stop_leaves M s t u stop c.in_ok-found.ensures.leaves c.in_err-node.ensures.on
     (fresh_refused M t u stop c.args.key c.args.value c.in_ok-found.found.at.value c.in_err-node.ensures.fresh))
@@ -171,7 +171,7 @@ returns-in_err-node-clause-stops g c =
     let M = g.T.Theory.meaning in
     let s = state c.args.tx.now in
     let t = state c.find.new.tx in
-    let u = state c.fresh.new.self in
+    let u = state c.take_node.new.tx in
     let stop = c.in_err-node.field-0.0 in
     let none = stop_after_ok Found s t c.in_ok-found.found c.in_ok-found.ensures.stops in
     answers_any Bool s u stop c.from_residual-in_err-node.result c.from_residual-in_err-node.ensures.1 (none_stood Bool s u (Err stop) (u.stop ≡ Some stop) none.0
@@ -182,7 +182,7 @@ returns-in_err-exchange-clause-leaves g c =
     let M = g.T.Theory.meaning in
     let s = state c.args.tx.now in
     let t = state c.find.new.tx in
-    let u = state c.fresh.new.self in
+    let u = state c.take_node.new.tx in
     let v = state c.exchange.new.self in
     let found = c.in_ok-found.found in
     let node = c.in_ok-node.node in
@@ -197,7 +197,7 @@ pub returns-in_err-exchange-clause-stops : goal.returns-in_err-exchange-clause-s
 returns-in_err-exchange-clause-stops g c =
     let M = g.T.Theory.meaning in
     let s = state c.args.tx.now in
-    let u = state c.fresh.new.self in
+    let u = state c.take_node.new.tx in
     let v = state c.exchange.new.self in
     let found = c.in_ok-found.found in
     let stop = c.in_err-exchange.field-0.0 in
@@ -210,7 +210,7 @@ returns-clause-leaves g c =
     let M = g.T.Theory.meaning in
     let s = state c.args.tx.now in
     let t = state c.find.new.tx in
-    let u = state c.fresh.new.self in
+    let u = state c.take_node.new.tx in
     let v = state c.exchange.new.self in
     let found = c.in_ok-found.found in
     let node = c.in_ok-node.node in
@@ -228,7 +228,7 @@ returns-clause-placed g c absent =
     let M = g.T.Theory.meaning in
     let s = state c.args.tx.now in
     let t = state c.find.new.tx in
-    let u = state c.fresh.new.self in
+    let u = state c.take_node.new.tx in
     let v = state c.exchange.new.self in
     let found = c.in_ok-found.found in
     let node = c.in_ok-node.node in
@@ -243,7 +243,7 @@ returns-clause-stops g c =
     let M = g.T.Theory.meaning in
     let s = state c.args.tx.now in
     let t = state c.find.new.tx in
-    let u = state c.fresh.new.self in
+    let u = state c.take_node.new.tx in
     let v = state c.exchange.new.self in
     let found = c.in_ok-found.found in
     let node = c.in_ok-node.node in
@@ -258,7 +258,7 @@ returns-clause-answer g c map is cs going =
     let f = c.in_ok-found.ensures.found (begun_walks g.T.Theory.meaning (state c.args.tx.now) map c.args.key c.args.head c.requires.begun is cs going) in
     let s = state c.args.tx.now in
     let t = state c.find.new.tx in
-    let u = state c.fresh.new.self in
+    let u = state c.take_node.new.tx in
     let v = state c.exchange.new.self in
     let found = c.in_ok-found.found in
     let node = c.in_ok-node.node in
@@ -350,7 +350,7 @@ returns-in_err-node-clause-no_read g c =
     let M = g.T.Theory.meaning in
     let s = state c.args.tx.now in
     let t = state c.find.new.tx in
-    let u = state c.fresh.new.self in
+    let u = state c.take_node.new.tx in
     let stop = c.in_err-node.field-0.0 in
     let found = c.in_ok-found.found in
     let none = stop_after_ok Found s t found c.in_ok-found.ensures.stops in
@@ -363,7 +363,7 @@ returns-in_err-node-clause-no_slot g c =
     let M = g.T.Theory.meaning in
     let s = state c.args.tx.now in
     let t = state c.find.new.tx in
-    let u = state c.fresh.new.self in
+    let u = state c.take_node.new.tx in
     let stop = c.in_err-node.field-0.0 in
     let found = c.in_ok-found.found in
     let none = stop_after_ok Found s t found c.in_ok-found.ensures.stops in
@@ -376,7 +376,7 @@ returns-in_err-node-clause-no_node g c =
     let M = g.T.Theory.meaning in
     let s = state c.args.tx.now in
     let t = state c.find.new.tx in
-    let u = state c.fresh.new.self in
+    let u = state c.take_node.new.tx in
     let stop = c.in_err-node.field-0.0 in
     let found = c.in_ok-found.found in
     let leaves = c.in_ok-found.ensures.leaves in
@@ -396,7 +396,7 @@ returns-in_err-exchange-clause-no_read g c =
     let M = g.T.Theory.meaning in
     let s = state c.args.tx.now in
     let t = state c.find.new.tx in
-    let u = state c.fresh.new.self in
+    let u = state c.take_node.new.tx in
     let v = state c.exchange.new.self in
     let stop = c.in_err-exchange.field-0.0 in
     let found = c.in_ok-found.found in
@@ -412,7 +412,7 @@ returns-in_err-exchange-clause-no_slot g c =
     let M = g.T.Theory.meaning in
     let s = state c.args.tx.now in
     let t = state c.find.new.tx in
-    let u = state c.fresh.new.self in
+    let u = state c.take_node.new.tx in
     let v = state c.exchange.new.self in
     let stop = c.in_err-exchange.field-0.0 in
     let found = c.in_ok-found.found in
@@ -437,7 +437,7 @@ returns-in_err-exchange-clause-no_node g c =
     let M = g.T.Theory.meaning in
     let s = state c.args.tx.now in
     let t = state c.find.new.tx in
-    let u = state c.fresh.new.self in
+    let u = state c.take_node.new.tx in
     let v = state c.exchange.new.self in
     let stop = c.in_err-exchange.field-0.0 in
     let found = c.in_ok-found.found in
@@ -531,8 +531,8 @@ note-requires-clause-going g c = (c.requires.begun.going.0, c.in_ok-found.ensure
 pub note-requires-clause-operates : goal.note-requires-clause-operates
 note-requires-clause-operates g c = c.in_ok-found.ensures.leaves.operates
 
-pub fresh-requires-clause-going : goal.fresh-requires-clause-going
-fresh-requires-clause-going g c = (c.requires.begun.going.0, c.in_ok-found.ensures.leaves.on.going c.requires.begun.going.0 c.requires.begun.going.1)
+pub take_node-requires-clause-going : goal.take_node-requires-clause-going
+take_node-requires-clause-going g c = (c.requires.begun.going.0, c.in_ok-found.ensures.leaves.on.going c.requires.begun.going.0 c.requires.begun.going.1)
 
-pub fresh-requires-clause-operates : goal.fresh-requires-clause-operates
-fresh-requires-clause-operates g c = c.in_ok-found.ensures.leaves.operates
+pub take_node-requires-clause-operates : goal.take_node-requires-clause-operates
+take_node-requires-clause-operates g c = c.in_ok-found.ensures.leaves.operates

@@ -1,21 +1,18 @@
 use Rattle.std.proofs.Common.{◌≡◌, ◌≢◌, ◌∙◌, ◌+◌, ℕ, refl, sym, ap, subst, inl, inr, arith, Option, None, Some, Err}
 use Rattle.md_history.specs.declared.acts.Reply.TheVariants.{Value}
-use Rattle.md_machine.specs.Certified.{is_written}
 use Rattle.md_history.specs.declared.acts.Op.TheVariants.{Remove}
 use Rattle.md_words.specs.Layout.{address}
-use Rattle.md_words.specs.Place.{node_next, node_value}
+use Rattle.md_words.specs.Place.{node_value}
 use Rattle.md_words.specs.PlaceAt.{place_at}
 use Rattle.md_nbtc_law.specs.declared.seen.Kind.TheVariants.{Critical}
-use Rattle.md_nbtc_law.specs.Calls.{GoesOn, MayExchange, data_at, note_case}
+use Rattle.md_nbtc_law.specs.Calls.{GoesOn, data_at, note_case}
 use Rattle.md_nbtc_law.specs.Going.{IsGoing}
 use Rattle.md_nbtc_law.specs.Known.{Known}
 use Rattle.md_nbtc_law.specs.declared.seen.Cleanup.TheVariants.{Unlink}
-use Rattle.md_nbtc_law.specs.Seeing.{Gave, KeepsGiven}
-use Rattle.md_nbtc_law.specs.State.{shape_in, writes_in}
+use Rattle.md_nbtc_law.specs.State.{shape_in}
 use Rattle.md_nbtc_law.proofs.preparing.Heaps.{later_self}
 use Rattle.md_nbtc_law.proofs.preparing.Later.{later_over}
 use Rattle.md_nbtc_law.proofs.structures.Answering.{exchange_refused, note_refused}
-use Rattle.md_nbtc_law.proofs.structures.Exchanging.{HasExchanged}
 use Rattle.md_nbtc_law.proofs.structures.NodesKnown.{shape_later}
 use Rattle.md_nbtc.specs.State.{state}
 use Rattle.md_list_law.specs.Certificates.{remove_none}
@@ -68,39 +65,36 @@ field_of-value-requires-clause-data g c =
     value_data M g.T.Theory.lawful t c.args.head c.args.key c.in_ok-found.found has n t (record { going = λ cs going. going; later = later_self t }) c.node_value-value_word.result
     (c.node_value-value_word.ensures.place ∙ ap (λ x. address x (node_value c.in_ok-found.found.node)) c.shape.ensures)
 
-pub overflow_add-found : goal.overflow_add-found
-overflow_add-found g c =
+pub mark-requires-clause-fits : goal.mark-requires-clause-fits
+mark-requires-clause-fits g c =
     let t = state c.find.new.tx in
     let n = here_node g.T.Theory.meaning g.T.Theory.lawful g.met.T.HasLists.has_lists t c.args.head c.args.key c.in_ok-found.found (found_of g.T.Theory.meaning (state c.args.tx.now) (state c.find.new.tx) c.args.head c.args.key c.in_ok-found.found c.in_ok-found.ensures.found c.requires.begun c.requires.head) (is_there c.in_ok-found.found.here c.if-not-found.false) in
     let fits = mark_fits c.in_ok-found.found.next.value n.next.unmarked (omega arith) in
     omega (arith, fits)
 
-pub exchange-requires-clause-going : goal.exchange-requires-clause-going
-exchange-requires-clause-going g c =
+pub mark-requires-clause-going : goal.mark-requires-clause-going
+mark-requires-clause-going g c =
     let w = (found_of g.T.Theory.meaning (state c.args.tx.now) (state c.find.new.tx) c.args.head c.args.key c.in_ok-found.found c.in_ok-found.ensures.found c.requires.begun c.requires.head).walking in
     (w.certificates, c.field_of-value.ensures.on.going w.certificates w.going)
 
-pub exchange-requires-clause-may : goal.exchange-requires-clause-may
-exchange-requires-clause-may g c =
+pub mark-requires-clause-may : goal.mark-requires-clause-may
+mark-requires-clause-may g c =
     let M = g.T.Theory.meaning in
     let v = state c.field_of-value.new.self in
     let has = (found_on M g.T.Theory.lawful g.met.T.HasLists.has_lists (state c.find.new.tx) c.args.head c.args.key c.in_ok-found.found (found_of g.T.Theory.meaning (state c.args.tx.now) (state c.find.new.tx) c.args.head c.args.key c.in_ok-found.found c.in_ok-found.ensures.found c.requires.begun c.requires.head) v
     c.field_of-value.ensures.on c.field_of-value.ensures.same c.field_of-value.ensures.given).0 in
-    subst (λ x. MayExchange M v x c.in_ok-found.found.next (c.in_ok-found.found.next.value + 1) Critical) (sym (c.node_next-next_word.ensures.place ∙ ap (λ x. address x (node_next c.in_ok-found.found.node)) c.shape-2.ensures))
-    (may_mark M g.T.Theory.lawful g.met.T.HasLists.has_lists v c.args.head c.args.key c.in_ok-found.found has (is_there c.in_ok-found.found.here c.if-not-found.false))
+    may_mark M g.T.Theory.lawful g.met.T.HasLists.has_lists v c.args.head c.args.key c.in_ok-found.found has (is_there c.in_ok-found.found.here c.if-not-found.false)
 
 pub later-requires-clause-written : goal.later-requires-clause-written
 later-requires-clause-written g c =
     let M = g.T.Theory.meaning in
     let v = state c.field_of-value.new.self in
-    let u = state c.exchange.new.self in
+    let u = state c.mark.new.tx in
     let has = (found_on M g.T.Theory.lawful g.met.T.HasLists.has_lists (state c.find.new.tx) c.args.head c.args.key c.in_ok-found.found (found_of g.T.Theory.meaning (state c.args.tx.now) (state c.find.new.tx) c.args.head c.args.key c.in_ok-found.found c.in_ok-found.ensures.found c.requires.begun c.requires.head) v
     c.field_of-value.ensures.on c.field_of-value.ensures.same c.field_of-value.ensures.given).0 in
-    let next_is = c.node_next-next_word.ensures.place ∙ ap (λ x. address x (node_next c.in_ok-found.found.node)) c.shape-2.ensures in
-    written_for M g.T.Theory.lawful g.met.T.HasLists.has_lists v c.args.head c.args.key c.in_ok-found.found has (is_there c.in_ok-found.found.here c.if-not-found.false) u c.in_ok-exchange.ensures.on
-    c.in_ok-exchange.field-0 (subst (λ x. Gave u x c.in_ok-exchange.field-0) next_is c.in_ok-exchange.ensures.gave)
-    (subst (λ x. HasExchanged M v x c.in_ok-found.found.next (c.in_ok-found.found.next.value + 1) Critical u c.in_ok-exchange.field-0) next_is
-    (exchanged_ok M v u c.node_next-next_word.result c.in_ok-found.found.next (c.in_ok-found.found.next.value + 1) Critical c.in_ok-exchange.field-0 c.in_ok-exchange.ensures.exchanged))
+    written_for M g.T.Theory.lawful g.met.T.HasLists.has_lists v c.args.head c.args.key c.in_ok-found.found has (is_there c.in_ok-found.found.here c.if-not-found.false) u c.in_ok-mark.ensures.on
+    c.in_ok-mark.field-0 c.in_ok-mark.ensures.gave
+    (exchanged_ok M v u (next_word (shape_in v) c.in_ok-found.found.node) c.in_ok-found.found.next (c.in_ok-found.found.next.value + 1) Critical c.in_ok-mark.field-0 c.in_ok-mark.ensures.exchanged)
 
 pub returns-clause-answer : goal.returns-clause-answer
 returns-clause-answer g c map is cs going =
@@ -109,20 +103,18 @@ returns-clause-answer g c map is cs going =
     let s = state c.args.tx.now in
     let t = state c.find.new.tx in
     let v = state c.field_of-value.new.self in
-    let u = state c.exchange.new.self in
+    let u = state c.mark.new.tx in
     let node = c.in_ok-found.found.node in
     let on_value = found_on M g.T.Theory.lawful g.met.T.HasLists.has_lists (state c.find.new.tx) c.args.head c.args.key c.in_ok-found.found f.0 v
     c.field_of-value.ensures.on c.field_of-value.ensures.same c.field_of-value.ensures.given in
     let has = on_value.0 in
-    let next_is = c.node_next-next_word.ensures.place ∙ ap (λ x. address x (node_next c.in_ok-found.found.node)) c.shape-2.ensures in
     let on = c.field_of-value.ensures.on in
     let shape = shape_later t v on.later in
     by_same M s v (state c.later.new.self) has.walking.certificates cs map c.args.key (on_value.1 ∙ f.1)
     (ap (λ x. x.reads) c.field_of-value.ensures.same ∙ reads_kept M s t 0 0 c.in_ok-found.ensures.leaves)
-    (removed M g.T.Theory.lawful g.met.T.HasLists.has_lists v c.args.head c.args.key c.in_ok-found.found has (is_there c.in_ok-found.found.here c.if-not-found.false) u c.in_ok-exchange.ensures.on
-    c.in_ok-exchange.field-0 (subst (λ x. Gave u x c.in_ok-exchange.field-0) next_is c.in_ok-exchange.ensures.gave)
-    (subst (λ x. HasExchanged M v x c.in_ok-found.found.next (c.in_ok-found.found.next.value + 1) Critical u c.in_ok-exchange.field-0) next_is
-    (exchanged_ok M v u c.node_next-next_word.result c.in_ok-found.found.next (c.in_ok-found.found.next.value + 1) Critical c.in_ok-exchange.field-0 c.in_ok-exchange.ensures.exchanged))
+    (removed M g.T.Theory.lawful g.met.T.HasLists.has_lists v c.args.head c.args.key c.in_ok-found.found has (is_there c.in_ok-found.found.here c.if-not-found.false) u c.in_ok-mark.ensures.on
+    c.in_ok-mark.field-0 c.in_ok-mark.ensures.gave
+    (exchanged_ok M v u (next_word (shape_in v) c.in_ok-found.found.node) c.in_ok-found.found.next (c.in_ok-found.found.next.value + 1) Critical c.in_ok-mark.field-0 c.in_ok-mark.ensures.exchanged)
     (state c.later.new.self) c.later.ensures.on c.later.ensures.kept (omega arith) map
     (subst (λ x. IsHeadOf x map c.args.key c.args.head) (sym (shape_later s v (later_over s t v c.in_ok-found.ensures.leaves.on.later on.later))) is)
     c.field_of-value.result c.node_value-value_word.result
@@ -180,31 +172,31 @@ returns-then-not-found-clause-stops g c =
     let none = stop_after_ok Found s t found c.in_ok-found.ensures.stops in
     none_stood (Option ℕ) s u _ (u.stop ≡ None) none.0 (noted_stop_ok g.T.Theory.meaning t u found.prev found.at c.in_ok-note.ensures.noted ∙ none.1)
 
-pub returns-in_err-exchange-clause-leaves : goal.returns-in_err-exchange-clause-leaves
-returns-in_err-exchange-clause-leaves g c =
+pub returns-in_err-mark-clause-leaves : goal.returns-in_err-mark-clause-leaves
+returns-in_err-mark-clause-leaves g c =
     let M = g.T.Theory.meaning in
     let s = state c.args.tx.now in
     let t = state c.find.new.tx in
     let v = state c.field_of-value.new.self in
-    let u = state c.exchange.new.self in
+    let u = state c.mark.new.tx in
     let found = c.in_ok-found.found in
-    let stop = c.in_err-exchange.field-0.0 in
+    let stop = c.in_err-mark.field-0.0 in
     let value_read = leaves_more M s t v 0 0 0 0 0 0 c.in_ok-found.ensures.leaves c.field_of-value.ensures.on (adds_steps t v c.field_of-value.ensures.same) in
-    leaves_within M s u 0 0 0 1 1 0 (omega arith) (omega arith) (omega arith) (stop_leaves M s v u stop value_read c.in_err-exchange.ensures.on
-    (exchange_refused M v u stop c.node_next-next_word.result found.next (found.next.value + 1) Critical c.in_err-exchange.ensures.exchanged))
+    leaves_within M s u 0 0 0 1 1 0 (omega arith) (omega arith) (omega arith) (stop_leaves M s v u stop value_read c.in_err-mark.ensures.on
+    (exchange_refused M v u stop (next_word (shape_in v) found.node) found.next (found.next.value + 1) Critical c.in_err-mark.ensures.exchanged))
 
-pub returns-in_err-exchange-clause-stops : goal.returns-in_err-exchange-clause-stops
-returns-in_err-exchange-clause-stops g c =
+pub returns-in_err-mark-clause-stops : goal.returns-in_err-mark-clause-stops
+returns-in_err-mark-clause-stops g c =
     let M = g.T.Theory.meaning in
     let s = state c.args.tx.now in
     let t = state c.find.new.tx in
     let v = state c.field_of-value.new.self in
-    let u = state c.exchange.new.self in
+    let u = state c.mark.new.tx in
     let found = c.in_ok-found.found in
-    let stop = c.in_err-exchange.field-0.0 in
+    let stop = c.in_err-mark.field-0.0 in
     let none = stop_after_ok Found s t found c.in_ok-found.ensures.stops in
-    answers_other (Option ℕ) s u stop c.from_residual-in_err-exchange.result c.from_residual-in_err-exchange.ensures.1 (none_stood (Option ℕ) s u (Err stop) ((u.stop ≡ Some stop) × (stop ≢ Limited Nodes)) none.0
-    (exchange_stops M v u stop (ap (λ x. x.stop) c.field_of-value.ensures.same ∙ none.1) c.node_next-next_word.result found.next (found.next.value + 1) Critical c.in_err-exchange.ensures.exchanged))
+    answers_other (Option ℕ) s u stop c.from_residual-in_err-mark.result c.from_residual-in_err-mark.ensures.1 (none_stood (Option ℕ) s u (Err stop) ((u.stop ≡ Some stop) × (stop ≢ Limited Nodes)) none.0
+    (exchange_stops M v u stop (ap (λ x. x.stop) c.field_of-value.ensures.same ∙ none.1) (next_word (shape_in v) found.node) found.next (found.next.value + 1) Critical c.in_err-mark.ensures.exchanged))
 
 pub returns-clause-leaves : goal.returns-clause-leaves
 returns-clause-leaves g c =
@@ -212,31 +204,29 @@ returns-clause-leaves g c =
     let s = state c.args.tx.now in
     let t = state c.find.new.tx in
     let v = state c.field_of-value.new.self in
-    let u = state c.exchange.new.self in
+    let u = state c.mark.new.tx in
     let x = state c.later.new.self in
     let found = c.in_ok-found.found in
     let has = (found_on M g.T.Theory.lawful g.met.T.HasLists.has_lists t c.args.head c.args.key found (found_of g.T.Theory.meaning (state c.args.tx.now) (state c.find.new.tx) c.args.head c.args.key c.in_ok-found.found c.in_ok-found.ensures.found c.requires.begun c.requires.head) v
     c.field_of-value.ensures.on c.field_of-value.ensures.same c.field_of-value.ensures.given).0 in
-    let next_is = c.node_next-next_word.ensures.place ∙ ap (λ x. address x (node_next found.node)) c.shape-2.ensures in
     let here = is_there found.here c.if-not-found.false in
-    let gave = subst (λ x. Gave u x c.in_ok-exchange.field-0) next_is c.in_ok-exchange.ensures.gave in
-    let changed = subst (λ x. HasExchanged M v x found.next (found.next.value + 1) Critical u c.in_ok-exchange.field-0) next_is
-    (exchanged_ok M v u c.node_next-next_word.result found.next (found.next.value + 1) Critical c.in_ok-exchange.field-0 c.in_ok-exchange.ensures.exchanged) in
-    let did = marked_by M g.T.Theory.lawful g.met.T.HasLists.has_lists v c.args.head c.args.key found has here u c.in_ok-exchange.ensures.on c.in_ok-exchange.field-0 gave changed in
+    let gave = c.in_ok-mark.ensures.gave in
+    let changed = exchanged_ok M v u (next_word (shape_in v) found.node) found.next (found.next.value + 1) Critical c.in_ok-mark.field-0 c.in_ok-mark.ensures.exchanged in
+    let did = marked_by M g.T.Theory.lawful g.met.T.HasLists.has_lists v c.args.head c.args.key found has here u c.in_ok-mark.ensures.on c.in_ok-mark.field-0 gave changed in
     let on = c.field_of-value.ensures.on in
     let goes : GoesOn M s x = record {
       going = λ cs going.
           let f = c.in_ok-found.ensures.found (begun_walks M s c.requires.head.0 c.args.key c.args.head c.requires.begun c.requires.head.1 cs going) in
           let h = found_on M g.T.Theory.lawful g.met.T.HasLists.has_lists t c.args.head c.args.key found f.0 v on c.field_of-value.ensures.same c.field_of-value.ensures.given in
-          subst (IsGoing M x) (h.1 ∙ f.1) (goes_kept M g.T.Theory.lawful g.met.T.HasLists.has_lists v c.args.head c.args.key found h.0 here u c.in_ok-exchange.ensures.on c.in_ok-exchange.field-0
+          subst (IsGoing M x) (h.1 ∙ f.1) (goes_kept M g.T.Theory.lawful g.met.T.HasLists.has_lists v c.args.head c.args.key found h.0 here u c.in_ok-mark.ensures.on c.in_ok-mark.field-0
           gave changed x c.later.ensures.on);
-      later = later_over s u x (later_over s v u (later_over s t v c.in_ok-found.ensures.leaves.on.later on.later) c.in_ok-exchange.ensures.on.later) c.later.ensures.on.later;
+      later = later_over s u x (later_over s v u (later_over s t v c.in_ok-found.ensures.leaves.on.later on.later) c.in_ok-mark.ensures.on.later) c.later.ensures.on.later;
     } in
     let value_read = leaves_more M s t v 0 0 0 0 0 0 c.in_ok-found.ensures.leaves c.field_of-value.ensures.on (adds_steps t v c.field_of-value.ensures.same) in
-    let marked = leaves_more M s v u 0 0 0 0 1 0 value_read c.in_ok-exchange.ensures.on (adds_change M v (next_word (shape_in v) found.node) found.next (found.next.value + 1) u c.in_ok-exchange.field-0 did) in
+    let marked = leaves_more M s v u 0 0 0 0 1 0 value_read c.in_ok-mark.ensures.on (adds_change M v (next_word (shape_in v) found.node) found.next (found.next.value + 1) u c.in_ok-mark.field-0 did) in
     leaves_within M s x 0 1 0 1 1 0 (omega arith) (omega arith) (omega arith)
     (leaves_on M s u x 0 1 0 0 0 0 marked goes (adds_cleanup u x (Unlink found.prev found.node)
-    (none_yet M g.T.Theory.lawful g.met.T.HasLists.has_lists v c.args.head c.args.key found has here u c.in_ok-exchange.ensures.on c.in_ok-exchange.field-0 gave changed) c.later.ensures.kept))
+    (none_yet M g.T.Theory.lawful g.met.T.HasLists.has_lists v c.args.head c.args.key found has here u c.in_ok-mark.ensures.on c.in_ok-mark.field-0 gave changed) c.later.ensures.kept))
 
 pub returns-clause-marked : goal.returns-clause-marked
 returns-clause-marked g c =
@@ -244,12 +234,12 @@ returns-clause-marked g c =
     let s = state c.args.tx.now in
     let t = state c.find.new.tx in
     let v = state c.field_of-value.new.self in
-    let u = state c.exchange.new.self in
+    let u = state c.mark.new.tx in
     let found = c.in_ok-found.found in
     let leaves = c.in_ok-found.ensures.leaves in
     ap (λ x. x.reads) c.later.ensures.kept
-    ∙ exchanged_reads M v u c.node_next-next_word.result found.next (found.next.value + 1) Critical c.in_ok-exchange.field-0
-    (exchanged_ok M v u c.node_next-next_word.result found.next (found.next.value + 1) Critical c.in_ok-exchange.field-0 c.in_ok-exchange.ensures.exchanged)
+    ∙ exchanged_reads M v u (next_word (shape_in v) found.node) found.next (found.next.value + 1) Critical c.in_ok-mark.field-0
+    (exchanged_ok M v u (next_word (shape_in v) found.node) found.next (found.next.value + 1) Critical c.in_ok-mark.field-0 c.in_ok-mark.ensures.exchanged)
     ∙ ap (λ x. x.reads) c.field_of-value.ensures.same ∙ reads_kept M s t 0 0 leaves
 
 pub returns-clause-unlink : goal.returns-clause-unlink
@@ -257,17 +247,15 @@ returns-clause-unlink g c =
     let M = g.T.Theory.meaning in
     let t = state c.find.new.tx in
     let v = state c.field_of-value.new.self in
-    let u = state c.exchange.new.self in
+    let u = state c.mark.new.tx in
     let x = state c.later.new.self in
     let found = c.in_ok-found.found in
     let has = (found_on M g.T.Theory.lawful g.met.T.HasLists.has_lists t c.args.head c.args.key found (found_of g.T.Theory.meaning (state c.args.tx.now) (state c.find.new.tx) c.args.head c.args.key c.in_ok-found.found c.in_ok-found.ensures.found c.requires.begun c.requires.head) v
     c.field_of-value.ensures.on c.field_of-value.ensures.same c.field_of-value.ensures.given).0 in
-    let next_is = c.node_next-next_word.ensures.place ∙ ap (λ x. address x (node_next found.node)) c.shape-2.ensures in
-    keeps_unlink M g.T.Theory.lawful g.met.T.HasLists.has_lists v c.args.head c.args.key found has (is_there found.here c.if-not-found.false) u c.in_ok-exchange.ensures.on
-    c.in_ok-exchange.field-0 (subst (λ x. Gave u x c.in_ok-exchange.field-0) next_is c.in_ok-exchange.ensures.gave)
-    (subst (λ x. HasExchanged M v x found.next (found.next.value + 1) Critical u c.in_ok-exchange.field-0) next_is
-    (exchanged_ok M v u c.node_next-next_word.result found.next (found.next.value + 1) Critical c.in_ok-exchange.field-0 c.in_ok-exchange.ensures.exchanged))
-    x c.later.ensures.on c.later.ensures.kept (subst (KeepsGiven v u) next_is c.in_ok-exchange.ensures.given) c.later.ensures.given
+    keeps_unlink M g.T.Theory.lawful g.met.T.HasLists.has_lists v c.args.head c.args.key found has (is_there found.here c.if-not-found.false) u c.in_ok-mark.ensures.on
+    c.in_ok-mark.field-0 c.in_ok-mark.ensures.gave
+    (exchanged_ok M v u (next_word (shape_in v) found.node) found.next (found.next.value + 1) Critical c.in_ok-mark.field-0 c.in_ok-mark.ensures.exchanged)
+    x c.later.ensures.on c.later.ensures.kept c.in_ok-mark.ensures.given c.later.ensures.given
 
 pub returns-clause-stops : goal.returns-clause-stops
 returns-clause-stops g c =
@@ -275,14 +263,14 @@ returns-clause-stops g c =
     let s = state c.args.tx.now in
     let t = state c.find.new.tx in
     let v = state c.field_of-value.new.self in
-    let u = state c.exchange.new.self in
+    let u = state c.mark.new.tx in
     let x = state c.later.new.self in
     let found = c.in_ok-found.found in
     let none = stop_after_ok Found s t found c.in_ok-found.ensures.stops in
     none_stood (Option ℕ) s x _ (x.stop ≡ None) none.0
     (ap (λ y. y.stop) c.later.ensures.kept
-    ∙ exchanged_stop M v u c.node_next-next_word.result found.next (found.next.value + 1) Critical c.in_ok-exchange.field-0
-    (exchanged_ok M v u c.node_next-next_word.result found.next (found.next.value + 1) Critical c.in_ok-exchange.field-0 c.in_ok-exchange.ensures.exchanged)
+    ∙ exchanged_stop M v u (next_word (shape_in v) found.node) found.next (found.next.value + 1) Critical c.in_ok-mark.field-0
+    (exchanged_ok M v u (next_word (shape_in v) found.node) found.next (found.next.value + 1) Critical c.in_ok-mark.field-0 c.in_ok-mark.ensures.exchanged)
     ∙ ap (λ y. y.stop) c.field_of-value.ensures.same ∙ none.1)
 
 pub note-requires-clause-gave : goal.note-requires-clause-gave
@@ -295,10 +283,10 @@ pub node_value-value_word-requires : goal.node_value-value_word-requires
 node_value-value_word-requires g c = found_exists g.T.Theory.meaning g.T.Theory.lawful g.met.T.HasLists.has_lists (state c.args.tx.now) (state c.find.new.tx) c.args.head c.args.key c.in_ok-found.found c.in_ok-found.ensures.found c.requires.begun
     c.requires.head (is_there c.in_ok-found.found.here c.if-not-found.false) c.shape.result.now c.shape.ensures
 
-pub node_next-next_word-requires : goal.node_next-next_word-requires
-node_next-next_word-requires g c = found_exists g.T.Theory.meaning g.T.Theory.lawful g.met.T.HasLists.has_lists (state c.args.tx.now) (state c.find.new.tx) c.args.head c.args.key c.in_ok-found.found c.in_ok-found.ensures.found c.requires.begun
-    c.requires.head (is_there c.in_ok-found.found.here c.if-not-found.false) c.shape-2.result.now
-    (c.shape-2.ensures ∙ shape_later (state c.find.new.tx) (state c.field_of-value.new.self) c.field_of-value.ensures.on.later)
+pub mark-requires-clause-exists : goal.mark-requires-clause-exists
+mark-requires-clause-exists g c = found_exists g.T.Theory.meaning g.T.Theory.lawful g.met.T.HasLists.has_lists (state c.args.tx.now) (state c.find.new.tx) c.args.head c.args.key c.in_ok-found.found c.in_ok-found.ensures.found c.requires.begun
+    c.requires.head (is_there c.in_ok-found.found.here c.if-not-found.false) (shape_in (state c.field_of-value.new.self))
+    (shape_later (state c.find.new.tx) (state c.field_of-value.new.self) c.field_of-value.ensures.on.later)
 
 pub returns-in_err-found-clause-no_read : goal.returns-in_err-found-clause-no_read
 returns-in_err-found-clause-no_read g c =
@@ -348,40 +336,39 @@ returns-in_err-note-clause-no_slot g c =
     refused_else M (Option ℕ) s u c.from_residual-in_err-note.result stop c.from_residual-in_err-note.ensures.1 Writes (NeedsSlot M s c.args.head c.args.key (λ map. Remove map c.args.key))
     (λ _ by. reads_or_writes (note_limit M t u stop found.prev found.at Writes (note_unstopped t u stop found.prev found.at none.1 c.in_err-note.ensures.noted) by))
 
-pub returns-in_err-exchange-clause-no_read : goal.returns-in_err-exchange-clause-no_read
-returns-in_err-exchange-clause-no_read g c =
+pub returns-in_err-mark-clause-no_read : goal.returns-in_err-mark-clause-no_read
+returns-in_err-mark-clause-no_read g c =
     let M = g.T.Theory.meaning in
     let s = state c.args.tx.now in
     let t = state c.find.new.tx in
     let v = state c.field_of-value.new.self in
-    let u = state c.exchange.new.self in
-    let stop = c.in_err-exchange.field-0.0 in
-    let word = c.node_next-next_word.result in
+    let u = state c.mark.new.tx in
+    let stop = c.in_err-mark.field-0.0 in
+    let word = next_word (shape_in v) c.in_ok-found.found.node in
     let next = c.in_ok-found.found.next in
     let none = stop_after_ok Found s t c.in_ok-found.found c.in_ok-found.ensures.stops in
-    refused_else M (Option ℕ) s u c.from_residual-in_err-exchange.result stop c.from_residual-in_err-exchange.ensures.1 Reads (NeedsRead M s c.args.head c.args.key (λ map. Remove map c.args.key))
+    refused_else M (Option ℕ) s u c.from_residual-in_err-mark.result stop c.from_residual-in_err-mark.ensures.1 Reads (NeedsRead M s c.args.head c.args.key (λ map. Remove map c.args.key))
     (λ _. exchange_reads M v u stop word next (next.value + 1) Critical
-    (exchange_unstopped M v u stop word next (next.value + 1) Critical (ap (λ x. x.stop) c.field_of-value.ensures.same ∙ none.1) c.in_err-exchange.ensures.exchanged))
+    (exchange_unstopped M v u stop word next (next.value + 1) Critical (ap (λ x. x.stop) c.field_of-value.ensures.same ∙ none.1) c.in_err-mark.ensures.exchanged))
 
-pub returns-in_err-exchange-clause-no_slot : goal.returns-in_err-exchange-clause-no_slot
-returns-in_err-exchange-clause-no_slot g c =
+pub returns-in_err-mark-clause-no_slot : goal.returns-in_err-mark-clause-no_slot
+returns-in_err-mark-clause-no_slot g c =
     let M = g.T.Theory.meaning in
     let s = state c.args.tx.now in
     let t = state c.find.new.tx in
     let v = state c.field_of-value.new.self in
-    let u = state c.exchange.new.self in
-    let stop = c.in_err-exchange.field-0.0 in
+    let u = state c.mark.new.tx in
+    let stop = c.in_err-mark.field-0.0 in
     let found = c.in_ok-found.found in
     let same = c.field_of-value.ensures.same in
     let on = c.field_of-value.ensures.on in
     let leaves = c.in_ok-found.ensures.leaves in
     let goes = goes_over M s t v leaves.on on in
     let none = stop_after_ok Found s t found c.in_ok-found.ensures.stops in
-    let word = c.node_next-next_word.result in
-    let word_is = c.node_next-next_word.ensures.place ∙ ap (λ x. address x (node_next found.node)) c.shape-2.ensures in
+    let word = next_word (shape_in v) c.in_ok-found.found.node in
     let shape = shape_later t v on.later in
-    let exchanged = c.in_err-exchange.ensures.exchanged in
-    refused_by M (Option ℕ) s u c.from_residual-in_err-exchange.result stop c.from_residual-in_err-exchange.ensures.1 Writes (NeedsSlot M s c.args.head c.args.key (λ map. Remove map c.args.key)) v goes
+    let exchanged = c.in_err-mark.ensures.exchanged in
+    refused_by M (Option ℕ) s u c.from_residual-in_err-mark.result stop c.from_residual-in_err-mark.ensures.1 Writes (NeedsSlot M s c.args.head c.args.key (λ map. Remove map c.args.key)) v goes
     (ap (λ x. x.reads) same ∙ reads_kept M s t 0 0 leaves) (exchange_refused M v u stop word found.next (found.next.value + 1) Critical exchanged)
     (λ by map is cs going.
     let f = c.in_ok-found.ensures.found (begun_walks M s map c.args.key c.args.head c.requires.begun is cs going) in
@@ -392,7 +379,7 @@ returns-in_err-exchange-clause-no_slot g c =
     (needs_mark M g.T.Theory.lawful g.met.T.HasLists.has_lists v c.args.head c.args.key found h.0 (is_there found.here c.if-not-found.false) c.field_of-value.result c.node_value-value_word.result
     (c.node_value-value_word.ensures.place ∙ ap (λ x. address x (node_value found.node)) (c.shape.ensures ∙ sym shape))
     (subst (λ x. Known M v (λ w k. data_at k (place_at x c.node_value-value_word.result) ≡ c.field_of-value.result)) (sym shape) c.field_of-value.ensures.known)
-    (omega arith) (ap (is_written (writes_in v)) (sym word_is) ∙ full.0) map
+    (omega arith) full.0 map
     (subst (λ x. IsHeadOf x map c.args.key c.args.head) (sym (shape_later s v goes.later)) is))))
 
 pub returns-in_err-found-clause-pass : goal.returns-in_err-found-clause-pass
@@ -404,11 +391,11 @@ returns-in_err-note-clause-pass g c = c.in_err-note.ensures.pass ∙ c.in_ok-fou
 pub returns-then-not-found-clause-pass : goal.returns-then-not-found-clause-pass
 returns-then-not-found-clause-pass g c = c.in_ok-note.ensures.pass ∙ c.in_ok-found.ensures.pass
 
-pub returns-in_err-exchange-clause-pass : goal.returns-in_err-exchange-clause-pass
-returns-in_err-exchange-clause-pass g c = c.in_err-exchange.ensures.pass ∙ c.field_of-value.ensures.pass ∙ c.in_ok-found.ensures.pass
+pub returns-in_err-mark-clause-pass : goal.returns-in_err-mark-clause-pass
+returns-in_err-mark-clause-pass g c = c.in_err-mark.ensures.pass ∙ c.field_of-value.ensures.pass ∙ c.in_ok-found.ensures.pass
 
 pub returns-clause-pass : goal.returns-clause-pass
-returns-clause-pass g c = c.later.ensures.pass ∙ c.in_ok-exchange.ensures.pass ∙ c.field_of-value.ensures.pass ∙ c.in_ok-found.ensures.pass
+returns-clause-pass g c = c.later.ensures.pass ∙ c.in_ok-mark.ensures.pass ∙ c.field_of-value.ensures.pass ∙ c.in_ok-found.ensures.pass
 
 pub returns-in_err-found-clause-marked : goal.returns-in_err-found-clause-marked
 returns-in_err-found-clause-marked g c = IfOk-from_err c.from_residual.result _ c.from_residual.ensures.0
@@ -428,14 +415,14 @@ returns-in_err-note-clause-unlink g c = IfOk-from_err c.from_residual-in_err-not
 pub returns-in_err-note-clause-answer : goal.returns-in_err-note-clause-answer
 returns-in_err-note-clause-answer g c = IfOk-from_err c.from_residual-in_err-note.result _ c.from_residual-in_err-note.ensures.0
 
-pub returns-in_err-exchange-clause-marked : goal.returns-in_err-exchange-clause-marked
-returns-in_err-exchange-clause-marked g c = IfOk-from_err c.from_residual-in_err-exchange.result _ c.from_residual-in_err-exchange.ensures.0
+pub returns-in_err-mark-clause-marked : goal.returns-in_err-mark-clause-marked
+returns-in_err-mark-clause-marked g c = IfOk-from_err c.from_residual-in_err-mark.result _ c.from_residual-in_err-mark.ensures.0
 
-pub returns-in_err-exchange-clause-unlink : goal.returns-in_err-exchange-clause-unlink
-returns-in_err-exchange-clause-unlink g c = IfOk-from_err c.from_residual-in_err-exchange.result _ c.from_residual-in_err-exchange.ensures.0
+pub returns-in_err-mark-clause-unlink : goal.returns-in_err-mark-clause-unlink
+returns-in_err-mark-clause-unlink g c = IfOk-from_err c.from_residual-in_err-mark.result _ c.from_residual-in_err-mark.ensures.0
 
-pub returns-in_err-exchange-clause-answer : goal.returns-in_err-exchange-clause-answer
-returns-in_err-exchange-clause-answer g c = IfOk-from_err c.from_residual-in_err-exchange.result _ c.from_residual-in_err-exchange.ensures.0
+pub returns-in_err-mark-clause-answer : goal.returns-in_err-mark-clause-answer
+returns-in_err-mark-clause-answer g c = IfOk-from_err c.from_residual-in_err-mark.result _ c.from_residual-in_err-mark.ensures.0
 
 pub returns-then-not-found-clause-marked : goal.returns-then-not-found-clause-marked
 returns-then-not-found-clause-marked g c = tt
@@ -470,17 +457,15 @@ later-requires-clause-operates g c =
     let s = state c.args.tx.now in
     let t = state c.find.new.tx in
     let v = state c.field_of-value.new.self in
-    let u = state c.exchange.new.self in
+    let u = state c.mark.new.tx in
     let found = c.in_ok-found.found in
     let has = (found_on M g.T.Theory.lawful g.met.T.HasLists.has_lists t c.args.head c.args.key found (found_of g.T.Theory.meaning (state c.args.tx.now) (state c.find.new.tx) c.args.head c.args.key c.in_ok-found.found c.in_ok-found.ensures.found c.requires.begun c.requires.head) v
     c.field_of-value.ensures.on c.field_of-value.ensures.same c.field_of-value.ensures.given).0 in
-    let next_is = c.node_next-next_word.ensures.place ∙ ap (λ x. address x (node_next found.node)) c.shape-2.ensures in
     let here = is_there found.here c.if-not-found.false in
-    let gave = subst (λ x. Gave u x c.in_ok-exchange.field-0) next_is c.in_ok-exchange.ensures.gave in
-    let changed = subst (λ x. HasExchanged M v x found.next (found.next.value + 1) Critical u c.in_ok-exchange.field-0) next_is
-    (exchanged_ok M v u c.node_next-next_word.result found.next (found.next.value + 1) Critical c.in_ok-exchange.field-0 c.in_ok-exchange.ensures.exchanged) in
-    let did = marked_by M g.T.Theory.lawful g.met.T.HasLists.has_lists v c.args.head c.args.key found has here u c.in_ok-exchange.ensures.on c.in_ok-exchange.field-0 gave changed in
+    let gave = c.in_ok-mark.ensures.gave in
+    let changed = exchanged_ok M v u (next_word (shape_in v) found.node) found.next (found.next.value + 1) Critical c.in_ok-mark.field-0 c.in_ok-mark.ensures.exchanged in
+    let did = marked_by M g.T.Theory.lawful g.met.T.HasLists.has_lists v c.args.head c.args.key found has here u c.in_ok-mark.ensures.on c.in_ok-mark.field-0 gave changed in
     let on = c.field_of-value.ensures.on in
     let value_read = leaves_more M s t v 0 0 0 0 0 0 c.in_ok-found.ensures.leaves c.field_of-value.ensures.on (adds_steps t v c.field_of-value.ensures.same) in
-    let marked = leaves_more M s v u 0 0 0 0 1 0 value_read c.in_ok-exchange.ensures.on (adds_change M v (next_word (shape_in v) found.node) found.next (found.next.value + 1) u c.in_ok-exchange.field-0 did) in
+    let marked = leaves_more M s v u 0 0 0 0 1 0 value_read c.in_ok-mark.ensures.on (adds_change M v (next_word (shape_in v) found.node) found.next (found.next.value + 1) u c.in_ok-mark.field-0 did) in
     marked.operates
