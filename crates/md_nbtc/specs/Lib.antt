@@ -1,4 +1,2 @@
-pub mod Sets
-pub mod Marks
 pub mod State
 pub mod Ending

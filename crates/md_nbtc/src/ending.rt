@@ -1,26 +1,21 @@
 //! How a transaction ends.
 
 ghost use Rattle.std.specs.Prelude.{◌≡◌, ◌<◌, ◌^◌, None, IfErr, IfOk, MatchResult, false};
-ghost use Rattle.md_words.specs.declared.status.Status.TheVariants.{InPrep, InProg};
+ghost use Rattle.md_words.specs.declared.status.Status.TheVariants.{InPrep};
 ghost use Rattle.md_words.specs.Status.{status_word};
 ghost use Rattle.md_nbtc_law.specs.Ending.{Aborts, Commits, HasEntry, IsReady, IsShown, Readies};
 ghost use Rattle.md_nbtc_law.specs.Ending.{Stopped, TellsWhy, receipt_of, shown_unready};
 ghost use Rattle.md_nbtc_law.specs.Ended.{WasCommitted, WasLost, WasUnready};
 ghost use Rattle.md_nbtc_law.specs.LeftReady.{WasLeftReady};
 ghost use Rattle.md_nbtc_law.specs.Going.{IsUnderWay};
-ghost use Rattle.md_nbtc_law.specs.State.{state_of};
 ghost use Rattle.md_nbtc.specs.Ending.{ready_state};
 ghost use Rattle.md_nbtc.specs.State.{state};
 
-use crate::deciding::{settle, validate};
-use crate::receipt::Receipt;
-use crate::sets::{Lefts, Lots, Reads, Sets, Slots};
-use crate::tidying::finish;
 use crate::txn::Txn;
-use crate::withdrawal::withdraw;
 use md_history::Shown;
 use md_machine::{AttemptId, Theory};
 use md_rule::{Field, Pass};
+use md_sets::{Receipt, Sets, decided, withdraw};
 use md_words::{Status, StatusWord};
 use std::marker::Brand;
 use std::snapshot::Snapshot;
@@ -268,60 +263,5 @@ impl<'a, T: Theory> Ready<'a, T> {
     {
         let Ready { pass, .. } = self;
         let _ = pass;
-    }
-}
-
-// The status word of an attempt that is ready.
-fn in_progress(reads: u8, serial: u64) -> u64
-    requires { serial < 2 ^ 54 }
-    ensures { result ≡ status_word InProg reads serial }
-{
-    StatusWord {
-        status: Status::InProg,
-        reads,
-        serial,
-    }
-    .word()
-}
-
-// Decides a transaction that is ready. What moved, if it is aborted.
-fn decided<T: Theory>(
-    pass: &mut Pass<T>,
-    field: &Field<T>,
-    began: &Snapshot<Pass<T>>,
-    desc: u32,
-    serial: u64,
-    tag: u64,
-    reads: &Reads,
-    slots: &Slots,
-    lots: &Lots,
-    lefts: &mut Lefts,
-) -> Result<(), Shown>
-    requires { IsReady T.meaning (state_of field.now pass.old began.now.value reads.now slots.now None
-        desc serial tag lots.now) }
-    ensures committed { IfOk result (λ _. (e : HasEntry (state_of field.now pass.old began.now.value
-        reads.now slots.now None desc serial tag lots.now))
-        × Commits T.meaning (state_of field.now pass.old began.now.value reads.now slots.now None
-        desc serial tag lots.now) e pass.new) }
-    ensures aborted { IfErr result (λ shown. Aborts T.meaning (state_of field.now pass.old
-        began.now.value reads.now slots.now None desc serial tag lots.now) pass.new
-        × IsShown (state_of field.now pass.old began.now.value reads.now slots.now None desc serial
-        tag lots.now) pass.new shown
-        × TellsWhy (state_of field.now pass.old began.now.value reads.now slots.now None desc serial
-        tag lots.now) pass.new shown) }
-{
-    let _ = tag;
-    let attempt = AttemptId { desc, serial };
-    let moved = validate(pass, field, desc, reads);
-    let from = in_progress(reads.len(), serial);
-    match settle(pass, field, attempt, from, moved) {
-        Ok(()) => {
-            finish(pass, field, attempt, slots, lefts);
-            Ok(())
-        }
-        Err(shown) => {
-            withdraw(pass, field, attempt, slots, lots, began);
-            Err(shown)
-        }
     }
 }

@@ -1,17 +1,13 @@
 //! How a transaction looks at a word.
 
-ghost use Rattle.std.specs.Prelude.{◌≡◌, ◌+◌, ◌<◌, ◌≤◌, ◌^◌, false, None, Some};
-ghost use Rattle.md_words.specs.Content.{count_of, is_even, word_of};
-ghost use Rattle.md_words.specs.Layout.{words_of};
+ghost use Rattle.std.specs.Prelude.{◌≡◌, ◌<◌, ◌≤◌, ◌^◌, false, None, Some};
+ghost use Rattle.md_words.specs.Content.{count_of, word_of};
 ghost use Rattle.md_words.specs.PlaceAt.{IsCounted};
 ghost use Rattle.md_machine.specs.declared.step.TheConstants.{LAST_COUNT};
 ghost use Rattle.md_machine.specs.events.Install.{installed_word};
-ghost use Rattle.md_rule.specs.Views.{IsOf};
-ghost use Rattle.md_help.specs.After.{Stands};
-ghost use Rattle.md_nbtc_law.specs.declared.seen.TheConstants.{LOOKS};
 ghost use Rattle.md_nbtc_law.specs.Calls.{AfterStop, GoesOn, Looked};
 ghost use Rattle.md_nbtc_law.specs.Going.{IsUnderWay};
-ghost use Rattle.md_nbtc_law.specs.Looking.{LookSteps, LooksUntil};
+ghost use Rattle.md_nbtc_law.specs.Looking.{LookSteps};
 ghost use Rattle.md_nbtc_law.specs.Seeing.{KeepsGiven};
 ghost use Rattle.md_nbtc_law.specs.Sets.{place_of};
 ghost use Rattle.md_nbtc_law.specs.State.{shape_in};
@@ -21,84 +17,9 @@ use crate::txn::Txn;
 use md_help::clear;
 use md_history::{Shown, Stop};
 use md_machine::{Theory, Write};
-use md_nbtc_law::{LOOKS, Seen};
-use md_rule::{Field, Pass};
+use md_nbtc_law::Seen;
+use md_sets::look_at;
 use md_words::{Content, Spot};
-use std::hint::spin_loop;
-
-// So often one of a higher number is, by a transaction whose own descriptor stands in a word. If two
-// transactions each hold a word that the other wants, one of them soon gives way.
-const FEW_LOOKS: u32 = 60;
-
-// A pause between two looks is at most so long, in turns of the spin hint.
-const LONGEST: u32 = 2;
-
-fn pause(turns: u32) {
-    for _ in 0..turns.min(LONGEST) {
-        spin_loop();
-    }
-}
-
-// How often another's descriptor is looked at again. `holding` is the own one, if it stands in a word.
-fn patience(holding: Option<u32>, other: u32) -> u32
-    ensures { (1 ≤ result) × (result ≤ LOOKS) }
-{
-    match holding {
-        Some(own) if own < other => FEW_LOOKS,
-        _ => LOOKS,
-    }
-}
-
-// Looks again while the same descriptor stands in the word, so often at most and with short pauses,
-// and returns what it found last.
-#[cold]
-#[inline(never)]
-fn await_other<T: Theory>(
-    pass: &mut Pass<T>,
-    field: &Field<T>,
-    word: u32,
-    found: u64,
-    most: u32,
-) -> u64
-    requires of { IsOf pass.old field.now }
-    requires stands { Stands T.meaning field.now.origin pass.old.view }
-    requires inside { word < words_of field.now.origin.shape }
-    requires odd { is_even (count_of found) ≡ false }
-    requires most { (1 ≤ most) × (most ≤ LOOKS) }
-    ensures same { pass.new ≡ record pass.old { view = pass.new.view } }
-    ensures looks { LooksUntil T.meaning field.now.origin word LOOKS result pass.old.view
-        pass.new.view }
-{
-    let mut last = found;
-    for i in 0..most {
-        pause(i);
-        last = pass.load(field, word);
-        if last != found {
-            return last;
-        }
-    }
-    last
-}
-
-// Looks at a word, and returns what it found: a descriptor only if it stands there for a while.
-// `holding` is the own descriptor, if it stands in a word.
-fn look_at<T: Theory>(pass: &mut Pass<T>, field: &Field<T>, word: u32, holding: Option<u32>) -> u64
-    requires of { IsOf pass.old field.now }
-    requires stands { Stands T.meaning field.now.origin pass.old.view }
-    requires inside { word < words_of field.now.origin.shape }
-    ensures same { pass.new ≡ record pass.old { view = pass.new.view } }
-    ensures looks { LooksUntil T.meaning field.now.origin word (LOOKS + 1) result pass.old.view
-        pass.new.view }
-{
-    let found = pass.load(field, word);
-    match Content::of(found).stands() {
-        None => found,
-        Some(spot) => {
-            let most = patience(holding, spot.desc);
-            await_other(pass, field, word, found, most)
-        }
-    }
-}
 
 // Returns what is seen in a word that holds an even content.
 fn seen_of(content: Content) -> Seen

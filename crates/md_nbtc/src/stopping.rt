@@ -6,8 +6,8 @@ ghost use Rattle.md_nbtc_law.specs.Going.{IsUnderWay};
 ghost use Rattle.md_nbtc.specs.State.{state};
 
 use crate::txn::Txn;
-use crate::withdrawal::{abort_unready, withdraw};
 use md_machine::{AttemptId, Theory};
+use md_sets::{abort_unready, withdraw};
 
 impl<'a, T: Theory> Txn<'a, T> {
     /// Stops the transaction: it is aborted, and its descriptor is taken out of the words that it

@@ -11,10 +11,10 @@ ghost use Rattle.md_nbtc_law.specs.Seeing.{KeepsGiven};
 ghost use Rattle.md_nbtc_law.specs.State.{shape_in};
 ghost use Rattle.md_nbtc.specs.State.{state};
 
-use crate::sets::Sets;
 use md_history::{Op, Reply, Stop};
 use md_machine::Theory;
 use md_rule::{Field, Pass};
+use md_sets::Sets;
 use md_words::Shape;
 use std::snapshot::Snapshot;
 
