@@ -9,13 +9,8 @@
 //! commit (`later`). `stop` ends the transaction without effect. `ready` fixes its place in the
 //! history, and `Ready::decide` commits it, with a `Receipt`, or aborts it. Contracts see a
 //! transaction by its state (`state`). md_nbtc_law says what such a state is and what the steps
-<<<<<<< HEAD
-//! leave of it, and what a transaction knows of the field, whatever others do (`Known`). md_sets has
-//! what a transaction keeps, and the parts of these calls that need no `Txn`.
-=======
 //! leave of it, and what a transaction knows of the field, whatever others do (`Known`).
 //! md_sets has what a transaction keeps, and the parts of these calls that need no `Txn`.
->>>>>>> 0ad09725a8892afde82b60c9281013f6d4091157
 //!
 //! The comments use these words. A **step** is one atomic step on a shared word. If a transaction
 //! **records** a word, it commits only if the word still holds what was seen there. If it
