@@ -1,29 +1,16 @@
 //! Playing scripts in threads over a store with one bucket for each map.
 
 ghost use Rattle.std.specs.Prelude.{◌≡◌, ◌≤◌, length};
-ghost use Rattle.md_words.specs.Layout.{HasNumbers};
 
 use md_book::{LEVELS, MAPS};
 use md_history::Contents;
 use md_many::Gate;
+use md_narrow::narrow_shape;
 use md_orders::Scripts;
 use md_rounds::{Outcome, run_all};
 use md_store::{Store, StorePass};
-use md_words::Shape;
 use std::alloc::{AllocError, Global};
 use std::thread::Threads;
-
-// How many nodes a lane has.
-const NODES: u32 = 64;
-
-// The shape of a store whose maps have one bucket each.
-fn narrow_shape(callers: u32, tries: u32) -> Shape
-    requires callers { (1 ≤ callers) × (callers ≤ 64) }
-    requires tries { 1 ≤ tries }
-    ensures { HasNumbers result callers NODES LEVELS tries MAPS 1 LEVELS }
-{
-    Shape::new(callers, NODES, LEVELS, tries, MAPS, 1, LEVELS).unwrap()
-}
 
 /// Plays the scripts of 1 to 64 callers in threads, as `play_on_store` of md_play does, over a
 /// store whose maps have one bucket each. So all keys of a map are in one list, and callers meet

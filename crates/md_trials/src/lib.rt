@@ -4,11 +4,10 @@
 #![tactic(auto)]
 
 pub use counts::Count;
+pub use md_moving::Transfer;
 pub use mix::{MOST_CALLS, Mix};
-pub use transfers::Transfer;
 pub use turns::{KEPT, Turn, Turned, key_of};
 
 mod counts;
 mod mix;
-mod transfers;
 mod turns;

@@ -1,7 +1,7 @@
 //! A body that makes pseudo-random calls.
 
 ghost use Rattle.std.specs.Prelude.{◌≡◌, ◌<◌, IfErr, IfOk, None};
-ghost use Rattle.md_trials.specs.Stopped.{HasStopped};
+ghost use Rattle.md_moving.specs.Stopped.{HasStopped};
 
 use md_history::{Body, MAX_LINE, Reply, Stop, TxCalls};
 

@@ -1,7 +1,7 @@
 //! A body of a thread that has keys and values of its own.
 
 ghost use Rattle.std.specs.Prelude.{◌≡◌, ◌<◌, IfErr, IfOk, None};
-ghost use Rattle.md_trials.specs.Stopped.{HasStopped};
+ghost use Rattle.md_moving.specs.Stopped.{HasStopped};
 
 use md_history::{Body, Stop, TxCalls};
 

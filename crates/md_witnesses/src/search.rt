@@ -1,9 +1,9 @@
 //! The search for an order of whole lines that explains all replies and the book at the end.
 
-use crate::books::{Book, level_of};
 use md_book::{BookReply, Command};
 use md_history::Contents;
 use md_orders::Scripts;
+use md_plain_book::{Book, level_of};
 use md_replies::Replies;
 use std::alloc::{AllocError, Global};
 

@@ -1,4 +1,4 @@
-use Rattle.md_trials.proofs.Broken.{broke_off_if}
+use Rattle.md_moving.proofs.Broken.{broke_off_if}
 use Rattle.md_trials.proofs.counts.CountBody.go.Goals as goal
 
 pub returns-clause-err : goal.returns-clause-err

@@ -4,7 +4,7 @@ use Rattle.std.specs.Prelude.{IfErr}
 use Rattle.md_history.specs.declared.acts.Act.{Act}
 use Rattle.md_history.specs.declared.stops.Stop.{Stop}
 use Rattle.md_history.specs.Calls.{BrokeOff, Refusal}
-use Rattle.md_trials.specs.Stopped.{HasStopped}
+use Rattle.md_moving.specs.Stopped.{HasStopped}
 
 pub broke_off : (makes : List Act → Type 0) → ((acts : List Act) → makes acts) → (why : Stop) (acts : List Act) (refused : Option Refusal) → HasStopped refused why
     → BrokeOff makes why [] acts refused

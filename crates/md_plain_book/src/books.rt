@@ -37,7 +37,7 @@ pub struct Book {
 }
 
 /// The number of a level, as the contents of a store number it.
-pub(crate) fn level_of(side: Side, price: u32) -> u32 {
+pub fn level_of(side: Side, price: u32) -> u32 {
     let above = price.saturating_sub(1);
     match side {
         Side::Buy => above,

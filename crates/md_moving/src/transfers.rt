@@ -1,7 +1,7 @@
 //! A body that moves an amount between two keys, or looks at both.
 
 ghost use Rattle.std.specs.Prelude.{◌≡◌, ◌<◌, IfErr, IfOk, None};
-ghost use Rattle.md_trials.specs.Stopped.{HasStopped};
+ghost use Rattle.md_moving.specs.Stopped.{HasStopped};
 
 use md_history::{Body, Stop, TxCalls};
 
