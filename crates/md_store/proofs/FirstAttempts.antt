@@ -29,8 +29,8 @@ use Rattle.md_store_law.specs.Untouched.{IsUntouched}
 use Rattle.md_calm.specs.First.{IsFirst}
 use Rattle.md_calm.proofs.FirstAttempts.{first_stays_low}
 use Rattle.md_history.specs.Calls.{Refusal}
-use Rattle.md_store.specs.Running.{IsRunning}
-use Rattle.md_store.specs.Store.{IsFresh, IsPassOf, IsUnworn}
+use Rattle.md_running.specs.Running.{IsRunning}
+use Rattle.md_running.specs.Store.{IsFresh, IsPassOf, IsUnworn}
 use Rattle.md_store.proofs.Untouched.{untouched_opens}
 
 -- a node of a lane is one of so many, or lies above them

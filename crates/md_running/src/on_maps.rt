@@ -1,0 +1,126 @@
+//! The operations of a transaction on its maps, each from its begin to its end.
+
+ghost use Rattle.std.specs.Prelude.{◌≡◌, ◌<◌, IfErr, IfOk};
+ghost use Rattle.md_history.specs.declared.acts.Op.TheVariants.{Get, Insert, Remove};
+ghost use Rattle.md_history.specs.declared.acts.Reply.TheVariants.{Flag, Value};
+ghost use Rattle.md_history.specs.Calls.{Answered, Refused};
+ghost use Rattle.md_nbtc_law.specs.State.{shape_in};
+ghost use Rattle.md_nbtc.specs.State.{state};
+ghost use Rattle.md_running.specs.Running.{IsRunning, RunsOn, refusal_of};
+
+use crate::broken::Broken;
+use md_history::{Op, Reply, Stop};
+use md_list::{get, insert, remove};
+use md_nbtc::Txn;
+use md_rule::Pass;
+use md_store_law::StoreTheory;
+use std::snapshot::Snapshot;
+
+pub(crate) fn get_in<'a>(
+    txn: &mut Txn<'a, StoreTheory>,
+    broken: &mut Option<Broken>,
+    before: &Snapshot<Pass<StoreTheory>>,
+    map: u32,
+    key: u64,
+) -> Result<Option<u64>, Stop>
+    requires running { IsRunning before.now.value (state txn.old) (refusal_of broken.old) }
+    requires map { map < (shape_in (state txn.old)).maps }
+    ensures pass { txn.new.pass.ghost_name ≡ txn.old.pass.ghost_name }
+    ensures runs { RunsOn before.now.value (state txn.old) (state txn.new) (refusal_of broken.new) }
+    ensures ok { IfOk result (λ v. Answered (Get map key) (Value v)
+        (state txn.old).hand.acts (state txn.new).hand.acts (refusal_of broken.old)
+        (refusal_of broken.new)) }
+    ensures err { IfErr result (λ e. Refused (Get map key) e (state txn.old).hand.acts
+        (state txn.new).hand.acts (refusal_of broken.old) (refusal_of broken.new)) }
+{
+    let _ = before;
+    if let Some(b) = broken {
+        return Err(b.stop);
+    }
+    let op = Op::Get { map, key };
+    txn.start_op();
+    let head = txn.shape().map_head(map, key);
+    match get(txn, head, key) {
+        Ok(value) => {
+            txn.end_op(op, Reply::Value(value));
+            Ok(value)
+        }
+        Err(stop) => {
+            *broken = Some(Broken { stop, op });
+            Err(stop)
+        }
+    }
+}
+
+pub(crate) fn insert_in<'a>(
+    txn: &mut Txn<'a, StoreTheory>,
+    broken: &mut Option<Broken>,
+    before: &Snapshot<Pass<StoreTheory>>,
+    map: u32,
+    key: u64,
+    value: u64,
+) -> Result<bool, Stop>
+    requires running { IsRunning before.now.value (state txn.old) (refusal_of broken.old) }
+    requires map { map < (shape_in (state txn.old)).maps }
+    ensures pass { txn.new.pass.ghost_name ≡ txn.old.pass.ghost_name }
+    ensures runs { RunsOn before.now.value (state txn.old) (state txn.new) (refusal_of broken.new) }
+    ensures ok { IfOk result (λ v. Answered (Insert map key value) (Flag v)
+        (state txn.old).hand.acts (state txn.new).hand.acts (refusal_of broken.old)
+        (refusal_of broken.new)) }
+    ensures err { IfErr result (λ e. Refused (Insert map key value) e (state txn.old).hand.acts
+        (state txn.new).hand.acts (refusal_of broken.old) (refusal_of broken.new)) }
+{
+    let _ = before;
+    if let Some(b) = broken {
+        return Err(b.stop);
+    }
+    let op = Op::Insert { map, key, value };
+    txn.start_op();
+    let head = txn.shape().map_head(map, key);
+    match insert(txn, head, key, value) {
+        Ok(absent) => {
+            txn.end_op(op, Reply::Flag(absent));
+            Ok(absent)
+        }
+        Err(stop) => {
+            *broken = Some(Broken { stop, op });
+            Err(stop)
+        }
+    }
+}
+
+pub(crate) fn remove_in<'a>(
+    txn: &mut Txn<'a, StoreTheory>,
+    broken: &mut Option<Broken>,
+    before: &Snapshot<Pass<StoreTheory>>,
+    map: u32,
+    key: u64,
+) -> Result<Option<u64>, Stop>
+    requires running { IsRunning before.now.value (state txn.old) (refusal_of broken.old) }
+    requires map { map < (shape_in (state txn.old)).maps }
+    ensures pass { txn.new.pass.ghost_name ≡ txn.old.pass.ghost_name }
+    ensures runs { RunsOn before.now.value (state txn.old) (state txn.new) (refusal_of broken.new) }
+    ensures ok { IfOk result (λ v. Answered (Remove map key) (Value v)
+        (state txn.old).hand.acts (state txn.new).hand.acts (refusal_of broken.old)
+        (refusal_of broken.new)) }
+    ensures err { IfErr result (λ e. Refused (Remove map key) e (state txn.old).hand.acts
+        (state txn.new).hand.acts (refusal_of broken.old) (refusal_of broken.new)) }
+{
+    let _ = before;
+    if let Some(b) = broken {
+        return Err(b.stop);
+    }
+    let op = Op::Remove { map, key };
+    txn.start_op();
+    let head = txn.shape().map_head(map, key);
+    match remove(txn, head, key) {
+        Ok(value) => {
+            txn.end_op(op, Reply::Value(value));
+            Ok(value)
+        }
+        Err(stop) => {
+            *broken = Some(Broken { stop, op });
+            Err(stop)
+        }
+    }
+}
