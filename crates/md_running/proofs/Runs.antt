@@ -10,7 +10,8 @@ use Rattle.md_words.proofs.Places.{bucket_of_below}
 use Rattle.md_history.specs.declared.acts.Op.{Op}
 use Rattle.md_history.specs.declared.acts.Reply.{Reply}
 use Rattle.md_history.specs.declared.stops.Stop.{Stop}
-use Rattle.md_history.specs.Calls.{Refusal}
+use Rattle.md_history.specs.Act.{act_of}
+use Rattle.md_history.specs.Calls.{Answered, Refusal, Refused}
 use Rattle.md_machine.specs.declared.attempt.Read.{Read}
 use Rattle.md_machine.specs.declared.certificate.Certificate.{Certificate}
 use Rattle.md_machine.specs.Certified.{all_changes}
@@ -150,6 +151,23 @@ module _ (before : PassState) (t s : TxnState) (b : Option Broken) (whole : b �
         ),
       ))
       (λ refusal some. absurd (some_none refusal (sym some))))
+
+  -- its act is added, and no refusal stands
+  pub answered_adds : (u v : TxnState) (op : Op) (reply : Reply) → u.hand.acts ≡ s.hand.acts → IsEnded u v op reply
+      → Answered op reply t.hand.acts v.hand.acts (refusal_of b) (refusal_of b)
+  answered_adds u v op reply acts ends =
+      let none = ap refusal_of whole in
+      let same : u.hand.acts ≡ t.hand.acts = acts ∙ ap (λ (x : TxnState). x.hand.acts) start.is in
+      record { going = none; goes_on = none; added = ap (λ (x : TxnState). x.hand.acts) ends.is ∙ ap (λ l. l ++ act_of op reply ∷ []) same }
+
+  -- a refused one adds none, and its refusal stands
+  pub refused_adds : (u : TxnState) (op : Op) (why : Stop) → u.hand.acts ≡ s.hand.acts
+      → Refused op why t.hand.acts u.hand.acts (refusal_of b) (Some (record { stop = why; op = op }))
+  refused_adds u op why acts =
+      let r : Refusal = record { stop = why; op = op } in
+      let same : u.hand.acts ≡ t.hand.acts = acts ∙ ap (λ (x : TxnState). x.hand.acts) start.is in
+      subst (λ (x : Option Broken). Refused op why t.hand.acts u.hand.acts (refusal_of x) (Some r)) (sym whole)
+      (record { same = same; stands = refl; again = refl })
 
   -- of an operation that was refused by a limit: the acts with it exceed the limit
   abbrev pub Exceeding : TxnState → Op → Stop → Type 0

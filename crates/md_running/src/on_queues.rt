@@ -3,9 +3,14 @@
 ghost use Rattle.std.specs.Prelude.{◌≡◌, ◌<◌, IfErr, IfOk};
 ghost use Rattle.md_history.specs.declared.acts.Op.TheVariants.{Dequeue, Enqueue, Front, Line as TheLine};
 ghost use Rattle.md_history.specs.declared.acts.Reply.TheVariants.{Line as InLine, Nothing, Value};
+ghost use Rattle.md_history.specs.declared.stops.Limit.TheVariants.{Writes};
 ghost use Rattle.md_history.specs.Calls.{Answered, IsLineLength, Refused};
 ghost use Rattle.md_nbtc_law.specs.State.{shape_in};
 ghost use Rattle.md_nbtc.specs.State.{state};
+ghost use Rattle.md_queue.specs.Operations.{Answered as AnsweredBy, IsBegun, IsNotBy};
+ghost use Rattle.md_queue.specs.Operations.{RefusedOtherwise};
+ghost use Rattle.md_queue.specs.Refusals.{AsksFront, RefusesReads};
+ghost use Rattle.md_store_law.specs.Store.{store};
 ghost use Rattle.md_running.specs.Running.{IsRunning, RunsOn, refusal_of};
 
 use crate::broken::Broken;
@@ -85,6 +90,21 @@ pub(crate) fn dequeue_in<'a>(
     }
 }
 
+// Looks at the first value.
+#[inline]
+fn look<'a>(txn: &mut Txn<'a, StoreTheory>, queue: u32) -> Result<Option<u64>, Stop>
+    requires begun { IsBegun store (state txn.old) queue }
+    ensures pass { txn.new.pass.ghost_name ≡ txn.old.pass.ghost_name }
+    ensures answer { IfOk result (λ value. AnsweredBy store (state txn.old) (state txn.new)
+        (Front queue) (Value value) 2 0 0) }
+    ensures stop { IfErr result (RefusedOtherwise store (state txn.old) (state txn.new) 2 0) }
+    ensures reads { IfErr result (RefusesReads store (state txn.old) (state txn.new)
+        (AsksFront queue)) }
+    ensures no_writes { IfErr result (IsNotBy (state txn.old) Writes) }
+{
+    front(txn, queue)
+}
+
 pub(crate) fn front_in<'a>(
     txn: &mut Txn<'a, StoreTheory>,
     broken: &mut Option<Broken>,
@@ -107,7 +127,7 @@ pub(crate) fn front_in<'a>(
     }
     let op = Op::Front { queue };
     txn.start_op();
-    match front(txn, queue) {
+    match look(txn, queue) {
         Ok(value) => {
             txn.end_op(op, Reply::Value(value));
             Ok(value)

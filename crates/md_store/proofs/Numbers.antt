@@ -1,5 +1,5 @@
 -- What a store starts with has as many maps and queues as its shape.
-use Rattle.std.proofs.Common.{◌≡◌, ℕ, length, ◌∙◌}
+use Rattle.std.proofs.Common.{◌≡◌, length, ◌∙◌}
 use Rattle.std.specs.List.{range_with_len}
 use Rattle.std.proofs.lemmas.List.{length-map}
 use Rattle.std.proofs.lemmas.List.FromFn.{length-range_with_len}

@@ -1,5 +1,5 @@
 -- A pass that holds all lanes settled them: what its front is then.
-use Rattle.std.proofs.Common.{◌≡◌, ◌≢◌, ◌==◌, ℕ, List, [], ◌∷◌, length, map, refl, sym, ap, ◌∙◌, subst, ⊎_elim, arith}
+use Rattle.std.proofs.Common.{◌≡◌, ◌≢◌, ◌==◌, ℕ, List, [], ◌∷◌, length, map, refl, sym, ap, ◌∙◌, subst, ⊎_elim}
 use Rattle.std.specs.List.{All, Contains}
 use Rattle.std.proofs.lemmas.Bool.{cases_Bool, cond_both, eqb-true, true≢false}
 use Rattle.std.proofs.lemmas.Grind.{get_or_default_zero}
@@ -19,8 +19,6 @@ use Rattle.md_machine.specs.declared.pass.PassView.{PassView}
 use Rattle.md_machine.specs.Event.{mark_leave}
 use Rattle.md_machine.specs.Legal.{begun_of}
 use Rattle.md_machine.specs.Resolution.{entries_of}
-use Rattle.md_machine.specs.clauses.passes.Alone.{HoldsAll}
-use Rattle.md_machine.proofs.lists.Rising.{range_in}
 use Rattle.md_rule.specs.Closing.{MayClose}
 use Rattle.md_rule.specs.Steps.{Stepped}
 use Rattle.md_rule.specs.Views.{FieldView, PassState}

@@ -1,5 +1,5 @@
 -- The first attempt of a fresh store commits, if the acts that its body makes are few.
-use Rattle.std.proofs.Common.{◌≡◌, ◌≢◌, ◌≤◌, ◌<◌, ◌++◌, ◌∷◌, ℕ, List, [], length, Option, Some, refl, sym, ap, subst, inl, inr, ◌∙◌, arith}
+use Rattle.std.proofs.Common.{◌≡◌, ◌≢◌, ◌≤◌, ◌<◌, ◌++◌, ◌∷◌, ℕ, List, [], length, Option, Some, refl, sym, ap, subst, inl, inr, arith}
 use Rattle.std.specs.List.{Contains}
 use Rattle.md_history.specs.declared.acts.Act.{Act}
 use Rattle.md_history.specs.declared.acts.Reply.{Reply}
@@ -14,7 +14,6 @@ use Rattle.md_history.specs.Front.{Front}
 use Rattle.md_machine.proofs.lists.Rising.{here}
 use Rattle.md_arena.specs.Left.{HasTryLeft, NoLane}
 use Rattle.md_nbtc_law.specs.State.{TxnState}
-use Rattle.md_rule.specs.Shares.{share_at}
 use Rattle.md_rule.specs.Views.{FieldView, PassState}
 use Rattle.md_running.specs.Counted.{Exceeds, IsCountLimit}
 use Rattle.md_running.specs.Laws.{fresh_is, of_is}

@@ -6,7 +6,7 @@ use Rattle.md_nbtc_law.specs.State.{shape_in}
 use Rattle.md_nbtc.specs.State.{state}
 use Rattle.md_list.specs.Operations.{HasStop}
 use Rattle.md_running.proofs.ListBegun.{has_map, list_begun}
-use Rattle.md_running.proofs.Runs.{IsStarted, answered_runs, is_head_of, list_ends, list_runs, may_end, none_stood, unstopped}
+use Rattle.md_running.proofs.Runs.{IsStarted, answered_adds, answered_runs, refused_adds, is_head_of, list_ends, list_runs, may_end, none_stood, unstopped}
 use Rattle.md_running.proofs.on_maps.insert_in.Goals as goal
 
 pub map_head-head-requires : goal.map_head-head-requires
@@ -73,4 +73,18 @@ returns-in-Err-clause-runs c =
     })
 
 pub returns-in-Ok-clause-ok : goal.returns-in-Ok-clause-ok
-returns-in-Ok-clause-ok c = search rules depth 1
+returns-in-Ok-clause-ok c =
+    let t = state c.args.txn.now in
+    let s = state c.start_op.new.self in
+    let u = state c.insert.new.tx in
+    let start : IsStarted t s = record { on = c.start_op.ensures.on; is = c.start_op.ensures.begun } in
+    answered_adds c.args.before.now.value t s c.args.broken.now c.in_default.is c.requires.running start u (state c.end_op.new.self) (Insert c.args.map c.args.key c.args.value) (Flag c.in-Ok.absent) c.insert.ensures.leaves.acts
+    (record { on = c.end_op.ensures.on; is = c.end_op.ensures.ended })
+
+pub returns-in-Err-clause-err : goal.returns-in-Err-clause-err
+returns-in-Err-clause-err c =
+    let t = state c.args.txn.now in
+    let s = state c.start_op.new.self in
+    let u = state c.insert.new.tx in
+    let start : IsStarted t s = record { on = c.start_op.ensures.on; is = c.start_op.ensures.begun } in
+    refused_adds c.args.before.now.value t s c.args.broken.now c.in_default.is c.requires.running start u (Insert c.args.map c.args.key c.args.value) c.in-Err.stop c.insert.ensures.leaves.acts
