@@ -1,5 +1,5 @@
 -- What became of an attempt of a store, as its pass tells it.
-use Rattle.std.proofs.Common.{◌≡◌, ◌+◌, ◌++◌, ◌≤◌, ℕ, List, [], ◌∷◌, Option, None, Some, Result, Ok, Err, refl, sym, ap, ◌∙◌, subst, ⊎_elim, arith}
+use Rattle.std.proofs.Common.{◌≡◌, ◌+◌, ◌≤◌, ℕ, List, [], ◌∷◌, Option, None, Some, Result, Ok, Err, refl, sym, ap, ◌∙◌, subst, ⊎_elim, arith}
 use Rattle.std.specs.Prelude.{IfErr, IfOk, OnErr, option_map}
 use Rattle.std.specs.List.{Contains, sum_by}
 use Rattle.std.proofs.lemmas.List.Elements.{All-nil}
@@ -10,8 +10,7 @@ use Rattle.md_history.specs.declared.stops.Shown.{Shown}
 use Rattle.md_history.specs.declared.stops.Stop.{Stop}
 use Rattle.md_history.specs.declared.stops.Stop.TheVariants.{Conflict, Limit, NoMemory}
 use Rattle.md_history.specs.Attempt.{Commits as CommitsFront, IsStopCounted, Stops as StopsFront}
-use Rattle.md_history.specs.Act.{act_of}
-use Rattle.md_history.specs.Calls.{BrokeOff, Refusal}
+use Rattle.md_history.specs.Calls.{Refusal}
 use Rattle.md_history.specs.Engine.{IsNoConflict, IsRising}
 use Rattle.md_history.specs.Front.{LegalFrom}
 use Rattle.md_machine.specs.clauses.passes.Alone.{HoldsAll}
@@ -31,10 +30,10 @@ use Rattle.md_rule.specs.declared.shares.Share.{Share}
 use Rattle.md_store_law.specs.Store.{store}
 use Rattle.md_count_law.specs.Few.{RecordsOne}
 use Rattle.md_nbtc_law.specs.Ended.{WasAborted, WasCommitted, WasLost}
-use Rattle.md_store.specs.Running.{BreaksOff, IsRunning}
-use Rattle.md_store.specs.Store.{IsPassOf, MayStop, all_lanes, begun_by, front_in, start_of}
-use Rattle.md_store.specs.Laws.{of_is}
-use Rattle.md_store.proofs.Settlement.{holds_all}
+use Rattle.md_running.specs.Running.{IsRunning}
+use Rattle.md_running.specs.Store.{IsPassOf, MayStop, all_lanes, begun_by, front_in, start_of}
+use Rattle.md_running.specs.Laws.{of_is}
+use Rattle.md_running.proofs.AllLanes.{holds_all}
 
 -- a sum over rising numbers in which one more is counted at one of them
 same_sum : (low : ℕ) (xs : List ℕ) (g h : ℕ → ℕ) (d : ℕ) → RiseFrom low xs → d + 1 ≤ low → ((x : ℕ) → ¬ (x ≡ d) → h x ≡ g x) → sum_by h xs ≡ sum_by g xs
@@ -218,23 +217,6 @@ module _ (f : FieldView) (p q : PassState) (of : IsPassOf f p) (none : BeginsNot
 -- what a pass of the field has seen is legal
 pub legal_of : (f : FieldView) (p : PassState) → IsPassOf f p → LegalFrom (start_of f) (front_in p)
 legal_of f p of = (of_is f p of).legal
-
--- a body that broke off left a transaction that has its refusal
-pub breaks_off : (makes : List Act → Type 0) (before b : PassState) (t : TxnState) (r q : Option Refusal) (acts : List Act) → IsRunning b t r → b ≡ before → r ≡ q
-    → t.hand.acts ≡ acts → (why : Stop) → BrokeOff makes why [] acts q → BreaksOff makes before t why
-breaks_off makes before b t r q acts run same stands are why off = record {
-  broke = record {
-    refusal = off.refusal;
-    same = off.same;
-    running = subst (λ (x : PassState). IsRunning x t (Some off.refusal)) same (subst (IsRunning b t) (stands ∙ off.stopped) run);
-  };
-  made = λ reply may. subst (λ (xs : List Act). makes (xs ++ act_of off.refusal.op reply ∷ [])) (sym (are ∙ off.adds)) (off.made reply may);
-}
-
--- what holds of an error, so does what follows from it
-pub err_more : {A E : Type 0} (result : Result A E) (P Q : E → Type 0) → ((e : E) → P e → Q e) → IfErr result P → IfErr result Q
-err_more (Ok a) P Q more is = tt
-err_more (Err e) P Q more is = more e is
 
 no_refusal : (r : Refusal) → (let o : Option Refusal = None in o ≡ Some r) → ⊥
 no_refusal r is = cc is

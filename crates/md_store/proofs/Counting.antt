@@ -15,7 +15,7 @@ use Rattle.md_rule.specs.Views.{PassState}
 use Rattle.md_rule.specs.declared.shares.Share.{Share}
 use Rattle.md_rule.proofs.LaneLists.{lane_exists, lane_fits}
 use Rattle.md_rule.proofs.LaneMoves.{share_joined}
-use Rattle.md_store.specs.Store.{begun_by}
+use Rattle.md_running.specs.Store.{begun_by}
 
 -- tests that agree on the elements of a list leave the same of it
 filter_same : (p q : ℕ → Bool) (xs : List ℕ) → ((x : ℕ) → Contains xs x → p x ≡ q x) → filter p xs ≡ filter q xs

@@ -1,17 +1,14 @@
 -- In the first attempt of a fresh pass no word is worn.
-use Rattle.std.proofs.Common.{◌≡◌, ◌≢◌, ◌≤◌, ◌<◌, ◌+◌, ◌-◌, ◌*◌, ◌⊎◌, ℕ, zero, suc, List, [], ◌∷◌, map, Option, Some, option_map, refl, sym, ap, ◌∙◌, subst, inl, inr, ⊎_elim, arith}
-use Rattle.std.specs.Prelude.{slice_index}
-use Rattle.std.specs.List.{Contains, flat_map, range_with_len}
+use Rattle.std.proofs.Common.{◌≡◌, ◌≢◌, ◌≤◌, ◌<◌, ◌+◌, ◌-◌, ◌*◌, ◌⊎◌, ℕ, map, Option, Some, option_map, refl, sym, ap, ◌∙◌, subst, inl, inr, ⊎_elim, arith}
+use Rattle.std.specs.List.{Contains, range_with_len}
 use Rattle.std.proofs.lemmas.Bool.{cases_lt}
 use Rattle.md_words.specs.declared.shape.Shape.{Shape}
-use Rattle.md_words.specs.Content.{count_of}
 use Rattle.md_words.specs.Lanes.{OwnsNode, node_of}
 use Rattle.md_words.specs.PlaceAt.{IsCounted}
 use Rattle.md_history.specs.declared.stops.Limit.TheVariants.{Worn}
 use Rattle.md_history.specs.declared.stops.Stop.{Stop}
 use Rattle.md_history.specs.declared.stops.Stop.TheVariants.{Limit as Limited}
 use Rattle.md_machine.specs.declared.pass.PassView.{PassView}
-use Rattle.md_machine.specs.Event.{first_pass}
 use Rattle.md_machine.specs.Own.{HasNode}
 use Rattle.md_machine.specs.Trail.{SomeStep}
 use Rattle.md_machine.specs.clauses.passes.Alone.{HoldsAll}
@@ -20,7 +17,7 @@ use Rattle.md_rule.specs.Kept.{IsLeft, KeepsLanes}
 use Rattle.md_rule.specs.Shares.{share_at}
 use Rattle.md_rule.specs.Views.{FieldView, IsOf, PassState}
 use Rattle.md_nbtc_law.specs.Ending.{Begins}
-use Rattle.md_nbtc_law.specs.Going.{HasCause, IsUnderWay, MeetsCount}
+use Rattle.md_nbtc_law.specs.Going.{IsUnderWay, MeetsCount}
 use Rattle.md_nbtc_law.specs.Known.{IsLater}
 use Rattle.md_nbtc_law.specs.State.{OwnNode, TxnState, attempt_in, own_node, own_steps, shape_in, taken_of_lane, taken_since}
 use Rattle.md_nbtc_law.proofs.exchanging.OwnNexts.{flat_in}
@@ -29,8 +26,8 @@ use Rattle.md_store_law.specs.Untouched.{IsUntouched}
 use Rattle.md_calm.specs.First.{IsFirst}
 use Rattle.md_calm.proofs.FirstAttempts.{first_stays_low}
 use Rattle.md_history.specs.Calls.{Refusal}
-use Rattle.md_store.specs.Running.{IsRunning}
-use Rattle.md_store.specs.Store.{IsFresh, IsPassOf, IsUnworn}
+use Rattle.md_running.specs.Running.{IsRunning}
+use Rattle.md_running.specs.Store.{IsFresh, IsPassOf, IsUnworn}
 use Rattle.md_store.proofs.Untouched.{untouched_opens}
 
 -- a node of a lane is one of so many, or lies above them

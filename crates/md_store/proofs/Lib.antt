@@ -10,16 +10,6 @@ pub mod Settlement
 pub mod Closed
 pub mod Rooms
 pub mod Renewing
-pub mod AllLanes
-pub mod FreshHeaps
-pub mod Charging
-pub mod Exceeding
-pub mod TakenNodes
-pub mod WrittenWords
-pub mod ListRefusals
-pub mod QueueRefusals
-pub mod Runs
-pub mod ListBegun
 pub mod Attempts
 pub mod Untouched
 pub mod FirstAttempts

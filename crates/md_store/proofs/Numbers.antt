@@ -1,5 +1,5 @@
 -- What a store starts with has as many maps and queues as its shape.
-use Rattle.std.proofs.Common.{◌≡◌, ℕ, length, ◌∙◌}
+use Rattle.std.proofs.Common.{◌≡◌, length, ◌∙◌}
 use Rattle.std.specs.List.{range_with_len}
 use Rattle.std.proofs.lemmas.List.{length-map}
 use Rattle.std.proofs.lemmas.List.FromFn.{length-range_with_len}
@@ -8,7 +8,7 @@ use Rattle.md_list_law.specs.Walk.{map_of_pairs}
 use Rattle.md_queue_law.specs.QueueValues.{queue_values}
 use Rattle.md_rule.specs.Closing.{plain_words}
 use Rattle.md_rule.specs.Views.{FieldView}
-use Rattle.md_store.specs.Store.{start_of}
+use Rattle.md_running.specs.Store.{start_of}
 
 pub count_of_maps : (f : FieldView) → length (start_of f).maps ≡ f.origin.shape.maps
 count_of_maps f =

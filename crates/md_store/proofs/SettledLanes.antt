@@ -20,7 +20,7 @@ use Rattle.md_nbtc_law.specs.Beginning.{Empties, FindsDecided, HasAttempt}
 use Rattle.md_nbtc_law.proofs.beginning.Starting.{own_still}
 use Rattle.md_store_law.specs.Store.{store}
 use Rattle.md_store.specs.Settling.{IsSettled, Settles, SettlesFirst}
-use Rattle.md_store.specs.Store.{IsPassOf}
+use Rattle.md_running.specs.Store.{IsPassOf}
 use Rattle.md_store.proofs.Settled.{settled_ended, settled_still, settled_unused}
 
 -- a pass that stands somewhere knows a fate for each entry that it has seen

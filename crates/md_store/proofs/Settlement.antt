@@ -1,5 +1,5 @@
 -- A pass that holds all lanes settled them: what its front is then.
-use Rattle.std.proofs.Common.{◌≡◌, ◌≢◌, ◌==◌, ℕ, List, [], ◌∷◌, length, map, refl, sym, ap, ◌∙◌, subst, ⊎_elim, arith}
+use Rattle.std.proofs.Common.{◌≡◌, ◌≢◌, ◌==◌, ℕ, List, [], ◌∷◌, length, map, refl, sym, ap, ◌∙◌, subst, ⊎_elim}
 use Rattle.std.specs.List.{All, Contains}
 use Rattle.std.proofs.lemmas.Bool.{cases_Bool, cond_both, eqb-true, true≢false}
 use Rattle.std.proofs.lemmas.Grind.{get_or_default_zero}
@@ -19,8 +19,6 @@ use Rattle.md_machine.specs.declared.pass.PassView.{PassView}
 use Rattle.md_machine.specs.Event.{mark_leave}
 use Rattle.md_machine.specs.Legal.{begun_of}
 use Rattle.md_machine.specs.Resolution.{entries_of}
-use Rattle.md_machine.specs.clauses.passes.Alone.{HoldsAll}
-use Rattle.md_machine.proofs.lists.Rising.{range_in}
 use Rattle.md_rule.specs.Closing.{MayClose}
 use Rattle.md_rule.specs.Steps.{Stepped}
 use Rattle.md_rule.specs.Views.{FieldView, PassState}
@@ -28,9 +26,10 @@ use Rattle.md_nbtc_law.specs.Ending.{BeginsNot}
 use Rattle.md_nbtc_law.proofs.beginning.Leaving.{begins_not}
 use Rattle.md_store_law.specs.Store.{store}
 use Rattle.md_store.specs.Settling.{IsSettled, SettlesFirst}
-use Rattle.md_store.specs.Store.{IsPassOf, all_lanes, front_in, start_of}
+use Rattle.md_running.specs.Store.{IsPassOf, all_lanes, front_in, start_of}
 use Rattle.md_store.proofs.Closing.{may_close}
-use Rattle.md_store.specs.Laws.{of_is}
+use Rattle.md_running.specs.Laws.{of_is}
+use Rattle.md_running.proofs.AllLanes.{holds_all}
 use Rattle.md_store.proofs.SettledLanes.{stands_fated}
 
 -- of a lane without entries nothing is committed
@@ -57,10 +56,6 @@ all_own f p h all none lane =
     (λ e c same. outside (subst (Contains g.lanes) same (subst (λ l. Contains l e.lane) (sym all) c))) g.seen from.entries)
     ∙ sym (from.outside lane outside))
     (cases_Bool (is_lane_of g.lanes lane))
-
--- all lanes are held
-pub holds_all : (shape : Shape) (p : PassView) → p.lanes ≡ all_lanes shape → HoldsAll shape p
-holds_all shape p all lane less = subst (λ l. Contains l lane) (sym all) (range_in 0 shape.lanes lane (omega arith) (omega (arith, less)))
 
 -- a pass put down what it had in hand
 pub put_down : (f : FieldView) (p q : PassState) → IsPassOf f p → q ≡ record p { view = q.view } → Stepped store f.origin (λ pass. mark_leave pass) p.view q.view → IsPassOf f q

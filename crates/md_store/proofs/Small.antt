@@ -1,5 +1,5 @@
 -- The first attempt of a fresh store commits, if the acts that its body makes are few.
-use Rattle.std.proofs.Common.{◌≡◌, ◌≢◌, ◌≤◌, ◌<◌, ◌++◌, ◌∷◌, ℕ, List, [], length, Option, Some, refl, sym, ap, subst, inl, inr, ◌∙◌, arith}
+use Rattle.std.proofs.Common.{◌≡◌, ◌≢◌, ◌≤◌, ◌<◌, ◌++◌, ◌∷◌, ℕ, List, [], length, Option, Some, refl, sym, ap, subst, inl, inr, arith}
 use Rattle.std.specs.List.{Contains}
 use Rattle.md_history.specs.declared.acts.Act.{Act}
 use Rattle.md_history.specs.declared.acts.Reply.{Reply}
@@ -14,12 +14,11 @@ use Rattle.md_history.specs.Front.{Front}
 use Rattle.md_machine.proofs.lists.Rising.{here}
 use Rattle.md_arena.specs.Left.{HasTryLeft, NoLane}
 use Rattle.md_nbtc_law.specs.State.{TxnState}
-use Rattle.md_rule.specs.Shares.{share_at}
 use Rattle.md_rule.specs.Views.{FieldView, PassState}
-use Rattle.md_store.specs.Counted.{Exceeds, IsCountLimit}
-use Rattle.md_store.specs.Laws.{fresh_is, of_is}
-use Rattle.md_store.specs.Running.{IsRunning}
-use Rattle.md_store.specs.Store.{IsFresh, IsPassOf, IsUnworn, all_lanes, front_in, limits_of, start_of}
+use Rattle.md_running.specs.Counted.{Exceeds, IsCountLimit}
+use Rattle.md_running.specs.Laws.{fresh_is, of_is}
+use Rattle.md_running.specs.Running.{IsRunning}
+use Rattle.md_running.specs.Store.{IsFresh, IsPassOf, IsUnworn, all_lanes, front_in, limits_of, start_of}
 use Rattle.md_store.proofs.Attempts.{cause, refused_to}
 
 -- a stop is a limit of what acts count, or has another cause

@@ -19,7 +19,7 @@ use Rattle.md_rule.specs.Shares.{share_at}
 use Rattle.md_rule.specs.Views.{FieldView, PassState}
 use Rattle.md_rule.proofs.Moves.{is_kept, next_admitted}
 use Rattle.md_store_law.specs.Store.{store}
-use Rattle.md_store.specs.Store.{IsPassOf, begun_by, front_in}
+use Rattle.md_running.specs.Store.{IsPassOf, begun_by, front_in}
 
 -- what is pending of some lanes
 pub pending_of : (shape : Shape) (lanes : List ℕ) (pending : List AttemptId)

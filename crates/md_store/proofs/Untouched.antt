@@ -1,12 +1,12 @@
 -- A store that was just laid has nothing to tidy.
-use Rattle.std.proofs.Common.{◌≡◌, ◌≤◌, ◌<◌, ◌+◌, ◌==◌, ℕ, true, false, not, List, [], ◌∷◌, refl, sym, ap, ◌∙◌, subst, ⊎_elim, eq-eqb, arith}
+use Rattle.std.proofs.Common.{◌≡◌, ◌<◌, ◌+◌, ◌==◌, ℕ, false, not, [], refl, sym, ap, ◌∙◌, subst, ⊎_elim, eq-eqb}
 use Rattle.std.specs.Prelude.{IsTrue, slice_index}
-use Rattle.std.specs.List.{All, Contains}
+use Rattle.std.specs.List.{All}
 use Rattle.std.proofs.lemmas.Bool.{true≢false}
 use Rattle.std.proofs.lemmas.List.Elements.{All-contains, All-head}
 use Rattle.md_words.specs.declared.shape.Shape.{Shape}
 use Rattle.md_words.specs.Content.{value_of}
-use Rattle.md_words.specs.Layout.{IsNode, address}
+use Rattle.md_words.specs.Layout.{address}
 use Rattle.md_words.specs.Link.{is_marked}
 use Rattle.md_words.specs.Place.{node_next, queue_tail}
 use Rattle.md_words.specs.PlaceAt.{IsCounted}
@@ -14,19 +14,17 @@ use Rattle.md_words.proofs.Places.{counted_by_place}
 use Rattle.md_machine.specs.declared.certificate.Change.{Change}
 use Rattle.md_machine.specs.declared.certificate.Fact.{Fact}
 use Rattle.md_machine.specs.declared.certificate.TidyChange.{TidyChange}
-use Rattle.md_machine.specs.declared.node.Structure.{Structure}
 use Rattle.md_machine.specs.declared.node.Structure.TheVariants.{Bucket, Queue}
 use Rattle.md_machine.specs.declared.opening.Opening.{Opening}
 use Rattle.md_machine.specs.Event.{CanOpen, opened}
 use Rattle.md_machine.specs.LogicalHeap.{Holds, IsPlaced, LogicalHeap}
 use Rattle.md_machine.specs.Meaning.{TidyStands}
-use Rattle.md_machine.specs.Resolution.{logical_heap, logical_value}
+use Rattle.md_machine.specs.Resolution.{logical_heap}
 use Rattle.md_machine.proofs.chain.SameNodes.{next_counted}
 use Rattle.md_machine.proofs.chain.Values.{value_even}
 use Rattle.md_list_law.specs.Certificates.{next_fact}
-use Rattle.md_list_law.specs.HasLists.{IsBucketUnlink}
 use Rattle.md_hash_law.specs.HashTable.{IsTableUnlink}
-use Rattle.md_queue_law.specs.QueueCertificates.{MovesTail, has_next, tail_change}
+use Rattle.md_queue_law.specs.QueueCertificates.{MovesTail, has_next}
 use Rattle.md_queue_law.specs.QueueShape.{link}
 use Rattle.md_rule.specs.Views.{Origin}
 use Rattle.md_store_law.specs.Store.{store}

@@ -1,7 +1,5 @@
-pub mod Store
-pub mod Counted
+pub use Rattle.md_running.specs.Store
 pub mod Settling
 pub mod Ending
-pub mod Laws
-pub mod Running
+pub mod Causes
 pub mod Attempted

@@ -1,54 +1,24 @@
 //! Attempts: a body that is run once, as a transaction of the store.
 
-ghost use Rattle.std.specs.Prelude.{◌≡◌, ◌≤◌, [], IfErr, IfOk, None};
+ghost use Rattle.std.specs.Prelude.{◌≡◌, ◌≤◌};
 ghost use Rattle.md_history.specs.Attempt.{Commits, IfCommitted, IfStopped, IsCounted, Stops};
 ghost use Rattle.md_history.specs.Counts.{IsSmall};
 ghost use Rattle.md_history.specs.Engine.{IsNoConflict, bounds_in};
 ghost use Rattle.md_history.specs.Front.{LegalFrom};
-ghost use Rattle.md_nbtc_law.specs.State.{shape_in};
-ghost use Rattle.md_nbtc.specs.State.{state};
 ghost use Rattle.md_store.specs.Attempted.{IsAttempted};
-ghost use Rattle.md_store.specs.Running.{BreaksOff, IsRunning, StopsBy};
-ghost use Rattle.md_store.specs.Store.{IsFresh, IsPassOf, IsUnworn, MayStop};
-ghost use Rattle.md_store.specs.Store.{all_lanes, begun_by, front_in, limits_of, start_of};
+ghost use Rattle.md_store.specs.Causes.{StopsBy};
+ghost use Rattle.md_running.specs.Store.{IsFresh, IsPassOf, IsUnworn, MayStop};
+ghost use Rattle.md_running.specs.Store.{all_lanes, begun_by, front_in, limits_of, start_of};
 ghost use Rattle.md_store_law.specs.Untouched.{IsUntouched};
 
 use crate::pass::StorePass;
 use crate::store::Store;
-use crate::txn::StoreTxn;
 use md_history::{Attempt, Body, Stop};
 use md_nbtc::{Sets, Txn};
 use md_rule::Pass;
+use md_running::run;
 use md_store_law::StoreTheory;
 use std::snapshot::Snapshot;
-
-// Runs a body over a transaction that was just begun. The transaction as it stands then; `out` is
-// what the body returned.
-fn run<'a, B: Body>(
-    txn: Txn<'a, StoreTheory>,
-    before: Snapshot<Pass<StoreTheory>>,
-    body: &B,
-    out: &mut Result<B::Reply, Stop>,
-) -> Txn<'a, StoreTheory>
-    requires running { IsRunning before.value (state txn) None }
-    requires none { (state txn).hand.acts ≡ [] }
-    requires fits { B.fits body.now (shape_in (state txn)).maps (shape_in (state txn)).queues }
-    ensures pass { result.pass.ghost_name ≡ txn.entry.pass.ghost_name }
-    ensures field { (state result).field ≡ (state txn.entry).field }
-    ensures tag { (state result).hand.tag ≡ (state txn.entry).hand.tag }
-    ensures ok { IfOk out.new (λ r. IsRunning before.value (state result) None
-        × B.did body.now (state result).hand.acts r) }
-    ensures err { IfErr out.new (λ why. BreaksOff (B.makes body.now) before.value (state result) why) }
-{
-    let mut running = StoreTxn {
-        txn,
-        before,
-        broken: None,
-    };
-    *out = body.go(&mut running);
-    let StoreTxn { txn, .. } = running;
-    txn
-}
 
 impl Store {
     /// Runs a body once, as a transaction with a tag, by the pass's lowest lane that has an

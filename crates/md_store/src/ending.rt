@@ -6,7 +6,7 @@ ghost use Rattle.md_history.specs.Front.{replay_of};
 ghost use Rattle.md_history.specs.State.{HaveSameNumbers};
 ghost use Rattle.md_store_law.specs.MapsFrom.{MapsFrom};
 ghost use Rattle.md_store.specs.Ending.{Leaves, Renews};
-ghost use Rattle.md_store.specs.Store.{IsPassOf, all_lanes, front_in, room_of, start_of};
+ghost use Rattle.md_running.specs.Store.{IsPassOf, all_lanes, front_in, room_of, start_of};
 
 use crate::pass::StorePass;
 use crate::settling::settle;

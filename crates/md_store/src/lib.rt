@@ -12,15 +12,10 @@ pub use pass::StorePass;
 pub use store::{OpenFault, Store};
 
 mod attempt;
-mod broken;
-mod calls;
 mod ending;
 mod engine;
 mod lawful;
 mod moves;
-mod on_maps;
-mod on_queues;
 mod pass;
 mod settling;
 mod store;
-mod txn;

@@ -2,7 +2,7 @@
 
 ghost use Rattle.std.specs.Prelude.{◌≡◌, ◌≤◌, ◌<◌, Err, IfErr, IfOk};
 ghost use Rattle.md_history.specs.Engine.{needed};
-ghost use Rattle.md_store.specs.Store.{IsFresh, IsPassOf, start_of};
+ghost use Rattle.md_running.specs.Store.{IsFresh, IsPassOf, start_of};
 ghost use Rattle.md_store_law.specs.Laid.{HasMapsAndQueues};
 ghost use Rattle.md_store_law.specs.Needed.{capped};
 ghost use Rattle.md_store_law.specs.Untouched.{IsUntouched};

@@ -1,7 +1,7 @@
 use Rattle.std.proofs.Common.{refl}
 use Rattle.md_nbtc_law.specs.State.{shape_in}
 use Rattle.md_nbtc.specs.State.{state}
-use Rattle.md_store.proofs.Runs.{is_head_of}
+use Rattle.md_running.proofs.Runs.{is_head_of}
 use Rattle.md_interleavings.proofs.operations.head_of.Goals as goal
 
 pub returns : goal.returns

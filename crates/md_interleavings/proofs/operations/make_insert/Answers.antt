@@ -3,7 +3,7 @@ use Rattle.md_history.specs.declared.acts.Op.TheVariants.{Insert}
 use Rattle.md_history.specs.declared.acts.Reply.TheVariants.{Flag}
 use Rattle.md_list.specs.Operations.{HasStop}
 use Rattle.md_nbtc.specs.State.{state}
-use Rattle.md_store.proofs.Runs.{unstopped}
+use Rattle.md_running.proofs.Runs.{unstopped}
 use Rattle.md_interleavings.proofs.Acted.{list_may_end}
 use Rattle.md_interleavings.proofs.operations.make_insert.Goals as goal
 

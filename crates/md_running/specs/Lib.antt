@@ -1,0 +1,4 @@
+pub mod Store
+pub mod Laws
+pub mod Counted
+pub mod Running
