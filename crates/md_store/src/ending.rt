@@ -11,10 +11,9 @@ ghost use Rattle.md_running.specs.Store.{IsPassOf, all_lanes, front_in, room_of,
 use crate::pass::StorePass;
 use crate::settling::settle;
 use md_history::{Contents, Front};
+use md_laying::lay_living;
 use md_rule::{Ended, Field};
-use md_store_law::{
-    FieldWords, StoreTheory, gather, lay_living, read_off_from, read_off_maps_from,
-};
+use md_store_law::{FieldWords, StoreTheory, gather, read_off_from, read_off_maps_from};
 use std::alloc::{AllocError, Global};
 
 // The words of a field that has ended, which are read where they stand.

@@ -9,8 +9,9 @@ ghost use Rattle.md_store_law.specs.Untouched.{IsUntouched};
 
 use crate::pass::StorePass;
 use md_history::Contents;
+use md_laying::{lay, needed};
 use md_rule::Field;
-use md_store_law::{StoreTheory, lay, needed};
+use md_store_law::StoreTheory;
 use md_words::Shape;
 use std::alloc::{AllocError, Global};
 use std::marker::Model;

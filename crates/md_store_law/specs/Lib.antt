@@ -5,7 +5,6 @@ pub mod Needed
 pub mod Laid
 pub mod Opens
 pub mod Untouched
-pub mod Below
 pub mod Compacted
 pub mod Lists
 pub mod MapsFrom

@@ -18,13 +18,13 @@ use std::alloc::{AllocError, Global};
 /// queues. `lay_living` lays them as a new field.
 #[derive(Drop)]
 pub struct Living {
-    pub(crate) pairs: Lists<(u64, u64)>,
-    pub(crate) values: Lists<u64>,
+    pub pairs: Lists<(u64, u64)>,
+    pub values: Lists<u64>,
 }
 
 impl Living {
     /// The number of nodes that are needed: one for each queue, each pair and each queued value.
-    pub(crate) fn needed(&self, shape: &Shape) -> u32
+    pub fn needed(&self, shape: &Shape) -> u32
         requires { shape.now.queues + length self.now.pairs.joined.items
             + length self.now.values.joined.items < 2 ^ 32 }
         ensures { result ≡ shape.now.queues + length self.now.pairs.joined.items

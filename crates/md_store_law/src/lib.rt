@@ -1,7 +1,6 @@
 //! The store as a theory of the machine: the hash tables of all maps together with all queues, over
-//! fields of any shape. `lay` lays contents out as the words of a field, `read_off` gives them back
-//! from the words, and `compact` lays them anew without the nodes that they don't need. It is
-//! `gather`, which takes what lives from words that stand anywhere, and `lay_living`.
+//! fields of any shape. `read_off` gives the contents of a field from its words, and `gather` takes
+//! what lives from words that stand anywhere. md_laying lays both as the words of a field.
 //!
 //! What follows for a program whose transactions leave these certificates, by `all_schedules`:
 //!
@@ -13,24 +12,18 @@
 //! 5. Every counted word but a next word of an unplaced node names no node, or a placed one.
 #![tactic(auto)]
 
-pub use compacting::{compact, lay_living};
 pub use field_words::FieldWords;
 pub use fields::even_fields_are_stores;
 pub use gathering::{Living, gather};
-pub use laying::lay;
+pub use lists::Lists;
 pub use reading::{read_off, read_off_from, read_off_maps_from};
-pub use sizes::needed;
 pub use theory::StoreTheory;
 
-mod building;
-mod compacting;
 mod field_words;
 mod fields;
 mod gathering;
-mod laying;
 mod lists;
 mod reading;
 mod side_walks;
-mod sizes;
 pub mod theory;
 mod walks;

@@ -8,9 +8,9 @@ use std::alloc::{AllocError, Global};
 /// Lists that lie one behind another, in two allocations. The list of a number ends where the next
 /// one begins: at the bound with the number of the next.
 #[derive(Drop)]
-pub(crate) struct Lists<T> {
-    pub(crate) joined: Vec<T>,
-    pub(crate) bounds: Vec<usize>,
+pub struct Lists<T> {
+    pub joined: Vec<T>,
+    pub bounds: Vec<usize>,
 }
 
 impl<T: Drop> Lists<T> {
@@ -36,7 +36,7 @@ impl<T: Drop> Lists<T> {
     }
 
     /// The list of a number, counted from 0.
-    pub(crate) fn list(&self, number: usize) -> &[T]
+    pub fn list(&self, number: usize) -> &[T]
         requires { HasList self.now.joined.items self.now.bounds.items number }
         ensures { result.now ≡ between self.now.joined.items self.now.bounds.items number }
     {

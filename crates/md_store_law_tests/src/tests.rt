@@ -3,7 +3,7 @@
 ghost use Rattle.std.specs.Prelude.{◌≡◌, ◌<◌, length, OnOk};
 
 use md_history::Contents;
-use md_store_law::needed;
+use md_laying::needed;
 use std::alloc::{AllocError, AllocGlobal, Global};
 use std::process::Abort;
 

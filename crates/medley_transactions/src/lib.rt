@@ -47,7 +47,7 @@
 pub use md_store::{OpenFault, Store, StorePass};
 
 /// How many base nodes contents need.
-pub use md_store_law::needed;
+pub use md_laying::needed;
 
 /// How many lanes, nodes, attempts, maps, buckets and queues a store has, and which of the numbers
 /// is out of its range.

@@ -6,9 +6,10 @@ ghost use Rattle.md_rule.specs.Views.{IsOf};
 ghost use Rattle.md_store_law.specs.Opens.{OpensWith};
 
 use super::*;
+use md_laying::{lay, needed};
 use md_machine::Theory;
 use md_rule::{Field, Pass};
-use md_store_law::{StoreTheory, lay, needed};
+use md_store_law::StoreTheory;
 use md_tickets::dispenser;
 
 // Closes a field on which no step was made: its words.

@@ -1,4 +1,4 @@
-use Rattle.std.proofs.Common.{ℕ, ◌++◌, sym, ap, ◌∙◌, rules}
+use Rattle.std.proofs.Common.{ℕ, ◌++◌, sym, ap, ◌∙◌}
 use Rattle.md_list_law.specs.Walk.{pairs_from}
 use Rattle.md_list_law.specs.ListShape.{head_word}
 use Rattle.md_store_law.specs.Field.{logical_words}
@@ -12,4 +12,4 @@ loop-bucket-preserved g c =
     ∙ sym (flat_map_range_more read c.loop-bucket.bucket)
 
 pub loop-bucket-init : goal.loop-bucket-init
-loop-bucket-init g c = search rules depth 1
+loop-bucket-init g c = c.new-pairs.ensures.items
