@@ -2,7 +2,8 @@
 use Rattle.std.proofs.Common.{◌≡◌, ◌≢◌, ◌==◌, ◌<◌, ℕ, List, true, Option, Some, None, Vec, IfSome, IfNone, if◌then◌else◌, length, slice_set, sym, ap, subst, ◌∙◌, ⊎_elim, arith}
 use Rattle.std.specs.declared.alloc.Global.{Global}
 use Rattle.std.proofs.lemmas.Bool.{cases_Bool, cond-false, ne_eqb}
-use Rattle.std.proofs.lemmas.List.{length-set}
+use Rattle.std.proofs.lemmas.List.{length-set, with_items_is}
+use Rattle.std.specs.Vec.{with_items}
 use mathlib.Core.Option.{some}
 use lib.ListN.{get_elem?}
 use Rattle.md_words.specs.declared.shape.Shape.{Shape}
@@ -51,6 +52,10 @@ still_has shape ws next k word value one long set same = record {
   one = (one, ap length set ∙ length-set ws.items word value ∙ long);
   more = tt;
 }
+
+-- and they are those with the number at its place
+pub items_put : (mine : Vec ℕ Global) (word value : ℕ) (new : List ℕ) → new ≡ slice_set mine.items word value → (with_items mine new).items ≡ slice_set mine.items word value
+items_put mine word value new set = with_items_is mine new (ap length set ∙ length-set mine.items word value ∙ sym mine.ok.0) ∙ set
 
 -- a place of a word is one of the table then
 pub fits_table : (shape : Shape) (words word : ℕ) → words ≡ table_words shape → shape.lanes ≢ 1 → word < words_of shape → word < words

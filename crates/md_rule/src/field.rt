@@ -3,7 +3,7 @@
 ghost use Rattle.std.specs.Prelude.{◌≡◌, List, IfOk, replicate};
 ghost use Rattle.md_machine.specs.declared.node.PlacedNode.{PlacedNode};
 ghost use Rattle.md_machine.specs.Event.{CanOpen, first_pass};
-ghost use Rattle.md_rule.specs.declared.shares.TheConstants.{UNUSED};
+ghost use Rattle.md_lanes.specs.declared.shares.TheConstants.{UNUSED};
 ghost use Rattle.md_rule.specs.Views.{IsOf};
 
 use crate::known::Known;
