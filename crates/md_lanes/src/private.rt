@@ -1,7 +1,17 @@
 //! The words of a field with one lane, which its only pass keeps.
 
-ghost use Rattle.std.specs.Prelude.{◌≡◌, ◌==◌, ◌<◌, length, slice_index, slice_set};
+ghost use Rattle.std.specs.Prelude.{◌≡◌, ◌==◌, ◌<◌, Some, None, length, slice_index, slice_set};
+ghost use Rattle.std.specs.Prelude.{if◌then◌else◌};
 ghost use prog.Atomic.{either};
+
+use md_words::Shape;
+
+/// The words that a pass has: those of a field with one lane, and otherwise none.
+pub fn own_words(shape: &Shape, words: Vec<u64>) -> Option<Vec<u64>>
+    ensures { result ≡ (if shape.now.lanes == 1 then Some words else None) }
+{
+    if shape.lanes == 1 { Some(words) } else { None }
+}
 
 /// What the private word at a place holds.
 #[inline]

@@ -10,6 +10,7 @@ use crate::known::Known;
 use crate::pass::Pass;
 use crate::rule::{Key, Ruled};
 use atomic_table::Table;
+use md_lanes::own_words;
 use md_machine::Theory;
 use md_words::Shape;
 use std::alloc::{AllocError, Global};
@@ -70,10 +71,16 @@ impl<T: Theory> Field<T> {
         };
         if shape.lanes == 1 {
             let (table, seat) = Table::of_words(alloc, &[0], &key)?;
-            Ok((Field { table, shape }, Pass::of(seat, shape, Some(words))))
+            Ok((
+                Field { table, shape },
+                Pass::of(seat, shape, own_words(&shape, words)),
+            ))
         } else {
             let (table, seat) = Table::of_words(alloc, words.as_slice(), &key)?;
-            Ok((Field { table, shape }, Pass::of(seat, shape, None)))
+            Ok((
+                Field { table, shape },
+                Pass::of(seat, shape, own_words(&shape, words)),
+            ))
         }
     }
 

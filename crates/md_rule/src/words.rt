@@ -17,7 +17,7 @@ use crate::field::Field;
 use crate::known::Known;
 use crate::rule::{Following, Follows, Telling, Tells};
 use atomic_table::Seat;
-use md_lanes::{exchange_private, load_private, store_private};
+use md_lanes::{answered, exchange_private, load_private, store_private};
 use md_machine::Theory;
 use std::marker::Brand;
 use std::snapshot::Snapshot;
@@ -120,7 +120,7 @@ pub(crate) fn exchange_word<K: Telling, T: Theory, A>(
             .shared
             .compare_exchange::<Tells<K>>(seat, word as usize, from, to),
     };
-    if found == from { Ok(()) } else { Err(found) }
+    answered(found, from)
 }
 
 // A mark: a load of word 0.
