@@ -5,8 +5,8 @@
 //!   64 shares change the share of one lane, and `take_shares` joins two rows.
 //! - `exchanged` and the calls of `statuses` give the words that steps leave. `answered` is the answer
 //!   of an exchange.
-//! - `own_words`, `load_private`, `store_private` and `exchange_private` reach the words of a field with one lane,
-//!   which its only pass keeps.
+//! - `own_words`, `load_private`, `store_private` and `exchange_private` are of the words of a field
+//!   with one lane, which its only pass keeps.
 #![tactic(auto)]
 
 pub use exchanges::{answered, exchanged};
