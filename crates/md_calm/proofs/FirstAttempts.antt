@@ -30,7 +30,7 @@ use Rattle.md_machine.specs.clauses.passes.Alone.{HoldsAll}
 use Rattle.md_machine.proofs.events.Attempts.{attempt_same}
 use Rattle.md_machine.proofs.lists.Options.{some_same}
 use Rattle.md_machine.proofs.lists.Rising.{here, in_drop, there}
-use Rattle.md_rule.specs.Shares.{share_at}
+use Rattle.md_lanes.specs.Shares.{share_at}
 use Rattle.md_rule.proofs.Moves.{is_kept}
 use Rattle.md_nbtc_law.specs.Going.{IsUnderWay, MeetsCount}
 use Rattle.md_nbtc_law.specs.Prepared.{InstallsFrom, IsPreparedNode, IsWritten, StoredOnce}

@@ -10,7 +10,7 @@ use Rattle.md_machine.specs.Trail.{SomeStep}
 use Rattle.md_machine.specs.clauses.passes.Alone.{HoldsAll}
 use Rattle.md_words.specs.Content.{count_of}
 use Rattle.md_rule.specs.Kept.{IsLeft, KeepsLanes}
-use Rattle.md_rule.specs.Shares.{share_at}
+use Rattle.md_lanes.specs.Shares.{share_at}
 use Rattle.md_rule.specs.Views.{Origin}
 use Rattle.md_nbtc_law.specs.Going.{IsUnderWay, MeetsCount}
 use Rattle.md_nbtc_law.specs.State.{OwnNode, TxnState, attempt_in, own_steps, shape_in}

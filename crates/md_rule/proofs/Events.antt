@@ -1,18 +1,16 @@
 -- Each event of a pass is a step of the table on one word.
-use Rattle.std.proofs.Common.{◌≡◌, ◌==◌, Bool, true, false, if◌then◌else◌, ◌+◌, ◌<◌, ◌≤◌, ℕ, List, Some, arith, slice_set, refl, sym, ap, ◌∙◌, subst}
+use Rattle.std.proofs.Common.{◌≡◌, ◌==◌, Bool, true, false, if◌then◌else◌, ◌<◌, ℕ, List, Some, arith, slice_set, refl, sym, ap, ◌∙◌, subst}
 use mathlib.Core.Option.{some, some-injective}
 use lib.ListN.{get_elem?}
 use prog.Atomic.{either}
-use Rattle.md_words.specs.declared.content.Content.{Content}
 use Rattle.md_words.specs.declared.content.Spot.{Spot}
 use Rattle.md_words.specs.declared.shape.Shape.{Shape}
 use Rattle.md_words.specs.declared.status.Status.TheVariants.{InPrep, InProg, Committed, Aborted}
-use Rattle.md_words.specs.Content.{count_of, counted_word, word_of}
 use Rattle.md_words.specs.Layout.{address, words_of}
 use Rattle.md_words.specs.Place.{base_word, desc_status}
 use Rattle.md_words.specs.Status.{serial_of, status_word}
 use Rattle.md_words.proofs.Places.{address_below, address-base_word}
-use Rattle.md_words.proofs.Words.{count_of-counted_word, serial_of-status_word}
+use Rattle.md_words.proofs.Words.{serial_of-status_word}
 use Rattle.md_machine.specs.declared.attempt.AttemptId.{AttemptId}
 use Rattle.md_history.specs.declared.acts.Op.{Op}
 use Rattle.md_history.specs.declared.acts.Reply.{Reply}
@@ -21,7 +19,6 @@ use Rattle.md_machine.specs.declared.attempt.Hand.{Hand}
 use Rattle.md_machine.specs.declared.attempt.HistoryEntry.{HistoryEntry}
 use Rattle.md_machine.specs.declared.certificate.Certificate.{Certificate}
 use Rattle.md_machine.specs.declared.pass.PassView.{PassView}
-use Rattle.md_machine.specs.declared.step.TheConstants.{LAST_COUNT}
 use Rattle.md_machine.specs.Event.{Acts, Does, after_load, load, store, install, exchange, ready, commit, abort, uninstall, start, mark_begin, mark_start, mark_act, mark_end, mark_leave}
 use Rattle.md_machine.specs.Machine.{IsAt, Machine, content, shape_of}
 use Rattle.md_machine.specs.Meaning.{Meaning}
@@ -240,14 +237,6 @@ module _ (M : Meaning) (o : Origin) where
 
   pub may_leave : (view : PassView) → May M o (λ pass. mark_leave pass) view
   may_leave view m a pass acts = (after_mark_leave m pass view, (view, acts, refl))
-
--- the count of a content's word
-pub count_of_word : (from : Content) → from.count ≤ LAST_COUNT + 1 → count_of (word_of from) ≡ from.count
-count_of_word from fits = count_of-counted_word from.value from.count (omega (arith, fits))
-
--- the word with more in its count
-pub counts_more : (from : Content) (value more made : ℕ) → from.count ≤ LAST_COUNT + 1 → made ≡ counted_word value (from.count + more) → made ≡ counted_word value (count_of (word_of from) + more)
-counts_more from value more made fits is = is ∙ ap (λ n. counted_word value (n + more)) (sym (count_of_word from fits))
 
 module _ (M : Meaning) (o : Origin) where
   -- of a mark it isn't told what the word held

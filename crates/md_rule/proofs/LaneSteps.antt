@@ -17,10 +17,10 @@ use Rattle.md_machine.specs.events.Decide.{HasMet}
 use Rattle.md_machine.specs.events.Start.{IsClean}
 use Rattle.md_rule.specs.InHand.{HoldsDesc}
 use Rattle.md_rule.specs.Kept.{IsNew, IsReached, KeepsLane, KeepsLanes}
-use Rattle.md_rule.specs.Shares.{after_begin, after_end, after_restart, after_slot, share_at, with_share}
+use Rattle.md_lanes.specs.Shares.{after_begin, after_end, after_restart, after_slot, share_at, with_share}
 use Rattle.md_rule.specs.Steps.{EventOf, Exchanged, Stepped}
 use Rattle.md_rule.specs.Views.{Origin, PassState}
-use Rattle.md_rule.specs.declared.shares.Share.{Share}
+use Rattle.md_lanes.specs.declared.shares.Share.{Share}
 use Rattle.md_machine.proofs.clauses.passes.BegunNoLater.{later_is_new, new_is_first}
 use Rattle.md_rule.proofs.FirstAttempts.{first_fit}
 use Rattle.md_rule.proofs.Kept.{IsLeftOf, LaneGoes, Spares, inside, own_desc, still_kept}

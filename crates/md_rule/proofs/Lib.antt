@@ -1,6 +1,4 @@
-pub mod LaneSets
 pub mod LaneLists
-pub mod Sharing
 pub mod Private
 pub mod Moves
 pub mod Events

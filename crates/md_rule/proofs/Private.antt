@@ -1,8 +1,9 @@
 -- Where the words of a field stand.
-use Rattle.std.proofs.Common.{◌≡◌, ◌≢◌, ◌==◌, ◌<◌, ℕ, List, true, Option, Some, None, Vec, IfSome, IfNone, if◌then◌else◌, length, slice_set, sym, ap, subst, ◌∙◌, ⊎_elim, arith}
+use Rattle.std.proofs.Common.{◌≡◌, ◌≢◌, ◌==◌, ◌<◌, ℕ, List, true, Option, Some, None, Vec, IfSome, IfNone, if◌then◌else◌, length, slice_set, eqb-true, sym, ap, subst, ◌∙◌, ⊎_elim, arith}
 use Rattle.std.specs.declared.alloc.Global.{Global}
-use Rattle.std.proofs.lemmas.Bool.{cases_Bool, cond-false, ne_eqb}
-use Rattle.std.proofs.lemmas.List.{length-set}
+use Rattle.std.proofs.lemmas.Bool.{cases_Bool, cond-false, cond_both, eq-eqb, false≢true, ne_eqb}
+use Rattle.std.proofs.lemmas.List.{length-set, with_items_is}
+use Rattle.std.specs.Vec.{with_items}
 use mathlib.Core.Option.{some}
 use lib.ListN.{get_elem?}
 use Rattle.md_words.specs.declared.shape.Shape.{Shape}
@@ -51,6 +52,19 @@ still_has shape ws next k word value one long set same = record {
   one = (one, ap length set ∙ length-set ws.items word value ∙ long);
   more = tt;
 }
+
+-- the first seat of a field knows the words that its pass has
+pub own_has : (shape : Shape) (ws : Vec ℕ Global) (k : Known) → length ws.items ≡ words_of shape → k.private ≡ (if shape.lanes == 1 then Some ws else None)
+    → HasWords shape (if shape.lanes == 1 then Some ws else None) k
+own_has shape ws k long same = record {
+  same = same;
+  one = cond_both (shape.lanes == 1) (Some ws) None (λ p. IfSome p (λ l. (shape.lanes ≡ 1) × (length l.items ≡ words_of shape))) (λ is. (eqb-true shape.lanes 1 is, long)) (λ not. tt);
+  more = cond_both (shape.lanes == 1) (Some ws) None (λ p. IfNone p (shape.lanes ≢ 1)) (λ is. tt) (λ not e. false≢true (sym not ∙ eq-eqb shape.lanes 1 e));
+}
+
+-- and they are those with the number at its place
+pub items_put : (mine : Vec ℕ Global) (word value : ℕ) (new : List ℕ) → new ≡ slice_set mine.items word value → (with_items mine new).items ≡ slice_set mine.items word value
+items_put mine word value new set = with_items_is mine new (ap length set ∙ length-set mine.items word value ∙ sym mine.ok.0) ∙ set
 
 -- a place of a word is one of the table then
 pub fits_table : (shape : Shape) (words word : ℕ) → words ≡ table_words shape → shape.lanes ≢ 1 → word < words_of shape → word < words

@@ -5,8 +5,6 @@ pub mod Rule
 pub mod Steps
 pub mod Entering
 pub mod InHand
-pub mod LaneSet
 pub mod Lanes
-pub mod Shares
 pub mod Kept
 pub mod Closing

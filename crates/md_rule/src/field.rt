@@ -3,13 +3,14 @@
 ghost use Rattle.std.specs.Prelude.{◌≡◌, List, IfOk, replicate};
 ghost use Rattle.md_machine.specs.declared.node.PlacedNode.{PlacedNode};
 ghost use Rattle.md_machine.specs.Event.{CanOpen, first_pass};
-ghost use Rattle.md_rule.specs.declared.shares.TheConstants.{UNUSED};
+ghost use Rattle.md_lanes.specs.declared.shares.TheConstants.{UNUSED};
 ghost use Rattle.md_rule.specs.Views.{IsOf};
 
 use crate::known::Known;
 use crate::pass::Pass;
 use crate::rule::{Key, Ruled};
 use atomic_table::Table;
+use md_lanes::own_words;
 use md_machine::Theory;
 use md_words::Shape;
 use std::alloc::{AllocError, Global};
@@ -70,10 +71,16 @@ impl<T: Theory> Field<T> {
         };
         if shape.lanes == 1 {
             let (table, seat) = Table::of_words(alloc, &[0], &key)?;
-            Ok((Field { table, shape }, Pass::of(seat, shape, Some(words))))
+            Ok((
+                Field { table, shape },
+                Pass::of(seat, shape, own_words(&shape, words)),
+            ))
         } else {
             let (table, seat) = Table::of_words(alloc, words.as_slice(), &key)?;
-            Ok((Field { table, shape }, Pass::of(seat, shape, None)))
+            Ok((
+                Field { table, shape },
+                Pass::of(seat, shape, own_words(&shape, words)),
+            ))
         }
     }
 

@@ -6,15 +6,15 @@ ghost use Rattle.atomic_table.specs.Table.{State, Seen, Splits, Joins as JoinsVi
 ghost use Rattle.md_machine.specs.events.SplitJoin.{kept_part, given_part, joined_part, spent};
 ghost use Rattle.md_rule.specs.declared.known.Known.{Known};
 ghost use Rattle.md_rule.specs.Rule.{JoinedInto, Shows, SplitInto};
-ghost use Rattle.md_rule.specs.Shares.{joined_shares};
+ghost use Rattle.md_lanes.specs.Shares.{joined_shares};
 ghost use Rattle.md_rule.specs.Views.{IsOf};
 
 use crate::field::Field;
 use crate::known::Known;
 use crate::pass::Pass;
 use crate::rule::{Halves, Halving, Joining, Joins, Looking, Looks};
-use crate::shares::take_shares;
 use atomic_table::Seat;
+use md_lanes::take_shares;
 use md_machine::Theory;
 use std::marker::Brand;
 
@@ -33,7 +33,7 @@ impl<T: Theory> Pass<T> {
             SplitInto T.meaning field.now.origin self.old.view self.new.view p.view) }
         ensures none { IfNone result ((length self.old.view.lanes ≡ 1) × (self.new ≡ self.old)) }
     {
-        if self.lanes.count() < 2 {
+        if !self.lanes.are_several() {
             return None;
         }
         look::<Brand, T>(field, &mut self.seat);

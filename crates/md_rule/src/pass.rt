@@ -1,10 +1,9 @@
 //! A pass: a seat of the table, with its lanes.
 
-ghost use Rattle.std.specs.Prelude.{◌≡◌, ◌<◌, ◌↔◌, ℕ, None, [], length, slice_index, replicate, IsTrue};
-ghost use Rattle.std.specs.List.{Contains};
+ghost use Rattle.std.specs.Prelude.{◌≡◌, ◌<◌, ◌↔◌, None, [], length, slice_index, replicate, IsTrue};
 ghost use Rattle.md_machine.specs.Event.{first_pass};
 ghost use Rattle.md_machine.specs.clauses.passes.Alone.{HoldsAll};
-ghost use Rattle.md_rule.specs.declared.shares.TheConstants.{UNUSED};
+ghost use Rattle.md_lanes.specs.declared.shares.TheConstants.{UNUSED};
 ghost use Rattle.md_rule.specs.Kept.{KeepsLanes};
 ghost use Rattle.md_rule.specs.Lanes.{AreLanes};
 ghost use Rattle.md_rule.specs.Private.{HasWords};
@@ -12,9 +11,8 @@ ghost use Rattle.md_rule.specs.Views.{IsOf};
 
 use crate::field::Field;
 use crate::known::Known;
-use crate::lanes::Lanes;
-use crate::shares::{Share, UNUSED, count};
 use atomic_table::Seat;
+use md_lanes::{Lanes, Share, UNUSED, has_all};
 use md_machine::Theory;
 use md_words::Shape;
 use std::marker::{Model, PhantomData};
@@ -148,14 +146,9 @@ impl<T: Theory> Pass<T> {
     }
 }
 
-// Whether it has each lane of the shape.
-fn has_all(lanes: &Lanes, shape: &Shape) -> bool
-    ensures { IsTrue result ↔ ((lane : ℕ) → lane < shape.now.lanes → Contains lanes.now lane) }
+// There is a share for each lane that there may be.
+fn count(shares: &[Share; 64])
+    ensures { length shares.now ≡ 64 }
 {
-    for lane in 0..shape.lanes {
-        if !lanes.has(lane) {
-            return false;
-        }
-    }
-    true
+    let _ = shares;
 }

@@ -19,7 +19,7 @@ ghost use Rattle.md_rule.specs.Entering.{EnteredBy, MayBecomeReady};
 ghost use Rattle.md_rule.specs.InHand.{HoldsUnready};
 ghost use Rattle.md_rule.specs.Kept.{IsNoNextLeft, IsReached, StoredNoneLeft};
 ghost use Rattle.md_rule.specs.Private.{HasWords};
-ghost use Rattle.md_rule.specs.Shares.{after_restart, after_slot, share_at};
+ghost use Rattle.md_lanes.specs.Shares.{after_restart, after_slot, share_at};
 ghost use Rattle.md_rule.specs.Steps.{Exchanged, May, Stepped, SteppedFrom};
 ghost use Rattle.md_rule.specs.Views.{IsOf};
 
@@ -27,12 +27,11 @@ use crate::certifying::Certifying;
 use crate::field::Field;
 use crate::known::Known;
 use crate::pass::Pass;
-use crate::shares::{count_slot, restart_lane};
-use crate::statuses;
 use crate::words::{exchange_word, load_word, store_word};
 use atomic_table::Seat;
+use md_lanes::{count_slot, exchanged, restart_lane, statuses};
 use md_machine::Theory;
-use md_words::{Content, Spot, Status};
+use md_words::{Content, Spot};
 use std::marker::Brand;
 use std::snapshot::Snapshot;
 
@@ -132,10 +131,7 @@ impl<T: Theory> Pass<T> {
             (λ pass. exchange pass word (word_of from) to) word (word_of from) result
             self.old.view self.new.view }
     {
-        let exchanged = Content {
-            value: to,
-            count: from.count + 2,
-        };
+        let exchanged = exchanged(from, to);
         let about = Snapshot::of(&(from, to));
         exchange_word::<Brand, T, _>(
             &mut self.seat,
@@ -143,7 +139,7 @@ impl<T: Theory> Pass<T> {
             field,
             word,
             from.word(),
-            exchanged.word(),
+            exchanged,
             about,
         )
     }
@@ -209,7 +205,7 @@ impl<T: Theory> Pass<T> {
             self.old.view self.new.view }
     {
         let word = field.shape().status(desc);
-        let committed = statuses::decided(Status::Committed, from);
+        let committed = statuses::committed(from);
         let about = Snapshot::of(&(desc, from));
         exchange_word::<Brand, T, _>(
             &mut self.seat,
@@ -240,7 +236,7 @@ impl<T: Theory> Pass<T> {
             self.old.view self.new.view }
     {
         let word = field.shape().status(desc);
-        let aborted = statuses::decided(Status::Aborted, from);
+        let aborted = statuses::aborted(from);
         let about = Snapshot::of(&(desc, from));
         exchange_word::<Brand, T, _>(
             &mut self.seat,

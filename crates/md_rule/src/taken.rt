@@ -3,10 +3,10 @@
 ghost use Rattle.std.specs.Prelude.{◌≡◌, ◌≤◌};
 ghost use Rattle.std.specs.List.{Contains};
 ghost use Rattle.md_words.specs.declared.limits.TheConstants.{SET};
-ghost use Rattle.md_rule.specs.Shares.{MayReturn, share_at, with_share};
+ghost use Rattle.md_lanes.specs.Shares.{MayReturn, share_at, with_share};
 
 use crate::pass::Pass;
-use crate::shares::{set_nodes, set_tries};
+use md_lanes::{set_nodes, set_tries};
 use md_machine::Theory;
 
 impl<T: Theory> Pass<T> {

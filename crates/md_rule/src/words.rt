@@ -17,6 +17,7 @@ use crate::field::Field;
 use crate::known::Known;
 use crate::rule::{Following, Follows, Telling, Tells};
 use atomic_table::Seat;
+use md_lanes::{answered, exchange_private, load_private, store_private};
 use md_machine::Theory;
 use std::marker::Brand;
 use std::snapshot::Snapshot;
@@ -43,7 +44,7 @@ pub(crate) fn load_word<K: Telling, T: Theory, A>(
     drop(about);
     match private {
         Some(words) => {
-            let held = words[word as usize];
+            let held = load_private(words, word);
             follow::<Brand, T, _>(seat, field, held, Snapshot::of(private));
             held
         }
@@ -74,7 +75,7 @@ pub(crate) fn store_word<K: Telling, T: Theory, A>(
     drop(about);
     match private {
         Some(words) => {
-            words[word as usize] = value;
+            store_private(words, word, value);
             follow::<Brand, T, _>(seat, field, value, Snapshot::of(private));
         }
         None => field
@@ -119,7 +120,7 @@ pub(crate) fn exchange_word<K: Telling, T: Theory, A>(
             .shared
             .compare_exchange::<Tells<K>>(seat, word as usize, from, to),
     };
-    if found == from { Ok(()) } else { Err(found) }
+    answered(found, from)
 }
 
 // A mark: a load of word 0.
@@ -140,19 +141,6 @@ pub(crate) fn mark<K: Telling, T: Theory, A>(
     ensures told { (held : ℕ) × K.tells held seat.old.me.0.view seat.new.me.0.view }
 {
     load_word::<K, T, A>(seat, private, field, 0, about);
-}
-
-// Puts a number into a private word that holds the expected one, and answers what the word held.
-fn exchange_private(words: &mut [u64], word: u32, from: u64, to: u64) -> u64
-    requires { word < length words.old }
-    ensures found { result ≡ slice_index words.old word }
-    ensures words { words.new ≡ slice_set words.old word (either (result == from) to result) }
-{
-    let found = words[word as usize];
-    if found == from {
-        words[word as usize] = to;
-    }
-    found
 }
 
 // What a pass knows changes with a step on its private words: a load of the table's only word.

@@ -41,7 +41,7 @@ use Rattle.md_nbtc_law.proofs.preparing.Later.{later_over}
 use Rattle.md_nbtc_law.proofs.operations.Courses.{all_push}
 use Rattle.md_nbtc_law.proofs.ready.Lookups.{all_of}
 use Rattle.md_nbtc_law.proofs.ready.Standing.{pairs_map}
-use Rattle.md_rule.specs.Shares.{share_at}
+use Rattle.md_lanes.specs.Shares.{share_at}
 use Rattle.md_rule.specs.Views.{FieldView, PassState}
 use Rattle.md_list.specs.Refusals.{HasSeen, IsAbsent, IsRefused, NeedsNode, NeedsRead, NeedsSlot, NeedsUnlink, OneMoreChange, OneMoreRead, OneMoreUnlink, WouldStand}
 use Rattle.md_list.specs.Walking.{IsHeadOf}

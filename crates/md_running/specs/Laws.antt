@@ -7,7 +7,7 @@ use Rattle.md_history.specs.Engine.{IsFrontFrom, empty_front}
 use Rattle.md_machine.specs.Event.{first_pass}
 use Rattle.md_machine.specs.Legal.{front_of}
 use Rattle.md_rule.specs.Closing.{plain_words}
-use Rattle.md_rule.specs.Shares.{share_at}
+use Rattle.md_lanes.specs.Shares.{share_at}
 use Rattle.md_rule.specs.Views.{FieldView, PassState}
 use Rattle.md_rule.proofs.Moves.{is_meant}
 use Rattle.md_store_law.specs.Store.{state_of_store, store}

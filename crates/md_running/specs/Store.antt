@@ -14,9 +14,9 @@ use Rattle.md_machine.specs.Event.{first_pass}
 use Rattle.md_machine.specs.Legal.{front_of}
 use Rattle.md_help.specs.After.{Stands}
 use Rattle.md_rule.specs.Closing.{plain_words}
-use Rattle.md_rule.specs.Shares.{share_at}
+use Rattle.md_lanes.specs.Shares.{share_at}
 use Rattle.md_rule.specs.Views.{FieldView, IsOf, PassState}
-use Rattle.md_rule.specs.declared.shares.Share.{Share}
+use Rattle.md_lanes.specs.declared.shares.Share.{Share}
 use Rattle.md_store_law.specs.Store.{state_of_store, store}
 use Rattle.md_store_law.specs.Untouched.{IsUntouched}
 

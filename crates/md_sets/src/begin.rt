@@ -10,7 +10,7 @@ ghost use Rattle.md_machine.specs.Own.{HasDesc};
 ghost use Rattle.md_help.specs.After.{Stands};
 ghost use Rattle.md_help.specs.Owns.{KnowsEnd};
 ghost use Rattle.md_rule.specs.Kept.{IsReached, KeepsLanes};
-ghost use Rattle.md_rule.specs.Shares.{share_at};
+ghost use Rattle.md_lanes.specs.Shares.{share_at};
 ghost use Rattle.md_rule.specs.Views.{IsOf};
 ghost use Rattle.md_nbtc_law.specs.Beginning.{Empties, FindsDecided, FindsNew, IsEmptied};
 ghost use Rattle.md_nbtc_law.specs.Beginning.{PassesCount, PutsInHand, StandsOwn};

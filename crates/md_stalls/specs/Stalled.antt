@@ -17,7 +17,7 @@ use Rattle.md_machine.specs.events.Mark.{new_hand}
 use Rattle.md_machine.specs.events.Start.{WonInstall}
 use Rattle.md_cell.specs.CellMeaning.{cell_word}
 use Rattle.md_rule.specs.Kept.{IsNew, MetNoLater}
-use Rattle.md_rule.specs.Shares.{share_at}
+use Rattle.md_lanes.specs.Shares.{share_at}
 use Rattle.md_rule.specs.Views.{PassState}
 use Rattle.md_arena.specs.Left.{HasTryLeft, IsLowest}
 

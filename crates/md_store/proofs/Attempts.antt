@@ -24,9 +24,9 @@ use Rattle.md_nbtc_law.specs.Going.{HasCause, IsGoing}
 use Rattle.md_nbtc_law.proofs.preparing.Heaps.{goes_self}
 use Rattle.md_nbtc_law.specs.State.{SameTries, TxnState, attempt_in}
 use Rattle.md_nbtc_law.proofs.attempts.Fronts.{decided_commits, decided_stops, refused_front, stopped_front}
-use Rattle.md_rule.specs.Shares.{share_at}
+use Rattle.md_lanes.specs.Shares.{share_at}
 use Rattle.md_rule.specs.Views.{FieldView, PassState}
-use Rattle.md_rule.specs.declared.shares.Share.{Share}
+use Rattle.md_lanes.specs.declared.shares.Share.{Share}
 use Rattle.md_store_law.specs.Store.{store}
 use Rattle.md_count_law.specs.Few.{RecordsOne}
 use Rattle.md_nbtc_law.specs.Ended.{WasAborted, WasCommitted, WasLost}

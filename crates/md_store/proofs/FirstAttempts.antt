@@ -14,7 +14,7 @@ use Rattle.md_machine.specs.Trail.{SomeStep}
 use Rattle.md_machine.specs.clauses.passes.Alone.{HoldsAll}
 use Rattle.md_machine.proofs.lists.Rising.{map_in, range_in}
 use Rattle.md_rule.specs.Kept.{IsLeft, KeepsLanes}
-use Rattle.md_rule.specs.Shares.{share_at}
+use Rattle.md_lanes.specs.Shares.{share_at}
 use Rattle.md_rule.specs.Views.{FieldView, IsOf, PassState}
 use Rattle.md_nbtc_law.specs.Ending.{Begins}
 use Rattle.md_nbtc_law.specs.Going.{IsUnderWay, MeetsCount}

@@ -8,7 +8,7 @@ use Rattle.md_machine.specs.Machine.{IsAt, shape_of}
 use Rattle.md_machine.specs.events.SplitJoin.{joined_part}
 use Rattle.md_rule.specs.Lanes.{AreLanes}
 use Rattle.md_rule.specs.Rule.{JoinedInto}
-use Rattle.md_rule.specs.Shares.{joined_shares}
+use Rattle.md_lanes.specs.Shares.{joined_shares}
 use Rattle.md_rule.specs.Views.{FieldView, PassState}
 use Rattle.md_rule.proofs.LaneLists.{joined_are_lanes}
 use Rattle.md_rule.proofs.Moves.{goes_on, is_kept, next_admitted}

@@ -7,9 +7,9 @@ use Rattle.md_machine.specs.Event.{first_pass, opened}
 use Rattle.md_machine.specs.Machine.{IsLive}
 use Rattle.md_machine.specs.Resolution.{logical_heap}
 use Rattle.md_rule.specs.Closing.{plain_words}
-use Rattle.md_rule.specs.Shares.{share_at}
+use Rattle.md_lanes.specs.Shares.{share_at}
 use Rattle.md_rule.specs.Views.{FieldView, IsOf, Origin, PassState}
-use Rattle.md_rule.specs.declared.shares.Share.{Share}
+use Rattle.md_lanes.specs.declared.shares.Share.{Share}
 use Rattle.md_rule.proofs.LaneLists.{all_are_lanes}
 use Rattle.md_store_law.specs.Opens.{OpensWith}
 use Rattle.md_store_law.specs.Store.{state_of_store}

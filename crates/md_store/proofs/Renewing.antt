@@ -6,7 +6,7 @@ use Rattle.md_history.specs.Front.{replay_of}
 use Rattle.md_history.specs.State.{HaveSameNumbers, State}
 use Rattle.md_machine.specs.Event.{first_pass}
 use Rattle.md_rule.specs.Closing.{plain_words}
-use Rattle.md_rule.specs.Shares.{share_at}
+use Rattle.md_lanes.specs.Shares.{share_at}
 use Rattle.md_rule.specs.Views.{FieldView, IsOf, Origin, PassState}
 use Rattle.md_store_law.specs.Untouched.{IsUntouched}
 use Rattle.md_store_law.specs.Compacted.{IsCompacted, MayHaveBase, contents_of}

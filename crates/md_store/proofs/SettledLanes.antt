@@ -12,7 +12,7 @@ use Rattle.md_help.specs.After.{Stands}
 use Rattle.md_help.proofs.Steps.{both_after, none_after}
 use Rattle.md_rule.specs.Kept.{KeepsLane, KeepsLanes}
 use Rattle.md_rule.specs.Lanes.{AreLanes}
-use Rattle.md_rule.specs.Shares.{share_at}
+use Rattle.md_lanes.specs.Shares.{share_at}
 use Rattle.md_rule.specs.Views.{FieldView, PassState}
 use Rattle.md_rule.proofs.LaneLists.{desc_exists, lane_exists}
 use Rattle.md_rule.proofs.Moves.{is_kept}

@@ -3,7 +3,7 @@ use Rattle.std.proofs.lemmas.Bool.{cases_lt}
 use Rattle.md_words.specs.Layout.{desc_count}
 use Rattle.md_machine.specs.Own.{HasDesc}
 use Rattle.md_nbtc_law.specs.Beginning.{Empties}
-use Rattle.md_rule.specs.Shares.{share_at}
+use Rattle.md_lanes.specs.Shares.{share_at}
 use Rattle.md_rule.specs.Views.{FieldView}
 use Rattle.md_store.proofs.SettledLanes.{has_attempt, lane_inside, own_after}
 use Rattle.md_interleavings.proofs.looking.settled_lane.Goals as goal

@@ -1,19 +1,18 @@
-use Rattle.std.proofs.Common.{◌≡◌, ◌≢◌, ◌==◌, ◌<◌, ℕ, rules, sym, ap, subst, ◌∙◌, List, Vec, length, slice_index, slice_set}
-use Rattle.std.specs.declared.alloc.Global.{Global}
-use Rattle.std.proofs.lemmas.List.{length-set, with_items_is}
+use Rattle.std.proofs.Common.{◌≡◌, ◌≢◌, ◌==◌, ◌<◌, ℕ, rules, sym, ap, subst, ◌∙◌, slice_index, slice_set, Result, Ok, Err, MatchResult}
 use prog.Atomic.{either}
 use Rattle.std.specs.Vec.{with_items}
 use Rattle.md_words.specs.Layout.{words_of}
 use Rattle.md_rule.specs.Steps.{MayTell}
 use Rattle.md_rule.specs.Views.{Origin}
 use Rattle.md_rule.proofs.Moves.{may_put, may_step}
-use Rattle.md_rule.proofs.Private.{fits_table, in_pass, in_table}
+use Rattle.md_rule.proofs.Private.{fits_table, in_pass, in_table, items_put}
 use Rattle.md_rule.proofs.words.exchange_word.Goals as goal
 
--- private words after an exchange
-after : (mine : Vec ℕ Global) (word : ℕ) (left : ℕ → ℕ) (new : List ℕ) → new ≡ slice_set mine.items word (left (slice_index mine.items word))
-    → ((with_items mine new).items ≡ slice_set mine.items word (left (slice_index mine.items word)))
-after mine word left new set = with_items_is mine new (ap length set ∙ length-set mine.items word (left (slice_index mine.items word)) ∙ sym mine.ok.0) ∙ set
+-- what is told of the word that was found, is told of the answer
+told_by : (P : ℕ → Type 0) (found from : ℕ) (r : Result (Unit {0}) ℕ) → MatchResult r (λ _. found ≡ from) (λ held. (held ≡ found) × (held ≢ from)) → P found
+    → MatchResult r (λ _. P from) (λ held. (held ≢ from) × P held)
+told_by P found from (Ok _) is told = subst P is told
+told_by P found from (Err held) is told = (is.1, subst P (sym is.0) told)
 
 pub compare_exchange-found-requires : goal.compare_exchange-found-requires
 compare_exchange-found-requires g c =
@@ -41,15 +40,8 @@ follow-requires-clause-may g c = λ s seen.
     let row = c.deref_mut.ensures.value in
     let found : c.exchange_private-found.result ≡ slice_index mine.items word = traded.found ∙ ap (λ l. slice_index l word) row in
     let set : c.exchange_private-found.new.words ≡ slice_set mine.items word (left (slice_index mine.items word)) = traded.words ∙ ap (λ l. slice_set l word (left c.exchange_private-found.result)) row ∙ ap (λ n. slice_set mine.items word (left n)) found in
-    let told = may_put M o _ me word left tells mine (with_items mine c.exchange_private-found.new.words) has.0 has.2 (after mine word left _ set) c.requires.live c.requires.may s seen in
+    let told = may_put M o _ me word left tells mine (with_items mine c.exchange_private-found.new.words) has.0 has.2 (items_put mine word (left (slice_index mine.items word)) _ set) c.requires.live c.requires.may s seen in
     (told.0, told.1, (subst (λ n. tells n me.view told.0.view) (sym found) told.2, told.3, told.4 ∙ sym c.of.ensures))
 
-pub returns-then-found-from-clause-told : goal.returns-then-found-from-clause-told
-returns-then-found-from-clause-told g c =
-    let told : g.K.Telling.tells c.match-private.found c.args.seat.now.me.0.view c.match-private.seat.me.0.view = search rules depth 1 in
-    subst (λ n. g.K.Telling.tells n c.args.seat.now.me.0.view c.match-private.seat.me.0.view) c.if-found-from.true told
-
-pub returns-else-found-from-clause-told : goal.returns-else-found-from-clause-told
-returns-else-found-from-clause-told g c =
-    let told : g.K.Telling.tells c.match-private.found c.args.seat.now.me.0.view c.match-private.seat.me.0.view = search rules depth 1 in
-    (c.if-found-from.false, told)
+pub returns-clause-told : goal.returns-clause-told
+returns-clause-told g c = told_by (λ n. g.K.Telling.tells n c.args.seat.now.me.0.view c.match-private.seat.me.0.view) c.match-private.found c.args.from c.answered.result c.answered.ensures (search rules depth 1)

@@ -1,5 +1,4 @@
-use Rattle.std.proofs.Common.{◌≡◌, ◌≢◌, ◌<◌, length, slice_index, rules, sym, ap, subst, ◌∙◌}
-use Rattle.std.proofs.lemmas.Grind.{get_or_default_zero}
+use Rattle.std.proofs.Common.{◌≡◌, ◌≢◌, ◌<◌, slice_index, rules, sym, ap, subst, ◌∙◌}
 use Rattle.std.proofs.lemmas.List.{set-get_or}
 use Rattle.md_words.specs.Layout.{words_of}
 use Rattle.md_rule.specs.Steps.{MayTell}
@@ -28,7 +27,6 @@ follow-requires-clause-may g c = λ s seen.
     let word = c.args.word in
     let tells = g.K.Telling.tells in
     let has = in_pass o.shape _ _ mine c.requires.private c.in-Some.is in
-    let fits : word < length mine.items = subst (λ n. word < n) (sym has.1) c.requires.field.1 in
-    let held : c.index-held.result.now ≡ slice_index mine.items word = c.index-held.ensures ∙ get_or_default_zero mine.items word _ fits in
+    let held : c.load_private-held.result ≡ slice_index mine.items word = c.load_private-held.ensures ∙ ap (λ l. slice_index l word) c.deref.ensures.value in
     let told = may_put M o _ me word (λ found. found) tells mine mine has.0 has.2 (sym (set-get_or mine.items word 0)) c.requires.live c.requires.may s seen in
     (told.0, told.1, (subst (λ n. tells n me.view told.0.view) (sym held) told.2, told.3, told.4 ∙ sym c.in-Some.is ∙ sym c.of.ensures))

@@ -1,10 +1,10 @@
-use Rattle.std.proofs.Common.{◌≢◌, ◌<◌, rules, refl, sym, ap, subst, ◌∙◌}
-use Rattle.std.specs.Vec.{with_item}
+use Rattle.std.proofs.Common.{◌≢◌, ◌<◌, rules, slice_set, sym, ap, subst, ◌∙◌}
+use Rattle.std.specs.Vec.{with_items}
 use Rattle.md_words.specs.Layout.{words_of}
 use Rattle.md_rule.specs.Steps.{MayTell}
 use Rattle.md_rule.specs.Views.{Origin}
 use Rattle.md_rule.proofs.Moves.{may_put, may_step}
-use Rattle.md_rule.proofs.Private.{fits_table, in_pass, in_table, still_has}
+use Rattle.md_rule.proofs.Private.{fits_table, in_pass, in_table, items_put, still_has}
 use Rattle.md_rule.proofs.words.store_word.Goals as goal
 
 pub store-requires : goal.store-requires
@@ -24,7 +24,8 @@ follow-requires-clause-may g c = λ s seen.
     let o = c.args.field.now.origin in
     let mine = c.in-Some.words in
     let has = in_pass o.shape _ _ mine c.requires.private c.in-Some.is in
-    let told = may_put M o _ _ c.args.word (λ _. c.args.value) (λ _. g.K.Telling.tells c.args.value) mine (with_item mine c.args.word c.args.value) has.0 has.2 refl c.requires.live c.requires.may s seen in
+    let set = c.store_private.ensures ∙ ap (λ l. slice_set l c.args.word c.args.value) c.deref_mut.ensures.value in
+    let told = may_put M o _ _ c.args.word (λ _. c.args.value) (λ _. g.K.Telling.tells c.args.value) mine (with_items mine c.store_private.new.words) has.0 has.2 (items_put mine c.args.word c.args.value _ set) c.requires.live c.requires.may s seen in
     (told.0, told.1, (told.2, told.3, told.4 ∙ sym c.of.ensures))
 
 pub returns-in-Some-clause-private : goal.returns-in-Some-clause-private
@@ -32,4 +33,5 @@ returns-in-Some-clause-private g c =
     let mine = c.in-Some.words in
     let shape = c.args.field.now.origin.shape in
     let has = in_pass shape _ _ mine c.requires.private c.in-Some.is in
-    still_has shape mine _ _ c.args.word c.args.value has.0 has.1 refl (c.follow.ensures.follows.2 ∙ c.of.ensures)
+    let set = c.store_private.ensures ∙ ap (λ l. slice_set l c.args.word c.args.value) c.deref_mut.ensures.value in
+    still_has shape mine _ _ c.args.word c.args.value has.0 has.1 (items_put mine c.args.word c.args.value _ set) (c.follow.ensures.follows.2 ∙ c.of.ensures)

@@ -6,7 +6,7 @@ use Rattle.md_words.specs.Place.{desc_status}
 use Rattle.md_machine.specs.Event.{load}
 use Rattle.md_machine.specs.Own.{HasDesc}
 use Rattle.md_rule.specs.Kept.{KeepsLane}
-use Rattle.md_rule.specs.Shares.{share_at}
+use Rattle.md_lanes.specs.Shares.{share_at}
 use Rattle.md_rule.specs.Steps.{SteppedFrom}
 use Rattle.md_nbtc_law.specs.Beginning.{FindsNew}
 use Rattle.md_nbtc_law.proofs.beginning.PutInHand.{first_new}

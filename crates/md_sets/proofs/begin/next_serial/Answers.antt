@@ -6,7 +6,7 @@ use Rattle.std.specs.List.{Contains}
 use Rattle.md_machine.specs.declared.pass.PassView.{PassView}
 use Rattle.md_machine.specs.Own.{HasDesc}
 use Rattle.md_rule.specs.Kept.{KeepsLane}
-use Rattle.md_rule.specs.Shares.{share_at}
+use Rattle.md_lanes.specs.Shares.{share_at}
 use Rattle.md_rule.specs.Views.{PassState}
 use Rattle.md_nbtc_law.proofs.beginning.PutInHand.{behind_of, new_after}
 use Rattle.md_nbtc_law.proofs.beginning.Starting.{own_still}

@@ -3,7 +3,7 @@ use Rattle.md_words.specs.declared.shape.Shape.{Shape}
 use Rattle.md_words.specs.Layout.{desc_count}
 use Rattle.md_machine.specs.declared.pass.PassView.{PassView}
 use Rattle.md_machine.specs.Own.{HasDesc}
-use Rattle.md_rule.specs.Shares.{share_at}
+use Rattle.md_lanes.specs.Shares.{share_at}
 use Rattle.md_rule.specs.Views.{PassState}
 use Rattle.md_rule.proofs.LaneLists.{desc_fits}
 use Rattle.md_nbtc_law.proofs.beginning.PutInHand.{begin_counts, may_begin, put_in_hand}

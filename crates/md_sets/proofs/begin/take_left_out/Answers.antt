@@ -1,7 +1,7 @@
 use Rattle.std.proofs.Common.{sym, subst, ◌∙◌}
 use Rattle.md_words.specs.declared.shape.Shape.{Shape}
 use Rattle.md_rule.specs.Kept.{KeepsLane}
-use Rattle.md_rule.specs.Shares.{share_at}
+use Rattle.md_lanes.specs.Shares.{share_at}
 use Rattle.md_nbtc_law.proofs.beginning.TakingOut.{empties_closed}
 use Rattle.md_sets.proofs.begin.take_left_out.Goals as goal
 

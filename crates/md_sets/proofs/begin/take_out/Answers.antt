@@ -1,7 +1,7 @@
 use Rattle.std.proofs.Common.{◌≤◌, ◌+◌, sym, subst}
 use Rattle.md_words.specs.Content.{word_of}
 use Rattle.md_machine.specs.declared.step.TheConstants.{LAST_COUNT}
-use Rattle.md_rule.proofs.Events.{count_of_word}
+use Rattle.md_lanes.proofs.Counting.{count_of_word}
 use Rattle.md_nbtc_law.proofs.beginning.SlotsOut.{may_take_out, takes_out}
 use Rattle.md_sets.proofs.begin.take_out.Goals as goal
 

@@ -1,5 +1,5 @@
 use Rattle.std.proofs.Common.{◌≡◌, ◌≤◌}
-use Rattle.md_rule.specs.Shares.{share_at}
+use Rattle.md_lanes.specs.Shares.{share_at}
 use Rattle.md_arena.specs.Taking.{with_nodes}
 use Rattle.md_sets.proofs.withdrawing.give_lot_back.Given as goal
 

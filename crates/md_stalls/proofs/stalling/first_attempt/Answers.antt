@@ -1,8 +1,8 @@
 use Rattle.std.proofs.Common.{◌≡◌, ◌+◌, ℕ, length, get_or-set_same, sym, ap, ◌∙◌, subst, ⊎_elim, arith}
 use Rattle.std.proofs.lemmas.Bool.{cases_lt}
-use Rattle.md_rule.specs.Shares.{share_at}
+use Rattle.md_lanes.specs.Shares.{share_at}
 use Rattle.md_rule.specs.Views.{PassState}
-use Rattle.md_rule.specs.declared.shares.Share.{Share}
+use Rattle.md_lanes.specs.declared.shares.Share.{Share}
 use Rattle.md_rule.specs.Lanes.{AreLanes}
 use Rattle.md_rule.proofs.LaneLists.{lane_fits}
 use Rattle.md_arena.specs.Left.{HasTryLeft, IsLowest}

@@ -1,7 +1,7 @@
 use Rattle.std.proofs.Common.{ap, sym, subst, ◌∙◌}
 use Rattle.md_rule.specs.Views.{Origin}
 use Rattle.md_store_law.specs.Untouched.{IsUntouched}
-use Rattle.md_rule.specs.Shares.{share_at}
+use Rattle.md_lanes.specs.Shares.{share_at}
 use Rattle.md_rule.proofs.LaneShares.{share_unused}
 use Rattle.md_store.proofs.Opening.{opened_fresh, opened_of, share_is_unused, start_is}
 use Rattle.md_running.specs.Store.{IsFresh, IsPassOf}

@@ -1,6 +1,7 @@
-use Rattle.std.proofs.Common.{refl, rules, tests}
+use Rattle.std.proofs.Common.{refl, rules}
 use Rattle.md_rule.specs.Views.{Origin}
 use Rattle.md_rule.proofs.Moves.{opens_so}
+use Rattle.md_rule.proofs.Private.{own_has}
 use Rattle.md_rule.proofs.field.Field.open.Goals as goal
 
 pub of_words-requires : goal.of_words-requires
@@ -17,7 +18,7 @@ pub invariant_of-result : goal.invariant_of-result
 invariant_of-result g c = search rules depth 1
 
 pub of-requires-then-shape-eq1-clause-private : goal.of-requires-then-shape-eq1-clause-private
-of-requires-then-shape-eq1-clause-private g c = record { same = search (rules, tests); one = (c.if-shape-eq1.true, search rules); more = tt }
+of-requires-then-shape-eq1-clause-private g c = rw c.own_words.ensures (own_has c.args.shape c.args.words _ (search rules) (search rules))
 
 pub of-requires-else-shape-eq1-clause-private : goal.of-requires-else-shape-eq1-clause-private
-of-requires-else-shape-eq1-clause-private g c = record { same = search (rules, tests); one = tt; more = c.if-shape-eq1.false }
+of-requires-else-shape-eq1-clause-private g c = rw c.own_words-else-shape-eq1.ensures (own_has c.args.shape c.args.words _ (search rules) (search rules))

@@ -15,11 +15,11 @@ exchange_word-requires-clause-may g c =
     let o = c.args.field.now.origin in
     let view = c.self.inside.seat.me.0.view in
     let at : c.status-word.result ≡ address o.shape (desc_status c.args.desc) = c.status-word.ensures.place ∙ ap (λ s. address s (desc_status c.args.desc)) c.shape.ensures in
-    let to = c.decided-committed.result in
+    let to = c.committed-committed.result in
     let may : May M o (λ pass. commit pass c.args.desc c.args.from) view = rw (ap (λ p. p.view) c.self.view_is) c.requires.may in
     subst (λ about. MayTell M o view c.status-word.result (traded c.args.from to) (SteppedFrom M o (λ pass. commit pass about.0 about.1) (address o.shape (desc_status about.0)))) (sym c.of-about.ensures)
     (subst (λ word. MayTell M o view word (traded c.args.from to) (SteppedFrom M o (λ pass. commit pass c.args.desc c.args.from) (address o.shape (desc_status c.args.desc)))) (sym at)
-    (exchange_tells M o _ view (address o.shape (desc_status c.args.desc)) c.args.from _ c.args.from to may (is_commit M o view c.args.desc c.args.from) refl c.decided-committed.ensures))
+    (exchange_tells M o _ view (address o.shape (desc_status c.args.desc)) c.args.from _ c.args.from to may (is_commit M o view c.args.desc c.args.from) refl c.committed-committed.ensures))
 
 pub invariant_of-self : goal.invariant_of-self
 invariant_of-self g c =

@@ -1,8 +1,8 @@
-use Rattle.std.proofs.Common.{ap, sym, subst, ◌∙◌, arith}
+use Rattle.std.proofs.Common.{ap, sym, subst, ◌∙◌}
 use Rattle.md_words.specs.Content.{word_of}
 use Rattle.md_machine.specs.Event.{exchange}
 use Rattle.md_rule.specs.Steps.{Exchanged, May, MayTell, SteppedFrom}
-use Rattle.md_rule.proofs.Events.{counts_more, exchange_tells, is_exchange, traded}
+use Rattle.md_rule.proofs.Events.{exchange_tells, is_exchange, traded}
 use Rattle.md_rule.proofs.LaneEvents.{quiet_exchange}
 use Rattle.md_rule.proofs.LaneSteps.{kept_quiet, stepped_of}
 use Rattle.md_rule.specs.Private.{HasWords}
@@ -15,9 +15,8 @@ exchange_word-requires-clause-may g c =
     let view = c.self.inside.seat.me.0.view in
     let word = c.args.word in
     let may : May M o (λ pass. exchange pass word (word_of c.args.from) c.args.to) view = rw (ap (λ p. p.view) c.self.view_is) c.requires.may in
-    subst (λ about. MayTell M o view word (traded c.word.result c.word-2.result) (SteppedFrom M o (λ pass. exchange pass word (word_of about.0) about.1) word)) (sym c.of-about.ensures)
-    (exchange_tells M o _ view word (word_of c.args.from) _ c.word.result c.word-2.result may (is_exchange M o view word (word_of c.args.from) c.args.to) c.word.ensures.whole
-    (counts_more c.args.from c.args.to 2 c.word-2.result (let fits = c.requires.fits in omega (arith, fits)) c.word-2.ensures.whole))
+    subst (λ about. MayTell M o view word (traded c.word.result c.exchanged-exchanged.result) (SteppedFrom M o (λ pass. exchange pass word (word_of about.0) about.1) word)) (sym c.of-about.ensures)
+    (exchange_tells M o _ view word (word_of c.args.from) _ c.word.result c.exchanged-exchanged.result may (is_exchange M o view word (word_of c.args.from) c.args.to) c.word.ensures.whole c.exchanged-exchanged.ensures)
 
 pub invariant_of-self : goal.invariant_of-self
 invariant_of-self g c =

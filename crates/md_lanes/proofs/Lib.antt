@@ -1,0 +1,3 @@
+pub mod LaneSets
+pub mod Counting
+mod Sharing

@@ -1,0 +1,2 @@
+pub mod LaneSet
+pub mod Shares
