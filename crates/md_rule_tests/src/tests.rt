@@ -16,7 +16,13 @@ use md_rule::{Field, Pass};
 use md_tickets::dispenser;
 use md_words::{Shape, ShapeFault};
 use std::alloc::AllocGlobal;
+use std::fmt::Debug;
 use std::process::Abort;
+
+// What was found is what was wanted. (A call is proved sooner than an `assert_eq!`.)
+fn same<T: PartialEq + Debug>(rt: &impl Abort, found: &T, wanted: &T) {
+    assert_eq!(rt; *found, *wanted);
+}
 
 // A field in which every word is 0, and the pass of all its lanes, which has made no step.
 fn unstepped<R: Abort + AllocGlobal>(

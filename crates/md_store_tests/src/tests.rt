@@ -1,7 +1,7 @@
 //! Stores that are opened, divided, put together again, settled, renewed and closed, without
 //! transactions; `attempts` runs bodies, and `fields` opens fields alone.
 
-ghost use Rattle.std.specs.Prelude.{◌≤◌, IfOk, IfSome};
+ghost use Rattle.std.specs.Prelude.{◌≤◌, IfOk, IfSome, IsTrue};
 ghost use Rattle.md_history.specs.Engine.{needed};
 ghost use Rattle.md_store.specs.Store.{IsFresh, IsPassOf, room_of, start_of};
 
@@ -9,6 +9,7 @@ use md_history::Contents;
 use md_store::{OpenFault, Store, StorePass};
 use md_words::{Shape, ShapeFault};
 use std::alloc::{AllocGlobal, Global};
+use std::fmt::Debug;
 use std::process::Abort;
 
 mod attempts;
@@ -16,6 +17,18 @@ mod examples;
 mod fields;
 mod interleavings;
 mod trials;
+
+// What was found is what was wanted. (A call is proved sooner than an `assert_eq!`.)
+fn same<T: PartialEq + Debug>(rt: &impl Abort, found: &T, wanted: &T) {
+    assert_eq!(rt; *found, *wanted);
+}
+
+// Something holds, and what follows is proved by it.
+fn holds(rt: &impl Abort, fact: bool)
+    ensures { IsTrue fact }
+{
+    assert!(rt; fact);
+}
 
 // Two pairs in two maps, and three values in two queues.
 fn pairs_and_values<R: Abort + AllocGlobal>(rt: &R) -> Contents {
@@ -79,17 +92,15 @@ fn renewed(rt: &impl Abort, store: Store, pass: StorePass) -> (Store, StorePass)
 
 // The maps and queues of both are the same.
 fn assert_same(rt: &impl Abort, back: &Contents, want: &Contents) {
-    assert_eq!(rt; back.maps(), want.maps());
-    assert_eq!(rt; back.queues(), want.queues());
+    same(rt, &back.maps(), &want.maps());
+    same(rt, &back.queues(), &want.queues());
 }
 
 // Closes a store and reads off its maps from a number on. The pass holds all lanes.
 fn has_maps_from(rt: &impl Abort, store: Store, pass: StorePass, first: u32, want: &Contents)
     requires { IsPassOf store pass }
 {
-    if !store.holds_all(&pass) {
-        panic!(rt; "all lanes")
-    }
+    holds(rt, store.holds_all(&pass));
     let (contents, _) = store.close_maps(pass, first).expect(rt, "memory");
     assert_same(rt, &contents, want);
 }
@@ -98,9 +109,7 @@ fn has_maps_from(rt: &impl Abort, store: Store, pass: StorePass, first: u32, wan
 fn gives_back(rt: &impl Abort, store: Store, mut pass: StorePass, want: &Contents)
     requires { IsPassOf store pass }
 {
-    if !store.holds_all(&pass) {
-        panic!(rt; "all lanes")
-    }
+    holds(rt, store.holds_all(&pass));
     store.settle(&mut pass);
     let (contents, _) = store.close(pass).expect(rt, "memory");
     assert_same(rt, &contents, want);
@@ -134,7 +143,7 @@ fn contents_outlast_renewals(rt: HostRuntime) {
     let start = pairs_and_values(&rt);
     let (store, pass) = opened(&rt, Shape::new(4, 2, 20, 3, 2, 4, 2), &start);
     let (store, pass) = renewed(&rt, store, pass);
-    assert_eq!(rt; store.field().shape().base, 7);
+    same(&rt, &store.field().shape().base, &7);
     let (store, pass) = renewed(&rt, store, pass);
     gives_back(&rt, store, pass, &start);
 }
@@ -144,7 +153,7 @@ fn a_queue_needs_a_base_node(rt: HostRuntime) {
     let start = Contents::empty(rt.alloc(), 1, 1).expect(&rt, "memory");
     let shape = Shape::new(2, 16, 0, 4, 1, 64, 1).expect(&rt, "a shape");
     let fault = try_open(rt.alloc(), shape, &start).err();
-    assert_eq!(rt; fault, Some(OpenFault::NoRoom { needed: 1, base: 0 }));
+    same(&rt, &fault, &Some(OpenFault::NoRoom { needed: 1, base: 0 }));
 }
 
 // Divides a store: the other part. `None` if the pass has one lane.
@@ -162,8 +171,8 @@ fn part_and_meet(rt: &impl Abort, store: &Store, pass: &mut StorePass)
     ensures { IsPassOf store.now pass.new }
 {
     let second = split(store, pass).expect(rt, "two lanes");
-    assert_eq!(rt; [pass.pass.lanes(), second.pass.lanes()], [1, 1]);
-    assert!(rt; split(store, pass).is_none());
+    same(rt, &[pass.pass.lanes(), second.pass.lanes()], &[1, 1]);
+    holds(rt, split(store, pass).is_none());
     store.join(pass, second);
 }
 

@@ -3,7 +3,7 @@
 ghost use Rattle.std.specs.Prelude.{◌≡◌};
 ghost use Rattle.md_machine.specs.Event.{first_pass};
 
-use super::{blank, part_of, unstepped};
+use super::{blank, part_of, same, unstepped};
 use md_arena::{give_back, no_node_twice, take_descriptor, take_node};
 use md_cell::CellTheory;
 use md_history::Limit;
@@ -44,7 +44,7 @@ fn taken_and_given_back(pass: &mut Pass<CellTheory>) -> Result<u32, Limit> {
 
 // A pass takes a node, and answers this.
 fn assert_takes_one(rt: &impl Abort, pass: &mut Pass<CellTheory>, want: Result<u32, Limit>) {
-    assert_eq!(rt; take(pass), want);
+    same(rt, &take(pass), &want);
 }
 
 // A pass takes the nodes from one to before another, in this order.
@@ -71,7 +71,7 @@ fn assert_take_in_turns(
 
 // A pass begins an attempt, and answers this.
 fn assert_begins_one(rt: &impl Abort, pass: &mut Pass<CellTheory>, want: Result<u32, Limit>) {
-    assert_eq!(rt; begin(pass), want);
+    same(rt, &begin(pass), &want);
 }
 
 // Two passes of a lane begin four attempts each, in turns, and have none left.
@@ -100,7 +100,7 @@ fn assert_begins(rt: &impl Abort, pass: &mut Pass<CellTheory>) {
 
 // A node that is taken and given back is the last of the pass, and is taken again.
 fn assert_last(rt: &impl Abort, pass: &mut Pass<CellTheory>, last: u32) {
-    assert_eq!(rt; taken_and_given_back(pass), Ok(last));
+    same(rt, &taken_and_given_back(pass), &Ok(last));
     assert_takes_one(rt, pass, Ok(last));
     assert_takes_one(rt, pass, Err(Limit::Nodes));
 }
@@ -122,7 +122,7 @@ fn each_part_takes_those_of_its_own_lane(rt: HostRuntime) {
 #[test]
 fn a_node_given_back_is_taken_again(rt: HostRuntime) {
     let (_, mut pass) = unstepped(&rt, Shape::new(1, 2, 1, 4, 1, 64, 1));
-    assert_eq!(rt; next(&mut pass), Ok(2));
+    same(&rt, &next(&mut pass), &Ok(2));
     assert_last(&rt, &mut pass, 3);
     no_node_twice();
 }

@@ -3,7 +3,7 @@
 ghost use Rattle.std.specs.Prelude.{◌≡◌, None};
 ghost use Rattle.md_rule.specs.Views.{IsOf};
 
-use super::idle;
+use super::{idle, same};
 use md_cell::CellTheory;
 use md_help::{End, settle_one};
 use md_rule::{Field, Pass};
@@ -43,5 +43,5 @@ fn an_attempt_that_is_not_ready_is_aborted_once(rt: HostRuntime) {
         settle_next(&field, &mut pass),
     ];
     let found = (ends, first_status(&field, &mut pass));
-    assert_eq!(rt; found, ([Some(End::Aborted); 2], 3));
+    same(&rt, &found, &([Some(End::Aborted); 2], 3));
 }

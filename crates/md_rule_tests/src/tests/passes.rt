@@ -4,7 +4,7 @@ ghost use Rattle.std.specs.Prelude.{◌≡◌, ◌<◌, ◌≤◌, ◌%◌, All,
 ghost use Rattle.md_machine.specs.declared.step.TheConstants.{LAST_COUNT};
 ghost use Rattle.md_rule.specs.Views.{IsOf};
 
-use super::{blank, join_one, part_of, split};
+use super::{blank, join_one, part_of, same, split};
 use md_cell::CellTheory;
 use md_machine::step::LAST_COUNT;
 use md_rule::{Field, Pass};
@@ -114,7 +114,7 @@ fn halved(
 {
     let other = part_of(rt, field, pass);
     let want = [(kept.count_ones(), kept), (given.count_ones(), given)];
-    assert_eq!(rt; [held(pass), held(&other)], want);
+    same(rt, &[held(pass), held(&other)], &want);
     other
 }
 
@@ -132,7 +132,7 @@ fn assert_single(rt: &impl Abort, field: &Field<CellTheory>, pass: &mut Pass<Cel
     ensures { IsOf pass.new field.now }
 {
     let whole = stays_whole(field, pass);
-    assert_eq!(rt; (whole, held(pass)), (true, (1, bit)));
+    same(rt, &(whole, held(pass)), &(true, (1, bit)));
 }
 
 // Joins two passes. The lanes of both have these bits, and are all of the field or not.
@@ -150,7 +150,7 @@ fn joined(
 {
     join_one(field, pass, other);
     let found = (held(pass), pass.holds_all(field));
-    assert_eq!(rt; found, ((bits.count_ones(), bits), all));
+    same(rt, &found, &((bits.count_ones(), bits), all));
 }
 
 // Puts a pass behind others.
@@ -264,7 +264,7 @@ fn two_passes_change_one_word_at_once(rt: HostRuntime) {
         count: 2 * won,
     };
     let found = (cell(&field, &mut pass), pass.holds_all(&field));
-    assert_eq!(rt; found, (last, true));
+    same(&rt, &found, &(last, true));
 }
 
 #[test]
@@ -281,9 +281,10 @@ fn a_pass_of_the_only_lane_has_the_words(rt: HostRuntime) {
         cell(&field, &mut pass),
     );
     let lost = (renew(&field, &mut pass, first), cell(&field, &mut pass));
-    assert_eq!(rt;
-        (churned, lost),
-        ((true, 1000, last), (Err(last.word()), last))
+    same(
+        &rt,
+        &(churned, lost),
+        &((true, 1000, last), (Err(last.word()), last)),
     );
 }
 
@@ -298,7 +299,7 @@ fn two_lanes_are_split_once(rt: HostRuntime) {
 #[test]
 fn eight_lanes_are_split_and_joined(rt: HostRuntime) {
     let (field, mut a) = blank(&rt, Shape::new(8, 1, 0, 1, 1, 1, 0));
-    assert!(rt; a.holds_all(&field));
+    same(&rt, &a.holds_all(&field), &true);
     let mut b = halved(&rt, &field, &mut a, 0b0000_1111, 0b1111_0000);
     let mut c = halved(&rt, &field, &mut a, 0b0000_0011, 0b0000_1100);
     let d = halved(&rt, &field, &mut c, 0b0000_0100, 0b0000_1000);
@@ -315,5 +316,5 @@ fn sixty_four_lanes_are_joined_in_another_order(rt: HostRuntime) {
     let parts = passes.len();
     let whole = join_all(&field, passes).expect(&rt, "64 passes");
     let found = (parts, whole.holds_all(&field), whole.lanes());
-    assert_eq!(rt; found, (64, true, 64));
+    same(&rt, &found, &(64, true, 64));
 }

@@ -6,7 +6,7 @@ ghost use Rattle.md_words.specs.Layout.{words_of};
 ghost use Rattle.md_machine.specs.declared.step.TheConstants.{LAST_COUNT};
 ghost use Rattle.md_rule.specs.Views.{IsOf};
 
-use super::idle;
+use super::{idle, same};
 use md_cell::CellTheory;
 use md_help::{Cleared, End};
 use md_machine::step::LAST_COUNT;
@@ -312,7 +312,7 @@ fn assert_left(rt: &impl Abort, field: &Field<CellTheory>, pass: &mut Pass<CellT
     let count = 2 * (won.installs + won.exchanges);
     let found = (left(field, pass), aborted(field, pass));
     let plain = Met::Plain(Content { value: 0, count });
-    assert_eq!(rt; found, (plain, Some(won.installs)));
+    same(rt, &found, &(plain, Some(won.installs)));
 }
 
 #[test]
@@ -320,13 +320,13 @@ fn a_transaction_that_stalls_is_aborted_and_taken_out(rt: HostRuntime) {
     let (field, mut a) = idle(&rt, Shape::new(2, 16, 1, 4, 1, 64, 1));
     let mut b = half_of(&rt, &field, &mut a);
     let held = [(423, 1), (424, 0), (425, 7), (1, 1)];
-    assert_eq!(rt; stalled(&field, &mut a, 7), Some((true, held)));
+    same(&rt, &stalled(&field, &mut a, 7), &Some((true, held)));
     let cleared = Cleared {
         end: End::Aborted,
         left: 2,
     };
     let found = (meet(&field, &mut b), status_and_cell(&field, &mut b));
-    assert_eq!(rt; found, (Met::Cleared(cleared), [(166, 3), (1, 2)]));
+    same(&rt, &found, &(Met::Cleared(cleared), [(166, 3), (1, 2)]));
 }
 
 #[test]
@@ -343,7 +343,7 @@ fn a_transaction_is_committed_by_its_pass(rt: HostRuntime) {
         [meet(&field, &mut a), meet(&field, &mut a)],
     );
     let met = [Met::Cleared(cleared), Met::Plain(after)];
-    assert_eq!(rt; found, (Some(true), [(166, 2), (1, 1)], met));
+    same(&rt, &found, &(Some(true), [(166, 2), (1, 1)], met));
 }
 
 #[test]
@@ -369,14 +369,14 @@ fn another_pass_commits_a_ready_transaction(rt: HostRuntime) {
         [(166, 2), (1, after.word())],
         Met::Plain(after),
     );
-    assert_eq!(rt; found, want);
+    same(&rt, &found, &want);
 }
 
 #[test]
 fn a_pass_alone_clears_each_stalled_transaction(rt: HostRuntime) {
     let (field, pass) = idle(&rt, Shape::new(4, 1, 0, 1, 1, 1, 0));
     let (won, mut pass) = turns(&field, pass, TURNS);
-    assert_eq!(rt; won.installs, 4);
+    same(&rt, &won.installs, &4);
     assert_left(&rt, &field, &mut pass, won);
 }
 

@@ -3,7 +3,7 @@
 ghost use Rattle.std.specs.Prelude.{◌≡◌, ◌≤◌};
 ghost use Rattle.md_rule.specs.Views.{IsOf};
 
-use super::{blank, join_one, part_of};
+use super::{blank, join_one, part_of, same};
 use md_cell::CellTheory;
 use md_rule::{Field, Pass};
 use md_tickets::{take_ticket, ticket_word};
@@ -103,7 +103,7 @@ fn a_pass_alone_takes_a_ticket_at_each_turn(rt: HostRuntime) {
     let (field, pass) = blank(&rt, Shape::new(1, 1, 0, 1, 1, 1, 0));
     let (taken, mut pass) = taken(&field, pass, TURNS);
     let found = (taken, count_and_lanes(&field, &mut pass));
-    assert_eq!(rt; found, (TURNS, (2 * TURNS, true)));
+    same(&rt, &found, &(TURNS, (2 * TURNS, true)));
 }
 
 #[test]
@@ -111,7 +111,7 @@ fn two_threads_take_tickets_at_once(rt: HostRuntime) {
     let (field, mut one) = blank(&rt, Shape::new(2, 1, 0, 1, 1, 1, 0));
     let other = part_of(&rt, &field, &mut one);
     let (taken, mut pass) = taken_by_two(&rt, &field, one, other);
-    assert_eq!(rt; count_and_lanes(&field, &mut pass), (2 * taken, true));
+    same(&rt, &count_and_lanes(&field, &mut pass), &(2 * taken, true));
 }
 
 #[test]
@@ -121,5 +121,5 @@ fn four_threads_take_tickets_at_once(rt: HostRuntime) {
     let b = part_of(&rt, &field, &mut a);
     let d = part_of(&rt, &field, &mut c);
     let (taken, mut pass) = taken_by_four(&rt, &field, a, b, c, d);
-    assert_eq!(rt; count_and_lanes(&field, &mut pass), (2 * taken, true));
+    same(&rt, &count_and_lanes(&field, &mut pass), &(2 * taken, true));
 }

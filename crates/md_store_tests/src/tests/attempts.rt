@@ -59,9 +59,8 @@ fn end_of(
     ensures { IsPassOf store.now pass.new }
 {
     let shape = store.field().shape();
-    if shape.maps == 0 || shape.queues == 0 {
-        panic!(rt; "a map and a queue")
-    }
+    holds(rt, shape.maps > 0);
+    holds(rt, shape.queues > 0);
     store.attempt(pass, tag, &body)
 }
 
@@ -77,7 +76,7 @@ fn ends(
     requires of { IsPassOf store.now pass.old }
     ensures of { IsPassOf store.now pass.new }
 {
-    assert_eq!(rt; end_of(rt, store, pass, tag, body), end);
+    same(rt, &end_of(rt, store, pass, tag, body), &end);
 }
 
 #[test]

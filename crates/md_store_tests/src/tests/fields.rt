@@ -33,11 +33,9 @@ fn bits_of(words: &[u64]) -> u64 {
 fn laid<R: Abort + AllocGlobal>(rt: &R, shape: &Shape, contents: &Contents) -> Vec<u64>
     ensures { OpensWith shape.now result.items contents.now }
 {
-    let maps = contents.maps().len() == shape.maps as usize;
-    let queues = contents.queues().len() == shape.queues as usize;
-    if !maps || !queues || needed(contents) > shape.base as u64 {
-        panic!(rt; "another shape")
-    }
+    holds(rt, contents.maps().len() == shape.maps as usize);
+    holds(rt, contents.queues().len() == shape.queues as usize);
+    holds(rt, needed(contents) <= shape.base as u64);
     lay(rt.alloc(), shape, contents).expect(rt, "memory")
 }
 
@@ -62,7 +60,7 @@ fn leaves<R: Abort + AllocGlobal>(
 ) -> usize {
     let shape = shape.expect(rt, "a shape");
     let (laid, left) = laid_and_closed(rt, shape, contents);
-    assert_eq!(rt; left, laid);
+    same(rt, &left, &laid);
     left.len()
 }
 
@@ -71,7 +69,7 @@ fn an_empty_field_is_closed_as_it_was_opened(rt: HostRuntime) {
     let shape = Shape::new(2, 16, 1, 4, 1, 64, 1).expect(&rt, "a shape");
     let (field, pass) = dispenser(rt.alloc(), shape).expect(&rt, "memory");
     let words = closed(&rt, field, pass);
-    assert_eq!(rt; (words.len(), bits_of(&words)), (1448, 0));
+    same(&rt, &(words.len(), bits_of(&words)), &(1448, 0));
 }
 
 // The field of empty contents has one base node, the dummy of the queue.
@@ -79,7 +77,7 @@ fn an_empty_field_is_closed_as_it_was_opened(rt: HostRuntime) {
 fn a_laid_field_is_closed_as_it_was_opened(rt: HostRuntime) {
     let empty = Contents::empty(rt.alloc(), 1, 1).expect(&rt, "memory");
     let words = leaves(&rt, Shape::new(2, 16, 1, 4, 1, 64, 1), &empty);
-    assert_eq!(rt; words, 1448);
+    same(&rt, &words, &1448);
     let contents = pair_and_value(&rt, 5, 6, 7);
     leaves(&rt, Shape::new(2, 16, 4, 4, 1, 64, 1), &contents);
 }

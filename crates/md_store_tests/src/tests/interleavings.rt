@@ -5,6 +5,7 @@ ghost use Rattle.md_interleavings.specs.Acting.{IsActing};
 ghost use Rattle.md_nbtc.specs.State.{state};
 ghost use Rattle.md_store.specs.Store.{IsPassOf};
 
+use super::{holds, same};
 use md_history::{Contents, Limit, Line, Op, Reply, Shown, Stop};
 use md_interleavings::{act, begin, commit, first_lane, leave, leave_ready, settled, stop, word};
 use md_nbtc::{Sets, Txn};
@@ -60,8 +61,8 @@ fn pairs<R: Abort + AllocGlobal>(rt: &R, pairs: &[(u64, u64)]) -> Contents {
 fn opened<R: Abort + AllocGlobal>(rt: &R, shape: Shape, start: &Contents) -> (Store, StorePass)
     ensures { IsPassOf result.0 result.1 }
 {
-    assert!(rt; start.maps().len() == shape.maps as usize);
-    assert!(rt; start.queues().len() == shape.queues as usize);
+    holds(rt, start.maps().len() == shape.maps as usize);
+    holds(rt, start.queues().len() == shape.queues as usize);
     Store::open(rt.alloc(), shape, start).expect(rt, "a store")
 }
 
@@ -87,7 +88,7 @@ fn meet(store: &Store, pass: &mut StorePass, other: StorePass)
 fn closed<R: Abort>(rt: &R, store: Store, mut pass: StorePass) -> Contents
     requires { IsPassOf store pass }
 {
-    assert!(rt; store.holds_all(&pass));
+    holds(rt, store.holds_all(&pass));
     store.settle(&mut pass);
     let (contents, _) = store.close(pass).expect(rt, "memory");
     contents
@@ -171,7 +172,7 @@ fn all<R: Abort>(
 
 // What operations were told, and how their transaction ended, is what was wanted.
 fn are_same<R: Abort>(rt: &R, told: &[Told], end: Ended, want: &[Told], want_end: Ended) {
-    assert_eq!(rt; (told, end), (want, want_end));
+    same(rt, &(told, end), &(want, want_end));
 }
 
 // Makes operations as one transaction that is to commit. They are told this, and it ends so.
@@ -206,11 +207,6 @@ fn replies<R: Abort + AllocGlobal>(
     are_told(rt, store, pass, 6, &[op], &[Ok(reply)], Ok(true));
 }
 
-// What stands in a word of the field is what was wanted.
-fn stands<R: Abort>(rt: &R, found: (u32, u64), want: (u32, u64)) {
-    assert_eq!(rt; found, want);
-}
-
 // Words of the field have these values.
 fn show<R: Abort>(rt: &R, store: &Store, pass: &mut Pass<StoreTheory>, words: &[(u32, u64)])
     requires { IsPassOf store.now pass.old }
@@ -218,7 +214,7 @@ fn show<R: Abort>(rt: &R, store: &Store, pass: &mut Pass<StoreTheory>, words: &[
 {
     for (at, value) in words {
         let found = word(pass, store, *at);
-        stands(rt, (*at, found), (*at, *value));
+        same(rt, &(*at, found), &(*at, *value));
     }
 }
 
@@ -256,7 +252,7 @@ fn contains<R: Abort>(
     maps: &[BTreeMap<u64, u64>],
     queues: &[VecDeque<u64>],
 ) {
-    assert_eq!(rt; (left.maps(), left.queues()), (maps, queues));
+    same(rt, &(left.maps(), left.queues()), &(maps, queues));
 }
 
 // Joins two passes, inserts key 3, and closes: what is left are these pairs.

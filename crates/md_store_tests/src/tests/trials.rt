@@ -4,7 +4,7 @@ ghost use Rattle.std.specs.Prelude.{◌≡◌, IfOk};
 ghost use Rattle.md_history.specs.State.{empty_state};
 ghost use Rattle.md_store.specs.Store.{IsPassOf};
 
-use super::assert_same;
+use super::{assert_same, same};
 use md_history::{Contents, Reply};
 use md_store::{OpenFault, Store, StorePass};
 use md_trials::{Count, KEPT, MOST_CALLS, Mix, Transfer, Turn, Turned, key_of};

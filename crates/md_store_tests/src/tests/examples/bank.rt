@@ -5,6 +5,7 @@ ghost use Rattle.md_history.specs.Plain.{IsPassOf};
 ghost use Rattle.transfers.specs.Bank.{IsBank};
 ghost use Rattle.transfers.specs.declared.threads.TheConstants.{MAX_TELLERS};
 
+use crate::tests::same;
 use medley_transactions::{
     Attempt, Contents, Engine, LinesByCaller, Many, PlainPass, PlainStore, StorePass,
 };
@@ -41,7 +42,7 @@ fn comes_to(
     ensures { IsPassOf store.now pass.new }
 {
     let attempt = store.attempt(pass, 0, &transfer);
-    assert_eq!(rt; attempt, Attempt::Committed(outcome));
+    same(rt, &attempt, &Attempt::Committed(outcome));
 }
 
 fn transfer(number: u64, from: u64, to: u64, amount: u64) -> Transfer {
@@ -80,11 +81,11 @@ fn has_moved(rt: &impl Abort, contents: &Contents)
     requires { IsBank contents.now }
 {
     let accounts = [contents.get(ACCOUNTS, 1), contents.get(ACCOUNTS, 2)];
-    assert_eq!(rt; accounts, [Some(9), Some(u64::MAX - 3)]);
+    same(rt, &accounts, &[Some(9), Some(u64::MAX - 3)]);
     let journal = contents.queue(JOURNAL);
-    assert_eq!(rt; journal.len(), 3);
+    same(rt, &journal.len(), &3);
     for (number, want) in journal.iter().zip([0, 3, 7]) {
-        assert_eq!(rt; *number, want);
+        same(rt, number, &want);
     }
 }
 
@@ -114,10 +115,10 @@ fn made_in_threads<R: Abort + AllocGlobal + Threads + Sync>(
 fn is_right<R: Abort + AllocGlobal>(rt: &R, many: &Many<Outcome, StorePass>, sum: u64, total: u64)
     requires { IsBank many.now.contents }
 {
-    assert_eq!(rt; sum_of(&many.contents), sum);
+    same(rt, &sum_of(&many.contents), &sum);
     let right = is_journal_right(rt.alloc(), many).expect(rt, "memory");
     let moved = moved_in(many);
-    assert_eq!(rt; (right, moved > 0, moved < total), (true, true, true));
+    same(rt, &(right, moved > 0, moved < total), &(true, true, true));
 }
 
 // So many tellers make transfers between so many accounts of 60 each.

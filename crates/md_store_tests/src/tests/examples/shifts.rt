@@ -4,6 +4,7 @@ ghost use Rattle.std.specs.Prelude.{◌≤◌};
 ghost use Rattle.scheduler.specs.declared.places.TheConstants.{MAX_JOBS, MAX_WORKERS};
 ghost use Rattle.scheduler.specs.Jobs.{Holds};
 
+use crate::tests::same;
 use md_history::Contents;
 use md_many::Many;
 use md_store::StorePass;
@@ -37,10 +38,16 @@ fn finished<'a>(rt: &impl Abort, contents: &'a Contents) -> &'a BTreeMap<u64, u6
 fn are_finished(rt: &impl Abort, contents: &Contents, jobs: u32) {
     let finished = finished(rt, contents);
     let running = contents.maps().get(RUNNING as usize).expect(rt, "a map");
-    assert_eq!(rt; (finished.len(), running.is_empty()), (jobs as usize, true));
-    assert!(rt; contents.queues().iter().all(|queue| queue.is_empty()));
+    same(
+        rt,
+        &(finished.len(), running.is_empty()),
+        &(jobs as usize, true),
+    );
+    for queue in contents.queues() {
+        same(rt, &queue.is_empty(), &true);
+    }
     for job in 0..jobs {
-        assert!(rt; finished.get(&(job as u64)).is_some());
+        same(rt, &finished.get(&(job as u64)).is_some(), &true);
     }
 }
 
@@ -51,7 +58,7 @@ fn have_replies(rt: &impl Abort, done: &Many<Option<u64>, StorePass>, jobs: u32,
     for worker in 1..=workers {
         let last = done.reply(worker, 2 * jobs + 2).is_some();
         let next = done.reply(worker, 2 * jobs + 3).is_none();
-        assert_eq!(rt; (last, next), (true, true));
+        same(rt, &(last, next), &(true, true));
     }
 }
 
@@ -59,7 +66,7 @@ fn have_replies(rt: &impl Abort, done: &Many<Option<u64>, StorePass>, jobs: u32,
 fn finds_nothing(rt: &impl Abort, again: &Many<Option<u64>, StorePass>, before: &Contents) {
     let first = again.reply(1, 1).copied();
     let (found, left) = (finished(rt, &again.contents), finished(rt, before));
-    assert_eq!(rt; (first, found), (Some(None), left));
+    same(rt, &(first, found), &(Some(None), left));
 }
 
 // So many workers finish so many jobs.

@@ -27,7 +27,7 @@ fn left<R: Abort + AllocGlobal>(
     let way = if ready { Way::LeaveReady } else { Way::Leave };
     let mut told = Vec::new(rt.alloc());
     let is_ready = matches!(all(rt, store, pass, 7, ops, way, &mut told), Ok(true));
-    assert!(rt; is_ready == ready);
+    same(rt, &is_ready, &ready);
 }
 
 // Looks at key 1 by the pass `other`, then goes on with both passes joined.

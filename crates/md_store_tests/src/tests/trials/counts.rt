@@ -75,7 +75,7 @@ fn found_by<R: Abort + AllocGlobal>(rt: &R, threads: &[Vec<Found>]) -> (u64, boo
 fn four_threads_count(rt: HostRuntime) {
     let ran = counted(&rt);
     let all = 4 * TURNS as u64;
-    assert_eq!(rt; found_by(&rt, &ran.replies), (all, true));
+    same(&rt, &found_by(&rt, &ran.replies), &(all, true));
     let count = Some(all);
-    assert_eq!(rt; counts_in(&ran.left), Some((1, 1, (count, count))));
+    same(&rt, &counts_in(&ran.left), &Some((1, 1, (count, count))));
 }

@@ -214,7 +214,7 @@ fn a_store_answers_as_one_for_one_thread(rt: HostRuntime) {
     let shape = shape_of(&rt, 1, 400_000, 2, 100_000, 3);
     let back = run_round(&rt, shape, &empty(&rt), &mut plain, 0, 100_000);
     let calls = 550_000;
-    assert_eq!(rt; plain.tally, Tally { calls, ..NONE });
+    same(&rt, &plain.tally, &Tally { calls, ..NONE });
     leaves(&rt, plain, &back);
 }
 
@@ -225,9 +225,9 @@ fn stopped_transactions_leave_nothing(rt: HostRuntime) {
     let mut plain = Plain::empty(&rt);
     let back = run_rounds(&rt, shape_of(&rt, 2, 20, 2_000, 30, 3), &mut plain, 1_000);
     let tally = plain.tally;
-    assert_eq!(rt; (tally.wrong, tally.without_tries), (0, 40_000));
-    assert!(rt; tally.without_nodes > 5_000);
-    assert!(rt; tally.calls > 50_000);
+    same(&rt, &(tally.wrong, tally.without_tries), &(0, 40_000));
+    let many = [tally.without_nodes > 5_000, tally.calls > 50_000];
+    same(&rt, &many, &[true; 2]);
     leaves(&rt, plain, &back);
 }
 
@@ -243,6 +243,6 @@ fn passes_in_turn_answer_as_one(rt: HostRuntime) {
         4_000,
     );
     let calls = 220_000;
-    assert_eq!(rt; plain.tally, Tally { calls, ..NONE });
+    same(&rt, &plain.tally, &Tally { calls, ..NONE });
     leaves(&rt, plain, &back);
 }

@@ -98,7 +98,7 @@ fn sums_after<R: Abort + AllocGlobal + Threads + Sync>(
 fn keep_a_sum<R: Abort + AllocGlobal + Threads + Sync>(rt: &R, threads: u64) {
     let (left, keys) = sums_after(rt, &transfers_of_all(rt, threads));
     let there = (2 * START).wrapping_sub(left);
-    assert_eq!(rt; keys, Some((2, Some(left), Some(there))));
+    same(rt, &keys, &Some((2, Some(left), Some(there))));
 }
 
 #[test]

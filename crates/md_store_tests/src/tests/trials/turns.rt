@@ -129,6 +129,6 @@ fn are_all_there<R: Abort + AllocGlobal>(rt: &R, threads: &[Vec<Turned>], left: 
 #[test]
 fn four_threads_take_turns(rt: HostRuntime) {
     let Ran { replies, left } = turned(&rt);
-    assert!(rt; are_all_there(&rt, &replies, &left));
-    assert_eq!(rt; left.maps().first(), Some(&last_keys(&rt)));
+    same(&rt, &are_all_there(&rt, &replies, &left), &true);
+    same(&rt, &left.maps().first(), &Some(&last_keys(&rt)));
 }
