@@ -7,6 +7,7 @@ ghost use Rattle.md_history.specs.Act.{act_of};
 ghost use Rattle.md_history.specs.State.{line_of};
 ghost use Rattle.md_history.specs.Counts.{reads, writes, nodes};
 
+use crate::compared::same;
 use md_history::{Act, Acts, Line, MAX_LINE, Op, Reply};
 use std::process::Abort;
 use std::test::Fail;
@@ -35,9 +36,9 @@ fn acts_are_counted() {
 // The list has these acts, and no others.
 pub(crate) fn has_acts(rt: &impl Abort, acts: &Acts, want: &[Act]) {
     for (place, act) in want.iter().enumerate() {
-        assert_eq!(rt; acts.get(place), Some(*act));
+        same(rt, &acts.get(place), &Some(*act));
     }
-    assert_eq!(rt; (acts.len(), acts.get(want.len())), (want.len(), None));
+    same(rt, &(acts.len(), acts.get(want.len())), &(want.len(), None));
 }
 
 // An act with each kind of reply.

@@ -1,5 +1,6 @@
 //! The addresses of a field with two lanes.
 
+use crate::compared::same;
 use md_words::{SET, Shape};
 use std::process::Abort;
 
@@ -69,10 +70,10 @@ fn owned(shape: &Shape, lane: u32) -> Option<[u32; 2]> {
 fn heads_and_nodes(rt: HostRuntime) {
     let shape = two_lanes(&rt);
     let heads = [map_word(&shape, 1), map_word(&shape, 64)];
-    assert_eq!(rt; heads, [Some(2), Some(1)]);
-    assert_eq!(rt; queue_words(&shape, 0), Some([65, 66]));
+    same(&rt, &heads, &[Some(2), Some(1)]);
+    same(&rt, &queue_words(&shape, 0), &Some([65, 66]));
     let nodes = [node_words(&shape, 1), node_words(&shape, 2)];
-    assert_eq!(rt; nodes, [Some([67, 68, 69]), Some([70, 71, 72])]);
+    same(&rt, &nodes, &[Some([67, 68, 69]), Some([70, 71, 72])]);
 }
 
 #[test]
@@ -88,10 +89,11 @@ fn descriptors(rt: HostRuntime) {
         Some([807, 808, 809, 1064, 1065, 1066]),
         Some([807, 1062, 1063, 1445, 1446, 1447]),
     ];
-    assert_eq!(rt; words, want);
-    assert_eq!(rt;
-        [owned(&shape, 0), owned(&shape, 1)],
-        [Some([2, 0]), Some([18, 1])]
+    same(&rt, &words, &want);
+    same(
+        &rt,
+        &[owned(&shape, 0), owned(&shape, 1)],
+        &[Some([2, 0]), Some([18, 1])],
     );
 }
 
@@ -107,6 +109,6 @@ fn counted_words(rt: HostRuntime) {
         (72, true),
         (168, false),
     ] {
-        assert_eq!(rt; shape.is_counted(word), want, "at {word}");
+        same(&rt, &(word, shape.is_counted(word)), &(word, want));
     }
 }

@@ -4,6 +4,7 @@ ghost use Rattle.std.specs.Prelude.{◌≡◌, length};
 ghost use Rattle.md_history.specs.Plain.{IsPassOf};
 
 use crate::acts::has_acts;
+use crate::compared::same;
 use crate::contents::{map_is, push, put, queue_is};
 use md_history::{
     Act, Attempt, Body, Contents, Engine, Entry, Op, PlainPass, PlainStore, Reply, Stop, TxCalls,
@@ -101,7 +102,7 @@ fn one_of_each(rt: &(impl Abort + AllocGlobal)) -> Contents
 // The entry is committed on the only lane, and has these acts.
 fn is_entry(rt: &impl Abort, entry: &Entry, number: u64, tag: u64, acts: &[Act]) {
     let head = (entry.lane, entry.number, entry.tag, entry.sound);
-    assert_eq!(rt; head, (0, number, tag, true));
+    same(rt, &head, &(0, number, tag, true));
     has_acts(rt, &entry.acts, acts);
 }
 
@@ -135,9 +136,9 @@ fn a_body_runs_twice(rt: HostRuntime) {
     let first = EachCall { key: 5, value: 6 };
     let second = EachCall { key: 5, value: 7 };
     let one = end_of(&store, &mut pass, 30, first);
-    assert_eq!(rt; one, Attempt::Committed(Some(1)));
+    same(&rt, &one, &Attempt::Committed(Some(1)));
     let two = end_of(&store, &mut pass, 20, second);
-    assert_eq!(rt; two, Attempt::Committed(Some(6)));
+    same(&rt, &two, &Attempt::Committed(Some(6)));
     has_both(&rt, pass.entries(), first, second);
     let (contents, _front) = store.contents(pass).expect(&rt, "memory");
     map_is(

@@ -2,6 +2,7 @@
 
 ghost use Rattle.std.specs.Prelude.{◌<◌, length, IsTrue};
 
+use crate::compared::same;
 use md_history::Contents;
 use std::alloc::{AllocError, Global};
 use std::process::Abort;
@@ -69,7 +70,7 @@ pub(crate) fn map_is(
     map: u32,
     want: Option<[Option<u64>; 5]>,
 ) {
-    assert_eq!(rt; map_has(contents, map), want);
+    same(rt, &map_has(contents, map), &want);
 }
 
 // How many values a queue has. `None` if there is no such queue.
@@ -102,7 +103,7 @@ pub(crate) fn queue_is(
     queue: u32,
     want: Option<[Option<u64>; 5]>,
 ) {
-    assert_eq!(rt; queue_has(contents, queue), want);
+    same(rt, &queue_has(contents, queue), &want);
 }
 
 // What two puts at one key return. A value goes into a queue, too.
@@ -116,7 +117,7 @@ fn puts_of(contents: &mut Contents) -> Result<[Option<u64>; 2], AllocError> {
 fn contents_take_values(rt: HostRuntime) {
     let mut contents = Contents::empty(rt.alloc(), 1, 1).expect(&rt, "memory");
     let puts = puts_of(&mut contents).expect(&rt, "memory");
-    assert_eq!(rt; puts, [None, Some(6)]);
+    same(&rt, &puts, &[None, Some(6)]);
     map_is(
         &rt,
         &contents,

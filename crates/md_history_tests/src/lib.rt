@@ -11,6 +11,8 @@ mod addresses;
 #[cfg(test)]
 mod bodies;
 #[cfg(test)]
+mod compared;
+#[cfg(test)]
 mod contents;
 #[cfg(test)]
 mod lines;

@@ -3,6 +3,7 @@
 ghost use Rattle.std.specs.Prelude.{◌≡◌, ◌≤◌, length};
 ghost use Rattle.md_history.specs.Plain.{IsPassOf};
 
+use crate::compared::same;
 use crate::contents::{push, queue_is, queue_len};
 use md_history::{Attempt, Body, Contents, Engine, Line, PlainPass, PlainStore, Stop, TxCalls};
 use std::alloc::{AllocError, AllocGlobal};
@@ -78,7 +79,7 @@ fn line_of(count: u8) -> Line {
 
 // The line has the values from 1 on, `count` of them.
 fn has_first(rt: &impl Abort, line: &Line, count: u8) {
-    assert_eq!(rt; *line, line_of(count));
+    same(rt, line, &line_of(count));
 }
 
 // The body was committed, and its lines have the values from 1 on, so many of them.
@@ -125,7 +126,7 @@ fn a_renewed_store_goes_on(rt: HostRuntime) {
     let (store, mut pass, _front) = store.renew(pass).expect(&rt, "memory");
     let entries = entries_of(&store, &mut pass);
     let (contents, _front) = store.contents(pass).expect(&rt, "memory");
-    assert_eq!(rt; (alone, entries), (true, [0, 1]));
+    same(&rt, &(alone, entries), &(true, [0, 1]));
     queue_is(
         &rt,
         &contents,
@@ -166,7 +167,7 @@ fn counted_queue(rt: &(impl Abort + AllocGlobal), there: u64) -> Contents
     ensures { length result.queues ≡ 1 }
 {
     let start = queue_of(rt, there);
-    assert_eq!(rt; queue_len(&start, 0), Some(there));
+    same(rt, &queue_len(&start, 0), &Some(there));
     start
 }
 

@@ -1,5 +1,6 @@
 //! What reads and writes answer, one after another.
 
+use crate::compared::same;
 use md_outside::{Failed, Sink, Source};
 use std::alloc::AllocGlobal;
 use std::process::Abort;
@@ -30,7 +31,7 @@ pub(crate) fn reads<R: Abort + AllocGlobal, S: Source>(
     want: &[u8],
 ) {
     let log = read_log(rt, source, calls);
-    assert_eq!(rt; log.as_slice(), want);
+    same(rt, &log.as_slice(), &want);
 }
 
 // What so many writes answer: the number of bytes that each takes and a bar, `!` at a fault. A write
@@ -61,5 +62,5 @@ fn write_log<R: Abort + AllocGlobal, S: Sink>(
 // Three writes of `hello` give this log.
 pub(crate) fn writes<R: Abort + AllocGlobal, S: Sink>(rt: &R, sink: &mut S, want: &str) {
     let log = write_log(rt, sink, b"hello", 3);
-    assert_eq!(rt; log.as_str(), want);
+    same(rt, &log.as_str(), &want);
 }

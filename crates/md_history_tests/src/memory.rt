@@ -1,5 +1,6 @@
 //! Streams in memory.
 
+use crate::compared::same;
 use crate::logs::{reads, writes};
 use md_outside::{MemSink, MemSource};
 use std::alloc::AllocGlobal;
@@ -30,5 +31,5 @@ fn a_sink_in_memory_has_room_and_fails_where_told(rt: HostRuntime) {
     let opened = MemSink::new(rt.alloc(), 4, copied(&rt, &[1]));
     let mut sink = opened.expect(&rt, "memory");
     writes(&rt, &mut sink, "!4|!");
-    assert_eq!(rt; sink.bytes(), b"hell".as_slice());
+    same(&rt, &sink.bytes(), &b"hell".as_slice());
 }

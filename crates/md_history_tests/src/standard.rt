@@ -1,5 +1,6 @@
 //! Streams over readers and writers of std.
 
+use crate::compared::same;
 use crate::logs::{reads, writes};
 use md_outside::{StdSink, StdSource};
 use std::alloc::AllocGlobal;
@@ -16,7 +17,7 @@ fn readers_of_std_pass_all_bytes(rt: HostRuntime) {
 fn writers_of_std_pass_all_bytes(rt: HostRuntime) {
     let mut written = Vec::new(rt.alloc());
     writes(&rt, &mut StdSink::new(&mut written), "5|");
-    assert_eq!(rt; written.as_slice(), b"hello".as_slice());
+    same(&rt, &written.as_slice(), &b"hello".as_slice());
 }
 
 // A reader that gives one letter at a call, in order, but for one call, which is interrupted.
@@ -88,7 +89,7 @@ fn flushes<R: Abort + AllocGlobal>(rt: &R, most: usize, want: &str, taken: usize
         failing: 2,
     };
     writes(rt, &mut StdSink::new(&mut writer), want);
-    assert_eq!(rt; (writer.taken, writer.flushes), (taken, 3));
+    same(rt, &(writer.taken, writer.flushes), &(taken, 3));
 }
 
 #[test]

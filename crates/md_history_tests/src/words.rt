@@ -1,11 +1,12 @@
 //! Words taken apart and put together.
 
+use crate::compared::same;
 use md_words::{Content, Spot, Status, StatusWord};
 
 #[test]
 fn contents(rt: HostRuntime) {
     let spot = Spot { desc: 3, slot: 7 };
-    assert_eq!(rt; spot.value(), 775);
+    same(&rt, &spot.value(), &775);
     for (word, value, count, stands) in [
         (17179869184 + 2, 4, 2, None),
         (154618822658, 36, 2, None),
@@ -14,7 +15,7 @@ fn contents(rt: HostRuntime) {
     ] {
         let content = Content { value, count };
         let found = (Content::of(word), content.word(), content.stands());
-        assert_eq!(rt; found, (content, word, stands));
+        same(&rt, &found, &(content, word, stands));
     }
 }
 
@@ -42,6 +43,6 @@ fn status_words(rt: HostRuntime) {
             serial,
         };
         let found = (StatusWord::of(word), word_of(held));
-        assert_eq!(rt; found, (held, Some(word)));
+        same(&rt, &found, &(held, Some(word)));
     }
 }

@@ -1,5 +1,6 @@
 //! A caller's attempts end.
 
+use crate::compared::same;
 use crate::gates::Counting;
 use crate::lines::{EachLine, are_tags};
 use crate::puts::Put;
@@ -56,9 +57,10 @@ fn turn_ends<R: Abort + AllocGlobal>(
         replies as u64,
     ];
     let made = made.load(Ordering::SeqCst);
-    assert_eq!(rt;
-        (found, seen, made, gate.right.get()),
-        (end, [attempts, played, played, played], attempts, true)
+    same(
+        rt,
+        &(found, seen, made, gate.right.get()),
+        &(end, [attempts, played, played, played], attempts, true),
     );
 }
 

@@ -5,6 +5,8 @@
 #[cfg(test)]
 mod attempts;
 #[cfg(test)]
+mod compared;
+#[cfg(test)]
 mod gates;
 #[cfg(test)]
 mod lines;

@@ -3,6 +3,7 @@
 ghost use Rattle.std.specs.Prelude.{◌≡◌, ℕ};
 ghost use Rattle.md_attempts.specs.Tags.{tag_of};
 
+use crate::compared::same;
 use md_history::Body;
 use md_many::{Lines, line_tag};
 use std::process::Abort;
@@ -67,6 +68,6 @@ impl<T: Numbered> Lines for EachLine<T> {
 // The replies are tags, one after another, the first of which comes after this one.
 pub(crate) fn are_tags(rt: &impl Abort, before: u64, replies: &[u64]) {
     for (place, reply) in replies.iter().enumerate() {
-        assert_eq!(rt; *reply, before.wrapping_add(place as u64 + 1));
+        same(rt, reply, &before.wrapping_add(place as u64 + 1));
     }
 }

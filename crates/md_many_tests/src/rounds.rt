@@ -2,6 +2,7 @@
 
 ghost use Rattle.std.specs.Prelude.{◌≡◌, length, IfOk};
 
+use crate::compared::same;
 use crate::lines::EachLine;
 use crate::looks::Look;
 use md_history::{Contents, PlainPass, PlainStore};
@@ -30,10 +31,10 @@ fn one_caller<R: Abort + AllocGlobal + Threads + Sync>(
 fn has_replies(rt: &impl Abort, many: &Many<u64, PlainPass>, count: u32) {
     for before in 0..count {
         let tag = 4_294_967_297 + u64::from(before);
-        assert_eq!(rt; many.reply(1, before + 1).copied(), Some(tag));
+        same(rt, &many.reply(1, before + 1).copied(), &Some(tag));
     }
     let next = many.reply(1, count.saturating_add(1)).copied();
-    assert_eq!(rt; (next, many.reply(2, 1).copied()), (None, None));
+    same(rt, &(next, many.reply(2, 1).copied()), &(None, None));
 }
 
 // The rounds of a caller have its replies, and so many fronts.
@@ -45,7 +46,8 @@ fn has_fronts<R: Abort + AllocGlobal + Threads + Sync>(
 ) {
     let many = one_caller(rt, count, tries);
     has_replies(rt, &many, count);
-    assert_eq!(rt; many.fronts.len(), fronts, "{count} lines, {tries} tries");
+    let found = (count, tries, many.fronts.len());
+    same(rt, &found, &(count, tries, fronts));
 }
 
 // A round plays one line, and then a turn of at most so many tries. The store is renewed before the
@@ -91,7 +93,7 @@ fn one_list(alloc: Global, numbers: &[u64]) -> Result<LinesByCaller<Look>, Alloc
 
 // The first caller's line has this reply.
 fn has_reply(rt: &impl Abort, many: &Many<u64, PlainPass>, line: u32, number: Option<u64>) {
-    assert_eq!(rt; many.reply(1, line).copied(), number);
+    same(rt, &many.reply(1, line).copied(), &number);
 }
 
 // Plays one caller's list of bodies.
@@ -110,7 +112,7 @@ fn list_played<R: Abort + AllocGlobal + Threads + Sync>(
 #[test]
 fn one_list_of_bodies(rt: HostRuntime) {
     let lines = one_list(rt.alloc(), &[7, 5, 7, 9]).expect(&rt, "memory");
-    assert_eq!(rt; lines.total(), 4);
+    same(&rt, &lines.total(), &4);
     let many = list_played(&rt, &lines);
     has_reply(&rt, &many, 1, Some(7));
     has_reply(&rt, &many, 2, Some(5));

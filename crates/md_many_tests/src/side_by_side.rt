@@ -4,6 +4,7 @@ ghost use Rattle.std.specs.Prelude.{◌≡◌, List, length, IfOk};
 ghost use Rattle.md_history.specs.Engine.{lanes_kept, lanes_given};
 ghost use Rattle.md_attempts.specs.Lines.{AreFitting, PlaysLines};
 
+use crate::compared::same;
 use crate::lines::EachLine;
 use crate::puts::Put;
 use md_history::{Body, Contents, Engine, PlainStore, pass_is_legal};
@@ -112,7 +113,11 @@ fn callers_in_threads(rt: HostRuntime) {
         like: Put { number: 0 },
     };
     let pass = two_callers(&rt, alloc, &store, pass, &lines).expect(&rt, "memory");
-    assert_eq!(rt; pass.entries().len(), 3);
+    same(&rt, &pass.entries().len(), &3);
     let (contents, _) = store.contents(pass).expect(&rt, "memory");
-    assert_eq!(rt; contents.queue(0).front().copied(), Some(4_294_967_297));
+    same(
+        &rt,
+        &contents.queue(0).front().copied(),
+        &Some(4_294_967_297),
+    );
 }

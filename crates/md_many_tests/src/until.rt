@@ -2,6 +2,7 @@
 
 ghost use Rattle.std.specs.Prelude.{◌≤◌};
 
+use crate::compared::same;
 use crate::puts::Put;
 use crate::refusing::{CONFLICT, LATER, LIMIT, NO_MEMORY, Refusing};
 use md_history::{Attempt, Entry, Stop};
@@ -55,9 +56,10 @@ fn body_ends<R: Abort + AllocGlobal>(
     };
     let made = AtomicU64::new(0);
     let (ended, last) = put_until_committed(rt, &made, stops, tries);
-    assert_eq!(rt;
-        (ended, last, made.load(Ordering::SeqCst)),
-        (want, (entries, TAG), attempts)
+    same(
+        rt,
+        &(ended, last, made.load(Ordering::SeqCst)),
+        &(want, (entries, TAG), attempts),
     );
 }
 

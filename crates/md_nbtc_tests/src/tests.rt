@@ -14,7 +14,13 @@ use md_nbtc_law::WORN;
 use md_rule::{Field, Pass};
 use md_words::{Shape, ShapeFault};
 use std::alloc::{AllocError, AllocGlobal, Global};
+use std::fmt::Debug;
 use std::process::Abort;
+
+// What was found is what was wanted. (A call is proved sooner than an `assert_eq!`.)
+fn same<T: PartialEq + Debug>(rt: &impl Abort, found: &T, wanted: &T) {
+    assert_eq!(rt; *found, *wanted);
+}
 
 fn zeros(alloc: Global, count: usize) -> Result<Vec<u64>, AllocError>
     ensures { IfOk result (λ v. v.items ≡ replicate count 0) }
@@ -372,7 +378,7 @@ fn assert_calls(
 {
     for i in 0..calls.len() {
         let (call, gave) = calls[i];
-        assert_eq!(rt; make(txn, field, call), gave, "call {i}");
+        same(rt, &(i, make(txn, field, call)), &(i, gave));
     }
 }
 
@@ -420,7 +426,8 @@ fn a_lane_begins_no_more_attempts_than_it_has(rt: HostRuntime) {
         begin_and_leave(&mut pass, &field, 2),
         begin_and_leave(&mut pass, &field, 3),
     ];
-    assert_eq!(rt; begun, [Ok(()), Ok(()), Ok(()), Err(Limit::Tries)]);
+    let want = [Ok(()), Ok(()), Ok(()), Err(Limit::Tries)];
+    same(&rt, &begun, &want);
 }
 
 #[test]
@@ -478,7 +485,7 @@ fn the_next_transaction_takes_a_left_one_out(rt: HostRuntime) {
         head_left(&rt, &mut pass, &field, 7, &mut sets, &change),
         head_left(&rt, &mut pass, &field, 8, &mut sets, &[]),
     ];
-    assert_eq!(rt; heads, [1, 2]);
+    same(&rt, &heads, &[1, 2]);
 }
 
 // Another transaction meets one that has changed the first head and stalls.
@@ -578,7 +585,8 @@ fn a_transaction_without_operations_commits(rt: HostRuntime) {
     let mut b = part_of(&rt, &field, &mut a);
     let ready = ready_and_leave(&mut a, &field, 7);
     let committed = commit(&mut b, &field, 8);
-    assert_eq!(rt; (ready, committed), (Ok(true), Ok(Some((8, 0)))));
+    let want = (Ok(true), Ok(Some((8, 0))));
+    same(&rt, &(ready, committed), &want);
 }
 
 #[test]

@@ -13,8 +13,14 @@ use md_outside::{MemSink, MemSource, Sink, Source};
 use md_program::{Status, run};
 use md_rounds::FreeGate;
 use std::alloc::{AllocError, AllocGlobal, Global};
+use std::fmt::Debug;
 use std::process::Abort;
 use std::thread::Threads;
+
+// What was found is what was wanted. (A call is proved sooner than an `assert_eq!`.)
+fn same<T: PartialEq + Debug>(rt: &impl Abort, found: &T, wanted: &T) {
+    assert_eq!(rt; *found, *wanted);
+}
 
 // How the streams of a run behave.
 #[derive(Clone, Copy)]
@@ -77,7 +83,7 @@ fn compare(
     words: &[&str],
     input: &[u8],
 ) {
-    assert_eq!(rt; found, wanted, "of {words:?} and {input:?}");
+    same(rt, &(found, words, input), &(wanted, words, input));
 }
 
 // Runs with words over streams in memory, and compares the status and what was written.

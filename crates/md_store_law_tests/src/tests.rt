@@ -5,6 +5,7 @@ ghost use Rattle.std.specs.Prelude.{◌≡◌, ◌<◌, length, OnOk};
 use md_history::Contents;
 use md_laying::needed;
 use std::alloc::{AllocError, AllocGlobal, Global};
+use std::fmt::Debug;
 use std::process::Abort;
 
 mod count;
@@ -14,6 +15,11 @@ mod list;
 mod queue;
 mod reading;
 mod theory;
+
+// What was found is what was wanted. (A call is proved sooner than an `assert_eq!`.)
+fn same<T: PartialEq + Debug>(rt: &impl Abort, found: &T, wanted: &T) {
+    assert_eq!(rt; *found, *wanted);
+}
 
 // Sets the value of a key.
 fn put(contents: &mut Contents, map: u32, key: u64, value: u64) -> Result<(), AllocError>
@@ -52,15 +58,16 @@ fn contents_of(
 
 // Both have the same maps and the same queues.
 fn assert_same(rt: &impl Abort, found: &Contents, want: &Contents) {
-    assert_eq!(rt;
-        (found.maps(), found.queues()),
-        (want.maps(), want.queues())
+    same(
+        rt,
+        &(found.maps(), found.queues()),
+        &(want.maps(), want.queues()),
     );
 }
 
 // The contents need so many nodes.
 fn assert_nodes(rt: &impl Abort, contents: &Contents, nodes: u64) {
-    assert_eq!(rt; needed(contents), nodes);
+    same(rt, &needed(contents), &nodes);
 }
 
 // The contents need so many nodes, and are a map with these pairs and a queue with these values.

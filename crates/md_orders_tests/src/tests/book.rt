@@ -9,6 +9,7 @@ mod lawful;
 mod limits;
 mod rows;
 
+use crate::tests::shown::same;
 use lawful::is_lawful;
 use md_book::{LEVELS, MAPS};
 use md_history::{Attempt, Contents, Engine, PlainPass, PlainStore};
@@ -68,7 +69,7 @@ fn assert_played(rt: &impl Abort, store: &PlainStore, pass: &mut PlainPass, day:
     requires of { IsPassOf store.now pass.old }
     ensures { IsPassOf store.now pass.new }
 {
-    assert_eq!(rt; first_other(rt, store, pass, day), (rows, ""));
+    same(rt, &first_other(rt, store, pass, day), &(rows, ""));
 }
 
 // Plays the rows of a day on an empty book, so many of them. It answers what the store contains

@@ -6,7 +6,7 @@ ghost use Rattle.md_book.specs.declared.limits.TheConstants.{MAX_CALLER};
 ghost use Rattle.md_orders.specs.declared.generator.TheConstants.{MAX_MADE_CALLERS};
 
 use crate::tests::reports::{contents_of, reply_with, reported};
-use crate::tests::shown::{are_bytes, extend, read};
+use crate::tests::shown::{are_bytes, extend, read, same};
 use md_book::{BOUGHT, BookReply, DEPTHS, MAX_PARTS, Part, SOLD, order_name};
 use md_orders::{Scripts, make};
 use md_replies::{PackedReplies, RepliesByCaller};
@@ -209,7 +209,7 @@ fn written<R: Threads + Sync + Abort + AllocGlobal>(
 
 // So many parts were written, and this text, of scripts of so many callers.
 fn is_written(rt: &impl Abort, found: (usize, &[u8]), want: (usize, &[u8]), callers: u32) {
-    assert_eq!(rt; found, want, "of {callers}");
+    same(rt, &(callers, found), &(callers, want));
 }
 
 // Threads write the report of scripts in so many parts.

@@ -1,6 +1,6 @@
 //! Made scripts.
 
-use crate::tests::shown::are_alike;
+use crate::tests::shown::{are_alike, same};
 use md_book::{Command, order_name};
 use md_orders::{Scripts, make, read_orders};
 use std::process::Abort;
@@ -8,7 +8,7 @@ use std::process::Abort;
 // Three lines were made, and there is none before them and none behind.
 fn has_three_lines(rt: &impl Abort, made: &Scripts) {
     let others = [made.command(1, 0).is_none(), made.command(1, 4).is_none()];
-    assert_eq!(rt; (made.total(), others), (3, [true; 2]));
+    same(rt, &(made.total(), others), &(3, [true; 2]));
 }
 
 // The first fifteen draws of the standard's example are 16838, 5758, 10113, 17515, 31051, 5627,
@@ -32,7 +32,8 @@ fn cancelled(scripts: &Scripts, line: u32) -> Option<u64> {
 
 // The line cancels the order of another line.
 fn is_cancel(rt: &impl Abort, made: &Scripts, line: u32, of: u32) {
-    assert_eq!(rt; cancelled(made, line), Some(order_name(1, of)), "at {line}");
+    let want = (line, Some(order_name(1, of)));
+    same(rt, &(line, cancelled(made, line)), &want);
 }
 
 // A cancel at a line after 32,767 shows a draw as it is: it names the order of the line whose number

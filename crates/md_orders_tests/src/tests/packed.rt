@@ -1,6 +1,7 @@
 //! Packed replies, as a report tells them.
 
 use crate::tests::in_threads::told;
+use crate::tests::shown::same;
 use md_book::{BookReply, MAX_PARTS, Part};
 use md_replies::PackedReplies;
 use std::alloc::AllocGlobal;
@@ -114,5 +115,9 @@ fn each_reply_is_told_as_it_was(rt: HostRuntime) {
         1:17 filled 4294967294 rest 4294967295 from 0:0=0 0:0=0 0:0=0 0:0=0 0:0=0 0:0=0 \
         0:0=0 0:0=0 0:0=0 0:0=0 0:0=0 0:7=0\n\
         1:18 depth 0\n";
-    assert_eq!(rt; (lengths, text.as_slice()), ((true, 18), want.as_bytes()));
+    same(
+        &rt,
+        &(lengths, text.as_slice()),
+        &((true, 18), want.as_bytes()),
+    );
 }

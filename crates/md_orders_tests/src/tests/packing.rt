@@ -5,7 +5,7 @@ ghost use Rattle.md_orders.specs.Scripts.{list_of};
 ghost use Rattle.md_replies.specs.Replies.{AllSuit};
 
 use crate::tests::reports::{reply_with, set_lines};
-use crate::tests::shown::read;
+use crate::tests::shown::{read, same};
 use md_orders::Scripts;
 use md_replies::{PackedReplies, Replies};
 use std::alloc::{AllocGlobal, Global};
@@ -55,7 +55,8 @@ fn set_packed(alloc: Global, scripts: &Scripts, done: u32, count: u8) -> Result<
 // The second caller has the same replies at its lines before the tenth.
 fn has_same_replies(rt: &impl Abort, replies: &Replies, plain: &Replies) {
     for line in 0..10 {
-        assert_eq!(rt; replies.get(2, line), plain.get(2, line), "at {line}");
+        let want = (line, plain.get(2, line));
+        same(rt, &(line, replies.get(2, line)), &want);
     }
 }
 

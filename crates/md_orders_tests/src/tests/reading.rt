@@ -3,7 +3,7 @@
 ghost use Rattle.std.specs.Prelude.{◌≤◌};
 ghost use Rattle.md_book.specs.declared.limits.TheConstants.{MAX_CALLER};
 
-use crate::tests::shown::{extend, is_bad_line, read, shown};
+use crate::tests::shown::{extend, is_bad_line, read, same, shown};
 use md_book::{Command, Side};
 use md_orders::{OrderFault, Scripts, read_orders, read_orders_in_threads};
 use std::alloc::{AllocGlobal, Global};
@@ -15,7 +15,7 @@ fn is_told<R: Abort + AllocGlobal>(rt: &R, callers: u32, text: &str, want: &str)
     requires { (1 ≤ callers) × (callers ≤ MAX_CALLER) }
 {
     let read = shown(rt, read_orders(rt.alloc(), text.as_bytes(), callers));
-    assert_eq!(rt; read.as_str(), want, "of {text}");
+    same(rt, &(text, read.as_str()), &(text, want));
 }
 
 // Reads files, and compares what is read with what is told. There is a sign `|` between two files,
@@ -185,7 +185,7 @@ fn has_totals<R: Abort + AllocGlobal + Threads + Sync>(
     text: &[u8],
     want: Result<u32, OrderFault>,
 ) {
-    assert_eq!(rt; totals(rt, rt.alloc(), text), [want; 2]);
+    same(rt, &totals(rt, rt.alloc(), text), &[want; 2]);
 }
 
 // A file with this first record, and 999,999 good ones behind it.
@@ -233,7 +233,7 @@ fn has_command(
     (caller, line): (u32, u32),
     command: &Option<Command>,
 ) {
-    assert_eq!(rt; scripts.command(caller, line), *command);
+    same(rt, &scripts.command(caller, line), command);
 }
 
 // There are these numbers of callers and lines.
@@ -247,7 +247,7 @@ fn has_counts(rt: &impl Abort, scripts: &Scripts) {
         scripts.len(3),
         scripts.len(4),
     ];
-    assert_eq!(rt; counts, [3, 3, 0, 1, 2, 0, 0]);
+    same(rt, &counts, &[3, 3, 0, 1, 2, 0, 0]);
 }
 
 // The second caller's second line has its command, and no line that isn't there has one.

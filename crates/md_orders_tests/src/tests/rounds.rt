@@ -2,6 +2,7 @@
 
 ghost use Rattle.std.specs.Prelude.{◌≡◌, ◌≤◌, length, IfOk};
 
+use crate::tests::shown::same;
 use md_book::{BookReply, DEPTHS, LEVELS, MAPS, MAX_PARTS, Part, order_name};
 use md_history::{Contents, PlainPass, PlainStore};
 use md_orders::{Scripts, read_orders};
@@ -45,7 +46,7 @@ fn one_caller(rt: HostRuntime) -> Result<(), Fail> {
     let replies = [played.replies.get(1, 1), played.replies.get(1, 3)];
     let depth = played.contents.get(DEPTHS, 1099);
     let want = [Some(BookReply::Placed), Some(BookReply::Depth(2))];
-    assert_eq!(rt; (replies, depth), (want, Some(2)));
+    same(&rt, &(replies, depth), &(want, Some(2)));
     Ok(())
 }
 
@@ -99,7 +100,7 @@ fn is_cycle(rt: &impl Abort, replies: &Replies, cycle: u32) {
     let first = cycle.saturating_mul(7).saturating_add(1);
     for (place, want) in replies_of(first, cycle).iter().enumerate() {
         let line = first.saturating_add(place as u32);
-        assert_eq!(rt; replies.get(1, line), Some(*want), "at {line}");
+        same(rt, &(line, replies.get(1, line)), &(line, Some(*want)));
     }
 }
 
@@ -122,7 +123,7 @@ fn batches_of_lines(rt: HostRuntime) -> Result<(), Fail> {
     let line = summary(alloc, &scripts, &played.replies, &played.contents)?;
     let want = b"made 70000 placed 50000 cancelled 10000 filled 40000 open 0\n".as_slice();
     let ends = (played.fronts.len(), played.replies.get(1, 70_001));
-    assert_eq!(rt; (ends, line.as_slice()), ((1, None), want));
+    same(&rt, &(ends, line.as_slice()), &((1, None), want));
     Ok(())
 }
 
@@ -130,9 +131,10 @@ fn batches_of_lines(rt: HostRuntime) -> Result<(), Fail> {
 #[test]
 fn the_largest_contents(rt: HostRuntime) -> Result<(), Fail> {
     let contents = Contents::empty(rt.alloc(), MAX_MAPS, MAX_QUEUES)?;
-    assert_eq!(rt;
-        (contents.maps().len(), contents.queues().len()),
-        (16, 4_096)
+    same(
+        &rt,
+        &(contents.maps().len(), contents.queues().len()),
+        &(16, 4_096),
     );
     Ok(())
 }

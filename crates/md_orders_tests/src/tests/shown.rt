@@ -5,7 +5,13 @@ ghost use Rattle.md_book.specs.declared.limits.TheConstants.{MAX_CALLER};
 
 use md_orders::{OrderFault, Scripts, read_orders};
 use std::alloc::AllocGlobal;
+use std::fmt::Debug;
 use std::process::Abort;
+
+/// What was found is what was wanted. (A call is proved sooner than an `assert_eq!`.)
+pub(super) fn same<T: PartialEq + Debug>(rt: &impl Abort, found: &T, wanted: &T) {
+    assert_eq!(rt; *found, *wanted);
+}
 
 /// Adds bytes to a text.
 pub(super) fn extend(rt: &impl Abort, text: &mut Vec<u8>, more: &[u8]) {
@@ -14,17 +20,17 @@ pub(super) fn extend(rt: &impl Abort, text: &mut Vec<u8>, more: &[u8]) {
 
 /// A text is the one that is wanted.
 pub(super) fn is_text(rt: &impl Abort, text: &str, want: &str) {
-    assert_eq!(rt; text, want);
+    same(rt, &text, &want);
 }
 
 /// The bytes of a text are those that are wanted.
 pub(super) fn are_bytes(rt: &impl Abort, text: &[u8], want: &[u8]) {
-    assert_eq!(rt; text, want);
+    same(rt, &text, &want);
 }
 
 /// A file was refused for its line of this number.
 pub(super) fn is_bad_line(rt: &impl Abort, fault: Option<OrderFault>, number: u32) {
-    assert_eq!(rt; fault, Some(OrderFault::BadLine(number)));
+    same(rt, &fault, &Some(OrderFault::BadLine(number)));
 }
 
 // Adds the command of a line, if there is one, behind its caller and its line.

@@ -2,7 +2,7 @@
 //! early.
 
 use crate::tests::{
-    AMPLE, ORDER, REPORT, Streams, USAGE, compare, failing, sink_of, source_of, status_of,
+    AMPLE, ORDER, REPORT, Streams, USAGE, compare, failing, same, sink_of, source_of, status_of,
 };
 use md_outside::{MemSink, MemSource, Sink, Source, StdSink, StdSource};
 use md_program::{Status, exit_of_program, run_program};
@@ -36,7 +36,7 @@ fn program_status<R: AllocGlobal + Threads + Sync, I: Source, O: Sink>(
 // Compares how a read of what is left ends.
 fn expect_left(rt: &impl Abort, source: &mut MemSource, left: usize) {
     let mut unread = [0; 32];
-    assert!(rt; source.read(&mut unread) == Ok(left));
+    same(rt, &(source.read(&mut unread) == Ok(left)), &true);
 }
 
 // Runs with arguments, and compares the status, what was written, and how much of the input is
@@ -130,7 +130,7 @@ fn arguments_that_are_not_there(rt: HostRuntime) {
 
 // Compares an exit.
 fn expect_number(rt: &impl Abort, code: ExitCode, number: u8) {
-    assert_eq!(rt; code, ExitCode::from(number));
+    same(rt, &code, &ExitCode::from(number));
 }
 
 // Each status, and the number of its exit.
@@ -190,7 +190,7 @@ fn the_exit_is_that_of_the_run(rt: HostRuntime) {
 // words, which it doesn't accept, and on its real output.
 #[test]
 fn the_program_is_given_its_words(rt: HostRuntime) -> Result<(), Fail> {
-    assert!(rt; env::args(&rt)?.len() == 2);
+    same(&rt, &env::args(&rt)?.len(), &2);
     let mut input = StdSource::new(ORDER);
     let mut output = StdSink::new(rt.stdout());
     let code = exit_of(&rt, env::args(&rt), &mut input, &mut output);
@@ -237,7 +237,7 @@ fn written_once<R: AllocGlobal + Threads + Sync>(rt: &R, failing: usize) -> (Sta
 
 // Compares a status, a count of calls, and bytes.
 fn compare_calls(rt: &impl Abort, found: (Status, usize, &[u8]), wanted: (Status, usize, &[u8])) {
-    assert_eq!(rt; found, wanted);
+    same(rt, &found, &wanted);
 }
 
 // Runs with a writer that fails at this call, which is its last, after so many bytes.

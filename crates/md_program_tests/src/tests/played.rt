@@ -2,7 +2,7 @@
 
 ghost use Rattle.std.specs.Prelude.{◌≡◌, ◌≤◌, length, IfOk};
 
-use crate::tests::repeated;
+use crate::tests::{repeated, same};
 use md_book::BookReply;
 use md_many::FreeGate;
 use md_orders::{Scripts, make, read_orders};
@@ -32,7 +32,7 @@ type Told = (u32, u32, Option<BookReply>);
 // Compares replies.
 fn expect_replies<R: Abort, P>(rt: &R, played: &Outcome<P>, told: &[Told]) {
     for (caller, line, want) in told {
-        assert_eq!(rt; played.replies.get(*caller, *line), *want);
+        same(rt, &played.replies.get(*caller, *line), want);
     }
 }
 
@@ -63,7 +63,7 @@ fn two_callers(rt: HostRuntime) -> Result<(), Fail> {
 // Compares the last reply of a hundred, and the number of fronts.
 fn expect_hundred<R: Abort, P>(rt: &R, played: &Outcome<P>) {
     expect_replies(rt, played, &[(2, 100, Some(BookReply::Placed))]);
-    assert!(rt; played.fronts.len() == 1);
+    same(rt, &played.fronts.len(), &1);
 }
 
 // The scripts of two callers, of whom one has a hundred lines.
@@ -105,7 +105,7 @@ fn summed<R: Threads + Sync>(
 
 // Compares two texts.
 fn expect_same(rt: &impl Abort, one: &[u8], other: &[u8]) {
-    assert_eq!(rt; one, other);
+    same(rt, &one, &other);
 }
 
 // Made callers don't touch one another's orders, so what their lines come to is the same over few
@@ -118,6 +118,10 @@ fn made_callers(rt: HostRuntime) -> Result<(), Fail> {
     let few = summed(&rt, alloc, 7, 4, 128, 64)?;
     expect_same(&rt, &many, &again);
     expect_same(&rt, &many, &few);
-    assert!(rt; many.starts_with(b"made 4000 placed ".as_slice()));
+    same(
+        &rt,
+        &many.starts_with(b"made 4000 placed ".as_slice()),
+        &true,
+    );
     Ok(())
 }

@@ -1,5 +1,6 @@
 //! Words, and the options that they write.
 
+use crate::tests::same;
 use md_program::{Making, Options, read_options};
 use std::process::Abort;
 
@@ -30,7 +31,7 @@ const SEVEN: Options = Options {
 
 // Reads words that should write these options, or none.
 fn expect(rt: &impl Abort, words: &[&str], want: Option<Options>) {
-    assert_eq!(rt; read_options(words), want, "of {words:?}");
+    same(rt, &(words, read_options(words)), &(words, want));
 }
 
 // Words, and the options that they write.

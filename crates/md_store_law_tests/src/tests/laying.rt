@@ -4,7 +4,7 @@ ghost use Rattle.std.specs.Prelude.{◌≤◌, IsTrue};
 ghost use Rattle.md_history.specs.Engine.{needed};
 ghost use Rattle.md_store_law.specs.Laid.{HasMapsAndQueues};
 
-use super::{assert_nodes, assert_same, contents_of, push, put};
+use super::{assert_nodes, assert_same, contents_of, push, put, same};
 use md_history::Contents;
 use md_laying::{lay, needed};
 use md_store_law::read_off;
@@ -53,7 +53,7 @@ fn assert_laid<R: Abort + AllocGlobal>(
     let shape = shape.expect(rt, "a shape");
     let found = laid(rt, &shape, contents);
     let rest = words_but_zero(rt.alloc(), &found).expect(rt, "memory");
-    assert_eq!(rt; (found.len(), rest.as_slice()), (size, words));
+    same(rt, &(found.len(), rest.as_slice()), &(size, words));
 }
 
 // A map with these pairs and a queue with these values need so many nodes.
@@ -130,7 +130,8 @@ fn many<R: Abort + AllocGlobal>(rt: &R) -> Contents {
 // The words at these places are these.
 fn assert_words(rt: &impl Abort, words: &[u64], row: &[(usize, u64)]) {
     for (place, word) in row {
-        assert_eq!(rt; words.get(*place).copied(), Some(*word), "at {place}");
+        let found = words.get(*place).copied();
+        same(rt, &(*place, found), &(*place, Some(*word)));
     }
 }
 

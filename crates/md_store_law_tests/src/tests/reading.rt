@@ -6,7 +6,7 @@ ghost use Rattle.md_store_law.specs.Field.{IsStoreField};
 ghost use Rattle.md_store_law_tests.specs.Row.{row_words};
 ghost use Rattle.md_store_law_tests.specs.UsedRow.{written, are_below};
 
-use super::assert_contents;
+use super::{assert_contents, same};
 use md_laying::compact;
 use md_store_law::read_off;
 use md_words::Shape;
@@ -136,7 +136,7 @@ fn compacted_words(alloc: Global) -> Result<Vec<u64>, AllocError> {
 fn assert_compacted<R: Abort + AllocGlobal>(rt: &R, shape: &Shape, words: &[u64]) {
     let small = Shape::new(2, 16, 5, 4, 1, 64, 1).expect(rt, "a shape");
     let want = compacted_words(rt.alloc()).expect(rt, "memory");
-    assert_eq!(rt; (*shape, words), (small, want.as_slice()));
+    same(rt, &(*shape, words), &(small, want.as_slice()));
 }
 
 #[test]

@@ -1,6 +1,7 @@
 //! Days with fills.
 
 use super::play;
+use crate::tests::shown::same;
 use md_book::{DEPTHS, OPEN_ORDERS, order_name};
 
 #[test]
@@ -93,7 +94,7 @@ fn trades(rt: HostRuntime) {
         contents.queue(1599).front().copied(),
     ];
     let want = [Some(167_059_128_321), Some(1), None, Some(last)];
-    assert_eq!(rt; left, want);
+    same(&rt, &left, &want);
 }
 
 #[test]

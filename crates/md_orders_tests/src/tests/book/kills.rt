@@ -1,6 +1,7 @@
 //! Days with kills.
 
 use super::play;
+use crate::tests::shown::same;
 use md_book::{OPEN_ORDERS, order_name};
 
 #[test]
@@ -78,7 +79,7 @@ fn a_kill_takes_all_or_nothing(rt: HostRuntime) {
     let contents = play(&rt, day, 60);
     let hidden = contents.get(OPEN_ORDERS, order_name(1, 45)).is_some();
     let first = contents.queue(1499).front().copied();
-    assert_eq!(rt; (hidden, first), (true, Some(order_name(1, 41))));
+    same(&rt, &(hidden, first), &(true, Some(order_name(1, 41))));
 }
 
 #[test]

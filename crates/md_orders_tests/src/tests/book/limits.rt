@@ -1,5 +1,6 @@
 //! The limits, as the order file writes them.
 
+use crate::tests::shown::same;
 use md_book::{
     BOUGHT, COMMAND_NODES, COMMAND_READS, COMMAND_WRITES, DEPTHS, LEVELS, MAPS, MAX_ACCOUNT,
     MAX_CALLER, MAX_PARTS, MAX_PRICE, MAX_QUANTITY, MAX_SCRIPT_LINE, OPEN_ORDERS,
@@ -19,13 +20,14 @@ fn limits_are_those_of_the_order_file(rt: HostRuntime) {
     ];
     let most = [COMMAND_READS, COMMAND_WRITES, COMMAND_NODES];
     let kept = [OPEN_ORDERS, DEPTHS, BOUGHT, SOLD, MAPS, LEVELS];
-    assert_eq!(rt;
-        (places, highest, most, kept),
-        (
+    same(
+        &rt,
+        &(places, highest, most, kept),
+        &(
             (4, 12, 12),
             [64, 1_000_000, 9_999, 1_000, 1_000_000],
             [65, 112, 16],
-            [0, 1, 2, 3, 4, 2_000]
-        )
+            [0, 1, 2, 3, 4, 2_000],
+        ),
     );
 }

@@ -1,6 +1,6 @@
 //! The end of a report, from a store that was closed for it.
 
-use super::{expect_same, scripts_of};
+use super::{expect_same, same, scripts_of};
 use md_many::FreeGate;
 use md_play::{close_for_report, open_store, play_opened};
 use md_report::after_lines;
@@ -10,7 +10,7 @@ use std::test::Fail;
 
 // Compares the number of fronts with one, and the end of a report with what it should be.
 fn compare(rt: &impl Abort, fronts: usize, end: &[u8], expected: &[u8]) {
-    assert!(rt; fronts == 1);
+    same(rt, &fronts, &1);
     expect_same(rt, end, expected);
 }
 

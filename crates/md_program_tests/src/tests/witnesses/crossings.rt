@@ -1,6 +1,7 @@
 //! Callers that wait for each other between their lines.
 
 use super::*;
+use crate::tests::same;
 use md_many::FreeGate;
 use md_play::play_on_store;
 use md_report::report;
@@ -27,7 +28,7 @@ fn reported<R: AllocGlobal + Threads + Sync>(rt: &R, gate: &Crossing) -> Result<
 fn callers_meet_between_their_lines(rt: HostRuntime) -> Result<(), Fail> {
     let gate = Crossing::new(1_000_000_000);
     let text = reported(&rt, &gate)?;
-    assert_eq!(rt; (text.as_slice(), gate.met()), (REPORT, (true, true)));
+    same(&rt, &(text.as_slice(), gate.met()), &(REPORT, (true, true)));
     Ok(())
 }
 
@@ -55,7 +56,7 @@ fn expect_met<R: Abort + AllocGlobal>(
     met: (bool, bool),
 ) {
     let seen = in_turn(rt.alloc(), scripts, order, want).expect(rt, "memory");
-    assert_eq!(rt; seen, (true, met), "in order {order:?}");
+    same(rt, &(order, seen), &(order, (true, met)));
 }
 
 // Orders of the lines, and whether each caller met the other.

@@ -3,6 +3,7 @@
 ghost use Rattle.std.specs.Prelude.{◌≤◌, length, IfOk};
 
 use super::*;
+use crate::tests::same;
 use md_history::Contents;
 use md_many::FreeGate;
 use md_rounds::Outcome;
@@ -76,7 +77,7 @@ fn is_explained<R: AllocGlobal + Threads + Sync>(rt: &R, number: u64) -> Result<
 #[test]
 fn an_order_explains_each_file(rt: HostRuntime) -> Result<(), Fail> {
     for number in 0..FILES {
-        assert!(rt; is_explained(&rt, number)?, "file {number}");
+        same(&rt, &(number, is_explained(&rt, number)?), &(number, true));
     }
     Ok(())
 }

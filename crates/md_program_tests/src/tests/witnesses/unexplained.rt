@@ -1,6 +1,7 @@
 //! Replies that no order explains: what the search must refuse.
 
 use super::*;
+use crate::tests::same;
 use md_book::{BookReply, MAX_PARTS, Part, order_name};
 use md_many::FreeGate;
 use std::alloc::AllocGlobal;
@@ -69,7 +70,7 @@ fn no_order_explains_these(rt: HostRuntime) -> Result<(), Fail> {
     // A caller saw its own later order.
     let text = "1,D,S,100\n1,P,7,S,100,1\n2,D,S,100\n";
     let later = counts(alloc, text, [1, 1, 2, 0], (0, 0), BookReply::Depth(1))?;
-    assert_eq!(rt; [unit, unseen, later], [(2, 0), (1, 0), (1, 0)]);
+    same(&rt, &[unit, unseen, later], &[(2, 0), (1, 0), (1, 0)]);
     Ok(())
 }
 
@@ -96,7 +97,7 @@ fn expect_explained<R: Abort + AllocGlobal>(
     one: &[u32],
 ) {
     let orders = explained(rt.alloc(), scripts, told, order).expect(rt, "memory");
-    assert_eq!(rt; (orders.count, orders.one.as_slice()), (count, one));
+    same(rt, &(orders.count, orders.one.as_slice()), &(count, one));
 }
 
 // Orders of two lines, of which the last lacks one; how many explain the replies, and one.
