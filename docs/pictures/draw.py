@@ -22,11 +22,11 @@ LAYERS = """
 program: medley = the program|program: your program = bodies, threads
 program: md_orders = order files|program: md_replies, md_report = replies, reports|program: md_book = commands, the book|program: md_rounds, md_play = order files in threads|program: md_many, md_attempts = lines in rounds
 contract: md_history = bodies, histories, and the contract of a store: the trait Engine
-code: md_store = hash tables and queues, for several threads|code: PlainStore = the store for one thread
-code: md_list = get, insert, remove|code: md_queue = enqueue, dequeue, front, line|law: md_store_law, md_count_law = the store as a theory|law: md_calm = the first attempt
+code: md_store, md_running = hash tables and queues, for several threads|code: PlainStore = the store for one thread
+code: md_list = get, insert, remove|code: md_queue = enqueue, dequeue, front, line|law: md_store_law, md_laying = the store as a theory|law: md_calm, md_count_law = the first attempt, counts
 code: md_nbtc, md_sets = transactions: begin, load, exchange, ready, decide|law: md_nbtc_law = what their steps leave|law: md_list_law, md_hash_law, md_queue_law = structures as theories
 code: md_arena = takes nodes and attempts|code: md_help = settles attempts, clears descriptors
-code: md_rule = steps on real words, each an event of the machine|law: md_machine = the theorem over all lists of events
+code: md_rule, md_lanes = steps on real words, each an event of the machine|law: md_machine = the theorem over all lists of events
 outside: atomic_table = atomic words, of the toolchain|law: md_words = words and their addresses
 """
 
