@@ -17,10 +17,6 @@ and_on true c e = e
 and_on false c e = refl
 
 module _ (p : ℕ → Bool) where
-  -- what passes a test of a range, by the first number
-  passing : (a n : ℕ) → List ℕ
-  passing a n = filter p (range_with_len a n)
-
   at_first : (a n : ℕ) (P : List ℕ → Type 0) → (p a ≡ true → P (a ∷ filter p (range_with_len (a + 1) n))) → (p a ≡ false → P (filter p (range_with_len (a + 1) n))) → P (filter p (range_with_len a (suc n)))
   at_first a n P passes fails = cond_both (p a) (a ∷ filter p (range_with_len (a + 1) n)) (filter p (range_with_len (a + 1) n)) P passes fails
 

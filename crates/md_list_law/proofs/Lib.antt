@@ -19,4 +19,3 @@ pub mod RisingAlong
 pub mod OneListLaws
 mod Shown
 pub mod RowsHold
-pub mod MetLists

@@ -135,9 +135,3 @@ written-back (x ∷ new) [] len same is = absurd (omega arith)
 pub kept-from : {R : Type 0} {more : ℕ → List R} {k k' : ℕ → List R → Type 0} {d d0 d' : List ℕ}
     → KeepsMore more k k' d d' → d ≡ d0 → KeepsMore more k k' d0 d'
 kept-from {more = more} {k = k} {k' = k'} {d' = d'} kept same = subst (λ ns. KeepsMore more k k' ns d') same kept
-
--- the same of one caller's replies that are equal
-pub one-from : {R : Type 0} (caller : ℕ) {rs rs' : List R} {k k' : ℕ → List R → Type 0} {d d0 d' : List ℕ}
-    → KeepsMore (of_one caller rs) k k' d d' → rs ≡ rs' → d ≡ d0 → KeepsMore (of_one caller rs') k k' d0 d'
-one-from caller {k = k} {k' = k'} {d0 = d0} {d' = d'} kept is same =
-    subst (λ ss. KeepsMore (of_one caller ss) k k' d0 d') is (kept-from kept same)

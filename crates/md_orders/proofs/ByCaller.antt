@@ -1,8 +1,8 @@
 -- Lists by caller and what stands in them at a line, both counted from 1.
-use Rattle.std.proofs.Common.{◌≡◌, ◌≢◌, ◌<◌, ◌≤◌, ◌+◌, ◌-◌, ◌∙◌, ◌++◌, ℕ, zero, suc, List, [], ◌∷◌, Option, Some, None, length, get_or, set, refl, sym, ap, subst, arith, inl, inr, get_or-set_other, get_or-set_same, length-append}
+use Rattle.std.proofs.Common.{◌≡◌, ◌≢◌, ◌<◌, ◌≤◌, ◌+◌, ◌-◌, ◌∙◌, ◌++◌, ℕ, zero, suc, List, [], ◌∷◌, Option, None, length, get_or, set, refl, sym, ap, subst, arith, inl, inr, get_or-set_other, get_or-set_same, length-append}
 use Rattle.std.specs.Prelude.{slice_get, IfSome, option_and_then}
 use Rattle.std.specs.Prelude.{◌==◌, nat_lt}
-use Rattle.std.proofs.lemmas.Option.{slice_get-get_or, slice_get_past}
+use Rattle.std.proofs.lemmas.Option.{slice_get_past}
 use Rattle.std.proofs.lemmas.Bool.{cases_Bool, eqb-true, eq-eqb, false≢true}
 use borrow.Author.Tests.{ltb-true, ltb-false}
 use Rattle.std.proofs.lemmas.List.{get_or_read, get_or_past, length-set}
@@ -109,12 +109,6 @@ kept-add total lists caller x kept low high room lawful =
 pub with_line-at : {A : Type 0} (list : List A) (line i : ℕ) (x : A) → 1 ≤ line → i ≡ line - 1 → with_line list line x ≡ set list i x
 with_line-at list zero i x low at = absurd (omega arith)
 with_line-at list (suc l) i x low at = let same : l ≡ i = omega arith in ap (λ n. set list n x) same
-
--- an optional value at a line
-pub at_line-inside : {A : Type 0} (lists : List (List (Option A))) (caller line i : ℕ) (xs : List (Option A)) (r : Option A) → xs ≡ list_of lists caller → line ≢ 0 → i ≡ line - 1 → i < length xs → r ≡ get_or xs i r
-    → option_and_then (λ o. o) (at_line lists caller line) ≡ r
-at_line-inside lists caller line i xs r is low at inside found =
-    ap (option_and_then (λ o. o)) (at_line-at lists caller line i (omega arith) at ∙ ap (λ ys. slice_get ys i) (sym is) ∙ slice_get-get_or xs i r inside ∙ ap Some (sym found))
 
 -- past the last line there is none
 pub at_line-past : {A : Type 0} (lists : List (List (Option A))) (caller line i : ℕ) (xs : List (Option A)) → xs ≡ list_of lists caller → line ≢ 0 → i ≡ line - 1 → length xs ≤ i

@@ -138,12 +138,6 @@ file-number (Some version) rows = omega arith
 file-number None [] = refl
 file-number None (row ∷ rows) = elim (cases_Bool (is_version_record row)) [ inl is ↦ rw is (omega arith) | inr other ↦ rw other (omega arith) ]
 
--- no more lines than records
-lines-few : (known : Option Version) (rows : List Row) → length (file_as known rows).lines ≤ length rows
-lines-few (Some version) rows = omega arith
-lines-few None [] = omega arith
-lines-few None (row ∷ rows) = elim (cases_Bool (is_version_record row)) [ inl is ↦ rw is (omega arith) | inr other ↦ rw other (omega arith) ]
-
 -- a record isn't the version's at the start
 abbrev IsLaterOrKnown : Option Version → List Row → Row → Type 0
 IsLaterOrKnown known rows row = known ≡ None → length rows ≡ 0 → is_version_record row ≡ false
@@ -228,13 +222,3 @@ note_more known callers rows row count version scripts None some other noted = c
 note_more known callers rows row count version scripts (Some n) some other noted =
     let file = file_as known rows in
     noted-as known callers rows row count version scripts (Some n) other noted.counted noted.version_is (first_bad_line-still file.version callers file.first n file.lines (row ∷ []) noted.noted)
-
--- as long as no record was bad there are as many scripts as callers, and no more lines than records
-pub noted-sizes : (known : Option Version) (callers : ℕ) (rows : List Row) (count : ℕ) (version : Version) (scripts : List (List Command)) (bad : Option ℕ) → is_some bad ≡ false → IsNoted known callers rows count version scripts bad
-    → (length scripts ≡ callers) × (count_of scripts ≤ length rows)
-noted-sizes known callers rows count version scripts None none noted =
-    let so_far : AreScriptsOf callers (file_as known rows) scripts = noted.noted in
-    let few = so_far.few in
-    let lines = lines-few known rows in
-    (so_far.number, omega arith)
-noted-sizes known callers rows count version scripts (Some n) none noted = cc none

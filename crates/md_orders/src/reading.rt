@@ -21,7 +21,7 @@ pub(crate) fn reader_of(alloc: Global, bytes: &[u8]) -> Reader<&[u8]>
 }
 
 // A read of a slice by a flexible reader fails only when it is out of memory.
-fn want(error: &Error) -> AllocError
+fn out_of_memory(error: &Error) -> AllocError
     requires { stops_reader (error_kind error.now) ≡ true }
 {
     match error.kind() {
@@ -40,6 +40,6 @@ pub(crate) fn read_row(reader: &mut Reader<&[u8]>, row: &mut ByteRecord) -> Resu
 {
     match reader.read_byte_record(row) {
         Ok(found) => Ok(found),
-        Err(error) => Err(want(&error)),
+        Err(error) => Err(out_of_memory(&error)),
     }
 }

@@ -84,9 +84,6 @@ module _ (M : Meaning) (lawful : Lawful M) (queues : HasQueuesOf M) (t u : TxnSt
       }
 
 module _ (M : Meaning) (lawful : Lawful M) (queues : HasQueuesOf M) (t : TxnState) (queue : ℕ) (cs : List Certificate) (head next : Seen) where
-  pub first_exists : SeesFirst M t queue cs head next → IsNode (shape_in t) (linked_node head.value)
-  first_exists s = s.next_sees.exists
-
   -- after a note of the head, and one of the next word
   module _ (s : SeesFirst M t queue cs head next) (u : TxnState) (on : GoesOn M t u) (fits : head.count < 2 ^ 32) where
     pub record NotedHead : Type 0 where

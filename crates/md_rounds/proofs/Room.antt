@@ -4,7 +4,7 @@ use Rattle.std.specs.Prelude.{◌==◌, ◌&&◌, ◌||◌, Option, Some, None, 
 use Rattle.std.specs.List.{list_any, AllByRecursion}
 use Rattle.std.specs.Option.{option_map}
 use Rattle.std.specs.FinMap as fin
-use Rattle.std.proofs.lemmas.Bool.{cases_Bool, eq-eqb, eqb-true, ne_eqb, false≢true}
+use Rattle.std.proofs.lemmas.Bool.{cases_Bool, eq-eqb, eqb-true, false≢true}
 use Rattle.std.proofs.lemmas.List.{length-map, length-drop}
 use Rattle.std.proofs.lemmas.List.Elements.{recursion_from_All}
 use Rattle.md_history.specs.State.{State, Table, map_at}
@@ -18,12 +18,6 @@ use Rattle.md_rounds.proofs.Few.{few-below, few-in, lists-by-key}
 -- a sum that isn't there is 0
 some-sum : (n : ℕ) → is_some (unless_0 n) ≡ true → n ≢ 0
 some-sum n has none = false≢true (ap (λ b. is_some (cond b None (Some n))) (sym (eq-eqb n 0 none)) ∙ has)
-
--- a sum over things of a key, none of which has it
-no-sum : {A : Type 0} (key value : A → ℕ) (k : ℕ) (xs : List A) → AllByRecursion (λ x. key x ≢ k) xs
-    → sum_by (λ x. cond (key x == k) (value x) 0) xs ≡ 0
-no-sum key value k [] none = refl
-no-sum key value k (x ∷ xs) none = rw (ne_eqb (key x) k none.0) (omega (arith, no-sum key value k xs none.1))
 
 -- a sum that isn't 0 has a thing of its key, below a number if all keys are
 sum-below : {A : Type 0} (key value : A → ℕ) (n k : ℕ) (xs : List A) → AllByRecursion (λ x. key x < n) xs

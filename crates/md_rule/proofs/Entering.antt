@@ -9,7 +9,6 @@ use Rattle.md_words.specs.Layout.{address}
 use Rattle.md_words.specs.Place.{desc_status}
 use Rattle.md_words.specs.Status.{serial_of, status_word}
 use Rattle.md_machine.specs.declared.attempt.Hand.{Hand}
-use Rattle.md_machine.specs.declared.attempt.HistoryEntry.{HistoryEntry}
 use Rattle.md_machine.specs.declared.certificate.Certificate.{Certificate}
 use Rattle.md_machine.specs.declared.pass.PassView.{PassView}
 use Rattle.md_machine.specs.Event.{Does, ready}
@@ -93,18 +92,3 @@ module _ (M : Meaning) (o : Origin) (By : List Certificate → Type 0) where
         → IfOk result (λ _. EnteredBy By after)
     readies_by (Ok u) told = told.1 refl
     readies_by (Err found) told = tt
-
-last_or : HistoryEntry → List HistoryEntry → HistoryEntry
-last_or e [] = e
-last_or e (x ∷ xs) = last_or x xs
-
-last_or-last : (d : HistoryEntry) (es : List HistoryEntry) (e : HistoryEntry) → last_or d (es ++ e ∷ []) ≡ e
-unfolding last_or
-last_or-last d [] e = refl
-last_or-last d (x ∷ es) e = last_or-last x es e
-
--- the entry is the one that stands last in what the pass has seen
-pub entered_last : (By : List Certificate → Type 0) (view : PassView) → EnteredBy By view
-    → (before : List HistoryEntry) (e : HistoryEntry) → view.seen ≡ before ++ e ∷ [] → By e.certificates
-entered_last By view entered before e seen = subst (λ (x : HistoryEntry). By x.certificates)
-    (sym (last_or-last e entered.0 entered.1) ∙ ap (last_or e) (sym entered.2 ∙ seen) ∙ last_or-last e before e) entered.3

@@ -1,7 +1,7 @@
 -- A pass keeps what it keeps of its lanes over each step and each mark.
 use Rattle.std.proofs.Common.{◌≡◌, ◌≢◌, ◌⊎◌, ◌+◌, ◌<◌, ◌≤◌, ℕ, List, Result, Ok, Err, length, max, set, get_or-set_same, get_or-set_other, refl, sym, ap, ◌∙◌, subst, inl, inr, ⊎_elim, le_refl, arith, true, false, Some}
 use Rattle.std.specs.List.{Contains}
-use Rattle.std.proofs.lemmas.Bool.{cases_eq, false≢true}
+use Rattle.std.proofs.lemmas.Bool.{cases_eq}
 use Rattle.md_words.specs.declared.content.Spot.{Spot}
 use Rattle.md_words.specs.declared.shape.Shape.{Shape}
 use Rattle.md_words.specs.Layout.{address, desc_count}
@@ -10,20 +10,19 @@ use Rattle.md_words.specs.Status.{serial_of}
 use Rattle.md_machine.specs.declared.attempt.Hand.{Hand}
 use Rattle.md_machine.specs.declared.pass.PassView.{PassView}
 use Rattle.md_machine.specs.Event.{install, mark_begin, mark_end, ready, start}
-use Rattle.md_machine.specs.Machine.{attempt_of, content, shape_of, was_begun}
+use Rattle.md_machine.specs.Machine.{content, shape_of}
 use Rattle.md_machine.specs.Meaning.{Meaning}
 use Rattle.md_machine.specs.Trail.{SomeStepOf, StoresFor}
 use Rattle.md_machine.specs.events.Decide.{HasMet}
 use Rattle.md_machine.specs.events.Start.{IsClean}
 use Rattle.md_rule.specs.InHand.{HoldsDesc}
-use Rattle.md_rule.specs.Kept.{IsNew, IsReached, KeepsLane, KeepsLanes}
+use Rattle.md_rule.specs.Kept.{IsReached, KeepsLane, KeepsLanes}
 use Rattle.md_lanes.specs.Shares.{after_begin, after_end, after_restart, after_slot, share_at, with_share}
 use Rattle.md_rule.specs.Steps.{EventOf, Exchanged, Stepped}
 use Rattle.md_rule.specs.Views.{Origin, PassState}
 use Rattle.md_lanes.specs.declared.shares.Share.{Share}
-use Rattle.md_machine.proofs.clauses.passes.BegunNoLater.{later_is_new, new_is_first}
 use Rattle.md_rule.proofs.FirstAttempts.{first_fit}
-use Rattle.md_rule.proofs.Kept.{IsLeftOf, LaneGoes, Spares, inside, own_desc, still_kept}
+use Rattle.md_rule.proofs.Kept.{IsLeftOf, LaneGoes, Spares, inside, still_kept}
 use Rattle.md_rule.proofs.LaneEvents.{IsQuiet, begin_goes, end_here, install_lost, install_won, quiet_goes, quiet_mark_end, ready_goes, start_else, start_here}
 use Rattle.md_rule.proofs.Moves.{goes_on, is_kept, next_admitted}
 use Rattle.md_rule.proofs.Told.{told_install}
@@ -59,17 +58,6 @@ module _ (M : Meaning) (o : Origin) (before after : PassView) where
   -- an abort is of none of the pass's lanes that has begun no attempt
   abbrev pub SparesLanes : (event : EventOf) → Stepped M o event before after → List Share → Type 0
   SparesLanes event s shares = (lane : ℕ) → Contains before.lanes lane → Spares (shape_of s.machine) (event s.pass) before lane (share_at shares lane)
-
-  -- an attempt of an own descriptor stays new over an event that takes none in hand
-  pub still_new : (event : EventOf) (s : Stepped M o event before after) → s.next.begun ≡ s.machine.begun → (lane serial : ℕ) → Contains before.lanes lane
-      → IsNew before (attempt_of lane serial) → IsNew after (attempt_of lane serial)
-  still_new event s begun lane serial held new =
-      let a = attempt_of lane serial in
-      let km = is_kept M o s.machine s.admitted in
-      let first = new_is_first s.machine km s.pass before s.acts.at a (own_desc s.machine km s.pass before s.acts.at lane held) (record { pending = new.pending; steps = new.steps }) in
-      let still = later_is_new s.next (is_kept M o s.next (next_admitted M o event before after s)) s.pass after s.knows a
-      (λ was. false≢true (sym first ∙ subst (λ l. was_begun l a ≡ true) begun was)) in
-      record { pending = still.pending; steps = still.steps }
 
   module _ (event : EventOf) (s : Stepped M o event before after) (lanes : after.lanes ≡ before.lanes) (shape : Shape) (same : shape ≡ o.shape) where
     -- if it does no more to each lane, all are kept

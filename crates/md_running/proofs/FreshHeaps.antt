@@ -128,12 +128,6 @@ module _ (f : FieldView) (p : PassState) (of : IsPassOf f p) (fresh : IsFresh p)
   pub acts_right : IsRight (start_of f) (acts_of cs)
   acts_right = subst (λ s. IsRight s (acts_of cs)) heap_state follows.right
 
-  pub after_state : state_of_store (after_wholes fresh_heap cs).words ≡ run (start_of f) (acts_of cs)
-  after_state = follows.state ∙ ap (λ s. run s (acts_of cs)) heap_state
-
-  pub after_valid : store.valid (after_wholes fresh_heap cs)
-  after_valid = follows.valid
-
   -- a certificate that stands next in it stands after the others
   pub next_stands : (c : Certificate) → store.certifies (shape_in t) c → All (store.tidies (shape_in t)) c.tidy → StandsNext store cs c t fresh_heap
       → StandFrom fresh_heap (cs ++ c ∷ [])

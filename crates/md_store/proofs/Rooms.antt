@@ -31,12 +31,6 @@ room_fits s base most =
       fits = omega (arith, most, first, now, fits);
     }
 
-pub room_is_most : (s : Shape) (base : ℕ) → MayHaveBase s base → base ≤ room_of s
-room_is_most s base h =
-    let first = words_with s base in
-    let few = h.in_range.base_fits in
-    let fits = h.fits in omega (arith, first, few, fits)
-
 -- a shape that is the same but for its base nodes has the same lanes and limits
 pub same_lanes : (s fresh : Shape) (base : ℕ) → IsWithBase s base fresh → all_lanes fresh ≡ all_lanes s
 same_lanes s fresh base is = ap (λ n. range_with_len 0 n) is.0

@@ -6,7 +6,7 @@ use Rattle.std.proofs.lemmas.Bool.{cases_eq, cases_lt}
 use Rattle.std.proofs.lemmas.List.{length-set, length-replicate, length_push, length-take-le, take_more, get_or-set_same, get_or-set_other, get_or_past, map-id, append-nil}
 use Rattle.std.proofs.lemmas.List.Concat.{flat_map-append}
 use Rattle.std.proofs.lemmas.List.FromFn.{map-range_with_len_more, length-map-range_with_len, get_or-map-range_with_len, fill_by_all}
-use Rattle.md_history.specs.State.{State, Table, empty_state, map_at, queue_at, with_map, with_queue}
+use Rattle.md_history.specs.State.{State, Table, map_at, queue_at, with_map, with_queue}
 use Rattle.md_machine.specs.LogicalHeap.{LogicalWords}
 use Rattle.md_list_law.specs.Walk.{map_of_pairs}
 use Rattle.md_hash_law.specs.HashTable.{pairs_of_map, maps_of}
@@ -78,14 +78,6 @@ module _ (w : LogicalWords) where
     pub filled : (queue : ℕ) → queue < count → queue_at s queue ≡ queue_values w queue
     pub empty : (queue : ℕ) → count ≤ queue → queue_at s queue ≡ []
 
-  pub maps_begin : (first : ℕ) → MapsFilled first (empty_state w.shape.maps w.shape.queues) first
-  maps_begin first = record {
-    maps = length-replicate w.shape.maps _;
-    filled = λ map low below. absurd (omega arith);
-    others = λ map below. get_or-same w.shape.maps map fin.empty;
-    queues = refl;
-  }
-
   pub maps_on : (first : ℕ) (s : State) (count : ℕ) → first ≤ count → count < w.shape.maps → MapsFilled first s count
       → MapsFilled first (with_map s count (map_of_pairs (pairs_of_map w count))) (count + 1)
   maps_on first s count from below f = let t = map_of_pairs (pairs_of_map w count) in let maps = f.maps in record {
@@ -128,17 +120,6 @@ module _ (w : LogicalWords) where
     queues = all.numbers.queues ∙ length-map-range_with_len (queue_values w) 0 w.shape.queues;
     filled = λ queue below. absurd (omega arith);
     empty = λ queue low. all.queues queue;
-  }
-
-  pub queues_on : (s : State) (count : ℕ) → count < w.shape.queues → QueuesFilled s count → QueuesFilled (with_queue s count (queue_values w count)) (count + 1)
-  queues_on s count below f = let vs = queue_values w count in let queues = f.queues in record {
-    maps = f.maps;
-    queues = length-set s.queues count vs ∙ f.queues;
-    filled = λ queue less. ⊎_elim
-        (λ e. ap (λ q. get_or (with_queue s count vs).queues q []) e ∙ get_or-set_same s.queues count vs [] (omega arith) ∙ ap (queue_values w) (sym e))
-        (λ ne. get_or-set_other s.queues count queue vs [] ne ∙ f.filled queue (omega arith))
-        (cases_eq queue count);
-    empty = λ queue low. let ne : queue ≢ count = omega arith in get_or-set_other s.queues count queue vs [] ne ∙ f.empty queue (omega arith);
   }
 
   -- a group of them

@@ -1,8 +1,8 @@
 -- States with another map or another queue.
-use Rattle.std.proofs.Common.{◌≡◌, ℕ, ◌+◌, ◌<◌, ◌++◌, List, [], ◌∷◌, length, set, get_or, take, sym, ap, ◌∙◌}
+use Rattle.std.proofs.Common.{◌≡◌, ℕ, ◌+◌, ◌<◌, ◌++◌, List, [], ◌∷◌, length, get_or, take, sym, ap, ◌∙◌}
 use Rattle.std.specs.FinMap as fin
-use Rattle.std.proofs.lemmas.List.{set-set, set-get_or, get_or-set_same, take_more}
-use Rattle.md_history.specs.State.{State, Table, map_at, queue_at, with_map, with_queue}
+use Rattle.std.proofs.lemmas.List.{set-set, get_or-set_same, take_more}
+use Rattle.md_history.specs.State.{State, Table, queue_at, with_queue}
 
 abbrev of_maps : State → List Table → State
 of_maps s maps = record { maps = maps; queues = s.queues }
@@ -10,25 +10,11 @@ of_maps s maps = record { maps = maps; queues = s.queues }
 abbrev of_queues : State → List (List ℕ) → State
 of_queues s queues = record { maps = s.maps; queues = queues }
 
--- what was put last stands
-pub map_at-with_map : (s : State) (map : ℕ) (t : Table) → map < length s.maps → map_at (with_map s map t) map ≡ t
-map_at-with_map s map t below = get_or-set_same s.maps map t fin.empty below
-
 pub queue_at-with_queue : (s : State) (queue : ℕ) (xs : List ℕ) → queue < length s.queues → queue_at (with_queue s queue xs) queue ≡ xs
 queue_at-with_queue s queue xs below = get_or-set_same s.queues queue xs _ below
 
-pub with_map-with_map : (s : State) (map : ℕ) (t u : Table) → with_map (with_map s map t) map u ≡ with_map s map u
-with_map-with_map s map t u = ap (of_maps s) (set-set s.maps map t u)
-
 pub with_queue-with_queue : (s : State) (queue : ℕ) (xs ys : List ℕ) → with_queue (with_queue s queue xs) queue ys ≡ with_queue s queue ys
 with_queue-with_queue s queue xs ys = ap (of_queues s) (set-set s.queues queue xs ys)
-
--- to put what stands changes nothing
-pub with_map_same : (s : State) (map : ℕ) (t : Table) → map_at s map ≡ t → with_map s map t ≡ s
-with_map_same s map t e = ap (of_maps s) (ap (set s.maps map) (sym e) ∙ set-get_or s.maps map fin.empty)
-
-pub with_queue_same : (s : State) (queue : ℕ) (xs : List ℕ) → queue_at s queue ≡ xs → with_queue s queue xs ≡ s
-with_queue_same s queue xs e = ap (of_queues s) (ap (set s.queues queue) (sym e) ∙ set-get_or s.queues queue _)
 
 -- values are pushed from the first one on
 pub values_pushed : (s before later : State) (queue : ℕ) (values : List ℕ) (i : ℕ) → queue < length s.queues → i < length values

@@ -10,9 +10,6 @@ use Rattle.md_book.proofs.books.OpenOrders.{AreApart, is_open}
 abbrev pub SeesNotLeft : {X : Type 0} → (Order → X) → Type 0
 SeesNotLeft f = (p : Order) (left : ℕ) → f (record p { left = left }) ≡ f p
 
-pub seen-lessen : {X : Type 0} (f : Order → X) → SeesNotLeft f → (name by : ℕ) (p : Order) → f (lessen name by p) ≡ f p
-seen-lessen f blind name by p = elim (p.name == name) as (λ b. f (cond b (record p { left = p.left - by }) p) ≡ f p) [ true ↦ blind p (p.left - by) | false ↦ refl ]
-
 -- nothing is left where nothing was
 pub left-lessen_0 : (name by : ℕ) (p : Order) → p.left ≡ 0 → (lessen name by p).left ≡ 0
 left-lessen_0 name by p none = elim (p.name == name) as (λ b. (cond b (record p { left = p.left - by }) p).left ≡ 0) [ true ↦ omega arith | false ↦ none ]

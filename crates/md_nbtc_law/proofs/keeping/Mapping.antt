@@ -1,5 +1,5 @@
 -- A list whose elements are changed one after another.
-use Rattle.std.proofs.Common.{◌≡◌, ◌++◌, ◌∷◌, ◌<◌, ◌≤◌, ◌+◌, ℕ, zero, suc, List, [], length, map, take, drop, get_or, set, refl, ap, ◌∙◌, arith}
+use Rattle.std.proofs.Common.{◌≡◌, ◌++◌, ◌∷◌, ◌<◌, ◌+◌, ℕ, zero, suc, List, [], length, map, take, drop, get_or, set, refl, ap, ◌∙◌, arith}
 
 module _ {A : Type 0} (f : A → A) (d : A) where
   -- the list in which so many are changed
@@ -25,14 +25,3 @@ module _ {A : Type 0} (f : A → A) (d : A) where
 
   pub same_next : (i : ℕ) (xs : List A) → i < length xs → f (get_or (changed_to i xs) i d) ≡ get_or (changed_to i xs) i d → changed_to i xs ≡ changed_to (i + 1) xs
   same_next i xs below same = let e : suc i ≡ i + 1 = omega arith in same_one i xs below same ∙ ap (λ n. changed_to n xs) e
-
-  -- those that were changed
-  pub first_changed : (n : ℕ) (xs : List A) → n ≤ length xs → take n (changed_to n xs) ≡ map f (take n xs)
-  first_changed zero xs below = refl
-  first_changed (suc n) [] below = refl
-  first_changed (suc n) (x ∷ xs) below = ap (λ l. f x ∷ l) (first_changed n xs (omega (arith, below)))
-
-  pub length_changed : (n : ℕ) (xs : List A) → length (changed_to n xs) ≡ length xs
-  length_changed zero xs = refl
-  length_changed (suc n) [] = refl
-  length_changed (suc n) (x ∷ xs) = ap (λ k. suc k) (length_changed n xs)

@@ -13,18 +13,17 @@ use Rattle.md_machine.specs.declared.attempt.Read.{Read}
 use Rattle.md_machine.specs.declared.attempt.Write.{Write}
 use Rattle.md_machine.specs.declared.certificate.Certificate.{Certificate}
 use Rattle.md_machine.specs.Certified.{content_replaced, first_content}
-use Rattle.md_machine.specs.Event.{Acts, ready}
+use Rattle.md_machine.specs.Event.{Acts}
 use Rattle.md_machine.specs.Machine.{IsAt, Machine, shape_of}
 use Rattle.md_machine.specs.Meaning.{Lawful, Meaning}
 use Rattle.md_machine.specs.Theorem.{IsKept}
 use Rattle.md_machine.specs.Trail.{Meets, SomeStepOf, StoresFor, is_store}
-use Rattle.md_machine.specs.events.Ready.{InstallsFor, MayReady, MayRecord, after_ready}
+use Rattle.md_machine.specs.events.Ready.{InstallsFor, MayReady, MayRecord}
 use Rattle.md_machine.proofs.lists.Options.{some_same}
 use Rattle.md_machine.proofs.lists.Rising.{here}
 use Rattle.md_rule.specs.Kept.{StoredNoneLeft}
 use Rattle.md_rule.specs.Admitted.{Admitted}
 use Rattle.md_rule.specs.InHand.{HoldsUnready}
-use Rattle.md_rule.specs.Steps.{May}
 use Rattle.md_nbtc_law.specs.Going.{IsGoing}
 use Rattle.md_nbtc_law.specs.Prepared.{InstallsFrom, IsHeld, IsRecorded, LeftThere}
 use Rattle.md_nbtc_law.specs.State.{TxnState, attempt_in, own_steps, shape_in, writes_in}
@@ -116,10 +115,6 @@ module _ (M : Meaning) (lawful : Lawful M) (t : TxnState) (cs : List Certificate
             own_step t (InstallsFor (attempt_in t) w) (some.0, some.1, some.2.0)));
         certified = certified M lawful t cs going idle m admitted pass acts;
       }
-
-  -- so the step may be made
-  pub may_become_ready : May M t.field.origin (λ pass. ready pass (length t.reads)) t.pass.view
-  may_become_ready m admitted pass acts = (after_ready m pass t.pass.view t.hand cs (length t.reads), (t.pass.view, t.hand, cs, acts, may_ready m admitted pass acts, refl))
 
   -- by certificates by which the transaction is under way
   pub may_enter : (m : Machine) → Admitted M t.field.origin m → (pass : ℕ) → Acts m pass t.pass.view

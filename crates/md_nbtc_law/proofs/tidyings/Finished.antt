@@ -45,9 +45,6 @@ module _ (M : Meaning) (o : Origin) (p q r s : PassState) (a : AttemptId) (slots
   goes : IsAfter o.shape (t.steps ++ c.steps) p.view r.view
   goes = both_after o.shape t.steps c.steps p.view q.view r.view t.goes c.goes
 
-  pub fate_then : HasFate o.shape q.view a Committed
-  fate_then = fate_still o.shape a t.steps p.view q.view t.goes Committed fate
-
   pub fate_now : HasFate o.shape r.view a Committed
   fate_now = fate_still o.shape a (t.steps ++ c.steps) p.view r.view goes Committed fate
 
