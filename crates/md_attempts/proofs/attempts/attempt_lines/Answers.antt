@@ -1,4 +1,4 @@
-use Rattle.std.proofs.Common.{rules, ◌≡◌, ◌<◌, ◌+◌, ◌∙◌, length, ap, sym, subst, refl, inl, inr, arith}
+use Rattle.std.proofs.Common.{◌≡◌, ◌<◌, ◌+◌, ◌∙◌, length, ap, sym, subst, refl, inl, inr, arith}
 use Rattle.std.proofs.lemmas.Bool.{cases_eq}
 use Rattle.std.proofs.lemmas.List.{length_push}
 use Rattle.std.proofs.lemmas.Result.{IfOk-from_err}
@@ -207,7 +207,7 @@ returns g c =
     }
 
 pub try_line-requires-clause-of : goal.try_line-requires-clause-of
-try_line-requires-clause-of g c κs within = search rules depth 1
+try_line-requires-clause-of g c κs within = assumption
 
 pub try_line-requires-clause-room : goal.try_line-requires-clause-room
 try_line-requires-clause-room g c κs within =
@@ -225,4 +225,4 @@ try_line-requires-clause-room g c κs within =
     )
 
 pub after_stop-requires : goal.after_stop-requires
-after_stop-requires g c = search rules depth 1
+after_stop-requires g c = assumption

@@ -1,4 +1,4 @@
-use Rattle.std.proofs.Common.{rules, ◌≡◌, ◌<◌, ◌^◌, ◌∙◌, length, sym, ap, subst, arith}
+use Rattle.std.proofs.Common.{◌≡◌, ◌<◌, ◌^◌, ◌∙◌, length, sym, ap, subst, arith}
 use Rattle.std.proofs.lemmas.List.{length-replicate}
 use Rattle.std.proofs.lemmas.Result.{IfOk-from_err}
 use Rattle.md_history.specs.Engine.{empty_front}
@@ -8,7 +8,7 @@ use Rattle.md_many.proofs.rounds.play_open_rounds.Goals as goal
 
 pub rounds-init : goal.rounds-init
 rounds-init g c =
-    let empty : g.E.Engine.front c.args.pass ≡ empty_front (g.E.Engine.lanes c.args.engine) = search rules in
+    let empty : g.E.Engine.front c.args.pass ≡ empty_front (g.E.Engine.lanes c.args.engine) = assumption in
     let count : c.callers.result ≡ length (g.E.Engine.lanes c.args.engine) = c.callers.ensures ∙ sym c.requires.lanes in
     let zeros : length c.in_ok-none_done.field-0.items ≡ c.callers.result =
     ap length c.in_ok-none_done.ensures ∙ length-replicate c.callers.result 0 in

@@ -30,7 +30,7 @@ pub returns-then-course-clause-course : goal.returns-then-course-clause-course
 returns-then-course-clause-course g c = search rules depth 1
 
 pub returns-then-course-clause-keeper : goal.returns-then-course-clause-keeper
-returns-then-course-clause-keeper g c = search rules depth 1
+returns-then-course-clause-keeper g c = assumption
 
 pub returns-then-course-clause-callers : goal.returns-then-course-clause-callers
 returns-then-course-clause-callers g c = search rules depth 1
@@ -42,19 +42,19 @@ pub returns-then-lone-2-clause-course : goal.returns-then-lone-2-clause-course
 returns-then-lone-2-clause-course g c = search rules depth 1
 
 pub returns-then-lone-2-clause-keeper : goal.returns-then-lone-2-clause-keeper
-returns-then-lone-2-clause-keeper g c = search rules depth 1
+returns-then-lone-2-clause-keeper g c = assumption
 
 pub returns-then-lone-2-clause-callers : goal.returns-then-lone-2-clause-callers
 returns-then-lone-2-clause-callers g c = search rules depth 1
 
 pub returns-clause-of : goal.returns-clause-of
-returns-clause-of g c = search rules depth 1
+returns-clause-of g c = assumption
 
 pub returns-clause-course : goal.returns-clause-course
-returns-clause-course g c = search rules depth 1
+returns-clause-course g c = assumption
 
 pub returns-clause-keeper : goal.returns-clause-keeper
-returns-clause-keeper g c = search rules depth 1
+returns-clause-keeper g c = assumption
 
 pub returns-clause-callers : goal.returns-clause-callers
 returns-clause-callers g c = search rules depth 1

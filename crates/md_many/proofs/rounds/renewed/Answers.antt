@@ -1,4 +1,5 @@
-use Rattle.std.proofs.Common.{rules, ◌≡◌}
+use Rattle.std.proofs.Common.{rules, ◌≡◌, ◌∙◌, sym}
+use Rattle.std.proofs.lemmas.Bool.{false≢true}
 use Rattle.std.proofs.lemmas.List.{map_push}
 use Rattle.std.proofs.lemmas.Result.{IfOk-from_err}
 use Rattle.md_history.specs.Engine.{empty_front}
@@ -13,7 +14,7 @@ renew-requires-clause-room g c =
 pub returns-clause-course : goal.returns-clause-course
 returns-clause-course g c =
     let empty : g.E.Engine.front c.in_ok-engine.pass ≡ empty_front (g.E.Engine.lanes c.in_ok-engine.engine) =
-    search rules in
+    assumption in
     record {
       laws = c.requires.course.laws;
       runs = search rules;
@@ -49,4 +50,4 @@ pub returns-then-not-course-clause-fresh : goal.returns-then-not-course-clause-f
 returns-then-not-course-clause-fresh g c = search rules depth 1
 
 pub returns-then-not-course-clause-empty : goal.returns-then-not-course-clause-empty
-returns-then-not-course-clause-empty g c = search rules depth 1
+returns-then-not-course-clause-empty g c = λ worn. absurd (false≢true (sym c.if-not-course.true ∙ worn))

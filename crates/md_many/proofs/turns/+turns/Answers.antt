@@ -79,25 +79,25 @@ pub pass_is_legal-requires-after_bounds : goal.pass_is_legal-requires-after_boun
 pass_is_legal-requires-after_bounds g t c κs within = c.requires.of
 
 pub join+arg2-play_turns-requires : goal.join+arg2-play_turns-requires
-join+arg2-play_turns-requires g t c κs within = search rules depth 1
+join+arg2-play_turns-requires g t c κs within = assumption
 
 pub join+arg2-returns : goal.join+arg2-returns
-join+arg2-returns g t c = search rules depth 1
+join+arg2-returns g t c = assumption
 
 pub fn::play_turns::join+arg2+FnOnce::call_once-join+arg2-requires : goal.fn::play_turns::join+arg2+FnOnce::call_once-join+arg2-requires
-fn::play_turns::join+arg2+FnOnce::call_once-join+arg2-requires g t c κs within = search rules depth 1
+fn::play_turns::join+arg2+FnOnce::call_once-join+arg2-requires g t c κs within = assumption
 
 pub fn::play_turns::join+arg2+FnOnce::call_once-returns : goal.fn::play_turns::join+arg2+FnOnce::call_once-returns
-fn::play_turns::join+arg2+FnOnce::call_once-returns g t c = search rules depth 1
+fn::play_turns::join+arg2+FnOnce::call_once-returns g t c = assumption
 
 pub join+arg3-play_turns-requires : goal.join+arg3-play_turns-requires
-join+arg3-play_turns-requires g t c κs within = search rules depth 1
+join+arg3-play_turns-requires g t c κs within = assumption
 
 pub join+arg3-returns : goal.join+arg3-returns
-join+arg3-returns g t c = search rules depth 1
+join+arg3-returns g t c = assumption
 
 pub fn::play_turns::join+arg3+FnOnce::call_once-join+arg3-requires : goal.fn::play_turns::join+arg3+FnOnce::call_once-join+arg3-requires
-fn::play_turns::join+arg3+FnOnce::call_once-join+arg3-requires g t c κs within = search rules depth 1
+fn::play_turns::join+arg3+FnOnce::call_once-join+arg3-requires g t c κs within = assumption
 
 pub fn::play_turns::join+arg3+FnOnce::call_once-returns : goal.fn::play_turns::join+arg3+FnOnce::call_once-returns
-fn::play_turns::join+arg3+FnOnce::call_once-returns g t c = search rules depth 1
+fn::play_turns::join+arg3+FnOnce::call_once-returns g t c = assumption

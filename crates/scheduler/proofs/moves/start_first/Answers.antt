@@ -1,9 +1,18 @@
-use Rattle.std.proofs.Common.{◌∙◌, arith}
+use Rattle.std.proofs.Common.{◌∙◌, refl, arith}
 use Rattle.std.proofs.lemmas.Result.{err_from_is_err_and}
-use Rattle.md_history.specs.ScriptLaws.{at-more, at-broke, at-done}
+use Rattle.md_history.specs.ScriptLaws.{at-begin, at-more, at-broke, at-done}
 use Rattle.md_history.proofs.Branching.{at-some, at-none}
+use Rattle.scheduler.specs.declared.places.TheConstants.{PRIORITIES}
+use Rattle.scheduler.specs.Moves.{start_first}
 use Rattle.scheduler.proofs.Walking.{more-left, none-left}
 use Rattle.scheduler.proofs.moves.start_first.Goals as goal
+
+pub loop-queue-init : goal.loop-queue-init
+loop-queue-init g c = record {
+  at = at-begin (start_first c.args.worker PRIORITIES 0) (g.T.TxCalls.acts c.args.t.now);
+  going = c.requires.going;
+  kept = refl;
+}
 
 pub returns-in_err-job-clause-plays : goal.returns-in_err-job-clause-plays
 returns-in_err-job-clause-plays g c =

@@ -12,3 +12,6 @@ loop-job-preserved c =
     let job = c.loop-job.job in
     subst (Holds (job + 1)) (sym c.in_ok-push.ensures.ok)
     (holds-more job (job % PRIORITIES) _ c.loop-job.invariant (omega arith))
+
+pub returns : goal.returns
+returns c = subst (λ n. Holds n c.loop-job.contents) (omega arith) c.loop-job.invariant
