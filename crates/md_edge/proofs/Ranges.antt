@@ -1,5 +1,5 @@
 -- Options that words write are in their ranges.
-use Rattle.std.proofs.Common.{◌≡◌, ◌≤◌, ◌↔◌, ℕ, List, Option, Some, None, refl, subst, arith, inl, inr}
+use Rattle.std.proofs.Common.{◌≡◌, ◌≤◌, ◌↔◌, ℕ, List, Option, Some, None, true, refl, subst, arith, inl, inr}
 use Rattle.std.specs.Prelude.{nat_le, unwrap_or, IfSome}
 use Rattle.std.proofs.lemmas.Bool.{cases_Bool}
 use Rattle.std.proofs.lemmas.Bool.Decides.{nat_tests}
@@ -60,3 +60,9 @@ write-in_range words options write =
 pub read-in_range : (words : List (List ℕ)) (read : Option Options) → ((options : Options) → (read ≡ Some options) ↔ Write words options) → IfSome read AreInRange
 read-in_range words None written = search
 read-in_range words (Some options) written = write-in_range words options ((written options).0 refl)
+
+-- scripts are made for few enough callers
+pub making-few : (callers number lines : ℕ) → callers ≤ MAX_MADE_CALLERS → Some (Some (record { number = number; lines = lines })) ≡ making_of callers (Some number) (Some lines)
+making-few callers number lines few =
+    let is : nat_le callers MAX_MADE_CALLERS ≡ true = grind (arith, nat_tests) in
+    rw is refl

@@ -111,6 +111,10 @@ none_in Tries = refl
 none_in Make = refl
 none_in Lines = refl
 
+-- a name without a value gets the one that a text writes
+pub with-set : (given : Given) (name x : Name) (text : List ℕ) (n : ℕ) → name ≡ x → is_some (value_in given name) ≡ false → number_within (lowest name) (highest name) text ≡ Some n → Some (set_value given x n) ≡ with_value given name text
+with-set given name x text n is none read = rw (none, read, is) refl
+
 -- a name that got a value has it
 set_here : (given : Given) (name : Name) (n : ℕ) → value_in (set_value given name n) name ≡ Some n
 set_here given Callers n = refl

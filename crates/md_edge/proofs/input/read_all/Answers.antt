@@ -50,4 +50,4 @@ returns-in-Ok-eq0-clause-read g c =
     read-end _ _ _ _ _ _ _ c.reads.invariant (rw none at c.in-Ok-eq0.ensures.step) bytes.0 (bytes.1 refl (omega arith)) c.in-Ok-eq0.ensures.cause.kept
 
 pub returns-in-Ok-eq0-clause-too_long : goal.returns-in-Ok-eq0-clause-too_long
-returns-in-Ok-eq0-clause-too_long g c = search rules depth 1
+returns-in-Ok-eq0-clause-too_long g c = λ told. cc told

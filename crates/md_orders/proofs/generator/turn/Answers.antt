@@ -1,5 +1,5 @@
-use Rattle.std.proofs.Common.{rules}
+use Rattle.std.proofs.Common.{arith}
 use Rattle.md_orders.proofs.generator.turn.Goals as goal
 
 pub returns : goal.returns
-returns c = search rules depth 1
+returns c = omega arith

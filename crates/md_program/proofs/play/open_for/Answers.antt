@@ -1,5 +1,4 @@
-use Rattle.std.proofs.Common.{rules}
 use Rattle.md_program.proofs.play.open_for.Goals as goal
 
 pub returns : goal.returns
-returns c = search rules depth 1
+returns c = assumption

@@ -1,4 +1,4 @@
-use Rattle.std.proofs.Common.{sym, rules}
+use Rattle.std.proofs.Common.{refl, sym}
 use Rattle.md_program.proofs.Asked.{none-written, none-accepted, one-written}
 use Rattle.md_program.proofs.Complete.{good-not-bad}
 use Rattle.md_program.proofs.runs.run.Goals as goal
@@ -41,4 +41,4 @@ pub returns-in-None-clause-told : goal.returns-in-None-clause-told
 returns-in-None-clause-told g c = λ callers bytes left good. good-not-bad _ _ _ _ _ callers bytes left good
 
 pub returns-in-None-clause-refused : goal.returns-in-None-clause-refused
-returns-in-None-clause-refused g c = search rules depth 1
+returns-in-None-clause-refused g c = λ _. (c.stop.ensures.status, refl, c.stop.ensures.alone)

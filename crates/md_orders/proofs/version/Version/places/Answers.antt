@@ -1,5 +1,5 @@
-use Rattle.std.proofs.Common.{rules}
+use Rattle.std.proofs.Common.{refl}
 use Rattle.md_orders.proofs.version.Version.places.Goals as goal
 
 pub returns-in-First : goal.returns-in-First
-returns-in-First c = search rules depth 1
+returns-in-First c = rw c.in-First.is refl

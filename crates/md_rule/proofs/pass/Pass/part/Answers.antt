@@ -1,7 +1,8 @@
-use Rattle.std.proofs.Common.{None, sym, subst, rules}
+use Rattle.std.proofs.Common.{None, ap, sym, subst}
 use Rattle.md_rule.specs.Kept.{KeepsLanes}
 use Rattle.md_rule.specs.Lanes.{AreLanes}
 use Rattle.md_rule.specs.Private.{HasWords}
+use Rattle.md_rule.specs.Views.{PassState}
 use Rattle.md_rule.proofs.pass.Pass.part.Goals as goal
 
 pub invariant_of-result : goal.invariant_of-result
@@ -14,4 +15,4 @@ invariant_of-result g c = (
 )
 
 pub returns : goal.returns
-returns g c = search rules depth 1
+returns g c = ap (λ (p : PassState). record p { table = c.args.seat.table_id; view = c.args.seat.me.0.view }) c.self.view_is

@@ -1,5 +1,4 @@
-use Rattle.std.proofs.Common.{rules}
 use Rattle.md_program.proofs.report.fn.tell_and_close.join+arg2.Goals as goal
 
 pub returns : goal.returns
-returns g c = search rules depth 1
+returns g c = assumption
