@@ -2,4 +2,4 @@ use Rattle.std.proofs.Common.{rules}
 use Rattle.md_lanes.proofs.shares.restart_lane.Goals as goal
 
 pub returns-clause-shares : goal.returns-clause-shares
-returns-clause-shares c = search rules depth 1
+returns-clause-shares c = assumption

@@ -5,7 +5,7 @@ use Rattle.md_words.proofs.shape.Shape.node_of.Goals as goal
 
 pub returns-clause-node : goal.returns-clause-node
 unfolding node_of
-returns-clause-node c = search rules depth 1
+returns-clause-node c = assumption
 
 pub returns-clause-owner : goal.returns-clause-owner
 unfolding OwnsNode
