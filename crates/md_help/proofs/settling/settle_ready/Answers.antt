@@ -29,7 +29,7 @@ returns-in-Committed-clause-own g c own =
     (sym is ∙ c.in-Committed.is) own
 
 pub returns-in-InProg-clause-settled : goal.returns-in-InProg-clause-settled
-returns-in-InProg-clause-settled g c = search rules depth 1
+returns-in-InProg-clause-settled g c = assumption
 
 pub returns-in-InProg-clause-own : goal.returns-in-InProg-clause-own
-returns-in-InProg-clause-own g c = search rules depth 1
+returns-in-InProg-clause-own g c = assumption

@@ -2,4 +2,4 @@ use Rattle.std.proofs.Common.{rules}
 use Rattle.md_rounds.proofs.order_lines.OrderLinesLines.body.Goals as goal
 
 pub returns : goal.returns
-returns c = search rules depth 1
+returns c = assumption
