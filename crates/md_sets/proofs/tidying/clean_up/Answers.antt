@@ -26,6 +26,9 @@ try_cleanup-requires-clause-may g c =
     may_still M o (m.step ∷ []) p q m.goes c.requires.stands
     (stands_made M o (λ pass. load pass word) Load word c.load-held.result c.load-held.result p q c.load-held.ensures.step.0 m) c.args.cleanup c.requires.may
 
+pub try_cleanup-requires-clause-names : goal.try_cleanup-requires-clause-names
+try_cleanup-requires-clause-names g c = sym c.names.ensures ∙ c.if-names.true
+
 pub try_cleanup-requires-clause-out : goal.try_cleanup-requires-clause-out
 try_cleanup-requires-clause-out g c =
     let M = g.T.Theory.meaning in

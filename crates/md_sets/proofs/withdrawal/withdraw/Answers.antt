@@ -4,6 +4,9 @@ use Rattle.md_nbtc_law.proofs.withdrawals.Ended.{clean_now, desc_there, fate_now
 use Rattle.md_nbtc_law.proofs.withdrawals.Freed.{may_give_back}
 use Rattle.md_sets.proofs.withdrawal.withdraw.Goals as goal
 
+pub take_writes_out-requires-clause-fate : goal.take_writes_out-requires-clause-fate
+take_writes_out-requires-clause-fate g c = c.requires.may.fate
+
 pub give_nodes_back-requires-clause-free : goal.give_nodes_back-requires-clause-free
 give_nodes_back-requires-clause-free g c =
     may_give_back c.args.field.now.origin.shape c.args.began.now.value c.args.pass.now c.take_writes_out.new.pass c.args.attempt _ c.requires.may c.requires.of.shape

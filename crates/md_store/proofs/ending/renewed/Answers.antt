@@ -29,6 +29,13 @@ lay_living-requires c =
       base = subst (λ (s : Shape). MayHaveBase s (needed (contents_of s words))) (sym c.shape.ensures) base;
     }
 
+pub open-requires : goal.open-requires
+open-requires c =
+    let words = c.ended-words.result.0.field.words in
+    let store = store_of c.args.field.origin.shape c.shape.result.now words c.shape.ensures c.ended-words.ensures.store in
+    let opens = (c.in_ok-fresh.ensures words store c.in_ok-living.ensures).opens in
+    (opens.placed, opens.can_open)
+
 pub returns-clause-renews : goal.returns-clause-renews
 returns-clause-renews c =
     let words = c.ended-words.result.0.field.words in

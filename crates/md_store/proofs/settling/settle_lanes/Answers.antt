@@ -1,7 +1,7 @@
-use Rattle.std.proofs.Common.{refl, ap, ◌∙◌, slice_index, subst}
+use Rattle.std.proofs.Common.{◌≡◌, length, refl, ap, ◌∙◌, slice_index, subst, arith}
 use Rattle.md_machine.specs.declared.pass.PassView.{PassView}
 use Rattle.md_rule.specs.Views.{PassState}
-use Rattle.md_store.specs.Settling.{Settles}
+use Rattle.md_store.specs.Settling.{Settles, SettlesFirst}
 use Rattle.md_store.proofs.SettledLanes.{settles_first, settles_next}
 use Rattle.md_store.proofs.settling.settle_lanes.Goals as goal
 
@@ -20,3 +20,8 @@ loop-place-preserved c =
       same = c.settle_lane.ensures.same ∙ ap (λ (x : PassState). record x { view = r }) was.same;
       so_far = settles_next f c.loop-place.place p q r c.requires.idle was.so_far (subst (λ l. Settles f.origin.shape l q r) lane c.settle_lane.ensures.settles) c.settle_lane.ensures.of.stands;
     }
+
+pub returns-clause-settles : goal.returns-clause-settles
+returns-clause-settles c =
+    let end : c.loop-place.place ≡ length c.args.pass.now.view.lanes = omega arith in
+    subst (λ n. SettlesFirst c.args.field.now.origin.shape n c.args.pass.now.view c.loop-place.pass.view) end c.loop-place.invariant.so_far

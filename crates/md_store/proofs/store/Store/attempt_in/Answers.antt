@@ -1,6 +1,7 @@
 use Rattle.std.proofs.Common.{Err, None, ap, refl, subst, sym, ◌∙◌}
 use Rattle.md_history.specs.declared.stops.Attempt.TheVariants.{Committed, Stopped as IsStopped}
 use Rattle.md_history.specs.declared.stops.Stop.TheVariants.{Conflict}
+use Rattle.md_machine.specs.declared.attempt.Hand.{Hand}
 use Rattle.md_nbtc_law.specs.Ending.{BeginsNot}
 use Rattle.md_nbtc_law.specs.State.{TxnState}
 use Rattle.md_nbtc.specs.State.{begun_state, state}
@@ -18,6 +19,26 @@ run-txn-requires-clause-running g c =
     subst (λ (b : PassState). IsRunning b (state c.with-txn.result) None) (sym c.of-before.ensures)
     (subst (λ (s : TxnState). IsRunning c.args.pass.now s None) (sym c.with-txn.ensures.state)
     (begun_runs c.args.pass.now c.args.tag t c.in-Ok.ensures.begun c.in-Ok.ensures.going))
+
+pub run-txn-requires-clause-none : goal.run-txn-requires-clause-none
+run-txn-requires-clause-none g c = ap (λ (s : TxnState). s.hand.acts) c.with-txn.ensures.state ∙ ap (λ (h : Hand). h.acts) c.in-Ok.ensures.begun.hand
+
+pub run-txn-requires-clause-fits : goal.run-txn-requires-clause-fits
+run-txn-requires-clause-fits g c =
+    let field = ap (λ (s : TxnState). s.field) c.with-txn.ensures.state ∙ c.in-Ok.ensures.field ∙ c.self.view_is in
+    subst (λ (f : FieldView). g.B.Body.fits c.args.body.now f.origin.shape.maps f.origin.shape.queues) (sym field) c.requires.fits
+
+pub commit-requires-clause-going : goal.commit-requires-clause-going
+commit-requires-clause-going g c = (at_ok c.run-txn.new.out c.in-Ok-out.reply _ c.in-Ok-out.is c.run-txn.ensures.ok).0.going
+
+pub commit-requires-clause-between : goal.commit-requires-clause-between
+commit-requires-clause-between g c = (at_ok c.run-txn.new.out c.in-Ok-out.reply _ c.in-Ok-out.is c.run-txn.ensures.ok).0.between refl
+
+pub commit-requires-clause-runs : goal.commit-requires-clause-runs
+commit-requires-clause-runs g c = (at_ok c.run-txn.new.out c.in-Ok-out.reply _ c.in-Ok-out.is c.run-txn.ensures.ok).0.stop
+
+pub stop-requires : goal.stop-requires
+stop-requires g c = (at_err c.run-txn.new.out c.in-Err-out.stop _ c.in-Err-out.is c.run-txn.ensures.err).broke.running.going
 
 pub returns-in-Err : goal.returns-in-Err
 returns-in-Err g c =
