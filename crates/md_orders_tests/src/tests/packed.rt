@@ -43,38 +43,45 @@ fn add_pair(
     packed.append(&[]).expect(rt, "memory");
 }
 
+// Fills with these counts and parts, and a reply of another kind behind each.
+fn packed_pairs<R: Abort + AllocGlobal>(
+    rt: &R,
+    pairs: &[(u8, [Part; MAX_PARTS], BookReply)],
+) -> PackedReplies {
+    let mut packed = PackedReplies::new(rt.alloc());
+    for (count, parts, other) in pairs {
+        add_pair(rt, &mut packed, *count, parts, other);
+    }
+    packed
+}
+
 // Two replies for each fill: the fill, and one of another kind. The fills have no part, parts that
 // the count leaves out, and twelve parts.
 fn all_packed<R: Abort + AllocGlobal>(rt: &R) -> PackedReplies {
+    let none = [NONE; MAX_PARTS];
     let gap = parts(MOST, NONE, UNNAMED, NONE);
     let two = parts(EMPTY, MOST, NONE, NONE);
     let last = parts(NONE, NONE, NONE, EMPTY);
-    let mut packed = PackedReplies::new(rt.alloc());
-    let all = &mut packed;
-    add_pair(rt, all, 0, &[NONE; MAX_PARTS], &BookReply::Placed);
-    add_pair(
-        rt,
-        all,
-        255,
-        &[NONE; MAX_PARTS],
-        &BookReply::Cancelled(u32::MAX),
-    );
-    add_pair(rt, all, 1, &gap, &BookReply::Gone);
-    let account = &BookReply::Account {
+    let bought = BookReply::Account {
         bought: u64::MAX,
         sold: 1,
     };
-    add_pair(rt, all, 0, &two, account);
-    add_pair(rt, all, 3, &last, &BookReply::Killed);
-    add_pair(rt, all, 12, &[MOST; MAX_PARTS], &BookReply::Depth(u64::MAX));
-    add_pair(rt, all, 12, &gap, &BookReply::Cancelled(0));
-    let account = &BookReply::Account {
+    let sold = BookReply::Account {
         bought: 0,
         sold: u64::MAX,
     };
-    add_pair(rt, all, 12, &two, account);
-    add_pair(rt, all, 12, &last, &BookReply::Depth(0));
-    packed
+    let pairs = [
+        (0, none, BookReply::Placed),
+        (255, none, BookReply::Cancelled(u32::MAX)),
+        (1, gap, BookReply::Gone),
+        (0, two, bought),
+        (3, last, BookReply::Killed),
+        (12, [MOST; MAX_PARTS], BookReply::Depth(u64::MAX)),
+        (12, gap, BookReply::Cancelled(0)),
+        (12, two, sold),
+        (12, last, BookReply::Depth(0)),
+    ];
+    packed_pairs(rt, &pairs)
 }
 
 #[test]
