@@ -18,6 +18,7 @@ import tempfile
 
 HERE = os.path.dirname(os.path.abspath(__file__))
 RECORDS = b"1,P,7,S,100,5\n1,F,8,S,100,3\n"
+FIRST_WORDS = {RECORDS: b"1:1 placed\n1:2 filled 3 rest 0 from 1:1=3\n", b"": b"made 2000 placed "}
 CASES = (
     ("--callers 1", RECORDS),
     ("--callers 2", RECORDS),
@@ -39,6 +40,8 @@ def run(program, words, orders, **variables):
 def kinds_of_runs(program, library, words, orders):
     """How many runs of a case ended in each way."""
     whole = run(program, words, orders)
+    if whole[0] != 0 or not whole[1].startswith(FIRST_WORDS[orders]):
+        sys.exit(f"{words}: with all its memory the run ended with {whole[0]} and {whole[1][:200]}")
     kinds, in_a_row = collections.Counter(), 0
     for request in range(1, MOST_RUNS + 1):
         ended = run(program, words, orders, LD_PRELOAD=library, REFUSE=str(request))
@@ -52,6 +55,8 @@ def kinds_of_runs(program, library, words, orders):
             sys.exit(f"{words}: request {request} was refused, and the run ended with {ended[0]} and {ended[1][:200]}")
         if in_a_row == WHOLE_RUNS:
             break
+    if not kinds["fault memory"]:
+        sys.exit(f"{words}: no refusal changed anything, so the library refused nothing")
     return kinds
 
 

@@ -27,9 +27,9 @@ def files_of_a_run():
 
 
 def runs_until(end):
-    """Runs the test until then, and says how often."""
+    """Runs the test until then, at least once, and says how often."""
     runs = 0
-    while time.monotonic() < end:
+    while runs == 0 or time.monotonic() < end:
         ran = subprocess.run([PROGRAM, TEST], capture_output=True, text=True)
         if ran.returncode != 0:
             print(ran.stdout + ran.stderr, flush=True)
