@@ -20,13 +20,13 @@ COLOURS = {"program": "#dce9f7", "contract": "#fbe8c8", "code": "#ddf0dd", "law"
 # A row of the drawing on each line: boxes `kind: name = what it is`, with `|` between them.
 LAYERS = """
 program: medley = the program|program: your program = bodies, threads
-program: md_orders = order files|program: md_replies, md_report = replies, reports|program: md_book = commands, the book|program: md_rounds, md_play = order files in threads|program: md_many, md_attempts = lines in rounds
+program: md_orders = order files|program: md_report_replies, md_report = replies, reports|program: md_book = commands, the book|program: md_rounds, md_program_play = order files in threads|program: md_many, md_many_attempts = lines in rounds
 contract: md_history = bodies, histories, and the contract of a store: the trait Engine
-code: md_store, md_running = hash tables and queues, for several threads|code: PlainStore = the store for one thread
-code: md_list = get, insert, remove|code: md_queue = enqueue, dequeue, front, line|law: md_store_law, md_laying = the store as a theory|law: md_calm, md_count_law = the first attempt, counts
-code: md_nbtc, md_sets = transactions: begin, load, exchange, ready, decide|law: md_nbtc_law = what their steps leave|law: md_list_law, md_hash_law, md_queue_law = structures as theories
+code: md_store, md_store_bodies = hash tables and queues, for several threads|code: PlainStore = the store for one thread
+code: md_list = get, insert, remove|code: md_queue = enqueue, dequeue, front, line|law: md_store_law, md_store_layout = the store as a theory|law: md_nbtc_first, md_store_counts = the first attempt, counts
+code: md_nbtc, md_nbtc_sets = transactions: begin, load, exchange, ready, decide|law: md_nbtc_law = what their steps leave|law: md_list_law, md_hash_law, md_queue_law = structures as theories
 code: md_arena = takes nodes and attempts|code: md_help = settles attempts, clears descriptors
-code: md_rule, md_lanes = steps on real words, each an event of the machine|law: md_machine = the theorem over all lists of events
+code: md_rule, md_rule_lanes = steps on real words, each an event of the machine|law: md_machine = the theorem over all lists of events
 outside: atomic_table = atomic words, of the toolchain|law: md_words = words and their addresses
 """
 

@@ -14,11 +14,11 @@ use Rattle.md_machine.proofs.events.Tell.{joined_of}
 use Rattle.md_machine.proofs.lists.At.{at_append, at_one, at_set}
 use Rattle.md_machine.proofs.lists.Rising.{here, in_drop, in_lane, in_none, in_take, lane_in, there}
 use Rattle.md_rule.specs.Kept.{next_of}
-use Rattle.md_lanes.specs.Shares.{share_at}
+use Rattle.md_rule_lanes.specs.Shares.{share_at}
 use Rattle.md_rule.specs.Views.{PassState}
-use Rattle.md_lanes.specs.declared.shares.Share.{Share}
+use Rattle.md_rule_lanes.specs.declared.shares.Share.{Share}
 use Rattle.md_rule.proofs.LaneMoves.{share_joined}
-use Rattle.md_lanes.proofs.LaneSets.{few_lanes}
+use Rattle.md_rule_lanes.proofs.LaneSets.{few_lanes}
 use Rattle.md_arena.proofs.TakenNodes.{next_after, next_other, next_up, taken_by}
 use Rattle.md_arena.specs.Taking.{GivesNode, TakesNode, with_nodes}
 use Rattle.md_arena.specs.Twice.{AreApart, Call, Calls, Course, KeepsNodes, NoNodeOfTwo, NoNodeTwice, OneGoes, OneSplits, TwoJoin, given_by, gives, joined_by, keeps, kept_by, joins, spent_by, splits, takes}

@@ -9,9 +9,9 @@ use Rattle.md_words.proofs.Owners.{owner_of_node}
 use Rattle.md_machine.specs.FreeToReturn.{KnowsFree}
 use Rattle.md_rule.specs.Lanes.{AreLanes}
 use Rattle.md_rule.proofs.LaneLists.{lane_fits}
-use Rattle.md_lanes.specs.Shares.{MayReturn, share_at}
+use Rattle.md_rule_lanes.specs.Shares.{MayReturn, share_at}
 use Rattle.md_rule.specs.Views.{PassState}
-use Rattle.md_lanes.specs.declared.shares.Share.{Share}
+use Rattle.md_rule_lanes.specs.declared.shares.Share.{Share}
 use Rattle.md_rule.specs.Kept.{IsLeft, next_of}
 use Rattle.md_arena.specs.Left.{HasNodeLeft, IsLowest, IsTaken}
 use Rattle.md_arena.specs.Taking.{GivesNode, IsHighestTaken, IsLowestLeft, TakesNode, with_nodes}

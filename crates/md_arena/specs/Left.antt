@@ -3,7 +3,7 @@ use Rattle.std.specs.Prelude.{◌<◌, ℕ}
 use Rattle.std.specs.List.{Contains}
 use Rattle.md_words.specs.Lanes.{OwnsNode}
 use Rattle.md_rule.specs.Kept.{next_of}
-use Rattle.md_lanes.specs.Shares.{share_at}
+use Rattle.md_rule_lanes.specs.Shares.{share_at}
 use Rattle.md_rule.specs.Views.{PassState}
 
 -- a node of the pass that was taken

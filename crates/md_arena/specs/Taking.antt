@@ -2,7 +2,7 @@
 use Rattle.std.specs.Prelude.{◌≡◌, ◌+◌, ◌<◌, ◌≤◌, ℕ, length}
 use Rattle.std.specs.List.{Contains}
 use Rattle.md_words.specs.Lanes.{OwnsNode}
-use Rattle.md_lanes.specs.Shares.{share_at, with_share}
+use Rattle.md_rule_lanes.specs.Shares.{share_at, with_share}
 use Rattle.md_rule.specs.Views.{PassState}
 use Rattle.md_rule.specs.Kept.{IsLeft, next_of}
 use Rattle.md_arena.specs.Left.{HasNodeLeft, HasTryLeft, IsLowest}

@@ -7,7 +7,7 @@ use Rattle.md_words.specs.declared.shape.Shape.{Shape}
 use Rattle.md_machine.specs.Machine.{IsAt, Machine, shape_of}
 use Rattle.md_machine.specs.clauses.passes.Lanes.{LanesApart}
 use Rattle.md_machine.specs.events.SplitJoin.{given_part, joined_part, kept_part, spent}
-use Rattle.md_lanes.specs.Shares.{joined_shares, share_at}
+use Rattle.md_rule_lanes.specs.Shares.{joined_shares, share_at}
 use Rattle.md_rule.specs.Views.{PassState}
 use Rattle.md_arena.specs.Taking.{GivesNode, TakesNode}
 

@@ -13,8 +13,8 @@ use Rattle.md_history.specs.Front.{Front, IsPrefix, AllStay, AllDecidedOn, commi
 use Rattle.md_history.specs.FrontLaws.{lane_passes}
 use Rattle.md_history.specs.OwnLaws.{committed_pairs, own-grows, settles-own}
 use Rattle.md_history.specs.Engine.{IsFrontFrom, SettlesFrom}
-use Rattle.md_attempts.specs.Lines.{PlaysLines}
-use Rattle.md_attempts.specs.Joined.{HasCommitted, entries_after}
+use Rattle.md_many_attempts.specs.Lines.{PlaysLines}
+use Rattle.md_many_attempts.specs.Joined.{HasCommitted, entries_after}
 use Rattle.md_many.proofs.Merging.{filter-none, all-weaker}
 
 -- Where the fates of lanes' entries were decided, what the lanes have committed is what they had committed, and then

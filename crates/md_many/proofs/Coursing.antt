@@ -13,15 +13,15 @@ use Rattle.md_history.specs.HistoryLaws.{run-append, right-rest, committed-right
 use Rattle.md_history.specs.Front.{Front, LegalFrom, committed_in, replay_of}
 use Rattle.md_history.specs.Engine.{IsFrontFrom, SettlesFrom, HasRoom, empty_front, needed}
 use Rattle.md_history.proofs.PlainFronts.{acts_of-append}
-use Rattle.md_attempts.specs.Lines.{AreLines}
+use Rattle.md_many_attempts.specs.Lines.{AreLines}
 use Rattle.md_many.specs.Laws.{AllSuit, AreLawful}
-use Rattle.md_attempts.specs.ByCaller.{at_caller}
+use Rattle.md_many_attempts.specs.ByCaller.{at_caller}
 use Rattle.md_many.specs.Rounds.{of_caller, AreWithin}
 use Rattle.md_many.specs.Course.{of_one, KeepsMore, Stands}
 use Rattle.md_many.specs.Played.{committed_of, state_after, AreDecidedAndLegal, tags_of, HasPlayedAll, EachLineOnce, left_after}
 use Rattle.md_many.specs.Tags.{tags_after, IsInterleaving}
 use Rattle.md_many.proofs.TagLaws.{lines-length, lines-tags}
-use Rattle.md_attempts.proofs.Following.{lines-then}
+use Rattle.md_many_attempts.proofs.Following.{lines-then}
 use Rattle.md_many.proofs.Merging.{lines-caller, all-weaker, filter-all, filter-none}
 use Rattle.md_many.proofs.Standing.{caller-append, KeepsGood, keeps-good}
 use Rattle.md_many.proofs.Committed.{settled-same}

@@ -9,9 +9,9 @@ use Rattle.md_history.specs.Counts.{Bounds, AllowAll, IsSmall}
 use Rattle.md_history.specs.CountLaws.{small-more}
 use Rattle.md_history.specs.Front.{Front, committed_in, replay_of}
 use Rattle.md_history.specs.Engine.{IsFrontFrom, empty_front}
-use Rattle.md_attempts.specs.Lines.{AreLines, PlaysLines, IsSmallLine}
+use Rattle.md_many_attempts.specs.Lines.{AreLines, PlaysLines, IsSmallLine}
 use Rattle.md_many.specs.Laws.{AllSuit, AreLawful}
-use Rattle.md_attempts.specs.ByCaller.{at_caller}
+use Rattle.md_many_attempts.specs.ByCaller.{at_caller}
 use Rattle.md_many.specs.Rounds.{of_caller}
 use Rattle.md_many.specs.Course.{of_one, KeepsMore, Stands}
 use Rattle.md_many.specs.Played.{left_after}

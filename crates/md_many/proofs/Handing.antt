@@ -3,9 +3,9 @@ use Rattle.std.proofs.Common.{◌≡◌, ◌≢◌, ◌+◌, ◌<◌, ℕ, zero,
 use Rattle.std.specs.Prelude.{◌==◌, slice_index_or}
 use Rattle.std.proofs.lemmas.Bool.{cases_Bool, eq-eqb, eqb-true, ne_eqb}
 use Rattle.std.proofs.lemmas.List.{append-nil, length-append, map-append, get_or_past}
-use Rattle.md_attempts.specs.declared.batches.Played.{Played}
+use Rattle.md_many_attempts.specs.declared.batches.Played.{Played}
 use Rattle.md_many.specs.Laws.{AllSuit}
-use Rattle.md_attempts.specs.ByCaller.{at_caller}
+use Rattle.md_many_attempts.specs.ByCaller.{at_caller}
 use Rattle.md_many.specs.Rounds.{replies_in}
 use Rattle.md_many.specs.Course.{of_one, KeepsMore}
 

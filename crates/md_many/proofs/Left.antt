@@ -6,9 +6,9 @@ use Rattle.std.proofs.lemmas.Bool.{cases_Bool, cases_eq, eq-eqb, eqb-true, ne_eq
 use Rattle.std.proofs.lemmas.List.{length-append}
 use Rattle.std.proofs.lemmas.List.Elements.{recursion_from_All}
 use Rattle.std.proofs.lemmas.List.Sums.{sum_by-cons, count_by-le-length}
-use Rattle.md_attempts.specs.Tags.{tag_of}
+use Rattle.md_many_attempts.specs.Tags.{tag_of}
 use Rattle.md_many.specs.Tags.{tags_after}
-use Rattle.md_attempts.specs.ByCaller.{lines_of}
+use Rattle.md_many_attempts.specs.ByCaller.{lines_of}
 use Rattle.md_many.specs.Left.{left_of, all_tags}
 use Rattle.md_many.proofs.TagLaws.{length-tags_after}
 

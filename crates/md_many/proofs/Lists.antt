@@ -1,7 +1,7 @@
 -- Lists by caller, kept in vectors.
 use Rattle.std.proofs.Common.{◌≡◌, ◌≢◌, ◌≤◌, ◌∷◌, [], ◌∙◌, ℕ, zero, suc, List, Vec, Global, Result, Ok, Err, true, length, refl, ap, arith}
 use Rattle.std.specs.Prelude.{◌-◌, slice_set, is_ok, OnOk}
-use Rattle.md_attempts.specs.ByCaller.{at_caller, lists_in}
+use Rattle.md_many_attempts.specs.ByCaller.{at_caller, lists_in}
 
 -- the lists with another one for a caller
 pub set-same : {R : Type 0} (lists : List (Vec R Global)) (caller : ℕ) (v : Vec R Global) → 1 ≤ caller

@@ -11,8 +11,8 @@ use Rattle.md_history.specs.Front.{Front, of_lane, is_lane_of}
 use Rattle.md_history.specs.FrontLaws.{lane_passes, lane_is_of}
 use Rattle.md_history.specs.Engine.{IsRising}
 use Rattle.md_history.specs.LaneLaws.{contains-either, contains-first, contains-more}
-use Rattle.md_attempts.specs.Lines.{AreLines}
-use Rattle.md_attempts.specs.ByCaller.{at_caller}
+use Rattle.md_many_attempts.specs.Lines.{AreLines}
+use Rattle.md_many_attempts.specs.ByCaller.{at_caller}
 use Rattle.md_many.specs.Rounds.{TakesTurn, AreTurns, of_caller}
 use Rattle.md_many.proofs.TagLaws.{caller_of_tag}
 

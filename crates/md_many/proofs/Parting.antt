@@ -14,10 +14,10 @@ use Rattle.md_history.specs.FrontLaws.{lane_is_of}
 use Rattle.md_history.specs.Engine.{IsRising, IsPartOf, KeepsOn, Splits, Joins}
 use Rattle.md_history.specs.LaneLaws.{contains-either, contains-first, contains-more, rising-same}
 use Rattle.md_history.specs.OwnLaws.{committed_pairs, pairs_on}
-use Rattle.md_attempts.specs.Joined.{HasCommitted, entries_after}
-use Rattle.md_attempts.specs.Lines.{PlaysLines}
-use Rattle.md_attempts.proofs.Joining.{AreDecided, entries-more}
-use Rattle.md_attempts.proofs.Following.{begins-then}
+use Rattle.md_many_attempts.specs.Joined.{HasCommitted, entries_after}
+use Rattle.md_many_attempts.specs.Lines.{PlaysLines}
+use Rattle.md_many_attempts.proofs.Joining.{AreDecided, entries-more}
+use Rattle.md_many_attempts.proofs.Following.{begins-then}
 
 contains-left : {A : Type 0} (xs ys : List A) (z : A) → Contains xs z → Contains (xs ++ ys) z
 contains-left [] ys z at = let below = at.1 in absurd (omega arith)

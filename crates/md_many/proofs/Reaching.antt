@@ -8,9 +8,9 @@ use Rattle.md_history.specs.State.{State}
 use Rattle.md_history.specs.Counts.{Bounds, IsSmall}
 use Rattle.md_history.specs.Engine.{needed}
 use Rattle.md_history.proofs.Runs.{length-maps-run, length-queues-run}
-use Rattle.md_attempts.specs.Tags.{tag_of}
+use Rattle.md_many_attempts.specs.Tags.{tag_of}
 use Rattle.md_many.specs.Laws.{AreLawful, AreLawfulBodies, LineKeepsGood}
-use Rattle.md_attempts.specs.ByCaller.{lines_of}
+use Rattle.md_many_attempts.specs.ByCaller.{lines_of}
 use Rattle.md_many.specs.Left.{left_of, all_tags}
 use Rattle.md_many.specs.Reached.{IsReached}
 use Rattle.md_many.proofs.Left.{has-all, left-less, left-all, none-has}

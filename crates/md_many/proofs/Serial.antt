@@ -9,7 +9,7 @@ use Rattle.md_history.specs.State.{State, run, IsRight}
 use Rattle.md_history.specs.History.{acts_of}
 use Rattle.md_history.specs.HistoryLaws.{right-first, right-rest, run-append}
 use Rattle.md_history.specs.Front.{Front}
-use Rattle.md_attempts.specs.ByCaller.{line_at, at_caller}
+use Rattle.md_many_attempts.specs.ByCaller.{line_at, at_caller}
 use Rattle.md_many.specs.Played.{committed_of, tags_of, EachLineOnce}
 use Rattle.md_many.specs.Replied.{IsReplied, AreReplied}
 use Rattle.md_many.specs.Serial.{IsSerialRun, at_tags, after_each, reply_of_each, added_by}

@@ -5,9 +5,9 @@ use Rattle.md_history.specs.State.{State}
 use Rattle.md_history.specs.Counts.{Bounds}
 use Rattle.md_history.specs.Front.{Front}
 use Rattle.md_history.specs.Engine.{IsFrontFrom, IsRising}
-use Rattle.md_attempts.specs.Lines.{AreLines}
+use Rattle.md_many_attempts.specs.Lines.{AreLines}
 use Rattle.md_many.specs.Laws.{AllSuit, AreLawful}
-use Rattle.md_attempts.specs.ByCaller.{at_caller}
+use Rattle.md_many_attempts.specs.ByCaller.{at_caller}
 use Rattle.md_many.specs.Rounds.{of_caller, AreTurns, PlaysTurns}
 use Rattle.md_many.specs.Course.{KeepsMore, Stands}
 use Rattle.md_many.specs.Played.{left_after}

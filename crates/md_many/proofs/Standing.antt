@@ -11,13 +11,13 @@ use Rattle.md_history.specs.State.{State, run, IsRight}
 use Rattle.md_history.specs.History.{acts_of}
 use Rattle.md_history.specs.HistoryLaws.{run-append, right-first, right-rest}
 use Rattle.md_history.specs.Counts.{Bounds}
-use Rattle.md_attempts.specs.Tags.{tag_of}
-use Rattle.md_attempts.specs.Lines.{IsLine, AreLines}
+use Rattle.md_many_attempts.specs.Tags.{tag_of}
+use Rattle.md_many_attempts.specs.Lines.{IsLine, AreLines}
 use Rattle.md_many.specs.Laws.{AllSuit, AreLawful}
 use Rattle.md_many.specs.Rounds.{of_caller}
 use Rattle.md_many.specs.Played.{tags_of}
 use Rattle.md_many.proofs.TagLaws.{lines-length}
-use Rattle.md_attempts.proofs.Playing.{lines-push}
+use Rattle.md_many_attempts.proofs.Playing.{lines-push}
 use Rattle.md_many.proofs.Merging.{all-of, all-weaker, all-pass}
 
 -- a caller's entries of a list that begins with an entry

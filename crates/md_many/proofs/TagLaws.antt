@@ -4,9 +4,9 @@ use Rattle.std.specs.Prelude.{◌/◌, ◌%◌}
 use Rattle.std.proofs.lemmas.Nat.{div-mul-add, mod-mul-add}
 use Rattle.md_history.specs.declared.acts.Act.{Act}
 use Rattle.md_history.specs.declared.entries.Entry.{Entry}
-use Rattle.md_attempts.specs.Tags.{tag_of}
+use Rattle.md_many_attempts.specs.Tags.{tag_of}
 use Rattle.md_many.specs.Tags.{tags_after}
-use Rattle.md_attempts.specs.Lines.{AreLines}
+use Rattle.md_many_attempts.specs.Lines.{AreLines}
 
 -- a tag's caller and line
 pub caller_of_tag : (caller line : ℕ) → line < 2 ^ 32 → tag_of caller line / 2 ^ 32 ≡ caller

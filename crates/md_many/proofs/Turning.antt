@@ -9,7 +9,7 @@ use Rattle.md_history.specs.declared.entries.Fate.TheVariants.{Committed, Aborte
 use Rattle.md_history.specs.Front.{Front, of_lane}
 use Rattle.md_history.specs.LaneLaws.{contains-first}
 use Rattle.md_history.specs.OwnLaws.{committed_pairs, pairs_on}
-use Rattle.md_attempts.specs.Lines.{PlaysLines}
+use Rattle.md_many_attempts.specs.Lines.{PlaysLines}
 use Rattle.md_many.specs.Rounds.{TakesTurn, AreTurns, PlaysTurns}
 
 -- what one lane committed is of that lane

@@ -9,9 +9,9 @@ use Rattle.md_history.specs.History.{acts_of}
 use Rattle.md_history.specs.HistoryLaws.{committed-right, right-append, run-append}
 use Rattle.md_history.specs.Front.{Front, committed_in, replay_of}
 use Rattle.md_history.proofs.PlainFronts.{acts_of-append}
-use Rattle.md_attempts.specs.Tags.{tag_of}
-use Rattle.md_attempts.specs.Lines.{AreLines}
-use Rattle.md_attempts.specs.ByCaller.{at_caller, line_at}
+use Rattle.md_many_attempts.specs.Tags.{tag_of}
+use Rattle.md_many_attempts.specs.Lines.{AreLines}
+use Rattle.md_many_attempts.specs.ByCaller.{at_caller, line_at}
 use Rattle.md_many.specs.Rounds.{of_caller}
 use Rattle.md_many.specs.Played.{committed_of, state_after, AreDecidedAndLegal, EachLineOnce}
 use Rattle.md_many.specs.Replied.{AreReplied}

@@ -5,9 +5,9 @@ use Rattle.md_history.specs.State.{State}
 use Rattle.md_history.specs.Counts.{Bounds, AllowAll}
 use Rattle.md_history.specs.Front.{Front, committed_in, replay_of}
 use Rattle.md_history.specs.Engine.{Limits, bounds_in}
-use Rattle.md_attempts.specs.Lines.{AreFitting}
+use Rattle.md_many_attempts.specs.Lines.{AreFitting}
 use Rattle.md_many.specs.Laws.{AreLawful}
-use Rattle.md_attempts.specs.ByCaller.{at_caller}
+use Rattle.md_many_attempts.specs.ByCaller.{at_caller}
 use Rattle.md_many.specs.Rounds.{AreWithin}
 use Rattle.md_many.specs.Played.{committed_of, state_after, AreDecidedAndLegal, tags_of, HasPlayedAll}
 

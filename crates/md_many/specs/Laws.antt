@@ -4,8 +4,8 @@ use Rattle.md_history.specs.declared.acts.Act.{Act}
 use Rattle.md_history.specs.State.{State, HaveSameNumbers, run, IsRight}
 use Rattle.md_history.specs.Counts.{Bounds, AreFew}
 use Rattle.md_history.specs.Engine.{needed}
-use Rattle.md_attempts.specs.Tags.{tag_of}
-use Rattle.md_attempts.specs.Lines.{IsSmallLine}
+use Rattle.md_many_attempts.specs.Tags.{tag_of}
+use Rattle.md_many_attempts.specs.Lines.{IsSmallLine}
 
 -- each reply suits its line, of a caller's lines after its first n
 abbrev pub AllSuit : {R : Type 0} → (ℕ → R → Type 0) → ℕ → List R → Type 0

@@ -5,7 +5,7 @@ use Rattle.md_history.specs.declared.entries.Entry.{Entry}
 use Rattle.md_history.specs.State.{State}
 use Rattle.md_history.specs.History.{AllDecided}
 use Rattle.md_history.specs.Front.{Front, LegalFrom, committed_in, replay_of}
-use Rattle.md_attempts.specs.Lines.{AreLines}
+use Rattle.md_many_attempts.specs.Lines.{AreLines}
 use Rattle.md_many.specs.Rounds.{of_caller}
 
 -- the committed entries of fronts, one front after another

@@ -2,7 +2,7 @@
 use Rattle.std.specs.Prelude.{◌≤◌, ◌+◌, ◌*◌, ℕ, List}
 use Rattle.md_history.specs.State.{State, HaveSameNumbers}
 use Rattle.md_history.specs.Engine.{needed}
-use Rattle.md_attempts.specs.ByCaller.{lines_of}
+use Rattle.md_many_attempts.specs.ByCaller.{lines_of}
 use Rattle.md_many.specs.Left.{all_tags, left_of}
 
 -- The state has the maps and queues of the opening, and is good by it; and each line that was played, by its tag, added no more nodes than a body may: so

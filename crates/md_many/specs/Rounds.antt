@@ -3,8 +3,8 @@ use Rattle.std.specs.Prelude.{◌≡◌, ◌<◌, ◌≤◌, ◌+◌, ◌^◌, �
 use Rattle.md_history.specs.declared.acts.Act.{Act}
 use Rattle.md_history.specs.declared.entries.Entry.{Entry}
 use Rattle.md_history.specs.Front.{Front, IsPrefix, AllStay}
-use Rattle.md_attempts.specs.declared.batches.Played.{Played}
-use Rattle.md_attempts.specs.Lines.{AreLines}
+use Rattle.md_many_attempts.specs.declared.batches.Played.{Played}
+use Rattle.md_many_attempts.specs.Lines.{AreLines}
 
 -- the entries with a caller's tags
 abbrev pub of_caller : ℕ → List Entry → List Entry

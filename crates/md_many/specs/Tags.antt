@@ -1,6 +1,6 @@
 -- The tags of lines. Callers and lines are counted from 1.
 use Rattle.std.specs.Prelude.{◌≡◌, ℕ, zero, suc, ◌+◌, ◌/◌, ◌^◌, ◌==◌, List, [], ◌∷◌, filter}
-use Rattle.md_attempts.specs.Tags.{tag_of}
+use Rattle.md_many_attempts.specs.Tags.{tag_of}
 
 -- the tags of so many lines of a caller, those after its first n
 abbrev pub tags_after : ℕ → ℕ → ℕ → List ℕ

@@ -10,8 +10,8 @@ ghost use Rattle.md_many.specs.Played.{EachLineOnce, committed_of, tags_of};
 use crate::keepers::Keeper;
 use crate::laws::LawfulLines;
 use crate::rounds::play_open_rounds;
-use md_attempts::Gate;
 use md_history::{Body, Contents, Engine, Front};
+use md_many_attempts::Gate;
 use std::alloc::{AllocError, Global};
 use std::thread::Threads;
 

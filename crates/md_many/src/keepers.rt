@@ -3,7 +3,7 @@
 ghost use Rattle.std.specs.Prelude.{◌≡◌, ◌≢◌, ◌+◌, ◌^◌, ◌<◌, ◌++◌, ℕ, List, length, OnOk};
 ghost use Rattle.md_many.specs.Laws.{AllSuit};
 
-use md_attempts::ReplyList;
+use md_many_attempts::ReplyList;
 use std::alloc::AllocError;
 
 /// Keeps the replies of callers' lines. In each round `play_open_rounds` hands over the reply of

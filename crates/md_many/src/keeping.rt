@@ -2,12 +2,12 @@
 
 ghost use Rattle.std.specs.Prelude.{◌≡◌, ◌<◌, ◌≤◌, ◌+◌, ◌^◌, [], ℕ, length, OnOk};
 ghost use Rattle.md_many.specs.Laws.{AllSuit};
-ghost use Rattle.md_attempts.specs.ByCaller.{at_caller};
+ghost use Rattle.md_many_attempts.specs.ByCaller.{at_caller};
 ghost use Rattle.md_many.specs.Rounds.{replies_in};
 ghost use Rattle.md_many.specs.Course.{KeepsMore, of_one};
 
 use crate::keepers::Keeper;
-use md_attempts::{Played, ReplyList};
+use md_many_attempts::{Played, ReplyList};
 use std::alloc::AllocError;
 
 /// Hands a caller's replies over, and counts them.

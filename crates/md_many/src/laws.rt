@@ -4,8 +4,8 @@ ghost use Rattle.std.specs.Prelude.{ℕ, List};
 ghost use Rattle.md_history.specs.State.{State};
 ghost use Rattle.md_history.specs.Counts.{Bounds};
 
-use md_attempts::Lines;
 use md_history::Body;
+use md_many_attempts::Lines;
 
 /// Lines, with the words in which their laws are stated. The laws (`AreLawful`) say that the lines
 /// leave good states, in whatever order they are played. The calls that play the lines require

@@ -14,7 +14,7 @@ pub use closing::{OpenRounds, Rounds, play_rounds};
 pub use keepers::Keeper;
 pub use laws::{LawfulBody, LawfulLines};
 pub use many::{Many, run_many};
-pub use md_attempts::{
+pub use md_many_attempts::{
     End, FreeGate, Gate, Lines, LinesByCaller, MOST_CONFLICTS, ReplyList, Turn, attempt_line,
     attempt_lines, attempt_until_committed, line_tag,
 };

@@ -4,7 +4,7 @@ ghost use Rattle.std.specs.Prelude.{◌≡◌, ◌≢◌, ◌≤◌, ◌++◌, �
 ghost use Rattle.std.specs.Prelude.{IfOk, OnOk};
 ghost use Rattle.md_many.specs.Tags.{IsInterleaving};
 ghost use Rattle.md_many.specs.Laws.{AllSuit, AreLawful};
-ghost use Rattle.md_attempts.specs.ByCaller.{at_caller, lists_in, line_at};
+ghost use Rattle.md_many_attempts.specs.ByCaller.{at_caller, lists_in, line_at};
 ghost use Rattle.md_many.specs.Course.{CanRun};
 ghost use Rattle.md_many.specs.Played.{EachLineOnce, committed_of, tags_of};
 ghost use Rattle.md_many.specs.Serial.{IsSerialRun};
@@ -12,8 +12,8 @@ ghost use Rattle.md_many.specs.Serial.{IsSerialRun};
 use crate::closing::play_rounds;
 use crate::keepers::Keeper;
 use crate::laws::LawfulLines;
-use md_attempts::Gate;
 use md_history::{Body, Contents, Engine, Front};
+use md_many_attempts::Gate;
 use std::alloc::{AllocError, Global};
 use std::thread::Threads;
 

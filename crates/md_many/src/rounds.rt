@@ -3,11 +3,11 @@
 ghost use Rattle.std.specs.Prelude.{◌≡◌, ◌<◌, ◌≤◌, ◌+◌, ◌^◌, [], ℕ, List, length, map, replicate, true};
 ghost use Rattle.std.specs.Prelude.{false, IfOk, IfSome, IfNone, OnOk};
 ghost use Rattle.md_history.specs.Engine.{bounds_in, empty_front};
-ghost use Rattle.md_attempts.specs.Lines.{AreFitting, IsSmallLine, PlaysLines};
-ghost use Rattle.md_attempts.specs.Turns.{most_lines};
+ghost use Rattle.md_many_attempts.specs.Lines.{AreFitting, IsSmallLine, PlaysLines};
+ghost use Rattle.md_many_attempts.specs.Turns.{most_lines};
 ghost use Rattle.md_many.specs.Tags.{IsInterleaving};
 ghost use Rattle.md_many.specs.Laws.{AreLawful};
-ghost use Rattle.md_attempts.specs.ByCaller.{at_caller};
+ghost use Rattle.md_many_attempts.specs.ByCaller.{at_caller};
 ghost use Rattle.md_many.specs.Rounds.{AreWithin};
 ghost use Rattle.md_many.specs.Course.{CanRun, IsInCourse};
 ghost use Rattle.md_many.specs.Closed.{ClosesTo};
@@ -19,8 +19,8 @@ use crate::keepers::Keeper;
 use crate::keeping::{keep_lines, keep_turns};
 use crate::laws::LawfulLines;
 use crate::turns::{Shared, Turns, play_turns};
-use md_attempts::{End, Gate, Lines, Played, ReplyList, Turn, attempt_lines};
 use md_history::{Body, Engine, Front, fresh_is_empty, pass_is_legal};
+use md_many_attempts::{End, Gate, Lines, Played, ReplyList, Turn, attempt_lines};
 use std::alloc::{AllocError, Global};
 use std::thread::Threads;
 

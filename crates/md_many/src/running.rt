@@ -7,15 +7,15 @@ ghost use Rattle.md_history.specs.Counts.{AllowAll};
 ghost use Rattle.md_history.specs.Engine.{bounds_in, needed};
 ghost use Rattle.md_many.specs.Tags.{IsInterleaving};
 ghost use Rattle.md_many.specs.Laws.{AreLawfulBodies};
-ghost use Rattle.md_attempts.specs.ByCaller.{at_caller, line_at, lines_of, lists_in};
+ghost use Rattle.md_many_attempts.specs.ByCaller.{at_caller, line_at, lines_of, lists_in};
 ghost use Rattle.md_many.specs.Played.{EachLineOnce, committed_of, tags_of};
 ghost use Rattle.md_many.specs.Serial.{IsSerialRun};
 ghost use Rattle.md_many.specs.Reached.{IsReached};
 
 use crate::laws::{LawfulBody, LawfulLines};
 use crate::many::{Many, run_many};
-use md_attempts::{Gate, Lines};
 use md_history::{Body, Engine};
+use md_many_attempts::{Gate, Lines};
 use std::alloc::{AllocError, Global};
 use std::snapshot::Snapshot;
 use std::thread::Threads;

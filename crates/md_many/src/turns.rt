@@ -5,11 +5,11 @@ ghost use Rattle.std.specs.Prelude.{List, length, IfOk};
 ghost use Rattle.std.specs.Thread.{IsSync};
 ghost use Rattle.md_history.specs.Engine.{IsRising, Splits};
 ghost use Rattle.md_history.specs.Front.{Front as View};
-ghost use Rattle.md_attempts.specs.Lines.{AreFitting};
+ghost use Rattle.md_many_attempts.specs.Lines.{AreFitting};
 ghost use Rattle.md_many.specs.Rounds.{AreWithin, PlaysTurns, replies_in};
 
-use md_attempts::{Gate, Lines, Played, ReplyList, Turn, play_batches};
 use md_history::{Body, Engine, pass_is_legal};
+use md_many_attempts::{Gate, Lines, Played, ReplyList, Turn, play_batches};
 use std::alloc::{AllocError, Global};
 use std::thread;
 use std::thread::Threads;

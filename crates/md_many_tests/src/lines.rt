@@ -1,7 +1,7 @@
 //! Lines whose replies are their tags.
 
 ghost use Rattle.std.specs.Prelude.{◌≡◌, ℕ};
-ghost use Rattle.md_attempts.specs.Tags.{tag_of};
+ghost use Rattle.md_many_attempts.specs.Tags.{tag_of};
 
 use crate::compared::same;
 use md_history::Body;

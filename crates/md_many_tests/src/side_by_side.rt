@@ -2,7 +2,7 @@
 
 ghost use Rattle.std.specs.Prelude.{◌≡◌, List, length, IfOk};
 ghost use Rattle.md_history.specs.Engine.{lanes_kept, lanes_given};
-ghost use Rattle.md_attempts.specs.Lines.{AreFitting, PlaysLines};
+ghost use Rattle.md_many_attempts.specs.Lines.{AreFitting, PlaysLines};
 
 use crate::compared::same;
 use crate::lines::EachLine;

@@ -14,8 +14,8 @@ use crate::txn::Txn;
 use md_arena::take_descriptor;
 use md_history::Limit;
 use md_machine::Theory;
+use md_nbtc_sets::{Sets, kept, put_in_hand};
 use md_rule::{Field, Pass};
-use md_sets::{Sets, kept, put_in_hand};
 use std::snapshot::Snapshot;
 
 /// A transaction that was begun, and has no sets yet: `with` lends it some. If it is dropped, its

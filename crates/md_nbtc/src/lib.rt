@@ -10,7 +10,7 @@
 //! history, and `Ready::decide` commits it, with a `Receipt`, or aborts it. Contracts see a
 //! transaction by its state (`state`). md_nbtc_law says what such a state is and what the steps
 //! leave of it, and what a transaction knows of the field, whatever others do (`Known`).
-//! md_sets has what a transaction keeps, and the parts of these calls that need no `Txn`.
+//! md_nbtc_sets has what a transaction keeps, and the parts of these calls that need no `Txn`.
 //!
 //! The comments use these words. A **step** is one atomic step on a shared word. If a transaction
 //! **records** a word, it commits only if the word still holds what was seen there. If it
@@ -22,7 +22,7 @@
 pub use begin::Begun;
 pub use ending::{Ready, Refused};
 pub use md_nbtc_law::{Cleanup, Kind, Seen, Slot};
-pub use md_sets::{Receipt, Sets, decided_status, take_left_out};
+pub use md_nbtc_sets::{Receipt, Sets, decided_status, take_left_out};
 pub use txn::Txn;
 
 mod begin;

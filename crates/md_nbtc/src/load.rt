@@ -18,7 +18,7 @@ use md_help::clear;
 use md_history::{Shown, Stop};
 use md_machine::{Theory, Write};
 use md_nbtc_law::Seen;
-use md_sets::look_at;
+use md_nbtc_sets::look_at;
 use md_words::{Content, Spot};
 
 // Returns what is seen in a word that holds an even content.

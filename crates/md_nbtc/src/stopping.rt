@@ -7,7 +7,7 @@ ghost use Rattle.md_nbtc.specs.State.{state};
 
 use crate::txn::Txn;
 use md_machine::{AttemptId, Theory};
-use md_sets::{abort_unready, withdraw};
+use md_nbtc_sets::{abort_unready, withdraw};
 
 impl<'a, T: Theory> Txn<'a, T> {
     /// Stops the transaction: it is aborted, and its descriptor is taken out of the words that it

@@ -13,8 +13,8 @@ ghost use Rattle.md_nbtc.specs.State.{state};
 
 use md_history::{Op, Reply, Stop};
 use md_machine::Theory;
+use md_nbtc_sets::Sets;
 use md_rule::{Field, Pass};
-use md_sets::Sets;
 use md_words::Shape;
 use std::snapshot::Snapshot;
 

@@ -22,9 +22,9 @@ use Rattle.md_help.specs.After.{IsAfter, Stands}
 use Rattle.md_help.specs.Owns.{EndsOwn, KnowsEnd}
 use Rattle.md_help.specs.declared.settling.End.{End}
 use Rattle.md_rule.specs.Kept.{IsNew, KeepsLane, MetNoLater}
-use Rattle.md_lanes.specs.Shares.{share_at}
+use Rattle.md_rule_lanes.specs.Shares.{share_at}
 use Rattle.md_rule.specs.Views.{Origin, PassState}
-use Rattle.md_lanes.specs.declared.shares.Share.{Share}
+use Rattle.md_rule_lanes.specs.declared.shares.Share.{Share}
 
 -- the lane's attempt was taken last: so much is kept of the lane as it was before
 pub record IsTakenLast (p : PassState) (desc : ℕ) : Type 0 where

@@ -21,7 +21,7 @@ use Rattle.md_rule.specs.Views.{Origin, PassState}
 use Rattle.md_history.specs.Front.{AllStay, IsPrefix}
 use Rattle.md_history.specs.declared.entries.Fate.{Fate}
 use Rattle.md_machine.specs.events.Mark.{answered, without}
-use Rattle.md_lanes.specs.Shares.{share_at}
+use Rattle.md_rule_lanes.specs.Shares.{share_at}
 use Rattle.md_history.specs.declared.entries.Fate.TheVariants.{Committed as IsCommitted}
 use Rattle.md_machine.specs.declared.attempt.Write.{Write}
 use Rattle.md_help.specs.After.{IsAfter, Stands}

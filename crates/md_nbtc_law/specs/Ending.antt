@@ -32,7 +32,7 @@ use Rattle.md_machine.specs.clauses.passes.Alone.{HoldsAll}
 use Rattle.md_machine.specs.events.Mark.{new_hand, without}
 use Rattle.md_machine.specs.events.Ready.{ready_word, unready_word}
 use Rattle.md_arena.specs.Left.{HasTryLeft, IsLowest}
-use Rattle.md_lanes.specs.Shares.{share_at}
+use Rattle.md_rule_lanes.specs.Shares.{share_at}
 use Rattle.md_rule.specs.Views.{Origin, PassState}
 use Rattle.md_help.specs.After.{Stands}
 use Rattle.md_nbtc_law.specs.declared.seen.Cleanup.{Cleanup}

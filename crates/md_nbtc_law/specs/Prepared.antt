@@ -24,7 +24,7 @@ use Rattle.md_machine.specs.events.Ready.{InstallsFor, unready_word}
 use Rattle.md_machine.specs.events.Start.{WonInstall}
 use Rattle.md_arena.specs.Left.{HasNodeLeft}
 use Rattle.md_rule.specs.Kept.{IsLeft}
-use Rattle.md_lanes.specs.Shares.{share_at}
+use Rattle.md_rule_lanes.specs.Shares.{share_at}
 use Rattle.md_rule.specs.Views.{IsOf, PassState}
 use Rattle.md_nbtc_law.specs.State.{OwnNode, TxnState, attempt_in, lots_since, own_steps, shape_in, writes_in}
 

@@ -16,7 +16,7 @@ use Rattle.md_machine.specs.declared.step.Step.{Step}
 use Rattle.md_machine.specs.Machine.{Install, attempt_of}
 use Rattle.md_machine.specs.Trail.{is_store}
 use Rattle.md_machine.specs.events.Install.{installed_word}
-use Rattle.md_lanes.specs.Shares.{share_at}
+use Rattle.md_rule_lanes.specs.Shares.{share_at}
 use Rattle.md_rule.specs.Views.{FieldView, PassState}
 use Rattle.md_nbtc_law.specs.declared.slots.Lot.{Lot}
 use Rattle.md_nbtc_law.specs.declared.slots.Slot.{Slot}

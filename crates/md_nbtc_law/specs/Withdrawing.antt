@@ -24,7 +24,7 @@ use Rattle.md_machine.specs.events.Install.{MayBeChanged, installed_word}
 use Rattle.md_machine.specs.events.Start.{IsClean, WonInstall}
 use Rattle.md_machine.specs.events.Uninstall.{IsDecided}
 use Rattle.md_rule.specs.Admitted.{Admitted}
-use Rattle.md_lanes.specs.Shares.{MayReturn, share_at}
+use Rattle.md_rule_lanes.specs.Shares.{MayReturn, share_at}
 use Rattle.md_rule.specs.Views.{Origin, PassState}
 use Rattle.md_help.specs.After.{IsAfter}
 use Rattle.md_help.specs.Clears.{TakesOut}

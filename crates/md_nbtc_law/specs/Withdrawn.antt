@@ -14,7 +14,7 @@ use Rattle.md_machine.specs.Own.{HasDesc, HasNode}
 use Rattle.md_machine.specs.Stepping.{attempt_in_hand}
 use Rattle.md_machine.specs.clauses.nodes.FreeNodes.{IsFreeBy}
 use Rattle.md_machine.specs.events.Mark.{answered, without}
-use Rattle.md_lanes.specs.Shares.{share_at}
+use Rattle.md_rule_lanes.specs.Shares.{share_at}
 use Rattle.md_rule.specs.Views.{Origin, PassState}
 use Rattle.md_help.specs.After.{IsAfter, Stands}
 use Rattle.md_nbtc_law.specs.Ending.{IsSamePass}

@@ -7,7 +7,7 @@ use Rattle.md_words.specs.declared.shape.Shape.{Shape}
 use Rattle.md_words.specs.Content.{count_of, is_even}
 use Rattle.md_words.specs.Layout.{address, first_desc, first_node, words_of}
 use Rattle.md_machine.specs.Event.{CanOpen}
-use Rattle.md_cell.specs.CellMeaning.{cell_meaning}
+use Rattle.example_cell.specs.CellMeaning.{cell_meaning}
 use Rattle.md_nbtc_law.specs.declared.seen.TheConstants.{WORN}
 
 -- zeros, but for one word

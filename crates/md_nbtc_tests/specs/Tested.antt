@@ -1,6 +1,6 @@
 -- What the tests keep of a transaction over the cell.
 use Rattle.std.specs.Prelude.{◌≡◌, true, None, All}
-use Rattle.md_cell.specs.CellMeaning.{cell_meaning}
+use Rattle.example_cell.specs.CellMeaning.{cell_meaning}
 use Rattle.md_rule.specs.Views.{FieldView}
 use Rattle.md_nbtc_law.specs.declared.slots.Slot.{Slot}
 use Rattle.md_nbtc_law.specs.Going.{IsUnderWay}

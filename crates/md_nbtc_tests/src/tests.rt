@@ -7,7 +7,7 @@ ghost use Rattle.md_nbtc.specs.State.{state};
 
 mod calm;
 
-use md_cell::{CellTheory, cell_rows};
+use example_cell::{CellTheory, cell_rows};
 use md_history::{Limit, Shown, Stop};
 use md_nbtc::{Kind, Receipt, Seen, Sets, Txn};
 use md_nbtc_law::WORN;

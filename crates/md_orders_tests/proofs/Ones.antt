@@ -7,7 +7,7 @@ use Rattle.md_book.specs.declared.commands.Part.{Part}
 use Rattle.md_book.specs.declared.limits.TheConstants.{MAX_PARTS}
 use Rattle.md_book.specs.Book.{padded}
 use Rattle.md_book.specs.Suits.{IsPart}
-use Rattle.md_replies.proofs.PartNumbers.{padded-more}
+use Rattle.md_report_replies.proofs.PartNumbers.{padded-more}
 
 -- the first n of some padded parts take one each
 pub record AreOnes (n : ℕ) (parts : List Part) : Type 0 where

@@ -1,7 +1,7 @@
 -- Words write one set of options at most: those that are read of them.
 use Rattle.std.proofs.Common.{◌≡◌, ◌∙◌, ◌↔◌, ℕ, List, Option, Some, None, sym}
-use Rattle.md_edge.specs.declared.words.Options.{Options}
-use Rattle.md_edge.specs.Options.{Write}
+use Rattle.md_program_edge.specs.declared.words.Options.{Options}
+use Rattle.md_program_edge.specs.Options.{Write}
 use Rattle.md_program.specs.Words.{AreAccepted}
 
 -- where none are read, none are written

@@ -6,9 +6,9 @@ use Rattle.md_orders.specs.Records.{order_records, AreFewRecords}
 use Rattle.md_orders.specs.Grammar.{first_bad}
 use Rattle.md_outside.specs.Causes.{Rose}
 use Rattle.md_outside.specs.Steps.{Step}
-use Rattle.md_edge.specs.declared.words.Making.{Making}
-use Rattle.md_edge.specs.declared.status.Status.{Status}
-use Rattle.md_edge.specs.declared.status.Status.TheVariants.{Done, Usage, BadLine, ReadFault, WriteFault, NoMemory, TooLong, TooMany}
+use Rattle.md_program_edge.specs.declared.words.Making.{Making}
+use Rattle.md_program_edge.specs.declared.status.Status.{Status}
+use Rattle.md_program_edge.specs.declared.status.Status.TheVariants.{Done, Usage, BadLine, ReadFault, WriteFault, NoMemory, TooLong, TooMany}
 use Rattle.md_program.specs.Run.{StopsReplay, StopsWith, IsBadInput, IsGood}
 
 stops-replay : {I : Type 0} (gives : Step I) (left : I → Option (List ℕ)) (faults : I → ℕ) (old new : I) (callers : ℕ) (status : Status)

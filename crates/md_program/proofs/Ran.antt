@@ -5,10 +5,10 @@ use Rattle.std.specs.declared.string.String.{String}
 use Rattle.std.specs.declared.vec.IntoIter.{IntoIter}
 use Rattle.md_history.specs.Front.{Front}
 use Rattle.md_outside.specs.Steps.{Step}
-use Rattle.md_edge.specs.declared.status.Status.{Status}
-use Rattle.md_edge.specs.declared.status.Status.TheVariants.{Usage}
-use Rattle.md_edge.specs.declared.words.Options.{Options}
-use Rattle.md_edge.specs.Options.{Write}
+use Rattle.md_program_edge.specs.declared.status.Status.{Status}
+use Rattle.md_program_edge.specs.declared.status.Status.TheVariants.{Usage}
+use Rattle.md_program_edge.specs.declared.words.Options.{Options}
+use Rattle.md_program_edge.specs.Options.{Write}
 use Rattle.md_program.specs.Words.{AreAccepted, words_in}
 use Rattle.md_program.specs.Run.{Answers, EndsWell, Refused, ToldAlone}
 use Rattle.md_program.specs.Program.{HasRun}

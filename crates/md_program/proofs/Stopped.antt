@@ -2,10 +2,10 @@
 use Rattle.std.proofs.Common.{◌≡◌, ℕ, List, Option, Some, None}
 use Rattle.md_history.specs.Front.{Front}
 use Rattle.md_outside.specs.Steps.{Step}
-use Rattle.md_edge.specs.declared.status.Status.{Status}
-use Rattle.md_edge.specs.declared.status.Status.TheVariants.{Done, Usage, BadLine, ReadFault, WriteFault, NoMemory, TooLong, TooMany}
-use Rattle.md_edge.specs.declared.words.Making.{Making}
-use Rattle.md_edge.specs.declared.words.Options.{Options}
+use Rattle.md_program_edge.specs.declared.status.Status.{Status}
+use Rattle.md_program_edge.specs.declared.status.Status.TheVariants.{Done, Usage, BadLine, ReadFault, WriteFault, NoMemory, TooLong, TooMany}
+use Rattle.md_program_edge.specs.declared.words.Making.{Making}
+use Rattle.md_program_edge.specs.declared.words.Options.{Options}
 use Rattle.md_program.specs.Run.{Answers, StopsWith, ToldAlone}
 
 module _ {I : Type 0} (gives : Step I) (left : I → Option (List ℕ)) (read_faults : I → ℕ) (input input' : I) where

@@ -3,13 +3,13 @@ use Rattle.std.proofs.Common.{◌≡◌, ◌∙◌, ℕ, List, [], Option, Some,
 use Rattle.std.specs.Prelude.{IsErr}
 use Rattle.md_history.specs.Front.{Front}
 use Rattle.md_outside.specs.Steps.{Step}
-use Rattle.md_edge.specs.declared.status.Status.{Status}
-use Rattle.md_edge.specs.declared.status.Status.TheVariants.{Usage, NoMemory}
+use Rattle.md_program_edge.specs.declared.status.Status.{Status}
+use Rattle.md_program_edge.specs.declared.status.Status.TheVariants.{Usage, NoMemory}
 use Rattle.md_program.specs.Words.{Args, IsOutOfMemory}
 use Rattle.md_program.specs.Program.{HasRun}
-use Rattle.md_edge.specs.declared.words.Making.{Making}
-use Rattle.md_edge.specs.declared.words.Options.{Options}
-use Rattle.md_edge.specs.Streams.{IsReadInPart}
+use Rattle.md_program_edge.specs.declared.words.Making.{Making}
+use Rattle.md_program_edge.specs.declared.words.Options.{Options}
+use Rattle.md_program_edge.specs.Streams.{IsReadInPart}
 use Rattle.md_program.specs.Run.{ToldAlone, Answers}
 
 -- a source from which nothing was read

@@ -6,9 +6,9 @@ use Rattle.md_orders.specs.Records.{order_records, AreFewRecords}
 use Rattle.md_orders.specs.Grammar.{first_bad}
 use Rattle.md_orders.specs.declared.read.OrderFault.{OrderFault}
 use Rattle.md_orders.specs.declared.read.OrderFault.TheVariants.{TooMany, BadLine, NoMemory}
-use Rattle.md_edge.specs.declared.status.Status.{Status}
-use Rattle.md_edge.specs.Faults.{order_status}
-use Rattle.md_edge.specs.Streams.{IsRead}
+use Rattle.md_program_edge.specs.declared.status.Status.{Status}
+use Rattle.md_program_edge.specs.Faults.{order_status}
+use Rattle.md_program_edge.specs.Streams.{IsRead}
 use Rattle.md_program.specs.Run.{StopsReplay}
 
 -- A read of the orders in bytes that a source gave to its end.

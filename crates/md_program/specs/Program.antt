@@ -2,11 +2,11 @@
 use Rattle.std.specs.Prelude.{◌≡◌, ◌⊎◌, ℕ, List, Option, IsErr}
 use Rattle.md_history.specs.Front.{Front}
 use Rattle.md_outside.specs.Steps.{Step}
-use Rattle.md_edge.specs.declared.status.Status.{Status}
-use Rattle.md_edge.specs.declared.status.Status.TheVariants.{Usage, NoMemory}
-use Rattle.md_edge.specs.declared.words.Options.{Options}
+use Rattle.md_program_edge.specs.declared.status.Status.{Status}
+use Rattle.md_program_edge.specs.declared.status.Status.TheVariants.{Usage, NoMemory}
+use Rattle.md_program_edge.specs.declared.words.Options.{Options}
 use Rattle.md_program.specs.Words.{Args, HasAcceptedWords, HasOptions, IsOutOfMemory}
-use Rattle.md_edge.specs.Status.{status_number}
+use Rattle.md_program_edge.specs.Status.{status_number}
 use Rattle.md_program.specs.Run.{Answers, EndsWell, ToldAlone}
 
 module _ {I : Type 0} (gives : Step I) (left : I → Option (List ℕ)) (read_faults : I → ℕ) (args : Args) (input input' : I)

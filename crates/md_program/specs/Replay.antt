@@ -10,7 +10,7 @@ use Rattle.md_report.specs.Report.{report_text}
 use Rattle.md_orders.specs.Generator.{AreMade}
 use Rattle.md_report.specs.Summary.{summary_text}
 use Rattle.md_rounds.specs.Replay.{IsPlayed}
-use Rattle.md_edge.specs.declared.words.Making.{Making}
+use Rattle.md_program_edge.specs.declared.words.Making.{Making}
 
 -- the bytes are few records, read as scripts, which were played, and the text is the report of the replies and of the
 -- book

@@ -5,13 +5,13 @@ use Rattle.md_outside.specs.Causes.{Rose}
 use Rattle.md_outside.specs.Steps.{Step}
 use Rattle.md_orders.specs.Records.{order_records, AreFewRecords}
 use Rattle.md_orders.specs.Grammar.{first_bad}
-use Rattle.md_edge.specs.declared.status.Status.{Status}
-use Rattle.md_edge.specs.declared.status.Status.TheVariants.{Done, Usage, BadLine, ReadFault, WriteFault, NoMemory}
-use Rattle.md_edge.specs.declared.status.Status.TheVariants.{TooLong, TooMany}
-use Rattle.md_edge.specs.declared.words.Making.{Making}
-use Rattle.md_edge.specs.declared.words.Options.{Options}
-use Rattle.md_edge.specs.Status.{status_text}
-use Rattle.md_edge.specs.Streams.{max_bytes, IsRead, IsReadInPart, IsOverlong, HasReadFault, IsWritten, HasWriteFault, Tells}
+use Rattle.md_program_edge.specs.declared.status.Status.{Status}
+use Rattle.md_program_edge.specs.declared.status.Status.TheVariants.{Done, Usage, BadLine, ReadFault, WriteFault, NoMemory}
+use Rattle.md_program_edge.specs.declared.status.Status.TheVariants.{TooLong, TooMany}
+use Rattle.md_program_edge.specs.declared.words.Making.{Making}
+use Rattle.md_program_edge.specs.declared.words.Options.{Options}
+use Rattle.md_program_edge.specs.Status.{status_text}
+use Rattle.md_program_edge.specs.Streams.{max_bytes, IsRead, IsReadInPart, IsOverlong, HasReadFault, IsWritten, HasWriteFault, Tells}
 use Rattle.md_program.specs.Replay.{IsReplay, IsSummed}
 
 -- the bytes are within the limits, and none of their records is bad for so many callers

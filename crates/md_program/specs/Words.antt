@@ -7,8 +7,8 @@ use Rattle.std.specs.declared.string.String.{String}
 use Rattle.std.specs.declared.vec.IntoIter.{IntoIter}
 use Rattle.std.specs.declared.io.Error.{Error}
 use Rattle.std.specs.declared.io.ErrorKind.TheVariants.{OutOfMemory}
-use Rattle.md_edge.specs.declared.words.Options.{Options}
-use Rattle.md_edge.specs.Options.{Write}
+use Rattle.md_program_edge.specs.declared.words.Options.{Options}
+use Rattle.md_program_edge.specs.Options.{Write}
 
 -- words are accepted where they write options
 abbrev pub AreAccepted : List (List ℕ) → Type 0

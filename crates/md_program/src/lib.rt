@@ -1,5 +1,5 @@
 //! The program `medley` as a library: its runs and their answers. Its words, its reads and writes, and
-//! its statuses are those of md_edge.
+//! its statuses are those of md_program_edge.
 #![tactic(auto)]
 
 mod play;
@@ -8,7 +8,7 @@ mod report;
 mod runs;
 mod status;
 
-pub use md_edge::{Making, Options, Status, read_options};
+pub use md_program_edge::{Making, Options, Status, read_options};
 pub use program::{exit_of_program, run_program};
 pub use runs::run;
 pub use status::Run;

@@ -5,15 +5,15 @@ ghost use Rattle.std.specs.Prelude.{◌≡◌, ◌≤◌, ◌*◌, ℕ, IfOk, le
 ghost use Rattle.md_book.specs.Book.{Book};
 ghost use Rattle.md_book.specs.Stands.{StandsFor};
 ghost use Rattle.md_rounds.specs.Replay.{IsPlayed};
-ghost use Rattle.md_play.specs.Opened.{IsOpenFor};
-ghost use Rattle.md_play.specs.declared.playing.TheConstants.{MAX_LANE_NODES, MAX_STORE_NODES};
+ghost use Rattle.md_program_play.specs.Opened.{IsOpenFor};
+ghost use Rattle.md_program_play.specs.declared.playing.TheConstants.{MAX_LANE_NODES, MAX_STORE_NODES};
 ghost use Rattle.md_store.specs.Store.{front_in};
-ghost use Rattle.md_edge.specs.Options.{AreInRange};
+ghost use Rattle.md_program_edge.specs.Options.{AreInRange};
 
 use md_book::COMMAND_NODES;
-use md_edge::Options;
 use md_orders::Scripts;
-use md_play::{OpenStore, open_store, play_on_store};
+use md_program_edge::Options;
+use md_program_play::{OpenStore, open_store, play_on_store};
 use md_rounds::{Gate, Outcome};
 use md_store::StorePass;
 use std::alloc::{AllocError, Global};
@@ -99,7 +99,7 @@ pub fn open_for(alloc: Global, options: &Options, bytes: u32) -> Result<OpenStor
 }
 
 /// Plays scripts of 1 to 64 callers over an empty store with a lane for each caller, as
-/// `play_on_store` of md_play does.
+/// `play_on_store` of md_program_play does.
 ///
 /// The options give the nodes and the attempts of a lane. If they give no number of nodes, a lane
 /// has three for each line of the caller with the most lines, but at least 4,096, and at most

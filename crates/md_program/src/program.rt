@@ -4,14 +4,14 @@ ghost use Rattle.std.specs.Prelude.{◌≡◌, Some, List, ℕ, map, drop, strin
 ghost use Rattle.std.specs.Vec.Iter.{into_iter_items};
 ghost use Rattle.md_store.specs.Store.{front_in};
 ghost use Rattle.std.specs.Process.{exit_status};
-ghost use Rattle.md_edge.specs.Words.{texts};
+ghost use Rattle.md_program_edge.specs.Words.{texts};
 ghost use Rattle.md_program.specs.Program.{HasRun, HasExit};
 ghost use Rattle.md_program.specs.Run.{IsBadInput, IsGood};
 
 use crate::runs::{run, stop};
 use crate::status::Run;
-use md_edge::Status;
 use md_outside::{Sink, Source};
+use md_program_edge::Status;
 use md_rounds::FreeGate;
 use std::alloc::{AllocError, Global};
 use std::env::Args;

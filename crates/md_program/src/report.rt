@@ -6,13 +6,13 @@ ghost use Rattle.md_book.specs.Book.{Book};
 ghost use Rattle.md_book.specs.Stands.{StandsFor};
 ghost use Rattle.md_report.specs.Report.{replies_text, report_text, whole_text};
 ghost use Rattle.md_many.specs.Closed.{ClosesTo};
-ghost use Rattle.md_play.specs.Closing.{IsClosedForReport};
+ghost use Rattle.md_program_play.specs.Closing.{IsClosedForReport};
 ghost use Rattle.md_rounds.specs.Replay.{IsPlayed};
 ghost use Rattle.md_store.specs.Store.{IsPassOf, all_lanes, front_in, start_of};
 
 use md_history::Front;
 use md_orders::Scripts;
-use md_play::close_for_report;
+use md_program_play::close_for_report;
 use md_report::{after_lines, lines_in_threads};
 use md_rounds::{OpenOutcome, Rounds};
 use md_store::{Store, StorePass};
@@ -39,7 +39,7 @@ pub fn with_last(mut parts: Vec<Vec<u8>>, last: Vec<u8>) -> Result<Vec<Vec<u8>>,
 /// the replies alone. What follows them, the book, needs the sums in the store.
 ///
 /// Up to nine threads work side by side: eight write lines (`lines_in_threads` of md_report), and one
-/// reads the sums off (`close_for_report` of md_play). `AllocError` if memory runs out.
+/// reads the sums off (`close_for_report` of md_program_play). `AllocError` if memory runs out.
 pub fn tell_and_close<R: Threads + Sync>(
     rt: &R,
     alloc: Global,

@@ -7,10 +7,10 @@ ghost use Rattle.md_orders.specs.Grammar.{first_bad};
 ghost use Rattle.md_orders.specs.Records.{order_records, AreFewRecords};
 ghost use Rattle.md_report.specs.Report.{whole_text};
 ghost use Rattle.md_orders.specs.Scripts.{AreScripts};
-ghost use Rattle.md_play.specs.Opened.{IsOpenFor};
+ghost use Rattle.md_program_play.specs.Opened.{IsOpenFor};
 ghost use Rattle.md_store.specs.Store.{front_in};
-ghost use Rattle.md_edge.specs.Words.{texts};
-ghost use Rattle.md_edge.specs.Options.{AreInRange, Write};
+ghost use Rattle.md_program_edge.specs.Words.{texts};
+ghost use Rattle.md_program_edge.specs.Options.{AreInRange, Write};
 ghost use Rattle.md_program.specs.Words.{AreAccepted};
 ghost use Rattle.md_program.specs.Replay.{IsSummed};
 ghost use Rattle.md_program.specs.Run.{Answers, EndsWell, HasPlayed, StopsReplay, StopsWith, IsReplayed};
@@ -20,10 +20,10 @@ use crate::play::{open_for, play};
 use crate::report::{Played, tell_and_close, with_last};
 use crate::status::Run;
 use md_book::MAX_CALLER;
-use md_edge::{Making, Options, Status, read_all, read_options, tell, write_parts};
 use md_orders::{OrderFault, Scripts, make, read_orders_in_threads};
 use md_outside::{Failed, Sink, Source};
-use md_play::{OpenStore, play_opened};
+use md_program_edge::{Making, Options, Status, read_all, read_options, tell, write_parts};
+use md_program_play::{OpenStore, play_opened};
 use md_report::summary;
 use md_rounds::Gate;
 use std::alloc::{AllocError, Global};
@@ -128,7 +128,7 @@ where
     }
 }
 
-/// Ends a run that has no report or summary: it writes the line of the status (`tell` of md_edge).
+/// Ends a run that has no report or summary: it writes the line of the status (`tell` of md_program_edge).
 /// The run has this status and no fronts.
 pub fn stop<O: Sink>(alloc: Global, output: &mut O, status: Status) -> Run
     ensures status { result.status ≡ status }
@@ -180,7 +180,7 @@ where
 /// for each caller, and writes the report or the summary.
 ///
 /// It reads the words first (`read_options`). Without `--make` it reads the input to its end
-/// (`read_all` of md_edge), reads the records as scripts (`read_orders_in_threads` of md_orders)
+/// (`read_all` of md_program_edge), reads the records as scripts (`read_orders_in_threads` of md_orders)
 /// while it opens the store, plays them, and writes the report: each reply, and then the book. With
 /// `--make` it makes scripts (`make` of md_orders), plays them, and writes the summary, which is one
 /// line. It then reads no input.

@@ -1,7 +1,7 @@
 //! How a run ended.
 
-use md_edge::Status;
 use md_history::Front;
+use md_program_edge::Status;
 use md_store::StorePass;
 
 /// How a run ended, with the fronts of its stores in order, one for each renewal and one for the

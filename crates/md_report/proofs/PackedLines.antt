@@ -6,14 +6,14 @@ use Rattle.std.proofs.lemmas.Option.{slice_get-map}
 use Rattle.std.proofs.lemmas.List.{drop-drop, length-map}
 use Rattle.std.proofs.lemmas.List.Sums.{sum_by-cons, sum_by_more, sum_by_more_le}
 use Rattle.md_book.specs.declared.commands.BookReply.{BookReply}
-use Rattle.md_replies.specs.declared.packed.PackedHead.{PackedHead}
-use Rattle.md_replies.specs.Packed.{size_of, unpacked, unpacked_all, ArePacked}
+use Rattle.md_report_replies.specs.declared.packed.PackedHead.{PackedHead}
+use Rattle.md_report_replies.specs.Packed.{size_of, unpacked, unpacked_all, ArePacked}
 use Rattle.md_orders.specs.Scripts.{list_of}
-use Rattle.md_replies.specs.Replies.{reply_at}
+use Rattle.md_report_replies.specs.Replies.{reply_at}
 use Rattle.md_report.specs.Report.{answer_text, lines_text}
 use Rattle.md_orders.proofs.ByCaller.{at_line-at, at_line-past}
 use Rattle.md_report.proofs.Texts.{texts_after-told}
-use Rattle.md_replies.proofs.Unpacked.{length-unpacked_all}
+use Rattle.md_report_replies.proofs.Unpacked.{length-unpacked_all}
 
 -- the reply at an index: its numbers begin behind those of the heads before it
 unpacked-at : (hs : List PackedHead) (numbers : List ℕ) (at : ℕ) (d : PackedHead) → at < length hs

@@ -15,7 +15,7 @@ use Rattle.md_book.specs.declared.limits.TheConstants.{MAX_ACCOUNT, MAX_PRICE}
 use Rattle.md_book.specs.declared.maps.TheConstants.{DEPTHS, BOUGHT, SOLD}
 use Rattle.md_book.specs.Book.{Book, level_of, depth, bought, sold}
 use Rattle.md_orders.specs.Scripts.{list_of, count_of}
-use Rattle.md_replies.specs.Replies.{reply_at}
+use Rattle.md_report_replies.specs.Replies.{reply_at}
 
 -- CALLER:LINE of an order's name
 abbrev pub name_text : ℕ → List ℕ

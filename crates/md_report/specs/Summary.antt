@@ -13,7 +13,7 @@ use Rattle.md_book.specs.Book.{Book, level_of, depth}
 use Rattle.md_book.specs.Trading.{told_cancelled, told_taken}
 use Rattle.md_report.specs.declared.sums.Totals.{Totals}
 use Rattle.md_orders.specs.Scripts.{list_of, at_line, count_of}
-use Rattle.md_replies.specs.Replies.{reply_at}
+use Rattle.md_report_replies.specs.Replies.{reply_at}
 use Rattle.md_report.specs.Report.{value_at}
 
 -- the quantity that a command places

@@ -7,7 +7,7 @@ ghost use Rattle.md_report.specs.Report.{lines_text, callers_text_after, replies
 use crate::text::make_room;
 use crate::text::packed_lines::{callers_lines, lines};
 use md_orders::Scripts;
-use md_replies::RepliesByCaller;
+use md_report_replies::RepliesByCaller;
 use std::alloc::{AllocError, Global};
 use std::thread;
 use std::thread::Threads;

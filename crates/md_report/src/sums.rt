@@ -8,7 +8,7 @@ ghost use Rattle.md_report.specs.Summary.{placed, cancelled, filled, line_totals
 use md_book::{BookReply, Command, DEPTHS, MAPS, MAX_PRICE, Side};
 use md_history::Contents;
 use md_orders::Scripts;
-use md_replies::Replies;
+use md_report_replies::Replies;
 
 /// What lines placed, cancelled and filled in all.
 #[derive(Clone, Copy)]

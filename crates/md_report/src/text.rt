@@ -9,7 +9,7 @@ ghost use Rattle.md_book.specs.Book.{Book};
 ghost use Rattle.md_book.specs.Stands.{StandsFor};
 ghost use Rattle.md_book.specs.declared.commands.BookReply.{BookReply};
 ghost use Rattle.md_book.specs.declared.limits.TheConstants.{MAX_PARTS};
-ghost use Rattle.md_replies.specs.Rooms.{parts_in, reply_in};
+ghost use Rattle.md_report_replies.specs.Rooms.{parts_in, reply_in};
 ghost use Rattle.md_report.specs.declared.text.TheConstants.{NAME, PART, PARTS, REPLY};
 ghost use Rattle.md_report.specs.declared.text.line_buffer.TheConstants.{SIZE, DIGITS};
 ghost use Rattle.md_report.specs.Summary.{summary_text, summary_text_of};
@@ -23,7 +23,7 @@ use itoa::{Buffer, Integer};
 use md_book::{BOUGHT, DEPTHS, MAPS, MAX_ACCOUNT, MAX_PARTS, MAX_PRICE, Part, SOLD, Side};
 use md_history::Contents;
 use md_orders::Scripts;
-use md_replies::{Head, Replies, number_at, part_in};
+use md_report_replies::{Head, Replies, number_at, part_in};
 use std::alloc::{AllocError, Global};
 
 // How many bytes a name can have: two numbers and a colon.

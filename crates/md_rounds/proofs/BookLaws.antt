@@ -18,7 +18,7 @@ use Rattle.md_book.specs.Trading.{answered}
 use Rattle.md_orders.specs.Records.{max_records}
 use Rattle.md_orders.specs.Scripts.{list_of, at_line, count_of, IsNamed, AreNamed}
 use Rattle.md_orders.proofs.ByCaller.{length-list_of-le}
-use Rattle.md_attempts.specs.Tags.{tag_of}
+use Rattle.md_many_attempts.specs.Tags.{tag_of}
 use Rattle.md_many.specs.Laws.{AreLawful, LineKeepsGood}
 use Rattle.md_many.proofs.TagLaws.{caller_of_tag, line_of_tag}
 use Rattle.md_rounds.specs.OrderLines.{did_command}

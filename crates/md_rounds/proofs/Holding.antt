@@ -8,7 +8,7 @@ use Rattle.md_book.specs.declared.commands.Command.{Command}
 use Rattle.md_book.specs.declared.commands.BookReply.{BookReply}
 use Rattle.md_book.specs.Suits.{Suits}
 use Rattle.md_orders.specs.Scripts.{list_of, at_line}
-use Rattle.md_replies.specs.Replies.{reply_at, with_reply, with_replies, AllSuit}
+use Rattle.md_report_replies.specs.Replies.{reply_at, with_reply, with_replies, AllSuit}
 use Rattle.md_orders.proofs.ByCaller.{list_of-with_list-same, list_of-with_list-other, length-with_list}
 use Rattle.md_rounds.specs.Kept.{HasReplies}
 use Rattle.md_rounds.proofs.Keeping.{length-with_line, slice_get-set-same, slice_get-set-other}

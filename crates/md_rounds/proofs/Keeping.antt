@@ -5,7 +5,7 @@ use Rattle.std.proofs.lemmas.List.{length-set, get_or-set_same, length-take, tak
 use Rattle.std.proofs.lemmas.Option.{slice_get-get_or}
 use Rattle.md_book.specs.declared.commands.BookReply.{BookReply}
 use Rattle.md_orders.specs.Scripts.{with_line}
-use Rattle.md_replies.specs.Replies.{with_reply, with_replies}
+use Rattle.md_report_replies.specs.Replies.{with_reply, with_replies}
 
 pub length-with_line : {A : Type 0} (xs : List A) (line : ℕ) (x : A) → length (with_line xs line x) ≡ length xs
 length-with_line xs zero x = refl

@@ -4,7 +4,7 @@ use Rattle.std.specs.Prelude.{false, ◌==◌, map, slice_get, option_and_then}
 use Rattle.std.proofs.lemmas.Bool.{false≢true}
 use Rattle.md_book.specs.declared.commands.BookReply.{BookReply}
 use Rattle.md_many.specs.Laws.{AllSuit}
-use Rattle.md_replies.specs.Replies.{reply_at}
+use Rattle.md_report_replies.specs.Replies.{reply_at}
 use Rattle.md_orders.specs.Scripts.{list_of}
 use Rattle.md_rounds.specs.Kept.{HaveReplies}
 

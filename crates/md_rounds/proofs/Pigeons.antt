@@ -7,7 +7,7 @@ use Rattle.std.proofs.lemmas.List.{length-append}
 use Rattle.std.proofs.lemmas.List.Sums.{sum_by-cons}
 use Rattle.md_book.specs.declared.commands.Command.{Command}
 use Rattle.md_orders.specs.Scripts.{list_of, at_line, count_of}
-use Rattle.md_attempts.specs.Tags.{tag_of}
+use Rattle.md_many_attempts.specs.Tags.{tag_of}
 use Rattle.md_many.specs.Tags.{tags_after}
 use Rattle.md_many.proofs.TagLaws.{length-tags_after}
 use Rattle.md_rounds.specs.Traded.{HasNone, AreDifferent, AreOfLines}

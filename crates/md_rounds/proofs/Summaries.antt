@@ -15,7 +15,7 @@ use Rattle.md_book.specs.Book.{Order, Book, empty_book, depth, cancel_step, find
 use Rattle.md_book.specs.Trading as day
 use Rattle.md_book.proofs.steps.Kills.{kill-either}
 use Rattle.md_orders.specs.Scripts.{at_line}
-use Rattle.md_replies.specs.Replies.{reply_at}
+use Rattle.md_report_replies.specs.Replies.{reply_at}
 use Rattle.md_report.specs.Summary.{placed, cancelled, filled, all_totals, open_at, sum_to}
 use Rattle.md_report.proofs.Totals.{all-totals-sum}
 use Rattle.md_many.specs.Played.{committed_of, tags_of}

@@ -6,7 +6,7 @@ use Rattle.std.proofs.lemmas.Bool.{cases_Bool, cases_eq, cases_lt, cond-true, co
 use Rattle.std.proofs.lemmas.List.Sums.{sum_by-cons}
 use Rattle.md_book.proofs.sums.Sums.{sum_by-equal, sum_by-filter, sum_by-keys}
 use Rattle.md_report.specs.Summary.{sum_to}
-use Rattle.md_attempts.specs.Tags.{tag_of}
+use Rattle.md_many_attempts.specs.Tags.{tag_of}
 use Rattle.md_many.specs.Tags.{tags_after, IsInterleaving}
 use Rattle.md_many.proofs.TagLaws.{line_of_tag}
 

@@ -13,7 +13,7 @@ use Rattle.md_book.specs.Stands.{StandsFor}
 use Rattle.md_book.specs.Meets.{CommandsMeetTheBook}
 use Rattle.md_orders.specs.Records.{max_records}
 use Rattle.md_orders.specs.Scripts.{at_line, count_of, AreNamed}
-use Rattle.md_replies.specs.Replies.{reply_at}
+use Rattle.md_report_replies.specs.Replies.{reply_at}
 use Rattle.md_many.specs.Tags.{IsInterleaving}
 use Rattle.md_many.specs.Played.{committed_of, tags_of, EachLineOnce}
 use Rattle.md_many.specs.Replied.{IsReplied, AreReplied}

@@ -3,7 +3,7 @@ use Rattle.std.specs.Prelude.{◌≡◌, ◌<◌, ℕ, ◌+◌, ◌++◌, Option
 use Rattle.md_book.specs.declared.commands.Command.{Command}
 use Rattle.md_book.specs.declared.commands.BookReply.{BookReply}
 use Rattle.md_orders.specs.Scripts.{list_of}
-use Rattle.md_replies.specs.Replies.{reply_at}
+use Rattle.md_report_replies.specs.Replies.{reply_at}
 use Rattle.md_rounds.specs.declared.round_replies.RoundReplies.{RoundReplies}
 
 -- the replies of a turn: those that are packed, and those of the last batch

@@ -13,7 +13,7 @@ use Rattle.md_book.specs.declared.maps.TheConstants.{MAPS, LEVELS}
 use Rattle.md_book.specs.Commands.{script_of}
 use Rattle.md_book.specs.Trading.{IsDay}
 use Rattle.md_orders.specs.Scripts.{at_line}
-use Rattle.md_replies.specs.Replies.{reply_at}
+use Rattle.md_report_replies.specs.Replies.{reply_at}
 use Rattle.md_many.specs.Tags.{IsInterleaving}
 pub use Rattle.md_many.specs.Played.{committed_of, AreDecidedAndLegal, tags_of}
 use Rattle.md_rounds.specs.OrderLines.{line_count_of}

@@ -18,7 +18,7 @@ use crate::order_lines::OrderLines;
 use md_history::{Contents, Engine, Front};
 use md_many::{Gate, OpenRounds, Rounds, play_open_rounds, play_rounds};
 use md_orders::Scripts;
-use md_replies::{Replies, RepliesByCaller};
+use md_report_replies::{Replies, RepliesByCaller};
 use std::alloc::{AllocError, Global};
 use std::thread::Threads;
 
@@ -49,7 +49,7 @@ pub struct OpenOutcome<E: Engine> {
 ///
 /// `tries` is the most attempts that a caller makes in its turn of a round: any number.
 /// `play_open_rounds` of md_many says what a round is, and when the engine is renewed. Each caller's
-/// thread packs the replies of its turn (`PackedReplies` of md_replies), all but the last batch,
+/// thread packs the replies of its turn (`PackedReplies` of md_report_replies), all but the last batch,
 /// which is packed after the round. A caller's packed replies are kept as they are, one list for all
 /// rounds (`RepliesByCaller`).
 ///
@@ -97,7 +97,7 @@ where
 
 /// Plays the scripts of all callers over an engine without orders, as `run_all_open` does, and
 /// closes the engine. The replies are set in places, which are made first (`Replies::empty` of
-/// md_replies).
+/// md_report_replies).
 ///
 /// `AllocError` if memory runs out, here or in an attempt of the engine. Then the engine has ended,
 /// and its contents are lost.

@@ -6,13 +6,13 @@ ghost use Rattle.md_book.specs.declared.commands.BookReply.{BookReply};
 ghost use Rattle.md_book.specs.Suits.{Suits};
 ghost use Rattle.md_orders.specs.Scripts.{at_line};
 ghost use Rattle.md_many.specs.Laws as many;
-ghost use Rattle.md_replies.specs.Replies.{AllSuit, with_replies};
+ghost use Rattle.md_report_replies.specs.Replies.{AllSuit, with_replies};
 ghost use Rattle.md_rounds.specs.Kept.{all_of, HasReplies};
 
 use crate::round_replies::RoundReplies;
 use md_book::BookReply;
 use md_many::Keeper;
-use md_replies::Replies;
+use md_report_replies::Replies;
 use std::alloc::AllocError;
 
 // Puts the replies of a caller's lines after its first `done` into their places. It takes no

@@ -9,7 +9,7 @@ ghost use Rattle.md_rounds.specs.Kept.{all_of};
 use crate::round_replies::RoundReplies;
 use md_book::BookReply;
 use md_many::Keeper;
-use md_replies::RepliesByCaller;
+use md_report_replies::RepliesByCaller;
 use std::alloc::AllocError;
 
 // The packed replies of each caller, as a keeper for rounds.

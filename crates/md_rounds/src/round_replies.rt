@@ -5,7 +5,7 @@ ghost use Rattle.md_rounds.specs.Kept.{all_of};
 
 use md_book::BookReply;
 use md_many::ReplyList;
-use md_replies::PackedReplies;
+use md_report_replies::PackedReplies;
 use std::alloc::{AllocError, Global};
 
 // The replies of a turn. The last batch stays as it came, and those before it are packed. So a turn

@@ -17,9 +17,9 @@ use Rattle.md_machine.specs.Trail.{Meets}
 use Rattle.md_machine.proofs.events.Attempts.{attempt_same}
 use Rattle.md_rule.specs.Admitted.{Admitted}
 use Rattle.md_rule.specs.Kept.{IsReached, KeepsLane, KeepsLanes}
-use Rattle.md_lanes.specs.Shares.{share_at}
+use Rattle.md_rule_lanes.specs.Shares.{share_at}
 use Rattle.md_rule.specs.Views.{Origin, PassState}
-use Rattle.md_lanes.specs.declared.shares.Share.{Share}
+use Rattle.md_rule_lanes.specs.declared.shares.Share.{Share}
 use Rattle.md_rule.proofs.Moves.{is_kept}
 
 module _ (M : Meaning) (o : Origin) (m : Machine) (admitted : Admitted M o m) (pass : ℕ) (view : PassView) (acts : Acts m pass view) (share : Share)

@@ -36,7 +36,7 @@ use Rattle.md_machine.proofs.clauses.slots.CleanAfter.{clean_after}
 use Rattle.md_machine.proofs.events.Moves.{own_exists}
 use Rattle.md_rule.specs.InHand.{HoldsDesc}
 use Rattle.md_rule.specs.Kept.{KeepsLane, MetNoLater}
-use Rattle.md_lanes.specs.declared.shares.Share.{Share}
+use Rattle.md_rule_lanes.specs.declared.shares.Share.{Share}
 use Rattle.md_rule.proofs.FirstAttempts.{AbortsOwn, FirstsFit, IsFirstUnready, never_met, still_unready}
 
 -- an abort is of no lane that has begun no attempt, unless its descriptor was met

@@ -44,7 +44,7 @@ use Rattle.md_machine.proofs.lists.Options.{none_some, some_same}
 use Rattle.md_rule.specs.InHand.{HoldsDesc}
 use Rattle.md_rule.specs.Steps.{Stepped}
 use Rattle.md_rule.specs.Views.{Origin}
-use Rattle.md_lanes.specs.declared.shares.Share.{Share}
+use Rattle.md_rule_lanes.specs.declared.shares.Share.{Share}
 use Rattle.md_rule.proofs.Kept.{Continues, IsCountedInstall, IsLeftOf, LaneGoes}
 use Rattle.md_rule.proofs.Moves.{is_kept, next_admitted}
 use Rattle.md_rule.proofs.Told.{told_load, told_store, told_install, told_exchange, told_ready, told_commit, told_abort, told_uninstall, told_start, told_begin, told_mark_start, told_act, told_end, told_leave}

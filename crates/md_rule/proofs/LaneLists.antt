@@ -9,7 +9,7 @@ use Rattle.std.proofs.lemmas.List.FromFn.{length-range_with_len}
 use Rattle.md_words.specs.declared.shape.Shape.{Shape}
 use Rattle.md_history.specs.Front.{is_lane_of}
 use Rattle.md_machine.specs.events.SplitJoin.{given_lanes, joined_lanes, kept_lanes}
-use Rattle.md_lanes.proofs.LaneSets.{few_lanes, some_lanes, any_pass}
+use Rattle.md_rule_lanes.proofs.LaneSets.{few_lanes, some_lanes, any_pass}
 use Rattle.md_machine.specs.Own.{HasDesc}
 use Rattle.md_machine.specs.events.Decide.{HasMet}
 use Rattle.md_rule.specs.Kept.{IsReached}

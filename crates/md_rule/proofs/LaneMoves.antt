@@ -13,15 +13,15 @@ use Rattle.md_machine.specs.Meaning.{Meaning}
 use Rattle.md_machine.proofs.lists.Rising.{in_lane, lane_in}
 use Rattle.md_rule.specs.Kept.{KeepsLane, KeepsLanes}
 use Rattle.md_rule.specs.Rule.{JoinedInto, SplitInto}
-use Rattle.md_lanes.specs.Shares.{joined_shares, share_at}
+use Rattle.md_rule_lanes.specs.Shares.{joined_shares, share_at}
 use Rattle.md_rule.specs.Steps.{EventOf, Stepped}
 use Rattle.md_rule.specs.Views.{Origin}
-use Rattle.md_lanes.specs.declared.shares.Share.{Share}
-use Rattle.md_lanes.specs.declared.shares.TheConstants.{UNUSED}
+use Rattle.md_rule_lanes.specs.declared.shares.Share.{Share}
+use Rattle.md_rule_lanes.specs.declared.shares.TheConstants.{UNUSED}
 use Rattle.md_rule.proofs.FirstAttempts.{first_fit}
 use Rattle.md_rule.proofs.Kept.{Spares, inside, still_kept}
 use Rattle.md_rule.proofs.LaneEvents.{IsQuiet, no_hand, quiet_by, quiet_goes}
-use Rattle.md_lanes.proofs.LaneSets.{few_lanes}
+use Rattle.md_rule_lanes.proofs.LaneSets.{few_lanes}
 use Rattle.md_rule.proofs.Moves.{goes_on, is_kept, next_admitted}
 
 -- a share of a join

@@ -15,9 +15,9 @@ use Rattle.md_machine.proofs.clauses.nodes.KnowsFree.{opened_free}
 use Rattle.md_machine.proofs.lists.Options.{none_some}
 use Rattle.md_machine.proofs.Reached.{no_steps}
 use Rattle.md_rule.specs.Kept.{KeepsLane, KeepsLanes}
-use Rattle.md_lanes.specs.Shares.{MayReturn, share_at, with_share}
-use Rattle.md_lanes.specs.declared.shares.Share.{Share}
-use Rattle.md_lanes.specs.declared.shares.TheConstants.{UNUSED}
+use Rattle.md_rule_lanes.specs.Shares.{MayReturn, share_at, with_share}
+use Rattle.md_rule_lanes.specs.declared.shares.Share.{Share}
+use Rattle.md_rule_lanes.specs.declared.shares.TheConstants.{UNUSED}
 use Rattle.md_rule.proofs.LaneSteps.{one_changed}
 
 -- the share of a lane that wasn't used

@@ -17,10 +17,10 @@ use Rattle.md_machine.specs.events.Decide.{HasMet}
 use Rattle.md_machine.specs.events.Start.{IsClean}
 use Rattle.md_rule.specs.InHand.{HoldsDesc}
 use Rattle.md_rule.specs.Kept.{IsReached, KeepsLane, KeepsLanes}
-use Rattle.md_lanes.specs.Shares.{after_begin, after_end, after_restart, after_slot, share_at, with_share}
+use Rattle.md_rule_lanes.specs.Shares.{after_begin, after_end, after_restart, after_slot, share_at, with_share}
 use Rattle.md_rule.specs.Steps.{EventOf, Exchanged, Stepped}
 use Rattle.md_rule.specs.Views.{Origin, PassState}
-use Rattle.md_lanes.specs.declared.shares.Share.{Share}
+use Rattle.md_rule_lanes.specs.declared.shares.Share.{Share}
 use Rattle.md_rule.proofs.FirstAttempts.{first_fit}
 use Rattle.md_rule.proofs.Kept.{IsLeftOf, LaneGoes, Spares, inside, still_kept}
 use Rattle.md_rule.proofs.LaneEvents.{IsQuiet, begin_goes, end_here, install_lost, install_won, quiet_goes, quiet_mark_end, ready_goes, start_else, start_here}

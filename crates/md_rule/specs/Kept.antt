@@ -18,9 +18,9 @@ use Rattle.md_machine.specs.Trail.{EveryStepOf, Meets, SomeStepOf, StoresFor}
 use Rattle.md_machine.specs.events.Decide.{HasMet}
 use Rattle.md_machine.specs.events.Start.{IsClean, WonInstall}
 use Rattle.md_rule.specs.InHand.{HoldsDesc}
-use Rattle.md_lanes.specs.Shares.{share_at}
+use Rattle.md_rule_lanes.specs.Shares.{share_at}
 use Rattle.md_rule.specs.Views.{PassState}
-use Rattle.md_lanes.specs.declared.shares.Share.{Share}
+use Rattle.md_rule_lanes.specs.declared.shares.Share.{Share}
 
 -- no status of the descriptor that a step found or left has a later serial: so it is of the present attempt's serial
 abbrev pub MetNoLater : Shape → PassView → (desc serial : ℕ) → Type 0

@@ -3,15 +3,15 @@
 ghost use Rattle.std.specs.Prelude.{◌≡◌, List, IfOk, replicate};
 ghost use Rattle.md_machine.specs.declared.node.PlacedNode.{PlacedNode};
 ghost use Rattle.md_machine.specs.Event.{CanOpen, first_pass};
-ghost use Rattle.md_lanes.specs.declared.shares.TheConstants.{UNUSED};
+ghost use Rattle.md_rule_lanes.specs.declared.shares.TheConstants.{UNUSED};
 ghost use Rattle.md_rule.specs.Views.{IsOf};
 
 use crate::known::Known;
 use crate::pass::Pass;
 use crate::rule::{Key, Ruled};
 use atomic_table::Table;
-use md_lanes::own_words;
 use md_machine::Theory;
+use md_rule_lanes::own_words;
 use md_words::Shape;
 use std::alloc::{AllocError, Global};
 use std::marker::Model;

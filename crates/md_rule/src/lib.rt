@@ -9,7 +9,7 @@ pub use certifying::Certifying;
 pub use close::{Closed, Ended};
 pub use field::Field;
 pub use known::{Known, Parts};
-pub use md_lanes::Share;
+pub use md_rule_lanes::Share;
 pub use pass::Pass;
 pub use rule::{Following, Halving, Joining, Key, Looking, Ruled, Telling};
 

@@ -7,7 +7,7 @@ ghost use Rattle.md_machine.specs.declared.attempt.Hand.{Hand};
 ghost use Rattle.md_machine.specs.Event.{mark_begin, mark_start, mark_end, mark_leave};
 ghost use Rattle.md_machine.specs.events.Start.{IsClean};
 ghost use Rattle.md_rule.specs.InHand.{HoldsDesc};
-ghost use Rattle.md_lanes.specs.Shares.{after_begin, after_end, share_at};
+ghost use Rattle.md_rule_lanes.specs.Shares.{after_begin, after_end, share_at};
 ghost use Rattle.md_rule.specs.Steps.{Acted, May, MayAct, Stepped};
 ghost use Rattle.md_rule.specs.Views.{IsOf};
 
@@ -15,8 +15,8 @@ use crate::field::Field;
 use crate::pass::Pass;
 use crate::words::mark;
 use md_history::{Op, Reply};
-use md_lanes::{begin_lane, end_lane};
 use md_machine::Theory;
+use md_rule_lanes::{begin_lane, end_lane};
 use std::marker::Brand;
 use std::snapshot::Snapshot;
 

@@ -6,7 +6,7 @@ ghost use Rattle.atomic_table.specs.Table.{State, Seen, Splits, Joins as JoinsVi
 ghost use Rattle.md_machine.specs.events.SplitJoin.{kept_part, given_part, joined_part, spent};
 ghost use Rattle.md_rule.specs.declared.known.Known.{Known};
 ghost use Rattle.md_rule.specs.Rule.{JoinedInto, Shows, SplitInto};
-ghost use Rattle.md_lanes.specs.Shares.{joined_shares};
+ghost use Rattle.md_rule_lanes.specs.Shares.{joined_shares};
 ghost use Rattle.md_rule.specs.Views.{IsOf};
 
 use crate::field::Field;
@@ -14,8 +14,8 @@ use crate::known::Known;
 use crate::pass::Pass;
 use crate::rule::{Halves, Halving, Joining, Joins, Looking, Looks};
 use atomic_table::Seat;
-use md_lanes::take_shares;
 use md_machine::Theory;
+use md_rule_lanes::take_shares;
 use std::marker::Brand;
 
 impl<T: Theory> Pass<T> {

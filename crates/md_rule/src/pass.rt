@@ -3,7 +3,7 @@
 ghost use Rattle.std.specs.Prelude.{◌≡◌, ◌<◌, ◌↔◌, None, [], length, slice_index, replicate, IsTrue};
 ghost use Rattle.md_machine.specs.Event.{first_pass};
 ghost use Rattle.md_machine.specs.clauses.passes.Alone.{HoldsAll};
-ghost use Rattle.md_lanes.specs.declared.shares.TheConstants.{UNUSED};
+ghost use Rattle.md_rule_lanes.specs.declared.shares.TheConstants.{UNUSED};
 ghost use Rattle.md_rule.specs.Kept.{KeepsLanes};
 ghost use Rattle.md_rule.specs.Lanes.{AreLanes};
 ghost use Rattle.md_rule.specs.Private.{HasWords};
@@ -12,8 +12,8 @@ ghost use Rattle.md_rule.specs.Views.{IsOf};
 use crate::field::Field;
 use crate::known::Known;
 use atomic_table::Seat;
-use md_lanes::{Lanes, Share, UNUSED, has_all};
 use md_machine::Theory;
+use md_rule_lanes::{Lanes, Share, UNUSED, has_all};
 use md_words::Shape;
 use std::marker::{Model, PhantomData};
 

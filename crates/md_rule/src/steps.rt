@@ -19,7 +19,7 @@ ghost use Rattle.md_rule.specs.Entering.{EnteredBy, MayBecomeReady};
 ghost use Rattle.md_rule.specs.InHand.{HoldsUnready};
 ghost use Rattle.md_rule.specs.Kept.{IsNoNextLeft, IsReached, StoredNoneLeft};
 ghost use Rattle.md_rule.specs.Private.{HasWords};
-ghost use Rattle.md_lanes.specs.Shares.{after_restart, after_slot, share_at};
+ghost use Rattle.md_rule_lanes.specs.Shares.{after_restart, after_slot, share_at};
 ghost use Rattle.md_rule.specs.Steps.{Exchanged, May, Stepped, SteppedFrom};
 ghost use Rattle.md_rule.specs.Views.{IsOf};
 
@@ -29,8 +29,8 @@ use crate::known::Known;
 use crate::pass::Pass;
 use crate::words::{exchange_word, load_word, store_word};
 use atomic_table::Seat;
-use md_lanes::{count_slot, exchanged, restart_lane, statuses};
 use md_machine::Theory;
+use md_rule_lanes::{count_slot, exchanged, restart_lane, statuses};
 use md_words::{Content, Spot};
 use std::marker::Brand;
 use std::snapshot::Snapshot;

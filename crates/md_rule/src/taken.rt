@@ -3,11 +3,11 @@
 ghost use Rattle.std.specs.Prelude.{◌≡◌, ◌≤◌};
 ghost use Rattle.std.specs.List.{Contains};
 ghost use Rattle.md_words.specs.declared.limits.TheConstants.{SET};
-ghost use Rattle.md_lanes.specs.Shares.{MayReturn, share_at, with_share};
+ghost use Rattle.md_rule_lanes.specs.Shares.{MayReturn, share_at, with_share};
 
 use crate::pass::Pass;
-use md_lanes::{set_nodes, set_tries};
 use md_machine::Theory;
+use md_rule_lanes::{set_nodes, set_tries};
 
 impl<T: Theory> Pass<T> {
     /// How many nodes of a lane were taken: its lowest ones, at most the shape's `nodes`. The lane

@@ -17,8 +17,8 @@ use crate::field::Field;
 use crate::known::Known;
 use crate::rule::{Following, Follows, Telling, Tells};
 use atomic_table::Seat;
-use md_lanes::{answered, exchange_private, load_private, store_private};
 use md_machine::Theory;
+use md_rule_lanes::{answered, exchange_private, load_private, store_private};
 use std::marker::Brand;
 use std::snapshot::Snapshot;
 

@@ -11,9 +11,9 @@ mod passes;
 mod stalls;
 mod tickets;
 
-use md_cell::CellTheory;
+use example_cell::CellTheory;
+use example_tickets::dispenser;
 use md_rule::{Field, Pass};
-use md_tickets::dispenser;
 use md_words::{Shape, ShapeFault};
 use std::alloc::AllocGlobal;
 use std::fmt::Debug;

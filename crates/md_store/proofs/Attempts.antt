@@ -24,16 +24,16 @@ use Rattle.md_nbtc_law.specs.Going.{HasCause, IsGoing}
 use Rattle.md_nbtc_law.proofs.preparing.Heaps.{goes_self}
 use Rattle.md_nbtc_law.specs.State.{SameTries, TxnState, attempt_in}
 use Rattle.md_nbtc_law.proofs.attempts.Fronts.{decided_commits, decided_stops, refused_front, stopped_front}
-use Rattle.md_lanes.specs.Shares.{share_at}
+use Rattle.md_rule_lanes.specs.Shares.{share_at}
 use Rattle.md_rule.specs.Views.{FieldView, PassState}
-use Rattle.md_lanes.specs.declared.shares.Share.{Share}
+use Rattle.md_rule_lanes.specs.declared.shares.Share.{Share}
 use Rattle.md_store_law.specs.Store.{store}
-use Rattle.md_count_law.specs.Few.{RecordsOne}
+use Rattle.md_store_counts.specs.Few.{RecordsOne}
 use Rattle.md_nbtc_law.specs.Ended.{WasAborted, WasCommitted, WasLost}
-use Rattle.md_running.specs.Running.{IsRunning}
-use Rattle.md_running.specs.Store.{IsPassOf, MayStop, all_lanes, begun_by, front_in, start_of}
-use Rattle.md_running.specs.Laws.{of_is}
-use Rattle.md_running.proofs.AllLanes.{holds_all}
+use Rattle.md_store_bodies.specs.Running.{IsRunning}
+use Rattle.md_store_bodies.specs.Store.{IsPassOf, MayStop, all_lanes, begun_by, front_in, start_of}
+use Rattle.md_store_bodies.specs.Laws.{of_is}
+use Rattle.md_store_bodies.proofs.AllLanes.{holds_all}
 
 -- a sum over rising numbers in which one more is counted at one of them
 same_sum : (low : ℕ) (xs : List ℕ) (g h : ℕ → ℕ) (d : ℕ) → RiseFrom low xs → d + 1 ≤ low → ((x : ℕ) → ¬ (x ≡ d) → h x ≡ g x) → sum_by h xs ≡ sum_by g xs

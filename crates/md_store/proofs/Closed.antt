@@ -15,7 +15,7 @@ use Rattle.md_queue_law.specs.QueueValues.{queue_values}
 use Rattle.md_store_law.specs.Store.{state_of_store, store}
 use Rattle.md_store_law.proofs.EvenFields.{even_fields_are_stores}
 use Rattle.md_store.specs.Ending.{Leaves}
-use Rattle.md_running.specs.Store.{front_in, start_of}
+use Rattle.md_store_bodies.specs.Store.{front_in, start_of}
 
 -- a field that ended after a settling
 pub leaves_contents : (f : FieldView) (before settled last : PassState) (words : List ℕ) → SettlesFrom (start_of f) (front_in before) (front_in settled)

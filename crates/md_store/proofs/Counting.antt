@@ -10,12 +10,12 @@ use Rattle.md_machine.specs.clauses.passes.Lanes.{RiseFrom}
 use Rattle.md_machine.specs.events.SplitJoin.{joined_part}
 use Rattle.md_machine.proofs.lists.Rising.{here, rise_low, rise_range, there}
 use Rattle.md_rule.specs.Lanes.{AreLanes}
-use Rattle.md_lanes.specs.Shares.{joined_shares, share_at}
+use Rattle.md_rule_lanes.specs.Shares.{joined_shares, share_at}
 use Rattle.md_rule.specs.Views.{PassState}
-use Rattle.md_lanes.specs.declared.shares.Share.{Share}
+use Rattle.md_rule_lanes.specs.declared.shares.Share.{Share}
 use Rattle.md_rule.proofs.LaneLists.{lane_exists, lane_fits}
 use Rattle.md_rule.proofs.LaneMoves.{share_joined}
-use Rattle.md_running.specs.Store.{begun_by}
+use Rattle.md_store_bodies.specs.Store.{begun_by}
 
 -- tests that agree on the elements of a list leave the same of it
 filter_same : (p q : ℕ → Bool) (xs : List ℕ) → ((x : ℕ) → Contains xs x → p x ≡ q x) → filter p xs ≡ filter q xs

@@ -19,8 +19,8 @@ use Rattle.md_rule.specs.Kept.{KeepsLanes}
 use Rattle.md_rule.specs.Views.{FieldView, PassState}
 use Rattle.md_store_law.specs.Store.{store}
 use Rattle.md_store.specs.Attempted.{IsAttempted}
-use Rattle.md_running.specs.Running.{BreaksOff, IsRunning}
-use Rattle.md_running.specs.Store.{IsPassOf, IsUnworn, MayStop}
+use Rattle.md_store_bodies.specs.Running.{BreaksOff, IsRunning}
+use Rattle.md_store_bodies.specs.Store.{IsPassOf, IsUnworn, MayStop}
 use Rattle.md_store.proofs.Attempts.{RunOf, alone_lost, begun_committed, begun_lost, begun_stopped, cause, counted_if, front_committed, front_lost, front_stopped, legal_of, of_committed, of_lost, of_stopped, refused_may, refused_to, unbegun_counts, unbegun_front, unbegun_of}
 use Rattle.md_store.proofs.FirstAttempts.{refused_unworn}
 use Rattle.md_store.proofs.Small.{has_try, holds_lanes, none_refused}

@@ -14,7 +14,7 @@ use Rattle.md_machine.specs.Trail.{SomeStep}
 use Rattle.md_machine.specs.clauses.passes.Alone.{HoldsAll}
 use Rattle.md_machine.proofs.lists.Rising.{map_in, range_in}
 use Rattle.md_rule.specs.Kept.{IsLeft, KeepsLanes}
-use Rattle.md_lanes.specs.Shares.{share_at}
+use Rattle.md_rule_lanes.specs.Shares.{share_at}
 use Rattle.md_rule.specs.Views.{FieldView, IsOf, PassState}
 use Rattle.md_nbtc_law.specs.Ending.{Begins}
 use Rattle.md_nbtc_law.specs.Going.{IsUnderWay, MeetsCount}
@@ -23,11 +23,11 @@ use Rattle.md_nbtc_law.specs.State.{OwnNode, TxnState, attempt_in, own_node, own
 use Rattle.md_nbtc_law.proofs.exchanging.OwnNexts.{flat_in}
 use Rattle.md_store_law.specs.Store.{store}
 use Rattle.md_store_law.specs.Untouched.{IsUntouched}
-use Rattle.md_calm.specs.First.{IsFirst}
-use Rattle.md_calm.proofs.FirstAttempts.{first_stays_low}
+use Rattle.md_nbtc_first.specs.First.{IsFirst}
+use Rattle.md_nbtc_first.proofs.FirstAttempts.{first_stays_low}
 use Rattle.md_history.specs.Calls.{Refusal}
-use Rattle.md_running.specs.Running.{IsRunning}
-use Rattle.md_running.specs.Store.{IsFresh, IsPassOf, IsUnworn}
+use Rattle.md_store_bodies.specs.Running.{IsRunning}
+use Rattle.md_store_bodies.specs.Store.{IsFresh, IsPassOf, IsUnworn}
 use Rattle.md_store.proofs.Untouched.{untouched_opens}
 
 -- a node of a lane is one of so many, or lies above them

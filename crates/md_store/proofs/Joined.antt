@@ -8,12 +8,12 @@ use Rattle.md_machine.specs.Machine.{IsAt, shape_of}
 use Rattle.md_machine.specs.events.SplitJoin.{joined_part}
 use Rattle.md_rule.specs.Lanes.{AreLanes}
 use Rattle.md_rule.specs.Rule.{JoinedInto}
-use Rattle.md_lanes.specs.Shares.{joined_shares}
+use Rattle.md_rule_lanes.specs.Shares.{joined_shares}
 use Rattle.md_rule.specs.Views.{FieldView, PassState}
 use Rattle.md_rule.proofs.LaneLists.{joined_are_lanes}
 use Rattle.md_rule.proofs.Moves.{goes_on, is_kept, next_admitted}
 use Rattle.md_store_law.specs.Store.{store}
-use Rattle.md_running.specs.Store.{IsPassOf, begun_by, front_in}
+use Rattle.md_store_bodies.specs.Store.{IsPassOf, begun_by, front_in}
 use Rattle.md_store.proofs.Counting.{begun_together}
 use Rattle.md_store.proofs.Joining.{joins_fronts, lanes_apart}
 

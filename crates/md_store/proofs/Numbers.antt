@@ -8,7 +8,7 @@ use Rattle.md_list_law.specs.Walk.{map_of_pairs}
 use Rattle.md_queue_law.specs.QueueValues.{queue_values}
 use Rattle.md_rule.specs.Closing.{plain_words}
 use Rattle.md_rule.specs.Views.{FieldView}
-use Rattle.md_running.specs.Store.{start_of}
+use Rattle.md_store_bodies.specs.Store.{start_of}
 
 pub count_of_maps : (f : FieldView) → length (start_of f).maps ≡ f.origin.shape.maps
 count_of_maps f =

@@ -7,14 +7,14 @@ use Rattle.md_machine.specs.Event.{first_pass, opened}
 use Rattle.md_machine.specs.Machine.{IsLive}
 use Rattle.md_machine.specs.Resolution.{logical_heap}
 use Rattle.md_rule.specs.Closing.{plain_words}
-use Rattle.md_lanes.specs.Shares.{share_at}
+use Rattle.md_rule_lanes.specs.Shares.{share_at}
 use Rattle.md_rule.specs.Views.{FieldView, IsOf, Origin, PassState}
-use Rattle.md_lanes.specs.declared.shares.Share.{Share}
+use Rattle.md_rule_lanes.specs.declared.shares.Share.{Share}
 use Rattle.md_rule.proofs.LaneLists.{all_are_lanes}
 use Rattle.md_store_law.specs.Opens.{OpensWith}
 use Rattle.md_store_law.specs.Store.{state_of_store}
 use Rattle.md_store_law.proofs.EvenFields.{even_fields_are_stores}
-use Rattle.md_running.specs.Store.{IsFresh, IsPassOf, IsUnused, start_of}
+use Rattle.md_store_bodies.specs.Store.{IsFresh, IsPassOf, IsUnused, start_of}
 
 -- words with which a field may be opened have the state that they stand for
 pub opens_state : (shape : Shape) (words : List ℕ) (s : State) → OpensWith shape words s → state_of_store (plain_words shape words) ≡ s

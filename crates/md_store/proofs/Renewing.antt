@@ -6,15 +6,15 @@ use Rattle.md_history.specs.Front.{replay_of}
 use Rattle.md_history.specs.State.{HaveSameNumbers, State}
 use Rattle.md_machine.specs.Event.{first_pass}
 use Rattle.md_rule.specs.Closing.{plain_words}
-use Rattle.md_lanes.specs.Shares.{share_at}
+use Rattle.md_rule_lanes.specs.Shares.{share_at}
 use Rattle.md_rule.specs.Views.{FieldView, IsOf, Origin, PassState}
 use Rattle.md_store_law.specs.Untouched.{IsUntouched}
 use Rattle.md_store_law.specs.Compacted.{IsCompacted, MayHaveBase, contents_of}
 use Rattle.md_store_law.specs.Field.{logical_words}
 use Rattle.md_store.specs.Ending.{Leaves, Renews}
-use Rattle.md_running.specs.Store.{IsPassOf, IsUnused, all_lanes, front_in, limits_of, room_of, start_of}
+use Rattle.md_store_bodies.specs.Store.{IsPassOf, IsUnused, all_lanes, front_in, limits_of, room_of, start_of}
 use Rattle.md_store.proofs.Closed.{same_numbers}
-use Rattle.md_running.specs.Laws.{fresh_is}
+use Rattle.md_store_bodies.specs.Laws.{fresh_is}
 use Rattle.md_store.proofs.Opening.{opened_fresh, opened_of, start_is}
 use Rattle.md_store.proofs.Rooms.{room_fits, same_lanes, same_limits}
 

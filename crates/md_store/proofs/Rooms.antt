@@ -6,7 +6,7 @@ use Rattle.md_words.specs.declared.shape.Shape.{Shape}
 use Rattle.md_words.specs.Limits.{count_of_words}
 use Rattle.md_history.specs.Engine.{Limits}
 use Rattle.md_store_law.specs.Compacted.{IsWithBase, MayHaveBase}
-use Rattle.md_running.specs.Store.{all_lanes, limits_of, room_of}
+use Rattle.md_store_bodies.specs.Store.{all_lanes, limits_of, room_of}
 
 -- the words of a shape with so many base nodes
 words_with : (s : Shape) (base : ℕ) → count_of_words s.lanes s.nodes base s.maps s.buckets s.queues ≡ count_of_words s.lanes s.nodes 0 s.maps s.buckets s.queues + 3 * base

@@ -26,7 +26,7 @@ use Rattle.md_help.specs.After.{IsAfter, Stands}
 use Rattle.md_help.proofs.Steps.{trail_after}
 use Rattle.md_rule.specs.Kept.{KeepsLane}
 use Rattle.md_rule.specs.Views.{Origin}
-use Rattle.md_lanes.specs.declared.shares.Share.{Share}
+use Rattle.md_rule_lanes.specs.declared.shares.Share.{Share}
 use Rattle.md_rule.proofs.Kept.{each_later, none_later, none_there, own_desc, serial_there, unbegun}
 use Rattle.md_rule.proofs.Moves.{is_kept}
 use Rattle.md_nbtc_law.specs.Beginning.{Empties, FindsDecided}

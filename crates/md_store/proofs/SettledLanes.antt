@@ -12,7 +12,7 @@ use Rattle.md_help.specs.After.{Stands}
 use Rattle.md_help.proofs.Steps.{both_after, none_after}
 use Rattle.md_rule.specs.Kept.{KeepsLane, KeepsLanes}
 use Rattle.md_rule.specs.Lanes.{AreLanes}
-use Rattle.md_lanes.specs.Shares.{share_at}
+use Rattle.md_rule_lanes.specs.Shares.{share_at}
 use Rattle.md_rule.specs.Views.{FieldView, PassState}
 use Rattle.md_rule.proofs.LaneLists.{desc_exists, lane_exists}
 use Rattle.md_rule.proofs.Moves.{is_kept}
@@ -20,7 +20,7 @@ use Rattle.md_nbtc_law.specs.Beginning.{Empties, FindsDecided, HasAttempt}
 use Rattle.md_nbtc_law.proofs.beginning.Starting.{own_still}
 use Rattle.md_store_law.specs.Store.{store}
 use Rattle.md_store.specs.Settling.{IsSettled, Settles, SettlesFirst}
-use Rattle.md_running.specs.Store.{IsPassOf}
+use Rattle.md_store_bodies.specs.Store.{IsPassOf}
 use Rattle.md_store.proofs.Settled.{settled_ended, settled_still, settled_unused}
 
 -- a pass that stands somewhere knows a fate for each entry that it has seen

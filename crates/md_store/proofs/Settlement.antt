@@ -26,10 +26,10 @@ use Rattle.md_nbtc_law.specs.Ending.{BeginsNot}
 use Rattle.md_nbtc_law.proofs.beginning.Leaving.{begins_not}
 use Rattle.md_store_law.specs.Store.{store}
 use Rattle.md_store.specs.Settling.{IsSettled, SettlesFirst}
-use Rattle.md_running.specs.Store.{IsPassOf, all_lanes, front_in, start_of}
+use Rattle.md_store_bodies.specs.Store.{IsPassOf, all_lanes, front_in, start_of}
 use Rattle.md_store.proofs.Closing.{may_close}
-use Rattle.md_running.specs.Laws.{of_is}
-use Rattle.md_running.proofs.AllLanes.{holds_all}
+use Rattle.md_store_bodies.specs.Laws.{of_is}
+use Rattle.md_store_bodies.proofs.AllLanes.{holds_all}
 use Rattle.md_store.proofs.SettledLanes.{stands_fated}
 
 -- of a lane without entries nothing is committed

@@ -14,12 +14,12 @@ use Rattle.md_history.specs.Front.{Front}
 use Rattle.md_machine.proofs.lists.Rising.{here}
 use Rattle.md_arena.specs.Left.{HasTryLeft, NoLane}
 use Rattle.md_nbtc_law.specs.State.{TxnState}
-use Rattle.md_lanes.specs.Shares.{share_at}
+use Rattle.md_rule_lanes.specs.Shares.{share_at}
 use Rattle.md_rule.specs.Views.{FieldView, PassState}
-use Rattle.md_running.specs.Counted.{Exceeds, IsCountLimit}
-use Rattle.md_running.specs.Laws.{fresh_is, of_is}
-use Rattle.md_running.specs.Running.{IsRunning}
-use Rattle.md_running.specs.Store.{IsFresh, IsPassOf, IsUnworn, all_lanes, front_in, limits_of, start_of}
+use Rattle.md_store_bodies.specs.Counted.{Exceeds, IsCountLimit}
+use Rattle.md_store_bodies.specs.Laws.{fresh_is, of_is}
+use Rattle.md_store_bodies.specs.Running.{IsRunning}
+use Rattle.md_store_bodies.specs.Store.{IsFresh, IsPassOf, IsUnworn, all_lanes, front_in, limits_of, start_of}
 use Rattle.md_store.proofs.Attempts.{cause, refused_to}
 
 -- a stop is a limit of what acts count, or has another cause

@@ -15,11 +15,11 @@ use Rattle.md_machine.specs.events.SplitJoin.{given_lanes, given_part, kept_lane
 use Rattle.md_machine.proofs.clauses.passes.MineParts.{part_mine}
 use Rattle.md_machine.proofs.lists.Rising.{take_below_drop}
 use Rattle.md_rule.specs.Rule.{SplitInto}
-use Rattle.md_lanes.specs.Shares.{share_at}
+use Rattle.md_rule_lanes.specs.Shares.{share_at}
 use Rattle.md_rule.specs.Views.{FieldView, PassState}
 use Rattle.md_rule.proofs.Moves.{is_kept, next_admitted}
 use Rattle.md_store_law.specs.Store.{store}
-use Rattle.md_running.specs.Store.{IsPassOf, begun_by, front_in}
+use Rattle.md_store_bodies.specs.Store.{IsPassOf, begun_by, front_in}
 
 -- what is pending of some lanes
 pub pending_of : (shape : Shape) (lanes : List ℕ) (pending : List AttemptId)

@@ -29,8 +29,8 @@ use Rattle.md_queue_law.specs.QueueShape.{link}
 use Rattle.md_rule.specs.Views.{Origin}
 use Rattle.md_store_law.specs.Store.{store}
 use Rattle.md_store_law.specs.Untouched.{IsUntouched}
-use Rattle.md_calm.specs.First.{OpensWithNothingToTidy}
-use Rattle.md_calm.proofs.Agreeing.{exist_first}
+use Rattle.md_nbtc_first.specs.First.{OpensWithNothingToTidy}
+use Rattle.md_nbtc_first.proofs.Agreeing.{exist_first}
 
 module _ (x : Opening) (can : CanOpen store x) (new : IsUntouched x.shape x.words) (t : TidyChange) (stands : TidyStands (logical_heap (opened x) []) t) where
   abbrev h : LogicalHeap

@@ -9,7 +9,7 @@ use Rattle.md_history.specs.Front.{LegalFrom}
 use Rattle.md_rule.specs.Views.{FieldView, PassState}
 use Rattle.md_store_law.specs.Untouched.{IsUntouched}
 use Rattle.md_store.specs.Causes.{StopsBy}
-use Rattle.md_running.specs.Store.{IsFresh, IsPassOf, IsUnworn, MayStop, all_lanes, begun_by, front_in, limits_of, start_of}
+use Rattle.md_store_bodies.specs.Store.{IsFresh, IsPassOf, IsUnworn, MayStop, all_lanes, begun_by, front_in, limits_of, start_of}
 
 -- an attempt of a body, which did and makes such acts, had this tag and this result; its pass stood so before and after
 pub record IsAttempted {R : Type 0} (f : FieldView) (before after : PassState) (tag : ℕ) (did : List Act → R → Type 0)

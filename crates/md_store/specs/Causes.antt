@@ -10,7 +10,7 @@ use Rattle.md_nbtc_law.specs.Ending.{Stopped}
 use Rattle.md_nbtc_law.specs.Going.{HasCause}
 use Rattle.md_nbtc_law.specs.State.{TxnState}
 use Rattle.md_rule.specs.Views.{FieldView, PassState}
-use Rattle.md_running.specs.Running.{BrokeWith, IsRunning}
+use Rattle.md_store_bodies.specs.Running.{BrokeWith, IsRunning}
 use Rattle.md_store_law.specs.Store.{store}
 
 -- the body's transaction, begun with this pass on this field, was stopped: one of its calls was refused so, for this cause

@@ -7,7 +7,7 @@ use Rattle.md_rule.specs.Views.{FieldView, PassState}
 use Rattle.md_store_law.specs.Compacted.{contents_of}
 use Rattle.md_store_law.specs.Field.{IsStoreField}
 use Rattle.md_store_law.specs.Untouched.{IsUntouched}
-use Rattle.md_running.specs.Store.{IsFresh, IsPassOf, all_lanes, begun_by, front_in, limits_of, start_of}
+use Rattle.md_store_bodies.specs.Store.{IsFresh, IsPassOf, all_lanes, begun_by, front_in, limits_of, start_of}
 
 -- the words of a store that holds the replay of the front of its last pass, which settles that of the pass before
 pub record Leaves (f : FieldView) (before : PassState) (words : List ℕ) (last : PassState) : Type 0 where

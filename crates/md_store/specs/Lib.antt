@@ -1,4 +1,4 @@
-pub use Rattle.md_running.specs.Store
+pub use Rattle.md_store_bodies.specs.Store
 pub mod Settling
 pub mod Ending
 pub mod Causes

@@ -7,8 +7,8 @@ ghost use Rattle.md_history.specs.Engine.{IsNoConflict, bounds_in};
 ghost use Rattle.md_history.specs.Front.{LegalFrom};
 ghost use Rattle.md_store.specs.Attempted.{IsAttempted};
 ghost use Rattle.md_store.specs.Causes.{StopsBy};
-ghost use Rattle.md_running.specs.Store.{IsFresh, IsPassOf, IsUnworn, MayStop};
-ghost use Rattle.md_running.specs.Store.{all_lanes, begun_by, front_in, limits_of, start_of};
+ghost use Rattle.md_store_bodies.specs.Store.{IsFresh, IsPassOf, IsUnworn, MayStop};
+ghost use Rattle.md_store_bodies.specs.Store.{all_lanes, begun_by, front_in, limits_of, start_of};
 ghost use Rattle.md_store_law.specs.Untouched.{IsUntouched};
 
 use crate::pass::StorePass;
@@ -16,7 +16,7 @@ use crate::store::Store;
 use md_history::{Attempt, Body, Stop};
 use md_nbtc::{Sets, Txn};
 use md_rule::Pass;
-use md_running::run;
+use md_store_bodies::run;
 use md_store_law::StoreTheory;
 use std::snapshot::Snapshot;
 

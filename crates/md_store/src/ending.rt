@@ -6,14 +6,14 @@ ghost use Rattle.md_history.specs.Front.{replay_of};
 ghost use Rattle.md_history.specs.State.{HaveSameNumbers};
 ghost use Rattle.md_store_law.specs.MapsFrom.{MapsFrom};
 ghost use Rattle.md_store.specs.Ending.{Leaves, Renews};
-ghost use Rattle.md_running.specs.Store.{IsPassOf, all_lanes, front_in, room_of, start_of};
+ghost use Rattle.md_store_bodies.specs.Store.{IsPassOf, all_lanes, front_in, room_of, start_of};
 
 use crate::pass::StorePass;
 use crate::settling::settle;
 use md_history::{Contents, Front};
-use md_laying::lay_living;
 use md_rule::{Ended, Field};
 use md_store_law::{FieldWords, StoreTheory, gather, read_off_from, read_off_maps_from};
+use md_store_layout::lay_living;
 use std::alloc::{AllocError, Global};
 
 // The words of a field that has ended, which are read where they stand.

@@ -9,7 +9,7 @@ ghost use Rattle.md_rule.specs.Closing.{MayClose};
 ghost use Rattle.md_store_law.specs.MapsFrom.{MapsFrom};
 ghost use Rattle.md_store_law.specs.Store.{store};
 ghost use Rattle.md_store.specs.Ending.{Renews};
-ghost use Rattle.md_running.specs.Store.{IsPassOf, all_lanes, begun_by, front_in, room_of, start_of};
+ghost use Rattle.md_store_bodies.specs.Store.{IsPassOf, all_lanes, begun_by, front_in, room_of, start_of};
 
 use crate::pass::StorePass;
 use crate::store::Store;

@@ -9,8 +9,8 @@ ghost use Rattle.md_history.specs.Engine.{Splits, bounds_in};
 ghost use Rattle.md_history.specs.Front.{LegalFrom, replay_of};
 ghost use Rattle.md_history.specs.State.{HaveSameNumbers};
 ghost use Rattle.md_store.specs.Ending.{Renews};
-ghost use Rattle.md_running.specs.Store.{IsNew, IsPassOf, MayStop, all_lanes, begun_by, front_in};
-ghost use Rattle.md_running.specs.Store.{limits_of, room_of, start_of};
+ghost use Rattle.md_store_bodies.specs.Store.{IsNew, IsPassOf, MayStop, all_lanes, begun_by, front_in};
+ghost use Rattle.md_store_bodies.specs.Store.{limits_of, room_of, start_of};
 
 use crate::pass::StorePass;
 use crate::store::Store;
@@ -20,9 +20,9 @@ use std::alloc::AllocError;
 /// Each call does what that of `Store` with the same name does; `contents` is `close`. An attempt
 /// never answers `NoMemory`.
 impl Engine for Store {
-    ghost use Rattle.md_running.specs.Laws.{fresh_is, of_is};
-    ghost use Rattle.md_running.specs.Store.{IsNew, IsPassOf, MayStop, all_lanes, begun_by, front_in};
-    ghost use Rattle.md_running.specs.Store.{limits_of, start_of};
+    ghost use Rattle.md_store_bodies.specs.Laws.{fresh_is, of_is};
+    ghost use Rattle.md_store_bodies.specs.Store.{IsNew, IsPassOf, MayStop, all_lanes, begun_by, front_in};
+    ghost use Rattle.md_store_bodies.specs.Store.{limits_of, start_of};
 
     type Pass = StorePass;
 

@@ -4,7 +4,7 @@ ghost use Rattle.std.specs.Prelude.{◌≡◌, ◌+◌, ◌↔◌, IfNone, IfSom
 ghost use Rattle.std.specs.Prelude.{option_map, unwrap_or};
 ghost use Rattle.md_history.specs.Engine.{Joins, Splits};
 ghost use Rattle.md_rule.specs.Lanes.{AreLanes};
-ghost use Rattle.md_running.specs.Store.{IsPassOf, begun_by, front_in};
+ghost use Rattle.md_store_bodies.specs.Store.{IsPassOf, begun_by, front_in};
 
 use md_rule::{Field, Pass};
 use md_store_law::StoreTheory;

@@ -8,7 +8,7 @@ ghost use Rattle.md_rule.specs.Kept.{KeepsLanes};
 ghost use Rattle.md_rule.specs.Lanes.{AreLanes};
 ghost use Rattle.md_store_law.specs.Store.{store};
 ghost use Rattle.md_store.specs.Settling.{Settles, SettlesFirst};
-ghost use Rattle.md_running.specs.Store.{IsPassOf, all_lanes, front_in, start_of};
+ghost use Rattle.md_store_bodies.specs.Store.{IsPassOf, all_lanes, front_in, start_of};
 
 use md_nbtc::{decided_status, take_left_out};
 use md_rule::{Field, Pass};

@@ -2,16 +2,16 @@
 
 ghost use Rattle.std.specs.Prelude.{◌≡◌, ◌≤◌, ◌<◌, Err, IfErr, IfOk};
 ghost use Rattle.md_history.specs.Engine.{needed};
-ghost use Rattle.md_running.specs.Store.{IsFresh, IsPassOf, start_of};
+ghost use Rattle.md_store_bodies.specs.Store.{IsFresh, IsPassOf, start_of};
 ghost use Rattle.md_store_law.specs.Laid.{HasMapsAndQueues};
 ghost use Rattle.md_store_law.specs.Needed.{capped};
 ghost use Rattle.md_store_law.specs.Untouched.{IsUntouched};
 
 use crate::pass::StorePass;
 use md_history::Contents;
-use md_laying::{lay, needed};
 use md_rule::Field;
 use md_store_law::StoreTheory;
+use md_store_layout::{lay, needed};
 use md_words::Shape;
 use std::alloc::{AllocError, Global};
 use std::marker::Model;

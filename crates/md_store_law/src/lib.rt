@@ -1,6 +1,6 @@
 //! The store as a theory of the machine: the hash tables of all maps together with all queues, over
 //! fields of any shape. `read_off` gives the contents of a field from its words, and `gather` takes
-//! what lives from words that stand anywhere. md_laying lays both as the words of a field.
+//! what lives from words that stand anywhere. md_store_layout lays both as the words of a field.
 //!
 //! What follows for a program whose transactions leave these certificates, by `all_schedules`:
 //!

@@ -5,13 +5,13 @@ use Rattle.md_words.specs.Content.{counted_word}
 use Rattle.md_words.specs.Layout.{words_of}
 use Rattle.md_words.specs.Link.{link_value}
 use Rattle.md_machine.specs.Event.{CanOpen}
-use Rattle.md_schedules.specs.Field.{small_opening, small_shape, small_words}
+use Rattle.md_machine_schedules.specs.Field.{small_opening, small_shape, small_words}
 use Rattle.md_store_law.specs.Laid.{IsLaid, dummies}
 use Rattle.md_store_law.specs.Store.{store}
-use Rattle.md_building.proofs.Dummies.{dummies_begin, dummies_end, dummies_on}
-use Rattle.md_laying.proofs.Entries.{nodes_stand}
-use Rattle.md_laying.proofs.Opening.{can_open}
-use Rattle.md_laying.proofs.Stores.{AreSorted}
+use Rattle.md_store_layout.proofs.Dummies.{dummies_begin, dummies_end, dummies_on}
+use Rattle.md_store_layout.proofs.Entries.{nodes_stand}
+use Rattle.md_store_layout.proofs.Opening.{can_open}
+use Rattle.md_store_layout.proofs.Stores.{AreSorted}
 
 -- no pairs, and no values
 abbrev no_pairs : (map bucket : ℕ) → List (ℕ × ℕ)

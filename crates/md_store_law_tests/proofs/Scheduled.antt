@@ -6,9 +6,9 @@ use Rattle.md_words.specs.Link.{link_value, linked_node, is_marked}
 use Rattle.md_words.specs.Layout.{node_count, address, bucket_of}
 use Rattle.md_machine.specs.declared.node.Structure.TheVariants.{Bucket}
 use Rattle.md_machine.proofs.lists.Rising.{here}
-use Rattle.md_schedules.specs.Field.{bucket, small_shape}
-use Rattle.md_schedules.specs.Transactions.{finds, inserts, misses}
-use Rattle.md_schedules.specs.Unlinking.{finds_first, misses_second, removes_first, unlinks_first}
+use Rattle.md_machine_schedules.specs.Field.{bucket, small_shape}
+use Rattle.md_machine_schedules.specs.Transactions.{finds, inserts, misses}
+use Rattle.md_machine_schedules.specs.Unlinking.{finds_first, misses_second, removes_first, unlinks_first}
 use Rattle.md_list_law.specs.Certificates.{IsUnlink, get_none, get_some, insert_true, remove_some}
 use Rattle.md_store_law.specs.Store.{store}
 

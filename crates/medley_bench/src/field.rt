@@ -2,8 +2,8 @@
 
 use crate::fill::filled;
 use md_book::{LEVELS, MAPS};
-use md_laying::{compact, lay, needed};
 use md_store_law::read_off;
+use md_store_layout::{compact, lay, needed};
 use md_words::Shape;
 use std::alloc::{AllocError, Global};
 

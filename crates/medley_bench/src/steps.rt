@@ -4,9 +4,9 @@ ghost use Rattle.std.specs.Prelude.{◌+◌, ◌<◌, ◌≤◌, IfOk};
 ghost use Rattle.md_words.specs.Layout.{words_of};
 ghost use Rattle.md_rule.specs.Views.{IsOf};
 
-use md_cell::CellTheory;
+use example_cell::CellTheory;
+use example_tickets::{dispenser, renew, ticket_word};
 use md_rule::{Field, Pass};
-use md_tickets::{dispenser, renew, ticket_word};
 use md_words::{Content, Shape};
 use std::alloc::{AllocError, Global};
 

@@ -36,7 +36,7 @@
 //! known of their fates. It is legal: each reply of a committed entry is the one that it has if the
 //! committed entries run one after another, in this order. The contents at the end are what they
 //! leave. `run_lines` says so of a whole run: one thread that does the committed lines one after
-//! another gets the same replies, and leaves the same contents. The crate `transfers` is an example.
+//! another gets the same replies, and leaves the same contents. The crate `example_bank` is an example.
 //!
 //! Clauses cite definitions by the crate in which they stand, as `Rattle.md_history.specs.State`.
 //! So the line in `crates.txt` of a crate that has clauses names this crate and all below it.
@@ -47,7 +47,7 @@
 pub use md_store::{OpenFault, Store, StorePass};
 
 /// How many base nodes contents need.
-pub use md_laying::needed;
+pub use md_store_layout::needed;
 
 /// How many lanes, nodes, attempts, maps, buckets and queues a store has, and which of the numbers
 /// is out of its range.

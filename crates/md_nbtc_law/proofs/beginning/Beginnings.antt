@@ -16,10 +16,10 @@ use Rattle.md_machine.specs.clauses.nodes.EvenNexts.{AllTakenOut}
 use Rattle.md_words.specs.Layout.{address}
 use Rattle.md_words.specs.Place.{node_next}
 use Rattle.md_rule.specs.Kept.{IsLeft}
-use Rattle.md_lanes.specs.Shares.{share_at}
+use Rattle.md_rule_lanes.specs.Shares.{share_at}
 use Rattle.md_rule.specs.Steps.{Stepped}
 use Rattle.md_rule.specs.Views.{FieldView, IsOf, PassState}
-use Rattle.md_lanes.specs.declared.shares.Share.{Share}
+use Rattle.md_rule_lanes.specs.declared.shares.Share.{Share}
 use Rattle.md_rule.proofs.LaneSteps.{one_changed}
 use Rattle.md_arena.specs.Left.{HasTryLeft, IsLowest}
 use Rattle.md_arena.specs.Taking.{TakesDesc}

@@ -25,7 +25,7 @@ use Rattle.md_machine.specs.clauses.nodes.EvenNexts.{AllTakenOut}
 use Rattle.md_machine.specs.events.Mark.{new_hand}
 use Rattle.md_machine.proofs.lists.Rising.{in_cons, in_none}
 use Rattle.md_rule.specs.Kept.{IsLeft}
-use Rattle.md_lanes.specs.Shares.{share_at}
+use Rattle.md_rule_lanes.specs.Shares.{share_at}
 use Rattle.md_rule.specs.Views.{FieldView, IsOf, PassState}
 use Rattle.md_help.proofs.Steps.{trail_after}
 use Rattle.md_nbtc_law.specs.Beginning.{FindsNew, PutsInHand}

@@ -12,10 +12,10 @@ use Rattle.md_machine.specs.Stepping.{step_of}
 use Rattle.md_machine.specs.events.Mark.{marked}
 use Rattle.md_arena.specs.Taking.{TakesDesc}
 use Rattle.md_rule.specs.Kept.{KeepsLane, KeepsLanes}
-use Rattle.md_lanes.specs.Shares.{share_at}
+use Rattle.md_rule_lanes.specs.Shares.{share_at}
 use Rattle.md_rule.specs.Steps.{Stepped}
 use Rattle.md_rule.specs.Views.{Origin, PassState}
-use Rattle.md_lanes.specs.declared.shares.Share.{Share}
+use Rattle.md_rule_lanes.specs.declared.shares.Share.{Share}
 use Rattle.md_rule.proofs.LaneLists.{desc_fits}
 use Rattle.md_rule.proofs.Told.{told_leave}
 use Rattle.md_history.specs.Front.{AllStay}

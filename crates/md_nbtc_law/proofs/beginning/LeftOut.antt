@@ -9,9 +9,9 @@ use Rattle.md_machine.specs.clauses.nodes.EvenNexts.{AllTakenOut}
 use Rattle.md_arena.specs.Taking.{TakesDesc, with_tries}
 use Rattle.md_arena.proofs.TakenNodes.{share_other}
 use Rattle.md_rule.specs.Kept.{IsLeft, KeepsLanes}
-use Rattle.md_lanes.specs.Shares.{share_at}
+use Rattle.md_rule_lanes.specs.Shares.{share_at}
 use Rattle.md_rule.specs.Views.{PassState}
-use Rattle.md_lanes.specs.declared.shares.Share.{Share}
+use Rattle.md_rule_lanes.specs.declared.shares.Share.{Share}
 use Rattle.md_nbtc_law.proofs.beginning.Leaving.{share_taken}
 
 -- no attempt stands in the next word of a node that is left, once an attempt was taken

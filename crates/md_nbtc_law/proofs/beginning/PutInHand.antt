@@ -30,10 +30,10 @@ use Rattle.md_machine.proofs.clauses.passes.BegunNoLater.{later_is_new, new_is_f
 use Rattle.md_rule.specs.Admitted.{Admitted}
 use Rattle.md_rule.specs.Kept.{IsNew, KeepsLane, LeavesStatus}
 use Rattle.md_rule.proofs.FirstAttempts.{first_fit}
-use Rattle.md_lanes.specs.Shares.{after_begin, share_at}
+use Rattle.md_rule_lanes.specs.Shares.{after_begin, share_at}
 use Rattle.md_rule.specs.Steps.{EventOf, May, Stepped, SteppedFrom}
 use Rattle.md_rule.specs.Views.{Origin}
-use Rattle.md_lanes.specs.declared.shares.Share.{Share}
+use Rattle.md_rule_lanes.specs.declared.shares.Share.{Share}
 use Rattle.md_rule.proofs.LaneSteps.{one_changed}
 use Rattle.md_rule.proofs.Moves.{is_kept, next_admitted}
 use Rattle.md_rule.proofs.Told.{told_begin}

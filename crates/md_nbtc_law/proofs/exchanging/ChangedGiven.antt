@@ -7,7 +7,7 @@ use Rattle.md_machine.specs.declared.pass.PassView.{PassView}
 use Rattle.md_machine.specs.declared.step.Step.{Step}
 use Rattle.md_machine.specs.Certified.{is_written}
 use Rattle.md_machine.specs.Moved.{Moved}
-use Rattle.md_lanes.specs.declared.shares.Share.{Share}
+use Rattle.md_rule_lanes.specs.declared.shares.Share.{Share}
 use Rattle.md_help.specs.After.{IsAfter}
 use Rattle.md_nbtc_law.specs.declared.seen.Seen.{Seen}
 use Rattle.md_nbtc_law.specs.declared.slots.Slot.{Slot}

@@ -19,8 +19,8 @@ use Rattle.md_machine.specs.declared.step.Step.{Step}
 use Rattle.md_machine.specs.Certified.{RecordsFound, all_changes, all_nodes, first_content}
 use Rattle.md_machine.specs.Machine.{Install}
 use Rattle.md_machine.specs.Meaning.{Meaning}
-use Rattle.md_lanes.specs.declared.shares.Share.{Share}
-use Rattle.md_lanes.specs.Shares.{share_at}
+use Rattle.md_rule_lanes.specs.declared.shares.Share.{Share}
+use Rattle.md_rule_lanes.specs.Shares.{share_at}
 use Rattle.md_help.specs.After.{IsAfter, Stands}
 use Rattle.md_nbtc_law.specs.declared.seen.Cleanup.{Cleanup}
 use Rattle.md_nbtc_law.specs.declared.seen.Cleanup.TheVariants.{MoveTail, Unlink}

@@ -21,9 +21,9 @@ use Rattle.md_machine.specs.Trail.{LastStored, SomeStep, StoresFor, segments}
 use Rattle.md_machine.specs.clauses.nodes.FreeNodes.{IsFreeBy}
 use Rattle.md_machine.specs.events.Start.{WonInstall}
 use Rattle.md_rule.specs.Kept.{IsLeft}
-use Rattle.md_lanes.specs.Shares.{share_at}
+use Rattle.md_rule_lanes.specs.Shares.{share_at}
 use Rattle.md_rule.specs.Views.{PassState}
-use Rattle.md_lanes.specs.declared.shares.Share.{Share}
+use Rattle.md_rule_lanes.specs.declared.shares.Share.{Share}
 use Rattle.md_help.specs.After.{IsAfter}
 use Rattle.md_help.proofs.Deciding.{some_after}
 use Rattle.md_nbtc_law.specs.declared.slots.Slot.{Slot}

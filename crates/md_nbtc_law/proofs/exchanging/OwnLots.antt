@@ -13,7 +13,7 @@ use Rattle.md_words.proofs.Places.{nodes_fit_values}
 use Rattle.md_history.specs.declared.stops.Stop.{Stop}
 use Rattle.md_machine.specs.declared.attempt.Read.{Read}
 use Rattle.md_machine.proofs.lists.Rising.{in_cons, in_none, map_in, range_in}
-use Rattle.md_lanes.specs.Shares.{share_at}
+use Rattle.md_rule_lanes.specs.Shares.{share_at}
 use Rattle.md_rule.specs.Views.{FieldView, PassState}
 use Rattle.md_nbtc_law.specs.declared.slots.Lot.{Lot}
 use Rattle.md_nbtc_law.specs.declared.slots.Slot.{Slot}

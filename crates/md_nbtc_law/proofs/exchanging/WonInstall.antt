@@ -29,8 +29,8 @@ use Rattle.md_machine.specs.events.Install.{installed_word}
 use Rattle.md_machine.proofs.lists.Differ.{no_pairs, pairs_append}
 use Rattle.md_machine.proofs.lists.Options.{some_same}
 use Rattle.md_machine.proofs.lists.Rising.{in_cons, in_none}
-use Rattle.md_lanes.specs.Shares.{after_slot, share_at}
-use Rattle.md_lanes.specs.declared.shares.Share.{Share}
+use Rattle.md_rule_lanes.specs.Shares.{after_slot, share_at}
+use Rattle.md_rule_lanes.specs.declared.shares.Share.{Share}
 use Rattle.md_help.specs.After.{Stands}
 use Rattle.md_nbtc_law.specs.declared.seen.Seen.{Seen}
 use Rattle.md_nbtc_law.specs.declared.slots.Slot.{Slot}

@@ -17,7 +17,7 @@ use Rattle.md_machine.specs.Meaning.{Lawful, Meaning}
 use Rattle.md_machine.specs.Trail.{Finds, is_store}
 use Rattle.md_machine.proofs.events.Leaves.{even_after_two}
 use Rattle.md_rule.specs.Lanes.{AreLanes}
-use Rattle.md_lanes.specs.Shares.{share_at}
+use Rattle.md_rule_lanes.specs.Shares.{share_at}
 use Rattle.md_rule.specs.Steps.{Stepped, SteppedFrom}
 use Rattle.md_rule.specs.Views.{FieldView, PassState}
 use Rattle.md_rule.proofs.LaneLists.{lane_fits}

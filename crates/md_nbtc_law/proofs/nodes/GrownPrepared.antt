@@ -25,7 +25,7 @@ use Rattle.md_machine.specs.clauses.nodes.FreeNodes.{IsFreeBy}
 use Rattle.md_machine.specs.events.Start.{WonInstall}
 use Rattle.md_machine.proofs.lists.Differ.{no_pairs, pairs_append}
 use Rattle.md_machine.proofs.lists.Rising.{here, in_cons, in_none, there}
-use Rattle.md_lanes.specs.declared.shares.Share.{Share}
+use Rattle.md_rule_lanes.specs.declared.shares.Share.{Share}
 use Rattle.md_rule.specs.Kept.{IsLeft}
 use Rattle.md_rule.specs.Views.{PassState}
 use Rattle.md_help.specs.After.{IsAfter}

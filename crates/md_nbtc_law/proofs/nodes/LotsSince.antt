@@ -7,7 +7,7 @@ use Rattle.std.proofs.lemmas.List.Folds.{list_any_none}
 use Rattle.std.specs.List.{Contains, flat_map, list_any}
 use Rattle.md_machine.specs.clauses.passes.Lanes.{RiseFrom}
 use Rattle.md_machine.proofs.lists.Rising.{here, in_cons, in_none, there}
-use Rattle.md_lanes.specs.Shares.{share_at}
+use Rattle.md_rule_lanes.specs.Shares.{share_at}
 use Rattle.md_rule.specs.Views.{PassState}
 use Rattle.md_nbtc_law.specs.declared.slots.Lot.{Lot}
 use Rattle.md_nbtc_law.specs.Sets.{with_lot}

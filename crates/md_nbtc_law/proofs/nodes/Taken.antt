@@ -5,7 +5,7 @@ use Rattle.std.specs.List.{Contains, flat_map, range_with_len}
 use Rattle.md_words.specs.Lanes.{node_of}
 use Rattle.md_machine.specs.clauses.passes.Lanes.{RiseFrom}
 use Rattle.md_machine.proofs.lists.Rising.{in_cons, in_none, rise_low}
-use Rattle.md_lanes.specs.Shares.{share_at}
+use Rattle.md_rule_lanes.specs.Shares.{share_at}
 use Rattle.md_rule.specs.Views.{PassState}
 use Rattle.md_nbtc_law.specs.State.{taken_of_lane, taken_since}
 

@@ -22,8 +22,8 @@ use Rattle.md_machine.specs.clauses.nodes.FreeNodes.{IsFreeBy}
 use Rattle.md_machine.specs.events.Start.{WonInstall}
 use Rattle.md_machine.proofs.clauses.nodes.KnowsFree.{free_even}
 use Rattle.md_words.specs.Lanes.{OwnsNode}
-use Rattle.md_lanes.specs.declared.shares.Share.{Share}
-use Rattle.md_lanes.specs.Shares.{share_at}
+use Rattle.md_rule_lanes.specs.declared.shares.Share.{Share}
+use Rattle.md_rule_lanes.specs.Shares.{share_at}
 use Rattle.md_rule.specs.Steps.{SteppedFrom}
 use Rattle.md_rule.specs.Views.{PassState}
 use Rattle.md_rule.proofs.Moves.{is_kept}

@@ -10,9 +10,9 @@ use Rattle.md_machine.specs.declared.pass.PassView.{PassView}
 use Rattle.md_machine.specs.Trail.{SomeStepOf, StoresFor}
 use Rattle.md_arena.specs.Taking.{TakesNode, with_nodes}
 use Rattle.md_arena.proofs.TakenNodes.{lane_of, next_up, share_other, share_same}
-use Rattle.md_lanes.specs.declared.shares.Share.{Share}
+use Rattle.md_rule_lanes.specs.declared.shares.Share.{Share}
 use Rattle.md_rule.specs.Kept.{IsLeft, next_of}
-use Rattle.md_lanes.specs.Shares.{share_at}
+use Rattle.md_rule_lanes.specs.Shares.{share_at}
 use Rattle.md_rule.specs.Views.{PassState}
 use Rattle.md_rule.proofs.LaneSteps.{one_changed}
 use Rattle.md_nbtc_law.specs.Prepared.{IsPrepared, IsPreparedNode, TakenInTurn}

@@ -20,8 +20,8 @@ use Rattle.md_machine.specs.clauses.passes.Alone.{HoldsAll}
 use Rattle.md_words.specs.declared.limits.TheConstants.{SET}
 use Rattle.md_words.specs.PlaceAt.{IsCounted}
 use Rattle.md_arena.specs.Left.{HasNodeLeft, NoLane}
-use Rattle.md_lanes.specs.declared.shares.Share.{Share}
-use Rattle.md_lanes.specs.Shares.{share_at}
+use Rattle.md_rule_lanes.specs.declared.shares.Share.{Share}
+use Rattle.md_rule_lanes.specs.Shares.{share_at}
 use Rattle.md_words.specs.declared.shape.Shape.{Shape}
 use Rattle.md_rule.specs.Views.{PassState}
 use Rattle.md_help.specs.After.{Stands}

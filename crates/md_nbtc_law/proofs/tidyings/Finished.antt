@@ -17,10 +17,10 @@ use Rattle.md_machine.specs.Stepping.{step_of}
 use Rattle.md_machine.specs.events.Mark.{answered, marked, without}
 use Rattle.md_machine.specs.Trail.{MetHigher, is_store}
 use Rattle.md_machine.specs.events.Start.{IsClean, WonInstall}
-use Rattle.md_lanes.specs.Shares.{after_end, share_at}
+use Rattle.md_rule_lanes.specs.Shares.{after_end, share_at}
 use Rattle.md_rule.specs.Steps.{Stepped}
 use Rattle.md_rule.specs.Views.{Origin, PassState}
-use Rattle.md_lanes.specs.declared.shares.Share.{Share}
+use Rattle.md_rule_lanes.specs.declared.shares.Share.{Share}
 use Rattle.md_rule.proofs.LaneLists.{desc_fits}
 use Rattle.md_rule.proofs.LaneSteps.{one_changed}
 use Rattle.md_rule.proofs.Moves.{is_kept}

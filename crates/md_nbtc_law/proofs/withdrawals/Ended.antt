@@ -27,10 +27,10 @@ use Rattle.md_machine.specs.events.Start.{IsClean}
 use Rattle.md_machine.specs.events.Uninstall.{IsDecided}
 use Rattle.md_machine.proofs.events.Attempts.{in_hand_some}
 use Rattle.md_rule.specs.InHand.{HoldsDesc}
-use Rattle.md_lanes.specs.Shares.{after_end, share_at}
+use Rattle.md_rule_lanes.specs.Shares.{after_end, share_at}
 use Rattle.md_rule.specs.Steps.{May, Stepped}
 use Rattle.md_rule.specs.Views.{Origin, PassState}
-use Rattle.md_lanes.specs.declared.shares.Share.{Share}
+use Rattle.md_rule_lanes.specs.declared.shares.Share.{Share}
 use Rattle.md_rule.proofs.LaneLists.{desc_fits}
 use Rattle.md_rule.proofs.LaneSteps.{one_changed}
 use Rattle.md_rule.proofs.Told.{told_end}

@@ -28,7 +28,7 @@ use Rattle.md_machine.proofs.events.Attempts.{attempt_same, same_from, same_part
 use Rattle.md_machine.proofs.lists.Rising.{here, map_in, there}
 use Rattle.md_rule.specs.Kept.{IsLeft}
 use Rattle.md_rule.specs.Lanes.{AreLanes}
-use Rattle.md_lanes.specs.Shares.{share_at}
+use Rattle.md_rule_lanes.specs.Shares.{share_at}
 use Rattle.md_rule.specs.Views.{PassState}
 use Rattle.md_rule.proofs.LaneLists.{lane_exists}
 use Rattle.md_help.specs.After.{known_over}

@@ -8,9 +8,9 @@ use Rattle.md_machine.specs.FreeToReturn.{KnowsFree}
 use Rattle.md_arena.specs.Taking.{GivesNode, IsHighestTaken, with_nodes}
 use Rattle.md_arena.proofs.TakenNodes.{lane_of, next_up, share_same}
 use Rattle.md_rule.specs.Lanes.{AreLanes}
-use Rattle.md_lanes.specs.Shares.{share_at}
+use Rattle.md_rule_lanes.specs.Shares.{share_at}
 use Rattle.md_rule.specs.Views.{PassState}
-use Rattle.md_lanes.specs.declared.shares.Share.{Share}
+use Rattle.md_rule_lanes.specs.declared.shares.Share.{Share}
 use Rattle.md_rule.proofs.LaneLists.{lane_exists, lane_fits}
 use Rattle.md_nbtc_law.specs.declared.slots.Lot.{Lot}
 use Rattle.md_nbtc_law.specs.Withdrawing.{MayGiveLotBack}

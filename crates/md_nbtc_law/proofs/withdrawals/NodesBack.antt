@@ -10,9 +10,9 @@ use Rattle.md_machine.proofs.lists.Rising.{here, in_cons, in_none}
 use Rattle.md_arena.specs.Taking.{with_nodes}
 use Rattle.md_arena.proofs.TakenNodes.{share_other, share_same}
 use Rattle.md_rule.specs.Lanes.{AreLanes}
-use Rattle.md_lanes.specs.Shares.{MayReturn, share_at}
+use Rattle.md_rule_lanes.specs.Shares.{MayReturn, share_at}
 use Rattle.md_rule.specs.Views.{PassState}
-use Rattle.md_lanes.specs.declared.shares.Share.{Share}
+use Rattle.md_rule_lanes.specs.declared.shares.Share.{Share}
 use Rattle.md_rule.proofs.LaneLists.{lane_fits}
 use Rattle.md_nbtc_law.specs.declared.slots.Lot.{Lot}
 use Rattle.md_nbtc_law.specs.declared.slots.TheConstants.{NO_LOT}

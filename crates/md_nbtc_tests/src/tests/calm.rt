@@ -1,7 +1,7 @@
-//! The laws of md_calm are ones that a caller can name.
+//! The laws of md_nbtc_first are ones that a caller can name.
 
-use md_calm::{calm_fields_stay_low, first_attempts_stay_low};
-use md_cell::CellTheory;
+use example_cell::CellTheory;
+use md_nbtc_first::{calm_fields_stay_low, first_attempts_stay_low};
 
 #[test]
 fn counts_stay_low() {

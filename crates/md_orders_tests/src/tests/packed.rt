@@ -3,7 +3,7 @@
 use crate::tests::in_threads::told;
 use crate::tests::shown::same;
 use md_book::{BookReply, MAX_PARTS, Part};
-use md_replies::PackedReplies;
+use md_report_replies::PackedReplies;
 use std::alloc::AllocGlobal;
 use std::process::Abort;
 

@@ -2,12 +2,12 @@
 
 ghost use Rattle.std.specs.Prelude.{◌≡◌, ◌≤◌, ◌<◌, ◌+◌, ◌^◌, length, IfOk};
 ghost use Rattle.md_orders.specs.Scripts.{list_of};
-ghost use Rattle.md_replies.specs.Replies.{AllSuit};
+ghost use Rattle.md_report_replies.specs.Replies.{AllSuit};
 
 use crate::tests::reports::{reply_with, set_lines};
 use crate::tests::shown::{read, same};
 use md_orders::Scripts;
-use md_replies::{PackedReplies, Replies};
+use md_report_replies::{PackedReplies, Replies};
 use std::alloc::{AllocGlobal, Global};
 use std::process::Abort;
 use std::test::Fail;

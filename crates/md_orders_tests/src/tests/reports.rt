@@ -8,8 +8,8 @@ use crate::tests::shown::{are_bytes, extend, is_text, read};
 use md_book::{BOUGHT, BookReply, Command, DEPTHS, MAPS, MAX_PARTS, Part, SOLD, order_name};
 use md_history::Contents;
 use md_orders::Scripts;
-use md_replies::Replies;
 use md_report::{report, summary};
+use md_report_replies::Replies;
 use std::alloc::AllocGlobal;
 use std::process::Abort;
 

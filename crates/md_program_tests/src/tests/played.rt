@@ -6,7 +6,7 @@ use crate::tests::{repeated, same};
 use md_book::BookReply;
 use md_many::FreeGate;
 use md_orders::{Scripts, make, read_orders};
-use md_play::play_on_store;
+use md_program_play::play_on_store;
 use md_report::summary;
 use md_rounds::{Outcome, summaries_add_up};
 use std::alloc::{AllocError, Global};

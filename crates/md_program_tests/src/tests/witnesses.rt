@@ -6,9 +6,9 @@ mod crossings;
 mod explained;
 mod unexplained;
 
-use md_collisions::{Crossing, Meeting, callers_of, made_file, play_narrow};
 use md_orders::{Scripts, read_orders};
-use md_witnesses::{Orders, Replayed, Told, lines_told, orders_that_explain, play_in_order};
+use md_program_collisions::{Crossing, Meeting, callers_of, made_file, play_narrow};
+use md_program_oracle::{Orders, Replayed, Told, lines_told, orders_that_explain, play_in_order};
 use std::alloc::{AllocError, Global};
 use std::test::Fail;
 

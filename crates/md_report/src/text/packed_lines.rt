@@ -3,7 +3,7 @@
 ghost use Rattle.std.specs.Prelude.{◌≡◌, ◌++◌, ◌≤◌, ◌<◌, ◌+◌, ◌/◌, ◌%◌, ◌^◌, length, take, drop, min, slice_index_or, sum_by, flat_map, OnOk};
 ghost use Rattle.md_book.specs.Book.{padded};
 ghost use Rattle.md_book.specs.declared.limits.TheConstants.{MAX_PARTS};
-ghost use Rattle.md_replies.specs.Packed.{size_of, parts_of, unpacked};
+ghost use Rattle.md_report_replies.specs.Packed.{size_of, parts_of, unpacked};
 ghost use Rattle.md_report.specs.Report.{part_text, filled_text, reply_text, line_text, lines_text, callers_text_after};
 ghost use Rattle.md_report.specs.declared.text.TheConstants.{PARTS, REPLY};
 ghost use Rattle.md_report.specs.declared.text.line_buffer.TheConstants.{SIZE};
@@ -12,7 +12,9 @@ use super::line_buffer::LineBuffer;
 use super::{bought_and_sold, named, number_behind, part, taken_and_rest};
 use md_book::MAX_PARTS;
 use md_orders::Scripts;
-use md_replies::{PackedHead, QUANTITIES, RepliesByCaller, number_at, part_at, room_at, size_of};
+use md_report_replies::{
+    PackedHead, QUANTITIES, RepliesByCaller, number_at, part_at, room_at, size_of,
+};
 use std::alloc::AllocError;
 
 // The first `count` parts of a fill that keeps so many, whose numbers stand after its first number.

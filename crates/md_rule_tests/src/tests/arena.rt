@@ -4,8 +4,8 @@ ghost use Rattle.std.specs.Prelude.{◌≡◌};
 ghost use Rattle.md_machine.specs.Event.{first_pass};
 
 use super::{blank, part_of, same, unstepped};
+use example_cell::CellTheory;
 use md_arena::{give_back, no_node_twice, take_descriptor, take_node};
-use md_cell::CellTheory;
 use md_history::Limit;
 use md_rule::Pass;
 use md_words::{Shape, ShapeFault};

@@ -1,6 +1,6 @@
 //! The theorem is called at the cell.
 
-use md_cell::{cell_rows, cell_schedules};
+use example_cell::{cell_rows, cell_schedules};
 
 #[test]
 fn the_cell_keeps_every_schedule() {

@@ -4,7 +4,7 @@ ghost use Rattle.std.specs.Prelude.{◌≡◌, None};
 ghost use Rattle.md_rule.specs.Views.{IsOf};
 
 use super::{idle, same};
-use md_cell::CellTheory;
+use example_cell::CellTheory;
 use md_help::{End, settle_one};
 use md_rule::{Field, Pass};
 use md_words::Shape;

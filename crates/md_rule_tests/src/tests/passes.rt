@@ -5,7 +5,7 @@ ghost use Rattle.md_machine.specs.declared.step.TheConstants.{LAST_COUNT};
 ghost use Rattle.md_rule.specs.Views.{IsOf};
 
 use super::{blank, join_one, part_of, same, split};
-use md_cell::CellTheory;
+use example_cell::CellTheory;
 use md_machine::step::LAST_COUNT;
 use md_rule::{Field, Pass};
 use md_words::{Content, Shape};

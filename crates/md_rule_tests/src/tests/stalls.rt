@@ -7,12 +7,12 @@ ghost use Rattle.md_machine.specs.declared.step.TheConstants.{LAST_COUNT};
 ghost use Rattle.md_rule.specs.Views.{IsOf};
 
 use super::{idle, same};
-use md_cell::CellTheory;
+use example_cell::CellTheory;
+use example_stalls::{Met, insert, meet, stall};
+use example_tickets::{renew, ticket_word};
 use md_help::{Cleared, End};
 use md_machine::step::LAST_COUNT;
 use md_rule::{Field, Pass};
-use md_stalls::{Met, insert, meet, stall};
-use md_tickets::{renew, ticket_word};
 use md_words::{Content, Shape};
 use std::process::Abort;
 use std::thread::{Threads, join};

@@ -4,9 +4,9 @@ ghost use Rattle.std.specs.Prelude.{◌≡◌, ◌≤◌};
 ghost use Rattle.md_rule.specs.Views.{IsOf};
 
 use super::{blank, join_one, part_of, same};
-use md_cell::CellTheory;
+use example_cell::CellTheory;
+use example_tickets::{take_ticket, ticket_word};
 use md_rule::{Field, Pass};
-use md_tickets::{take_ticket, ticket_word};
 use md_words::{Content, Shape};
 use std::thread::{Threads, join};
 

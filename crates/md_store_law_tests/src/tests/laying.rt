@@ -6,8 +6,8 @@ ghost use Rattle.md_store_law.specs.Laid.{HasMapsAndQueues};
 
 use super::{assert_nodes, assert_same, contents_of, push, put, same};
 use md_history::Contents;
-use md_laying::{lay, needed};
 use md_store_law::read_off;
+use md_store_layout::{lay, needed};
 use md_words::{Shape, ShapeFault};
 use std::alloc::{AllocError, AllocGlobal, Global};
 use std::process::Abort;

@@ -7,8 +7,8 @@ ghost use Rattle.md_store_law_tests.specs.Row.{row_words};
 ghost use Rattle.md_store_law_tests.specs.UsedRow.{written, are_below};
 
 use super::{assert_contents, same};
-use md_laying::compact;
 use md_store_law::read_off;
+use md_store_layout::compact;
 use md_words::Shape;
 use std::alloc::{AllocError, AllocGlobal, Global};
 use std::process::Abort;

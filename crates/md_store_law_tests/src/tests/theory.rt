@@ -3,15 +3,15 @@
 ghost use Rattle.md_machine.specs.Event.{CanOpen};
 ghost use Rattle.md_machine.specs.Legal.{AlwaysMeant};
 ghost use Rattle.md_machine.specs.Theorem.{AlwaysKept, AlwaysGoesOn};
-ghost use Rattle.md_schedules.specs.Field.{small_opening};
-ghost use Rattle.md_schedules.specs.Schedules.{StoppedRow, HelpedRow, MovedRow};
-ghost use Rattle.md_schedules.specs.Unlinking.{UnlinkedRow};
+ghost use Rattle.md_machine_schedules.specs.Field.{small_opening};
+ghost use Rattle.md_machine_schedules.specs.Schedules.{StoppedRow, HelpedRow, MovedRow};
+ghost use Rattle.md_machine_schedules.specs.Unlinking.{UnlinkedRow};
 ghost use Rattle.md_store_law.specs.Store.{store};
 
 use md_list_law::list_facts;
 use md_machine::all_schedules;
+use md_machine_schedules::{unlinking_row, worked_rows};
 use md_queue_law::queue_facts;
-use md_schedules::{unlinking_row, worked_rows};
 use md_store_law::{StoreTheory, even_fields_are_stores};
 use std::test::Fail;
 

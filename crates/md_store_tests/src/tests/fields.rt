@@ -6,11 +6,11 @@ ghost use Rattle.md_rule.specs.Views.{IsOf};
 ghost use Rattle.md_store_law.specs.Opens.{OpensWith};
 
 use super::*;
-use md_laying::{lay, needed};
+use example_tickets::dispenser;
 use md_machine::Theory;
 use md_rule::{Field, Pass};
 use md_store_law::StoreTheory;
-use md_tickets::dispenser;
+use md_store_layout::{lay, needed};
 
 // Closes a field on which no step was made: its words.
 fn closed<R: Abort + AllocGlobal, T: Theory>(rt: &R, field: Field<T>, pass: Pass<T>) -> Vec<u64>

@@ -1,16 +1,18 @@
 //! Stores whose passes make transactions at the same time.
 
 ghost use Rattle.std.specs.Prelude.{◌≡◌, None};
-ghost use Rattle.md_interleavings.specs.Acting.{IsActing};
+ghost use Rattle.md_store_interleavings.specs.Acting.{IsActing};
 ghost use Rattle.md_nbtc.specs.State.{state};
 ghost use Rattle.md_store.specs.Store.{IsPassOf};
 
 use super::{holds, same};
 use md_history::{Contents, Limit, Line, Op, Reply, Shown, Stop};
-use md_interleavings::{act, begin, commit, first_lane, leave, leave_ready, settled, stop, word};
 use md_nbtc::{Sets, Txn};
 use md_rule::Pass;
 use md_store::{Store, StorePass};
+use md_store_interleavings::{
+    act, begin, commit, first_lane, leave, leave_ready, settled, stop, word,
+};
 use md_store_law::StoreTheory;
 use md_words::Shape;
 use overlaps::{Script, overlap};

@@ -7,7 +7,7 @@ ghost use Rattle.md_store.specs.Store.{IsPassOf};
 use super::{assert_same, same};
 use md_history::{Contents, Reply};
 use md_store::{OpenFault, Store, StorePass};
-use md_trials::{Count, KEPT, MOST_CALLS, Mix, Transfer, Turn, Turned, key_of};
+use md_store_trials::{Count, KEPT, MOST_CALLS, Mix, Transfer, Turn, Turned, key_of};
 use md_words::Shape;
 use std::alloc::{AllocError, AllocGlobal, Global};
 use std::process::Abort;

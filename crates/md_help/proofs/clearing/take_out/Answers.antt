@@ -4,7 +4,7 @@ use Rattle.md_machine.specs.declared.step.Kind.TheVariants.{Uninstall}
 use Rattle.md_machine.specs.declared.step.TheConstants.{LAST_COUNT}
 use Rattle.md_machine.specs.Event.{uninstall}
 use Rattle.md_machine.specs.events.Uninstall.{uninstalled_word}
-use Rattle.md_lanes.proofs.Counting.{count_of_word}
+use Rattle.md_rule_lanes.proofs.Counting.{count_of_word}
 use Rattle.md_rule.specs.Views.{PassState}
 use Rattle.md_help.specs.Clears.{TakenOut, fate_of}
 use Rattle.md_help.proofs.Flagged.{flagged_uninstall}

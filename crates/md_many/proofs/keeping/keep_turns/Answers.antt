@@ -2,8 +2,8 @@ use Rattle.std.proofs.Common.{rules, ◌≡◌, ◌+◌, ◌∷◌, [], ◌++◌
 use Rattle.std.specs.Vec.Iter.{into_iter_items}
 use Rattle.std.proofs.lemmas.List.{length-append, length-map, length_push, map_push}
 use Rattle.std.proofs.lemmas.Result.{IfOk-from_err}
-use Rattle.md_attempts.specs.declared.batches.Played.{Played}
-use Rattle.md_attempts.specs.ByCaller.{at_caller}
+use Rattle.md_many_attempts.specs.declared.batches.Played.{Played}
+use Rattle.md_many_attempts.specs.ByCaller.{at_caller}
 use Rattle.md_many.specs.Rounds.{replies_in}
 use Rattle.md_many.specs.Course.{of_one}
 use Rattle.md_many.proofs.Handing.{all-parts, caller-next, kept-none, kept-then, next-suits, next-few}

@@ -1,6 +1,6 @@
 use Rattle.std.proofs.Common.{◌≡◌, ◌++◌, ℕ, [], length}
 use Rattle.std.specs.Vec.Iter.{into_iter_items, into_iter_len}
-use Rattle.md_attempts.specs.ByCaller.{at_caller}
+use Rattle.md_many_attempts.specs.ByCaller.{at_caller}
 use Rattle.md_many.specs.Rounds.{replies_in}
 use Rattle.md_many.specs.Course.{KeepsMore}
 use Rattle.md_many.proofs.keeping.keep_turns.Given as goal

@@ -1,6 +1,6 @@
 use Rattle.std.proofs.Common.{◌∷◌, [], ◌++◌, ◌∙◌, Vec, Global, ap}
 use Rattle.std.proofs.lemmas.List.{map_push, replicate_more}
-use Rattle.md_attempts.specs.ByCaller.{lists_in}
+use Rattle.md_many_attempts.specs.ByCaller.{lists_in}
 use Rattle.md_many.proofs.many.empty_lists.Goals as goal
 
 pub callers-preserved : goal.callers-preserved

@@ -1,5 +1,5 @@
 use Rattle.std.proofs.Common.{◌≡◌, [], replicate}
-use Rattle.md_attempts.specs.ByCaller.{lists_in}
+use Rattle.md_many_attempts.specs.ByCaller.{lists_in}
 use Rattle.md_many.proofs.many.empty_lists.Given as goal
 
 abbrev pub invariant-callers : goal.invariant-callers

@@ -1,7 +1,7 @@
 use Rattle.std.proofs.Common.{◌≡◌, ◌≤◌, ◌+◌, ℕ, List, suc, inl, inr, arith, ap, subst, sym, ◌∙◌}
 use Rattle.std.specs.Prelude.{slice_index_or}
 use Rattle.std.proofs.lemmas.Bool.{cases_eq}
-use Rattle.md_attempts.specs.ByCaller.{at_caller}
+use Rattle.md_many_attempts.specs.ByCaller.{at_caller}
 use Rattle.md_many.proofs.Coursing.{within-at}
 use Rattle.md_many.proofs.rounds.next_caller.Goals as goal
 

@@ -1,5 +1,5 @@
 use Rattle.std.proofs.Common.{◌≡◌, ◌≤◌, ℕ}
-use Rattle.md_attempts.specs.ByCaller.{at_caller}
+use Rattle.md_many_attempts.specs.ByCaller.{at_caller}
 use Rattle.md_many.proofs.rounds.next_caller.Given as goal
 
 abbrev pub invariant-callers : goal.invariant-callers

@@ -2,7 +2,7 @@ use Rattle.std.proofs.Common.{◌≡◌, ◌+◌, ◌≤◌, ◌<◌, ◌∷◌,
 use Rattle.std.specs.Prelude.{◌-◌, ◌==◌, false, slice_index_or}
 use Rattle.std.proofs.lemmas.Bool.{eq-eqb, ne_eqb, false≢true}
 use Rattle.std.proofs.lemmas.Result.{on_ok_weaker}
-use Rattle.md_attempts.specs.ByCaller.{at_caller}
+use Rattle.md_many_attempts.specs.ByCaller.{at_caller}
 use Rattle.md_many.proofs.First.{IsFurther, further-less, first-suit, first-small, first-further}
 use Rattle.md_many.proofs.Handing.{suit-wider}
 use Rattle.md_many.proofs.rounds.play_first.Goals as goal

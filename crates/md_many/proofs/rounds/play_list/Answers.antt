@@ -1,7 +1,7 @@
 use Rattle.std.proofs.Common.{◌≡◌, ◌+◌, ◌<◌, ◌≤◌, ◌^◌, ℕ, List, Result, length, refl, sym, subst}
 use Rattle.std.specs.Prelude.{IfOk}
 use Rattle.std.proofs.lemmas.Result.{IfOk-from_err, IfOk-weaker}
-use Rattle.md_attempts.specs.Lines.{PlaysLines}
+use Rattle.md_many_attempts.specs.Lines.{PlaysLines}
 use Rattle.md_many.proofs.rounds.play_list.Goals as goal
 
 -- what is so of the replies is so of the list that has them

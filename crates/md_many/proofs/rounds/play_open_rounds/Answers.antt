@@ -2,7 +2,7 @@ use Rattle.std.proofs.Common.{◌≡◌, ◌<◌, ◌^◌, ◌∙◌, length, sy
 use Rattle.std.proofs.lemmas.List.{length-replicate}
 use Rattle.std.proofs.lemmas.Result.{IfOk-from_err}
 use Rattle.md_history.specs.Engine.{empty_front}
-use Rattle.md_attempts.specs.ByCaller.{at_caller}
+use Rattle.md_many_attempts.specs.ByCaller.{at_caller}
 use Rattle.md_many.proofs.Coursing.{stands-first, whole-count, all-played, are-interleaving}
 use Rattle.md_many.proofs.rounds.play_open_rounds.Goals as goal
 

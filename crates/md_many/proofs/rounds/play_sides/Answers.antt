@@ -1,7 +1,7 @@
 use Rattle.std.proofs.Common.{◌∙◌, sym}
 use Rattle.std.proofs.lemmas.List.{length-map}
 use Rattle.std.proofs.lemmas.Result.{IfOk-from_err}
-use Rattle.md_attempts.specs.declared.batches.Played.{Played}
+use Rattle.md_many_attempts.specs.declared.batches.Played.{Played}
 use Rattle.md_many.proofs.Sides.{sides-count, sides-few, sides-suit, sides-further, plays-from}
 use Rattle.md_many.proofs.Handing.{suit-wider, written-back, kept-from}
 use Rattle.md_many.proofs.rounds.play_sides.Goals as goal

@@ -1,6 +1,6 @@
 use Rattle.std.proofs.lemmas.List.{map-append}
 use Rattle.std.proofs.lemmas.Result.{IfOk-at_ok}
-use Rattle.md_attempts.specs.declared.batches.Played.{Played}
+use Rattle.md_many_attempts.specs.declared.batches.Played.{Played}
 use Rattle.md_many.proofs.Joined.{turns-joined}
 use Rattle.md_many.proofs.turns.join_turns.Goals as goal
 

@@ -1,7 +1,7 @@
 use Rattle.std.proofs.Common.{◌∙◌, ℕ, [], length, replicate, set, sym, ap, subst, arith}
 use Rattle.std.proofs.lemmas.List.{length-replicate}
 use Rattle.md_machine.specs.Event.{CanOpen}
-use Rattle.md_cell.specs.CellMeaning.{cell_meaning}
+use Rattle.example_cell.specs.CellMeaning.{cell_meaning}
 use Rattle.md_nbtc_law.specs.declared.seen.TheConstants.{WORN}
 use Rattle.md_nbtc_tests.proofs.WornWords.{has_two, worn_opens}
 use Rattle.md_nbtc_tests.proofs.tests.worn.Goals as goal

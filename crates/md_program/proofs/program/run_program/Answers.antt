@@ -1,5 +1,5 @@
 use Rattle.std.proofs.Common.{◌∙◌, ap, map, rules, string_bytes}
-use Rattle.md_edge.specs.Words.{texts}
+use Rattle.md_program_edge.specs.Words.{texts}
 use Rattle.md_program.proofs.Ran.{run-ran}
 use Rattle.md_program.proofs.Unread.{run-unread}
 use Rattle.md_program.proofs.program.run_program.Goals as goal

@@ -1,6 +1,6 @@
 use Rattle.std.proofs.Common.{sym, subst}
 use Rattle.std.proofs.lemmas.Result.{err_from_is_err_and}
-use Rattle.md_edge.specs.Streams.{IsRead}
+use Rattle.md_program_edge.specs.Streams.{IsRead}
 use Rattle.md_program.proofs.Unreadable.{order-stops}
 use Rattle.md_program.proofs.runs.replay.Goals as goal
 

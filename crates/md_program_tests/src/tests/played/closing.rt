@@ -2,7 +2,7 @@
 
 use super::{expect_same, same, scripts_of};
 use md_many::FreeGate;
-use md_play::{close_for_report, open_store, play_opened};
+use md_program_play::{close_for_report, open_store, play_opened};
 use md_report::after_lines;
 use md_rounds::{OpenOutcome, Rounds};
 use std::process::Abort;

@@ -3,7 +3,7 @@
 use super::*;
 use crate::tests::same;
 use md_many::FreeGate;
-use md_play::play_on_store;
+use md_program_play::play_on_store;
 use md_report::report;
 use std::alloc::AllocGlobal;
 use std::process::Abort;

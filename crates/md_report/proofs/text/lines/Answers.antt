@@ -1,6 +1,6 @@
 use Rattle.std.proofs.Common.{◌≡◌, ◌+◌, ◌∙◌, ◌++◌, ap, arith}
 use Rattle.md_report.specs.Report.{answer_text}
-use Rattle.md_replies.specs.Replies.{reply_at}
+use Rattle.md_report_replies.specs.Replies.{reply_at}
 use Rattle.md_report.proofs.Texts.{texts_none, texts_more}
 use Rattle.md_report.proofs.text.lines.Goals as goal
 

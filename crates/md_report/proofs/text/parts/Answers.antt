@@ -2,8 +2,8 @@ use Rattle.std.proofs.Common.{◌≡◌, ◌-◌, ◌∙◌, ◌++◌, ap, sym, 
 use Rattle.std.specs.Prelude.{flat_map, min}
 use Rattle.md_book.specs.declared.limits.TheConstants.{MAX_PARTS}
 use Rattle.md_report.specs.Report.{part_text}
-use Rattle.md_replies.specs.Rooms.{part_in, parts_in}
-use Rattle.md_replies.proofs.PartNumbers.{told-next}
+use Rattle.md_report_replies.specs.Rooms.{part_in, parts_in}
+use Rattle.md_report_replies.proofs.PartNumbers.{told-next}
 use Rattle.md_report.proofs.text.parts.Goals as goal
 
 pub loop-after-preserved : goal.loop-after-preserved

@@ -2,7 +2,7 @@ use Rattle.std.proofs.Common.{◌≡◌, ◌≤◌, ◌+◌, ◌-◌, ◌*◌, �
 use Rattle.std.specs.Prelude.{flat_map}
 use Rattle.md_report.specs.declared.text.TheConstants.{PART}
 use Rattle.md_report.specs.Report.{part_text}
-use Rattle.md_replies.specs.Rooms.{parts_in}
+use Rattle.md_report_replies.specs.Rooms.{parts_in}
 use Rattle.md_report.proofs.text.parts.Given as goal
 
 abbrev pub invariant-loop-after : goal.invariant-loop-after

@@ -1,8 +1,8 @@
 use Rattle.std.proofs.Common.{◌+◌, ◌∙◌, ap, subst, sym, arith, rules}
-use Rattle.md_replies.specs.Replies.{RepliesState}
+use Rattle.md_report_replies.specs.Replies.{RepliesState}
 use Rattle.md_rounds.proofs.Keeping.{batch-more}
 use Rattle.md_rounds.proofs.Suiting.{suit-at}
-use Rattle.md_replies.specs.Replies.{AllSuit}
+use Rattle.md_report_replies.specs.Replies.{AllSuit}
 use Rattle.std.proofs.lemmas.Grind.{common_steps}
 use Rattle.md_rounds.proofs.kept.keep.Goals as goal
 

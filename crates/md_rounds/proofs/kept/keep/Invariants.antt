@@ -1,5 +1,5 @@
 use Rattle.std.proofs.Common.{◌≡◌, ◌+◌, take}
-use Rattle.md_replies.specs.Replies.{with_replies}
+use Rattle.md_report_replies.specs.Replies.{with_replies}
 use Rattle.md_rounds.proofs.kept.keep.Given as goal
 
 abbrev pub invariant-replies : goal.invariant-replies

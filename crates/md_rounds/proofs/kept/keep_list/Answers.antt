@@ -1,5 +1,5 @@
 use Rattle.std.proofs.Common.{◌+◌, ◌∙◌, ap, sym, arith}
-use Rattle.md_replies.specs.Replies.{RepliesState, with_replies}
+use Rattle.md_report_replies.specs.Replies.{RepliesState, with_replies}
 use Rattle.md_rounds.proofs.Keeping.{with_replies-append}
 use Rattle.md_rounds.proofs.Suiting.{suits-earlier, suits-later}
 use Rattle.md_rounds.proofs.kept.keep_list.Goals as goal

@@ -2,7 +2,7 @@ use Rattle.std.proofs.Common.{◌+◌, ap, sym, subst, ◌∙◌, arith}
 use Rattle.md_words.specs.Content.{word_of, counted_word, spot_value}
 use Rattle.md_rule.specs.Steps.{Exchanged, MayTell, SteppedFrom}
 use Rattle.md_machine.specs.Event.{install}
-use Rattle.md_lanes.proofs.Counting.{counts_more}
+use Rattle.md_rule_lanes.proofs.Counting.{counts_more}
 use Rattle.md_rule.proofs.Events.{exchange_tells, is_install, traded}
 use Rattle.md_words.proofs.Places.{descs_fit_values}
 use Rattle.md_rule.proofs.steps.put.Goals as goal

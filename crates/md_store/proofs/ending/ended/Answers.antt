@@ -1,7 +1,7 @@
 use Rattle.std.proofs.Common.{subst}
 use Rattle.md_history.specs.Engine.{SettlesFrom}
 use Rattle.md_rule.specs.Views.{PassState}
-use Rattle.md_running.specs.Store.{front_in, start_of}
+use Rattle.md_store_bodies.specs.Store.{front_in, start_of}
 use Rattle.md_store.proofs.Closed.{leaves_contents}
 use Rattle.md_store.proofs.ending.ended.Goals as goal
 

@@ -2,10 +2,10 @@ use Rattle.std.proofs.Common.{◌≡◌, ℕ, List, ap, sym, ◌∙◌, subst}
 use Rattle.md_words.specs.declared.shape.Shape.{Shape}
 use Rattle.md_history.specs.Engine.{needed}
 use Rattle.md_history.specs.Front.{replay_of}
-use Rattle.md_lanes.specs.Shares.{share_at}
+use Rattle.md_rule_lanes.specs.Shares.{share_at}
 use Rattle.md_rule.specs.Views.{PassState}
 use Rattle.md_store.specs.Ending.{Renews}
-use Rattle.md_running.specs.Store.{front_in, start_of}
+use Rattle.md_store_bodies.specs.Store.{front_in, start_of}
 use Rattle.md_rule.proofs.LaneShares.{share_unused}
 use Rattle.md_store_law.specs.Compacted.{IsCompacted, MayHaveBase, contents_of}
 use Rattle.md_store_law.specs.Field.{IsStoreField}

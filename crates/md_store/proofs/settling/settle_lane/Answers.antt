@@ -1,6 +1,6 @@
 use Rattle.std.proofs.Common.{arith, sym, ◌∙◌, ⊎_elim}
 use Rattle.std.proofs.lemmas.Bool.{cases_lt}
-use Rattle.md_lanes.specs.Shares.{share_at}
+use Rattle.md_rule_lanes.specs.Shares.{share_at}
 use Rattle.md_store.proofs.SettledLanes.{has_attempt, lane_inside, own_after, settles_lane, settles_none}
 use Rattle.md_store.proofs.settling.settle_lane.Goals as goal
 

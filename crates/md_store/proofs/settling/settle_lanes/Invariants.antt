@@ -1,6 +1,6 @@
 use Rattle.std.proofs.Common.{◌≡◌}
 use Rattle.md_store.specs.Settling.{SettlesFirst}
-use Rattle.md_running.specs.Store.{IsPassOf}
+use Rattle.md_store_bodies.specs.Store.{IsPassOf}
 use Rattle.md_store.proofs.settling.settle_lanes.Given as goal
 
 abbrev pub invariant-loop-place : goal.invariant-loop-place

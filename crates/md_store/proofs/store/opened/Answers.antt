@@ -1,10 +1,10 @@
 use Rattle.std.proofs.Common.{ap, sym, subst, ◌∙◌}
 use Rattle.md_rule.specs.Views.{Origin}
 use Rattle.md_store_law.specs.Untouched.{IsUntouched}
-use Rattle.md_lanes.specs.Shares.{share_at}
+use Rattle.md_rule_lanes.specs.Shares.{share_at}
 use Rattle.md_rule.proofs.LaneShares.{share_unused}
 use Rattle.md_store.proofs.Opening.{opened_fresh, opened_of, share_is_unused, start_is}
-use Rattle.md_running.specs.Store.{IsFresh, IsPassOf}
+use Rattle.md_store_bodies.specs.Store.{IsFresh, IsPassOf}
 use Rattle.md_store.proofs.store.opened.Goals as goal
 
 pub returns-clause-start : goal.returns-clause-start

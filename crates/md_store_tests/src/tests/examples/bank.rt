@@ -2,20 +2,20 @@
 
 ghost use Rattle.std.specs.Prelude.{◌≡◌, ◌≤◌, length};
 ghost use Rattle.md_history.specs.Plain.{IsPassOf};
-ghost use Rattle.transfers.specs.Bank.{IsBank};
-ghost use Rattle.transfers.specs.declared.threads.TheConstants.{MAX_TELLERS};
+ghost use Rattle.example_bank.specs.Bank.{IsBank};
+ghost use Rattle.example_bank.specs.declared.threads.TheConstants.{MAX_TELLERS};
 
 use crate::tests::same;
+use example_bank::{
+    ACCOUNTS, JOURNAL, Outcome, Refusal, Transfer, is_journal_right, make_transfers, moved_in,
+    open_bank, sum_of, transfer_in_threads,
+};
 use medley_transactions::{
     Attempt, Contents, Engine, LinesByCaller, Many, PlainPass, PlainStore, StorePass,
 };
 use std::alloc::AllocGlobal;
 use std::process::Abort;
 use std::thread::Threads;
-use transfers::{
-    ACCOUNTS, JOURNAL, Outcome, Refusal, Transfer, is_journal_right, make_transfers, moved_in,
-    open_bank, sum_of, transfer_in_threads,
-};
 
 const FULL: u64 = u64::MAX - 4;
 

@@ -1,14 +1,14 @@
 //! Shifts of few jobs and workers.
 
 ghost use Rattle.std.specs.Prelude.{◌≤◌};
-ghost use Rattle.scheduler.specs.declared.places.TheConstants.{MAX_JOBS, MAX_WORKERS};
-ghost use Rattle.scheduler.specs.Jobs.{Holds};
+ghost use Rattle.example_jobs.specs.declared.places.TheConstants.{MAX_JOBS, MAX_WORKERS};
+ghost use Rattle.example_jobs.specs.Jobs.{Holds};
 
 use crate::tests::same;
+use example_jobs::{FINISHED, RUNNING, all_waiting, run_shift};
 use md_history::Contents;
 use md_many::Many;
 use md_store::StorePass;
-use scheduler::{FINISHED, RUNNING, all_waiting, run_shift};
 use std::alloc::AllocGlobal;
 use std::collections::BTreeMap;
 use std::process::Abort;

@@ -2,7 +2,7 @@ use Rattle.std.proofs.Common.{◌≡◌, ◌≤◌, ◌∷◌, [], ◌++◌, ◌
 use Rattle.std.specs.Prelude.{◌==◌}
 use Rattle.std.proofs.lemmas.Bool.{eq-eqb, false≢true}
 use Rattle.md_many.specs.Laws.{AllSuit}
-use Rattle.md_attempts.proofs.Lists.{list-there}
+use Rattle.md_many_attempts.proofs.Lists.{list-there}
 use Rattle.md_many.proofs.Lists.{set-same, set-other, on-ok}
 use Rattle.md_many.proofs.many.ByCallerKeeper.keep.Goals as goal
 

@@ -2,8 +2,8 @@ use Rattle.std.proofs.Common.{Bor, ◌≡◌, ◌≤◌, ◌<◌, [], ℕ, zero,
 use Rattle.std.specs.Prelude.{◌-◌, Option, Some, None, option_map, slice_get, slice_index_or}
 use Rattle.std.specs.Slice.{IsItemAt}
 use Rattle.std.proofs.lemmas.Option.{slice_get-get_or}
-use Rattle.md_attempts.specs.ByCaller.{at_caller, lists_in, line_at}
-use Rattle.md_attempts.proofs.Lists.{list-there, past-none}
+use Rattle.md_many_attempts.specs.ByCaller.{at_caller, lists_in, line_at}
+use Rattle.md_many_attempts.proofs.Lists.{list-there, past-none}
 use Rattle.md_many.proofs.many.Many.reply.Goals as goal
 
 -- an element that was found, or none past the end

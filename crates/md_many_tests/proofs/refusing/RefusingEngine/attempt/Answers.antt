@@ -2,7 +2,7 @@ use Rattle.std.proofs.Common.{◌≡◌, ℕ, refl, subst, sym, length}
 use Rattle.md_history.specs.Front.{Front}
 use Rattle.md_history.specs.FrontLaws.{begins-self}
 use Rattle.md_history.specs.Attempt.{Stops, NoneOrAborted}
-use Rattle.md_attempts.proofs.Joining.{entries-none}
+use Rattle.md_many_attempts.proofs.Joining.{entries-none}
 use Rattle.md_many_tests.proofs.Lanes.{maybe_wider}
 use Rattle.md_many_tests.proofs.refusing.RefusingEngine.attempt.Goals as goal
 

@@ -1,6 +1,6 @@
 use Rattle.std.proofs.Common.{None, ap}
 use Rattle.md_nbtc_law.specs.State.{state_of}
-use Rattle.md_sets.specs.declared.sets.Sets.{Sets}
+use Rattle.md_nbtc_sets.specs.declared.sets.Sets.{Sets}
 use Rattle.md_nbtc.proofs.begin.Begun.with.Goals as goal
 
 pub returns-clause-state : goal.returns-clause-state

@@ -7,7 +7,7 @@ use Rattle.md_history.specs.declared.stops.Limit.{Limit}
 use Rattle.md_history.specs.declared.stops.Limit.TheVariants.{Worn}
 use Rattle.md_history.specs.declared.stops.Stop.TheVariants.{Limit as Limited}
 use Rattle.md_machine.specs.Event.{load, store}
-use Rattle.md_lanes.specs.Shares.{share_at}
+use Rattle.md_rule_lanes.specs.Shares.{share_at}
 use Rattle.md_rule.specs.Steps.{May, Stepped, SteppedFrom}
 use Rattle.md_rule.specs.Views.{PassState}
 use Rattle.md_arena.proofs.TakenNodes.{past_base}

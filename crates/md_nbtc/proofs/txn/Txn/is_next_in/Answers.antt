@@ -4,7 +4,7 @@ use Rattle.md_words.specs.declared.shape.Shape.{Shape}
 use Rattle.md_words.specs.Lanes.{node_of}
 use Rattle.md_words.specs.Layout.{IsNode, address}
 use Rattle.md_words.specs.Place.{node_next}
-use Rattle.md_lanes.specs.Shares.{share_at}
+use Rattle.md_rule_lanes.specs.Shares.{share_at}
 use Rattle.md_nbtc_law.specs.Calls.{is_next_word}
 use Rattle.md_nbtc_law.specs.State.{shape_in}
 use Rattle.md_nbtc_law.proofs.exchanging.OwnLots.{is_lot, lot_nodes}

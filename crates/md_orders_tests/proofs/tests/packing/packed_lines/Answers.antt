@@ -5,7 +5,7 @@ use Rattle.md_book.specs.declared.commands.Command.{Command}
 use Rattle.md_book.specs.declared.commands.BookReply.{BookReply}
 use Rattle.md_book.specs.Suits.{Suits}
 use Rattle.md_orders.specs.Scripts.{at_line}
-use Rattle.md_replies.specs.Replies.{AllSuit}
+use Rattle.md_report_replies.specs.Replies.{AllSuit}
 use Rattle.md_orders_tests.proofs.tests.packing.packed_lines.Goals as goal
 
 -- one more reply suits the line after the others

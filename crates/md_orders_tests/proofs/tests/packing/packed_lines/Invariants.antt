@@ -1,5 +1,5 @@
 use Rattle.std.proofs.Common.{◌≡◌, ◌+◌, length}
-use Rattle.md_replies.specs.Replies.{AllSuit}
+use Rattle.md_report_replies.specs.Replies.{AllSuit}
 use Rattle.md_orders_tests.proofs.tests.packing.packed_lines.Given as goal
 
 abbrev pub invariant-lines : goal.invariant-lines

@@ -1,7 +1,7 @@
 use Rattle.std.proofs.Common.{◌≡◌, ◌<◌, ◌+◌, ◌-◌, ◌∙◌, ◌++◌, length, take, ap, sym, arith, refl}
 use Rattle.std.specs.Prelude.{min, sum_by}
-use Rattle.md_replies.specs.Packed.{size_of}
-use Rattle.md_replies.specs.Replies.{reply_at}
+use Rattle.md_report_replies.specs.Packed.{size_of}
+use Rattle.md_report_replies.specs.Replies.{reply_at}
 use Rattle.md_report.specs.Report.{answer_text}
 use Rattle.md_report.proofs.Texts.{texts_none, texts_more}
 use Rattle.md_report.proofs.PackedLines.{start-next, start-inside, reply_at-told, lines-told}

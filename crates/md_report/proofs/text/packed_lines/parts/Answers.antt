@@ -4,10 +4,10 @@ use Rattle.std.proofs.lemmas.List.{length-take, drop_all}
 use Rattle.md_book.specs.declared.commands.Part.{Part}
 use Rattle.md_book.specs.declared.limits.TheConstants.{MAX_PARTS}
 use Rattle.md_book.specs.Book.{padded}
-use Rattle.md_replies.specs.Packed.{no_part, parts_of}
+use Rattle.md_report_replies.specs.Packed.{no_part, parts_of}
 use Rattle.md_report.specs.Report.{part_text}
-use Rattle.md_replies.proofs.PartNumbers.{parts-next}
-use Rattle.md_replies.proofs.Unpacked.{length-filled}
+use Rattle.md_report_replies.proofs.PartNumbers.{parts-next}
+use Rattle.md_report_replies.proofs.Unpacked.{length-filled}
 use Rattle.md_report.proofs.text.packed_lines.parts.Goals as goal
 
 pub loop-after-init : goal.loop-after-init

@@ -3,7 +3,7 @@ use Rattle.std.specs.Prelude.{flat_map, min}
 use Rattle.md_book.specs.declared.limits.TheConstants.{MAX_PARTS}
 use Rattle.md_book.specs.Book.{padded}
 use Rattle.md_report.specs.declared.text.TheConstants.{PART}
-use Rattle.md_replies.specs.Packed.{parts_of}
+use Rattle.md_report_replies.specs.Packed.{parts_of}
 use Rattle.md_report.specs.Report.{part_text}
 use Rattle.md_report.proofs.text.packed_lines.parts.Given as goal
 

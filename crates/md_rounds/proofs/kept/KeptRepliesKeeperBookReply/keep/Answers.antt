@@ -1,5 +1,5 @@
 use Rattle.std.proofs.Common.{◌++◌, sym, ap, subst}
-use Rattle.md_replies.specs.Replies.{RepliesState}
+use Rattle.md_report_replies.specs.Replies.{RepliesState}
 use Rattle.md_rounds.specs.Kept.{all_of, HasReplies}
 use Rattle.md_rounds.proofs.Holding.{holds-more, holds-other}
 use Rattle.md_rounds.proofs.Suiting.{suits-each}

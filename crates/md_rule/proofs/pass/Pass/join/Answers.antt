@@ -3,7 +3,7 @@ use Rattle.md_machine.specs.declared.pass.PassView.{PassView}
 use Rattle.md_machine.specs.events.SplitJoin.{joined_lanes, joined_part}
 use Rattle.md_rule.specs.Rule.{JoinedInto}
 use Rattle.md_rule.specs.Kept.{KeepsLanes}
-use Rattle.md_lanes.specs.Shares.{joined_shares}
+use Rattle.md_rule_lanes.specs.Shares.{joined_shares}
 use Rattle.md_machine.proofs.events.Tell.{joined_of}
 use Rattle.md_rule.proofs.LaneMoves.{kept_both}
 use Rattle.md_rule.proofs.LaneLists.{joined_are_lanes}

@@ -2,7 +2,7 @@ use Rattle.std.proofs.Common.{◌<◌, ◌≤◌, ap, sym, subst, ◌∙◌}
 use Rattle.md_machine.specs.Event.{mark_begin}
 use Rattle.std.specs.List.{Contains}
 use Rattle.md_rule.specs.Kept.{KeepsLanes}
-use Rattle.md_lanes.specs.Shares.{share_at}
+use Rattle.md_rule_lanes.specs.Shares.{share_at}
 use Rattle.md_rule.specs.Steps.{May, MayTell, Stepped}
 use Rattle.md_rule.proofs.Events.{is_mark_begin, mark_tells}
 use Rattle.md_rule.proofs.LaneLists.{lane_fits}

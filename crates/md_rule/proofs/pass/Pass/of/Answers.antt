@@ -1,6 +1,6 @@
 use Rattle.std.proofs.Common.{replicate, ap, sym, subst, ◌∙◌}
 use Rattle.md_rule.specs.Kept.{KeepsLanes}
-use Rattle.md_lanes.specs.declared.shares.TheConstants.{UNUSED}
+use Rattle.md_rule_lanes.specs.declared.shares.TheConstants.{UNUSED}
 use Rattle.md_rule.proofs.LaneLists.{all_are_lanes}
 use Rattle.md_rule.proofs.LaneShares.{first_keeps}
 use Rattle.md_rule.proofs.pass.Pass.of.Goals as goal

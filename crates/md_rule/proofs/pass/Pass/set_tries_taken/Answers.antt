@@ -1,7 +1,7 @@
 use Rattle.std.proofs.Common.{◌<◌, ◌≤◌, ap, sym, subst, ◌∙◌}
 use Rattle.std.specs.List.{Contains}
 use Rattle.md_rule.specs.Kept.{KeepsLanes}
-use Rattle.md_lanes.specs.Shares.{share_at}
+use Rattle.md_rule_lanes.specs.Shares.{share_at}
 use Rattle.md_rule.proofs.LaneLists.{lane_fits}
 use Rattle.md_rule.proofs.LaneShares.{tries_set}
 use Rattle.md_rule.proofs.pass.Pass.set_tries_taken.Goals as goal

@@ -7,7 +7,7 @@ use Rattle.md_words.specs.Status.{serial_of}
 use Rattle.md_machine.specs.Event.{start}
 use Rattle.md_machine.specs.events.Start.{started_word}
 use Rattle.md_rule.specs.Kept.{KeepsLanes}
-use Rattle.md_lanes.specs.Shares.{share_at}
+use Rattle.md_rule_lanes.specs.Shares.{share_at}
 use Rattle.md_rule.specs.Steps.{May, MayTell, Stepped}
 use Rattle.md_rule.proofs.Events.{is_start, store_tells}
 use Rattle.md_rule.proofs.LaneLists.{desc_exists, lane_fits}

@@ -2,7 +2,7 @@ use Rattle.std.proofs.Common.{ap, sym, subst, ◌∙◌}
 use Rattle.md_words.specs.Content.{word_of}
 use Rattle.md_machine.specs.Event.{uninstall}
 use Rattle.md_rule.specs.Steps.{Exchanged, May, MayTell, SteppedFrom}
-use Rattle.md_lanes.proofs.Counting.{counts_more}
+use Rattle.md_rule_lanes.proofs.Counting.{counts_more}
 use Rattle.md_rule.proofs.Events.{exchange_tells, is_uninstall, traded}
 use Rattle.md_rule.proofs.LaneEvents.{quiet_uninstall}
 use Rattle.md_rule.proofs.LaneSteps.{kept_quiet, stepped_of}

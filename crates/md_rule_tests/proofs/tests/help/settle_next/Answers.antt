@@ -4,9 +4,9 @@ use Rattle.std.specs.List.{Contains}
 use Rattle.md_words.specs.declared.shape.Shape.{Shape}
 use Rattle.md_words.specs.Layout.{desc_count}
 use Rattle.md_rule.specs.Kept.{IsReached}
-use Rattle.md_lanes.specs.Shares.{share_at, with_share}
+use Rattle.md_rule_lanes.specs.Shares.{share_at, with_share}
 use Rattle.md_rule.specs.Views.{PassState}
-use Rattle.md_lanes.specs.declared.shares.Share.{Share}
+use Rattle.md_rule_lanes.specs.declared.shares.Share.{Share}
 use Rattle.md_rule.proofs.LaneLists.{desc_exists, lane_fits}
 use Rattle.md_rule_tests.proofs.tests.help.settle_next.Goals as goal
 

@@ -9,8 +9,8 @@ use Rattle.md_machine.specs.declared.pass.PassView.{PassView}
 use Rattle.md_machine.specs.declared.step.TheConstants.{LAST_COUNT}
 use Rattle.md_machine.specs.Event.{exchange}
 use Rattle.md_machine.specs.events.Exchange.{MayExchange, after_exchange}
-use Rattle.md_cell.specs.CellMeaning.{cell_meaning, cell_word}
-use Rattle.md_cell.proofs.Tidy.{may_renew}
+use Rattle.example_cell.specs.CellMeaning.{cell_meaning, cell_word}
+use Rattle.example_cell.proofs.Tidy.{may_renew}
 use Rattle.md_rule.specs.Steps.{May}
 use Rattle.md_rule.specs.Views.{Origin}
 use Rattle.md_rule_tests.proofs.tests.passes.renew.Goals as goal

@@ -1,6 +1,6 @@
 use Rattle.std.proofs.Common.{◌∙◌}
-use Rattle.md_cell.specs.CellMeaning.{cell_meaning}
-use Rattle.md_stalls.proofs.Looking.{same_hand}
+use Rattle.example_cell.specs.CellMeaning.{cell_meaning}
+use Rattle.example_stalls.proofs.Looking.{same_hand}
 use Rattle.md_rule_tests.proofs.tests.stalls.held.Goals as goal
 
 pub returns-clause-idle : goal.returns-clause-idle

@@ -2,7 +2,7 @@ use Rattle.std.proofs.Common.{ap, ◌∙◌}
 use Rattle.md_words.specs.Content.{word_of}
 use Rattle.md_machine.specs.declared.pass.PassView.{PassView}
 use Rattle.md_machine.specs.Event.{exchange}
-use Rattle.md_cell.specs.CellMeaning.{cell_meaning, cell_word}
+use Rattle.example_cell.specs.CellMeaning.{cell_meaning, cell_word}
 use Rattle.md_rule.specs.Steps.{EventOf}
 use Rattle.md_rule.proofs.LaneSteps.{stepped_of}
 use Rattle.md_rule.proofs.Told.{told_exchange}

@@ -1,6 +1,6 @@
 use Rattle.std.proofs.Common.{◌+◌, ◌≤◌, ap, subst, sym, ◌∙◌, arith}
 use Rattle.md_rule.specs.Views.{PassState}
-use Rattle.md_tickets.specs.Taken.{TakenBelow}
+use Rattle.example_tickets.specs.Taken.{TakenBelow}
 use Rattle.md_rule_tests.proofs.tests.tickets.taken.Goals.{in-Some+else-prove, in_default}
 use Rattle.md_rule_tests.proofs.tests.tickets.taken.Goals as goal
 

@@ -1,6 +1,6 @@
 use Rattle.std.proofs.Common.{◌≡◌, ◌≤◌}
 use Rattle.md_rule.specs.Views.{IsOf}
-use Rattle.md_tickets.specs.Taken.{TakenBelow}
+use Rattle.example_tickets.specs.Taken.{TakenBelow}
 use Rattle.md_rule_tests.proofs.tests.tickets.taken.Given as goal
 
 abbrev pub invariant-loop-turn : goal.invariant-loop-turn

@@ -1,5 +1,5 @@
 use Rattle.std.proofs.Common.{ℕ, length, subst}
-use Rattle.md_running.specs.Store.{start_of}
+use Rattle.md_store_bodies.specs.Store.{start_of}
 use Rattle.md_store.proofs.Numbers.{count_of_maps, count_of_queues}
 use Rattle.md_store.proofs.lawful.StoreEngine.attempt.Goals as goal
 

@@ -8,7 +8,7 @@ use Rattle.md_nbtc.specs.State.{begun_state, state}
 use Rattle.md_rule.specs.Views.{FieldView, PassState}
 use Rattle.md_store_law.specs.Store.{store}
 use Rattle.md_store.specs.Attempted.{IsAttempted}
-use Rattle.md_running.specs.Running.{BreaksOff, IsRunning}
+use Rattle.md_store_bodies.specs.Running.{BreaksOff, IsRunning}
 use Rattle.md_store.proofs.Attempts.{at_err, at_ok, begun_runs, on_err}
 use Rattle.md_store.proofs.Ends.{ends_committed, ends_lost, ends_refused, ends_unbegun, is_on}
 use Rattle.md_store.proofs.store.Store.attempt_in.Goals as goal

@@ -3,7 +3,7 @@ use Rattle.std.specs.Prelude.{IfOk}
 use Rattle.md_history.specs.Front.{replay_of}
 use Rattle.md_rule.specs.Views.{FieldView}
 use Rattle.md_store_law.specs.MapsFrom.{MapsFrom}
-use Rattle.md_running.specs.Store.{front_in, start_of}
+use Rattle.md_store_bodies.specs.Store.{front_in, start_of}
 use Rattle.md_store.proofs.store.Store.close_maps.Goals as goal
 
 pub returns-clause-maps : goal.returns-clause-maps

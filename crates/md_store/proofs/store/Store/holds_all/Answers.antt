@@ -2,7 +2,7 @@ use Rattle.std.proofs.Common.{subst}
 use Rattle.std.specs.Prelude.{IsTrue, ◌↔◌}
 use Rattle.md_machine.specs.clauses.passes.Alone.{HoldsAll}
 use Rattle.md_rule.specs.Views.{FieldView, PassState}
-use Rattle.md_running.proofs.AllLanes.{held_all, holds_all}
+use Rattle.md_store_bodies.proofs.AllLanes.{held_all, holds_all}
 use Rattle.md_store.proofs.store.Store.holds_all.Goals as goal
 
 pub returns : goal.returns

@@ -1,7 +1,7 @@
 use Rattle.std.proofs.Common.{rules, subst}
 use Rattle.md_history.specs.Engine.{Joins}
 use Rattle.md_rule.specs.Views.{PassState}
-use Rattle.md_running.specs.Store.{front_in}
+use Rattle.md_store_bodies.specs.Store.{front_in}
 use Rattle.md_store.proofs.store.Store.join.Goals as goal
 
 pub returns-clause-begun : goal.returns-clause-begun

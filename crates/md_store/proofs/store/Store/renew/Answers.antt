@@ -1,7 +1,7 @@
 use Rattle.std.proofs.Common.{sym, subst}
 use Rattle.md_history.specs.Engine.{HasRoom}
 use Rattle.md_rule.specs.Views.{FieldView}
-use Rattle.md_running.specs.Store.{front_in, room_of, start_of}
+use Rattle.md_store_bodies.specs.Store.{front_in, room_of, start_of}
 use Rattle.md_store.proofs.store.Store.renew.Goals as goal
 
 pub renewed-requires-clause-room : goal.renewed-requires-clause-room

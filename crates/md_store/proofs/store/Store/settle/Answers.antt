@@ -1,7 +1,7 @@
 use Rattle.std.proofs.Common.{rules, subst}
 use Rattle.md_history.specs.Engine.{SettlesFrom}
 use Rattle.md_rule.specs.Views.{FieldView, PassState}
-use Rattle.md_running.specs.Store.{IsPassOf, front_in, start_of}
+use Rattle.md_store_bodies.specs.Store.{IsPassOf, front_in, start_of}
 use Rattle.md_store.proofs.store.Store.settle.Goals as goal
 
 pub returns-clause-may : goal.returns-clause-may

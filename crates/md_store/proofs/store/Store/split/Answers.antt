@@ -1,7 +1,7 @@
 use Rattle.std.proofs.Common.{◌≡◌, ◌+◌, Some, length, sym, ap, subst, ◌∙◌}
 use Rattle.std.specs.Prelude.{◌↔◌, IsNone}
 use Rattle.md_rule.specs.Views.{PassState}
-use Rattle.md_running.specs.Store.{begun_by, front_in}
+use Rattle.md_store_bodies.specs.Store.{begun_by, front_in}
 use Rattle.md_store.proofs.store.Store.split.Goals as goal
 
 pub returns-clause-none : goal.returns-clause-none

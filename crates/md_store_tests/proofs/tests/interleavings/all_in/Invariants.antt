@@ -1,5 +1,5 @@
 use Rattle.std.proofs.Common.{◌≡◌}
-use Rattle.md_interleavings.specs.Acting.{IsActing}
+use Rattle.md_store_interleavings.specs.Acting.{IsActing}
 use Rattle.md_nbtc.specs.State.{state}
 use Rattle.md_store_tests.proofs.tests.interleavings.all_in.Given as goal
 

@@ -1,7 +1,7 @@
 //! Transactions of two or three passes that are under way at the same time.
 
 ghost use Rattle.std.specs.Prelude.{◌≡◌, None};
-ghost use Rattle.md_interleavings.specs.Acting.{IsActing};
+ghost use Rattle.md_store_interleavings.specs.Acting.{IsActing};
 ghost use Rattle.md_nbtc.specs.State.{state};
 ghost use Rattle.md_store.specs.Store.{IsPassOf};
 

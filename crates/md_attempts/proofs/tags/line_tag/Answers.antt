@@ -1,4 +1,0 @@
-use Rattle.md_attempts.proofs.tags.line_tag.Goals as goal
-
-pub returns : goal.returns
-returns c = assumption

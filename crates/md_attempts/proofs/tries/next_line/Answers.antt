@@ -1,8 +1,0 @@
-use Rattle.std.proofs.Common.{arith}
-use Rattle.md_attempts.proofs.tries.next_line.Goals as goal
-
-pub returns-clause-line : goal.returns-clause-line
-returns-clause-line g = omega arith
-
-pub returns-clause-left : goal.returns-clause-left
-returns-clause-left g = omega arith

@@ -1,5 +1,0 @@
-use Rattle.md_calm.proofs.Low.{always_low}
-use Rattle.md_calm.proofs.calm.calm_fields_stay_low.Goals as goal
-
-pub returns : goal.returns
-returns g c = always_low g.T.Theory.meaning

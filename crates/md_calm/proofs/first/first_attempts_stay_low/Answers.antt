@@ -1,5 +1,0 @@
-use Rattle.md_calm.proofs.FirstAttempts.{first_stays_low}
-use Rattle.md_calm.proofs.first.first_attempts_stay_low.Goals as goal
-
-pub returns : goal.returns
-returns g c = first_stays_low g.T.Theory.meaning

@@ -1,8 +1,0 @@
-use Rattle.md_count_law.proofs.RowsHold.{worked_excess, worked_counts as counts_hold}
-use Rattle.md_count_law.proofs.counts.worked_counts.Goals as goal
-
-pub returns-clause-few : goal.returns-clause-few
-returns-clause-few c = counts_hold
-
-pub returns-clause-excess : goal.returns-clause-excess
-returns-clause-excess c = worked_excess

@@ -1,5 +1,0 @@
-use Rattle.std.proofs.Common.{rules}
-use Rattle.md_lanes.proofs.shares.restart_lane.Goals as goal
-
-pub returns-clause-shares : goal.returns-clause-shares
-returns-clause-shares c = assumption

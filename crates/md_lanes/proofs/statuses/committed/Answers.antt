@@ -1,5 +1,0 @@
-use Rattle.std.proofs.Common.{rules}
-use Rattle.md_lanes.proofs.statuses.committed.Goals as goal
-
-pub returns : goal.returns
-returns c = assumption

@@ -1,9 +1,0 @@
-pub mod Below
-pub mod Chains
-pub mod Stores
-pub mod Entries
-pub mod Opening
-pub mod Untouched
-pub mod Copying
-pub mod Buckets
-pub mod LaidContents

@@ -1,6 +1,0 @@
-use Rattle.md_laying.specs.Below.{LaidUpTo, maps_below}
-use Rattle.md_store_law.specs.Living.{pairs_listed}
-use Rattle.md_laying.proofs.compacting.lay_all.Given as goal
-
-abbrev pub invariant-loop-map : goal.invariant-loop-map
-invariant-loop-map l = LaidUpTo l.shape l.words (maps_below l.shape (pairs_listed l.shape l.living) l.map) l.next

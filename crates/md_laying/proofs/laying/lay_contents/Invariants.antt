@@ -1,6 +1,0 @@
-use Rattle.md_store_law.specs.Laid.{pairs_at}
-use Rattle.md_laying.specs.Below.{LaidUpTo, maps_below}
-use Rattle.md_laying.proofs.laying.lay_contents.Given as goal
-
-abbrev pub invariant-loop-map : goal.invariant-loop-map
-invariant-loop-map l = LaidUpTo l.shape l.words (maps_below l.shape (pairs_at l.shape l.contents) l.map) l.next

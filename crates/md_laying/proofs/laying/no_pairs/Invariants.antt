@@ -1,5 +1,0 @@
-use Rattle.std.proofs.Common.{◌≡◌, [], map, replicate}
-use Rattle.md_laying.proofs.laying.no_pairs.Given as goal
-
-abbrev pub invariant-loop-made : goal.invariant-loop-made
-invariant-loop-made l = map (λ b. b.items) l.buckets.items ≡ replicate l.made []

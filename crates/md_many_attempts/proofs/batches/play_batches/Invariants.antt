@@ -1,0 +1,24 @@
+use Rattle.std.proofs.Common.{◌≡◌, ◌<◌, ◌≤◌, ◌+◌, ℕ, length}
+use Rattle.md_many_attempts.specs.Lines.{PlaysLines}
+use Rattle.md_many_attempts.proofs.batches.play_batches.Given as goal
+
+abbrev pub invariant-batches : goal.invariant-batches
+invariant-batches g l =
+    let listed = g.T.ReplyList.listed in
+    let before = g.E.Engine.front l.fn.pass in
+    record {
+      of : g.E.Engine.of l.engine l.pass;
+      fated : length (g.E.Engine.front l.pass).known ≡ length (g.E.Engine.front l.pass).seen;
+      lanes : (g.E.Engine.front l.pass).lanes ≡ before.lanes;
+      pending : (g.E.Engine.front l.pass).pending ≡ before.pending;
+      lines : PlaysLines g.L.B.Body.did (g.L.Lines.body_at l.lines) l.fn.turn.caller l.fn.turn.done before.lanes before
+          (g.E.Engine.front l.pass) (listed l.replies);
+      done : l.done ≡ l.fn.turn.done + length (listed l.replies);
+      within : l.done ≤ g.L.Lines.line_count l.lines l.fn.turn.caller;
+      gate : (line : ℕ) → l.fn.turn.done < line → line ≤ l.done → g.G.Gate.after_called l.gate l.fn.turn.caller line;
+      each : g.E.Engine.begun l.fn.pass + length (listed l.replies) ≤ g.E.Engine.begun l.pass;
+      counted : g.E.Engine.begun l.pass + l.left ≡ g.E.Engine.begun l.fn.pass + l.fn.turn.tries;
+    }
+
+abbrev pub decreases-batches : goal.decreases-batches
+decreases-batches g l = l.left

@@ -1,0 +1,63 @@
+use Rattle.std.proofs.Common.{arith, rules, refl, subst, sym, ◌∙◌}
+use Rattle.md_history.specs.Engine.{IsNoConflict}
+use Rattle.md_many_attempts.proofs.Retrying.{stop-none, stop-more, stop-end, commit-end, no_conflict, met-conflict, of-stop, conflict-began, ends-tries, began-one}
+use Rattle.md_many_attempts.proofs.until.attempt_until_committed.Goals as goal
+
+pub attempts-init : goal.attempts-init
+attempts-init g c = record {
+  of = c.requires.of;
+  stopped = stop-none _ _ c.pass_is_legal.ensures.legal.fated;
+  counted = omega arith;
+  again = λ one. absurd (omega (arith, one));
+  alone = λ all. refl;
+  begun = λ none. refl;
+  small = λ fresh tries small. refl;
+}
+
+pub returns-then-not-is_conflict : goal.returns-then-not-is_conflict
+returns-then-not-is_conflict g c =
+    let was = c.attempts.invariant in
+    let end = c.attempt-end.ensures in
+    let test = c.attempts-test.true in
+    let one = began-one c.attempt-end.result _ _ end.begun in
+    record {
+      committed = commit-end _ _ _ _ _ was.stopped _ _ _ (omega arith) end.committed;
+      stopped = stop-end _ _ _ _ _ was.stopped _ _ (omega arith) end.stopped;
+      legal = end.legal;
+      of = end.of;
+      begun = ends-tries _ _ _ _ _ _ (c.is_conflict.ensures.other c.if-not-is_conflict.true) was.counted (omega arith) end.begun;
+      again = λ more. was.again (omega (arith, more, one, was.counted));
+      may_stop = end.may_stop;
+      alone = λ all. end.alone (was.stopped.lanes ∙ all);
+      once = λ all. omega (arith, one, was.counted, was.alone all);
+      small = λ fresh tries small. end.small
+          (subst (g.E.Engine.fresh c.args.engine.now) (sym (was.begun (was.small fresh tries small))) fresh) tries small;
+    }
+
+pub attempts-preserved : goal.attempts-preserved
+attempts-preserved g c =
+    let was = c.attempts.invariant in
+    let end = c.attempt-end.ensures in
+    let meets = c.is_conflict.ensures.conflict c.if-not-is_conflict.false in
+    let met = met-conflict c.attempt-end.result meets in
+    record {
+      of = end.of;
+      stopped = stop-more _ _ _ _ _ was.stopped _ (omega arith) (of-stop _ _ _ met.1 end.stopped);
+      counted = omega (arith, was.counted, conflict-began c.attempt-end.result _ _ meets end.begun);
+      again = λ one. (met.0, of-stop _ _ _ met.1 end.may_stop);
+      alone = λ all. absurd (of-stop IsNoConflict _ _ met.1 (end.alone (was.stopped.lanes ∙ all)) met.0 refl);
+      begun = λ none. absurd (omega (arith, none));
+      small = λ fresh tries small. absurd (no_conflict (of-stop _ _ _ met.1 (end.small
+          (subst (g.E.Engine.fresh c.args.engine.now) (sym (was.begun (was.small fresh tries small))) fresh) tries small)));
+    }
+
+pub returns-clause-committed : goal.returns-clause-committed
+returns-clause-committed g c =
+    commit-end _ _ _ _ _ c.attempts.invariant.stopped _ _ _ (omega arith) c.attempt.ensures.committed
+
+pub returns-clause-stopped : goal.returns-clause-stopped
+returns-clause-stopped g c =
+    stop-end _ _ _ _ _ c.attempts.invariant.stopped _ _ (omega arith) c.attempt.ensures.stopped
+
+pub returns-clause-begun : goal.returns-clause-begun
+returns-clause-begun g c = search rules depth 1

@@ -1,0 +1,73 @@
+//! Attempts at one body until it is committed.
+
+ghost use Rattle.std.specs.Prelude.{◌≡◌, ◌≤◌, ◌+◌, length, true, false};
+ghost use Rattle.md_history.specs.declared.stops.Shown.{Shown};
+ghost use Rattle.md_history.specs.Counts.{IsSmall};
+ghost use Rattle.md_history.specs.Front.{LegalFrom};
+ghost use Rattle.md_history.specs.Attempt.{IfCommitted, IfStopped};
+ghost use Rattle.md_history.specs.Engine.{bounds_in, IsNoConflict};
+ghost use Rattle.md_many_attempts.specs.Until.{AllStop, CommitsAtLast, IsEndOfTries, MeetsConflict};
+
+use crate::pauses::pause;
+use md_history::{Attempt, Body, Engine, Stop, pass_is_legal};
+
+// Whether an attempt met a conflict. Nothing else lets the body be attempted again.
+#[inline(always)]
+fn is_conflict<R>(attempt: &Attempt<R>) -> bool
+    ensures conflict { result ≡ true → MeetsConflict attempt.now }
+    ensures other { result ≡ false → MeetsConflict attempt.now → ⊥ }
+{
+    matches!(attempt, Attempt::Stopped(Stop::Conflict(_)))
+}
+
+/// Attempts a body until it is committed, under one tag, which may be any number. `tries` is the
+/// most attempts: 1 or more, and `u32::MAX` for as many as it takes.
+///
+/// It returns how the last attempt ended. `Committed` has the reply of the body: the entry of this
+/// attempt is the last of the history, and no other attempt was committed. `Stopped` means that the
+/// body took no effect. Its cause is a conflict only if `tries` attempts met one. A limit of the
+/// engine, or running out of memory, ends the call at once. If the pass holds all lanes, it makes
+/// one attempt, which meets no conflict.
+///
+/// The cost is that of `Engine::attempt`, once for each attempt. After a conflict it pauses for a
+/// random number of turns of the spin hint, below 2^n after n conflicts and below 4,096. It takes
+/// no memory of its own. No clause speaks of time.
+pub fn attempt_until_committed<E: Engine, B: Body>(
+    engine: &E,
+    pass: &mut E::Pass,
+    tag: u64,
+    body: &B,
+    tries: u32,
+) -> Attempt<B::Reply>
+    requires of { E.of engine.now pass.old }
+    requires fits { B.fits body.now
+        (length (E.start engine.now).maps) (length (E.start engine.now).queues) }
+    requires tries { 1 ≤ tries }
+    ensures committed { IfCommitted result (λ r.
+        CommitsAtLast (B.did body.now) tag tries r (E.front pass.old) (E.front pass.new)) }
+    ensures stopped { IfStopped result (λ _.
+        AllStop tag tries (E.front pass.old) (E.front pass.new)) }
+    ensures legal { LegalFrom (E.start engine.now) (E.front pass.new) }
+    ensures of { E.of engine.now pass.new }
+    ensures begun { IsEndOfTries result tries (E.begun pass.old) (E.begun pass.new) }
+    ensures again { E.begun pass.old + 2 ≤ E.begun pass.new
+        → (shown : Shown) × E.may_stop engine.now (Stop.Conflict shown) }
+    ensures may_stop { IfStopped result (E.may_stop engine.now) }
+    ensures alone { (E.front pass.old).lanes ≡ E.lanes engine.now → IfStopped result IsNoConflict }
+    ensures once { (E.front pass.old).lanes ≡ E.lanes engine.now
+        → E.begun pass.new ≤ E.begun pass.old + 1 }
+    ensures small { E.fresh engine.now pass.old → 1 ≤ (E.limits engine.now).tries
+        → IsSmall (bounds_in (E.limits engine.now)) (B.makes body.now) (E.start engine.now)
+        → IfStopped result (λ s. s ≡ Stop.NoMemory) }
+{
+    pass_is_legal(engine, pass);
+    let mut random = tag;
+    'attempts: for tried in 0..tries - 1 {
+        let end = engine.attempt(pass, tag, body);
+        if !is_conflict(&end) {
+            return end;
+        }
+        random = pause(random, tried + 1);
+    }
+    engine.attempt(pass, tag, body)
+}

@@ -1,0 +1,7 @@
+use Rattle.std.proofs.Common.{◌≡◌, map, take}
+use Rattle.md_nbtc_law.specs.declared.slots.Slot.{Slot}
+use Rattle.md_nbtc_law.specs.Telling.{write_count}
+use Rattle.md_nbtc_sets.proofs.receipt.stamps_of_writes.Given as goal
+
+abbrev pub invariant-loop-i : goal.invariant-loop-i
+invariant-loop-i l = l.stamps ≡ map write_count (map (λ (s : Slot). s.write) (take l.i l.slots))

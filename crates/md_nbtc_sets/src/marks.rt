@@ -1,0 +1,66 @@
+//! Marks, by which most searches of a set are spared.
+
+ghost use Rattle.std.specs.Prelude.{◌≡◌, ◌≤◌, ◌%◌, ℕ, length, min, replicate, slice_set};
+ghost use Rattle.std.specs.Prelude.{slice_index_or};
+ghost use Rattle.md_nbtc_sets.specs.declared.marks.TheConstants.{UNMARKED};
+
+use md_words::SET;
+use std::marker::Model;
+
+const MARKS: usize = 64;
+
+// No place is so late.
+const UNMARKED: u8 = SET;
+
+/// A mark for each remainder of a division by 64: the first place where a set has a word of this
+/// remainder. So a search of a word begins there, and mostly ends there too.
+#[derive(Drop)]
+pub(crate) struct Marks {
+    marks: [u8; MARKS],
+}
+
+impl Model for Marks {
+    ghost use Rattle.std.specs.Prelude.{◌≡◌, ℕ, List, length};
+
+    ghost Value = { List ℕ };
+
+    ghost view = { λ m. m.marks };
+
+    ghost invariant = { λ m. length m.marks ≡ 64 };
+}
+
+impl Marks {
+    pub(crate) fn new() -> Marks
+        ensures { result ≡ replicate 64 UNMARKED }
+    {
+        Marks {
+            marks: [UNMARKED; MARKS],
+        }
+    }
+
+    pub(crate) fn clear(&mut self)
+        ensures { self.new ≡ replicate 64 UNMARKED }
+    {
+        self.marks = [UNMARKED; MARKS];
+    }
+
+    // Marks a word at a place, unless one of its remainder has an earlier one.
+    #[inline]
+    pub(crate) fn mark(&mut self, word: u32, place: u8)
+        ensures set { self.new ≡ slice_set self.old (word % 64)
+            (min (slice_index_or self.old (word % 64) 0) place) }
+        ensures marked { slice_index_or self.new (word % 64) 0 ≤ place }
+        ensures lower { (i : ℕ) → slice_index_or self.new i 0 ≤ slice_index_or self.old i 0 }
+    {
+        let i = word as usize % MARKS;
+        self.marks[i] = self.marks[i].min(place);
+    }
+
+    // The set has no word of this remainder before this place.
+    #[inline]
+    pub(crate) fn first(&self, word: u32) -> u8
+        ensures { result ≡ slice_index_or self.now (word % 64) 0 }
+    {
+        self.marks[word as usize % MARKS]
+    }
+}

@@ -1,0 +1,5 @@
+use Rattle.std.proofs.Common.{rules}
+use Rattle.md_rule_lanes.proofs.shares.end_lane.Goals as goal
+
+pub returns-clause-shares : goal.returns-clause-shares
+returns-clause-shares c = assumption

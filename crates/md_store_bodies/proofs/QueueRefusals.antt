@@ -1,0 +1,219 @@
+-- An operation of a queue that was refused by a limit, in the first transaction of a fresh store, exceeds the limits.
+use Rattle.std.proofs.Common.{cond, ◌≡◌, ◌≤◌, ◌+◌, ◌++◌, ◌⊎◌, ◌∙◌, ℕ, true, false, List, [], ◌∷◌, map, length, refl, sym, ap, subst, inl, inr, ⊎_elim, append_assoc, Option, None, arith}
+use Rattle.std.specs.Prelude.{nat_eq}
+use Rattle.std.specs.List.{All, Contains, count_by, filter_map, sum_by}
+use Rattle.std.proofs.lemmas.Bool.{false≢true}
+use Rattle.std.proofs.lemmas.List.{append-nil, map-append}
+use Rattle.std.proofs.lemmas.List.Concat.{flat_map-append}
+use Rattle.std.proofs.lemmas.List.Elements.{All-append, All-cons, All-nil, Contains-append_right, filter_map-append}
+use Rattle.std.proofs.lemmas.List.Sums.{sum_by-append, sum_by-cons}
+use Rattle.md_history.specs.declared.acts.Act.{Act}
+use Rattle.md_history.specs.declared.acts.Op.{Op}
+use Rattle.md_history.specs.declared.acts.Op.TheVariants.{Dequeue, Front, Line}
+use Rattle.md_history.specs.declared.acts.Reply.{Reply}
+use Rattle.md_history.specs.declared.stops.Limit.TheVariants.{Nodes, Reads, Writes}
+use Rattle.md_history.specs.declared.stops.Stop.{Stop}
+use Rattle.md_history.specs.declared.stops.Stop.TheVariants.{Limit as Limited}
+use Rattle.md_history.specs.Act.{act_of}
+use Rattle.md_history.specs.Counts.{added, asked_queue, changed_nothing, dequeued, different, line_words, nodes, reads}
+use Rattle.md_history.specs.CountLaws.{count-append, nodes-append}
+use Rattle.md_history.specs.State.{IsRight, answer, run}
+use Rattle.md_machine.specs.declared.attempt.Read.{Read}
+use Rattle.md_machine.specs.declared.certificate.Certificate.{Certificate}
+use Rattle.md_machine.specs.declared.certificate.TidyChange.{TidyChange}
+use Rattle.md_machine.specs.Certified.{all_changes, changes_of_tidy, whole_changes}
+use Rattle.md_machine.specs.LogicalHeap.{LogicalHeap}
+use Rattle.md_machine.proofs.lists.Rising.{here, in_map}
+use Rattle.md_nbtc_law.specs.Calls.{GoesOn}
+use Rattle.md_nbtc_law.specs.Ending.{Begins}
+use Rattle.md_nbtc_law.specs.Going.{HasCause, IsGoing}
+use Rattle.md_nbtc_law.specs.Known.{IsHeapOf, IsLater}
+use Rattle.md_nbtc_law.specs.State.{TxnState, own_node, shape_in, taken_since}
+use Rattle.md_nbtc_law.proofs.operations.Courses.{all_push}
+use Rattle.md_nbtc_law.proofs.preparing.Later.{later_over}
+use Rattle.md_nbtc_law.proofs.ready.Lookups.{all_of}
+use Rattle.md_nbtc_law.proofs.ready.Standing.{pairs_map}
+use Rattle.md_rule.specs.Views.{FieldView, PassState}
+use Rattle.md_queue.specs.Refusals.{BeganAlone, ChangeRefused, MoveRefused, ReadRefused, WouldStand}
+use Rattle.md_store_law.specs.Store.{store}
+use Rattle.md_store_counts.specs.Few.{AllCharged, RecordsOne, StandFrom, TidyCharged, acts_of, is_of_map, recorded_by, recorded_words, words_of_changes}
+use Rattle.md_store_counts.proofs.Appending.{charged_more}
+use Rattle.md_store_counts.proofs.Fronts.{recorded_are_few}
+use Rattle.md_store_counts.proofs.Placing.{placed_are_counted}
+use Rattle.md_store_counts.proofs.Writing.{tidied_are_few}
+use Rattle.md_store_bodies.specs.Counted.{Exceeds, IsCountLimit, IsCounted}
+use Rattle.md_store_bodies.specs.Store.{IsFresh, IsPassOf, start_of}
+use Rattle.md_store_bodies.proofs.Charging.{counted_at, queue_charged, reads_more}
+use Rattle.md_store_bodies.proofs.Exceeding.{asked_is, changed_exceed, more_nodes, more_reads, more_writes_before, one_more_word}
+use Rattle.md_store_bodies.proofs.FreshHeaps.{acts_right, fresh_heap, heap_shape, holds, is_heap, next_right, next_stands, stand_from, tidies_stand}
+use Rattle.md_store_bodies.proofs.ListRefusals.{many_nodes, nodes_then}
+use Rattle.md_store_bodies.proofs.WrittenWords.{all_named, with_word, words_differ}
+
+-- an operation on a queue counts no more reads than another one, whatever both answer
+abbrev pub AsksLess : (less more : Op) → Type 0
+AsksLess less more = (is_of_map less ≡ false) × ((acts : List Act) (r q : Reply) → reads (acts ++ act_of less r ∷ []) ≤ reads (acts ++ act_of more q ∷ []))
+
+-- an operation that asks for no more values of the same queue does so
+module _ (acts : List Act) (a b : Act) (same : filter_map (λ (x : Act). asked_queue x.op x.reply) (a ∷ []) ≡ filter_map (λ (x : Act). asked_queue x.op x.reply) (b ∷ []))
+    (nothing : count_by (λ (x : Act). changed_nothing x.op x.reply) (a ∷ []) ≡ 0) (none : count_by (λ (x : Act). dequeued x.op x.reply) (a ∷ []) ≡ 0)
+    (fewer : sum_by (λ (x : Act). line_words x.op) (a ∷ []) ≤ sum_by (λ (x : Act). line_words x.op) (b ∷ [])) where
+  less_reads : reads (acts ++ a ∷ []) ≤ reads (acts ++ b ∷ [])
+  less_reads =
+      let asked : Act → Option ℕ = λ x. asked_queue x.op x.reply in
+      let n = count-append (λ (x : Act). changed_nothing x.op x.reply) acts (a ∷ []) in
+      let n' = count-append (λ (x : Act). changed_nothing x.op x.reply) acts (b ∷ []) in
+      let d = count-append (λ (x : Act). dequeued x.op x.reply) acts (a ∷ []) in
+      let d' = count-append (λ (x : Act). dequeued x.op x.reply) acts (b ∷ []) in
+      let l = sum_by-append (λ (x : Act). line_words x.op) acts (a ∷ []) in
+      let l' = sum_by-append (λ (x : Act). line_words x.op) acts (b ∷ []) in
+      let q = ap (different nat_eq) (filter_map-append asked acts (a ∷ []) ∙ ap (λ ys. filter_map asked acts ++ ys) same ∙ sym (filter_map-append asked acts (b ∷ []))) in
+      omega (arith, n, n', d, d', l, l', q, nothing, none, fewer)
+
+pub front_by_dequeue : (queue : ℕ) (op : Op) → op ≡ Front queue → AsksLess op (Dequeue queue)
+front_by_dequeue queue op is = subst (λ o. AsksLess o (Dequeue queue)) (sym is)
+    (refl, λ acts r q. less_reads acts (act_of (Front queue) r) (act_of (Dequeue queue) q) refl refl refl (omega arith))
+
+pub front_by_front : (queue : ℕ) (op : Op) → op ≡ Front queue → AsksLess op (Front queue)
+front_by_front queue op is = subst (λ o. AsksLess o (Front queue)) (sym is)
+    (refl, λ acts r q. less_reads acts (act_of (Front queue) r) (act_of (Front queue) q) refl refl refl (omega arith))
+
+pub line_by_line : (queue m n : ℕ) (op : Op) → m ≤ n → op ≡ Line queue m → AsksLess op (Line queue n)
+line_by_line queue m n op few is = subst (λ o. AsksLess o (Line queue n)) (sym is)
+    (refl, λ acts r q. less_reads acts (act_of (Line queue m) r) (act_of (Line queue n) q) refl refl refl (omega (arith, few)))
+
+-- why an operation of a queue was refused by a limit: the transaction goes on from s, where the operation was begun, to u
+pub record QueueLimits (s u : TxnState) (cs : List Certificate) (queue : ℕ) (op : Op) (Asks : Op → Type 0) (why : Stop) : Type 0 where
+  pub other : is_of_map op ≡ false
+  pub reads : why ≡ Limited Reads → BeganAlone s → ((o : Op) → Asks o → AsksLess o op) × ReadRefused store s u cs Asks
+  pub writes : why ≡ Limited Writes → BeganAlone s → MoveRefused store s u cs queue ⊎ ChangeRefused store s u cs op
+  pub nodes : why ≡ Limited Nodes → ((r : Reply) → added op r ≡ true) × (u.nodes ≡ s.nodes)
+
+one_node : (a : Act) → added a.op a.reply ≡ true → nodes (a ∷ []) ≡ 1
+one_node a is =
+    let sum = sum_by-cons (λ (x : Act). cond (added x.op x.reply) 1 0) a [] in
+    let one : cond (added a.op a.reply) 1 0 ≡ 1 = ap (λ b. cond b 1 0) is in
+    sum ∙ ap (λ n. n + 0) one
+
+one_added : (acts : List Act) (a : Act) → added a.op a.reply ≡ true → nodes (acts ++ a ∷ []) ≡ nodes acts + 1
+one_added acts a is = nodes-append acts (a ∷ []) ∙ ap (λ n. nodes acts + n) (one_node a is)
+
+module _ (p : PassState) (s u : TxnState) (of : IsPassOf s.field p) (fresh : IsFresh p) (tag : ℕ) (start : TxnState) (begins : Begins p tag start)
+    (later : IsLater start s) (cs : List Certificate) (counted : IsCounted s cs) (stored : s.hand.stored ≡ []) (none : s.stop ≡ None) (why : Stop) (cause : HasCause u why)
+    (nodes_are : u.nodes ≡ map (own_node (shape_in u) u.pass) (taken_since u.began u.pass)) (on : GoesOn store s u) where
+  alone : BeganAlone s
+  alone = record { unstopped = none; alone = holds s.field p of fresh tag start s begins later refl cs counted.going }
+
+  right : IsRight (start_of s.field) (acts_of cs)
+  right = acts_right s.field p of fresh tag start s begins later refl cs counted.going
+
+  -- the state in which a call was refused
+  module _ (v : TxnState) (going : IsGoing store v cs) (later_v : IsLater s v) where
+    over : IsLater start v
+    over = later_over start s v later later_v
+
+    abbrev H : LogicalHeap
+    H = fresh_heap s.field p of fresh tag start v begins over later_v.field cs going
+
+    heap_of : IsHeapOf store v H
+    heap_of = is_heap s.field p of fresh tag start v begins over later_v.field cs going
+
+    would_stand : (c : Certificate) → WouldStand store v cs H c → StandFrom H (cs ++ c ∷ [])
+    would_stand c w = next_stands s.field p of fresh tag start v begins over later_v.field cs going c w.certifies w.tidies w.stands
+
+    few_more : (c : Certificate) → is_of_map c.op ≡ false → All RecordsOne (cs ++ c ∷ [])
+    few_more c other = all_push RecordsOne cs c counted.few (λ is. absurd (false≢true (sym other ∙ is)))
+
+    shape_is : shape_in v ≡ shape_in s
+    shape_is = ap (λ (f : FieldView). f.origin.shape) later_v.field
+
+  -- a word to record
+  reads_exceed : (op : Op) (Asks : Op → Type 0) → ((o : Op) → Asks o → AsksLess o op) → ReadRefused store s u cs Asks → why ≡ Limited Reads → Exceeds s.field (acts_of cs) op
+  reads_exceed op Asks less (v, was, full) is =
+      let would = full.would (H v was.going was.later) (heap_of v was.going was.later) in
+      let c = would.certificate in
+      let stand = would_stand v was.going was.later c would.stands in
+      let asks = less c.op would.asks in
+      let words = one_more_word (λ (r : Read). r.word) v.reads full.word (pairs_map (λ (r : Read). r.word) v.reads was.going.prepared.has.recorded_once) full.unread in
+      let read_of = reads_more s v cs counted c would.among in
+      let P = Contains (recorded_words (cs ++ c ∷ [])) in
+      let this : P full.word = subst (λ l. Contains l full.word) (sym (flat_map-append recorded_by cs (c ∷ [])))
+      (Contains-append_right (recorded_words cs) (recorded_words (c ∷ [])) full.word (subst (λ l. Contains l full.word) (sym (append-nil (recorded_by c))) would.records)) in
+      let least = recorded_are_few (H v was.going was.later) (cs ++ c ∷ []) stand (few_more v was.going was.later c asks.0)
+      (map (λ (r : Read). r.word) v.reads ++ full.word ∷ []) words.0
+      (All-append P (map (λ (r : Read). r.word) v.reads) (full.word ∷ [])
+      (all_of P (map (λ (r : Read). r.word) v.reads)
+      (λ word among. let r = in_map (λ (x : Read). x.word) v.reads word among in subst P r.2 (read_of r.0 r.1)))
+      (All-cons P full.word [] this (All-nil P))) in
+      let same = asked_is s.field cs c (next_right s.field p of fresh tag start v begins (over v was.going was.later) was.later.field cs was.going c stand) in
+      let same_reads = ap reads same in
+      let state = run (start_of s.field) (acts_of cs) in
+      let more = asks.1 (acts_of cs) (answer state c.op) (answer state op) in
+      let many = words.1 in
+      let set = ap (λ (y : TxnState). length y.reads) (sym was.same) ∙ cause.reads is in
+      more_reads s.field (acts_of cs) right op (omega (arith, least, same_reads, more, many, set))
+
+  -- a word to write, for a move of the tail
+  move_exceeds : (queue : ℕ) (op : Op) → MoveRefused store s u cs queue → why ≡ Limited Writes → Exceeds s.field (acts_of cs) op
+  move_exceeds queue op (v, was, m) is =
+      let ts = m.earlier ++ m.move ∷ [] in
+      let counted_v = counted_at s v cs counted was.going was.later m.reads in
+      let words = words_differ v cs was.going m.move.change.word m.unwritten in
+      let shape = heap_shape s.field p of fresh tag start v begins (over v was.going was.later) was.later.field cs was.going in
+      let changes : (all_changes cs ++ v.hand.changes) ++ m.move.change ∷ [] ≡ all_changes cs ++ changes_of_tidy ts =
+      append_assoc (all_changes cs) v.hand.changes (m.move.change ∷ [])
+      ∙ ap (λ l. all_changes cs ++ l) (ap (λ l. l ++ m.move.change ∷ []) (sym m.tidied.changes) ∙ sym (map-append (λ (x : TidyChange). x.change) m.earlier (m.move ∷ []))) in
+      let least = tidied_are_few (H v was.going was.later) cs ts
+      (stand_from s.field p of fresh tag start v begins (over v was.going was.later) was.later.field cs was.going) counted.few
+      (subst (λ k. AllCharged k [] cs) (sym shape) counted_v.charged)
+      (record {
+        tidies = subst (λ k. All (store.tidies k) ts) (sym shape) (all_push (store.tidies (shape_in v)) m.earlier m.move m.tidied.tidies m.tidies);
+        stand = tidies_stand s.field p of fresh tag start v begins (over v was.going was.later) was.later.field cs was.going ts
+            (m.would (H v was.going was.later) (heap_of v was.going was.later));
+        charged = subst (λ k. TidyCharged k cs (all_changes cs) ts) (sym shape) (queue_charged v cs counted_v.reads (all_changes cs) ts m.charged);
+      })
+      (with_word v cs was.going m.move.change.word) words.0
+      (subst (λ l. All (Contains (words_of_changes l)) (with_word v cs was.going m.move.change.word))
+      changes (all_named v cs was.going m.move.change.word (m.move.change ∷ [])
+      (here m.move.change.word []))) in
+      let many = words.1 in
+      let set = ap (λ (y : TxnState). length y.slots) (sym was.same) ∙ cause.writes is in
+      more_writes_before s.field (acts_of cs) right op (omega (arith, many, set, least))
+
+  -- a word to write
+  change_exceeds : (op : Op) → is_of_map op ≡ false → ChangeRefused store s u cs op → why ≡ Limited Writes → Exceeds s.field (acts_of cs) op
+  change_exceeds op other (v, was, n) is =
+      let c = n.certificate in
+      let w = n.would (H v was.going was.later) (heap_of v was.going was.later) in
+      let stand = would_stand v was.going was.later c w in
+      let words = words_differ v cs was.going n.last.word n.unwritten in
+      let changes : (all_changes cs ++ v.hand.changes) ++ n.last ∷ [] ≡ all_changes (cs ++ c ∷ []) =
+      append_assoc (all_changes cs) v.hand.changes (n.last ∷ []) ∙ ap (λ l. all_changes cs ++ l) (sym n.changes ∙ sym (append-nil (whole_changes c)))
+      ∙ sym (flat_map-append whole_changes cs (c ∷ [])) in
+      let charged = charged_more (shape_in v) [] cs c (subst (λ k. AllCharged k [] cs) (sym (shape_is v was.going was.later)) counted.charged)
+      (queue_charged v (cs ++ c ∷ []) (reads_more s v cs counted c n.among) (all_changes cs) c.tidy w.charged) in
+      let many = words.1 in
+      let set = ap (λ (y : TxnState). length y.slots) (sym was.same) ∙ cause.writes is in
+      subst (Exceeds s.field (acts_of cs)) n.op_is
+      (changed_exceed s.field cs c (next_right s.field p of fresh tag start v begins (over v was.going was.later) was.later.field cs was.going c stand) right
+      (H v was.going was.later) stand (few_more v was.going was.later c (ap is_of_map n.op_is ∙ other))
+      (with_word v cs was.going n.last.word) words.0 (omega (arith, many, set))
+      (subst (λ k. AllCharged k [] (cs ++ c ∷ [])) (sym (heap_shape s.field p of fresh tag start v begins (over v was.going was.later) was.later.field cs was.going)) charged)
+      (subst (λ l. All (Contains (words_of_changes l)) (with_word v cs was.going n.last.word)) changes
+      (all_named v cs was.going n.last.word (n.last ∷ []) (here n.last.word []))))
+
+  -- a node
+  nodes_exceed : (op : Op) → ((r : Reply) → added op r ≡ true) → u.nodes ≡ s.nodes → why ≡ Limited Nodes → Exceeds s.field (acts_of cs) op
+  nodes_exceed op adds same is =
+      let enough = many_nodes p s u of fresh tag start begins later cs counted stored why cause nodes_are on is in
+      let then = nodes_then p s u of fresh tag start begins later cs counted stored why cause nodes_are on in
+      let counts = ap length same in
+      let placed = placed_are_counted (fresh_heap s.field p of fresh tag start s begins later refl cs counted.going) cs
+      (stand_from s.field p of fresh tag start s begins later refl cs counted.going) in
+      let state = run (start_of s.field) (acts_of cs) in
+      let more = one_added (acts_of cs) (act_of op (answer state op)) (adds (answer state op)) in
+      more_nodes s.field (acts_of cs) right op (omega (arith, enough, then, counts, placed, more))
+
+  pub queue_exceeds : (queue : ℕ) (op : Op) (Asks : Op → Type 0) → QueueLimits s u cs queue op Asks why → IsCountLimit why → Exceeds s.field (acts_of cs) op
+  queue_exceeds queue op Asks limits (inl is) = let r = limits.reads is alone in reads_exceed op Asks r.0 r.1 is
+  queue_exceeds queue op Asks limits (inr (inl is)) = ⊎_elim (λ m. move_exceeds queue op m is) (λ n. change_exceeds op limits.other n is) (limits.writes is alone)
+  queue_exceeds queue op Asks limits (inr (inr is)) = let n = limits.nodes is in nodes_exceed op n.0 n.1 is

@@ -1,0 +1,65 @@
+-- A transaction of the store under way, as the calls of transactions see it.
+use Rattle.std.specs.Prelude.{◌≡◌, ℕ, false, List, [], ◌∷◌, ◌++◌, Option, None, Some, option_map}
+use Rattle.md_history.specs.declared.stops.Stop.{Stop}
+use Rattle.md_history.specs.declared.acts.Act.{Act}
+use Rattle.md_history.specs.declared.acts.Reply.{Reply}
+use Rattle.md_history.specs.Act.{act_of}
+use Rattle.md_history.specs.Calls.{MayReply, Refusal}
+use Rattle.md_machine.specs.declared.certificate.Certificate.{Certificate}
+use Rattle.md_nbtc_law.specs.Ending.{Begins}
+use Rattle.md_nbtc_law.specs.Going.{IsUnderWay}
+use Rattle.md_nbtc_law.specs.Known.{IsLater}
+use Rattle.md_nbtc_law.specs.State.{TxnState}
+use Rattle.md_rule.specs.Views.{FieldView, PassState}
+use Rattle.md_store_bodies.specs.declared.broken.Broken.{Broken}
+use Rattle.md_store_law.specs.Store.{store}
+use Rattle.md_store_bodies.specs.Counted.{Exceeds, IsCountLimit, IsCounted}
+use Rattle.md_store_bodies.specs.Store.{IsFresh, IsPassOf}
+
+-- why a transaction stopped, and the operation that was refused first
+abbrev pub refusal_of : Option Broken → Option Refusal
+refusal_of broken = option_map (λ b. record { stop = b.stop; op = b.op }) broken
+
+-- a transaction that began with this pass goes on since, and keeps the stop of its refusal. While it has none, no operation
+-- is begun between two calls, and its certificates are counted. A limit that refused an operation after a fresh pass is
+-- exceeded by the acts with that operation
+pub record IsRunning (before : PassState) (t : TxnState) (refused : Option Refusal) : Type 0 where
+  pub start : TxnState
+  pub begins : Begins before t.hand.tag start
+  pub later : IsLater start t
+  pub going : IsUnderWay store t
+  pub stop : t.stop ≡ option_map (λ r. r.stop) refused
+  pub between : refused ≡ None → t.hand.operating ≡ false
+  pub counted : refused ≡ None → (cs : List Certificate) × IsCounted t cs
+  pub exceeds : (refusal : Refusal) → refused ≡ Some refusal → IsPassOf t.field before → IsFresh before → IsCountLimit refusal.stop
+      → Exceeds t.field t.hand.acts refusal.op
+
+-- after a call it runs still, on the same field and with the same tag
+pub record RunsOn (before : PassState) (t u : TxnState) (refused : Option Refusal) : Type 0 where
+  pub running : IsRunning before u refused
+  pub field : u.field ≡ t.field
+  pub tag : u.hand.tag ≡ t.hand.tag
+
+-- what no call of it changes: where its pass came from, the pass before it, its tag and its field
+pub record Kept : Type 0 where
+  pub name : ℕ
+  pub before : PassState
+  pub tag : ℕ
+  pub field : FieldView
+
+-- a transaction under way as contracts see it
+pub record Running : Type 0 where
+  pub kept : Kept
+  pub now : TxnState
+  pub refused : Option Refusal
+
+-- a transaction that began with this pass runs, and has a refusal with this stop
+pub record BrokeWith (before : PassState) (t : TxnState) (why : Stop) : Type 0 where
+  pub refusal : Refusal
+  pub same : refusal.stop ≡ why
+  pub running : IsRunning before t (Some refusal)
+
+-- and whatever the refused operation would have answered, the acts so far and this one are such as a body makes
+pub record BreaksOff (makes : List Act → Type 0) (before : PassState) (t : TxnState) (why : Stop) : Type 0 where
+  pub broke : BrokeWith before t why
+  pub made : (r : Reply) → MayReply broke.refusal.op r → makes (t.hand.acts ++ act_of broke.refusal.op r ∷ [])

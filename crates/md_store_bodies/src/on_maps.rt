@@ -1,0 +1,151 @@
+//! The operations of a transaction on its maps, each from its begin to its end.
+
+ghost use Rattle.std.specs.Prelude.{◌≡◌, ◌<◌, ℕ, IfErr, IfOk};
+ghost use Rattle.md_history.specs.declared.acts.Op.TheVariants.{Get, Insert, Remove};
+ghost use Rattle.md_history.specs.declared.acts.Reply.TheVariants.{Flag, Value};
+ghost use Rattle.md_history.specs.declared.stops.Limit.TheVariants.{Reads, Writes};
+ghost use Rattle.md_history.specs.Calls.{Answered, Refused};
+ghost use Rattle.md_nbtc_law.specs.Calls.{AfterStop};
+ghost use Rattle.md_nbtc_law.specs.State.{shape_in};
+ghost use Rattle.md_nbtc.specs.State.{state};
+ghost use Rattle.md_list.specs.Operations.{Answers, HasStopButNodes, IsBegun, Leaves};
+ghost use Rattle.md_list.specs.Refusals.{NeedsRead, NeedsUnlink, RefusedBy};
+ghost use Rattle.md_list.specs.Walking.{IsHeadOf};
+ghost use Rattle.md_store_law.specs.Store.{store};
+ghost use Rattle.md_store_bodies.specs.Running.{IsRunning, RunsOn, refusal_of};
+
+use crate::broken::Broken;
+use md_history::{Op, Reply, Stop};
+use md_list::{get, insert, remove};
+use md_nbtc::Txn;
+use md_rule::Pass;
+use md_store_law::StoreTheory;
+use std::snapshot::Snapshot;
+
+// Looks up a key.
+#[inline]
+fn look_up<'a>(txn: &mut Txn<'a, StoreTheory>, head: u32, key: u64) -> Result<Option<u64>, Stop>
+    requires begun { IsBegun store (state txn.old) }
+    requires head { (map : ℕ) × IsHeadOf (shape_in (state txn.old)) map key head }
+    ensures pass { txn.new.pass.ghost_name ≡ txn.old.pass.ghost_name }
+    ensures leaves { Leaves store (state txn.old) (state txn.new) 1 0 0 }
+    ensures answer { IfOk result (λ value. Answers store (state txn.old) (state txn.new) head key
+        (λ map. Get map key) (Value value)) }
+    ensures stops { AfterStop (state txn.old).stop (state txn.old) (state txn.new) result
+        (HasStopButNodes (state txn.new) result) }
+    ensures no_read { RefusedBy Reads store (state txn.old) (state txn.new) result
+        (NeedsRead store (state txn.old) head key (λ map. Get map key)) }
+    ensures no_slot { RefusedBy Writes store (state txn.old) (state txn.new) result
+        (NeedsUnlink store (state txn.old) head key) }
+{
+    get(txn, head, key)
+}
+
+pub(crate) fn get_in<'a>(
+    txn: &mut Txn<'a, StoreTheory>,
+    broken: &mut Option<Broken>,
+    before: &Snapshot<Pass<StoreTheory>>,
+    map: u32,
+    key: u64,
+) -> Result<Option<u64>, Stop>
+    requires running { IsRunning before.now.value (state txn.old) (refusal_of broken.old) }
+    requires map { map < (shape_in (state txn.old)).maps }
+    ensures pass { txn.new.pass.ghost_name ≡ txn.old.pass.ghost_name }
+    ensures runs { RunsOn before.now.value (state txn.old) (state txn.new) (refusal_of broken.new) }
+    ensures ok { IfOk result (λ v. Answered (Get map key) (Value v)
+        (state txn.old).hand.acts (state txn.new).hand.acts (refusal_of broken.old)
+        (refusal_of broken.new)) }
+    ensures err { IfErr result (λ e. Refused (Get map key) e (state txn.old).hand.acts
+        (state txn.new).hand.acts (refusal_of broken.old) (refusal_of broken.new)) }
+{
+    let _ = before;
+    if let Some(b) = broken {
+        return Err(b.stop);
+    }
+    let op = Op::Get { map, key };
+    txn.start_op();
+    let head = txn.shape().map_head(map, key);
+    match look_up(txn, head, key) {
+        Ok(value) => {
+            txn.end_op(op, Reply::Value(value));
+            Ok(value)
+        }
+        Err(stop) => {
+            *broken = Some(Broken { stop, op });
+            Err(stop)
+        }
+    }
+}
+
+pub(crate) fn insert_in<'a>(
+    txn: &mut Txn<'a, StoreTheory>,
+    broken: &mut Option<Broken>,
+    before: &Snapshot<Pass<StoreTheory>>,
+    map: u32,
+    key: u64,
+    value: u64,
+) -> Result<bool, Stop>
+    requires running { IsRunning before.now.value (state txn.old) (refusal_of broken.old) }
+    requires map { map < (shape_in (state txn.old)).maps }
+    ensures pass { txn.new.pass.ghost_name ≡ txn.old.pass.ghost_name }
+    ensures runs { RunsOn before.now.value (state txn.old) (state txn.new) (refusal_of broken.new) }
+    ensures ok { IfOk result (λ v. Answered (Insert map key value) (Flag v)
+        (state txn.old).hand.acts (state txn.new).hand.acts (refusal_of broken.old)
+        (refusal_of broken.new)) }
+    ensures err { IfErr result (λ e. Refused (Insert map key value) e (state txn.old).hand.acts
+        (state txn.new).hand.acts (refusal_of broken.old) (refusal_of broken.new)) }
+{
+    let _ = before;
+    if let Some(b) = broken {
+        return Err(b.stop);
+    }
+    let op = Op::Insert { map, key, value };
+    txn.start_op();
+    let head = txn.shape().map_head(map, key);
+    match insert(txn, head, key, value) {
+        Ok(absent) => {
+            txn.end_op(op, Reply::Flag(absent));
+            Ok(absent)
+        }
+        Err(stop) => {
+            *broken = Some(Broken { stop, op });
+            Err(stop)
+        }
+    }
+}
+
+pub(crate) fn remove_in<'a>(
+    txn: &mut Txn<'a, StoreTheory>,
+    broken: &mut Option<Broken>,
+    before: &Snapshot<Pass<StoreTheory>>,
+    map: u32,
+    key: u64,
+) -> Result<Option<u64>, Stop>
+    requires running { IsRunning before.now.value (state txn.old) (refusal_of broken.old) }
+    requires map { map < (shape_in (state txn.old)).maps }
+    ensures pass { txn.new.pass.ghost_name ≡ txn.old.pass.ghost_name }
+    ensures runs { RunsOn before.now.value (state txn.old) (state txn.new) (refusal_of broken.new) }
+    ensures ok { IfOk result (λ v. Answered (Remove map key) (Value v)
+        (state txn.old).hand.acts (state txn.new).hand.acts (refusal_of broken.old)
+        (refusal_of broken.new)) }
+    ensures err { IfErr result (λ e. Refused (Remove map key) e (state txn.old).hand.acts
+        (state txn.new).hand.acts (refusal_of broken.old) (refusal_of broken.new)) }
+{
+    let _ = before;
+    if let Some(b) = broken {
+        return Err(b.stop);
+    }
+    let op = Op::Remove { map, key };
+    txn.start_op();
+    let head = txn.shape().map_head(map, key);
+    match remove(txn, head, key) {
+        Ok(value) => {
+            txn.end_op(op, Reply::Value(value));
+            Ok(value)
+        }
+        Err(stop) => {
+            *broken = Some(Broken { stop, op });
+            Err(stop)
+        }
+    }
+}

@@ -1,0 +1,15 @@
+pub mod Numbers
+pub mod Appending
+pub mod Writes
+pub mod Growing
+pub mod Prefixes
+pub mod Dummies
+pub mod Below
+pub mod Chains
+pub mod Stores
+pub mod Entries
+pub mod Opening
+pub mod Untouched
+pub mod Copying
+pub mod Buckets
+pub mod LaidContents

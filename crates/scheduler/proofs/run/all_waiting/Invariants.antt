@@ -1,5 +1,0 @@
-use Rattle.scheduler.specs.Jobs.{Holds}
-use Rattle.scheduler.proofs.run.all_waiting.Given as goal
-
-abbrev pub invariant-loop-job : goal.invariant-loop-job
-invariant-loop-job l = Holds l.job l.contents

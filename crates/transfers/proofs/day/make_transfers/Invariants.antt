@@ -1,5 +1,0 @@
-use Rattle.std.proofs.Common.{◌≡◌, length}
-use Rattle.transfers.proofs.day.make_transfers.Given as goal
-
-abbrev pub invariant-tellers : goal.invariant-tellers
-invariant-tellers l = length l.all.items ≡ l.teller

@@ -1,8 +1,0 @@
-use Rattle.std.proofs.Common.{◌≡◌, ◌^◌, take}
-use Rattle.std.specs.Prelude.{◌%◌}
-use Rattle.md_attempts.specs.ByCaller.{lists_in}
-use Rattle.transfers.specs.Journal.{moved_among}
-use Rattle.transfers.proofs.journal.moved_in.Given as goal
-
-abbrev pub invariant-loop-outcomes : goal.invariant-loop-outcomes
-invariant-loop-outcomes g l = l.moved ≡ moved_among (take l.outcomes-index (lists_in l.many.replies.items)) % 2 ^ 64

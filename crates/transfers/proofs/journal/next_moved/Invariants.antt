@@ -1,7 +1,0 @@
-use Rattle.std.proofs.Common.{◌≡◌, ℕ, drop}
-use Rattle.transfers.specs.Journal.{moved_after}
-use Rattle.transfers.proofs.journal.next_moved.Given as goal
-
-abbrev pub invariant-loop-next : goal.invariant-loop-next
-invariant-loop-next l =
-    (teller : ℕ) → moved_after teller l.past (drop l.past l.outcomes) ≡ moved_after teller l.next (drop l.next l.outcomes)

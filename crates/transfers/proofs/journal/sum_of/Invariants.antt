@@ -1,7 +1,0 @@
-use Rattle.std.proofs.Common.{◌≡◌, ◌+◌, ◌^◌, sum}
-use Rattle.std.specs.Prelude.{◌%◌}
-use Rattle.transfers.specs.Bank.{bank_in, total}
-use Rattle.transfers.proofs.journal.sum_of.Given as goal
-
-abbrev pub invariant-loop-balance : goal.invariant-loop-balance
-invariant-loop-balance l = (l.sum + sum l.balance-iterator) % 2 ^ 64 ≡ total (bank_in l.contents) % 2 ^ 64
