@@ -17,20 +17,24 @@ INK, FAINT = "#222222", "#777777"
 COLOURS = {"program": "#dce9f7", "contract": "#fbe8c8", "code": "#ddf0dd", "law": "#eee4f3", "plain": "#ffffff",
            "odd": "#f9d5d0", "ready": "#fbe8c8", "done": "#ddf0dd", "outside": "#eeeeee"}
 
-# A row of the drawing on each line: boxes `kind: name = what it is`, with `|` between them.
+# The families of crates.txt, the highest first: on each line a family, and its boxes `kind: names = what they are`, with
+# `|` between them. A line without a family is a band between two families.
 LAYERS = """
-program: medley = the program|program: your program = bodies, threads
-program: md_orders = order files|program: md_report_replies, md_report = replies, reports|program: md_book = commands, the book|program: md_rounds, md_program_play = order files in threads|program: md_many, md_many_attempts = lines in rounds
-contract: md_history = bodies, histories, and the contract of a store: the trait Engine
-code: md_store, md_store_bodies = hash tables and queues, for several threads|code: PlainStore = the store for one thread
-code: md_list = get, insert, remove|code: md_queue = enqueue, dequeue, front, line|law: md_store_law, md_store_layout = the store as a theory|law: md_nbtc_first, md_store_counts = the first attempt, counts
-code: md_nbtc, md_nbtc_sets = transactions: begin, load, exchange, ready, decide|law: md_nbtc_law = what their steps leave|law: md_list_law, md_hash_law, md_queue_law = structures as theories
-code: md_arena = takes nodes and attempts|code: md_help = settles attempts, clears descriptors
-code: md_rule, md_rule_lanes = steps on real words, each an event of the machine|law: md_machine = the theorem over all lists of events
-outside: atomic_table = atomic words, of the toolchain|law: md_words = words and their addresses
+The program|program: medley, md_program = the program and its run|program: md_program_edge = words, input and output|program: md_program_play = order files over a store
+The order book|program: md_book = commands and the book|program: md_orders = order files|program: md_report, md_report_replies = replies and reports|program: md_rounds = the book's lines
+The library's entry|program: medley_transactions = what a program names|program: example_bank, example_bank_day = transfers|program: example_jobs, example_jobs_shift = jobs and workers
+Callers|program: md_many = lines of callers in threads, over any engine|program: md_many_attempts = the attempts of one caller
+|contract: the trait Engine of md_history = all that the families above know of a store
+The store|code: md_store, md_store_bodies = maps and queues, for several threads|law: md_store_law, md_store_layout = a store's words and contents|law: md_store_counts = words and nodes, by acts
+Structures|code: md_list = get, insert, remove|code: md_queue = enqueue, dequeue, front, line|law: md_list_law, md_hash_law, md_queue_law = structures as theories
+Transactions on words|code: md_nbtc, md_nbtc_sets = begin, load, exchange, ready, decide|law: md_nbtc_law = what their steps leave|law: md_nbtc_first = counts in a first attempt
+The rule|code: md_rule, md_rule_lanes = steps on atomic words, each an event of the machine|code: md_arena = takes nodes and attempts|code: md_help = clears descriptors
+The machine|law: md_machine, md_machine_schedules = the theorem over all lists of events|law: md_words = words and their addresses
+Histories|contract: md_history = bodies, histories, the trait Engine, and PlainStore, the store for one thread
+Streams|contract: md_outside = what a read and a write of the outside do
 """
 
-KINDS = [("program", "programs and the order book"), ("contract", "a contract between layers"), ("code", "code of the store"),
+KINDS = [("program", "programs and callers"), ("contract", "contracts between layers"), ("code", "code of the store"),
          ("law", "definitions and laws")]
 
 # The words of the example in concurrency.md, by moments: who acts, what happens, and what each word has then.
@@ -83,27 +87,32 @@ def save(name, wide, high, parts, title):
 
 def layer_box(x, y, wide, high, part):
     kind, rest = part.split(": ", 1)
-    name, what = rest.split(" = ", 1)
-    lines = wrap(what, wide - 14, 12)
-    size = min(13.5, (wide - 14) / (0.7 * len(name)))
-    parts = [box(x, y, wide, high, kind), text(x + wide / 2, y + 20, name, round(size, 1), weight="bold")]
-    return parts + [text(x + wide / 2, y + 37 + 15 * i, line, 12) for i, line in enumerate(lines)]
+    names, what = rest.split(" = ", 1)
+    lines = [(line, 12.5, "bold") for line in wrap(names, wide - 12, 13)]
+    lines += [(line, 11.5, "normal") for line in wrap(what, wide - 12, 11.5)]
+    first = y + high / 2 + 4 - 7.5 * (len(lines) - 1)
+    return [box(x, y, wide, high, kind)] + [text(x + wide / 2, first + 15 * i, line, size, weight=weight)
+                                            for i, (line, size, weight) in enumerate(lines)]
 
 
 def architecture():
-    wide, high, gap, left = 900, 62, 12, 20
+    wide, gap, left, label = 960, 10, 20, 120
     parts, y = [], 16
     for row in LAYERS.strip().splitlines():
-        boxes = row.split("|")
-        each = (wide - 2 * left - gap * (len(boxes) - 1)) / len(boxes)
+        family, *boxes = row.split("|")
+        high, heading = (68, wrap(family, label, 12.5)) if family else (44, [])
+        parts += [text(left, y + high / 2 + 4 - 7.5 * (len(heading) - 1) + 15 * i, line, 12.5, "start")
+                  for i, line in enumerate(heading)]
+        start = left + label
+        each = (wide - left - start - gap * (len(boxes) - 1)) / len(boxes)
         for i, part in enumerate(boxes):
-            parts += layer_box(left + i * (each + gap), y, each, high, part)
+            parts += layer_box(start + i * (each + gap), y, each, high, part)
         y += high + gap
-    x = left
+    x = left + label
     for kind, means in KINDS:
         parts += [box(x, y + 2, 16, 16, kind, 2), text(x + 23, y + 15, means, 12, "start")]
         x += 60 + 7.0 * len(means)
-    save("architecture.svg", wide, y + 34, parts, "The crates in layers: each stands on crates beside it and below it")
+    save("architecture.svg", wide, y + 34, parts, "The crates by families: each stands on crates beside it and below it")
 
 
 def state(x, y, name, below, kind):
