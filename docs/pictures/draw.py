@@ -2,7 +2,7 @@
 """Draws the pictures of the documents as SVG files beside this script: `python3 docs/pictures/draw.py`.
 
 The architecture, the life of a descriptor and the words of a transaction are drawn from the texts below. The chart of
-speed is drawn from benches/callers.csv if that file exists. Its first column is the number of callers, and each other
+speed is drawn from benches/figures.csv if that file exists. Its first column is the number of callers, and each other
 column is one line of the chart, named by its heading.
 """
 

@@ -1,4 +1,4 @@
-//! A day of the bank of the crate transfers.
+//! A day of the bank of the crate example_bank.
 #![tactic(auto)]
 
 use example_bank::{

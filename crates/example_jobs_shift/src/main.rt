@@ -1,4 +1,4 @@
-//! A shift of the workers of the crate scheduler.
+//! A shift of the workers of the crate example_jobs.
 #![tactic(auto)]
 
 ghost use Rattle.example_jobs.specs.Jobs.{Holds};

@@ -20,7 +20,7 @@
 //!   again, and [`attempt_until_committed`] does so.
 //! - `renew` ends the engine, and opens one on the same contents, with all nodes and attempts
 //!   again.
-//! - `contents` ends the engine, and returns what it holds.
+//! - `contents` ends the engine, and returns what it holds. `Store::close` does the same.
 //!
 //! [`run_lines`] makes these calls for most programs. The trait [`Lines`] says which bodies each
 //! caller has, its **lines**; [`LinesByCaller`] has them in lists. The call plays all lines of all
@@ -36,10 +36,12 @@
 //! known of their fates. It is legal: each reply of a committed entry is the one that it has if the
 //! committed entries run one after another, in this order. The contents at the end are what they
 //! leave. `run_lines` says so of a whole run: one thread that does the committed lines one after
-//! another gets the same replies, and leaves the same contents. The crate `example_bank` is an example.
+//! another gets the same replies, and leaves the same contents. The crate `example_bank` is an
+//! example.
 //!
 //! Clauses cite definitions by the crate in which they stand, as `Rattle.md_history.specs.State`.
-//! So the line in `crates.txt` of a crate that has clauses names this crate and all below it.
+//! So the line in `crates.txt` of a crate that has clauses names this crate, and each crate of
+//! which they cite a definition.
 #![tactic(auto)]
 
 /// The store that threads share, its passes, and why it can't be opened. A pass holds some of the
