@@ -97,16 +97,16 @@ trade b o taker taken = record b {
 }
 
 -- the book after a command, and its reply
-pub record Step : Type 0 where
+pub record BookStep : Type 0 where
   pub book : Book
   pub reply : BookReply
 
 -- an order joins the book, with all its quantity left
-abbrev pub place_step : Book → Order → Step
+abbrev pub place_step : Book → Order → BookStep
 place_step b o = record { book = record b { orders = b.orders ++ o ∷ [] }; reply = reply.Placed }
 
 -- of an open order nothing is left
-abbrev pub cancel_step : Book → Option Order → Step
+abbrev pub cancel_step : Book → Option Order → BookStep
 cancel_step b None = record { book = b; reply = reply.Gone }
 cancel_step b (Some o) =
     record { book = record b { orders = lessened b.orders o.name o.left }; reply = reply.Cancelled o.left }
@@ -146,14 +146,14 @@ look level taker (suc places) b rest =
 abbrev pub padded : List Part → List Part
 padded parts = parts ++ replicate (MAX_PARTS - length parts) (record { name = 0; taken = 0 })
 
-abbrev pub looked_step : Looked → Step
+abbrev pub looked_step : Looked → BookStep
 looked_step l = record {
   book = l.book;
   reply = reply.Filled (sum_by (λ p. p.taken) l.parts) l.rest (length l.parts) (padded l.parts);
 }
 
 -- an account takes up to a quantity from so many places of a level at most
-abbrev pub fill_step : Book → ℕ → ℕ → ℕ → ℕ → Step
+abbrev pub fill_step : Book → ℕ → ℕ → ℕ → ℕ → BookStep
 fill_step b account level quantity places = looked_step (look level account places b quantity)
 
 -- the orders at a level's first places that weren't passed: so many of them, or all if there are fewer
@@ -166,13 +166,13 @@ left_within b level places = sum_by (λ o. o.left) (first_orders b level places)
 
 -- all or nothing: if those places have the whole quantity left, it is taken as a fill takes it; otherwise nothing
 -- changes
-abbrev pub kill_step : Book → ℕ → ℕ → ℕ → ℕ → Step
+abbrev pub kill_step : Book → ℕ → ℕ → ℕ → ℕ → BookStep
 kill_step b account level quantity places =
     if nat_le quantity (left_within b level places)
     then fill_step b account level quantity places
     else record { book = b; reply = reply.Killed }
 
-abbrev pub book_step : Book → Command → Step
+abbrev pub book_step : Book → Command → BookStep
 book_step b (Place name account side price quantity) =
     place_step b (record { name = name; account = account; side = side; price = price; left = quantity })
 book_step b (Cancel name) = cancel_step b (find_open b name)

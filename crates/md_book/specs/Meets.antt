@@ -26,7 +26,7 @@ MayTake b (Depth side price) = Unit {0}
 MayTake b (Account account) = Unit {0}
 
 -- the reply is the book's, the state after the acts stands for the book after the command, and the acts are few
-pub record Meets (s : State) (b : Book) (c : Command) (acts : List Act) (r : BookReply) : Type 0 where
+pub record IsBookStep (s : State) (b : Book) (c : Command) (acts : List Act) (r : BookReply) : Type 0 where
   pub reply : r ≡ (book_step b c).reply
   pub stands : StandsFor (run s acts) (book_step b c).book
   pub few : AreFew command_bounds acts
@@ -34,7 +34,7 @@ pub record Meets (s : State) (b : Book) (c : Command) (acts : List Act) (r : Boo
 -- commands meet the book
 abbrev pub CommandsMeetTheBook : Type 0
 CommandsMeetTheBook = (s : State) (b : Book) (c : Command) (acts : List Act) (r : BookReply)
-    → StandsFor s b → IsCommand c → MayTake b c → Did (script_of c) acts r → IsRight s acts → Meets s b c acts r
+    → StandsFor s b → IsCommand c → MayTake b c → Did (script_of c) acts r → IsRight s acts → IsBookStep s b c acts r
 
 -- whatever a command can make, when maps and queues stand for a book, is few acts
 abbrev pub CommandsAreSmall : Type 0

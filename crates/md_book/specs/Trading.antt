@@ -72,22 +72,22 @@ abbrev pub parts_from : (ℕ → Bool) → List Part → ℕ
 parts_from of parts = sum_by (λ p. if of p.name then p.taken else 0) parts
 
 -- the quantity that a command places, if its order is one of these
-abbrev pub placed : (ℕ → Bool) → Command × BookReply → ℕ
-placed of (Place name account side price quantity, r) = if of name then quantity else 0
-placed of (Cancel name, r) = 0
-placed of (Fill account side price quantity places, r) = 0
-placed of (Kill account side price quantity places, r) = 0
-placed of (Depth side price, r) = 0
-placed of (Account account, r) = 0
+abbrev pub placed_among : (ℕ → Bool) → Command × BookReply → ℕ
+placed_among of (Place name account side price quantity, r) = if of name then quantity else 0
+placed_among of (Cancel name, r) = 0
+placed_among of (Fill account side price quantity places, r) = 0
+placed_among of (Kill account side price quantity places, r) = 0
+placed_among of (Depth side price, r) = 0
+placed_among of (Account account, r) = 0
 
 -- what is cancelled of these orders
-abbrev pub cancelled : (ℕ → Bool) → Command × BookReply → ℕ
-cancelled of (Place name account side price quantity, r) = 0
-cancelled of (Cancel name, r) = if of name then told_cancelled r else 0
-cancelled of (Fill account side price quantity places, r) = 0
-cancelled of (Kill account side price quantity places, r) = 0
-cancelled of (Depth side price, r) = 0
-cancelled of (Account account, r) = 0
+abbrev pub cancelled_among : (ℕ → Bool) → Command × BookReply → ℕ
+cancelled_among of (Place name account side price quantity, r) = 0
+cancelled_among of (Cancel name, r) = if of name then told_cancelled r else 0
+cancelled_among of (Fill account side price quantity places, r) = 0
+cancelled_among of (Kill account side price quantity places, r) = 0
+cancelled_among of (Depth side price, r) = 0
+cancelled_among of (Account account, r) = 0
 
 -- what is taken from these orders, part by part
 abbrev pub taken_from : (ℕ → Bool) → Command × BookReply → ℕ
@@ -99,14 +99,14 @@ taken_from of (Depth side price, r) = 0
 taken_from of (Account account, r) = 0
 
 -- what these orders have left in a book
-abbrev pub left_of : (ℕ → Bool) → Book → ℕ
-left_of of b = sum_by (λ o. if of o.name then o.left else 0) b.orders
+abbrev pub left_among : (ℕ → Bool) → Book → ℕ
+left_among of b = sum_by (λ o. if of o.name then o.left else 0) b.orders
 
 -- of whichever orders, what was placed is what was cancelled, was taken and is left
 abbrev pub OrdersAddUp : Type 0
 OrdersAddUp = (cs : List Command) (of : ℕ → Bool) → IsDay cs
-    → sum_by (placed of) (answered cs)
-    ≡ sum_by (cancelled of) (answered cs) + sum_by (taken_from of) (answered cs) + left_of of (closing cs)
+    → sum_by (placed_among of) (answered cs)
+    ≡ sum_by (cancelled_among of) (answered cs) + sum_by (taken_from of) (answered cs) + left_among of (closing cs)
 
 -- of each order, what was taken from it in all, was cancelled of it and is left adds up to what was placed: it never
 -- gives more than its quantity
@@ -114,8 +114,8 @@ abbrev pub EachOrderAddsUp : Type 0
 EachOrderAddsUp = (cs : List Command) (name account : ℕ) (side : Side) (price quantity : ℕ)
     → IsDay cs → Contains cs (Place name account side price quantity)
     → quantity
-    ≡ sum_by (cancelled (λ n. n == name)) (answered cs) + sum_by (taken_from (λ n. n == name)) (answered cs)
-    + left_of (λ n. n == name) (closing cs)
+    ≡ sum_by (cancelled_among (λ n. n == name)) (answered cs) + sum_by (taken_from (λ n. n == name)) (answered cs)
+    + left_among (λ n. n == name) (closing cs)
 
 -- whether a command places an order of the name, with a side, price and account that pass a test
 abbrev pub places_order : (Side → ℕ → ℕ → Bool) → ℕ → Command → Bool
@@ -135,13 +135,13 @@ abbrev pub is_placed_for : List Command → ℕ → ℕ → Bool
 is_placed_for cs account name = list_any (places_order (λ side price own. own == account) name) cs
 
 -- what a command fills
-abbrev pub filled : Command × BookReply → ℕ
-filled (Place name account side price quantity, r) = 0
-filled (Cancel name, r) = 0
-filled (Fill account side price quantity places, r) = told_taken r
-filled (Kill account side price quantity places, r) = told_taken r
-filled (Depth side price, r) = 0
-filled (Account account, r) = 0
+abbrev pub filled_by : Command × BookReply → ℕ
+filled_by (Place name account side price quantity, r) = 0
+filled_by (Cancel name, r) = 0
+filled_by (Fill account side price quantity places, r) = told_taken r
+filled_by (Kill account side price quantity places, r) = told_taken r
+filled_by (Depth side price, r) = 0
+filled_by (Account account, r) = 0
 
 -- what a command fills at a level
 abbrev pub filled_at : ℕ → Command × BookReply → ℕ
@@ -155,22 +155,22 @@ filled_at level (Account account, r) = 0
 -- at each level, what was placed is what was cancelled, was filled and is open
 abbrev pub LevelsAddUp : Type 0
 LevelsAddUp = (cs : List Command) (level : ℕ) → IsDay cs
-    → sum_by (placed (is_placed_at cs level)) (answered cs)
-    ≡ sum_by (cancelled (is_placed_at cs level)) (answered cs) + sum_by (filled_at level) (answered cs)
+    → sum_by (placed_among (is_placed_at cs level)) (answered cs)
+    ≡ sum_by (cancelled_among (is_placed_at cs level)) (answered cs) + sum_by (filled_at level) (answered cs)
     + depth (closing cs) level
 
 -- in all, what was placed is what was cancelled, was filled and is open at the levels
 abbrev pub DayAddsUp : Type 0
 DayAddsUp = (cs : List Command) → IsDay cs
-    → sum_by (placed (λ _. true)) (answered cs)
-    ≡ sum_by (cancelled (λ _. true)) (answered cs) + sum_by filled (answered cs)
+    → sum_by (placed_among (λ _. true)) (answered cs)
+    ≡ sum_by (cancelled_among (λ _. true)) (answered cs) + sum_by filled_by (answered cs)
     + sum_by (depth (closing cs)) (range_with_len 0 LEVELS)
 
 -- what all accounts bought is what was filled, and so is what they sold
 abbrev pub AccountsAddUp : Type 0
 AccountsAddUp = (cs : List Command) → IsDay cs
-    → (sum_by (bought (closing cs)) (range_with_len 1 MAX_ACCOUNT) ≡ sum_by filled (answered cs))
-    × (sum_by (sold (closing cs)) (range_with_len 1 MAX_ACCOUNT) ≡ sum_by filled (answered cs))
+    → (sum_by (bought (closing cs)) (range_with_len 1 MAX_ACCOUNT) ≡ sum_by filled_by (answered cs))
+    × (sum_by (sold (closing cs)) (range_with_len 1 MAX_ACCOUNT) ≡ sum_by filled_by (answered cs))
 
 abbrev pub is_side : Side → Side → Bool
 is_side Buy Buy = true

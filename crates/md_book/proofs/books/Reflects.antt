@@ -13,7 +13,7 @@ use Rattle.md_book.specs.declared.maps.TheConstants.{BOUGHT, DEPTHS, LEVELS, MAP
 use Rattle.md_book.specs.Book.{Order, Trade, Book, orders_at, depth, bought, sold, lessened, front_order, pass}
 use Rattle.md_book.specs.Stands.{open_order, unless_0, IsSound, Shows}
 use Rattle.md_book.specs.Filling.{resting_sums, taker_sums}
-use Rattle.md_book.proofs.books.Sizes.{HasRoom}
+use Rattle.md_book.proofs.books.Sizes.{HasMapsAndQueues}
 use Rattle.md_book.proofs.books.Changes.{at_each, Sets, Lines, map_at-lines, queue_at-sets}
 use Rattle.md_book.proofs.books.ChangedBooks.{with_less, sound-with_less, names-with_less, open_order-with_less_other, passed-here, passed-other, with_trade}
 use Rattle.md_book.proofs.sums.SideSums.{resting_sum, taker_sum, resting_apart, at_account, resting_sum-with_trade}
@@ -30,7 +30,7 @@ pub record Reflects (s : State) (b : Book) (side : Side) (depths takers : ℕ �
   pub names : (level : ℕ) → level < LEVELS → queue_at s level ≡ drop (b.passed level) (map (λ o. o.name) (orders_at b level))
 
 module _ (s : State) (b : Book) where
-  module _ (room : HasRoom s) (shows : Shows s b) where
+  module _ (room : HasMapsAndQueues s) (shows : Shows s b) where
     resting_stand : (side : Side) (account : ℕ) → fin.get (map_at s (resting_sums side)) account ≡ unless_0 (resting_sum side b account)
     resting_stand Buy account = shows.bought account
     resting_stand Sell account = shows.sold account

@@ -3,7 +3,7 @@ use Rattle.md_book.specs.declared.commands.Command.TheVariants.{Place, Cancel, F
 use Rattle.md_book.specs.declared.commands.Command.{Command}
 use Rattle.md_book.specs.Commands.{IsCommand}
 use Rattle.md_book.specs.Meets.{MayTake, CommandsMeetTheBook}
-use Rattle.md_book.proofs.books.Sizes.{HasRoom, sized-room}
+use Rattle.md_book.proofs.books.Sizes.{HasMapsAndQueues, sized-room}
 use Rattle.md_book.proofs.steps.Stepping.{MakesStep, steps-meet}
 use Rattle.md_book.proofs.looks.Looking.{depth-steps, account-steps}
 use Rattle.md_book.proofs.steps.Cancelling.{cancel-steps}
@@ -14,7 +14,7 @@ use Rattle.md_book.proofs.steps.Killing.{kill-steps}
 pub commands-meet-the-book : CommandsMeetTheBook
 commands-meet-the-book s b c acts r stands is may did right = steps-meet s b c acts r stands.sized (makes-step c is may) did right
   where
-    room : HasRoom s
+    room : HasMapsAndQueues s
     room = sized-room s stands.sized
 
     makes-step : (d : Command) → IsCommand d → MayTake b d → MakesStep s b d

@@ -18,7 +18,7 @@ use Rattle.md_book.specs.declared.maps.TheConstants.{DEPTHS, OPEN_ORDERS}
 use Rattle.md_book.specs.Book.{Order, Book, level_of, depth, sold, find_open, cancel_step}
 use Rattle.md_book.specs.Stands.{packed, left_in, level_in, open_order, unless_0, IsInRange, Shows}
 use Rattle.md_book.specs.Scripts.{lower, value_or_0}
-use Rattle.md_book.proofs.books.Sizes.{HasRoom}
+use Rattle.md_book.proofs.books.Sizes.{HasMapsAndQueues}
 use Rattle.md_book.proofs.books.Changes.{Sets, remove-sets}
 use Rattle.md_book.proofs.books.Raises.{lower-sets}
 use Rattle.md_book.proofs.steps.Costs.{costs-append, costs-none, costs-absent, costs-removed, few-cost}
@@ -38,7 +38,7 @@ book_cancelled level left = bind (lower DEPTHS level left) (λ _. done (reply.Ca
 abbrev found : ℕ → Script BookReply
 found order = book_cancelled (level_in order) (left_in order)
 
-module _ (s : State) (b : Book) (name : ℕ) (room : HasRoom s) (shows : Shows s b) where
+module _ (s : State) (b : Book) (name : ℕ) (room : HasMapsAndQueues s) (shows : Shows s b) where
   abbrev removed : State
   removed = after s (Remove OPEN_ORDERS name)
 

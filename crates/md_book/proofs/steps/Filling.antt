@@ -20,7 +20,7 @@ use Rattle.md_book.specs.Scripts.{value_or_0, raise, lower}
 use Rattle.md_book.specs.Filling.{taker_sums, unfilled, take_parts, book_taken, filled_reply, finish, fill}
 use Rattle.md_book.specs.Commands.{IsOffer, IsPlaces}
 use Rattle.md_book.specs.Places.{places_looked, bounds_for, FillsAreFew}
-use Rattle.md_book.proofs.books.Sizes.{HasRoom, sized-room}
+use Rattle.md_book.proofs.books.Sizes.{HasMapsAndQueues, sized-room}
 use Rattle.md_book.proofs.books.Changes.{Sets}
 use Rattle.md_book.proofs.books.Raises.{raise-sets, lower-sets}
 use Rattle.md_book.proofs.steps.Costs.{Costs, costs-append, costs-more, costs-none, few-cost, reads-cost, writes-cost}
@@ -107,7 +107,7 @@ pub record IsFilled (level places : ℕ) (l : Looked) (t : State) (r : BookReply
   pub costs : Costs level acts (3 * places + 1) (7 * places + 8) (places + 3)
   pub by_places : PlaceCosts level acts 1 8 3
 
-module _ (s : State) (b : Book) (room : HasRoom s) (shows : Shows s b) (account : ℕ) (side : Side) (price quantity places : ℕ) (is : IsOffer account price quantity) (low : places ≤ MAX_PARTS) where
+module _ (s : State) (b : Book) (room : HasMapsAndQueues s) (shows : Shows s b) (account : ℕ) (side : Side) (price quantity places : ℕ) (is : IsOffer account price quantity) (low : places ≤ MAX_PARTS) where
   abbrev level : ℕ
   level = level_of side price
 

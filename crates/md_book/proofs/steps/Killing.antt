@@ -17,12 +17,12 @@ use Rattle.md_book.specs.declared.commands.Command.TheVariants.{Kill}
 use Rattle.md_book.specs.declared.commands.BookReply.{BookReply}
 use Rattle.md_book.specs.declared.commands.BookReply.TheVariants as reply
 use Rattle.md_book.specs.declared.limits.TheConstants.{MAX_PARTS}
-use Rattle.md_book.specs.Book.{Order, Book, Step, level_of, orders_at, first_orders, fill_step, kill_step}
+use Rattle.md_book.specs.Book.{Order, Book, BookStep, level_of, orders_at, first_orders, fill_step, kill_step}
 use Rattle.md_book.specs.Stands.{Shows}
 use Rattle.md_book.specs.Scripts.{line_values}
 use Rattle.md_book.specs.Killing.{have_left, fill_or_kill}
 use Rattle.md_book.specs.Commands.{IsOffer}
-use Rattle.md_book.proofs.books.Sizes.{HasRoom}
+use Rattle.md_book.proofs.books.Sizes.{HasMapsAndQueues}
 use Rattle.md_book.proofs.steps.Costs.{Costs, costs-append, costs-more, costs-none, costs-line, few-cost}
 use Rattle.md_book.proofs.books.Lessened.{Has}
 use Rattle.md_book.proofs.steps.Placing.{level_of-below}
@@ -49,7 +49,7 @@ first-orders-stand b level places = recursion_from_All (Has b.orders) (first_ord
 values-of-line : (xs : List ℕ) → line_values (TheLine (line_of xs)) ≡ xs
 values-of-line xs = take-append_seam xs (replicate (MAX_LINE - length xs) 0)
 
-module _ (s : State) (b : Book) (room : HasRoom s) (shows : Shows s b) (account : ℕ) (side : Side) (price quantity places : ℕ) (is : IsOffer account price quantity) (low : places ≤ MAX_PARTS) where
+module _ (s : State) (b : Book) (room : HasMapsAndQueues s) (shows : Shows s b) (account : ℕ) (side : Side) (price quantity places : ℕ) (is : IsOffer account price quantity) (low : places ≤ MAX_PARTS) where
   abbrev level : ℕ
   level = level_of side price
 
@@ -73,7 +73,7 @@ module _ (s : State) (b : Book) (room : HasRoom s) (shows : Shows s b) (account 
   abbrev line : Act
   line = act_of (Line level places) (answer s (Line level places))
 
-  abbrev step_if : Bool → Step
+  abbrev step_if : Bool → BookStep
   step_if enough = cond enough (fill_step b account level quantity places) (record { book = b; reply = reply.Killed })
 
   -- it goes on from the state that the lookups left as it was

@@ -20,7 +20,7 @@ use Rattle.md_book.specs.Stands.{packed, open_order, unless_0, Shows}
 use Rattle.md_book.specs.Scripts.{value_or_0, place, raise}
 use Rattle.md_book.specs.Commands.{IsPlace}
 use Rattle.md_book.specs.Meets.{MayTake, command_bounds}
-use Rattle.md_book.proofs.books.Sizes.{HasRoom}
+use Rattle.md_book.proofs.books.Sizes.{HasMapsAndQueues}
 use Rattle.md_book.proofs.books.Changes.{at_each, Sets, Lines, insert-sets, enqueue-lines, map_at-lines, queue_at-sets}
 use Rattle.md_book.proofs.books.Raises.{raise-sets}
 use Rattle.md_book.proofs.steps.Costs.{costs-append, costs-none, costs-insert, costs-enqueue, few-cost}
@@ -33,7 +33,7 @@ level_of-below Buy price is = omega arith
 level_of-below Sell price is = omega arith
 
 -- placing is few acts, whatever the name
-pub place-few : (s : State) (b : Book) (o : Order) → HasRoom s → AreFew command_bounds (made (place o.name o.account o.side o.price o.left) s)
+pub place-few : (s : State) (b : Book) (o : Order) → HasMapsAndQueues s → AreFew command_bounds (made (place o.name o.account o.side o.price o.left) s)
 place-few s b o room =
     let level = level_of o.side o.price in
     let order = packed o.account o.side o.price o.left in
@@ -44,7 +44,7 @@ place-few s b o room =
     (costs-append (replace-costs level DEPTHS level t (omega (arith, length-maps s (Insert OPEN_ORDERS o.name order), room.maps)) (λ r. min (value_or_0 r + o.left) (2 ^ 64 - 1))) (costs-none level))))
     (omega arith) (omega arith) (omega arith))
 
-module _ (s : State) (b : Book) (o : Order) (room : HasRoom s) (shows : Shows s b) (is : IsPlace o.name o.account o.price o.left) (may : MayTake b (Place o.name o.account o.side o.price o.left)) where
+module _ (s : State) (b : Book) (o : Order) (room : HasMapsAndQueues s) (shows : Shows s b) (is : IsPlace o.name o.account o.price o.left) (may : MayTake b (Place o.name o.account o.side o.price o.left)) where
   abbrev level : ℕ
   level = level_of o.side o.price
 

@@ -8,7 +8,7 @@ use Rattle.md_book.specs.declared.commands.Command.{Command}
 use Rattle.md_book.specs.declared.commands.Command.TheVariants.{Place, Cancel, Fill, Kill, Depth, Account}
 use Rattle.md_book.specs.declared.limits.TheConstants.{MAX_ACCOUNT}
 use Rattle.md_book.specs.Book.{Order, Trade, Book, IsAccount, empty_book, level_of, buyer, seller, find_open, cancel_step, fill_step, book_step}
-use Rattle.md_book.specs.Trading.{answered, closing, told_taken, filled, AccountsAddUp}
+use Rattle.md_book.specs.Trading.{answered, closing, told_taken, filled_by, AccountsAddUp}
 use Rattle.md_book.proofs.steps.Kills.{kill-either}
 use Rattle.md_book.proofs.sums.Sums.{sum_by-nothing, sum_by-keys}
 use Rattle.md_book.proofs.sums.LookSums.{look-trades}
@@ -29,7 +29,7 @@ fill-takes : (b : Book) (account level quantity places : ℕ) → let step = fil
 unfolding all_taken
 fill-takes b account level quantity places = omega (arith, look-trades level account places b quantity)
 
-step-takes : (b : Book) (c : Command) → all_taken (book_step b c).book + 0 ≡ all_taken b + filled (c, (book_step b c).reply)
+step-takes : (b : Book) (c : Command) → all_taken (book_step b c).book + 0 ≡ all_taken b + filled_by (c, (book_step b c).reply)
 unfolding all_taken
 step-takes b (Place name account side price quantity) = refl
 step-takes b (Cancel name) = cancel-takes b (find_open b name)
@@ -55,8 +55,8 @@ unfolding all_taken
 accounts-add-up cs day =
     let open_day = opening Known cs day (all-known cs) in
     let trades = recursion_from_All (λ (t : Trade). IsAccount t.resting × IsAccount t.taker) (closing cs).trades (run-open Known cs empty_book open_day).trades in
-    let all : all_taken (closing cs) ≡ sum_by filled (answered cs) =
-    omega (arith, run-adds Known all_taken filled (λ _. 0) (λ b c cs is. step-takes b c) cs empty_book open_day, sum_by-nothing (answered cs)) in (
+    let all : all_taken (closing cs) ≡ sum_by filled_by (answered cs) =
+    omega (arith, run-adds Known all_taken filled_by (λ _. 0) (λ b c cs is. step-takes b c) cs empty_book open_day, sum_by-nothing (answered cs)) in (
       sum_by-keys buyer (λ t. t.taken) 1 MAX_ACCOUNT (closing cs).trades (in-accounts buyer buyer-in (closing cs).trades trades) ∙ all,
       sum_by-keys seller (λ t. t.taken) 1 MAX_ACCOUNT (closing cs).trades (in-accounts seller seller-in (closing cs).trades trades) ∙ all,
     )

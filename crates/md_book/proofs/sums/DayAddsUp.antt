@@ -9,7 +9,7 @@ use Rattle.md_book.specs.declared.commands.Command.{Command}
 use Rattle.md_book.specs.declared.commands.Command.TheVariants.{Place, Cancel, Fill, Kill, Depth, Account}
 use Rattle.md_book.specs.declared.maps.TheConstants.{LEVELS}
 use Rattle.md_book.specs.Book.{Order, Book, IsPrice, empty_book, level_of, depth, look, fill_step, book_step}
-use Rattle.md_book.specs.Trading.{told_taken, told_parts, parts_from, closing, taken_from, filled, DayAddsUp}
+use Rattle.md_book.specs.Trading.{told_taken, told_parts, parts_from, closing, taken_from, filled_by, DayAddsUp}
 use Rattle.md_book.proofs.steps.Kills.{kill-either}
 use Rattle.md_book.proofs.sums.Sums.{sum_by-equal, sum_by-filter, sum_by-keys}
 use Rattle.md_book.proofs.sums.Days.{opening, run-open, run-adds}
@@ -20,7 +20,7 @@ use Rattle.md_book.proofs.sums.OrdersAddUp.{Known, all-known, orders-add-up}
 fill-fills : (b : Book) (account level quantity places : ℕ) → let r = (fill_step b account level quantity places).reply in parts_from (λ _. true) (told_parts r) ≡ told_taken r
 fill-fills b account level quantity places = sum-padded (λ p. p.taken) refl (look level account places b quantity).parts
 
-step-fills : (b : Book) (c : Command) → taken_from (λ _. true) (c, (book_step b c).reply) ≡ filled (c, (book_step b c).reply)
+step-fills : (b : Book) (c : Command) → taken_from (λ _. true) (c, (book_step b c).reply) ≡ filled_by (c, (book_step b c).reply)
 step-fills b (Place name account side price quantity) = refl
 step-fills b (Cancel name) = refl
 step-fills b (Fill account side price quantity places) = fill-fills b account (level_of side price) quantity places
@@ -52,5 +52,5 @@ day-adds-up cs day =
     let open_day = opening Known cs day (all-known cs) in
     let priced = recursion_from_All (λ (o : Order). IsPrice o.price) (closing cs).orders (run-open Known cs empty_book open_day).priced in
     both_written _ _ _ _ _ _ (orders-add-up cs (λ _. true) day)
-    (run-adds Known (λ _. 0) filled (taken_from (λ _. true)) (λ b c cs is. ap (λ n. 0 + n) (step-fills b c)) cs empty_book open_day)
+    (run-adds Known (λ _. 0) filled_by (taken_from (λ _. true)) (λ b c cs is. ap (λ n. 0 + n) (step-fills b c)) cs empty_book open_day)
     (depths-add (closing cs) priced)

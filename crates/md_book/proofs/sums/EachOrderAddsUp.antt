@@ -10,7 +10,7 @@ use Rattle.md_book.specs.declared.commands.Command.{Command}
 use Rattle.md_book.specs.declared.commands.Command.TheVariants.{Place, Cancel, Fill, Kill, Depth, Account}
 use Rattle.md_book.specs.declared.commands.BookReply.{BookReply}
 use Rattle.md_book.specs.Book.{Book, empty_book, book_step, replies_to}
-use Rattle.md_book.specs.Trading.{names_placed, placed, EachOrderAddsUp}
+use Rattle.md_book.specs.Trading.{names_placed, placed_among, EachOrderAddsUp}
 use Rattle.md_book.proofs.books.Lessened.{Has, apart-flip}
 use Rattle.md_book.proofs.sums.OrdersAddUp.{orders-add-up}
 
@@ -24,7 +24,7 @@ module _ (name account : ℕ) (side : Side) (price quantity : ℕ) where
   own = Place name account side price quantity
 
   abbrev placed_own : Command × BookReply → ℕ
-  placed_own told = placed (λ n. n == name) told
+  placed_own told = placed_among (λ n. n == name) told
 
   -- what holds of all names that are placed holds of this one
   all-placed : (P : ℕ → Type 0) (cs : List Command) → AllByRecursion P (names_placed cs) → Has cs own → P name

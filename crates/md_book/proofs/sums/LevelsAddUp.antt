@@ -8,7 +8,7 @@ use Rattle.md_book.specs.declared.commands.Command.{Command}
 use Rattle.md_book.specs.declared.commands.Command.TheVariants.{Place, Cancel, Fill, Kill, Depth, Account}
 use Rattle.md_book.specs.declared.commands.Part.{Part}
 use Rattle.md_book.specs.Book.{Order, Book, empty_book, level_of, depth, look, fill_step, book_step}
-use Rattle.md_book.specs.Trading.{closing, taken_from, filled_at, left_of, is_placed_at, LevelsAddUp}
+use Rattle.md_book.specs.Trading.{closing, taken_from, filled_at, left_among, is_placed_at, LevelsAddUp}
 use Rattle.md_book.proofs.sums.Sums.{sum_by-agree, sum_by-nothing, sum_by-filter}
 use Rattle.md_book.proofs.steps.Kills.{kill-either}
 use Rattle.md_book.proofs.sums.LookSums.{look-parts}
@@ -58,7 +58,7 @@ module _ (of : ℕ → Bool) (level : ℕ) where
   each-left (o ∷ os) known = (ap (λ b. cond b o.left 0) (sym known.0), each-left os known.1)
 
   -- what those orders have left is the level's depth
-  left-depth : (b : Book) → AllByRecursion (λ o. Tells of level o.name (level_of o.side o.price)) b.orders → depth b level ≡ left_of of b
+  left-depth : (b : Book) → AllByRecursion (λ o. Tells of level o.name (level_of o.side o.price)) b.orders → depth b level ≡ left_among of b
   left-depth b known =
       sum_by-filter (λ o. o.left) (λ o. level_of o.side o.price == level) b.orders
       ∙ sum_by-agree (λ o. cond (level_of o.side o.price == level) o.left 0) (λ o. cond (of o.name) o.left 0) b.orders (each-left b.orders known)

@@ -7,7 +7,7 @@ use Rattle.std.proofs.lemmas.List.Elements.{All-push, recursion_from_All, All-fr
 use Rattle.std.proofs.lemmas.List.Sums.{sum_by-cons, sum_by_push}
 use Rattle.md_book.specs.declared.commands.Part.{Part}
 use Rattle.md_book.specs.Book.{Order, Trade, Book, IsAccount, pass, trade, traded, level_of, front_order, lessened, look}
-use Rattle.md_book.specs.Trading.{left_of}
+use Rattle.md_book.specs.Trading.{left_among}
 use Rattle.md_book.proofs.books.Lessened.{Has, All-has, filter-has, lessened-map, lessened-All, lessened-sum}
 use Rattle.md_book.proofs.looks.Looks.{look-relates}
 
@@ -61,8 +61,8 @@ module _ (level taker : ℕ) where
 
   -- of whichever orders, what is left falls by what is taken from them
   pub look-left : (of : ℕ → Bool) (places : ℕ) (b : Book) (rest : ℕ) → IsDistinct nat_eq (map (λ o. o.name) b.orders)
-      → left_of of (look level taker places b rest).book + sum_by (λ p. cond (of p.name) p.taken 0) (look level taker places b rest).parts ≡ left_of of b
-  look-left of = look-relates level taker (λ b rest l. IsDistinct nat_eq (map (λ o. o.name) b.orders) → left_of of l.book + sum_by (λ p. cond (of p.name) p.taken 0) l.parts ≡ left_of of b) (record {
+      → left_among of (look level taker places b rest).book + sum_by (λ p. cond (of p.name) p.taken 0) (look level taker places b rest).parts ≡ left_among of b
+  look-left of = look-relates level taker (λ b rest l. IsDistinct nat_eq (map (λ o. o.name) b.orders) → left_among of l.book + sum_by (λ p. cond (of p.name) p.taken 0) l.parts ≡ left_among of b) (record {
     ends = λ b rest distinct. omega arith;
     dead = λ b rest o l e empty some more distinct. more distinct;
     live = λ b rest o l e left some more distinct.

@@ -10,7 +10,7 @@ use Rattle.md_book.specs.declared.commands.Command.TheVariants.{Place, Cancel, F
 use Rattle.md_book.specs.declared.commands.Part.{Part}
 use Rattle.md_book.specs.declared.commands.BookReply.{BookReply}
 use Rattle.md_book.specs.Book.{Order, Book, empty_book, level_of, find_open, look, cancel_step, fill_step, book_step}
-use Rattle.md_book.specs.Trading.{answered, placed, cancelled, taken_from, left_of, OrdersAddUp}
+use Rattle.md_book.specs.Trading.{answered, placed_among, cancelled_among, taken_from, left_among, OrdersAddUp}
 use Rattle.md_book.proofs.sums.Sums.{sum_by-plus}
 use Rattle.md_book.proofs.books.Lessened.{find-has, lessened-sum}
 use Rattle.md_book.proofs.steps.Kills.{kill-either}
@@ -25,10 +25,10 @@ none_of false = refl
 
 -- what is cancelled of these orders or taken from them
 lost : (ℕ → Bool) → Command × BookReply → ℕ
-lost of told = cancelled of told + taken_from of told
+lost of told = cancelled_among of told + taken_from of told
 
 module _ (of : ℕ → Bool) (b : Book) (distinct : IsDistinct nat_eq (map (λ o. o.name) b.orders)) where
-  cancel-adds : (name : ℕ) (found : Option Order) → find_open b name ≡ found → left_of of (cancel_step b found).book + lost of (Cancel name, (cancel_step b found).reply) ≡ left_of of b
+  cancel-adds : (name : ℕ) (found : Option Order) → find_open b name ≡ found → left_among of (cancel_step b found).book + lost of (Cancel name, (cancel_step b found).reply) ≡ left_among of b
   unfolding lost
   cancel-adds name None e = omega (arith, none_of (of name))
   cancel-adds name (Some o) e =
@@ -42,14 +42,14 @@ module _ (of : ℕ → Bool) (b : Book) (distinct : IsDistinct nat_eq (map (λ o
   -- a fill takes from these orders what they have less
   fill-adds : (account : ℕ) (side : Side) (price quantity places : ℕ)
       → let step = fill_step b account (level_of side price) quantity places in
-      left_of of step.book + lost of (Fill account side price quantity places, step.reply) ≡ left_of of b + placed of (Fill account side price quantity places, step.reply)
+      left_among of step.book + lost of (Fill account side price quantity places, step.reply) ≡ left_among of b + placed_among of (Fill account side price quantity places, step.reply)
   unfolding lost
   fill-adds account side price quantity places =
       let l = look (level_of side price) account places b quantity in
       let none = none_of (of 0) in
       omega (arith, look-left (level_of side price) account of places b quantity distinct, sum-padded (λ (p : Part). cond (of p.name) p.taken 0) none l.parts)
 
-  step-adds : (c : Command) → left_of of (book_step b c).book + lost of (c, (book_step b c).reply) ≡ left_of of b + placed of (c, (book_step b c).reply)
+  step-adds : (c : Command) → left_among of (book_step b c).book + lost of (c, (book_step b c).reply) ≡ left_among of b + placed_among of (c, (book_step b c).reply)
   unfolding lost
   step-adds (Place name account side price quantity) =
       omega (arith, sum_by_push (λ (o : Order). cond (of o.name) o.left 0) b.orders (record { name = name; account = account; side = side; price = price; left = quantity }))
@@ -57,7 +57,7 @@ module _ (of : ℕ → Bool) (b : Book) (distinct : IsDistinct nat_eq (map (λ o
   step-adds (Fill account side price quantity places) = fill-adds account side price quantity places
   step-adds (Kill account side price quantity places) =
       let c = Kill account side price quantity places in
-      kill-either b account (level_of side price) quantity places (λ step. left_of of step.book + lost of (c, step.reply) ≡ left_of of b + placed of (c, step.reply))
+      kill-either b account (level_of side price) quantity places (λ step. left_among of step.book + lost of (c, step.reply) ≡ left_among of b + placed_among of (c, step.reply))
       (fill-adds account side price quantity places) (omega arith)
   step-adds (Depth side price) = omega arith
   step-adds (Account account) = omega arith
@@ -82,6 +82,6 @@ unfolding lost
 orders-add-up cs of day =
     omega (
       arith,
-      run-adds Known (left_of of) (placed of) (lost of) (λ b c cs is. step-adds of b (names-distinct Known b (c ∷ cs) is) c) cs empty_book (opening Known cs day (all-known cs)),
-      sum_by-plus (cancelled of) (taken_from of) (answered cs),
+      run-adds Known (left_among of) (placed_among of) (lost of) (λ b c cs is. step-adds of b (names-distinct Known b (c ∷ cs) is) c) cs empty_book (opening Known cs day (all-known cs)),
+      sum_by-plus (cancelled_among of) (taken_from of) (answered cs),
     )
