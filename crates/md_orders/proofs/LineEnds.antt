@@ -11,7 +11,7 @@ use Rattle.csv.specs.declared.parser.State.TheVariants as st
 use Rattle.csv.specs.declared.parser.Action.{Action}
 use Rattle.md_orders.specs.Records.{order_records}
 use Rattle.md_orders.specs.Version.{version_record}
-use Rattle.md_orders.proofs.Split.{state_after, records-split}
+use Rattle.md_orders.proofs.Split.{parser_after, records-split}
 
 -- the states in which a line feed ends a line
 abbrev plain : State → Bool
@@ -66,8 +66,8 @@ or-false true b h = cc h
 or-false false b h = (refl, h)
 
 -- so does a text that ends with one and has no double quote
-after_lines : (s : State) (xs : List ℕ) → plain s ≡ true → list_any (λ b. b == 34) (xs ++ 10 ∷ []) ≡ false → state_after default_config s (xs ++ 10 ∷ []) ≡ st.StartRecord
-unfolding state_after
+after_lines : (s : State) (xs : List ℕ) → plain s ≡ true → list_any (λ b. b == 34) (xs ++ 10 ∷ []) ≡ false → parser_after default_config s (xs ++ 10 ∷ []) ≡ st.StartRecord
+unfolding parser_after
 after_lines s [] is none = after_line s is
 after_lines s (c ∷ xs) is none =
     let (other, more) = or-false (c == 34) (list_any (λ b. b == 34) (xs ++ 10 ∷ [])) none in
@@ -85,7 +85,7 @@ strip-none (a ∷ b ∷ c ∷ rest) other = elim (cases_Bool (a == 239)) [
 ]
 
 -- the records of two parts, the first of which leads to the start of a record
-parts-are : (low high : List ℕ) → get_or (low ++ high) 0 0 ≢ 239 → get_or low 0 0 ≢ 239 → get_or high 0 0 ≢ 239 → state_after default_config st.StartRecord low ≡ st.StartRecord
+parts-are : (low high : List ℕ) → get_or (low ++ high) 0 0 ≢ 239 → get_or low 0 0 ≢ 239 → get_or high 0 0 ≢ 239 → parser_after default_config st.StartRecord low ≡ st.StartRecord
     → order_records (low ++ high) ≡ order_records low ++ order_records high
 unfolding order_records
 parts-are low high whole first second at =
@@ -102,15 +102,15 @@ cut-is (b ∷ bytes) low high (suc n) from to low_is high_is ends first second n
     let next : n + 1 ≡ suc n = omega arith in
     let low_ends : low ≡ take n (b ∷ bytes) ++ 10 ∷ [] = low_is ∙ (rw next at (take_more (b ∷ bytes) n 0 (omega arith))) ∙ ap (λ c. take n (b ∷ bytes) ++ c ∷ []) last in
     let whole : b ∷ bytes ≡ low ++ high = rw (low_is, high_is) (sym (take-append-drop (suc n) (b ∷ bytes))) in
-    let lands : state_after default_config st.StartRecord low ≡ st.StartRecord = rw low_ends (after_lines st.StartRecord (take n (b ∷ bytes)) refl (rw low_ends at none)) in
+    let lands : parser_after default_config st.StartRecord low ≡ st.StartRecord = rw low_ends (after_lines st.StartRecord (take n (b ∷ bytes)) refl (rw low_ends at none)) in
     let start : get_or low 0 0 ≡ get_or (b ∷ bytes) 0 0 = rw low_is refl in
     ap order_records whole ∙ parts-are low high (λ e. first (start ∙ ap (λ (xs : List ℕ). get_or xs 0 0) whole ∙ e)) first second lands
 
 -- the records of the plain starts of a file of version 2
 pub behind-line : (rest : List ℕ) → get_or rest 0 0 ≢ 239 → order_records (109 ∷ 101 ∷ 100 ∷ 108 ∷ 101 ∷ 121 ∷ 44 ∷ 50 ∷ 10 ∷ rest) ≡ version_record ∷ order_records rest
-unfolding order_records state_after strip_bom records_from next_record
+unfolding order_records parser_after strip_bom records_from next_record
 behind-line rest other = parts-are (109 ∷ 101 ∷ 100 ∷ 108 ∷ 101 ∷ 121 ∷ 44 ∷ 50 ∷ 10 ∷ []) rest (λ e. absurd (omega (arith, e))) (λ e. absurd (omega (arith, e))) other refl
 
 pub behind-crlf : (rest : List ℕ) → get_or rest 0 0 ≢ 239 → order_records (109 ∷ 101 ∷ 100 ∷ 108 ∷ 101 ∷ 121 ∷ 44 ∷ 50 ∷ 13 ∷ 10 ∷ rest) ≡ version_record ∷ order_records rest
-unfolding order_records state_after strip_bom records_from next_record
+unfolding order_records parser_after strip_bom records_from next_record
 behind-crlf rest other = parts-are (109 ∷ 101 ∷ 100 ∷ 108 ∷ 101 ∷ 121 ∷ 44 ∷ 50 ∷ 13 ∷ 10 ∷ []) rest (λ e. absurd (omega (arith, e))) (λ e. absurd (omega (arith, e))) other refl

@@ -6,13 +6,13 @@ use Rattle.md_orders.specs.declared.version.Version.{Version}
 use Rattle.md_orders.specs.Records.{Row, max_records}
 use Rattle.md_orders.specs.Grammar.{caller_of, command_of, keeps}
 use Rattle.md_orders.specs.Scripts.{list_of, count_of}
-use Rattle.md_orders.specs.Line.{IsLine, next_name}
+use Rattle.md_orders.specs.ScriptLine.{IsScriptLine, next_name}
 use Rattle.md_orders.proofs.ByCaller.{length-list_of-le}
 use Rattle.md_orders.proofs.Keeps.{command_of-some, command_of-lawful, caller_of-inv, max_caller-high, is_name}
 
 -- a record that writes a caller and a command is a line
 pub line-is : (version : Version) (callers : ℕ) (row : Row) (scripts : List (List Command)) (caller : ℕ) (command : Command) → count_of scripts < max_records
-    → caller_of version callers row ≡ Some caller → command_of version (next_name scripts caller) row ≡ Some command → IsLine version callers row scripts caller command
+    → caller_of version callers row ≡ Some caller → command_of version (next_name scripts caller) row ≡ Some command → IsScriptLine version callers row scripts caller command
 line-is version callers row scripts caller command room caller_is command_is =
     let from = caller_of-inv version callers row caller caller_is in
     let most = max_caller-high version in

@@ -8,21 +8,21 @@ use Rattle.std.proofs.lemmas.List.FromFn.{length-enumerate_from}
 use Rattle.md_book.specs.declared.commands.Command.{Command}
 use Rattle.md_orders.specs.declared.generator.Draws.{Draws}
 use Rattle.md_orders.specs.Scripts.{list_of, with_list}
-use Rattle.md_orders.specs.Generator.{next_state, state_after, draws_from, draws_of, made_command, is_made_by, made_script, AreMade}
+use Rattle.md_orders.specs.Generator.{next_state, state_after_draws, draws_from, draws_of, made_command, is_made_by, made_script, AreMade}
 use Rattle.md_orders.proofs.ByCaller.{list_of-with_list-same, list_of-with_list-other, length-with_list}
 use Rattle.md_orders.proofs.Noted.{list_of-replicate}
 use Rattle.md_orders.proofs.Numbered.{numbered-more, numbered-same}
 
 -- five draws more
-pub five_more : (number i state : ℕ) → state ≡ state_after number (5 * i) → state_after state 5 ≡ state_after number (5 * (i + 1))
-unfolding state_after
+pub five_more : (number i state : ℕ) → state ≡ state_after_draws number (5 * i) → state_after_draws state 5 ≡ state_after_draws number (5 * (i + 1))
+unfolding state_after_draws
 five_more number i state is = rw is (let more : 5 * (i + 1) ≡ suc (suc (suc (suc (suc (5 * i))))) = omega arith in rw more refl)
 
 -- five draws, one after another: the state that they leave, and what they give
 pub five_draws : (s a b c d e k w g p q : ℕ) → a ≡ next_state s → b ≡ next_state a → c ≡ next_state b → d ≡ next_state c → e ≡ next_state d
     → k ≡ next_state s / 2 ^ 16 → w ≡ next_state a / 2 ^ 16 → g ≡ next_state b / 2 ^ 16 → p ≡ next_state c / 2 ^ 16 → q ≡ next_state d / 2 ^ 16
-    → (e ≡ state_after s 5) × ((let drawn : Draws = record { kind = k; account = w; side = g; price = p; quantity = q } in drawn) ≡ draws_from s)
-unfolding state_after
+    → (e ≡ state_after_draws s 5) × ((let drawn : Draws = record { kind = k; account = w; side = g; price = p; quantity = q } in drawn) ≡ draws_from s)
+unfolding state_after_draws
 five_draws s a b c d e k w g p q a_is b_is c_is d_is e_is k_is w_is g_is p_is q_is = rw (k_is, w_is, g_is, p_is, q_is, e_is, d_is, c_is, b_is, a_is) (refl, refl)
 
 -- one number more
@@ -53,8 +53,8 @@ script-same number i callers caller other =
     ∙ ap (map f) (numbered-same (is_made_by callers caller) (range_with_len 0 i) i other)
 
 -- no command yet
-pub state_none : (number : ℕ) → number ≡ state_after number (5 * 0)
-unfolding state_after
+pub state_none : (number : ℕ) → number ≡ state_after_draws number (5 * 0)
+unfolding state_after_draws
 state_none number = refl
 
 pub made-none : (number callers : ℕ) (scripts : List (List Command)) → scripts ≡ replicate callers [] → AreMade number 0 callers scripts

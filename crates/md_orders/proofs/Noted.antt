@@ -18,7 +18,7 @@ use Rattle.md_orders.specs.Version.{OrderFile, file_of, is_version_record}
 use Rattle.md_orders.specs.Grammar.{caller_of, command_of, keeps}
 use Rattle.md_orders.specs.Scripts.{list_of, with_list, count_of, is_by, script_in, IsNamed, AreKept}
 use Rattle.md_orders.specs.Noted.{file_as, shows_version_2, AreScriptsOf, AreNoted, IsNoted}
-use Rattle.md_orders.specs.Line.{IsLine}
+use Rattle.md_orders.specs.ScriptLine.{IsScriptLine}
 use Rattle.md_orders.proofs.Numbered.{numbered-more, numbered-same}
 use Rattle.md_orders.proofs.ByCaller.{list_of-with_list-same, list_of-with_list-other, length-with_list, at_line-none, count_of-add}
 use Rattle.md_orders.proofs.Keeps.{first_bad_line-more, first_bad_line-still, caller_of-inv}
@@ -47,7 +47,7 @@ more file row = record file { lines = file.lines ++ row ∷ [] }
 
 -- its scripts
 scripts-more : (callers : ℕ) (file : OrderFile) (row : Row) (scripts : List (List Command)) (caller : ℕ) (x : Command)
-    → AreScriptsOf callers file scripts → IsLine file.version callers row scripts caller x
+    → AreScriptsOf callers file scripts → IsScriptLine file.version callers row scripts caller x
     → AreScriptsOf callers (more file row) (with_list scripts caller (list_of scripts caller ++ x ∷ []))
 scripts-more callers file row scripts caller x so_far line =
     let version = file.version in
@@ -193,11 +193,11 @@ noted-as known callers rows row count version scripts bad other counted version_
 
 -- after a line what was noted is the scripts with it
 pub note_line : (known : Option Version) (callers : ℕ) (rows : List Row) (row : Row) (count : ℕ) (version : Version) (scripts : List (List Command)) (bad : Option ℕ) (caller : ℕ) (x : Command)
-    → is_some bad ≡ false → IsLaterOrKnown known rows row → IsNoted known callers rows count version scripts bad → IsLine version callers row scripts caller x
+    → is_some bad ≡ false → IsLaterOrKnown known rows row → IsNoted known callers rows count version scripts bad → IsScriptLine version callers row scripts caller x
     → IsNoted known callers (rows ++ row ∷ []) (count + 1) version (with_list scripts caller (list_of scripts caller ++ x ∷ [])) bad
 note_line known callers rows row count version scripts None caller x none other noted line =
     noted-as known callers rows row count version _ None other noted.counted noted.version_is
-    (scripts-more callers (file_as known rows) row scripts caller x noted.noted (subst (λ v. IsLine v callers row scripts caller x) noted.version_is line))
+    (scripts-more callers (file_as known rows) row scripts caller x noted.noted (subst (λ v. IsScriptLine v callers row scripts caller x) noted.version_is line))
 note_line known callers rows row count version scripts (Some n) caller x none other noted line = cc none
 
 -- after the first bad record what was noted is its number

@@ -94,9 +94,9 @@ stays_step cfg st.InComment c = choose true (c == 10) _ _ (skips _) (skips _)
 stays_step cfg st.AfterCr c = choose true (c == 10) _ _ (skips _) (stays_start_record cfg c)
 
 -- the state after a text
-unfoldable pub state_after : Config → State → List ℕ → State
-state_after cfg s [] = s
-state_after cfg s (c ∷ rest) = state_after cfg (step cfg s c).0 rest
+unfoldable pub parser_after : Config → State → List ℕ → State
+parser_after cfg s [] = s
+parser_after cfg s (c ∷ rest) = parser_after cfg (step cfg s c).0 rest
 
 -- nothing is at hand where a state stands between records
 record Empty (s : State) (fields : Row) (field : List ℕ) : Type 0 where
@@ -113,9 +113,9 @@ empty-step cfg s c fields field goes_on empty = record {
 }
 
 -- the records of a lower part after which the machine is at the start of a record, and those of the upper part
-rows-split : (cfg : Config) (s : State) (fields : Row) (field low high : List ℕ) → Empty s fields field → state_after cfg s low ≡ st.StartRecord
+rows-split : (cfg : Config) (s : State) (fields : Row) (field low high : List ℕ) → Empty s fields field → parser_after cfg s low ≡ st.StartRecord
     → rows_from cfg s fields field (low ++ high) ≡ rows_from cfg s fields field low ++ rows_from cfg st.StartRecord [] [] high
-unfolding state_after rows_from
+unfolding parser_after rows_from
 rows-split cfg st.StartRecord fields field [] high empty at =
     let (no_fields, no_field) = empty.nothing refl in
     rw (no_fields, no_field) refl
@@ -134,7 +134,7 @@ rows-split cfg s fields field (c ∷ low) high empty at = elim (cases_Bool (is_e
 ]
 
 -- the records of a text that is cut so
-pub records-split : (cfg : Config) (low high : List ℕ) → state_after cfg st.StartRecord low ≡ st.StartRecord → records cfg (low ++ high) ≡ records cfg low ++ records cfg high
+pub records-split : (cfg : Config) (low high : List ℕ) → parser_after cfg st.StartRecord low ≡ st.StartRecord → records cfg (low ++ high) ≡ records cfg low ++ records cfg high
 records-split cfg low high at =
     rows-all cfg (low ++ high) ∙ rows-split cfg st.StartRecord [] [] low high (record { nothing = λ _. (refl, refl) }) at
     ∙ (λ i. sym (rows-all cfg low) i ++ sym (rows-all cfg high) i)

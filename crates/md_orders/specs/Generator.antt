@@ -16,13 +16,13 @@ abbrev pub next_state : ℕ → ℕ
 next_state state = (state * 1103515245 + 12345) % 2 ^ 31
 
 -- the state after so many draws
-unfoldable pub state_after : ℕ → ℕ → ℕ
-state_after state zero = state
-state_after state (suc n) = next_state (state_after state n)
+unfoldable pub state_after_draws : ℕ → ℕ → ℕ
+state_after_draws state zero = state
+state_after_draws state (suc n) = next_state (state_after_draws state n)
 
 -- draw n from a state, counted from 0: the state that it leaves, without the low 16 bits
 abbrev pub draw : ℕ → ℕ → ℕ
-draw state n = state_after state (suc n) / 2 ^ 16
+draw state n = state_after_draws state (suc n) / 2 ^ 16
 
 -- the five draws of a command
 abbrev pub draws_from : ℕ → Draws
@@ -36,7 +36,7 @@ draws_from state = record {
 
 -- those of command i, counted from 0, where the first state is the number
 abbrev pub draws_of : ℕ → ℕ → Draws
-draws_of number i = draws_from (state_after number (5 * i))
+draws_of number i = draws_from (state_after_draws number (5 * i))
 
 -- the command of a kind that draws give at a caller's line
 abbrev pub made_of_kind : ℕ → ℕ → Draws → ℕ → Command

@@ -7,5 +7,5 @@ pub mod Scripts
 pub mod Noted
 pub mod Renamed
 pub mod Joined
-pub mod Line
+pub mod ScriptLine
 pub mod Generator

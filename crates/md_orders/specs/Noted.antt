@@ -51,11 +51,11 @@ AreAllNoted known callers rows notes true = AreNotes known callers rows notes ×
 AreAllNoted known callers rows notes false = ¬ AreFewRecords rows
 
 -- what a read of records returns: notes of them, or that they are too many; or memory ran out
-abbrev pub IsRead : Option Version → ℕ → List Row → Result Notes OrderFault → Type 0
-IsRead known callers rows (Ok notes) = AreNotes known callers rows notes × AreFewRecords rows
-IsRead known callers rows (Err TooMany) = ¬ AreFewRecords rows
-IsRead known callers rows (Err (BadLine n)) = ⊥
-IsRead known callers rows (Err NoMemory) = Unit {0}
+abbrev pub IsReadAsNotes : Option Version → ℕ → List Row → Result Notes OrderFault → Type 0
+IsReadAsNotes known callers rows (Ok notes) = AreNotes known callers rows notes × AreFewRecords rows
+IsReadAsNotes known callers rows (Err TooMany) = ¬ AreFewRecords rows
+IsReadAsNotes known callers rows (Err (BadLine n)) = ⊥
+IsReadAsNotes known callers rows (Err NoMemory) = Unit {0}
 
 -- what a read of an order file returns: its scripts, or why there are none
 abbrev pub IsReadAs : ℕ → List Row → Result (List (List Command)) OrderFault → Type 0

@@ -2,7 +2,7 @@
 
 ghost use Rattle.std.specs.Prelude.{◌≡◌, ◌≤◌, ◌+◌, ◌/◌, ◌%◌, ◌^◌, IfOk};
 ghost use Rattle.md_orders.specs.Records.{max_records};
-ghost use Rattle.md_orders.specs.Generator.{next_state, state_after, draws_from, made_command, AreMade};
+ghost use Rattle.md_orders.specs.Generator.{next_state, state_after_draws, draws_from, made_command, AreMade};
 
 use crate::scripts::Scripts;
 use md_book::{Command, MAX_SCRIPT_LINE, PLACES_IN_VERSION_1, Side, order_name};
@@ -46,7 +46,7 @@ impl Generator {
 
     // The five draws of the next command.
     fn draws(&mut self) -> Draws
-        ensures state { self.new.state ≡ state_after self.old.state 5 }
+        ensures state { self.new.state ≡ state_after_draws self.old.state 5 }
         ensures draws { result ≡ draws_from self.old.state }
     {
         Draws {

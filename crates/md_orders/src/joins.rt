@@ -3,7 +3,7 @@
 ghost use Rattle.std.specs.Prelude.{◌≤◌, ◌++◌, List, Some};
 ghost use Rattle.md_orders.specs.declared.version.Version.{Version};
 ghost use Rattle.md_orders.specs.Records.{Row, max_records};
-ghost use Rattle.md_orders.specs.Noted.{AreNotes, IsRead};
+ghost use Rattle.md_orders.specs.Noted.{AreNotes, IsReadAsNotes};
 
 use crate::read::{MAX_RECORDS, Notes, OrderFault};
 use md_book::MAX_CALLER;
@@ -21,7 +21,7 @@ fn join_notes(mut first: Notes, second: Notes, callers: u32) -> Result<Notes, Or
     ensures { (low : List Row) → (high : List Row)
         → AreNotes (Some first.version) callers low first
         → AreNotes (Some first.version) callers high second
-        → IsRead (Some first.version) callers (low ++ high) result }
+        → IsReadAsNotes (Some first.version) callers (low ++ high) result }
 {
     let before = first.count;
     first.count += second.count;
@@ -52,10 +52,10 @@ pub(crate) fn join_reads(
 ) -> Result<Notes, OrderFault>
     requires few { callers ≤ MAX_CALLER }
     requires reads { (version : Version) × (low : List Row) × (high : List Row)
-        × IsRead (Some version) callers low first × IsRead (Some version) callers high second }
+        × IsReadAsNotes (Some version) callers low first × IsReadAsNotes (Some version) callers high second }
     ensures { (version : Version) → (low : List Row) → (high : List Row)
-        → IsRead (Some version) callers low first → IsRead (Some version) callers high second
-        → IsRead (Some version) callers (low ++ high) result }
+        → IsReadAsNotes (Some version) callers low first → IsReadAsNotes (Some version) callers high second
+        → IsReadAsNotes (Some version) callers (low ++ high) result }
 {
     join_notes(first?, second?, callers)
 }

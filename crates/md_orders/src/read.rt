@@ -5,8 +5,8 @@ ghost use Rattle.csv.specs.Records.{fields_of};
 ghost use Rattle.md_orders.specs.Records.{Row, order_records, max_records, AreFewRecords};
 ghost use Rattle.md_orders.specs.Grammar.{keeps, first_bad};
 ghost use Rattle.md_orders.specs.Scripts.{AreScripts, count_of};
-ghost use Rattle.md_orders.specs.Line.{IsLine};
-ghost use Rattle.md_orders.specs.Noted.{AreNotes, AreAllNoted, IsRead, shows_version_2};
+ghost use Rattle.md_orders.specs.ScriptLine.{IsScriptLine};
+ghost use Rattle.md_orders.specs.Noted.{AreNotes, AreAllNoted, IsReadAsNotes, shows_version_2};
 ghost use Rattle.md_orders.specs.Rows.{IsReadSoFar};
 
 use crate::grammar::{caller_of, command_of};
@@ -62,7 +62,7 @@ fn line_of(
     requires room { count_of scripts.now < max_records }
     ensures none { IfNone result (keeps version callers (fields_of row.now) ≡ false) }
     ensures some { IfSome result (λ line.
-        IsLine version callers (fields_of row.now) scripts.now line.0 line.1) }
+        IsScriptLine version callers (fields_of row.now) scripts.now line.0 line.1) }
 {
     let caller = caller_of(version, callers, row)?;
     let name = order_name(caller, scripts.len(caller) + 1);
@@ -172,7 +172,7 @@ pub(crate) fn read_records(
     known: Option<Version>,
 ) -> Result<Notes, OrderFault>
     requires { (1 ≤ callers) × (callers ≤ MAX_CALLER) }
-    ensures { IsRead known callers (order_records bytes.now) result }
+    ensures { IsReadAsNotes known callers (order_records bytes.now) result }
 {
     let Ok(mut notes) = no_notes(alloc, callers, known, likely_lines(bytes) / callers) else {
         return Err(OrderFault::NoMemory);

@@ -6,7 +6,7 @@ ghost use Rattle.md_orders.specs.Records.{Row, order_records, AreFewRecords};
 ghost use Rattle.md_orders.specs.Version.{version_record};
 ghost use Rattle.md_orders.specs.Grammar.{first_bad};
 ghost use Rattle.md_orders.specs.Scripts.{AreScripts};
-ghost use Rattle.md_orders.specs.Noted.{AreNotes, IsRead, IsReadAs};
+ghost use Rattle.md_orders.specs.Noted.{AreNotes, IsReadAsNotes, IsReadAs};
 
 use crate::cuts::{cut_off, lines_of_version_2};
 use crate::joins::join_reads;
@@ -42,7 +42,7 @@ fn read_parts<R: Threads + Sync>(
     parts: u32,
 ) -> Result<Notes, OrderFault>
     requires { (1 ≤ callers) × (callers ≤ MAX_CALLER) }
-    ensures { IsRead (Some version) callers (order_records bytes.now) result }
+    ensures { IsReadAsNotes (Some version) callers (order_records bytes.now) result }
 {
     let Some((low, high)) = cut_off(bytes, parts) else {
         return read_records(alloc, bytes, callers, Some(version));
@@ -52,12 +52,12 @@ fn read_parts<R: Threads + Sync>(
         rt,
         move || -> Result<Notes, OrderFault>
             requires range { (1 ≤ callers) × (callers ≤ MAX_CALLER) }
-            ensures { IsRead (Some version) callers (order_records low.entry.now) result }
+            ensures { IsReadAsNotes (Some version) callers (order_records low.entry.now) result }
         { read_records(alloc, low, callers, Some(version)) },
         move || -> Result<Notes, OrderFault>
             requires sync { IsSync R.row }
             requires range { (1 ≤ callers) × (callers ≤ MAX_CALLER) }
-            ensures { IsRead (Some version) callers (order_records high.entry.now) result }
+            ensures { IsReadAsNotes (Some version) callers (order_records high.entry.now) result }
         { read_parts(rt, alloc, high, callers, version, fewer) },
     );
     join_reads(first, second, callers)

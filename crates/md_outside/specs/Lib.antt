@@ -4,4 +4,4 @@ pub mod MemSink
 pub mod MemSource
 pub mod StdSink
 pub mod StdSource
-pub mod Steps
+pub mod Moves

@@ -5,7 +5,7 @@ ghost use Rattle.std.specs.Io.KnownBytes.{WriteAppends};
 ghost use Rattle.std.specs.List.{Contains};
 ghost use Rattle.md_outside.specs.Causes.{HasCause, TakesSome, next_count};
 ghost use Rattle.md_outside.specs.MemSink.{SinkState, MemTakes};
-ghost use Rattle.md_outside.specs.Steps.{bytes_moved};
+ghost use Rattle.md_outside.specs.Moves.{bytes_moved};
 
 use crate::listed::is_listed;
 use crate::{Failed, Sink};

@@ -6,7 +6,7 @@ ghost use Rattle.std.specs.Io.KnownBytes.{ReadConsumes};
 ghost use Rattle.std.specs.List.{Contains};
 ghost use Rattle.md_outside.specs.Causes.{HasCause, next_count};
 ghost use Rattle.md_outside.specs.MemSource.{SourceState, MemGives};
-ghost use Rattle.md_outside.specs.Steps.{bytes_moved};
+ghost use Rattle.md_outside.specs.Moves.{bytes_moved};
 
 use crate::listed::is_listed;
 use crate::{Failed, Source};

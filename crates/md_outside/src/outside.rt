@@ -4,7 +4,7 @@ ghost use Rattle.std.specs.Prelude.{◌<◌, List, ℕ, length, Option, ⊤};
 ghost use Rattle.std.specs.Io.{ReadsAtMost};
 ghost use Rattle.std.specs.Io.KnownBytes.{ReadConsumes, WriteAppends};
 ghost use Rattle.md_outside.specs.Causes.{HasCause, TakesSome};
-ghost use Rattle.md_outside.specs.Steps.{bytes_moved};
+ghost use Rattle.md_outside.specs.Moves.{bytes_moved};
 
 /// A read or a write failed.
 #[derive(Clone, Copy, Debug, PartialEq, Eq)]

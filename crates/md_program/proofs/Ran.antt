@@ -4,22 +4,22 @@ use Rattle.std.specs.declared.alloc.Global.{Global}
 use Rattle.std.specs.declared.string.String.{String}
 use Rattle.std.specs.declared.vec.IntoIter.{IntoIter}
 use Rattle.md_history.specs.Front.{Front}
-use Rattle.md_outside.specs.Steps.{Step}
+use Rattle.md_outside.specs.Moves.{StreamCall}
 use Rattle.md_program_edge.specs.declared.status.Status.{Status}
 use Rattle.md_program_edge.specs.declared.status.Status.TheVariants.{Usage}
 use Rattle.md_program_edge.specs.declared.words.Options.{Options}
 use Rattle.md_program_edge.specs.Options.{Write}
 use Rattle.md_program.specs.Words.{AreAccepted, words_in}
-use Rattle.md_program.specs.Run.{Answers, EndsWell, Refused, ToldAlone}
+use Rattle.md_program.specs.Run.{Answers, EndsWell, RefusesWords, ToldAlone}
 use Rattle.md_program.specs.Program.{HasRun}
 
 -- A run, by its words.
-module _ {I : Type 0} (gives : Step I) (left : I → Option (List ℕ)) (read_faults : I → ℕ) (input input' : I)
-    {O : Type 0} (takes : Step O) (holds : O → Option (List ℕ)) (write_faults : O → ℕ) (output output' : O) (fronts : List Front) (status : Status) where
+module _ {I : Type 0} (gives : StreamCall I) (left : I → Option (List ℕ)) (read_faults : I → ℕ) (input input' : I)
+    {O : Type 0} (takes : StreamCall O) (holds : O → Option (List ℕ)) (write_faults : O → ℕ) (output output' : O) (fronts : List Front) (status : Status) where
   -- what a run of these words ensures
   pub record Ran (words : List (List ℕ)) : Type 0 where
     pub usage : (status ≡ Usage) ↔ (¬ AreAccepted words)
-    pub refused : ¬ AreAccepted words → Refused gives left read_faults input input' takes holds write_faults output output' fronts status
+    pub refused : ¬ AreAccepted words → RefusesWords gives left read_faults input input' takes holds write_faults output output' fronts status
     pub answers : (options : Options) → Write words options → Answers gives left read_faults input input' takes holds write_faults output output' fronts options status
     pub complete : (options : Options) → Write words options → EndsWell gives left read_faults input input' write_faults output output' options status
 

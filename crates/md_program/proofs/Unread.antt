@@ -2,7 +2,7 @@
 use Rattle.std.proofs.Common.{◌≡◌, ◌∙◌, ℕ, List, [], Option, Some, None, inl, inr, refl, sym, arith, rules}
 use Rattle.std.specs.Prelude.{IsErr}
 use Rattle.md_history.specs.Front.{Front}
-use Rattle.md_outside.specs.Steps.{Step}
+use Rattle.md_outside.specs.Moves.{StreamCall}
 use Rattle.md_program_edge.specs.declared.status.Status.{Status}
 use Rattle.md_program_edge.specs.declared.status.Status.TheVariants.{Usage, NoMemory}
 use Rattle.md_program.specs.Words.{Args, IsOutOfMemory}
@@ -13,15 +13,15 @@ use Rattle.md_program_edge.specs.Streams.{IsReadInPart}
 use Rattle.md_program.specs.Run.{ToldAlone, Answers}
 
 -- a source from which nothing was read
-pub unread : {I : Type 0} (gives : Step I) (left : I → Option (List ℕ)) (faults : I → ℕ) (input : I) → IsReadInPart gives left faults input input []
+pub unread : {I : Type 0} (gives : StreamCall I) (left : I → Option (List ℕ)) (faults : I → ℕ) (input : I) → IsReadInPart gives left faults input input []
 unread gives left faults input = record {
   read = record { reads = record { pieces = []; in_turn = refl; whole = refl }; told = search rules; kept = refl };
   short = omega arith;
 }
 
 -- a run that told that it is out of memory, and read nothing
-answers-unread : {I : Type 0} (gives : Step I) (left : I → Option (List ℕ)) (read_faults : I → ℕ) (input : I)
-    {O : Type 0} (takes : Step O) (holds : O → Option (List ℕ)) (write_faults : O → ℕ) (output output' : O) (fronts : List Front) (options : Options) (make : Option Making)
+answers-unread : {I : Type 0} (gives : StreamCall I) (left : I → Option (List ℕ)) (read_faults : I → ℕ) (input : I)
+    {O : Type 0} (takes : StreamCall O) (holds : O → Option (List ℕ)) (write_faults : O → ℕ) (output output' : O) (fronts : List Front) (options : Options) (make : Option Making)
     → options.make ≡ make → ToldAlone takes holds write_faults output output' fronts NoMemory
     → Answers gives left read_faults input input takes holds write_faults output output' fronts options NoMemory
 answers-unread gives left read_faults input takes holds write_faults output output' fronts options None is told =
@@ -31,8 +31,8 @@ answers-unread gives left read_faults input takes holds write_faults output outp
 
 -- a run of the program that told that it is out of memory, and read nothing: there are arguments, or the system ran out
 -- of memory for them
-pub run-unread : {I : Type 0} (gives : Step I) (left : I → Option (List ℕ)) (read_faults : I → ℕ) (args : Args) (input : I)
-    {O : Type 0} (takes : Step O) (holds : O → Option (List ℕ)) (write_faults : O → ℕ) (output output' : O) (fronts : List Front) (status : Status)
+pub run-unread : {I : Type 0} (gives : StreamCall I) (left : I → Option (List ℕ)) (read_faults : I → ℕ) (args : Args) (input : I)
+    {O : Type 0} (takes : StreamCall O) (holds : O → Option (List ℕ)) (write_faults : O → ℕ) (output output' : O) (fronts : List Front) (status : Status)
     → (IsErr args → IsOutOfMemory args) → status ≡ NoMemory → ToldAlone takes holds write_faults output output' fronts NoMemory
     → HasRun gives left read_faults args input input takes holds write_faults output output' fronts status
 run-unread gives left read_faults args input takes holds write_faults output output' fronts status out is told = record {
@@ -41,5 +41,5 @@ run-unread gives left read_faults args input takes holds write_faults output out
   refused = λ _. (inr is, refl, rw is told);
   no_text = λ err other. absurd (other (out err));
   no_memory = λ _. is;
-  complete = λ _ _ _ _ _. inr is;
+  complete = λ _ _ _ _. inr is;
 }

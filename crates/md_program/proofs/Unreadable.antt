@@ -1,7 +1,7 @@
 -- Why a replay stops if its order file can't be read.
 use Rattle.std.proofs.Common.{◌≡◌, ℕ, List, Option, Some, Result, Err, inr, sym, subst}
 use Rattle.std.specs.Result.{IsErrOf}
-use Rattle.md_outside.specs.Steps.{Step}
+use Rattle.md_outside.specs.Moves.{StreamCall}
 use Rattle.md_orders.specs.Records.{order_records, AreFewRecords}
 use Rattle.md_orders.specs.Grammar.{first_bad}
 use Rattle.md_orders.specs.declared.read.OrderFault.{OrderFault}
@@ -12,7 +12,7 @@ use Rattle.md_program_edge.specs.Streams.{IsRead}
 use Rattle.md_program.specs.Run.{StopsReplay}
 
 -- A read of the orders in bytes that a source gave to its end.
-module _ {I : Type 0} (gives : Step I) (left : I → Option (List ℕ)) (faults : I → ℕ) (old new : I) (callers : ℕ) (bytes : List ℕ)
+module _ {I : Type 0} (gives : StreamCall I) (left : I → Option (List ℕ)) (faults : I → ℕ) (old new : I) (callers : ℕ) (bytes : List ℕ)
     {A : Type 0} (result : Result A OrderFault) where
   stops-by : (why : OrderFault) → result ≡ Err why → IsRead gives left faults old new bytes
       → (IsErrOf result TooMany → ¬ AreFewRecords (order_records bytes))

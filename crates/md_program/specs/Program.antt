@@ -1,7 +1,7 @@
 -- What the program comes to, by its arguments, its streams and its exit.
 use Rattle.std.specs.Prelude.{◌≡◌, ◌⊎◌, ℕ, List, Option, IsErr}
 use Rattle.md_history.specs.Front.{Front}
-use Rattle.md_outside.specs.Steps.{Step}
+use Rattle.md_outside.specs.Moves.{StreamCall}
 use Rattle.md_program_edge.specs.declared.status.Status.{Status}
 use Rattle.md_program_edge.specs.declared.status.Status.TheVariants.{Usage, NoMemory}
 use Rattle.md_program_edge.specs.declared.words.Options.{Options}
@@ -9,8 +9,8 @@ use Rattle.md_program.specs.Words.{Args, HasAcceptedWords, HasOptions, IsOutOfMe
 use Rattle.md_program_edge.specs.Status.{status_number}
 use Rattle.md_program.specs.Run.{Answers, EndsWell, ToldAlone}
 
-module _ {I : Type 0} (gives : Step I) (left : I → Option (List ℕ)) (read_faults : I → ℕ) (args : Args) (input input' : I)
-    {O : Type 0} (takes : Step O) (holds : O → Option (List ℕ)) (write_faults : O → ℕ) (output output' : O) where
+module _ {I : Type 0} (gives : StreamCall I) (left : I → Option (List ℕ)) (read_faults : I → ℕ) (args : Args) (input input' : I)
+    {O : Type 0} (takes : StreamCall O) (holds : O → Option (List ℕ)) (write_faults : O → ℕ) (output output' : O) where
   -- nothing was read or played, and the status was told: the words aren't accepted, or it ran out of memory for them
   abbrev pub HasRefused : List Front → Status → Type 0
   HasRefused fronts status = ((status ≡ Usage) ⊎ (status ≡ NoMemory)) × (input' ≡ input)

@@ -2,7 +2,7 @@
 use Rattle.std.specs.Prelude.{◌≡◌, ◌≤◌, ◌⊎◌, ℕ, List, [], length, Option, Some, None}
 use Rattle.md_history.specs.Front.{Front}
 use Rattle.md_outside.specs.Causes.{Rose}
-use Rattle.md_outside.specs.Steps.{Step}
+use Rattle.md_outside.specs.Moves.{StreamCall}
 use Rattle.md_orders.specs.Records.{order_records, AreFewRecords}
 use Rattle.md_orders.specs.Grammar.{first_bad}
 use Rattle.md_program_edge.specs.declared.status.Status.{Status}
@@ -21,20 +21,12 @@ pub record IsGood (callers : ℕ) (bytes : List ℕ) : Type 0 where
   pub lawful : first_bad callers (order_records bytes) ≡ None
 
 -- A run's input, by the number of its callers.
-module _ {I : Type 0} (gives : Step I) (left : I → Option (List ℕ)) (faults : I → ℕ) (old new : I) (callers : ℕ) where
+module _ {I : Type 0} (gives : StreamCall I) (left : I → Option (List ℕ)) (faults : I → ℕ) (old new : I) (callers : ℕ) where
   -- the input was replayed, and this is the report
   pub record IsReplayed (fronts : List Front) (text : List ℕ) : Type 0 where
     pub bytes : List ℕ
     pub read : IsRead gives left faults old new bytes
     pub replay : IsReplay callers bytes fronts text
-
-  -- the input is longer than an input may be, or has too many records, or a bad one
-  abbrev pub IsBadInput : Type 0
-  IsBadInput =
-      IsOverlong gives left faults old new
-      ⊎ ((bytes : List ℕ) × IsRead gives left faults old new bytes × (¬ AreFewRecords (order_records bytes)))
-      ⊎ ((bytes : List ℕ) × (n : ℕ)
-      × IsRead gives left faults old new bytes × (first_bad callers (order_records bytes) ≡ Some n))
 
   -- why a replay stopped before its report
   abbrev pub StopsReplay : Status → Type 0
@@ -50,6 +42,14 @@ module _ {I : Type 0} (gives : Step I) (left : I → Option (List ℕ)) (faults 
   StopsReplay Done = ⊥
   StopsReplay WriteFault = ⊥
 
+  -- the input is longer than an input may be, or has too many records, or a bad one
+  abbrev pub IsBadInput : Type 0
+  IsBadInput = StopsReplay TooLong ⊎ StopsReplay TooMany ⊎ ((n : ℕ) × StopsReplay (BadLine n))
+
+  -- the input isn't bad by what was read of it, or the source tells its bytes, and they are good
+  abbrev pub IsGoodInput : Type 0
+  IsGoodInput = (¬ IsBadInput) ⊎ ((bytes : List ℕ) × (left old ≡ Some bytes) × IsGood callers bytes)
+
   -- what was played, and its text: the input, or made scripts, and then nothing was read
   abbrev pub HasPlayed : Option Making → List Front → List ℕ → Type 0
   HasPlayed None fronts text = IsReplayed fronts text
@@ -60,35 +60,35 @@ module _ {I : Type 0} (gives : Step I) (left : I → Option (List ℕ)) (faults 
   StopsWith None status = StopsReplay status
   StopsWith (Some making) status = (status ≡ NoMemory) × (new ≡ old)
 
--- where no write failed and, if the input was to be read, it isn't bad and no read failed, the run is done or ran out
--- of memory
-abbrev pub EndsWell : {I O : Type 0} → Step I → (I → Option (List ℕ)) → (I → ℕ) → I → I → (O → ℕ) → O → O
+-- if no write failed and, where the input is read, no read failed and the input is good, the run is done or ran out of
+-- memory
+abbrev pub EndsWell : {I O : Type 0} → StreamCall I → (I → Option (List ℕ)) → (I → ℕ) → I → I → (O → ℕ) → O → O
     → Options → Status → Type 0
 EndsWell gives left read_faults input input' write_faults output output' options status =
     ¬ Rose (write_faults output) (write_faults output')
-    → (options.make ≡ None → ¬ Rose (read_faults input) (read_faults input'))
-    → (options.make ≡ None → ¬ IsBadInput gives left read_faults input input' options.callers)
+    → (options.make ≡ None → (¬ Rose (read_faults input) (read_faults input'))
+        × IsGoodInput gives left read_faults input input' options.callers)
     → (status ≡ Done) ⊎ (status ≡ NoMemory)
 
 -- A run's sink before and after, and its fronts.
-module _ {O : Type 0} (takes : Step O) (holds : O → Option (List ℕ)) (write_faults : O → ℕ) (output output' : O)
+module _ {O : Type 0} (takes : StreamCall O) (holds : O → Option (List ℕ)) (write_faults : O → ℕ) (output output' : O)
     (fronts : List Front) where
   -- a status was told, and nothing was played
   abbrev pub ToldAlone : Status → Type 0
   ToldAlone status = (fronts ≡ []) × Tells takes holds write_faults output output' (status_text status)
 
 -- A run, by its source and its sink before and after, and by its fronts.
-module _ {I : Type 0} (gives : Step I) (left : I → Option (List ℕ)) (read_faults : I → ℕ) (input input' : I)
-    {O : Type 0} (takes : Step O) (holds : O → Option (List ℕ)) (write_faults : O → ℕ) (output output' : O)
+module _ {I : Type 0} (gives : StreamCall I) (left : I → Option (List ℕ)) (read_faults : I → ℕ) (input input' : I)
+    {O : Type 0} (takes : StreamCall O) (holds : O → Option (List ℕ)) (write_faults : O → ℕ) (output output' : O)
     (fronts : List Front) where
   -- the words aren't accepted, and nothing was read
-  abbrev pub Refused : Status → Type 0
-  Refused status = (status ≡ Usage) × (input' ≡ input)
+  abbrev pub RefusesWords : Status → Type 0
+  RefusesWords status = (status ≡ Usage) × (input' ≡ input)
       × ToldAlone takes holds write_faults output output' fronts Usage
 
   -- it stopped before its text, without a round, and told why
-  abbrev pub Stopped : Options → Status → Type 0
-  Stopped options status =
+  abbrev pub StopsBeforeText : Options → Status → Type 0
+  StopsBeforeText options status =
       StopsWith gives left read_faults input input' options.callers options.make status
       × ToldAlone takes holds write_faults output output' fronts status
 
@@ -100,9 +100,9 @@ module _ {I : Type 0} (gives : Step I) (left : I → Option (List ℕ)) (read_fa
   Answers options WriteFault = (text : List ℕ)
       × HasPlayed gives left read_faults input input' options.callers options.make fronts text
       × HasWriteFault takes holds write_faults output output' text
-  Answers options Usage = Stopped options Usage
-  Answers options (BadLine n) = Stopped options (BadLine n)
-  Answers options ReadFault = Stopped options ReadFault
-  Answers options NoMemory = Stopped options NoMemory
-  Answers options TooLong = Stopped options TooLong
-  Answers options TooMany = Stopped options TooMany
+  Answers options Usage = StopsBeforeText options Usage
+  Answers options (BadLine n) = StopsBeforeText options (BadLine n)
+  Answers options ReadFault = StopsBeforeText options ReadFault
+  Answers options NoMemory = StopsBeforeText options NoMemory
+  Answers options TooLong = StopsBeforeText options TooLong
+  Answers options TooMany = StopsBeforeText options TooMany

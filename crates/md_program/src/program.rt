@@ -6,7 +6,6 @@ ghost use Rattle.md_store.specs.Store.{front_in};
 ghost use Rattle.std.specs.Process.{exit_status};
 ghost use Rattle.md_program_edge.specs.Words.{texts};
 ghost use Rattle.md_program.specs.Program.{HasRun, HasExit};
-ghost use Rattle.md_program.specs.Run.{IsBadInput, IsGood};
 
 use crate::runs::{run, stop};
 use crate::status::Run;
@@ -64,9 +63,6 @@ where
     ensures run { HasRun I.gives I.left I.faults args input.old input.new
         O.takes O.holds O.faults output.old output.new
         (map front_in result.fronts.items) result.status }
-    ensures told { (callers : ℕ) → (bytes : List ℕ) → I.left input.old ≡ Some bytes
-        → IsGood callers bytes
-        → ¬ IsBadInput I.gives I.left I.faults input.old input.new callers }
 {
     let args = match args {
         Ok(args) => args,
@@ -99,9 +95,6 @@ where
     O: Sink,
     ensures run { HasExit I.gives I.left I.faults args input.old input.new
         O.takes O.holds O.faults output.old output.new (exit_status result) }
-    ensures told { (callers : ℕ) → (bytes : List ℕ) → I.left input.old ≡ Some bytes
-        → IsGood callers bytes
-        → ¬ IsBadInput I.gives I.left I.faults input.old input.new callers }
 {
     let run = run_program(rt, alloc, args, input, output);
     ExitCode::from(run.status)

@@ -14,7 +14,7 @@ ghost use Rattle.md_program_edge.specs.Options.{AreInRange, Write};
 ghost use Rattle.md_program.specs.Words.{AreAccepted};
 ghost use Rattle.md_program.specs.Replay.{IsSummed};
 ghost use Rattle.md_program.specs.Run.{Answers, EndsWell, HasPlayed, StopsReplay, StopsWith, IsReplayed};
-ghost use Rattle.md_program.specs.Run.{IsBadInput, IsGood, Refused, ToldAlone};
+ghost use Rattle.md_program.specs.Run.{RefusesWords, ToldAlone};
 
 use crate::play::{open_for, play};
 use crate::report::{Played, tell_and_close, with_last};
@@ -192,7 +192,7 @@ where
 /// If something stops the run before the first write, the line of its status is written in place of
 /// the text. Each status but `Done` has its cause, which `Status` names. The status is `Done` or
 /// `NoMemory` if the words are accepted and no write fails, and if also, without `--make`, no read
-/// fails and the input isn't bad.
+/// fails and the input is good.
 ///
 /// `gate` is called before each attempt at a line and after its commit. No clause of this call
 /// speaks of it.
@@ -211,7 +211,7 @@ where
     G: Gate + Sync,
     ensures usage { (result.status ≡ Status.Usage) ↔ (¬ AreAccepted (texts words.now)) }
     ensures refused { (¬ AreAccepted (texts words.now))
-        → Refused I.gives I.left I.faults input.old input.new
+        → RefusesWords I.gives I.left I.faults input.old input.new
         O.takes O.holds O.faults output.old output.new
         (map front_in result.fronts.items) result.status }
     ensures answers { (options : Options) → Write (texts words.now) options
@@ -221,9 +221,6 @@ where
     ensures complete { (options : Options) → Write (texts words.now) options
         → EndsWell I.gives I.left I.faults input.old input.new
         O.faults output.old output.new options result.status }
-    ensures told { (callers : ℕ) → (bytes : List ℕ) → I.left input.old ≡ Some bytes
-        → IsGood callers bytes
-        → ¬ IsBadInput I.gives I.left I.faults input.old input.new callers }
 {
     match read_options(words) {
         Some(options) => run_asked(rt, alloc, &options, input, output, gate),

@@ -4,13 +4,13 @@ use Rattle.std.specs.Io.KnownBytes.{Consumes, Appends, IsAtEnd, Keeps}
 use Rattle.std.proofs.KnownBytes.{Consumes-trans, Appends-nil, Appends-trans, Appends-kept}
 use Rattle.std.proofs.Math.Seq.{take-add}
 use Rattle.std.proofs.lemmas.List.{append-nil, length-take-le, take-append-drop}
-use Rattle.md_outside.specs.Steps.{Step}
+use Rattle.md_outside.specs.Moves.{StreamCall}
 use Rattle.md_outside.proofs.Chains.{Moves-none, Moves-append, Moves-one_more-take}
 use Rattle.md_program_edge.specs.Streams.{HasRead, IsRead, IsReadInPart, IsWritten, HasWriteFault}
 use Rattle.md_outside.specs.Causes.{Rose}
 
 -- a read that gave some bytes
-pub read-more : {I : Type 0} (gives : Step I) (left : I → Option (List ℕ)) (faults : I → ℕ) (a b c : I) (bytes : List ℕ) (count : ℕ) (buffer : List ℕ)
+pub read-more : {I : Type 0} (gives : StreamCall I) (left : I → Option (List ℕ)) (faults : I → ℕ) (a b c : I) (bytes : List ℕ) (count : ℕ) (buffer : List ℕ)
     → HasRead gives left faults a b bytes → gives b (Some (take count buffer)) c → Consumes (left b) (left c) (take count buffer) → faults c ≡ faults b
     → 0 < count → count ≤ length buffer → HasRead gives left faults a c (bytes ++ take count buffer)
 read-more gives left faults a b c bytes count buffer so_far step told kept some fits = record {
@@ -20,7 +20,7 @@ read-more gives left faults a b c bytes count buffer so_far step told kept some 
 }
 
 -- a read that gave none: the end
-pub read-end : {I : Type 0} (gives : Step I) (left : I → Option (List ℕ)) (faults : I → ℕ) (a b c : I) (bytes : List ℕ)
+pub read-end : {I : Type 0} (gives : StreamCall I) (left : I → Option (List ℕ)) (faults : I → ℕ) (a b c : I) (bytes : List ℕ)
     → IsReadInPart gives left faults a b bytes → gives b (Some []) c → Consumes (left b) (left c) [] → IsAtEnd (left c) → faults c ≡ faults b
     → IsRead gives left faults a c bytes
 read-end gives left faults a b c bytes so_far step told ended kept = record {
@@ -36,7 +36,7 @@ pub length-more : (bytes : List ℕ) (count : ℕ) (buffer : List ℕ) → count
 length-more bytes count buffer fits = rw (length-append bytes (take count buffer), length-take-le count buffer fits) refl
 
 -- a write that took some bytes
-pub write-more : {O : Type 0} (takes : Step O) (holds : O → Option (List ℕ)) (faults : O → ℕ) (a b c : O) (text : List ℕ) (at count : ℕ)
+pub write-more : {O : Type 0} (takes : StreamCall O) (holds : O → Option (List ℕ)) (faults : O → ℕ) (a b c : O) (text : List ℕ) (at count : ℕ)
     → IsWritten takes holds faults a b (take at text) → takes b (Some (take count (drop at text))) c → Appends (holds b) (holds c) (take count (drop at text)) → faults c ≡ faults b
     → 0 < count → count ≤ length (drop at text) → IsWritten takes holds faults a c (take (at + count) text)
 write-more takes holds faults a b c text at count so_far step told kept some fits = rw take-add (record {
@@ -46,7 +46,7 @@ write-more takes holds faults a b c text at count so_far step told kept some fit
 })
 
 -- a write that failed
-pub write-fault : {O : Type 0} (takes : Step O) (holds : O → Option (List ℕ)) (faults : O → ℕ) (a b c : O) (text : List ℕ) (at : ℕ)
+pub write-fault : {O : Type 0} (takes : StreamCall O) (holds : O → Option (List ℕ)) (faults : O → ℕ) (a b c : O) (text : List ℕ) (at : ℕ)
     → IsWritten takes holds faults a b (take at text) → takes b None c → Keeps (holds b) (holds c) → Rose (faults b) (faults c) → HasWriteFault takes holds faults a c text
 write-fault takes holds faults a b c text at so_far step told rose = record {
   written = take at text;
@@ -58,11 +58,11 @@ write-fault takes holds faults a b c text at so_far step told rose = record {
 }
 
 -- nothing was written yet
-pub written-none : {O : Type 0} (takes : Step O) (holds : O → Option (List ℕ)) (faults : O → ℕ) (a : O) → IsWritten takes holds faults a a []
+pub written-none : {O : Type 0} (takes : StreamCall O) (holds : O → Option (List ℕ)) (faults : O → ℕ) (a : O) → IsWritten takes holds faults a a []
 written-none takes holds faults a = record { writes = Moves-none takes a; told = Appends-nil (holds a); kept = refl }
 
 -- a text that was written after another
-pub written-more : {O : Type 0} (takes : Step O) (holds : O → Option (List ℕ)) (faults : O → ℕ) (a b c : O) (before text : List ℕ)
+pub written-more : {O : Type 0} (takes : StreamCall O) (holds : O → Option (List ℕ)) (faults : O → ℕ) (a b c : O) (before text : List ℕ)
     → IsWritten takes holds faults a b before → IsWritten takes holds faults b c text → IsWritten takes holds faults a c (before ++ text)
 written-more takes holds faults a b c before text first second = record {
   writes = Moves-append first.writes second.writes;
@@ -71,7 +71,7 @@ written-more takes holds faults a b c before text first second = record {
 }
 
 -- a text of which a write failed, after another that was written and before one that wasn't
-pub written-fault : {O : Type 0} (takes : Step O) (holds : O → Option (List ℕ)) (faults : O → ℕ) (a b c : O) (before text rest : List ℕ)
+pub written-fault : {O : Type 0} (takes : StreamCall O) (holds : O → Option (List ℕ)) (faults : O → ℕ) (a b c : O) (before text rest : List ℕ)
     → IsWritten takes holds faults a b before → HasWriteFault takes holds faults b c text → HasWriteFault takes holds faults a c (before ++ text ++ rest)
 written-fault takes holds faults a b c before text rest first second = record {
   written = before ++ second.written;

@@ -2,14 +2,14 @@
 use Rattle.std.specs.Prelude.{◌≡◌, ◌≤◌, ◌+◌, ◌⊎◌, ℕ, List, ◌++◌, length, Option}
 use Rattle.std.specs.Io.KnownBytes.{Appends, Consumes, IsAtEnd}
 use Rattle.md_outside.specs.Causes.{Rose}
-use Rattle.md_outside.specs.Steps.{Step, Reads, ReadsToEnd, ReadsThenFails, Writes, WritesThenFails}
+use Rattle.md_outside.specs.Moves.{StreamCall, Reads, ReadsToEnd, ReadsThenFails, Writes, WritesThenFails}
 
 -- the most bytes that an input may have
 abbrev pub max_bytes : ℕ
 max_bytes = 67108864
 
 -- A source is seen by what its reads may give, by the bytes that it has left where it tells them, and by its faults.
-module _ {I : Type 0} (gives : Step I) (left : I → Option (List ℕ)) (faults : I → ℕ) (old new : I) where
+module _ {I : Type 0} (gives : StreamCall I) (left : I → Option (List ℕ)) (faults : I → ℕ) (old new : I) where
   -- reads gave these bytes, and neither the end nor a fault
   pub record HasRead (bytes : List ℕ) : Type 0 where
     pub reads : Reads gives old bytes new
@@ -44,7 +44,7 @@ module _ {I : Type 0} (gives : Step I) (left : I → Option (List ℕ)) (faults 
     pub rose : Rose (faults old) (faults new)
 
 -- A sink is seen by what its writes may take, by the bytes that it holds where it tells them, and by its faults.
-module _ {O : Type 0} (takes : Step O) (holds : O → Option (List ℕ)) (faults : O → ℕ) (old new : O) where
+module _ {O : Type 0} (takes : StreamCall O) (holds : O → Option (List ℕ)) (faults : O → ℕ) (old new : O) where
   -- the text was written whole
   pub record IsWritten (text : List ℕ) : Type 0 where
     pub writes : Writes takes old text new

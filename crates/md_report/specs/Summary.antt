@@ -17,24 +17,24 @@ use Rattle.md_report_replies.specs.Replies.{reply_at}
 use Rattle.md_report.specs.Report.{value_at}
 
 -- the quantity that a command places
-abbrev pub placed : Option Command → ℕ
-placed (Some (Place name account side price quantity)) = quantity
-placed _ = 0
+abbrev pub quantity_placed : Option Command → ℕ
+quantity_placed (Some (Place name account side price quantity)) = quantity
+quantity_placed _ = 0
 
 -- the quantity that a reply tells as cancelled
-abbrev pub cancelled : Option BookReply → ℕ
-cancelled r = option_map_or told_cancelled r 0
+abbrev pub quantity_cancelled : Option BookReply → ℕ
+quantity_cancelled r = option_map_or told_cancelled r 0
 
 -- the quantity that a reply tells as filled
-abbrev pub filled : Option BookReply → ℕ
-filled r = option_map_or told_taken r 0
+abbrev pub quantity_filled : Option BookReply → ℕ
+quantity_filled r = option_map_or told_taken r 0
 
 -- what a line placed, cancelled and filled
 abbrev pub line_totals : List (List Command) → List (List (Option BookReply)) → ℕ → ℕ → Totals
 line_totals scripts replies caller line = record {
-  placed = placed (at_line scripts caller line);
-  cancelled = cancelled (reply_at replies caller line);
-  filled = filled (reply_at replies caller line);
+  placed = quantity_placed (at_line scripts caller line);
+  cancelled = quantity_cancelled (reply_at replies caller line);
+  filled = quantity_filled (reply_at replies caller line);
 }
 
 -- nothing
@@ -42,8 +42,8 @@ abbrev pub no_totals : Totals
 no_totals = record { placed = 0; cancelled = 0; filled = 0 }
 
 -- two of them in one
-abbrev pub added : Totals → Totals → Totals
-added t u = record {
+abbrev pub both_totals : Totals → Totals → Totals
+both_totals t u = record {
   placed = t.placed + u.placed;
   cancelled = t.cancelled + u.cancelled;
   filled = t.filled + u.filled;
@@ -58,7 +58,7 @@ pub record AreAtMost (n : ℕ) (t : Totals) : Type 0 where
 -- the totals of 1 to n, added up
 unfoldable pub totals_to : ℕ → (ℕ → Totals) → Totals
 totals_to zero of = no_totals
-totals_to (suc n) of = added (totals_to n of) (of (suc n))
+totals_to (suc n) of = both_totals (totals_to n of) (of (suc n))
 
 -- those of a caller's lines
 abbrev pub script_totals : List (List Command) → List (List (Option BookReply)) → ℕ → Totals

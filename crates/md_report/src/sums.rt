@@ -3,7 +3,7 @@
 ghost use Rattle.std.specs.Prelude.{◌≡◌, ◌≤◌, ◌<◌, ◌*◌, ◌^◌, length};
 ghost use Rattle.md_orders.specs.Scripts.{list_of};
 ghost use Rattle.md_report.specs.Report.{value_at};
-ghost use Rattle.md_report.specs.Summary.{placed, cancelled, filled, line_totals, added, AreAtMost, script_totals, all_totals, open_at_of};
+ghost use Rattle.md_report.specs.Summary.{quantity_placed, quantity_cancelled, quantity_filled, line_totals, both_totals, AreAtMost, script_totals, all_totals, open_at_of};
 
 use md_book::{BookReply, Command, DEPTHS, MAPS, MAX_PRICE, Side};
 use md_history::Contents;
@@ -23,7 +23,7 @@ impl Totals {
     fn add(&mut self, more: Totals)
         requires before { AreAtMost (2 ^ 96) self.old }
         requires more { AreAtMost (2 ^ 64) more }
-        ensures { self.new ≡ added self.old more }
+        ensures { self.new ≡ both_totals self.old more }
     {
         self.placed += more.placed;
         self.cancelled += more.cancelled;
@@ -37,8 +37,8 @@ const NOTHING: Totals = Totals {
     filled: 0,
 };
 
-fn placed(command: Option<Command>) -> u32
-    ensures { result ≡ placed command }
+fn quantity_placed(command: Option<Command>) -> u32
+    ensures { result ≡ quantity_placed command }
 {
     match command {
         Some(Command::Place { quantity, .. }) => quantity,
@@ -46,8 +46,8 @@ fn placed(command: Option<Command>) -> u32
     }
 }
 
-fn cancelled(reply: &Option<BookReply>) -> u32
-    ensures { result ≡ cancelled reply.now }
+fn quantity_cancelled(reply: &Option<BookReply>) -> u32
+    ensures { result ≡ quantity_cancelled reply.now }
 {
     match reply {
         Some(BookReply::Cancelled(left)) => *left,
@@ -55,8 +55,8 @@ fn cancelled(reply: &Option<BookReply>) -> u32
     }
 }
 
-fn filled(reply: &Option<BookReply>) -> u32
-    ensures { result ≡ filled reply.now }
+fn quantity_filled(reply: &Option<BookReply>) -> u32
+    ensures { result ≡ quantity_filled reply.now }
 {
     match reply {
         Some(BookReply::Filled { taken, .. }) => *taken,
@@ -70,9 +70,9 @@ fn line_totals(scripts: &Scripts, replies: &Replies, caller: u32, line: u32) -> 
 {
     let reply = replies.get(caller, line);
     Totals {
-        placed: u128::from(placed(scripts.command(caller, line))),
-        cancelled: u128::from(cancelled(&reply)),
-        filled: u128::from(filled(&reply)),
+        placed: u128::from(quantity_placed(scripts.command(caller, line))),
+        cancelled: u128::from(quantity_cancelled(&reply)),
+        filled: u128::from(quantity_filled(&reply)),
     }
 }
 

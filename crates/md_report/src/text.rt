@@ -129,7 +129,7 @@ fn bought_and_sold(line: &mut LineBuffer, bought: u64, sold: u64)
 }
 
 // What a fill took and what remains of it, which the first number of a room has, and its parts.
-fn filled(line: &mut LineBuffer, count: u8, room: &[u64])
+fn fill_reply(line: &mut LineBuffer, count: u8, room: &[u64])
     requires { REPLY + length line.old ≤ SIZE }
     ensures text { let first = slice_index_or room.now 0 0 in
         line.new ≡ filled_text (first / 2 ^ 32) (first % 2 ^ 32)
@@ -159,7 +159,7 @@ fn reply(line: &mut LineBuffer, head: Head, room: &[u64])
         Head::Cancelled(left) => number_behind(line, b"cancelled ", u64::from(left)),
         Head::Gone => line.bytes(b"gone"),
         Head::Killed => line.bytes(b"killed"),
-        Head::Filled(count) => filled(line, count, room),
+        Head::Filled(count) => fill_reply(line, count, room),
         Head::Depth => number_behind(line, b"depth ", number_at(room, 0)),
         Head::Account => bought_and_sold(line, number_at(room, 0), number_at(room, 1)),
     }

@@ -8,7 +8,7 @@ use Rattle.std.proofs.lemmas.List.{length-take-le, take-append-drop, take-append
 use Rattle.md_book.specs.declared.commands.BookReply.{BookReply}
 use Rattle.md_report_replies.specs.declared.rooms.Head.{Head}
 use Rattle.md_report_replies.specs.declared.rooms.Head.TheVariants.{Unset}
-use Rattle.md_report_replies.specs.Rooms.{reply_in, replies_in, starts_of, RoomsState, AreRooms, KeepsAt}
+use Rattle.md_report_replies.specs.Rooms.{reply_in, replies_in_rooms, starts_of, RoomsState, AreRooms, KeepsAt}
 
 -- a sum, by its first number
 sum-cons : (z : ℕ) (zs : List ℕ) → sum (z ∷ zs) ≡ z + sum zs
@@ -23,7 +23,7 @@ starts-more start size (z ∷ sizes) =
     ap (λ ns. start ∷ ns) (starts-more (start + z) size sizes ∙ ap (λ n. starts_of (start + z) sizes ++ n ∷ []) same)
 
 -- heads that are unset are no replies
-pub replies-none : (sizes numbers : List ℕ) → replies_in sizes (replicate (length sizes) Unset) numbers ≡ replicate (length sizes) None
+pub replies-none : (sizes numbers : List ℕ) → replies_in_rooms sizes (replicate (length sizes) Unset) numbers ≡ replicate (length sizes) None
 replies-none [] numbers = refl
 replies-none (z ∷ sizes) numbers = ap (λ rs. None ∷ rs) (replies-none sizes (drop z numbers))
 
@@ -48,7 +48,7 @@ room-inside (z ∷ sizes) (suc i) inside =
 
 -- the reply of a line is in its own head and room
 pub reply-at : (sizes : List ℕ) (heads : List Head) (numbers : List ℕ) (i : ℕ) (h : Head) → i < length sizes → length heads ≡ length sizes
-    → slice_get (replies_in sizes heads numbers) i ≡ Some (reply_in (get_or heads i h) (take (get_or sizes i 0) (drop (sum (take i sizes)) numbers)))
+    → slice_get (replies_in_rooms sizes heads numbers) i ≡ Some (reply_in (get_or heads i h) (take (get_or sizes i 0) (drop (sum (take i sizes)) numbers)))
 reply-at [] heads numbers i h inside same = absurd (omega arith)
 reply-at (z ∷ sizes) [] numbers i h inside same = absurd (omega arith)
 reply-at (z ∷ sizes) (h0 ∷ heads) numbers zero h inside same = refl
@@ -80,15 +80,15 @@ rest-set z s n numbers room fits =
 -- a head and a room that are set change the one reply
 pub reply-set : (sizes : List ℕ) (heads : List Head) (numbers room : List ℕ) (i : ℕ) (h : Head)
     → i < length sizes → length heads ≡ length sizes → length numbers ≡ sum sizes → length room ≡ get_or sizes i 0
-    → replies_in sizes (set heads i h) (take (sum (take i sizes)) numbers ++ room ++ drop (sum (take i sizes) + get_or sizes i 0) numbers)
-    ≡ set (replies_in sizes heads numbers) i (reply_in h room)
+    → replies_in_rooms sizes (set heads i h) (take (sum (take i sizes)) numbers ++ room ++ drop (sum (take i sizes) + get_or sizes i 0) numbers)
+    ≡ set (replies_in_rooms sizes heads numbers) i (reply_in h room)
 reply-set [] heads numbers room i h inside same whole fits = absurd (omega arith)
 reply-set (z ∷ sizes) [] numbers room i h inside same whole fits = absurd (omega arith)
 reply-set (z ∷ sizes) (h0 ∷ heads) numbers room zero h inside same whole fits =
     let none : 0 + z ≡ z = omega arith in
-    ap (λ (r : Option BookReply). r ∷ replies_in sizes heads (drop z (room ++ drop (0 + z) numbers)))
+    ap (λ (r : Option BookReply). r ∷ replies_in_rooms sizes heads (drop z (room ++ drop (0 + z) numbers)))
     (ap (reply_in h) (take_at room (drop (0 + z) numbers) z fits))
-    ∙ ap (λ ns. reply_in h room ∷ replies_in sizes heads ns) (drop_at room (drop (0 + z) numbers) z fits ∙ ap (λ k. drop k numbers) none)
+    ∙ ap (λ ns. reply_in h room ∷ replies_in_rooms sizes heads ns) (drop_at room (drop (0 + z) numbers) z fits ∙ ap (λ k. drop k numbers) none)
 reply-set (z ∷ sizes) (h0 ∷ heads) numbers room (suc i) h inside same whole fits =
     let s = sum (take i sizes) in
     let n = get_or sizes i 0 in
@@ -97,10 +97,10 @@ reply-set (z ∷ sizes) (h0 ∷ heads) numbers room (suc i) h inside same whole 
     let start_is : sum (take (suc i) (z ∷ sizes)) ≡ z + s = sum-cons z (take i sizes) in
     let fewer = length-drop z numbers in
     let reach : z + s ≤ length numbers = omega arith in
-    ap (λ k. replies_in (z ∷ sizes) (h0 ∷ set heads i h) (take k numbers ++ room ++ drop (k + n) numbers)) start_is
-    ∙ ap (λ ns. reply_in h0 ns ∷ replies_in sizes (set heads i h) (drop z (take (z + s) numbers ++ room ++ drop (z + s + n) numbers)))
+    ap (λ k. replies_in_rooms (z ∷ sizes) (h0 ∷ set heads i h) (take k numbers ++ room ++ drop (k + n) numbers)) start_is
+    ∙ ap (λ ns. reply_in h0 ns ∷ replies_in_rooms sizes (set heads i h) (drop z (take (z + s) numbers ++ room ++ drop (z + s + n) numbers)))
     (first-same z s numbers room (drop (z + s + n) numbers) reach)
-    ∙ ap (λ ns. reply_in h0 (take z numbers) ∷ replies_in sizes (set heads i h) ns) (rest-set z s n numbers room reach)
+    ∙ ap (λ ns. reply_in h0 (take z numbers) ∷ replies_in_rooms sizes (set heads i h) ns) (rest-set z s n numbers room reach)
     ∙ ap (λ rs. reply_in h0 (take z numbers) ∷ rs)
     (reply-set sizes heads (drop z numbers) room i h (omega arith) (omega arith) (omega arith) fits)
 
@@ -138,7 +138,7 @@ line-at starts sizes heads numbers at start size rooms there start_is size_is =
 pub replies-kept : (starts sizes : List ℕ) (heads : List Head) (numbers old new : List ℕ) (at start size : ℕ) (h : Head) (r : BookReply)
     → AreRooms starts sizes heads numbers → at < length sizes → IsLineAt sizes numbers at start size
     → old ≡ numbers → KeepsAt old new start size h r
-    → replies_in sizes (set heads at h) new ≡ set (replies_in sizes heads numbers) at (Some r)
+    → replies_in_rooms sizes (set heads at h) new ≡ set (replies_in_rooms sizes heads numbers) at (Some r)
 replies-kept starts sizes heads numbers old new at start size h r rooms there line old_is kept =
     let first = sum (take at sizes) in
     let wide = get_or sizes at 0 in
@@ -146,18 +146,18 @@ replies-kept starts sizes heads numbers old new at start size h r rooms there li
     ap (λ ns. take start ns ++ kept.room ++ drop (start + size) ns) old_is
     ∙ ap (λ k. take k numbers ++ kept.room ++ drop (k + size) numbers) line.start_is
     ∙ ap (λ k. take first numbers ++ kept.room ++ drop (first + k) numbers) line.size_is in
-    ap (replies_in sizes (set heads at h)) (kept.new_is ∙ set_is)
+    ap (replies_in_rooms sizes (set heads at h)) (kept.new_is ∙ set_is)
     ∙ reply-set sizes heads numbers kept.room at h there rooms.heads_are rooms.numbers_are (kept.sized ∙ line.size_is)
-    ∙ ap (set (replies_in sizes heads numbers) at) kept.is
+    ∙ ap (set (replies_in_rooms sizes heads numbers) at) kept.is
 
 -- as many replies as rooms
 length-replies : (sizes : List ℕ) (heads : List Head) (numbers : List ℕ) → length heads ≡ length sizes
-    → length (replies_in sizes heads numbers) ≡ length sizes
+    → length (replies_in_rooms sizes heads numbers) ≡ length sizes
 length-replies [] heads numbers same = refl
 length-replies (z ∷ sizes) [] numbers same = absurd (omega arith)
 length-replies (z ∷ sizes) (h ∷ heads) numbers same = ap suc (length-replies sizes heads (drop z numbers) (omega arith))
 
 -- the number of replies that rooms show
 pub length-shown : (starts sizes : List ℕ) (heads : List Head) (numbers : List ℕ) (shown : RoomsState) → AreRooms starts sizes heads numbers
-    → record { sizes = sizes; replies = replies_in sizes heads numbers } ≡ shown → length shown.replies ≡ length sizes
+    → record { sizes = sizes; replies = replies_in_rooms sizes heads numbers } ≡ shown → length shown.replies ≡ length sizes
 length-shown starts sizes heads numbers shown rooms is = sym (ap (λ s. length s.replies) is) ∙ length-replies sizes heads numbers rooms.heads_are

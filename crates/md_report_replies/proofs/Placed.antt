@@ -19,7 +19,7 @@ use Rattle.md_book.specs.Commands.{IsCommand, IsPlaces, name_of}
 use Rattle.md_orders.specs.Scripts.{list_of, with_list, with_line, at_line, IsNamed, AreNamed}
 use Rattle.md_orders.specs.Renamed.{renamed, renamed_from}
 use Rattle.md_report_replies.specs.Replies.{no_replies, with_reply}
-use Rattle.md_report_replies.specs.Rooms.{room_of, HasRoom, RoomsState, unset_rooms, unset_rooms_after, sizes_of, sizes_in, replies_of}
+use Rattle.md_report_replies.specs.Rooms.{room_of, FitsRoom, RoomsState, unset_rooms, unset_rooms_after, sizes_of, sizes_in, replies_of}
 use Rattle.md_orders.proofs.ByCaller.{list_of-at, with_list-at, with_line-at}
 use Rattle.md_orders.proofs.Renamed.{length-renamed_from}
 
@@ -34,7 +34,7 @@ pub map-with_list : {A B : Type 0} (f : A → List B) (vs : List A) (caller i : 
 map-with_list f vs caller i v low at = map-set f vs i v ∙ sym (with_list-at (map f vs) caller i (f v) low at)
 
 -- a fill from so many places has room
-taken-room : (quantity places : ℕ) (r : BookReply) → IsPlaces places → IsTaken quantity places r → HasRoom r (places + 1)
+taken-room : (quantity places : ℕ) (r : BookReply) → IsPlaces places → IsTaken quantity places r → FitsRoom r (places + 1)
 taken-room quantity places r looks taken =
     let few = taken.few in
     let most : places ≤ MAX_PARTS = elim looks [ inl first ↦ omega arith | inr second ↦ omega arith ] in
@@ -43,7 +43,7 @@ taken-room quantity places r looks taken =
     rw taken.is (omega arith, record { few = omega arith; in_range = subst (All IsPart) (sym told) taken.each; zeros = ap padded (sym told) })
 
 -- a reply that suits a command in range has room at its line
-pub suits-room : (c : Command) (r : BookReply) → IsCommand c → Suits (c, r) → HasRoom r (room_of c)
+pub suits-room : (c : Command) (r : BookReply) → IsCommand c → Suits (c, r) → FitsRoom r (room_of c)
 suits-room (command.Place name account side price quantity) r ok suits = rw suits tt
 suits-room (command.Cancel name) r ok (inl gone) = rw gone tt
 suits-room (command.Cancel name) r ok (inr cancelled) = rw cancelled.is tt
@@ -59,7 +59,7 @@ pub record IsPlaceOf (callers : List RoomsState) (caller line : ℕ) (r : BookRe
   pub caller_high : caller ≤ length callers
   pub line_low : 1 ≤ line
   pub line_high : (v : RoomsState) → v ≡ get_or callers (caller - 1) v → line - 1 < length v.sizes
-  pub room : (v : RoomsState) → v ≡ get_or callers (caller - 1) v → HasRoom r (get_or v.sizes (line - 1) 0)
+  pub room : (v : RoomsState) → v ≡ get_or callers (caller - 1) v → FitsRoom r (get_or v.sizes (line - 1) 0)
 
 -- something that isn't there has no reply that suits it
 none-suits : {A : Type 0} (P : A → Type 0) (o : Option A) → o ≡ None → IsSomeAnd o P → ⊥

@@ -10,7 +10,7 @@ use Rattle.md_book.specs.declared.commands.BookReply.{BookReply}
 use Rattle.md_book.specs.declared.limits.TheConstants.{MAX_PARTS}
 use Rattle.md_book.specs.Book.{padded}
 use Rattle.md_report_replies.specs.declared.packed.PackedHead.{PackedHead}
-use Rattle.md_report_replies.specs.Packed.{IsSmall, no_part, size_of, numbers_of, part_of, parts_of, unpacked, unpacked_all, ArePacked, IsPacked}
+use Rattle.md_report_replies.specs.Packed.{IsPackable, no_part, size_of, numbers_of, part_of, parts_of, unpacked, unpacked_all, ArePacked, IsPacked}
 
 -- so many parts are read
 pub length-parts_of : (kept : ℕ) (numbers : List ℕ) → length (parts_of kept numbers) ≡ kept
@@ -71,12 +71,12 @@ abbrev part_with : ℕ → ℕ → Part
 part_with name taken = record { name = name; taken = taken }
 
 -- the numbers of parts are the parts again
-parts-back : (ps : List Part) → All IsSmall ps → parts_of (length ps) (numbers_of ps) ≡ ps
+parts-back : (ps : List Part) → All IsPackable ps → parts_of (length ps) (numbers_of ps) ≡ ps
 parts-back [] small = refl
 parts-back (p ∷ ps) small =
-    let whole : p.taken % 2 ^ 32 ≡ p.taken = let here = All-head IsSmall p ps small in omega arith in
+    let whole : p.taken % 2 ^ 32 ≡ p.taken = let here = All-head IsPackable p ps small in omega arith in
     ap (λ n. part_with p.name n ∷ parts_of (length ps) (numbers_of ps)) whole
-    ∙ ap (λ qs. p ∷ qs) (parts-back ps (All-tail IsSmall p ps small))
+    ∙ ap (λ qs. p ∷ qs) (parts-back ps (All-tail IsPackable p ps small))
 
 -- parts that are padded fill their places
 length-padded : (kept : ℕ) (parts : List Part) → kept ≤ MAX_PARTS → padded (take kept parts) ≡ parts → length parts ≡ MAX_PARTS
@@ -94,7 +94,7 @@ length-kept kept parts few whole =
     length-take-le kept parts (omega arith)
 
 -- so the parts that a fill keeps are its parts again
-pub parts-kept : (kept : ℕ) (parts : List Part) → kept ≤ MAX_PARTS → All IsSmall (take kept parts)
+pub parts-kept : (kept : ℕ) (parts : List Part) → kept ≤ MAX_PARTS → All IsPackable (take kept parts)
     → padded (take kept parts) ≡ parts → padded (parts_of (min kept MAX_PARTS) (numbers_of (take kept parts))) ≡ parts
 parts-kept kept parts few small whole =
     let size = length-kept kept parts few whole in

@@ -24,8 +24,8 @@ abbrev pub no_part : Part
 no_part = record { name = 0; taken = 0 }
 
 -- what was taken in a part is a number of 32 bits
-abbrev pub IsSmall : Part → Type 0
-IsSmall p = p.taken < 2 ^ 32
+abbrev pub IsPackable : Part → Type 0
+IsPackable p = p.taken < 2 ^ 32
 
 -- the numbers of parts: of each its name and what was taken
 abbrev pub numbers_of : List Part → List ℕ

@@ -33,7 +33,7 @@ abbrev pub listed : List (List BookReply) → List (List (Option BookReply))
 listed lists = map (λ list. map Some list) lists
 
 -- each reply suits the command of its line, of a caller's lines after its first n
-abbrev pub AllSuit : List (List Command) → ℕ → ℕ → List BookReply → Type 0
-AllSuit scripts caller n [] = Unit {0}
-AllSuit scripts caller n (r ∷ rs) =
-    IsSomeAnd (at_line scripts caller (n + 1)) (λ c. Suits (c, r)) × AllSuit scripts caller (n + 1) rs
+abbrev pub SuitTheirLines : List (List Command) → ℕ → ℕ → List BookReply → Type 0
+SuitTheirLines scripts caller n [] = Unit {0}
+SuitTheirLines scripts caller n (r ∷ rs) =
+    IsSomeAnd (at_line scripts caller (n + 1)) (λ c. Suits (c, r)) × SuitTheirLines scripts caller (n + 1) rs

@@ -31,14 +31,14 @@ pub record IsFilled (count : ℕ) (parts : List Part) : Type 0 where
   pub zeros : parts ≡ padded (take count parts)
 
 -- a room of so many numbers is enough for a reply
-abbrev pub HasRoom : BookReply → ℕ → Type 0
-HasRoom reply.Placed size = Unit {0}
-HasRoom (reply.Cancelled left) size = Unit {0}
-HasRoom reply.Gone size = Unit {0}
-HasRoom reply.Killed size = Unit {0}
-HasRoom (reply.Filled taken rest count parts) size = (count + 1 ≤ size) × IsFilled count parts
-HasRoom (reply.Depth depth) size = 1 ≤ size
-HasRoom (reply.Account bought sold) size = 2 ≤ size
+abbrev pub FitsRoom : BookReply → ℕ → Type 0
+FitsRoom reply.Placed size = Unit {0}
+FitsRoom (reply.Cancelled left) size = Unit {0}
+FitsRoom reply.Gone size = Unit {0}
+FitsRoom reply.Killed size = Unit {0}
+FitsRoom (reply.Filled taken rest count parts) size = (count + 1 ≤ size) × IsFilled count parts
+FitsRoom (reply.Depth depth) size = 1 ≤ size
+FitsRoom (reply.Account bought sold) size = 2 ≤ size
 
 -- a part in one number: the caller, the line and the quantity, the last two in 20 bits each
 abbrev pub part_number : Part → ℕ
@@ -78,11 +78,11 @@ pub record KeepsAt (old new : List ℕ) (start size : ℕ) (h : Head) (r : BookR
   pub new_is : new ≡ take start old ++ room ++ drop (start + size) old
 
 -- the replies of lines whose rooms, of these sizes, stand one after another
-abbrev pub replies_in : List ℕ → List Head → List ℕ → List (Option BookReply)
-replies_in [] heads numbers = []
-replies_in (size ∷ sizes) [] numbers = []
-replies_in (size ∷ sizes) (h ∷ heads) numbers =
-    reply_in h (take size numbers) ∷ replies_in sizes heads (drop size numbers)
+abbrev pub replies_in_rooms : List ℕ → List Head → List ℕ → List (Option BookReply)
+replies_in_rooms [] heads numbers = []
+replies_in_rooms (size ∷ sizes) [] numbers = []
+replies_in_rooms (size ∷ sizes) (h ∷ heads) numbers =
+    reply_in h (take size numbers) ∷ replies_in_rooms sizes heads (drop size numbers)
 
 -- where such rooms begin
 abbrev pub starts_of : ℕ → List ℕ → List ℕ

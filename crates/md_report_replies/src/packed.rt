@@ -6,9 +6,9 @@ ghost use Rattle.md_book.specs.declared.limits.TheConstants.{MAX_PARTS};
 ghost use Rattle.md_book.specs.Book.{padded};
 ghost use Rattle.md_book.specs.Suits.{IsPart};
 ghost use Rattle.md_report_replies.specs.declared.packed.TheConstants.{MAX_NUMBERS};
-ghost use Rattle.md_report_replies.specs.Packed.{IsSmall, no_part, size_of, numbers_of, parts_of, unpacked, unpacked_all, ArePacked, IsPacked, KeepsFew};
-ghost use Rattle.md_report_replies.specs.Replies.{with_replies, AllSuit};
-ghost use Rattle.md_report_replies.specs.Rooms.{HasRoom, part_number, reply_in};
+ghost use Rattle.md_report_replies.specs.Packed.{IsPackable, no_part, size_of, numbers_of, parts_of, unpacked, unpacked_all, ArePacked, IsPacked, KeepsFew};
+ghost use Rattle.md_report_replies.specs.Replies.{with_replies, SuitTheirLines};
+ghost use Rattle.md_report_replies.specs.Rooms.{FitsRoom, part_number, reply_in};
 
 use crate::parts::part_number;
 use crate::replies::Replies;
@@ -97,7 +97,7 @@ fn parts_to_keep(parts: &[Part; MAX_PARTS]) -> u8
 fn pack_parts(numbers: &mut Vec<u64>, parts: &[Part])
     requires room { vec_len numbers.old + 2 * length parts.now ≤ vec_capacity numbers.old }
     ensures items { numbers.new.items ≡ numbers.old.items ++ numbers_of parts.now }
-    ensures small { All IsSmall parts.now }
+    ensures small { All IsPackable parts.now }
 {
     for part in parts {
         numbers.push_reserved(part.name);
@@ -174,7 +174,7 @@ fn keep_packed_parts(room: &mut [u64], count: u8, kept: u8, numbers: &[u64])
 /// Keeps the reply that a head and its numbers are in a room that is large enough for it, and
 /// returns its head there.
 pub(crate) fn keep_packed(room: &mut [u64], head: PackedHead, numbers: &[u64]) -> Head
-    requires { HasRoom (unpacked head numbers.now) (length room.old) }
+    requires { FitsRoom (unpacked head numbers.now) (length room.old) }
     ensures { reply_in result room.new ≡ Some (unpacked head numbers.now) }
 {
     match head {
@@ -202,7 +202,7 @@ pub(crate) fn keep_packed(room: &mut [u64], head: PackedHead, numbers: &[u64]) -
 // Sets the replies of a caller's lines after its first `done`, in order.
 fn set_each(replies: &mut Replies, caller: u32, done: u32, heads: &[PackedHead], numbers: &[u64])
     requires packed { ArePacked heads.now numbers.now }
-    requires suit { AllSuit replies.old.scripts caller done (unpacked_all heads.now numbers.now) }
+    requires suit { SuitTheirLines replies.old.scripts caller done (unpacked_all heads.now numbers.now) }
     requires few { done + length heads.now < 2 ^ 32 }
     ensures { replies.new ≡ record replies.old {
       replies = with_replies replies.old.replies caller done (unpacked_all heads.now numbers.now);
@@ -294,7 +294,7 @@ impl PackedReplies {
 
     /// Sets the replies of a caller's lines after its first `done`, as `Replies::set_packed`.
     pub(crate) fn set_in(&self, replies: &mut Replies, caller: u32, done: u32)
-        requires suit { AllSuit replies.old.scripts caller done self.now }
+        requires suit { SuitTheirLines replies.old.scripts caller done self.now }
         requires few { done + length self.now < 2 ^ 32 }
         ensures { replies.new ≡ record replies.old {
           replies = with_replies replies.old.replies caller done self.now;

@@ -3,7 +3,7 @@
 ghost use Rattle.std.specs.Prelude.{◌≡◌, ◌<◌, ◌≤◌, ◌+◌, ◌*◌, ◌^◌, ◌++◌, Some, All, map, sum, length, take, drop, slice_get, slice_set, slice_index_or, IfOk, OnOk};
 ghost use Rattle.md_orders.specs.Records.{max_records};
 ghost use Rattle.md_book.specs.Suits.{IsPart};
-ghost use Rattle.md_report_replies.specs.Rooms.{room_of, HasRoom, part_number, reply_in, parts_in, new_reply, starts_of, unset_rooms, KeepsAt};
+ghost use Rattle.md_report_replies.specs.Rooms.{room_of, FitsRoom, part_number, reply_in, parts_in, new_reply, starts_of, unset_rooms, KeepsAt};
 
 use crate::packed::{PackedHead, keep_packed};
 use crate::parts::{part_in, part_number};
@@ -42,13 +42,13 @@ pub(crate) struct ReplyRooms {
 }
 
 impl Model for ReplyRooms {
-    ghost use Rattle.md_report_replies.specs.Rooms.{RoomsState, AreRooms, replies_in};
+    ghost use Rattle.md_report_replies.specs.Rooms.{RoomsState, AreRooms, replies_in_rooms};
 
     ghost Value = { RoomsState };
 
     ghost view = { λ r. record {
       sizes = r.sizes.items;
-      replies = replies_in r.sizes.items r.heads.items r.numbers.items;
+      replies = replies_in_rooms r.sizes.items r.heads.items r.numbers.items;
     } };
 
     ghost invariant = { λ r. AreRooms r.starts.items r.sizes.items r.heads.items r.numbers.items };
@@ -81,7 +81,7 @@ fn keep_parts(room: &mut [u64], parts: &[Part])
 
 // Keeps a reply in a room that is large enough for it, and returns its head.
 fn keep(room: &mut [u64], reply: &BookReply) -> Head
-    requires { HasRoom reply.now (length room.old) }
+    requires { FitsRoom reply.now (length room.old) }
     ensures { reply_in result room.new ≡ Some reply.now }
 {
     match reply {
@@ -113,7 +113,7 @@ fn keep(room: &mut [u64], reply: &BookReply) -> Head
 
 // Keeps a reply, whole or packed, in a room that is large enough for it, and returns its head.
 fn keep_new(room: &mut [u64], reply: NewReply<'_>) -> Head
-    requires { HasRoom (new_reply reply) (length room.old) }
+    requires { FitsRoom (new_reply reply) (length room.old) }
     ensures { reply_in result room.new ≡ Some (new_reply reply.entry) }
 {
     match reply {
@@ -125,7 +125,7 @@ fn keep_new(room: &mut [u64], reply: NewReply<'_>) -> Head
 // Keeps a reply in the room of a size that starts at a place of the numbers, and returns its head.
 fn keep_at(numbers: &mut [u64], start: usize, size: usize, reply: NewReply<'_>) -> Head
     requires inside { start + size ≤ length numbers.old }
-    requires room { HasRoom (new_reply reply) size }
+    requires room { FitsRoom (new_reply reply) size }
     ensures { KeepsAt numbers.old numbers.new start size result (new_reply reply.entry) }
 {
     keep_new(&mut numbers[start..start + size], reply)
@@ -275,7 +275,7 @@ impl ReplyRooms {
     /// Sets the reply of the line at an index, whose room is enough for it.
     pub(crate) fn set(&mut self, at: usize, reply: NewReply<'_>)
         requires there { at < length self.old.sizes }
-        requires room { HasRoom (new_reply reply) (slice_index_or self.old.sizes at 0) }
+        requires room { FitsRoom (new_reply reply) (slice_index_or self.old.sizes at 0) }
         ensures { self.new ≡ record self.old {
           replies = slice_set self.old.replies at (Some (new_reply reply.entry));
         } }

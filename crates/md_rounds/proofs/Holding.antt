@@ -8,7 +8,7 @@ use Rattle.md_book.specs.declared.commands.Command.{Command}
 use Rattle.md_book.specs.declared.commands.BookReply.{BookReply}
 use Rattle.md_book.specs.Suits.{Suits}
 use Rattle.md_orders.specs.Scripts.{list_of, at_line}
-use Rattle.md_report_replies.specs.Replies.{reply_at, with_reply, with_replies, AllSuit}
+use Rattle.md_report_replies.specs.Replies.{reply_at, with_reply, with_replies, SuitTheirLines}
 use Rattle.md_orders.proofs.ByCaller.{list_of-with_list-same, list_of-with_list-other, length-with_list}
 use Rattle.md_rounds.specs.Kept.{HasReplies}
 use Rattle.md_rounds.proofs.Keeping.{length-with_line, slice_get-set-same, slice_get-set-other}
@@ -122,7 +122,7 @@ one-more scripts replies caller n r rs has at is = record {
 
 pub holds-more : (scripts : List (List Command)) (caller : ℕ) (batch : List BookReply) (n : ℕ)
     (replies : List (List (Option BookReply))) (rs : List BookReply) → HasReplies scripts replies caller rs
-    → length rs ≡ n → AllSuit scripts caller n batch
+    → length rs ≡ n → SuitTheirLines scripts caller n batch
     → HasReplies scripts (with_replies replies caller n batch) caller (rs ++ batch)
 holds-more scripts caller [] n replies rs has at suit =
     subst (HasReplies scripts replies caller) (sym (append-nil rs)) has
@@ -134,7 +134,7 @@ holds-more scripts caller (r ∷ batch) n replies rs has at suit =
 
 pub holds-other : (scripts : List (List Command)) (caller other : ℕ) (batch : List BookReply) (n : ℕ)
     (replies : List (List (Option BookReply))) (rs : List BookReply) → other ≢ caller
-    → HasReplies scripts replies other rs → AllSuit scripts caller n batch
+    → HasReplies scripts replies other rs → SuitTheirLines scripts caller n batch
     → HasReplies scripts (with_replies replies caller n batch) other rs
 holds-other scripts caller other [] n replies rs apart has suit = has
 holds-other scripts caller other (r ∷ batch) n replies rs apart has suit =

@@ -16,7 +16,7 @@ use Rattle.md_book.specs.Trading as day
 use Rattle.md_book.proofs.steps.Kills.{kill-either}
 use Rattle.md_orders.specs.Scripts.{at_line}
 use Rattle.md_report_replies.specs.Replies.{reply_at}
-use Rattle.md_report.specs.Summary.{placed, cancelled, filled, all_totals, open_at, sum_to}
+use Rattle.md_report.specs.Summary.{quantity_placed, quantity_cancelled, quantity_filled, all_totals, open_at, sum_to}
 use Rattle.md_report.proofs.Totals.{all-totals-sum}
 use Rattle.md_many.specs.Played.{committed_of, tags_of}
 use Rattle.md_rounds.specs.OrderLines.{line_count_of, no-lines}
@@ -25,7 +25,7 @@ use Rattle.md_rounds.specs.Summed.{SummariesAddUp}
 use Rattle.md_rounds.proofs.Sums.{sum_to-range, range-split, by_tag, tags-sum}
 
 -- what a reply of the book tells is its command's
-told-placed : (c : Command) (r : BookReply) → placed (Some c) ≡ day.placed (λ _. true) (c, r)
+told-placed : (c : Command) (r : BookReply) → quantity_placed (Some c) ≡ day.placed_among (λ _. true) (c, r)
 told-placed (Place name account side price quantity) r = refl
 told-placed (Cancel name) r = refl
 told-placed (Fill account side price quantity places) r = refl
@@ -33,7 +33,7 @@ told-placed (Kill account side price quantity places) r = refl
 told-placed (Depth side price) r = refl
 told-placed (Account account) r = refl
 
-told-cancelled : (b : Book) (c : Command) → day.told_cancelled (book_step b c).reply ≡ day.cancelled (λ _. true) (c, (book_step b c).reply)
+told-cancelled : (b : Book) (c : Command) → day.told_cancelled (book_step b c).reply ≡ day.cancelled_among (λ _. true) (c, (book_step b c).reply)
 told-cancelled b (Place name account side price quantity) = refl
 told-cancelled b (Cancel name) = refl
 told-cancelled b (Fill account side price quantity places) = refl
@@ -46,7 +46,7 @@ none-filled : (b : Book) (o : Option Order) → day.told_taken (cancel_step b o)
 none-filled b None = refl
 none-filled b (Some o) = refl
 
-told-filled : (b : Book) (c : Command) → day.told_taken (book_step b c).reply ≡ day.filled (c, (book_step b c).reply)
+told-filled : (b : Book) (c : Command) → day.told_taken (book_step b c).reply ≡ day.filled_by (c, (book_step b c).reply)
 told-filled b (Place name account side price quantity) = refl
 told-filled b (Cancel name) = none-filled b (find_open b name)
 told-filled b (Fill account side price quantity places) = refl
@@ -83,18 +83,18 @@ replies-sum f b (c ∷ cs) =
     omega (arith, sum_by-cons f step.reply (replies_to step.book cs), sum_by-cons (λ p. f p.1) (c, step.reply) (zip cs (replies_to step.book cs)), replies-sum f step.book cs)
 
 -- the first of optional commands
-first : (o : Option Command) (cs : List Command) → sum_by (λ c. placed (Some c)) (cons_option o cs) ≡ placed o + sum_by (λ c. placed (Some c)) cs
+first : (o : Option Command) (cs : List Command) → sum_by (λ c. quantity_placed (Some c)) (cons_option o cs) ≡ quantity_placed o + sum_by (λ c. quantity_placed (Some c)) cs
 first None cs = omega arith
-first (Some c) cs = sum_by-cons (λ d. placed (Some d)) c cs
+first (Some c) cs = sum_by-cons (λ d. quantity_placed (Some d)) c cs
 
 -- what the lines of tags place, their commands place
 named-sum : (scripts : List (List Command)) (tags : List ℕ)
-    → sum_by (λ t. placed (at_line scripts (t / 2 ^ 32) (t % 2 ^ 32))) tags ≡ sum_by (λ c. placed (Some c)) (commands_of scripts tags)
+    → sum_by (λ t. quantity_placed (at_line scripts (t / 2 ^ 32) (t % 2 ^ 32))) tags ≡ sum_by (λ c. quantity_placed (Some c)) (commands_of scripts tags)
 named-sum scripts [] = refl
 named-sum scripts (t ∷ tags) =
     let at = at_line scripts (t / 2 ^ 32) (t % 2 ^ 32) in
     let more = named-sum scripts tags in
-    omega (arith, sum_by-cons (λ u. placed (at_line scripts (u / 2 ^ 32) (u % 2 ^ 32))) t tags, first at (commands_of scripts tags), more)
+    omega (arith, sum_by-cons (λ u. quantity_placed (at_line scripts (u / 2 ^ 32) (u % 2 ^ 32))) t tags, first at (commands_of scripts tags), more)
 
 -- what the replies of tags tell
 replied-sum : (f : BookReply → ℕ) (replies : List (List (Option BookReply))) (tags : List ℕ) (rs : List BookReply) → RepliedEach replies tags rs
@@ -143,22 +143,22 @@ module _ (scripts : List (List Command)) (fronts : List Front) (replies : List (
       replied-sum f replies tags (replies_to empty_book p.commands) p.replied
       ∙ replies-sum f empty_book p.commands ∙ pairs-sum (λ c r. f r) g same empty_book p.commands
 
-  all-placed : (all_totals scripts replies).placed ≡ sum_by (day.placed (λ _. true)) (day.answered p.commands)
+  all-placed : (all_totals scripts replies).placed ≡ sum_by (day.placed_among (λ _. true)) (day.answered p.commands)
   all-placed =
-      all-totals-sum (λ t. t.placed) refl (λ t u. refl) scripts replies ∙ lines (λ c l. placed (at_line scripts c l))
-      ∙ named-sum scripts tags ∙ ap (sum_by (λ c. placed (Some c))) (sym p.named)
-      ∙ commands-sum (λ c. placed (Some c)) empty_book p.commands
-      ∙ pairs-sum (λ c r. placed (Some c)) (day.placed (λ _. true)) (λ b c. told-placed c (book_step b c).reply) empty_book p.commands
+      all-totals-sum (λ t. t.placed) refl (λ t u. refl) scripts replies ∙ lines (λ c l. quantity_placed (at_line scripts c l))
+      ∙ named-sum scripts tags ∙ ap (sum_by (λ c. quantity_placed (Some c))) (sym p.named)
+      ∙ commands-sum (λ c. quantity_placed (Some c)) empty_book p.commands
+      ∙ pairs-sum (λ c r. quantity_placed (Some c)) (day.placed_among (λ _. true)) (λ b c. told-placed c (book_step b c).reply) empty_book p.commands
 
-  all-cancelled : (all_totals scripts replies).cancelled ≡ sum_by (day.cancelled (λ _. true)) (day.answered p.commands)
+  all-cancelled : (all_totals scripts replies).cancelled ≡ sum_by (day.cancelled_among (λ _. true)) (day.answered p.commands)
   all-cancelled =
-      all-totals-sum (λ t. t.cancelled) refl (λ t u. refl) scripts replies ∙ lines (λ c l. cancelled (reply_at replies c l))
-      ∙ told day.told_cancelled (day.cancelled (λ _. true)) told-cancelled
+      all-totals-sum (λ t. t.cancelled) refl (λ t u. refl) scripts replies ∙ lines (λ c l. quantity_cancelled (reply_at replies c l))
+      ∙ told day.told_cancelled (day.cancelled_among (λ _. true)) told-cancelled
 
-  all-filled : (all_totals scripts replies).filled ≡ sum_by day.filled (day.answered p.commands)
+  all-filled : (all_totals scripts replies).filled ≡ sum_by day.filled_by (day.answered p.commands)
   all-filled =
-      all-totals-sum (λ t. t.filled) refl (λ t u. refl) scripts replies ∙ lines (λ c l. filled (reply_at replies c l))
-      ∙ told day.told_taken day.filled told-filled
+      all-totals-sum (λ t. t.filled) refl (λ t u. refl) scripts replies ∙ lines (λ c l. quantity_filled (reply_at replies c l))
+      ∙ told day.told_taken day.filled_by told-filled
 
   all-open : open_at Buy book + open_at Sell book ≡ sum_by (depth (day.closing p.commands)) (range_with_len 0 LEVELS)
   all-open = open-sum book ∙ ap (λ b. sum_by (depth b) (range_with_len 0 LEVELS)) p.closing

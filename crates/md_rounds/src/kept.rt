@@ -6,7 +6,7 @@ ghost use Rattle.md_book.specs.declared.commands.BookReply.{BookReply};
 ghost use Rattle.md_book.specs.Suits.{Suits};
 ghost use Rattle.md_orders.specs.Scripts.{at_line};
 ghost use Rattle.md_many.specs.Laws as many;
-ghost use Rattle.md_report_replies.specs.Replies.{AllSuit, with_replies};
+ghost use Rattle.md_report_replies.specs.Replies.{SuitTheirLines, with_replies};
 ghost use Rattle.md_rounds.specs.Kept.{all_of, HasReplies};
 
 use crate::round_replies::RoundReplies;
@@ -18,7 +18,7 @@ use std::alloc::AllocError;
 // Puts the replies of a caller's lines after its first `done` into their places. It takes no
 // memory.
 pub(crate) fn keep(replies: &mut Replies, caller: u32, done: u32, batch: &[BookReply])
-    requires suit { AllSuit replies.old.scripts caller done batch.now }
+    requires suit { SuitTheirLines replies.old.scripts caller done batch.now }
     requires few { done + length batch.now < 2 ^ 32 }
     ensures { replies.new ≡ record replies.old {
       replies = with_replies replies.old.replies caller done batch.now;
@@ -33,7 +33,7 @@ pub(crate) fn keep(replies: &mut Replies, caller: u32, done: u32, batch: &[BookR
 
 // Puts the replies of a list into their places, as `keep` those of a batch.
 fn keep_list(replies: &mut Replies, caller: u32, done: u32, list: &RoundReplies)
-    requires suit { AllSuit replies.old.scripts caller done (all_of list.now) }
+    requires suit { SuitTheirLines replies.old.scripts caller done (all_of list.now) }
     requires few { done + length (all_of list.now) < 2 ^ 32 }
     ensures { replies.new ≡ record replies.old {
       replies = with_replies replies.old.replies caller done (all_of list.now);

@@ -2,7 +2,7 @@
 
 ghost use Rattle.std.specs.Prelude.{◌≡◌, ◌≤◌, ◌<◌, ◌+◌, ◌^◌, length, IfOk};
 ghost use Rattle.md_orders.specs.Scripts.{list_of};
-ghost use Rattle.md_report_replies.specs.Replies.{AllSuit};
+ghost use Rattle.md_report_replies.specs.Replies.{SuitTheirLines};
 
 use crate::tests::reports::{reply_with, set_lines};
 use crate::tests::shown::{read, same};
@@ -21,7 +21,7 @@ fn packed_lines(
     count: u8,
 ) -> Result<PackedReplies, Fail>
     requires { done ≤ length (list_of scripts.now caller) }
-    ensures suit { IfOk result (AllSuit scripts.now caller done) }
+    ensures suit { IfOk result (SuitTheirLines scripts.now caller done) }
     ensures few { IfOk result (λ packed. done + length packed < 2 ^ 32) }
 {
     let mut packed = PackedReplies::new(alloc);

@@ -31,7 +31,7 @@ fn parts(line: &mut LineBuffer, count: u8, kept: u8, numbers: &[u64])
 }
 
 // What a fill took and what remains of it, which its first number has, and its parts.
-fn filled(line: &mut LineBuffer, count: u8, kept: u8, numbers: &[u64])
+fn fill_reply(line: &mut LineBuffer, count: u8, kept: u8, numbers: &[u64])
     requires { REPLY + length line.old ≤ SIZE }
     ensures text { let first = slice_index_or numbers.now 0 0 in
         line.new ≡ filled_text (first / 2 ^ 32) (first % 2 ^ 32) (take count
@@ -60,7 +60,7 @@ fn reply(line: &mut LineBuffer, head: PackedHead, numbers: &[u64])
         PackedHead::Cancelled(left) => number_behind(line, b"cancelled ", u64::from(left)),
         PackedHead::Gone => line.bytes(b"gone"),
         PackedHead::Killed => line.bytes(b"killed"),
-        PackedHead::Filled { count, kept } => filled(line, count, kept, numbers),
+        PackedHead::Filled { count, kept } => fill_reply(line, count, kept, numbers),
         PackedHead::Depth => number_behind(line, b"depth ", number_at(numbers, 0)),
         PackedHead::Account => {
             bought_and_sold(line, number_at(numbers, 0), number_at(numbers, 1));

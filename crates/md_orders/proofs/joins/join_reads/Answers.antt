@@ -1,15 +1,15 @@
 use Rattle.std.proofs.Common.{◌++◌, List, Some, sym, subst}
 use Rattle.md_orders.specs.declared.version.Version.{Version}
 use Rattle.md_orders.specs.Records.{Row}
-use Rattle.md_orders.specs.Noted.{AreNotes, IsRead}
+use Rattle.md_orders.specs.Noted.{AreNotes, IsReadAsNotes}
 use Rattle.md_orders.proofs.joins.join_reads.Goals as goal
 
 -- the version that notes show is the one that is known
 shown : (c : goal.After-join_notes) (version : Version) (low high : List Row) → AreNotes (Some version) c.args.callers low c.in_ok-first.field-0
-    → AreNotes (Some version) c.args.callers high c.in_ok-second.field-0 → IsRead (Some version) c.args.callers (low ++ high) c.join_notes.result
+    → AreNotes (Some version) c.args.callers high c.in_ok-second.field-0 → IsReadAsNotes (Some version) c.args.callers (low ++ high) c.join_notes.result
 shown c version low high l h =
     let back = sym l.version_is in
-    subst (λ v. IsRead (Some v) c.args.callers (low ++ high) c.join_notes.result) l.version_is
+    subst (λ v. IsReadAsNotes (Some v) c.args.callers (low ++ high) c.join_notes.result) l.version_is
     (c.join_notes.ensures low high (subst (λ v. AreNotes (Some v) c.args.callers low c.in_ok-first.field-0) back l)
     (subst (λ v. AreNotes (Some v) c.args.callers high c.in_ok-second.field-0) back h))
 

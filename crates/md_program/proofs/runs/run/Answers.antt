@@ -1,6 +1,5 @@
 use Rattle.std.proofs.Common.{refl, sym}
 use Rattle.md_program.proofs.Asked.{none-written, none-accepted, one-written}
-use Rattle.md_program.proofs.Complete.{good-not-bad}
 use Rattle.md_program.proofs.runs.run.Goals as goal
 
 pub returns-in-Some-clause-usage : goal.returns-in-Some-clause-usage
@@ -22,9 +21,6 @@ returns-in-Some-clause-complete g c = λ options write.
     let same = one-written _ _ c.read_options.ensures.written c.in-Some.options options c.in-Some.is write in
     rw (sym same) c.run_asked.ensures.complete
 
-pub returns-in-Some-clause-told : goal.returns-in-Some-clause-told
-returns-in-Some-clause-told g c = λ callers bytes left good. good-not-bad _ _ _ _ _ callers bytes left good
-
 pub returns-in-None-clause-usage : goal.returns-in-None-clause-usage
 returns-in-None-clause-usage g c = (
   λ _. none-accepted _ _ c.read_options.ensures.written c.in-None.is,
@@ -36,9 +32,6 @@ returns-in-None-clause-answers g c = λ options write. absurd (none-written _ _ 
 
 pub returns-in-None-clause-complete : goal.returns-in-None-clause-complete
 returns-in-None-clause-complete g c = λ options write. absurd (none-written _ _ c.read_options.ensures.written c.in-None.is options write)
-
-pub returns-in-None-clause-told : goal.returns-in-None-clause-told
-returns-in-None-clause-told g c = λ callers bytes left good. good-not-bad _ _ _ _ _ callers bytes left good
 
 pub returns-in-None-clause-refused : goal.returns-in-None-clause-refused
 returns-in-None-clause-refused g c = λ _. (c.stop.ensures.status, refl, c.stop.ensures.alone)

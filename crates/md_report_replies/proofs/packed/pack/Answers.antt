@@ -2,7 +2,7 @@ use Rattle.std.proofs.Common.{◌≡◌, ◌+◌, ◌*◌, ◌/◌, ◌%◌, ◌
 use Rattle.std.specs.Prelude.{min}
 use Rattle.md_book.specs.declared.limits.TheConstants.{MAX_PARTS}
 use Rattle.md_book.specs.Book.{padded}
-use Rattle.md_report_replies.specs.Packed.{IsSmall, numbers_of, parts_of}
+use Rattle.md_report_replies.specs.Packed.{IsPackable, numbers_of, parts_of}
 use Rattle.md_report_replies.proofs.Unpacked.{length-kept, parts-kept, length-numbers_of}
 use Rattle.md_report_replies.proofs.packed.pack.Goals as goal
 
@@ -14,7 +14,7 @@ returns-in-Filled-clause-packed c =
     let first = c.from.result * 2 ^ 32 + c.from-in-Filled.result in
     let taken : first / 2 ^ 32 ≡ c.in-Filled.taken = omega (arith, c.from.ensures, c.from-in-Filled.ensures) in
     let rest : first % 2 ^ 32 ≡ c.in-Filled.rest = omega (arith, c.from.ensures, c.from-in-Filled.ensures) in
-    let small = subst (λ n. All IsSmall (take n parts)) c.from-in-Filled-2.ensures c.pack_parts.ensures.small in
+    let small = subst (λ n. All IsPackable (take n parts)) c.from-in-Filled-2.ensures c.pack_parts.ensures.small in
     let back : padded (parts_of (min kept MAX_PARTS) (numbers_of (take kept parts))) ≡ parts =
     parts-kept kept parts few small c.parts_to_keep-kept.ensures.rest in
     let size = length-numbers_of (take kept parts) in

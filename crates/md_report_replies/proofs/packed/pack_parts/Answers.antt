@@ -1,7 +1,7 @@
 use Rattle.std.proofs.Common.{◌<◌, ◌^◌, ◌∙◌, ◌++◌, ◌∷◌, [], All, take, get_or, ap, sym, subst, arith, append_assoc}
 use Rattle.std.proofs.lemmas.List.{take_more}
 use Rattle.std.proofs.lemmas.List.Elements.{All-push}
-use Rattle.md_report_replies.specs.Packed.{IsSmall, numbers_of}
+use Rattle.md_report_replies.specs.Packed.{IsPackable, numbers_of}
 use Rattle.md_report_replies.proofs.Unpacked.{numbers_of-push}
 use Rattle.md_report_replies.proofs.packed.pack_parts.Goals as goal
 
@@ -21,5 +21,5 @@ loop-part-preserved c =
           ∙ ap (λ n. (c.args.numbers.now.items ++ numbers_of before) ++ part.name ∷ n ∷ []) c.from.ensures
           ∙ append_assoc c.args.numbers.now.items (numbers_of before) (part.name ∷ part.taken ∷ [])
           ∙ ap (λ ns. c.args.numbers.now.items ++ ns) (sym (ap numbers_of more ∙ numbers_of-push before part));
-      small = subst (All IsSmall) (sym more) (All-push IsSmall before part c.loop-part.invariant.small taken);
+      small = subst (All IsPackable) (sym more) (All-push IsPackable before part c.loop-part.invariant.small taken);
     }

@@ -1,6 +1,6 @@
 use Rattle.std.proofs.Common.{◌∙◌, ◌+◌, ap, sym, refl, subst, drop, arith}
 use Rattle.md_report_replies.specs.Packed.{unpacked_all}
-use Rattle.md_report_replies.specs.Replies.{RepliesState, with_replies, AllSuit}
+use Rattle.md_report_replies.specs.Replies.{RepliesState, with_replies, SuitTheirLines}
 use Rattle.md_report_replies.proofs.Unpacked.{sum-next, unpacked-next}
 use Rattle.md_report_replies.proofs.packed.set_each.Goals as goal
 
@@ -12,7 +12,7 @@ room_at-requires c =
 pub set_line-requires : goal.set_line-requires
 set_line-requires c =
     let next = unpacked-next c.args.heads.now c.args.numbers.now _ c.loop-head.head-index c.loop-head.start _ _ _ c.loop-head-test.true c.size_of-size.ensures c.room_at.ensures refl in
-    (subst (AllSuit c.loop-head.replies.scripts c.args.caller c.loop-head.line) next c.loop-head.invariant.suit).0
+    (subst (SuitTheirLines c.loop-head.replies.scripts c.args.caller c.loop-head.line) next c.loop-head.invariant.suit).0
 
 pub loop-head-preserved : goal.loop-head-preserved
 loop-head-preserved c =
@@ -26,8 +26,8 @@ loop-head-preserved c =
       line = omega (arith, inv.line);
       numbers = omega (arith, inv.numbers);
       scripts = scripts ∙ inv.scripts;
-      suit = subst (λ ss. AllSuit ss c.args.caller (c.loop-head.line + 1) left) (sym scripts)
-          (subst (AllSuit c.loop-head.replies.scripts c.args.caller c.loop-head.line) next inv.suit).1;
+      suit = subst (λ ss. SuitTheirLines ss c.args.caller (c.loop-head.line + 1) left) (sym scripts)
+          (subst (SuitTheirLines c.loop-head.replies.scripts c.args.caller c.loop-head.line) next inv.suit).1;
       rest = ap (λ rs. with_replies rs c.args.caller (c.loop-head.line + 1) left) replies
           ∙ sym (ap (with_replies c.loop-head.replies.replies c.args.caller c.loop-head.line) next) ∙ inv.rest;
     }

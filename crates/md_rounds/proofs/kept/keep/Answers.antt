@@ -2,14 +2,14 @@ use Rattle.std.proofs.Common.{◌+◌, ◌∙◌, ap, subst, sym, arith, rules}
 use Rattle.md_report_replies.specs.Replies.{RepliesState}
 use Rattle.md_rounds.proofs.Keeping.{batch-more}
 use Rattle.md_rounds.proofs.Suiting.{suit-at}
-use Rattle.md_report_replies.specs.Replies.{AllSuit}
+use Rattle.md_report_replies.specs.Replies.{SuitTheirLines}
 use Rattle.std.proofs.lemmas.Grind.{common_steps}
 use Rattle.md_rounds.proofs.kept.keep.Goals as goal
 
 pub set-requires : goal.set-requires
 set-requires c =
     suit-at c.replies.replies.scripts c.args.caller c.args.batch.now c.args.done c.replies.reply-index (c.replies.line + 1) _
-    (subst (λ s. AllSuit s c.args.caller c.args.done c.args.batch.now) (sym c.replies.invariant.scripts) c.requires.suit) c.replies-test.true (omega (arith, c.replies.invariant.line))
+    (subst (λ s. SuitTheirLines s c.args.caller c.args.done c.args.batch.now) (sym c.replies.invariant.scripts) c.requires.suit) c.replies-test.true (omega (arith, c.replies.invariant.line))
 
 pub replies-preserved : goal.replies-preserved
 replies-preserved c = record {

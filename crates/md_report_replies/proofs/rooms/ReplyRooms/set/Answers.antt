@@ -1,6 +1,6 @@
 use Rattle.std.proofs.Common.{◌≡◌, ◌∙◌, Some, length, drop, set, ap, sym, subst, arith}
 use Rattle.std.proofs.lemmas.List.{take_at}
-use Rattle.md_report_replies.specs.Rooms.{RoomsState, replies_in, new_reply}
+use Rattle.md_report_replies.specs.Rooms.{RoomsState, replies_in_rooms, new_reply}
 use Rattle.md_report_replies.proofs.Apart.{IsLineAt, same-lengths, line-at, replies-kept}
 use Rattle.md_report_replies.proofs.rooms.ReplyRooms.set.Goals as goal
 
@@ -33,6 +33,6 @@ returns c =
     let longer = ap length c.deref_mut.ensures.value in
     let same_length : length c.keep_at-head.new.numbers ≡ inside.numbers.len = omega (arith, c.keep_at-head.auto.numbers, inside.numbers.ok.0) in
     let refilled = take_at c.keep_at-head.new.numbers (drop (length c.keep_at-head.new.numbers) inside.numbers.items) inside.numbers.len same_length in
-    ap (λ ns. record { sizes = inside.sizes.items; replies = replies_in inside.sizes.items (set inside.heads.items c.args.at c.keep_at-head.result) ns }) refilled
+    ap (λ ns. record { sizes = inside.sizes.items; replies = replies_in_rooms inside.sizes.items (set inside.heads.items c.args.at c.keep_at-head.result) ns }) refilled
     ∙ ap (λ rs. record { sizes = inside.sizes.items; replies = rs }) kept
     ∙ ap (λ (s : RoomsState). record s { replies = set s.replies c.args.at (Some (new_reply c.args.reply)) }) c.self.view_is

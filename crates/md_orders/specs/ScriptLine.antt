@@ -12,7 +12,7 @@ abbrev pub next_name : List (List Command) → ℕ → ℕ
 next_name scripts caller = name_of caller (length (list_of scripts caller) + 1)
 
 -- a record keeps the grammar, and writes this caller and this command, whose order is named by the caller's next line
-pub record IsLine (version : Version) (callers : ℕ) (row : Row) (scripts : List (List Command))
+pub record IsScriptLine (version : Version) (callers : ℕ) (row : Row) (scripts : List (List Command))
     (caller : ℕ) (command : Command) : Type 0 where
   pub caller_is : caller_of version callers row ≡ Some caller
   pub caller_low : 1 ≤ caller
