@@ -23,7 +23,7 @@ fn shapes(rt: HostRuntime) {
     for (own, kept, want) in [
         ((1, 1, 0, 1), (1, 1, 0), Ok(646)),
         ((2, 16, 1, 4), (1, 64, 1), Ok(1448)),
-        ((8, 1048576, 0, 4294967295), (1, 1, 0), Ok(25170954)),
+        ((8, 1_048_576, 0, u32::MAX), (1, 1, 0), Ok(25170954)),
         ((65, 0, 0, 1), (1, 1, 0), Err(ShapeFault::Lanes)),
         ((1, 0, 0, 1), (1, 1, 0), Err(ShapeFault::Nodes)),
         ((1, 1, 4194305, 1), (1, 1, 0), Err(ShapeFault::Base)),
@@ -41,12 +41,15 @@ fn shapes(rt: HostRuntime) {
     }
 }
 
+// The name of an order book's first order, at line 1 of caller 1.
+const FIRST_NAME: u64 = (1 << 32) + 1;
+
 #[test]
 fn buckets(rt: HostRuntime) {
     for (buckets, key, want) in [
-        (64, 4_294_967_297, 2),
-        (FEW_BUCKETS, 4_294_967_297, 14_272),
-        (MANY_BUCKETS, 4_294_967_297, 69_570),
+        (64, FIRST_NAME, 2),
+        (FEW_BUCKETS, FIRST_NAME, 14_272),
+        (MANY_BUCKETS, FIRST_NAME, 69_570),
         (MANY_BUCKETS, 131_197, 131_198),
     ] {
         same(&rt, &head_of(buckets, key), &Ok(want));

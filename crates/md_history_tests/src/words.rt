@@ -8,10 +8,10 @@ fn contents(rt: HostRuntime) {
     let spot = Spot { desc: 3, slot: 7 };
     same(&rt, &spot.value(), &775);
     for (word, value, count, stands) in [
-        (17179869184 + 2, 4, 2, None),
-        (154618822658, 36, 2, None),
-        (775 * 4294967296 + 5, 775, 5, Some(spot)),
-        (1099511627777, 256, 1, Some(Spot { desc: 1, slot: 0 })),
+        ((4 << 32) + 2, 4, 2, None),
+        ((36 << 32) + 2, 36, 2, None),
+        ((775 << 32) + 5, 775, 5, Some(spot)),
+        ((256 << 32) + 1, 256, 1, Some(Spot { desc: 1, slot: 0 })),
     ] {
         let content = Content { value, count };
         let found = (Content::of(word), content.word(), content.stands());

@@ -365,12 +365,15 @@ fn gave_node(node: Result<u32, Stop>) -> Result<Gave, Stop> {
     Ok(Gave::Node(node?))
 }
 
+// A call, and what it is to give.
+type Made = (Call, Result<Gave, Stop>);
+
 // Makes calls one after another. Each gives what stands beside it.
 fn assert_calls(
     rt: &impl Abort,
     txn: &mut Txn<'_, CellTheory>,
     field: &Field<CellTheory>,
-    calls: &[(Call, Result<Gave, Stop>)],
+    calls: &[Made],
 )
     requires { IsOpen field.now (state txn.old) }
     ensures pass { txn.new.pass.ghost_name ≡ txn.old.pass.ghost_name }
@@ -389,7 +392,7 @@ fn assert_stopped(
     field: &Field<CellTheory>,
     tag: u64,
     sets: &mut Sets,
-    calls: &[(Call, Result<Gave, Stop>)],
+    calls: &[Made],
 )
     requires { IsOf pass.old field.now }
     ensures { IsOf pass.new field.now }
@@ -406,7 +409,7 @@ fn head_left(
     field: &Field<CellTheory>,
     tag: u64,
     sets: &mut Sets,
-    calls: &[(Call, Result<Gave, Stop>)],
+    calls: &[Made],
 ) -> u64
     requires { IsOf pass.old field.now }
     ensures { IsOf pass.new field.now }
@@ -594,10 +597,10 @@ fn a_worn_word_is_not_changed(rt: HostRuntime) {
     let (field, mut pass) = open_worn(&rt, Shape::new(1, 1, 0, 3, 1, 1, 0));
     let limit = Err(Stop::Limit(Limit::Worn {
         word: 1,
-        count: 4_294_967_292,
+        count: WORN,
     }));
     let calls = [
-        (Call::Look(0), plain(0, 4_294_967_292)),
+        (Call::Look(0), plain(0, WORN)),
         (Call::Change(0, 5), limit),
         (Call::Note(0), limit),
     ];

@@ -1,11 +1,10 @@
 //! A source in memory.
 
-ghost use Rattle.std.specs.Prelude.{◌≡◌, ◌<◌, ◌≤◌, ◌↔◌, Some, IfOk, IsErr, OnErr, min, drop, length};
+ghost use Rattle.std.specs.Prelude.{◌≡◌, ◌<◌, ◌≤◌, Some, drop, length};
 ghost use Rattle.std.specs.Io.{ReadsAtMost};
 ghost use Rattle.std.specs.Io.KnownBytes.{ReadConsumes};
-ghost use Rattle.std.specs.List.{Contains};
-ghost use Rattle.md_outside.specs.Causes.{HasCause, next_count};
-ghost use Rattle.md_outside.specs.MemSource.{SourceState, MemGives};
+ghost use Rattle.md_outside.specs.Causes.{HasCause};
+ghost use Rattle.md_outside.specs.MemSource.{SourceState, MemGives, IsExactRead};
 ghost use Rattle.md_outside.specs.Moves.{bytes_moved};
 
 use crate::listed::is_listed;
@@ -75,13 +74,7 @@ impl Source for MemSource {
         ensures bytes { ReadConsumes (Some self.old.left) (Some self.new.left) result buf.new }
         ensures step { MemGives self.old (bytes_moved result buf.new) self.new }
         ensures cause { HasCause self.old.faults self.new.faults result }
-
-        // With `step`, these determine the result and the buffer.
-        ensures fails { IsErr result ↔ Contains self.old.failing (next_count self.old.calls) }
-        ensures count { IfOk result (λ n.
-            n ≡ min (min (length self.old.left) self.old.piece) (length buf.old)) }
-        ensures tail { IfOk result (λ n. drop n buf.new ≡ drop n buf.old) }
-        ensures unread { OnErr result (buf.new ≡ buf.old) }
+        ensures exact { IsExactRead self.old buf.old result buf.new }
     {
         self.calls = self.calls.saturating_add(1);
         if is_listed(&self.failing, self.calls) {

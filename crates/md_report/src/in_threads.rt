@@ -1,6 +1,6 @@
 //! The lines of the callers in a report, which threads write side by side.
 
-ghost use Rattle.std.specs.Prelude.{◌≡◌, ◌<◌, ◌+◌, ◌^◌, ◌++◌, ℕ, List, [], IfOk};
+ghost use Rattle.std.specs.Prelude.{◌≡◌, ◌<◌, ◌+◌, ◌/◌, ◌^◌, ◌++◌, ℕ, List, [], IfOk};
 ghost use Rattle.std.specs.Thread.{IsSync};
 ghost use Rattle.md_report.specs.Report.{lines_text, callers_text_after, replies_text, whole_text};
 
@@ -18,6 +18,36 @@ const RANGES: u32 = 8;
 
 // Fewer lines of a caller are one range.
 const MANY_LINES: u32 = 4_096;
+
+// The `count` lines or callers after the first `before`.
+#[derive(Clone, Copy)]
+struct Span {
+    before: u32,
+    count: u32,
+}
+
+impl Span {
+    // Its halves, one behind the other. The second is the smaller one, if they differ.
+    fn halves(self) -> (Span, Span)
+        requires { self.before + self.count < 2 ^ 32 }
+        ensures start { result.0.before ≡ self.before }
+        ensures behind { result.1.before ≡ self.before + result.0.count }
+        ensures whole { result.0.count + result.1.count ≡ self.count }
+        ensures half { result.1.count ≡ self.count / 2 }
+    {
+        let high = self.count / 2;
+        let low = self.count - high;
+        let first = Span {
+            before: self.before,
+            count: low,
+        };
+        let second = Span {
+            before: self.before + low,
+            count: high,
+        };
+        (first, second)
+    }
+}
 
 // A text in one part.
 fn one_part(alloc: Global, text: Vec<u8>) -> Result<Vec<Vec<u8>>, AllocError>
@@ -43,134 +73,129 @@ fn joined(
     Ok(first)
 }
 
-// An empty text, with room for the lines of the `count` callers after the first `before`.
-fn room_for(alloc: Global, of: &Scripts, before: u32, count: u32) -> Result<Vec<u8>, AllocError>
-    requires { before + count < 2 ^ 32 }
+// An empty text, with room for the lines of some callers.
+fn room_for(alloc: Global, of: &Scripts, callers: Span) -> Result<Vec<u8>, AllocError>
+    requires { callers.before + callers.count < 2 ^ 32 }
     ensures { IfOk result (λ out. out.items ≡ []) }
 {
     let mut lines = 0u32;
-    for earlier in 0..count {
-        lines = lines.saturating_add(of.len(before + earlier + 1));
+    for earlier in 0..callers.count {
+        lines = lines.saturating_add(of.len(callers.before + earlier + 1));
     }
     let mut out = Vec::new(alloc);
     make_room(&mut out, lines)?;
     Ok(out)
 }
 
-// The lines of a caller after its first `before`, in one part.
+// Lines of a caller, in one part.
 fn one_range(
     alloc: Global,
     replies: &RepliesByCaller,
     caller: u32,
-    before: u32,
-    count: u32,
+    span: Span,
 ) -> Result<Vec<Vec<u8>>, AllocError>
-    requires { before + count < 2 ^ 32 }
+    requires { span.before + span.count < 2 ^ 32 }
     ensures { IfOk result (λ parts. whole_text parts.items
-        ≡ lines_text replies.now caller before count) }
+        ≡ lines_text replies.now caller span.before span.count) }
 {
     let mut out = Vec::new(alloc);
-    make_room(&mut out, count)?;
-    lines(&mut out, replies, caller, before, count)?;
+    make_room(&mut out, span.count)?;
+    lines(&mut out, replies, caller, span.before, span.count)?;
     one_part(alloc, out)
 }
 
-// The lines of a caller after its first `before`, in at most so many ranges, by halves in threads.
+// Lines of a caller, in at most so many ranges, by halves in threads.
 #[cycle(ranges)]
 fn lines_in_ranges<R: Threads + Sync>(
     rt: &R,
     alloc: Global,
     replies: &RepliesByCaller,
     caller: u32,
-    before: u32,
-    count: u32,
+    span: Span,
     ranges: u32,
 ) -> Result<Vec<Vec<u8>>, AllocError>
-    requires { before + count < 2 ^ 32 }
+    requires { span.before + span.count < 2 ^ 32 }
     ensures { IfOk result (λ parts. whole_text parts.items
-        ≡ lines_text replies.now caller before count) }
+        ≡ lines_text replies.now caller span.before span.count) }
 {
-    if ranges <= 1 || count < MANY_LINES {
-        return one_range(alloc, replies, caller, before, count);
+    if ranges <= 1 || span.count < MANY_LINES {
+        return one_range(alloc, replies, caller, span);
     }
-    let high = count / 2;
-    let low = count - high;
-    let middle = before + low;
+    let (low, high) = span.halves();
     let (earlier, later) = thread::join(
         rt,
         move || -> Result<Vec<Vec<u8>>, AllocError>
             requires sync { IsSync R.row }
-            requires few { before + low < 2 ^ 32 }
+            requires few { low.before + low.count < 2 ^ 32 }
             ensures { IfOk result (λ parts. whole_text parts.items
-                ≡ lines_text replies.entry.now caller before low) }
-        { lines_in_ranges(rt, alloc, replies, caller, before, low, ranges / 2) },
+                ≡ lines_text replies.entry.now caller low.before low.count) }
+        { lines_in_ranges(rt, alloc, replies, caller, low, ranges / 2) },
         move || -> Result<Vec<Vec<u8>>, AllocError>
             requires sync { IsSync R.row }
-            requires few { middle + high < 2 ^ 32 }
+            requires few { high.before + high.count < 2 ^ 32 }
             ensures { IfOk result (λ parts. whole_text parts.items
-                ≡ lines_text replies.entry.now caller middle high) }
-        { lines_in_ranges(rt, alloc, replies, caller, middle, high, ranges / 2) },
+                ≡ lines_text replies.entry.now caller high.before high.count) }
+        { lines_in_ranges(rt, alloc, replies, caller, high, ranges / 2) },
     );
     joined(earlier, later)
 }
 
-// The lines of the `count` callers after the first `before`, in one part.
+// The lines of some callers, in one part.
 fn callers_in_one(
     alloc: Global,
     of: &Scripts,
     replies: &RepliesByCaller,
-    before: u32,
-    count: u32,
+    callers: Span,
 ) -> Result<Vec<Vec<u8>>, AllocError>
-    requires { before + count < 2 ^ 32 }
+    requires { callers.before + callers.count < 2 ^ 32 }
     ensures { IfOk result (λ parts. whole_text parts.items
-        ≡ callers_text_after of.now replies.now before count) }
+        ≡ callers_text_after of.now replies.now callers.before callers.count) }
 {
-    let mut out = room_for(alloc, of, before, count)?;
-    callers_lines(&mut out, of, replies, before, count)?;
+    let mut out = room_for(alloc, of, callers)?;
+    callers_lines(&mut out, of, replies, callers.before, callers.count)?;
     one_part(alloc, out)
 }
 
-// The lines of the `count` callers after the first `before`, in at most so many ranges, by halves
-// in threads.
+// The lines of some callers, in at most so many ranges, by halves in threads.
 #[cycle(halves)]
 fn lines_of_callers<R: Threads + Sync>(
     rt: &R,
     alloc: Global,
     of: &Scripts,
     replies: &RepliesByCaller,
-    before: u32,
-    count: u32,
+    callers: Span,
     ranges: u32,
 ) -> Result<Vec<Vec<u8>>, AllocError>
-    requires { before + count < 2 ^ 32 }
+    requires { callers.before + callers.count < 2 ^ 32 }
     ensures { IfOk result (λ parts. whole_text parts.items
-        ≡ callers_text_after of.now replies.now before count) }
+        ≡ callers_text_after of.now replies.now callers.before callers.count) }
 {
-    if count == 1 {
-        let caller = before + 1;
-        return lines_in_ranges(rt, alloc, replies, caller, 0, of.len(caller), ranges);
+    if callers.count == 1 {
+        let caller = callers.before + 1;
+        let all = Span {
+            before: 0,
+            count: of.len(caller),
+        };
+        return lines_in_ranges(rt, alloc, replies, caller, all, ranges);
     }
-    if ranges <= 1 || count == 0 {
-        return callers_in_one(alloc, of, replies, before, count);
+    if ranges <= 1 || callers.count == 0 {
+        return callers_in_one(alloc, of, replies, callers);
     }
-    let high = count / 2;
-    let low = count - high;
-    let middle = before + low;
+    let (low, high) = callers.halves();
     let (first, second) = thread::join(
         rt,
         move || -> Result<Vec<Vec<u8>>, AllocError>
             requires sync { IsSync R.row }
-            requires few { before + low < 2 ^ 32 }
+            requires few { low.before + low.count < 2 ^ 32 }
             ensures { IfOk result (λ parts. whole_text parts.items
-                ≡ callers_text_after of.entry.now replies.entry.now before low) }
-        { lines_of_callers(rt, alloc, of, replies, before, low, ranges / 2) },
+                ≡ callers_text_after of.entry.now replies.entry.now low.before low.count) }
+        { lines_of_callers(rt, alloc, of, replies, low, ranges / 2) },
         move || -> Result<Vec<Vec<u8>>, AllocError>
             requires sync { IsSync R.row }
-            requires few { middle + high < 2 ^ 32 }
+            requires few { high.before + high.count < 2 ^ 32 }
             ensures { IfOk result (λ parts. whole_text parts.items
-                ≡ callers_text_after of.entry.now replies.entry.now middle high) }
-        { lines_of_callers(rt, alloc, of, replies, middle, high, ranges / 2) },
+                ≡ callers_text_after of.entry.now replies.entry.now high.before high.count) }
+        { lines_of_callers(rt, alloc, of, replies, high, ranges / 2) },
     );
     joined(first, second)
 }
@@ -197,5 +222,9 @@ pub fn lines_in_threads<R: Threads + Sync>(
     ensures { IfOk result (λ parts. whole_text parts.items
         ≡ replies_text of.now replies.now) }
 {
-    lines_of_callers(rt, alloc, of, replies, 0, of.callers(), RANGES)
+    let all = Span {
+        before: 0,
+        count: of.callers(),
+    };
+    lines_of_callers(rt, alloc, of, replies, all, RANGES)
 }

@@ -17,8 +17,15 @@ use rows::step_in;
 use std::alloc::AllocGlobal;
 use std::process::Abort;
 
-// Whether a command gets the reply beside it.
-fn gets_its_reply(rt: &impl Abort, store: &PlainStore, pass: &mut PlainPass, row: &str) -> bool
+// Plays a row. If the outcome is another than the reply beside the command, the row is added to
+// `wrong`, with that outcome.
+fn play_row(
+    rt: &impl Abort,
+    store: &PlainStore,
+    pass: &mut PlainPass,
+    row: &str,
+    wrong: &mut String,
+)
     requires sized { IsBookSized store.now }
     requires of { IsPassOf store.now pass.old }
     ensures { IsPassOf store.now pass.new }
@@ -27,32 +34,38 @@ fn gets_its_reply(rt: &impl Abort, store: &PlainStore, pass: &mut PlainPass, row
     if !is_lawful(command) {
         panic!(rt; "a command is out of range")
     }
-    store.attempt(pass, 1, &command) == Attempt::Committed(reply)
+    let found = store.attempt(pass, 1, &command);
+    if found != Attempt::Committed(reply) {
+        writeln!(wrong, "{row} but {found:?}").expect(rt, "memory");
+    }
 }
 
-// Plays the rows of a day, each on a line of its own, up to the first whose reply is another than
-// the one beside it. It answers how many had their replies, and that row or nothing. A line without
-// the sign `|` is a remark.
-fn first_other<'a>(
+// Whether a line of a day is a row. Others are blank, or remarks, which begin with the sign `#`.
+fn is_row(line: &str) -> bool {
+    !matches!(line.trim().as_bytes().first(), None | Some(b'#'))
+}
+
+// Plays the rows of a day, each on a line of its own, and gathers those that are wrong. It answers
+// how many there are.
+fn play_rows(
     rt: &impl Abort,
     store: &PlainStore,
     pass: &mut PlainPass,
-    day: &'a str,
-) -> (u32, &'a str)
+    day: &str,
+    wrong: &mut String,
+) -> u32
     requires sized { IsBookSized store.now }
     requires of { IsPassOf store.now pass.old }
     ensures { IsPassOf store.now pass.new }
 {
-    let mut played = 0u32;
-    for row in day.lines() {
-        if row.contains('|') {
-            if !gets_its_reply(rt, store, pass, row) {
-                return (played, row);
-            }
-            played = played.saturating_add(1);
+    let mut rows = 0u32;
+    for line in day.lines() {
+        if is_row(line) {
+            play_row(rt, store, pass, line, wrong);
+            rows = rows.saturating_add(1);
         }
     }
-    (played, "")
+    rows
 }
 
 // A store with an empty book.
@@ -63,22 +76,15 @@ fn empty_book<R: Abort + AllocGlobal>(rt: &R) -> (PlainStore, PlainPass)
     PlainStore::open(Contents::empty(rt.alloc(), MAPS, LEVELS).expect(rt, "memory"))
 }
 
-// So many rows of a day, all that it has, get their replies.
-fn assert_played(rt: &impl Abort, store: &PlainStore, pass: &mut PlainPass, day: &str, rows: u32)
-    requires sized { IsBookSized store.now }
-    requires of { IsPassOf store.now pass.old }
-    ensures { IsPassOf store.now pass.new }
-{
-    same(rt, &first_other(rt, store, pass, day), &(rows, ""));
-}
-
-// Plays the rows of a day on an empty book, so many of them. It answers what the store contains
-// then.
+// Plays a day of so many rows on an empty book, and tells each wrong row. It answers what the store
+// contains then.
 fn play<R: Abort + AllocGlobal>(rt: &R, day: &str, rows: u32) -> Contents
     ensures { IsBookSized result }
 {
     let (store, mut pass) = empty_book(rt);
-    assert_played(rt, &store, &mut pass, day, rows);
+    let mut wrong = String::new(rt.alloc());
+    let played = play_rows(rt, &store, &mut pass, day, &mut wrong);
+    same(rt, &(played, wrong.as_str()), &(rows, ""));
     let (contents, _) = store.contents(pass).expect(rt, "memory");
     contents
 }

@@ -74,9 +74,9 @@ fn nodes_of_small_contents(rt: HostRuntime) {
 fn small_contents_are_laid_word_for_word(rt: HostRuntime) {
     let contents = contents_of(rt.alloc(), &[(5, 6)], &[]).expect(&rt, "memory");
     let words = [
-        (6, 17179869184),
-        (65, 8589934592),
-        (66, 8589934592),
+        (6, 4 << 32),
+        (65, 2 << 32),
+        (66, 2 << 32),
         (70, 5),
         (71, 6),
     ]
@@ -89,10 +89,10 @@ fn small_contents_are_laid_word_for_word(rt: HostRuntime) {
 fn a_queued_value_is_laid_word_for_word(rt: HostRuntime) {
     let contents = contents_of(rt.alloc(), &[(5, 6)], &[9]).expect(&rt, "memory");
     let words = [
-        (6, 17179869184),
-        (65, 8589934592),
-        (66, 25769803776),
-        (69, 25769803776),
+        (6, 4 << 32),
+        (65, 2 << 32),
+        (66, 6 << 32),
+        (69, 6 << 32),
         (70, 5),
         (71, 6),
         (73, 1),

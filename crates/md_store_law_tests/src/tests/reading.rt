@@ -27,10 +27,10 @@ fn row_words(alloc: Global, size: usize) -> Result<Vec<u64>, AllocError>
     words[73] = 1;
     words[71] = 6;
     words[70] = 5;
-    words[69] = 25769803776;
-    words[66] = 25769803776;
-    words[65] = 8589934592;
-    words[6] = 17179869184;
+    words[69] = 6 * UNIT;
+    words[66] = 6 * UNIT;
+    words[65] = 2 * UNIT;
+    words[6] = 4 * UNIT;
     Ok(words)
 }
 

@@ -74,7 +74,7 @@ fn an_insert_overtakes_a_look(rt: HostRuntime) {
     let moved = Stop::Conflict(Shown {
         word: 2,
         was: 0,
-        now: 154_618_822_658,
+        now: (36 << 32) + 2,
     });
     let want = [Ok(Reply::Value(None))];
     overlap(

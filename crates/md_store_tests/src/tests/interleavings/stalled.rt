@@ -98,7 +98,7 @@ fn an_insert_is_aborted(rt: HostRuntime) {
 fn an_insert_that_is_ready_is_committed(rt: HostRuntime) {
     let found = Found {
         value: Some(10),
-        head: 17_179_869_186,
+        head: (4 << 32) + 2,
         status: (166, 2),
     };
     let end = [(1, 10), (3, 30)];
@@ -109,7 +109,7 @@ fn an_insert_that_is_ready_is_committed(rt: HostRuntime) {
 fn a_look_that_still_holds_is_committed(rt: HostRuntime) {
     let found = Found {
         value: Some(10),
-        head: 17_179_869_186,
+        head: (4 << 32) + 2,
         status: (166, 6),
     };
     let end = [(1, 10), (3, 30)];
@@ -194,7 +194,7 @@ fn the_next_transaction_of_the_lane_settles_it(rt: HostRuntime) {
         &want,
         Ok(true),
     );
-    show(&rt, &store, &mut b.pass, &[(2, 25_769_803_780)]);
+    show(&rt, &store, &mut b.pass, &[(2, (6 << 32) + 4)]);
     ends_with(&rt, store, a, b, &[(1, 11), (3, 30)]);
 }
 

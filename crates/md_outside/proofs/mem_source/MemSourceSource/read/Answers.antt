@@ -28,20 +28,8 @@ returns-clause-bytes c =
       λ zero _. sym (drop-drop count at bytes) ∙ drop_of_length-le (drop at bytes) (rw rest at (none zero)),
     )
 
-pub returns-clause-count : goal.returns-clause-count
-returns-clause-count c = search rules depth 1
-
 pub returns-then-is_listed-clause-step : goal.returns-then-is_listed-clause-step
 returns-then-is_listed-clause-step c = search rules depth 1
 
-pub returns-then-is_listed-clause-fails : goal.returns-then-is_listed-clause-fails
-returns-then-is_listed-clause-fails c = search rules depth 1
-
-pub returns-clause-fails : goal.returns-clause-fails
-returns-clause-fails c = search rules depth 1
-
 pub returns-clause-step : goal.returns-clause-step
 returns-clause-step c = grind (arith, common_steps)
-
-pub returns-clause-tail : goal.returns-clause-tail
-returns-clause-tail c = grind (arith, common_steps)
