@@ -5,24 +5,4 @@
 #![tactic(auto)]
 
 #[cfg(test)]
-mod acts;
-#[cfg(test)]
-mod addresses;
-#[cfg(test)]
-mod bodies;
-#[cfg(test)]
-mod compared;
-#[cfg(test)]
-mod contents;
-#[cfg(test)]
-mod lines;
-#[cfg(test)]
-mod logs;
-#[cfg(test)]
-mod memory;
-#[cfg(test)]
-mod shapes;
-#[cfg(test)]
-mod standard;
-#[cfg(test)]
-mod words;
+mod tests;

@@ -41,9 +41,9 @@ good-not-bad gives left faults old new callers bytes told good (inl long) =
 good-not-bad gives left faults old new callers bytes told good (inr (inl many)) =
     many.2 (subst (λ bs. AreFewRecords (order_records bs)) (sym (read-all (left old) (left new) bytes many.0 told many.1.told many.1.ended)) good.few)
 good-not-bad gives left faults old new callers bytes told good (inr (inr bad)) =
-    let same = read-all (left old) (left new) bytes bad.1 told bad.2.told bad.2.ended in
-    let none : first_bad callers (order_records bad.1) ≡ None = subst (λ bs. first_bad callers (order_records bs) ≡ None) (sym same) good.lawful in
-    let both : None ≡ Some bad.0 = sym none ∙ bad.4 in
+    let same = read-all (left old) (left new) bytes bad.1.0 told bad.1.1.told bad.1.1.ended in
+    let none : first_bad callers (order_records bad.1.0) ≡ None = subst (λ bs. first_bad callers (order_records bs) ≡ None) (sym same) good.lawful in
+    let both : None ≡ Some bad.0 = sym none ∙ bad.1.3 in
     cc both
 
 not-bad : {I : Type 0} (gives : StreamCall I) (left : I → Option (List ℕ)) (faults : I → ℕ) (old new : I) (callers : ℕ)

@@ -22,7 +22,7 @@ use std::thread::Threads;
 
 /// A report or a summary, in parts, and the fronts of the stores that its scripts were played on.
 #[derive(Drop)]
-pub struct Played {
+pub struct PlayedText {
     pub parts: Vec<Vec<u8>>,
     pub fronts: Vec<Front<StorePass>>,
 }
@@ -45,7 +45,7 @@ pub fn tell_and_close<R: Threads + Sync>(
     alloc: Global,
     scripts: &Scripts,
     played: OpenOutcome<Store>,
-) -> Result<Played, AllocError>
+) -> Result<PlayedText, AllocError>
     requires of { IsPassOf played.rounds.engine played.rounds.pass }
     requires all { (front_in played.rounds.pass).lanes
         ≡ all_lanes played.rounds.engine.origin.shape }
@@ -77,5 +77,5 @@ pub fn tell_and_close<R: Threads + Sync>(
     let lines = lines?;
     let Rounds { contents, fronts } = closed?;
     let parts = with_last(lines, after_lines(alloc, scripts, &contents)?)?;
-    Ok(Played { parts, fronts })
+    Ok(PlayedText { parts, fronts })
 }

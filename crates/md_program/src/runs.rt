@@ -17,7 +17,7 @@ ghost use Rattle.md_program.specs.Run.{Answers, EndsWell, HasPlayed, StopsReplay
 ghost use Rattle.md_program.specs.Run.{RefusesWords, ToldAlone};
 
 use crate::play::{open_for, play};
-use crate::report::{Played, tell_and_close, with_last};
+use crate::report::{PlayedText, tell_and_close, with_last};
 use crate::status::Run;
 use md_book::MAX_CALLER;
 use md_orders::{OrderFault, Scripts, make, read_orders_in_threads};
@@ -38,7 +38,7 @@ fn replay<R, I, G>(
     options: &Options,
     input: &mut I,
     gate: &G,
-) -> Result<Played, Status>
+) -> Result<PlayedText, Status>
 where
     R: Threads + Sync,
     I: Source,
@@ -84,7 +84,7 @@ fn sum_up<R, G>(
     options: &Options,
     making: Making,
     gate: &G,
-) -> Result<Played, AllocError>
+) -> Result<PlayedText, AllocError>
 where
     R: Threads + Sync,
     G: Gate + Sync,
@@ -97,7 +97,7 @@ where
     let played = play(rt, alloc, &scripts, options, gate)?;
     let text = summary(alloc, &scripts, &played.replies, &played.contents)?;
     let parts = with_last(Vec::new(alloc), text)?;
-    Ok(Played {
+    Ok(PlayedText {
         parts,
         fronts: played.fronts,
     })
@@ -110,7 +110,7 @@ fn play_asked<R, I, G>(
     options: &Options,
     input: &mut I,
     gate: &G,
-) -> Result<Played, Status>
+) -> Result<PlayedText, Status>
 where
     R: Threads + Sync,
     I: Source,
@@ -165,7 +165,7 @@ where
     ensures usage { result.status ≢ Status.Usage }
 {
     match play_asked(rt, alloc, options, input, gate) {
-        Ok(Played { parts, fronts }) => {
+        Ok(PlayedText { parts, fronts }) => {
             let status = match write_parts(output, &parts) {
                 Ok(()) => Status::Done,
                 Err(Failed) => Status::WriteFault,

@@ -7,7 +7,7 @@ ghost use Rattle.md_history.specs.Act.{act_of};
 ghost use Rattle.md_history.specs.State.{line_of};
 ghost use Rattle.md_history.specs.Counts.{reads, writes, nodes};
 
-use crate::compared::same;
+use crate::tests::same;
 use md_history::{Act, Acts, Line, MAX_LINE, Op, Reply};
 use std::process::Abort;
 use std::test::Fail;
@@ -34,7 +34,7 @@ fn acts_are_counted() {
 }
 
 // The list has these acts, and no others.
-pub(crate) fn has_acts(rt: &impl Abort, acts: &Acts, want: &[Act]) {
+pub(super) fn has_acts(rt: &impl Abort, acts: &Acts, want: &[Act]) {
     for (place, act) in want.iter().enumerate() {
         same(rt, &acts.get(place), &Some(*act));
     }

@@ -1,7 +1,7 @@
 //! Streams over readers and writers of std.
 
-use crate::compared::same;
-use crate::logs::{reads, writes};
+use crate::tests::logs::{reads, writes};
+use crate::tests::same;
 use md_outside::{StdSink, StdSource};
 use std::alloc::AllocGlobal;
 use std::io::{self, ErrorKind, Read, Write};

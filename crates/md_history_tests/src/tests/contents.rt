@@ -2,7 +2,7 @@
 
 ghost use Rattle.std.specs.Prelude.{◌<◌, length, IsTrue};
 
-use crate::compared::same;
+use crate::tests::same;
 use md_history::Contents;
 use std::alloc::{AllocError, Global};
 use std::process::Abort;
@@ -15,7 +15,7 @@ fn has_map(contents: &Contents, map: u32) -> bool
 }
 
 // Sets the value of a key, if there is such a map.
-pub(crate) fn put(
+pub(super) fn put(
     contents: &mut Contents,
     map: u32,
     key: u64,
@@ -41,7 +41,7 @@ fn set_map(
 }
 
 // Appends a value to a queue, if there is such a queue.
-pub(crate) fn push(contents: &mut Contents, queue: u32, value: u64) -> Result<(), AllocError> {
+pub(super) fn push(contents: &mut Contents, queue: u32, value: u64) -> Result<(), AllocError> {
     if queue as usize >= contents.queues().len() {
         return Err(AllocError);
     }
@@ -64,7 +64,7 @@ fn map_has(contents: &Contents, map: u32) -> Option<[Option<u64>; 5]> {
 }
 
 // A map has this.
-pub(crate) fn map_is(
+pub(super) fn map_is(
     rt: &impl Abort,
     contents: &Contents,
     map: u32,
@@ -74,7 +74,7 @@ pub(crate) fn map_is(
 }
 
 // How many values a queue has. `None` if there is no such queue.
-pub(crate) fn queue_len(contents: &Contents, queue: u32) -> Option<u64> {
+pub(super) fn queue_len(contents: &Contents, queue: u32) -> Option<u64> {
     if queue as usize >= contents.queues().len() {
         return None;
     }
@@ -97,7 +97,7 @@ fn queue_has(contents: &Contents, queue: u32) -> Option<[Option<u64>; 5]> {
 }
 
 // A queue has this.
-pub(crate) fn queue_is(
+pub(super) fn queue_is(
     rt: &impl Abort,
     contents: &Contents,
     queue: u32,

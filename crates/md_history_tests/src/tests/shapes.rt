@@ -1,6 +1,6 @@
 //! The numbers of worked fields.
 
-use crate::compared::same;
+use crate::tests::same;
 use md_words::limits::{FEW_BUCKETS, MANY_BUCKETS};
 use md_words::{Shape, ShapeFault};
 

@@ -1,6 +1,6 @@
 //! The addresses of a field with two lanes.
 
-use crate::compared::same;
+use crate::tests::same;
 use md_words::{SET, Shape};
 use std::process::Abort;
 

@@ -3,9 +3,9 @@
 ghost use Rattle.std.specs.Prelude.{◌≡◌, length};
 ghost use Rattle.md_history.specs.Plain.{IsPassOf};
 
-use crate::acts::has_acts;
-use crate::compared::same;
-use crate::contents::{map_is, push, put, queue_is};
+use crate::tests::acts::has_acts;
+use crate::tests::contents::{map_is, push, put, queue_is};
+use crate::tests::same;
 use md_history::{
     Act, Attempt, Body, Contents, Engine, Entry, Op, PlainPass, PlainStore, Reply, Stop, TxCalls,
 };

@@ -1,6 +1,6 @@
 //! What reads and writes answer, one after another.
 
-use crate::compared::same;
+use crate::tests::same;
 use md_outside::{Failed, Sink, Source};
 use std::alloc::AllocGlobal;
 use std::process::Abort;
@@ -24,7 +24,7 @@ fn read_log<R: Abort + AllocGlobal, S: Source>(rt: &R, source: &mut S, calls: u8
 }
 
 // So many reads give this log.
-pub(crate) fn reads<R: Abort + AllocGlobal, S: Source>(
+pub(super) fn reads<R: Abort + AllocGlobal, S: Source>(
     rt: &R,
     source: &mut S,
     calls: u8,
@@ -60,7 +60,7 @@ fn write_log<R: Abort + AllocGlobal, S: Sink>(
 }
 
 // Three writes of `hello` give this log.
-pub(crate) fn writes<R: Abort + AllocGlobal, S: Sink>(rt: &R, sink: &mut S, want: &str) {
+pub(super) fn writes<R: Abort + AllocGlobal, S: Sink>(rt: &R, sink: &mut S, want: &str) {
     let log = write_log(rt, sink, b"hello", 3);
     same(rt, &log.as_str(), &want);
 }

@@ -1,7 +1,7 @@
 //! Streams in memory.
 
-use crate::compared::same;
-use crate::logs::{reads, writes};
+use crate::tests::logs::{reads, writes};
+use crate::tests::same;
 use md_outside::{MemSink, MemSource};
 use std::alloc::AllocGlobal;
 use std::process::Abort;

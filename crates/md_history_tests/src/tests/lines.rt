@@ -3,8 +3,8 @@
 ghost use Rattle.std.specs.Prelude.{◌≡◌, ◌≤◌, length};
 ghost use Rattle.md_history.specs.Plain.{IsPassOf};
 
-use crate::compared::same;
-use crate::contents::{push, queue_is, queue_len};
+use crate::tests::contents::{push, queue_is, queue_len};
+use crate::tests::same;
 use md_history::{Attempt, Body, Contents, Engine, Line, PlainPass, PlainStore, Stop, TxCalls};
 use std::alloc::{AllocError, AllocGlobal};
 use std::process::Abort;

@@ -1,6 +1,6 @@
 //! Words taken apart and put together.
 
-use crate::compared::same;
+use crate::tests::same;
 use md_words::{Content, Spot, Status, StatusWord};
 
 #[test]
