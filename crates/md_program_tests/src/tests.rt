@@ -75,11 +75,14 @@ fn outcome<R: Abort + AllocGlobal + Threads + Sync>(
     (status, sink)
 }
 
-// Compares a status and what was written with what an input should come to.
+// What a run comes to: its status, and what was written.
+type Came<'a> = (Status, &'a [u8]);
+
+// Compares what a run came to with what its input should come to.
 fn compare(
     rt: &impl Abort,
-    found: (Status, &[u8]),
-    wanted: (Status, &[u8]),
+    found: Came<'_>,
+    wanted: Came<'_>,
     words: &[&str],
     input: &[u8],
 ) {
@@ -235,7 +238,7 @@ fn the_largest_inputs(rt: HostRuntime) {
 }
 
 // Compares a status with that of a whole run, and what was written with a long report.
-fn compare_report(rt: &impl Abort, found: (Status, &[u8]), report: &[u8]) {
+fn compare_report(rt: &impl Abort, found: Came<'_>, report: &[u8]) {
     assert!(rt; found == (Status::Done, report));
 }
 

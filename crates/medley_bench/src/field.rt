@@ -1,6 +1,6 @@
 //! A field of the order book's shape that is laid, read off and compacted.
 
-use crate::fill::filled;
+use crate::fill::contents_for;
 use md_book::{LEVELS, MAPS};
 use md_store_law::read_off;
 use md_store_layout::{compact, lay, needed};
@@ -27,7 +27,7 @@ pub(crate) struct Sizes {
 /// Fills contents with so many orders, lays them, reads them off and lays them anew. `None` if
 /// there is no such field, or if what is read off needs another number of nodes.
 pub(crate) fn measured(alloc: Global, sizing: Sizing) -> Result<Option<Sizes>, AllocError> {
-    let contents = filled(alloc, sizing.orders)?;
+    let contents = contents_for(alloc, sizing.orders)?;
     let nodes = needed(&contents);
     let Ok(base) = u32::try_from(nodes) else {
         return Ok(None);

@@ -11,7 +11,7 @@ use std::alloc::{AllocError, Global};
 
 /// Each order has a pair in the map of open orders and a value in the queue of its level; each
 /// level has a pair in the map of depths, and each account one in each map of sums.
-pub(crate) fn filled(alloc: Global, orders: u32) -> Result<Contents, AllocError>
+pub(crate) fn contents_for(alloc: Global, orders: u32) -> Result<Contents, AllocError>
     ensures { IfOk result IsBookSized }
 {
     let mut contents = Contents::empty(alloc, MAPS, LEVELS)?;

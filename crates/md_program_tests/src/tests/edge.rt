@@ -235,8 +235,11 @@ fn written_once<R: AllocGlobal + Threads + Sync>(rt: &R, failing: usize) -> (Sta
     (status, writer)
 }
 
-// Compares a status, a count of calls, and bytes.
-fn compare_calls(rt: &impl Abort, found: (Status, usize, &[u8]), wanted: (Status, usize, &[u8])) {
+// What a run comes to: its status, how many calls of a stream there were, and what was written.
+type CameByCalls<'a> = (Status, usize, &'a [u8]);
+
+// Compares what a run came to.
+fn compare_calls(rt: &impl Abort, found: CameByCalls<'_>, wanted: CameByCalls<'_>) {
     same(rt, &found, &wanted);
 }
 

@@ -39,6 +39,21 @@ enum Way {
     Commit,
 }
 
+// Operations that are one transaction with this tag, which ends in this way.
+#[derive(Clone, Copy)]
+struct Plan<'a> {
+    tag: u64,
+    ops: &'a [Op],
+    way: Way,
+}
+
+// What operations are to be told, and how their transaction is to end.
+#[derive(Clone, Copy)]
+struct Wanted<'a> {
+    told: &'a [Told],
+    end: Ended,
+}
+
 mod at_random;
 mod limits;
 mod overlaps;
@@ -151,30 +166,43 @@ fn all_in<R: Abort>(
     }
 }
 
-// Makes operations one after another, as one transaction, which ends in this way. Keeps what they
-// were told.
+// Makes a transaction by its plan. Keeps what its operations were told.
 fn all<R: Abort>(
     rt: &R,
     store: &Store,
     pass: &mut Pass<StoreTheory>,
-    tag: u64,
-    ops: &[Op],
-    way: Way,
+    plan: &Plan<'_>,
     told: &mut Vec<Told>,
 ) -> Ended
     requires { IsPassOf store.now pass.old }
     ensures { IsPassOf store.now pass.new }
 {
     let mut sets = Sets::new();
-    let mut txn = begun(rt, store, pass, tag, &mut sets);
+    let mut txn = begun(rt, store, pass, plan.tag, &mut sets);
     let mut why = None;
-    all_in(rt, &mut txn, &mut why, store, ops, told);
-    end_by(txn, why, store, way)
+    all_in(rt, &mut txn, &mut why, store, plan.ops, told);
+    end_by(txn, why, store, plan.way)
+}
+
+// Operations are to be told this, and their transaction is to commit.
+fn commits(told: &[Told]) -> Wanted<'_> {
+    Wanted {
+        told,
+        end: Ok(true),
+    }
+}
+
+// Operations are to be told this, and their transaction is to end for this reason.
+fn fails(told: &[Told], why: Stop) -> Wanted<'_> {
+    Wanted {
+        told,
+        end: Err(why),
+    }
 }
 
 // What operations were told, and how their transaction ended, is what was wanted.
-fn are_same<R: Abort>(rt: &R, told: &[Told], end: Ended, want: &[Told], want_end: Ended) {
-    same(rt, &(told, end), &(want, want_end));
+fn are_same<R: Abort>(rt: &R, told: &[Told], end: Ended, want: Wanted<'_>) {
+    same(rt, &(told, end), &(want.told, want.end));
 }
 
 // Makes operations as one transaction that is to commit. They are told this, and it ends so.
@@ -182,17 +210,20 @@ fn are_told<R: Abort + AllocGlobal>(
     rt: &R,
     store: &Store,
     pass: &mut Pass<StoreTheory>,
-    tag: u64,
     ops: &[Op],
-    want: &[Told],
-    want_end: Ended,
+    want: Wanted<'_>,
 )
     requires { IsPassOf store.now pass.old }
     ensures { IsPassOf store.now pass.new }
 {
+    let plan = Plan {
+        tag: 5,
+        ops,
+        way: Way::Commit,
+    };
     let mut told = Vec::new(rt.alloc());
-    let end = all(rt, store, pass, tag, ops, Way::Commit, &mut told);
-    are_same(rt, told.as_slice(), end, want, want_end);
+    let end = all(rt, store, pass, &plan, &mut told);
+    are_same(rt, told.as_slice(), end, want);
 }
 
 // Makes one operation, as a transaction of its own, which commits. It replies so.
@@ -206,7 +237,7 @@ fn replies<R: Abort + AllocGlobal>(
     requires { IsPassOf store.now pass.old }
     ensures { IsPassOf store.now pass.new }
 {
-    are_told(rt, store, pass, 6, &[op], &[Ok(reply)], Ok(true));
+    are_told(rt, store, pass, &[op], commits(&[Ok(reply)]));
 }
 
 // Words of the field have these values.

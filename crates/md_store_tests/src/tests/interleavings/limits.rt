@@ -4,10 +4,10 @@ use super::*;
 
 // Makes operations as one transaction of a new store that has a map with 256 buckets, and so many
 // nodes a lane. It ends and replies so, and leaves nothing.
-fn alone<R: Abort + AllocGlobal>(rt: &R, nodes: u32, ops: &[Op], end: Ended, want: &[Told]) {
+fn alone<R: Abort + AllocGlobal>(rt: &R, nodes: u32, ops: &[Op], want: Wanted<'_>) {
     let shape = Shape::new(2, nodes, 1, 4, 1, 256, 1).expect(rt, "a shape");
     let (store, mut pass) = opened(rt, shape, &pairs(rt, &[]));
-    are_told(rt, &store, &mut pass.pass, 5, ops, want, end);
+    are_told(rt, &store, &mut pass.pass, ops, want);
     closes_with(rt, store, pass, &[]);
 }
 
@@ -20,7 +20,7 @@ fn a_transaction_looks_at_128_absent_keys(rt: HostRuntime) {
     let end = Stop::Limit(Limit::Reads);
     let mut want: [Told; 129] = [Ok(Reply::Value(None)); 129];
     want[128] = Err(end);
-    alone(&rt, 16, &ops, Err(end), &want);
+    alone(&rt, 16, &ops, fails(&want, end));
 }
 
 #[test]
@@ -32,7 +32,7 @@ fn a_transaction_inserts_128_keys(rt: HostRuntime) {
     let end = Stop::Limit(Limit::Writes);
     let mut want: [Told; 129] = [Ok(Reply::Flag(true)); 129];
     want[128] = Err(end);
-    alone(&rt, 192, &ops, Err(end), &want);
+    alone(&rt, 192, &ops, fails(&want, end));
 }
 
 #[test]
@@ -42,6 +42,6 @@ fn a_lane_enqueues_as_many_values_as_it_has_nodes(rt: HostRuntime) {
     let mut want: [Told; 17] = [Ok(Reply::Nothing); 17];
     want[16] = Err(end);
     let ops = [enqueue(7); 17];
-    are_told(&rt, &store, &mut a.pass, 5, &ops, &want, Err(end));
+    are_told(&rt, &store, &mut a.pass, &ops, fails(&want, end));
     ends_with(&rt, store, a, b, &[(3, 30)]);
 }

@@ -76,8 +76,7 @@ pub(super) fn overlap<R: Abort + AllocGlobal>(
     pass: &mut Pass<StoreTheory>,
     other: &mut Pass<StoreTheory>,
     script: &Script<'_>,
-    want: &[Told],
-    want_end: Ended,
+    want: Wanted<'_>,
 )
     requires of { IsPassOf store.now pass.old }
     requires of_other { IsPassOf store.now other.old }
@@ -86,5 +85,5 @@ pub(super) fn overlap<R: Abort + AllocGlobal>(
 {
     let mut told = Vec::new(rt.alloc());
     let end = overlapped(rt, store, pass, other, script, &mut told);
-    are_same(rt, told.as_slice(), end, want, want_end);
+    are_same(rt, told.as_slice(), end, want);
 }

@@ -25,8 +25,7 @@ fn a_look_aborts_an_insert(rt: HostRuntime) {
         &mut a.pass,
         &mut b.pass,
         &script,
-        &want,
-        Err(lost),
+        fails(&want, lost),
     );
     ends_with(&rt, store, a, b, &[(3, 30)]);
 }
@@ -54,8 +53,7 @@ fn an_aborted_insert_meets_its_word(rt: HostRuntime) {
         &mut a.pass,
         &mut b.pass,
         &script,
-        &want,
-        Err(lost),
+        fails(&want, lost),
     );
     ends_with(&rt, store, a, b, &[(3, 30)]);
 }
@@ -83,8 +81,7 @@ fn an_insert_overtakes_a_look(rt: HostRuntime) {
         &mut a.pass,
         &mut b.pass,
         &script,
-        &want,
-        Err(moved),
+        fails(&want, moved),
     );
     show(&rt, &store, &mut a.pass, &[(166, 7)]);
     ends_with(&rt, store, a, b, &[(1, 10), (3, 30)]);
@@ -103,7 +100,7 @@ fn one_transaction_sees_what_it_did(rt: HostRuntime) {
         Ok(Reply::Value(Some(1))),
         Ok(Reply::Value(Some(2))),
     ];
-    are_told(&rt, &store, &mut pass.pass, 5, &ops, &want, Ok(true));
+    are_told(&rt, &store, &mut pass.pass, &ops, commits(&want));
     closes_with(&rt, store, pass, &[(5, 7)]);
 }
 
@@ -126,5 +123,5 @@ fn a_line_shows_what_was_enqueued(rt: HostRuntime) {
         Ok(Reply::Line(short)),
         Ok(Reply::Line(long)),
     ];
-    are_told(&rt, &store, &mut pass.pass, 5, &ops, &want, Ok(true));
+    are_told(&rt, &store, &mut pass.pass, &ops, commits(&want));
 }

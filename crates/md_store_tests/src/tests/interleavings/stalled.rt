@@ -26,7 +26,8 @@ fn left<R: Abort + AllocGlobal>(
 {
     let way = if ready { Way::LeaveReady } else { Way::Leave };
     let mut told = Vec::new(rt.alloc());
-    let is_ready = matches!(all(rt, store, pass, 7, ops, way, &mut told), Ok(true));
+    let plan = Plan { tag: 7, ops, way };
+    let is_ready = matches!(all(rt, store, pass, &plan, &mut told), Ok(true));
     same(rt, &is_ready, &ready);
 }
 
@@ -136,8 +137,7 @@ fn a_look_that_was_overtaken_is_aborted(rt: HostRuntime) {
         &mut a.pass,
         &mut b.pass,
         &script,
-        &want,
-        Ok(true),
+        commits(&want),
     );
     let found = Found {
         value: None,
@@ -191,8 +191,7 @@ fn the_next_transaction_of_the_lane_settles_it(rt: HostRuntime) {
         &mut a.pass,
         &mut b.pass,
         &script,
-        &want,
-        Ok(true),
+        commits(&want),
     );
     show(&rt, &store, &mut b.pass, &[(2, (6 << 32) + 4)]);
     ends_with(&rt, store, a, b, &[(1, 11), (3, 30)]);

@@ -1,5 +1,5 @@
 use Rattle.md_book.specs.Stands.{IsBookSized}
-use Rattle.medley_bench.proofs.fill.filled.Given as goal
+use Rattle.medley_bench.proofs.fill.contents_for.Given as goal
 
 abbrev pub invariant-loop-level : goal.invariant-loop-level
 invariant-loop-level l = IsBookSized l.contents
