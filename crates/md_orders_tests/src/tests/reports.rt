@@ -63,7 +63,7 @@ fn some_reply(command: Command) -> BookReply
 }
 
 // The answer to a fill: so many parts of one each, from the first orders of the first caller.
-fn filled(quantity: u32, count: u8) -> BookReply
+fn fill_with(quantity: u32, count: u8) -> BookReply
     requires few { count ≤ MAX_PARTS }
     requires enough { count ≤ quantity }
     ensures { IsTaken quantity count result }
@@ -123,7 +123,7 @@ pub(crate) fn reply_with(command: Command, count: u8) -> BookReply
             quantity,
             places,
             ..
-        } if count <= places && u32::from(count) <= quantity => filled(quantity, count),
+        } if count <= places && u32::from(count) <= quantity => fill_with(quantity, count),
         _ => some_reply(command),
     }
 }

@@ -65,7 +65,7 @@ fn cycles(alloc: Global, count: u32) -> Result<Scripts, Fail>
 }
 
 // The reply to a fill or a kill that took all that it asked for, from the order of one line.
-fn filled(line: u32, taken: u32) -> BookReply {
+fn fill_of(line: u32, taken: u32) -> BookReply {
     let mut parts = [Part { name: 0, taken: 0 }; MAX_PARTS];
     parts[0] = Part {
         name: order_name(1, line),
@@ -83,9 +83,9 @@ fn filled(line: u32, taken: u32) -> BookReply {
 fn replies_of(first: u32, cycle: u32) -> [BookReply; 7] {
     [
         BookReply::Placed,
-        filled(first, 3),
+        fill_of(first, 3),
         BookReply::Killed,
-        filled(first, 1),
+        fill_of(first, 1),
         BookReply::Cancelled(1),
         BookReply::Depth(0),
         BookReply::Account {
@@ -121,7 +121,7 @@ fn batches_of_lines(rt: HostRuntime) -> Result<(), Fail> {
     are_those_of(&rt, &played.replies, 10_000);
     summaries_add_up();
     let line = summary(alloc, &scripts, &played.replies, &played.contents)?;
-    let want = b"made 70000 placed 50000 cancelled 10000 filled 40000 open 0\n".as_slice();
+    let want = b"made 70000 placed 50000 cancelled 10000 fill_of 40000 open 0\n".as_slice();
     let ends = (played.fronts.len(), played.replies.get(1, 70_001));
     same(&rt, &(ends, line.as_slice()), &((1, None), want));
     Ok(())

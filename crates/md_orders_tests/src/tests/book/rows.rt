@@ -69,7 +69,7 @@ fn command_in(text: &str) -> Option<Command> {
 }
 
 // What was taken, what remains, and of each part the caller, the line and the quantity.
-fn filled(n: &[u32; NUMBERS]) -> BookReply {
+fn fill_reply_of(n: &[u32; NUMBERS]) -> BookReply {
     let mut parts = [Part { name: 0, taken: 0 }; MAX_PARTS];
     let mut count = 0;
     for place in 0..MAX_PARTS {
@@ -97,7 +97,7 @@ fn reply_in(text: &str) -> Option<BookReply> {
         b'c' => BookReply::Cancelled(n[0]),
         b'g' => BookReply::Gone,
         b'k' => BookReply::Killed,
-        b'f' => filled(&n),
+        b'f' => fill_reply_of(&n),
         b'd' => BookReply::Depth(u64::from(n[0])),
         b'b' => BookReply::Account {
             bought: u64::from(n[0]),

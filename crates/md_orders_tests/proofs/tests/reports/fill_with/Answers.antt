@@ -6,7 +6,7 @@ use Rattle.md_book.specs.Commands.{IsName}
 use Rattle.md_book.specs.Suits.{IsPart}
 use Rattle.md_orders.proofs.Keeps.{is_name}
 use Rattle.md_orders_tests.proofs.Ones.{AreOnes, ones-more}
-use Rattle.md_orders_tests.proofs.tests.reports.filled.Goals as goal
+use Rattle.md_orders_tests.proofs.tests.reports.fill_with.Goals as goal
 
 pub loop-place-preserved : goal.loop-place-preserved
 loop-place-preserved c =
