@@ -79,13 +79,7 @@ fn outcome<R: Abort + AllocGlobal + Threads + Sync>(
 type Came<'a> = (Status, &'a [u8]);
 
 // Compares what a run came to with what its input should come to.
-fn compare(
-    rt: &impl Abort,
-    found: Came<'_>,
-    wanted: Came<'_>,
-    words: &[&str],
-    input: &[u8],
-) {
+fn compare(rt: &impl Abort, found: Came<'_>, wanted: Came<'_>, words: &[&str], input: &[u8]) {
     same(rt, &(found, words, input), &(wanted, words, input));
 }
 
