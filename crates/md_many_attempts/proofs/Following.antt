@@ -66,12 +66,12 @@ module _ {B R : Type 0} (m : Meaning B R) (caller : ℕ) where
   lines-then [] ds (r ∷ rs) ss n next lines at more = absurd lines
   lines-then (e ∷ es) ds [] ss n next lines at more = absurd lines
 
-  module _ (n next : ℕ) (f g h : Front) (rs ss : List R) (p : PlaysLines m caller n f g rs) (same : g.lanes ≡ f.lanes)
-      (q : PlaysLines m caller next g h ss) (fated : length g.known ≡ length g.seen) where
+  module _ (n next : ℕ) (f g h : Front) (rs ss : List R) (p : PlaysLines m caller n f.lanes f g rs) (same : g.lanes ≡ f.lanes)
+      (q : PlaysLines m caller next g.lanes g h ss) (fated : length g.known ≡ length g.seen) where
     later : HasCommitted f.lanes q.entries g h
     later = subst (λ ls. HasCommitted ls q.entries g h) same q.commits
 
-    pub plays-then : next ≡ n + length rs → PlaysLines m caller n f h (rs ++ ss)
+    pub plays-then : next ≡ n + length rs → PlaysLines m caller n f.lanes f h (rs ++ ss)
     plays-then at = record {
       entries = p.entries ++ q.entries;
       commits = committed-then f.lanes p.entries q.entries f g h p.commits later fated;

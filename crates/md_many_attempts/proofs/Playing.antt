@@ -151,7 +151,7 @@ lines-push m caller n line (d ∷ es) (s ∷ rs) e r lines at is =
 -- a caller's lines after its first n were played, in so many attempts
 pub record HasPlayed {B R : Type 0} (m : Meaning B R) (caller n tried : ℕ) (old new : Front) (replies : List R)
     : Type 0 where
-  pub plays : PlaysLines m caller n old new replies
+  pub plays : PlaysLines m caller n old.lanes old new replies
   pub attempted : HasAttempted tried old new
 
 module _ {B R : Type 0} (m : Meaning B R) (caller n : ℕ) (f : Front) where

@@ -23,11 +23,12 @@ AreLines m caller [] [] n = Unit {0}
 AreLines m caller (e ∷ es) (r ∷ rs) n = IsLine m caller (n + 1) e r × AreLines m caller es rs (n + 1)
 AreLines m caller es rs n = ⊥
 
--- From one front to another its lanes played a caller's lines after its first n, as many as there are replies: the lines
--- are what the lanes committed.
-pub record PlaysLines {B R : Type 0} (m : Meaning B R) (caller n : ℕ) (old new : Front) (replies : List R) : Type 0 where
+-- From one front to another these lanes played a caller's lines after its first n, as many as there are replies: the
+-- lines are what the lanes committed.
+pub record PlaysLines {B R : Type 0} (m : Meaning B R) (caller n : ℕ) (lanes : List ℕ) (old new : Front)
+    (replies : List R) : Type 0 where
   pub entries : List Entry
-  pub commits : HasCommitted old.lanes entries old new
+  pub commits : HasCommitted lanes entries old new
   pub lines : AreLines m caller entries replies n
 
 -- each line's body may run over a store that begins in a state, by its numbers of maps and queues

@@ -46,7 +46,7 @@ pub record IsWithinAttempts (turn : Turn) (played begun begun' : ℕ) : Type 0 w
 -- lines, and no more than there are; they made no more attempts than the turn has; and the gate was told of each line.
 pub record PlaysTurn {E P B R : Type 0} (e : EngineWords E P) (m : Meaning B R) (told : ℕ → ℕ → Type 0) (turn : Turn)
     (old new : P) (replies : List R) : Type 0 where
-  pub lines : PlaysLines m turn.caller turn.done (e.front old) (e.front new) replies
+  pub lines : PlaysLines m turn.caller turn.done (e.front old).lanes (e.front old) (e.front new) replies
   pub within : turn.done + length replies ≤ m.line_count turn.caller
   pub few : turn.done + length replies < 2 ^ 32
   pub attempts : length (entries_after (length (e.front old).seen) (e.front old).lanes (e.front new)) ≤ turn.attempts

@@ -1,14 +1,13 @@
 //! Attempts at lines, over any store.
 
 ghost use Rattle.std.specs.Prelude.{◌≡◌, ◌≤◌, length, vec_capacity, OnOk};
-ghost use Rattle.md_history.specs.Counts.{IsSmall};
 ghost use Rattle.md_history.specs.Front.{LegalFrom};
 ghost use Rattle.md_history.specs.Attempt.{Commits, Stops, IsCounted, IfCommitted, IfStopped};
-ghost use Rattle.md_history.specs.Engine.{bounds_in, IsNoConflict};
 ghost use Rattle.md_many_attempts.specs.Tags.{tag_of};
 ghost use Rattle.md_many_attempts.specs.Meaning.{meaning_of};
 ghost use Rattle.md_many_attempts.specs.Turns.{CanPlayTurn, IsRoomFor, HoldsAsBefore, PlaysTurn};
 ghost use Rattle.md_many_attempts.specs.Turns.{PlaysEnough, EndsTurn};
+ghost use Rattle.md_many_attempts.specs.Until.{MayStop};
 
 use crate::callers::Lines;
 use crate::gates::Gate;
@@ -68,11 +67,7 @@ pub fn attempt_line<E: Engine, B: Body, G: Gate>(
     ensures begun { IsCounted result (E.begun pass.old) (E.begun pass.new) }
     ensures before { G.before_called gate.now caller line }
     ensures after { IfCommitted result (λ _. G.after_called gate.now caller line) }
-    ensures may_stop { IfStopped result (E.may_stop engine.now) }
-    ensures alone { (E.front pass.old).lanes ≡ E.lanes engine.now → IfStopped result IsNoConflict }
-    ensures small { E.fresh engine.now pass.old → 1 ≤ (E.limits engine.now).tries
-        → IsSmall (bounds_in (E.limits engine.now)) (B.makes body.now) (E.start engine.now)
-        → IfStopped result (λ s. s ≡ Stop.NoMemory) }
+    ensures stops { IfStopped result (MayStop E.Engine engine.now (B.makes body.now) pass.old) }
 {
     gate.before(caller, line);
     let attempt = engine.attempt(pass, line_tag(caller, line), body);

@@ -13,7 +13,7 @@ invariant-batches g l =
       fated : length (g.E.Engine.front l.pass).known ≡ length (g.E.Engine.front l.pass).seen;
       lanes : (g.E.Engine.front l.pass).lanes ≡ before.lanes;
       pending : (g.E.Engine.front l.pass).pending ≡ before.pending;
-      lines : PlaysLines (meaning_of g.L.B.Body g.L.Lines l.lines) l.fn.turn.caller l.fn.turn.done before
+      lines : PlaysLines (meaning_of g.L.B.Body g.L.Lines l.lines) l.fn.turn.caller l.fn.turn.done before.lanes before
           (g.E.Engine.front l.pass) (listed l.replies);
       attempts : length (entries_after (length before.seen) before.lanes (g.E.Engine.front l.pass)) + l.left
           ≤ l.fn.turn.attempts;
