@@ -171,7 +171,10 @@ fn play_first<R, E: Engine, L: LawfulLines, G: Gate, K: Keeper<<L::B as Body>::R
         attempts: first_attempts(lone),
     };
     let Play {
-        alloc, lines, gate, ..
+        alloc,
+        lines,
+        gate,
+        ..
     } = *play;
     pass_is_legal(&course.engine, &course.pass);
     let list: K::List = play_list(alloc, &course.engine, &mut course.pass, lines, turn, gate)?;
@@ -337,7 +340,7 @@ where
         (law_of L.LawfulLines.own play.now.lines.now) }
     requires keeper { CanKeepAll (L.suits play.now.lines.now) (K.can_keep keeper.old) }
     requires empty { (caller : ℕ) → K.keeps keeper.old caller [] }
-    ensures open { IfOk result (λ r. HoldsAllLanes E.Engine r.engine r.pass) }
+    ensures pass { IfOk result (λ r. HoldsAllLanes E.Engine r.engine r.pass) }
     ensures each_line_once { IfOk result (λ r. ClosesTo (E.start r.engine)
         (map E.front r.fronts.items) (E.front r.pass) (λ fronts contents.
         EachLineOnce (meaning_of L.B.Body L.Lines play.now.lines.now) (K.keeps keeper.new)

@@ -175,7 +175,7 @@ where
             requires sync { IsSync R.row × IsSync G.row }
             requires of { E.of shared.engine.now pass }
             requires fits { AreFitting (meaning_of L.B.Body L.Lines shared.lines.now)
-        (E.start shared.engine.now) }
+                (E.start shared.engine.now) }
             requires lanes { length low.now ≡ length (E.front pass).lanes }
             requires within { AreWithin (L.line_count shared.lines.now) before low.now }
             requires callers { before + length low.now < 2 ^ 32 }
@@ -188,7 +188,7 @@ where
             requires sync { IsSync R.row × IsSync G.row }
             requires of { E.of shared.engine.now other }
             requires fits { AreFitting (meaning_of L.B.Body L.Lines shared.lines.now)
-        (E.start shared.engine.now) }
+                (E.start shared.engine.now) }
             requires lanes { length high.now ≡ length (E.front other).lanes }
             requires within { AreWithin (L.line_count shared.lines.now) middle high.now }
             requires callers { middle + length high.now < 2 ^ 32 }

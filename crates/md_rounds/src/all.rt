@@ -67,7 +67,7 @@ where
     E: Engine,
     G: Gate + Sync,
     requires { CanPlayScripts E.Engine scripts.now engine pass }
-    ensures open { IfOk result (λ o. HoldsAllLanes E.Engine o.rounds.engine o.rounds.pass) }
+    ensures pass { IfOk result (λ o. HoldsAllLanes E.Engine o.rounds.engine o.rounds.pass) }
     ensures played { IfOk result (λ o. ClosesTo (E.start o.rounds.engine)
         (map E.front o.rounds.fronts.items) (E.front o.rounds.pass) (λ fronts contents.
         (book : Book) × StandsFor contents book

@@ -9,9 +9,6 @@ pub returns-clause-interleaving : goal.returns-clause-interleaving
 returns-clause-interleaving g c =
     IfOk-weaker c.close.result _ _ (λ r closed. c.in_ok-rounds.ensures.interleaving _ _ closed) c.close.ensures
 
-pub close-requires : goal.close-requires
-close-requires g c = λ κs within. c.in_ok-rounds.ensures.open
-
 pub returns-clause-gate : goal.returns-clause-gate
 returns-clause-gate g c = IfOk-weaker c.close.result _ _ (λ r closed. c.in_ok-rounds.ensures.gate) c.close.ensures
 

@@ -45,7 +45,7 @@ returns g c =
     (λ caller low high. ap (λ ns. at_caller 0 ns caller) (sym c.deref.ensures.value)
     ∙ c.in_default.ensures.none caller low (omega (arith, high, ap length c.deref.ensures.value))) in
     record {
-      open = record { of = course.of; all = course.stands.all };
+      pass = record { of = course.of; all = course.stands.all };
       each_line_once = λ fronts contents closed. rw closed.behind
           (all-played course.stands course.laws c.pass_is_legal.ensures closed.last _ closed.settled closed.replay all);
       gate = λ caller line low high. course.stands.gate caller line low (omega (arith, high, all caller));
@@ -59,7 +59,7 @@ pub returns-in_err-none_done : goal.returns-in_err-none_done
 returns-in_err-none_done g c =
     let err = c.from_residual.ensures.0 in
     record {
-      open = IfOk-from_err _ _ err;
+      pass = IfOk-from_err _ _ err;
       each_line_once = IfOk-from_err _ _ err;
       gate = IfOk-from_err _ _ err;
       interleaving = IfOk-from_err _ _ err;
@@ -69,7 +69,7 @@ pub returns-in_err-course : goal.returns-in_err-course
 returns-in_err-course g c =
     let err = c.from_residual-in_err-course.ensures.0 in
     record {
-      open = IfOk-from_err _ _ err;
+      pass = IfOk-from_err _ _ err;
       each_line_once = IfOk-from_err _ _ err;
       gate = IfOk-from_err _ _ err;
       interleaving = IfOk-from_err _ _ err;
