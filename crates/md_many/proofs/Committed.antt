@@ -13,6 +13,7 @@ use Rattle.md_history.specs.Front.{Front, IsPrefix, AllStay, AllDecidedOn, commi
 use Rattle.md_history.specs.FrontLaws.{lane_passes}
 use Rattle.md_history.specs.OwnLaws.{committed_pairs, own-grows, settles-own}
 use Rattle.md_history.specs.Engine.{IsFrontFrom, SettlesFrom}
+use Rattle.md_many_attempts.specs.Meaning.{Meaning}
 use Rattle.md_many_attempts.specs.Lines.{PlaysLines}
 use Rattle.md_many_attempts.specs.Joined.{HasCommitted, entries_after}
 use Rattle.md_many.proofs.Merging.{filter-none, all-weaker}
@@ -58,8 +59,8 @@ settled-same start lanes f g is all idle settled =
     ∙ committed_on-all lanes f is.entries
 
 -- what was played by all lanes joins what was committed
-pub played-joins : {B R : Type 0} {did : B → List _ → R → Type 0} {body_at : ℕ → ℕ → _} (caller n : ℕ) (start : State)
-    (lanes : List ℕ) (f g : Front) (rs : List R) (plays : PlaysLines did body_at caller n f.lanes f g rs)
+pub played-joins : {B R : Type 0} {m : Meaning B R} (caller n : ℕ) (start : State) (lanes : List ℕ) (f g : Front) (rs : List R)
+    (plays : PlaysLines m caller n f.lanes f g rs)
     → IsFrontFrom start lanes f → IsFrontFrom start lanes g → f.lanes ≡ lanes → f.pending ≡ []
     → committed_in g ≡ committed_in f ++ plays.entries
 played-joins caller n start lanes f g rs plays is is' all idle =

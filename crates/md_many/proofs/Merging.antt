@@ -1,16 +1,16 @@
 -- Lanes' turns, told by caller: among what the lanes committed, the entries with a caller's tags are its lines.
-use Rattle.std.proofs.Common.{◌≡◌, ◌≢◌, ◌+◌, ◌<◌, ◌≤◌, ◌^◌, ℕ, zero, suc, Bool, true, false, Option, Some, None, List, [], ◌∷◌, ◌++◌, length, refl, sym, ap, subst, ◌∙◌, arith, inl, inr}
+use Rattle.std.proofs.Common.{◌≡◌, ◌≢◌, ◌+◌, ◌<◌, ◌≤◌, ◌^◌, ℕ, zero, suc, Bool, true, false, Some, None, List, [], ◌∷◌, ◌++◌, length, refl, sym, ap, subst, ◌∙◌, arith, inl, inr}
 use Rattle.std.specs.Prelude.{◌==◌, ◌/◌, ◌⊎◌, filter, slice_get, slice_index_or, Contains}
 use Rattle.std.specs.List.{AllByRecursion}
 use Rattle.std.proofs.lemmas.Bool.{cases_Bool, eq-eqb, eqb-true, ne_eqb, false≢true}
 use Rattle.std.proofs.lemmas.List.{append_cancel_left, get_or_past}
 use Rattle.std.proofs.lemmas.Option.{slice_get_cases}
-use Rattle.md_history.specs.declared.acts.Act.{Act}
 use Rattle.md_history.specs.declared.entries.Entry.{Entry}
 use Rattle.md_history.specs.Front.{Front, of_lane, is_lane_of}
 use Rattle.md_history.specs.FrontLaws.{lane_passes, lane_is_of}
 use Rattle.md_history.specs.Engine.{IsRising}
 use Rattle.md_history.specs.LaneLaws.{contains-either, contains-first, contains-more}
+use Rattle.md_many_attempts.specs.Meaning.{Meaning}
 use Rattle.md_many_attempts.specs.Lines.{AreLines}
 use Rattle.md_many_attempts.specs.ByCaller.{at_caller}
 use Rattle.md_many.specs.Rounds.{TakesTurn, AreTurns, of_caller}
@@ -97,9 +97,9 @@ one-place (x ∷ xs) (suc i) zero z rising at at' =
     let same : x ≡ z = cc in let less = above-first x xs i z rising at in absurd (omega arith)
 one-place (x ∷ xs) (suc i) (suc j) z rising at at' = ap suc (one-place xs i j z (rising-rest x xs rising) at at')
 
-module _ {B R : Type 0} (did : B → List Act → R → Type 0) (body_at : ℕ → ℕ → Option B) where
+module _ {B R : Type 0} (m : Meaning B R) where
   -- lines are of their caller
-  pub lines-caller : (caller : ℕ) (es : List Entry) (rs : List R) (n : ℕ) → AreLines did body_at caller es rs n
+  pub lines-caller : (caller : ℕ) (es : List Entry) (rs : List R) (n : ℕ) → AreLines m caller es rs n
       → n + length rs < 2 ^ 32 → AllByRecursion (λ (e : Entry). e.tag / 2 ^ 32 ≡ caller) es
   lines-caller caller [] [] n lines few = tt
   lines-caller caller (e ∷ es) (r ∷ rs) n lines few = (
@@ -109,21 +109,21 @@ module _ {B R : Type 0} (did : B → List Act → R → Type 0) (body_at : ℕ �
   lines-caller caller [] (r ∷ rs) n lines few = absurd lines
   lines-caller caller (e ∷ es) [] n lines few = absurd lines
 
-module _ {B R : Type 0} (did : B → List Act → R → Type 0) (body_at : ℕ → ℕ → Option B) (told : ℕ → ℕ → Type 0)
+module _ {B R : Type 0} (m : Meaning B R) (told : ℕ → ℕ → Type 0)
     (f g : Front) where
   -- the turn on a lane
-  turn-at : (before : ℕ) (done lanes : List ℕ) (rs : List (List R)) → AreTurns did body_at told f g before done lanes rs
+  turn-at : (before : ℕ) (done lanes : List ℕ) (rs : List (List R)) → AreTurns m told f g before done lanes rs
       → (i lane : ℕ) → slice_get lanes i ≡ Some lane
-      → TakesTurn did body_at told (before + 1 + i) (slice_index_or done i 0) lane f g (slice_index_or rs i [])
+      → TakesTurn m told (before + 1 + i) (slice_index_or done i 0) lane f g (slice_index_or rs i [])
   turn-at before [] [] [] turns i lane at = cc
   turn-at before (n ∷ done) (l ∷ lanes) (r ∷ rs) turns zero lane at =
       let same : l ≡ lane = cc in
       let first : before + 1 ≡ before + 1 + 0 = omega arith in
-      subst (λ x. TakesTurn did body_at told (before + 1 + 0) n x f g r) same
-      (subst (λ c. TakesTurn did body_at told c n l f g r) first turns.0)
+      subst (λ x. TakesTurn m told (before + 1 + 0) n x f g r) same
+      (subst (λ c. TakesTurn m told c n l f g r) first turns.0)
   turn-at before (n ∷ done) (l ∷ lanes) (r ∷ rs) turns (suc i) lane at =
       let next : before + 1 + 1 + i ≡ before + 1 + suc i = omega arith in
-      subst (λ c. TakesTurn did body_at told c (slice_index_or done i 0) lane f g (slice_index_or rs i [])) next
+      subst (λ c. TakesTurn m told c (slice_index_or done i 0) lane f g (slice_index_or rs i [])) next
       (turn-at (before + 1) done lanes rs turns.1 i lane at)
   turn-at before [] [] (r ∷ rs) turns i lane at = absurd turns
   turn-at before [] (l ∷ lanes) rs turns i lane at = absurd turns
@@ -131,7 +131,7 @@ module _ {B R : Type 0} (did : B → List Act → R → Type 0) (body_at : ℕ �
   turn-at before (n ∷ done) (l ∷ lanes) [] turns i lane at = absurd turns
 
   pub turns-count : (before : ℕ) (done lanes : List ℕ) (rs : List (List R))
-      → AreTurns did body_at told f g before done lanes rs → (length done ≡ length lanes) × (length rs ≡ length lanes)
+      → AreTurns m told f g before done lanes rs → (length done ≡ length lanes) × (length rs ≡ length lanes)
   turns-count before [] [] [] turns = (refl, refl)
   turns-count before (n ∷ done) (l ∷ lanes) (r ∷ rs) turns =
       let more = turns-count (before + 1) done lanes rs turns.1 in (ap suc more.0, ap suc more.1)
@@ -143,9 +143,9 @@ module _ {B R : Type 0} (did : B → List Act → R → Type 0) (body_at : ℕ �
   -- a caller's turn, if it has one
   pub record TurnOf (caller : ℕ) (done : List ℕ) (rs : List (List R)) : Type 0 where
     pub lane : ℕ
-    pub turn : TakesTurn did body_at told caller (at_caller 0 done caller) lane f g (at_caller [] rs caller)
+    pub turn : TakesTurn m told caller (at_caller 0 done caller) lane f g (at_caller [] rs caller)
 
-  pub turn-of : (done lanes : List ℕ) (rs : List (List R)) → AreTurns did body_at told f g 0 done lanes rs
+  pub turn-of : (done lanes : List ℕ) (rs : List (List R)) → AreTurns m told f g 0 done lanes rs
       → (caller : ℕ) → TurnOf caller done rs ⊎ ((at_caller 0 done caller ≡ 0) × (at_caller [] rs caller ≡ []))
   turn-of done lanes rs turns zero = inr (refl, refl)
   turn-of done lanes rs turns (suc i) = elim (slice_get_cases lanes i).1 [
@@ -154,7 +154,7 @@ module _ {B R : Type 0} (did : B → List Act → R → Type 0) (body_at : ℕ �
         inl (record {
           lane = there.0;
           turn = subst
-              (λ c. TakesTurn did body_at told c (slice_index_or done i 0) there.0 f g (slice_index_or rs i [])) next
+              (λ c. TakesTurn m told c (slice_index_or done i 0) there.0 f g (slice_index_or rs i [])) next
               (turn-at 0 done lanes rs turns i there.0 there.2);
         })
     | inr past ↦
@@ -162,14 +162,14 @@ module _ {B R : Type 0} (did : B → List Act → R → Type 0) (body_at : ℕ �
         inr (get_or_past done i 0 (omega (arith, counts.0, past.0)), get_or_past rs i [] (omega (arith, counts.1, past.0)))
   ]
 
-  pub turns-few : (done lanes : List ℕ) (rs : List (List R)) → AreTurns did body_at told f g 0 done lanes rs
+  pub turns-few : (done lanes : List ℕ) (rs : List (List R)) → AreTurns m told f g 0 done lanes rs
       → (caller : ℕ) → at_caller 0 done caller + length (at_caller [] rs caller) < 2 ^ 32
   turns-few done lanes rs turns caller = elim (turn-of done lanes rs turns caller) [
     | inl own ↦ own.turn.few
     | inr none ↦ omega (arith, none.0, ap length none.1)
   ]
 
-  pub turns-told : (done lanes : List ℕ) (rs : List (List R)) → AreTurns did body_at told f g 0 done lanes rs
+  pub turns-told : (done lanes : List ℕ) (rs : List (List R)) → AreTurns m told f g 0 done lanes rs
       → (caller line : ℕ) → at_caller 0 done caller < line
       → line ≤ at_caller 0 done caller + length (at_caller [] rs caller) → told caller line
   turns-told done lanes rs turns caller line low high = elim (turn-of done lanes rs turns caller) [
@@ -177,7 +177,7 @@ module _ {B R : Type 0} (did : B → List Act → R → Type 0) (body_at : ℕ �
     | inr none ↦ absurd (omega (arith, low, high, none.0, ap length none.1))
   ]
 
-  module _ (done lanes : List ℕ) (rs : List (List R)) (turns : AreTurns did body_at told f g 0 done lanes rs)
+  module _ (done lanes : List ℕ) (rs : List (List R)) (turns : AreTurns m told f g 0 done lanes rs)
       (rising : IsRising lanes) (D : List Entry)
       (added : (lane : ℕ) → Contains lanes lane → g.mine lane ≡ f.mine lane ++ of_lane lane D)
       (nowhere : (lane : ℕ) → (Contains lanes lane → ⊥) → of_lane lane D ≡ []) where
@@ -188,14 +188,14 @@ module _ {B R : Type 0} (did : B → List Act → R → Type 0) (body_at : ℕ �
       pub caller : e.tag / 2 ^ 32 ≡ place + 1
 
     own-entries : (i lane : ℕ) → slice_get lanes i ≡ Some lane
-        → AreLines did body_at (i + 1) (of_lane lane D) (slice_index_or rs i []) (slice_index_or done i 0)
+        → AreLines m (i + 1) (of_lane lane D) (slice_index_or rs i []) (slice_index_or done i 0)
     own-entries i lane at =
         let turn = turn-at 0 done lanes rs turns i lane at in
         let caller : 0 + 1 + i ≡ i + 1 = omega arith in
         let same : turn.entries ≡ of_lane lane D =
         append_cancel_left (f.mine lane) turn.entries (of_lane lane D) (sym turn.mine ∙ added lane (at-contains lanes i lane at)) in
-        subst (λ es. AreLines did body_at (i + 1) es (slice_index_or rs i []) (slice_index_or done i 0)) same
-        (subst (λ c. AreLines did body_at c turn.entries (slice_index_or rs i []) (slice_index_or done i 0)) caller
+        subst (λ es. AreLines m (i + 1) es (slice_index_or rs i []) (slice_index_or done i 0)) same
+        (subst (λ c. AreLines m c turn.entries (slice_index_or rs i []) (slice_index_or done i 0)) caller
         turn.lines)
 
     placed-in : (lane : ℕ) → AllByRecursion IsPlaced (of_lane lane D)
@@ -210,7 +210,7 @@ module _ {B R : Type 0} (did : B → List Act → R → Type 0) (body_at : ℕ �
             caller = is.0;
           }) (of_lane lane D)
           (all-both (λ e. e.tag / 2 ^ 32 ≡ at.0 + 1) (λ e. (lane == e.lane) ≡ true) (of_lane lane D)
-          (lines-caller did body_at (at.0 + 1) (of_lane lane D) (slice_index_or rs at.0 []) (slice_index_or done at.0 0)
+          (lines-caller m (at.0 + 1) (of_lane lane D) (slice_index_or rs at.0 []) (slice_index_or done at.0 0)
           (own-entries at.0 lane at.1) turn.few) (all-pass (λ e. lane == e.lane) D))
       | inr other ↦ subst (AllByRecursion IsPlaced)
           (sym (nowhere lane (λ at. false≢true (sym other ∙ lane_passes lanes lane at)))) tt
@@ -244,13 +244,13 @@ module _ {B R : Type 0} (did : B → List Act → R → Type 0) (body_at : ℕ �
 
     -- each caller's entries are its lines of the turn
     pub merged : (caller : ℕ)
-        → AreLines did body_at caller (of_caller caller D) (at_caller [] rs caller) (at_caller 0 done caller)
-    merged zero = subst (λ es. AreLines did body_at 0 es [] 0) (sym (none-of 0 (λ i lane at same. omega arith))) tt
+        → AreLines m caller (of_caller caller D) (at_caller [] rs caller) (at_caller 0 done caller)
+    merged zero = subst (λ es. AreLines m 0 es [] 0) (sym (none-of 0 (λ i lane at same. omega arith))) tt
     merged (suc i) = elim (slice_get_cases lanes i).1 [
       | inl there ↦
           let next : i + 1 ≡ suc i = omega arith in
-          subst (λ c. AreLines did body_at c (of_caller c D) (slice_index_or rs i []) (slice_index_or done i 0)) next
-          (subst (λ es. AreLines did body_at (i + 1) es (slice_index_or rs i []) (slice_index_or done i 0))
+          subst (λ c. AreLines m c (of_caller c D) (slice_index_or rs i []) (slice_index_or done i 0)) next
+          (subst (λ es. AreLines m (i + 1) es (slice_index_or rs i []) (slice_index_or done i 0))
           (sym (lane-of i there.0 there.2)) (own-entries i there.0 there.2))
       | inr past ↦
           let nothing : of_caller (suc i) D ≡ [] = none-of (suc i) (λ k lane at same.
@@ -258,6 +258,6 @@ module _ {B R : Type 0} (did : B → List Act → R → Type 0) (body_at : ℕ �
           let some : None ≡ Some lane = sym past.1 ∙ ap (slice_get lanes) (sym here) ∙ at in cc) in
           let counts = turns-count 0 done lanes rs turns in
           let silent : slice_index_or rs i [] ≡ [] = get_or_past rs i [] (omega (arith, counts.1, past.0)) in
-          subst (λ es. AreLines did body_at (suc i) es (slice_index_or rs i []) (slice_index_or done i 0)) (sym nothing)
-          (subst (λ ss. AreLines did body_at (suc i) [] ss (slice_index_or done i 0)) (sym silent) tt)
+          subst (λ es. AreLines m (suc i) es (slice_index_or rs i []) (slice_index_or done i 0)) (sym nothing)
+          (subst (λ ss. AreLines m (suc i) [] ss (slice_index_or done i 0)) (sym silent) tt)
     ]

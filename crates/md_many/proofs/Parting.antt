@@ -1,12 +1,11 @@
 -- A pass that was split and joined again: it holds the lanes that it held, and what its parts played stands in its
 -- history.
-use Rattle.std.proofs.Common.{◌≡◌, ◌≤◌, ◌⊎◌, ℕ, Option, List, [], ◌∷◌, ◌++◌, take, drop, length, inl, inr, refl, sym, ap, subst, ◌∙◌, arith}
+use Rattle.std.proofs.Common.{◌≡◌, ◌≤◌, ◌⊎◌, ℕ, List, [], ◌∷◌, ◌++◌, take, drop, length, inl, inr, refl, sym, ap, subst, ◌∙◌, arith}
 use Rattle.std.specs.Prelude.{◌-◌, ◌/◌, ◌==◌, Contains}
 use Rattle.std.specs.List.{zip}
 use Rattle.std.proofs.lemmas.Bool.{cases_Bool, eq-eqb}
 use Rattle.std.proofs.lemmas.List.{take-append-drop, append-nil, length-append}
 use Rattle.std.proofs.lemmas.List.Elements.{filter-append}
-use Rattle.md_history.specs.declared.acts.Act.{Act}
 use Rattle.md_history.specs.declared.entries.Entry.{Entry}
 use Rattle.md_history.specs.declared.entries.Fate.{Fate}
 use Rattle.md_history.specs.Front.{Front, BeginsOn, IsPrefix, AllStay, of_lane, is_of}
@@ -14,6 +13,7 @@ use Rattle.md_history.specs.FrontLaws.{lane_is_of}
 use Rattle.md_history.specs.Engine.{IsRising, IsPartOf, KeepsOn, Splits, Joins}
 use Rattle.md_history.specs.LaneLaws.{contains-either, contains-first, contains-more, rising-same}
 use Rattle.md_history.specs.OwnLaws.{committed_pairs, pairs_on}
+use Rattle.md_many_attempts.specs.Meaning.{Meaning}
 use Rattle.md_many_attempts.specs.Joined.{HasCommitted, entries_after}
 use Rattle.md_many_attempts.specs.Lines.{PlaysLines}
 use Rattle.md_many_attempts.proofs.Joining.{AreDecided, entries-more}
@@ -128,12 +128,12 @@ committed-joined lanes es old part one both is is_part h begins keeps fated same
     length-prefix xs ys p = omega (arith, ap length p.is, length-append xs p.rest)
 
 -- what a part played is there after the passes were joined
-pub plays-joined : {B R : Type 0} (did : B → List Act → R → Type 0)
-    (body_at : ℕ → ℕ → Option B) (caller n : ℕ) (lanes : List ℕ) (old part one both : Front) (rs : List R)
-    → part.lanes ≡ lanes → IsPartOf old part → PlaysLines did body_at caller n lanes part one rs
+pub plays-joined : {B R : Type 0} (m : Meaning B R) (caller n : ℕ) (lanes : List ℕ) (old part one both : Front)
+    (rs : List R)
+    → part.lanes ≡ lanes → IsPartOf old part → PlaysLines m caller n lanes part one rs
     → BeginsOn lanes one both → KeepsOn lanes one both → length one.known ≡ length one.seen
-    → PlaysLines did body_at caller n lanes old both rs
-plays-joined did body_at caller n lanes old part one both rs is is_part plays begins keeps fated = record {
+    → PlaysLines m caller n lanes old both rs
+plays-joined m caller n lanes old part one both rs is is_part plays begins keeps fated = record {
   entries = plays.entries;
   commits = committed-joined lanes plays.entries old part one both is is_part plays.commits begins keeps fated
       (ap length is_part.seen);
@@ -141,13 +141,13 @@ plays-joined did body_at caller n lanes old part one both rs is is_part plays be
 }
 
 -- the same of a part's own lanes
-pub plays-parted : {B R : Type 0} (did : B → List Act → R → Type 0)
-    (body_at : ℕ → ℕ → Option B) (caller n : ℕ) (lanes : List ℕ) (old part one both : Front) (rs : List R)
+pub plays-parted : {B R : Type 0} (m : Meaning B R) (caller n : ℕ) (lanes : List ℕ) (old part one both : Front)
+    (rs : List R)
     → part.lanes ≡ lanes → one.lanes ≡ part.lanes → IsPartOf old part
-    → PlaysLines did body_at caller n part.lanes part one rs → BeginsOn one.lanes one both
+    → PlaysLines m caller n part.lanes part one rs → BeginsOn one.lanes one both
     → KeepsOn one.lanes one both → length one.known ≡ length one.seen
-    → PlaysLines did body_at caller n lanes old both rs
-plays-parted did body_at caller n lanes old part one both rs is same is_part plays begins keeps fated =
-    plays-joined did body_at caller n lanes old part one both rs is is_part
-    (subst (λ ls. PlaysLines did body_at caller n ls part one rs) is plays)
+    → PlaysLines m caller n lanes old both rs
+plays-parted m caller n lanes old part one both rs is same is_part plays begins keeps fated =
+    plays-joined m caller n lanes old part one both rs is is_part
+    (subst (λ ls. PlaysLines m caller n ls part one rs) is plays)
     (subst (λ ls. BeginsOn ls one both) (same ∙ is) begins) (subst (λ ls. KeepsOn ls one both) (same ∙ is) keeps) fated

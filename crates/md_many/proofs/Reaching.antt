@@ -8,6 +8,7 @@ use Rattle.md_history.specs.State.{State}
 use Rattle.md_history.specs.Counts.{Bounds, IsSmall}
 use Rattle.md_history.specs.Engine.{needed}
 use Rattle.md_history.proofs.Runs.{length-maps-run, length-queues-run}
+use Rattle.md_many_attempts.specs.Meaning.{Meaning}
 use Rattle.md_many_attempts.specs.Tags.{tag_of}
 use Rattle.md_many.specs.Laws.{AreLawful, AreLawfulBodies, LineKeepsGood}
 use Rattle.md_many_attempts.specs.ByCaller.{lines_of}
@@ -24,12 +25,22 @@ less-need g left left' less =
 
 module _ {B R : Type 0} (did : B → List Act → R → Type 0) (makes : B → List Act → Type 0) (fits : B → ℕ → ℕ → Type 0)
     (good : State → State → Type 0) (cost : Bounds) (growth : ℕ)
-    (laws : AreLawfulBodies did makes fits good cost growth) (body_at : ℕ → ℕ → Option B) (line_count : ℕ → ℕ)
-    (callers : ℕ) (has_body : (caller line : ℕ) → IsSome (body_at caller line) ↔ ((1 ≤ line) × (line ≤ line_count caller)))
+    (laws : AreLawfulBodies did makes fits good cost growth) (callers : ℕ) (line_count : ℕ → ℕ)
+    (body_at : ℕ → ℕ → Option B) (has_body : (caller line : ℕ) → IsSome (body_at caller line) ↔ ((1 ≤ line) × (line ≤ line_count caller)))
     (has_caller : (caller : ℕ) → (caller ≡ 0) ⊎ (callers < caller) → line_count caller ≡ 0)
     (opening : State) (here : good opening opening) where
   abbrev Reached : State → List ℕ → Type 0
   Reached s tags = IsReached good growth line_count callers opening s tags
+
+  abbrev meaning : Meaning B R
+  meaning = record {
+    did = did;
+    makes = makes;
+    fits = fits;
+    callers = callers;
+    line_count = line_count;
+    body_at = body_at;
+  }
 
   abbrev all : List ℕ
   all = all_tags line_count callers
@@ -51,7 +62,7 @@ module _ {B R : Type 0} (did : B → List Act → R → Type 0) (makes : B → L
     | inr none ↦ absurd (omega (arith, has_caller caller (inl (omega (arith, none))), low, high))
   ]
 
-  reached-more : LineKeepsGood did body_at Reached (λ caller line r. IsSome (body_at caller line))
+  reached-more : LineKeepsGood meaning Reached (λ caller line r. IsSome (body_at caller line))
   reached-more s tags caller line b acts r reached there fresh did_it right =
       let some : IsSome (body_at caller line) = ap is_some there in
       let within = (has_body caller line).0 some in
@@ -75,8 +86,13 @@ module _ {B R : Type 0} (did : B → List Act → R → Type 0) (makes : B → L
         some,
       )
 
-  pub lines-lawful : AreLawful did makes body_at Reached (λ caller line r. IsSome (body_at caller line)) opening cost
-      (needed opening + growth * lines_of line_count callers)
+  pub lines-lawful : AreLawful meaning (record {
+    opening = opening;
+    good = Reached;
+    suits = λ caller line r. IsSome (body_at caller line);
+    cost = cost;
+    most = needed opening + growth * lines_of line_count callers;
+  })
   lines-lawful = record {
     opens = reached-first;
     keeps = reached-more;

@@ -9,6 +9,7 @@ use Rattle.md_history.specs.State.{State, run, IsRight}
 use Rattle.md_history.specs.History.{acts_of}
 use Rattle.md_history.specs.HistoryLaws.{right-first, right-rest, run-append}
 use Rattle.md_history.specs.Front.{Front}
+use Rattle.md_many_attempts.specs.Meaning.{Meaning}
 use Rattle.md_many_attempts.specs.ByCaller.{line_at, at_caller}
 use Rattle.md_many.specs.Played.{committed_of, tags_of, EachLineOnce}
 use Rattle.md_many.specs.Replied.{IsReplied, AreReplied}
@@ -16,30 +17,30 @@ use Rattle.md_many.specs.Serial.{IsSerialRun, at_tags, after_each, reply_of_each
 use Rattle.md_many.proofs.Walking.{fronts-right, fronts-run, kept-in, each-replied}
 
 -- the committed entries of fronts that hold each line once are a serial run
-pub once-serial : {B R : Type 0} (did : B → List Act → R → Type 0) (body_at : ℕ → ℕ → Option B) (line_count : ℕ → ℕ)
+pub once-serial : {B R : Type 0} (m : Meaning B R)
     (replies : List (List R)) (good : State → List ℕ → Type 0) (opening contents : State) (fronts : List Front)
-    → EachLineOnce did body_at line_count (λ caller rs. at_caller [] replies caller ≡ rs) good opening fronts contents
-    → IsSerialRun did body_at (line_at replies) opening (committed_of fronts) contents
-once-serial did body_at line_count replies good opening contents fronts once = record {
-  lines = each-replied did body_at (line_at replies) line_count (λ caller rs. at_caller [] replies caller ≡ rs) good
+    → EachLineOnce m (λ caller rs. at_caller [] replies caller ≡ rs) good opening fronts contents
+    → IsSerialRun m (line_at replies) opening (committed_of fronts) contents
+once-serial m replies good opening contents fronts once = record {
+  lines = each-replied m (line_at replies) (λ caller rs. at_caller [] replies caller ≡ rs) good
       opening contents fronts (kept-in replies) once;
   right = fronts-right opening fronts once.legal;
   left = once.replay ∙ fronts-run opening fronts;
 }
 
-module _ {B R : Type 0} (did : B → List Act → R → Type 0) (body_at : ℕ → ℕ → Option B) (reply_at : ℕ → ℕ → Option R) where
+module _ {B R : Type 0} (m : Meaning B R) (reply_at : ℕ → ℕ → Option R) where
   -- what each body keeps is so at the end
   pub serial-keeps : (P : State → Type 0)
-      → ((b : B) (s : State) (acts : List Act) (r : R) → P s → did b acts r → IsRight s acts → P (run s acts))
-      → (start end : State) (es : List Entry) → IsSerialRun did body_at reply_at start es end → P start → P end
+      → ((b : B) (s : State) (acts : List Act) (r : R) → P s → m.did b acts r → IsRight s acts → P (run s acts))
+      → (start end : State) (es : List Entry) → IsSerialRun m reply_at start es end → P start → P end
   serial-keeps P keeps start end es is here =
       subst P (sym is.left) (each es start is.lines is.right here)
     where
-      each : (ds : List Entry) (s : State) → AreReplied did body_at reply_at ds → IsRight s (acts_of ds) → P s
+      each : (ds : List Entry) (s : State) → AreReplied m reply_at ds → IsRight s (acts_of ds) → P s
           → P (run s (acts_of ds))
       each [] s lines right here = here
       each (d ∷ ds) s lines right here =
-          let first : IsReplied did body_at reply_at d = lines.0 in
+          let first : IsReplied m reply_at d = lines.0 in
           subst P (sym (run-append s d.acts (acts_of ds)))
           (each ds (run s d.acts) lines.1 (right-rest s d.acts (acts_of ds) right)
           (keeps first.body s d.acts first.reply here first.did_it (right-first s d.acts (acts_of ds) right)))
@@ -47,20 +48,20 @@ module _ {B R : Type 0} (did : B → List Act → R → Type 0) (body_at : ℕ �
   -- If it is known what a body leaves and replies, by what it finds, then so is what a serial run leaves, and which
   -- replies are kept.
   module _ {S : Type 0} (state_of : S → State) (after : S → B → S) (reply : S → B → R)
-      (does : (x : S) (b : B) (acts : List Act) (r : R) → did b acts r → IsRight (state_of x) acts
+      (does : (x : S) (b : B) (acts : List Act) (r : R) → m.did b acts r → IsRight (state_of x) acts
       → (run (state_of x) acts ≡ state_of (after x b)) × (r ≡ reply x b)) where
-    each-does : (x : S) (es : List Entry) → AreReplied did body_at reply_at es → IsRight (state_of x) (acts_of es)
-        → (run (state_of x) (acts_of es) ≡ state_of (after_each after x (at_tags body_at (tags_of es))))
-        × (at_tags reply_at (tags_of es) ≡ reply_of_each after reply x (at_tags body_at (tags_of es)))
+    each-does : (x : S) (es : List Entry) → AreReplied m reply_at es → IsRight (state_of x) (acts_of es)
+        → (run (state_of x) (acts_of es) ≡ state_of (after_each after x (at_tags m.body_at (tags_of es))))
+        × (at_tags reply_at (tags_of es) ≡ reply_of_each after reply x (at_tags m.body_at (tags_of es)))
     each-does x [] lines right = (refl, refl)
     each-does x (e ∷ es) lines right =
-        let first : IsReplied did body_at reply_at e = lines.0 in
+        let first : IsReplied m reply_at e = lines.0 in
         let d = does x first.body e.acts first.reply first.did_it (right-first (state_of x) e.acts (acts_of es) right) in
         let y = after x first.body in
-        let bs = at_tags body_at (tags_of es) in
+        let bs = at_tags m.body_at (tags_of es) in
         let more = each-does y es lines.1
         (subst (λ s. IsRight s (acts_of es)) d.0 (right-rest (state_of x) e.acts (acts_of es) right)) in
-        let bodies : at_tags body_at (tags_of (e ∷ es)) ≡ first.body ∷ bs = ap (λ o. cons_option o bs) first.there in (
+        let bodies : at_tags m.body_at (tags_of (e ∷ es)) ≡ first.body ∷ bs = ap (λ o. cons_option o bs) first.there in (
           run-append (state_of x) e.acts (acts_of es) ∙ ap (λ s. run s (acts_of es)) d.0 ∙ more.0
               ∙ sym (ap (λ xs. state_of (after_each after x xs)) bodies),
           ap (λ o. cons_option o (at_tags reply_at (tags_of es))) first.kept
@@ -68,9 +69,9 @@ module _ {B R : Type 0} (did : B → List Act → R → Type 0) (body_at : ℕ �
               ∙ sym (ap (reply_of_each after reply x) bodies),
         )
 
-    pub serial-does : (x : S) (es : List Entry) (end : State) → IsSerialRun did body_at reply_at (state_of x) es end
-        → (end ≡ state_of (after_each after x (at_tags body_at (tags_of es))))
-        × (at_tags reply_at (tags_of es) ≡ reply_of_each after reply x (at_tags body_at (tags_of es)))
+    pub serial-does : (x : S) (es : List Entry) (end : State) → IsSerialRun m reply_at (state_of x) es end
+        → (end ≡ state_of (after_each after x (at_tags m.body_at (tags_of es))))
+        × (at_tags reply_at (tags_of es) ≡ reply_of_each after reply x (at_tags m.body_at (tags_of es)))
     serial-does x es end is = let each = each-does x es is.lines is.right in (is.left ∙ each.0, each.1)
 
 module _ {B S : Type 0} (after : S → B → S) where

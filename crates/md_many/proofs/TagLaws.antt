@@ -1,9 +1,9 @@
 -- The tags of lines.
-use Rattle.std.proofs.Common.{◌≡◌, ◌<◌, ◌+◌, ◌^◌, ◌∷◌, ℕ, zero, suc, List, [], Option, length, map, refl, ap, ◌∙◌}
+use Rattle.std.proofs.Common.{◌≡◌, ◌<◌, ◌+◌, ◌^◌, ◌∷◌, ℕ, zero, suc, List, [], length, map, refl, ap, ◌∙◌}
 use Rattle.std.specs.Prelude.{◌/◌, ◌%◌}
 use Rattle.std.proofs.lemmas.Nat.{div-mul-add, mod-mul-add}
-use Rattle.md_history.specs.declared.acts.Act.{Act}
 use Rattle.md_history.specs.declared.entries.Entry.{Entry}
+use Rattle.md_many_attempts.specs.Meaning.{Meaning}
 use Rattle.md_many_attempts.specs.Tags.{tag_of}
 use Rattle.md_many.specs.Tags.{tags_after}
 use Rattle.md_many_attempts.specs.Lines.{AreLines}
@@ -20,9 +20,9 @@ pub length-tags_after : (caller n count : ℕ) → length (tags_after caller n c
 length-tags_after caller n zero = refl
 length-tags_after caller n (suc count) = ap suc (length-tags_after caller (n + 1) count)
 
-module _ {B R : Type 0} (did : B → List Act → R → Type 0) (body_at : ℕ → ℕ → Option B) (caller : ℕ) where
+module _ {B R : Type 0} (m : Meaning B R) (caller : ℕ) where
   -- lines have their tags
-  pub lines-tags : (es : List Entry) (rs : List R) (n : ℕ) → AreLines did body_at caller es rs n
+  pub lines-tags : (es : List Entry) (rs : List R) (n : ℕ) → AreLines m caller es rs n
       → map (λ (e : Entry). e.tag) es ≡ tags_after caller n (length rs)
   lines-tags [] [] n lines = refl
   lines-tags (e ∷ es) (r ∷ rs) n lines =
@@ -32,7 +32,7 @@ module _ {B R : Type 0} (did : B → List Act → R → Type 0) (body_at : ℕ �
   lines-tags (e ∷ es) [] n lines = absurd lines
 
   -- there is an entry for each reply
-  pub lines-length : (es : List Entry) (rs : List R) (n : ℕ) → AreLines did body_at caller es rs n
+  pub lines-length : (es : List Entry) (rs : List R) (n : ℕ) → AreLines m caller es rs n
       → length es ≡ length rs
   lines-length [] [] n lines = refl
   lines-length (e ∷ es) (r ∷ rs) n lines = ap suc (lines-length es rs (n + 1) lines.1)

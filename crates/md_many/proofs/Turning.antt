@@ -1,8 +1,7 @@
 -- A caller's turn on the one lane of a pass.
-use Rattle.std.proofs.Common.{◌≡◌, ◌+◌, ◌<◌, ◌≤◌, ◌^◌, ℕ, Option, List, [], ◌∷◌, ◌++◌, length, refl, ap, subst, ◌∙◌, arith, inl, inr}
+use Rattle.std.proofs.Common.{◌≡◌, ◌+◌, ◌<◌, ◌≤◌, ◌^◌, ℕ, List, [], ◌∷◌, ◌++◌, length, refl, ap, subst, ◌∙◌, arith, inl, inr}
 use Rattle.std.specs.Prelude.{◌==◌}
 use Rattle.std.proofs.lemmas.Bool.{cases_Bool}
-use Rattle.md_history.specs.declared.acts.Act.{Act}
 use Rattle.md_history.specs.declared.entries.Entry.{Entry}
 use Rattle.md_history.specs.declared.entries.Fate.{Fate}
 use Rattle.md_history.specs.declared.entries.Fate.TheVariants.{Committed, Aborted, Undecided}
@@ -10,6 +9,7 @@ use Rattle.md_history.specs.Front.{Front, of_lane}
 use Rattle.md_history.specs.LaneLaws.{contains-first}
 use Rattle.md_history.specs.OwnLaws.{committed_pairs, pairs_on}
 use Rattle.md_many_attempts.specs.Lines.{PlaysLines}
+use Rattle.md_many_attempts.specs.Meaning.{Meaning}
 use Rattle.md_many.specs.Rounds.{TakesTurn, AreTurns, PlaysTurns}
 
 -- what one lane committed is of that lane
@@ -30,15 +30,15 @@ own-lane lane ((e, Undecided) ∷ ps) = elim (cases_Bool (lane == e.lane)) [
   | inr other ↦ rw other (own-lane lane ps)
 ]
 
-module _ {B R : Type 0} (did : B → List Act → R → Type 0) (body_at : ℕ → ℕ → Option B) (told : ℕ → ℕ → Type 0) where
+module _ {B R : Type 0} (m : Meaning B R) (told : ℕ → ℕ → Type 0) where
   -- the turn of the one lane's caller
   turn-of : (caller n : ℕ) (lanes : List ℕ) (f g : Front) (rs : List R) (before : ℕ) → length lanes ≡ 1
-      → PlaysLines did body_at caller n lanes f g rs → n + length rs < 2 ^ 32
+      → PlaysLines m caller n lanes f g rs → n + length rs < 2 ^ 32
       → ((line : ℕ) → n < line → line ≤ n + length rs → told caller line)
-      → caller ≡ before + 1 → AreTurns did body_at told f g before (n ∷ []) lanes (rs ∷ [])
+      → caller ≡ before + 1 → AreTurns m told f g before (n ∷ []) lanes (rs ∷ [])
   turn-of caller n [] f g rs before one plays few gate is = absurd (omega arith)
   turn-of caller n (lane ∷ []) f g rs before one plays few gate is = (
-    subst (λ c. TakesTurn did body_at told c n lane f g rs) is
+    subst (λ c. TakesTurn m told c n lane f g rs) is
         (record {
           entries = plays.entries;
           mine = plays.commits.mine lane (contains-first lane [])
@@ -54,9 +54,9 @@ module _ {B R : Type 0} (did : B → List Act → R → Type 0) (body_at : ℕ �
   turn-of caller n (lane ∷ more ∷ lanes) f g rs before one plays few gate is = absurd (omega arith)
 
   pub one-turn : (caller n : ℕ) (f g : Front) (rs : List R) (before : ℕ) → length f.lanes ≡ 1
-      → g.lanes ≡ f.lanes → g.pending ≡ f.pending → PlaysLines did body_at caller n f.lanes f g rs
+      → g.lanes ≡ f.lanes → g.pending ≡ f.pending → PlaysLines m caller n f.lanes f g rs
       → n + length rs < 2 ^ 32 → ((line : ℕ) → n < line → line ≤ n + length rs → told caller line)
-      → caller ≡ before + 1 → PlaysTurns did body_at told before (n ∷ []) f g (rs ∷ [])
+      → caller ≡ before + 1 → PlaysTurns m told before (n ∷ []) f g (rs ∷ [])
   one-turn caller n f g rs before one lanes pending plays few gate is = record {
     lanes = lanes;
     idle = λ none. pending ∙ none;

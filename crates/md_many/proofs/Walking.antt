@@ -2,13 +2,13 @@
 use Rattle.std.proofs.Common.{◌≡◌, ◌+◌, ◌<◌, ◌^◌, ℕ, suc, cond, true, Option, List, [], ◌∷◌, length, refl, sym, ap, subst, ◌∙◌, arith, inl, inr}
 use Rattle.std.specs.Prelude.{◌==◌, ◌/◌, ◌%◌, slice_get}
 use Rattle.std.proofs.lemmas.Bool.{cases_Bool, eq-eqb, eqb-true}
-use Rattle.md_history.specs.declared.acts.Act.{Act}
 use Rattle.md_history.specs.declared.entries.Entry.{Entry}
 use Rattle.md_history.specs.State.{State, run, IsRight}
 use Rattle.md_history.specs.History.{acts_of}
 use Rattle.md_history.specs.HistoryLaws.{committed-right, right-append, run-append}
 use Rattle.md_history.specs.Front.{Front, committed_in, replay_of}
 use Rattle.md_history.proofs.PlainFronts.{acts_of-append}
+use Rattle.md_many_attempts.specs.Meaning.{Meaning}
 use Rattle.md_many_attempts.specs.Tags.{tag_of}
 use Rattle.md_many_attempts.specs.Lines.{AreLines}
 use Rattle.md_many_attempts.specs.ByCaller.{at_caller, line_at}
@@ -38,22 +38,22 @@ fronts-run start (f ∷ fs) =
 line-of : (t line : ℕ) → t ≡ tag_of (t / 2 ^ 32) line → t % 2 ^ 32 ≡ line
 line-of t line is = omega (arith, is)
 
-module _ {B R : Type 0} (did : B → List Act → R → Type 0) (body_at : ℕ → ℕ → Option B) (reply_at : ℕ → ℕ → Option R) where
+module _ {B R : Type 0} (m : Meaning B R) (reply_at : ℕ → ℕ → Option R) where
   -- of a caller, entries are its lines after its first n, and their replies are kept
   record PlayedFrom (caller n : ℕ) (es : List Entry) : Type 0 where
     pub list : List R
-    pub lines : AreLines did body_at caller (of_caller caller es) list n
+    pub lines : AreLines m caller (of_caller caller es) list n
     pub kept : (i : ℕ) → i < length list → reply_at caller (n + i + 1) ≡ slice_get list i
 
-  walk : (es : List Entry) (n : ℕ → ℕ) → ((caller : ℕ) → PlayedFrom caller (n caller) es) → AreReplied did body_at reply_at es
+  walk : (es : List Entry) (n : ℕ → ℕ) → ((caller : ℕ) → PlayedFrom caller (n caller) es) → AreReplied m reply_at es
   walk [] n each = tt
   walk (e ∷ es) n each =
       let own = e.tag / 2 ^ 32 in
       let here : (own == own) ≡ true = eq-eqb own own refl in
       let p = each own in
-      let head : Head did body_at own (n own) e (of_caller own es) p.list =
-      lines-head did body_at own (n own) e (of_caller own es) p.list
-      (subst (λ xs. AreLines did body_at own xs p.list (n own)) (caller-own own e es here) p.lines) in
+      let head : Head m own (n own) e (of_caller own es) p.list =
+      lines-head m own (n own) e (of_caller own es) p.list
+      (subst (λ xs. AreLines m own xs p.list (n own)) (caller-own own e es here) p.lines) in
       let count : length p.list ≡ suc (length head.rest) = ap length head.is in
       let line : e.tag % 2 ^ 32 ≡ n own + 1 = line-of e.tag (n own + 1) head.line.tagged in
       let first : n own + 0 + 1 ≡ n own + 1 = omega arith in
@@ -76,7 +76,7 @@ module _ {B R : Type 0} (did : B → List Act → R → Type 0) (body_at : ℕ �
             subst (λ k. PlayedFrom caller k es) (sym (ap (λ b. cond b (n caller + 1) (n caller)) other))
             (record {
               list = q.list;
-              lines = subst (λ xs. AreLines did body_at caller xs q.list (n caller))
+              lines = subst (λ xs. AreLines m caller xs q.list (n caller))
                   (caller-other caller e es other) q.lines;
               kept = q.kept;
             })
@@ -84,7 +84,7 @@ module _ {B R : Type 0} (did : B → List Act → R → Type 0) (body_at : ℕ �
         record {
           body = head.line.body;
           reply = head.reply;
-          there = ap (body_at own) line ∙ head.line.there;
+          there = ap (m.body_at own) line ∙ head.line.there;
           kept = ap (reply_at own) (line ∙ sym first) ∙ p.kept 0 (omega (arith, count))
               ∙ ap (λ xs. slice_get xs 0) head.is;
           did_it = head.line.did_it;
@@ -101,14 +101,13 @@ kept-in lists caller rs kept i low =
 
 -- Each committed entry of fronts that hold each line once did the line that its tag names, with the reply that is kept
 -- of it.
-pub each-replied : {B R : Type 0} (did : B → List Act → R → Type 0) (body_at : ℕ → ℕ → Option B)
-    (reply_at : ℕ → ℕ → Option R) (line_count : ℕ → ℕ) (keeps : ℕ → List R → Type 0)
+pub each-replied : {B R : Type 0} (m : Meaning B R) (reply_at : ℕ → ℕ → Option R) (keeps : ℕ → List R → Type 0)
     (good : State → List ℕ → Type 0) (opening contents : State) (fronts : List Front)
     → ((caller : ℕ) (rs : List R) → keeps caller rs → (i : ℕ) → i < length rs → reply_at caller (i + 1) ≡ slice_get rs i)
-    → EachLineOnce did body_at line_count keeps good opening fronts contents
-    → AreReplied did body_at reply_at (committed_of fronts)
-each-replied did body_at reply_at line_count keeps good opening contents fronts kept once =
-    walk did body_at reply_at (committed_of fronts) (λ caller. 0) (λ caller.
+    → EachLineOnce m keeps good opening fronts contents
+    → AreReplied m reply_at (committed_of fronts)
+each-replied m reply_at keeps good opening contents fronts kept once =
+    walk m reply_at (committed_of fronts) (λ caller. 0) (λ caller.
     let p = once.each caller in
     record {
       list = p.replies;

@@ -1,6 +1,7 @@
 pub mod Tags
 pub mod Rounds
 pub mod Laws
+pub mod Plan
 pub mod Played
 pub mod Replied
 pub mod Serial

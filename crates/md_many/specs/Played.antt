@@ -1,11 +1,11 @@
 -- What the rounds of callers come to: each line once.
-use Rattle.std.specs.Prelude.{◌≡◌, ◌+◌, ◌-◌, ◌*◌, ℕ, Bool, if◌then◌else◌, Option, List, [], ◌∷◌, length, map, flat_map}
-use Rattle.md_history.specs.declared.acts.Act.{Act}
+use Rattle.std.specs.Prelude.{◌≡◌, ◌≤◌, ◌+◌, ◌-◌, ◌*◌, ℕ, Bool, if◌then◌else◌, List, [], ◌∷◌, length, map, flat_map}
 use Rattle.md_history.specs.declared.entries.Entry.{Entry}
 use Rattle.md_history.specs.State.{State}
 use Rattle.md_history.specs.History.{AllDecided}
 use Rattle.md_history.specs.Front.{Front, LegalFrom, committed_in, replay_of}
 use Rattle.md_many_attempts.specs.Lines.{AreLines}
+use Rattle.md_many_attempts.specs.Meaning.{Meaning}
 use Rattle.md_many.specs.Rounds.{of_caller}
 
 -- the committed entries of fronts, one front after another
@@ -27,23 +27,26 @@ tags_of es = map (λ (e : Entry). e.tag) es
 
 -- The entries with a caller's tags are its first n lines, each once and in order, and with the replies that are kept of
 -- it.
-pub record HasPlayedAll {B R : Type 0} (did : B → List Act → R → Type 0) (body_at : ℕ → ℕ → Option B)
-    (keeps : ℕ → List R → Type 0) (caller n : ℕ) (es : List Entry) : Type 0 where
+pub record HasPlayedAll {B R : Type 0} (m : Meaning B R) (keeps : ℕ → List R → Type 0) (caller n : ℕ) (es : List Entry)
+    : Type 0 where
   pub replies : List R
   pub kept : keeps caller replies
   pub count : length replies ≡ n
-  pub lines : AreLines did body_at caller (of_caller caller es) replies 0
+  pub lines : AreLines m caller (of_caller caller es) replies 0
 
 -- The committed entries of the fronts are the callers' lines, each once, each caller's in order, with the replies that
 -- are kept; each front is decided, and legal from the state that those before it leave; the contents are what they
 -- leave, and are good for the tags of the entries.
-pub record EachLineOnce {B R : Type 0} (did : B → List Act → R → Type 0) (body_at : ℕ → ℕ → Option B)
-    (line_count : ℕ → ℕ) (keeps : ℕ → List R → Type 0) (good : State → List ℕ → Type 0)
+pub record EachLineOnce {B R : Type 0} (m : Meaning B R) (keeps : ℕ → List R → Type 0) (good : State → List ℕ → Type 0)
     (opening : State) (fronts : List Front) (contents : State) : Type 0 where
   pub legal : AreDecidedAndLegal opening fronts
-  pub each : (caller : ℕ) → HasPlayedAll did body_at keeps caller (line_count caller) (committed_of fronts)
+  pub each : (caller : ℕ) → HasPlayedAll m keeps caller (m.line_count caller) (committed_of fronts)
   pub replay : contents ≡ state_after opening fronts
   pub stands : good contents (tags_of (committed_of fronts))
+
+-- the gate was told of each line of each caller
+abbrev pub IsToldOfEach : (ℕ → ℕ) → (ℕ → ℕ → Type 0) → Type 0
+IsToldOfEach line_count told = (caller line : ℕ) → 1 ≤ line → line ≤ line_count caller → told caller line
 
 -- how many lines are left, of the callers after the first so many, who have played so many lines each
 abbrev pub left_after : (ℕ → ℕ) → ℕ → List ℕ → ℕ

@@ -1,17 +1,17 @@
 -- A run as one thread makes it, and what lines come to that are done one after another.
 use Rattle.std.specs.Prelude.{◌≡◌, ◌/◌, ◌%◌, ◌^◌, ℕ, Option, List, [], ◌∷◌, ◌++◌}
 use Rattle.std.specs.List.{filter_map}
-use Rattle.md_history.specs.declared.acts.Act.{Act}
 use Rattle.md_history.specs.declared.entries.Entry.{Entry}
 use Rattle.md_history.specs.State.{State, run, IsRight}
 use Rattle.md_history.specs.History.{acts_of}
+use Rattle.md_many_attempts.specs.Meaning.{Meaning}
 use Rattle.md_many.specs.Replied.{AreReplied}
 
 -- Entries as one thread does them, one after another, from a state: each did the line that its tag names, with the reply
 -- that is kept of the line; each operation has the reply that it has at its place; and they leave the other state.
-pub record IsSerialRun {B R : Type 0} (did : B → List Act → R → Type 0) (body_at : ℕ → ℕ → Option B)
-    (reply_at : ℕ → ℕ → Option R) (start : State) (es : List Entry) (end : State) : Type 0 where
-  pub lines : AreReplied did body_at reply_at es
+pub record IsSerialRun {B R : Type 0} (m : Meaning B R) (reply_at : ℕ → ℕ → Option R) (start : State) (es : List Entry)
+    (end : State) : Type 0 where
+  pub lines : AreReplied m reply_at es
   pub right : IsRight start (acts_of es)
   pub left : end ≡ run start (acts_of es)
 

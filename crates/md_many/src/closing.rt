@@ -1,18 +1,20 @@
 //! Rounds of callers whose engine is closed at their end.
 
-ghost use Rattle.std.specs.Prelude.{◌≡◌, ◌≤◌, [], ℕ, length, map, IfOk, OnOk};
+ghost use Rattle.std.specs.Prelude.{[], ℕ, map, IfOk, OnOk};
+ghost use Rattle.md_many_attempts.specs.Meaning.{meaning_of};
 ghost use Rattle.md_many.specs.Tags.{IsInterleaving};
-ghost use Rattle.md_many.specs.Laws.{AreLawful};
-ghost use Rattle.md_many.specs.Closed.{IsClosed};
-ghost use Rattle.md_many.specs.Course.{CanRun};
-ghost use Rattle.md_many.specs.Played.{EachLineOnce, committed_of, tags_of};
+ghost use Rattle.md_many.specs.Laws.{AreLawful, CanKeepAll, law_of};
+ghost use Rattle.md_many.specs.Closed.{IsClosed, HoldsAllLanes};
+ghost use Rattle.md_many.specs.Course.{CanPlay};
+ghost use Rattle.md_many.specs.Played.{EachLineOnce, IsToldOfEach, committed_of, tags_of};
 
 use crate::keepers::Keeper;
 use crate::laws::LawfulLines;
+use crate::playing::Play;
 use crate::rounds::play_open_rounds;
 use md_history::{Body, Contents, Engine, Front};
 use md_many_attempts::Gate;
-use std::alloc::{AllocError, Global};
+use std::alloc::AllocError;
 use std::thread::Threads;
 
 /// The result of rounds, beside the replies: the contents, and the fronts of the engines in order,
@@ -37,8 +39,7 @@ impl<E: Engine> OpenRounds<E> {
     /// Closes the engine, and returns its contents and all fronts. `AllocError` if memory runs out;
     /// then the contents are lost.
     pub fn close(self) -> Result<Rounds<E::Pass>, AllocError>
-        requires of { E.of self.engine self.pass }
-        requires all { (E.front self.pass).lanes ≡ E.lanes self.engine }
+        requires { HoldsAllLanes E.Engine self.engine self.pass }
         ensures { IfOk result (λ r. IsClosed (E.start self.engine)
             (map E.front self.fronts.items) (E.front self.pass)
             (map E.front r.fronts.items) r.contents) }
@@ -60,13 +61,9 @@ impl<E: Engine> OpenRounds<E> {
 /// `AllocError` if memory runs out, here, at the keeper or in an attempt of the engine. Then the
 /// engine has ended, and its contents are lost.
 pub fn play_rounds<R, E, L, G, K>(
-    rt: &R,
-    alloc: Global,
+    play: &Play<'_, R, L, G>,
     engine: E,
     pass: E::Pass,
-    lines: &L,
-    tries: u32,
-    gate: &G,
     keeper: &mut K,
 ) -> Result<Rounds<E::Pass>, AllocError>
 where
@@ -78,25 +75,21 @@ where
     G: Gate + Sync,
     K: Keeper<<L::B as Body>::Reply>,
     K::List: Send,
-    requires of { E.of engine pass }
-    requires fresh { E.fresh engine pass }
-    requires lanes { length (E.lanes engine) ≡ L.caller_count lines.now }
-    requires opening { E.start engine ≡ L.opening lines.now }
-    requires laws { AreLawful L.B.did L.B.makes (L.body_at lines.now) (L.good lines.now)
-        (L.suits lines.now) (L.opening lines.now) (L.cost lines.now) (L.most lines.now) }
-    requires runs { CanRun L.B.fits (L.body_at lines.now) (L.cost lines.now) (L.most lines.now)
-        (E.start engine) (E.limits engine) }
-    requires keeper { (c line : ℕ) (r : L.B.Reply) → L.suits lines.now c line r
-        → K.can_keep keeper.old c line r }
+    requires engine { CanPlay E.Engine (meaning_of L.B.Body L.Lines play.now.lines.now)
+        (law_of L.LawfulLines.own play.now.lines.now) engine pass }
+    requires laws { AreLawful (meaning_of L.B.Body L.Lines play.now.lines.now)
+        (law_of L.LawfulLines.own play.now.lines.now) }
+    requires keeper { CanKeepAll (L.suits play.now.lines.now) (K.can_keep keeper.old) }
     requires empty { (caller : ℕ) → K.keeps keeper.old caller [] }
-    ensures each_line_once { IfOk result (λ r. EachLineOnce L.B.did (L.body_at lines.now)
-        (L.line_count lines.now) (K.keeps keeper.new) (L.good lines.now) (L.opening lines.now)
+    ensures each_line_once { IfOk result (λ r. EachLineOnce
+        (meaning_of L.B.Body L.Lines play.now.lines.now) (K.keeps keeper.new)
+        (L.good play.now.lines.now) (L.opening play.now.lines.now)
         (map E.front r.fronts.items) r.contents) }
-    ensures gate { OnOk result ((caller line : ℕ) → 1 ≤ line
-        → line ≤ L.line_count lines.now caller → G.after_called gate.now caller line) }
-    ensures interleaving { IfOk result (λ r. IsInterleaving (L.line_count lines.now)
+    ensures gate { OnOk result (IsToldOfEach (L.line_count play.now.lines.now)
+        (G.after_called play.now.gate.now)) }
+    ensures interleaving { IfOk result (λ r. IsInterleaving (L.line_count play.now.lines.now)
         (tags_of (committed_of (map E.front r.fronts.items)))) }
 {
-    let rounds = play_open_rounds(rt, alloc, engine, pass, lines, tries, gate, keeper)?;
+    let rounds = play_open_rounds(play, engine, pass, keeper)?;
     rounds.close()
 }

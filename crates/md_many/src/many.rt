@@ -3,15 +3,17 @@
 ghost use Rattle.std.specs.Prelude.{◌≡◌, ◌≢◌, ◌≤◌, ◌++◌, ℕ, [], length, map, replicate, option_map};
 ghost use Rattle.std.specs.Prelude.{IfOk, OnOk};
 ghost use Rattle.md_many.specs.Tags.{IsInterleaving};
-ghost use Rattle.md_many.specs.Laws.{AllSuit, AreLawful};
-ghost use Rattle.md_many_attempts.specs.ByCaller.{at_caller, lists_in, line_at};
-ghost use Rattle.md_many.specs.Course.{CanRun};
-ghost use Rattle.md_many.specs.Played.{EachLineOnce, committed_of, tags_of};
+ghost use Rattle.md_many.specs.Laws.{AllSuit, AreLawful, law_of};
+ghost use Rattle.md_many_attempts.specs.ByCaller.{at_caller, HasList, lists_in, line_at};
+ghost use Rattle.md_many_attempts.specs.Meaning.{meaning_of};
+ghost use Rattle.md_many.specs.Course.{CanPlay};
+ghost use Rattle.md_many.specs.Played.{EachLineOnce, IsToldOfEach, committed_of, tags_of};
 ghost use Rattle.md_many.specs.Serial.{IsSerialRun};
 
 use crate::closing::play_rounds;
 use crate::keepers::Keeper;
 use crate::laws::LawfulLines;
+use crate::playing::Play;
 use md_history::{Body, Contents, Engine, Front};
 use md_many_attempts::Gate;
 use std::alloc::{AllocError, Global};
@@ -51,7 +53,7 @@ impl<R: Drop> Keeper<R> for ByCaller<R> {
 
     ghost can_keep = { λ k caller line r. (1 ≤ caller) × (caller ≤ length k.lists.items) };
 
-    ghost keeps = { λ k caller rs. at_caller [] (lists_in k.lists.items) caller ≡ rs };
+    ghost keeps = { λ k caller rs. HasList (lists_in k.lists.items) caller rs };
 
     fn keep(&mut self, caller: u32, done: u32, replies: Vec<R>) -> Result<(), AllocError>
         requires { AllSuit (λ line r. (1 ≤ caller) × (caller ≤ length self.old.lists.items))
@@ -109,29 +111,31 @@ where
     L::B: Send,
     <L::B as Body>::Reply: Send,
     G: Gate + Sync,
-    requires of { E.of engine pass }
-    requires fresh { E.fresh engine pass }
-    requires lanes { length (E.lanes engine) ≡ L.caller_count lines.now }
-    requires opening { E.start engine ≡ L.opening lines.now }
-    requires laws { AreLawful L.B.did L.B.makes (L.body_at lines.now) (L.good lines.now)
-        (L.suits lines.now) (L.opening lines.now) (L.cost lines.now) (L.most lines.now) }
-    requires runs { CanRun L.B.fits (L.body_at lines.now) (L.cost lines.now) (L.most lines.now)
-        (E.start engine) (E.limits engine) }
-    ensures each_line_once { IfOk result (λ m. EachLineOnce L.B.did (L.body_at lines.now)
-        (L.line_count lines.now) (λ caller rs. at_caller [] (lists_in m.replies.items) caller ≡ rs)
+    requires engine { CanPlay E.Engine (meaning_of L.B.Body L.Lines lines.now)
+        (law_of L.LawfulLines.own lines.now) engine pass }
+    requires laws { AreLawful (meaning_of L.B.Body L.Lines lines.now)
+        (law_of L.LawfulLines.own lines.now) }
+    ensures each_line_once { IfOk result (λ m. EachLineOnce
+        (meaning_of L.B.Body L.Lines lines.now) (HasList (lists_in m.replies.items))
         (L.good lines.now) (L.opening lines.now) (map E.front m.fronts.items) m.contents) }
-    ensures gate { OnOk result ((caller line : ℕ) → 1 ≤ line
-        → line ≤ L.line_count lines.now caller → G.after_called gate.now caller line) }
+    ensures gate { OnOk result (IsToldOfEach (L.line_count lines.now) (G.after_called gate.now)) }
     ensures interleaving { IfOk result (λ m. IsInterleaving (L.line_count lines.now)
         (tags_of (committed_of (map E.front m.fronts.items)))) }
-    ensures serial { IfOk result (λ m. IsSerialRun L.B.did (L.body_at lines.now)
+    ensures serial { IfOk result (λ m. IsSerialRun (meaning_of L.B.Body L.Lines lines.now)
         (line_at (lists_in m.replies.items)) (L.opening lines.now)
         (committed_of (map E.front m.fronts.items)) m.contents) }
 {
     let mut keeper = ByCaller {
         lists: empty_lists(alloc, lines.callers())?,
     };
-    let rounds = play_rounds(rt, alloc, engine, pass, lines, tries, gate, &mut keeper)?;
+    let play = Play {
+        rt,
+        alloc,
+        lines,
+        attempts: tries,
+        gate,
+    };
+    let rounds = play_rounds(&play, engine, pass, &mut keeper)?;
     Ok(Many {
         replies: keeper.lists,
         contents: rounds.contents,

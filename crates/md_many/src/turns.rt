@@ -6,6 +6,8 @@ ghost use Rattle.std.specs.Thread.{IsSync};
 ghost use Rattle.md_history.specs.Engine.{IsRising, Splits};
 ghost use Rattle.md_history.specs.Front.{Front as View};
 ghost use Rattle.md_many_attempts.specs.Lines.{AreFitting};
+ghost use Rattle.md_many_attempts.specs.Meaning.{meaning_of};
+ghost use Rattle.md_many_attempts.specs.Turns.{CanPlayTurn};
 ghost use Rattle.md_many.specs.Rounds.{AreWithin, PlaysTurns, replies_in};
 
 use md_history::{Body, Engine, pass_is_legal};
@@ -29,7 +31,7 @@ pub struct Shared<'a, R, E, L, G> {
     pub lines: &'a L,
     pub gate: &'a G,
     /// The most attempts of a turn.
-    pub tries: u32,
+    pub attempts: u32,
 }
 
 impl<R, E, L, G> Clone for Shared<'_, R, E, L, G> {
@@ -50,12 +52,11 @@ fn play_turn<E: Engine, L: Lines, G: Gate, T: ReplyList<<L::B as Body>::Reply>>(
     turn: Turn,
 ) -> Result<Turns<E::Pass, T>, AllocError>
     requires of { E.of engine.now pass }
-    requires fits { AreFitting L.B.fits (L.body_at lines.now) (E.start engine.now) }
-    requires done { turn.done ≤ L.line_count lines.now turn.caller }
+    requires turn { CanPlayTurn (meaning_of L.B.Body L.Lines lines.now) (E.start engine.now) turn }
     requires one { length (E.front pass).lanes ≡ 1 }
     ensures of { IfOk result (λ t. E.of engine.now t.pass) }
     ensures turns { IfOk result (λ t. (before : ℕ) → turn.caller ≡ before + 1
-        → PlaysTurns L.B.did (L.body_at lines.now) (G.after_called gate.now) before (turn.done ∷ [])
+        → PlaysTurns (meaning_of L.B.Body L.Lines lines.now) (G.after_called gate.now) before (turn.done ∷ [])
         (E.front pass) (E.front t.pass) (replies_in T.listed t.played.items)) }
 {
     let mut pass = pass;
@@ -82,11 +83,11 @@ where
     ensures of { IfOk result (λ t. E.of engine.now t.pass) }
     ensures turns { (old kept given : View) (before middle : ℕ) (low high : List ℕ)
         → Splits old kept given → IsRising old.lanes → middle ≡ before + length low
-        → IfOk first (λ t. PlaysTurns L.B.did (L.body_at lines.now) (G.after_called gate.now)
+        → IfOk first (λ t. PlaysTurns (meaning_of L.B.Body L.Lines lines.now) (G.after_called gate.now)
         before low kept (E.front t.pass) (replies_in T.listed t.played.items))
-        → IfOk second (λ t. PlaysTurns L.B.did (L.body_at lines.now) (G.after_called gate.now)
+        → IfOk second (λ t. PlaysTurns (meaning_of L.B.Body L.Lines lines.now) (G.after_called gate.now)
         middle high given (E.front t.pass) (replies_in T.listed t.played.items))
-        → IfOk result (λ t. PlaysTurns L.B.did (L.body_at lines.now) (G.after_called gate.now)
+        → IfOk result (λ t. PlaysTurns (meaning_of L.B.Body L.Lines lines.now) (G.after_called gate.now)
         before (low ++ high) old (E.front t.pass) (replies_in T.listed t.played.items)) }
 {
     let _ = lines;
@@ -140,12 +141,13 @@ where
     G: Gate + Sync,
     T: ReplyList<<L::B as Body>::Reply> + Send,
     requires of { E.of shared.engine.now pass }
-    requires fits { AreFitting L.B.fits (L.body_at shared.lines.now) (E.start shared.engine.now) }
+    requires fits { AreFitting (meaning_of L.B.Body L.Lines shared.lines.now)
+        (E.start shared.engine.now) }
     requires lanes { length done.now ≡ length (E.front pass).lanes }
     requires within { AreWithin (L.line_count shared.lines.now) before done.now }
     requires callers { before + length done.now < 2 ^ 32 }
     ensures of { IfOk result (λ t. E.of shared.entry.engine.now t.pass) }
-    ensures turns { IfOk result (λ t. PlaysTurns L.B.did (L.body_at shared.entry.lines.now)
+    ensures turns { IfOk result (λ t. PlaysTurns (meaning_of L.B.Body L.Lines shared.entry.lines.now)
         (G.after_called shared.entry.gate.now) before done.now
         (E.front pass) (E.front t.pass) (replies_in T.listed t.played.items)) }
 {
@@ -161,7 +163,7 @@ where
         let turn = Turn {
             caller: before + 1,
             done: done[0],
-            tries: shared.tries,
+            attempts: shared.attempts,
         };
         return play_turn(shared.alloc, engine, pass, lines, gate, turn);
     };
@@ -172,24 +174,26 @@ where
         move || -> Result<Turns<E::Pass, T>, AllocError>
             requires sync { IsSync R.row × IsSync G.row }
             requires of { E.of shared.engine.now pass }
-            requires fits { AreFitting L.B.fits (L.body_at shared.lines.now) (E.start shared.engine.now) }
+            requires fits { AreFitting (meaning_of L.B.Body L.Lines shared.lines.now)
+                (E.start shared.engine.now) }
             requires lanes { length low.now ≡ length (E.front pass).lanes }
             requires within { AreWithin (L.line_count shared.lines.now) before low.now }
             requires callers { before + length low.now < 2 ^ 32 }
             ensures of { IfOk result (λ t. E.of shared.entry.engine.now t.pass) }
-            ensures turns { IfOk result (λ t. PlaysTurns L.B.did (L.body_at shared.entry.lines.now)
+            ensures turns { IfOk result (λ t. PlaysTurns (meaning_of L.B.Body L.Lines shared.entry.lines.now)
                 (G.after_called shared.entry.gate.now) before low.entry.now
                 (E.front pass) (E.front t.pass) (replies_in T.listed t.played.items)) }
         { play_turns(shared, pass, before, low) },
         move || -> Result<Turns<E::Pass, T>, AllocError>
             requires sync { IsSync R.row × IsSync G.row }
             requires of { E.of shared.engine.now other }
-            requires fits { AreFitting L.B.fits (L.body_at shared.lines.now) (E.start shared.engine.now) }
+            requires fits { AreFitting (meaning_of L.B.Body L.Lines shared.lines.now)
+                (E.start shared.engine.now) }
             requires lanes { length high.now ≡ length (E.front other).lanes }
             requires within { AreWithin (L.line_count shared.lines.now) middle high.now }
             requires callers { middle + length high.now < 2 ^ 32 }
             ensures of { IfOk result (λ t. E.of shared.entry.engine.now t.pass) }
-            ensures turns { IfOk result (λ t. PlaysTurns L.B.did (L.body_at shared.entry.lines.now)
+            ensures turns { IfOk result (λ t. PlaysTurns (meaning_of L.B.Body L.Lines shared.entry.lines.now)
                 (G.after_called shared.entry.gate.now) middle high.entry.now
                 (E.front other) (E.front t.pass) (replies_in T.listed t.played.items)) }
         { play_turns(shared, other, middle, high) },

@@ -1,13 +1,13 @@
 -- What was played from one front to a second, and from there to a third.
-use Rattle.std.proofs.Common.{◌≡◌, ◌+◌, ℕ, Option, List, [], ◌∷◌, ◌++◌, length, sym, ap, subst, ◌∙◌, append_assoc, arith}
+use Rattle.std.proofs.Common.{◌≡◌, ◌+◌, ◌≤◌, ℕ, List, [], ◌∷◌, ◌++◌, length, sym, ap, subst, ◌∙◌, append_assoc, arith}
 use Rattle.std.proofs.lemmas.List.{length-append}
 use Rattle.std.proofs.lemmas.List.Elements.{filter-append}
 use Rattle.std.specs.Prelude.{◌==◌}
-use Rattle.md_history.specs.declared.acts.Act.{Act}
 use Rattle.md_history.specs.declared.entries.Entry.{Entry}
 use Rattle.md_history.specs.Front.{Front, BeginsOn, of_lane}
 use Rattle.md_history.specs.FrontLaws.{prefix-trans, all_stay-trans}
 use Rattle.md_many_attempts.specs.Joined.{HasCommitted, entries_after}
+use Rattle.md_many_attempts.specs.Meaning.{Meaning}
 use Rattle.md_many_attempts.specs.Lines.{AreLines, PlaysLines}
 use Rattle.md_many_attempts.proofs.Joining.{AreDecided, entries-more, committed_pairs-append, decided-append}
 
@@ -42,20 +42,44 @@ committed-then lanes es ds f g h p q fated =
           ∙ ap (λ xs. f.mine lane ++ xs) (sym (filter-append (λ (e : Entry). lane == e.lane) es ds));
     }
 
-module _ {B R : Type 0} (did : B → List Act → R → Type 0) (body_at : ℕ → ℕ → Option B) (caller : ℕ) where
-  pub lines-then : (es ds : List Entry) (rs ss : List R) (n m : ℕ) → AreLines did body_at caller es rs n
-      → m ≡ n + length rs → AreLines did body_at caller ds ss m → AreLines did body_at caller (es ++ ds) (rs ++ ss) n
-  lines-then [] ds [] ss n m lines at more = subst (AreLines did body_at caller ds ss) (at ∙ omega arith) more
-  lines-then (e ∷ es) ds (r ∷ rs) ss n m lines at more =
-      (lines.0, lines-then es ds rs ss (n + 1) m lines.1 (at ∙ omega arith) more)
-  lines-then [] ds (r ∷ rs) ss n m lines at more = absurd lines
-  lines-then (e ∷ es) ds [] ss n m lines at more = absurd lines
+-- attempts follow attempts
+pub attempts-then : (lanes : List ℕ) (es ds : List Entry) (f g h : Front) (most : ℕ) → HasCommitted lanes es f g
+    → HasCommitted lanes ds g h → length g.known ≡ length g.seen → length (entries_after (length g.seen) lanes h) ≤ most
+    → length (entries_after (length f.seen) lanes h) ≤ length (entries_after (length f.seen) lanes g) + most
+attempts-then lanes es ds f g h most p q fated more =
+    let before : length g.seen ≡ length f.seen + length p.begins.seen.rest =
+    ap length p.begins.seen.is ∙ length-append f.seen p.begins.seen.rest in
+    let is = entries-more (length f.seen) lanes g h fated q.begins.seen q.begins.known (omega arith) p.decided in
+    omega (
+      arith,
+      more,
+      ap length is,
+      length-append (entries_after (length f.seen) lanes g) (entries_after (length g.seen) lanes h),
+    )
 
-  pub plays-then : (n m : ℕ) (lanes : List ℕ) (f g h : Front) (rs ss : List R)
-      → PlaysLines did body_at caller n lanes f g rs → m ≡ n + length rs → PlaysLines did body_at caller m lanes g h ss
-      → length g.known ≡ length g.seen → PlaysLines did body_at caller n lanes f h (rs ++ ss)
-  plays-then n m lanes f g h rs ss p at q fated = record {
-    entries = p.entries ++ q.entries;
-    commits = committed-then lanes p.entries q.entries f g h p.commits q.commits fated;
-    lines = lines-then p.entries q.entries rs ss n m p.lines at q.lines;
-  }
+module _ {B R : Type 0} (m : Meaning B R) (caller : ℕ) where
+  pub lines-then : (es ds : List Entry) (rs ss : List R) (n next : ℕ) → AreLines m caller es rs n
+      → next ≡ n + length rs → AreLines m caller ds ss next → AreLines m caller (es ++ ds) (rs ++ ss) n
+  lines-then [] ds [] ss n next lines at more = subst (AreLines m caller ds ss) (at ∙ omega arith) more
+  lines-then (e ∷ es) ds (r ∷ rs) ss n next lines at more =
+      (lines.0, lines-then es ds rs ss (n + 1) next lines.1 (at ∙ omega arith) more)
+  lines-then [] ds (r ∷ rs) ss n next lines at more = absurd lines
+  lines-then (e ∷ es) ds [] ss n next lines at more = absurd lines
+
+  module _ (n next : ℕ) (f g h : Front) (rs ss : List R) (p : PlaysLines m caller n f.lanes f g rs) (same : g.lanes ≡ f.lanes)
+      (q : PlaysLines m caller next g.lanes g h ss) (fated : length g.known ≡ length g.seen) where
+    later : HasCommitted f.lanes q.entries g h
+    later = subst (λ ls. HasCommitted ls q.entries g h) same q.commits
+
+    pub plays-then : next ≡ n + length rs → PlaysLines m caller n f.lanes f h (rs ++ ss)
+    plays-then at = record {
+      entries = p.entries ++ q.entries;
+      commits = committed-then f.lanes p.entries q.entries f g h p.commits later fated;
+      lines = lines-then p.entries q.entries rs ss n next p.lines at q.lines;
+    }
+
+    pub attempted-then : (most : ℕ) → length (entries_after (length g.seen) g.lanes h) ≤ most
+        → length (entries_after (length f.seen) f.lanes h) ≤ length (entries_after (length f.seen) f.lanes g) + most
+    attempted-then most more =
+        attempts-then f.lanes p.entries q.entries f g h most p.commits later fated
+        (subst (λ ls. length (entries_after (length g.seen) ls h) ≤ most) same more)

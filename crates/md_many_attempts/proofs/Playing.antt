@@ -14,6 +14,7 @@ use Rattle.md_history.specs.FrontLaws.{begins-self, begins-trans}
 use Rattle.md_history.specs.Attempt.{Commits, Stops, NoneOrAborted}
 use Rattle.md_many_attempts.specs.Tags.{tag_of}
 use Rattle.md_many_attempts.specs.Joined.{HasCommitted, entries_after}
+use Rattle.md_many_attempts.specs.Meaning.{Meaning}
 use Rattle.md_many_attempts.specs.Lines.{IsLine, AreLines, PlaysLines}
 use Rattle.md_many_attempts.proofs.Joining.{AreDecided, entries-more, entries-none, committed_pairs-append, decided-append}
 
@@ -60,7 +61,7 @@ pub record HasAttempted (tried : ℕ) (old new : Front) : Type 0 where
   pub pending : new.pending ≡ old.pending
   pub few : length (entries_after (length old.seen) old.lanes new) ≤ tried
 
-attempted-none : (f : Front) → HasAttempted 0 f f
+pub attempted-none : (f : Front) → HasAttempted 0 f f
 attempted-none f = record { lanes = refl; pending = refl; few = omega (arith, ap length (entries-none f.lanes f.seen f.known)) }
 
 -- nothing is committed yet
@@ -138,33 +139,31 @@ module _ (tried : ℕ) (es : List Entry) (f g h : Front) (a : HasAttempted tried
       )
 
 -- one line more
-pub lines-push : {B R : Type 0} (did : B → List Act → R → Type 0)
-    (body_at : ℕ → ℕ → Option B) (caller n m : ℕ) (es : List Entry) (rs : List R) (e : Entry) (r : R)
-    → AreLines did body_at caller es rs n → m ≡ n + length rs + 1 → IsLine did body_at caller m e r
-    → AreLines did body_at caller (es ++ e ∷ []) (rs ++ r ∷ []) n
-lines-push did body_at caller n m [] [] e r lines at is =
-    (subst (λ k. IsLine did body_at caller k e r) (at ∙ omega arith) is, tt)
-lines-push did body_at caller n m [] (s ∷ rs) e r lines at is = absurd lines
-lines-push did body_at caller n m (d ∷ es) [] e r lines at is = absurd lines
-lines-push did body_at caller n m (d ∷ es) (s ∷ rs) e r lines at is =
-    (lines.0, lines-push did body_at caller (n + 1) m es rs e r lines.1 (at ∙ omega arith) is)
+pub lines-push : {B R : Type 0} (m : Meaning B R) (caller n line : ℕ) (es : List Entry) (rs : List R) (e : Entry) (r : R)
+    → AreLines m caller es rs n → line ≡ n + length rs + 1 → IsLine m caller line e r
+    → AreLines m caller (es ++ e ∷ []) (rs ++ r ∷ []) n
+lines-push m caller n line [] [] e r lines at is = (subst (λ k. IsLine m caller k e r) (at ∙ omega arith) is, tt)
+lines-push m caller n line [] (s ∷ rs) e r lines at is = absurd lines
+lines-push m caller n line (d ∷ es) [] e r lines at is = absurd lines
+lines-push m caller n line (d ∷ es) (s ∷ rs) e r lines at is =
+    (lines.0, lines-push m caller (n + 1) line es rs e r lines.1 (at ∙ omega arith) is)
 
 -- a caller's lines after its first n were played, in so many attempts
-pub record HasPlayed {B R : Type 0} (did : B → List Act → R → Type 0)
-    (body_at : ℕ → ℕ → Option B) (caller n tried : ℕ) (old new : Front) (replies : List R) : Type 0 where
-  pub plays : PlaysLines did body_at caller n old.lanes old new replies
+pub record HasPlayed {B R : Type 0} (m : Meaning B R) (caller n tried : ℕ) (old new : Front) (replies : List R)
+    : Type 0 where
+  pub plays : PlaysLines m caller n old.lanes old new replies
   pub attempted : HasAttempted tried old new
 
-module _ {B R : Type 0} (did : B → List Act → R → Type 0) (body_at : ℕ → ℕ → Option B) (caller n : ℕ) (f : Front) where
-  pub played-none : HasPlayed did body_at caller n 0 f f []
+module _ {B R : Type 0} (m : Meaning B R) (caller n : ℕ) (f : Front) where
+  pub played-none : HasPlayed m caller n 0 f f []
   played-none = record {
     plays = record { entries = []; commits = committed-none f; lines = tt };
     attempted = attempted-none f;
   }
 
-  pub played-stopped : (tried tag : ℕ) (g h : Front) (rs : List R) → HasPlayed did body_at caller n tried f g rs
+  pub played-stopped : (tried tag : ℕ) (g h : Front) (rs : List R) → HasPlayed m caller n tried f g rs
       → length g.known ≡ length g.seen → Stops tag g h
-      → HasPlayed did body_at caller n (tried + 1) f h rs
+      → HasPlayed m caller n (tried + 1) f h rs
   played-stopped tried tag g h rs p fated s =
       let more = attempted-stopped tried p.plays.entries f g h p.attempted p.plays.commits fated tag s in
       record {
@@ -173,16 +172,16 @@ module _ {B R : Type 0} (did : B → List Act → R → Type 0) (body_at : ℕ �
       }
 
   pub played-more : (tried line : ℕ) (b : B) (r : R) (g h : Front) (rs : List R)
-      → HasPlayed did body_at caller n tried f g rs → length g.known ≡ length g.seen
-      → line ≡ n + length rs + 1 → Some b ≡ body_at caller line → Commits (did b) (tag_of caller line) r g h
-      → HasPlayed did body_at caller n (tried + 1) f h (rs ++ r ∷ [])
+      → HasPlayed m caller n tried f g rs → length g.known ≡ length g.seen
+      → line ≡ n + length rs + 1 → Some b ≡ m.body_at caller line → Commits (m.did b) (tag_of caller line) r g h
+      → HasPlayed m caller n (tried + 1) f h (rs ++ r ∷ [])
   played-more tried line b r g h rs p fated at there s =
-      let more = attempted-more tried p.plays.entries f g h p.attempted p.plays.commits fated (did b) (tag_of caller line) r s in
+      let more = attempted-more tried p.plays.entries f g h p.attempted p.plays.commits fated (m.did b) (tag_of caller line) r s in
       record {
         plays = record {
           entries = p.plays.entries ++ s.entry ∷ [];
           commits = more.1;
-          lines = lines-push did body_at caller n line p.plays.entries rs s.entry r p.plays.lines at
+          lines = lines-push m caller n line p.plays.entries rs s.entry r p.plays.lines at
               (record { tagged = s.tagged; body = b; there = sym there; did_it = s.did_it });
         };
         attempted = subst (λ k. HasAttempted k f h) (omega arith) more.0;

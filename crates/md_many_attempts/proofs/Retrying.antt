@@ -7,6 +7,7 @@ use Rattle.md_history.specs.declared.entries.Entry.{Entry}
 use Rattle.md_history.specs.declared.entries.Fate.{Fate}
 use Rattle.md_history.specs.Front.{Front, BeginsOn, own_after}
 use Rattle.md_history.specs.FrontLaws.{begins-self, begins-trans}
+use Rattle.md_history.specs.declared.engines.Engine.{Ghosts as EngineWords}
 use Rattle.md_history.specs.declared.stops.Shown.{Shown}
 use Rattle.md_history.specs.declared.stops.Limit.{Limit as Which}
 use Rattle.md_history.specs.declared.stops.Stop.{Stop}
@@ -14,8 +15,10 @@ use Rattle.md_history.specs.declared.stops.Stop.TheVariants.{Conflict, Limit, No
 use Rattle.md_history.specs.declared.stops.Attempt.{Attempt}
 use Rattle.md_history.specs.declared.stops.Attempt.TheVariants.{Committed as Done, Stopped}
 use Rattle.md_history.specs.Attempt.{Commits, Stops, NoneOrAborted, IsCounted, IsStopCounted, IfCommitted, IfStopped}
+use Rattle.md_history.specs.Counts.{IsSmall}
+use Rattle.md_history.specs.Engine.{IsNoConflict, bounds_in}
 use Rattle.md_many_attempts.specs.Joined.{entries_after}
-use Rattle.md_many_attempts.specs.Until.{AreAborted, AllStop, CommitsAtLast, IsEndOfTries, MeetsConflict}
+use Rattle.md_many_attempts.specs.Until.{AreAborted, AllStop, CommitsAtLast, IsEndOfAttempts, MayStop, MeetsConflict}
 use Rattle.md_many_attempts.proofs.Joining.{AreDecided, entries-more, entries-none}
 
 -- a conflict isn't a want of memory
@@ -55,13 +58,13 @@ conflict-began (Stopped (Limit limit)) begun begun' met counted = absurd met
 conflict-began (Stopped NoMemory) begun begun' met counted = absurd met
 
 -- an attempt after so many others that ends them, and that it began one at most
-pub ends-tries : {R : Type 0} (a : Attempt R) (first tried tries begun begun' : ℕ) → (MeetsConflict a → ⊥)
-    → begun ≡ first + tried → tried < tries → IsCounted a begun begun' → IsEndOfTries a tries first begun'
-ends-tries (Done r) first tried tries begun begun' not was few counted = (omega arith, omega arith)
-ends-tries (Stopped (Conflict shown)) first tried tries begun begun' not was few counted = absurd (not tt)
-ends-tries (Stopped (Limit limit)) first tried tries begun begun' not was few counted =
+pub ends-attempts : {R : Type 0} (a : Attempt R) (first tried most begun begun' : ℕ) → (MeetsConflict a → ⊥)
+    → begun ≡ first + tried → tried < most → IsCounted a begun begun' → IsEndOfAttempts a most first begun'
+ends-attempts (Done r) first tried most begun begun' not was few counted = (omega arith, omega arith)
+ends-attempts (Stopped (Conflict shown)) first tried most begun begun' not was few counted = absurd (not tt)
+ends-attempts (Stopped (Limit limit)) first tried most begun begun' not was few counted =
     (omega (arith, counted.0), omega (arith, counted.1))
-ends-tries (Stopped NoMemory) first tried tries begun begun' not was few counted =
+ends-attempts (Stopped NoMemory) first tried most begun begun' not was few counted =
     (omega (arith, counted.0), omega (arith, counted.1))
 
 pub began-one : {R : Type 0} (a : Attempt R) (begun begun' : ℕ) → IsCounted a begun begun' → begun' ≤ begun + 1
@@ -159,3 +162,12 @@ module _ (tag n : ℕ) (f g h : Front) (all : AllStop tag n f g) where
       → IfStopped a (λ _. AllStop tag m f h)
   stop-end (Done r) m low _ = tt
   stop-end (Stopped s) m low h = stop-more m low h
+
+-- what may stop an attempt, by its three parts
+pub may-stop : {E P R : Type 0} (e : EngineWords E P) (engine : E) (makes : List Act → Type 0) (old : P) (a : Attempt R)
+    → IfStopped a (e.may_stop engine) → ((e.front old).lanes ≡ e.lanes engine → IfStopped a IsNoConflict)
+    → (e.fresh engine old → 1 ≤ (e.limits engine).tries
+    → IsSmall (bounds_in (e.limits engine)) makes (e.start engine) → IfStopped a (λ s. s ≡ NoMemory))
+    → IfStopped a (MayStop e engine makes old)
+may-stop e engine makes old (Done r) may alone small = tt
+may-stop e engine makes old (Stopped s) may alone small = record { may_stop = may; alone = alone; small = small }

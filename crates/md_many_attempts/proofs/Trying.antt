@@ -1,4 +1,4 @@
--- One try more of a turn.
+-- One attempt more of a turn.
 use Rattle.std.proofs.Common.{◌≡◌, ◌+◌, ◌<◌, ◌≤◌, ℕ, Option, Some, None, Result, Ok, Err, arith, sym, ◌∙◌, subst, inl, inr}
 use Rattle.std.specs.Prelude.{IfSome, IfNone, OnErr}
 use Rattle.std.proofs.lemmas.Bool.{cases_eq}
@@ -7,9 +7,9 @@ use Rattle.md_history.specs.declared.stops.Stop.TheVariants.{NoMemory}
 use Rattle.md_history.specs.Attempt.{IsStopCounted}
 use Rattle.md_many_attempts.specs.declared.attempts.Turn.{Turn}
 use Rattle.md_many_attempts.specs.declared.attempts.End.{End}
-use Rattle.md_many_attempts.specs.declared.attempts.End.TheVariants.{Lines, Tries, Limit, Conflicts}
+use Rattle.md_many_attempts.specs.declared.attempts.End.TheVariants.{Lines, Attempts, Limit, Conflicts}
 use Rattle.md_many_attempts.specs.Turns.{EndsBy}
-use Rattle.md_many_attempts.specs.Tried.{EndsOn}
+use Rattle.md_many_attempts.specs.Steps.{EndsOn}
 use Rattle.md_many_attempts.proofs.Retrying.{no_conflict, no_limit, conflict_counted}
 
 -- what is so of each line up to one, and of the next
@@ -35,7 +35,7 @@ on-err (Err e) P so = so
 -- a turn isn't ended for a reason if memory ran out
 pub other-end : (s : Stop) (conflicts : ℕ) (end : End) → EndsOn s conflicts end → s ≡ NoMemory → ⊥
 other-end s conflicts Lines on none = on
-other-end s conflicts Tries on none = on
+other-end s conflicts Attempts on none = on
 other-end s conflicts (Limit limit) on none = no_limit (sym on ∙ none)
 other-end s conflicts Conflicts on none = no_conflict (sym on.0.1 ∙ none)
 
@@ -78,7 +78,7 @@ pub ends-on : (line_count : ℕ → ℕ) (may_stop : Stop → Type 0) (turn : Tu
     → EndsOn s conflicts end → may_stop s → IsStopCounted s last last'
     → EndsBy line_count may_stop turn lines first last' end
 ends-on line_count may_stop turn s Lines lines conflicts tried first last last' few counted on may more = absurd on
-ends-on line_count may_stop turn s Tries lines conflicts tried first last last' few counted on may more = absurd on
+ends-on line_count may_stop turn s Attempts lines conflicts tried first last last' few counted on may more = absurd on
 ends-on line_count may_stop turn s (Limit limit) lines conflicts tried first last last' few counted on may more =
     subst may_stop on may
 ends-on line_count may_stop turn s Conflicts lines conflicts tried first last last' few counted on may more =

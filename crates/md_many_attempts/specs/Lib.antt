@@ -1,8 +1,9 @@
 pub mod Tags
+pub mod Meaning
 pub mod Joined
 pub mod Lines
 pub mod Turns
-pub mod Tried
+pub mod Steps
 pub mod Until
 pub mod ByCaller
 pub mod LineLists

@@ -1,27 +1,78 @@
--- How many attempts a caller makes in a turn, and when it ends.
-use Rattle.std.specs.Prelude.{◌≡◌, ◌≤◌, ◌+◌, ◌-◌, ℕ, min}
+-- A caller's turn: what it asks for, what it leaves, and when it ends.
+use Rattle.std.specs.Prelude.{◌≡◌, ◌<◌, ◌≤◌, ◌+◌, ◌-◌, ◌^◌, ℕ, min, List, [], length, Vec, vec_capacity, Result, IfOk, OnErr}
+use Rattle.std.specs.declared.alloc.AllocError.{AllocError}
+use Rattle.std.specs.declared.alloc.Global.{Global}
+use Rattle.md_history.specs.declared.engines.Engine.{Ghosts as EngineWords}
 use Rattle.md_history.specs.declared.stops.Shown.{Shown}
 use Rattle.md_history.specs.declared.stops.Stop.{Stop}
 use Rattle.md_history.specs.declared.stops.Stop.TheVariants as stop
+use Rattle.md_history.specs.State.{State}
+use Rattle.md_history.specs.Engine.{bounds_in}
 use Rattle.md_many_attempts.specs.declared.attempts.Turn.{Turn}
 use Rattle.md_many_attempts.specs.declared.attempts.End.{End}
-use Rattle.md_many_attempts.specs.declared.attempts.End.TheVariants.{Lines, Tries, Limit, Conflicts}
+use Rattle.md_many_attempts.specs.declared.attempts.End.TheVariants.{Lines, Attempts, Limit, Conflicts}
 use Rattle.md_many_attempts.specs.declared.attempts.TheConstants.{MOST_CONFLICTS}
+use Rattle.md_many_attempts.specs.Joined.{entries_after}
+use Rattle.md_many_attempts.specs.Lines.{AreFitting, IsSmallLine, PlaysLines, StopsForMemory}
+use Rattle.md_many_attempts.specs.Meaning.{Meaning}
 
 -- the most lines that a caller can play in a turn
-abbrev pub most_lines : (ℕ → ℕ) → Turn → ℕ
-most_lines line_count turn = min turn.tries (line_count turn.caller - turn.done)
+abbrev pub most_lines : {B R : Type 0} → Meaning B R → Turn → ℕ
+most_lines m turn = min turn.attempts (m.line_count turn.caller - turn.done)
 
--- a pass began an attempt at least for each line that was played, and no more than the turn's tries
-pub record IsWithinTries (turn : Turn) (played begun begun' : ℕ) : Type 0 where
+-- a turn can be played over a store that begins in a state: its lines may run there, and the caller has played no more
+-- lines than it has
+pub record CanPlayTurn {B R : Type 0} (m : Meaning B R) (start : State) (turn : Turn) : Type 0 where
+  pub fits : AreFitting m start
+  pub done : turn.done ≤ m.line_count turn.caller
+
+-- a list is empty, and has room for a reply to each line that the turn can play
+pub record IsRoomFor {B R : Type 0} (m : Meaning B R) (turn : Turn) (replies : Vec R Global) : Type 0 where
+  pub empty : replies.items ≡ []
+  pub room : most_lines m turn ≤ vec_capacity replies
+
+-- a pass is still of the engine, with the same lanes and the same attempts pending
+pub record HoldsAsBefore {E P : Type 0} (e : EngineWords E P) (engine : E) (old new : P) : Type 0 where
+  pub of : e.of engine new
+  pub lanes : (e.front new).lanes ≡ (e.front old).lanes
+  pub pending : (e.front new).pending ≡ (e.front old).pending
+
+-- a pass began an attempt at least for each line that was played, and no more than the turn has
+pub record IsWithinAttempts (turn : Turn) (played begun begun' : ℕ) : Type 0 where
   pub each : begun + played ≤ begun'
-  pub most : begun' ≤ begun + turn.tries
+  pub most : begun' ≤ begun + turn.attempts
 
--- Why a turn ended: the caller has no line left; the turn has no try left; the engine's limit may come; or so many
+-- From one state of a pass to another a turn was played, with these replies: the lanes committed the caller's next
+-- lines, and no more than there are; they made no more attempts than the turn has; and the gate was told of each line.
+pub record PlaysTurn {E P B R : Type 0} (e : EngineWords E P) (m : Meaning B R) (told : ℕ → ℕ → Type 0) (turn : Turn)
+    (old new : P) (replies : List R) : Type 0 where
+  pub lines : PlaysLines m turn.caller turn.done (e.front old).lanes (e.front old) (e.front new) replies
+  pub within : turn.done + length replies ≤ m.line_count turn.caller
+  pub few : turn.done + length replies < 2 ^ 32
+  pub attempts : length (entries_after (length (e.front old).seen) (e.front old).lanes (e.front new)) ≤ turn.attempts
+  pub begun : IsWithinAttempts turn (length replies) (e.begun old) (e.begun new)
+  pub gate : (line : ℕ) → turn.done < line → line ≤ turn.done + length replies → told turn.caller line
+
+-- a turn played so many lines at least: one, if the pass was fresh and its first line is small; and as many as it can,
+-- if attempts stop for memory alone
+pub record PlaysEnough {E P B R : Type 0} (e : EngineWords E P) (engine : E) (m : Meaning B R) (turn : Turn) (old : P)
+    (played : ℕ) : Type 0 where
+  pub first : e.fresh engine old → 1 ≤ (e.limits engine).tries
+      → IsSmallLine (bounds_in (e.limits engine)) m turn.caller (turn.done + 1) (e.start engine)
+      → 1 ≤ most_lines m turn → 1 ≤ played
+  pub steady : StopsForMemory (e.may_stop engine) → played ≡ most_lines m turn
+
+-- Why a turn ended: the caller has no line left; the turn has no attempt left; the engine's limit may come; or so many
 -- attempts that played no line met conflicts, which may come.
 abbrev pub EndsBy : (ℕ → ℕ) → (Stop → Type 0) → Turn → ℕ → ℕ → ℕ → End → Type 0
 EndsBy line_count may_stop turn played begun begun' Lines = turn.done + played ≡ line_count turn.caller
-EndsBy line_count may_stop turn played begun begun' Tries = begun' ≡ begun + turn.tries
+EndsBy line_count may_stop turn played begun begun' Attempts = begun' ≡ begun + turn.attempts
 EndsBy line_count may_stop turn played begun begun' (Limit limit) = may_stop (stop.Limit limit)
 EndsBy line_count may_stop turn played begun begun' Conflicts =
     (begun + played + MOST_CONFLICTS ≤ begun') × ((shown : Shown) × may_stop (stop.Conflict shown))
+
+-- of a turn that played so many lines, `Ok` says why it ended, and `Err` that the engine may run out of memory
+pub record EndsTurn {E P B R : Type 0} (e : EngineWords E P) (engine : E) (m : Meaning B R) (turn : Turn) (old new : P)
+    (played : ℕ) (result : Result End AllocError) : Type 0 where
+  pub end : IfOk result (EndsBy m.line_count (e.may_stop engine) turn played (e.begun old) (e.begun new))
+  pub no_memory : OnErr result (e.may_stop engine stop.NoMemory)

@@ -8,8 +8,8 @@ mod gates;
 mod line_lists;
 mod pauses;
 mod reply_lists;
+mod steps;
 mod tags;
-mod tries;
 mod until;
 
 pub use attempts::{End, MOST_CONFLICTS, Turn, attempt_line, attempt_lines};

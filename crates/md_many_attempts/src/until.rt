@@ -1,12 +1,8 @@
 //! Attempts at one body until it is committed.
 
-ghost use Rattle.std.specs.Prelude.{◌≡◌, ◌≤◌, ◌+◌, length, true, false};
-ghost use Rattle.md_history.specs.declared.stops.Shown.{Shown};
-ghost use Rattle.md_history.specs.Counts.{IsSmall};
-ghost use Rattle.md_history.specs.Front.{LegalFrom};
-ghost use Rattle.md_history.specs.Attempt.{IfCommitted, IfStopped};
-ghost use Rattle.md_history.specs.Engine.{bounds_in, IsNoConflict};
-ghost use Rattle.md_many_attempts.specs.Until.{AllStop, CommitsAtLast, IsEndOfTries, MeetsConflict};
+ghost use Rattle.std.specs.Prelude.{◌≡◌, ◌≤◌, length, true, false};
+ghost use Rattle.md_history.specs.Attempt.{IfStopped};
+ghost use Rattle.md_many_attempts.specs.Until.{IsAtomicAtLast, HasBegun, MayStop, MeetsConflict};
 
 use crate::pauses::pause;
 use md_history::{Attempt, Body, Engine, Stop, pass_is_legal};
@@ -20,12 +16,12 @@ fn is_conflict<R>(attempt: &Attempt<R>) -> bool
     matches!(attempt, Attempt::Stopped(Stop::Conflict(_)))
 }
 
-/// Attempts a body until it is committed, under one tag, which may be any number. `tries` is the
+/// Attempts a body until it is committed, under one tag, which may be any number. `most` is the
 /// most attempts: 1 or more, and `u32::MAX` for as many as it takes.
 ///
 /// It returns how the last attempt ended. `Committed` has the reply of the body: the entry of this
 /// attempt is the last of the history, and no other attempt was committed. `Stopped` means that the
-/// body took no effect. Its cause is a conflict only if `tries` attempts met one. A limit of the
+/// body took no effect. Its cause is a conflict only if `most` attempts met one. A limit of the
 /// engine, or running out of memory, ends the call at once. If the pass holds all lanes, it makes
 /// one attempt, which meets no conflict.
 ///
@@ -37,32 +33,21 @@ pub fn attempt_until_committed<E: Engine, B: Body>(
     pass: &mut E::Pass,
     tag: u64,
     body: &B,
-    tries: u32,
+    most: u32,
 ) -> Attempt<B::Reply>
     requires of { E.of engine.now pass.old }
     requires fits { B.fits body.now
         (length (E.start engine.now).maps) (length (E.start engine.now).queues) }
-    requires tries { 1 ≤ tries }
-    ensures committed { IfCommitted result (λ r.
-        CommitsAtLast (B.did body.now) tag tries r (E.front pass.old) (E.front pass.new)) }
-    ensures stopped { IfStopped result (λ _.
-        AllStop tag tries (E.front pass.old) (E.front pass.new)) }
-    ensures legal { LegalFrom (E.start engine.now) (E.front pass.new) }
+    requires most { 1 ≤ most }
+    ensures atomic { IsAtomicAtLast (B.did body.now) tag most (E.start engine.now) result
+        (E.front pass.old) (E.front pass.new) }
     ensures of { E.of engine.now pass.new }
-    ensures begun { IsEndOfTries result tries (E.begun pass.old) (E.begun pass.new) }
-    ensures again { E.begun pass.old + 2 ≤ E.begun pass.new
-        → (shown : Shown) × E.may_stop engine.now (Stop.Conflict shown) }
-    ensures may_stop { IfStopped result (E.may_stop engine.now) }
-    ensures alone { (E.front pass.old).lanes ≡ E.lanes engine.now → IfStopped result IsNoConflict }
-    ensures once { (E.front pass.old).lanes ≡ E.lanes engine.now
-        → E.begun pass.new ≤ E.begun pass.old + 1 }
-    ensures small { E.fresh engine.now pass.old → 1 ≤ (E.limits engine.now).tries
-        → IsSmall (bounds_in (E.limits engine.now)) (B.makes body.now) (E.start engine.now)
-        → IfStopped result (λ s. s ≡ Stop.NoMemory) }
+    ensures begun { HasBegun E.Engine engine.now most result pass.old pass.new }
+    ensures stops { IfStopped result (MayStop E.Engine engine.now (B.makes body.now) pass.old) }
 {
     pass_is_legal(engine, pass);
     let mut random = tag;
-    'attempts: for tried in 0..tries - 1 {
+    'attempts: for tried in 0..most - 1 {
         let end = engine.attempt(pass, tag, body);
         if !is_conflict(&end) {
             return end;

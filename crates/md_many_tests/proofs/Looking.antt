@@ -29,10 +29,22 @@ look-few n (a ∷ []) follows =
 look-few n (a ∷ b ∷ acts) follows = absurd follows.1
 
 -- their laws
-pub look-laws : {B : Type 0} (number : B → ℕ) (body_at : ℕ → ℕ → Option B)
-    → AreLawful (λ b acts r. Did (look (number b)) acts r) (λ b acts. Follows (look (number b)) acts) body_at
-    (λ s tags. s ≡ empty_state 0 1) (λ caller line r. IsSome (body_at caller line)) (empty_state 0 1) looking 1
-look-laws number body_at = record {
+pub look-laws : {B : Type 0} (number : B → ℕ) (fits : B → ℕ → ℕ → Type 0) (callers : ℕ) (line_count : ℕ → ℕ)
+    (body_at : ℕ → ℕ → Option B) → AreLawful (record {
+      did = λ b acts r. Did (look (number b)) acts r;
+      makes = λ b acts. Follows (look (number b)) acts;
+      fits = fits;
+      callers = callers;
+      line_count = line_count;
+      body_at = body_at;
+    }) (record {
+      opening = empty_state 0 1;
+      good = λ s tags. s ≡ empty_state 0 1;
+      suits = λ caller line r. IsSome (body_at caller line);
+      cost = looking;
+      most = 1;
+    })
+look-laws number fits callers line_count body_at = record {
   opens = refl;
   keeps = λ s tags caller line b acts r is there fresh did right.
       (look-leaves (number b) acts s did.follows ∙ is, rw there refl);

@@ -11,17 +11,30 @@ use std::alloc::{AllocError, AllocGlobal};
 use std::process::Abort;
 use std::sync::atomic::{AtomicU64, Ordering};
 
+// A turn at three lines, and what it comes to.
+#[derive(Drop)]
+struct Row {
+    // How the first four attempts stop.
+    stops: [Option<Stop>; 4],
+    // The most attempts of the turn.
+    most: u32,
+    // How the turn ends, after so many lines and so many attempts.
+    end: Result<End, AllocError>,
+    lines: u64,
+    attempts: u64,
+}
+
 // Plays three lines of caller 2; each line that is played has its own tag as reply and in the queue.
 // Returns how the turn ended, and how many entries and replies there are.
 fn play_three<R: Abort + AllocGlobal>(
     rt: &R,
-    attempts: &AtomicU64,
-    stops: &[Option<Stop>; 4],
-    tries: u32,
+    made: &AtomicU64,
+    stops: [Option<Stop>; 4],
+    most: u32,
     gate: &Counting,
 ) -> (Result<End, AllocError>, usize, usize) {
     let alloc = rt.alloc();
-    let (engine, mut pass) = Refusing::open(alloc, attempts, *stops).expect(rt, "memory");
+    let (engine, mut pass) = Refusing::open(alloc, made, stops).expect(rt, "memory");
     let lines = EachLine {
         callers: 2,
         lines: 3,
@@ -30,7 +43,7 @@ fn play_three<R: Abort + AllocGlobal>(
     let turn = Turn {
         caller: 2,
         done: 0,
-        tries,
+        attempts: most,
     };
     let mut replies = Vec::with_capacity(alloc, 3).expect(rt, "memory");
     let end = attempt_lines(&engine, &mut pass, &lines, turn, gate, &mut replies);
@@ -38,18 +51,18 @@ fn play_three<R: Abort + AllocGlobal>(
     (end, pass.pass.entries().len(), replies.len())
 }
 
-// The turn ends so, after so many lines and so many attempts.
-fn turn_ends<R: Abort + AllocGlobal>(
-    rt: &R,
-    stops: &[Option<Stop>; 4],
-    tries: u32,
-    end: Result<End, AllocError>,
-    played: u64,
-    attempts: u64,
-) {
+// The turn comes to what its row says.
+fn turn_ends<R: Abort + AllocGlobal>(rt: &R, row: Row) {
+    let Row {
+        stops,
+        most,
+        end,
+        lines,
+        attempts,
+    } = row;
     let made = AtomicU64::new(0);
     let gate = Counting::new(&made, 2);
-    let (found, entries, replies) = play_three(rt, &made, stops, tries, &gate);
+    let (found, entries, replies) = play_three(rt, &made, stops, most, &gate);
     let seen = [
         gate.before.get(),
         gate.after.get(),
@@ -60,40 +73,80 @@ fn turn_ends<R: Abort + AllocGlobal>(
     same(
         rt,
         &(found, seen, made, gate.right.get()),
-        &(end, [attempts, played, played, played], attempts, true),
+        &(end, [attempts, lines, lines, lines], attempts, true),
     );
 }
 
 #[test]
-fn attempts_end(rt: HostRuntime) {
-    let limit = Ok(End::Limit(Limit::Nodes));
-    turn_ends(&rt, &[None; 4], 9, Ok(End::Lines), 3, 3);
-    turn_ends(&rt, &[None; 4], 2, Ok(End::Tries), 2, 2);
-    turn_ends(
-        &rt,
-        &[CONFLICT, None, CONFLICT, None],
-        9,
-        Ok(End::Lines),
-        3,
-        5,
-    );
-    turn_ends(&rt, &[CONFLICT; 4], 3, Ok(End::Tries), 0, 3);
-    turn_ends(&rt, &[CONFLICT; 4], 5, Ok(End::Tries), 1, 5);
-    turn_ends(&rt, &[None, LIMIT, None, None], 9, limit, 1, 2);
-    turn_ends(
-        &rt,
-        &[None, CONFLICT, NO_MEMORY, None],
-        9,
-        Err(AllocError),
-        1,
-        3,
-    );
-    turn_ends(
-        &rt,
-        &[NO_MEMORY, None, None, None],
-        9,
-        Err(AllocError),
-        0,
-        1,
-    );
+fn turns_end_early(rt: HostRuntime) {
+    let rows = [
+        Row {
+            stops: [None, LIMIT, None, None],
+            most: 9,
+            end: Ok(End::Limit(Limit::Nodes)),
+            lines: 1,
+            attempts: 2,
+        },
+        Row {
+            stops: [None, CONFLICT, NO_MEMORY, None],
+            most: 9,
+            end: Err(AllocError),
+            lines: 1,
+            attempts: 3,
+        },
+        Row {
+            stops: [NO_MEMORY, None, None, None],
+            most: 9,
+            end: Err(AllocError),
+            lines: 0,
+            attempts: 1,
+        },
+    ];
+    for row in rows {
+        turn_ends(&rt, row);
+    }
+}
+
+#[test]
+fn turns_end_with_their_lines_or_attempts(rt: HostRuntime) {
+    let rows = [
+        Row {
+            stops: [None; 4],
+            most: 9,
+            end: Ok(End::Lines),
+            lines: 3,
+            attempts: 3,
+        },
+        Row {
+            stops: [None; 4],
+            most: 2,
+            end: Ok(End::Attempts),
+            lines: 2,
+            attempts: 2,
+        },
+        Row {
+            stops: [CONFLICT, None, CONFLICT, None],
+            most: 9,
+            end: Ok(End::Lines),
+            lines: 3,
+            attempts: 5,
+        },
+        Row {
+            stops: [CONFLICT; 4],
+            most: 3,
+            end: Ok(End::Attempts),
+            lines: 0,
+            attempts: 3,
+        },
+        Row {
+            stops: [CONFLICT; 4],
+            most: 5,
+            end: Ok(End::Attempts),
+            lines: 1,
+            attempts: 5,
+        },
+    ];
+    for row in rows {
+        turn_ends(&rt, row);
+    }
 }

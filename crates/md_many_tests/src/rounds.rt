@@ -11,11 +11,11 @@ use std::alloc::{AllocError, AllocGlobal, Global};
 use std::process::Abort;
 use std::thread::Threads;
 
-// The rounds of a caller with `count` lines that makes at most `tries` attempts in a turn.
+// The rounds of a caller with `count` lines that makes at most `attempts` attempts in a turn.
 fn one_caller<R: Abort + AllocGlobal + Threads + Sync>(
     rt: &R,
     count: u32,
-    tries: u32,
+    attempts: u32,
 ) -> Many<u64, PlainPass> {
     let alloc = rt.alloc();
     let (store, pass) = PlainStore::open(Contents::empty(alloc, 0, 1).expect(rt, "memory"));
@@ -24,7 +24,7 @@ fn one_caller<R: Abort + AllocGlobal + Threads + Sync>(
         lines: count,
         like: Look { number: 0 },
     };
-    run_many(rt, alloc, store, pass, &lines, tries, &FreeGate).expect(rt, "memory")
+    run_many(rt, alloc, store, pass, &lines, attempts, &FreeGate).expect(rt, "memory")
 }
 
 // Each of the caller's `count` lines has its tag as reply, and there are no others.
@@ -41,28 +41,28 @@ fn has_replies(rt: &impl Abort, many: &Many<u64, PlainPass>, count: u32) {
 fn has_fronts<R: Abort + AllocGlobal + Threads + Sync>(
     rt: &R,
     count: u32,
-    tries: u32,
+    attempts: u32,
     fronts: usize,
 ) {
-    let many = one_caller(rt, count, tries);
+    let many = one_caller(rt, count, attempts);
     has_replies(rt, &many, count);
-    let found = (count, tries, many.fronts.len());
-    same(rt, &found, &(count, tries, fronts));
+    let found = (count, attempts, many.fronts.len());
+    same(rt, &found, &(count, attempts, fronts));
 }
 
-// A round plays one line, and then a turn of at most so many tries. The store is renewed before the
-// next round, if the turn made as many attempts as it has tries. There is a front for each renewal,
-// and one for the end. A caller without lines leaves the store as it was.
+// A round plays one line, and then a turn of at most so many attempts. The store is renewed before
+// the next round, if the turn made all of them. There is a front for each renewal, and one for the
+// end. A caller without lines leaves the store as it was.
 #[test]
 fn one_caller_in_rounds(rt: HostRuntime) {
     has_fronts(&rt, 0, 1_000_000, 1);
     has_fronts(&rt, 1, 1_000_000, 1);
     has_fronts(&rt, 2, 1_000_000, 1);
     has_fronts(&rt, 40_000, 1_000_000, 1);
-    // A turn without lines, and turns without tries.
+    // A turn without lines, and turns without attempts.
     has_fronts(&rt, 1, 5, 1);
     has_fronts(&rt, 6, 0, 6);
-    // A batch makes at most 128 attempts. A turn goes on after a batch that had no try left.
+    // A batch makes at most 128 attempts. A turn goes on after a batch that had no attempt left.
     has_fronts(&rt, 129, 128, 1);
     has_fronts(&rt, 130, 128, 2);
     has_fronts(&rt, 129, 129, 1);

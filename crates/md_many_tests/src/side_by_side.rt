@@ -3,6 +3,7 @@
 ghost use Rattle.std.specs.Prelude.{◌≡◌, List, length, IfOk};
 ghost use Rattle.md_history.specs.Engine.{lanes_kept, lanes_given};
 ghost use Rattle.md_many_attempts.specs.Lines.{AreFitting, PlaysLines};
+ghost use Rattle.md_many_attempts.specs.Meaning.{meaning_of};
 
 use crate::compared::same;
 use crate::lines::EachLine;
@@ -22,20 +23,20 @@ fn play_own<E: Engine, L: Lines>(
     caller: u32,
 ) -> Result<E::Pass, AllocError>
     requires of { E.of engine.now pass }
-    requires fits { AreFitting L.B.fits (L.body_at lines.now) (E.start engine.now) }
+    requires fits { AreFitting (meaning_of L.B.Body L.Lines lines.now) (E.start engine.now) }
     ensures of { IfOk result (λ p. E.of engine.now p) }
     ensures lanes { IfOk result (λ p. (E.front p).lanes ≡ (E.front pass).lanes) }
     ensures lines { IfOk result (λ p.
-        (rs : List L.B.Reply) × PlaysLines L.B.did (L.body_at lines.now) caller 0
+        (rs : List L.B.Reply) × PlaysLines (meaning_of L.B.Body L.Lines lines.now) caller 0
         (E.front pass).lanes (E.front pass) (E.front p) rs) }
 {
-    let tries = lines.len(caller);
+    let attempts = lines.len(caller);
     let mut pass = pass;
-    let mut replies = Vec::with_capacity(alloc, tries as usize)?;
+    let mut replies = Vec::with_capacity(alloc, attempts as usize)?;
     let turn = Turn {
         caller,
         done: 0,
-        tries,
+        attempts,
     };
     attempt_lines(engine, &mut pass, lines, turn, &FreeGate, &mut replies)?;
     Ok(pass)
@@ -55,17 +56,17 @@ where
     L::B: Send,
     <L::B as Body>::Reply: Send,
     requires of { E.of engine.now pass }
-    requires fits { AreFitting L.B.fits (L.body_at lines.now) (E.start engine.now) }
+    requires fits { AreFitting (meaning_of L.B.Body L.Lines lines.now) (E.start engine.now) }
     ensures of { IfOk result (λ p. E.of engine.now p) }
     ensures lanes { IfOk result (λ p. (E.front p).lanes ≡ (E.front pass).lanes) }
     ensures alone { length (E.front pass).lanes ≡ 1 → IfOk result (λ p.
-        (rs : List L.B.Reply) × PlaysLines L.B.did (L.body_at lines.now) 1 0
+        (rs : List L.B.Reply) × PlaysLines (meaning_of L.B.Body L.Lines lines.now) 1 0
         (E.front pass).lanes (E.front pass) (E.front p) rs) }
     ensures first { ¬ (length (E.front pass).lanes ≡ 1) → IfOk result (λ p.
-        (rs : List L.B.Reply) × PlaysLines L.B.did (L.body_at lines.now) 1 0
+        (rs : List L.B.Reply) × PlaysLines (meaning_of L.B.Body L.Lines lines.now) 1 0
         (lanes_kept (E.front pass).lanes) (E.front pass) (E.front p) rs) }
     ensures second { ¬ (length (E.front pass).lanes ≡ 1) → IfOk result (λ p.
-        (rs : List L.B.Reply) × PlaysLines L.B.did (L.body_at lines.now) 2 0
+        (rs : List L.B.Reply) × PlaysLines (meaning_of L.B.Body L.Lines lines.now) 2 0
         (lanes_given (E.front pass).lanes) (E.front pass) (E.front p) rs) }
 {
     pass_is_legal(engine, &pass);
@@ -77,20 +78,20 @@ where
         rt,
         move || -> Result<E::Pass, AllocError>
             requires of { E.of engine.now pass }
-            requires fits { AreFitting L.B.fits (L.body_at lines.now) (E.start engine.now) }
+            requires fits { AreFitting (meaning_of L.B.Body L.Lines lines.now) (E.start engine.now) }
             ensures of { IfOk result (λ p. E.of engine.entry.now p) }
             ensures lanes { IfOk result (λ p. (E.front p).lanes ≡ (E.front pass).lanes) }
             ensures lines { IfOk result (λ p.
-                (rs : List L.B.Reply) × PlaysLines L.B.did (L.body_at lines.entry.now) 1 0
+                (rs : List L.B.Reply) × PlaysLines (meaning_of L.B.Body L.Lines lines.entry.now) 1 0
                 (E.front pass).lanes (E.front pass) (E.front p) rs) }
         { play_own(alloc, engine, pass, lines, 1) },
         move || -> Result<E::Pass, AllocError>
             requires of { E.of engine.now other }
-            requires fits { AreFitting L.B.fits (L.body_at lines.now) (E.start engine.now) }
+            requires fits { AreFitting (meaning_of L.B.Body L.Lines lines.now) (E.start engine.now) }
             ensures of { IfOk result (λ p. E.of engine.entry.now p) }
             ensures lanes { IfOk result (λ p. (E.front p).lanes ≡ (E.front other).lanes) }
             ensures lines { IfOk result (λ p.
-                (rs : List L.B.Reply) × PlaysLines L.B.did (L.body_at lines.entry.now) 2 0
+                (rs : List L.B.Reply) × PlaysLines (meaning_of L.B.Body L.Lines lines.entry.now) 2 0
                 (E.front other).lanes (E.front other) (E.front p) rs) }
         { play_own(alloc, engine, other, lines, 2) },
     );

@@ -30,12 +30,12 @@ fn put_until_committed<R: Abort + AllocGlobal>(
     rt: &R,
     attempts: &AtomicU64,
     stops: &[Option<Stop>; 4],
-    tries: u32,
+    most: u32,
 ) -> (Attempt<u64>, (usize, u64))
-    requires { 1 ≤ tries }
+    requires { 1 ≤ most }
 {
     let (engine, mut pass) = Refusing::open(rt.alloc(), attempts, *stops).expect(rt, "memory");
-    let end = attempt_until_committed(&engine, &mut pass, TAG, &Put { number: NUMBER }, tries);
+    let end = attempt_until_committed(&engine, &mut pass, TAG, &Put { number: NUMBER }, most);
     (end, last_of(pass.pass.entries()))
 }
 
@@ -44,18 +44,18 @@ fn put_until_committed<R: Abort + AllocGlobal>(
 fn body_ends<R: Abort + AllocGlobal>(
     rt: &R,
     stops: &[Option<Stop>; 4],
-    tries: u32,
+    most: u32,
     end: Option<Stop>,
     attempts: u64,
 )
-    requires { 1 ≤ tries }
+    requires { 1 ≤ most }
 {
     let (want, entries) = match end {
         None => (Attempt::Committed(NUMBER), 1),
         Some(stop) => (Attempt::Stopped(stop), 0),
     };
     let made = AtomicU64::new(0);
-    let (ended, last) = put_until_committed(rt, &made, stops, tries);
+    let (ended, last) = put_until_committed(rt, &made, stops, most);
     same(
         rt,
         &(ended, last, made.load(Ordering::SeqCst)),

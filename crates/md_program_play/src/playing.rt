@@ -1,6 +1,6 @@
 //! How a store is opened for callers, and how their scripts are played over it.
 
-ghost use Rattle.std.specs.Prelude.{◌≡◌, ◌≤◌, ◌*◌, ℕ, IfOk, OnOk, length, map};
+ghost use Rattle.std.specs.Prelude.{◌≡◌, ◌≤◌, ◌*◌, IfOk, OnOk, length, map};
 ghost use Rattle.md_words.specs.declared.limits.TheConstants.{MANY_BUCKETS};
 ghost use Rattle.md_words.specs.Layout.{HasNumbers};
 ghost use Rattle.md_book.specs.Book.{Book};
@@ -8,6 +8,7 @@ ghost use Rattle.md_book.specs.Stands.{StandsFor};
 ghost use Rattle.md_rounds.specs.OrderLines.{line_count_of};
 ghost use Rattle.md_rounds.specs.Replay.{IsPlayed};
 ghost use Rattle.md_many.specs.Closed.{ClosesTo};
+ghost use Rattle.md_many.specs.Played.{IsToldOfEach};
 ghost use Rattle.md_store.specs.Store.{IsPassOf, all_lanes, front_in, start_of};
 ghost use Rattle.md_program_play.specs.Opened.{IsOpenFor};
 
@@ -132,8 +133,7 @@ where
         (map front_in o.rounds.fronts.items) (front_in o.rounds.pass) (λ fronts contents.
         (book : Book) × StandsFor contents book
         × IsPlayed scripts.now fronts o.replies book)) }
-    ensures gate { OnOk result ((caller line : ℕ) → 1 ≤ line
-        → line ≤ line_count_of scripts.now caller → G.after_called gate.now caller line) }
+    ensures gate { OnOk result (IsToldOfEach (line_count_of scripts.now) (G.after_called gate.now)) }
 {
     let OpenStore { store, pass, tries } = opened;
     run_all_open(rt, alloc, store, pass, scripts, tries, gate)
@@ -161,8 +161,7 @@ where
     requires tries { 1 ≤ tries }
     ensures played { IfOk result (λ o. (book : Book) × StandsFor o.contents book
         × IsPlayed scripts.now (map front_in o.fronts.items) o.replies.replies book) }
-    ensures gate { OnOk result ((caller line : ℕ) → 1 ≤ line
-        → line ≤ line_count_of scripts.now caller → G.after_called gate.now caller line) }
+    ensures gate { OnOk result (IsToldOfEach (line_count_of scripts.now) (G.after_called gate.now)) }
 {
     let opened = open_store(alloc, scripts.callers(), scripts.total(), nodes, tries)?;
     let OpenStore { store, pass, tries } = opened;

@@ -21,9 +21,9 @@ use Rattle.md_orders.proofs.ByCaller.{length-list_of-le}
 use Rattle.md_many_attempts.specs.Tags.{tag_of}
 use Rattle.md_many.specs.Laws.{AreLawful, LineKeepsGood}
 use Rattle.md_many.proofs.TagLaws.{caller_of_tag, line_of_tag}
-use Rattle.md_rounds.specs.OrderLines.{did_command}
+use Rattle.md_rounds.specs.OrderLines.{order_meaning}
 use Rattle.md_rounds.specs.Replay.{no_orders}
-use Rattle.md_rounds.specs.Traded.{HasNone, AreDifferent, AreOfLines, HasTraded, MOST_NODES}
+use Rattle.md_rounds.specs.Traded.{HasNone, AreDifferent, AreOfLines, HasTraded, order_law}
 use Rattle.md_rounds.proofs.Names.{names_in, apart-step, few-step, may-take}
 use Rattle.md_rounds.proofs.Folding.{AreNamedBy}
 use Rattle.md_rounds.proofs.TradingDay.{are-a-day}
@@ -117,7 +117,7 @@ module _ (scripts : List (List Command)) (named : AreNamed scripts) (few : count
     abbrev can-have : ℕ → ℕ → BookReply → Type 0
     can-have caller line r = IsSomeAnd (at_line scripts caller line) (λ c. Suits (c, r))
 
-    keeps : LineKeepsGood did_command (at_line scripts) (HasTraded scripts) can-have
+    keeps : LineKeepsGood (order_meaning scripts) (HasTraded scripts) can-have
     keeps s tags caller line c acts r traded there fresh did right =
         let tag = tag_of caller line in
         let cs = traded.commands in
@@ -150,8 +150,7 @@ module _ (scripts : List (List Command)) (named : AreNamed scripts) (few : count
           subst (λ o. IsSomeAnd o (λ d. Suits (d, r))) (sym there) (subst (λ q. Suits (c, q)) (sym meets.reply) suits),
         )
 
-    pub order-laws : AreLawful did_command (λ c acts. Follows (script_of c) acts) (at_line scripts) (HasTraded scripts)
-        can-have no_orders command_bounds MOST_NODES
+    pub order-laws : AreLawful (order_meaning scripts) (order_law scripts)
     order-laws = record {
       opens = record { commands = []; lines = tt; different = tt; stands = none };
       keeps = keeps;

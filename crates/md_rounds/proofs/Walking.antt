@@ -12,14 +12,14 @@ use Rattle.md_book.specs.Book.{Book, empty_book, book_after}
 use Rattle.md_book.specs.Stands.{StandsFor}
 use Rattle.md_book.specs.Meets.{CommandsMeetTheBook}
 use Rattle.md_orders.specs.Records.{max_records}
-use Rattle.md_orders.specs.Scripts.{at_line, count_of, AreNamed}
+use Rattle.md_orders.specs.Scripts.{count_of, AreNamed}
 use Rattle.md_report_replies.specs.Replies.{reply_at}
 use Rattle.md_many.specs.Tags.{IsInterleaving}
 use Rattle.md_many.specs.Played.{committed_of, tags_of, EachLineOnce}
 use Rattle.md_many.specs.Replied.{IsReplied, AreReplied}
 use Rattle.md_many.proofs.Walking.{fronts-right, each-replied}
 use Rattle.md_rounds.specs.Kept.{HaveReplies}
-use Rattle.md_rounds.specs.OrderLines.{did_command, line_count_of}
+use Rattle.md_rounds.specs.OrderLines.{order_meaning, line_count_of}
 use Rattle.md_rounds.specs.Replay.{commands_of, DidEach, RepliedEach, IsPlayed, no_orders}
 use Rattle.md_rounds.specs.Traded.{AreOfLines, HasTraded}
 use Rattle.md_rounds.proofs.Names.{apart-none}
@@ -45,10 +45,10 @@ module _ (scripts : List (List Command)) (replies : List (List (Option BookReply
     pub did : DidEach es (commands_of scripts (tags_of es)) list
     pub replied : RepliedEach replies (tags_of es) list
 
-  walked : (es : List Entry) → AreReplied did_command (at_line scripts) (reply_at replies) es → Walked es
+  walked : (es : List Entry) → AreReplied (order_meaning scripts) (reply_at replies) es → Walked es
   walked [] all = record { list = []; did = tt; replied = tt }
   walked (e ∷ es) all =
-      let first : IsReplied did_command (at_line scripts) (reply_at replies) e = all.0 in
+      let first : IsReplied (order_meaning scripts) (reply_at replies) e = all.0 in
       let later = walked es all.1 in
       record {
         list = first.reply ∷ later.list;
@@ -63,8 +63,7 @@ pub all-played : (scripts : List (List Command)) → AreNamed scripts → count_
     → (replies : List (List (Option BookReply))) (keeps : ℕ → List BookReply → Type 0)
     → ((caller : ℕ) (rs : List BookReply) → keeps caller rs → HaveReplies replies caller rs)
     → (fronts : List Front) (contents : State)
-    → EachLineOnce did_command (at_line scripts) (line_count_of scripts) keeps (HasTraded scripts) no_orders fronts
-    contents
+    → EachLineOnce (order_meaning scripts) keeps (HasTraded scripts) no_orders fronts contents
     → IsInterleaving (line_count_of scripts) (tags_of (committed_of fronts))
     → (book : Book) × StandsFor contents book × IsPlayed scripts fronts replies book
 all-played scripts named few law none replies keeps has fronts contents once interleaving =
@@ -77,8 +76,7 @@ all-played scripts named few law none replies keeps has fronts contents once int
     let names : AreNamedBy tags cs = named-by scripts named tags cs lines in
     let count : length tags ≤ count_of scripts = tags-few scripts tags cs lines traded.different in
     let each = walked scripts replies es
-    (each-replied did_command (at_line scripts) (reply_at replies) (line_count_of scripts) keeps (HasTraded scripts)
-    no_orders contents fronts has once) in
+    (each-replied (order_meaning scripts) (reply_at replies) keeps (HasTraded scripts) no_orders contents fronts has once) in
     let right : IsRight no_orders (acts_of es) = fronts-right no_orders fronts once.legal in
     let folded : Folds no_orders empty_book es cs each.list =
     folds law no_orders empty_book es cs each.list none names traded.different (apart-none tags)

@@ -4,10 +4,10 @@ use Rattle.md_book.specs.declared.commands.Command.{Command}
 use Rattle.md_book.specs.declared.commands.BookReply.{BookReply}
 use Rattle.md_orders.specs.Scripts.{list_of}
 use Rattle.md_report_replies.specs.Replies.{reply_at}
-use Rattle.md_rounds.specs.declared.round_replies.RoundReplies.{RoundReplies}
+use Rattle.md_rounds.specs.declared.turn_replies.TurnReplies.{TurnReplies}
 
 -- the replies of a turn: those that are packed, and those of the last batch
-abbrev pub all_of : RoundReplies → List BookReply
+abbrev pub all_of : TurnReplies → List BookReply
 all_of list = list.packed ++ list.last.items
 
 -- a caller's first lines have these replies

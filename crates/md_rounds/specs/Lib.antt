@@ -4,3 +4,4 @@ pub mod Traded
 pub mod Replay
 pub mod Summed
 pub mod Limits
+pub mod Opening

@@ -5,11 +5,12 @@ use Rattle.std.proofs.lemmas.Bool.{false≢true}
 use Rattle.std.proofs.lemmas.List.{get_or_past}
 use Rattle.std.proofs.lemmas.Option.{slice_get_cases}
 use Rattle.md_history.specs.declared.acts.Act.{Act}
-use Rattle.md_history.specs.Script.{Did}
+use Rattle.md_history.specs.Script.{Did, Follows}
 use Rattle.md_book.specs.declared.commands.Command.{Command}
 use Rattle.md_book.specs.declared.commands.BookReply.{BookReply}
-use Rattle.md_book.specs.Commands.{script_of}
+use Rattle.md_book.specs.Commands.{script_of, FitsBook}
 use Rattle.md_orders.specs.Scripts.{list_of, at_line}
+use Rattle.md_many_attempts.specs.Meaning.{Meaning}
 
 -- what it is that acts did a command with a reply
 abbrev pub did_command : Command → List Act → BookReply → Type 0
@@ -18,6 +19,17 @@ did_command c acts r = Did (script_of c) acts r
 -- how many lines a caller's script has
 abbrev pub line_count_of : List (List Command) → ℕ → ℕ
 line_count_of scripts caller = length (list_of scripts caller)
+
+-- what the lines mean: the commands of the scripts
+abbrev pub order_meaning : List (List Command) → Meaning Command BookReply
+order_meaning scripts = record {
+  did = did_command;
+  makes = λ c acts. Follows (script_of c) acts;
+  fits = λ c maps queues. FitsBook c maps queues;
+  callers = length scripts;
+  line_count = line_count_of scripts;
+  body_at = at_line scripts;
+}
 
 -- there is a command at each line, and nowhere else
 pub has-line : (scripts : List (List Command)) (caller line : ℕ)

@@ -1,10 +1,16 @@
 -- What commands of scripts leave, whatever order they are played in.
 use Rattle.std.specs.Prelude.{◌≡◌, ◌≢◌, ◌/◌, ◌%◌, ◌^◌, ℕ, Some, List, [], ◌∷◌}
+use Rattle.std.specs.Option.{IsSomeAnd}
 use Rattle.md_history.specs.State.{State}
 use Rattle.md_book.specs.declared.commands.Command.{Command}
+use Rattle.md_book.specs.declared.commands.BookReply.{BookReply}
 use Rattle.md_book.specs.Book.{empty_book, book_after}
+use Rattle.md_book.specs.Meets.{command_bounds}
 use Rattle.md_book.specs.Stands.{StandsFor}
+use Rattle.md_book.specs.Suits.{Suits}
+use Rattle.md_many.specs.Laws.{Law}
 use Rattle.md_orders.specs.Scripts.{at_line}
+use Rattle.md_rounds.specs.Replay.{no_orders}
 
 -- no number is this one
 abbrev pub HasNone : ℕ → List ℕ → Type 0
@@ -32,3 +38,14 @@ pub record HasTraded (scripts : List (List Command)) (s : State) (tags : List �
 -- how many nodes their contents need at most: two for each order and each account, and one for each queue and each level
 abbrev pub MOST_NODES : ℕ
 MOST_NODES = 2024000
+
+-- what the lines keep: they are played from the state without orders; what they leave stands for the book that they
+-- leave; and a reply suits its command
+abbrev pub order_law : List (List Command) → Law BookReply
+order_law scripts = record {
+  opening = no_orders;
+  good = HasTraded scripts;
+  suits = λ caller line r. IsSomeAnd (at_line scripts caller line) (λ c. Suits (c, r));
+  cost = command_bounds;
+  most = MOST_NODES;
+}

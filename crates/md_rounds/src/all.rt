@@ -1,22 +1,20 @@
 //! The scripts of all callers, in rounds.
 
-ghost use Rattle.std.specs.Prelude.{◌≡◌, ◌≤◌, ◌<◌, ℕ, length, map, IfOk, OnOk};
-ghost use Rattle.md_history.specs.Counts.{AllowAll};
-ghost use Rattle.md_history.specs.Engine.{bounds_in};
+ghost use Rattle.std.specs.Prelude.{map, IfOk, OnOk};
 ghost use Rattle.md_book.specs.Book.{Book};
-ghost use Rattle.md_book.specs.Meets.{command_bounds};
 ghost use Rattle.md_book.specs.Stands.{StandsFor};
-ghost use Rattle.md_many.specs.Closed.{ClosesTo};
+ghost use Rattle.md_many.specs.Closed.{ClosesTo, HoldsAllLanes};
+ghost use Rattle.md_many.specs.Played.{IsToldOfEach};
+ghost use Rattle.md_rounds.specs.Opening.{CanPlayScripts};
 ghost use Rattle.md_rounds.specs.OrderLines.{line_count_of};
-ghost use Rattle.md_rounds.specs.Replay.{IsPlayed, no_orders};
-ghost use Rattle.md_rounds.specs.Traded.{MOST_NODES};
+ghost use Rattle.md_rounds.specs.Replay.{IsPlayed};
 
 use crate::kept::KeptReplies;
 use crate::kept_lists::KeptLists;
 use crate::laws::order_laws;
 use crate::order_lines::OrderLines;
 use md_history::{Contents, Engine, Front};
-use md_many::{Gate, OpenRounds, Rounds, play_open_rounds, play_rounds};
+use md_many::{Gate, OpenRounds, Play, Rounds, play_open_rounds, play_rounds};
 use md_orders::Scripts;
 use md_report_replies::{Replies, RepliesByCaller};
 use std::alloc::{AllocError, Global};
@@ -68,27 +66,26 @@ where
     R: Threads + Sync,
     E: Engine,
     G: Gate + Sync,
-    requires of { E.of engine pass }
-    requires fresh { E.fresh engine pass }
-    requires lanes { length (E.lanes engine) ≡ length scripts.now }
-    requires start { E.start engine ≡ no_orders }
-    requires bounds { AllowAll command_bounds (bounds_in (E.limits engine)) }
-    requires tries { 1 ≤ (E.limits engine).tries }
-    requires room { MOST_NODES ≤ (E.limits engine).room }
-    ensures of { IfOk result (λ o. E.of o.rounds.engine o.rounds.pass) }
-    ensures all { IfOk result (λ o. (E.front o.rounds.pass).lanes ≡ E.lanes o.rounds.engine) }
+    requires { CanPlayScripts E.Engine scripts.now engine pass }
+    ensures pass { IfOk result (λ o. HoldsAllLanes E.Engine o.rounds.engine o.rounds.pass) }
     ensures played { IfOk result (λ o. ClosesTo (E.start o.rounds.engine)
         (map E.front o.rounds.fronts.items) (E.front o.rounds.pass) (λ fronts contents.
         (book : Book) × StandsFor contents book
         × IsPlayed scripts.now fronts o.replies book)) }
-    ensures gate { OnOk result ((caller line : ℕ) → 1 ≤ line
-        → line ≤ line_count_of scripts.now caller → G.after_called gate.now caller line) }
+    ensures gate { OnOk result (IsToldOfEach (line_count_of scripts.now) (G.after_called gate.now)) }
 {
     order_laws(scripts);
     let lines = OrderLines { scripts };
     let replies = RepliesByCaller::empty(alloc, scripts.callers())?;
     let mut keeper = KeptLists { replies };
-    let rounds = play_open_rounds(rt, alloc, engine, pass, &lines, tries, gate, &mut keeper)?;
+    let play = Play {
+        rt,
+        alloc,
+        lines: &lines,
+        attempts: tries,
+        gate,
+    };
+    let rounds = play_open_rounds(&play, engine, pass, &mut keeper)?;
     Ok(OpenOutcome {
         replies: keeper.replies,
         rounds,
@@ -114,32 +111,23 @@ where
     R: Threads + Sync,
     E: Engine,
     G: Gate + Sync,
-    requires of { E.of engine pass }
-    requires fresh { E.fresh engine pass }
-    requires lanes { length (E.lanes engine) ≡ length scripts.now }
-    requires start { E.start engine ≡ no_orders }
-    requires bounds { AllowAll command_bounds (bounds_in (E.limits engine)) }
-    requires tries { 1 ≤ (E.limits engine).tries }
-    requires room { MOST_NODES ≤ (E.limits engine).room }
+    requires { CanPlayScripts E.Engine scripts.now engine pass }
     ensures played { IfOk result (λ o. (book : Book) × StandsFor o.contents book
         × IsPlayed scripts.now (map E.front o.fronts.items) o.replies.replies book) }
-    ensures gate { OnOk result ((caller line : ℕ) → 1 ≤ line
-        → line ≤ line_count_of scripts.now caller → G.after_called gate.now caller line) }
+    ensures gate { OnOk result (IsToldOfEach (line_count_of scripts.now) (G.after_called gate.now)) }
 {
     order_laws(scripts);
     let lines = OrderLines { scripts };
     let replies = Replies::empty(alloc, scripts)?;
     let mut keeper = KeptReplies { replies };
-    let Rounds { contents, fronts } = play_rounds(
+    let play = Play {
         rt,
         alloc,
-        engine,
-        pass,
-        &lines,
-        tries,
+        lines: &lines,
+        attempts: tries,
         gate,
-        &mut keeper,
-    )?;
+    };
+    let Rounds { contents, fronts } = play_rounds(&play, engine, pass, &mut keeper)?;
     Ok(Outcome {
         replies: keeper.replies,
         contents,

@@ -9,7 +9,7 @@ ghost use Rattle.md_many.specs.Laws as many;
 ghost use Rattle.md_report_replies.specs.Replies.{SuitTheirLines, with_replies};
 ghost use Rattle.md_rounds.specs.Kept.{all_of, HasReplies};
 
-use crate::round_replies::RoundReplies;
+use crate::turn_replies::TurnReplies;
 use md_book::BookReply;
 use md_many::Keeper;
 use md_report_replies::Replies;
@@ -32,7 +32,7 @@ pub(crate) fn keep(replies: &mut Replies, caller: u32, done: u32, batch: &[BookR
 }
 
 // Puts the replies of a list into their places, as `keep` those of a batch.
-fn keep_list(replies: &mut Replies, caller: u32, done: u32, list: &RoundReplies)
+fn keep_list(replies: &mut Replies, caller: u32, done: u32, list: &TurnReplies)
     requires suit { SuitTheirLines replies.old.scripts caller done (all_of list.now) }
     requires few { done + length (all_of list.now) < 2 ^ 32 }
     ensures { replies.new ≡ record replies.old {
@@ -51,15 +51,15 @@ pub(crate) struct KeptReplies {
 }
 
 impl Keeper<BookReply> for KeptReplies {
-    type List = RoundReplies;
+    type List = TurnReplies;
 
     ghost can_keep = { λ k caller line r.
         IsSomeAnd (at_line k.replies.scripts caller line) (λ c. Suits (c, r)) };
 
     ghost keeps = { λ k caller rs. HasReplies k.replies.scripts k.replies.replies caller rs };
 
-    fn keep(&mut self, caller: u32, done: u32, replies: RoundReplies) -> Result<(), AllocError>
-        requires suit { many.AllSuit (λ line r.
+    fn keep(&mut self, caller: u32, done: u32, replies: TurnReplies) -> Result<(), AllocError>
+        requires suit { many.SuitTheirLines (λ line r.
             IsSomeAnd (at_line self.old.replies.scripts caller line) (λ c. Suits (c, r)))
             done (all_of replies) }
         requires few { done + length (all_of replies) < 2 ^ 32 }

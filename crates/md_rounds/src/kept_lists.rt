@@ -6,7 +6,7 @@ ghost use Rattle.md_many.specs.Laws as many;
 ghost use Rattle.md_orders.specs.Scripts.{list_of};
 ghost use Rattle.md_rounds.specs.Kept.{all_of};
 
-use crate::round_replies::RoundReplies;
+use crate::turn_replies::TurnReplies;
 use md_book::BookReply;
 use md_many::Keeper;
 use md_report_replies::RepliesByCaller;
@@ -19,13 +19,13 @@ pub(crate) struct KeptLists {
 }
 
 impl Keeper<BookReply> for KeptLists {
-    type List = RoundReplies;
+    type List = TurnReplies;
 
     ghost can_keep = { λ k caller line r. (1 ≤ caller) × (caller ≤ length k.replies) };
 
     ghost keeps = { λ k caller rs. list_of k.replies caller ≡ map Some rs };
 
-    fn keep(&mut self, caller: u32, done: u32, replies: RoundReplies) -> Result<(), AllocError>
+    fn keep(&mut self, caller: u32, done: u32, replies: TurnReplies) -> Result<(), AllocError>
         requires suit { many.AllSuit (λ line r.
             (1 ≤ caller) × (caller ≤ length self.old.replies)) done (all_of replies) }
         requires few { done + length (all_of replies) < 2 ^ 32 }
@@ -39,7 +39,7 @@ impl Keeper<BookReply> for KeptLists {
             → list_of self.old.replies other ≡ map Some rs
             → OnOk result (list_of self.new.replies other ≡ map Some rs) }
     {
-        let RoundReplies { mut packed, last } = replies;
+        let TurnReplies { mut packed, last } = replies;
         packed.append(&last)?;
         if packed.is_empty() {
             return Ok(());

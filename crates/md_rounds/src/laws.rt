@@ -1,19 +1,15 @@
 //! The laws of order commands as lines.
 
 ghost use Rattle.std.specs.Prelude.{◌≤◌};
-ghost use Rattle.std.specs.Option.{IsSomeAnd};
-ghost use Rattle.md_history.specs.Script.{Follows};
 ghost use Rattle.md_book.specs.Book.{empty_book};
-ghost use Rattle.md_book.specs.Commands.{script_of};
-ghost use Rattle.md_book.specs.Meets.{CommandsMeetTheBook, command_bounds};
+ghost use Rattle.md_book.specs.Meets.{CommandsMeetTheBook};
 ghost use Rattle.md_book.specs.Stands.{StandsFor};
-ghost use Rattle.md_book.specs.Suits.{Suits};
 ghost use Rattle.md_orders.specs.Records.{max_records};
-ghost use Rattle.md_orders.specs.Scripts.{AreNamed, at_line, count_of};
+ghost use Rattle.md_orders.specs.Scripts.{AreNamed, count_of};
 ghost use Rattle.md_many.specs.Laws.{AreLawful};
-ghost use Rattle.md_rounds.specs.OrderLines.{did_command};
+ghost use Rattle.md_rounds.specs.OrderLines.{order_meaning};
 ghost use Rattle.md_rounds.specs.Replay.{no_orders};
-ghost use Rattle.md_rounds.specs.Traded.{HasTraded, MOST_NODES};
+ghost use Rattle.md_rounds.specs.Traded.{order_law};
 
 use md_book::{commands_are_small, commands_meet_the_book, empty_book_stands, replies_suit};
 use md_orders::{Scripts, commands_are_named};
@@ -21,10 +17,7 @@ use md_orders::{Scripts, commands_are_named};
 /// Lends the laws of the scripts' commands as lines to a proof, and what they come from. It has no
 /// effect when it runs.
 pub(crate) fn order_laws(scripts: &Scripts)
-    ensures laws { AreLawful did_command (λ c acts. Follows (script_of c) acts)
-        (at_line scripts.now) (HasTraded scripts.now)
-        (λ caller line r. IsSomeAnd (at_line scripts.now caller line) (λ c. Suits (c, r)))
-        no_orders command_bounds MOST_NODES }
+    ensures laws { AreLawful (order_meaning scripts.now) (order_law scripts.now) }
     ensures named { AreNamed scripts.now }
     ensures few { count_of scripts.now ≤ max_records }
     ensures meets { CommandsMeetTheBook }

@@ -7,8 +7,8 @@ mod kept_lists;
 mod laws;
 mod limits;
 mod order_lines;
-mod round_replies;
 mod summed;
+mod turn_replies;
 
 pub use all::{OpenOutcome, Outcome, run_all, run_all_open};
 pub use limits::limits_hold;

@@ -92,7 +92,7 @@ pub use md_many::{LawfulLines, run_many};
 pub use md_many::{FreeGate, Gate};
 
 /// Rounds whose replies go to a keeper of the caller's own, in lists of its own kind.
-pub use md_many::{Keeper, OpenRounds, ReplyList, Rounds, play_open_rounds, play_rounds};
+pub use md_many::{Keeper, OpenRounds, Play, ReplyList, Rounds, play_open_rounds, play_rounds};
 
 /// The calls that play lines of one caller by a pass: one attempt, or attempts until the turn ends.
 pub use md_many::{End, MOST_CONFLICTS, Turn, attempt_line, attempt_lines};

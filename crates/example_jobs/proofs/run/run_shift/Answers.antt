@@ -1,4 +1,4 @@
-use Rattle.std.proofs.Common.{sym, ap, subst, ◌∙◌}
+use Rattle.std.proofs.Common.{rules, sym, ap, subst, ◌∙◌}
 use Rattle.std.proofs.lemmas.List.FromFn.{length-range_with_len}
 use Rattle.md_history.specs.State.{HaveSameNumbers}
 use Rattle.md_words.specs.declared.shape.Shape.{Shape}
@@ -7,16 +7,20 @@ use Rattle.example_jobs.proofs.Holding.{keeps-first, holds-kept}
 use Rattle.example_jobs.proofs.Laws.{moves-lawful}
 use Rattle.example_jobs.proofs.run.run_shift.Goals as goal
 
-pub run_lines-requires-clause-lanes : goal.run_lines-requires-clause-lanes
-run_lines-requires-clause-lanes g c κs within =
-    length-range_with_len 0 c.in-Ok.store.origin.shape.lanes ∙ ap (λ (s : Shape). s.lanes) c.in-Ok.ensures.shape ∙ c.shape_of.ensures.0
-
 pub run_lines-requires-clause-laws : goal.run_lines-requires-clause-laws
 run_lines-requires-clause-laws g c κs within = moves-lawful
 
-pub run_lines-requires-clause-good : goal.run_lines-requires-clause-good
-run_lines-requires-clause-good g c κs within =
-    subst (λ s. KeepsJobs s s) (sym c.in-Ok.ensures.start) (keeps-first c.args.jobs c.args.start.now c.requires.start)
+pub run_lines-requires-clause-engine : goal.run_lines-requires-clause-engine
+run_lines-requires-clause-engine g c κs within = record {
+  of = search rules;
+  fresh = search rules;
+  lanes = length-range_with_len 0 c.in-Ok.store.origin.shape.lanes ∙ ap (λ (s : Shape). s.lanes) c.in-Ok.ensures.shape
+      ∙ c.shape_of.ensures.0;
+  good = subst (λ s. KeepsJobs s s) (sym c.in-Ok.ensures.start) (keeps-first c.args.jobs c.args.start.now c.requires.start);
+  bounds = search rules;
+  tries = search rules;
+  room = search rules;
+}
 
 pub returns-clause-holds : goal.returns-clause-holds
 returns-clause-holds g c =

@@ -26,52 +26,52 @@ some-of (suc len) n same not = omega arith
 
 pub keep_lines-requires-clause-suit : goal.keep_lines-requires-clause-suit
 keep_lines-requires-clause-suit g c =
-    let done = c.args.course.now.done.items in
-    let at : c.index.result.now ≡ at_caller 0 done c.args.caller =
-    by-index done c.args.caller _ c.requires.from_1 c.requires.there c.index.ensures in
+    let course = c.requires.course in
+    let caller = c.args.caller in
+    let at : c.index.result.now ≡ at_caller 0 c.args.course.now.done.items caller =
+    by-index c.args.course.now.done.items caller _ c.requires.left.from_1 c.requires.left.there c.index.ensures in
     rw c.deref_mut.ensures.value
-    (suit-wider (g.L.LawfulLines.suits c.args.lines.now c.args.caller) (g.K.Keeper.can_keep c.args.keeper.now c.args.caller)
-    (c.requires.keeper c.args.caller) _ _
-    (first-suit _ _ _ _ _ _ _ _ _ _ _ c.requires.course.laws
-    _ _ _ _ _ c.requires.course.stands c.pass_is_legal.ensures _ c.pass_is_legal-2.ensures c.args.caller
-    _ _ c.in_ok-list.ensures.lines at
-    c.in_ok-list.ensures.few))
+    (suit-wider (g.L.LawfulLines.suits c.args.play.now.lines.now caller) (g.K.Keeper.can_keep c.args.keeper.now caller)
+    (c.requires.keeper caller) _ _
+    (first-suit course.stands course.laws c.pass_is_legal.ensures _ c.pass_is_legal-2.ensures caller
+    _ _ c.in_ok-list.ensures.turn.lines at c.in_ok-list.ensures.turn.few))
 
 pub keep_lines-requires-clause-few : goal.keep_lines-requires-clause-few
 keep_lines-requires-clause-few g c =
-    let done = c.args.course.now.done.items in
-    let at : c.index.result.now ≡ at_caller 0 done c.args.caller =
-    by-index done c.args.caller _ c.requires.from_1 c.requires.there c.index.ensures in
-    rw c.deref_mut.ensures.value (omega (arith, c.in_ok-list.ensures.few, at))
+    let at : c.index.result.now ≡ at_caller 0 c.args.course.now.done.items c.args.caller =
+    by-index c.args.course.now.done.items c.args.caller _ c.requires.left.from_1 c.requires.left.there c.index.ensures in
+    rw c.deref_mut.ensures.value (omega (arith, c.in_ok-list.ensures.turn.few, at))
 
 pub returns : goal.returns
 returns g c =
-    let done = c.args.course.now.done.items in
-    let list = c.in_ok-list.ensures in
+    let course = c.requires.course in
+    let left = c.requires.left in
+    let pass = c.play_list.ensures.pass in
+    let turn = c.in_ok-list.ensures.turn in
     let kept = c.keep_lines.ensures.kept in
-    let at : c.index.result.now ≡ at_caller 0 done c.args.caller =
-    by-index done c.args.caller _ c.requires.from_1 c.requires.there c.index.ensures in
-    let further = first-further _ _ _ _ _ _ _ _ _ _ _ c.requires.course.laws
-    _ _ _ _ _ c.requires.course.stands c.pass_is_legal.ensures _ c.pass_is_legal-2.ensures c.args.caller
-    _ _ list.lines at list.few c.keep_lines.result _ _ c.keep_lines.new.done c.args.course.now.done.len kept
+    let at : c.index.result.now ≡ at_caller 0 c.args.course.now.done.items c.args.caller =
+    by-index c.args.course.now.done.items c.args.caller _ left.from_1 left.there c.index.ensures in
+    let further = first-further course.stands course.laws c.pass_is_legal.ensures _ c.pass_is_legal-2.ensures
+    c.args.caller _ _ turn.lines at turn.few c.keep_lines.result _ _ c.keep_lines.new.done c.args.course.now.done.len kept
     c.deref_mut.ensures.value c.args.course.now.done.ok.0
-    (λ caller line some. (((g.met.L.Lines g.world.𝓛 g.world.𝓜 g.world.𝓡 ((λ s x. x), (λ x. x), (λ x. x), λ x. x)).has_body c.args.lines.now caller line).0 some).1)
-    list.lanes list.pending list.gate c.requires.from_1 c.requires.there in
+    (λ caller line some. (((g.met.L.Lines g.world.𝓛 g.world.𝓜 g.world.𝓡 ((λ s x. x), (λ x. x), (λ x. x), λ x. x)).has_body c.args.play.now.lines.now caller line).0 some).1)
+    pass.lanes pass.pending turn.gate left.from_1 left.there in
     record {
-      of = on_ok_weaker c.keep_lines.result (λ _. c.play_list.ensures.of) kept;
       course = on_ok_weaker c.keep_lines.result
           (λ (more : IsFurther _ _ _ _ _). record {
-            laws = c.requires.course.laws;
-            runs = c.requires.course.runs;
+            of = pass.of;
+            laws = course.laws;
+            runs = course.runs;
             stands = more.stands;
           }) further;
       keeper = λ other line r suits. c.keep_lines.ensures.can_keep other line r (c.requires.keeper other line r suits);
-      callers = on_ok_weaker c.keep_lines.result (λ (more : IsFurther _ _ _ _ _). more.callers) further;
-      kept = on_ok_weaker c.keep_lines.result (λ (more : IsFurther _ _ _ _ _). more.kept) further;
+      no_more = on_ok_weaker c.keep_lines.result
+          (λ (more : IsFurther _ _ _ _ _). record { callers = more.callers; kept = more.kept }) further;
       played = λ awake. further-less c.keep_lines.result _ _ _ _ _ further (some-of _ _ c.len.ensures awake);
       fresh = λ fresh empty.
-          let small = first-small _ _ _ _ _ _ _ _ c.requires.course.laws _ _ _ _ _ c.requires.course.stands.leaves
-          empty c.requires.course.runs.bounds c.args.caller (c.index.result.now + 1) in
-          let some = list.first fresh c.requires.course.runs.tries small (omega (arith, at, c.requires.left, c.requires.tries)) in
+          let small = first-small _ _ course.laws _ _ _ _ _ course.stands.leaves
+          empty course.runs.bounds c.args.caller (c.index.result.now + 1) in
+          let some = c.in_ok-list.ensures.enough.first fresh course.runs.tries small
+          (omega (arith, at, left.left, c.first_attempts.ensures)) in
           on_ok_weaker c.keep_lines.result (λ _. ne_eqb _ 0 (λ none. omega (arith, some, none, c.len.ensures))) kept;
     }

@@ -8,18 +8,18 @@ use Rattle.md_many.proofs.rounds.play_open_rounds.Goals as goal
 
 pub rounds-init : goal.rounds-init
 rounds-init g c =
+    let engine = c.requires.engine in
     let empty : g.E.Engine.front c.args.pass ≡ empty_front (g.E.Engine.lanes c.args.engine) = assumption in
-    let count : c.callers.result ≡ length (g.E.Engine.lanes c.args.engine) = c.callers.ensures ∙ sym c.requires.lanes in
+    let count : c.callers.result ≡ length (g.E.Engine.lanes c.args.engine) = c.callers.ensures ∙ sym engine.lanes in
     let zeros : length c.in_ok-none_done.field-0.items ≡ c.callers.result =
     ap length c.in_ok-none_done.ensures ∙ length-replicate c.callers.result 0 in
     record {
-      of = c.requires.of;
       course = record {
+        of = engine.of;
         laws = c.requires.laws;
-        runs = c.requires.runs;
+        runs = engine.runs;
         stands = rw (c.new.ensures.items, c.in_ok-none_done.ensures, count)
-            (stands-first _ _ _ _ _ _ _ _ _ _ _ c.requires.laws _ _ _
-            c.requires.opening empty c.requires.empty);
+            (stands-first _ _ c.requires.laws _ _ _ engine.opening empty c.requires.empty);
       };
       keeper = c.requires.keeper;
       callers = omega (arith, zeros, c.callers.type_inv);
@@ -30,7 +30,6 @@ pub rounds-preserved : goal.rounds-preserved
 rounds-preserved g c =
     let round = c.in_ok-course.ensures in
     record {
-      of = round.of;
       course = round.course;
       keeper = c.play_round.ensures.keeper;
       callers = subst (λ n. n < 2 ^ 32) (sym round.callers) c.rounds.invariant.callers;
@@ -40,31 +39,27 @@ rounds-preserved g c =
 pub returns : goal.returns
 returns g c =
     let course = c.rounds.invariant.course in
-    let all = whole-count _ _ _ _ _ _ _ _ _ _ _ c.requires.laws
-    _ _ _ _ _ course.stands c.pass_is_legal.ensures
-    (g.L.Lines.caller_count c.args.lines.now) (sym course.stands.callers ∙ c.rounds.invariant.count)
-    ((g.met.L.Lines g.world.𝓛 g.world.𝓜 g.world.𝓡 ((λ s x. x), (λ x. x), (λ x. x), λ x. x)).has_caller c.args.lines.now)
+    let all = whole-count course.stands course.laws c.pass_is_legal.ensures
+    (g.L.Lines.caller_count c.args.play.now.lines.now) (sym course.stands.callers ∙ c.rounds.invariant.count)
+    ((g.met.L.Lines g.world.𝓛 g.world.𝓜 g.world.𝓡 ((λ s x. x), (λ x. x), (λ x. x), λ x. x)).has_caller c.args.play.now.lines.now)
     (λ caller low high. ap (λ ns. at_caller 0 ns caller) (sym c.deref.ensures.value)
     ∙ c.in_default.ensures.none caller low (omega (arith, high, ap length c.deref.ensures.value))) in
     record {
-      of = c.rounds.invariant.of;
-      all = course.stands.all;
+      pass = record { of = course.of; all = course.stands.all };
       each_line_once = λ fronts contents closed. rw closed.behind
-          (all-played _ _ _ _ _ _ _ _ _ _ _ c.requires.laws _ _ _ _ _ course.stands c.pass_is_legal.ensures
-          closed.last _ closed.settled closed.replay all);
+          (all-played course.stands course.laws c.pass_is_legal.ensures closed.last _ closed.settled closed.replay all);
       gate = λ caller line low high. course.stands.gate caller line low (omega (arith, high, all caller));
       interleaving = λ fronts contents closed. rw closed.behind
-          (are-interleaving _ _ _ _ _
-          (all-played _ _ _ _ _ _ _ _ _ _ _ c.requires.laws _ _ _ _ _ course.stands c.pass_is_legal.ensures
-          closed.last _ closed.settled closed.replay all).each);
+          (are-interleaving _ _ _
+          (all-played course.stands course.laws c.pass_is_legal.ensures closed.last _ closed.settled closed.replay
+          all).each);
     }
 
 pub returns-in_err-none_done : goal.returns-in_err-none_done
 returns-in_err-none_done g c =
     let err = c.from_residual.ensures.0 in
     record {
-      of = IfOk-from_err _ _ err;
-      all = IfOk-from_err _ _ err;
+      pass = IfOk-from_err _ _ err;
       each_line_once = IfOk-from_err _ _ err;
       gate = IfOk-from_err _ _ err;
       interleaving = IfOk-from_err _ _ err;
@@ -74,8 +69,7 @@ pub returns-in_err-course : goal.returns-in_err-course
 returns-in_err-course g c =
     let err = c.from_residual-in_err-course.ensures.0 in
     record {
-      of = IfOk-from_err _ _ err;
-      all = IfOk-from_err _ _ err;
+      pass = IfOk-from_err _ _ err;
       each_line_once = IfOk-from_err _ _ err;
       gate = IfOk-from_err _ _ err;
       interleaving = IfOk-from_err _ _ err;

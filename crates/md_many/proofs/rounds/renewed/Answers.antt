@@ -8,27 +8,27 @@ use Rattle.md_many.proofs.rounds.renewed.Goals as goal
 
 pub renew-requires-clause-room : goal.renew-requires-clause-room
 renew-requires-clause-room g c =
-    has-room _ _ _ _ _ _ _ _ _ _ _ c.requires.course.laws _ _ _ _ _ c.requires.course.stands
-    c.pass_is_legal.ensures _ c.requires.course.runs.room
+    let course = c.requires.course in
+    has-room course.stands course.laws c.pass_is_legal.ensures _ course.runs.room
 
 pub returns-clause-course : goal.returns-clause-course
 returns-clause-course g c =
+    let course = c.requires.course in
     let empty : g.E.Engine.front c.in_ok-engine.pass ≡ empty_front (g.E.Engine.lanes c.in_ok-engine.engine) =
     assumption in
     record {
-      laws = c.requires.course.laws;
+      of = c.in_ok-engine.ensures.of;
+      laws = course.laws;
       runs = search rules;
       stands = rw (c.in_ok-push.ensures.items, map_push g.E.Engine.front c.args.course.fronts.items c.in_ok-engine.front)
-          (stands-renewed _ _ _ _ _ _ _ _ _ _ _ c.requires.course.laws _ _ _ _ _ c.requires.course.stands
-          c.pass_is_legal.ensures (g.E.Engine.front c.in_ok-engine.front) _ _ _ c.in_ok-engine.ensures.settled
-          c.in_ok-engine.ensures.start c.in_ok-engine.ensures.lanes empty);
+          (stands-renewed course.stands course.laws c.pass_is_legal.ensures (g.E.Engine.front c.in_ok-engine.front) _ _ _
+          c.in_ok-engine.ensures.settled c.in_ok-engine.ensures.start c.in_ok-engine.ensures.lanes empty);
     }
 
 pub returns-in_err-engine : goal.returns-in_err-engine
 returns-in_err-engine g c =
     let err = c.from_residual.ensures.0 in
     record {
-      of = IfOk-from_err _ _ err;
       course = IfOk-from_err _ _ err;
       done = IfOk-from_err _ _ err;
       fresh = λ worn. IfOk-from_err _ _ err;
@@ -39,7 +39,6 @@ pub returns-in_err-push : goal.returns-in_err-push
 returns-in_err-push g c =
     let err = c.from_residual-in_err-push.ensures.0 in
     record {
-      of = IfOk-from_err _ _ err;
       course = IfOk-from_err _ _ err;
       done = IfOk-from_err _ _ err;
       fresh = λ worn. IfOk-from_err _ _ err;

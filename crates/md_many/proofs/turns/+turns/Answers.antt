@@ -30,13 +30,16 @@ one-alone [] one = absurd (omega (arith, one))
 one-alone (n ∷ []) one = refl
 one-alone (n ∷ m ∷ ns) one = absurd (omega (arith, one))
 
-pub play_turn-requires-clause-done : goal.play_turn-requires-clause-done
-play_turn-requires-clause-done g t c κs within =
+pub play_turn-requires-clause-turn : goal.play_turn-requires-clause-turn
+play_turn-requires-clause-turn g t c κs within =
     let lone : length (g.E.Engine.front c.args.pass).lanes ≡ 1 = c.in_default.ensures.none.0 refl in
     let caller : c.args.before + 1 + 0 ≡ c.args.before + 1 = omega arith in
-    subst (λ k. slice_index_or c.args.done.now 0 0 ≤ g.L.Lines.line_count c.args.shared.lines.now k) caller
-    (within-at (g.L.Lines.line_count c.args.shared.lines.now) c.args.before c.args.done.now c.requires.within 0
-    (omega (arith, c.requires.lanes, lone)))
+    record {
+      fits = c.requires.fits;
+      done = subst (λ k. slice_index_or c.args.done.now 0 0 ≤ g.L.Lines.line_count c.args.shared.lines.now k) caller
+          (within-at (g.L.Lines.line_count c.args.shared.lines.now) c.args.before c.args.done.now c.requires.within 0
+          (omega (arith, c.requires.lanes, lone)));
+    }
 
 pub returns-in_default-clause-turns : goal.returns-in_default-clause-turns
 returns-in_default-clause-turns g t c =
@@ -47,9 +50,6 @@ returns-in_default-clause-turns g t c =
 
 pub play_turn-requires-clause-of : goal.play_turn-requires-clause-of
 play_turn-requires-clause-of g t c κs within = c.split.ensures.of
-
-pub play_turn-requires-clause-fits : goal.play_turn-requires-clause-fits
-play_turn-requires-clause-fits g t c κs within = c.requires.fits
 
 pub play_turn-requires-clause-one : goal.play_turn-requires-clause-one
 play_turn-requires-clause-one g t c κs within = ap (λ (f : View). length f.lanes) c.in_default.ensures.same ∙ c.in_default.ensures.none.0 refl

@@ -13,5 +13,5 @@ returns-clause-turns g c = λ old kept given before middle low high splits risin
       c.in_ok-append.ensures.items,
       map-append (λ (p : Played _). g.T.ReplyList.listed p.replies) c.in_ok-turns.turns.played.items c.in_ok-pass.field-0.played.items,
     )
-    (turns-joined _ _ _ _ _ _ _ _ _ before _ _ _ _ _ splits one other at
+    (turns-joined _ _ _ _ _ _ _ _ before _ _ _ _ _ splits one other at
     (c.join.ensures.joined (rw (one.lanes, other.lanes) splits.apart)) rising c.pass_is_legal.ensures.rising)

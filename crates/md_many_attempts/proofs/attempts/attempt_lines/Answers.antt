@@ -4,6 +4,7 @@ use Rattle.std.proofs.lemmas.List.{length_push}
 use Rattle.std.proofs.lemmas.Result.{IfOk-from_err}
 use Rattle.md_history.specs.Engine.{bounds_in}
 use Rattle.md_many_attempts.specs.Lines.{IsSmallLine}
+use Rattle.md_many_attempts.specs.Meaning.{meaning_of}
 use Rattle.md_many_attempts.specs.declared.attempts.TheConstants.{MOST_CONFLICTS}
 use Rattle.md_many_attempts.proofs.Playing.{played-none, played-stopped, played-more}
 use Rattle.md_many_attempts.proofs.Ending.{has-counted, most-played}
@@ -16,16 +17,16 @@ pub attempts-init : goal.attempts-init
 attempts-init g c = record {
   of = c.requires.of;
   fated = c.pass_is_legal.ensures.legal.fated;
-  lines = rw c.requires.empty (played-none _ _ _ _ _);
-  within = omega (arith, c.requires.done, ap length c.requires.empty);
-  few = omega (arith, ap length c.requires.empty);
+  lines = rw c.requires.replies.empty (played-none _ _ _ _);
+  within = omega (arith, c.requires.turn.done, ap length c.requires.replies.empty);
+  few = omega (arith, ap length c.requires.replies.empty);
   calm = omega arith;
   room = omega arith;
   counted = omega arith;
-  gate = λ line after before. absurd (omega (arith, ap length c.requires.empty));
+  gate = λ line after before. absurd (omega (arith, ap length c.requires.replies.empty));
   begun = λ none. refl;
   first = λ fresh tries small some. absurd (omega arith);
-  steady = λ stops. ap length c.requires.empty;
+  steady = λ stops. ap length c.requires.replies.empty;
 }
 
 pub attempts-preserved : goal.attempts-preserved
@@ -47,8 +48,8 @@ attempts-preserved g c =
           was.few was.counted adds.counted count w.conflicts-is inside in
           record {
             of = c.try_line.ensures.of;
-            fated = c.try_line.ensures.fated;
-            lines = rw adds.more (played-more _ _ _ _ _ c.attempts.tried c.in-Some.line adds.body adds.reply _ _ rs
+            fated = adds.commits.fated;
+            lines = rw adds.more (played-more _ _ _ _ c.attempts.tried c.in-Some.line adds.body adds.reply _ _ rs
                 was.lines was.fated at adds.there adds.commits);
             within = tried.within;
             few = tried.few;
@@ -71,9 +72,9 @@ attempts-preserved g c =
           (w.conflicts-is ∙ met.more) was.within in
           record {
             of = c.try_line.ensures.of;
-            fated = c.try_line.ensures.fated;
+            fated = here.stopped.stops.fated;
             lines = rw here.same
-                (played-stopped _ _ _ _ _ c.attempts.tried _ _ _ rs was.lines was.fated here.stopped.stops);
+                (played-stopped _ _ _ _ c.attempts.tried _ _ _ rs was.lines was.fated here.stopped.stops);
             within = tried.within;
             few = tried.few;
             calm = subst (λ n. n < MOST_CONFLICTS) (sym w.conflicts-is) met.calm;
@@ -85,9 +86,9 @@ attempts-preserved g c =
               | inl none ↦
                   let line : done + 1 ≡ c.in-Some.line = omega (arith, none, was.few, at) in
                   let is_fresh = subst (g.E.Engine.fresh c.args.engine.now) (sym (was.begun none)) fresh in
-                  let is_small = subst (λ n. IsSmallLine (bounds_in (g.E.Engine.limits c.args.engine.now)) g.L.B.Body.makes
-                  (g.L.Lines.body_at c.args.lines.now) c.args.turn.caller n (g.E.Engine.start c.args.engine.now)) line small in
-                  some-of _ (no_conflict (sym met.met ∙ here.small is_fresh tries is_small))
+                  let is_small = subst (λ n. IsSmallLine (bounds_in (g.E.Engine.limits c.args.engine.now))
+                  (meaning_of g.L.B.Body g.L.Lines c.args.lines.now) c.args.turn.caller n (g.E.Engine.start c.args.engine.now)) line small in
+                  some-of _ (no_conflict (sym met.met ∙ here.stopped.small is_fresh tries is_small))
               | inr later ↦ rw here.same (was.first fresh tries small (omega arith))
             ];
             steady = λ stops. same-of _ _ (no_conflict (sym met.met ∙ stops _ here.stopped.may));
@@ -104,20 +105,28 @@ returns-in_default g c =
     (omega (arith, c.len-count.ensures)) was.few was.counted (omega arith) (omega (arith, c.attempts-test.true))
     was.lines.attempted.few (omega arith, omega arith) in
     record {
-      of = was.of;
-      lanes = was.lines.attempted.lanes;
-      pending = was.lines.attempted.pending;
-      lines = was.lines.plays;
-      within = counted.within;
-      few = counted.few;
-      tries = counted.tries;
-      begun = counted.begun;
-      end = all;
-      gate = was.gate;
+      pass = record {
+        of = was.of;
+        lanes = was.lines.attempted.lanes;
+        pending = was.lines.attempted.pending;
+      };
+      turn = record {
+        lines = was.lines.plays;
+        within = counted.within;
+        few = counted.few;
+        attempts = counted.attempts;
+        begun = counted.begun;
+        gate = was.gate;
+      };
+      enough = record {
+        first = λ fresh tries small some. omega (arith, some, all);
+        steady = λ stops. omega (arith, was.steady stops, all, c.attempts-test.true);
+      };
+      end = record {
+        end = all;
+        no_memory = tt;
+      };
       room = was.room;
-      no_memory = tt;
-      first = λ fresh tries small some. omega (arith, some, all);
-      steady = λ stops. omega (arith, was.steady stops, all, c.attempts-test.true);
     }
 
 -- memory ran out
@@ -125,26 +134,31 @@ pub returns-in_err-end-in-Some-try_line : goal.returns-in_err-end-in-Some-try_li
 returns-in_err-end-in-Some-try_line g c =
     let was = c.attempts.invariant in
     let here = c.in-Some-try_line.ensures in
-    let more = played-stopped _ _ _ _ _ _ _ _ _ _ was.lines was.fated here.stopped.stops in
+    let more = played-stopped _ _ _ _ _ _ _ _ _ was.lines was.fated here.stopped.stops in
     let counted = has-counted c.args.turn _ _ _ _ 1 _ _ _ _ _ was.within (omega (arith, c.len-count.ensures)) was.few
     was.counted refl (omega (arith, c.attempts-test.true)) more.attempted.few (stop_counted _ _ _ here.stopped.counted) in
     let err = c.from_residual.ensures.0 in
     rw here.same (record {
-      of = c.try_line.ensures.of;
-      lanes = more.attempted.lanes;
-      pending = more.attempted.pending;
-      lines = more.plays;
-      within = counted.within;
-      few = counted.few;
-      tries = counted.tries;
-      begun = counted.begun;
-      end = IfOk-from_err _ _ err;
-      gate = was.gate;
+      pass = record {
+        of = c.try_line.ensures.of;
+        lanes = more.attempted.lanes;
+        pending = more.attempted.pending;
+      };
+      turn = record {
+        lines = more.plays;
+        within = counted.within;
+        few = counted.few;
+        attempts = counted.attempts;
+        begun = counted.begun;
+        gate = was.gate;
+      };
+      enough = IfOk-from_err _ _ err;
+      end = record {
+        end = IfOk-from_err _ _ err;
+        no_memory = on-err _ _
+            (subst (g.E.Engine.may_stop c.args.engine.now) c.in_err-end-in-Some-try_line.ensures.no_memory here.stopped.may);
+      };
       room = was.room;
-      no_memory = on-err _ _
-          (subst (g.E.Engine.may_stop c.args.engine.now) c.in_err-end-in-Some-try_line.ensures.no_memory here.stopped.may);
-      first = λ fresh tries small some. IfOk-from_err _ _ err;
-      steady = λ stops. IfOk-from_err _ _ err;
     })
 
 -- a stop ended the turn
@@ -153,34 +167,42 @@ returns-in-Some-2 g c =
     let was = c.attempts.invariant in
     let here = c.in-Some-try_line.ensures in
     let on = if-some _ c.in-Some-2.is c.in_ok-end-in-Some-try_line.ensures.end in
-    let more = played-stopped _ _ _ _ _ _ _ _ _ _ was.lines was.fated here.stopped.stops in
+    let more = played-stopped _ _ _ _ _ _ _ _ _ was.lines was.fated here.stopped.stops in
     let counted = has-counted c.args.turn _ _ _ _ 1 _ _ _ _ _ was.within (omega (arith, c.len-count.ensures)) was.few
     was.counted refl (omega (arith, c.attempts-test.true)) more.attempted.few (stop_counted _ _ _ here.stopped.counted) in
     rw here.same (record {
-      of = c.try_line.ensures.of;
-      lanes = more.attempted.lanes;
-      pending = more.attempted.pending;
-      lines = more.plays;
-      within = counted.within;
-      few = counted.few;
-      tries = counted.tries;
-      begun = counted.begun;
-      end = ends-on (g.L.Lines.line_count c.args.lines.now) (g.E.Engine.may_stop c.args.engine.now) c.args.turn _ _ _ _ _ _ _ _
-          was.few was.counted on here.stopped.may here.stopped.counted;
-      gate = was.gate;
+      pass = record {
+        of = c.try_line.ensures.of;
+        lanes = more.attempted.lanes;
+        pending = more.attempted.pending;
+      };
+      turn = record {
+        lines = more.plays;
+        within = counted.within;
+        few = counted.few;
+        attempts = counted.attempts;
+        begun = counted.begun;
+        gate = was.gate;
+      };
+      enough = record {
+        first = λ fresh tries small some. elim (cases_eq c.attempts.tried 0) [
+          | inl none ↦
+              let line : c.args.turn.done + 1 ≡ c.in-Some.line =
+              omega (arith, none, was.few, c.in-Some.ensures.line, c.len.ensures, c.attempts.replies.ok.0) in
+              let is_fresh = subst (g.E.Engine.fresh c.args.engine.now) (sym (was.begun none)) fresh in
+              let is_small = subst (λ n. IsSmallLine (bounds_in (g.E.Engine.limits c.args.engine.now))
+              (meaning_of g.L.B.Body g.L.Lines c.args.lines.now) c.args.turn.caller n (g.E.Engine.start c.args.engine.now)) line small in
+              some-of _ (other-end _ _ _ on (here.stopped.small is_fresh tries is_small))
+          | inr later ↦ was.first fresh tries small (omega arith)
+        ];
+        steady = λ stops. same-of _ _ (other-end _ _ _ on (stops _ here.stopped.may));
+      };
+      end = record {
+        end = ends-on (g.L.Lines.line_count c.args.lines.now) (g.E.Engine.may_stop c.args.engine.now) c.args.turn _ _ _ _ _ _ _ _
+            was.few was.counted on here.stopped.may here.stopped.counted;
+        no_memory = tt;
+      };
       room = was.room;
-      no_memory = tt;
-      first = λ fresh tries small some. elim (cases_eq c.attempts.tried 0) [
-        | inl none ↦
-            let line : c.args.turn.done + 1 ≡ c.in-Some.line =
-            omega (arith, none, was.few, c.in-Some.ensures.line, c.len.ensures, c.attempts.replies.ok.0) in
-            let is_fresh = subst (g.E.Engine.fresh c.args.engine.now) (sym (was.begun none)) fresh in
-            let is_small = subst (λ n. IsSmallLine (bounds_in (g.E.Engine.limits c.args.engine.now)) g.L.B.Body.makes
-            (g.L.Lines.body_at c.args.lines.now) c.args.turn.caller n (g.E.Engine.start c.args.engine.now)) line small in
-            some-of _ (other-end _ _ _ on (here.small is_fresh tries is_small))
-        | inr later ↦ was.first fresh tries small (omega arith)
-      ];
-      steady = λ stops. same-of _ _ (other-end _ _ _ on (stops _ here.stopped.may));
     })
 
 pub returns : goal.returns
@@ -190,20 +212,28 @@ returns g c =
     (omega (arith, c.len-count.ensures)) was.few was.counted (omega arith) (omega arith) was.lines.attempted.few
     (omega arith, omega arith) in
     record {
-      of = was.of;
-      lanes = was.lines.attempted.lanes;
-      pending = was.lines.attempted.pending;
-      lines = was.lines.plays;
-      within = counted.within;
-      few = counted.few;
-      tries = counted.tries;
-      begun = counted.begun;
-      end = omega (arith, c.attempts-test.false, was.counted);
-      gate = was.gate;
+      pass = record {
+        of = was.of;
+        lanes = was.lines.attempted.lanes;
+        pending = was.lines.attempted.pending;
+      };
+      turn = record {
+        lines = was.lines.plays;
+        within = counted.within;
+        few = counted.few;
+        attempts = counted.attempts;
+        begun = counted.begun;
+        gate = was.gate;
+      };
+      enough = record {
+        first = λ fresh tries small some. was.first fresh tries small (omega (arith, c.attempts-test.false, some));
+        steady = λ stops. most-played _ _ _ _ _ counted.within (was.steady stops) (omega arith) c.attempts-test.false;
+      };
+      end = record {
+        end = omega (arith, c.attempts-test.false, was.counted);
+        no_memory = tt;
+      };
       room = was.room;
-      no_memory = tt;
-      first = λ fresh tries small some. was.first fresh tries small (omega (arith, c.attempts-test.false, some));
-      steady = λ stops. most-played _ _ _ _ _ counted.within (was.steady stops) (omega arith) c.attempts-test.false;
     }
 
 pub try_line-requires-clause-of : goal.try_line-requires-clause-of
@@ -221,7 +251,7 @@ try_line-requires-clause-room g c κs within =
       c.in-Some.ensures.left,
       c.len-count.ensures,
       c.attempts-test.true,
-      c.requires.room,
+      c.requires.replies.room,
     )
 
 pub after_stop-requires : goal.after_stop-requires

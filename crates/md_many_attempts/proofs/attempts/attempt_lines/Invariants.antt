@@ -1,6 +1,7 @@
 use Rattle.std.proofs.Common.{◌≡◌, ◌<◌, ◌≤◌, ◌+◌, ℕ, length, vec_capacity}
 use Rattle.md_history.specs.Engine.{bounds_in}
 use Rattle.md_many_attempts.specs.Lines.{IsSmallLine, StopsForMemory}
+use Rattle.md_many_attempts.specs.Meaning.{meaning_of}
 use Rattle.md_many_attempts.specs.declared.attempts.TheConstants.{MOST_CONFLICTS}
 use Rattle.md_many_attempts.proofs.Playing.{HasPlayed}
 use Rattle.md_many_attempts.proofs.attempts.attempt_lines.Given as goal
@@ -9,7 +10,7 @@ abbrev pub invariant-attempts : goal.invariant-attempts
 invariant-attempts g l = record {
   of : g.E.Engine.of l.engine l.pass;
   fated : length (g.E.Engine.front l.pass).known ≡ length (g.E.Engine.front l.pass).seen;
-  lines : HasPlayed g.L.B.Body.did (g.L.Lines.body_at l.lines) l.turn.caller l.turn.done l.tried
+  lines : HasPlayed (meaning_of g.L.B.Body g.L.Lines l.lines) l.turn.caller l.turn.done l.tried
       (g.E.Engine.front l.fn.pass) (g.E.Engine.front l.pass) l.replies.items;
   within : l.turn.done + length l.replies.items ≤ g.L.Lines.line_count l.lines l.turn.caller;
   few : length l.replies.items + l.conflicts ≤ l.tried;
@@ -20,7 +21,7 @@ invariant-attempts g l = record {
       → g.G.Gate.after_called l.gate l.turn.caller line;
   begun : l.tried ≡ 0 → l.pass ≡ l.fn.pass;
   first : g.E.Engine.fresh l.engine l.fn.pass → 1 ≤ (g.E.Engine.limits l.engine).tries
-      → IsSmallLine (bounds_in (g.E.Engine.limits l.engine)) g.L.B.Body.makes (g.L.Lines.body_at l.lines)
+      → IsSmallLine (bounds_in (g.E.Engine.limits l.engine)) (meaning_of g.L.B.Body g.L.Lines l.lines)
       l.turn.caller (l.turn.done + 1) (g.E.Engine.start l.engine) → 1 ≤ l.tried → 1 ≤ length l.replies.items;
   steady : StopsForMemory (g.E.Engine.may_stop l.engine) → length l.replies.items ≡ l.tried;
 }

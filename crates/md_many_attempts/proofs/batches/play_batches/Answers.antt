@@ -1,10 +1,9 @@
 use Rattle.std.proofs.Common.{◌≡◌, ◌+◌, ◌≤◌, length, refl, sym, ap, subst, ◌∙◌, arith}
 use Rattle.std.proofs.lemmas.List.{length-append}
 use Rattle.std.proofs.lemmas.Result.{IfOk-from_err}
-use Rattle.md_many_attempts.specs.Lines.{PlaysLines}
 use Rattle.md_many_attempts.specs.Turns.{EndsBy}
-use Rattle.md_many_attempts.proofs.Playing.{played-none}
-use Rattle.md_many_attempts.proofs.Following.{plays-then}
+use Rattle.md_many_attempts.proofs.Playing.{attempted-none, played-none}
+use Rattle.md_many_attempts.proofs.Following.{plays-then, attempted-then}
 use Rattle.md_many_attempts.proofs.Ending.{told-then, ends-then}
 use Rattle.md_many_attempts.proofs.batches.play_batches.Goals as goal
 
@@ -14,9 +13,10 @@ batches-init g c = record {
   fated = c.pass_is_legal.ensures.legal.fated;
   lanes = refl;
   pending = refl;
-  lines = rw c.new-replies.ensures (played-none _ _ _ _ _).plays;
+  lines = rw c.new-replies.ensures (played-none _ _ _ _).plays;
+  attempts = omega (arith, (attempted-none (g.E.Engine.front c.args.pass.now)).few);
   done = omega (arith, ap length c.new-replies.ensures);
-  within = c.requires.done;
+  within = c.requires.turn.done;
   gate = λ line after before. absurd (omega arith);
   each = omega (arith, ap length c.new-replies.ensures);
   counted = refl;
@@ -26,117 +26,119 @@ batches-init g c = record {
 pub batches-preserved : goal.batches-preserved
 batches-preserved g c =
     let was = c.batches.invariant in
-    let more = c.attempt_lines.ensures in
+    let pass = c.attempt_lines.ensures.pass in
+    let more = c.attempt_lines.ensures.turn in
     let all = c.in_ok-append.ensures in
     let count = ap length all ∙ length-append (g.T.ReplyList.listed c.batches.replies) c.attempt_lines.new.replies.items in
     let len : c.len.result ≡ length c.attempt_lines.new.replies.items =
     c.len.ensures ∙ c.attempt_lines.new.replies.ok.0 in
-    let all_tries : g.E.Engine.begun c.attempt_lines.new.pass ≡ g.E.Engine.begun c.batches.pass + c.min-tries.result =
+    let all_attempts : g.E.Engine.begun c.attempt_lines.new.pass
+    ≡ g.E.Engine.begun c.batches.pass + c.min-attempts.result =
     subst (EndsBy (g.L.Lines.line_count c.args.lines.now) (g.E.Engine.may_stop c.args.engine.now) _ _ _ _)
-    c.in-Tries.is c.in_ok-end.ensures.end in
+    c.in-Attempts.is c.in_ok-end.ensures.end.end in
     record {
-      of = more.of;
+      of = pass.of;
       fated = c.pass_is_legal-in-batches.ensures.legal.fated;
-      lanes = more.lanes ∙ was.lanes;
-      pending = more.pending ∙ was.pending;
-      lines = rw all
-          (plays-then g.L.B.Body.did (g.L.Lines.body_at c.args.lines.now) c.args.turn.caller c.args.turn.done c.batches.done
-          _ _ _ _ _ _ was.lines was.done
-          (subst (λ ls. PlaysLines g.L.B.Body.did (g.L.Lines.body_at c.args.lines.now) c.args.turn.caller c.batches.done ls
-          (g.E.Engine.front c.batches.pass) (g.E.Engine.front c.attempt_lines.new.pass)
-          c.attempt_lines.new.replies.items) was.lanes more.lines) was.fated);
+      lanes = pass.lanes ∙ was.lanes;
+      pending = pass.pending ∙ was.pending;
+      lines = rw all (plays-then _ _ _ _ _ _ _ _ _ was.lines was.lanes more.lines was.fated was.done);
+      attempts = omega (
+        arith,
+        c.min-attempts.ensures,
+        was.attempts,
+        attempted-then _ _ _ _ _ _ _ _ _ was.lines was.lanes more.lines was.fated _ more.attempts,
+      );
       done = omega (arith, count, len, was.done);
       within = omega (arith, len, more.within);
       gate = told-then _ _ c.batches.done _ was.gate
           (λ line after before. more.gate line after (omega (arith, before, len)));
       each = omega (arith, count, was.each, more.begun.each);
-      counted = omega (arith, was.counted, all_tries, c.min-tries.ensures);
+      counted = omega (arith, was.counted, all_attempts, c.min-attempts.ensures);
     }
 
 pub returns-in_default : goal.returns-in_default
 returns-in_default g c =
     let was = c.batches.invariant in
-    let more = c.attempt_lines.ensures in
+    let pass = c.attempt_lines.ensures.pass in
+    let more = c.attempt_lines.ensures.turn in
     let all = c.in_ok-append.ensures in
     let count = ap length all ∙ length-append (g.T.ReplyList.listed c.batches.replies) c.attempt_lines.new.replies.items in
     record {
-      of = more.of;
-      lanes = more.lanes ∙ was.lanes;
-      pending = more.pending ∙ was.pending;
-      lines = rw all
-          (plays-then g.L.B.Body.did (g.L.Lines.body_at c.args.lines.now) c.args.turn.caller c.args.turn.done c.batches.done
-          _ _ _ _ _ _ was.lines was.done
-          (subst (λ ls. PlaysLines g.L.B.Body.did (g.L.Lines.body_at c.args.lines.now) c.args.turn.caller c.batches.done ls
-          (g.E.Engine.front c.batches.pass) (g.E.Engine.front c.attempt_lines.new.pass)
-          c.attempt_lines.new.replies.items) was.lanes more.lines) was.fated);
-      few = omega (arith, count, was.done, more.few);
-      begun = record {
-        each = omega (arith, count, was.each, more.begun.each);
-        most = omega (arith, was.counted, more.begun.most, c.min-tries.ensures);
+      pass = record {
+        of = pass.of;
+        lanes = pass.lanes ∙ was.lanes;
+        pending = pass.pending ∙ was.pending;
+      };
+      turn = record {
+        lines = rw all (plays-then _ _ _ _ _ _ _ _ _ was.lines was.lanes more.lines was.fated was.done);
+        within = omega (arith, count, was.done, more.within);
+        few = omega (arith, count, was.done, more.few);
+        attempts = omega (
+          arith,
+          c.min-attempts.ensures,
+          was.attempts,
+          attempted-then _ _ _ _ _ _ _ _ _ was.lines was.lanes more.lines was.fated _ more.attempts,
+        );
+        begun = record {
+          each = omega (arith, count, was.each, more.begun.each);
+          most = omega (arith, was.counted, more.begun.most, c.min-attempts.ensures);
+        };
+        gate = λ line after before. told-then _ _ c.batches.done _ was.gate more.gate line after
+            (omega (arith, before, count, was.done));
       };
       end = rw count
           (ends-then (g.L.Lines.line_count c.args.lines.now) (g.E.Engine.may_stop c.args.engine.now) c.args.turn
-          (record { caller = c.args.turn.caller; done = c.batches.done; tries = c.min-tries.result })
+          (record { caller = c.args.turn.caller; done = c.batches.done; attempts = c.min-attempts.result })
           (length (g.T.ReplyList.listed c.batches.replies)) (length c.attempt_lines.new.replies.items)
           (g.E.Engine.begun c.args.pass.now) (g.E.Engine.begun c.batches.pass)
-          (g.E.Engine.begun c.attempt_lines.new.pass) c.in_ok-end.end refl was.done was.each c.in_default.not-Tries
-          c.in_ok-end.ensures.end);
-      gate = λ line after before. told-then _ _ c.batches.done _ was.gate more.gate line after
-          (omega (arith, before, count, was.done));
+          (g.E.Engine.begun c.attempt_lines.new.pass) c.in_ok-end.end refl was.done was.each c.in_default.not-Attempts
+          c.in_ok-end.ensures.end.end);
     }
 
 pub returns-in_err-batch : goal.returns-in_err-batch
 returns-in_err-batch g c =
+    let was = c.batches.invariant in
     let err = c.from_residual.ensures.0 in
     record {
-      of = c.batches.invariant.of;
-      lanes = c.batches.invariant.lanes;
-      pending = c.batches.invariant.pending;
-      lines = IfOk-from_err _ _ err;
-      few = IfOk-from_err _ _ err;
-      begun = IfOk-from_err _ _ err;
+      pass = record { of = was.of; lanes = was.lanes; pending = was.pending };
+      turn = IfOk-from_err _ _ err;
       end = IfOk-from_err _ _ err;
-      gate = IfOk-from_err _ _ err;
     }
 
 pub returns-in_err-end : goal.returns-in_err-end
 returns-in_err-end g c =
+    let was = c.batches.invariant in
+    let pass = c.attempt_lines.ensures.pass in
     let err = c.from_residual-in_err-end.ensures.0 in
     record {
-      of = c.attempt_lines.ensures.of;
-      lanes = c.attempt_lines.ensures.lanes ∙ c.batches.invariant.lanes;
-      pending = c.attempt_lines.ensures.pending ∙ c.batches.invariant.pending;
-      lines = IfOk-from_err _ _ err;
-      few = IfOk-from_err _ _ err;
-      begun = IfOk-from_err _ _ err;
+      pass = record { of = pass.of; lanes = pass.lanes ∙ was.lanes; pending = pass.pending ∙ was.pending };
+      turn = IfOk-from_err _ _ err;
       end = IfOk-from_err _ _ err;
-      gate = IfOk-from_err _ _ err;
     }
 
 pub returns-in_err-append : goal.returns-in_err-append
 returns-in_err-append g c =
+    let was = c.batches.invariant in
+    let pass = c.attempt_lines.ensures.pass in
     let err = c.from_residual-in_err-append.ensures.0 in
     record {
-      of = c.attempt_lines.ensures.of;
-      lanes = c.attempt_lines.ensures.lanes ∙ c.batches.invariant.lanes;
-      pending = c.attempt_lines.ensures.pending ∙ c.batches.invariant.pending;
-      lines = IfOk-from_err _ _ err;
-      few = IfOk-from_err _ _ err;
-      begun = IfOk-from_err _ _ err;
+      pass = record { of = pass.of; lanes = pass.lanes ∙ was.lanes; pending = pass.pending ∙ was.pending };
+      turn = IfOk-from_err _ _ err;
       end = IfOk-from_err _ _ err;
-      gate = IfOk-from_err _ _ err;
     }
 
 pub returns : goal.returns
 returns g c =
     let was = c.batches.invariant in
     record {
-      of = was.of;
-      lanes = was.lanes;
-      pending = was.pending;
-      lines = was.lines;
-      few = omega (arith, was.done, was.within, c.len-count.ensures);
-      begun = record { each = was.each; most = omega (arith, was.counted) };
+      pass = record { of = was.of; lanes = was.lanes; pending = was.pending };
+      turn = record {
+        lines = was.lines;
+        within = omega (arith, was.done, was.within);
+        few = omega (arith, was.done, was.within, c.len-count.ensures);
+        attempts = omega (arith, was.attempts);
+        begun = record { each = was.each; most = omega (arith, was.counted) };
+        gate = λ line after before. was.gate line after (subst (λ n. line ≤ n) (sym was.done) before);
+      };
       end = omega (arith, was.counted, c.batches-test.false);
-      gate = λ line after before. was.gate line after (subst (λ n. line ≤ n) (sym was.done) before);
     }

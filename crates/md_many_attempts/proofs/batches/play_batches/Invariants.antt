@@ -1,5 +1,7 @@
 use Rattle.std.proofs.Common.{◌≡◌, ◌<◌, ◌≤◌, ◌+◌, ℕ, length}
+use Rattle.md_many_attempts.specs.Joined.{entries_after}
 use Rattle.md_many_attempts.specs.Lines.{PlaysLines}
+use Rattle.md_many_attempts.specs.Meaning.{meaning_of}
 use Rattle.md_many_attempts.proofs.batches.play_batches.Given as goal
 
 abbrev pub invariant-batches : goal.invariant-batches
@@ -11,13 +13,15 @@ invariant-batches g l =
       fated : length (g.E.Engine.front l.pass).known ≡ length (g.E.Engine.front l.pass).seen;
       lanes : (g.E.Engine.front l.pass).lanes ≡ before.lanes;
       pending : (g.E.Engine.front l.pass).pending ≡ before.pending;
-      lines : PlaysLines g.L.B.Body.did (g.L.Lines.body_at l.lines) l.fn.turn.caller l.fn.turn.done before.lanes before
+      lines : PlaysLines (meaning_of g.L.B.Body g.L.Lines l.lines) l.fn.turn.caller l.fn.turn.done before.lanes before
           (g.E.Engine.front l.pass) (listed l.replies);
+      attempts : length (entries_after (length before.seen) before.lanes (g.E.Engine.front l.pass)) + l.left
+          ≤ l.fn.turn.attempts;
       done : l.done ≡ l.fn.turn.done + length (listed l.replies);
       within : l.done ≤ g.L.Lines.line_count l.lines l.fn.turn.caller;
       gate : (line : ℕ) → l.fn.turn.done < line → line ≤ l.done → g.G.Gate.after_called l.gate l.fn.turn.caller line;
       each : g.E.Engine.begun l.fn.pass + length (listed l.replies) ≤ g.E.Engine.begun l.pass;
-      counted : g.E.Engine.begun l.pass + l.left ≡ g.E.Engine.begun l.fn.pass + l.fn.turn.tries;
+      counted : g.E.Engine.begun l.pass + l.left ≡ g.E.Engine.begun l.fn.pass + l.fn.turn.attempts;
     }
 
 abbrev pub decreases-batches : goal.decreases-batches

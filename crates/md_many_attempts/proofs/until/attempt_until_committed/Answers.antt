@@ -1,6 +1,6 @@
 use Rattle.std.proofs.Common.{arith, rules, refl, subst, sym, ◌∙◌}
 use Rattle.md_history.specs.Engine.{IsNoConflict}
-use Rattle.md_many_attempts.proofs.Retrying.{stop-none, stop-more, stop-end, commit-end, no_conflict, met-conflict, of-stop, conflict-began, ends-tries, began-one}
+use Rattle.md_many_attempts.proofs.Retrying.{stop-none, stop-more, stop-end, commit-end, no_conflict, met-conflict, of-stop, conflict-began, ends-attempts, began-one, may-stop}
 use Rattle.md_many_attempts.proofs.until.attempt_until_committed.Goals as goal
 
 pub attempts-init : goal.attempts-init
@@ -21,17 +21,21 @@ returns-then-not-is_conflict g c =
     let test = c.attempts-test.true in
     let one = began-one c.attempt-end.result _ _ end.begun in
     record {
-      committed = commit-end _ _ _ _ _ was.stopped _ _ _ (omega arith) end.committed;
-      stopped = stop-end _ _ _ _ _ was.stopped _ _ (omega arith) end.stopped;
-      legal = end.legal;
+      atomic = record {
+        committed = commit-end _ _ _ _ _ was.stopped _ _ _ (omega arith) end.committed;
+        stopped = stop-end _ _ _ _ _ was.stopped _ _ (omega arith) end.stopped;
+        legal = end.legal;
+      };
       of = end.of;
-      begun = ends-tries _ _ _ _ _ _ (c.is_conflict.ensures.other c.if-not-is_conflict.true) was.counted (omega arith) end.begun;
-      again = λ more. was.again (omega (arith, more, one, was.counted));
-      may_stop = end.may_stop;
-      alone = λ all. end.alone (was.stopped.lanes ∙ all);
-      once = λ all. omega (arith, one, was.counted, was.alone all);
-      small = λ fresh tries small. end.small
-          (subst (g.E.Engine.fresh c.args.engine.now) (sym (was.begun (was.small fresh tries small))) fresh) tries small;
+      begun = record {
+        begun = ends-attempts _ _ _ _ _ _ (c.is_conflict.ensures.other c.if-not-is_conflict.true) was.counted
+            (omega arith) end.begun;
+        again = λ more. was.again (omega (arith, more, one, was.counted));
+        once = λ all. omega (arith, one, was.counted, was.alone all);
+      };
+      stops = may-stop _ _ _ _ _ end.may_stop (λ all. end.alone (was.stopped.lanes ∙ all))
+          (λ fresh tries small. end.small
+          (subst (g.E.Engine.fresh c.args.engine.now) (sym (was.begun (was.small fresh tries small))) fresh) tries small);
     }
 
 pub attempts-preserved : goal.attempts-preserved
@@ -51,13 +55,24 @@ attempts-preserved g c =
           (subst (g.E.Engine.fresh c.args.engine.now) (sym (was.begun (was.small fresh tries small))) fresh) tries small)));
     }
 
-pub returns-clause-committed : goal.returns-clause-committed
-returns-clause-committed g c =
-    commit-end _ _ _ _ _ c.attempts.invariant.stopped _ _ _ (omega arith) c.attempt.ensures.committed
-
-pub returns-clause-stopped : goal.returns-clause-stopped
-returns-clause-stopped g c =
-    stop-end _ _ _ _ _ c.attempts.invariant.stopped _ _ (omega arith) c.attempt.ensures.stopped
-
-pub returns-clause-begun : goal.returns-clause-begun
-returns-clause-begun g c = search rules depth 1
+pub returns : goal.returns
+returns g c =
+    let was = c.attempts.invariant in
+    let end = c.attempt.ensures in
+    let one = began-one c.attempt.result _ _ end.begun in
+    record {
+      atomic = record {
+        committed = commit-end _ _ _ _ _ was.stopped _ _ _ (omega arith) end.committed;
+        stopped = stop-end _ _ _ _ _ was.stopped _ _ (omega arith) end.stopped;
+        legal = end.legal;
+      };
+      of = end.of;
+      begun = record {
+        begun = search rules depth 1;
+        again = λ more. was.again (omega (arith, more, one, was.counted));
+        once = λ all. omega (arith, one, was.counted, was.alone all);
+      };
+      stops = may-stop _ _ _ _ _ end.may_stop (λ all. end.alone (was.stopped.lanes ∙ all))
+          (λ fresh tries small. end.small
+          (subst (g.E.Engine.fresh c.args.engine.now) (sym (was.begun (was.small fresh tries small))) fresh) tries small);
+    }

@@ -25,7 +25,7 @@ pub returns-clause-first : goal.returns-clause-first
 returns-clause-first g c = λ more.
     let played = IfOk-at_ok _ c.in_ok-joined.was c.join-first.ensures.first.1.1 in (
       played.0,
-      plays-parted _ _ _ _ _ _ _ _ _ _ c.in-Some.ensures.split.kept_lanes
+      plays-parted _ _ _ _ _ _ _ _ _ c.in-Some.ensures.split.kept_lanes
           (IfOk-at_ok _ c.in_ok-joined.was c.join-first.ensures.first.1.0) c.in-Some.ensures.split.kept_part
           played.1 (joins g c).begins (joins g c).keeps c.pass_is_legal-2.ensures.legal.fated,
     )
@@ -34,7 +34,7 @@ pub returns-clause-second : goal.returns-clause-second
 returns-clause-second g c = λ more.
     let played = IfOk-at_ok _ c.in_ok-other.was c.join-first.ensures.second.1.1 in (
       played.0,
-      plays-parted _ _ _ _ _ _ _ _ _ _ c.in-Some.ensures.split.given_lanes
+      plays-parted _ _ _ _ _ _ _ _ _ c.in-Some.ensures.split.given_lanes
           (IfOk-at_ok _ c.in_ok-other.was c.join-first.ensures.second.1.0) c.in-Some.ensures.split.given_part
           played.1 (joins g c).begins_other (joins g c).keeps_other c.pass_is_legal-3.ensures.legal.fated,
     )

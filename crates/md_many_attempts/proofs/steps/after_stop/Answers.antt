@@ -1,5 +1,5 @@
 use Rattle.std.proofs.Common.{refl, arith}
-use Rattle.md_many_attempts.proofs.tries.after_stop.Goals as goal
+use Rattle.md_many_attempts.proofs.steps.after_stop.Goals as goal
 
 pub returns-then-conflicts-eq-MOST_CONFLICTS-clause-again : goal.returns-then-conflicts-eq-MOST_CONFLICTS-clause-again
 returns-then-conflicts-eq-MOST_CONFLICTS-clause-again g = assumption

@@ -1,5 +1,5 @@
 use Rattle.std.proofs.Common.{rules}
-use Rattle.md_rounds.proofs.round_replies.RoundRepliesReplyListBookReply.append.Goals as goal
+use Rattle.md_rounds.proofs.turn_replies.TurnRepliesReplyListBookReply.append.Goals as goal
 
 pub returns-clause-all : goal.returns-clause-all
 returns-clause-all c = search rules depth 1

@@ -1,5 +1,5 @@
 use Rattle.std.proofs.Common.{arith}
-use Rattle.md_many_attempts.proofs.tries.next_line.Goals as goal
+use Rattle.md_many_attempts.proofs.steps.next_line.Goals as goal
 
 pub returns-clause-line : goal.returns-clause-line
 returns-clause-line g = omega arith

@@ -1,16 +1,15 @@
 //! Rounds of lines whose bodies are lawful, whatever lines they are.
 
-ghost use Rattle.std.specs.Prelude.{◌≡◌, ◌≤◌, ◌+◌, ◌*◌, [], ℕ, length, map, IfOk, OnOk};
-ghost use Rattle.std.specs.Prelude.{IsSome};
+ghost use Rattle.std.specs.Prelude.{◌+◌, ◌*◌, map, IfOk, OnOk, IsSome};
 ghost use Rattle.md_history.specs.State.{HaveSameNumbers};
-ghost use Rattle.md_history.specs.Counts.{AllowAll};
-ghost use Rattle.md_history.specs.Engine.{bounds_in, needed};
+ghost use Rattle.md_history.specs.Engine.{needed};
+ghost use Rattle.md_many_attempts.specs.ByCaller.{HasList, line_at, lines_of, lists_in};
+ghost use Rattle.md_many_attempts.specs.Meaning.{meaning_of};
 ghost use Rattle.md_many.specs.Tags.{IsInterleaving};
 ghost use Rattle.md_many.specs.Laws.{AreLawfulBodies};
-ghost use Rattle.md_many_attempts.specs.ByCaller.{at_caller, line_at, lines_of, lists_in};
-ghost use Rattle.md_many.specs.Played.{EachLineOnce, committed_of, tags_of};
+ghost use Rattle.md_many.specs.Played.{EachLineOnce, IsToldOfEach, committed_of, tags_of};
 ghost use Rattle.md_many.specs.Serial.{IsSerialRun};
-ghost use Rattle.md_many.specs.Reached.{IsReached};
+ghost use Rattle.md_many.specs.Reached.{CanRunBodies, IsReached};
 
 use crate::laws::{LawfulBody, LawfulLines};
 use crate::many::{Many, run_many};
@@ -96,25 +95,17 @@ where
     L::B: LawfulBody + Send,
     <L::B as Body>::Reply: Send,
     G: Gate + Sync,
-    requires of { E.of engine pass }
-    requires fresh { E.fresh engine pass }
-    requires lanes { length (E.lanes engine) ≡ L.caller_count lines.now }
     requires laws { AreLawfulBodies L.B.did L.B.makes L.B.fits L.B.good L.B.cost L.B.growth }
-    requires good { L.B.good (E.start engine) (E.start engine) }
-    requires bounds { AllowAll L.B.cost (bounds_in (E.limits engine)) }
-    requires tries { 1 ≤ (E.limits engine).tries }
-    requires room { needed (E.start engine)
-        + L.B.growth * lines_of (L.line_count lines.now) (L.caller_count lines.now)
-        ≤ (E.limits engine).room }
-    ensures each_line_once { IfOk result (λ m. EachLineOnce L.B.did (L.body_at lines.now)
-        (L.line_count lines.now) (λ caller rs. at_caller [] (lists_in m.replies.items) caller ≡ rs)
+    requires engine { CanRunBodies E.Engine L.B.LawfulBody.own
+        (meaning_of L.B.Body L.Lines lines.now) engine pass }
+    ensures each_line_once { IfOk result (λ m. EachLineOnce
+        (meaning_of L.B.Body L.Lines lines.now) (HasList (lists_in m.replies.items))
         (λ s tags. L.B.good (E.start engine) s) (E.start engine)
         (map E.front m.fronts.items) m.contents) }
-    ensures gate { OnOk result ((caller line : ℕ) → 1 ≤ line
-        → line ≤ L.line_count lines.now caller → G.after_called gate.now caller line) }
+    ensures gate { OnOk result (IsToldOfEach (L.line_count lines.now) (G.after_called gate.now)) }
     ensures interleaving { IfOk result (λ m. IsInterleaving (L.line_count lines.now)
         (tags_of (committed_of (map E.front m.fronts.items)))) }
-    ensures serial { IfOk result (λ m. IsSerialRun L.B.did (L.body_at lines.now)
+    ensures serial { IfOk result (λ m. IsSerialRun (meaning_of L.B.Body L.Lines lines.now)
         (line_at (lists_in m.replies.items)) (E.start engine)
         (committed_of (map E.front m.fronts.items)) m.contents) }
     ensures numbers { IfOk result (λ m. HaveSameNumbers m.contents (E.start engine)) }

@@ -1,10 +1,10 @@
-//! One try of a turn: which line it is at, the attempt, and what follows a stop.
+//! One attempt of a turn: which line it is at, the attempt, and what follows a stop.
 
-ghost use Rattle.std.specs.Prelude.{◌≡◌, ◌<◌, ◌≤◌, ◌+◌, ◌∷◌, ◌++◌, [], length, vec_len, vec_capacity};
+ghost use Rattle.std.specs.Prelude.{◌≡◌, ◌<◌, ◌≤◌, ◌+◌, ◌∷◌, ◌++◌, [], vec_len, vec_capacity};
 ghost use Rattle.std.specs.Prelude.{IfSome, IfNone, IfOk, OnErr};
-ghost use Rattle.md_history.specs.Engine.{bounds_in};
-ghost use Rattle.md_many_attempts.specs.Lines.{AreFitting, IsSmallLine};
-ghost use Rattle.md_many_attempts.specs.Tried.{AddsLine, StopsAt, IsAnotherConflict, EndsOn};
+ghost use Rattle.md_many_attempts.specs.Meaning.{meaning_of};
+ghost use Rattle.md_many_attempts.specs.Steps.{CanAttempt, AddsLine, StopsAt};
+ghost use Rattle.md_many_attempts.specs.Steps.{IsAnotherConflict, EndsOn};
 
 use crate::attempts::{End, MOST_CONFLICTS};
 use crate::callers::Lines;
@@ -12,6 +12,13 @@ use crate::gates::Gate;
 use crate::tags::line_tag;
 use md_history::{Attempt, Body, Engine, Stop};
 use std::alloc::AllocError;
+
+/// Where a line stands: its caller and its number, both counted from 1.
+#[derive(Clone, Copy)]
+pub(crate) struct Place {
+    pub(crate) caller: u32,
+    pub(crate) line: u32,
+}
 
 /// The line after so many that were played, if the caller has one left.
 #[inline(always)]
@@ -40,8 +47,9 @@ fn put<R: Drop>(replies: &mut Vec<R>, reply: R)
     };
 }
 
-/// Attempts a caller's line once, and tells the gate before and after. If the attempt is committed,
-/// its reply goes to the end of `replies`, and the result is `None`. Otherwise it is the stop.
+/// Attempts the line at a place once, and tells the gate before and after. If the attempt is
+/// committed, its reply goes to the end of `replies`, and the result is `None`. Otherwise it is the
+/// stop.
 ///
 /// It isn't `attempt_line`, whose result would be copied once more.
 #[inline(always)]
@@ -49,29 +57,22 @@ pub(crate) fn try_line<E: Engine, L: Lines, G: Gate>(
     engine: &E,
     pass: &mut E::Pass,
     lines: &L,
-    caller: u32,
-    line: u32,
+    place: Place,
     gate: &G,
     replies: &mut Vec<<L::B as Body>::Reply>,
 ) -> Option<Stop>
     requires of { E.of engine.now pass.old }
-    requires fits { AreFitting L.B.fits (L.body_at lines.now) (E.start engine.now) }
-    requires from_1 { 1 ≤ line }
-    requires there { line ≤ L.line_count lines.now caller }
+    requires line { CanAttempt (meaning_of L.B.Body L.Lines lines.now) (E.start engine.now) place }
     requires room { vec_len replies.old < vec_capacity replies.old }
     ensures of { E.of engine.now pass.new }
-    ensures fated { length (E.front pass.new).known ≡ length (E.front pass.new).seen }
-    ensures committed { IfNone result (AddsLine L.B.did (L.body_at lines.now)
-        (G.after_called gate.now) caller line (E.front pass.old) (E.front pass.new)
-        (E.begun pass.old) (E.begun pass.new) replies.old.items replies.new.items) }
-    ensures stopped { IfSome result (λ s. StopsAt (E.may_stop engine.now) caller line s
-        (E.front pass.old) (E.front pass.new) (E.begun pass.old) (E.begun pass.new)) }
+    ensures committed { IfNone result (AddsLine E.Engine (meaning_of L.B.Body L.Lines lines.now)
+        (G.after_called gate.now) place pass.old pass.new replies.old.items replies.new.items) }
+    ensures stopped { IfSome result (StopsAt E.Engine engine.now
+        (meaning_of L.B.Body L.Lines lines.now) place pass.old pass.new) }
     ensures same { IfSome result (λ _. replies.new ≡ replies.old) }
-    ensures small { E.fresh engine.now pass.old → 1 ≤ (E.limits engine.now).tries
-        → IsSmallLine (bounds_in (E.limits engine.now)) L.B.makes (L.body_at lines.now)
-        caller line (E.start engine.now) → IfSome result (λ s. s ≡ Stop.NoMemory) }
     ensures room { vec_capacity replies.old ≤ vec_capacity replies.new }
 {
+    let Place { caller, line } = place;
     let Some(body) = lines.body(caller, line) else {
         unreachable!()
     };

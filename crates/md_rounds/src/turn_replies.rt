@@ -11,16 +11,16 @@ use std::alloc::{AllocError, Global};
 // The replies of a turn. The last batch stays as it came, and those before it are packed. So a turn
 // of one batch packs nothing.
 #[derive(Drop)]
-pub(crate) struct RoundReplies {
+pub(crate) struct TurnReplies {
     pub(crate) packed: PackedReplies,
     pub(crate) last: Vec<BookReply>,
 }
 
-impl ReplyList<BookReply> for RoundReplies {
+impl ReplyList<BookReply> for TurnReplies {
     ghost listed = { all_of };
 
-    fn new(alloc: Global) -> RoundReplies {
-        RoundReplies {
+    fn new(alloc: Global) -> TurnReplies {
+        TurnReplies {
             packed: PackedReplies::new(alloc),
             last: Vec::new(alloc),
         }
