@@ -52,15 +52,15 @@ pub record Stops (tag : ℕ) (old new : Front) : Type 0 where
 
 -- How many attempts were begun, before one that stopped and after it. It was begun if it met a conflict; else it may have
 -- stopped before that.
-abbrev pub IsStopCounted : Stop → ℕ → ℕ → Type 0
-IsStopCounted (Conflict shown) begun begun' = begun' ≡ begun + 1
-IsStopCounted (Limit limit) begun begun' = (begun ≤ begun') × (begun' ≤ begun + 1)
-IsStopCounted NoMemory begun begun' = (begun ≤ begun') × (begun' ≤ begun + 1)
+abbrev pub CountsStop : Stop → ℕ → ℕ → Type 0
+CountsStop (Conflict shown) begun begun' = begun' ≡ begun + 1
+CountsStop (Limit limit) begun begun' = (begun ≤ begun') × (begun' ≤ begun + 1)
+CountsStop NoMemory begun begun' = (begun ≤ begun') × (begun' ≤ begun + 1)
 
 -- The same of any attempt: one that was committed was begun.
-abbrev pub IsCounted : {R : Type 0} → Attempt R → ℕ → ℕ → Type 0
-IsCounted (Done r) begun begun' = begun' ≡ begun + 1
-IsCounted (Stopped s) begun begun' = IsStopCounted s begun begun'
+abbrev pub CountsAttempt : {R : Type 0} → Attempt R → ℕ → ℕ → Type 0
+CountsAttempt (Done r) begun begun' = begun' ≡ begun + 1
+CountsAttempt (Stopped s) begun begun' = CountsStop s begun begun'
 
 -- a pass was closed: what it has seen and its own stay, and each fate is decided
 pub record Settles (old new : Front) : Type 0 where

@@ -6,7 +6,7 @@ ghost use Rattle.md_history.specs.declared.stops.Stop.{Stop};
 ghost use Rattle.md_history.specs.State.{State, HaveSameNumbers};
 ghost use Rattle.md_history.specs.Counts.{IsSmall};
 ghost use Rattle.md_history.specs.Front.{Front as View, LegalFrom, replay_of};
-ghost use Rattle.md_history.specs.Attempt.{Commits, Stops, IsCounted, IfCommitted, IfStopped};
+ghost use Rattle.md_history.specs.Attempt.{Commits, Stops, CountsAttempt, IfCommitted, IfStopped};
 ghost use Rattle.md_history.specs.Engine.{Limits, bounds_in, IsFrontFrom, empty_front, AreApart};
 ghost use Rattle.md_history.specs.Engine.{Splits, Joins, SettlesFrom, HasRoom, IsNoConflict};
 
@@ -78,7 +78,7 @@ pub trait Engine: Sized + Sync + Drop {
         ensures stopped { IfStopped result (λ _. Stops tag (front pass.old) (front pass.new)) }
         ensures legal { LegalFrom (start self.now) (front pass.new) }
         ensures of { of self.now pass.new }
-        ensures begun { IsCounted result (begun pass.old) (begun pass.new) }
+        ensures begun { CountsAttempt result (begun pass.old) (begun pass.new) }
         ensures may_stop { IfStopped result (may_stop self.now) }
         ensures alone { (front pass.old).lanes ≡ lanes self.now → IfStopped result IsNoConflict }
         ensures small { fresh self.now pass.old → 1 ≤ (limits self.now).tries

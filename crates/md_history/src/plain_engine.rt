@@ -4,7 +4,7 @@ ghost use Rattle.std.specs.Prelude.{◌≡◌, ◌↔◌, ◌+◌, if◌then◌e
 ghost use Rattle.std.specs.Prelude.{IsOk, IfOk};
 ghost use Rattle.md_history.specs.State.{HaveSameNumbers};
 ghost use Rattle.md_history.specs.Front.{LegalFrom, replay_of};
-ghost use Rattle.md_history.specs.Attempt.{Commits, Stops, IsCounted, IfCommitted, IfStopped};
+ghost use Rattle.md_history.specs.Attempt.{Commits, Stops, CountsAttempt, IfCommitted, IfStopped};
 ghost use Rattle.md_history.specs.Engine.{AreApart, Joins, SettlesFrom};
 ghost use Rattle.md_history.specs.Plain.{front_of, begun_by, IsPassOf, plain_limits};
 
@@ -67,7 +67,7 @@ impl Engine for PlainStore {
         ensures breaks { IfStopped result (λ _. pass.new.broken ≡ true) }
         ensures whole { IfCommitted result (λ _.
             (pass.old.broken ≡ false) × (pass.new.broken ≡ false)) }
-        ensures begun { IsCounted result (begun_by pass.old) (begun_by pass.new) }
+        ensures begun { CountsAttempt result (begun_by pass.old) (begun_by pass.new) }
         ensures exact { begun_by pass.new
             ≡ begun_by pass.old + (if pass.old.broken then 0 else 1) }
     {

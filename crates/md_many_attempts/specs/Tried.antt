@@ -5,7 +5,7 @@ use Rattle.md_history.specs.declared.stops.Shown.{Shown}
 use Rattle.md_history.specs.declared.stops.Stop.{Stop}
 use Rattle.md_history.specs.declared.stops.Stop.TheVariants as stop
 use Rattle.md_history.specs.Front.{Front}
-use Rattle.md_history.specs.Attempt.{Commits, Stops, IsStopCounted}
+use Rattle.md_history.specs.Attempt.{Commits, Stops, CountsStop}
 use Rattle.md_many_attempts.specs.Tags.{tag_of}
 use Rattle.md_many_attempts.specs.declared.attempts.End.{End}
 use Rattle.md_many_attempts.specs.declared.attempts.End.TheVariants.{Lines, Tries, Limit, Conflicts}
@@ -27,7 +27,7 @@ pub record AddsLine {B R : Type 0} (did : B → List Act → R → Type 0) (body
 pub record StopsAt (may_stop : Stop → Type 0) (caller line : ℕ) (s : Stop) (old new : Front) (begun begun' : ℕ)
     : Type 0 where
   pub stops : Stops (tag_of caller line) old new
-  pub counted : IsStopCounted s begun begun'
+  pub counted : CountsStop s begun begun'
   pub may : may_stop s
 
 -- it met a conflict, one more in a row, and they are too few to end the turn

@@ -4,7 +4,7 @@ ghost use Rattle.std.specs.Prelude.{◌≡◌, ◌<◌, ◌≤◌, ◌+◌, ◌^
 ghost use Rattle.std.specs.Prelude.{OnOk, OnErr, IfOk};
 ghost use Rattle.md_history.specs.Counts.{IsSmall};
 ghost use Rattle.md_history.specs.Front.{LegalFrom};
-ghost use Rattle.md_history.specs.Attempt.{Commits, Stops, IsCounted, IfCommitted, IfStopped};
+ghost use Rattle.md_history.specs.Attempt.{Commits, Stops, CountsAttempt, IfCommitted, IfStopped};
 ghost use Rattle.md_history.specs.Engine.{bounds_in, IsNoConflict};
 ghost use Rattle.md_many_attempts.specs.Tags.{tag_of};
 ghost use Rattle.md_many_attempts.specs.Joined.{entries_after};
@@ -66,7 +66,7 @@ pub fn attempt_line<E: Engine, B: Body, G: Gate>(
         Stops (tag_of caller line) (E.front pass.old) (E.front pass.new)) }
     ensures legal { LegalFrom (E.start engine.now) (E.front pass.new) }
     ensures of { E.of engine.now pass.new }
-    ensures begun { IsCounted result (E.begun pass.old) (E.begun pass.new) }
+    ensures begun { CountsAttempt result (E.begun pass.old) (E.begun pass.new) }
     ensures before { G.before_called gate.now caller line }
     ensures after { IfCommitted result (λ _. G.after_called gate.now caller line) }
     ensures may_stop { IfStopped result (E.may_stop engine.now) }

@@ -9,7 +9,7 @@ use Rattle.md_history.specs.declared.acts.Act.{Act}
 use Rattle.md_history.specs.declared.stops.Shown.{Shown}
 use Rattle.md_history.specs.declared.stops.Stop.{Stop}
 use Rattle.md_history.specs.declared.stops.Stop.TheVariants.{Conflict, Limit, NoMemory}
-use Rattle.md_history.specs.Attempt.{Commits as CommitsFront, IsStopCounted, Stops as StopsFront}
+use Rattle.md_history.specs.Attempt.{Commits as CommitsFront, CountsStop, Stops as StopsFront}
 use Rattle.md_history.specs.Calls.{Refusal}
 use Rattle.md_history.specs.Engine.{IsNoConflict, IsRising}
 use Rattle.md_history.specs.Front.{LegalFrom}
@@ -283,7 +283,7 @@ module _ (f : FieldView) (p : PassState) (of : IsPassOf f p) (tag : ℕ) (u : Tx
   front_stopped s = subst (λ (n : ℕ). StopsFront n (front_in p) (front_in q)) x.tagged (stopped_all f p of u r x.running x.field q s).1
 
 -- how many attempts were begun, of one that was stopped
-pub counted_if : (s : Stop) (old new : ℕ) → new ≡ old + 1 → IsStopCounted s old new
+pub counted_if : (s : Stop) (old new : ℕ) → new ≡ old + 1 → CountsStop s old new
 counted_if (Conflict shown) old new more = more
 counted_if (Limit limit) old new more = (omega (arith, more), omega (arith, more))
 counted_if NoMemory old new more = (omega (arith, more), omega (arith, more))

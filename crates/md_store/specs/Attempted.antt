@@ -2,7 +2,7 @@
 use Rattle.std.specs.Prelude.{◌≡◌, ◌≤◌, ℕ, List}
 use Rattle.md_history.specs.declared.acts.Act.{Act}
 use Rattle.md_history.specs.declared.stops.Attempt.{Attempt}
-use Rattle.md_history.specs.Attempt.{Commits, IfCommitted, IfStopped, IsCounted, Stops}
+use Rattle.md_history.specs.Attempt.{Commits, IfCommitted, IfStopped, CountsAttempt, Stops}
 use Rattle.md_history.specs.Counts.{IsSmall}
 use Rattle.md_history.specs.Engine.{IsNoConflict, bounds_in}
 use Rattle.md_history.specs.Front.{LegalFrom}
@@ -18,7 +18,7 @@ pub record IsAttempted {R : Type 0} (f : FieldView) (before after : PassState) (
   pub stopped : IfStopped result (λ why. Stops tag (front_in before) (front_in after))
   pub legal : LegalFrom (start_of f) (front_in after)
   pub of : IsPassOf f after
-  pub begun : IsCounted result (begun_by before) (begun_by after)
+  pub begun : CountsAttempt result (begun_by before) (begun_by after)
   pub cause : IfStopped result (StopsBy f before after)
   pub may_stop : IfStopped result MayStop
   pub alone : (front_in before).lanes ≡ all_lanes f.origin.shape → IfStopped result IsNoConflict

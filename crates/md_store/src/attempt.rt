@@ -1,7 +1,7 @@
 //! Attempts: a body that is run once, as a transaction of the store.
 
 ghost use Rattle.std.specs.Prelude.{◌≡◌, ◌≤◌};
-ghost use Rattle.md_history.specs.Attempt.{Commits, IfCommitted, IfStopped, IsCounted, Stops};
+ghost use Rattle.md_history.specs.Attempt.{Commits, IfCommitted, IfStopped, CountsAttempt, Stops};
 ghost use Rattle.md_history.specs.Counts.{IsSmall};
 ghost use Rattle.md_history.specs.Engine.{IsNoConflict, bounds_in};
 ghost use Rattle.md_history.specs.Front.{LegalFrom};
@@ -43,7 +43,7 @@ impl Store {
         ensures stopped { IfStopped result (λ _. Stops tag (front_in pass.old) (front_in pass.new)) }
         ensures legal { LegalFrom (start_of self.now) (front_in pass.new) }
         ensures of { IsPassOf self.now pass.new }
-        ensures begun { IsCounted result (begun_by pass.old) (begun_by pass.new) }
+        ensures begun { CountsAttempt result (begun_by pass.old) (begun_by pass.new) }
         ensures cause { IfStopped result (StopsBy self.now pass.old pass.new) }
         ensures may_stop { IfStopped result MayStop }
         ensures alone { (front_in pass.old).lanes ≡ all_lanes self.now.origin.shape

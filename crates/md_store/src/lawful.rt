@@ -2,7 +2,7 @@
 
 ghost use Rattle.std.specs.Prelude.{◌≡◌, ◌+◌, ◌≤◌, ◌↔◌, IfNone, IfOk, IfSome, IsNone, length};
 ghost use Rattle.std.specs.Prelude.{option_map, unwrap_or};
-ghost use Rattle.md_history.specs.Attempt.{Commits, IfCommitted, IfStopped, IsCounted, Stops};
+ghost use Rattle.md_history.specs.Attempt.{Commits, IfCommitted, IfStopped, CountsAttempt, Stops};
 ghost use Rattle.md_history.specs.Counts.{IsSmall};
 ghost use Rattle.md_history.specs.Engine.{AreApart, HasRoom, IsNoConflict, Joins, SettlesFrom};
 ghost use Rattle.md_history.specs.Engine.{Splits, bounds_in};
@@ -65,7 +65,7 @@ impl Engine for Store {
         ensures stopped { IfStopped result (λ _. Stops tag (front_in pass.old) (front_in pass.new)) }
         ensures legal { LegalFrom (start_of self.now) (front_in pass.new) }
         ensures of { IsPassOf self.now pass.new }
-        ensures begun { IsCounted result (begun_by pass.old) (begun_by pass.new) }
+        ensures begun { CountsAttempt result (begun_by pass.old) (begun_by pass.new) }
         ensures may_stop { IfStopped result MayStop }
         ensures alone { (front_in pass.old).lanes ≡ all_lanes self.now.origin.shape
             → IfStopped result IsNoConflict }
