@@ -24,7 +24,7 @@ use Rattle.md_machine.specs.events.Mark.{answered, without}
 use Rattle.md_rule_lanes.specs.Shares.{share_at}
 use Rattle.md_history.specs.declared.entries.Fate.TheVariants.{Committed as IsCommitted}
 use Rattle.md_machine.specs.declared.attempt.Write.{Write}
-use Rattle.md_help.specs.After.{IsAfter, Stands}
+use Rattle.md_help.specs.After.{IsAfter, StandsInField}
 use Rattle.md_nbtc_law.specs.declared.seen.Cleanup.{Cleanup}
 use Rattle.md_nbtc_law.specs.Cleaning.{cleanup_node}
 use Rattle.md_nbtc_law.specs.Ending.{Cleans, CleansAll, CleansKept, GoesBy, HasEntry, IsReadyCleanup, IsSamePass, LastFate, Tries}
@@ -179,7 +179,7 @@ pub record CleansSlots (shape : Shape) (slots : List Slot) (outs : List Step) (b
 -- the rest of a committed attempt was done: it isn't in hand any more, and its entry was answered. Its descriptor was taken
 -- out of its words, its cleanups were made, and a mark was made last
 pub record Finishes (M : Meaning) (o : Origin) (p : PassState) (a : AttemptId) (slots : List Slot) (q : PassState) : Type 0 where
-  pub stands : Stands M o q.view
+  pub stands : StandsInField M o q.view
   pub same : IsSamePass p q
   pub seen : q.view.seen ≡ p.view.seen
   pub idle : q.view.hand ≡ None

@@ -34,7 +34,7 @@ use Rattle.md_machine.specs.events.Ready.{ready_word, unready_word}
 use Rattle.md_arena.specs.Left.{HasTryLeft, IsLowest}
 use Rattle.md_rule_lanes.specs.Shares.{share_at}
 use Rattle.md_rule.specs.Views.{Origin, PassState}
-use Rattle.md_help.specs.After.{Stands}
+use Rattle.md_help.specs.After.{StandsInField}
 use Rattle.md_nbtc_law.specs.declared.seen.Cleanup.{Cleanup}
 use Rattle.md_nbtc_law.specs.declared.seen.Cleanup.TheVariants.{MoveTail, Unlink}
 use Rattle.md_nbtc_law.specs.declared.slots.Slot.{Slot}
@@ -80,7 +80,7 @@ pub record Begins (p : PassState) (tag : ℕ) (t : TxnState) : Type 0 where
 
 -- none began: the pass has nothing in hand, and is else as it was
 pub record BeginsNot (M : Meaning) (p : PassState) (o : Origin) (q : PassState) : Type 0 where
-  pub stands : Stands M o q.view
+  pub stands : StandsInField M o q.view
   pub same : IsSamePass p q
   pub seen : q.view.seen ≡ p.view.seen
   pub mine : q.view.mine ≡ p.view.mine
@@ -90,7 +90,7 @@ pub record BeginsNot (M : Meaning) (p : PassState) (o : Origin) (q : PassState) 
 
 -- the transaction isn't in hand any more. The pass stands so in some machine of the field
 pub record PutDown (M : Meaning) (t : TxnState) (q : PassState) : Type 0 where
-  pub stands : Stands M t.field.origin q.view
+  pub stands : StandsInField M t.field.origin q.view
   pub same : IsSamePass t.pass q
   pub seen : q.view.seen ≡ t.pass.view.seen
   pub idle : q.view.hand ≡ None
@@ -163,7 +163,7 @@ pub record IsReadyCleanup (M : Meaning) (t : TxnState) (e : HasEntry t) (w : Wri
 -- a transaction that is ready: its last step on its status left that in progress, and its pass stands so in some machine of
 -- the field. Its nodes are free if the entry doesn't commit
 pub record IsReady (M : Meaning) (t : TxnState) : Type 0 where
-  pub stands : Stands M t.field.origin t.pass.view
+  pub stands : StandsInField M t.field.origin t.pass.view
   pub has : IsHeld t
   pub entry : HasEntry t
   pub left : LastOn (address (shape_in t) (desc_status (attempt_in t).desc)) (ready_word (attempt_in t) (length t.reads)) (own_steps t)

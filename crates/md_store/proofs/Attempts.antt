@@ -17,7 +17,7 @@ use Rattle.md_machine.specs.clauses.passes.Alone.{HoldsAll}
 use Rattle.md_machine.specs.clauses.passes.Lanes.{RiseFrom}
 use Rattle.md_machine.specs.Legal.{front_of}
 use Rattle.md_machine.proofs.lists.Rising.{in_cons, in_none, rise_low}
-use Rattle.md_help.specs.After.{Stands}
+use Rattle.md_help.specs.After.{StandsInField}
 use Rattle.md_machine.specs.declared.attempt.Hand.{Hand}
 use Rattle.md_nbtc_law.specs.Ending.{Begins, BeginsNot, HasEntry, PutDown, Readies, Stopped}
 use Rattle.md_nbtc_law.specs.Going.{HasCause, IsGoing}
@@ -96,7 +96,7 @@ module _ (f : FieldView) (p : PassState) (of : IsPassOf f p) (u : TxnState) (r :
         table = down.same.table ∙ table ∙ table_is ∙ of.of.table;
         shape = down.same.shape ∙ shape ∙ shape_is ∙ of.of.shape;
       };
-      stands = subst (λ (x : FieldView). Stands store x.origin q.view) (same ∙ field) down.stands;
+      stands = subst (λ (x : FieldView). StandsInField store x.origin q.view) (same ∙ field) down.stands;
     }
 
     down_shape : q.shape ≡ p.shape

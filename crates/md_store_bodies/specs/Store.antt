@@ -12,7 +12,7 @@ use Rattle.md_history.specs.Front.{Front}
 use Rattle.md_history.specs.State.{State}
 use Rattle.md_machine.specs.Event.{first_pass}
 use Rattle.md_machine.specs.Legal.{front_of}
-use Rattle.md_help.specs.After.{Stands}
+use Rattle.md_help.specs.After.{StandsInField}
 use Rattle.md_rule.specs.Closing.{plain_words}
 use Rattle.md_rule_lanes.specs.Shares.{share_at}
 use Rattle.md_rule.specs.Views.{FieldView, IsOf, PassState}
@@ -55,7 +55,7 @@ begun_by p = sum_by (λ lane. (share_at p.shares lane).tries_taken) p.view.lanes
 -- the pass is of the field, and stands so in some machine of it
 pub record IsPassOf (f : FieldView) (p : PassState) : Type 0 where
   pub of : IsOf p f
-  pub stands : Stands store f.origin p.view
+  pub stands : StandsInField store f.origin p.view
 
 -- nothing of a lane was taken
 pub record IsUnused (s : Share) : Type 0 where

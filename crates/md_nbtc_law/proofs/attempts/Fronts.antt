@@ -23,7 +23,7 @@ use Rattle.md_machine.specs.events.Mark.{without}
 use Rattle.md_machine.proofs.events.Attempts.{same_from}
 use Rattle.md_rule.specs.Views.{Origin, PassState}
 use Rattle.md_rule.proofs.Moves.{is_kept}
-use Rattle.md_help.specs.After.{Stands}
+use Rattle.md_help.specs.After.{StandsInField}
 use Rattle.md_nbtc_law.specs.Ending.{Aborts, Begins, BeginsNot, Commits, HasEntry, LastFate, PutDown, Readies, Stopped}
 use Rattle.md_nbtc_law.specs.Known.{IsLater}
 use Rattle.md_nbtc_law.specs.State.{TxnState, attempt_in}
@@ -53,7 +53,7 @@ pub one_entry : (t : TxnState) (d e : HasEntry t) → d.entry ≡ e.entry
 one_entry t d e = (same_from_push d.before e.before d.entry e.entry (sym d.last ∙ e.last)).1
 
 -- where a pass stands somewhere, it has a fate for each entry that it has seen
-fated : (M : Meaning) (o : Origin) (q : PassState) → Stands M o q.view → length q.view.known ≡ length (entries_of q.view.seen)
+fated : (M : Meaning) (o : Origin) (q : PassState) → StandsInField M o q.view → length q.view.known ≡ length (entries_of q.view.seen)
 fated M o q x = ((is_kept M o x.machine x.admitted).fronts x.pass q.view x.acts.at).fated ∙ sym (length-map q.view.seen (λ (y : HistoryEntry). y.entry))
 
 -- a pass that has seen and answered what it had, and knows more fates: an attempt that left no entry

@@ -27,7 +27,7 @@ use Rattle.md_machine.proofs.lists.Rising.{in_none}
 use Rattle.md_history.specs.Front.{IsPrefix}
 use Rattle.md_rule.specs.Views.{PassState}
 use Rattle.md_rule.proofs.Moves.{is_kept}
-use Rattle.md_help.specs.After.{IsAfter, Stands}
+use Rattle.md_help.specs.After.{IsAfter, StandsInField}
 use Rattle.md_nbtc_law.specs.Deciding.{LooksAt, Validates}
 use Rattle.md_nbtc_law.specs.Ending.{Aborts, IsReady, LastFate}
 use Rattle.md_nbtc_law.specs.State.{OwnNode, TxnState, attempt_in, shape_in, taken_since, writes_in}
@@ -63,7 +63,7 @@ aborted_none (x ∷ es) e (f ∷ fs) node many =
 module _ (M : Meaning) (t : TxnState) (ready : IsReady M t) (q : PassView) (moved : Option Shown) (v : Validates (shape_in t) (attempt_in t).desc t.reads (length t.reads) moved t.pass.view q)
     (r : PassView) (step : Step) (last : IsAfter (shape_in t) (step ∷ []) q r) (kind : (step.kind ≡ Commit) ⊎ (step.kind ≡ Abort))
     (there : step.word ≡ address (shape_in t) (desc_status (attempt_in t).desc)) (left : step.after ≡ decided_word IsAborted (from M t ready))
-    (aborted : LastFate r.known Aborted) (stands : Stands M t.field.origin r) where
+    (aborted : LastFate r.known Aborted) (stands : StandsInField M t.field.origin r) where
   abbrev a : AttemptId
   a = attempt_in t
 

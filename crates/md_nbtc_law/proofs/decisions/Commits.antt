@@ -23,7 +23,7 @@ use Rattle.md_machine.specs.events.Decide.{decided_word}
 use Rattle.md_machine.specs.events.Mark.{answered, without}
 use Rattle.md_rule.specs.Views.{PassState}
 use Rattle.md_rule.proofs.Moves.{is_kept}
-use Rattle.md_help.specs.After.{IsAfter, Stands}
+use Rattle.md_help.specs.After.{IsAfter, StandsInField}
 use Rattle.md_help.proofs.Steps.{trail_after}
 use Rattle.md_nbtc_law.specs.Deciding.{Finishes, Validates}
 use Rattle.md_nbtc_law.specs.Ending.{Commits, IsReady, LastFate}
@@ -36,7 +36,7 @@ use Rattle.md_nbtc_law.proofs.decisions.MaySettle.{from, from_reads, from_serial
 module _ (M : Meaning) (t : TxnState) (ready : IsReady M t) (q : PassView) (moved : Option Shown) (v : Validates (shape_in t) (attempt_in t).desc t.reads (length t.reads) moved t.pass.view q)
     (r : PassView) (step : Step) (last : IsAfter (shape_in t) (step ∷ []) q r) (kind : (step.kind ≡ Commit) ⊎ (step.kind ≡ Abort))
     (there : step.word ≡ address (shape_in t) (desc_status (attempt_in t).desc)) (left : step.after ≡ decided_word IsCommitted (from M t ready))
-    (committed : LastFate r.known Committed) (stands : Stands M t.field.origin r) (end : PassState) (f : Finishes M t.field.origin (record t.pass { view = r }) (attempt_in t) t.slots end) where
+    (committed : LastFate r.known Committed) (stands : StandsInField M t.field.origin r) (end : PassState) (f : Finishes M t.field.origin (record t.pass { view = r }) (attempt_in t) t.slots end) where
   abbrev a : AttemptId
   a = attempt_in t
 

@@ -20,7 +20,7 @@ use Rattle.md_machine.specs.Trail.{is_store}
 use Rattle.md_machine.specs.events.Decide.{decided_word}
 use Rattle.md_machine.specs.events.Uninstall.{IsDecided}
 use Rattle.md_rule.proofs.Moves.{is_kept}
-use Rattle.md_help.specs.After.{IsAfter, Stands}
+use Rattle.md_help.specs.After.{IsAfter, StandsInField}
 use Rattle.md_help.proofs.Ends.{decided_serial, decided_status}
 use Rattle.md_help.proofs.Steps.{both_after, trail_after}
 use Rattle.md_nbtc_law.specs.declared.slots.Slot.{Slot}
@@ -87,7 +87,7 @@ module _ (M : Meaning) (t : TxnState) (ready : IsReady M t) (q : PassView) (move
   installed = are_still (shape_in t) a steps t.pass.view r goes quiet (writes_in t) (held_installed t ready.has)
 
   -- and the fate of its entry is known
-  pub last_fate : Stands M t.field.origin q → (f : Fate) → TellsFate status f → LastFate r.known f
+  pub last_fate : StandsInField M t.field.origin q → (f : Fate) → TellsFate status f → LastFate r.known f
   last_fate stands f tells =
       let e = ready.entry in
       known_last (shape_in t) a.desc step q r e.before e.entry status f (desc_is M t ready) last (deciding_quiet step kind).store there

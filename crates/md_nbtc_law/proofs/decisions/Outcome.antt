@@ -20,7 +20,7 @@ use Rattle.md_rule.specs.Views.{PassState}
 use Rattle.md_rule.proofs.Moves.{is_kept}
 use Rattle.md_help.proofs.Numbers.{formats_of}
 use Rattle.md_machine.proofs.lists.Rising.{here}
-use Rattle.md_help.specs.After.{Stands}
+use Rattle.md_help.specs.After.{StandsInField}
 use Rattle.md_help.specs.Settles.{MetStatus}
 use Rattle.md_help.proofs.Steps.{trail_after}
 use Rattle.md_nbtc_law.specs.Deciding.{Finishes, MayCleanSlot, MaySettle, Settles, SettlesBy, Validates, aborted_by_other}
@@ -57,7 +57,7 @@ module _ (M : Meaning) (t : TxnState) (ready : IsReady M t) (x : AttemptId) (x_i
   may = subst (λ (y : AttemptId). MaySettle (shape_in t) p.view y.desc by moved) (sym x_is)
       (subst (λ w. MaySettle (shape_in t) p.view a.desc w moved) (sym by_is) (may_settle M t ready p.view moved v))
 
-  module _ (same : p ≡ record t.pass { view = p.view }) (also : q ≡ record p { view = q.view }) (stands : Stands M t.field.origin p.view) (after : Stands M t.field.origin q.view)
+  module _ (same : p ≡ record t.pass { view = p.view }) (also : q ≡ record p { view = q.view }) (stands : StandsInField M t.field.origin p.view) (after : StandsInField M t.field.origin q.view)
       (result : Result (Unit {0}) Shown) (settles : Settles M t.field.origin x.desc by moved result p.view q.view) where
     abbrev s : Settles M t.field.origin a.desc (from M t ready) moved result p.view q.view
     s = subst (λ (y : AttemptId). Settles M t.field.origin y.desc (from M t ready) moved result p.view q.view) x_is

@@ -26,7 +26,7 @@ use Rattle.md_nbtc_law.proofs.decisions.StoodThen.{stood_there}
 use Rattle.md_machine.specs.clauses.passes.Alone.{HoldsAll}
 use Rattle.md_machine.specs.events.Decide.{decided_word}
 use Rattle.md_rule.specs.Views.{PassState}
-use Rattle.md_help.specs.After.{IsAfter, Stands}
+use Rattle.md_help.specs.After.{IsAfter, StandsInField}
 use Rattle.md_help.proofs.Ends.{decided_status}
 use Rattle.md_help.proofs.Steps.{trail_after}
 use Rattle.md_nbtc_law.specs.Deciding.{FoundMoved, LooksAt, Validates, aborted_by_other}
@@ -74,7 +74,7 @@ module _ (M : Meaning) (t : TxnState) (since : IsPrefix t.began.view.trail t.pas
     concerns = concerns_more (shape_in t) a shown.word (own_steps t) (between ++ s ∷ []) concerns;
   }
 
-  pub later_others : (q : PassView) → q.trail ≡ t.pass.view.trail ++ (between ++ s ∷ []) → Stands M t.field.origin q → ¬ HoldsAll (shape_in t) q
+  pub later_others : (q : PassView) → q.trail ≡ t.pass.view.trail ++ (between ++ s ∷ []) → StandsInField M t.field.origin q → ¬ HoldsAll (shape_in t) q
   later_others q is stands all =
       let began = t.began.view.trail in
       let trail : q.trail ≡ began ++ ((own_steps t ++ between) ++ s ∷ []) =
@@ -102,7 +102,7 @@ module _ (M : Meaning) (t : TxnState) (ready : IsReady M t) (q : PassView) where
   looks_same steps looks = All-weaker (LooksAt (shape_in t)) (λ (x : Step). x.before ≡ x.after) (λ s l. l.same) steps looks
 
   -- the read that didn't stand, where this pass decided the transaction by it
-  module _ (shown : Shown) (v : Validates (shape_in t) b.desc t.reads (length t.reads) (Some shown) t.pass.view q) (stands : Stands M t.field.origin q)
+  module _ (shown : Shown) (v : Validates (shape_in t) b.desc t.reads (length t.reads) (Some shown) t.pass.view q) (stands : StandsInField M t.field.origin q)
       (event : EventOf) (r : PassView) (told : SteppedFrom M t.field.origin event (address (shape_in t) (desc_status b.desc)) (from M t ready) q r) where
     abbrev f : FoundMoved b.desc t.reads shown t.pass.view v.steps
     f = v.finds
@@ -151,7 +151,7 @@ module _ (M : Meaning) (t : TxnState) (ready : IsReady M t) (q : PassView) where
         trail lanes
 
   -- else the status, which another left aborted
-  module _ (moved : Option Shown) (v : Validates (shape_in t) b.desc t.reads (length t.reads) moved t.pass.view q) (r : PassView) (stands : Stands M t.field.origin r)
+  module _ (moved : Option Shown) (v : Validates (shape_in t) b.desc t.reads (length t.reads) moved t.pass.view q) (r : PassView) (stands : StandsInField M t.field.origin r)
       (step : Step) (last : IsAfter (shape_in t) (step ∷ []) q r) (kind : (step.kind ≡ Commit) ⊎ (step.kind ≡ Abort)) (there : step.word ≡ address (shape_in t) (desc_status b.desc))
       (before : step.before ≡ decided_word IsAborted (from M t ready)) (after : step.after ≡ decided_word IsAborted (from M t ready)) where
     abbrev shown : Shown

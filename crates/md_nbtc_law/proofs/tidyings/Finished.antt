@@ -25,7 +25,7 @@ use Rattle.md_rule.proofs.LaneLists.{desc_fits}
 use Rattle.md_rule.proofs.LaneSteps.{one_changed}
 use Rattle.md_rule.proofs.Moves.{is_kept}
 use Rattle.md_rule.proofs.Told.{told_end}
-use Rattle.md_help.specs.After.{IsAfter, Stands}
+use Rattle.md_help.specs.After.{IsAfter, StandsInField}
 use Rattle.md_help.proofs.Steps.{both_after, known_stays, stands_after, trail_after}
 use Rattle.md_arena.proofs.TakenNodes.{share_same}
 use Rattle.md_nbtc_law.specs.declared.slots.Slot.{Slot}
@@ -48,7 +48,7 @@ module _ (M : Meaning) (o : Origin) (p q r s : PassState) (a : AttemptId) (slots
   pub fate_now : HasFate o.shape r.view a Committed
   fate_now = fate_still o.shape a (t.steps ++ c.steps) p.view r.view goes Committed fate
 
-  module _ (count : length p.shares ≡ 64) (stands : Stands M o r.view) (marks : s ≡ record r { view = s.view; shares = after_end r.shares a.desc }) (step : Stepped M o (λ pass. mark_end pass) r.view s.view) where
+  module _ (count : length p.shares ≡ 64) (stands : StandsInField M o r.view) (marks : s ≡ record r { view = s.view; shares = after_end r.shares a.desc }) (step : Stepped M o (λ pass. mark_end pass) r.view s.view) where
     told : s.view ≡ record (marked step.machine r.view) { hand = None; pending = without r.view.pending a; mine = r.view.mine ++ answered r.view.seen r.view.known a }
     told =
         let e = told_end M o r.view s.view step in
