@@ -3,7 +3,7 @@
 ghost use Rattle.std.specs.Prelude.{◌≡◌, ◌<◌, ◌^◌, None, IfErr, IfOk, MatchResult, false};
 ghost use Rattle.md_words.specs.declared.status.Status.TheVariants.{InPrep};
 ghost use Rattle.md_words.specs.Status.{status_word};
-ghost use Rattle.md_nbtc_law.specs.Ending.{Aborts, Commits, HasEntry, IsReady, IsShown, Readies};
+ghost use Rattle.md_nbtc_law.specs.Ending.{Aborts, CommitsTransaction, HasEntry, IsReady, IsShown, Readies};
 ghost use Rattle.md_nbtc_law.specs.Ending.{Stopped, TellsWhy, receipt_of, shown_unready};
 ghost use Rattle.md_nbtc_law.specs.Ended.{WasCommitted, WasLost, WasUnready};
 ghost use Rattle.md_nbtc_law.specs.LeftReady.{WasLeftReady};
@@ -222,7 +222,7 @@ impl<'a, T: Theory> Ready<'a, T> {
     pub fn decide(self) -> Result<Receipt, Shown>
         requires { IsReady T.meaning (ready_state self) }
         ensures committed { IfOk result (λ receipt. (e : HasEntry (ready_state self.entry))
-            × Commits T.meaning (ready_state self.entry) e self.exit.0.now
+            × CommitsTransaction T.meaning (ready_state self.entry) e self.exit.0.now
             × (receipt ≡ receipt_of (ready_state self.entry))) }
         ensures aborted { IfErr result (λ shown. Aborts T.meaning (ready_state self.entry) self.exit.0.now
             × IsShown (ready_state self.entry) self.exit.0.now shown

@@ -64,7 +64,7 @@ abbrev pub AreTakenOut : PassView → (desc serial slots : ℕ) → Type 0
 AreTakenOut view desc serial slots = EveryStepOf view (λ s. WonInstall (attempt_of desc serial) s → (spot_of (value_of s.after)).slot < slots → MetHigher view s.word (count_of s.after))
 
 -- an own descriptor's attempt ended so, and what it won in so many slots was taken out
-pub record TakesOut (shape : Shape) (desc : ℕ) (end : End) (slots : ℕ) (before after : PassView) : Type 0 where
+pub record TakesOwnOut (shape : Shape) (desc : ℕ) (end : End) (slots : ℕ) (before after : PassView) : Type 0 where
   pub steps : List Step
   pub goes : IsAfter shape steps before after
   pub ends : EndsOwn shape desc end before after

@@ -67,7 +67,7 @@ pub record MayAnswer (M : Meaning) (t : TxnState) (op : Op) (reply : Reply) : Ty
   pub may : MayEnd M t earlier certificate
 
 -- each such certificate is one more then
-pub record Ends (M : Meaning) (t u : TxnState) (op : Op) (reply : Reply) : Type 0 where
+pub record EndsOperation (M : Meaning) (t u : TxnState) (op : Op) (reply : Reply) : Type 0 where
   pub going : (cs : List Certificate) (c : Certificate) → IsGoing M t cs → IsOfAct op reply c → MayEnd M t cs c → IsGoing M u (cs ++ c ∷ [])
   pub later : IsLater t u
 

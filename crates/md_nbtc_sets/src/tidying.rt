@@ -11,7 +11,7 @@ ghost use Rattle.md_machine.specs.events.Start.{IsClean};
 ghost use Rattle.md_rule.specs.Views.{IsOf};
 ghost use Rattle.md_help.specs.After.{StandsInField};
 ghost use Rattle.md_nbtc_law.specs.Cleaning.{cleanup_node, cleanup_value, cleanup_word};
-ghost use Rattle.md_nbtc_law.specs.Deciding.{Cleaned, CleansSlot, CleansSlots, FindsNext, Finishes};
+ghost use Rattle.md_nbtc_law.specs.Deciding.{Cleaned, CleansSlot, CleansSlots, FindsNext, FinishesAttempt};
 ghost use Rattle.md_nbtc_law.specs.Deciding.{MayClean, MayCleanSlot, TakesSlots, TookLeft, TookOut};
 ghost use Rattle.md_nbtc_law.specs.Deciding.{TookSlot, Tried};
 ghost use Rattle.md_nbtc_law.specs.Ending.{IsReason, names_node};
@@ -248,7 +248,7 @@ pub(crate) fn finish<T: Theory>(
         (map (λ s. s.write) slots.now) }
     requires may { All (MayCleanSlot T.meaning field.now.origin pass.old.view) slots.now }
     requires few { length slots.now ≤ SET }
-    ensures { Finishes T.meaning field.now.origin pass.old attempt slots.now pass.new }
+    ensures { FinishesAttempt T.meaning field.now.origin pass.old attempt slots.now pass.new }
 {
     let _ = pass.shape();
     take_slots_out(pass, field, attempt, slots, lefts);

@@ -19,7 +19,7 @@ use Rattle.md_machine.specs.Legal.{front_of}
 use Rattle.md_machine.proofs.lists.Rising.{in_cons, in_none, rise_low}
 use Rattle.md_help.specs.After.{StandsInField}
 use Rattle.md_machine.specs.declared.attempt.Hand.{Hand}
-use Rattle.md_nbtc_law.specs.Ending.{Begins, BeginsNot, HasEntry, PutDown, Readies, Stopped}
+use Rattle.md_nbtc_law.specs.Ending.{BeginsTransaction, BeginsNot, HasEntry, PutDown, Readies, Stopped}
 use Rattle.md_nbtc_law.specs.Going.{HasCause, IsGoing}
 use Rattle.md_nbtc_law.proofs.preparing.Heaps.{goes_self}
 use Rattle.md_nbtc_law.specs.State.{SameTries, TxnState, attempt_in}
@@ -222,10 +222,10 @@ no_refusal : (r : Refusal) → (let o : Option Refusal = None in o ≡ Some r) �
 no_refusal r is = cc is
 
 -- one that was begun runs
-pub begun_runs : (p : PassState) (tag : ℕ) (t : TxnState) → Begins p tag t → IsGoing store t [] → IsRunning p t None
+pub begun_runs : (p : PassState) (tag : ℕ) (t : TxnState) → BeginsTransaction p tag t → IsGoing store t [] → IsRunning p t None
 begun_runs p tag t begins going = record {
   start = t;
-  begins = subst (λ (n : ℕ). Begins p n t) (sym (ap (λ (h : Hand). h.tag) begins.hand)) begins;
+  begins = subst (λ (n : ℕ). BeginsTransaction p n t) (sym (ap (λ (h : Hand). h.tag) begins.hand)) begins;
   later = (goes_self store t).later;
   going = ([], going);
   stop = begins.stop;

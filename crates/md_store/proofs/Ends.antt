@@ -12,7 +12,7 @@ use Rattle.md_history.specs.Calls.{Refusal}
 use Rattle.md_history.specs.Engine.{IsNoConflict}
 use Rattle.md_machine.specs.declared.attempt.Hand.{Hand}
 use Rattle.md_nbtc_law.specs.Ended.{WasCommitted, WasLost}
-use Rattle.md_nbtc_law.specs.Ending.{Begins, BeginsNot, Stopped}
+use Rattle.md_nbtc_law.specs.Ending.{BeginsTransaction, BeginsNot, Stopped}
 use Rattle.md_nbtc_law.specs.Going.{HasCause}
 use Rattle.md_nbtc_law.specs.State.{TxnState, own_node, shape_in, taken_since}
 use Rattle.md_rule.specs.Kept.{KeepsLanes}
@@ -31,7 +31,7 @@ pub record IsOn (f : FieldView) (tag : ℕ) (u : TxnState) : Type 0 where
   pub tagged : u.hand.tag ≡ tag
 
 pub is_on : (f g : FieldView) (p : PassState) (tag : ℕ) (u v w : TxnState) → u.field ≡ v.field → u.hand.tag ≡ v.hand.tag → v ≡ w → w.field ≡ g → g ≡ f
-    → Begins p tag w → IsOn f tag u
+    → BeginsTransaction p tag w → IsOn f tag u
 is_on f g p tag u v w field tagged same of is begins = record {
   field = field ∙ ap (λ (t : TxnState). t.field) same ∙ of ∙ is;
   tagged = tagged ∙ ap (λ (t : TxnState). t.hand.tag) same ∙ ap (λ (h : Hand). h.tag) begins.hand;

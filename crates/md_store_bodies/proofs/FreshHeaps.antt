@@ -24,7 +24,7 @@ use Rattle.md_rule.specs.Closing.{plain_words}
 use Rattle.md_rule.specs.Views.{FieldView, PassState}
 use Rattle.md_rule.proofs.Moves.{is_meant}
 use Rattle.md_nbtc_law.specs.Course.{StandsNext}
-use Rattle.md_nbtc_law.specs.Ending.{Begins}
+use Rattle.md_nbtc_law.specs.Ending.{BeginsTransaction}
 use Rattle.md_nbtc_law.specs.Going.{IsGoing}
 use Rattle.md_nbtc_law.specs.Known.{IsHeapOf, IsLater, Known, found_by}
 use Rattle.md_nbtc_law.specs.declared.seen.Seen.{Seen}
@@ -42,7 +42,7 @@ use Rattle.md_store_bodies.specs.Laws.{fresh_is}
 use Rattle.md_store_bodies.specs.Store.{IsFresh, IsPassOf, all_lanes, start_of}
 use Rattle.md_store_bodies.proofs.AllLanes.{holds_all}
 
-module _ (f : FieldView) (p : PassState) (of : IsPassOf f p) (fresh : IsFresh p) (tag : ℕ) (start t : TxnState) (begins : Begins p tag start)
+module _ (f : FieldView) (p : PassState) (of : IsPassOf f p) (fresh : IsFresh p) (tag : ℕ) (start t : TxnState) (begins : BeginsTransaction p tag start)
     (later : IsLater start t) (field : t.field ≡ f) (cs : List Certificate) (going : IsGoing store t cs) where
   -- the pass holds all lanes still, and has seen nothing
   lanes_are : t.pass.view.lanes ≡ all_lanes f.origin.shape

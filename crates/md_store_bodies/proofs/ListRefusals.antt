@@ -33,7 +33,7 @@ use Rattle.md_machine.proofs.lists.Rising.{here, in_cons, in_map, in_none}
 use Rattle.md_nbtc_law.specs.declared.seen.Seen.{Seen}
 use Rattle.md_nbtc_law.specs.Course.{StandsNext}
 use Rattle.md_nbtc_law.specs.Calls.{GoesOn}
-use Rattle.md_nbtc_law.specs.Ending.{Begins}
+use Rattle.md_nbtc_law.specs.Ending.{BeginsTransaction}
 use Rattle.md_nbtc_law.specs.Going.{HasCause}
 use Rattle.md_nbtc_law.specs.Known.{IsLater, found_by}
 use Rattle.md_nbtc_law.specs.State.{OwnNode, TxnState, attempt_in, own_node, shape_in, taken_since}
@@ -77,7 +77,7 @@ no_value : (o : Option ℕ) → Value None ≡ Value o → o ≡ None
 no_value None is = refl
 no_value (Some v) is = absurd (cc is)
 
-module _ (f : FieldView) (p : PassState) (of : IsPassOf f p) (fresh : IsFresh p) (tag : ℕ) (start t : TxnState) (begins : Begins p tag start)
+module _ (f : FieldView) (p : PassState) (of : IsPassOf f p) (fresh : IsFresh p) (tag : ℕ) (start t : TxnState) (begins : BeginsTransaction p tag start)
     (later : IsLater start t) (field : t.field ≡ f) (cs : List Certificate) (counted : IsCounted t cs) where
   abbrev H : LogicalHeap
   H = fresh_heap f p of fresh tag start t begins later field cs counted.going
@@ -187,7 +187,7 @@ pub needs_slot : {s u : TxnState} {head key : ℕ} {op : ℕ → Op} → IsRefus
     → IsRefused store s u (Limited Writes) (NeedsSlot store s head key op)
 needs_slot r = record { before = r.before; on = r.on; reads = r.reads; same = r.same; needs = λ map_of is cs going. inl (r.needs map_of is cs going) }
 
-module _ (p : PassState) (s u : TxnState) (of : IsPassOf s.field p) (fresh : IsFresh p) (tag : ℕ) (start : TxnState) (begins : Begins p tag start)
+module _ (p : PassState) (s u : TxnState) (of : IsPassOf s.field p) (fresh : IsFresh p) (tag : ℕ) (start : TxnState) (begins : BeginsTransaction p tag start)
     (later : IsLater start s) (cs : List Certificate) (counted : IsCounted s cs) (stored : s.hand.stored ≡ []) (why : Stop) (cause : HasCause u why)
     -- its nodes are those that were taken
     (nodes_are : u.nodes ≡ map (own_node (shape_in u) u.pass) (taken_since u.began u.pass)) (on : GoesOn store s u) where

@@ -25,7 +25,7 @@ use Rattle.md_machine.specs.Certified.{all_changes, changes_of_tidy, whole_chang
 use Rattle.md_machine.specs.LogicalHeap.{LogicalHeap}
 use Rattle.md_machine.proofs.lists.Rising.{here, in_map}
 use Rattle.md_nbtc_law.specs.Calls.{GoesOn}
-use Rattle.md_nbtc_law.specs.Ending.{Begins}
+use Rattle.md_nbtc_law.specs.Ending.{BeginsTransaction}
 use Rattle.md_nbtc_law.specs.Going.{HasCause, IsGoing}
 use Rattle.md_nbtc_law.specs.Known.{IsHeapOf, IsLater}
 use Rattle.md_nbtc_law.specs.State.{TxnState, own_node, shape_in, taken_since}
@@ -97,7 +97,7 @@ one_node a is =
 one_added : (acts : List Act) (a : Act) → added a.op a.reply ≡ true → nodes (acts ++ a ∷ []) ≡ nodes acts + 1
 one_added acts a is = nodes-append acts (a ∷ []) ∙ ap (λ n. nodes acts + n) (one_node a is)
 
-module _ (p : PassState) (s u : TxnState) (of : IsPassOf s.field p) (fresh : IsFresh p) (tag : ℕ) (start : TxnState) (begins : Begins p tag start)
+module _ (p : PassState) (s u : TxnState) (of : IsPassOf s.field p) (fresh : IsFresh p) (tag : ℕ) (start : TxnState) (begins : BeginsTransaction p tag start)
     (later : IsLater start s) (cs : List Certificate) (counted : IsCounted s cs) (stored : s.hand.stored ≡ []) (none : s.stop ≡ None) (why : Stop) (cause : HasCause u why)
     (nodes_are : u.nodes ≡ map (own_node (shape_in u) u.pass) (taken_since u.began u.pass)) (on : GoesOn store s u) where
   alone : BeganAlone s

@@ -15,9 +15,9 @@ use Rattle.md_history.specs.Calls.{Answered, Refusal, Refused}
 use Rattle.md_machine.specs.declared.attempt.Read.{Read}
 use Rattle.md_machine.specs.declared.certificate.Certificate.{Certificate}
 use Rattle.md_machine.specs.Certified.{all_changes}
-use Rattle.md_nbtc_law.specs.Calls.{AfterStop, Ends, GoesOn, MayAnswer, with_act, with_operation}
+use Rattle.md_nbtc_law.specs.Calls.{AfterStop, EndsOperation, GoesOn, MayAnswer, with_act, with_operation}
 use Rattle.md_nbtc_law.specs.Course.{MayEnd}
-use Rattle.md_nbtc_law.specs.Ending.{Begins}
+use Rattle.md_nbtc_law.specs.Ending.{BeginsTransaction}
 use Rattle.md_nbtc_law.specs.Going.{IsGoing, IsUnderWay}
 use Rattle.md_nbtc_law.specs.Known.{IsLater}
 use Rattle.md_nbtc_law.specs.State.{TxnState, own_node, shape_in, taken_since}
@@ -86,7 +86,7 @@ runs_later : (before : PassState) (t u : TxnState) (r r' : Option Refusal) → I
 runs_later before t u r r' run later going stop between exceeds = record {
   running = record {
     start = run.start;
-    begins = subst (λ (tag : ℕ). Begins before tag run.start) (sym later.tag) run.begins;
+    begins = subst (λ (tag : ℕ). BeginsTransaction before tag run.start) (sym later.tag) run.begins;
     later = later_over run.start t u run.later later;
     going = going;
     stop = stop;
@@ -105,7 +105,7 @@ pub record IsStarted (t s : TxnState) : Type 0 where
 
 -- the operation was answered and ended
 pub record IsEnded (u v : TxnState) (op : Op) (reply : Reply) : Type 0 where
-  pub on : Ends store u v op reply
+  pub on : EndsOperation store u v op reply
   pub is : v ≡ record u { pass = v.pass; hand = with_act u.hand op reply }
 
 -- what the answer of an operation tells whose transaction had no stop

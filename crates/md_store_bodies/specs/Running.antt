@@ -6,7 +6,7 @@ use Rattle.md_history.specs.declared.acts.Reply.{Reply}
 use Rattle.md_history.specs.Act.{act_of}
 use Rattle.md_history.specs.Calls.{MayReply, Refusal}
 use Rattle.md_machine.specs.declared.certificate.Certificate.{Certificate}
-use Rattle.md_nbtc_law.specs.Ending.{Begins}
+use Rattle.md_nbtc_law.specs.Ending.{BeginsTransaction}
 use Rattle.md_nbtc_law.specs.Going.{IsUnderWay}
 use Rattle.md_nbtc_law.specs.Known.{IsLater}
 use Rattle.md_nbtc_law.specs.State.{TxnState}
@@ -25,7 +25,7 @@ refusal_of broken = option_map (λ b. record { stop = b.stop; op = b.op }) broke
 -- exceeded by the acts with that operation
 pub record IsRunning (before : PassState) (t : TxnState) (refused : Option Refusal) : Type 0 where
   pub start : TxnState
-  pub begins : Begins before t.hand.tag start
+  pub begins : BeginsTransaction before t.hand.tag start
   pub later : IsLater start t
   pub going : IsUnderWay store t
   pub stop : t.stop ≡ option_map (λ r. r.stop) refused

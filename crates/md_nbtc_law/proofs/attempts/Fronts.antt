@@ -5,7 +5,7 @@ use Rattle.std.proofs.lemmas.List.{append-nil, length-append, length-map, map-ap
 use Rattle.std.proofs.lemmas.List.Elements.{filter-append}
 use Rattle.std.specs.List.{All, Contains, zip}
 use Rattle.md_words.specs.declared.shape.Shape.{Shape}
-use Rattle.md_history.specs.Attempt.{Commits as CommitsFront, NoneOrAborted, Stops as StopsFront}
+use Rattle.md_history.specs.Attempt.{CommitsTransaction as CommitsFront, NoneOrAborted, Stops as StopsFront}
 use Rattle.md_history.specs.Front.{AllStay, IsPrefix, of_lane, own_after}
 use Rattle.md_history.specs.FrontLaws.{all_stay-trans}
 use Rattle.md_history.specs.declared.acts.Act.{Act}
@@ -24,7 +24,7 @@ use Rattle.md_machine.proofs.events.Attempts.{same_from}
 use Rattle.md_rule.specs.Views.{Origin, PassState}
 use Rattle.md_rule.proofs.Moves.{is_kept}
 use Rattle.md_help.specs.After.{StandsInField}
-use Rattle.md_nbtc_law.specs.Ending.{Aborts, Begins, BeginsNot, Commits, HasEntry, LastFate, PutDown, Readies, Stopped}
+use Rattle.md_nbtc_law.specs.Ending.{Aborts, BeginsTransaction, BeginsNot, CommitsTransaction, HasEntry, LastFate, PutDown, Readies, Stopped}
 use Rattle.md_nbtc_law.specs.Known.{IsLater}
 use Rattle.md_nbtc_law.specs.State.{TxnState, attempt_in}
 use Rattle.md_nbtc_law.proofs.attempts.OwnAfter.{last_after, none_after, of_lane_push, own_of}
@@ -77,7 +77,7 @@ left_none s tag p q seen mine pending lanes known fated = record {
 pub refused_front : (M : Meaning) (o : Origin) (s : Shape) (tag : ℕ) (p q : PassState) → BeginsNot M p o q → StopsFront tag (front_of s p.view) (front_of s q.view)
 refused_front M o s tag p q b = left_none s tag p q b.seen b.mine b.pending b.same.lanes b.same.known (fated M o q b.stands)
 
-module _ (M : Meaning) (s : Shape) (p : PassState) (tag : ℕ) (t u : TxnState) (begins : Begins p tag t) (later : IsLater t u) where
+module _ (M : Meaning) (s : Shape) (p : PassState) (tag : ℕ) (t u : TxnState) (begins : BeginsTransaction p tag t) (later : IsLater t u) where
   -- what its pass had while it was under way
   seen_is : u.pass.view.seen ≡ p.view.seen
   seen_is = later.front.seen ∙ begins.seen
@@ -203,7 +203,7 @@ module _ (M : Meaning) (s : Shape) (p : PassState) (tag : ℕ) (t u : TxnState) 
           }
 
   -- so a ready transaction that is decided is committed or stopped
-  pub decided_commits : (w : TxnState) (e : HasEntry w) → Readies u w e → (q : PassState) (d : HasEntry w) → Commits M w d q
+  pub decided_commits : (w : TxnState) (e : HasEntry w) → Readies u w e → (q : PassState) (d : HasEntry w) → CommitsTransaction M w d q
       → {R : Type 0} (did : List Act → R → Type 0) (reply : R) → did w.hand.acts reply → CommitsFront did tag reply (front_of s p.view) (front_of s q.view)
   decided_commits w e ready q d c did reply did_it =
       committed_front w e ready q c.down did reply (subst (λ (l : List Act). did l reply) (sym e.acts) did_it)

@@ -28,7 +28,7 @@ use Rattle.md_history.specs.Front.{IsPrefix}
 use Rattle.md_rule.specs.Views.{PassState}
 use Rattle.md_rule.proofs.Moves.{is_kept}
 use Rattle.md_help.specs.After.{IsAfter, StandsInField}
-use Rattle.md_nbtc_law.specs.Deciding.{LooksAt, Validates}
+use Rattle.md_nbtc_law.specs.Deciding.{LooksAtCounted, Validates}
 use Rattle.md_nbtc_law.specs.Ending.{Aborts, IsReady, LastFate}
 use Rattle.md_nbtc_law.specs.State.{OwnNode, TxnState, attempt_in, shape_in, taken_since, writes_in}
 use Rattle.md_nbtc_law.specs.Withdrawn.{MayWithdraw, Withdraws}
@@ -119,7 +119,7 @@ module _ (M : Meaning) (t : TxnState) (ready : IsReady M t) (q : PassView) (move
 
   looks_none : All (λ (s : Step). ¬ (s.kind ≡ Exchange)) (v.steps ++ step ∷ [])
   looks_none = All-append (λ (s : Step). ¬ (s.kind ≡ Exchange)) v.steps (step ∷ [])
-      (All-weaker (LooksAt (shape_in t)) (λ (s : Step). ¬ (s.kind ≡ Exchange)) (λ s l e. no_load (sym l.kind ∙ e)) v.steps v.looks)
+      (All-weaker (LooksAtCounted (shape_in t)) (λ (s : Step). ¬ (s.kind ≡ Exchange)) (λ s l e. no_load (sym l.kind ∙ e)) v.steps v.looks)
       (All-cons (λ (s : Step). ¬ (s.kind ≡ Exchange)) step [] (λ e. ⊎_elim (λ c. no_commit (sym c ∙ e)) (λ x. no_abort (sym x ∙ e)) kind) (All-nil (λ (s : Step). ¬ (s.kind ≡ Exchange))))
     where
       no_load : Load ≡ Exchange → ⊥

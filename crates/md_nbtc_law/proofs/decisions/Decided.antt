@@ -24,7 +24,7 @@ use Rattle.md_help.specs.After.{IsAfter, StandsInField}
 use Rattle.md_help.proofs.Ends.{decided_serial, decided_status}
 use Rattle.md_help.proofs.Steps.{both_after, trail_after}
 use Rattle.md_nbtc_law.specs.declared.slots.Slot.{Slot}
-use Rattle.md_nbtc_law.specs.Deciding.{LooksAt, MayCleanSlot, Validates}
+use Rattle.md_nbtc_law.specs.Deciding.{LooksAtCounted, MayCleanSlot, Validates}
 use Rattle.md_nbtc_law.specs.Ending.{IsReady, LastFate}
 use Rattle.md_nbtc_law.specs.State.{TxnState, attempt_in, shape_in, writes_in}
 use Rattle.md_nbtc_law.specs.Withdrawing.{AreInstalled, HasFate, MeetsFate}
@@ -59,7 +59,7 @@ module _ (M : Meaning) (t : TxnState) (ready : IsReady M t) (q : PassView) (move
   goes = both_after (shape_in t) v.steps (step ∷ []) t.pass.view q r v.goes last
 
   pub quiet : All IsQuiet steps
-  quiet = All-append IsQuiet v.steps (step ∷ []) (All-weaker (LooksAt (shape_in t)) IsQuiet (look_is_quiet (shape_in t)) v.steps v.looks)
+  quiet = All-append IsQuiet v.steps (step ∷ []) (All-weaker (LooksAtCounted (shape_in t)) IsQuiet (look_is_quiet (shape_in t)) v.steps v.looks)
       (All-cons IsQuiet step [] (deciding_quiet step kind) (All-nil IsQuiet))
 
   left_serial : serial_of step.after ≡ a.serial

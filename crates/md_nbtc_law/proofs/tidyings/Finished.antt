@@ -31,8 +31,8 @@ use Rattle.md_arena.proofs.TakenNodes.{share_same}
 use Rattle.md_nbtc_law.specs.declared.slots.Slot.{Slot}
 use Rattle.md_nbtc_law.specs.declared.seen.Cleanup.{Cleanup}
 use Rattle.md_nbtc_law.specs.declared.seen.Cleanup.TheVariants.{MoveTail, Unlink}
-use Rattle.md_nbtc_law.specs.Deciding.{CleansSlots, Finishes, TakesSlots}
-use Rattle.md_nbtc_law.specs.Ending.{CleansAll, CleansKept, GoesBy, Tries}
+use Rattle.md_nbtc_law.specs.Deciding.{CleansSlots, FinishesAttempt, TakesSlots}
+use Rattle.md_nbtc_law.specs.Ending.{CleansAll, CleansKept, CleanupGoesBy, Tries}
 use Rattle.md_nbtc_law.specs.Withdrawing.{HasFate}
 use Rattle.md_nbtc_law.proofs.beginning.TakingOut.{higher_still}
 use Rattle.md_nbtc_law.proofs.preparing.Quiet.{IsQuiet, every_still}
@@ -84,7 +84,7 @@ module _ (M : Meaning) (o : Origin) (p q r s : PassState) (a : AttemptId) (slots
         (λ lane e. (ap (λ l. (share_at r.shares l).nodes_taken) e, ap (λ l. (share_at r.shares l).tries_taken) e))
         (λ lane ne. (refl, refl))
 
-    pub finished : Finishes M o p a slots s
+    pub finished : FinishesAttempt M o p a slots s
     finished = record {
       stands = stands_after M o (λ pass. mark_end pass) r.view s.view step lanes_marked;
       same = record {
@@ -126,7 +126,7 @@ exchange_quiet s is = record { store = ap is_store is; install = λ e. no_instal
     no_install : Exchange ≡ Install → ⊥
     no_install e = cc
 
-looks_quiet : (shape : Shape) (c : Cleanup) (out : Step) (looks : List Step) (by : Step) → GoesBy shape c out looks by → All IsQuiet looks
+looks_quiet : (shape : Shape) (c : Cleanup) (out : Step) (looks : List Step) (by : Step) → CleanupGoesBy shape c out looks by → All IsQuiet looks
 looks_quiet shape (Unlink prev node) out looks by is = subst (All IsQuiet) (sym is.0) (All-cons IsQuiet by [] (look_quiet by is.1.kind) (All-nil IsQuiet))
 looks_quiet shape (MoveTail tail from to) out looks by is = subst (All IsQuiet) (sym is.0) (All-nil IsQuiet)
 

@@ -9,7 +9,7 @@ use Rattle.md_words.proofs.Owners.{own_desc_exists}
 use Rattle.md_machine.specs.Own.{HasDesc}
 use Rattle.md_rule.specs.Views.{IsOf}
 use Rattle.md_rule.proofs.LaneLists.{desc_fits}
-use Rattle.md_nbtc_law.specs.Ending.{Begins, BeginsNot}
+use Rattle.md_nbtc_law.specs.Ending.{BeginsTransaction, BeginsNot}
 use Rattle.md_nbtc_law.specs.Going.{IsGoing}
 use Rattle.md_nbtc_law.specs.State.{TxnState, state_of}
 use Rattle.md_rule.proofs.Told.{told_leave}
@@ -101,7 +101,7 @@ returns g c =
         refused = tt;
         pass = c.over.ensures.pass;
         field = ap (λ (t : TxnState). t.field) is;
-        begun = subst (Begins p tag) (sym is) (begins M field p q r s desc tag serial leave step takes fits rest counts h of own idle free);
+        begun = subst (BeginsTransaction p tag) (sym is) (begins M field p q r s desc tag serial leave step takes fits rest counts h of own idle free);
         going = subst (λ t. IsGoing M t []) (sym is) (is_going M field r s desc tag serial of own (λ lane. (counts lane).0) h idle free);
         none = (
           (λ e. absurd (ok_not_err _ _ e)),
