@@ -51,7 +51,7 @@ SlotsStay t u = (s : Slot) → Contains t.slots s → (r : Slot) × Contains u.s
 -- what a call leaves of the transaction, answered or refused: it goes on with the same certificates, its acts are the same
 -- and the operation is begun still. Its slots stay. So many words more are recorded at most, so many more written than
 -- those that WritesFew allows anyway, and so many nodes taken
-pub record Leaves (M : Meaning) (t u : TxnState) (reads writes nodes : ℕ) : Type 0 where
+pub record OperationGoesOn (M : Meaning) (t u : TxnState) (reads writes nodes : ℕ) : Type 0 where
   pub on : GoesOn M t u
   pub acts : u.hand.acts ≡ t.hand.acts
   pub operates : u.hand.operating ≡ true

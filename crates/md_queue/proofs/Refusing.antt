@@ -26,7 +26,7 @@ use Rattle.md_nbtc_law.proofs.preparing.Later.{later_over}
 use Rattle.md_nbtc_law.proofs.structures.Answering.{IsStopped, exchange_refused, note_refused}
 use Rattle.md_nbtc_law.proofs.structures.NodesKnown.{shape_later}
 use Rattle.md_queue.specs.Operations.{GoesBy, RecordsAmong, StaysStopped, words_recorded}
-use Rattle.md_queue.specs.Refusals.{AsksLine, BeganAlone, ChangeRefused, MoveRefused, ReadRefused, WasRefused}
+use Rattle.md_queue.specs.Refusals.{AsksLine, BeganAlone, ChangeRefused, MoveRefused, ReadRefused, StoodAtRefusal}
 use Rattle.md_queue.proofs.Among.{among_from, no_more_reads}
 
 -- no read is of a word that isn't recorded
@@ -71,7 +71,7 @@ module _ (M : Meaning) (t u : TxnState) (stop : Stop) (none : t.stop ≡ None) w
 
     -- it was refused in this state
     pub note_was : (cs : List Certificate) → IsGoing M t cs
-        → AfterStop t.stop t u (let r : Result (Unit {0}) Stop = Err stop in r) (Notes (note_case t word seen) t u word seen (Err stop)) → WasRefused M t u cs (Limited Reads) t
+        → AfterStop t.stop t u (let r : Result (Unit {0}) Stop = Err stop in r) (Notes (note_case t word seen) t u word seen (Err stop)) → StoodAtRefusal M t u cs (Limited Reads) t
     note_was cs going after = record {
       going = going;
       later = later_self t;
@@ -117,7 +117,7 @@ module _ (M : Meaning) (t u : TxnState) (stop : Stop) (none : t.stop ≡ None) w
     exchange_critical after = (exchange_limit after).1
 
     pub exchange_was : (cs : List Certificate) → IsGoing M t cs
-        → AfterStop t.stop t u (let r : Result Seen Stop = Err stop in r) (Exchanges (exchange_case t word from kind) M t u word from to (Err stop)) → WasRefused M t u cs (Limited Writes) t
+        → AfterStop t.stop t u (let r : Result Seen Stop = Err stop in r) (Exchanges (exchange_case t word from kind) M t u word from to (Err stop)) → StoodAtRefusal M t u cs (Limited Writes) t
     exchange_was cs going after = record {
       going = going;
       later = later_self t;
@@ -156,7 +156,7 @@ began_on M t u a b c goes began =
       alone = λ lane below. subst (λ l. Contains l lane) (sym later.lanes) (began.alone lane (subst (λ (s : Shape). lane < s.lanes) (shape_later t u later) below));
     }
 
-pub was_after : (M : Meaning) (s t u v : TxnState) (cs : List Certificate) (stop : Stop) → IsLater s t → WasRefused M t u cs stop v → WasRefused M s u cs stop v
+pub was_after : (M : Meaning) (s t u v : TxnState) (cs : List Certificate) (stop : Stop) → IsLater s t → StoodAtRefusal M t u cs stop v → StoodAtRefusal M s u cs stop v
 was_after M s t u v cs stop later was = record { going = was.going; later = later_over s t v later was.later; same = was.same }
 
 -- of other words recorded before it, the certificate records each

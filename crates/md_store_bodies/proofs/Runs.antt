@@ -22,9 +22,9 @@ use Rattle.md_nbtc_law.specs.Going.{IsGoing, IsUnderWay}
 use Rattle.md_nbtc_law.specs.Known.{IsLater}
 use Rattle.md_nbtc_law.specs.State.{TxnState, own_node, shape_in, taken_since}
 use Rattle.md_nbtc_law.proofs.preparing.Later.{later_over}
-use Rattle.md_list.specs.Operations.{Answers, Leaves as LeavesList}
+use Rattle.md_list.specs.Operations.{Answers, OperationGoesOn}
 use Rattle.md_list.specs.Walking.{IsHeadOf}
-use Rattle.md_queue.specs.Operations.{Answered as AnsweredByQueue, IsBegun as IsBegunQueue, Refused as RefusedByQueue}
+use Rattle.md_queue.specs.Operations.{OperationAnswered, IsBegun as IsBegunQueue, OperationRefused}
 use Rattle.md_rule.specs.Steps.{IsOf as IsOfAct}
 use Rattle.md_rule.specs.Views.{FieldView, PassState}
 use Rattle.md_store_law.specs.Store.{store}
@@ -188,7 +188,7 @@ module _ (before : PassState) (t s : TxnState) (b : Option Broken) (whole : b �
       (subst (λ (x : Refusal). IsCountLimit x.stop) (sym same) limit)))))
 
   -- operations of lists
-  module _ (u : TxnState) (reads writes nodes : ℕ) (leaves : LeavesList store s u reads writes nodes) where
+  module _ (u : TxnState) (reads writes nodes : ℕ) (leaves : OperationGoesOn store s u reads writes nodes) where
     pub list_ends : (head key : ℕ) (op : ℕ → Op) (reply : Reply) → Answers store s u head key op reply → (map : ℕ) → IsHeadOf (shape_in s) map key head
         → u.stop ≡ None → EndsBy s u cs (op map) reply
     list_ends head key op reply answers map is_head stop =
@@ -221,7 +221,7 @@ module _ (before : PassState) (t s : TxnState) (b : Option Broken) (whole : b �
 
   -- operations of queues
   module _ (u : TxnState) (reads writes nodes : ℕ) where
-    pub queue_ends : (op : Op) (reply : Reply) → is_of_map op ≡ false → AnsweredByQueue store s u op reply reads writes nodes → EndsBy s u cs op reply
+    pub queue_ends : (op : Op) (reply : Reply) → is_of_map op ≡ false → OperationAnswered store s u op reply reads writes nodes → EndsBy s u cs op reply
     queue_ends op reply other a =
         let by = a.by cs counted.going in
         let c = by.certificate in
@@ -239,7 +239,7 @@ module _ (before : PassState) (t s : TxnState) (b : Option Broken) (whole : b �
 
     -- the nodes of u are those that were taken
     pub queue_runs : u.nodes ≡ map (own_node (shape_in u) u.pass) (taken_since u.began u.pass) → (queue : ℕ) (op : Op) (Asks : Op → Type 0) (why : Stop)
-        → RefusedByQueue store s u reads writes nodes why → QueueLimits s u cs queue op Asks why → RunsOn before t u (Some (record { stop = why; op = op }))
+        → OperationRefused store s u reads writes nodes why → QueueLimits s u cs queue op Asks why → RunsOn before t u (Some (record { stop = why; op = op }))
     queue_runs nodes_are queue op Asks why r limits =
         let going = r.leaves.on.going cs counted.going in
         refused_runs u op why (record { going = going; later = r.leaves.on.later; stop = r.kept }) r.leaves.acts (λ of fresh limit.

@@ -5,7 +5,7 @@ use Rattle.md_history.specs.declared.acts.Reply.{Reply}
 use Rattle.md_history.specs.declared.stops.Stop.{Stop}
 use Rattle.md_machine.specs.declared.attempt.Hand.{Hand}
 use Rattle.md_store_interleavings.specs.Acting.{HasBegun, IsActing, MayEnd, WasRefused}
-use Rattle.md_list.specs.Operations.{Answers, Leaves}
+use Rattle.md_list.specs.Operations.{Answers, OperationGoesOn}
 use Rattle.md_list.specs.Walking.{IsHeadOf}
 use Rattle.md_list.proofs.answers.Answered.{may_answer}
 use Rattle.md_nbtc_law.specs.Calls.{EndsOperation, GoesOn, with_act, with_operation}
@@ -64,7 +64,7 @@ module _ (f : FieldView) (t s : TxnState) (stop : Option Stop) (acting : IsActin
   }
 
 -- an operation of a list that was answered may be ended
-pub list_may_end : (t u : TxnState) → HasBegun t → (reads writes nodes : ℕ) → Leaves store t u reads writes nodes → (map key head : ℕ) (op : ℕ → Op) (reply : Reply)
+pub list_may_end : (t u : TxnState) → HasBegun t → (reads writes nodes : ℕ) → OperationGoesOn store t u reads writes nodes → (map key head : ℕ) (op : ℕ → Op) (reply : Reply)
     → Answers store t u head key op reply → IsHeadOf (shape_in t) map key head → u.stop ≡ None → MayEnd t u (op map) reply
 list_may_end t u has reads writes nodes leaves map key head op reply answers is none = record {
   later = leaves.on.later;
