@@ -28,7 +28,7 @@ use Rattle.md_queue.specs.Operations.{OperationAnswered, IsBegun as IsBegunQueue
 use Rattle.md_rule.specs.Steps.{IsOf as IsOfAct}
 use Rattle.md_rule.specs.Views.{FieldView, PassState}
 use Rattle.md_store_law.specs.Store.{store}
-use Rattle.md_store_counts.specs.Few.{RecordsOne, TidyCharged, acts_of, is_of_map, recorded_by}
+use Rattle.md_store_counts.specs.Few.{RecordsOne, TidyCharged, certificate_acts, is_of_map, recorded_by}
 use Rattle.md_store_bodies.specs.declared.broken.Broken.{Broken}
 use Rattle.md_store_bodies.specs.Counted.{Exceeds, IsCountLimit, IsCounted}
 use Rattle.md_store_bodies.specs.Running.{IsRunning, RunsOn, refusal_of}
@@ -171,7 +171,7 @@ module _ (before : PassState) (t s : TxnState) (b : Option Broken) (whole : b �
 
   -- of an operation that was refused by a limit: the acts with it exceed the limit
   abbrev pub Exceeding : TxnState → Op → Stop → Type 0
-  Exceeding u op why = IsPassOf s.field before → IsFresh before → IsCountLimit why → Exceeds s.field (acts_of cs) op
+  Exceeding u op why = IsPassOf s.field before → IsFresh before → IsCountLimit why → Exceeds s.field (certificate_acts cs) op
 
   pub refused_runs : (u : TxnState) (op : Op) (why : Stop) → IsRefusedSo s u cs why → u.hand.acts ≡ s.hand.acts → Exceeding u op why
       → RunsOn before t u (Some (record { stop = why; op = op }))
