@@ -50,7 +50,7 @@ use Rattle.md_store_counts.specs.Few.{AllCharged, RecordsOne, StandFrom, TidyCha
 use Rattle.md_store_counts.proofs.Appending.{charged_more}
 use Rattle.md_store_counts.proofs.Placing.{placed_are_counted}
 use Rattle.md_store_counts.proofs.Writing.{tidied_are_few}
-use Rattle.md_store_bodies.specs.Counted.{Exceeds, IsCountLimit, IsCounted}
+use Rattle.md_store_bodies.specs.Counted.{Exceeds, IsCountLimit, HasCountedCertificates}
 use Rattle.md_store_bodies.specs.Store.{IsFresh, IsPassOf, start_of}
 use Rattle.md_store_bodies.proofs.Charging.{counted_later, list_charged, node_placed, nodes_more, reads_more}
 use Rattle.md_store_bodies.proofs.Exceeding.{changed_exceed, more_nodes, more_writes_before, one_more_word, recorded_exceed, replies}
@@ -78,7 +78,7 @@ no_value None is = refl
 no_value (Some v) is = absurd (cc is)
 
 module _ (f : FieldView) (p : PassState) (of : IsPassOf f p) (fresh : IsFresh p) (tag : ℕ) (start t : TxnState) (begins : BeginsTransaction p tag start)
-    (later : IsLater start t) (field : t.field ≡ f) (cs : List Certificate) (counted : IsCounted t cs) where
+    (later : IsLater start t) (field : t.field ≡ f) (cs : List Certificate) (counted : HasCountedCertificates t cs) where
   abbrev H : LogicalHeap
   H = fresh_heap f p of fresh tag start t begins later field cs counted.going
 
@@ -188,7 +188,7 @@ pub needs_slot : {s u : TxnState} {head key : ℕ} {op : ℕ → Op} → IsRefus
 needs_slot r = record { before = r.before; on = r.on; reads = r.reads; same = r.same; needs = λ map_of is cs going. inl (r.needs map_of is cs going) }
 
 module _ (p : PassState) (s u : TxnState) (of : IsPassOf s.field p) (fresh : IsFresh p) (tag : ℕ) (start : TxnState) (begins : BeginsTransaction p tag start)
-    (later : IsLater start s) (cs : List Certificate) (counted : IsCounted s cs) (stored : s.hand.stored ≡ []) (why : Stop) (cause : HasCause u why)
+    (later : IsLater start s) (cs : List Certificate) (counted : HasCountedCertificates s cs) (stored : s.hand.stored ≡ []) (why : Stop) (cause : HasCause u why)
     -- its nodes are those that were taken
     (nodes_are : u.nodes ≡ map (own_node (shape_in u) u.pass) (taken_since u.began u.pass)) (on : GoesOn store s u) where
   abbrev over : (x : TxnState) → GoesOn store s x → IsLater start x

@@ -41,7 +41,7 @@ use Rattle.md_store_counts.proofs.Appending.{charged_more}
 use Rattle.md_store_counts.proofs.Fronts.{recorded_are_few}
 use Rattle.md_store_counts.proofs.Placing.{placed_are_counted}
 use Rattle.md_store_counts.proofs.Writing.{tidied_are_few}
-use Rattle.md_store_bodies.specs.Counted.{Exceeds, IsCountLimit, IsCounted}
+use Rattle.md_store_bodies.specs.Counted.{Exceeds, IsCountLimit, HasCountedCertificates}
 use Rattle.md_store_bodies.specs.Store.{IsFresh, IsPassOf, start_of}
 use Rattle.md_store_bodies.proofs.Charging.{counted_at, queue_charged, reads_more}
 use Rattle.md_store_bodies.proofs.Exceeding.{asked_is, changed_exceed, more_nodes, more_reads, more_writes_before, one_more_word}
@@ -98,7 +98,7 @@ one_added : (acts : List Act) (a : Act) → added a.op a.reply ≡ true → node
 one_added acts a is = nodes-append acts (a ∷ []) ∙ ap (λ n. nodes acts + n) (one_node a is)
 
 module _ (p : PassState) (s u : TxnState) (of : IsPassOf s.field p) (fresh : IsFresh p) (tag : ℕ) (start : TxnState) (begins : BeginsTransaction p tag start)
-    (later : IsLater start s) (cs : List Certificate) (counted : IsCounted s cs) (stored : s.hand.stored ≡ []) (none : s.stop ≡ None) (why : Stop) (cause : HasCause u why)
+    (later : IsLater start s) (cs : List Certificate) (counted : HasCountedCertificates s cs) (stored : s.hand.stored ≡ []) (none : s.stop ≡ None) (why : Stop) (cause : HasCause u why)
     (nodes_are : u.nodes ≡ map (own_node (shape_in u) u.pass) (taken_since u.began u.pass)) (on : GoesOn store s u) where
   alone : BeganAlone s
   alone = record { unstopped = none; alone = holds s.field p of fresh tag start s begins later refl cs counted.going }

@@ -30,7 +30,7 @@ use Rattle.md_rule.specs.Views.{FieldView, PassState}
 use Rattle.md_store_law.specs.Store.{store}
 use Rattle.md_store_counts.specs.Few.{RecordsOne, TidyCharged, certificate_acts, is_of_map, recorded_by}
 use Rattle.md_store_bodies.specs.declared.broken.Broken.{Broken}
-use Rattle.md_store_bodies.specs.Counted.{Exceeds, IsCountLimit, IsCounted}
+use Rattle.md_store_bodies.specs.Counted.{Exceeds, IsCountLimit, HasCountedCertificates}
 use Rattle.md_store_bodies.specs.Running.{IsRunning, RunsOn, refusal_of}
 use Rattle.md_store_bodies.specs.Store.{IsFresh, IsPassOf}
 use Rattle.md_store_bodies.proofs.Charging.{counted_later, counted_more, list_charged, nodes_more, queue_charged, reads_more}
@@ -81,7 +81,7 @@ ExceedsBy before t r = (refusal : Refusal) → r ≡ Some refusal → IsPassOf t
 
 -- a later state that is under way runs on
 runs_later : (before : PassState) (t u : TxnState) (r r' : Option Refusal) → IsRunning before t r → IsLater t u → IsUnderWay store u
-    → u.stop ≡ option_map (λ x. x.stop) r' → (r' ≡ None → (u.hand.operating ≡ false) × ((cs : List Certificate) × IsCounted u cs))
+    → u.stop ≡ option_map (λ x. x.stop) r' → (r' ≡ None → (u.hand.operating ≡ false) × ((cs : List Certificate) × HasCountedCertificates u cs))
     → ExceedsBy before u r' → RunsOn before t u r'
 runs_later before t u r r' run later going stop between exceeds = record {
   running = record {
@@ -120,7 +120,7 @@ module _ (before : PassState) (t s : TxnState) (b : Option Broken) (whole : b �
   abbrev pub cs : List Certificate
   cs = (running.counted refl).0
 
-  pub counted : IsCounted s cs
+  pub counted : HasCountedCertificates s cs
   counted = counted_later t s cs (running.counted refl).1 start.on (ap (λ (x : TxnState). x.reads) start.is)
 
   pub started : IsUnderWay store s

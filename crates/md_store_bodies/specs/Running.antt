@@ -13,7 +13,7 @@ use Rattle.md_nbtc_law.specs.State.{TxnState}
 use Rattle.md_rule.specs.Views.{FieldView, PassState}
 use Rattle.md_store_bodies.specs.declared.broken.Broken.{Broken}
 use Rattle.md_store_law.specs.Store.{store}
-use Rattle.md_store_bodies.specs.Counted.{Exceeds, IsCountLimit, IsCounted}
+use Rattle.md_store_bodies.specs.Counted.{Exceeds, IsCountLimit, HasCountedCertificates}
 use Rattle.md_store_bodies.specs.Store.{IsFresh, IsPassOf}
 
 -- why a transaction stopped, and the operation that was refused first
@@ -30,7 +30,7 @@ pub record IsRunning (before : PassState) (t : TxnState) (refused : Option Refus
   pub going : IsUnderWay store t
   pub stop : t.stop ≡ option_map (λ r. r.stop) refused
   pub between : refused ≡ None → t.hand.operating ≡ false
-  pub counted : refused ≡ None → (cs : List Certificate) × IsCounted t cs
+  pub counted : refused ≡ None → (cs : List Certificate) × HasCountedCertificates t cs
   pub exceeds : (refusal : Refusal) → refused ≡ Some refusal → IsPassOf t.field before → IsFresh before → IsCountLimit refusal.stop
       → Exceeds t.field t.hand.acts refusal.op
 

@@ -58,7 +58,7 @@ pub record IsPassOf (f : FieldView) (p : PassState) : Type 0 where
   pub stands : StandsInField store f.origin p.view
 
 -- nothing of a lane was taken
-pub record IsUnused (s : Share) : Type 0 where
+pub record IsShareUnused (s : Share) : Type 0 where
   pub nodes : s.nodes_taken ≡ 0
   pub tries : s.tries_taken ≡ 0
   pub slots : s.slots_written ≡ 0
@@ -67,7 +67,7 @@ pub record IsUnused (s : Share) : Type 0 where
 -- the pass knows what the first pass of the field does, and nothing was taken of any lane
 pub record IsFresh (p : PassState) : Type 0 where
   pub view : p.view ≡ first_pass p.shape
-  pub unused : (lane : ℕ) → IsUnused (share_at p.shares lane)
+  pub unused : (lane : ℕ) → IsShareUnused (share_at p.shares lane)
 
 -- the pass is fresh, and nothing was changed in the field's words since they were laid
 abbrev pub IsNew : FieldView → PassState → Type 0
