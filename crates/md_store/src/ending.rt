@@ -5,7 +5,7 @@ ghost use Rattle.md_history.specs.Engine.{HasRoom, SettlesFrom};
 ghost use Rattle.md_history.specs.Front.{replay_of};
 ghost use Rattle.md_history.specs.State.{HaveSameNumbers};
 ghost use Rattle.md_store_law.specs.MapsFrom.{MapsFrom};
-ghost use Rattle.md_store.specs.Ending.{Leaves, Renews};
+ghost use Rattle.md_store.specs.Ending.{EndsField, Renews};
 ghost use Rattle.md_store_bodies.specs.Store.{IsPassOf, all_lanes, front_in, room_of, start_of};
 
 use crate::pass::StorePass;
@@ -35,7 +35,7 @@ impl FieldWords for EndedWords {
 fn ended(field: Field<StoreTheory>, mut pass: StorePass) -> (EndedWords, Front<StorePass>)
     requires of { IsPassOf field pass }
     requires all { (front_in pass).lanes ≡ all_lanes field.origin.shape }
-    ensures { Leaves field pass result.0.field.words result.1 }
+    ensures { EndsField field pass result.0.field.words result.1 }
 {
     settle(&field, &mut pass.pass);
     let front = Front::of(&pass);
