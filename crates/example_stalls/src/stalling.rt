@@ -6,7 +6,8 @@ ghost use Rattle.md_machine.specs.declared.step.TheConstants.{LAST_COUNT};
 ghost use Rattle.md_rule.specs.Kept.{KeepsLanes};
 ghost use Rattle.md_rule.specs.Lanes.{AreLanes};
 ghost use Rattle.md_rule.specs.Views.{IsOf};
-ghost use Rattle.example_stalls.specs.Stalled.{AddsChange, Begins, HasFirst, HasNoFirst, HoldsFirstSlot};
+ghost use Rattle.example_stalls.specs.Stalled.{AddsChange, Begins, HasFirst, HasNoFirst};
+ghost use Rattle.example_stalls.specs.Stalled.{HoldsFirstSlot};
 ghost use Rattle.example_stalls.specs.Stalled.{PutsIn, Stalls, StoresSlot, TakesFirst};
 
 use example_cell::CellTheory;

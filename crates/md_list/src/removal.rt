@@ -13,7 +13,8 @@ ghost use Rattle.md_nbtc_law.specs.Seeing.{Gave, KeepsGiven};
 ghost use Rattle.md_nbtc_law.specs.State.{shape_in};
 ghost use Rattle.md_nbtc.specs.State.{state};
 ghost use Rattle.md_list_law.specs.ListShape.{next_word};
-ghost use Rattle.md_list.specs.Operations.{Answers, HasStopButNodes, IsBegun, KeepsUnlink, OperationGoesOn};
+ghost use Rattle.md_list.specs.Operations.{Answers, HasStopButNodes, IsBegun, KeepsUnlink};
+ghost use Rattle.md_list.specs.Operations.{OperationGoesOn};
 ghost use Rattle.md_list.specs.Refusals.{NeedsRead, NeedsSlot, RefusedBy};
 ghost use Rattle.md_list.specs.Walking.{IsHeadOf};
 

@@ -43,22 +43,22 @@ no_read (x ∷ rs) word none r among = cond_both (x.word == word) (Some x.conten
 module _ (M : Meaning) (t u : TxnState) (stop : Stop) (none : t.stop ≡ None) where
   -- a note by the limit of reads: the word isn't written, and isn't recorded
   module _ (word : ℕ) (seen : Seen) (limit : stop ≡ Limited Reads) where
-    abbrev Refused : Type 0
-    Refused = (is_written (writes_in t) word ≡ false) × (content_read t.reads word ≡ None)
+    abbrev IsUnnoted : Type 0
+    IsUnnoted = (is_written (writes_in t) word ≡ false) × (content_read t.reads word ≡ None)
 
-    note_by : (o : Option ℕ) → content_read t.reads word ≡ o → is_written (writes_in t) word ≡ false → Notes (case_by_read o (seen_content seen) (length t.reads)) t u word seen (Err stop) → Refused
-    note_by (Some held) is unwritten n = cond_both (held == seen_content seen) noted (recorded held) (λ c. Notes c t u word seen (Err stop) → Refused)
+    note_by : (o : Option ℕ) → content_read t.reads word ≡ o → is_written (writes_in t) word ≡ false → Notes (case_by_read o (seen_content seen) (length t.reads)) t u word seen (Err stop) → IsUnnoted
+    note_by (Some held) is unwritten n = cond_both (held == seen_content seen) noted (recorded held) (λ c. Notes c t u word seen (Err stop) → IsUnnoted)
         (λ _ x. let e = x.0 in absurd (cc e))
         (λ _ x. let e = x.0 in absurd (cc (e, limit)))
         n
     note_by None is unwritten n = (unwritten, is)
 
-    note_limit : AfterStop t.stop t u (let r : Result (Unit {0}) Stop = Err stop in r) (Notes (note_case t word seen) t u word seen (Err stop)) → Refused
+    note_limit : AfterStop t.stop t u (let r : Result (Unit {0}) Stop = Err stop in r) (Notes (note_case t word seen) t u word seen (Err stop)) → IsUnnoted
     note_limit after =
         let n : Notes (note_case t word seen) t u word seen (Err stop)
         = subst (λ o. AfterStop o t u (let r : Result (Unit {0}) Stop = Err stop in r) (Notes (note_case t word seen) t u word seen (Err stop))) none after in
         cond_both (is_written (writes_in t) word) noted (case_by_read (content_read t.reads word) (seen_content seen) (length t.reads))
-        (λ c. Notes c t u word seen (Err stop) → Refused)
+        (λ c. Notes c t u word seen (Err stop) → IsUnnoted)
         (λ _ x. let e = x.0 in absurd (cc e))
         (λ unwritten x. note_by (content_read t.reads word) refl unwritten x)
         n

@@ -107,10 +107,10 @@ module _ (M : Meaning) where
           record { valid = frame.0; state = frame.1 ∙ before.state }
 
       -- an uninstall leaves the value that the word stands for
-      abbrev Leaves : Type 0
-      Leaves = (choice : List Bool) (r : Resolves m choice) → LeavesValue M m n w choice r fated_now facts k.formats (grounds_of m k)
+      abbrev EachLeaves : Type 0
+      EachLeaves = (choice : List Bool) (r : Resolves m choice) → LeavesValue M m n w choice r fated_now facts k.formats (grounds_of m k)
 
-      plain_on : Leaves → ((choice : List Bool) (r : Resolves m choice) → IsPlain M m n w choice r fated_now facts k.formats (grounds_of m k) w.effect) → Means n
+      plain_on : EachLeaves → ((choice : List Bool) (r : Resolves m choice) → IsPlain M m n w choice r fated_now facts k.formats (grounds_of m k) w.effect) → Means n
       plain_on leaves plain = means_on (λ choice r. framed choice r
           (plain_agrees M m n w choice r fated_now facts k.formats (grounds_of m k) (placed_exists m choice was.exist) (leaves choice r) (plain choice r)))
 
