@@ -9,7 +9,8 @@ use Rattle.md_history.specs.declared.stops.Attempt.TheVariants.{Committed as Don
 use Rattle.md_history.specs.declared.stops.Stop.{Stop}
 use Rattle.md_history.specs.declared.stops.Stop.TheVariants.{Conflict, Limit, NoMemory}
 use Rattle.md_history.specs.History.{AllDecided}
-use Rattle.md_history.specs.Front.{Front, Begins, AllStay, committed_in, own_after, of_lane}
+use Rattle.md_history.specs.Front.{Front, Begins, LegalFrom, AllStay, committed_in, own_after, of_lane}
+use Rattle.md_history.specs.State.{State}
 
 -- of an attempt that was committed, and of one that stopped
 abbrev pub IfCommitted : {R : Type 0} → Attempt R → (R → Type 0) → Type 0
@@ -49,6 +50,12 @@ pub record Stops (tag : ℕ) (old new : Front) : Type 0 where
   pub pending : new.pending ≡ old.pending
   pub own : NoneOrAborted tag (own_after (length old.seen) new)
   pub mine : (lane : ℕ) → new.mine lane ≡ old.mine lane
+
+-- an attempt took effect as a whole, as the last entry of the history, or not at all; and the history is legal
+pub record IsAtomic {R : Type 0} (did : List Act → R → Type 0) (tag : ℕ) (start : State) (result : Attempt R) (old new : Front) : Type 0 where
+  pub committed : IfCommitted result (λ r. Commits did tag r old new)
+  pub stopped : IfStopped result (λ why. Stops tag old new)
+  pub legal : LegalFrom start new
 
 -- How many attempts were begun, before one that stopped and after it. It was begun if it met a conflict; else it may have
 -- stopped before that.
