@@ -43,7 +43,7 @@ pub record StaysIn (u : TxnState) (s : Slot) : Type 0 where
   pub old : now.write.old ≡ s.write.old
   pub cleanup : (c : Cleanup) → s.cleanup ≡ Some c → now.cleanup ≡ Some c
 
--- what is left of the transaction: it goes on with the same certificates, in the same operation, and its slots stay. At
+-- an operation goes on after a call: the transaction has the same certificates and acts, and its slots stay. At
 -- most so many words are recorded more, and written more, and so many nodes taken
 pub record OperationGoesOn (M : Meaning) (t u : TxnState) (reads writes nodes : ℕ) : Type 0 where
   pub on : GoesOn M t u
@@ -63,7 +63,7 @@ pub record GoesBy (M : Meaning) (t u : TxnState) (reads writes nodes : ℕ) : Ty
 abbrev pub StaysStopped : {A : Type 0} → (t u : TxnState) → Result A Stop → Type 0
 StaysStopped t u result = (s : Stop) → t.stop ≡ Some s → (result ≡ Err s) × (u ≡ t)
 
--- or it was refused, and keeps the stop
+-- an operation went on so, and was refused: the transaction keeps the stop
 pub record OperationRefused (M : Meaning) (t u : TxnState) (reads writes nodes : ℕ) (s : Stop) : Type 0 where
   pub leaves : OperationGoesOn M t u reads writes nodes
   pub kept : u.stop ≡ Some s

@@ -24,7 +24,7 @@ pub record StandFrom (h : LogicalHeap) (cs : List Certificate) : Type 0 where
   pub tidies : All (λ c. All (store.tidies h.words.shape) c.tidy) cs
   pub stand : AllStandBy h h cs
 
--- their acts
+-- the acts of certificates
 abbrev pub certificate_acts : List Certificate → List Act
 certificate_acts cs = map (λ c. act_of c.op c.reply) cs
 
