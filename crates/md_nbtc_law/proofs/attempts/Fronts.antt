@@ -5,7 +5,7 @@ use Rattle.std.proofs.lemmas.List.{append-nil, length-append, length-map, map-ap
 use Rattle.std.proofs.lemmas.List.Elements.{filter-append}
 use Rattle.std.specs.List.{All, Contains, zip}
 use Rattle.md_words.specs.declared.shape.Shape.{Shape}
-use Rattle.md_history.specs.Attempt.{CommitsTransaction as CommitsFront, NoneOrAborted, Stops as StopsFront}
+use Rattle.md_history.specs.Attempt.{Commits as CommitsFront, NoneOrAborted, Stops as StopsFront}
 use Rattle.md_history.specs.Front.{AllStay, IsPrefix, of_lane, own_after}
 use Rattle.md_history.specs.FrontLaws.{all_stay-trans}
 use Rattle.md_history.specs.declared.acts.Act.{Act}
