@@ -1,13 +1,13 @@
 use Rattle.md_many_attempts.proofs.attempts.attempt_line.Goals as goal
 
 pub returns-in-Committed-clause-committed : goal.returns-in-Committed-clause-committed
-returns-in-Committed-clause-committed g c = rw c.line_tag.ensures at c.attempt-attempt.ensures.committed
+returns-in-Committed-clause-committed g c = rw c.line_tag.ensures at c.attempt-attempt.ensures.atomic.committed
 
 pub returns-in-Committed-clause-begun : goal.returns-in-Committed-clause-begun
 returns-in-Committed-clause-begun g c = assumption
 
 pub returns-in_default-clause-stopped : goal.returns-in_default-clause-stopped
-returns-in_default-clause-stopped g c = rw c.line_tag.ensures at c.attempt-attempt.ensures.stopped
+returns-in_default-clause-stopped g c = rw c.line_tag.ensures at c.attempt-attempt.ensures.atomic.stopped
 
 pub returns-in_default-clause-begun : goal.returns-in_default-clause-begun
 returns-in_default-clause-begun g c = assumption
@@ -31,7 +31,7 @@ pub returns-in_default-clause-alone : goal.returns-in_default-clause-alone
 returns-in_default-clause-alone g c = assumption
 
 pub returns-in-Committed-clause-stopped : goal.returns-in-Committed-clause-stopped
-returns-in-Committed-clause-stopped g c = rw c.line_tag.ensures at c.attempt-attempt.ensures.stopped
+returns-in-Committed-clause-stopped g c = rw c.line_tag.ensures at c.attempt-attempt.ensures.atomic.stopped
 
 pub returns-in-Committed-clause-legal : goal.returns-in-Committed-clause-legal
 returns-in-Committed-clause-legal g c = assumption
@@ -49,7 +49,7 @@ pub returns-in-Committed-clause-small : goal.returns-in-Committed-clause-small
 returns-in-Committed-clause-small g c = assumption
 
 pub returns-in_default-clause-committed : goal.returns-in_default-clause-committed
-returns-in_default-clause-committed g c = rw c.line_tag.ensures at c.attempt-attempt.ensures.committed
+returns-in_default-clause-committed g c = rw c.line_tag.ensures at c.attempt-attempt.ensures.atomic.committed
 
 pub returns-in_default-clause-legal : goal.returns-in_default-clause-legal
 returns-in_default-clause-legal g c = assumption

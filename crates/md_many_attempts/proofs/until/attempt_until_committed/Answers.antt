@@ -21,9 +21,9 @@ returns-then-not-is_conflict g c =
     let test = c.attempts-test.true in
     let one = began-one c.attempt-end.result _ _ end.begun in
     record {
-      committed = commit-end _ _ _ _ _ was.stopped _ _ _ (omega arith) end.committed;
-      stopped = stop-end _ _ _ _ _ was.stopped _ _ (omega arith) end.stopped;
-      legal = end.legal;
+      committed = commit-end _ _ _ _ _ was.stopped _ _ _ (omega arith) end.atomic.committed;
+      stopped = stop-end _ _ _ _ _ was.stopped _ _ (omega arith) end.atomic.stopped;
+      legal = end.atomic.legal;
       of = end.of;
       begun = ends-tries _ _ _ _ _ _ (c.is_conflict.ensures.other c.if-not-is_conflict.true) was.counted (omega arith) end.begun;
       again = λ more. was.again (omega (arith, more, one, was.counted));
@@ -42,7 +42,7 @@ attempts-preserved g c =
     let met = met-conflict c.attempt-end.result meets in
     record {
       of = end.of;
-      stopped = stop-more _ _ _ _ _ was.stopped _ (omega arith) (of-stop _ _ _ met.1 end.stopped);
+      stopped = stop-more _ _ _ _ _ was.stopped _ (omega arith) (of-stop _ _ _ met.1 end.atomic.stopped);
       counted = omega (arith, was.counted, conflict-began c.attempt-end.result _ _ meets end.begun);
       again = λ one. (met.0, of-stop _ _ _ met.1 end.may_stop);
       alone = λ all. absurd (of-stop IsNoConflict _ _ met.1 (end.alone (was.stopped.lanes ∙ all)) met.0 refl);
@@ -53,11 +53,11 @@ attempts-preserved g c =
 
 pub returns-clause-committed : goal.returns-clause-committed
 returns-clause-committed g c =
-    commit-end _ _ _ _ _ c.attempts.invariant.stopped _ _ _ (omega arith) c.attempt.ensures.committed
+    commit-end _ _ _ _ _ c.attempts.invariant.stopped _ _ _ (omega arith) c.attempt.ensures.atomic.committed
 
 pub returns-clause-stopped : goal.returns-clause-stopped
 returns-clause-stopped g c =
-    stop-end _ _ _ _ _ c.attempts.invariant.stopped _ _ (omega arith) c.attempt.ensures.stopped
+    stop-end _ _ _ _ _ c.attempts.invariant.stopped _ _ (omega arith) c.attempt.ensures.atomic.stopped
 
 pub returns-clause-begun : goal.returns-clause-begun
 returns-clause-begun g c = search rules depth 1
