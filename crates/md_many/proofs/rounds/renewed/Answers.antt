@@ -20,8 +20,8 @@ returns-clause-course g c =
       runs = search rules;
       stands = rw (c.in_ok-push.ensures.items, map_push g.E.Engine.front c.args.course.fronts.items c.in_ok-engine.front)
           (stands-renewed _ _ _ _ _ _ _ _ _ _ _ c.requires.course.laws _ _ _ _ _ c.requires.course.stands
-          c.pass_is_legal.ensures (g.E.Engine.front c.in_ok-engine.front) _ _ _ c.in_ok-engine.ensures.settled
-          c.in_ok-engine.ensures.start c.in_ok-engine.ensures.lanes empty);
+          c.pass_is_legal.ensures (g.E.Engine.front c.in_ok-engine.front) _ _ _ c.in_ok-engine.ensures.ended.settled
+          c.in_ok-engine.ensures.ended.contents c.in_ok-engine.ensures.lanes empty);
     }
 
 pub returns-in_err-engine : goal.returns-in_err-engine
