@@ -8,7 +8,7 @@ use Rattle.md_history.specs.State.{State, Table, HaveSameNumbers, map_at, queue_
 use Rattle.md_history.specs.Script.{Follows, Did}
 use Rattle.md_history.specs.Branches.{value_in}
 use Rattle.md_history.proofs.Branching.{by_option-each}
-use Rattle.md_history.proofs.Plays.{Leaves}
+use Rattle.md_history.proofs.Plays.{PlayLeaves}
 use Rattle.md_history.proofs.FewCalls.{MakesAtMost}
 use Rattle.md_many.specs.Laws.{AreLawfulBodies}
 use Rattle.md_many.proofs.Bodies.{StaysGood, leaves-option, scripts-lawful}
@@ -68,7 +68,7 @@ module _ (opening s : State) (good : KeepsJobs opening s) (like : HaveSameNumber
       (not-there jobs s t job [] m FINISHED job (λ v. refl) once)
 
   first-stays : (worker left queue : ℕ) (t : State) → Moved t [] → runs t worker ≡ None
-      → Leaves Stays (start_first worker left queue) t
+      → PlayLeaves Stays (start_first worker left queue) t
   unfolding start_first
   first-stays worker zero queue t m idle = m
   first-stays worker (suc left) queue t m idle =
@@ -78,7 +78,7 @@ module _ (opening s : State) (good : KeepsJobs opening s) (like : HaveSameNumber
       RUNNING worker job refl (omega (arith, maps)) idle)
 
   -- no move loses or doubles a job
-  move-stays : (step : Step) (worker : ℕ) → Leaves Stays (script_at step worker) s
+  move-stays : (step : Step) (worker : ℕ) → PlayLeaves Stays (script_at step worker) s
   move-stays Take worker = leaves-option Stays (runs s worker) (start_first worker PRIORITIES 0) _ s
       (first-stays worker PRIORITIES 0 s (none-moved jobs s)) (λ job some. none-moved jobs s)
   move-stays Finish worker = leaves-option Stays (runs s worker) _ _ (after s (Remove RUNNING worker))

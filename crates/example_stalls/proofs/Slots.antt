@@ -38,7 +38,7 @@ use Rattle.md_rule.specs.Steps.{May, Stepped, SteppedFrom}
 use Rattle.md_rule.specs.Views.{Origin, PassState}
 use Rattle.md_rule.proofs.Moves.{is_kept}
 use Rattle.md_rule.proofs.Told.{told_install, told_store}
-use Rattle.example_stalls.specs.Stalled.{AddsChange, HasFirst, HoldsSlot, MakesStep, PutsIn, StoresAt, StoresSlot}
+use Rattle.example_stalls.specs.Stalled.{AddsChange, HasFirst, HoldsFirstSlot, MakesStep, PutsIn, StoresAt, StoresSlot}
 use Rattle.example_stalls.proofs.First.{first, free, is_present, unready}
 use Rattle.example_stalls.proofs.Trails.{every_more}
 
@@ -166,7 +166,7 @@ module _ (M : Meaning) (o : Origin) (desc : ℕ) (p : PassView) (f : HasFirst o.
       ∙ (is_kept M o m a).stores pass p acts.at f.hand.attempt (ap (λ (x : AttemptId). x.serial) (is_present M o desc p f m a pass acts)) word held
       (subst (IsEntryWord f.hand.attempt.desc) (sym there) entry) (subst (λ x. LastStored p x word held) (sym f.of) last)
 
-  module _ (from : Content) (few : from.count ≤ LAST_COUNT) (even : is_even from.count ≡ true) (slot : HoldsSlot o.shape desc (word_of from) p) where
+  module _ (from : Content) (few : from.count ≤ LAST_COUNT) (even : is_even from.count ≡ true) (slot : HoldsFirstSlot o.shape desc (word_of from) p) where
     abbrev pub spot : Spot
     spot = record { desc = desc; slot = 0 }
 
@@ -267,7 +267,7 @@ holds_new shape desc from value p q s = record {
   last = All-nil _;
 }
 
-pub holds_slot : (shape : Shape) (desc from value : ℕ) (p q : PassView) → IsInSet shape desc 0 → StoresSlot shape desc from value p q → HoldsSlot shape desc from q
+pub holds_slot : (shape : Shape) (desc from value : ℕ) (p q : PassView) → IsInSet shape desc 0 → StoresSlot shape desc from value p q → HoldsFirstSlot shape desc from q
 holds_slot shape desc from value p q set s =
     let old_word : address shape (slot_old desc 0) ≢ address shape (slot_word desc 0) = address_differs shape (slot_old desc 0) (slot_word desc 0) set set (λ e. cc) in
     let new_word : address shape (slot_new desc 0) ≢ address shape (slot_word desc 0) = address_differs shape (slot_new desc 0) (slot_word desc 0) set set (λ e. cc) in

@@ -17,8 +17,8 @@ pub record Looks (shape : Shape) (held : ℕ) (before after : PassView) : Type 0
   pub goes : IsAfter shape (look ∷ []) before after
   pub loads : Loads (cell_word shape) held look
 
--- it found a plain content; or one with a descriptor, which was cleared then
-abbrev pub Meets : Shape → Met → (before after : PassView) → Type 0
-Meets shape (Plain found) before after = Looks shape (word_of found) before after × (is_even found.count ≡ true)
-Meets shape (Cleared c) before after = (held : ℕ) × (between : PassView) × Looks shape held before between
+-- what a pass met in the cell: a plain content; or one with a descriptor, which was cleared then
+abbrev pub MeetsCell : Shape → Met → (before after : PassView) → Type 0
+MeetsCell shape (Plain found) before after = Looks shape (word_of found) before after × (is_even found.count ≡ true)
+MeetsCell shape (Cleared c) before after = (held : ℕ) × (between : PassView) × Looks shape held before between
     × (is_even (count_of held) ≡ false) × Clears shape (cell_word shape) held c between after

@@ -76,7 +76,7 @@ pub record StoresSlot (shape : Shape) (desc from value : ℕ) (before after : Pa
   pub stores_new : StoresAt shape desc (slot_new desc 0) value new
 
 -- what was stored last in the slot 0 of a descriptor for its first attempt is the word of the cell, and this content
-pub record HoldsSlot (shape : Shape) (desc from : ℕ) (view : PassView) : Type 0 where
+pub record HoldsFirstSlot (shape : Shape) (desc from : ℕ) (view : PassView) : Type 0 where
   pub word : LastStored view (attempt_of desc 0) (address shape (slot_word desc 0)) (cell_word shape)
   pub old : LastStored view (attempt_of desc 0) (address shape (slot_old desc 0)) from
 

@@ -2,7 +2,7 @@
 
 ghost use Rattle.std.specs.Prelude.{◌≡◌, None};
 ghost use Rattle.md_rule.specs.Views.{IsOf};
-ghost use Rattle.example_stalls.specs.Meeting.{Meets};
+ghost use Rattle.example_stalls.specs.Meeting.{MeetsCell};
 
 use example_cell::CellTheory;
 use example_tickets::ticket_word;
@@ -25,7 +25,7 @@ pub fn meet(field: &Field<CellTheory>, pass: &mut Pass<CellTheory>) -> Met
     requires idle { pass.old.view.hand ≡ None }
     ensures same { pass.new ≡ record pass.old { view = pass.new.view } }
     ensures idle { pass.new.view.hand ≡ None }
-    ensures met { Meets field.now.origin.shape result pass.old.view pass.new.view }
+    ensures met { MeetsCell field.now.origin.shape result pass.old.view pass.new.view }
 {
     let word = ticket_word(field);
     let found = Content::of(pass.load(field, word));

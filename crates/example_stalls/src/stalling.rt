@@ -6,7 +6,8 @@ ghost use Rattle.md_machine.specs.declared.step.TheConstants.{LAST_COUNT};
 ghost use Rattle.md_rule.specs.Kept.{KeepsLanes};
 ghost use Rattle.md_rule.specs.Lanes.{AreLanes};
 ghost use Rattle.md_rule.specs.Views.{IsOf};
-ghost use Rattle.example_stalls.specs.Stalled.{AddsChange, Begins, HasFirst, HasNoFirst, HoldsSlot};
+ghost use Rattle.example_stalls.specs.Stalled.{AddsChange, Begins, HasFirst, HasNoFirst};
+ghost use Rattle.example_stalls.specs.Stalled.{HoldsFirstSlot};
 ghost use Rattle.example_stalls.specs.Stalled.{PutsIn, Stalls, StoresSlot, TakesFirst};
 
 use example_cell::CellTheory;
@@ -120,7 +121,7 @@ pub(crate) fn put(
 ) -> bool
     requires field { IsOf pass.old field.now }
     requires first { HasFirst field.now.origin.shape pass.old.view desc }
-    requires slot { HoldsSlot field.now.origin.shape desc (word_of found) pass.old.view }
+    requires slot { HoldsFirstSlot field.now.origin.shape desc (word_of found) pass.old.view }
     requires even { is_even found.count ≡ true }
     requires room { found.count ≤ LAST_COUNT }
     ensures field { IsOf pass.new field.now }

@@ -29,7 +29,7 @@ use Rattle.md_help.specs.declared.clearing.Cleared.{Cleared}
 use Rattle.md_help.specs.After.{IsAfter}
 use Rattle.md_machine.specs.events.Decide.{HasMet}
 use Rattle.md_help.specs.Clears.{Clears, EndsLater, Finishes, SawDecided, SawTwice, TakenLater, TakenOut, fate_of}
-use Rattle.md_help.specs.Settles.{AreFew, Decides, IsDecidedAs, MetStatus, Settled}
+use Rattle.md_help.specs.Settles.{AreFewSteps, Decides, IsDecidedAs, MetStatus, Settled}
 use Rattle.md_help.proofs.Numbers.{formats_of}
 use Rattle.md_help.proofs.Reading.{some_left, some_right}
 use Rattle.md_help.proofs.Flagged.{flags_last, noted_after}
@@ -108,7 +108,7 @@ module _ (shape : Shape) (word from : ℕ) where
   settling_same : (steps : List Step) → All (Decides shape desc) steps → All StaysSame steps
   settling_same steps decides = All-weaker (Decides shape desc) StaysSame (λ s d is. ⊎_elim (λ l. l.0.1) (λ o. absurd (⊎_elim (no_load s is) (no_abort s is) o.1)) d) steps decides
 
-  few_more : (status : ℕ) (steps extra : List Step) → AreFew shape desc status 2 steps → length extra ≤ 2 → AreFew shape desc status 4 (steps ++ extra)
+  few_more : (status : ℕ) (steps extra : List Step) → AreFewSteps shape desc status 2 steps → length extra ≤ 2 → AreFewSteps shape desc status 4 (steps ++ extra)
   few_more status steps extra f h = (
     f.0,
     f.1,

@@ -24,7 +24,7 @@ use Rattle.md_rule.specs.Views.{Origin}
 use Rattle.md_rule.proofs.Moves.{next_admitted}
 use Rattle.md_rule.proofs.Fronts.{told_front}
 use Rattle.md_rule.proofs.Told.{told_load}
-use Rattle.md_help.specs.After.{IsAfter, Stands, known_over}
+use Rattle.md_help.specs.After.{IsAfter, StandsInField, known_over}
 
 -- a step was made for what a pass has in hand
 abbrev pub IsFor : PassView → Step → Type 0
@@ -99,7 +99,7 @@ module _ (M : Meaning) (o : Origin) where
   known_stays event before after s lanes = (told_front M o event before after s (λ lane c. subst (λ (l : List ℕ). Contains l lane) (sym lanes) c)).known
 
   -- a pass stands somewhere after a step
-  pub stands_after : (event : EventOf) (before after : PassView) (s : Stepped M o event before after) → after.lanes ≡ before.lanes → Stands M o after
+  pub stands_after : (event : EventOf) (before after : PassView) (s : Stepped M o event before after) → after.lanes ≡ before.lanes → StandsInField M o after
   stands_after event before after s lanes = record {
     machine = s.next;
     admitted = next_admitted M o event before after s;
@@ -110,7 +110,7 @@ module _ (M : Meaning) (o : Origin) where
   pub lanes_after : (shape : Shape) (steps : List Step) (p q : PassView) → IsAfter shape steps p q → q.lanes ≡ p.lanes
   lanes_after shape steps p q a = ap (λ (x : PassView). x.lanes) a.1
 
-  pub stands_made : (event : EventOf) (kind : Kind) (word held left : ℕ) (before after : PassView) → Stepped M o event before after → Made o.shape kind word held left before after → Stands M o after
+  pub stands_made : (event : EventOf) (kind : Kind) (word held left : ℕ) (before after : PassView) → Stepped M o event before after → Made o.shape kind word held left before after → StandsInField M o after
   stands_made event kind word held left before after s made = stands_after event before after s (lanes_after o.shape (made.step ∷ []) before after made.goes)
 
   pub made_load : (word held : ℕ) (before after : PassView) → SteppedFrom M o (λ pass. load pass word) word held before after → Made o.shape Load word held held before after

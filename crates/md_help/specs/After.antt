@@ -29,7 +29,7 @@ IsAfter shape steps before after = (noted : List PlacedNode) × (after ≡ recor
 }) × AllStay before.known after.known × All (λ s. s.attempt ≡ attempt_in_hand before.hand) steps
 
 -- a pass stands so in some machine of the field
-pub record Stands (M : Meaning) (o : Origin) (view : PassView) : Type 0 where
+pub record StandsInField (M : Meaning) (o : Origin) (view : PassView) : Type 0 where
   pub machine : Machine
   pub admitted : Admitted M o machine
   pub pass : ℕ

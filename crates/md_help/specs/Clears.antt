@@ -18,7 +18,7 @@ use Rattle.md_help.specs.declared.settling.End.{End}
 use Rattle.md_help.specs.declared.settling.End.TheVariants.{Committed, Gone}
 use Rattle.md_help.specs.declared.clearing.Cleared.{Cleared}
 use Rattle.md_help.specs.After.{IsAfter}
-use Rattle.md_help.specs.Settles.{AreFew, Decides, Ends, FindsOther}
+use Rattle.md_help.specs.Settles.{AreFewSteps, Decides, Ends, FindsOther}
 
 -- a pass settled an attempt of a descriptor: the first step asked for its status, the later ones settled what it found
 pub record SettlesOne (shape : Shape) (desc : ℕ) (end : End) (before after : PassView) : Type 0 where
@@ -27,7 +27,7 @@ pub record SettlesOne (shape : Shape) (desc : ℕ) (end : End) (before after : P
   pub steps : List Step
   pub goes : IsAfter shape (ask ∷ steps) before after
   pub asks : Loads (address shape (desc_status desc)) status ask
-  pub few : AreFew shape desc status 2 steps
+  pub few : AreFewSteps shape desc status 2 steps
   pub changes : All (Decides shape desc) steps
   pub ends : Ends shape desc status steps end
 
@@ -128,7 +128,7 @@ EndsLater shape word from status end left steps = TakenLater shape word from sta
 pub record Finishes (shape : Shape) (word from status : ℕ) (c : Cleared) (before after : PassView) : Type 0 where
   pub steps : List Step
   pub goes : IsAfter shape steps before after
-  pub few : AreFew shape (desc_in from) status 4 steps
+  pub few : AreFewSteps shape (desc_in from) status 4 steps
   pub empty : c.left ≢ from
   pub still : LoadsChangeNothing steps
   pub noted : FlagsNoted shape before word c.left steps
@@ -143,7 +143,7 @@ pub record Clears (shape : Shape) (word from : ℕ) (c : Cleared) (before after 
   pub steps : List Step
   pub goes : IsAfter shape (ask ∷ look ∷ steps) before after
   pub asks : Loads (status_of_desc shape from) status ask
-  pub few : AreFew shape (desc_in from) status 4 steps
+  pub few : AreFewSteps shape (desc_in from) status 4 steps
   pub empty : c.left ≢ from
   pub still : LoadsChangeNothing (ask ∷ look ∷ steps)
   pub noted : FlagsNoted shape before word c.left (ask ∷ look ∷ steps)

@@ -68,8 +68,8 @@ Ends shape desc first steps Aborted = IsDecidedAs shape desc first IsAborted ste
 Ends shape desc first steps Gone = FindsOther shape desc first steps
 
 -- so many steps at most: three for each read that some status of the attempt counts, and so many more
-abbrev pub AreFew : Shape → (desc first more : ℕ) → List Step → Type 0
-AreFew shape desc first more steps = (held : ℕ) × (serial_of held ≡ serial_of first)
+abbrev pub AreFewSteps : Shape → (desc first more : ℕ) → List Step → Type 0
+AreFewSteps shape desc first more steps = (held : ℕ) × (serial_of held ≡ serial_of first)
     × IsFound shape desc first held steps × (length steps ≤ 3 * reads_of held + more)
 
 -- the step is a load of no status and changes nothing, or it is a commit or an abort of the descriptor's status
@@ -81,7 +81,7 @@ Decides shape desc s = LoadsNoStatus shape s
 pub record Settled (shape : Shape) (desc first more : ℕ) (end : End) (before after : PassView) : Type 0 where
   pub steps : List Step
   pub goes : IsAfter shape steps before after
-  pub few : AreFew shape desc first more steps
+  pub few : AreFewSteps shape desc first more steps
   pub changes : All (Decides shape desc) steps
   pub ends : Ends shape desc first steps end
 

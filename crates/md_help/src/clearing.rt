@@ -11,7 +11,7 @@ ghost use Rattle.md_machine.specs.Trail.{Finds, SomeStep};
 ghost use Rattle.md_machine.specs.events.Uninstall.{IsDecided, desc_in};
 ghost use Rattle.md_rule.specs.InHand.{HoldsDesc};
 ghost use Rattle.md_rule.specs.Views.{IsOf};
-ghost use Rattle.md_help.specs.After.{Stands};
+ghost use Rattle.md_help.specs.After.{StandsInField};
 ghost use Rattle.md_help.specs.Clears.{Clears, Finishes, SawDecided, SawTwice, SlotLoaded};
 ghost use Rattle.md_help.specs.Clears.{TakenOut, fate_of};
 ghost use Rattle.md_help.specs.declared.settling.End.TheVariants.{Gone};
@@ -48,7 +48,7 @@ pub fn clear<T: Theory>(field: &Field<T>, pass: &mut Pass<T>, word: u32, found: 
     requires met { SomeStep (Finds word (word_of found)) pass.old.view.trail }
     requires other { ¬ HoldsDesc pass.old.view (desc_in (word_of found)) }
     ensures same { pass.new ≡ record pass.old { view = pass.new.view } }
-    ensures stands { Stands T.meaning field.now.origin pass.new.view }
+    ensures stands { StandsInField T.meaning field.now.origin pass.new.view }
     ensures clears { Clears field.now.origin.shape word (word_of found) result pass.old.view
         pass.new.view }
 {
@@ -75,7 +75,7 @@ fn finish<T: Theory>(
     status: u64,
 ) -> Cleared
     requires field { IsOf pass.old field.now }
-    requires stands { Stands T.meaning field.now.origin pass.old.view }
+    requires stands { StandsInField T.meaning field.now.origin pass.old.view }
     requires counted { IsCounted field.now.origin.shape word }
     requires odd { is_even (count_of (word_of found)) ≡ false }
     requires fits { found.count ≤ LAST_COUNT + 1 }
@@ -84,7 +84,7 @@ fn finish<T: Theory>(
     requires few { reads_of status ≤ SET }
     requires saw { SawTwice field.now.origin.shape pass.old.view word (word_of found) status }
     ensures same { pass.new ≡ record pass.old { view = pass.new.view } }
-    ensures stands { Stands T.meaning field.now.origin pass.new.view }
+    ensures stands { StandsInField T.meaning field.now.origin pass.new.view }
     ensures finishes { Finishes field.now.origin.shape word (word_of found) status result
         pass.old.view pass.new.view }
 {
@@ -122,7 +122,7 @@ fn take_out<T: Theory>(
     requires saw { SawDecided field.now.origin.shape pass.old.view word (word_of found)
         (fate_of end) }
     ensures same { pass.new ≡ record pass.old { view = pass.new.view } }
-    ensures stands { Stands T.meaning field.now.origin pass.new.view }
+    ensures stands { StandsInField T.meaning field.now.origin pass.new.view }
     ensures taken { TakenOut field.now.origin.shape word (word_of found) (fate_of end) result
         pass.old.view pass.new.view }
 {

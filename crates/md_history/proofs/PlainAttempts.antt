@@ -7,7 +7,7 @@ use Rattle.md_history.specs.declared.stops.Stop.{Stop}
 use Rattle.md_history.specs.declared.stops.Stop.TheVariants.{NoMemory}
 use Rattle.md_history.specs.State.{State, run, IsRight}
 use Rattle.md_history.specs.History.{acts_of}
-use Rattle.md_history.specs.Attempt.{IsStopCounted}
+use Rattle.md_history.specs.Attempt.{CountsStop}
 use Rattle.md_history.specs.Calls.{Refusal}
 use Rattle.md_history.specs.Engine.{IsFrontFrom}
 use Rattle.md_history.specs.Plain.{Plain, front_from, AreNumbered, IsKept, IsPassOf, refusal_of, begun_by}
@@ -40,12 +40,12 @@ begun-broken old es b whole same broken =
     ∙ sym (ap (λ before. n + cond before 1 0 + cond before 0 1) whole)
 
 pub counted-broken : (s : Stop) (old : Plain) (es : List Entry) (b : Bool) → s ≡ NoMemory → old.broken ≡ false
-    → es ≡ old.entries → b ≡ true → IsStopCounted s (begun_by old) (length es + cond b 1 0)
+    → es ≡ old.entries → b ≡ true → CountsStop s (begun_by old) (length es + cond b 1 0)
 counted-broken s old es b is whole same broken =
     let exact = begun-broken old es b whole same broken in
     let once : cond old.broken 0 1 ≡ 1 = ap {B = ℕ} (λ before. cond before 0 1) whole in
-    let counted : IsStopCounted NoMemory (begun_by old) (length es + cond b 1 0) = (omega (arith, exact, once), omega (arith, exact, once)) in
-    subst (λ stop. IsStopCounted stop (begun_by old) (length es + cond b 1 0)) (sym is) counted
+    let counted : CountsStop NoMemory (begun_by old) (length es + cond b 1 0) = (omega (arith, exact, once), omega (arith, exact, once)) in
+    subst (λ stop. CountsStop stop (begun_by old) (length es + cond b 1 0)) (sym is) counted
 
 -- so was one that appends an entry
 pub begun-more : (old : Plain) (es es' : List Entry) (e : Entry) → old.broken ≡ false → es ≡ old.entries → es' ≡ es ++ e ∷ []

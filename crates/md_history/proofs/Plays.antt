@@ -107,17 +107,17 @@ did-made p s acts r did right =
     ∙ append-nil acts
 
 -- this holds of the state that a script leaves and of its reply
-abbrev pub Leaves : {R : Type 0} → (State → R → Type 0) → Script R → State → Type 0
-Leaves P p s = P (played p s) (outcome p s)
+abbrev pub PlayLeaves : {R : Type 0} → (State → R → Type 0) → Script R → State → Type 0
+PlayLeaves P p s = P (played p s) (outcome p s)
 
 -- so it holds after all right acts of the whole script
 pub did-leaves : {R : Type 0} (P : State → R → Type 0) (p : Script R) (s : State) (acts : List Act)
-    (r : R) → Leaves P p s → Did p acts r → IsRight s acts → P (run s acts) r
+    (r : R) → PlayLeaves P p s → Did p acts r → IsRight s acts → P (run s acts) r
 did-leaves P p s acts r leaves did right =
     let is = did-played p s acts r did right in
     subst (λ t. P t r) (sym is.state) (subst (P (played p s)) (sym is.reply) leaves)
 
 -- one script after another
 pub leaves-bind : {A B : Type 0} (P : State → B → Type 0) (p : Script A) (next : A → Script B)
-    (s : State) → Leaves (λ t a. Leaves P (next a) t) p s → Leaves P (bind p next) s
+    (s : State) → PlayLeaves (λ t a. PlayLeaves P (next a) t) p s → PlayLeaves P (bind p next) s
 leaves-bind P p next s leaves = ends-bind p next s (λ t r acts. P t r) leaves

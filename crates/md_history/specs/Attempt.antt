@@ -9,7 +9,8 @@ use Rattle.md_history.specs.declared.stops.Attempt.TheVariants.{Committed as Don
 use Rattle.md_history.specs.declared.stops.Stop.{Stop}
 use Rattle.md_history.specs.declared.stops.Stop.TheVariants.{Conflict, Limit, NoMemory}
 use Rattle.md_history.specs.History.{AllDecided}
-use Rattle.md_history.specs.Front.{Front, Begins, AllStay, committed_in, own_after, of_lane}
+use Rattle.md_history.specs.Front.{Front, Begins, LegalFrom, AllStay, committed_in, own_after, of_lane}
+use Rattle.md_history.specs.State.{State}
 
 -- of an attempt that was committed, and of one that stopped
 abbrev pub IfCommitted : {R : Type 0} → Attempt R → (R → Type 0) → Type 0
@@ -50,17 +51,23 @@ pub record Stops (tag : ℕ) (old new : Front) : Type 0 where
   pub own : NoneOrAborted tag (own_after (length old.seen) new)
   pub mine : (lane : ℕ) → new.mine lane ≡ old.mine lane
 
+-- an attempt took effect as a whole, as the last entry of the history, or not at all; and the history is legal
+pub record IsAtomic {R : Type 0} (did : List Act → R → Type 0) (tag : ℕ) (start : State) (result : Attempt R) (old new : Front) : Type 0 where
+  pub committed : IfCommitted result (λ r. Commits did tag r old new)
+  pub stopped : IfStopped result (λ why. Stops tag old new)
+  pub legal : LegalFrom start new
+
 -- How many attempts were begun, before one that stopped and after it. It was begun if it met a conflict; else it may have
 -- stopped before that.
-abbrev pub IsStopCounted : Stop → ℕ → ℕ → Type 0
-IsStopCounted (Conflict shown) begun begun' = begun' ≡ begun + 1
-IsStopCounted (Limit limit) begun begun' = (begun ≤ begun') × (begun' ≤ begun + 1)
-IsStopCounted NoMemory begun begun' = (begun ≤ begun') × (begun' ≤ begun + 1)
+abbrev pub CountsStop : Stop → ℕ → ℕ → Type 0
+CountsStop (Conflict shown) begun begun' = begun' ≡ begun + 1
+CountsStop (Limit limit) begun begun' = (begun ≤ begun') × (begun' ≤ begun + 1)
+CountsStop NoMemory begun begun' = (begun ≤ begun') × (begun' ≤ begun + 1)
 
 -- The same of any attempt: one that was committed was begun.
-abbrev pub IsCounted : {R : Type 0} → Attempt R → ℕ → ℕ → Type 0
-IsCounted (Done r) begun begun' = begun' ≡ begun + 1
-IsCounted (Stopped s) begun begun' = IsStopCounted s begun begun'
+abbrev pub CountsAttempt : {R : Type 0} → Attempt R → ℕ → ℕ → Type 0
+CountsAttempt (Done r) begun begun' = begun' ≡ begun + 1
+CountsAttempt (Stopped s) begun begun' = CountsStop s begun begun'
 
 -- a pass was closed: what it has seen and its own stay, and each fate is decided
 pub record Settles (old new : Front) : Type 0 where

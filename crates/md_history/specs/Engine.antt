@@ -1,11 +1,11 @@
 -- What an engine does with its passes, beside attempts.
-use Rattle.std.specs.Prelude.{◌≡◌, ◌≢◌, ◌<◌, ◌≤◌, ◌⊎◌, ◌↔◌, ◌+◌, ◌-◌, ◌/◌, ℕ, List, [], ◌∷◌, ◌++◌, length, take, drop, filter, sum_by, All, Contains}
+use Rattle.std.specs.Prelude.{◌≡◌, ◌≢◌, ◌<◌, ◌≤◌, ◌⊎◌, ◌↔◌, ◌+◌, ◌-◌, ◌/◌, ℕ, List, [], ◌∷◌, ◌++◌, length, take, drop, filter, sum_by, All, Contains, Option, IsNone, IfNone, IfSome, unwrap_or, option_map}
 use Rattle.std.specs.FinMap as fin
 use Rattle.md_history.specs.declared.entries.Entry.{Entry}
 use Rattle.md_history.specs.declared.stops.Shown.{Shown}
 use Rattle.md_history.specs.declared.stops.Stop.{Stop}
 use Rattle.md_history.specs.declared.stops.Stop.TheVariants.{Conflict}
-use Rattle.md_history.specs.State.{State}
+use Rattle.md_history.specs.State.{State, HaveSameNumbers}
 use Rattle.md_history.specs.Counts.{Bounds}
 use Rattle.md_history.specs.Front.{Front, Begun, Begins, LegalFrom, AllDecidedOn, committed_in, replay_of, is_lane_of, of_lane, known_of_both}
 use Rattle.md_history.specs.Attempt.{Settles, AreAllOwn}
@@ -89,6 +89,17 @@ pub record Splits (old kept given : Front) : Type 0 where
   pub kept_part : IsPartOf old kept
   pub given_part : IsPartOf old given
 
+-- A split was asked of a pass. It gave a part to a new pass, exactly if it held more than one lane; else it stays as it was.
+-- Together they have begun as many attempts, and both are of the engine. These words tell the front of a pass, how many
+-- attempts it has begun, and whether it is of the engine.
+pub record IsSplit {P : Type 0} (front_of : P → Front) (begun_by : P → ℕ) (IsOf : P → Type 0) (old new : P) (result : Option P) : Type 0 where
+  pub none : IsNone result ↔ (length (front_of old).lanes ≡ 1)
+  pub same : IfNone result (front_of new ≡ front_of old)
+  pub split : IfSome result (λ other. Splits (front_of old) (front_of new) (front_of other))
+  pub begun : begun_by old ≡ begun_by new + unwrap_or (option_map begun_by result) 0
+  pub of : IsOf new
+  pub of_other : IfSome result (λ other. IsOf other)
+
 -- two passes were joined: the pass holds the lanes of both, and has seen and has what each had
 pub record Joins (one other both : Front) : Type 0 where
   pub lanes : (lane : ℕ) → Contains both.lanes lane ↔ (Contains one.lanes lane ⊎ Contains other.lanes lane)
@@ -106,6 +117,19 @@ pub record SettlesFrom (start : State) (old new : Front) : Type 0 where
   pub settles : Settles old new
   pub legal : LegalFrom start new
   pub own : old.pending ≡ [] → AreAllOwn new
+
+-- an engine that started so has ended: the front of its last pass is settled, and the state is the replay of that front,
+-- with as many maps and queues as the start
+pub record HasEnded (start : State) (old last : Front) (s : State) : Type 0 where
+  pub settled : SettlesFrom start old last
+  pub contents : s ≡ replay_of start last
+  pub numbers : HaveSameNumbers s start
+
+-- a pass is the first of a renewed engine: it is of the engine, fresh, and has begun no attempt
+pub record IsFirstPass (IsOf IsFresh : Type 0) (begun_by : ℕ) : Type 0 where
+  pub of : IsOf
+  pub fresh : IsFresh
+  pub begun : begun_by ≡ 0
 
 -- a renewal has room for the contents, however what is open ends
 abbrev pub HasRoom : State → ℕ → Front → Type 0

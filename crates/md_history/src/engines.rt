@@ -1,14 +1,14 @@
 //! What every store offers.
 
-ghost use Rattle.std.specs.Prelude.{◌≡◌, ◌≤◌, ◌↔◌, ◌+◌, ℕ, List, length, IsNone, IfSome, IfNone};
-ghost use Rattle.std.specs.Prelude.{IfOk, unwrap_or, option_map};
+ghost use Rattle.std.specs.Prelude.{◌≡◌, ◌≤◌, ◌+◌, ℕ, List, length, IfOk};
 ghost use Rattle.md_history.specs.declared.stops.Stop.{Stop};
-ghost use Rattle.md_history.specs.State.{State, HaveSameNumbers};
+ghost use Rattle.md_history.specs.State.{State};
 ghost use Rattle.md_history.specs.Counts.{IsSmall};
-ghost use Rattle.md_history.specs.Front.{Front as View, LegalFrom, replay_of};
-ghost use Rattle.md_history.specs.Attempt.{Commits, Stops, IsCounted, IfCommitted, IfStopped};
+ghost use Rattle.md_history.specs.Front.{Front as View};
+ghost use Rattle.md_history.specs.Attempt.{CountsAttempt, IfStopped, IsAtomic};
 ghost use Rattle.md_history.specs.Engine.{Limits, bounds_in, IsFrontFrom, empty_front, AreApart};
-ghost use Rattle.md_history.specs.Engine.{Splits, Joins, SettlesFrom, HasRoom, IsNoConflict};
+ghost use Rattle.md_history.specs.Engine.{IsSplit, Joins, HasRoom, IsNoConflict};
+ghost use Rattle.md_history.specs.Engine.{HasEnded, IsFirstPass};
 
 use crate::bodies::Body;
 use crate::contents::Contents;
@@ -54,13 +54,7 @@ pub trait Engine: Sized + Sync + Drop {
     /// one has. `None` exactly if the pass holds one lane. It takes no memory.
     fn split(&self, pass: &mut Self::Pass) -> Option<Self::Pass>
         requires { of self.now pass.old }
-        ensures none { IsNone result ↔ (length (front pass.old).lanes ≡ 1) }
-        ensures same { IfNone result (front pass.new ≡ front pass.old) }
-        ensures split { IfSome result (λ other.
-            Splits (front pass.old) (front pass.new) (front other)) }
-        ensures begun { begun pass.old ≡ begun pass.new + unwrap_or (option_map begun result) 0 }
-        ensures of { of self.now pass.new }
-        ensures of_other { IfSome result (λ other. of self.now other) };
+        ensures { IsSplit front begun (of self.now) pass.old pass.new result };
 
     /// Runs a body once, as a transaction with a tag. It begins one attempt, or none if it first
     /// meets a limit or runs out of memory.
@@ -73,12 +67,10 @@ pub trait Engine: Sized + Sync + Drop {
         requires of { of self.now pass.old }
         requires fits { B.fits body.now
             (length (start self.now).maps) (length (start self.now).queues) }
-        ensures committed { IfCommitted result (λ r.
-            Commits (B.did body.now) tag r (front pass.old) (front pass.new)) }
-        ensures stopped { IfStopped result (λ _. Stops tag (front pass.old) (front pass.new)) }
-        ensures legal { LegalFrom (start self.now) (front pass.new) }
+        ensures atomic { IsAtomic (B.did body.now) tag (start self.now) result
+            (front pass.old) (front pass.new) }
         ensures of { of self.now pass.new }
-        ensures begun { IsCounted result (begun pass.old) (begun pass.new) }
+        ensures begun { CountsAttempt result (begun pass.old) (begun pass.new) }
         ensures may_stop { IfStopped result (may_stop self.now) }
         ensures alone { (front pass.old).lanes ≡ lanes self.now → IfStopped result IsNoConflict }
         ensures small { fresh self.now pass.old → 1 ≤ (limits self.now).tries
@@ -103,15 +95,12 @@ pub trait Engine: Sized + Sync + Drop {
         requires of { of self pass }
         requires all { (front pass).lanes ≡ lanes self }
         requires room { HasRoom (start self) (limits self).room (front pass) }
-        ensures settled { IfOk result (λ r. SettlesFrom (start self) (front pass) (front r.2)) }
-        ensures start { IfOk result (λ r. start r.0 ≡ replay_of (start self) (front r.2)) }
+        ensures ended { IfOk result (λ r.
+            HasEnded (start self) (front pass) (front r.2) (start r.0)) }
         ensures lanes { IfOk result (λ r. lanes r.0 ≡ lanes self) }
         ensures limits { IfOk result (λ r. limits r.0 ≡ limits self) }
         ensures may_stop { IfOk result (λ r. (s : Stop) → may_stop r.0 s → may_stop self s) }
-        ensures of { IfOk result (λ r. of r.0 r.1) }
-        ensures fresh { IfOk result (λ r. fresh r.0 r.1) }
-        ensures begun { IfOk result (λ r. begun r.1 ≡ 0) }
-        ensures numbers { IfOk result (λ r. HaveSameNumbers (start r.0) (start self)) };
+        ensures first { IfOk result (λ r. IsFirstPass (of r.0 r.1) (fresh r.0 r.1) (begun r.1)) };
 
     /// Ends the engine, and returns its contents and the front of its last pass with every fate
     /// decided. `AllocError` if memory runs out; then the engine has ended, and its contents are
@@ -119,9 +108,7 @@ pub trait Engine: Sized + Sync + Drop {
     fn contents(self, pass: Self::Pass) -> Result<(Contents, Front<Self::Pass>), AllocError>
         requires of { of self pass }
         requires all { (front pass).lanes ≡ lanes self }
-        ensures settled { IfOk result (λ r. SettlesFrom (start self) (front pass) (front r.1)) }
-        ensures contents { IfOk result (λ r. r.0 ≡ replay_of (start self) (front r.1)) }
-        ensures numbers { IfOk result (λ r. HaveSameNumbers r.0 (start self)) };
+        ensures { IfOk result (λ r. HasEnded (start self) (front pass) (front r.1) r.0) };
 
     /// The front of a pass of an engine is legal from its start, and its lanes are the engine's.
     ghost of_is: { (e : Self) (p : Self.Pass) → of e p

@@ -2,10 +2,8 @@
 
 ghost use Rattle.std.specs.Prelude.{◌≡◌, ◌↔◌, ◌+◌, if◌then◌else◌, [], length, true, false, IsNone};
 ghost use Rattle.std.specs.Prelude.{IsOk, IfOk};
-ghost use Rattle.md_history.specs.State.{HaveSameNumbers};
-ghost use Rattle.md_history.specs.Front.{LegalFrom, replay_of};
-ghost use Rattle.md_history.specs.Attempt.{Commits, Stops, IsCounted, IfCommitted, IfStopped};
-ghost use Rattle.md_history.specs.Engine.{AreApart, Joins, SettlesFrom};
+ghost use Rattle.md_history.specs.Attempt.{CountsAttempt, IfCommitted, IfStopped, IsAtomic};
+ghost use Rattle.md_history.specs.Engine.{AreApart, HasEnded, IsFirstPass, Joins};
 ghost use Rattle.md_history.specs.Plain.{front_of, begun_by, IsPassOf, plain_limits};
 
 use crate::bodies::Body;
@@ -57,17 +55,14 @@ impl Engine for PlainStore {
     fn attempt<B: Body>(&self, pass: &mut PlainPass, tag: u64, body: &B) -> Attempt<B::Reply>
         requires of { IsPassOf self.now pass.old }
         requires fits { B.fits body.now (length self.now.maps) (length self.now.queues) }
-        ensures committed { IfCommitted result (λ r.
-            Commits (B.did body.now) tag r (front_of pass.old) (front_of pass.new)) }
-        ensures stopped { IfStopped result (λ _.
-            Stops tag (front_of pass.old) (front_of pass.new)) }
-        ensures legal { LegalFrom self.now (front_of pass.new) }
+        ensures atomic { IsAtomic (B.did body.now) tag self.now result
+            (front_of pass.old) (front_of pass.new) }
         ensures of { IsPassOf self.now pass.new }
         ensures no_memory { IfStopped result (λ s. s ≡ Stop.NoMemory) }
         ensures breaks { IfStopped result (λ _. pass.new.broken ≡ true) }
         ensures whole { IfCommitted result (λ _.
             (pass.old.broken ≡ false) × (pass.new.broken ≡ false)) }
-        ensures begun { IsCounted result (begun_by pass.old) (begun_by pass.new) }
+        ensures begun { CountsAttempt result (begun_by pass.old) (begun_by pass.new) }
         ensures exact { begun_by pass.new
             ≡ begun_by pass.old + (if pass.old.broken then 0 else 1) }
     {
@@ -121,12 +116,9 @@ impl Engine for PlainStore {
     fn renew(self, pass: PlainPass) -> Result<(PlainStore, PlainPass, Front<PlainPass>), AllocError>
         requires of { IsPassOf self pass }
         ensures ok { IsOk result ↔ (pass.broken ≡ false) }
-        ensures settled { IfOk result (λ r. SettlesFrom self (front_of pass) (front_of r.2)) }
-        ensures start { IfOk result (λ r. r.0 ≡ replay_of self (front_of r.2)) }
-        ensures of { IfOk result (λ r. IsPassOf r.0 r.1) }
-        ensures fresh { IfOk result (λ r. (r.1.entries ≡ []) × (r.1.broken ≡ false)) }
-        ensures begun { IfOk result (λ r. begun_by r.1 ≡ 0) }
-        ensures numbers { IfOk result (λ r. HaveSameNumbers r.0 self) }
+        ensures ended { IfOk result (λ r. HasEnded self (front_of pass) (front_of r.2) r.0) }
+        ensures first { IfOk result (λ r. IsFirstPass (IsPassOf r.0 r.1)
+            ((r.1.entries ≡ []) × (r.1.broken ≡ false)) (begun_by r.1)) }
     {
         let (contents, front) = self.contents(pass)?;
         let (store, pass) = PlainStore::open(contents);
@@ -136,9 +128,7 @@ impl Engine for PlainStore {
     fn contents(self, pass: PlainPass) -> Result<(Contents, Front<PlainPass>), AllocError>
         requires of { IsPassOf self pass }
         ensures ok { IsOk result ↔ (pass.broken ≡ false) }
-        ensures settled { IfOk result (λ r. SettlesFrom self (front_of pass) (front_of r.1)) }
-        ensures contents { IfOk result (λ r. r.0 ≡ replay_of self (front_of r.1)) }
-        ensures numbers { IfOk result (λ r. HaveSameNumbers r.0 self) }
+        ensures ended { IfOk result (λ r. HasEnded self (front_of pass) (front_of r.1) r.0) }
     {
         if pass.broken {
             return Err(AllocError);

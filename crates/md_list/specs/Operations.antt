@@ -48,10 +48,10 @@ pub record StaysAs (s r : Slot) : Type 0 where
 abbrev pub SlotsStay : (t u : TxnState) → Type 0
 SlotsStay t u = (s : Slot) → Contains t.slots s → (r : Slot) × Contains u.slots r × StaysAs s r
 
--- what a call leaves of the transaction, answered or refused: it goes on with the same certificates, its acts are the same
--- and the operation is begun still. Its slots stay. So many words more are recorded at most, so many more written than
+-- an operation goes on after a call, answered or refused: the transaction has the same certificates and acts, and the
+-- operation is begun still. Its slots stay. So many words more are recorded at most, so many more written than
 -- those that WritesFew allows anyway, and so many nodes taken
-pub record Leaves (M : Meaning) (t u : TxnState) (reads writes nodes : ℕ) : Type 0 where
+pub record OperationGoesOn (M : Meaning) (t u : TxnState) (reads writes nodes : ℕ) : Type 0 where
   pub on : GoesOn M t u
   pub acts : u.hand.acts ≡ t.hand.acts
   pub operates : u.hand.operating ≡ true

@@ -8,7 +8,7 @@ ghost use Rattle.md_nbtc_law.specs.Calls.{AfterStop, FreshKeepsGiven, Freshened,
 ghost use Rattle.md_nbtc_law.specs.Going.{IsUnderWay};
 ghost use Rattle.md_nbtc_law.specs.State.{shape_in};
 ghost use Rattle.md_nbtc.specs.State.{state};
-ghost use Rattle.md_list.specs.Operations.{Answers, HasStop, IsBegun, Leaves};
+ghost use Rattle.md_list.specs.Operations.{Answers, HasStop, IsBegun, OperationGoesOn};
 ghost use Rattle.md_list.specs.Refusals.{NeedsNode, NeedsRead, NeedsSlot, RefusedBy};
 ghost use Rattle.md_list.specs.Walking.{IsHeadOf};
 
@@ -77,7 +77,7 @@ pub fn insert<'a, T: HasLists>(
     requires begun { IsBegun T.meaning (state tx.old) }
     requires head { (map : ℕ) × IsHeadOf (shape_in (state tx.old)) map key head }
     ensures pass { tx.new.pass.ghost_name ≡ tx.old.pass.ghost_name }
-    ensures leaves { Leaves T.meaning (state tx.old) (state tx.new) 1 1 1 }
+    ensures leaves { OperationGoesOn T.meaning (state tx.old) (state tx.new) 1 1 1 }
     ensures placed { IfOk result (λ absent. absent ≡ true
         → (state tx.new).reads ≡ (state tx.old).reads) }
     ensures there { IfOk result (λ absent. absent ≡ false

@@ -7,7 +7,7 @@ ghost use Rattle.md_history.specs.declared.stops.Limit.TheVariants.{Reads, Write
 ghost use Rattle.md_nbtc_law.specs.Calls.{AfterStop};
 ghost use Rattle.md_nbtc_law.specs.State.{shape_in};
 ghost use Rattle.md_nbtc.specs.State.{state};
-ghost use Rattle.md_list.specs.Operations.{Answers, HasStopButNodes, IsBegun, Leaves};
+ghost use Rattle.md_list.specs.Operations.{Answers, HasStopButNodes, IsBegun, OperationGoesOn};
 ghost use Rattle.md_list.specs.Refusals.{NeedsRead, NeedsUnlink, RefusedBy};
 ghost use Rattle.md_list.specs.Walking.{IsHeadOf};
 
@@ -43,7 +43,7 @@ pub fn get<'a, T: HasLists>(tx: &mut Txn<'a, T>, head: u32, key: u64) -> Result<
     requires begun { IsBegun T.meaning (state tx.old) }
     requires head { (map : ℕ) × IsHeadOf (shape_in (state tx.old)) map key head }
     ensures pass { tx.new.pass.ghost_name ≡ tx.old.pass.ghost_name }
-    ensures leaves { Leaves T.meaning (state tx.old) (state tx.new) 1 0 0 }
+    ensures leaves { OperationGoesOn T.meaning (state tx.old) (state tx.new) 1 0 0 }
     ensures answer { IfOk result (λ value. Answers T.meaning (state tx.old) (state tx.new) head key
         (λ map. Get map key) (Value value)) }
     ensures stops { AfterStop (state tx.old).stop (state tx.old) (state tx.new) result

@@ -13,7 +13,8 @@ ghost use Rattle.md_nbtc_law.specs.Seeing.{Gave, KeepsGiven};
 ghost use Rattle.md_nbtc_law.specs.State.{shape_in};
 ghost use Rattle.md_nbtc.specs.State.{state};
 ghost use Rattle.md_list_law.specs.ListShape.{next_word};
-ghost use Rattle.md_list.specs.Operations.{Answers, HasStopButNodes, IsBegun, KeepsUnlink, Leaves};
+ghost use Rattle.md_list.specs.Operations.{Answers, HasStopButNodes, IsBegun, KeepsUnlink};
+ghost use Rattle.md_list.specs.Operations.{OperationGoesOn};
 ghost use Rattle.md_list.specs.Refusals.{NeedsRead, NeedsSlot, RefusedBy};
 ghost use Rattle.md_list.specs.Walking.{IsHeadOf};
 
@@ -85,7 +86,7 @@ pub fn remove<'a, T: HasLists>(
     requires begun { IsBegun T.meaning (state tx.old) }
     requires head { (map : ℕ) × IsHeadOf (shape_in (state tx.old)) map key head }
     ensures pass { tx.new.pass.ghost_name ≡ tx.old.pass.ghost_name }
-    ensures leaves { Leaves T.meaning (state tx.old) (state tx.new) 1 1 0 }
+    ensures leaves { OperationGoesOn T.meaning (state tx.old) (state tx.new) 1 1 0 }
     ensures marked { IfOk result (λ value. IfSome value (λ _.
         (state tx.new).reads ≡ (state tx.old).reads)) }
     ensures unlink { IfOk result (λ value. IfSome value (λ _. KeepsUnlink (state tx.new))) }

@@ -4,7 +4,7 @@ ghost use Rattle.std.specs.Prelude.{◌≡◌, IfOk};
 ghost use Rattle.md_history.specs.declared.stops.Limit.TheVariants.{Reads, Writes};
 ghost use Rattle.md_nbtc_law.specs.Calls.{AfterStop};
 ghost use Rattle.md_nbtc.specs.State.{state};
-ghost use Rattle.md_list.specs.Operations.{HasStopButNodes, Leaves};
+ghost use Rattle.md_list.specs.Operations.{HasStopButNodes, OperationGoesOn};
 ghost use Rattle.md_list.specs.Refusals.{NotRefusedBy, RefusedBy, WalkNeedsSlot};
 ghost use Rattle.md_list.specs.Walking.{FindsFrom, IsWalking};
 
@@ -62,7 +62,7 @@ pub struct Found {
 pub fn find<'a, T: HasLists>(tx: &mut Txn<'a, T>, head: u32, key: u64) -> Result<Found, Stop>
     requires walking { IsWalking T.meaning (state tx.old) head }
     ensures pass { tx.new.pass.ghost_name ≡ tx.old.pass.ghost_name }
-    ensures leaves { Leaves T.meaning (state tx.old) (state tx.new) 0 0 0 }
+    ensures leaves { OperationGoesOn T.meaning (state tx.old) (state tx.new) 0 0 0 }
     ensures found { IfOk result (FindsFrom T.meaning (state tx.old) (state tx.new) head key) }
     ensures stops { AfterStop (state tx.old).stop (state tx.old) (state tx.new) result
         (HasStopButNodes (state tx.new) result) }

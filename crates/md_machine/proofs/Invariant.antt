@@ -72,7 +72,7 @@ use Rattle.md_machine.proofs.lists.Pairs.{EachPair, pairs_of}
 use Rattle.md_machine.proofs.lists.Rising.{here, there}
 use Rattle.md_machine.proofs.lists.Triples.{EachTriple, triples_of}
 use Rattle.md_machine.specs.Event.{Does, Event, Plays, Runs}
-use Rattle.md_machine.specs.GoesOn.{GoesOn, StatusGoesOn}
+use Rattle.md_machine.specs.GoesOn.{MachineGoesOn, StatusGoesOn}
 use Rattle.md_machine.specs.Machine.{IsPresentIn, Machine, content, shape_of, status_at, word_at}
 use Rattle.md_machine.specs.Meaning.{Meaning}
 use Rattle.md_machine.specs.Theorem.{IsKept}
@@ -247,7 +247,7 @@ kept_by m k = record {
 }
 
 module _ (M : Meaning) where
-  pub does_keep : (m n : Machine) (e : Event) → Invariant m → Does M m e n → Invariant n × GoesOn m n
+  pub does_keep : (m n : Machine) (e : Event) → Invariant m → Does M m e n → Invariant n × MachineGoesOn m n
   does_keep m n e k does =
       let v = tell M m n k.formats k.lanes k.hands (does_move M m n e k.formats.base does) in
       let entries = entries-kept m n (record { formats = k.formats; hands = k.hands; fit = k.entries; counted = k.read_counts }) v in
@@ -330,7 +330,7 @@ module _ (M : Meaning) where
       )
 
   -- an event that doesn't happen changes nothing
-  rests : (m : Machine) → Invariant m → GoesOn m m
+  rests : (m : Machine) → Invariant m → MachineGoesOn m m
   rests m k = record {
     opening = refl;
     history = record { rest = []; is = sym (append-nil m.history) };
@@ -340,8 +340,8 @@ module _ (M : Meaning) where
     count = λ word counted. le_refl _;
   }
 
-  pub plays_keep : (m n : Machine) (e : Event) → Invariant m → Plays M m e n → Invariant n × GoesOn m n
-  plays_keep m n e k = ⊎_elim (does_keep m n e k) (λ still. subst (λ (x : Machine). Invariant x × GoesOn m x) (sym still.1) (k, rests m k))
+  pub plays_keep : (m n : Machine) (e : Event) → Invariant m → Plays M m e n → Invariant n × MachineGoesOn m n
+  plays_keep m n e k = ⊎_elim (does_keep m n e k) (λ still. subst (λ (x : Machine). Invariant x × MachineGoesOn m x) (sym still.1) (k, rests m k))
 
   pub runs_keep : (events : List Event) (m n : Machine) → Invariant m → Runs M m events n → Invariant n
   runs_keep [] m n k runs = subst Invariant (sym runs) k

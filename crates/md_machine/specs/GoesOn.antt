@@ -46,7 +46,7 @@ FrontsGoOn m n = (before after lane : ℕ) (p q : PassView) → IsAt m before p 
 
 -- over an event: the history grows at its end alone, a decided fate stays, statuses and fronts go on, and no count
 -- falls
-pub record GoesOn (m n : Machine) : Type 0 where
+pub record MachineGoesOn (m n : Machine) : Type 0 where
   pub opening : n.opening ≡ m.opening
   pub history : IsPrefix m.history n.history
   pub fates : AllStay m.fates n.fates

@@ -2,7 +2,7 @@
 use Rattle.std.specs.Prelude.{List}
 use Rattle.md_machine.specs.declared.opening.Opening.{Opening}
 use Rattle.md_machine.specs.Event.{CanOpen, Event, Plays, Runs, opened}
-use Rattle.md_machine.specs.GoesOn.{GoesOn}
+use Rattle.md_machine.specs.GoesOn.{MachineGoesOn}
 use Rattle.md_machine.specs.Machine.{Machine, shape_of}
 use Rattle.md_machine.specs.Meaning.{Meaning}
 use Rattle.md_machine.specs.clauses.passes.Alone.{HoldersAreAlone}
@@ -104,4 +104,4 @@ module _ (M : Meaning) where
 
   -- and over every further event
   abbrev pub AlwaysGoesOn : Type 0
-  AlwaysGoesOn = (o : Opening) (events : List Event) (m n : Machine) (e : Event) → CanOpen M o → Runs M (opened o) events m → Plays M m e n → GoesOn m n
+  AlwaysGoesOn = (o : Opening) (events : List Event) (m n : Machine) (e : Event) → CanOpen M o → Runs M (opened o) events m → Plays M m e n → MachineGoesOn m n

@@ -6,15 +6,15 @@ use Rattle.md_history.specs.Counts.{bounds_of_calls}
 use Rattle.md_history.specs.Engine.{needed}
 use Rattle.md_history.specs.Script.{Script, Did, Follows}
 use Rattle.md_history.specs.Branches.{by_option}
-use Rattle.md_history.proofs.Plays.{Leaves, did-leaves}
+use Rattle.md_history.proofs.Plays.{PlayLeaves, did-leaves}
 use Rattle.md_history.proofs.Runs.{length-maps, length-queues}
 use Rattle.md_history.proofs.FewCalls.{MakesAtMost, script-few}
 use Rattle.md_many.specs.Laws.{AreLawfulBodies}
 
 -- what a script leaves that goes one way or another by a value
 pub leaves-option : {R : Type 0} (P : State → R → Type 0) (o : Option ℕ) (none : Script R) (some : ℕ → Script R)
-    (s : State) → (o ≡ None → Leaves P none s) → ((v : ℕ) → o ≡ Some v → Leaves P (some v) s)
-    → Leaves P (by_option o none some) s
+    (s : State) → (o ≡ None → PlayLeaves P none s) → ((v : ℕ) → o ≡ Some v → PlayLeaves P (some v) s)
+    → PlayLeaves P (by_option o none some) s
 leaves-option P None none some s n v = n refl
 leaves-option P (Some x) none some s n v = v x refl
 
@@ -33,7 +33,7 @@ pub record StaysGood (is_good : State → State → Type 0) (growth : ℕ) (open
 pub scripts-lawful : {B R : Type 0} (script_of : B → Script R) (may_run : B → ℕ → ℕ → Type 0)
     (good : State → State → Type 0) (calls growth : ℕ) → ((b : B) → MakesAtMost calls (script_of b))
     → ((b : B) (opening s : State) → HaveSameNumbers s opening → good opening s
-    → Leaves (λ left r. StaysGood good growth opening s left) (script_of b) s)
+    → PlayLeaves (λ left r. StaysGood good growth opening s left) (script_of b) s)
     → ((b : B) (opening : State) → good opening opening → may_run b (length opening.maps) (length opening.queues))
     → AreLawfulBodies (λ b acts r. Did (script_of b) acts r) (λ b acts. Follows (script_of b) acts) may_run good
     (bounds_of_calls calls) growth

@@ -4,7 +4,7 @@ use Rattle.std.specs.Prelude.{IfSome, IfNone, OnErr}
 use Rattle.std.proofs.lemmas.Bool.{cases_eq}
 use Rattle.md_history.specs.declared.stops.Stop.{Stop}
 use Rattle.md_history.specs.declared.stops.Stop.TheVariants.{NoMemory}
-use Rattle.md_history.specs.Attempt.{IsStopCounted}
+use Rattle.md_history.specs.Attempt.{CountsStop}
 use Rattle.md_many_attempts.specs.declared.attempts.Turn.{Turn}
 use Rattle.md_many_attempts.specs.declared.attempts.End.{End}
 use Rattle.md_many_attempts.specs.declared.attempts.End.TheVariants.{Lines, Attempts, Limit, Conflicts}
@@ -75,7 +75,7 @@ module _ (count done lines conflicts tried first last lines' conflicts' last' : 
 -- a stop that ends the turn
 pub ends-on : (line_count : ℕ → ℕ) (may_stop : Stop → Type 0) (turn : Turn) (s : Stop) (end : End)
     (lines conflicts tried first last last' : ℕ) → lines + conflicts ≤ tried → last ≡ first + tried
-    → EndsOn s conflicts end → may_stop s → IsStopCounted s last last'
+    → EndsOn s conflicts end → may_stop s → CountsStop s last last'
     → EndsBy line_count may_stop turn lines first last' end
 ends-on line_count may_stop turn s Lines lines conflicts tried first last last' few counted on may more = absurd on
 ends-on line_count may_stop turn s Attempts lines conflicts tried first last last' few counted on may more = absurd on

@@ -5,7 +5,7 @@ ghost use Rattle.std.specs.Borrow.{sem, RestsIfErr};
 ghost use Rattle.md_arena.specs.Left.{HasTryLeft, NoLane};
 ghost use Rattle.md_rule.specs.Views.{IsOf};
 ghost use Rattle.md_rule.specs.contracts.pass.Pass.{the_row};
-ghost use Rattle.md_nbtc_law.specs.Ending.{Begins, BeginsNot};
+ghost use Rattle.md_nbtc_law.specs.Ending.{BeginsTransaction, BeginsNot};
 ghost use Rattle.md_nbtc_law.specs.Going.{IsGoing};
 ghost use Rattle.md_nbtc_law.specs.State.{state_of};
 ghost use Rattle.md_nbtc.specs.State.{begun_state, state};
@@ -103,7 +103,7 @@ impl<'a, T: Theory> Txn<'a, T> {
             (λ q. BeginsNot T.meaning pass.old field.now.origin q)) }
         ensures pass { IfOk result (λ t. t.pass.ghost_name ≡ pass.entry.ghost_name) }
         ensures field { IfOk result (λ t. (begun_state t).field ≡ field.now) }
-        ensures begun { IfOk result (λ t. Begins pass.old tag (begun_state t)) }
+        ensures begun { IfOk result (λ t. BeginsTransaction pass.old tag (begun_state t)) }
         ensures going { IfOk result (λ t. IsGoing T.meaning (begun_state t) []) }
         ensures none { (result ≡ Err Limit.Tries) ↔ NoLane pass.old (HasTryLeft pass.old) }
         ensures limit { IfErr result (λ limit. limit ≡ Limit.Tries) }

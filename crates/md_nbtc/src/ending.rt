@@ -3,7 +3,8 @@
 ghost use Rattle.std.specs.Prelude.{◌≡◌, ◌<◌, ◌^◌, None, IfErr, IfOk, MatchResult, false};
 ghost use Rattle.md_words.specs.declared.status.Status.TheVariants.{InPrep};
 ghost use Rattle.md_words.specs.Status.{status_word};
-ghost use Rattle.md_nbtc_law.specs.Ending.{Aborts, Commits, HasEntry, IsReady, IsShown, Readies};
+ghost use Rattle.md_nbtc_law.specs.Ending.{Aborts, CommitsTransaction, HasEntry, IsReady};
+ghost use Rattle.md_nbtc_law.specs.Ending.{IsShown, Readies};
 ghost use Rattle.md_nbtc_law.specs.Ending.{Stopped, TellsWhy, receipt_of, shown_unready};
 ghost use Rattle.md_nbtc_law.specs.Ended.{WasCommitted, WasLost, WasUnready};
 ghost use Rattle.md_nbtc_law.specs.LeftReady.{WasLeftReady};
@@ -36,7 +37,7 @@ pub struct Ready<'a, T: Theory> {
 /// A transaction that wasn't made ready, and the word that shows why. The pass is free again once
 /// this is dropped.
 #[derive(Drop)]
-pub struct Refused<'a, T: Theory> {
+pub struct NotReady<'a, T: Theory> {
     pass: &'a mut Pass<T>,
     pub shown: Shown,
 }
@@ -45,12 +46,12 @@ impl<'a, T: Theory> Txn<'a, T> {
     /// Makes the transaction ready: it joins the history, by certificates of its operations. No
     /// operation is begun, and none of its calls returned a stop.
     ///
-    /// It returns `Refused` exactly if another pass has aborted the transaction. The transaction is
+    /// It returns `NotReady` exactly if another pass has aborted the transaction. The transaction is
     /// then stopped as by `stop`. `shown` has its status word, before and after the abort. Another
     /// pass is live then. The refusal holds the pass until it is dropped. It takes no memory.
     ///
     /// It takes one step. If it is refused, it takes one more, and one for each word that it wrote.
-    pub fn ready(self) -> Result<Ready<'a, T>, Refused<'a, T>>
+    pub fn ready(self) -> Result<Ready<'a, T>, NotReady<'a, T>>
         requires going { IsUnderWay T.meaning (state self) }
         requires between { (state self).hand.operating ≡ false }
         requires runs { (state self).stop ≡ None }
@@ -99,7 +100,7 @@ impl<'a, T: Theory> Txn<'a, T> {
                     was: from,
                     now: found,
                 };
-                Err(Refused { pass, shown })
+                Err(NotReady { pass, shown })
             }
         }
     }
@@ -222,7 +223,7 @@ impl<'a, T: Theory> Ready<'a, T> {
     pub fn decide(self) -> Result<Receipt, Shown>
         requires { IsReady T.meaning (ready_state self) }
         ensures committed { IfOk result (λ receipt. (e : HasEntry (ready_state self.entry))
-            × Commits T.meaning (ready_state self.entry) e self.exit.0.now
+            × CommitsTransaction T.meaning (ready_state self.entry) e self.exit.0.now
             × (receipt ≡ receipt_of (ready_state self.entry))) }
         ensures aborted { IfErr result (λ shown. Aborts T.meaning (ready_state self.entry) self.exit.0.now
             × IsShown (ready_state self.entry) self.exit.0.now shown

@@ -20,7 +20,7 @@
 #![tactic(auto)]
 
 pub use begin::Begun;
-pub use ending::{Ready, Refused};
+pub use ending::{NotReady, Ready};
 pub use md_nbtc_law::{Cleanup, Kind, Seen, Slot};
 pub use md_nbtc_sets::{Receipt, Sets, decided_status, take_left_out};
 pub use txn::Txn;

@@ -3,7 +3,7 @@
 ghost use Rattle.std.specs.Prelude.{◌≡◌, ℕ, false, true};
 ghost use Rattle.md_words.specs.PlaceAt.{place_at};
 ghost use Rattle.md_rule.specs.Kept.{KeepsLanes};
-ghost use Rattle.md_nbtc_law.specs.Calls.{Ends, GoesOn, IsData, MayAnswer};
+ghost use Rattle.md_nbtc_law.specs.Calls.{EndsOperation, GoesOn, IsData, MayAnswer};
 ghost use Rattle.md_nbtc_law.specs.Calls.{data_at, with_act, with_operation};
 ghost use Rattle.md_nbtc_law.specs.Going.{IsUnderWay};
 ghost use Rattle.md_nbtc_law.specs.Known.{Known};
@@ -70,7 +70,7 @@ impl<'a, T: Theory> Txn<'a, T> {
         requires operates { (state self.old).hand.operating ≡ true }
         requires may { MayAnswer T.meaning (state self.old) op reply }
         ensures pass { self.new.pass.ghost_name ≡ self.old.pass.ghost_name }
-        ensures on { Ends T.meaning (state self.old) (state self.new) op reply }
+        ensures on { EndsOperation T.meaning (state self.old) (state self.new) op reply }
         ensures ended { state self.new ≡ record (state self.old) {
           pass = (state self.new).pass;
           hand = with_act (state self.old).hand op reply;

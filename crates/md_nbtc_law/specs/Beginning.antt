@@ -18,7 +18,7 @@ use Rattle.md_machine.specs.events.Mark.{new_hand}
 use Rattle.md_machine.specs.events.Ready.{unready_word}
 use Rattle.md_machine.specs.events.Start.{IsClean, WonInstall, knows_decided}
 use Rattle.md_machine.specs.events.Uninstall.{IsDecided, desc_in}
-use Rattle.md_help.specs.After.{IsAfter, Stands}
+use Rattle.md_help.specs.After.{IsAfter, StandsInField}
 use Rattle.md_help.specs.Owns.{EndsOwn, KnowsEnd}
 use Rattle.md_help.specs.declared.settling.End.{End}
 use Rattle.md_rule.specs.Kept.{IsNew, KeepsLane, MetNoLater}
@@ -64,7 +64,7 @@ abbrev pub AreTakenOut : PassView → (desc serial slots : ℕ) → Type 0
 AreTakenOut view desc serial slots = EveryStepOf view (λ s. WonInstall (attempt_of desc serial) s → (spot_of (value_of s.after)).slot < slots → MetHigher view s.word (count_of s.after))
 
 -- an own descriptor's attempt ended so, and what it won in so many slots was taken out
-pub record TakesOut (shape : Shape) (desc : ℕ) (end : End) (slots : ℕ) (before after : PassView) : Type 0 where
+pub record TakesOwnOut (shape : Shape) (desc : ℕ) (end : End) (slots : ℕ) (before after : PassView) : Type 0 where
   pub steps : List Step
   pub goes : IsAfter shape steps before after
   pub ends : EndsOwn shape desc end before after
@@ -101,7 +101,7 @@ pub record FindsNew (M : Meaning) (o : Origin) (desc serial : ℕ) (before after
   pub step : Step
   pub goes : IsAfter o.shape (steps ++ step ∷ []) before after
   pub leaves : Leaves (address o.shape (desc_status desc)) (unready_word (attempt_of desc serial)) step
-  pub stands : Stands M o after
+  pub stands : StandsInField M o after
   pub last : MetNoLater o.shape after desc serial
   pub new : IsNew after (attempt_of desc serial)
 
@@ -136,5 +136,5 @@ pub record PutsInHand (M : Meaning) (o : Origin) (desc tag serial : ℕ) (before
     pending = found.pending ++ attempt_of desc serial ∷ [];
   }
   pub for_none : mark.attempt ≡ None
-  pub stands : Stands M o after
+  pub stands : StandsInField M o after
   pub unready : is_ready after.seen (attempt_of desc serial) ≡ false

@@ -66,8 +66,8 @@ pub record MayAnswer (M : Meaning) (t : TxnState) (op : Op) (reply : Reply) : Ty
   pub of : IsOfAct op reply certificate
   pub may : MayEnd M t earlier certificate
 
--- each such certificate is one more then
-pub record Ends (M : Meaning) (t u : TxnState) (op : Op) (reply : Reply) : Type 0 where
+-- an operation was ended with a reply: each certificate that may end it is one more then
+pub record EndsOperation (M : Meaning) (t u : TxnState) (op : Op) (reply : Reply) : Type 0 where
   pub going : (cs : List Certificate) (c : Certificate) → IsGoing M t cs → IsOfAct op reply c → MayEnd M t cs c → IsGoing M u (cs ++ c ∷ [])
   pub later : IsLater t u
 

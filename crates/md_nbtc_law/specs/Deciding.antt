@@ -24,17 +24,17 @@ use Rattle.md_machine.specs.events.Mark.{answered, without}
 use Rattle.md_rule_lanes.specs.Shares.{share_at}
 use Rattle.md_history.specs.declared.entries.Fate.TheVariants.{Committed as IsCommitted}
 use Rattle.md_machine.specs.declared.attempt.Write.{Write}
-use Rattle.md_help.specs.After.{IsAfter, Stands}
+use Rattle.md_help.specs.After.{IsAfter, StandsInField}
 use Rattle.md_nbtc_law.specs.declared.seen.Cleanup.{Cleanup}
 use Rattle.md_nbtc_law.specs.Cleaning.{cleanup_node}
-use Rattle.md_nbtc_law.specs.Ending.{Cleans, CleansAll, CleansKept, GoesBy, HasEntry, IsReadyCleanup, IsSamePass, LastFate, Tries}
+use Rattle.md_nbtc_law.specs.Ending.{Cleans, CleansAll, CleansKept, CleanupGoesBy, HasEntry, IsReadyCleanup, IsSamePass, LastFate, Tries}
 use Rattle.md_nbtc_law.specs.declared.slots.Slot.{Slot}
 use Rattle.md_nbtc_law.specs.State.{SameNodes, TxnState}
 use Rattle.md_nbtc_law.specs.Withdrawing.{TakesWrite}
 use Rattle.md_nbtc_law.specs.declared.slots.TheConstants.{NO_READ}
 
 -- a step looks at a counted word, and changes nothing
-pub record LooksAt (shape : Shape) (s : Step) : Type 0 where
+pub record LooksAtCounted (shape : Shape) (s : Step) : Type 0 where
   pub kind : s.kind ≡ Load
   pub same : s.before ≡ s.after
   pub counted : IsCounted shape s.word
@@ -47,7 +47,7 @@ pub record FoundStanding (desc : ℕ) (r : Read) (steps : List Step) : Type 0 wh
 
 -- the last of some steps found that a read doesn't stand: its word holds what is shown. Whatever the pass met there before
 -- has no higher count
-pub record FoundMoved (desc : ℕ) (reads : List Read) (shown : Shown) (before : PassView) (steps : List Step) : Type 0 where
+pub record FoundReadMoved (desc : ℕ) (reads : List Read) (shown : Shown) (before : PassView) (steps : List Step) : Type 0 where
   pub read : Read
   pub among : Contains reads read
   pub is : shown.word ≡ read.word
@@ -62,19 +62,19 @@ pub record FoundMoved (desc : ℕ) (reads : List Read) (shown : Shown) (before :
 -- so many of the first reads stand, or the last that was looked at doesn't
 abbrev pub FoundReads : (desc : ℕ) → List Read → (count : ℕ) → Option Shown → PassView → List Step → Type 0
 FoundReads desc reads count None before steps = (i : ℕ) → i < count → FoundStanding desc (get_or reads i NO_READ) steps
-FoundReads desc reads count (Some shown) before steps = FoundMoved desc reads shown before steps
+FoundReads desc reads count (Some shown) before steps = FoundReadMoved desc reads shown before steps
 
 -- a pass validated its reads: it looked at the word of each, up to the first that doesn't stand
 pub record Validates (shape : Shape) (desc : ℕ) (reads : List Read) (count : ℕ) (moved : Option Shown) (before after : PassView) : Type 0 where
   pub steps : List Step
   pub goes : IsAfter shape steps before after
-  pub looks : All (LooksAt shape) steps
+  pub looks : All (LooksAtCounted shape) steps
   pub finds : FoundReads desc reads count moved before steps
 
 -- what may be decided by a validation: a commit if each read stands, or else an abort
-abbrev pub MaySettle : Shape → PassView → (desc from : ℕ) → Option Shown → Type 0
-MaySettle shape view desc from None = MayCommit shape view desc from
-MaySettle shape view desc from (Some shown) = MayAbort shape view desc from
+abbrev pub MayDecide : Shape → PassView → (desc from : ℕ) → Option Shown → Type 0
+MayDecide shape view desc from None = MayCommit shape view desc from
+MayDecide shape view desc from (Some shown) = MayAbort shape view desc from
 
 -- what is shown of a descriptor that another aborted
 abbrev pub aborted_by_other : Shape → (desc from : ℕ) → Shown
@@ -88,19 +88,19 @@ IsFateFound shape desc from found result = MatchResult result
 
 -- how a commit or an abort ends that found this: it is committed by it, or had been; or else it is aborted, by the read
 -- that didn't stand, or had been
-abbrev pub SettlesBy : Shape → (desc from : ℕ) → Option Shown → Result (Unit {0}) Shown → Step → Type 0
-SettlesBy shape desc from moved result s = MatchResult result
+abbrev pub DecidesBy : Shape → (desc from : ℕ) → Option Shown → Result (Unit {0}) Shown → Step → Type 0
+DecidesBy shape desc from moved result s = MatchResult result
     (λ _. s.after ≡ decided_word Committed from)
     (λ shown. (s.after ≡ decided_word Aborted from) × (((moved ≡ Some shown) × (s.before ≡ from))
     ⊎ ((shown ≡ aborted_by_other shape desc from) × (s.before ≡ decided_word Aborted from))))
 
 -- a descriptor was committed or aborted by one step, if that wasn't done before. The step is of a machine of the field
-pub record Settles (M : Meaning) (o : Origin) (desc from : ℕ) (moved : Option Shown) (result : Result (Unit {0}) Shown) (before after : PassView) : Type 0 where
+pub record DecidesDescriptor (M : Meaning) (o : Origin) (desc from : ℕ) (moved : Option Shown) (result : Result (Unit {0}) Shown) (before after : PassView) : Type 0 where
   pub step : Step
   pub goes : IsAfter o.shape (step ∷ []) before after
   pub there : step.word ≡ address o.shape (desc_status desc)
   pub kind : (step.kind ≡ Commit) ⊎ (step.kind ≡ Abort)
-  pub ends : SettlesBy o.shape desc from moved result step
+  pub ends : DecidesBy o.shape desc from moved result step
   pub event : EventOf
   pub told : SteppedFrom M o event (address o.shape (desc_status desc)) step.before before after
 
@@ -131,7 +131,7 @@ pub record FindsNext (shape : Shape) (c : Cleanup) (out : Step) (next : ℕ) (be
   pub looks : List Step
   pub goes : IsAfter shape looks before after
   pub by : Step
-  pub is : GoesBy shape c out looks by
+  pub is : CleanupGoesBy shape c out looks by
   pub took : TookOut shape after c next by
 
 -- one cleanup was tried, and one was made
@@ -178,8 +178,8 @@ pub record CleansSlots (shape : Shape) (slots : List Slot) (outs : List Step) (b
 
 -- the rest of a committed attempt was done: it isn't in hand any more, and its entry was answered. Its descriptor was taken
 -- out of its words, its cleanups were made, and a mark was made last
-pub record Finishes (M : Meaning) (o : Origin) (p : PassState) (a : AttemptId) (slots : List Slot) (q : PassState) : Type 0 where
-  pub stands : Stands M o q.view
+pub record FinishesAttempt (M : Meaning) (o : Origin) (p : PassState) (a : AttemptId) (slots : List Slot) (q : PassState) : Type 0 where
+  pub stands : StandsInField M o q.view
   pub same : IsSamePass p q
   pub seen : q.view.seen ≡ p.view.seen
   pub idle : q.view.hand ≡ None

@@ -3,7 +3,7 @@ use Rattle.std.specs.Prelude.{◌⊎◌}
 use Rattle.md_history.specs.declared.stops.Shown.{Shown}
 use Rattle.md_machine.specs.Meaning.{Meaning}
 use Rattle.md_rule.specs.Views.{PassState}
-use Rattle.md_nbtc_law.specs.Ending.{Aborts, Commits, HasEntry, IsShown, Readies, Stopped, TellsWhy}
+use Rattle.md_nbtc_law.specs.Ending.{Aborts, CommitsTransaction, HasEntry, IsShown, Readies, Stopped, TellsWhy}
 use Rattle.md_nbtc_law.specs.State.{TxnState}
 
 module _ (M : Meaning) where
@@ -13,7 +13,7 @@ module _ (M : Meaning) where
     pub entry : HasEntry ready
     pub readies : Readies t ready entry
     pub answered : HasEntry ready
-    pub commits : Commits M ready answered q
+    pub commits : CommitsTransaction M ready answered q
 
   -- it became ready and was aborted, and this is shown: a read that moved, or that another aborted it
   pub record WasAborted (t : TxnState) (q : PassState) (shown : Shown) : Type 0 where

@@ -34,7 +34,7 @@ use Rattle.md_machine.specs.events.Ready.{ready_word, unready_word}
 use Rattle.md_arena.specs.Left.{HasTryLeft, IsLowest}
 use Rattle.md_rule_lanes.specs.Shares.{share_at}
 use Rattle.md_rule.specs.Views.{Origin, PassState}
-use Rattle.md_help.specs.After.{Stands}
+use Rattle.md_help.specs.After.{StandsInField}
 use Rattle.md_nbtc_law.specs.declared.seen.Cleanup.{Cleanup}
 use Rattle.md_nbtc_law.specs.declared.seen.Cleanup.TheVariants.{MoveTail, Unlink}
 use Rattle.md_nbtc_law.specs.declared.slots.Slot.{Slot}
@@ -62,7 +62,7 @@ pub record BeginsLane (p : PassState) (desc : ℕ) (q : PassState) : Type 0 wher
   pub others : (lane : ℕ) → ¬ (lane ≡ desc) → (share_at q.shares lane).tries_taken ≡ (share_at p.shares lane).tries_taken
 
 -- a transaction began: nothing is recorded, written or taken. Its own steps begin before it found its status
-pub record Begins (p : PassState) (tag : ℕ) (t : TxnState) : Type 0 where
+pub record BeginsTransaction (p : PassState) (tag : ℕ) (t : TxnState) : Type 0 where
   pub same : IsSamePass p t.pass
   pub seen : t.pass.view.seen ≡ p.view.seen
   pub mine : t.pass.view.mine ≡ p.view.mine
@@ -80,7 +80,7 @@ pub record Begins (p : PassState) (tag : ℕ) (t : TxnState) : Type 0 where
 
 -- none began: the pass has nothing in hand, and is else as it was
 pub record BeginsNot (M : Meaning) (p : PassState) (o : Origin) (q : PassState) : Type 0 where
-  pub stands : Stands M o q.view
+  pub stands : StandsInField M o q.view
   pub same : IsSamePass p q
   pub seen : q.view.seen ≡ p.view.seen
   pub mine : q.view.mine ≡ p.view.mine
@@ -90,7 +90,7 @@ pub record BeginsNot (M : Meaning) (p : PassState) (o : Origin) (q : PassState) 
 
 -- the transaction isn't in hand any more. The pass stands so in some machine of the field
 pub record PutDown (M : Meaning) (t : TxnState) (q : PassState) : Type 0 where
-  pub stands : Stands M t.field.origin q.view
+  pub stands : StandsInField M t.field.origin q.view
   pub same : IsSamePass t.pass q
   pub seen : q.view.seen ≡ t.pass.view.seen
   pub idle : q.view.hand ≡ None
@@ -163,7 +163,7 @@ pub record IsReadyCleanup (M : Meaning) (t : TxnState) (e : HasEntry t) (w : Wri
 -- a transaction that is ready: its last step on its status left that in progress, and its pass stands so in some machine of
 -- the field. Its nodes are free if the entry doesn't commit
 pub record IsReady (M : Meaning) (t : TxnState) : Type 0 where
-  pub stands : Stands M t.field.origin t.pass.view
+  pub stands : StandsInField M t.field.origin t.pass.view
   pub has : IsHeld t
   pub entry : HasEntry t
   pub left : LastOn (address (shape_in t) (desc_status (attempt_in t).desc)) (ready_word (attempt_in t) (length t.reads)) (own_steps t)
@@ -238,16 +238,16 @@ pub record LooksAtWord (word : ℕ) (s : Step) : Type 0 where
 
 -- the step by which a cleanup goes: for an unlink a load of the node's next word, which is made then; for a move of the
 -- tail the step that took the descriptor out of that word
-abbrev pub GoesBy : Shape → Cleanup → (out : Step) → (looks : List Step) → Step → Type 0
-GoesBy shape (Unlink prev node) out looks s = (looks ≡ s ∷ []) × LooksAtWord (address shape (node_next node)) s
-GoesBy shape (MoveTail tail from to) out looks s = (looks ≡ []) × (s ≡ out)
+abbrev pub CleanupGoesBy : Shape → Cleanup → (out : Step) → (looks : List Step) → Step → Type 0
+CleanupGoesBy shape (Unlink prev node) out looks s = (looks ≡ s ∷ []) × LooksAtWord (address shape (node_next node)) s
+CleanupGoesBy shape (MoveTail tail from to) out looks s = (looks ≡ []) × (s ≡ out)
 
 -- the steps of a cleanup whose word names the node: the further loads, and one plain exchange, unless the word is worn or
 -- the node's next word wasn't found or left as it must be
 pub record Tries (shape : Shape) (c : Cleanup) (out : Step) (held : ℕ) (steps : List Step) : Type 0 where
   pub looks : List Step
   pub by : Step
-  pub goes : GoesBy shape c out looks by
+  pub goes : CleanupGoesBy shape c out looks by
   pub ends : ((steps ≡ looks) × ((WORN ≤ count_of held) ⊎ ¬ Fits c by))
       ⊎ ((last : Step) × (steps ≡ looks ++ last ∷ []) × (last.kind ≡ Exchange) × (last.word ≡ cleanup_word c)
       × Fits c by × (last.before ≡ held → last.after ≡ exchanged_word held (cleanup_value c (value_of by.after))))
@@ -279,7 +279,7 @@ LastFate known f = (fates : List Fate) × (known ≡ fates ++ f ∷ [])
 
 -- a transaction was committed: its entry was answered. After its own steps up to one that met the descriptor committed
 -- come those that took it out of its words, the kept cleanups, and last a mark
-pub record Commits (M : Meaning) (t : TxnState) (e : HasEntry t) (q : PassState) : Type 0 where
+pub record CommitsTransaction (M : Meaning) (t : TxnState) (e : HasEntry t) (q : PassState) : Type 0 where
   pub down : PutDown M t q
   pub nodes : SameNodes t.pass q
   pub mine : q.view.mine ≡ t.pass.view.mine ++ e.entry.entry ∷ []

@@ -21,7 +21,7 @@ use Rattle.md_nbtc_law.specs.declared.seen.Seen.{Seen}
 use Rattle.md_nbtc_law.specs.declared.seen.TheConstants.{WORN}
 use Rattle.md_nbtc_law.specs.declared.slots.Slot.{Slot}
 use Rattle.md_nbtc_law.specs.Cleaning.{IsKeptCleanup}
-use Rattle.md_help.specs.After.{Stands}
+use Rattle.md_help.specs.After.{StandsInField}
 use Rattle.md_nbtc_law.specs.Course.{IsCourse}
 use Rattle.md_nbtc_law.specs.Known.{Known, Met}
 use Rattle.md_nbtc_law.specs.Prepared.{IsPrepared}
@@ -66,7 +66,7 @@ module _ (M : Meaning) where
   -- a transaction with these certificates of its ended operations: its pass stands so in some machine of the field, and
   -- what it keeps is so
   pub record IsGoing (t : TxnState) (cs : List Certificate) : Type 0 where
-    pub stands : Stands M t.field.origin t.pass.view
+    pub stands : StandsInField M t.field.origin t.pass.view
     pub prepared : IsPrepared t
     pub nodes : All (IsUnplaced M t) t.nodes
     pub first : (word content : ℕ) → first_content t.reads (writes_in t) word ≡ Some content → IsFoundFirst M t word (value_of content)

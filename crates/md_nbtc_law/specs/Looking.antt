@@ -11,7 +11,7 @@ use Rattle.md_machine.specs.Certified.{is_written}
 use Rattle.md_machine.specs.Event.{load}
 use Rattle.md_machine.specs.Meaning.{Meaning}
 use Rattle.md_help.specs.declared.clearing.Cleared.{Cleared}
-use Rattle.md_help.specs.After.{IsAfter, Stands}
+use Rattle.md_help.specs.After.{IsAfter, StandsInField}
 use Rattle.md_help.specs.Clears.{Clears}
 use Rattle.md_rule.specs.Steps.{SteppedFrom}
 use Rattle.md_rule.specs.Views.{Origin}
@@ -41,7 +41,7 @@ pub record LooksUntil (M : Meaning) (o : Origin) (word most found : ℕ) (before
   pub last : PassView
   pub earlier : OnlyLooks o.shape word before last
   pub few : length earlier.steps < most
-  pub stands : Stands M o last
+  pub stands : StandsInField M o last
   pub step : SteppedFrom M o (λ pass. load pass word) word found last after
 
 -- a look at an own word: one load, which found this

@@ -16,7 +16,7 @@ use Rattle.md_machine.specs.clauses.nodes.FreeNodes.{IsFreeBy}
 use Rattle.md_machine.specs.events.Mark.{answered, without}
 use Rattle.md_rule_lanes.specs.Shares.{share_at}
 use Rattle.md_rule.specs.Views.{Origin, PassState}
-use Rattle.md_help.specs.After.{IsAfter, Stands}
+use Rattle.md_help.specs.After.{IsAfter, StandsInField}
 use Rattle.md_nbtc_law.specs.Ending.{IsSamePass}
 use Rattle.md_nbtc_law.specs.Prepared.{AreOut, TakenInTurn}
 use Rattle.md_nbtc_law.specs.State.{SameNodes, taken_since}
@@ -36,7 +36,7 @@ pub record MayWithdraw (shape : Shape) (began p : PassState) (a : AttemptId) (wr
 -- it was: it isn't in hand any more, its nodes are in their lanes again, nothing was answered, and no plain exchange was
 -- made. Each write was taken out by one step, in order, and then came a mark
 pub record Withdraws (M : Meaning) (o : Origin) (began p : PassState) (a : AttemptId) (writes : List Write) (q : PassState) : Type 0 where
-  pub stands : Stands M o q.view
+  pub stands : StandsInField M o q.view
   pub same : IsSamePass p q
   pub seen : q.view.seen ≡ p.view.seen
   pub idle : q.view.hand ≡ None

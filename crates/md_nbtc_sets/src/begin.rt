@@ -7,7 +7,7 @@ ghost use Rattle.md_words.specs.Content.{is_even, spot_of, word_of};
 ghost use Rattle.md_words.specs.Layout.{IsInSet, desc_count};
 ghost use Rattle.md_machine.specs.declared.step.TheConstants.{LAST_COUNT};
 ghost use Rattle.md_machine.specs.Own.{HasDesc};
-ghost use Rattle.md_help.specs.After.{Stands};
+ghost use Rattle.md_help.specs.After.{StandsInField};
 ghost use Rattle.md_help.specs.Owns.{KnowsEnd};
 ghost use Rattle.md_rule.specs.Kept.{IsReached, KeepsLanes};
 ghost use Rattle.md_rule_lanes.specs.Shares.{share_at};
@@ -37,7 +37,7 @@ fn settled_status<T: Theory>(pass: &mut Pass<T>, field: &Field<T>, desc: u32) ->
     requires own { HasDesc field.now.origin.shape pass.old.view desc }
     requires reached { IsReached pass.old desc }
     ensures same { pass.new ≡ record pass.old { view = pass.new.view } }
-    ensures stands { Stands T.meaning field.now.origin pass.new.view }
+    ensures stands { StandsInField T.meaning field.now.origin pass.new.view }
     ensures finds { FindsDecided field.now.origin.shape desc result pass.old.view pass.new.view }
 {
     settle_one(field, pass, desc);
@@ -59,7 +59,7 @@ pub fn decided_status<T: Theory>(pass: &mut Pass<T>, field: &Field<T>, desc: u32
     requires own { HasDesc field.now.origin.shape pass.old.view desc }
     requires reached { IsReached pass.old desc }
     ensures same { pass.new ≡ record pass.old { view = pass.new.view } }
-    ensures stands { Stands T.meaning field.now.origin pass.new.view }
+    ensures stands { StandsInField T.meaning field.now.origin pass.new.view }
     ensures finds { FindsDecided field.now.origin.shape desc result pass.old.view pass.new.view }
 {
     let found = pass.load(field, field.shape().status(desc));
@@ -105,7 +105,7 @@ fn first_serial<T: Theory>(pass: &mut Pass<T>, field: &Field<T>, desc: u32) -> u
 // Takes a descriptor out of a word, whose attempt ended so. Two steps.
 fn take_out<T: Theory>(pass: &mut Pass<T>, field: &Field<T>, word: u32, found: Content, end: End)
     requires of { IsOf pass.old field.now }
-    requires stands { Stands T.meaning field.now.origin pass.old.view }
+    requires stands { StandsInField T.meaning field.now.origin pass.old.view }
     requires spot { StandsOwn field.now.origin.shape pass.old.view word (word_of found) end }
     requires fits { found.count ≤ LAST_COUNT + 1 }
     ensures same { pass.new ≡ record pass.old { view = pass.new.view } }
@@ -182,7 +182,7 @@ pub fn take_left_out<T: Theory>(pass: &mut Pass<T>, field: &Field<T>, desc: u32)
 // Prepares the lane's descriptor for its next attempt, and returns the serial of the attempt.
 fn next_serial<T: Theory>(pass: &mut Pass<T>, field: &Field<T>, desc: u32) -> u64
     requires of { IsOf pass.old field.now }
-    requires stands { Stands T.meaning field.now.origin pass.old.view }
+    requires stands { StandsInField T.meaning field.now.origin pass.old.view }
     requires idle { pass.old.view.hand ≡ None }
     requires taken { IsTakenLast pass.old desc }
     ensures same { pass.new ≡ record pass.old { view = pass.new.view; shares = pass.new.shares } }
@@ -207,7 +207,7 @@ fn next_serial<T: Theory>(pass: &mut Pass<T>, field: &Field<T>, desc: u32) -> u6
 /// hand.
 pub fn put_in_hand<T: Theory>(pass: &mut Pass<T>, field: &Field<T>, desc: u32, tag: u64) -> u64
     requires of { IsOf pass.old field.now }
-    requires stands { Stands T.meaning field.now.origin pass.old.view }
+    requires stands { StandsInField T.meaning field.now.origin pass.old.view }
     requires idle { pass.old.view.hand ≡ None }
     requires taken { IsTakenLast pass.old desc }
     ensures same { pass.new ≡ record pass.old { view = pass.new.view; shares = pass.new.shares } }

@@ -10,10 +10,11 @@ ghost use Rattle.md_machine.specs.Stepping.{attempt_in_hand};
 ghost use Rattle.md_machine.specs.events.Decide.{decided_word};
 ghost use Rattle.md_machine.specs.events.Uninstall.{IsDecided};
 ghost use Rattle.md_rule.specs.Views.{IsOf};
-ghost use Rattle.md_help.specs.After.{Stands};
+ghost use Rattle.md_help.specs.After.{StandsInField};
 ghost use Rattle.md_help.specs.Settles.{MetStatus};
-ghost use Rattle.md_nbtc_law.specs.Deciding.{IsFateFound, MaySettle, Settles, Validates};
-ghost use Rattle.md_nbtc_law.specs.Ending.{Aborts, Commits, HasEntry, IsReady, IsShown, TellsWhy};
+ghost use Rattle.md_nbtc_law.specs.Deciding.{IsFateFound, MayDecide, DecidesDescriptor, Validates};
+ghost use Rattle.md_nbtc_law.specs.Ending.{Aborts, CommitsTransaction, HasEntry, IsReady};
+ghost use Rattle.md_nbtc_law.specs.Ending.{IsShown, TellsWhy};
 ghost use Rattle.md_nbtc_law.specs.State.{state_of};
 
 use crate::sets::{Lefts, Lots, Reads, Slots};
@@ -35,10 +36,10 @@ fn validate<T: Theory>(
     reads: &Reads,
 ) -> Option<Shown>
     requires of { IsOf pass.old field.now }
-    requires stands { Stands T.meaning field.now.origin pass.old.view }
+    requires stands { StandsInField T.meaning field.now.origin pass.old.view }
     requires counted { All (λ r. IsCounted field.now.origin.shape r.word) reads.now }
     ensures same { pass.new ≡ record pass.old { view = pass.new.view } }
-    ensures stands { Stands T.meaning field.now.origin pass.new.view }
+    ensures stands { StandsInField T.meaning field.now.origin pass.new.view }
     ensures validates { Validates field.now.origin.shape desc reads.now (length reads.now) result
         pass.old.view pass.new.view }
 {
@@ -82,15 +83,15 @@ fn settle<T: Theory>(
     moved: Option<Shown>,
 ) -> Result<(), Shown>
     requires of { IsOf pass.old field.now }
-    requires stands { Stands T.meaning field.now.origin pass.old.view }
+    requires stands { StandsInField T.meaning field.now.origin pass.old.view }
     requires exists { attempt.desc < desc_count field.now.origin.shape }
     requires hand { attempt_in_hand pass.old.view.hand ≡ Some attempt }
     requires met { MetStatus field.now.origin.shape pass.old.view attempt.desc from }
     requires in_progress { (status_of from ≡ InProg) × (serial_of from ≡ attempt.serial) }
-    requires may { MaySettle field.now.origin.shape pass.old.view attempt.desc from moved }
+    requires may { MayDecide field.now.origin.shape pass.old.view attempt.desc from moved }
     ensures same { pass.new ≡ record pass.old { view = pass.new.view } }
-    ensures stands { Stands T.meaning field.now.origin pass.new.view }
-    ensures settles { Settles T.meaning field.now.origin attempt.desc from moved result
+    ensures stands { StandsInField T.meaning field.now.origin pass.new.view }
+    ensures settles { DecidesDescriptor T.meaning field.now.origin attempt.desc from moved result
         pass.old.view pass.new.view }
 {
     let _ = pass.shape();
@@ -150,7 +151,7 @@ pub fn decided<T: Theory>(
         desc serial tag lots.now) }
     ensures committed { IfOk result (λ _. (e : HasEntry (state_of field.now pass.old began.now.value
         reads.now slots.now None desc serial tag lots.now))
-        × Commits T.meaning (state_of field.now pass.old began.now.value reads.now slots.now None
+        × CommitsTransaction T.meaning (state_of field.now pass.old began.now.value reads.now slots.now None
         desc serial tag lots.now) e pass.new) }
     ensures aborted { IfErr result (λ shown. Aborts T.meaning (state_of field.now pass.old
         began.now.value reads.now slots.now None desc serial tag lots.now) pass.new

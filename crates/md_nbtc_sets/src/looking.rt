@@ -4,7 +4,7 @@ ghost use Rattle.std.specs.Prelude.{◌≡◌, ◌+◌, ◌<◌, ◌≤◌, fals
 ghost use Rattle.md_words.specs.Content.{count_of, is_even};
 ghost use Rattle.md_words.specs.Layout.{words_of};
 ghost use Rattle.md_rule.specs.Views.{IsOf};
-ghost use Rattle.md_help.specs.After.{Stands};
+ghost use Rattle.md_help.specs.After.{StandsInField};
 ghost use Rattle.md_nbtc_law.specs.declared.seen.TheConstants.{LOOKS};
 ghost use Rattle.md_nbtc_law.specs.Looking.{LooksUntil};
 
@@ -49,7 +49,7 @@ fn await_other<T: Theory>(
     most: u32,
 ) -> u64
     requires of { IsOf pass.old field.now }
-    requires stands { Stands T.meaning field.now.origin pass.old.view }
+    requires stands { StandsInField T.meaning field.now.origin pass.old.view }
     requires inside { word < words_of field.now.origin.shape }
     requires odd { is_even (count_of found) ≡ false }
     requires most { (1 ≤ most) × (most ≤ LOOKS) }
@@ -82,7 +82,7 @@ pub fn look_at<T: Theory>(
     holding: Option<u32>,
 ) -> u64
     requires of { IsOf pass.old field.now }
-    requires stands { Stands T.meaning field.now.origin pass.old.view }
+    requires stands { StandsInField T.meaning field.now.origin pass.old.view }
     requires inside { word < words_of field.now.origin.shape }
     ensures same { pass.new ≡ record pass.old { view = pass.new.view } }
     ensures looks { LooksUntil T.meaning field.now.origin word (LOOKS + 1) result pass.old.view

@@ -33,7 +33,7 @@ use Rattle.md_queue_law.specs.QueueShape.{link}
 use Rattle.md_queue_law.proofs.Facts.{look_goes_on}
 use Rattle.md_queue.specs.Along.{HasLooked, HasLookedToEnd, words_along}
 use Rattle.md_queue.specs.Words.{head_at, next_at}
-use Rattle.md_queue.specs.Working.{IsRecorded, IsWorking, NamesNode, SeesNext}
+use Rattle.md_queue.specs.Working.{IsKnownAs, IsWorking, NamesNode, SeesNext}
 use Rattle.md_queue.proofs.Among.{AnswersBy}
 use Rattle.md_queue.proofs.Firsts.{SeesHead, value_known}
 use Rattle.md_queue.proofs.Looking.{head_named, next_looked, next_named}
@@ -61,10 +61,10 @@ module _ (M : Meaning) (lawful : Lawful M) (queues : HasQueuesOf M) (t : TxnStat
         last = refl;
         exists = subst (λ (x : Shape). IsNode x (linked_node head.value)) (sym shape) named.exists;
         placed = of_on M t u on.later cs queue (linked_node head.value) named.placed;
-        head_noted = subst (λ v. IsRecorded M u cs ts (head_is (shape_in u) queue v)) named.is
-            (subst (λ (x : Shape). IsRecorded M u cs ts (head_is x queue head.value)) (sym shape)
+        head_noted = subst (λ v. IsKnownAs M u cs ts (head_is (shape_in u) queue v)) named.is
+            (subst (λ (x : Shape). IsKnownAs M u cs ts (head_is x queue head.value)) (sym shape)
             (noted_recorded M lawful t queue cs ts s.working u on.later (head_at t queue) head s.head_sees fits noted));
-        nexts_noted = All-nil (IsRecorded M u cs ts);
+        nexts_noted = All-nil (IsKnownAs M u cs ts);
         values = λ v later prepared h of. All-nil (Holds (after_wholes h cs));
       }
 
@@ -83,7 +83,7 @@ module _ (M : Meaning) (lawful : Lawful M) (queues : HasQueuesOf M) (t : TxnStat
     pub record NotedNext (v : TxnState) (next : Seen) : Type 0 where
       pub later : IsLater t v
       pub working : IsWorking M v queue cs s.changes
-      pub noted : IsRecorded M v cs s.changes (next_is (shape_in v) node next.value)
+      pub noted : IsKnownAs M v cs s.changes (next_is (shape_in v) node next.value)
       pub named : next.value ≢ 0 → NamesNode M v cs queue next.value
 
     pub next_noted : (u : TxnState) → GoesOn M t u → u ≡ record t { pass = u.pass } → (next : Seen) → Looks M t u (next_at t node) next → (v : TxnState) → GoesOn M u v
@@ -94,20 +94,20 @@ module _ (M : Meaning) (lawful : Lawful M) (queues : HasQueuesOf M) (t : TxnStat
         record {
           later = later_over t u v on.later over.later;
           working = working_on M u v over.later queue cs ts over noted.hand at_u;
-          noted = subst (λ (x : Shape). IsRecorded M v cs ts (next_is x node next.value)) (sym (shape_later u v over.later))
+          noted = subst (λ (x : Shape). IsKnownAs M v cs ts (next_is x node next.value)) (sym (shape_later u v over.later))
               (noted_recorded M lawful u queue cs ts at_u v over.later (next_at u node) next sees.at fits noted);
           named = λ some. names_on M u v over.later cs queue next.value (next_named M lawful queues u queue cs ts at_u node next sees some);
         }
 
     module _ (v : TxnState) (later : IsLater t v) (working : IsWorking M v queue cs ts) where
       -- what was recorded stays recorded
-      head_kept : IsRecorded M v cs ts (head_is (shape_in v) queue (link dummy))
+      head_kept : IsKnownAs M v cs ts (head_is (shape_in v) queue (link dummy))
       head_kept = recorded_on M t v later working.going.prepared cs ts (head_is (shape_in v) queue (link dummy))
-          (subst (λ (x : Shape). IsRecorded M t cs ts (head_is x queue (link dummy))) (sym (shape_later t v later)) s.head_noted)
+          (subst (λ (x : Shape). IsKnownAs M t cs ts (head_is x queue (link dummy))) (sym (shape_later t v later)) s.head_noted)
 
-      nexts_kept : All (IsRecorded M v cs ts) (next_words (shape_in v) dummy seen)
+      nexts_kept : All (IsKnownAs M v cs ts) (next_words (shape_in v) dummy seen)
       nexts_kept i d below = recorded_on M t v later working.going.prepared cs ts (get_or (next_words (shape_in v) dummy seen) i d)
-          (subst (λ (x : Shape). All (IsRecorded M t cs ts) (next_words x dummy seen)) (sym (shape_later t v later)) s.nexts_noted i d below)
+          (subst (λ (x : Shape). All (IsKnownAs M t cs ts) (next_words x dummy seen)) (sym (shape_later t v later)) s.nexts_noted i d below)
 
       values_kept : Known M v (λ u h. All (Holds (after_wholes h cs)) (map value_fact seen))
       values_kept = known_later M (λ u h. All (Holds (after_wholes h cs)) (map value_fact seen)) t v later s.values
@@ -130,7 +130,7 @@ module _ (M : Meaning) (lawful : Lawful M) (queues : HasQueuesOf M) (t : TxnStat
     unfolding looked_on
     ended v next n zero = record {
       looked = looked_on v n.later n.working;
-      end_noted = subst (λ x. IsRecorded M v cs ts (next_is (shape_in v) node x)) zero n.noted;
+      end_noted = subst (λ x. IsKnownAs M v cs ts (next_is (shape_in v) node x)) zero n.noted;
     }
 
     -- or it comes to one more node
@@ -145,10 +145,10 @@ module _ (M : Meaning) (lawful : Lawful M) (queues : HasQueuesOf M) (t : TxnStat
         let named = names_on M v w over.later cs queue next.value (n.named some) in
         let along = look_goes_on (shape_in w) dummy seen p in
         let noted = recorded_on M v w over.later working.going.prepared cs ts (next_is (shape_in w) node next.value)
-        (subst (λ (x : Shape). IsRecorded M v cs ts (next_is x node next.value)) (sym (shape_later v w over.later)) n.noted) in
-        let noted_last : IsRecorded M w cs ts (next_is (shape_in w) (last_seen dummy seen) (link first))
-        = subst (λ x. IsRecorded M w cs ts (next_is (shape_in w) x (link first))) s.last
-        (subst (λ x. IsRecorded M w cs ts (next_is (shape_in w) node x)) named.is noted) in
+        (subst (λ (x : Shape). IsKnownAs M v cs ts (next_is x node next.value)) (sym (shape_later v w over.later)) n.noted) in
+        let noted_last : IsKnownAs M w cs ts (next_is (shape_in w) (last_seen dummy seen) (link first))
+        = subst (λ x. IsKnownAs M w cs ts (next_is (shape_in w) x (link first))) s.last
+        (subst (λ x. IsKnownAs M w cs ts (next_is (shape_in w) node x)) named.is noted) in
         record {
           changes = ts;
           working = working;
@@ -156,16 +156,16 @@ module _ (M : Meaning) (lawful : Lawful M) (queues : HasQueuesOf M) (t : TxnStat
           exists = named.exists;
           placed = named.placed;
           head_noted = head_kept w later working;
-          nexts_noted = subst (All (IsRecorded M w cs ts)) (sym along.0)
-              (All-append (IsRecorded M w cs ts) (next_words (shape_in w) dummy seen) (next_is (shape_in w) (last_seen dummy seen) (link first) ∷ []) (nexts_kept w later working)
-              (All-cons (IsRecorded M w cs ts) (next_is (shape_in w) (last_seen dummy seen) (link first)) [] noted_last (All-nil (IsRecorded M w cs ts))));
+          nexts_noted = subst (All (IsKnownAs M w cs ts)) (sym along.0)
+              (All-append (IsKnownAs M w cs ts) (next_words (shape_in w) dummy seen) (next_is (shape_in w) (last_seen dummy seen) (link first) ∷ []) (nexts_kept w later working)
+              (All-cons (IsKnownAs M w cs ts) (next_is (shape_in w) (last_seen dummy seen) (link first)) [] noted_last (All-nil (IsKnownAs M w cs ts))));
           values = λ x over_w prepared h of. subst (All (Holds (after_wholes h cs))) (sym (map-append value_fact seen (p ∷ [])))
               (All-append (Holds (after_wholes h cs)) (map value_fact seen) (value_fact p ∷ []) (values_kept w later working x over_w prepared h of)
               (value_known M lawful w queue cs ts working first value named.exists named.placed is x over_w prepared h of));
         }
 
     -- the certificate, with what is recorded at the end
-    module _ (ending : List WordValue) (n : ℕ) (ends : LooksEnough n seen ending ⊎ LooksToEnd (shape_in t) dummy n seen ending) (noted : All (IsRecorded M t cs ts) ending) where
+    module _ (ending : List WordValue) (n : ℕ) (ends : LooksEnough n seen ending ⊎ LooksToEnd (shape_in t) dummy n seen ending) (noted : All (IsKnownAs M t cs ts) ending) where
       abbrev words : List WordValue
       words = head_is (shape_in t) queue (link dummy) ∷ (next_words (shape_in t) dummy seen ++ ending)
 
@@ -177,15 +177,15 @@ module _ (M : Meaning) (lawful : Lawful M) (queues : HasQueuesOf M) (t : TxnStat
         s.working.within,
         record { dummy = dummy; seen = seen; ending = ending; ends = ends; reply = refl; recorded = refl; changes = refl; nodes = refl; facts = refl },
       )
-          (All-cons (IsRecorded M t cs ts) (head_is (shape_in t) queue (link dummy)) (next_words (shape_in t) dummy seen ++ ending) s.head_noted
-          (All-append (IsRecorded M t cs ts) (next_words (shape_in t) dummy seen) ending s.nexts_noted noted))
+          (All-cons (IsKnownAs M t cs ts) (head_is (shape_in t) queue (link dummy)) (next_words (shape_in t) dummy seen ++ ending) s.head_noted
+          (All-append (IsKnownAs M t cs ts) (next_words (shape_in t) dummy seen) ending s.nexts_noted noted))
           s.values
           (All-map (λ (f : Fact). f.next ≡ None) value_fact seen (λ i d below. refl))
 
     -- as many values as were asked for
     pub looked_enough : AnswersBy M t cs (Line queue (length seen)) (TheLine (line_of (map (λ (p : Passed). p.value) seen))) (words_along (shape_in t) queue dummy seen)
     looked_enough = subst (λ ws. AnswersBy M t cs (Line queue (length seen)) reply_is (address (shape_in t) (queue_head queue) ∷ map (λ (r : WordValue). r.word) ws)) (append-nil (next_words (shape_in t) dummy seen))
-        (answers [] (length seen) (inl (record { all = refl; is = refl })) (All-nil (IsRecorded M t cs ts)))
+        (answers [] (length seen) (inl (record { all = refl; is = refl })) (All-nil (IsKnownAs M t cs ts)))
       where
         reply_is : Reply
         reply_is = TheLine (line_of (map (λ (p : Passed). p.value) seen))
@@ -199,5 +199,5 @@ module _ (M : Meaning) (lawful : Lawful M) (queues : HasQueuesOf M) (t : TxnStat
       subst (λ ws. AnswersBy M t cs (Line queue n) (TheLine (line_of (map (λ (p : Passed). p.value) seen))) (address (shape_in t) (queue_head queue) ∷ ws))
       (map-append (λ (r : WordValue). r.word) (next_words (shape_in t) dummy seen) (end ∷ []))
       (answers dummy node seen l (end ∷ []) n (inr (record { fewer = fewer; is = refl }))
-      (All-cons (IsRecorded M t cs l.changes) end []
-      (subst (λ x. IsRecorded M t cs l.changes (next_is (shape_in t) x 0)) l.last s.end_noted) (All-nil (IsRecorded M t cs l.changes))))
+      (All-cons (IsKnownAs M t cs l.changes) end []
+      (subst (λ x. IsKnownAs M t cs l.changes (next_is (shape_in t) x 0)) l.last s.end_noted) (All-nil (IsKnownAs M t cs l.changes))))

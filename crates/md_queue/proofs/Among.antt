@@ -16,7 +16,7 @@ use Rattle.md_nbtc_law.specs.Going.{IsGoing, IsUnderWay}
 use Rattle.md_nbtc_law.specs.State.{TxnState, shape_in}
 use Rattle.md_queue_law.specs.QueueCertificates.{CertifiesOp}
 use Rattle.md_queue.specs.Charged.{AreCharged}
-use Rattle.md_queue.specs.Operations.{Answered, GoesBy, IsAnswered, RecordsAmong, words_recorded}
+use Rattle.md_queue.specs.Operations.{OperationAnswered, GoesBy, IsAnswered, RecordsAmong, words_recorded}
 
 -- where no word more is recorded, the recorded words are the same
 pub no_more_reads : (M : Meaning) (t u : TxnState) (writes nodes : ℕ) → GoesBy M t u 0 writes nodes → u.reads ≡ t.reads
@@ -69,11 +69,11 @@ is_answered {M} {t} {u} words by among = record {
 -- so it is answered, whatever the certificates are
 pub answered : {M : Meaning} {t u : TxnState} {op : Op} {reply : Reply} {reads writes nodes : ℕ} (words : List ℕ)
     → GoesBy M t u reads writes nodes → ((cs : List Certificate) → IsGoing M t cs → AnswersBy M u cs op reply words) → RecordsAmong t u words
-    → Answered M t u op reply reads writes nodes
+    → OperationAnswered M t u op reply reads writes nodes
 answered words goes by among = record { goes = goes; by = λ cs going. is_answered words (by cs going) among }
 
 -- and may be ended
-pub may_answer : (M : Meaning) (t u : TxnState) (op : Op) (reply : Reply) (reads writes nodes : ℕ) → IsUnderWay M t → Answered M t u op reply reads writes nodes → MayAnswer M u op reply
+pub may_answer : (M : Meaning) (t u : TxnState) (op : Op) (reply : Reply) (reads writes nodes : ℕ) → IsUnderWay M t → OperationAnswered M t u op reply reads writes nodes → MayAnswer M u op reply
 may_answer M t u op reply reads writes nodes under a =
     let by = a.by under.0 under.1 in
     record { earlier = under.0; going = a.goes.leaves.on.going under.0 under.1; certificate = by.certificate; of = by.of; may = by.may }

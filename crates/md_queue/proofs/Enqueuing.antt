@@ -26,7 +26,7 @@ use Rattle.md_nbtc_law.specs.Going.{IsGoing}
 use Rattle.md_nbtc_law.specs.State.{OwnNode, TxnState, shape_in}
 use Rattle.md_nbtc_law.proofs.preparing.Later.{later_over}
 use Rattle.md_nbtc_law.proofs.structures.Answering.{fresh_refused}
-use Rattle.md_queue.specs.Operations.{GoesBy, IsNotBy, PutsLast, Refused, StaysIn}
+use Rattle.md_queue.specs.Operations.{GoesBy, IsNotBy, PutsLast, OperationRefused, StaysIn}
 use Rattle.md_queue.specs.Words.{tail_at}
 use Rattle.md_queue.proofs.Slots.{stay_same, stay_then}
 use Rattle.md_queue.proofs.Steps.{leaves_then}
@@ -71,7 +71,7 @@ module _ (M : Meaning) (t u : TxnState) (on : GoesOn M t u) (operates : t.hand.o
       by_stop (Some r) is old by = let e = old.0 in let same : r ≡ stop = cc e in is ∙ ap (λ x. Some x) same
 
   -- the stop is kept then
-  pub fresh_stops : (key value next : ℕ) (stop : Stop) → AfterStop t.stop t u (let r : Result ℕ Stop = Err stop in r) (Freshened t u key value next (Err stop)) → Refused M t u 0 0 0 stop
+  pub fresh_stops : (key value next : ℕ) (stop : Stop) → AfterStop t.stop t u (let r : Result ℕ Stop = Err stop in r) (Freshened t u key value next (Err stop)) → OperationRefused M t u 0 0 0 stop
   fresh_stops key value next stop fresh =
       let is = fresh_refused M t u stop key value next fresh in
       record {
@@ -126,14 +126,14 @@ module _ (M : Meaning) (s t u : TxnState) (c : Cleanup) (bare : (x : Slot) → C
       }
 
 -- a refusal after what went on
-pub refused_after : (M : Meaning) (s t u : TxnState) (a b c d e f x y z : ℕ) (stop : Stop) → GoesBy M s t a b c → (t.hand.operating ≡ true → Refused M t u d e f stop)
-    → a + d ≤ x → b + e ≤ y → c + f ≤ z → Refused M s u x y z stop
+pub refused_after : (M : Meaning) (s t u : TxnState) (a b c d e f x y z : ℕ) (stop : Stop) → GoesBy M s t a b c → (t.hand.operating ≡ true → OperationRefused M t u d e f stop)
+    → a + d ≤ x → b + e ≤ y → c + f ≤ z → OperationRefused M s u x y z stop
 refused_after M s t u a b c d e f x y z stop goes next reads writes nodes =
     let is = next goes.leaves.operates in
     record { leaves = leaves_then M s t u a b c d e f x y z goes.leaves is.leaves reads writes nodes; kept = is.kept }
 
 -- within wider bounds
-pub refused_within : (M : Meaning) (t u : TxnState) (a b c x y z : ℕ) (stop : Stop) → Refused M t u a b c stop → a ≤ x → b ≤ y → c ≤ z → Refused M t u x y z stop
+pub refused_within : (M : Meaning) (t u : TxnState) (a b c x y z : ℕ) (stop : Stop) → OperationRefused M t u a b c stop → a ≤ x → b ≤ y → c ≤ z → OperationRefused M t u x y z stop
 refused_within M t u a b c x y z stop is reads writes nodes =
     let r = is.leaves.reads_few in
     let w = is.leaves.writes_few in

@@ -33,7 +33,7 @@ use Rattle.md_queue_law.specs.QueueMeaning.{HasQueuesOf}
 use Rattle.md_queue_law.specs.QueueShape.{link}
 use Rattle.md_queue.specs.Operations.{GoesBy, IsBegun, RecordsAmong}
 use Rattle.md_queue.specs.Words.{head_at, next_at}
-use Rattle.md_queue.specs.Working.{IsRecorded, IsWorking, KnowsOf, NamesNode, NotedFirst, SeesAt, SeesFirst, SeesNext, first_words}
+use Rattle.md_queue.specs.Working.{IsKnownAs, IsWorking, KnowsOf, NamesNode, NotedFirst, SeesAt, SeesFirst, SeesNext, first_words}
 use Rattle.md_queue.proofs.Among.{AnswersBy, among_from}
 use Rattle.md_queue.proofs.Looking.{head_looked, head_named, next_looked, next_named}
 use Rattle.md_queue.proofs.Passing.{names_on, next_on, sees_on, working_on}
@@ -89,7 +89,7 @@ module _ (M : Meaning) (lawful : Lawful M) (queues : HasQueuesOf M) (t : TxnStat
     pub record NotedHead : Type 0 where
       pub working : IsWorking M u queue cs s.changes
       pub head_named : NamesNode M u cs queue head.value
-      pub head_noted : IsRecorded M u cs s.changes (head_is (shape_in u) queue head.value)
+      pub head_noted : IsKnownAs M u cs s.changes (head_is (shape_in u) queue head.value)
       pub next_sees : SeesNext M u cs queue (linked_node head.value) next
 
     pub noted_head : (word : ℕ) → word ≡ head_at t queue → HasNoted t u word head → KeepsGiven t u word → NotedHead
@@ -100,7 +100,7 @@ module _ (M : Meaning) (lawful : Lawful M) (queues : HasQueuesOf M) (t : TxnStat
           working = working_on M t u on.later queue cs s.changes on noted.hand s.working;
           head_named = names_on M t u on.later cs queue head.value
               (head_named M lawful queues t queue cs s.changes s.working head s.head_sees);
-          head_noted = subst (λ x. IsRecorded M u cs s.changes (head_is x queue head.value)) (sym shape)
+          head_noted = subst (λ x. IsKnownAs M u cs s.changes (head_is x queue head.value)) (sym shape)
               (noted_recorded M lawful t queue cs s.changes s.working u on.later there head s.head_sees fits (subst (λ x. HasNoted t u x head) is noted));
           next_sees = next_on M t u on.later cs queue (linked_node head.value) next s.next_sees
               (subst (λ x. KeepsGiven t u x) is given (next_at t (linked_node head.value)) next
@@ -116,8 +116,8 @@ module _ (M : Meaning) (lawful : Lawful M) (queues : HasQueuesOf M) (t : TxnStat
           working = working;
           head_named = names_on M u v over.later cs queue head.value n.head_named;
           head_noted = recorded_on M u v over.later working.going.prepared cs s.changes (head_is (shape_in v) queue head.value)
-              (subst (λ x. IsRecorded M u cs s.changes (head_is x queue head.value)) (sym shape) n.head_noted);
-          next_noted = subst (λ x. IsRecorded M v cs s.changes (next_is x (linked_node head.value) next.value)) (sym shape)
+              (subst (λ x. IsKnownAs M u cs s.changes (head_is x queue head.value)) (sym shape) n.head_noted);
+          next_noted = subst (λ x. IsKnownAs M v cs s.changes (next_is x (linked_node head.value) next.value)) (sym shape)
               (noted_recorded M lawful u queue cs s.changes n.working v over.later (next_at u (linked_node head.value)) next n.next_sees.at small noted);
           next_named = λ some. names_on M u v over.later cs queue next.value
               (next_named M lawful queues u queue cs s.changes n.working (linked_node head.value) next n.next_sees some);
@@ -127,12 +127,12 @@ module _ (M : Meaning) (lawful : Lawful M) (queues : HasQueuesOf M) (t : TxnStat
     abbrev words : (value : ℕ) → List WordValue
     words value = head_is (shape_in t) queue (link (linked_node head.value)) ∷ next_is (shape_in t) (linked_node head.value) value ∷ []
 
-    words_recorded : (value : ℕ) → next.value ≡ value → All (IsRecorded M t cs n.changes) (words value)
-    words_recorded value is = All-cons (IsRecorded M t cs n.changes) (head_is (shape_in t) queue (link (linked_node head.value))) (next_is (shape_in t) (linked_node head.value) value ∷ [])
-        (subst (λ v. IsRecorded M t cs n.changes (head_is (shape_in t) queue v)) n.head_named.is n.head_noted)
-        (All-cons (IsRecorded M t cs n.changes) (next_is (shape_in t) (linked_node head.value) value) []
-        (subst (λ v. IsRecorded M t cs n.changes (next_is (shape_in t) (linked_node head.value) v)) is n.next_noted)
-        (All-nil (IsRecorded M t cs n.changes)))
+    words_recorded : (value : ℕ) → next.value ≡ value → All (IsKnownAs M t cs n.changes) (words value)
+    words_recorded value is = All-cons (IsKnownAs M t cs n.changes) (head_is (shape_in t) queue (link (linked_node head.value))) (next_is (shape_in t) (linked_node head.value) value ∷ [])
+        (subst (λ v. IsKnownAs M t cs n.changes (head_is (shape_in t) queue v)) n.head_named.is n.head_noted)
+        (All-cons (IsKnownAs M t cs n.changes) (next_is (shape_in t) (linked_node head.value) value) []
+        (subst (λ v. IsKnownAs M t cs n.changes (next_is (shape_in t) (linked_node head.value) v)) is n.next_noted)
+        (All-nil (IsKnownAs M t cs n.changes)))
 
     no_facts : Known M t (λ u h. All (Holds (after_wholes h cs)) [])
     no_facts u later prepared h of = All-nil (Holds (after_wholes h cs))
@@ -175,9 +175,9 @@ front_some M lawful queues t u queue cs head next n some on same value is =
       working = w;
       head_named = names_on M t u on.later cs queue head.value n.head_named;
       head_noted = recorded_on M t u on.later w.going.prepared cs n.changes (head_is (shape_in u) queue head.value)
-          (subst (λ x. IsRecorded M t cs n.changes (head_is x queue head.value)) (sym shape) n.head_noted);
+          (subst (λ x. IsKnownAs M t cs n.changes (head_is x queue head.value)) (sym shape) n.head_noted);
       next_noted = recorded_on M t u on.later w.going.prepared cs n.changes (next_is (shape_in u) (linked_node head.value) next.value)
-          (subst (λ x. IsRecorded M t cs n.changes (next_is x (linked_node head.value) next.value)) (sym shape) n.next_noted);
+          (subst (λ x. IsKnownAs M t cs n.changes (next_is x (linked_node head.value) next.value)) (sym shape) n.next_noted);
       next_named = λ _. named;
     } in
     may_answer_reading M queues u queue cs n.changes w (Front queue) (Value (Some value)) (words M lawful queues u queue cs head next after (link first)) (has_value queue first value ∷ [])

@@ -28,7 +28,7 @@ use Rattle.md_nbtc_law.proofs.structures.StoodThen.{some_of, written_is_found}
 use Rattle.md_nbtc_law.proofs.structures.Tidying.{bare_holds}
 use Rattle.md_queue_law.specs.QueueCertificates.{CertifiesQueue}
 use Rattle.md_queue_law.specs.QueueMeaning.{HasQueuesOf}
-use Rattle.md_queue.specs.Working.{IsRecorded, IsWorking, SeesAt}
+use Rattle.md_queue.specs.Working.{IsKnownAs, IsWorking, SeesAt}
 use Rattle.md_queue.proofs.Among.{AnswersBy}
 
 module _ (M : Meaning) (lawful : Lawful M) (t : TxnState) (queue : ℕ) (cs : List Certificate) (ts : List TidyChange) (w : IsWorking M t queue cs ts)
@@ -38,7 +38,7 @@ module _ (M : Meaning) (lawful : Lawful M) (t : TxnState) (queue : ℕ) (cs : Li
     first_is : seen.own ≡ false → first_content u.reads (writes_in u) word ≡ Some (seen_content seen)
     first_is other = content (sym sees.gave.own ∙ other)
 
-    pub seen_recorded : IsRecorded M u cs ts (record { word = word; value = seen.value })
+    pub seen_recorded : IsKnownAs M u cs ts (record { word = word; value = seen.value })
     seen_recorded = record {
       found = ⊎_elim
           (λ own. written_is_found u word (ap (λ l. is_written (map (λ s. s.write) l) word) slots ∙ sym sees.gave.own ∙ own))
@@ -48,12 +48,12 @@ module _ (M : Meaning) (lawful : Lawful M) (t : TxnState) (queue : ℕ) (cs : Li
     }
 
   -- after a note of it
-  pub noted_recorded : HasNoted t u word seen → IsRecorded M u cs ts (record { word = word; value = seen.value })
+  pub noted_recorded : HasNoted t u word seen → IsKnownAs M u cs ts (record { word = word; value = seen.value })
   noted_recorded noted = seen_recorded noted.slots (λ other. ap (λ o. or_else o (content_replaced (writes_in u) word)) (noted.content other))
 
 -- it stays recorded
 pub recorded_on : (M : Meaning) (t u : TxnState) (later : IsLater t u) (prepared : IsPrepared u) (cs : List Certificate) (ts : List TidyChange) (r : WordValue)
-    → IsRecorded M t cs ts r → IsRecorded M u cs ts r
+    → IsKnownAs M t cs ts r → IsKnownAs M u cs ts r
 recorded_on M t u later prepared cs ts r is =
     let held = some_of (first_content t.reads (writes_in t) r.word) is.found in
     record {
@@ -64,7 +64,7 @@ recorded_on M t u later prepared cs ts r is =
 module _ (M : Meaning) (queues : HasQueuesOf M) (t : TxnState) (queue : ℕ) (cs : List Certificate) (ts : List TidyChange) (w : IsWorking M t queue cs ts) where
   -- an operation that looked at recorded words may be answered by them, and by what is known of nodes
   pub may_answer_reading : (op : Op) (reply : Reply) (words : List WordValue) (facts : List Fact) → CertifiesQueue (shape_in t) (reading op reply ts words facts)
-      → All (IsRecorded M t cs ts) words → Known M t (λ u h. All (Holds (after_wholes h cs)) facts) → All (λ (f : Fact). f.next ≡ None) facts → AnswersBy M t cs op reply (map (λ (r : WordValue). r.word) words)
+      → All (IsKnownAs M t cs ts) words → Known M t (λ u h. All (Holds (after_wholes h cs)) facts) → All (λ (f : Fact). f.next ≡ None) facts → AnswersBy M t cs op reply (map (λ (r : WordValue). r.word) words)
   may_answer_reading op reply words facts certifies recorded known plain = record {
     certificate = reading op reply ts words facts;
     of = (refl, refl);

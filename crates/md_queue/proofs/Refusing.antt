@@ -26,7 +26,7 @@ use Rattle.md_nbtc_law.proofs.preparing.Later.{later_over}
 use Rattle.md_nbtc_law.proofs.structures.Answering.{IsStopped, exchange_refused, note_refused}
 use Rattle.md_nbtc_law.proofs.structures.NodesKnown.{shape_later}
 use Rattle.md_queue.specs.Operations.{GoesBy, RecordsAmong, StaysStopped, words_recorded}
-use Rattle.md_queue.specs.Refusals.{AsksLine, BeganAlone, ChangeRefused, MoveRefused, ReadRefused, WasRefused}
+use Rattle.md_queue.specs.Refusals.{AsksLine, BeganAlone, ChangeRefused, MoveRefused, ReadRefused, StoodAtRefusal}
 use Rattle.md_queue.proofs.Among.{among_from, no_more_reads}
 
 -- no read is of a word that isn't recorded
@@ -43,22 +43,22 @@ no_read (x ∷ rs) word none r among = cond_both (x.word == word) (Some x.conten
 module _ (M : Meaning) (t u : TxnState) (stop : Stop) (none : t.stop ≡ None) where
   -- a note by the limit of reads: the word isn't written, and isn't recorded
   module _ (word : ℕ) (seen : Seen) (limit : stop ≡ Limited Reads) where
-    abbrev Refused : Type 0
-    Refused = (is_written (writes_in t) word ≡ false) × (content_read t.reads word ≡ None)
+    abbrev IsUnnoted : Type 0
+    IsUnnoted = (is_written (writes_in t) word ≡ false) × (content_read t.reads word ≡ None)
 
-    note_by : (o : Option ℕ) → content_read t.reads word ≡ o → is_written (writes_in t) word ≡ false → Notes (case_by_read o (seen_content seen) (length t.reads)) t u word seen (Err stop) → Refused
-    note_by (Some held) is unwritten n = cond_both (held == seen_content seen) noted (recorded held) (λ c. Notes c t u word seen (Err stop) → Refused)
+    note_by : (o : Option ℕ) → content_read t.reads word ≡ o → is_written (writes_in t) word ≡ false → Notes (case_by_read o (seen_content seen) (length t.reads)) t u word seen (Err stop) → IsUnnoted
+    note_by (Some held) is unwritten n = cond_both (held == seen_content seen) noted (recorded held) (λ c. Notes c t u word seen (Err stop) → IsUnnoted)
         (λ _ x. let e = x.0 in absurd (cc e))
         (λ _ x. let e = x.0 in absurd (cc (e, limit)))
         n
     note_by None is unwritten n = (unwritten, is)
 
-    note_limit : AfterStop t.stop t u (let r : Result (Unit {0}) Stop = Err stop in r) (Notes (note_case t word seen) t u word seen (Err stop)) → Refused
+    note_limit : AfterStop t.stop t u (let r : Result (Unit {0}) Stop = Err stop in r) (Notes (note_case t word seen) t u word seen (Err stop)) → IsUnnoted
     note_limit after =
         let n : Notes (note_case t word seen) t u word seen (Err stop)
         = subst (λ o. AfterStop o t u (let r : Result (Unit {0}) Stop = Err stop in r) (Notes (note_case t word seen) t u word seen (Err stop))) none after in
         cond_both (is_written (writes_in t) word) noted (case_by_read (content_read t.reads word) (seen_content seen) (length t.reads))
-        (λ c. Notes c t u word seen (Err stop) → Refused)
+        (λ c. Notes c t u word seen (Err stop) → IsUnnoted)
         (λ _ x. let e = x.0 in absurd (cc e))
         (λ unwritten x. note_by (content_read t.reads word) refl unwritten x)
         n
@@ -71,7 +71,7 @@ module _ (M : Meaning) (t u : TxnState) (stop : Stop) (none : t.stop ≡ None) w
 
     -- it was refused in this state
     pub note_was : (cs : List Certificate) → IsGoing M t cs
-        → AfterStop t.stop t u (let r : Result (Unit {0}) Stop = Err stop in r) (Notes (note_case t word seen) t u word seen (Err stop)) → WasRefused M t u cs (Limited Reads) t
+        → AfterStop t.stop t u (let r : Result (Unit {0}) Stop = Err stop in r) (Notes (note_case t word seen) t u word seen (Err stop)) → StoodAtRefusal M t u cs (Limited Reads) t
     note_was cs going after = record {
       going = going;
       later = later_self t;
@@ -117,7 +117,7 @@ module _ (M : Meaning) (t u : TxnState) (stop : Stop) (none : t.stop ≡ None) w
     exchange_critical after = (exchange_limit after).1
 
     pub exchange_was : (cs : List Certificate) → IsGoing M t cs
-        → AfterStop t.stop t u (let r : Result Seen Stop = Err stop in r) (Exchanges (exchange_case t word from kind) M t u word from to (Err stop)) → WasRefused M t u cs (Limited Writes) t
+        → AfterStop t.stop t u (let r : Result Seen Stop = Err stop in r) (Exchanges (exchange_case t word from kind) M t u word from to (Err stop)) → StoodAtRefusal M t u cs (Limited Writes) t
     exchange_was cs going after = record {
       going = going;
       later = later_self t;
@@ -156,7 +156,7 @@ began_on M t u a b c goes began =
       alone = λ lane below. subst (λ l. Contains l lane) (sym later.lanes) (began.alone lane (subst (λ (s : Shape). lane < s.lanes) (shape_later t u later) below));
     }
 
-pub was_after : (M : Meaning) (s t u v : TxnState) (cs : List Certificate) (stop : Stop) → IsLater s t → WasRefused M t u cs stop v → WasRefused M s u cs stop v
+pub was_after : (M : Meaning) (s t u v : TxnState) (cs : List Certificate) (stop : Stop) → IsLater s t → StoodAtRefusal M t u cs stop v → StoodAtRefusal M s u cs stop v
 was_after M s t u v cs stop later was = record { going = was.going; later = later_over s t v later was.later; same = was.same }
 
 -- of other words recorded before it, the certificate records each

@@ -22,7 +22,7 @@ use Rattle.md_nbtc_law.proofs.preparing.Later.{later_over}
 use Rattle.md_nbtc_law.proofs.structures.Answering.{IsStopped, after_ok, exchange_refused, look_refused, note_refused}
 use Rattle.md_nbtc_law.proofs.structures.Exchanging.{HasExchanged, changed_own, changed_plainly, exchange_so, exchanged_so, installed}
 use Rattle.md_nbtc_law.proofs.structures.Noting.{HasNoted, has_noted}
-use Rattle.md_queue.specs.Operations.{GoesBy, IsNotBy, Leaves, RecordsAmong, RefusedOtherwise, StaysIn, StaysStopped}
+use Rattle.md_queue.specs.Operations.{GoesBy, IsNotBy, OperationGoesOn, RecordsAmong, RefusedOtherwise, StaysIn, StaysStopped}
 use Rattle.md_queue.proofs.Slots.{stay_before, stay_renewed, stay_same, stay_then}
 
 module _ (M : Meaning) where
@@ -33,7 +33,7 @@ module _ (M : Meaning) where
   }
 
   -- one after another
-  pub leaves_then : (s t u : TxnState) (a b c d e f x y z : ℕ) → Leaves M s t a b c → Leaves M t u d e f → a + d ≤ x → b + e ≤ y → c + f ≤ z → Leaves M s u x y z
+  pub leaves_then : (s t u : TxnState) (a b c d e f x y z : ℕ) → OperationGoesOn M s t a b c → OperationGoesOn M t u d e f → a + d ≤ x → b + e ≤ y → c + f ≤ z → OperationGoesOn M s u x y z
   leaves_then s t u a b c d e f x y z one two reads writes nodes =
       let r = one.reads_few in
       let rr = two.reads_few in
@@ -74,7 +74,7 @@ module _ (M : Meaning) where
       }
 
   module _ (t u : TxnState) (on : GoesOn M t u) where
-    stepped_leaves : (a b c : ℕ) → ((s : Slot) → Contains t.slots s → StaysIn u s) → u.hand.acts ≡ t.hand.acts → u.hand.operating ≡ t.hand.operating → t.hand.operating ≡ true → length u.reads ≤ length t.reads + a → length u.slots ≤ length t.slots + b → length u.nodes ≤ length t.nodes + c → Leaves M t u a b c
+    stepped_leaves : (a b c : ℕ) → ((s : Slot) → Contains t.slots s → StaysIn u s) → u.hand.acts ≡ t.hand.acts → u.hand.operating ≡ t.hand.operating → t.hand.operating ≡ true → length u.reads ≤ length t.reads + a → length u.slots ≤ length t.slots + b → length u.nodes ≤ length t.nodes + c → OperationGoesOn M t u a b c
     stepped_leaves a b c stay acts operating operates reads writes nodes = record {
       on = on;
       stay = stay;

@@ -40,7 +40,7 @@ use Rattle.md_queue_law.specs.QueueShape.{link}
 use Rattle.md_queue.specs.Operations.{LeavesDummy, RecordsAmong, TailDiffers}
 use Rattle.md_queue.specs.Refusals.{WasToChange}
 use Rattle.md_queue.specs.Words.{head_at, next_at, tail_at}
-use Rattle.md_queue.specs.Working.{IsRecorded, IsWorking, NamesNode, SeesAt, SeesFirst}
+use Rattle.md_queue.specs.Working.{IsKnownAs, IsWorking, NamesNode, SeesAt, SeesFirst}
 use Rattle.md_queue.proofs.Alone.{alone_sees, seen_stands}
 use Rattle.md_queue.proofs.Among.{AnswersBy}
 use Rattle.md_queue.proofs.Changing.{changing, exchanged_first, exchanged_hand, may_end_changing}
@@ -79,7 +79,7 @@ module _ (M : Meaning) (lawful : Lawful M) (queues : HasQueuesOf M) (queue : ℕ
     pub working : IsWorking M t queue cs changes
     pub head_sees : SeesAt M t (head_at t queue) head
     pub named : NamesNode M t cs queue next.value
-    pub noted : IsRecorded M t cs changes (next_is (shape_in t) (linked_node head.value) next.value)
+    pub noted : IsKnownAs M t cs changes (next_is (shape_in t) (linked_node head.value) next.value)
 
   pub taking_noted : (t u : TxnState) → SeesFirst M t queue cs head next → GoesOn M t u → next.count < 2 ^ 32 → HasNoted t u (next_at t (linked_node head.value)) next
       → KeepsGiven t u (next_at t (linked_node head.value)) → IsTaking u
@@ -93,7 +93,7 @@ module _ (M : Meaning) (lawful : Lawful M) (queues : HasQueuesOf M) (queue : ℕ
             (given (head_at t queue) head (head_not_next (shape_in t) queue (linked_node head.value) s.working.within s.next_sees.exists) s.head_sees.gave));
         named = names_on M t u on.later cs queue next.value
             (next_named M lawful queues t queue cs s.changes s.working (linked_node head.value) next s.next_sees some);
-        noted = subst (λ (x : Shape). IsRecorded M u cs s.changes (next_is x (linked_node head.value) next.value)) (sym shape)
+        noted = subst (λ (x : Shape). IsKnownAs M u cs s.changes (next_is x (linked_node head.value) next.value)) (sym shape)
             (noted_recorded M lawful t queue cs s.changes s.working u on.later (next_at t (linked_node head.value)) next s.next_sees.at fits noted);
       }
 
@@ -110,7 +110,7 @@ module _ (M : Meaning) (lawful : Lawful M) (queues : HasQueuesOf M) (queue : ℕ
             (given (tail_at t queue) (head_at t queue) head (apart t k.working.within) k.head_sees.gave));
         named = names_on M t u on.later cs queue next.value k.named;
         noted = recorded_on M t u on.later working.going.prepared cs k.changes (next_is (shape_in u) (linked_node head.value) next.value)
-            (subst (λ (x : Shape). IsRecorded M t cs k.changes (next_is x (linked_node head.value) next.value)) (sym shape) k.noted);
+            (subst (λ (x : Shape). IsKnownAs M t cs k.changes (next_is x (linked_node head.value) next.value)) (sym shape) k.noted);
       }
     where
       apart : (t : TxnState) → queue < (shape_in t).queues → head_at t queue ≢ tail_at t queue
@@ -146,7 +146,7 @@ module _ (M : Meaning) (lawful : Lawful M) (queues : HasQueuesOf M) (queue : ℕ
         let word = next_is (shape_in t) dummy (link first) in
         let change = head_change (shape_in t) queue (link dummy) (link first) in
         let fact = has_value queue first value in
-        let noted = subst (λ v. IsRecorded M t cs ts (next_is (shape_in t) dummy v)) k.named.is k.noted in
+        let noted = subst (λ v. IsKnownAs M t cs ts (next_is (shape_in t) dummy v)) k.named.is k.noted in
         let known = value_known M lawful t queue cs ts w first value k.named.exists k.named.placed is in
         record {
           certificate = behind ts (Dequeue queue) (Value (Some value)) (word ∷ []) (change ∷ []) [] (fact ∷ []);
@@ -196,8 +196,8 @@ module _ (M : Meaning) (lawful : Lawful M) (queues : HasQueuesOf M) (queue : ℕ
         let at_u = ap (λ (s : Shape). address s (queue_head queue)) (sym shape) in
         let hand = exchanged_hand M t u (head_at t queue) head next.value seen ex in
         let recorded = recorded_on M t u on.later going.prepared cs ts (next_is (shape_in u) dummy (link first))
-        (subst (λ (x : Shape). IsRecorded M t cs ts (next_is x dummy (link first))) (sym shape)
-        (subst (λ v. IsRecorded M t cs ts (next_is (shape_in t) dummy v)) k.named.is k.noted)) in
+        (subst (λ (x : Shape). IsKnownAs M t cs ts (next_is x dummy (link first))) (sym shape)
+        (subst (λ v. IsKnownAs M t cs ts (next_is (shape_in t) dummy v)) k.named.is k.noted)) in
         let words = next_is (shape_in u) dummy (link first) ∷ [] in
         let facts = has_value queue first value ∷ [] in
         let c = changing (Dequeue queue) (Value (Some value)) ts words change [] facts in
@@ -233,5 +233,5 @@ module _ (M : Meaning) (lawful : Lawful M) (queues : HasQueuesOf M) (queue : ℕ
           charged = charged_on t u on.later (all_changes cs) ts w.charged;
         }
       where
-        one : {r : WordValue} → IsRecorded M u cs k.changes r → All (IsRecorded M u cs k.changes) (r ∷ [])
-        one {r} is = All-cons (IsRecorded M u cs k.changes) r [] is (All-nil (IsRecorded M u cs k.changes))
+        one : {r : WordValue} → IsKnownAs M u cs k.changes r → All (IsKnownAs M u cs k.changes) (r ∷ [])
+        one {r} is = All-cons (IsKnownAs M u cs k.changes) r [] is (All-nil (IsKnownAs M u cs k.changes))

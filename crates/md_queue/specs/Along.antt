@@ -13,7 +13,7 @@ use Rattle.md_nbtc_law.specs.State.{TxnState, shape_in}
 use Rattle.md_queue_law.specs.QueueCertificates.{Seen, has_value, head_is, last_seen, next_is, next_words}
 use Rattle.md_queue_law.specs.QueueShape.{link}
 use Rattle.md_queue.specs.declared.lines.Passed.{Passed}
-use Rattle.md_queue.specs.Working.{IsRecorded, IsWorking, KnowsOf}
+use Rattle.md_queue.specs.Working.{IsKnownAs, IsWorking, KnowsOf}
 
 -- a node that was passed, as certificates name it
 abbrev pub seen_as : Passed → Seen
@@ -32,14 +32,14 @@ module _ (M : Meaning) (t : TxnState) (queue : ℕ) (cs : List Certificate) (dum
     pub last : node ≡ last_seen dummy seen
     pub exists : IsNode (shape_in t) node
     pub placed : KnowsOf M t cs queue node
-    pub head_noted : IsRecorded M t cs changes (head_is (shape_in t) queue (link dummy))
-    pub nexts_noted : All (IsRecorded M t cs changes) (next_words (shape_in t) dummy seen)
+    pub head_noted : IsKnownAs M t cs changes (head_is (shape_in t) queue (link dummy))
+    pub nexts_noted : All (IsKnownAs M t cs changes) (next_words (shape_in t) dummy seen)
     pub values : Known M t (λ u h. All (Holds (after_wholes h cs)) (map (λ s. has_value queue s.node s.value) seen))
 
   -- and this node is the last one: its next word, which is 0, is recorded too
   pub record HasLookedToEnd : Type 0 where
     pub looked : HasLooked
-    pub end_noted : IsRecorded M t cs looked.changes (next_is (shape_in t) node 0)
+    pub end_noted : IsKnownAs M t cs looked.changes (next_is (shape_in t) node 0)
 
 -- the look went on to one more node, or ended
 abbrev pub LooksFurther : Meaning → TxnState → (queue : ℕ) → List Certificate → (dummy node : ℕ) → List Seen → Option Passed → Type 0

@@ -43,9 +43,9 @@ pub record StaysIn (u : TxnState) (s : Slot) : Type 0 where
   pub old : now.write.old ≡ s.write.old
   pub cleanup : (c : Cleanup) → s.cleanup ≡ Some c → now.cleanup ≡ Some c
 
--- what is left of the transaction: it goes on with the same certificates, in the same operation, and its slots stay. At
+-- an operation goes on after a call: the transaction has the same certificates and acts, and its slots stay. At
 -- most so many words are recorded more, and written more, and so many nodes taken
-pub record Leaves (M : Meaning) (t u : TxnState) (reads writes nodes : ℕ) : Type 0 where
+pub record OperationGoesOn (M : Meaning) (t u : TxnState) (reads writes nodes : ℕ) : Type 0 where
   pub on : GoesOn M t u
   pub stay : (s : Slot) → Contains t.slots s → StaysIn u s
   pub acts : u.hand.acts ≡ t.hand.acts
@@ -56,16 +56,16 @@ pub record Leaves (M : Meaning) (t u : TxnState) (reads writes nodes : ℕ) : Ty
 
 -- the transaction went on so, with the stop that it had, if any
 pub record GoesBy (M : Meaning) (t u : TxnState) (reads writes nodes : ℕ) : Type 0 where
-  pub leaves : Leaves M t u reads writes nodes
+  pub leaves : OperationGoesOn M t u reads writes nodes
   pub same_stop : u.stop ≡ t.stop
 
 -- after a stop the answer is the same stop, and nothing is done
 abbrev pub StaysStopped : {A : Type 0} → (t u : TxnState) → Result A Stop → Type 0
 StaysStopped t u result = (s : Stop) → t.stop ≡ Some s → (result ≡ Err s) × (u ≡ t)
 
--- or it was refused, and keeps the stop
-pub record Refused (M : Meaning) (t u : TxnState) (reads writes nodes : ℕ) (s : Stop) : Type 0 where
-  pub leaves : Leaves M t u reads writes nodes
+-- an operation went on so, and was refused: the transaction keeps the stop
+pub record OperationRefused (M : Meaning) (t u : TxnState) (reads writes nodes : ℕ) (s : Stop) : Type 0 where
+  pub leaves : OperationGoesOn M t u reads writes nodes
   pub kept : u.stop ≡ Some s
 
 -- not by a limit, unless it was stopped so before
@@ -74,7 +74,7 @@ IsNotBy t limit s = s ≡ Limited limit → t.stop ≡ Some s
 
 -- it was refused, but not for want of nodes
 pub record RefusedOtherwise (M : Meaning) (t u : TxnState) (reads writes : ℕ) (s : Stop) : Type 0 where
-  pub refused : Refused M t u reads writes 0 s
+  pub refused : OperationRefused M t u reads writes 0 s
   pub no_nodes : IsNotBy t Nodes s
 
 -- each word that is recorded more is one of these
@@ -96,7 +96,7 @@ pub record IsAnswered (M : Meaning) (t u : TxnState) (cs : List Certificate) (op
   pub charged : AreCharged u (all_changes cs) certificate.tidy
 
 -- an operation went on so, and may be ended so, whatever the certificates of the ended operations are
-pub record Answered (M : Meaning) (t u : TxnState) (op : Op) (reply : Reply) (reads writes nodes : ℕ) : Type 0 where
+pub record OperationAnswered (M : Meaning) (t u : TxnState) (op : Op) (reply : Reply) (reads writes nodes : ℕ) : Type 0 where
   pub goes : GoesBy M t u reads writes nodes
   pub by : (cs : List Certificate) → IsGoing M t cs → IsAnswered M t u cs op reply
 

@@ -78,7 +78,7 @@ module _ (M : Meaning) (v : TxnState) (cs : List Certificate) where
     pub would : (h : LogicalHeap) → IsHeapOf M v h → WouldStand h certificate
 
 -- the transaction as it stood when a call of the operation was refused: it kept the stop then, and did nothing more
-pub record WasRefused (M : Meaning) (t u : TxnState) (cs : List Certificate) (s : Stop) (v : TxnState) : Type 0 where
+pub record StoodAtRefusal (M : Meaning) (t u : TxnState) (cs : List Certificate) (s : Stop) (v : TxnState) : Type 0 where
   pub going : IsGoing M v cs
   pub later : IsLater t v
   pub same : u ≡ record v { pass = u.pass; stop = Some s }
@@ -86,13 +86,13 @@ pub record WasRefused (M : Meaning) (t u : TxnState) (cs : List Certificate) (s 
 module _ (M : Meaning) (t u : TxnState) (cs : List Certificate) where
   -- it was refused so, for want of room for one more word
   abbrev pub ReadRefused : (Asks : Op → Type 0) → Type 0
-  ReadRefused Asks = (v : TxnState) × WasRefused M t u cs (Limited Reads) v × IsFullOfReads M v cs t Asks
+  ReadRefused Asks = (v : TxnState) × StoodAtRefusal M t u cs (Limited Reads) v × IsFullOfReads M v cs t Asks
 
   abbrev pub MoveRefused : (queue : ℕ) → Type 0
-  MoveRefused queue = (v : TxnState) × WasRefused M t u cs (Limited Writes) v × WasToMove M v cs t queue
+  MoveRefused queue = (v : TxnState) × StoodAtRefusal M t u cs (Limited Writes) v × WasToMove M v cs t queue
 
   abbrev pub ChangeRefused : Op → Type 0
-  ChangeRefused op = (v : TxnState) × WasRefused M t u cs (Limited Writes) v × WasToChange M v cs t op
+  ChangeRefused op = (v : TxnState) × StoodAtRefusal M t u cs (Limited Writes) v × WasToChange M v cs t op
 
 -- an operation that asks for a queue's first value, and one that asks for at most so many of them
 abbrev pub AsksFront : (queue : ℕ) → Op → Type 0

@@ -54,7 +54,7 @@ module _ (M : Meaning) (t : TxnState) (cs : List Certificate) (queue : ℕ) wher
 
 -- the word was recorded or written, and has the value, as the transaction sees it after the ended operations and the
 -- tidy changes since
-pub record IsRecorded (M : Meaning) (t : TxnState) (cs : List Certificate) (ts : List TidyChange) (r : WordValue) : Type 0 where
+pub record IsKnownAs (M : Meaning) (t : TxnState) (cs : List Certificate) (ts : List TidyChange) (r : WordValue) : Type 0 where
   pub found : is_some (first_content t.reads (writes_in t) r.word) ≡ true
   pub value : Known M t (λ u h. (tidied (found_by u h) cs ts).words.value r.word ≡ r.value)
 
@@ -75,8 +75,8 @@ module _ (M : Meaning) (t : TxnState) (queue : ℕ) (cs : List Certificate) (hea
     pub changes : List TidyChange
     pub working : IsWorking M t queue cs changes
     pub head_named : NamesNode M t cs queue head.value
-    pub head_noted : IsRecorded M t cs changes (head_is (shape_in t) queue head.value)
-    pub next_noted : IsRecorded M t cs changes (next_is (shape_in t) (linked_node head.value) next.value)
+    pub head_noted : IsKnownAs M t cs changes (head_is (shape_in t) queue head.value)
+    pub next_noted : IsKnownAs M t cs changes (next_is (shape_in t) (linked_node head.value) next.value)
     pub next_named : next.value ≢ 0 → NamesNode M t cs queue next.value
 
 module _ (M : Meaning) (t : TxnState) (queue : ℕ) (cs : List Certificate) (tail : Seen) where

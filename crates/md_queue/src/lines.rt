@@ -10,7 +10,7 @@ ghost use Rattle.md_nbtc_law.specs.Going.{IsGoing};
 ghost use Rattle.md_nbtc.specs.State.{state};
 ghost use Rattle.md_queue_law.specs.QueueCertificates.{Seen};
 ghost use Rattle.md_queue.specs.Along.{HasLooked, LooksFurther};
-ghost use Rattle.md_queue.specs.Operations.{Answered, GoesBy, IsBegun, IsNotBy};
+ghost use Rattle.md_queue.specs.Operations.{OperationAnswered, GoesBy, IsBegun, IsNotBy};
 ghost use Rattle.md_queue.specs.Operations.{RecordsAmong, RefusedOtherwise, StaysStopped};
 ghost use Rattle.md_queue.specs.Refusals.{AsksLine, RefusesNext, RefusesReads};
 ghost use Rattle.md_queue.specs.Words.{head_at, next_at};
@@ -99,7 +99,7 @@ pub fn line<'a, T: HasQueues>(tx: &mut Txn<'a, T>, queue: u32, n: u8) -> Result<
     requires begun { IsBegun T.meaning (state tx.old) queue }
     requires few { IsLineLength n }
     ensures pass { tx.new.pass.ghost_name ≡ tx.old.pass.ghost_name }
-    ensures answer { IfOk result (λ line. Answered T.meaning (state tx.old) (state tx.new)
+    ensures answer { IfOk result (λ line. OperationAnswered T.meaning (state tx.old) (state tx.new)
         (LineOf queue n) (TheLine line) (n + 1) 0 0) }
     ensures stop { IfErr result (RefusedOtherwise T.meaning (state tx.old) (state tx.new) (n + 1)
         0) }

@@ -28,7 +28,7 @@ use Rattle.md_machine.specs.Resolution.{entries_of, least, logical_heap, logical
 use Rattle.md_machine.proofs.resolutions.Placing.{least_resolves}
 use Rattle.md_rule.proofs.Moves.{is_kept, is_meant}
 use Rattle.md_rule.specs.Closing.{AreEven, IsLast, LeavesReplay, MayClose, plain_words}
-use Rattle.md_rule.specs.Private.{HasWords, words_left}
+use Rattle.md_rule.specs.Private.{HasPrivateWords, words_left}
 use Rattle.md_rule.specs.Rule.{Shows}
 use Rattle.md_rule.proofs.Private.{all_left}
 use Rattle.md_rule.specs.Views.{Origin}
@@ -64,7 +64,7 @@ least_committed (x ∷ es) (Aborted ∷ fs) = least_committed es fs
 least_committed (x ∷ es) (Undecided ∷ fs) = least_committed es fs
 
 module _ (M : Meaning) (o : Origin) where
-  pub last_of : (private : Option (Vec ℕ Global)) (id : ℕ) (k : Known) (ws : List ℕ) (xs : List (Unit {0})) → HasWords o.shape private k → Final (Seen (Shows M o) id k) ws xs → IsLive k.view → IsLast M o k.view (words_left private ws)
+  pub last_of : (private : Option (Vec ℕ Global)) (id : ℕ) (k : Known) (ws : List ℕ) (xs : List (Unit {0})) → HasPrivateWords o.shape private k → Final (Seen (Shows M o) id k) ws xs → IsLive k.view → IsLast M o k.view (words_left private ws)
   last_of private id k ws xs has f live = let h = f.1.0 in record {
     machine = h.machine;
     admitted = h.admitted;

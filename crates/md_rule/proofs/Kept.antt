@@ -17,7 +17,7 @@ use Rattle.md_machine.specs.declared.attempt.HistoryEntry.{HistoryEntry}
 use Rattle.md_machine.specs.declared.pass.PassView.{PassView}
 use Rattle.md_machine.specs.Event.{Does, Event, abort}
 use Rattle.md_machine.specs.FreeToReturn.{KnowsFree}
-use Rattle.md_machine.specs.GoesOn.{GoesOn}
+use Rattle.md_machine.specs.GoesOn.{MachineGoesOn}
 use Rattle.md_machine.specs.Installs.{spot_of_install}
 use Rattle.md_machine.specs.Machine.{Install, IsAt, IsPresentIn, Machine, attempt_of, present, shape_of, status_at, was_begun}
 use Rattle.md_machine.specs.Meaning.{Meaning}
@@ -188,7 +188,7 @@ pub record LaneGoes (m n : Machine) (p u : PassView) (before after : Share) (lan
   pub hand : HoldsDesc u lane → after.left_open ≡ true
 
 -- by such an event, whoever holds the lane keeps it
-module _ (M : Meaning) (m n : Machine) (e : Event) (km : IsKept m) (kn : IsKept n) (on : GoesOn m n) (does : Does M m e n)
+module _ (M : Meaning) (m n : Machine) (e : Event) (km : IsKept m) (kn : IsKept n) (on : MachineGoesOn m n) (does : Does M m e n)
     (pass j : ℕ) (p u : PassView) (at : IsAt m pass p) (u_at : IsAt n j u) (lane : ℕ) (held : Contains p.lanes lane) (u_held : Contains u.lanes lane)
     (before after : Share) (goes : LaneGoes m n p u before after lane) (firsts : FirstsFit m) (spares : Spares (shape_of m) e p lane before)
     (kept : KeepsLane (shape_of m) p before lane) where

@@ -12,7 +12,7 @@ use Rattle.md_machine.specs.declared.opening.Opening.{Opening}
 use Rattle.md_machine.specs.declared.pass.PassView.{PassView}
 use Rattle.md_machine.specs.Event.{Acts, CanOpen, Does, Event, Plays, Runs, join, opened, split}
 use Rattle.md_machine.specs.Machine.{IsAt, IsLive, Machine, content, shape_of}
-use Rattle.md_machine.specs.GoesOn.{GoesOn}
+use Rattle.md_machine.specs.GoesOn.{MachineGoesOn}
 use Rattle.md_machine.specs.Legal.{IsMeant}
 use Rattle.md_machine.specs.Meaning.{Lawful, Meaning}
 use Rattle.md_machine.specs.Theorem.{IsKept}
@@ -75,7 +75,7 @@ module _ (M : Meaning) where
     pub is_meant : Lawful M → (m : Machine) → Admitted M o m → IsMeant M m
     is_meant L m a = always_meant M L m.opening a.events m a.opens a.runs
 
-    pub goes_on : (m n : Machine) (e : Event) → Admitted M o m → Does M m e n → GoesOn m n
+    pub goes_on : (m n : Machine) (e : Event) → Admitted M o m → Does M m e n → MachineGoesOn m n
     goes_on m n e a does = always_goes_on M m.opening a.events m n e a.opens a.runs (inl does)
 
     -- the machine after a step is one of the field

@@ -11,7 +11,7 @@ use Rattle.md_words.specs.Layout.{words_of}
 use Rattle.atomic_table.specs.Table.{State}
 use Rattle.md_machine.proofs.lists.At.{at_one}
 use Rattle.md_machine.proofs.lists.Options.{some_same}
-use Rattle.md_rule.specs.Private.{AreWords, HasWords, table_words, words_left}
+use Rattle.md_rule.specs.Private.{AreWords, HasPrivateWords, table_words, words_left}
 use Rattle.md_rule.specs.declared.known.Known.{Known}
 use Rattle.md_rule.proofs.Events.{has_base}
 
@@ -27,17 +27,17 @@ pub shared_words : (shape : Shape) → shape.lanes ≢ 1 → table_words shape �
 shared_words shape more = cond-false (shape.lanes == 1) 1 (words_of shape) (ne_eqb shape.lanes 1 more)
 
 -- the words stand in the table of a field if a pass has none, and in its pass if it has them
-pub in_table : (shape : Shape) (private : Option (Vec ℕ Global)) (k : Known) → HasWords shape private k → private ≡ None → shape.lanes ≢ 1
+pub in_table : (shape : Shape) (private : Option (Vec ℕ Global)) (k : Known) → HasPrivateWords shape private k → private ≡ None → shape.lanes ≢ 1
 in_table shape private k h none = subst (λ p. IfNone p (shape.lanes ≢ 1)) none h.more
 
-pub in_pass : (shape : Shape) (private : Option (Vec ℕ Global)) (k : Known) (ws : Vec ℕ Global) → HasWords shape private k → private ≡ Some ws
+pub in_pass : (shape : Shape) (private : Option (Vec ℕ Global)) (k : Known) (ws : Vec ℕ Global) → HasPrivateWords shape private k → private ≡ Some ws
     → (shape.lanes ≡ 1) × (length ws.items ≡ words_of shape) × (k.private ≡ Some ws)
 in_pass shape private k ws h is =
     let one = subst (λ p. IfSome p (λ x. (shape.lanes ≡ 1) × (length x.items ≡ words_of shape))) is h.one in
     (one.0, one.1, h.same ∙ is)
 
 -- a pass has the same words while its seat knows the same ones
-pub keeps_words : (shape : Shape) (private : Option (Vec ℕ Global)) (k now : Known) → now.private ≡ k.private → HasWords shape private k → HasWords shape private now
+pub keeps_words : (shape : Shape) (private : Option (Vec ℕ Global)) (k now : Known) → now.private ≡ k.private → HasPrivateWords shape private k → HasPrivateWords shape private now
 keeps_words shape private k now same h = record {
   same = same ∙ h.same;
   one = h.one;
@@ -46,7 +46,7 @@ keeps_words shape private k now same h = record {
 
 -- private words stay so when one is changed
 pub still_has : (shape : Shape) (ws next : Vec ℕ Global) (k : Known) (word value : ℕ) → shape.lanes ≡ 1 → length ws.items ≡ words_of shape
-    → next.items ≡ slice_set ws.items word value → k.private ≡ Some next → HasWords shape (Some next) k
+    → next.items ≡ slice_set ws.items word value → k.private ≡ Some next → HasPrivateWords shape (Some next) k
 still_has shape ws next k word value one long set same = record {
   same = same;
   one = (one, ap length set ∙ length-set ws.items word value ∙ long);
@@ -55,7 +55,7 @@ still_has shape ws next k word value one long set same = record {
 
 -- the first seat of a field knows the words that its pass has
 pub own_has : (shape : Shape) (ws : Vec ℕ Global) (k : Known) → length ws.items ≡ words_of shape → k.private ≡ (if shape.lanes == 1 then Some ws else None)
-    → HasWords shape (if shape.lanes == 1 then Some ws else None) k
+    → HasPrivateWords shape (if shape.lanes == 1 then Some ws else None) k
 own_has shape ws k long same = record {
   same = same;
   one = cond_both (shape.lanes == 1) (Some ws) None (λ p. IfSome p (λ l. (shape.lanes ≡ 1) × (length l.items ≡ words_of shape))) (λ is. (eqb-true shape.lanes 1 is, long)) (λ not. tt);
@@ -72,7 +72,7 @@ fits_table shape words word is more fits = subst (λ n. word < n) (sym (is ∙ s
 
 -- the words of a field that has ended
 pub all_left : (shape : Shape) (private : Option (Vec ℕ Global)) (words : List ℕ) (s : State (Unit {0}) Known) (id : ℕ) (k : Known) (ws : List ℕ)
-    → AreWords shape words s → get_elem? s.views id ≡ some k → s.words ≡ ws → HasWords shape private k → words ≡ words_left private ws
+    → AreWords shape words s → get_elem? s.views id ≡ some k → s.words ≡ ws → HasPrivateWords shape private k → words ≡ words_left private ws
 all_left shape None words s id k ws are at is has = are.shared has.more ∙ is
 all_left shape (Some mine) words s id k ws are at is has =
     let held = are.private has.one.0 in

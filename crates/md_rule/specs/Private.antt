@@ -26,7 +26,7 @@ words_left None table = table
 words_left (Some words) table = words.items
 
 -- the pass has private words exactly if its field has one lane. Its seat knows them, and they are as many as the field's
-pub record HasWords (shape : Shape) (private : Option (Vec ℕ Global)) (k : Known) : Type 0 where
+pub record HasPrivateWords (shape : Shape) (private : Option (Vec ℕ Global)) (k : Known) : Type 0 where
   pub same : k.private ≡ private
   pub one : IfSome private (λ ws. (shape.lanes ≡ 1) × (length ws.items ≡ words_of shape))
   pub more : IfNone private (shape.lanes ≢ 1)

@@ -6,7 +6,7 @@ ghost use Rattle.md_machine.specs.clauses.passes.Alone.{HoldsAll};
 ghost use Rattle.md_rule_lanes.specs.declared.shares.TheConstants.{UNUSED};
 ghost use Rattle.md_rule.specs.Kept.{KeepsLanes};
 ghost use Rattle.md_rule.specs.Lanes.{AreLanes};
-ghost use Rattle.md_rule.specs.Private.{HasWords};
+ghost use Rattle.md_rule.specs.Private.{HasPrivateWords};
 ghost use Rattle.md_rule.specs.Views.{IsOf};
 
 use crate::field::Field;
@@ -46,17 +46,17 @@ impl<T: Theory> Model for Pass<T> {
 
     ghost use Rattle.md_rule.specs.Kept.{KeepsLanes};
     ghost use Rattle.md_rule.specs.Lanes.{AreLanes};
-    ghost use Rattle.md_rule.specs.Private.{HasWords};
+    ghost use Rattle.md_rule.specs.Private.{HasPrivateWords};
 
     ghost invariant = { λ p. (p.seat.me.0.view.lanes ≡ p.lanes) × AreLanes p.shape p.lanes
         × (p.seat.me.1 ≡ []) × KeepsLanes p.shape p.seat.me.0.view p.shares
-        × HasWords p.shape p.private p.seat.me.0 };
+        × HasPrivateWords p.shape p.private p.seat.me.0 };
 }
 
 impl<T: Theory> Pass<T> {
     pub(crate) fn of(seat: Seat<(), Known>, shape: Shape, private: Option<Vec<u64>>) -> Pass<T>
         requires view { (seat.me.0.view ≡ first_pass shape) × (seat.me.1 ≡ []) }
-        requires private { HasWords shape private seat.me.0 }
+        requires private { HasPrivateWords shape private seat.me.0 }
         ensures { (result.table ≡ seat.table_id) × (result.shape ≡ shape)
             × (result.view ≡ seat.me.0.view) × (result.shares ≡ replicate 64 UNUSED) }
     {
@@ -114,7 +114,7 @@ impl<T: Theory> Pass<T> {
         requires lanes { (seat.me.0.view.lanes ≡ lanes) × AreLanes self.now.shape lanes
             × (seat.me.1 ≡ []) }
         requires kept { KeepsLanes self.now.shape seat.me.0.view self.now.shares }
-        requires shared { HasWords self.now.shape None seat.me.0 }
+        requires shared { HasPrivateWords self.now.shape None seat.me.0 }
         ensures { result ≡ record self.now { table = seat.table_id; view = seat.me.0.view } }
     {
         Pass {
@@ -132,7 +132,7 @@ impl<T: Theory> Pass<T> {
             × (result.0.me.1 ≡ []) }
         ensures lanes { (result.1 ≡ self.view.lanes) × AreLanes self.shape result.1 }
         ensures shares { (result.2 ≡ self.shares) × KeepsLanes self.shape self.view self.shares }
-        ensures private { HasWords self.shape result.3 result.0.me.0 }
+        ensures private { HasPrivateWords self.shape result.3 result.0.me.0 }
     {
         let Pass {
             seat,

@@ -18,7 +18,7 @@ ghost use Rattle.md_machine.specs.Event.{commit, abort, uninstall, start};
 ghost use Rattle.md_rule.specs.Entering.{EnteredBy, MayBecomeReady};
 ghost use Rattle.md_rule.specs.InHand.{HoldsUnready};
 ghost use Rattle.md_rule.specs.Kept.{IsNoNextLeft, IsReached, StoredNoneLeft};
-ghost use Rattle.md_rule.specs.Private.{HasWords};
+ghost use Rattle.md_rule.specs.Private.{HasPrivateWords};
 ghost use Rattle.md_rule_lanes.specs.Shares.{after_restart, after_slot, share_at};
 ghost use Rattle.md_rule.specs.Steps.{Exchanged, May, Stepped, SteppedFrom};
 ghost use Rattle.md_rule.specs.Views.{IsOf};
@@ -334,7 +334,7 @@ fn put<T: Theory>(
 ) -> Result<(), u64>
     requires field { (seat.old.table_id ≡ field.now.table)
         × (word < words_of field.now.origin.shape) }
-    requires private { HasWords field.now.origin.shape private.old seat.old.me.0 }
+    requires private { HasPrivateWords field.now.origin.shape private.old seat.old.me.0 }
     requires live { IsLive seat.old.me.0.view }
     requires fits { (from.count ≤ LAST_COUNT) × (to.desc < desc_count field.now.origin.shape) }
     requires may { May T.meaning field.now.origin (λ pass. install pass word (word_of from) to)
@@ -342,7 +342,7 @@ fn put<T: Theory>(
     ensures field { seat.new.table_id ≡ seat.old.table_id }
     ensures same { (seat.new.me.0.view.lanes ≡ seat.old.me.0.view.lanes)
         × (seat.new.me.1 ≡ seat.old.me.1) }
-    ensures private { HasWords field.now.origin.shape private.new seat.new.me.0 }
+    ensures private { HasPrivateWords field.now.origin.shape private.new seat.new.me.0 }
     ensures step { Exchanged T.meaning field.now.origin
         (λ pass. install pass word (word_of from) to) word (word_of from) result
         seat.old.me.0.view seat.new.me.0.view }

@@ -8,7 +8,7 @@ ghost use prog.Atomic.{either};
 ghost use Rattle.md_words.specs.Layout.{words_of};
 ghost use Rattle.atomic_table.specs.Table.{State, Seen};
 ghost use Rattle.md_rule.specs.declared.known.Known.{Known};
-ghost use Rattle.md_rule.specs.Private.{HasWords, with_view};
+ghost use Rattle.md_rule.specs.Private.{HasPrivateWords, with_view};
 ghost use Rattle.md_rule.specs.Rule.{Shows};
 ghost use Rattle.md_rule.specs.Steps.{MayTell};
 ghost use Rattle.md_machine.specs.Machine.{IsLive};
@@ -31,7 +31,7 @@ pub(crate) fn load_word<K: Telling, T: Theory, A>(
 ) -> u64
     requires field { (seat.old.table_id ≡ field.now.table)
         × (word < words_of field.now.origin.shape) }
-    requires private { HasWords field.now.origin.shape private.now seat.old.me.0 }
+    requires private { HasPrivateWords field.now.origin.shape private.now seat.old.me.0 }
     requires live { IsLive seat.old.me.0.view }
     requires may { MayTell T.meaning field.now.origin seat.old.me.0.view word (λ held. held)
         K.tells }
@@ -62,14 +62,14 @@ pub(crate) fn store_word<K: Telling, T: Theory, A>(
 )
     requires field { (seat.old.table_id ≡ field.now.table)
         × (word < words_of field.now.origin.shape) }
-    requires private { HasWords field.now.origin.shape private.old seat.old.me.0 }
+    requires private { HasPrivateWords field.now.origin.shape private.old seat.old.me.0 }
     requires live { IsLive seat.old.me.0.view }
     requires may { MayTell T.meaning field.now.origin seat.old.me.0.view word (λ _. value)
         (λ _. K.tells value) }
     ensures field { seat.new.table_id ≡ seat.old.table_id }
     ensures same { (seat.new.me.0.view.lanes ≡ seat.old.me.0.view.lanes)
         × (seat.new.me.1 ≡ seat.old.me.1) }
-    ensures private { HasWords field.now.origin.shape private.new seat.new.me.0 }
+    ensures private { HasPrivateWords field.now.origin.shape private.new seat.new.me.0 }
     ensures told { K.tells value seat.old.me.0.view seat.new.me.0.view }
 {
     drop(about);
@@ -96,14 +96,14 @@ pub(crate) fn exchange_word<K: Telling, T: Theory, A>(
 ) -> Result<(), u64>
     requires field { (seat.old.table_id ≡ field.now.table)
         × (word < words_of field.now.origin.shape) }
-    requires private { HasWords field.now.origin.shape private.old seat.old.me.0 }
+    requires private { HasPrivateWords field.now.origin.shape private.old seat.old.me.0 }
     requires live { IsLive seat.old.me.0.view }
     requires may { MayTell T.meaning field.now.origin seat.old.me.0.view word
         (λ found. either (found == from) to found) K.tells }
     ensures field { seat.new.table_id ≡ seat.old.table_id }
     ensures same { (seat.new.me.0.view.lanes ≡ seat.old.me.0.view.lanes)
         × (seat.new.me.1 ≡ seat.old.me.1) }
-    ensures private { HasWords field.now.origin.shape private.new seat.new.me.0 }
+    ensures private { HasPrivateWords field.now.origin.shape private.new seat.new.me.0 }
     ensures told { MatchResult result
         (λ _. K.tells from seat.old.me.0.view seat.new.me.0.view)
         (λ found. (found ≢ from) × K.tells found seat.old.me.0.view seat.new.me.0.view) }
@@ -131,7 +131,7 @@ pub(crate) fn mark<K: Telling, T: Theory, A>(
     about: Snapshot<A>,
 )
     requires field { seat.old.table_id ≡ field.now.table }
-    requires private { HasWords field.now.origin.shape private.now seat.old.me.0 }
+    requires private { HasPrivateWords field.now.origin.shape private.now seat.old.me.0 }
     requires live { IsLive seat.old.me.0.view }
     requires may { MayTell T.meaning field.now.origin seat.old.me.0.view 0 (λ held. held) K.tells }
     ensures field { seat.new.table_id ≡ seat.old.table_id }

@@ -9,7 +9,7 @@ use Rattle.md_history.specs.declared.acts.Act.{Act}
 use Rattle.md_history.specs.declared.stops.Shown.{Shown}
 use Rattle.md_history.specs.declared.stops.Stop.{Stop}
 use Rattle.md_history.specs.declared.stops.Stop.TheVariants.{Conflict, Limit, NoMemory}
-use Rattle.md_history.specs.Attempt.{Commits as CommitsFront, IsStopCounted, Stops as StopsFront}
+use Rattle.md_history.specs.Attempt.{Commits, CountsStop, Stops}
 use Rattle.md_history.specs.Calls.{Refusal}
 use Rattle.md_history.specs.Engine.{IsNoConflict, IsRising}
 use Rattle.md_history.specs.Front.{LegalFrom}
@@ -17,9 +17,9 @@ use Rattle.md_machine.specs.clauses.passes.Alone.{HoldsAll}
 use Rattle.md_machine.specs.clauses.passes.Lanes.{RiseFrom}
 use Rattle.md_machine.specs.Legal.{front_of}
 use Rattle.md_machine.proofs.lists.Rising.{in_cons, in_none, rise_low}
-use Rattle.md_help.specs.After.{Stands}
+use Rattle.md_help.specs.After.{StandsInField}
 use Rattle.md_machine.specs.declared.attempt.Hand.{Hand}
-use Rattle.md_nbtc_law.specs.Ending.{Begins, BeginsNot, HasEntry, PutDown, Readies, Stopped}
+use Rattle.md_nbtc_law.specs.Ending.{BeginsTransaction, BeginsNot, HasEntry, PutDown, Readies, Stopped}
 use Rattle.md_nbtc_law.specs.Going.{HasCause, IsGoing}
 use Rattle.md_nbtc_law.proofs.preparing.Heaps.{goes_self}
 use Rattle.md_nbtc_law.specs.State.{SameTries, TxnState, attempt_in}
@@ -96,7 +96,7 @@ module _ (f : FieldView) (p : PassState) (of : IsPassOf f p) (u : TxnState) (r :
         table = down.same.table ∙ table ∙ table_is ∙ of.of.table;
         shape = down.same.shape ∙ shape ∙ shape_is ∙ of.of.shape;
       };
-      stands = subst (λ (x : FieldView). Stands store x.origin q.view) (same ∙ field) down.stands;
+      stands = subst (λ (x : FieldView). StandsInField store x.origin q.view) (same ∙ field) down.stands;
     }
 
     down_shape : q.shape ≡ p.shape
@@ -146,24 +146,24 @@ module _ (f : FieldView) (p : PassState) (of : IsPassOf f p) (u : TxnState) (r :
 
   -- the front tells it
   pub commits_front : {R : Type 0} (did : List Act → R → Type 0) (reply : R) → did u.hand.acts reply → (q : PassState) → WasCommitted store u q
-      → CommitsFront did u.hand.tag reply (front_in p) (front_in q)
+      → Commits did u.hand.tag reply (front_in p) (front_in q)
   commits_front did reply did_it q c =
-      subst (λ (s : Shape). CommitsFront did u.hand.tag reply (front_in p) (front_of s q.view)) (sym (committed_ends q c).shape)
+      subst (λ (s : Shape). Commits did u.hand.tag reply (front_in p) (front_of s q.view)) (sym (committed_ends q c).shape)
       (decided_commits store p.shape p u.hand.tag run.start u run.begins run.later c.ready c.entry c.readies q c.answered c.commits did reply
       (subst (λ (acts : List Act). did acts reply) (sym (ap (λ (x : TxnState). x.hand.acts) c.readies.rest)) did_it))
 
-  stops_front : (q : PassState) → Stopped store u q → StopsFront u.hand.tag (front_in p) (front_in q)
+  stops_front : (q : PassState) → Stopped store u q → Stops u.hand.tag (front_in p) (front_in q)
   stops_front q s =
-      subst (λ (x : Shape). StopsFront u.hand.tag (front_in p) (front_of x q.view)) (sym (stopped_ends q s).shape)
+      subst (λ (x : Shape). Stops u.hand.tag (front_in p) (front_of x q.view)) (sym (stopped_ends q s).shape)
       (stopped_front store p.shape p u.hand.tag run.start u run.begins run.later q s)
 
-  aborts_front : (q : PassState) (shown : Shown) → WasAborted store u q shown → StopsFront u.hand.tag (front_in p) (front_in q)
+  aborts_front : (q : PassState) (shown : Shown) → WasAborted store u q shown → Stops u.hand.tag (front_in p) (front_in q)
   aborts_front q shown a =
-      subst (λ (x : Shape). StopsFront u.hand.tag (front_in p) (front_of x q.view))
+      subst (λ (x : Shape). Stops u.hand.tag (front_in p) (front_of x q.view))
       (sym (ready_ends a.ready a.entry a.readies q a.aborts.stopped.down).shape)
       (decided_stops store p.shape p u.hand.tag run.start u run.begins run.later a.ready a.entry a.readies q a.aborts)
 
-  pub lost_front : (q : PassState) (shown : Shown) → WasLost store u q shown → StopsFront u.hand.tag (front_in p) (front_in q)
+  pub lost_front : (q : PassState) (shown : Shown) → WasLost store u q shown → Stops u.hand.tag (front_in p) (front_in q)
   lost_front q shown = ⊎_elim (λ a. aborts_front q shown a) (λ s. stops_front q s.stopped)
 
   -- and a pass that holds all lanes loses none
@@ -187,7 +187,7 @@ module _ (f : FieldView) (p : PassState) (of : IsPassOf f p) (u : TxnState) (r :
         cause.others shown same (subst (λ (x : FieldView). HoldsAll x.origin.shape u.pass.view) (sym field)
         (holds_all f.origin.shape u.pass.view (lanes_are ∙ all)))
 
-  pub stopped_all : (q : PassState) → Stopped store u q → Ended q × StopsFront u.hand.tag (front_in p) (front_in q)
+  pub stopped_all : (q : PassState) → Stopped store u q → Ended q × Stops u.hand.tag (front_in p) (front_in q)
   stopped_all q s = (stopped_ends q s, stops_front q s)
 
 -- an attempt that wasn't begun
@@ -201,9 +201,9 @@ module _ (f : FieldView) (p q : PassState) (of : IsPassOf f p) (none : BeginsNot
     stands = none.stands;
   }
 
-  pub unbegun_front : (tag : ℕ) → StopsFront tag (front_in p) (front_in q)
+  pub unbegun_front : (tag : ℕ) → Stops tag (front_in p) (front_in q)
   unbegun_front tag =
-      subst (λ (x : Shape). StopsFront tag (front_in p) (front_of x q.view)) (sym unbegun_shape)
+      subst (λ (x : Shape). Stops tag (front_in p) (front_of x q.view)) (sym unbegun_shape)
       (refused_front store f.origin p.shape tag p q none)
 
   unbegun_same : begun_by q ≡ begun_by p
@@ -222,10 +222,10 @@ no_refusal : (r : Refusal) → (let o : Option Refusal = None in o ≡ Some r) �
 no_refusal r is = cc is
 
 -- one that was begun runs
-pub begun_runs : (p : PassState) (tag : ℕ) (t : TxnState) → Begins p tag t → IsGoing store t [] → IsRunning p t None
+pub begun_runs : (p : PassState) (tag : ℕ) (t : TxnState) → BeginsTransaction p tag t → IsGoing store t [] → IsRunning p t None
 begun_runs p tag t begins going = record {
   start = t;
-  begins = subst (λ (n : ℕ). Begins p n t) (sym (ap (λ (h : Hand). h.tag) begins.hand)) begins;
+  begins = subst (λ (n : ℕ). BeginsTransaction p n t) (sym (ap (λ (h : Hand). h.tag) begins.hand)) begins;
   later = (goes_self store t).later;
   going = ([], going);
   stop = begins.stop;
@@ -257,9 +257,9 @@ module _ (f : FieldView) (p : PassState) (of : IsPassOf f p) (tag : ℕ) (u : Tx
   begun_committed c = (committed_ends f p of u r x.running x.field q c).begun
 
   pub front_committed : {R : Type 0} (did : List Act → R → Type 0) (reply : R) → did u.hand.acts reply → WasCommitted store u q
-      → CommitsFront did tag reply (front_in p) (front_in q)
+      → Commits did tag reply (front_in p) (front_in q)
   front_committed did reply did_it c =
-      subst (λ (n : ℕ). CommitsFront did n reply (front_in p) (front_in q)) x.tagged (commits_front f p of u r x.running x.field did reply did_it q c)
+      subst (λ (n : ℕ). Commits did n reply (front_in p) (front_in q)) x.tagged (commits_front f p of u r x.running x.field did reply did_it q c)
 
   pub of_lost : (shown : Shown) → WasLost store u q shown → IsPassOf f q
   of_lost shown l = (lost_ends f p of u r x.running x.field q shown l).of_field
@@ -267,8 +267,8 @@ module _ (f : FieldView) (p : PassState) (of : IsPassOf f p) (tag : ℕ) (u : Tx
   pub begun_lost : (shown : Shown) → WasLost store u q shown → begun_by q ≡ begun_by p + 1
   begun_lost shown l = (lost_ends f p of u r x.running x.field q shown l).begun
 
-  pub front_lost : (shown : Shown) → WasLost store u q shown → StopsFront tag (front_in p) (front_in q)
-  front_lost shown l = subst (λ (n : ℕ). StopsFront n (front_in p) (front_in q)) x.tagged (lost_front f p of u r x.running x.field q shown l)
+  pub front_lost : (shown : Shown) → WasLost store u q shown → Stops tag (front_in p) (front_in q)
+  front_lost shown l = subst (λ (n : ℕ). Stops n (front_in p) (front_in q)) x.tagged (lost_front f p of u r x.running x.field q shown l)
 
   pub alone_lost : (shown : Shown) → WasLost store u q shown → p.view.lanes ≡ all_lanes f.origin.shape → IsNoConflict (Conflict shown)
   alone_lost shown l = lost_to f p of u r x.running x.field q shown l
@@ -279,11 +279,11 @@ module _ (f : FieldView) (p : PassState) (of : IsPassOf f p) (tag : ℕ) (u : Tx
   pub begun_stopped : Stopped store u q → begun_by q ≡ begun_by p + 1
   begun_stopped s = (stopped_all f p of u r x.running x.field q s).0.begun
 
-  pub front_stopped : Stopped store u q → StopsFront tag (front_in p) (front_in q)
-  front_stopped s = subst (λ (n : ℕ). StopsFront n (front_in p) (front_in q)) x.tagged (stopped_all f p of u r x.running x.field q s).1
+  pub front_stopped : Stopped store u q → Stops tag (front_in p) (front_in q)
+  front_stopped s = subst (λ (n : ℕ). Stops n (front_in p) (front_in q)) x.tagged (stopped_all f p of u r x.running x.field q s).1
 
 -- how many attempts were begun, of one that was stopped
-pub counted_if : (s : Stop) (old new : ℕ) → new ≡ old + 1 → IsStopCounted s old new
+pub counted_if : (s : Stop) (old new : ℕ) → new ≡ old + 1 → CountsStop s old new
 counted_if (Conflict shown) old new more = more
 counted_if (Limit limit) old new more = (omega (arith, more), omega (arith, more))
 counted_if NoMemory old new more = (omega (arith, more), omega (arith, more))

@@ -14,16 +14,16 @@ use Rattle.md_list_law.specs.Walk.{map_of_pairs}
 use Rattle.md_queue_law.specs.QueueValues.{queue_values}
 use Rattle.md_store_law.specs.Store.{state_of_store, store}
 use Rattle.md_store_law.proofs.EvenFields.{even_fields_are_stores}
-use Rattle.md_store.specs.Ending.{Leaves}
+use Rattle.md_store.specs.Ending.{EndsField}
 use Rattle.md_store_bodies.specs.Store.{front_in, start_of}
 
 -- a field that ended after a settling
 pub leaves_contents : (f : FieldView) (before settled last : PassState) (words : List ℕ) → SettlesFrom (start_of f) (front_in before) (front_in settled)
-    → LeavesReplay store f.origin settled.view words → last ≡ settled → Leaves f before words last
+    → LeavesReplay store f.origin settled.view words → last ≡ settled → EndsField f before words last
 leaves_contents f before settled last words settles left same =
     let m = opened (record { shape = f.origin.shape; words = words; placed = [] }) in
     let even = even_fields_are_stores m [] left.placed (record { field = left.field; even = left.even }) left.valid in
-    subst (Leaves f before words) (sym same) (record {
+    subst (EndsField f before words) (sym same) (record {
       settles = settles;
       store = even.0;
       contents = even.1 ∙ left.state;

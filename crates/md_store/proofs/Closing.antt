@@ -29,7 +29,7 @@ use Rattle.md_machine.proofs.Reached.{reached}
 use Rattle.md_machine.proofs.events.Attempts.{same_from, same_parts}
 use Rattle.md_machine.proofs.events.Leaves.{install_odd}
 use Rattle.md_machine.proofs.lists.Rising.{here, there}
-use Rattle.md_help.specs.After.{Stands}
+use Rattle.md_help.specs.After.{StandsInField}
 use Rattle.md_rule.specs.Admitted.{Admitted}
 use Rattle.md_rule.specs.Closing.{AreEven, MayClose}
 use Rattle.md_rule.specs.Views.{Origin}
@@ -95,7 +95,7 @@ stands_in i room even small held is =
 
 module _ (M : Meaning) (o : Origin) (p : PassView) (all : HoldsAll o.shape p) (settled : (lane : ℕ) → Contains p.lanes lane → IsSettled o.shape p lane) where
   -- every fate is known
-  all_known : Stands M o p → AllDecided p.known
+  all_known : StandsInField M o p → AllDecided p.known
   all_known st =
       let m = st.machine in
       let k = is_kept M o m st.admitted in
@@ -118,7 +118,7 @@ module _ (M : Meaning) (o : Origin) (p : PassView) (all : HoldsAll o.shape p) (s
       absurd (true≢false (sym (stands_in s.install x.room x.even (x.slot s.present).exists.1 (content m word) s.holds) ∙ k.clean pass p acts.at desc (own_desc m k pass p acts.at desc held) clean word counted)))
       (cases_Bool (is_even (count_of (content m word))))
 
-  pub may_close : Stands M o p → MayClose M o p
+  pub may_close : StandsInField M o p → MayClose M o p
   may_close st = record {
     all = all;
     decided = all_known st;

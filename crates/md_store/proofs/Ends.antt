@@ -12,7 +12,7 @@ use Rattle.md_history.specs.Calls.{Refusal}
 use Rattle.md_history.specs.Engine.{IsNoConflict}
 use Rattle.md_machine.specs.declared.attempt.Hand.{Hand}
 use Rattle.md_nbtc_law.specs.Ended.{WasCommitted, WasLost}
-use Rattle.md_nbtc_law.specs.Ending.{Begins, BeginsNot, Stopped}
+use Rattle.md_nbtc_law.specs.Ending.{BeginsTransaction, BeginsNot, Stopped}
 use Rattle.md_nbtc_law.specs.Going.{HasCause}
 use Rattle.md_nbtc_law.specs.State.{TxnState, own_node, shape_in, taken_since}
 use Rattle.md_rule.specs.Kept.{KeepsLanes}
@@ -31,7 +31,7 @@ pub record IsOn (f : FieldView) (tag : ℕ) (u : TxnState) : Type 0 where
   pub tagged : u.hand.tag ≡ tag
 
 pub is_on : (f g : FieldView) (p : PassState) (tag : ℕ) (u v w : TxnState) → u.field ≡ v.field → u.hand.tag ≡ v.hand.tag → v ≡ w → w.field ≡ g → g ≡ f
-    → Begins p tag w → IsOn f tag u
+    → BeginsTransaction p tag w → IsOn f tag u
 is_on f g p tag u v w field tagged same of is begins = record {
   field = field ∙ ap (λ (t : TxnState). t.field) same ∙ of ∙ is;
   tagged = tagged ∙ ap (λ (t : TxnState). t.hand.tag) same ∙ ap (λ (h : Hand). h.tag) begins.hand;
@@ -42,9 +42,11 @@ module _ {R : Type 0} (f : FieldView) (p : PassState) (of : IsPassOf f p) (tag :
   pub ends_unbegun : BeginsNot store p f.origin q → (limit : Limit) → limit ≡ Tries → NoLane p (HasTryLeft p)
       → IsAttempted f p q tag did makes (IsStopped (Limited limit))
   ends_unbegun none limit is no_lane = record {
-    committed = tt;
-    stopped = unbegun_front f p q of none tag;
-    legal = legal_of f q (unbegun_of f p q of none);
+    atomic = record {
+      committed = tt;
+      stopped = unbegun_front f p q of none tag;
+      legal = legal_of f q (unbegun_of f p q of none);
+    };
     of = unbegun_of f p q of none;
     begun = unbegun_counts f p q of none;
     cause = inl (ap Limited is, no_lane);
@@ -63,9 +65,11 @@ module _ {R : Type 0} (f : FieldView) (p : PassState) (of : IsPassOf f p) (tag :
         → IsAttempted f p q tag did makes (Committed reply)
     ends_committed running reply told was =
         let x = ran None running in record {
-          committed = front_committed f p of tag u None x q did reply told was;
-          stopped = tt;
-          legal = legal_of f q (of_committed f p of tag u None x q was);
+          atomic = record {
+            committed = front_committed f p of tag u None x q did reply told was;
+            stopped = tt;
+            legal = legal_of f q (of_committed f p of tag u None x q was);
+          };
           of = of_committed f p of tag u None x q was;
           begun = begun_committed f p of tag u None x q was;
           cause = tt;
@@ -79,9 +83,11 @@ module _ {R : Type 0} (f : FieldView) (p : PassState) (of : IsPassOf f p) (tag :
     pub ends_lost : IsRunning p u None → (shown : Shown) → WasLost store u q shown → IsAttempted f p q tag did makes (IsStopped (Conflict shown))
     ends_lost running shown lost =
         let x = ran None running in record {
-          committed = tt;
-          stopped = front_lost f p of tag u None x q shown lost;
-          legal = legal_of f q (of_lost f p of tag u None x q shown lost);
+          atomic = record {
+            committed = tt;
+            stopped = front_lost f p of tag u None x q shown lost;
+            legal = legal_of f q (of_lost f p of tag u None x q shown lost);
+          };
           of = of_lost f p of tag u None x q shown lost;
           begun = begun_lost f p of tag u None x q shown lost;
           cause = inr (inr (record { txn = u; field = on.field; running = running; shown = shown; same = refl; lost = lost }));
@@ -99,9 +105,11 @@ module _ {R : Type 0} (f : FieldView) (p : PassState) (of : IsPassOf f p) (tag :
         let running = off.broke.running in
         let same = off.broke.same in
         let x = ran (Some refusal) running in record {
-          committed = tt;
-          stopped = front_stopped f p of tag u (Some refusal) x q gone;
-          legal = legal_of f q (of_stopped f p of tag u (Some refusal) x q gone);
+          atomic = record {
+            committed = tt;
+            stopped = front_stopped f p of tag u (Some refusal) x q gone;
+            legal = legal_of f q (of_stopped f p of tag u (Some refusal) x q gone);
+          };
           of = of_stopped f p of tag u (Some refusal) x q gone;
           begun = counted_if why _ _ (begun_stopped f p of tag u (Some refusal) x q gone);
           cause = inr (inl (record {

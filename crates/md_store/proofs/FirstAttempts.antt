@@ -16,7 +16,7 @@ use Rattle.md_machine.proofs.lists.Rising.{map_in, range_in}
 use Rattle.md_rule.specs.Kept.{IsLeft, KeepsLanes}
 use Rattle.md_rule_lanes.specs.Shares.{share_at}
 use Rattle.md_rule.specs.Views.{FieldView, IsOf, PassState}
-use Rattle.md_nbtc_law.specs.Ending.{Begins}
+use Rattle.md_nbtc_law.specs.Ending.{BeginsTransaction}
 use Rattle.md_nbtc_law.specs.Going.{IsUnderWay, MeetsCount}
 use Rattle.md_nbtc_law.specs.Known.{IsLater}
 use Rattle.md_nbtc_law.specs.State.{OwnNode, TxnState, attempt_in, own_node, own_steps, shape_in, taken_of_lane, taken_since}
@@ -40,7 +40,7 @@ below_or_above shape lane node taken owns =
     (λ above. inr above)
     (cases_lt node (shape.base + lane * shape.nodes + taken + 1))
 
-module _ (f : FieldView) (p : PassState) (of : IsOf p f) (fresh : IsFresh p) (tag : ℕ) (start t : TxnState) (begins : Begins p tag start) (later : IsLater start t)
+module _ (f : FieldView) (p : PassState) (of : IsOf p f) (fresh : IsFresh p) (tag : ℕ) (start t : TxnState) (begins : BeginsTransaction p tag start) (later : IsLater start t)
     (under : IsUnderWay store t) (field : t.field ≡ f)
     -- its nodes are those that were taken, and the pass keeps its lanes
     (nodes : t.nodes ≡ map (own_node (shape_in t) t.pass) (taken_since t.began t.pass)) (keeps : KeepsLanes t.pass.shape t.pass.view t.pass.shares) where

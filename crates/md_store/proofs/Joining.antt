@@ -10,7 +10,7 @@ use Rattle.md_history.specs.Front.{IsPrefix, is_lane_of, of_lane}
 use Rattle.md_history.specs.FrontLaws.{lane_passes}
 use Rattle.md_machine.specs.declared.attempt.HistoryEntry.{HistoryEntry}
 use Rattle.md_machine.specs.declared.pass.PassView.{PassView}
-use Rattle.md_machine.specs.GoesOn.{GoesOn}
+use Rattle.md_machine.specs.GoesOn.{MachineGoesOn}
 use Rattle.md_machine.specs.Legal.{begun_of, front_of}
 use Rattle.md_machine.specs.Machine.{IsAt, IsLive, Machine, shape_of}
 use Rattle.md_machine.specs.Resolution.{entries_of}
@@ -79,7 +79,7 @@ module _ (m : Machine) (k : IsKept m) where
         ∙ ap (λ l. l ++ of_lane lane q.mine) ((k.mine i p at).outside lane (λ d. lanes_apart lane d c))
 
     -- the fronts of two passes that were joined
-    pub joins_fronts : (n : Machine) → GoesOn m n → IsAt n i both → IsLive p → IsLive q → Joins (front_of (shape_of m) p) (front_of (shape_of m) q) (front_of (shape_of m) both)
+    pub joins_fronts : (n : Machine) → MachineGoesOn m n → IsAt n i both → IsLive p → IsLive q → Joins (front_of (shape_of m) p) (front_of (shape_of m) q) (front_of (shape_of m) both)
     joins_fronts n on joined live live_q =
         let first = (k.fronts i p at).seen in
         let second = (k.fronts j q too).seen in record {

@@ -14,7 +14,7 @@ use Rattle.md_rule.proofs.LaneLists.{all_are_lanes}
 use Rattle.md_store_law.specs.Opens.{OpensWith}
 use Rattle.md_store_law.specs.Store.{state_of_store}
 use Rattle.md_store_law.proofs.EvenFields.{even_fields_are_stores}
-use Rattle.md_store_bodies.specs.Store.{IsFresh, IsPassOf, IsUnused, start_of}
+use Rattle.md_store_bodies.specs.Store.{IsFresh, IsPassOf, IsShareUnused, start_of}
 
 -- words with which a field may be opened have the state that they stand for
 pub opens_state : (shape : Shape) (words : List ℕ) (s : State) → OpensWith shape words s → state_of_store (plain_words shape words) ≡ s
@@ -45,14 +45,14 @@ module _ (f : FieldView) (p : PassState) (shape : Shape) (words : List ℕ) (s :
       };
     }
 
-    pub opened_fresh : ((lane : ℕ) → IsUnused (share_at p.shares lane)) → IsFresh p
+    pub opened_fresh : ((lane : ℕ) → IsShareUnused (share_at p.shares lane)) → IsFresh p
     opened_fresh unused = record {
       view = view ∙ ap first_pass (sym (of.shape ∙ ap (λ (x : Origin). x.shape) field));
       unused = unused;
     }
 
 -- of no lane anything was taken where each share is as at the opening
-pub share_is_unused : (s : Share) → s ≡ share_at [] 0 → IsUnused s
+pub share_is_unused : (s : Share) → s ≡ share_at [] 0 → IsShareUnused s
 share_is_unused s is = record {
   nodes = ap (λ (x : Share). x.nodes_taken) is;
   tries = ap (λ (x : Share). x.tries_taken) is;

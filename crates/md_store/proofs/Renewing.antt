@@ -11,14 +11,14 @@ use Rattle.md_rule.specs.Views.{FieldView, IsOf, Origin, PassState}
 use Rattle.md_store_law.specs.Untouched.{IsUntouched}
 use Rattle.md_store_law.specs.Compacted.{IsCompacted, MayHaveBase, contents_of}
 use Rattle.md_store_law.specs.Field.{logical_words}
-use Rattle.md_store.specs.Ending.{Leaves, Renews}
-use Rattle.md_store_bodies.specs.Store.{IsPassOf, IsUnused, all_lanes, front_in, limits_of, room_of, start_of}
+use Rattle.md_store.specs.Ending.{EndsField, Renews}
+use Rattle.md_store_bodies.specs.Store.{IsPassOf, IsShareUnused, all_lanes, front_in, limits_of, room_of, start_of}
 use Rattle.md_store.proofs.Closed.{same_numbers}
 use Rattle.md_store_bodies.specs.Laws.{fresh_is}
 use Rattle.md_store.proofs.Opening.{opened_fresh, opened_of, start_is}
 use Rattle.md_store.proofs.Rooms.{room_fits, same_lanes, same_limits}
 
-module _ (f : FieldView) (before last : PassState) (words : List ℕ) (left : Leaves f before words last) where
+module _ (f : FieldView) (before last : PassState) (words : List ℕ) (left : EndsField f before words last) where
   -- the contents that are left have room
   pub has_base : HasRoom (start_of f) (room_of f.origin.shape) (front_in before) → MayHaveBase f.origin.shape (needed (contents_of f.origin.shape words))
   has_base room = room_fits f.origin.shape (needed (contents_of f.origin.shape words))
@@ -29,7 +29,7 @@ module _ (f : FieldView) (before last : PassState) (words : List ℕ) (left : Le
   left_numbers = same_numbers (logical_words f.origin.shape words) (plain_words f.origin.shape f.origin.words) refl
 
   module _ (fresh : Shape) (row : List ℕ) (c : IsCompacted f.origin.shape words fresh row) (g : FieldView) (first : PassState) (field : g.origin ≡ record { shape = fresh; words = row })
-      (of : IsOf first g) (view : first.view ≡ first_pass fresh) (unused : (lane : ℕ) → IsUnused (share_at first.shares lane)) where
+      (of : IsOf first g) (view : first.view ≡ first_pass fresh) (unused : (lane : ℕ) → IsShareUnused (share_at first.shares lane)) where
     start : start_of g ≡ contents_of f.origin.shape words
     start = start_is g first fresh row (contents_of f.origin.shape words) field c.opens
 

@@ -22,7 +22,7 @@ use Rattle.md_machine.specs.Trail.{EveryStepOf, Meets, SomeStep}
 use Rattle.md_machine.specs.events.Start.{IsClean, knows_decided}
 use Rattle.md_machine.proofs.events.Attempts.{attempt_same, ready_in}
 use Rattle.md_machine.proofs.fates.Decidedness.{knows_on, more_stay}
-use Rattle.md_help.specs.After.{IsAfter, Stands}
+use Rattle.md_help.specs.After.{IsAfter, StandsInField}
 use Rattle.md_help.proofs.Steps.{trail_after}
 use Rattle.md_rule.specs.Kept.{KeepsLane}
 use Rattle.md_rule.specs.Views.{Origin}
@@ -86,9 +86,9 @@ module _ (m : Machine) (k : IsKept m) (pass : ℕ) (p : PassView) (at : IsAt m p
       ∙ subst (λ a. was_begun m.begun a ≡ false) (same ∙ sym e.2) (unbegun m k pass p at lane held share kept none))))
 
 -- a lane whose last transaction was taken out, and whose status was found decided then
-pub settled_ended : (M : Meaning) (o : Origin) (desc : ℕ) → desc < desc_count o.shape → (p q r : PassView) → Contains p.lanes desc → HasDesc o.shape p desc → p.hand ≡ None → Stands M o p
+pub settled_ended : (M : Meaning) (o : Origin) (desc : ℕ) → desc < desc_count o.shape → (p q r : PassView) → Contains p.lanes desc → HasDesc o.shape p desc → p.hand ≡ None → StandsInField M o p
     → (tries : ℕ) → EveryStepOf p (λ s. (held : ℕ) → Meets (address o.shape (desc_status desc)) held s → (serial_of held ≡ 0) ⊎ (serial_of held < tries)) → 1 ≤ tries
-    → Empties o.shape desc p q → (status : ℕ) → FindsDecided o.shape desc status q r → Stands M o r → IsSettled o.shape r desc
+    → Empties o.shape desc p q → (status : ℕ) → FindsDecided o.shape desc status q r → StandsInField M o r → IsSettled o.shape r desc
 settled_ended M o desc exists p q r held own idle stands tries serials some e status f after =
     let behind = e.empty tries (behind_of M o desc exists p tries stands own serials some) in
     let word = address o.shape (desc_status desc) in

@@ -8,7 +8,7 @@ use Rattle.md_words.proofs.Owners.{one_desc}
 use Rattle.md_machine.specs.declared.pass.PassView.{PassView}
 use Rattle.md_machine.specs.Machine.{shape_of}
 use Rattle.md_machine.specs.Own.{HasDesc}
-use Rattle.md_help.specs.After.{Stands}
+use Rattle.md_help.specs.After.{StandsInField}
 use Rattle.md_help.proofs.Steps.{both_after, none_after}
 use Rattle.md_rule.specs.Kept.{KeepsLane, KeepsLanes}
 use Rattle.md_rule.specs.Lanes.{AreLanes}
@@ -19,12 +19,12 @@ use Rattle.md_rule.proofs.Moves.{is_kept}
 use Rattle.md_nbtc_law.specs.Beginning.{Empties, FindsDecided, HasAttempt}
 use Rattle.md_nbtc_law.proofs.beginning.Starting.{own_still}
 use Rattle.md_store_law.specs.Store.{store}
-use Rattle.md_store.specs.Settling.{IsSettled, Settles, SettlesFirst}
+use Rattle.md_store.specs.Settling.{IsSettled, SettlesDescriptor, SettlesFirst}
 use Rattle.md_store_bodies.specs.Store.{IsPassOf}
 use Rattle.md_store.proofs.Settled.{settled_ended, settled_still, settled_unused}
 
 -- a pass that stands somewhere knows a fate for each entry that it has seen
-pub stands_fated : (f : FieldView) (p : PassView) → Stands store f.origin p → length p.known ≡ length p.seen
+pub stands_fated : (f : FieldView) (p : PassView) → StandsInField store f.origin p → length p.known ≡ length p.seen
 stands_fated f p st = ((is_kept store f.origin st.machine st.admitted).fronts st.pass p st.acts.at).fated
 
 module _ (f : FieldView) (p : PassState) (h : IsPassOf f p) (lanes : AreLanes p.shape p.view.lanes) (kept : KeepsLanes p.shape p.view p.shares) (lane : ℕ) (held : Contains p.view.lanes lane) where
@@ -52,7 +52,7 @@ module _ (f : FieldView) (p : PassState) (h : IsPassOf f p) (lanes : AreLanes p.
   own_after q e = own_still store f.origin lane lane_inside e.steps p.view q e.goes own_in_field
 
   -- a lane that has begun none is settled
-  pub settles_none : (share_at p.shares lane).tries_taken ≡ 0 → Settles f.origin.shape lane p.view p.view
+  pub settles_none : (share_at p.shares lane).tries_taken ≡ 0 → SettlesDescriptor f.origin.shape lane p.view p.view
   settles_none none =
       let st = h.stands in
       let shape : shape_of st.machine ≡ p.shape = st.admitted.shape ∙ sym h.of.shape in record {
@@ -65,7 +65,7 @@ module _ (f : FieldView) (p : PassState) (h : IsPassOf f p) (lanes : AreLanes p.
 
   -- one that has is settled once it is emptied and its status is decided
   pub settles_lane : 1 ≤ (share_at p.shares lane).tries_taken → (q r : PassView) → p.view.hand ≡ None → Empties f.origin.shape lane p.view q
-      → (status : ℕ) → FindsDecided f.origin.shape lane status q r → Stands store f.origin r → Settles f.origin.shape lane p.view r
+      → (status : ℕ) → FindsDecided f.origin.shape lane status q r → StandsInField store f.origin r → SettlesDescriptor f.origin.shape lane p.view r
   settles_lane some q r idle e status d after =
       let share : KeepsLane f.origin.shape p.view (share_at p.shares lane) lane = subst (λ (s : Shape). KeepsLane s p.view (share_at p.shares lane) lane) h.of.shape (kept lane held) in record {
         steps = e.steps ++ (d.steps ++ d.step ∷ []);
@@ -78,7 +78,7 @@ pub settles_first : (shape : Shape) (p : PassView) → SettlesFirst shape 0 p p
 settles_first shape p = record { steps = []; goes = none_after shape p; settled = λ place less. absurd (omega (arith, less)) }
 
 pub settles_next : (f : FieldView) (count : ℕ) (p q r : PassView) → p.hand ≡ None → SettlesFirst f.origin.shape count p q
-    → Settles f.origin.shape (slice_index p.lanes count) q r → Stands store f.origin r → SettlesFirst f.origin.shape (count + 1) p r
+    → SettlesDescriptor f.origin.shape (slice_index p.lanes count) q r → StandsInField store f.origin r → SettlesFirst f.origin.shape (count + 1) p r
 settles_next f count p q r idle s n stands = record {
   steps = s.steps ++ n.steps;
   goes = both_after f.origin.shape s.steps n.steps p q r s.goes n.goes;

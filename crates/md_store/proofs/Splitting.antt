@@ -1,10 +1,10 @@
 -- A pass is split: what each half has seen and has, and that both are passes of the store.
-use Rattle.std.proofs.Common.{◌≡◌, ◌+◌, ◌-◌, ◌/◌, ◌≤◌, ℕ, true, false, List, [], ◌∷◌, Option, Some, None, IfNone, IfSome, length, filter, map, cond, option_map, unwrap_or, refl, sym, ap, subst, arith}
+use Rattle.std.proofs.Common.{◌≡◌, ◌+◌, ◌-◌, ◌/◌, ◌≤◌, ℕ, true, false, List, [], ◌∷◌, Option, Some, None, IfNone, IfSome, length, filter, map, cond, refl, sym, ap, subst, arith}
 use Rattle.std.proofs.lemmas.List.{length-drop, length-take}
 use Rattle.std.proofs.lemmas.List.Sums.{sum_by-take-drop}
 use Rattle.md_words.specs.declared.shape.Shape.{Shape}
 use Rattle.md_words.specs.Lanes.{lane_of_desc}
-use Rattle.md_history.specs.Engine.{AreApart, IsPartOf, Splits}
+use Rattle.md_history.specs.Engine.{AreApart, IsPartOf, IsSplit, Splits}
 use Rattle.md_history.specs.Front.{Begun, is_lane_of}
 use Rattle.md_machine.specs.declared.attempt.AttemptId.{AttemptId}
 use Rattle.md_machine.specs.declared.pass.PassView.{PassView}
@@ -127,31 +127,26 @@ split_so f old new other h halved t =
     (subst (λ (x : PassState). SplitInto store f.origin old.view x.view other.view) halved.kept t))))
 
 -- what a call that splits a pass answers
-abbrev pub TellsSplit : (f : FieldView) (old new : PassState) → Option PassState → Type 0
-TellsSplit f old new (Some other) = SplitSo f old new other
-TellsSplit f old new None = new ≡ old
-
-pub tells_split : (f : FieldView) (old new : PassState) → IsPassOf f old → (result : Option PassState)
+pub is_split : (f : FieldView) (old new : PassState) → IsPassOf f old → (result : Option PassState)
     → IfSome result (λ p. (2 ≤ length old.view.lanes) × (new ≡ record old { view = kept_part old.shape old.view }) × (p ≡ record old { view = given_part old.shape old.view }))
     → IfSome result (λ p. SplitInto store f.origin old.view new.view p.view)
-    → IfNone result ((length old.view.lanes ≡ 1) × (new ≡ old)) → TellsSplit f old new result
-tells_split f old new h (Some other) is step none = split_so f old new other h (record { two = is.0; kept = is.1; given = is.2 }) step
-tells_split f old new h None is step none = none.1
-
-pub split_fronts : (f : FieldView) (old new : PassState) (result : Option PassState) → TellsSplit f old new result
-    → IfSome result (λ other. Splits (front_in old) (front_in new) (front_in other))
-split_fronts f old new (Some other) so = so.fronts
-split_fronts f old new None same = tt
-
-pub split_begun : (f : FieldView) (old new : PassState) (result : Option PassState) → TellsSplit f old new result
-    → begun_by old ≡ begun_by new + unwrap_or (option_map begun_by result) 0
-split_begun f old new (Some other) so = so.begun
-split_begun f old new None same = let count = ap begun_by same in omega (arith, count)
-
-pub split_of : (f : FieldView) (old new : PassState) → IsPassOf f old → (result : Option PassState) → TellsSplit f old new result → IsPassOf f new
-split_of f old new h (Some other) so = so.of
-split_of f old new h None same = subst (IsPassOf f) (sym same) h
-
-pub split_of_other : (f : FieldView) (old new : PassState) (result : Option PassState) → TellsSplit f old new result → IfSome result (IsPassOf f)
-split_of_other f old new (Some other) so = so.of_other
-split_of_other f old new None same = tt
+    → IfNone result ((length old.view.lanes ≡ 1) × (new ≡ old)) → IsSplit front_in begun_by (IsPassOf f) old new result
+is_split f old new h (Some other) is step none =
+    let so = split_so f old new other h (record { two = is.0; kept = is.1; given = is.2 }) step in
+    let two = is.0 in record {
+      none = (λ e. absurd (cc e), λ one. absurd (omega (arith, two, one)));
+      same = tt;
+      split = so.fronts;
+      begun = so.begun;
+      of = so.of;
+      of_other = so.of_other;
+    }
+is_split f old new h None is step none =
+    let count = ap begun_by none.1 in record {
+      none = (λ _. none.0, λ _. refl);
+      same = ap front_in none.1;
+      split = tt;
+      begun = omega (arith, count);
+      of = subst (IsPassOf f) (sym none.1) h;
+      of_other = tt;
+    }

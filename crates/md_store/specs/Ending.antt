@@ -9,8 +9,9 @@ use Rattle.md_store_law.specs.Field.{IsStoreField}
 use Rattle.md_store_law.specs.Untouched.{IsUntouched}
 use Rattle.md_store_bodies.specs.Store.{IsFresh, IsPassOf, all_lanes, begun_by, front_in, limits_of, start_of}
 
--- the words of a store that holds the replay of the front of its last pass, which settles that of the pass before
-pub record Leaves (f : FieldView) (before : PassState) (words : List ℕ) (last : PassState) : Type 0 where
+-- a field ended with these words: they are a store that holds the replay of the front of its last pass, which settles that
+-- of the pass before
+pub record EndsField (f : FieldView) (before : PassState) (words : List ℕ) (last : PassState) : Type 0 where
   pub settles : SettlesFrom (start_of f) (front_in before) (front_in last)
   pub store : IsStoreField f.origin.shape words
   pub contents : contents_of f.origin.shape words ≡ replay_of (start_of f) (front_in last)

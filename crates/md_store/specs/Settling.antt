@@ -16,7 +16,7 @@ pub record IsSettled (shape : Shape) (view : PassView) (desc : ℕ) : Type 0 whe
   pub known : (e : HistoryEntry) → Contains view.seen e → e.attempt.desc ≡ desc → knows_decided view.seen view.known e.attempt ≡ true
 
 -- by its steps a pass settled a descriptor
-pub record Settles (shape : Shape) (desc : ℕ) (before after : PassView) : Type 0 where
+pub record SettlesDescriptor (shape : Shape) (desc : ℕ) (before after : PassView) : Type 0 where
   pub steps : List Step
   pub goes : IsAfter shape steps before after
   pub settled : IsSettled shape after desc

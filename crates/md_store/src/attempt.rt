@@ -1,15 +1,7 @@
 //! Attempts: a body that is run once, as a transaction of the store.
 
-ghost use Rattle.std.specs.Prelude.{◌≡◌, ◌≤◌};
-ghost use Rattle.md_history.specs.Attempt.{Commits, IfCommitted, IfStopped, IsCounted, Stops};
-ghost use Rattle.md_history.specs.Counts.{IsSmall};
-ghost use Rattle.md_history.specs.Engine.{IsNoConflict, bounds_in};
-ghost use Rattle.md_history.specs.Front.{LegalFrom};
 ghost use Rattle.md_store.specs.Attempted.{IsAttempted};
-ghost use Rattle.md_store.specs.Causes.{StopsBy};
-ghost use Rattle.md_store_bodies.specs.Store.{IsFresh, IsPassOf, IsUnworn, MayStop};
-ghost use Rattle.md_store_bodies.specs.Store.{all_lanes, begun_by, front_in, limits_of, start_of};
-ghost use Rattle.md_store_law.specs.Untouched.{IsUntouched};
+ghost use Rattle.md_store_bodies.specs.Store.{IsPassOf};
 
 use crate::pass::StorePass;
 use crate::store::Store;
@@ -38,23 +30,8 @@ impl Store {
     pub fn attempt<B: Body>(&self, pass: &mut StorePass, tag: u64, body: &B) -> Attempt<B::Reply>
         requires of { IsPassOf self.now pass.old }
         requires fits { B.fits body.now self.now.origin.shape.maps self.now.origin.shape.queues }
-        ensures committed { IfCommitted result (λ r.
-            Commits (B.did body.now) tag r (front_in pass.old) (front_in pass.new)) }
-        ensures stopped { IfStopped result (λ _. Stops tag (front_in pass.old) (front_in pass.new)) }
-        ensures legal { LegalFrom (start_of self.now) (front_in pass.new) }
-        ensures of { IsPassOf self.now pass.new }
-        ensures begun { IsCounted result (begun_by pass.old) (begun_by pass.new) }
-        ensures cause { IfStopped result (StopsBy self.now pass.old pass.new) }
-        ensures may_stop { IfStopped result MayStop }
-        ensures alone { (front_in pass.old).lanes ≡ all_lanes self.now.origin.shape
-            → IfStopped result IsNoConflict }
-        ensures unworn { IsFresh pass.old → IsUntouched self.now.origin.shape self.now.origin.words
-            → IfStopped result IsUnworn }
-        ensures small { IsFresh pass.old → IsUntouched self.now.origin.shape self.now.origin.words
-            → 1 ≤ (limits_of self.now.origin.shape).tries
-            → IsSmall (bounds_in (limits_of self.now.origin.shape)) (B.makes body.now)
-            (start_of self.now)
-            → IfStopped result (λ _. ⊥) }
+        ensures { IsAttempted self.now pass.old pass.new tag (B.did body.now) (B.makes body.now)
+            result }
     {
         self.attempt_in(&mut pass.pass, &mut pass.sets, tag, body)
     }

@@ -1,11 +1,11 @@
 //! The end of a field of a store: what it contains, whole or in part, as contents or as a new field.
 
 ghost use Rattle.std.specs.Prelude.{◌≡◌, IfOk};
-ghost use Rattle.md_history.specs.Engine.{HasRoom, SettlesFrom};
+ghost use Rattle.md_history.specs.Engine.{HasEnded, HasRoom, SettlesFrom};
 ghost use Rattle.md_history.specs.Front.{replay_of};
 ghost use Rattle.md_history.specs.State.{HaveSameNumbers};
 ghost use Rattle.md_store_law.specs.MapsFrom.{MapsFrom};
-ghost use Rattle.md_store.specs.Ending.{Leaves, Renews};
+ghost use Rattle.md_store.specs.Ending.{EndsField, Renews};
 ghost use Rattle.md_store_bodies.specs.Store.{IsPassOf, all_lanes, front_in, room_of, start_of};
 
 use crate::pass::StorePass;
@@ -35,7 +35,7 @@ impl FieldWords for EndedWords {
 fn ended(field: Field<StoreTheory>, mut pass: StorePass) -> (EndedWords, Front<StorePass>)
     requires of { IsPassOf field pass }
     requires all { (front_in pass).lanes ≡ all_lanes field.origin.shape }
-    ensures { Leaves field pass result.0.field.words result.1 }
+    ensures { EndsField field pass result.0.field.words result.1 }
 {
     settle(&field, &mut pass.pass);
     let front = Front::of(&pass);
@@ -54,10 +54,7 @@ pub(crate) fn contents(
 ) -> Result<(Contents, Front<StorePass>), AllocError>
     requires of { IsPassOf field pass }
     requires all { (front_in pass).lanes ≡ all_lanes field.origin.shape }
-    ensures settled { IfOk result (λ r.
-        SettlesFrom (start_of field) (front_in pass) (front_in r.1)) }
-    ensures contents { IfOk result (λ r. r.0 ≡ replay_of (start_of field) (front_in r.1)) }
-    ensures numbers { IfOk result (λ r. HaveSameNumbers r.0 (start_of field)) }
+    ensures { IfOk result (λ r. HasEnded (start_of field) (front_in pass) (front_in r.1) r.0) }
 {
     let shape = *field.shape();
     let (words, front) = ended(field, pass);

@@ -1,8 +1,7 @@
 //! What a store does as an engine, beside attempts. Each call has the clauses of `Engine`.
 
-ghost use Rattle.std.specs.Prelude.{◌≡◌, ◌+◌, ◌↔◌, IfNone, IfOk, IfSome, IsNone, IsTrue, length};
-ghost use Rattle.std.specs.Prelude.{option_map, unwrap_or};
-ghost use Rattle.md_history.specs.Engine.{HasRoom, Joins, SettlesFrom, Splits};
+ghost use Rattle.std.specs.Prelude.{◌≡◌, ◌+◌, ◌↔◌, IfOk, IsTrue};
+ghost use Rattle.md_history.specs.Engine.{HasEnded, HasRoom, IsSplit, Joins, SettlesFrom};
 ghost use Rattle.md_history.specs.Front.{replay_of};
 ghost use Rattle.md_history.specs.State.{HaveSameNumbers};
 ghost use Rattle.md_rule.specs.Closing.{MayClose};
@@ -31,14 +30,7 @@ impl Store {
     /// one has. `None` exactly if the pass holds one lane. Two steps, or none; it takes no memory.
     pub fn split(&self, pass: &mut StorePass) -> Option<StorePass>
         requires { IsPassOf self.now pass.old }
-        ensures none { IsNone result ↔ (length (front_in pass.old).lanes ≡ 1) }
-        ensures same { IfNone result (front_in pass.new ≡ front_in pass.old) }
-        ensures split { IfSome result (λ other.
-            Splits (front_in pass.old) (front_in pass.new) (front_in other)) }
-        ensures begun { begun_by pass.old
-            ≡ begun_by pass.new + unwrap_or (option_map begun_by result) 0 }
-        ensures of { IsPassOf self.now pass.new }
-        ensures of_other { IfSome result (λ other. IsPassOf self.now other) }
+        ensures { IsSplit front_in begun_by (IsPassOf self.now) pass.old pass.new result }
     {
         let other = moves::split(&self.field, &mut pass.pass)?;
         Some(StorePass::of(other))
@@ -82,10 +74,8 @@ impl Store {
     pub fn close(self, pass: StorePass) -> Result<(Contents, Front<StorePass>), AllocError>
         requires of { IsPassOf self pass }
         requires all { (front_in pass).lanes ≡ all_lanes self.origin.shape }
-        ensures settled { IfOk result (λ r.
-            SettlesFrom (start_of self) (front_in pass) (front_in r.1)) }
-        ensures contents { IfOk result (λ r. r.0 ≡ replay_of (start_of self) (front_in r.1)) }
-        ensures numbers { IfOk result (λ r. HaveSameNumbers r.0 (start_of self)) }
+        ensures { IfOk result (λ r.
+            HasEnded (start_of self) (front_in pass) (front_in r.1) r.0) }
     {
         let Store { field, alloc } = self;
         ending::contents(field, alloc, pass)

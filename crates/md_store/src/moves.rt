@@ -1,8 +1,7 @@
 //! How passes are split and joined.
 
-ghost use Rattle.std.specs.Prelude.{◌≡◌, ◌+◌, ◌↔◌, IfNone, IfSome, IsNone, length};
-ghost use Rattle.std.specs.Prelude.{option_map, unwrap_or};
-ghost use Rattle.md_history.specs.Engine.{Joins, Splits};
+ghost use Rattle.std.specs.Prelude.{◌≡◌, ◌+◌};
+ghost use Rattle.md_history.specs.Engine.{IsSplit, Joins};
 ghost use Rattle.md_rule.specs.Lanes.{AreLanes};
 ghost use Rattle.md_store_bodies.specs.Store.{IsPassOf, begun_by, front_in};
 
@@ -15,14 +14,7 @@ pub(crate) fn split(
     pass: &mut Pass<StoreTheory>,
 ) -> Option<Pass<StoreTheory>>
     requires { IsPassOf field.now pass.old }
-    ensures none { IsNone result ↔ (length (front_in pass.old).lanes ≡ 1) }
-    ensures same { IfNone result (front_in pass.new ≡ front_in pass.old) }
-    ensures split { IfSome result (λ other.
-        Splits (front_in pass.old) (front_in pass.new) (front_in other)) }
-    ensures begun { begun_by pass.old
-        ≡ begun_by pass.new + unwrap_or (option_map begun_by result) 0 }
-    ensures of { IsPassOf field.now pass.new }
-    ensures of_other { IfSome result (λ other. IsPassOf field.now other) }
+    ensures { IsSplit front_in begun_by (IsPassOf field.now) pass.old pass.new result }
 {
     pass.split(field)
 }

@@ -7,7 +7,7 @@ ghost use Rattle.md_rule.specs.Closing.{MayClose};
 ghost use Rattle.md_rule.specs.Kept.{KeepsLanes};
 ghost use Rattle.md_rule.specs.Lanes.{AreLanes};
 ghost use Rattle.md_store_law.specs.Store.{store};
-ghost use Rattle.md_store.specs.Settling.{Settles, SettlesFirst};
+ghost use Rattle.md_store.specs.Settling.{SettlesDescriptor, SettlesFirst};
 ghost use Rattle.md_store_bodies.specs.Store.{IsPassOf, all_lanes, front_in, start_of};
 
 use md_nbtc::{decided_status, take_left_out};
@@ -49,7 +49,7 @@ fn settle_lane(field: &Field<StoreTheory>, pass: &mut Pass<StoreTheory>, lane: u
     requires lane { Contains pass.old.view.lanes lane }
     ensures of { IsPassOf field.now pass.new }
     ensures same { pass.new ≡ record pass.old { view = pass.new.view } }
-    ensures settles { Settles field.now.origin.shape lane pass.old.view pass.new.view }
+    ensures settles { SettlesDescriptor field.now.origin.shape lane pass.old.view pass.new.view }
 {
     kept(pass);
     if pass.tries_taken(lane) == 0 {

@@ -26,7 +26,7 @@ use Rattle.md_rule.specs.Views.{FieldView}
 use Rattle.md_store_law.specs.Store.{store}
 use Rattle.md_store_counts.specs.Few.{AllCharged, IsCharged, RecordsOne, TidyCharged, again, passes, placed, placed_nexts, recorded, recorded_by, recorded_words, words_of_changes}
 use Rattle.md_store_counts.proofs.Appending.{charged_more}
-use Rattle.md_store_bodies.specs.Counted.{IsCounted}
+use Rattle.md_store_bodies.specs.Counted.{HasCountedCertificates}
 
 -- a word that some change names is one of theirs
 pub any_named : (changes : List Change) (word : ℕ) → list_any (λ (x : Change). x.word == word) changes ≡ true → Contains (words_of_changes changes) word
@@ -66,7 +66,7 @@ module _ (u : TxnState) (cs : List Certificate) (reads : (r : Read) → Contains
   queue_charged earlier (c ∷ ts) all = (queue_one earlier c all.0, queue_charged (earlier ++ c.change ∷ []) ts all.1)
 
 -- one more certificate records what was recorded since, and places the nodes that were taken since
-module _ (t u : TxnState) (cs : List Certificate) (counted : IsCounted t cs) (c : Certificate)
+module _ (t u : TxnState) (cs : List Certificate) (counted : HasCountedCertificates t cs) (c : Certificate)
     (among : (r : Read) → Contains u.reads r → Contains t.reads r ⊎ Contains (recorded_by c) r.word) where
   pub reads_more : (r : Read) → Contains u.reads r → Contains (recorded_words (cs ++ c ∷ [])) r.word
   reads_more r is = subst (λ l. Contains l r.word) (sym (flat_map-append recorded_by cs (c ∷ [])))
@@ -90,7 +90,7 @@ module _ (t u : TxnState) (cs : List Certificate) (counted : IsCounted t cs) (c 
 
   -- so all are counted once the operation has ended
   pub counted_more : (v : TxnState) → IsGoing store v (cs ++ c ∷ []) → v.reads ≡ u.reads → shape_in v ≡ shape_in t → RecordsOne c
-      → TidyCharged (shape_in t) (cs ++ c ∷ []) (all_changes cs) c.tidy → IsCounted v (cs ++ c ∷ [])
+      → TidyCharged (shape_in t) (cs ++ c ∷ []) (all_changes cs) c.tidy → HasCountedCertificates v (cs ++ c ∷ [])
   counted_more v going reads shape few charged = record {
     going = going;
     few = all_push RecordsOne cs c counted.few few;
@@ -99,7 +99,7 @@ module _ (t u : TxnState) (cs : List Certificate) (counted : IsCounted t cs) (c 
   }
 
 -- what was counted is so still, at a later state with the same reads
-pub counted_at : (s x : TxnState) (cs : List Certificate) → IsCounted s cs → IsGoing store x cs → IsLater s x → x.reads ≡ s.reads → IsCounted x cs
+pub counted_at : (s x : TxnState) (cs : List Certificate) → HasCountedCertificates s cs → IsGoing store x cs → IsLater s x → x.reads ≡ s.reads → HasCountedCertificates x cs
 counted_at s x cs counted going later reads = record {
   going = going;
   few = counted.few;
@@ -107,5 +107,5 @@ counted_at s x cs counted going later reads = record {
   reads = λ r among. counted.reads r (subst (λ l. Contains l r) reads among);
 }
 
-pub counted_later : (s x : TxnState) (cs : List Certificate) → IsCounted s cs → GoesOn store s x → x.reads ≡ s.reads → IsCounted x cs
+pub counted_later : (s x : TxnState) (cs : List Certificate) → HasCountedCertificates s cs → GoesOn store s x → x.reads ≡ s.reads → HasCountedCertificates x cs
 counted_later s x cs counted on reads = counted_at s x cs counted (on.going cs counted.going) on.later reads

@@ -17,7 +17,7 @@ use Rattle.md_machine.specs.LogicalHeap.{LogicalHeap}
 use Rattle.md_machine.proofs.lists.Differ.{pairs_append}
 use Rattle.md_machine.proofs.lists.Rising.{in_cons, in_map, in_none}
 use Rattle.md_rule.specs.Views.{FieldView}
-use Rattle.md_store_counts.specs.Few.{AllCharged, RecordsOne, StandFrom, acts_of, changed_words, recorded_words}
+use Rattle.md_store_counts.specs.Few.{AllCharged, RecordsOne, StandFrom, certificate_acts, changed_words, recorded_words}
 use Rattle.md_store_counts.proofs.Fronts.{recorded_are_few}
 use Rattle.md_store_counts.proofs.Writing.{written_are_few}
 use Rattle.md_store_bodies.specs.Counted.{Exceeds}
@@ -46,7 +46,7 @@ right_last : (s : State) (acts : List Act) (a : Act) → IsRight s (acts ++ a �
 right_last s [] a right = right.0
 right_last s (b ∷ acts) a right = right_last (after s b.op) acts a right.1
 
-acts_push : (cs : List Certificate) (c : Certificate) → acts_of (cs ++ c ∷ []) ≡ acts_of cs ++ act_of c.op c.reply ∷ []
+acts_push : (cs : List Certificate) (c : Certificate) → certificate_acts (cs ++ c ∷ []) ≡ certificate_acts cs ++ act_of c.op c.reply ∷ []
 acts_push cs c = map-append (λ (x : Certificate). act_of x.op x.reply) cs (c ∷ [])
 
 -- different words and another one are different, and one more
@@ -90,23 +90,23 @@ module _ (f : FieldView) (acts : List Act) (right : IsRight (start_of f) acts) (
   more_nodes most = exceeds (λ few. let is = few.2 in absurd (omega (arith, most, is)))
 
 -- a certificate that stands after others tells what its operation answers
-module _ (f : FieldView) (cs : List Certificate) (c : Certificate) (right : IsRight (start_of f) (acts_of (cs ++ c ∷ []))) where
-  pub replies : c.reply ≡ answer (run (start_of f) (acts_of cs)) c.op
-  replies = right_last (start_of f) (acts_of cs) (act_of c.op c.reply) (subst (IsRight (start_of f)) (acts_push cs c) right)
+module _ (f : FieldView) (cs : List Certificate) (c : Certificate) (right : IsRight (start_of f) (certificate_acts (cs ++ c ∷ []))) where
+  pub replies : c.reply ≡ answer (run (start_of f) (certificate_acts cs)) c.op
+  replies = right_last (start_of f) (certificate_acts cs) (act_of c.op c.reply) (subst (IsRight (start_of f)) (acts_push cs c) right)
 
-  pub asked_is : acts_of (cs ++ c ∷ []) ≡ acts_of cs ++ act_of c.op (answer (run (start_of f) (acts_of cs)) c.op) ∷ []
-  asked_is = acts_push cs c ∙ ap (λ reply. acts_of cs ++ act_of c.op reply ∷ []) replies
+  pub asked_is : certificate_acts (cs ++ c ∷ []) ≡ certificate_acts cs ++ act_of c.op (answer (run (start_of f) (certificate_acts cs)) c.op) ∷ []
+  asked_is = acts_push cs c ∙ ap (λ reply. certificate_acts cs ++ act_of c.op reply ∷ []) replies
 
-  module _ (before : IsRight (start_of f) (acts_of cs)) (h : LogicalHeap) (stand : StandFrom h (cs ++ c ∷ [])) (few : All RecordsOne (cs ++ c ∷ []))
+  module _ (before : IsRight (start_of f) (certificate_acts cs)) (h : LogicalHeap) (stand : StandFrom h (cs ++ c ∷ [])) (few : All RecordsOne (cs ++ c ∷ []))
       (words : List ℕ) (differ : AllPairs ◌≢◌ words) (many : length words ≡ SET + 1) where
     -- that it and the others record so many words
-    pub recorded_exceed : All (Contains (recorded_words (cs ++ c ∷ []))) words → Exceeds f (acts_of cs) c.op
+    pub recorded_exceed : All (Contains (recorded_words (cs ++ c ∷ []))) words → Exceeds f (certificate_acts cs) c.op
     recorded_exceed all =
         let least = recorded_are_few h (cs ++ c ∷ []) stand few words differ all in
-        more_reads f (acts_of cs) before c.op (subst (λ acts. SET + 1 ≤ reads acts) asked_is (omega (arith, many, least)))
+        more_reads f (certificate_acts cs) before c.op (subst (λ acts. SET + 1 ≤ reads acts) asked_is (omega (arith, many, least)))
 
     -- or change so many
-    pub changed_exceed : AllCharged h.words.shape [] (cs ++ c ∷ []) → All (Contains (changed_words (cs ++ c ∷ []))) words → Exceeds f (acts_of cs) c.op
+    pub changed_exceed : AllCharged h.words.shape [] (cs ++ c ∷ []) → All (Contains (changed_words (cs ++ c ∷ []))) words → Exceeds f (certificate_acts cs) c.op
     changed_exceed charged all =
         let least = written_are_few h (cs ++ c ∷ []) stand few charged words differ all in
-        more_writes f (acts_of cs) before c.op (subst (λ acts. SET + 1 ≤ writes acts) asked_is (omega (arith, many, least)))
+        more_writes f (certificate_acts cs) before c.op (subst (λ acts. SET + 1 ≤ writes acts) asked_is (omega (arith, many, least)))

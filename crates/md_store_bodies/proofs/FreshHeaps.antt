@@ -24,7 +24,7 @@ use Rattle.md_rule.specs.Closing.{plain_words}
 use Rattle.md_rule.specs.Views.{FieldView, PassState}
 use Rattle.md_rule.proofs.Moves.{is_meant}
 use Rattle.md_nbtc_law.specs.Course.{StandsNext}
-use Rattle.md_nbtc_law.specs.Ending.{Begins}
+use Rattle.md_nbtc_law.specs.Ending.{BeginsTransaction}
 use Rattle.md_nbtc_law.specs.Going.{IsGoing}
 use Rattle.md_nbtc_law.specs.Known.{IsHeapOf, IsLater, Known, found_by}
 use Rattle.md_nbtc_law.specs.declared.seen.Seen.{Seen}
@@ -35,14 +35,14 @@ use Rattle.md_nbtc_law.proofs.operations.Courses.{all_push, stand_push}
 use Rattle.md_nbtc_law.proofs.preparing.Heaps.{later_self}
 use Rattle.md_store_law.specs.Store.{state_of_store, store}
 use Rattle.md_store_law.specs.Laws.StoreLaws.{store_lawful}
-use Rattle.md_store_counts.specs.Few.{StandFrom, acts_of}
+use Rattle.md_store_counts.specs.Few.{StandFrom, certificate_acts}
 use Rattle.md_store_counts.proofs.Appending.{all_by_itself, tidies_by_itself}
 use Rattle.md_store_counts.proofs.Chaining.{itself}
 use Rattle.md_store_bodies.specs.Laws.{fresh_is}
 use Rattle.md_store_bodies.specs.Store.{IsFresh, IsPassOf, all_lanes, start_of}
 use Rattle.md_store_bodies.proofs.AllLanes.{holds_all}
 
-module _ (f : FieldView) (p : PassState) (of : IsPassOf f p) (fresh : IsFresh p) (tag : ℕ) (start t : TxnState) (begins : Begins p tag start)
+module _ (f : FieldView) (p : PassState) (of : IsPassOf f p) (fresh : IsFresh p) (tag : ℕ) (start t : TxnState) (begins : BeginsTransaction p tag start)
     (later : IsLater start t) (field : t.field ≡ f) (cs : List Certificate) (going : IsGoing store t cs) where
   -- the pass holds all lanes still, and has seen nothing
   lanes_are : t.pass.view.lanes ≡ all_lanes f.origin.shape
@@ -121,12 +121,12 @@ module _ (f : FieldView) (p : PassState) (of : IsPassOf f p) (fresh : IsFresh p)
   }
 
   -- and their acts are right from the store's start
-  follows : FollowsActs store fresh_heap (acts_of cs) (after_wholes fresh_heap cs)
+  follows : FollowsActs store fresh_heap (certificate_acts cs) (after_wholes fresh_heap cs)
   follows = wholes_follow store store_lawful fresh_heap.words.shape fresh_heap fresh_heap (itself fresh_heap) refl heap_valid cs
       stand_from.certifies stand_from.tidies all_stand
 
-  pub acts_right : IsRight (start_of f) (acts_of cs)
-  acts_right = subst (λ s. IsRight s (acts_of cs)) heap_state follows.right
+  pub acts_right : IsRight (start_of f) (certificate_acts cs)
+  acts_right = subst (λ s. IsRight s (certificate_acts cs)) heap_state follows.right
 
   -- a certificate that stands next in it stands after the others
   pub next_stands : (c : Certificate) → store.certifies (shape_in t) c → All (store.tidies (shape_in t)) c.tidy → StandsNext store cs c t fresh_heap
@@ -141,8 +141,8 @@ module _ (f : FieldView) (p : PassState) (of : IsPassOf f p) (fresh : IsFresh p)
   }
 
   -- and its act is right after theirs
-  pub next_right : (c : Certificate) → StandFrom fresh_heap (cs ++ c ∷ []) → IsRight (start_of f) (acts_of (cs ++ c ∷ []))
-  next_right c stand = subst (λ s. IsRight s (acts_of (cs ++ c ∷ []))) heap_state
+  pub next_right : (c : Certificate) → StandFrom fresh_heap (cs ++ c ∷ []) → IsRight (start_of f) (certificate_acts (cs ++ c ∷ []))
+  next_right c stand = subst (λ s. IsRight s (certificate_acts (cs ++ c ∷ []))) heap_state
       (wholes_follow store store_lawful fresh_heap.words.shape fresh_heap fresh_heap (itself fresh_heap) refl heap_valid (cs ++ c ∷ [])
       stand.certifies stand.tidies stand.stand).right
 

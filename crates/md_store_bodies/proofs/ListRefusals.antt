@@ -33,7 +33,7 @@ use Rattle.md_machine.proofs.lists.Rising.{here, in_cons, in_map, in_none}
 use Rattle.md_nbtc_law.specs.declared.seen.Seen.{Seen}
 use Rattle.md_nbtc_law.specs.Course.{StandsNext}
 use Rattle.md_nbtc_law.specs.Calls.{GoesOn}
-use Rattle.md_nbtc_law.specs.Ending.{Begins}
+use Rattle.md_nbtc_law.specs.Ending.{BeginsTransaction}
 use Rattle.md_nbtc_law.specs.Going.{HasCause}
 use Rattle.md_nbtc_law.specs.Known.{IsLater, found_by}
 use Rattle.md_nbtc_law.specs.State.{OwnNode, TxnState, attempt_in, own_node, shape_in, taken_since}
@@ -46,11 +46,11 @@ use Rattle.md_rule.specs.Views.{FieldView, PassState}
 use Rattle.md_list.specs.Refusals.{HasSeen, IsAbsent, IsRefused, NeedsNode, NeedsRead, NeedsSlot, NeedsUnlink, OneMoreChange, OneMoreRead, OneMoreUnlink, WouldStand}
 use Rattle.md_list.specs.Walking.{IsHeadOf}
 use Rattle.md_store_law.specs.Store.{store}
-use Rattle.md_store_counts.specs.Few.{AllCharged, RecordsOne, StandFrom, TidyCharged, acts_of, recorded_by, recorded_words, words_of_changes}
+use Rattle.md_store_counts.specs.Few.{AllCharged, RecordsOne, StandFrom, TidyCharged, certificate_acts, recorded_by, recorded_words, words_of_changes}
 use Rattle.md_store_counts.proofs.Appending.{charged_more}
 use Rattle.md_store_counts.proofs.Placing.{placed_are_counted}
 use Rattle.md_store_counts.proofs.Writing.{tidied_are_few}
-use Rattle.md_store_bodies.specs.Counted.{Exceeds, IsCountLimit, IsCounted}
+use Rattle.md_store_bodies.specs.Counted.{Exceeds, IsCountLimit, HasCountedCertificates}
 use Rattle.md_store_bodies.specs.Store.{IsFresh, IsPassOf, start_of}
 use Rattle.md_store_bodies.proofs.Charging.{counted_later, list_charged, node_placed, nodes_more, reads_more}
 use Rattle.md_store_bodies.proofs.Exceeding.{changed_exceed, more_nodes, more_writes_before, one_more_word, recorded_exceed, replies}
@@ -77,12 +77,12 @@ no_value : (o : Option ℕ) → Value None ≡ Value o → o ≡ None
 no_value None is = refl
 no_value (Some v) is = absurd (cc is)
 
-module _ (f : FieldView) (p : PassState) (of : IsPassOf f p) (fresh : IsFresh p) (tag : ℕ) (start t : TxnState) (begins : Begins p tag start)
-    (later : IsLater start t) (field : t.field ≡ f) (cs : List Certificate) (counted : IsCounted t cs) where
+module _ (f : FieldView) (p : PassState) (of : IsPassOf f p) (fresh : IsFresh p) (tag : ℕ) (start t : TxnState) (begins : BeginsTransaction p tag start)
+    (later : IsLater start t) (field : t.field ≡ f) (cs : List Certificate) (counted : HasCountedCertificates t cs) where
   abbrev H : LogicalHeap
   H = fresh_heap f p of fresh tag start t begins later field cs counted.going
 
-  before_right : IsRight (start_of f) (acts_of cs)
+  before_right : IsRight (start_of f) (certificate_acts cs)
   before_right = acts_right f p of fresh tag start t begins later field cs counted.going
 
   -- a certificate that would stand does so
@@ -92,11 +92,11 @@ module _ (f : FieldView) (p : PassState) (of : IsPassOf f p) (fresh : IsFresh p)
       (known_of f p of fresh tag start t begins later field cs counted.going (λ u h. HasSeen u h word seen → StandsNext store cs c u h) w.stand
       (heap_seen f p of fresh tag start t begins later field cs counted.going word seen w.gave))
 
-  right_next : (c : Certificate) → StandFrom H (cs ++ c ∷ []) → IsRight (start_of f) (acts_of (cs ++ c ∷ []))
+  right_next : (c : Certificate) → StandFrom H (cs ++ c ∷ []) → IsRight (start_of f) (certificate_acts (cs ++ c ∷ []))
   right_next = next_right f p of fresh tag start t begins later field cs counted.going
 
   -- a word to record, if as many are recorded as a set holds
-  pub list_reads : (map_of key : ℕ) (op : Op) → OneMoreRead store t cs map_of key op → length t.reads ≡ SET → Exceeds f (acts_of cs) op
+  pub list_reads : (map_of key : ℕ) (op : Op) → OneMoreRead store t cs map_of key op → length t.reads ≡ SET → Exceeds f (certificate_acts cs) op
   list_reads map_of key op n full =
       let w = n.would in
       let c = n.certificate in
@@ -107,7 +107,7 @@ module _ (f : FieldView) (p : PassState) (of : IsPassOf f p) (fresh : IsFresh p)
       let this : Contains (recorded_words (cs ++ c ∷ [])) n.word = subst (λ l. Contains l n.word) (sym (flat_map-append recorded_by cs (c ∷ [])))
       (Contains-append_right (recorded_words cs) (recorded_words (c ∷ [])) n.word
       (subst (λ (l : List WordValue). Contains (map (λ x. x.word) l ++ []) n.word) (sym n.recorded) (only n.word))) in
-      subst (Exceeds f (acts_of cs)) w.of.0
+      subst (Exceeds f (certificate_acts cs)) w.of.0
       (recorded_exceed f cs c (right_next c stand) before_right H stand (all_push RecordsOne cs c counted.few (λ _. w.few))
       (map (λ (r : Read). r.word) t.reads ++ n.word ∷ []) words.0 (let many = words.1 in omega (arith, many, full))
       (All-append (Contains (recorded_words (cs ++ c ∷ []))) (map (λ (r : Read). r.word) t.reads) (n.word ∷ [])
@@ -116,7 +116,7 @@ module _ (f : FieldView) (p : PassState) (of : IsPassOf f p) (fresh : IsFresh p)
       (All-cons (Contains (recorded_words (cs ++ c ∷ []))) n.word [] this (All-nil (Contains (recorded_words (cs ++ c ∷ [])))))))
 
   -- a word to write
-  pub list_writes : (map_of key : ℕ) (op : Op) → OneMoreChange store t cs map_of key op → length t.slots ≡ SET → Exceeds f (acts_of cs) op
+  pub list_writes : (map_of key : ℕ) (op : Op) → OneMoreChange store t cs map_of key op → length t.slots ≡ SET → Exceeds f (certificate_acts cs) op
   list_writes map_of key op n full =
       let w = n.would in
       let c = n.certificate in
@@ -128,14 +128,14 @@ module _ (f : FieldView) (p : PassState) (of : IsPassOf f p) (fresh : IsFresh p)
       let charged = charged_more (shape_in t) [] cs c counted.charged
       (list_charged t (cs ++ c ∷ []) (reads_more t t cs counted c (λ r among. inl among)) (nodes_more t t cs counted c (λ r among. inl among) counted.going n.nodes)
       (all_changes cs) c.tidy w.charged) in
-      subst (Exceeds f (acts_of cs)) w.of.0
+      subst (Exceeds f (certificate_acts cs)) w.of.0
       (changed_exceed f cs c (right_next c stand) before_right H stand (all_push RecordsOne cs c counted.few (λ _. w.few))
       (with_word t cs counted.going n.change.word) words.0 (let many = words.1 in omega (arith, many, full))
       (subst (λ s. AllCharged s [] (cs ++ c ∷ [])) (sym (heap_shape f p of fresh tag start t begins later field cs counted.going)) charged)
       (subst (λ l. All (Contains (words_of_changes l)) (with_word t cs counted.going n.change.word)) changes (all_named t cs counted.going n.change.word (n.change ∷ []) (only n.change.word))))
 
   -- a word to write, for an unlink
-  pub list_unlinks : (map_of bucket head : ℕ) → OneMoreUnlink store t cs map_of bucket head → length t.slots ≡ SET → (op : Op) → Exceeds f (acts_of cs) op
+  pub list_unlinks : (map_of bucket head : ℕ) → OneMoreUnlink store t cs map_of bucket head → length t.slots ≡ SET → (op : Op) → Exceeds f (certificate_acts cs) op
   list_unlinks map_of bucket head n full op =
       let ts = n.made ++ n.unlink ∷ [] in
       let words = words_differ t cs counted.going n.unlink.change.word n.unwritten in
@@ -157,23 +157,23 @@ module _ (f : FieldView) (p : PassState) (of : IsPassOf f p) (fresh : IsFresh p)
       })
       (with_word t cs counted.going n.unlink.change.word) words.0
       (subst (λ l. All (Contains (words_of_changes l)) (with_word t cs counted.going n.unlink.change.word)) changes (all_named t cs counted.going n.unlink.change.word (n.unlink.change ∷ []) (only n.unlink.change.word))) in
-      more_writes_before f (acts_of cs) before_right op (let many = words.1 in omega (arith, many, full, least))
+      more_writes_before f (certificate_acts cs) before_right op (let many = words.1 in omega (arith, many, full, least))
 
   -- a node, if a lane's worth of nodes was taken
   pub list_nodes : (map_of key value : ℕ) → IsAbsent store t cs map_of key → length t.nodes ≡ length (all_nodes cs) → f.origin.shape.nodes ≤ length t.nodes
-      → Exceeds f (acts_of cs) (Insert map_of key value)
+      → Exceeds f (certificate_acts cs) (Insert map_of key value)
   list_nodes map_of key value n many full =
       let w = n.would in
       let c = n.certificate in
       let stand = would_stand map_of key (Get map_of key) (Value None) n.word n.seen c w in
-      let state = run (start_of f) (acts_of cs) in
+      let state = run (start_of f) (certificate_acts cs) in
       let absent : fin.get (map_at state map_of) key ≡ None = no_value (fin.get (map_at state map_of) key)
       (sym w.of.1 ∙ replies f cs c (right_next c stand) ∙ ap (answer state) w.of.0) in
       let placed = placed_are_counted H cs (stand_from f p of fresh tag start t begins later field cs counted.going) in
-      let more : nodes (acts_of cs ++ act_of (Insert map_of key value) (answer state (Insert map_of key value)) ∷ []) ≡ nodes (acts_of cs) + 1 =
-      nodes-append (acts_of cs) (act_of (Insert map_of key value) (answer state (Insert map_of key value)) ∷ [])
-      ∙ ap (λ o. nodes (acts_of cs) + nodes (act_of (Insert map_of key value) (Flag (is_none o)) ∷ [])) absent in
-      more_nodes f (acts_of cs) before_right (Insert map_of key value) (omega (arith, full, placed, many, more))
+      let more : nodes (certificate_acts cs ++ act_of (Insert map_of key value) (answer state (Insert map_of key value)) ∷ []) ≡ nodes (certificate_acts cs) + 1 =
+      nodes-append (certificate_acts cs) (act_of (Insert map_of key value) (answer state (Insert map_of key value)) ∷ [])
+      ∙ ap (λ o. nodes (certificate_acts cs) + nodes (act_of (Insert map_of key value) (Flag (is_none o)) ∷ [])) absent in
+      more_nodes f (certificate_acts cs) before_right (Insert map_of key value) (omega (arith, full, placed, many, more))
 
 -- why an operation of a list was refused by a limit: the transaction goes on from s, where the operation was begun, to u
 pub record ListLimits (s u : TxnState) (head key : ℕ) (op : ℕ → Op) (why : Stop) : Type 0 where
@@ -187,8 +187,8 @@ pub needs_slot : {s u : TxnState} {head key : ℕ} {op : ℕ → Op} → IsRefus
     → IsRefused store s u (Limited Writes) (NeedsSlot store s head key op)
 needs_slot r = record { before = r.before; on = r.on; reads = r.reads; same = r.same; needs = λ map_of is cs going. inl (r.needs map_of is cs going) }
 
-module _ (p : PassState) (s u : TxnState) (of : IsPassOf s.field p) (fresh : IsFresh p) (tag : ℕ) (start : TxnState) (begins : Begins p tag start)
-    (later : IsLater start s) (cs : List Certificate) (counted : IsCounted s cs) (stored : s.hand.stored ≡ []) (why : Stop) (cause : HasCause u why)
+module _ (p : PassState) (s u : TxnState) (of : IsPassOf s.field p) (fresh : IsFresh p) (tag : ℕ) (start : TxnState) (begins : BeginsTransaction p tag start)
+    (later : IsLater start s) (cs : List Certificate) (counted : HasCountedCertificates s cs) (stored : s.hand.stored ≡ []) (why : Stop) (cause : HasCause u why)
     -- its nodes are those that were taken
     (nodes_are : u.nodes ≡ map (own_node (shape_in u) u.pass) (taken_since u.began u.pass)) (on : GoesOn store s u) where
   abbrev over : (x : TxnState) → GoesOn store s x → IsLater start x
@@ -217,7 +217,7 @@ module _ (p : PassState) (s u : TxnState) (of : IsPassOf s.field p) (fresh : IsF
 
   -- an operation of a list
   pub list_exceeds : (head key : ℕ) (op : ℕ → Op) (map_of : ℕ) → IsHeadOf (shape_in s) map_of key head → ListLimits s u head key op why → IsCountLimit why
-      → Exceeds s.field (acts_of cs) (op map_of)
+      → Exceeds s.field (certificate_acts cs) (op map_of)
   list_exceeds head key op map_of is_head limits (inl reads) =
       let r = limits.reads reads in
       let x = r.before in
@@ -240,6 +240,6 @@ module _ (p : PassState) (s u : TxnState) (of : IsPassOf s.field p) (fresh : IsF
       let enough = many_nodes nodes in
       let counts = ap length nodes_x in
       let then = nodes_then in
-      subst (Exceeds s.field (acts_of cs)) (sym (n.1 map_of))
+      subst (Exceeds s.field (certificate_acts cs)) (sym (n.1 map_of))
       (list_nodes s.field p of fresh tag start x begins (over x r.on) r.on.later.field cs (counted_later s x cs counted r.on r.reads) map_of key n.0
       (r.needs.1 map_of is_head cs counted.going) (same ∙ then) (omega (arith, enough, counts)))

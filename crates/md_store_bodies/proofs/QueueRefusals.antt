@@ -25,7 +25,7 @@ use Rattle.md_machine.specs.Certified.{all_changes, changes_of_tidy, whole_chang
 use Rattle.md_machine.specs.LogicalHeap.{LogicalHeap}
 use Rattle.md_machine.proofs.lists.Rising.{here, in_map}
 use Rattle.md_nbtc_law.specs.Calls.{GoesOn}
-use Rattle.md_nbtc_law.specs.Ending.{Begins}
+use Rattle.md_nbtc_law.specs.Ending.{BeginsTransaction}
 use Rattle.md_nbtc_law.specs.Going.{HasCause, IsGoing}
 use Rattle.md_nbtc_law.specs.Known.{IsHeapOf, IsLater}
 use Rattle.md_nbtc_law.specs.State.{TxnState, own_node, shape_in, taken_since}
@@ -36,12 +36,12 @@ use Rattle.md_nbtc_law.proofs.ready.Standing.{pairs_map}
 use Rattle.md_rule.specs.Views.{FieldView, PassState}
 use Rattle.md_queue.specs.Refusals.{BeganAlone, ChangeRefused, MoveRefused, ReadRefused, WouldStand}
 use Rattle.md_store_law.specs.Store.{store}
-use Rattle.md_store_counts.specs.Few.{AllCharged, RecordsOne, StandFrom, TidyCharged, acts_of, is_of_map, recorded_by, recorded_words, words_of_changes}
+use Rattle.md_store_counts.specs.Few.{AllCharged, RecordsOne, StandFrom, TidyCharged, certificate_acts, is_of_map, recorded_by, recorded_words, words_of_changes}
 use Rattle.md_store_counts.proofs.Appending.{charged_more}
 use Rattle.md_store_counts.proofs.Fronts.{recorded_are_few}
 use Rattle.md_store_counts.proofs.Placing.{placed_are_counted}
 use Rattle.md_store_counts.proofs.Writing.{tidied_are_few}
-use Rattle.md_store_bodies.specs.Counted.{Exceeds, IsCountLimit, IsCounted}
+use Rattle.md_store_bodies.specs.Counted.{Exceeds, IsCountLimit, HasCountedCertificates}
 use Rattle.md_store_bodies.specs.Store.{IsFresh, IsPassOf, start_of}
 use Rattle.md_store_bodies.proofs.Charging.{counted_at, queue_charged, reads_more}
 use Rattle.md_store_bodies.proofs.Exceeding.{asked_is, changed_exceed, more_nodes, more_reads, more_writes_before, one_more_word}
@@ -97,13 +97,13 @@ one_node a is =
 one_added : (acts : List Act) (a : Act) → added a.op a.reply ≡ true → nodes (acts ++ a ∷ []) ≡ nodes acts + 1
 one_added acts a is = nodes-append acts (a ∷ []) ∙ ap (λ n. nodes acts + n) (one_node a is)
 
-module _ (p : PassState) (s u : TxnState) (of : IsPassOf s.field p) (fresh : IsFresh p) (tag : ℕ) (start : TxnState) (begins : Begins p tag start)
-    (later : IsLater start s) (cs : List Certificate) (counted : IsCounted s cs) (stored : s.hand.stored ≡ []) (none : s.stop ≡ None) (why : Stop) (cause : HasCause u why)
+module _ (p : PassState) (s u : TxnState) (of : IsPassOf s.field p) (fresh : IsFresh p) (tag : ℕ) (start : TxnState) (begins : BeginsTransaction p tag start)
+    (later : IsLater start s) (cs : List Certificate) (counted : HasCountedCertificates s cs) (stored : s.hand.stored ≡ []) (none : s.stop ≡ None) (why : Stop) (cause : HasCause u why)
     (nodes_are : u.nodes ≡ map (own_node (shape_in u) u.pass) (taken_since u.began u.pass)) (on : GoesOn store s u) where
   alone : BeganAlone s
   alone = record { unstopped = none; alone = holds s.field p of fresh tag start s begins later refl cs counted.going }
 
-  right : IsRight (start_of s.field) (acts_of cs)
+  right : IsRight (start_of s.field) (certificate_acts cs)
   right = acts_right s.field p of fresh tag start s begins later refl cs counted.going
 
   -- the state in which a call was refused
@@ -127,7 +127,7 @@ module _ (p : PassState) (s u : TxnState) (of : IsPassOf s.field p) (fresh : IsF
     shape_is = ap (λ (f : FieldView). f.origin.shape) later_v.field
 
   -- a word to record
-  reads_exceed : (op : Op) (Asks : Op → Type 0) → ((o : Op) → Asks o → AsksLess o op) → ReadRefused store s u cs Asks → why ≡ Limited Reads → Exceeds s.field (acts_of cs) op
+  reads_exceed : (op : Op) (Asks : Op → Type 0) → ((o : Op) → Asks o → AsksLess o op) → ReadRefused store s u cs Asks → why ≡ Limited Reads → Exceeds s.field (certificate_acts cs) op
   reads_exceed op Asks less (v, was, full) is =
       let would = full.would (H v was.going was.later) (heap_of v was.going was.later) in
       let c = would.certificate in
@@ -146,14 +146,14 @@ module _ (p : PassState) (s u : TxnState) (of : IsPassOf s.field p) (fresh : IsF
       (All-cons P full.word [] this (All-nil P))) in
       let same = asked_is s.field cs c (next_right s.field p of fresh tag start v begins (over v was.going was.later) was.later.field cs was.going c stand) in
       let same_reads = ap reads same in
-      let state = run (start_of s.field) (acts_of cs) in
-      let more = asks.1 (acts_of cs) (answer state c.op) (answer state op) in
+      let state = run (start_of s.field) (certificate_acts cs) in
+      let more = asks.1 (certificate_acts cs) (answer state c.op) (answer state op) in
       let many = words.1 in
       let set = ap (λ (y : TxnState). length y.reads) (sym was.same) ∙ cause.reads is in
-      more_reads s.field (acts_of cs) right op (omega (arith, least, same_reads, more, many, set))
+      more_reads s.field (certificate_acts cs) right op (omega (arith, least, same_reads, more, many, set))
 
   -- a word to write, for a move of the tail
-  move_exceeds : (queue : ℕ) (op : Op) → MoveRefused store s u cs queue → why ≡ Limited Writes → Exceeds s.field (acts_of cs) op
+  move_exceeds : (queue : ℕ) (op : Op) → MoveRefused store s u cs queue → why ≡ Limited Writes → Exceeds s.field (certificate_acts cs) op
   move_exceeds queue op (v, was, m) is =
       let ts = m.earlier ++ m.move ∷ [] in
       let counted_v = counted_at s v cs counted was.going was.later m.reads in
@@ -177,10 +177,10 @@ module _ (p : PassState) (s u : TxnState) (of : IsPassOf s.field p) (fresh : IsF
       (here m.move.change.word []))) in
       let many = words.1 in
       let set = ap (λ (y : TxnState). length y.slots) (sym was.same) ∙ cause.writes is in
-      more_writes_before s.field (acts_of cs) right op (omega (arith, many, set, least))
+      more_writes_before s.field (certificate_acts cs) right op (omega (arith, many, set, least))
 
   -- a word to write
-  change_exceeds : (op : Op) → is_of_map op ≡ false → ChangeRefused store s u cs op → why ≡ Limited Writes → Exceeds s.field (acts_of cs) op
+  change_exceeds : (op : Op) → is_of_map op ≡ false → ChangeRefused store s u cs op → why ≡ Limited Writes → Exceeds s.field (certificate_acts cs) op
   change_exceeds op other (v, was, n) is =
       let c = n.certificate in
       let w = n.would (H v was.going was.later) (heap_of v was.going was.later) in
@@ -193,7 +193,7 @@ module _ (p : PassState) (s u : TxnState) (of : IsPassOf s.field p) (fresh : IsF
       (queue_charged v (cs ++ c ∷ []) (reads_more s v cs counted c n.among) (all_changes cs) c.tidy w.charged) in
       let many = words.1 in
       let set = ap (λ (y : TxnState). length y.slots) (sym was.same) ∙ cause.writes is in
-      subst (Exceeds s.field (acts_of cs)) n.op_is
+      subst (Exceeds s.field (certificate_acts cs)) n.op_is
       (changed_exceed s.field cs c (next_right s.field p of fresh tag start v begins (over v was.going was.later) was.later.field cs was.going c stand) right
       (H v was.going was.later) stand (few_more v was.going was.later c (ap is_of_map n.op_is ∙ other))
       (with_word v cs was.going n.last.word) words.0 (omega (arith, many, set))
@@ -202,18 +202,18 @@ module _ (p : PassState) (s u : TxnState) (of : IsPassOf s.field p) (fresh : IsF
       (all_named v cs was.going n.last.word (n.last ∷ []) (here n.last.word []))))
 
   -- a node
-  nodes_exceed : (op : Op) → ((r : Reply) → added op r ≡ true) → u.nodes ≡ s.nodes → why ≡ Limited Nodes → Exceeds s.field (acts_of cs) op
+  nodes_exceed : (op : Op) → ((r : Reply) → added op r ≡ true) → u.nodes ≡ s.nodes → why ≡ Limited Nodes → Exceeds s.field (certificate_acts cs) op
   nodes_exceed op adds same is =
       let enough = many_nodes p s u of fresh tag start begins later cs counted stored why cause nodes_are on is in
       let then = nodes_then p s u of fresh tag start begins later cs counted stored why cause nodes_are on in
       let counts = ap length same in
       let placed = placed_are_counted (fresh_heap s.field p of fresh tag start s begins later refl cs counted.going) cs
       (stand_from s.field p of fresh tag start s begins later refl cs counted.going) in
-      let state = run (start_of s.field) (acts_of cs) in
-      let more = one_added (acts_of cs) (act_of op (answer state op)) (adds (answer state op)) in
-      more_nodes s.field (acts_of cs) right op (omega (arith, enough, then, counts, placed, more))
+      let state = run (start_of s.field) (certificate_acts cs) in
+      let more = one_added (certificate_acts cs) (act_of op (answer state op)) (adds (answer state op)) in
+      more_nodes s.field (certificate_acts cs) right op (omega (arith, enough, then, counts, placed, more))
 
-  pub queue_exceeds : (queue : ℕ) (op : Op) (Asks : Op → Type 0) → QueueLimits s u cs queue op Asks why → IsCountLimit why → Exceeds s.field (acts_of cs) op
+  pub queue_exceeds : (queue : ℕ) (op : Op) (Asks : Op → Type 0) → QueueLimits s u cs queue op Asks why → IsCountLimit why → Exceeds s.field (certificate_acts cs) op
   queue_exceeds queue op Asks limits (inl is) = let r = limits.reads is alone in reads_exceed op Asks r.0 r.1 is
   queue_exceeds queue op Asks limits (inr (inl is)) = ⊎_elim (λ m. move_exceeds queue op m is) (λ n. change_exceeds op limits.other n is) (limits.writes is alone)
   queue_exceeds queue op Asks limits (inr (inr is)) = let n = limits.nodes is in nodes_exceed op n.0 n.1 is

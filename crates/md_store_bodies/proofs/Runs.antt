@@ -15,22 +15,22 @@ use Rattle.md_history.specs.Calls.{Answered, Refusal, Refused}
 use Rattle.md_machine.specs.declared.attempt.Read.{Read}
 use Rattle.md_machine.specs.declared.certificate.Certificate.{Certificate}
 use Rattle.md_machine.specs.Certified.{all_changes}
-use Rattle.md_nbtc_law.specs.Calls.{AfterStop, Ends, GoesOn, MayAnswer, with_act, with_operation}
+use Rattle.md_nbtc_law.specs.Calls.{AfterStop, EndsOperation, GoesOn, MayAnswer, with_act, with_operation}
 use Rattle.md_nbtc_law.specs.Course.{MayEnd}
-use Rattle.md_nbtc_law.specs.Ending.{Begins}
+use Rattle.md_nbtc_law.specs.Ending.{BeginsTransaction}
 use Rattle.md_nbtc_law.specs.Going.{IsGoing, IsUnderWay}
 use Rattle.md_nbtc_law.specs.Known.{IsLater}
 use Rattle.md_nbtc_law.specs.State.{TxnState, own_node, shape_in, taken_since}
 use Rattle.md_nbtc_law.proofs.preparing.Later.{later_over}
-use Rattle.md_list.specs.Operations.{Answers, Leaves as LeavesList}
+use Rattle.md_list.specs.Operations.{Answers, OperationGoesOn}
 use Rattle.md_list.specs.Walking.{IsHeadOf}
-use Rattle.md_queue.specs.Operations.{Answered as AnsweredByQueue, IsBegun as IsBegunQueue, Refused as RefusedByQueue}
+use Rattle.md_queue.specs.Operations.{OperationAnswered, IsBegun as IsBegunQueue, OperationRefused}
 use Rattle.md_rule.specs.Steps.{IsOf as IsOfAct}
 use Rattle.md_rule.specs.Views.{FieldView, PassState}
 use Rattle.md_store_law.specs.Store.{store}
-use Rattle.md_store_counts.specs.Few.{RecordsOne, TidyCharged, acts_of, is_of_map, recorded_by}
+use Rattle.md_store_counts.specs.Few.{RecordsOne, TidyCharged, certificate_acts, is_of_map, recorded_by}
 use Rattle.md_store_bodies.specs.declared.broken.Broken.{Broken}
-use Rattle.md_store_bodies.specs.Counted.{Exceeds, IsCountLimit, IsCounted}
+use Rattle.md_store_bodies.specs.Counted.{Exceeds, IsCountLimit, HasCountedCertificates}
 use Rattle.md_store_bodies.specs.Running.{IsRunning, RunsOn, refusal_of}
 use Rattle.md_store_bodies.specs.Store.{IsFresh, IsPassOf}
 use Rattle.md_store_bodies.proofs.Charging.{counted_later, counted_more, list_charged, nodes_more, queue_charged, reads_more}
@@ -81,12 +81,12 @@ ExceedsBy before t r = (refusal : Refusal) → r ≡ Some refusal → IsPassOf t
 
 -- a later state that is under way runs on
 runs_later : (before : PassState) (t u : TxnState) (r r' : Option Refusal) → IsRunning before t r → IsLater t u → IsUnderWay store u
-    → u.stop ≡ option_map (λ x. x.stop) r' → (r' ≡ None → (u.hand.operating ≡ false) × ((cs : List Certificate) × IsCounted u cs))
+    → u.stop ≡ option_map (λ x. x.stop) r' → (r' ≡ None → (u.hand.operating ≡ false) × ((cs : List Certificate) × HasCountedCertificates u cs))
     → ExceedsBy before u r' → RunsOn before t u r'
 runs_later before t u r r' run later going stop between exceeds = record {
   running = record {
     start = run.start;
-    begins = subst (λ (tag : ℕ). Begins before tag run.start) (sym later.tag) run.begins;
+    begins = subst (λ (tag : ℕ). BeginsTransaction before tag run.start) (sym later.tag) run.begins;
     later = later_over run.start t u run.later later;
     going = going;
     stop = stop;
@@ -105,7 +105,7 @@ pub record IsStarted (t s : TxnState) : Type 0 where
 
 -- the operation was answered and ended
 pub record IsEnded (u v : TxnState) (op : Op) (reply : Reply) : Type 0 where
-  pub on : Ends store u v op reply
+  pub on : EndsOperation store u v op reply
   pub is : v ≡ record u { pass = v.pass; hand = with_act u.hand op reply }
 
 -- what the answer of an operation tells whose transaction had no stop
@@ -120,7 +120,7 @@ module _ (before : PassState) (t s : TxnState) (b : Option Broken) (whole : b �
   abbrev pub cs : List Certificate
   cs = (running.counted refl).0
 
-  pub counted : IsCounted s cs
+  pub counted : HasCountedCertificates s cs
   counted = counted_later t s cs (running.counted refl).1 start.on (ap (λ (x : TxnState). x.reads) start.is)
 
   pub started : IsUnderWay store s
@@ -171,7 +171,7 @@ module _ (before : PassState) (t s : TxnState) (b : Option Broken) (whole : b �
 
   -- of an operation that was refused by a limit: the acts with it exceed the limit
   abbrev pub Exceeding : TxnState → Op → Stop → Type 0
-  Exceeding u op why = IsPassOf s.field before → IsFresh before → IsCountLimit why → Exceeds s.field (acts_of cs) op
+  Exceeding u op why = IsPassOf s.field before → IsFresh before → IsCountLimit why → Exceeds s.field (certificate_acts cs) op
 
   pub refused_runs : (u : TxnState) (op : Op) (why : Stop) → IsRefusedSo s u cs why → u.hand.acts ≡ s.hand.acts → Exceeding u op why
       → RunsOn before t u (Some (record { stop = why; op = op }))
@@ -188,7 +188,7 @@ module _ (before : PassState) (t s : TxnState) (b : Option Broken) (whole : b �
       (subst (λ (x : Refusal). IsCountLimit x.stop) (sym same) limit)))))
 
   -- operations of lists
-  module _ (u : TxnState) (reads writes nodes : ℕ) (leaves : LeavesList store s u reads writes nodes) where
+  module _ (u : TxnState) (reads writes nodes : ℕ) (leaves : OperationGoesOn store s u reads writes nodes) where
     pub list_ends : (head key : ℕ) (op : ℕ → Op) (reply : Reply) → Answers store s u head key op reply → (map : ℕ) → IsHeadOf (shape_in s) map key head
         → u.stop ≡ None → EndsBy s u cs (op map) reply
     list_ends head key op reply answers map is_head stop =
@@ -221,7 +221,7 @@ module _ (before : PassState) (t s : TxnState) (b : Option Broken) (whole : b �
 
   -- operations of queues
   module _ (u : TxnState) (reads writes nodes : ℕ) where
-    pub queue_ends : (op : Op) (reply : Reply) → is_of_map op ≡ false → AnsweredByQueue store s u op reply reads writes nodes → EndsBy s u cs op reply
+    pub queue_ends : (op : Op) (reply : Reply) → is_of_map op ≡ false → OperationAnswered store s u op reply reads writes nodes → EndsBy s u cs op reply
     queue_ends op reply other a =
         let by = a.by cs counted.going in
         let c = by.certificate in
@@ -239,7 +239,7 @@ module _ (before : PassState) (t s : TxnState) (b : Option Broken) (whole : b �
 
     -- the nodes of u are those that were taken
     pub queue_runs : u.nodes ≡ map (own_node (shape_in u) u.pass) (taken_since u.began u.pass) → (queue : ℕ) (op : Op) (Asks : Op → Type 0) (why : Stop)
-        → RefusedByQueue store s u reads writes nodes why → QueueLimits s u cs queue op Asks why → RunsOn before t u (Some (record { stop = why; op = op }))
+        → OperationRefused store s u reads writes nodes why → QueueLimits s u cs queue op Asks why → RunsOn before t u (Some (record { stop = why; op = op }))
     queue_runs nodes_are queue op Asks why r limits =
         let going = r.leaves.on.going cs counted.going in
         refused_runs u op why (record { going = going; later = r.leaves.on.later; stop = r.kept }) r.leaves.acts (λ of fresh limit.

@@ -22,7 +22,7 @@ use Rattle.md_store_bodies.specs.Store.{limits_of, start_of}
 
 -- the ended operations of a transaction have these certificates: each of a map records few words, their tidy changes are
 -- charged, and they record each word that the transaction recorded
-pub record IsCounted (t : TxnState) (cs : List Certificate) : Type 0 where
+pub record HasCountedCertificates (t : TxnState) (cs : List Certificate) : Type 0 where
   pub going : IsGoing store t cs
   pub few : All RecordsOne cs
   pub charged : AllCharged (shape_in t) [] cs

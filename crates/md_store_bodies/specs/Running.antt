@@ -6,14 +6,14 @@ use Rattle.md_history.specs.declared.acts.Reply.{Reply}
 use Rattle.md_history.specs.Act.{act_of}
 use Rattle.md_history.specs.Calls.{MayReply, Refusal}
 use Rattle.md_machine.specs.declared.certificate.Certificate.{Certificate}
-use Rattle.md_nbtc_law.specs.Ending.{Begins}
+use Rattle.md_nbtc_law.specs.Ending.{BeginsTransaction}
 use Rattle.md_nbtc_law.specs.Going.{IsUnderWay}
 use Rattle.md_nbtc_law.specs.Known.{IsLater}
 use Rattle.md_nbtc_law.specs.State.{TxnState}
 use Rattle.md_rule.specs.Views.{FieldView, PassState}
 use Rattle.md_store_bodies.specs.declared.broken.Broken.{Broken}
 use Rattle.md_store_law.specs.Store.{store}
-use Rattle.md_store_bodies.specs.Counted.{Exceeds, IsCountLimit, IsCounted}
+use Rattle.md_store_bodies.specs.Counted.{Exceeds, IsCountLimit, HasCountedCertificates}
 use Rattle.md_store_bodies.specs.Store.{IsFresh, IsPassOf}
 
 -- why a transaction stopped, and the operation that was refused first
@@ -25,12 +25,12 @@ refusal_of broken = option_map (λ b. record { stop = b.stop; op = b.op }) broke
 -- exceeded by the acts with that operation
 pub record IsRunning (before : PassState) (t : TxnState) (refused : Option Refusal) : Type 0 where
   pub start : TxnState
-  pub begins : Begins before t.hand.tag start
+  pub begins : BeginsTransaction before t.hand.tag start
   pub later : IsLater start t
   pub going : IsUnderWay store t
   pub stop : t.stop ≡ option_map (λ r. r.stop) refused
   pub between : refused ≡ None → t.hand.operating ≡ false
-  pub counted : refused ≡ None → (cs : List Certificate) × IsCounted t cs
+  pub counted : refused ≡ None → (cs : List Certificate) × HasCountedCertificates t cs
   pub exceeds : (refusal : Refusal) → refused ≡ Some refusal → IsPassOf t.field before → IsFresh before → IsCountLimit refusal.stop
       → Exceeds t.field t.hand.acts refusal.op
 

@@ -12,7 +12,7 @@ use Rattle.md_history.specs.Front.{Front}
 use Rattle.md_history.specs.State.{State}
 use Rattle.md_machine.specs.Event.{first_pass}
 use Rattle.md_machine.specs.Legal.{front_of}
-use Rattle.md_help.specs.After.{Stands}
+use Rattle.md_help.specs.After.{StandsInField}
 use Rattle.md_rule.specs.Closing.{plain_words}
 use Rattle.md_rule_lanes.specs.Shares.{share_at}
 use Rattle.md_rule.specs.Views.{FieldView, IsOf, PassState}
@@ -55,10 +55,10 @@ begun_by p = sum_by (λ lane. (share_at p.shares lane).tries_taken) p.view.lanes
 -- the pass is of the field, and stands so in some machine of it
 pub record IsPassOf (f : FieldView) (p : PassState) : Type 0 where
   pub of : IsOf p f
-  pub stands : Stands store f.origin p.view
+  pub stands : StandsInField store f.origin p.view
 
 -- nothing of a lane was taken
-pub record IsUnused (s : Share) : Type 0 where
+pub record IsShareUnused (s : Share) : Type 0 where
   pub nodes : s.nodes_taken ≡ 0
   pub tries : s.tries_taken ≡ 0
   pub slots : s.slots_written ≡ 0
@@ -67,7 +67,7 @@ pub record IsUnused (s : Share) : Type 0 where
 -- the pass knows what the first pass of the field does, and nothing was taken of any lane
 pub record IsFresh (p : PassState) : Type 0 where
   pub view : p.view ≡ first_pass p.shape
-  pub unused : (lane : ℕ) → IsUnused (share_at p.shares lane)
+  pub unused : (lane : ℕ) → IsShareUnused (share_at p.shares lane)
 
 -- the pass is fresh, and nothing was changed in the field's words since they were laid
 abbrev pub IsNew : FieldView → PassState → Type 0

@@ -8,7 +8,7 @@ ghost use Rattle.md_history.specs.Calls.{Answered, Refused};
 ghost use Rattle.md_nbtc_law.specs.Calls.{AfterStop};
 ghost use Rattle.md_nbtc_law.specs.State.{shape_in};
 ghost use Rattle.md_nbtc.specs.State.{state};
-ghost use Rattle.md_list.specs.Operations.{Answers, HasStopButNodes, IsBegun, Leaves};
+ghost use Rattle.md_list.specs.Operations.{Answers, HasStopButNodes, IsBegun, OperationGoesOn};
 ghost use Rattle.md_list.specs.Refusals.{NeedsRead, NeedsUnlink, RefusedBy};
 ghost use Rattle.md_list.specs.Walking.{IsHeadOf};
 ghost use Rattle.md_store_law.specs.Store.{store};
@@ -28,7 +28,7 @@ fn look_up<'a>(txn: &mut Txn<'a, StoreTheory>, head: u32, key: u64) -> Result<Op
     requires begun { IsBegun store (state txn.old) }
     requires head { (map : ℕ) × IsHeadOf (shape_in (state txn.old)) map key head }
     ensures pass { txn.new.pass.ghost_name ≡ txn.old.pass.ghost_name }
-    ensures leaves { Leaves store (state txn.old) (state txn.new) 1 0 0 }
+    ensures leaves { OperationGoesOn store (state txn.old) (state txn.new) 1 0 0 }
     ensures answer { IfOk result (λ value. Answers store (state txn.old) (state txn.new) head key
         (λ map. Get map key) (Value value)) }
     ensures stops { AfterStop (state txn.old).stop (state txn.old) (state txn.new) result

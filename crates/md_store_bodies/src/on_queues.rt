@@ -7,7 +7,7 @@ ghost use Rattle.md_history.specs.declared.stops.Limit.TheVariants.{Writes};
 ghost use Rattle.md_history.specs.Calls.{Answered, IsLineLength, Refused};
 ghost use Rattle.md_nbtc_law.specs.State.{shape_in};
 ghost use Rattle.md_nbtc.specs.State.{state};
-ghost use Rattle.md_queue.specs.Operations.{Answered as AnsweredBy, IsBegun, IsNotBy};
+ghost use Rattle.md_queue.specs.Operations.{OperationAnswered, IsBegun, IsNotBy};
 ghost use Rattle.md_queue.specs.Operations.{RefusedOtherwise};
 ghost use Rattle.md_queue.specs.Refusals.{AsksFront, RefusesReads};
 ghost use Rattle.md_store_law.specs.Store.{store};
@@ -95,7 +95,7 @@ pub(crate) fn dequeue_in<'a>(
 fn look<'a>(txn: &mut Txn<'a, StoreTheory>, queue: u32) -> Result<Option<u64>, Stop>
     requires begun { IsBegun store (state txn.old) queue }
     ensures pass { txn.new.pass.ghost_name ≡ txn.old.pass.ghost_name }
-    ensures answer { IfOk result (λ value. AnsweredBy store (state txn.old) (state txn.new)
+    ensures answer { IfOk result (λ value. OperationAnswered store (state txn.old) (state txn.new)
         (Front queue) (Value value) 2 0 0) }
     ensures stop { IfErr result (RefusedOtherwise store (state txn.old) (state txn.new) 2 0) }
     ensures reads { IfErr result (RefusesReads store (state txn.old) (state txn.new)

@@ -86,7 +86,7 @@ module _ (h : LogicalHeap) (valid : IsStore h) (nexts notes : List ℕ) (Keys : 
     pub nodes : (word : ℕ) → Contains (placed_nexts shape cs) word → Contains nexts word
 
   -- a certificate's nodes are among the new ones, and the keys and queues that it changes among the changed ones
-  pub record IsCounted (c : Certificate) : Type 0 where
+  pub record IsWithinEffect (c : Certificate) : Type 0 where
     pub nodes : (n : NewNode) → Contains c.nodes n → Contains nexts (next_word shape n.node)
     pub keys : (map key : ℕ) → changed_key c.op c.reply ≡ Some (map, key) → Keys map key
     pub queues : (queue : ℕ) → changed_queue c.op c.reply ≡ Some queue → Queues queue
@@ -126,7 +126,7 @@ module _ (h : LogicalHeap) (valid : IsStore h) (nexts notes : List ℕ) (Keys : 
 
   -- a certificate past its tidy changes
   after_effect : (k : LogicalHeap) (done : List Change) → Reaches k done → (c : Certificate) → Stands k c → IsStore (after_certificate k c)
-      → KeepsFacts k (after_certificate k c) → store.certifies shape c → IsCounted c → Effect shape Keys Queues (Unit {0}) k c
+      → KeepsFacts k (after_certificate k c) → store.certifies shape c → IsWithinEffect c → Effect shape Keys Queues (Unit {0}) k c
       → Reaches (after_certificate k c) (done ++ c.changes)
   after_effect k done r c stands valid_after facts_after certifies counted (still none no_node) =
       subst (λ ns. Reaches (heap_after k c.changes ns) (done ++ c.changes)) (sym no_node)
@@ -150,7 +150,7 @@ module _ (h : LogicalHeap) (valid : IsStore h) (nexts notes : List ℕ) (Keys : 
       ∙ sym (flat_map-append whole_changes before (c ∷ []))
 
   -- a certificate with its tidy changes
-  whole_reach : (before : List Certificate) (c : Certificate) → AreNoted (before ++ c ∷ []) → IsCounted c → (k : LogicalHeap) → Reaches k (all_changes before)
+  whole_reach : (before : List Certificate) (c : Certificate) → AreNoted (before ++ c ∷ []) → IsWithinEffect c → (k : LogicalHeap) → Reaches k (all_changes before)
       → store.certifies shape c → All (store.tidies shape) c.tidy → TidiesStandBy k k c.tidy → Stands (after_tidies k c.tidy) c
       → KeepsFacts (after_whole k c) last → TidyCharged shape (before ++ c ∷ []) (all_changes before) c.tidy
       → Reaches (after_whole k c) (all_changes (before ++ c ∷ []))
@@ -167,7 +167,7 @@ module _ (h : LogicalHeap) (valid : IsStore h) (nexts notes : List ℕ) (Keys : 
       subst (Reaches (after_whole k c)) (changes_more before c)
       (after_effect mid (all_changes before ++ changes_of_tidy c.tidy) q c stands follows.valid follows.facts certifies counted effect)
 
-  module _ (total : List Certificate) (noted_all : AreNoted total) (counted : (c : Certificate) → Contains total c → IsCounted c) where
+  module _ (total : List Certificate) (noted_all : AreNoted total) (counted : (c : Certificate) → Contains total c → IsWithinEffect c) where
     -- the first of them
     noted_first : (sofar rest : List Certificate) → sofar ++ rest ≡ total → AreNoted sofar
     noted_first sofar rest e = record {

@@ -31,7 +31,7 @@ use Rattle.md_list_law.specs.ListShape.{next_word}
 use Rattle.md_store_law.specs.Store.{IsStore, store}
 use Rattle.md_store_law.specs.Laws.Nodes.{placed_exist}
 use Rattle.md_store_law.specs.Laws.StoreLaws.{store_lawful}
-use Rattle.md_store_counts.specs.Few.{RecordedAreFew, RecordsOne, acts_of, is_of_map, recorded_by, recorded_words}
+use Rattle.md_store_counts.specs.Few.{RecordedAreFew, RecordsOne, certificate_acts, is_of_map, recorded_by, recorded_words}
 use Rattle.md_store_counts.proofs.Chaining.{itself}
 use Rattle.md_store_counts.proofs.Different.{once}
 use Rattle.md_store_counts.proofs.Doing.{Does, Effect, IsBucketWord, Tidies, changes, dequeues, effect_of, enqueues, inserts, marks, moves, new_nodes, still, tidies_of, unlinks}
@@ -168,8 +168,8 @@ words_beside acts = count_by (λ a. changed_nothing a.op a.reply) acts + count_b
 
 record Looked (shape : Shape) (k : LogicalHeap) (cs : List Certificate) : Type 0 where
   words : List ℕ
-  few : length words ≤ words_beside (acts_of cs)
-  each : (word : ℕ) → Contains (recorded_words cs) word → Contains words word ⊎ IsAskedFront shape k (acts_of cs) word
+  few : length words ≤ words_beside (certificate_acts cs)
+  each : (word : ℕ) → Contains (recorded_words cs) word → Contains words word ⊎ IsAskedFront shape k (certificate_acts cs) word
 
 looked : (shape : Shape) (cs : List Certificate) (k : LogicalHeap) → IsStore k → k.words.shape ≡ shape → All (store.certifies shape) cs
     → All (λ (c : Certificate). All (store.tidies shape) c.tidy) cs → AllStandBy k k cs → All RecordsOne cs → Looked shape k cs
@@ -193,16 +193,16 @@ looked shape (c ∷ cs) k valid same certifies tidies stand records =
           let a = length-append (now.more ++ heads.news) rest.words in
           let b = length-append now.more heads.news in
           let d = now.few in let e = heads.few in let f = rest.few in
-          let x = sum_by-cons (λ (a : Act). one_if (changed_nothing a.op a.reply)) act (acts_of cs) in
-          let y = sum_by-cons (λ (a : Act). one_if (dequeued a.op a.reply)) act (acts_of cs) in
-          let z = sum_by-cons (λ (a : Act). line_words a.op) act (acts_of cs) in
+          let x = sum_by-cons (λ (a : Act). one_if (changed_nothing a.op a.reply)) act (certificate_acts cs) in
+          let y = sum_by-cons (λ (a : Act). one_if (dequeued a.op a.reply)) act (certificate_acts cs) in
+          let z = sum_by-cons (λ (a : Act). line_words a.op) act (certificate_acts cs) in
           omega (arith, a, b, d, e, f, x, y, z);
       each = λ word i. ⊎_elim
           (λ this. ⊎_elim
           (λ m. inl (Contains-append_left (now.more ++ heads.news) rest.words word (Contains-append_left now.more heads.news word m)))
           (λ t. inr (
             t.0,
-            (act, here act (acts_of cs), t.1),
+            (act, here act (certificate_acts cs), t.1),
             t.2,
             ⊎_elim inl (λ e. inr (e ∙ ap (λ v. next_word shape (linked_node v)) (unmoved t.0 t.2))) t.3,
           ))
@@ -210,11 +210,11 @@ looked shape (c ∷ cs) k valid same certifies tidies stand records =
           (λ later. ⊎_elim
           (λ m. inl (Contains-append_right (now.more ++ heads.news) rest.words word m))
           (λ t. ⊎_elim
-          (λ e. inr (t.0, (t.1.0, there act (acts_of cs) t.1.0 t.1.1, t.1.2), t.2, inl e))
+          (λ e. inr (t.0, (t.1.0, there act (certificate_acts cs) t.1.0 t.1.1, t.1.2), t.2, inl e))
           (λ e. ⊎_elim
           (λ stays. inr (
             t.0,
-            (t.1.0, there act (acts_of cs) t.1.0 t.1.1, t.1.2),
+            (t.1.0, there act (certificate_acts cs) t.1.0 t.1.1, t.1.2),
             t.2,
             inr (e ∙ ap (λ v. next_word shape (linked_node v)) (stays ∙ unmoved t.0 t.2)),
           ))
@@ -234,7 +234,7 @@ pub recorded_are_few : RecordedAreFew
 recorded_are_few h cs s records words differ all =
     let shape = h.words.shape in
     let l = looked shape cs h s.valid refl s.certifies s.tidies s.stand records in
-    let asked = filter_map (λ (a : Act). asked_queue a.op a.reply) (acts_of cs) in
+    let asked = filter_map (λ (a : Act). asked_queue a.op a.reply) (certificate_acts cs) in
     let o = once nat_eq eqb-true asked in
     let some = flat_map (fronts shape h) o.each in
     let less = pigeons (λ (x y : ℕ). x ≡ y) (λ x y a p q. p ∙ sym q) words (l.words ++ some) differ (λ word i. (
@@ -242,7 +242,7 @@ recorded_are_few h cs s records words differ all =
       ⊎_elim
           (λ m. Contains-append_left l.words some word m)
           (λ t. Contains-append_right l.words some word (flat_in (fronts shape h) o.each t.0 word
-          (o.all t.0 (filter_map_in (λ (a : Act). asked_queue a.op a.reply) (acts_of cs) t.1.0 t.0 t.1.1 t.1.2))
+          (o.all t.0 (filter_map_in (λ (a : Act). asked_queue a.op a.reply) (certificate_acts cs) t.1.0 t.0 t.1.1 t.1.2))
           (⊎_elim
           (λ e. subst (Contains (fronts shape h t.0)) (sym e) (here (head_at shape t.0) (first_next shape h t.0 ∷ [])))
           (λ e. subst (Contains (fronts shape h t.0)) (sym e) (there (head_at shape t.0) (first_next shape h t.0 ∷ []) (first_next shape h t.0) (here (first_next shape h t.0) [])))

@@ -17,7 +17,7 @@ use Rattle.md_machine.specs.Certified.{all_nodes, whole_nodes}
 use Rattle.md_list_law.specs.Certificates.{IsRow, get_some, get_none, insert_false, insert_true, remove_none, remove_some}
 use Rattle.md_queue_law.specs.QueueCertificates.{CertifiesOp}
 use Rattle.md_store_law.specs.Store.{store}
-use Rattle.md_store_counts.specs.Few.{PlacedAreCounted, acts_of}
+use Rattle.md_store_counts.specs.Few.{PlacedAreCounted, certificate_acts}
 
 -- one node for an operation that added a pair or a value
 abbrev pub one_if : Bool → ℕ
@@ -57,13 +57,13 @@ whole_places shape c certifies tidies = ap (λ (ns : List NewNode). length (ns +
     ∙ ⊎_elim (λ table. row_places shape _ _ _ _ c table.3.row) (queue_places shape c.op c) certifies
 
 pub places : (shape : Shape) (cs : List Certificate) → All (store.certifies shape) cs → All (λ (c : Certificate). All (store.tidies shape) c.tidy) cs
-    → length (all_nodes cs) ≡ nodes (acts_of cs)
+    → length (all_nodes cs) ≡ nodes (certificate_acts cs)
 places shape [] certifies tidies = refl
 places shape (c ∷ cs) certifies tidies =
     length-append (whole_nodes c) (all_nodes cs)
     ∙ (let first = whole_places shape c (All-head (store.certifies shape) c cs certifies) (All-head (λ (c : Certificate). All (store.tidies shape) c.tidy) c cs tidies) in
     let rest = places shape cs (All-tail (store.certifies shape) c cs certifies) (All-tail (λ (c : Certificate). All (store.tidies shape) c.tidy) c cs tidies) in
-    let sum = sum_by-cons (λ (a : Act). one_if (added a.op a.reply)) (record { op = c.op; reply = c.reply }) (acts_of cs) in
+    let sum = sum_by-cons (λ (a : Act). one_if (added a.op a.reply)) (record { op = c.op; reply = c.reply }) (certificate_acts cs) in
     omega (arith, first, rest, sum))
 
 pub placed_are_counted : PlacedAreCounted

@@ -24,7 +24,7 @@ use Rattle.md_machine.proofs.lists.Rising.{here, in_none, map_in, there}
 use Rattle.md_list_law.specs.ListShape.{next_word}
 use Rattle.md_store_law.specs.Store.{IsStore, store}
 use Rattle.md_store_law.specs.Laws.StoreLaws.{store_lawful}
-use Rattle.md_store_counts.specs.Few.{RecordsOne, TidiedAreFew, TidyFrom, WrittenAreFew, acts_of, is_of_map, placed_nexts, recorded_by, recorded_words, words_of_changes}
+use Rattle.md_store_counts.specs.Few.{RecordsOne, TidiedAreFew, TidyFrom, WrittenAreFew, certificate_acts, is_of_map, placed_nexts, recorded_by, recorded_words, words_of_changes}
 use Rattle.md_store_counts.proofs.Chaining.{AreNoted, IsQueueWord, itself, kept_placed, tidies_reach, wholes_reach}
 use Rattle.md_store_counts.proofs.Charges.{HasKey, IsCovered, IsLast, Leads, at_head, at_key, at_last, at_place, at_tail, key_one, last_one, leads_one, noted, own}
 use Rattle.md_store_counts.proofs.Covering.{reached_first}
@@ -49,13 +49,13 @@ few_notes c one = ⊎_elim
     (λ f. let e = ap (λ (l : List ℕ). length l) (cond-false (is_of_map c.op) (recorded_by c) [] f) in omega (arith, e))
     (cases_Bool (is_of_map c.op))
 
-notes_few : (cs : List Certificate) → All RecordsOne cs → length (notes cs) ≤ count_by (λ (a : Act). changed_nothing a.op a.reply) (acts_of cs)
+notes_few : (cs : List Certificate) → All RecordsOne cs → length (notes cs) ≤ count_by (λ (a : Act). changed_nothing a.op a.reply) (certificate_acts cs)
 notes_few [] records = omega arith
 notes_few (c ∷ cs) records =
     let a = length-append (notes_of c) (notes cs) in
     let b = few_notes c (All-head RecordsOne c cs records) in
     let d = notes_few cs (All-tail RecordsOne c cs records) in
-    let e = sum_by-cons (λ (a : Act). one_if (changed_nothing a.op a.reply)) (act_of c.op c.reply) (acts_of cs) in
+    let e = sum_by-cons (λ (a : Act). one_if (changed_nothing a.op a.reply)) (act_of c.op c.reply) (certificate_acts cs) in
     omega (arith, a, b, d, e)
 
 later_queue : (shape : Shape) (k l : LogicalHeap) → KeepsFacts k l → (word : ℕ) → IsQueueWord shape k word → IsQueueWord shape l word
@@ -129,10 +129,10 @@ same_pair x y e = let p = and_parts (x.0 == y.0) (x.1 == y.1) e in pair_is x.0 y
 
 module _ (h : LogicalHeap) (cs : List Certificate) where
   abbrev keys : List (ℕ × ℕ)
-  keys = filter_map (λ (a : Act). changed_key a.op a.reply) (acts_of cs)
+  keys = filter_map (λ (a : Act). changed_key a.op a.reply) (certificate_acts cs)
 
   abbrev queues : List ℕ
-  queues = filter_map (λ (a : Act). changed_queue a.op a.reply) (acts_of cs)
+  queues = filter_map (λ (a : Act). changed_queue a.op a.reply) (certificate_acts cs)
 
   abbrev Keys : ℕ → ℕ → Type 0
   Keys map key = Contains keys (map, key)
@@ -223,9 +223,9 @@ tidied_are_few h cs ts s records charged tidied words differ all =
     (λ c i. record {
       nodes = λ n j. map_in (λ (n : NewNode). next_word shape n.node) (all_nodes cs) n
           (flat_in whole_nodes cs c n i (Contains-append_right (flat_map (λ (t : TidyChange). t.nodes) c.tidy) c.nodes n j));
-      keys = λ map key e. filter_map_in (λ (a : Act). changed_key a.op a.reply) (acts_of cs) (act_of c.op c.reply) (map, key)
+      keys = λ map key e. filter_map_in (λ (a : Act). changed_key a.op a.reply) (certificate_acts cs) (act_of c.op c.reply) (map, key)
           (map_in (λ (c : Certificate). act_of c.op c.reply) cs c i) e;
-      queues = λ queue e. filter_map_in (λ (a : Act). changed_queue a.op a.reply) (acts_of cs) (act_of c.op c.reply) queue
+      queues = λ queue e. filter_map_in (λ (a : Act). changed_queue a.op a.reply) (certificate_acts cs) (act_of c.op c.reply) queue
           (map_in (λ (c : Certificate). act_of c.op c.reply) cs c i) e;
     })
     cs [] refl h (reached_first h s.valid (placed_nexts shape cs) (notes cs) (Keys h cs) (Queues h cs)) s.certifies s.tidies s.stand after.facts charged in

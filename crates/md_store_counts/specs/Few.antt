@@ -24,9 +24,9 @@ pub record StandFrom (h : LogicalHeap) (cs : List Certificate) : Type 0 where
   pub tidies : All (λ c. All (store.tidies h.words.shape) c.tidy) cs
   pub stand : AllStandBy h h cs
 
--- their acts
-abbrev pub acts_of : List Certificate → List Act
-acts_of cs = map (λ c. act_of c.op c.reply) cs
+-- the acts of certificates
+abbrev pub certificate_acts : List Certificate → List Act
+certificate_acts cs = map (λ c. act_of c.op c.reply) cs
 
 -- the words that they record, those that changes name, and the next words of the nodes that they place
 abbrev pub recorded_by : Certificate → List ℕ
@@ -80,17 +80,17 @@ AtMost most Is = (words : List ℕ) → AllPairs ◌≢◌ words → All Is word
 
 -- they place as many nodes as their acts count
 abbrev pub PlacedAreCounted : Type 0
-PlacedAreCounted = (h : LogicalHeap) (cs : List Certificate) → StandFrom h cs → length (all_nodes cs) ≡ nodes (acts_of cs)
+PlacedAreCounted = (h : LogicalHeap) (cs : List Certificate) → StandFrom h cs → length (all_nodes cs) ≡ nodes (certificate_acts cs)
 
 -- they record no more different words
 abbrev pub RecordedAreFew : Type 0
 RecordedAreFew = (h : LogicalHeap) (cs : List Certificate) → StandFrom h cs → All RecordsOne cs
-    → AtMost (reads (acts_of cs)) (Contains (recorded_words cs))
+    → AtMost (reads (certificate_acts cs)) (Contains (recorded_words cs))
 
 -- and change no more, if each of their tidy changes is charged
 abbrev pub WrittenAreFew : Type 0
 WrittenAreFew = (h : LogicalHeap) (cs : List Certificate) → StandFrom h cs → All RecordsOne cs → AllCharged h.words.shape [] cs
-    → AtMost (writes (acts_of cs)) (Contains (changed_words cs))
+    → AtMost (writes (certificate_acts cs)) (Contains (changed_words cs))
 
 -- so it is after tidy changes of an operation that goes on
 pub record TidyFrom (h : LogicalHeap) (cs : List Certificate) (ts : List TidyChange) : Type 0 where
@@ -101,4 +101,4 @@ pub record TidyFrom (h : LogicalHeap) (cs : List Certificate) (ts : List TidyCha
 abbrev pub TidiedAreFew : Type 0
 TidiedAreFew = (h : LogicalHeap) (cs : List Certificate) (ts : List TidyChange) → StandFrom h cs → All RecordsOne cs
     → AllCharged h.words.shape [] cs → TidyFrom h cs ts
-    → AtMost (writes (acts_of cs)) (Contains (words_of_changes (all_changes cs ++ changes_of_tidy ts)))
+    → AtMost (writes (certificate_acts cs)) (Contains (words_of_changes (all_changes cs ++ changes_of_tidy ts)))

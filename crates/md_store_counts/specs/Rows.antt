@@ -11,7 +11,7 @@ use Rattle.md_machine.specs.LogicalHeap.{LogicalHeap}
 use Rattle.md_list_law.specs.Certificates.{key_fact, next_fact, node_fact, pair_fact}
 use Rattle.md_list_law.specs.OneList.{the_list}
 use Rattle.md_list_law.specs.Rows.{empty_list, get_4, insert_3, insert_4, insert_5, list_shape, remove_3, unlink_3}
-use Rattle.md_store_counts.specs.Few.{AllCharged, RecordsOne, StandFrom, acts_of, changed_words, recorded_words}
+use Rattle.md_store_counts.specs.Few.{AllCharged, RecordsOne, StandFrom, certificate_acts, changed_words, recorded_words}
 
 abbrev pub worked : List Certificate
 worked = insert_5 ∷ insert_3 ∷ get_4 ∷ remove_3 ∷ insert_4 ∷ []
@@ -22,9 +22,9 @@ pub record WorkedCounts : Type 0 where
   pub charged : AllCharged list_shape [] worked
   pub recorded : recorded_words worked ≡ 7 ∷ []
   pub changed : changed_words worked ≡ 1 ∷ 1 ∷ 7 ∷ 1 ∷ 1 ∷ []
-  pub reads : reads (acts_of worked) ≡ 1
-  pub writes : writes (acts_of worked) ≡ 10
-  pub nodes : nodes (acts_of worked) ≡ 3
+  pub reads : reads (certificate_acts worked) ≡ 1
+  pub writes : writes (certificate_acts worked) ≡ 10
+  pub nodes : nodes (certificate_acts worked) ≡ 3
 
 -- Why tidy changes must be charged: in the same list 7 is inserted behind 5 and removed. A look-up of 9 that unlinks both
 -- removed nodes, in no need to do so, changes two words, and its act counts one.
@@ -80,5 +80,5 @@ pub record WorkedExcess : Type 0 where
   pub stand : StandFrom two_removed (get_9 ∷ [])
   pub records : All RecordsOne (get_9 ∷ [])
   pub changed : changed_words (get_9 ∷ []) ≡ 1 ∷ 4 ∷ []
-  pub writes : writes (acts_of (get_9 ∷ [])) ≡ 1
+  pub writes : writes (certificate_acts (get_9 ∷ [])) ≡ 1
   pub uncharged : AllCharged list_shape [] (get_9 ∷ []) → ⊥

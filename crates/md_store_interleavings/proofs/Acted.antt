@@ -5,18 +5,18 @@ use Rattle.md_history.specs.declared.acts.Reply.{Reply}
 use Rattle.md_history.specs.declared.stops.Stop.{Stop}
 use Rattle.md_machine.specs.declared.attempt.Hand.{Hand}
 use Rattle.md_store_interleavings.specs.Acting.{HasBegun, IsActing, MayEnd, WasRefused}
-use Rattle.md_list.specs.Operations.{Answers, Leaves}
+use Rattle.md_list.specs.Operations.{Answers, OperationGoesOn}
 use Rattle.md_list.specs.Walking.{IsHeadOf}
 use Rattle.md_list.proofs.answers.Answered.{may_answer}
-use Rattle.md_nbtc_law.specs.Calls.{Ends, GoesOn, with_act, with_operation}
-use Rattle.md_nbtc_law.specs.Ending.{Begins}
+use Rattle.md_nbtc_law.specs.Calls.{EndsOperation, GoesOn, with_act, with_operation}
+use Rattle.md_nbtc_law.specs.Ending.{BeginsTransaction}
 use Rattle.md_nbtc_law.specs.Going.{IsGoing, IsUnderWay}
 use Rattle.md_nbtc_law.specs.State.{TxnState, shape_in}
 use Rattle.md_rule.specs.Views.{FieldView, PassState}
 use Rattle.md_store_law.specs.Store.{store}
 
 -- it begins
-pub begun_acts : (f : FieldView) (p : PassState) (tag : ℕ) (t : TxnState) → Begins p tag t → IsGoing store t [] → t.field ≡ f → IsActing f t None
+pub begun_acts : (f : FieldView) (p : PassState) (tag : ℕ) (t : TxnState) → BeginsTransaction p tag t → IsGoing store t [] → t.field ≡ f → IsActing f t None
 begun_acts f p tag t begins going field = record {
   going = ([], going);
   field = field;
@@ -45,7 +45,7 @@ module _ (f : FieldView) (t s : TxnState) (stop : Option Stop) (acting : IsActin
   field_is = ap (λ (x : TxnState). x.field) is ∙ acting.field
 
   -- and is ended, or refused
-  pub ended : (u v : TxnState) (op : Op) (reply : Reply) → MayEnd s u op reply → Ends store u v op reply
+  pub ended : (u v : TxnState) (op : Op) (reply : Reply) → MayEnd s u op reply → EndsOperation store u v op reply
       → v ≡ record u { pass = v.pass; hand = with_act u.hand op reply } → IsActing f v stop
   ended u v op reply may ends is_then =
       let m = may.may in record {
@@ -64,7 +64,7 @@ module _ (f : FieldView) (t s : TxnState) (stop : Option Stop) (acting : IsActin
   }
 
 -- an operation of a list that was answered may be ended
-pub list_may_end : (t u : TxnState) → HasBegun t → (reads writes nodes : ℕ) → Leaves store t u reads writes nodes → (map key head : ℕ) (op : ℕ → Op) (reply : Reply)
+pub list_may_end : (t u : TxnState) → HasBegun t → (reads writes nodes : ℕ) → OperationGoesOn store t u reads writes nodes → (map key head : ℕ) (op : ℕ → Op) (reply : Reply)
     → Answers store t u head key op reply → IsHeadOf (shape_in t) map key head → u.stop ≡ None → MayEnd t u (op map) reply
 list_may_end t u has reads writes nodes leaves map key head op reply answers is none = record {
   later = leaves.on.later;

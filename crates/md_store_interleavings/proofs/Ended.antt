@@ -2,7 +2,7 @@
 use Rattle.std.proofs.Common.{◌≡◌, Option, sym, ap, subst, ◌∙◌, ⊎_elim}
 use Rattle.md_history.specs.declared.stops.Shown.{Shown}
 use Rattle.md_history.specs.declared.stops.Stop.{Stop}
-use Rattle.md_help.specs.After.{Stands}
+use Rattle.md_help.specs.After.{StandsInField}
 use Rattle.md_store_interleavings.specs.Acting.{IsActing}
 use Rattle.md_nbtc_law.specs.Ended.{WasCommitted, WasLost}
 use Rattle.md_nbtc_law.specs.Ending.{HasEntry, PutDown, Readies, Stopped}
@@ -19,17 +19,17 @@ down_of f t of field q down = record {
     table = down.same.table ∙ of.table ∙ ap (λ (x : FieldView). x.table) field;
     shape = down.same.shape ∙ of.shape ∙ ap (λ (x : FieldView). x.origin.shape) field;
   };
-  stands = subst (λ (x : FieldView). Stands store x.origin q.view) field down.stands;
+  stands = subst (λ (x : FieldView). StandsInField store x.origin q.view) field down.stands;
 }
 
 -- one that left it as it stands
-same_of : (f : FieldView) (t : TxnState) → IsOf t.pass t.field → t.field ≡ f → Stands store t.field.origin t.pass.view → (q : PassState) → q ≡ t.pass → IsPassOf f q
+same_of : (f : FieldView) (t : TxnState) → IsOf t.pass t.field → t.field ≡ f → StandsInField store t.field.origin t.pass.view → (q : PassState) → q ≡ t.pass → IsPassOf f q
 same_of f t of field stands q same = subst (IsPassOf f) (sym same) (record {
   of = record {
     table = of.table ∙ ap (λ (x : FieldView). x.table) field;
     shape = of.shape ∙ ap (λ (x : FieldView). x.origin.shape) field;
   };
-  stands = subst (λ (x : FieldView). Stands store x.origin t.pass.view) field stands;
+  stands = subst (λ (x : FieldView). StandsInField store x.origin t.pass.view) field stands;
 })
 
 module _ (f : FieldView) (t : TxnState) (stop : Option Stop) (acting : IsActing f t stop) where

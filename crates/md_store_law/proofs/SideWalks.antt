@@ -14,7 +14,7 @@ use Rattle.md_queue_law.proofs.Facts.{ranks_rise}
 use Rattle.md_store_law.specs.declared.side_walks.QueueWalk.{QueueWalk}
 use Rattle.md_store_law.specs.Field.{logical_words, IsStoreWith, IsStoreField}
 use Rattle.md_store_law.specs.Compacted.{values_in}
-use Rattle.md_store_law.specs.SideWalks.{IsBegun, MayStep, GoesOn, Stays, AreRead, EachWalk, AreSteps}
+use Rattle.md_store_law.specs.SideWalks.{IsWalkBegun, MayStep, WalkGoesOn, WalkStays, AreRead, EachWalk, AreSteps}
 use Rattle.md_store_law.proofs.Walking.{heap_with}
 
 -- one more walk
@@ -35,7 +35,7 @@ module _ (shape : Shape) (words : List ℕ) where
     pub rest : walk.values.items ++ values_after (logical_words shape words) left walk.node ≡ values_in shape words queue
 
   module _ (queue : ℕ) (q : queue < shape.queues) where
-    pub walk_begun : (walk : QueueWalk) → IsBegun shape words queue walk → IsUnderWay (node_count shape) queue walk
+    pub walk_begun : (walk : QueueWalk) → IsWalkBegun shape words queue walk → IsUnderWay (node_count shape) queue walk
     walk_begun walk begun =
         let w = logical_words shape words in
         record {
@@ -59,7 +59,7 @@ module _ (shape : Shape) (words : List ℕ) where
     }
 
     -- a step on
-    pub walk_on : (left : ℕ) (before after : QueueWalk) → IsUnderWay (suc left) queue before → GoesOn shape words before after → IsUnderWay left queue after
+    pub walk_on : (left : ℕ) (before after : QueueWalk) → IsUnderWay (suc left) queue before → WalkGoesOn shape words before after → IsUnderWay left queue after
     walk_on left before after way on =
         let w = logical_words shape words in
         let next = w.value_of_node (node_after w before.node) in
@@ -79,12 +79,12 @@ module _ (shape : Shape) (words : List ℕ) where
       let w = logical_words shape words in cond-true (eqb (next_of w node) 0) _ _ (eq-eqb (next_of w node) 0 last)
 
   -- so a walk that stays has read all
-  pub walk_read : (left queue : ℕ) (before after : QueueWalk) → IsUnderWay left queue before → Stays shape words before after → AreRead shape words queue after
+  pub walk_read : (left queue : ℕ) (before after : QueueWalk) → IsUnderWay left queue before → WalkStays shape words before after → AreRead shape words queue after
   walk_read left queue before after way stays =
       ap (λ (walk : QueueWalk). walk.values.items) stays.same ∙ sym (append-nil before.values.items)
       ∙ ap (λ vs. before.values.items ++ vs) (sym (values_last left before.node stays.last)) ∙ way.rest
 
-  pub walk_stays : (left less queue : ℕ) (before after : QueueWalk) → IsUnderWay left queue before → Stays shape words before after → IsUnderWay less queue after
+  pub walk_stays : (left less queue : ℕ) (before after : QueueWalk) → IsUnderWay left queue before → WalkStays shape words before after → IsUnderWay less queue after
   walk_stays left less queue before after way stays = subst (λ (walk : QueueWalk). IsUnderWay less queue walk) (sym stays.same) (record {
     is_of = way.is_of;
     rest = ap (λ vs. before.values.items ++ vs) (values_last less before.node stays.last ∙ sym (values_last left before.node stays.last)) ∙ way.rest;
@@ -101,7 +101,7 @@ module _ (shape : Shape) (words : List ℕ) where
     queue_of : (i : ℕ) → i < length walks → first + i < shape.queues
     queue_of i below = omega (arith, below, within)
 
-    pub group_begun : EachWalk (IsBegun shape words) first walks → EachWalk (IsUnderWay (node_count shape)) first walks
+    pub group_begun : EachWalk (IsWalkBegun shape words) first walks → EachWalk (IsUnderWay (node_count shape)) first walks
     group_begun begun i other below = walk_begun (first + i) (queue_of i below) (get_or walks i other) (begun i other below)
 
     pub group_may : (left : ℕ) → EachWalk (IsUnderWay left) first walks → IsStoreField shape words → EachWalk (λ queue. MayStep shape words) 0 walks
@@ -132,5 +132,5 @@ module _ (shape : Shape) (words : List ℕ) where
   pub record AreStepping (before : List QueueWalk) (number : ℕ) (going : Bool) (after : List QueueWalk) : Type 0 where
     pub count : length after ≡ length before
     pub each : (i : ℕ) (other : QueueWalk) → i < number
-        → (GoesOn shape words (get_or before i other) (get_or after i other) × (going ≡ true)) ⊎ Stays shape words (get_or before i other) (get_or after i other)
+        → (WalkGoesOn shape words (get_or before i other) (get_or after i other) × (going ≡ true)) ⊎ WalkStays shape words (get_or before i other) (get_or after i other)
     pub others : (i : ℕ) (other : QueueWalk) → number ≤ i → get_or after i other ≡ get_or before i other

@@ -12,7 +12,7 @@ use Rattle.md_store_law.specs.Field.{logical_words}
 use Rattle.md_store_law.specs.Compacted.{values_in}
 
 -- a walk stands at the first node of a queue, and has read nothing
-pub record IsBegun (shape : Shape) (words : List ℕ) (queue : ℕ) (walk : QueueWalk) : Type 0 where
+pub record IsWalkBegun (shape : Shape) (words : List ℕ) (queue : ℕ) (walk : QueueWalk) : Type 0 where
   pub node : walk.node ≡ linked_node (head_of (logical_words shape words) queue)
   pub values : walk.values.items ≡ []
 
@@ -22,20 +22,20 @@ pub record MayStep (shape : Shape) (words : List ℕ) (walk : QueueWalk) : Type 
   pub next : next_of (logical_words shape words) walk.node ≢ 0 → IsNode shape (node_after (logical_words shape words) walk.node)
 
 -- it goes on to the next node, and reads its value
-pub record GoesOn (shape : Shape) (words : List ℕ) (before after : QueueWalk) : Type 0 where
+pub record WalkGoesOn (shape : Shape) (words : List ℕ) (before after : QueueWalk) : Type 0 where
   pub next : next_of (logical_words shape words) before.node ≢ 0
   pub node : after.node ≡ node_after (logical_words shape words) before.node
   pub values : let w = logical_words shape words in after.values.items ≡ before.values.items ++ w.value_of_node (node_after w before.node) ∷ []
 
 -- it stays at the last node
-pub record Stays (shape : Shape) (words : List ℕ) (before after : QueueWalk) : Type 0 where
+pub record WalkStays (shape : Shape) (words : List ℕ) (before after : QueueWalk) : Type 0 where
   pub last : next_of (logical_words shape words) before.node ≡ 0
   pub same : after ≡ before
 
 -- a step of a walk, by whether it went on
 abbrev pub IsStep : Shape → List ℕ → QueueWalk → (on : Bool) → QueueWalk → Type 0
-IsStep shape words before true after = GoesOn shape words before after
-IsStep shape words before false after = Stays shape words before after
+IsStep shape words before true after = WalkGoesOn shape words before after
+IsStep shape words before false after = WalkStays shape words before after
 
 -- a walk has read the values of a queue
 abbrev pub AreRead : Shape → List ℕ → (queue : ℕ) → QueueWalk → Type 0
@@ -49,8 +49,8 @@ EachWalk P first walks = (i : ℕ) (other : QueueWalk) → i < length walks → 
 pub record AreSteps (shape : Shape) (words : List ℕ) (before : List QueueWalk) (going : Bool) (after : List QueueWalk) : Type 0 where
   pub count : length after ≡ length before
   pub each : (i : ℕ) (other : QueueWalk) → i < length before
-      → (GoesOn shape words (slice_index_or before i other) (slice_index_or after i other) × (going ≡ true))
-      ⊎ Stays shape words (slice_index_or before i other) (slice_index_or after i other)
+      → (WalkGoesOn shape words (slice_index_or before i other) (slice_index_or after i other) × (going ≡ true))
+      ⊎ WalkStays shape words (slice_index_or before i other) (slice_index_or after i other)
 
 -- the queues from a number on have what walks have read, and all else is as it was
 pub record AreFilled (first : ℕ) (walks : List QueueWalk) (before after : State) : Type 0 where

@@ -3,7 +3,7 @@
 ghost use Rattle.std.specs.Prelude.{◌≡◌, ◌<◌, ◌≤◌, ◌+◌, length, IfOk, OnOk};
 ghost use Rattle.md_words.specs.LayoutLaws.{IsField};
 ghost use Rattle.md_store_law.specs.Field.{IsStoreField};
-ghost use Rattle.md_store_law.specs.SideWalks.{IsBegun, MayStep, IsStep};
+ghost use Rattle.md_store_law.specs.SideWalks.{IsWalkBegun, MayStep, IsStep};
 ghost use Rattle.md_store_law.specs.SideWalks.{EachWalk, AreSteps, AreRead};
 
 use crate::field_words::FieldWords;
@@ -34,7 +34,7 @@ impl QueueWalk {
     fn begin<W: FieldWords>(&mut self, shape: &Shape, words: &W, queue: u32)
         requires field { IsField shape.now (W.words words.now) }
         requires queue { queue < shape.now.queues }
-        ensures { IsBegun shape.now (W.words words.now) queue self.new }
+        ensures { IsWalkBegun shape.now (W.words words.now) queue self.new }
     {
         self.node = value_at(words, shape.queue_head(queue)) / 2;
         self.values.clear();
@@ -113,7 +113,7 @@ fn walk_to_ends<W: FieldWords>(
 fn begin_group<W: FieldWords>(walks: &mut [QueueWalk], shape: &Shape, words: &W, first: u32)
     requires field { IsField shape.now (W.words words.now) }
     requires queues { first + length walks.old ≤ shape.now.queues }
-    ensures { EachWalk (IsBegun shape.now (W.words words.now)) first walks.new }
+    ensures { EachWalk (IsWalkBegun shape.now (W.words words.now)) first walks.new }
 {
     for (i, walk) in walks.iter_mut().enumerate() {
         walk.begin(shape, words, first + i as u32);

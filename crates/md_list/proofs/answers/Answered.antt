@@ -6,10 +6,10 @@ use Rattle.md_machine.specs.Meaning.{Meaning}
 use Rattle.md_nbtc_law.specs.Calls.{MayAnswer}
 use Rattle.md_nbtc_law.specs.Going.{IsUnderWay}
 use Rattle.md_nbtc_law.specs.State.{TxnState, shape_in}
-use Rattle.md_list.specs.Operations.{Answers, Leaves}
+use Rattle.md_list.specs.Operations.{Answers, OperationGoesOn}
 use Rattle.md_list.specs.Walking.{IsHeadOf}
 
-pub may_answer : (M : Meaning) (t u : TxnState) (reads writes nodes : ℕ) → Leaves M t u reads writes nodes → IsUnderWay M t → (head key : ℕ) (op : ℕ → Op) (reply : Reply)
+pub may_answer : (M : Meaning) (t u : TxnState) (reads writes nodes : ℕ) → OperationGoesOn M t u reads writes nodes → IsUnderWay M t → (head key : ℕ) (op : ℕ → Op) (reply : Reply)
     → Answers M t u head key op reply → (map : ℕ) → IsHeadOf (shape_in t) map key head → MayAnswer M u (op map) reply
 may_answer M t u reads writes nodes leaves under head key op reply answers map is =
     let answered = answers map is under.0 under.1 in

@@ -15,7 +15,7 @@ use Rattle.md_nbtc_law.proofs.preparing.Heaps.{later_self}
 use Rattle.md_nbtc_law.proofs.preparing.Later.{later_over}
 use Rattle.md_nbtc_law.proofs.structures.Answering.{IsStopped}
 use Rattle.md_nbtc_law.proofs.structures.Noting.{HasNoted}
-use Rattle.md_list.specs.Operations.{Leaves, SlotsStay}
+use Rattle.md_list.specs.Operations.{OperationGoesOn, SlotsStay}
 use Rattle.md_list.proofs.changes.Staying.{KeepsNone, slots_kept, slots_over, slots_same}
 
 -- one call adds so much at most, and leaves the acts, the slots, and that an operation is begun
@@ -90,7 +90,7 @@ goes_over M s t u one two = record { going = λ cs going. two.going cs (one.goin
 
 module _ (M : Meaning) (s : TxnState) where
   -- at first
-  pub leaves_none : s.hand.operating ≡ true → Leaves M s s 0 0 0
+  pub leaves_none : s.hand.operating ≡ true → OperationGoesOn M s s 0 0 0
   leaves_none operates = record {
     on = record { going = λ cs going. going; later = later_self s };
     acts = refl;
@@ -102,7 +102,7 @@ module _ (M : Meaning) (s : TxnState) where
   }
 
   -- after one more call
-  pub leaves_on : (t u : TxnState) (a b c reads writes nodes : ℕ) → Leaves M s t a b c → GoesOn M s u → Adds t u reads writes nodes → Leaves M s u (a + reads) (b + writes) (c + nodes)
+  pub leaves_on : (t u : TxnState) (a b c reads writes nodes : ℕ) → OperationGoesOn M s t a b c → GoesOn M s u → Adds t u reads writes nodes → OperationGoesOn M s u (a + reads) (b + writes) (c + nodes)
   leaves_on t u a b c reads writes nodes leaves goes adds = record {
     on = goes;
     acts = adds.acts ∙ leaves.acts;
@@ -113,11 +113,11 @@ module _ (M : Meaning) (s : TxnState) where
     nodes_few = let x = leaves.nodes_few in let y = adds.nodes_few in omega (arith, x, y);
   }
 
-  pub leaves_more : (t u : TxnState) (a b c reads writes nodes : ℕ) → Leaves M s t a b c → GoesOn M t u → Adds t u reads writes nodes → Leaves M s u (a + reads) (b + writes) (c + nodes)
+  pub leaves_more : (t u : TxnState) (a b c reads writes nodes : ℕ) → OperationGoesOn M s t a b c → GoesOn M t u → Adds t u reads writes nodes → OperationGoesOn M s u (a + reads) (b + writes) (c + nodes)
   leaves_more t u a b c reads writes nodes leaves goes adds = leaves_on t u a b c reads writes nodes leaves (goes_over M s t u leaves.on goes) adds
 
   -- fewer are at most as many
-  pub leaves_within : (t : TxnState) (a b c reads writes nodes : ℕ) → a ≤ reads → b ≤ writes → c ≤ nodes → Leaves M s t a b c → Leaves M s t reads writes nodes
+  pub leaves_within : (t : TxnState) (a b c reads writes nodes : ℕ) → a ≤ reads → b ≤ writes → c ≤ nodes → OperationGoesOn M s t a b c → OperationGoesOn M s t reads writes nodes
   leaves_within t a b c reads writes nodes one two three leaves = record {
     on = leaves.on;
     acts = leaves.acts;
@@ -139,8 +139,8 @@ module _ {A : Type 0} (xs : List A) where
 
 -- so an operation that records no word, or takes no node, leaves those
 module _ (M : Meaning) (s t : TxnState) where
-  pub reads_kept : (writes nodes : ℕ) → Leaves M s t 0 writes nodes → t.reads ≡ s.reads
+  pub reads_kept : (writes nodes : ℕ) → OperationGoesOn M s t 0 writes nodes → t.reads ≡ s.reads
   reads_kept writes nodes leaves = on_by_none s.reads t.reads leaves.on.later.reads leaves.reads_few
 
-  pub nodes_kept : (reads writes : ℕ) → Leaves M s t reads writes 0 → t.nodes ≡ s.nodes
+  pub nodes_kept : (reads writes : ℕ) → OperationGoesOn M s t reads writes 0 → t.nodes ≡ s.nodes
   nodes_kept reads writes leaves = on_by_none s.nodes t.nodes leaves.on.later.nodes leaves.nodes_few

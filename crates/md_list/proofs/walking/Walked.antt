@@ -5,7 +5,7 @@ use Rattle.md_machine.specs.Meaning.{Meaning}
 use Rattle.md_nbtc_law.specs.Calls.{GoesOn}
 use Rattle.md_nbtc_law.specs.State.{TxnState}
 use Rattle.md_nbtc_law.proofs.structures.Answering.{IsStopped}
-use Rattle.md_list.specs.Operations.{Leaves, SlotsStay}
+use Rattle.md_list.specs.Operations.{OperationGoesOn, SlotsStay}
 use Rattle.md_list.specs.Written.{WritesFew}
 use Rattle.md_list.proofs.charges.Adding.{adds_stop, goes_over, leaves_more}
 use Rattle.md_list.proofs.changes.Staying.{slots_over, slots_same}
@@ -44,7 +44,7 @@ module _ (M : Meaning) (t : TxnState) where
   }
 
   -- so it leaves this, with few words written
-  pub walk_leaves : (u : TxnState) → WalkedFrom M t u → WritesFew t u 0 → Leaves M t u 0 0 0
+  pub walk_leaves : (u : TxnState) → WalkedFrom M t u → WritesFew t u 0 → OperationGoesOn M t u 0 0 0
   walk_leaves u walked few = record {
     on = walked.on;
     acts = walked.acts;
@@ -56,7 +56,7 @@ module _ (M : Meaning) (t : TxnState) where
   }
 
   -- and after a refusal still
-  pub stop_leaves : (u v : TxnState) (s : Stop) → Leaves M t u 0 0 0 → GoesOn M u v → IsStopped u v s → Leaves M t v 0 0 0
+  pub stop_leaves : (u v : TxnState) (s : Stop) → OperationGoesOn M t u 0 0 0 → GoesOn M u v → IsStopped u v s → OperationGoesOn M t v 0 0 0
   stop_leaves u v s leaves goes is = leaves_more M t u v 0 0 0 0 0 0 leaves goes (adds_stop u v s is)
 
   pub has_stop : (u : TxnState) (s : Stop) → IsStopped t u s → u.stop ≡ Some s

@@ -1,6 +1,6 @@
 -- What is a fact in a resolution is one in each that keeps more, and stays one: after every event.
 use Rattle.std.proofs.Common.{◌≡◌, refl, sym, subst}
-use Rattle.md_machine.specs.GoesOn.{GoesOn}
+use Rattle.md_machine.specs.GoesOn.{MachineGoesOn}
 use Rattle.md_machine.specs.Machine.{Machine}
 use Rattle.md_machine.specs.Meaning.{Lawful, Meaning}
 use Rattle.md_machine.proofs.Invariant.{Invariant}
@@ -9,7 +9,7 @@ use Rattle.md_machine.proofs.replay.Kept.{Means}
 use Rattle.md_machine.proofs.replay.Rise.{AllPlain, FactsRise, FactsStay, exchange_rise, exchange_stay, plain_rise, plain_stay}
 use Rattle.md_machine.proofs.replay.RiseReady.{ready_rise, ready_stay}
 
-module _ (M : Meaning) (lawful : Lawful M) (m n : Machine) (k : Invariant m) (kn : Invariant n) (on : GoesOn m n)
+module _ (M : Meaning) (lawful : Lawful M) (m n : Machine) (k : Invariant m) (kn : Invariant n) (on : MachineGoesOn m n)
     (w : Moves M m n) (was : Means M m) where
   -- facts stay, and where they rose they still do
   abbrev Both : Type 0

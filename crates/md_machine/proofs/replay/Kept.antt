@@ -14,7 +14,7 @@ use Rattle.md_machine.specs.declared.attempt.HistoryEntry.{HistoryEntry}
 use Rattle.md_machine.specs.declared.opening.Opening.{Opening}
 use Rattle.md_machine.specs.LogicalHeap.{LogicalHeap, AgreeWherePlaced, changed}
 use Rattle.md_machine.specs.Meaning.{Lawful, Meaning}
-use Rattle.md_machine.specs.GoesOn.{GoesOn}
+use Rattle.md_machine.specs.GoesOn.{MachineGoesOn}
 use Rattle.md_machine.specs.Machine.{Machine, shape_of}
 use Rattle.md_machine.specs.Resolution.{Resolves, entries_of, logical_heap}
 use Rattle.md_machine.specs.Legal.{EveryHeapIsReplay, HistoryIsLegal, IsReplay, opening_state}
@@ -62,7 +62,7 @@ module _ (M : Meaning) where
   same_legal o p es hs fs gs opening history fates legal =
       subst (λ x. IsLegal (opening_state M x) (entries_of hs) gs) opening (subst (λ x. IsLegal (opening_state M o) (entries_of x) gs) history (subst (λ x. IsLegal (opening_state M o) (entries_of es) x) fates legal))
 
-  module _ (lawful : Lawful M) (m n : Machine) (k : Invariant m) (kn : Invariant n) (on : GoesOn m n) (w : Moves M m n) (was : Means m) where
+  module _ (lawful : Lawful M) (m n : Machine) (k : Invariant m) (kn : Invariant n) (on : MachineGoesOn m n) (w : Moves M m n) (was : Means m) where
     pub facts : MoveFacts m n
     facts = tell M m n k.formats k.lanes k.hands w
 
@@ -107,10 +107,10 @@ module _ (M : Meaning) where
           record { valid = frame.0; state = frame.1 ∙ before.state }
 
       -- an uninstall leaves the value that the word stands for
-      abbrev Leaves : Type 0
-      Leaves = (choice : List Bool) (r : Resolves m choice) → LeavesValue M m n w choice r fated_now facts k.formats (grounds_of m k)
+      abbrev EachLeaves : Type 0
+      EachLeaves = (choice : List Bool) (r : Resolves m choice) → LeavesValue M m n w choice r fated_now facts k.formats (grounds_of m k)
 
-      plain_on : Leaves → ((choice : List Bool) (r : Resolves m choice) → IsPlain M m n w choice r fated_now facts k.formats (grounds_of m k) w.effect) → Means n
+      plain_on : EachLeaves → ((choice : List Bool) (r : Resolves m choice) → IsPlain M m n w choice r fated_now facts k.formats (grounds_of m k) w.effect) → Means n
       plain_on leaves plain = means_on (λ choice r. framed choice r
           (plain_agrees M m n w choice r fated_now facts k.formats (grounds_of m k) (placed_exists m choice was.exist) (leaves choice r) (plain choice r)))
 

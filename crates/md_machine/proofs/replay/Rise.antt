@@ -6,7 +6,7 @@ use Rattle.md_machine.specs.declared.attempt.HistoryEntry.{HistoryEntry}
 use Rattle.md_machine.specs.declared.certificate.Change.{Change}
 use Rattle.md_machine.specs.declared.node.PlacedNode.{PlacedNode}
 use Rattle.md_machine.specs.declared.opening.Opening.{Opening}
-use Rattle.md_machine.specs.GoesOn.{GoesOn}
+use Rattle.md_machine.specs.GoesOn.{MachineGoesOn}
 use Rattle.md_machine.specs.LogicalHeap.{LogicalHeap, changed}
 use Rattle.md_machine.specs.Machine.{Machine}
 use Rattle.md_machine.specs.Meaning.{KeepsFacts, Lawful, Meaning}
@@ -47,7 +47,7 @@ pub seen_same : (P : Machine → Type 0) (l n : Machine) → l.opening ≡ n.ope
 seen_same P l n opening words history x = subst (λ es. P (seen_as n.opening n.words es)) history
     (subst (λ ws. P (seen_as n.opening ws l.history)) words (subst (λ (o : Opening). P (seen_as o l.words l.history)) opening x))
 
-module _ (M : Meaning) (lawful : Lawful M) (m n : Machine) (k : Invariant m) (kn : Invariant n) (on : GoesOn m n)
+module _ (M : Meaning) (lawful : Lawful M) (m n : Machine) (k : Invariant m) (kn : Invariant n) (on : MachineGoesOn m n)
     (w : Moves M m n) (was : Means M m) where
   abbrev fate : length m.fates ≡ length m.history
   fate = fated_now M lawful m n k kn on w was

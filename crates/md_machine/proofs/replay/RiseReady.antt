@@ -13,7 +13,7 @@ use Rattle.md_machine.specs.declared.attempt.HistoryEntry.{HistoryEntry}
 use Rattle.md_machine.specs.declared.attempt.Write.{Write}
 use Rattle.md_machine.specs.declared.certificate.NewNode.{NewNode}
 use Rattle.md_machine.specs.declared.node.PlacedNode.{PlacedNode}
-use Rattle.md_machine.specs.GoesOn.{GoesOn}
+use Rattle.md_machine.specs.GoesOn.{MachineGoesOn}
 use Rattle.md_machine.specs.LogicalHeap.{LogicalHeap, next_of}
 use Rattle.md_machine.specs.Machine.{Machine, shape_of}
 use Rattle.md_machine.specs.Meaning.{KeepsFacts, Lawful, Meaning}
@@ -42,7 +42,7 @@ within_last [] (y ∷ ks) j k fits w = absurd (omega (arith, fits))
 within_last (x ∷ js) [] j k fits w = absurd (omega (arith, fits))
 within_last (x ∷ js) (y ∷ ks) j k fits w = let rest = within_last js ks j k (omega (arith, fits)) w.1 in ((w.0, rest.0), rest.1)
 
-module _ (M : Meaning) (lawful : Lawful M) (m n : Machine) (k : Invariant m) (kn : Invariant n) (on : GoesOn m n)
+module _ (M : Meaning) (lawful : Lawful M) (m n : Machine) (k : Invariant m) (kn : Invariant n) (on : MachineGoesOn m n)
     (w : Moves M m n) (was : Means M m) (s : WinsReady M m n w.p w.kind w.word w.new) where
   abbrev e : HistoryEntry
   e = history_entry m s.hand s.certificates s.count

@@ -5,7 +5,7 @@ use Rattle.std.proofs.lemmas.List.{append-nil, length-append, length-map, map-ap
 use Rattle.std.proofs.lemmas.List.Elements.{filter-append}
 use Rattle.std.specs.List.{All, Contains, zip}
 use Rattle.md_words.specs.declared.shape.Shape.{Shape}
-use Rattle.md_history.specs.Attempt.{Commits as CommitsFront, NoneOrAborted, Stops as StopsFront}
+use Rattle.md_history.specs.Attempt.{Commits, NoneOrAborted, Stops}
 use Rattle.md_history.specs.Front.{AllStay, IsPrefix, of_lane, own_after}
 use Rattle.md_history.specs.FrontLaws.{all_stay-trans}
 use Rattle.md_history.specs.declared.acts.Act.{Act}
@@ -23,8 +23,8 @@ use Rattle.md_machine.specs.events.Mark.{without}
 use Rattle.md_machine.proofs.events.Attempts.{same_from}
 use Rattle.md_rule.specs.Views.{Origin, PassState}
 use Rattle.md_rule.proofs.Moves.{is_kept}
-use Rattle.md_help.specs.After.{Stands}
-use Rattle.md_nbtc_law.specs.Ending.{Aborts, Begins, BeginsNot, Commits, HasEntry, LastFate, PutDown, Readies, Stopped}
+use Rattle.md_help.specs.After.{StandsInField}
+use Rattle.md_nbtc_law.specs.Ending.{Aborts, BeginsTransaction, BeginsNot, CommitsTransaction, HasEntry, LastFate, PutDown, Readies, Stopped}
 use Rattle.md_nbtc_law.specs.Known.{IsLater}
 use Rattle.md_nbtc_law.specs.State.{TxnState, attempt_in}
 use Rattle.md_nbtc_law.proofs.attempts.OwnAfter.{last_after, none_after, of_lane_push, own_of}
@@ -53,12 +53,12 @@ pub one_entry : (t : TxnState) (d e : HasEntry t) → d.entry ≡ e.entry
 one_entry t d e = (same_from_push d.before e.before d.entry e.entry (sym d.last ∙ e.last)).1
 
 -- where a pass stands somewhere, it has a fate for each entry that it has seen
-fated : (M : Meaning) (o : Origin) (q : PassState) → Stands M o q.view → length q.view.known ≡ length (entries_of q.view.seen)
+fated : (M : Meaning) (o : Origin) (q : PassState) → StandsInField M o q.view → length q.view.known ≡ length (entries_of q.view.seen)
 fated M o q x = ((is_kept M o x.machine x.admitted).fronts x.pass q.view x.acts.at).fated ∙ sym (length-map q.view.seen (λ (y : HistoryEntry). y.entry))
 
 -- a pass that has seen and answered what it had, and knows more fates: an attempt that left no entry
 left_none : (s : Shape) (tag : ℕ) (p q : PassState) → q.view.seen ≡ p.view.seen → q.view.mine ≡ p.view.mine → q.view.pending ≡ p.view.pending → q.view.lanes ≡ p.view.lanes
-    → AllStay p.view.known q.view.known → length q.view.known ≡ length (entries_of q.view.seen) → StopsFront tag (front_of s p.view) (front_of s q.view)
+    → AllStay p.view.known q.view.known → length q.view.known ≡ length (entries_of q.view.seen) → Stops tag (front_of s p.view) (front_of s q.view)
 left_none s tag p q seen mine pending lanes known fated = record {
   begins = record {
     seen = same_prefix (entries_of p.view.seen) (entries_of q.view.seen) (ap entries_of seen);
@@ -74,10 +74,10 @@ left_none s tag p q seen mine pending lanes known fated = record {
 }
 
 -- none began
-pub refused_front : (M : Meaning) (o : Origin) (s : Shape) (tag : ℕ) (p q : PassState) → BeginsNot M p o q → StopsFront tag (front_of s p.view) (front_of s q.view)
+pub refused_front : (M : Meaning) (o : Origin) (s : Shape) (tag : ℕ) (p q : PassState) → BeginsNot M p o q → Stops tag (front_of s p.view) (front_of s q.view)
 refused_front M o s tag p q b = left_none s tag p q b.seen b.mine b.pending b.same.lanes b.same.known (fated M o q b.stands)
 
-module _ (M : Meaning) (s : Shape) (p : PassState) (tag : ℕ) (t u : TxnState) (begins : Begins p tag t) (later : IsLater t u) where
+module _ (M : Meaning) (s : Shape) (p : PassState) (tag : ℕ) (t u : TxnState) (begins : BeginsTransaction p tag t) (later : IsLater t u) where
   -- what its pass had while it was under way
   seen_is : u.pass.view.seen ≡ p.view.seen
   seen_is = later.front.seen ∙ begins.seen
@@ -100,7 +100,7 @@ module _ (M : Meaning) (s : Shape) (p : PassState) (tag : ℕ) (t u : TxnState) 
       ∙ ap (without (p.view.pending ++ attempt_in t ∷ [])) later.attempt ∙ without_new p.view.pending (attempt_in t) begins.new
 
   -- one that was stopped before it was ready
-  pub stopped_front : (q : PassState) → Stopped M u q → StopsFront tag (front_of s p.view) (front_of s q.view)
+  pub stopped_front : (q : PassState) → Stopped M u q → Stops tag (front_of s p.view) (front_of s q.view)
   stopped_front q x = let d = x.down in
       left_none s tag p q (d.seen ∙ seen_is) (x.mine ∙ mine_is) (d.pending ∙ back u.pass.view.pending refl) (d.same.lanes ∙ lanes_are)
       (all_stay-trans p.view.known u.pass.view.known q.view.known knew d.same.known) (fated M u.field.origin q d.stands)
@@ -160,7 +160,7 @@ module _ (M : Meaning) (s : Shape) (p : PassState) (tag : ℕ) (t u : TxnState) 
     }
 
     -- and was aborted
-    pub aborted_front : q.view.mine ≡ w.pass.view.mine → LastFate q.view.known Aborted → StopsFront tag (front_of s p.view) (front_of s q.view)
+    pub aborted_front : q.view.mine ≡ w.pass.view.mine → LastFate q.view.known Aborted → Stops tag (front_of s p.view) (front_of s q.view)
     aborted_front same last =
         let mine = same ∙ mine_then in record {
           begins = record {
@@ -178,7 +178,7 @@ module _ (M : Meaning) (s : Shape) (p : PassState) (tag : ℕ) (t u : TxnState) 
     -- or committed
     module _ {R : Type 0} (did : List Act → R → Type 0) (reply : R) (did_it : did new.entry.acts reply) where
       pub committed_front : q.view.mine ≡ w.pass.view.mine ++ new.entry ∷ [] → LastFate q.view.known Committed
-          → CommitsFront did tag reply (front_of s p.view) (front_of s q.view)
+          → Commits did tag reply (front_of s p.view) (front_of s q.view)
       committed_front more last =
           let mine = more ∙ ap (λ l. l ++ new.entry ∷ []) mine_then in record {
             begins = record {
@@ -203,11 +203,11 @@ module _ (M : Meaning) (s : Shape) (p : PassState) (tag : ℕ) (t u : TxnState) 
           }
 
   -- so a ready transaction that is decided is committed or stopped
-  pub decided_commits : (w : TxnState) (e : HasEntry w) → Readies u w e → (q : PassState) (d : HasEntry w) → Commits M w d q
-      → {R : Type 0} (did : List Act → R → Type 0) (reply : R) → did w.hand.acts reply → CommitsFront did tag reply (front_of s p.view) (front_of s q.view)
+  pub decided_commits : (w : TxnState) (e : HasEntry w) → Readies u w e → (q : PassState) (d : HasEntry w) → CommitsTransaction M w d q
+      → {R : Type 0} (did : List Act → R → Type 0) (reply : R) → did w.hand.acts reply → Commits did tag reply (front_of s p.view) (front_of s q.view)
   decided_commits w e ready q d c did reply did_it =
       committed_front w e ready q c.down did reply (subst (λ (l : List Act). did l reply) (sym e.acts) did_it)
       (c.mine ∙ ap (λ (x : HistoryEntry). w.pass.view.mine ++ x.entry ∷ []) (one_entry w d e)) c.committed
 
-  pub decided_stops : (w : TxnState) (e : HasEntry w) → Readies u w e → (q : PassState) → Aborts M w q → StopsFront tag (front_of s p.view) (front_of s q.view)
+  pub decided_stops : (w : TxnState) (e : HasEntry w) → Readies u w e → (q : PassState) → Aborts M w q → Stops tag (front_of s p.view) (front_of s q.view)
   decided_stops w e ready q a = aborted_front w e ready q a.stopped.down a.stopped.mine a.aborted

@@ -24,7 +24,7 @@ use Rattle.md_rule.proofs.LaneSteps.{one_changed}
 use Rattle.md_arena.specs.Left.{HasTryLeft, IsLowest}
 use Rattle.md_arena.specs.Taking.{TakesDesc}
 use Rattle.md_nbtc_law.specs.Beginning.{KeepsCounts, PutsInHand}
-use Rattle.md_nbtc_law.specs.Ending.{Begins, BeginsLane, BeginsNot, IsSamePass}
+use Rattle.md_nbtc_law.specs.Ending.{BeginsTransaction, BeginsLane, BeginsNot, IsSamePass}
 use Rattle.md_nbtc_law.specs.Prepared.{IsHeld}
 use Rattle.md_nbtc_law.specs.State.{SameNodes, TxnState, attempt_in}
 use Rattle.md_nbtc_law.proofs.beginning.Begun.{begun, is_hand, is_held, no_nodes}
@@ -115,7 +115,7 @@ module _ (M : Meaning) (field : FieldView) (p q r s : PassState) (desc tag seria
       ∙ ap (λ (x : Share). x.tries_taken) (share_taken q.shares desc ((share_at q.shares desc).tries_taken + 1) fits)
       ∙ ap (λ (x : PassState). (share_at x.shares desc).tries_taken + 1) leave
 
-  pub begins : Begins p tag (begun M field r s desc tag serial of own nodes h)
+  pub begins : BeginsTransaction p tag (begun M field r s desc tag serial of own nodes h)
   begins = record {
     same = same_over p q s left.same (same_over q r s taken_same hand_same);
     seen = ap (λ (v : PassView). v.seen) h.marks ∙ ap (λ (v : PassView). v.seen) h.finds.goes.1 ∙ ap (λ (v : PassView). v.seen) view_taken ∙ left.seen;

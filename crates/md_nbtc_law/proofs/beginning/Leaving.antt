@@ -19,7 +19,7 @@ use Rattle.md_rule_lanes.specs.declared.shares.Share.{Share}
 use Rattle.md_rule.proofs.LaneLists.{desc_fits}
 use Rattle.md_rule.proofs.Told.{told_leave}
 use Rattle.md_history.specs.Front.{AllStay}
-use Rattle.md_help.specs.After.{Stands}
+use Rattle.md_help.specs.After.{StandsInField}
 use Rattle.md_help.proofs.Steps.{known_stays, stands_after}
 use Rattle.md_nbtc_law.specs.Beginning.{IsTakenLast}
 use Rattle.md_nbtc_law.specs.Ending.{BeginsNot, IsSamePass}
@@ -47,7 +47,7 @@ module _ (M : Meaning) (o : Origin) (p q : PassView) (step : Stepped M o (λ pas
   pub begins_not : (before after : PassState) → before.view ≡ p → after ≡ record before { view = q } → BeginsNot M before o after
   begins_not before after was is =
       let view : after.view ≡ q = ap (λ (x : PassState). x.view) is in record {
-        stands = subst (Stands M o) (sym view) (stands_after M o (λ pass. mark_leave pass) p q step lanes_left);
+        stands = subst (StandsInField M o) (sym view) (stands_after M o (λ pass. mark_leave pass) p q step lanes_left);
         same = left_same before after was is;
         seen = ap (λ (x : PassView). x.seen) (view ∙ told) ∙ ap (λ (x : PassView). x.seen) (sym was);
         mine = ap (λ (x : PassView). x.mine) (view ∙ told) ∙ ap (λ (x : PassView). x.mine) (sym was);

@@ -37,7 +37,7 @@ use Rattle.md_rule_lanes.specs.declared.shares.Share.{Share}
 use Rattle.md_rule.proofs.LaneSteps.{one_changed}
 use Rattle.md_rule.proofs.Moves.{is_kept, next_admitted}
 use Rattle.md_rule.proofs.Told.{told_begin}
-use Rattle.md_help.specs.After.{IsAfter, Stands}
+use Rattle.md_help.specs.After.{IsAfter, StandsInField}
 use Rattle.md_help.proofs.Numbers.{formats_of}
 use Rattle.md_help.proofs.Owns.{last_loaded}
 use Rattle.md_help.proofs.Steps.{both_after, made_load, stands_after, stands_made, trail_after}
@@ -56,7 +56,7 @@ module _ (M : Meaning) (o : Origin) (desc : ℕ) (exists : desc < desc_count o.s
   status = address o.shape (desc_status desc)
 
   -- a pass that stands somewhere met no later status than one below the number of the attempts that its lane had begun
-  pub behind_of : (p : PassView) (before : ℕ) → Stands M o p → HasDesc o.shape p desc
+  pub behind_of : (p : PassView) (before : ℕ) → StandsInField M o p → HasDesc o.shape p desc
       → EveryStepOf p (λ s. (held : ℕ) → Meets status held s → (serial_of held ≡ 0) ⊎ (serial_of held < before)) → 1 ≤ before → IsBehind o.shape p desc before
   behind_of p before st own serials some =
       let m = st.machine in

@@ -36,7 +36,7 @@ use Rattle.md_rule.specs.Views.{Origin}
 use Rattle.md_rule.proofs.Events.{has_base}
 use Rattle.md_rule.proofs.Moves.{is_kept}
 use Rattle.md_help.specs.declared.settling.End.{End}
-use Rattle.md_help.specs.After.{IsAfter, Stands}
+use Rattle.md_help.specs.After.{IsAfter, StandsInField}
 use Rattle.md_help.specs.Owns.{KnowsEnd}
 use Rattle.md_help.proofs.Deciding.{some_after}
 use Rattle.md_help.proofs.Numbers.{formats_of}
@@ -87,7 +87,7 @@ won_spot M o desc serial end p exists k m adm pass acts segment c s i won =
     }
 
 -- so its slot is one
-pub won_small : (M : Meaning) (o : Origin) (desc serial : ℕ) (end : End) (p : PassView) → desc < desc_count o.shape → KnowsEnd o.shape p desc serial end → Stands M o p
+pub won_small : (M : Meaning) (o : Origin) (desc serial : ℕ) (end : End) (p : PassView) → desc < desc_count o.shape → KnowsEnd o.shape p desc serial end → StandsInField M o p
     → EveryStepOf p (λ s. WonInstall (attempt_of desc serial) s → (spot_of (value_of s.after)).slot < SET)
 won_small M o desc serial end p exists k st segment c s i won =
     let w = won_spot M o desc serial end p exists k st.machine st.admitted st.pass st.acts segment c s i won in

@@ -23,7 +23,7 @@ use Rattle.md_help.specs.declared.settling.End.{End}
 use Rattle.md_help.specs.Owns.{EndsOwn}
 use Rattle.md_help.proofs.Deciding.{some_after}
 use Rattle.md_help.proofs.Steps.{both_after, none_after}
-use Rattle.md_nbtc_law.specs.Beginning.{Empties, TakesOut, TakesSlot}
+use Rattle.md_nbtc_law.specs.Beginning.{Empties, TakesOwnOut, TakesSlot}
 use Rattle.md_nbtc_law.proofs.preparing.Quiet.{every_still}
 
 -- nothing in hand is no attempt
@@ -74,7 +74,7 @@ module _ (shape : Shape) (desc : ℕ) (end : End) where
 
   -- after the settling, and after one more slot
   pub takes_none : (steps : List Step) (p q : PassView) → IsAfter shape steps p q → (e : EndsOwn shape desc end p q)
-      → EveryStepOf q (λ s. WonInstall (attempt_of desc e.serial) s → (spot_of (value_of s.after)).slot < SET) → TakesOut shape desc end 0 p q
+      → EveryStepOf q (λ s. WonInstall (attempt_of desc e.serial) s → (spot_of (value_of s.after)).slot < SET) → TakesOwnOut shape desc end 0 p q
   takes_none steps p q goes ends small = record {
     steps = steps;
     goes = goes;
@@ -83,7 +83,7 @@ module _ (shape : Shape) (desc : ℕ) (end : End) where
     out = λ segment c s i won less. absurd (omega (arith, less));
   }
 
-  pub takes_one : (slot : ℕ) (p q r : PassView) → p.hand ≡ None → (t : TakesOut shape desc end slot p q) → TakesSlot shape desc t.ends.serial slot end q r → TakesOut shape desc end (slot + 1) p r
+  pub takes_one : (slot : ℕ) (p q r : PassView) → p.hand ≡ None → (t : TakesOwnOut shape desc end slot p q) → TakesSlot shape desc t.ends.serial slot end q r → TakesOwnOut shape desc end (slot + 1) p r
   takes_one slot p q r idle t n =
       let quiet : q.hand ≡ None = ap (λ (x : PassView). x.hand) t.goes.1 ∙ idle in
       let a = attempt_of desc t.ends.serial in record {
@@ -100,7 +100,7 @@ module _ (shape : Shape) (desc : ℕ) (end : End) where
   -- once each slot that was written was looked at, the descriptor stands nowhere
   pub takes_all : (written slots : ℕ) (p q : PassView) → p.hand ≡ None
       → ((serial : ℕ) → MetNoLater shape p desc serial → EveryStepOf p (λ s. WonInstall (attempt_of desc serial) s → (spot_of (value_of s.after)).slot < written))
-      → ((slot : ℕ) → slot < written → slot < SET → slot < slots) → TakesOut shape desc end slots p q → Empties shape desc p q
+      → ((slot : ℕ) → slot < written → slot < SET → slot < slots) → TakesOwnOut shape desc end slots p q → Empties shape desc p q
   takes_all written slots p q idle few all t =
       let k = t.ends.knows in
       let serial = t.ends.serial in

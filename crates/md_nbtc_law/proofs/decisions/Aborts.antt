@@ -27,8 +27,8 @@ use Rattle.md_machine.proofs.lists.Rising.{in_none}
 use Rattle.md_history.specs.Front.{IsPrefix}
 use Rattle.md_rule.specs.Views.{PassState}
 use Rattle.md_rule.proofs.Moves.{is_kept}
-use Rattle.md_help.specs.After.{IsAfter, Stands}
-use Rattle.md_nbtc_law.specs.Deciding.{LooksAt, Validates}
+use Rattle.md_help.specs.After.{IsAfter, StandsInField}
+use Rattle.md_nbtc_law.specs.Deciding.{LooksAtCounted, Validates}
 use Rattle.md_nbtc_law.specs.Ending.{Aborts, IsReady, LastFate}
 use Rattle.md_nbtc_law.specs.State.{OwnNode, TxnState, attempt_in, shape_in, taken_since, writes_in}
 use Rattle.md_nbtc_law.specs.Withdrawn.{MayWithdraw, Withdraws}
@@ -63,7 +63,7 @@ aborted_none (x ∷ es) e (f ∷ fs) node many =
 module _ (M : Meaning) (t : TxnState) (ready : IsReady M t) (q : PassView) (moved : Option Shown) (v : Validates (shape_in t) (attempt_in t).desc t.reads (length t.reads) moved t.pass.view q)
     (r : PassView) (step : Step) (last : IsAfter (shape_in t) (step ∷ []) q r) (kind : (step.kind ≡ Commit) ⊎ (step.kind ≡ Abort))
     (there : step.word ≡ address (shape_in t) (desc_status (attempt_in t).desc)) (left : step.after ≡ decided_word IsAborted (from M t ready))
-    (aborted : LastFate r.known Aborted) (stands : Stands M t.field.origin r) where
+    (aborted : LastFate r.known Aborted) (stands : StandsInField M t.field.origin r) where
   abbrev a : AttemptId
   a = attempt_in t
 
@@ -119,7 +119,7 @@ module _ (M : Meaning) (t : TxnState) (ready : IsReady M t) (q : PassView) (move
 
   looks_none : All (λ (s : Step). ¬ (s.kind ≡ Exchange)) (v.steps ++ step ∷ [])
   looks_none = All-append (λ (s : Step). ¬ (s.kind ≡ Exchange)) v.steps (step ∷ [])
-      (All-weaker (LooksAt (shape_in t)) (λ (s : Step). ¬ (s.kind ≡ Exchange)) (λ s l e. no_load (sym l.kind ∙ e)) v.steps v.looks)
+      (All-weaker (LooksAtCounted (shape_in t)) (λ (s : Step). ¬ (s.kind ≡ Exchange)) (λ s l e. no_load (sym l.kind ∙ e)) v.steps v.looks)
       (All-cons (λ (s : Step). ¬ (s.kind ≡ Exchange)) step [] (λ e. ⊎_elim (λ c. no_commit (sym c ∙ e)) (λ x. no_abort (sym x ∙ e)) kind) (All-nil (λ (s : Step). ¬ (s.kind ≡ Exchange))))
     where
       no_load : Load ≡ Exchange → ⊥

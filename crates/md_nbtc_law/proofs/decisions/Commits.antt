@@ -23,10 +23,10 @@ use Rattle.md_machine.specs.events.Decide.{decided_word}
 use Rattle.md_machine.specs.events.Mark.{answered, without}
 use Rattle.md_rule.specs.Views.{PassState}
 use Rattle.md_rule.proofs.Moves.{is_kept}
-use Rattle.md_help.specs.After.{IsAfter, Stands}
+use Rattle.md_help.specs.After.{IsAfter, StandsInField}
 use Rattle.md_help.proofs.Steps.{trail_after}
-use Rattle.md_nbtc_law.specs.Deciding.{Finishes, Validates}
-use Rattle.md_nbtc_law.specs.Ending.{Commits, IsReady, LastFate}
+use Rattle.md_nbtc_law.specs.Deciding.{FinishesAttempt, Validates}
+use Rattle.md_nbtc_law.specs.Ending.{CommitsTransaction, IsReady, LastFate}
 use Rattle.md_nbtc_law.specs.State.{TxnState, attempt_in, shape_in}
 use Rattle.md_nbtc_law.proofs.decisions.Answered.{answered_last, rise_first}
 use Rattle.md_nbtc_law.proofs.decisions.Decided.{goes}
@@ -36,7 +36,7 @@ use Rattle.md_nbtc_law.proofs.decisions.MaySettle.{from, from_reads, from_serial
 module _ (M : Meaning) (t : TxnState) (ready : IsReady M t) (q : PassView) (moved : Option Shown) (v : Validates (shape_in t) (attempt_in t).desc t.reads (length t.reads) moved t.pass.view q)
     (r : PassView) (step : Step) (last : IsAfter (shape_in t) (step ∷ []) q r) (kind : (step.kind ≡ Commit) ⊎ (step.kind ≡ Abort))
     (there : step.word ≡ address (shape_in t) (desc_status (attempt_in t).desc)) (left : step.after ≡ decided_word IsCommitted (from M t ready))
-    (committed : LastFate r.known Committed) (stands : Stands M t.field.origin r) (end : PassState) (f : Finishes M t.field.origin (record t.pass { view = r }) (attempt_in t) t.slots end) where
+    (committed : LastFate r.known Committed) (stands : StandsInField M t.field.origin r) (end : PassState) (f : FinishesAttempt M t.field.origin (record t.pass { view = r }) (attempt_in t) t.slots end) where
   abbrev a : AttemptId
   a = attempt_in t
 
@@ -85,7 +85,7 @@ module _ (M : Meaning) (t : TxnState) (ready : IsReady M t) (q : PassView) (move
   trail_is = f.trail ∙ ap (λ l. l ++ (f.outs ++ (f.cleaning ++ f.mark ∷ []))) (trail_after (shape_in t) deciding t.pass.view r after)
       ∙ append_assoc t.pass.view.trail deciding (f.outs ++ (f.cleaning ++ f.mark ∷ []))
 
-  pub commits : Commits M t ready.entry end
+  pub commits : CommitsTransaction M t ready.entry end
   commits = record {
     down = record {
       stands = f.stands;

@@ -20,11 +20,11 @@ use Rattle.md_machine.specs.Trail.{is_store}
 use Rattle.md_machine.specs.events.Decide.{decided_word}
 use Rattle.md_machine.specs.events.Uninstall.{IsDecided}
 use Rattle.md_rule.proofs.Moves.{is_kept}
-use Rattle.md_help.specs.After.{IsAfter, Stands}
+use Rattle.md_help.specs.After.{IsAfter, StandsInField}
 use Rattle.md_help.proofs.Ends.{decided_serial, decided_status}
 use Rattle.md_help.proofs.Steps.{both_after, trail_after}
 use Rattle.md_nbtc_law.specs.declared.slots.Slot.{Slot}
-use Rattle.md_nbtc_law.specs.Deciding.{LooksAt, MayCleanSlot, Validates}
+use Rattle.md_nbtc_law.specs.Deciding.{LooksAtCounted, MayCleanSlot, Validates}
 use Rattle.md_nbtc_law.specs.Ending.{IsReady, LastFate}
 use Rattle.md_nbtc_law.specs.State.{TxnState, attempt_in, shape_in, writes_in}
 use Rattle.md_nbtc_law.specs.Withdrawing.{AreInstalled, HasFate, MeetsFate}
@@ -59,7 +59,7 @@ module _ (M : Meaning) (t : TxnState) (ready : IsReady M t) (q : PassView) (move
   goes = both_after (shape_in t) v.steps (step ∷ []) t.pass.view q r v.goes last
 
   pub quiet : All IsQuiet steps
-  quiet = All-append IsQuiet v.steps (step ∷ []) (All-weaker (LooksAt (shape_in t)) IsQuiet (look_is_quiet (shape_in t)) v.steps v.looks)
+  quiet = All-append IsQuiet v.steps (step ∷ []) (All-weaker (LooksAtCounted (shape_in t)) IsQuiet (look_is_quiet (shape_in t)) v.steps v.looks)
       (All-cons IsQuiet step [] (deciding_quiet step kind) (All-nil IsQuiet))
 
   left_serial : serial_of step.after ≡ a.serial
@@ -87,7 +87,7 @@ module _ (M : Meaning) (t : TxnState) (ready : IsReady M t) (q : PassView) (move
   installed = are_still (shape_in t) a steps t.pass.view r goes quiet (writes_in t) (held_installed t ready.has)
 
   -- and the fate of its entry is known
-  pub last_fate : Stands M t.field.origin q → (f : Fate) → TellsFate status f → LastFate r.known f
+  pub last_fate : StandsInField M t.field.origin q → (f : Fate) → TellsFate status f → LastFate r.known f
   last_fate stands f tells =
       let e = ready.entry in
       known_last (shape_in t) a.desc step q r e.before e.entry status f (desc_is M t ready) last (deciding_quiet step kind).store there

@@ -5,11 +5,11 @@ use Rattle.md_history.specs.declared.stops.Shown.{Shown}
 use Rattle.md_machine.specs.Meaning.{Meaning}
 use Rattle.md_rule.specs.Views.{PassState}
 use Rattle.md_nbtc_law.specs.Ended.{WasCommitted, WasLost}
-use Rattle.md_nbtc_law.specs.Ending.{Aborts, Commits, HasEntry, IsShown, Readies, TellsWhy}
+use Rattle.md_nbtc_law.specs.Ending.{Aborts, CommitsTransaction, HasEntry, IsShown, Readies, TellsWhy}
 use Rattle.md_nbtc_law.specs.State.{TxnState}
 
 module _ (M : Meaning) (t w : TxnState) (e : HasEntry w) (readies : Readies t w e) (q : PassState) where
-  pub committed_if : (result : Result (Unit {0}) Shown) → IfOk result (λ _. (d : HasEntry w) × Commits M w d q) → IfOk result (λ _. WasCommitted M t q)
+  pub committed_if : (result : Result (Unit {0}) Shown) → IfOk result (λ _. (d : HasEntry w) × CommitsTransaction M w d q) → IfOk result (λ _. WasCommitted M t q)
   committed_if (Ok done) is = record { ready = w; entry = e; readies = readies; answered = is.0; commits = is.1 }
   committed_if (Err shown) is = tt
 

@@ -27,7 +27,7 @@ use Rattle.md_help.specs.After.{IsAfter}
 use Rattle.md_help.specs.Settles.{MetStatus}
 use Rattle.md_help.proofs.Deciding.{since_met}
 use Rattle.md_nbtc_law.specs.declared.slots.TheConstants.{NO_READ}
-use Rattle.md_nbtc_law.specs.Deciding.{LooksAt, MaySettle, Validates}
+use Rattle.md_nbtc_law.specs.Deciding.{LooksAtCounted, MayDecide, Validates}
 use Rattle.md_nbtc_law.specs.Ending.{IsReady}
 use Rattle.md_nbtc_law.specs.Prepared.{EachFrom, IsRecorded}
 use Rattle.md_nbtc_law.specs.State.{TxnState, attempt_in, own_steps, shape_in}
@@ -36,7 +36,7 @@ use Rattle.md_nbtc_law.proofs.ready.Lookups.{all_of, each_in}
 use Rattle.md_nbtc_law.proofs.ready.Lost.{began_then}
 
 -- a look is quiet
-pub look_is_quiet : (shape : Shape) (s : Step) → LooksAt shape s → IsQuiet s
+pub look_is_quiet : (shape : Shape) (s : Step) → LooksAtCounted shape s → IsQuiet s
 look_is_quiet shape s l = record { store = rw l.kind refl; install = λ e. load_no_install (sym l.kind ∙ e) }
   where
     load_no_install : Load ≡ Install → ⊥
@@ -102,7 +102,7 @@ module _ (M : Meaning) (t : TxnState) (ready : IsReady M t) where
 
   module _ (q : PassView) (moved : Option Shown) (v : Validates (shape_in t) a.desc t.reads (length t.reads) moved t.pass.view q) where
     quiet : All IsQuiet v.steps
-    quiet = All-weaker (LooksAt (shape_in t)) IsQuiet (look_is_quiet (shape_in t)) v.steps v.looks
+    quiet = All-weaker (LooksAtCounted (shape_in t)) IsQuiet (look_is_quiet (shape_in t)) v.steps v.looks
 
     found_read : (i : ℕ) (r : Read) → IsRecorded t i r → (found : ℕ) (stood : Bool) → SomeStep (Loads r.word found) v.steps → read_stands a.desc r.content found ≡ stood
         → FoundRead stood (shape_in t) q (ready.left.later ++ v.steps) a i
@@ -150,6 +150,6 @@ module _ (M : Meaning) (t : TxnState) (ready : IsReady M t) where
         });
       }
 
-  pub may_settle : (q : PassView) (moved : Option Shown) → Validates (shape_in t) a.desc t.reads (length t.reads) moved t.pass.view q → MaySettle (shape_in t) q a.desc from moved
+  pub may_settle : (q : PassView) (moved : Option Shown) → Validates (shape_in t) a.desc t.reads (length t.reads) moved t.pass.view q → MayDecide (shape_in t) q a.desc from moved
   may_settle q None v = may_commit q v
   may_settle q (Some shown) v = may_abort q shown v

@@ -20,11 +20,11 @@ use Rattle.md_rule.specs.Views.{PassState}
 use Rattle.md_rule.proofs.Moves.{is_kept}
 use Rattle.md_help.proofs.Numbers.{formats_of}
 use Rattle.md_machine.proofs.lists.Rising.{here}
-use Rattle.md_help.specs.After.{Stands}
+use Rattle.md_help.specs.After.{StandsInField}
 use Rattle.md_help.specs.Settles.{MetStatus}
 use Rattle.md_help.proofs.Steps.{trail_after}
-use Rattle.md_nbtc_law.specs.Deciding.{Finishes, MayCleanSlot, MaySettle, Settles, SettlesBy, Validates, aborted_by_other}
-use Rattle.md_nbtc_law.specs.Ending.{Aborts, Commits, IsReady, IsShown, LastFate, TellsWhy, shown_aborted}
+use Rattle.md_nbtc_law.specs.Deciding.{FinishesAttempt, MayCleanSlot, MayDecide, DecidesDescriptor, DecidesBy, Validates, aborted_by_other}
+use Rattle.md_nbtc_law.specs.Ending.{Aborts, CommitsTransaction, IsReady, IsShown, LastFate, TellsWhy, shown_aborted}
 use Rattle.md_nbtc_law.specs.State.{OwnNode, TxnState, attempt_in, own_steps, shape_in, taken_since, writes_in}
 use Rattle.md_nbtc_law.specs.Withdrawing.{AreInstalled, HasFate}
 use Rattle.md_nbtc_law.specs.Withdrawn.{MayWithdraw, Withdraws}
@@ -53,15 +53,15 @@ module _ (M : Meaning) (t : TxnState) (ready : IsReady M t) (x : AttemptId) (x_i
   pub in_progress : (status_of by ≡ InProg) × (serial_of by ≡ x.serial)
   in_progress = (ap status_of by_is ∙ from_status M t ready, ap serial_of by_is ∙ from_serial M t ready ∙ ap (λ (y : AttemptId). y.serial) (sym x_is))
 
-  pub may : MaySettle (shape_in t) p.view x.desc by moved
-  may = subst (λ (y : AttemptId). MaySettle (shape_in t) p.view y.desc by moved) (sym x_is)
-      (subst (λ w. MaySettle (shape_in t) p.view a.desc w moved) (sym by_is) (may_settle M t ready p.view moved v))
+  pub may : MayDecide (shape_in t) p.view x.desc by moved
+  may = subst (λ (y : AttemptId). MayDecide (shape_in t) p.view y.desc by moved) (sym x_is)
+      (subst (λ w. MayDecide (shape_in t) p.view a.desc w moved) (sym by_is) (may_settle M t ready p.view moved v))
 
-  module _ (same : p ≡ record t.pass { view = p.view }) (also : q ≡ record p { view = q.view }) (stands : Stands M t.field.origin p.view) (after : Stands M t.field.origin q.view)
-      (result : Result (Unit {0}) Shown) (settles : Settles M t.field.origin x.desc by moved result p.view q.view) where
-    abbrev s : Settles M t.field.origin a.desc (from M t ready) moved result p.view q.view
-    s = subst (λ (y : AttemptId). Settles M t.field.origin y.desc (from M t ready) moved result p.view q.view) x_is
-        (subst (λ w. Settles M t.field.origin x.desc w moved result p.view q.view) by_is settles)
+  module _ (same : p ≡ record t.pass { view = p.view }) (also : q ≡ record p { view = q.view }) (stands : StandsInField M t.field.origin p.view) (after : StandsInField M t.field.origin q.view)
+      (result : Result (Unit {0}) Shown) (settles : DecidesDescriptor M t.field.origin x.desc by moved result p.view q.view) where
+    abbrev s : DecidesDescriptor M t.field.origin a.desc (from M t ready) moved result p.view q.view
+    s = subst (λ (y : AttemptId). DecidesDescriptor M t.field.origin y.desc (from M t ready) moved result p.view q.view) x_is
+        (subst (λ w. DecidesDescriptor M t.field.origin x.desc w moved result p.view q.view) by_is settles)
 
     is_now : q ≡ record t.pass { view = q.view }
     is_now = also ∙ ap (λ (y : PassState). record y { view = q.view }) same
@@ -69,7 +69,7 @@ module _ (M : Meaning) (t : TxnState) (ready : IsReady M t) (x : AttemptId) (x_i
     -- it was committed
     module _ (ok : result ≡ Ok tt) where
       left : s.step.after ≡ decided_word IsCommitted (from M t ready)
-      left = subst (λ y. SettlesBy (shape_in t) a.desc (from M t ready) moved y s.step) ok s.ends
+      left = subst (λ y. DecidesBy (shape_in t) a.desc (from M t ready) moved y s.step) ok s.ends
 
       committed : LastFate q.view.known Committed
       committed = last_fate M t ready p.view moved v q.view s.step s.goes s.kind s.there IsCommitted left stands Committed tells_committed
@@ -83,14 +83,14 @@ module _ (M : Meaning) (t : TxnState) (ready : IsReady M t) (x : AttemptId) (x_i
       pub may_tidy : All (MayCleanSlot M t.field.origin q.view) t.slots
       may_tidy = may_clean M t ready p.view moved v q.view s.step s.goes s.kind s.there IsCommitted left committed
 
-      pub commits_so : (e : PassState) → Finishes M t.field.origin q x t.slots e → Commits M t ready.entry e
+      pub commits_so : (e : PassState) → FinishesAttempt M t.field.origin q x t.slots e → CommitsTransaction M t ready.entry e
       commits_so e f = commits M t ready p.view moved v q.view s.step s.goes s.kind s.there left committed after e
-          (subst (λ y. Finishes M t.field.origin y a t.slots e) is_now (subst (λ y. Finishes M t.field.origin q y t.slots e) x_is f))
+          (subst (λ y. FinishesAttempt M t.field.origin y a t.slots e) is_now (subst (λ y. FinishesAttempt M t.field.origin q y t.slots e) x_is f))
 
     -- it was aborted
     module _ (shown : Shown) (err : result ≡ Err shown) where
-      ends : SettlesBy (shape_in t) a.desc (from M t ready) moved (Err shown) s.step
-      ends = subst (λ y. SettlesBy (shape_in t) a.desc (from M t ready) moved y s.step) err s.ends
+      ends : DecidesBy (shape_in t) a.desc (from M t ready) moved (Err shown) s.step
+      ends = subst (λ y. DecidesBy (shape_in t) a.desc (from M t ready) moved y s.step) err s.ends
 
       aborted : LastFate q.view.known Aborted
       aborted = last_fate M t ready p.view moved v q.view s.step s.goes s.kind s.there IsAborted ends.0 stands Aborted tells_aborted

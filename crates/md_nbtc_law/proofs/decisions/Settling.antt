@@ -26,7 +26,7 @@ use Rattle.md_rule.proofs.Moves.{is_kept}
 use Rattle.md_help.specs.Settles.{MetStatus}
 use Rattle.md_help.proofs.Deciding.{lost_decided, newer_came}
 use Rattle.md_help.proofs.Steps.{Made}
-use Rattle.md_nbtc_law.specs.Deciding.{IsFateFound, Settles, SettlesBy}
+use Rattle.md_nbtc_law.specs.Deciding.{IsFateFound, DecidesDescriptor, DecidesBy}
 
 -- what a pass has in hand
 pub hand_of_attempt : (o : Option Hand) (a : AttemptId) → attempt_in_hand o ≡ Some a → (h : Hand) × (o ≡ Some h) × (h.attempt ≡ a)
@@ -61,7 +61,7 @@ module _ (M : Meaning) (o : Origin) (desc from : ℕ) (moved : Option Shown) (p 
   status = address o.shape (desc_status desc)
 
   settled : (held left : ℕ) (result : Result (Unit {0}) Shown) → SteppedFrom M o event status held p q → (m : Made o.shape kind status held left p q)
-      → SettlesBy o.shape desc from moved result m.step → Settles M o desc from moved result p q
+      → DecidesBy o.shape desc from moved result m.step → DecidesDescriptor M o desc from moved result p q
   settled held left result step m ends = record {
     step = m.step;
     goes = m.goes;
@@ -72,16 +72,16 @@ module _ (M : Meaning) (o : Origin) (desc from : ℕ) (moved : Option Shown) (p 
     told = subst (λ x. SteppedFrom M o event status x p q) (sym m.found) step;
   }
 
-  pub settled_commit : SteppedFrom M o event status from p q → Made o.shape kind status from (decided_word Committed from) p q → Settles M o desc from moved (Ok tt) p q
+  pub settled_commit : SteppedFrom M o event status from p q → Made o.shape kind status from (decided_word Committed from) p q → DecidesDescriptor M o desc from moved (Ok tt) p q
   settled_commit step m = settled from (decided_word Committed from) (Ok tt) step m m.left_it
 
-  pub settled_abort : (shown : Shown) → moved ≡ Some shown → SteppedFrom M o event status from p q → Made o.shape kind status from (decided_word Aborted from) p q → Settles M o desc from moved (Err shown) p q
+  pub settled_abort : (shown : Shown) → moved ≡ Some shown → SteppedFrom M o event status from p q → Made o.shape kind status from (decided_word Aborted from) p q → DecidesDescriptor M o desc from moved (Err shown) p q
   settled_abort shown is step m = settled from (decided_word Aborted from) (Err shown) step m (m.left_it, inl (is, m.found))
 
-  found_by : (found : ℕ) (result : Result (Unit {0}) Shown) (s : Step) → s.before ≡ found → s.after ≡ found → IsFateFound o.shape desc from found result → SettlesBy o.shape desc from moved result s
+  found_by : (found : ℕ) (result : Result (Unit {0}) Shown) (s : Step) → s.before ≡ found → s.after ≡ found → IsFateFound o.shape desc from found result → DecidesBy o.shape desc from moved result s
   found_by found (Ok u) s before after is = after ∙ is
   found_by found (Err shown) s before after is = (after ∙ is.0, inr (is.1, before ∙ is.0))
 
   pub settled_found : (found : ℕ) (result : Result (Unit {0}) Shown) → SteppedFrom M o event status found p q → Made o.shape kind status found found p q → IsFateFound o.shape desc from found result
-      → Settles M o desc from moved result p q
+      → DecidesDescriptor M o desc from moved result p q
   settled_found found result step m is = settled found found result step m (found_by found result m.step m.found m.left_it is)

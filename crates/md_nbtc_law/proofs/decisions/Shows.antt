@@ -26,10 +26,10 @@ use Rattle.md_nbtc_law.proofs.decisions.StoodThen.{stood_there}
 use Rattle.md_machine.specs.clauses.passes.Alone.{HoldsAll}
 use Rattle.md_machine.specs.events.Decide.{decided_word}
 use Rattle.md_rule.specs.Views.{PassState}
-use Rattle.md_help.specs.After.{IsAfter, Stands}
+use Rattle.md_help.specs.After.{IsAfter, StandsInField}
 use Rattle.md_help.proofs.Ends.{decided_status}
 use Rattle.md_help.proofs.Steps.{trail_after}
-use Rattle.md_nbtc_law.specs.Deciding.{FoundMoved, LooksAt, Validates, aborted_by_other}
+use Rattle.md_nbtc_law.specs.Deciding.{FoundReadMoved, LooksAtCounted, Validates, aborted_by_other}
 use Rattle.md_nbtc_law.specs.Ending.{IsReady, IsShown, shown_aborted}
 use Rattle.md_nbtc_law.specs.Prepared.{IsRecorded, LeftThere}
 use Rattle.md_nbtc_law.specs.State.{TxnState, attempt_in, own_steps, shape_in, writes_in}
@@ -74,7 +74,7 @@ module _ (M : Meaning) (t : TxnState) (since : IsPrefix t.began.view.trail t.pas
     concerns = concerns_more (shape_in t) a shown.word (own_steps t) (between ++ s ∷ []) concerns;
   }
 
-  pub later_others : (q : PassView) → q.trail ≡ t.pass.view.trail ++ (between ++ s ∷ []) → Stands M t.field.origin q → ¬ HoldsAll (shape_in t) q
+  pub later_others : (q : PassView) → q.trail ≡ t.pass.view.trail ++ (between ++ s ∷ []) → StandsInField M t.field.origin q → ¬ HoldsAll (shape_in t) q
   later_others q is stands all =
       let began = t.began.view.trail in
       let trail : q.trail ≡ began ++ ((own_steps t ++ between) ++ s ∷ []) =
@@ -98,13 +98,13 @@ module _ (M : Meaning) (t : TxnState) (ready : IsReady M t) (q : PassView) where
   abbrev b : AttemptId
   b = attempt_in t
 
-  looks_same : (steps : List Step) → All (LooksAt (shape_in t)) steps → All (λ (x : Step). x.before ≡ x.after) steps
-  looks_same steps looks = All-weaker (LooksAt (shape_in t)) (λ (x : Step). x.before ≡ x.after) (λ s l. l.same) steps looks
+  looks_same : (steps : List Step) → All (LooksAtCounted (shape_in t)) steps → All (λ (x : Step). x.before ≡ x.after) steps
+  looks_same steps looks = All-weaker (LooksAtCounted (shape_in t)) (λ (x : Step). x.before ≡ x.after) (λ s l. l.same) steps looks
 
   -- the read that didn't stand, where this pass decided the transaction by it
-  module _ (shown : Shown) (v : Validates (shape_in t) b.desc t.reads (length t.reads) (Some shown) t.pass.view q) (stands : Stands M t.field.origin q)
+  module _ (shown : Shown) (v : Validates (shape_in t) b.desc t.reads (length t.reads) (Some shown) t.pass.view q) (stands : StandsInField M t.field.origin q)
       (event : EventOf) (r : PassView) (told : SteppedFrom M t.field.origin event (address (shape_in t) (desc_status b.desc)) (from M t ready) q r) where
-    abbrev f : FoundMoved b.desc t.reads shown t.pass.view v.steps
+    abbrev f : FoundReadMoved b.desc t.reads shown t.pass.view v.steps
     f = v.finds
 
     recorded : (i : ℕ) × (0 ≤ i) × (i < 0 + length t.reads) × IsRecorded t i f.read
@@ -118,14 +118,14 @@ module _ (M : Meaning) (t : TxnState) (ready : IsReady M t) (q : PassView) where
     left : LeftThere b.desc shown.word shown.was (own_steps t)
     left = subst (λ x. LeftThere b.desc x shown.was (own_steps t)) (sym f.is) (subst (λ x. LeftThere b.desc f.read.word x (own_steps t)) (sym f.was) (recorded.3.left (unwritten _ refl)))
 
-    looks : All (LooksAt (shape_in t)) (f.earlier ++ f.last ∷ [])
-    looks = subst (All (LooksAt (shape_in t))) f.order v.looks
+    looks : All (LooksAtCounted (shape_in t)) (f.earlier ++ f.last ∷ [])
+    looks = subst (All (LooksAtCounted (shape_in t))) f.order v.looks
 
     same : All (λ (x : Step). x.before ≡ x.after) f.earlier
-    same = looks_same f.earlier (all_left (LooksAt (shape_in t)) f.earlier (f.last ∷ []) looks)
+    same = looks_same f.earlier (all_left (LooksAtCounted (shape_in t)) f.earlier (f.last ∷ []) looks)
 
     last_same : f.last.before ≡ f.last.after
-    last_same = (All-contains (LooksAt (shape_in t)) (f.earlier ++ f.last ∷ []) f.last looks (Contains-push f.earlier f.last)).same
+    last_same = (All-contains (LooksAtCounted (shape_in t)) (f.earlier ++ f.last ∷ []) f.last looks (Contains-push f.earlier f.last)).same
 
     differ : shown.was ≢ shown.now
     differ e = false≢true (sym f.moved ∙ ap (λ x. x || (holds_desc b.desc shown.now && (count_of shown.now == count_of f.read.content + 1))) (eq-eqb shown.now f.read.content (sym e ∙ f.was)))
@@ -151,7 +151,7 @@ module _ (M : Meaning) (t : TxnState) (ready : IsReady M t) (q : PassView) where
         trail lanes
 
   -- else the status, which another left aborted
-  module _ (moved : Option Shown) (v : Validates (shape_in t) b.desc t.reads (length t.reads) moved t.pass.view q) (r : PassView) (stands : Stands M t.field.origin r)
+  module _ (moved : Option Shown) (v : Validates (shape_in t) b.desc t.reads (length t.reads) moved t.pass.view q) (r : PassView) (stands : StandsInField M t.field.origin r)
       (step : Step) (last : IsAfter (shape_in t) (step ∷ []) q r) (kind : (step.kind ≡ Commit) ⊎ (step.kind ≡ Abort)) (there : step.word ≡ address (shape_in t) (desc_status b.desc))
       (before : step.before ≡ decided_word IsAborted (from M t ready)) (after : step.after ≡ decided_word IsAborted (from M t ready)) where
     abbrev shown : Shown

@@ -32,7 +32,7 @@ use Rattle.md_machine.proofs.lists.Options.{some_same}
 use Rattle.md_rule.specs.Steps.{EventOf, SteppedFrom}
 use Rattle.md_rule.proofs.Moves.{is_kept}
 use Rattle.md_help.proofs.Steps.{trail_after}
-use Rattle.md_nbtc_law.specs.Deciding.{FoundMoved, LooksAt, Validates}
+use Rattle.md_nbtc_law.specs.Deciding.{FoundReadMoved, LooksAtCounted, Validates}
 use Rattle.md_nbtc_law.proofs.preparing.Quiet.{IsQuiet}
 use Rattle.md_nbtc_law.proofs.withdrawals.AllOut.{are_still}
 use Rattle.md_nbtc_law.specs.Ending.{IsReady}
@@ -66,7 +66,7 @@ module _ (M : Meaning) (t : TxnState) (ready : IsReady M t) (q : PassView) (show
   abbrev m : Machine
   m = told.0.machine
 
-  abbrev f : FoundMoved a.desc t.reads shown t.pass.view v.steps
+  abbrev f : FoundReadMoved a.desc t.reads shown t.pass.view v.steps
   f = v.finds
 
   kept : IsKept m
@@ -76,7 +76,7 @@ module _ (M : Meaning) (t : TxnState) (ready : IsReady M t) (q : PassView) (show
   status_is = ap (λ x. content m (address x (desc_status a.desc))) told.0.admitted.shape ∙ told.1
 
   quiet : All IsQuiet v.steps
-  quiet = All-weaker (LooksAt (shape_in t)) IsQuiet (look_is_quiet (shape_in t)) v.steps v.looks
+  quiet = All-weaker (LooksAtCounted (shape_in t)) IsQuiet (look_is_quiet (shape_in t)) v.steps v.looks
 
   module _ (w : Write) (among : Contains (writes_in t) w) (there : w.word ≡ f.read.word) where
     before : IsInstalled (shape_in t) t.pass.view a w

@@ -19,17 +19,17 @@ use Rattle.md_rule.proofs.Moves.{is_kept}
 use Rattle.md_help.proofs.Deciding.{some_after}
 use Rattle.md_help.proofs.Steps.{Made, both_after, load_finds, made_load, none_after}
 use Rattle.md_nbtc_law.specs.declared.slots.TheConstants.{NO_READ}
-use Rattle.md_nbtc_law.specs.Deciding.{FoundStanding, LooksAt, Validates}
+use Rattle.md_nbtc_law.specs.Deciding.{FoundStanding, LooksAtCounted, Validates}
 
 -- what was found standing by some steps is so by more
 pub standing_more : (desc : ℕ) (r : Read) (a b : List Step) → FoundStanding desc r a → FoundStanding desc r (a ++ b)
 standing_more desc r a b f = record { found = f.found; loads = (f.loads.0, Contains-append_left a b f.loads.0 f.loads.1, f.loads.2); stands = f.stands }
 
 pub validated_none : (shape : Shape) (desc : ℕ) (reads : List Read) (p : PassView) → Validates shape desc reads 0 None p p
-validated_none shape desc reads p = record { steps = []; goes = none_after shape p; looks = All-nil (LooksAt shape); finds = λ i h. absurd (omega (arith, h)) }
+validated_none shape desc reads p = record { steps = []; goes = none_after shape p; looks = All-nil (LooksAtCounted shape); finds = λ i h. absurd (omega (arith, h)) }
 
 -- a load of a counted word looks at it
-pub look_made : (shape : Shape) (word found : ℕ) (p q : PassView) (m : Made shape Load word found found p q) → IsCounted shape word → LooksAt shape m.step
+pub look_made : (shape : Shape) (word found : ℕ) (p q : PassView) (m : Made shape Load word found found p q) → IsCounted shape word → LooksAtCounted shape m.step
 look_made shape word found p q m counted = record { kind = m.is_kind; same = m.found ∙ sym m.left_it; counted = subst (IsCounted shape) (sym m.there) counted }
 
 module _ (M : Meaning) (o : Origin) (desc i : ℕ) (reads : List Read) (read : Read) (is : read ≡ get_or reads i NO_READ) (below : i < length reads)
@@ -44,9 +44,9 @@ module _ (M : Meaning) (o : Origin) (desc i : ℕ) (reads : List Read) (read : R
     abbrev steps : List Step
     steps = v.steps ++ made.step ∷ []
 
-    looks : All (LooksAt o.shape) steps
-    looks = All-append (LooksAt o.shape) v.steps (made.step ∷ []) v.looks
-        (All-cons (LooksAt o.shape) made.step [] (look_made o.shape read.word found q r made read_counted) (All-nil (LooksAt o.shape)))
+    looks : All (LooksAtCounted o.shape) steps
+    looks = All-append (LooksAtCounted o.shape) v.steps (made.step ∷ []) v.looks
+        (All-cons (LooksAtCounted o.shape) made.step [] (look_made o.shape read.word found q r made read_counted) (All-nil (LooksAtCounted o.shape)))
 
     -- one more read stands
     pub validated_more : read_stands desc read.content found ≡ true → Validates o.shape desc reads (i + 1) None p r

@@ -21,7 +21,7 @@ use Rattle.md_machine.specs.Machine.{Install}
 use Rattle.md_machine.specs.Meaning.{Meaning}
 use Rattle.md_rule_lanes.specs.declared.shares.Share.{Share}
 use Rattle.md_rule_lanes.specs.Shares.{share_at}
-use Rattle.md_help.specs.After.{IsAfter, Stands}
+use Rattle.md_help.specs.After.{IsAfter, StandsInField}
 use Rattle.md_nbtc_law.specs.declared.seen.Cleanup.{Cleanup}
 use Rattle.md_nbtc_law.specs.declared.seen.Cleanup.TheVariants.{MoveTail, Unlink}
 use Rattle.md_nbtc_law.specs.declared.slots.Slot.{Slot}
@@ -152,7 +152,7 @@ module _ (M : Meaning) (t : TxnState) (prepared : IsPrepared t) (base : PassView
       stand = known_later M _ t u changed_later c.stand;
     }
 
-    pub changed_going : (cs : List Certificate) → IsGoing M t cs → Stands M t.field.origin u.pass.view → IsPrepared u → GoesWith cs → IsGoing M u cs
+    pub changed_going : (cs : List Certificate) → IsGoing M t cs → StandsInField M t.field.origin u.pass.view → IsPrepared u → GoesWith cs → IsGoing M u cs
     changed_going cs g stands now with_it = record {
       stands = stands;
       prepared = now;

@@ -13,7 +13,7 @@ use Rattle.md_machine.specs.Meaning.{Meaning}
 use Rattle.md_machine.specs.Moved.{Moved}
 use Rattle.md_machine.specs.Trail.{StoresFor, is_store}
 use Rattle.md_machine.specs.clauses.passes.Alone.{HoldsAll}
-use Rattle.md_help.specs.After.{Stands}
+use Rattle.md_help.specs.After.{StandsInField}
 use Rattle.md_nbtc_law.specs.declared.seen.Seen.{Seen}
 use Rattle.md_nbtc_law.specs.Calls.{GoesOn}
 use Rattle.md_nbtc_law.specs.Prepared.{IsPrepared, LeftThere}
@@ -107,7 +107,7 @@ module _ (M : Meaning) (t : TxnState) (prepared : IsPrepared t) (operates : t.ha
   -- a pass that holds all lanes loses none
   not_alone : ¬ HoldsAll (shape_in t) stepped.pass.view
   not_alone all =
-      let at = subst (Stands M t.field.origin) it.view it.stands in
+      let at = subst (StandsInField M t.field.origin) it.view it.stands in
       let trail : stepped.pass.view.trail ≡ t.began.view.trail ++ (own_steps t ++ s ∷ []) =
       trail_is t it.base it.step it.goes t.hand.changes t.pass.shares t.slots ∙ ap (λ l. l ++ s ∷ []) (own_rest t.began.view.trail t.pass.view.trail prepared.has.since)
       ∙ append_assoc t.began.view.trail (own_steps t) (s ∷ []) in
@@ -119,7 +119,7 @@ module _ (M : Meaning) (t : TxnState) (prepared : IsPrepared t) (operates : t.ha
   lost = record stepped { stop = Some (Conflict shown) }
 
   pub lost_on : GoesOn M t lost
-  lost_on = both_on M t stepped lost (once_on t prepared operates it.base it.step it.goes leaves M (subst (Stands M t.field.origin) it.view it.stands))
+  lost_on = both_on M t stepped lost (once_on t prepared operates it.base it.step it.goes leaves M (subst (StandsInField M t.field.origin) it.view it.stands))
       (halted_on M stepped stepped_prepared (Conflict shown) (conflict_cause stepped shown moved not_alone))
 
   pub lost_given : (other : ℕ) (seen : Seen) → Gave t other seen → Gave lost other seen

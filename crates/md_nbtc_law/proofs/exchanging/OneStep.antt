@@ -17,7 +17,7 @@ use Rattle.md_machine.specs.Resolution.{always_nodes}
 use Rattle.md_machine.specs.Stepping.{attempt_in_hand, is_of_placed, known_after, step_of, stepped}
 use Rattle.md_machine.specs.clauses.nodes.FreeNodes.{IsFreeBy}
 use Rattle.md_rule.specs.Steps.{EventOf, Stepped}
-use Rattle.md_help.specs.After.{IsAfter, Stands}
+use Rattle.md_help.specs.After.{IsAfter, StandsInField}
 use Rattle.md_help.proofs.Steps.{IsFor, known_stays, stands_after}
 use Rattle.md_nbtc_law.specs.Prepared.{IsPrepared}
 use Rattle.md_nbtc_law.specs.State.{TxnState, attempt_in, shape_in}
@@ -37,7 +37,7 @@ module _ (M : Meaning) (t : TxnState) (prepared : IsPrepared t) where
     pub attempt : step.attempt ≡ Some (attempt_in t)
     pub view : q ≡ changed_view t base step goes changes t.pass.shares t.slots
     pub free : (node : ℕ) → IsFreeBy t.pass.view.seen t.pass.view.known node → IsFreeBy base.seen base.known node
-    pub stands : Stands M t.field.origin q
+    pub stands : StandsInField M t.field.origin q
     -- the machine in which it was made, where it noted whether the word is one of a placed node
     pub machine : Machine
     pub admitted : Admitted M t.field.origin machine

@@ -28,7 +28,7 @@ use Rattle.md_machine.specs.Trail.{LastStored, StoresFor}
 use Rattle.md_machine.specs.events.Store.{changes_by_store}
 use Rattle.md_rule.specs.Steps.{May, Stepped}
 use Rattle.md_rule.specs.Views.{FieldView, PassState}
-use Rattle.md_help.specs.After.{Stands}
+use Rattle.md_help.specs.After.{StandsInField}
 use Rattle.md_help.proofs.Steps.{stands_after}
 use Rattle.md_nbtc_law.specs.declared.seen.Cleanup.{Cleanup}
 use Rattle.md_nbtc_law.specs.declared.seen.Seen.{Seen}
@@ -317,7 +317,7 @@ module _ (M : Meaning) (t : TxnState) (prepared : IsPrepared t) (operates : t.ha
     pub renewed_going : CleanupsStay t word to → (cs : List Certificate) → IsGoing M t cs → IsGoing M renewed cs
     renewed_going stay cs going = changed_going M t prepared stores.base s stores.goes new_changes t.pass.shares (map (with_new word to) t.slots)
         (record { rest = []; is = installs_same t.slots ∙ sym (append-nil _) }) (λ lane. refl) cs going
-        (subst (Stands M t.field.origin) stores.view (stands_after M t.field.origin (λ pass. store pass (address (shape_in t) (slot_new a_desc place)) to) t.pass.view q step (ap (λ (v : PassView). v.lanes) stores.view ∙ ap (λ (v : PassView). v.lanes) stores.goes.1)))
+        (subst (StandsInField M t.field.origin) stores.view (stands_after M t.field.origin (λ pass. store pass (address (shape_in t) (slot_new a_desc place)) to) t.pass.view q step (ap (λ (v : PassView). v.lanes) stores.view ∙ ap (λ (v : PassView). v.lanes) stores.goes.1)))
         renewed_prepared (record {
           first = λ x content is. inl (sym (first_same x) ∙ is);
           found = λ x is. ap (λ o. is_some o) (first_same x) ∙ is;

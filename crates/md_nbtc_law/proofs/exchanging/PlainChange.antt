@@ -46,7 +46,7 @@ use Rattle.md_machine.proofs.lists.Rising.{in_cons, in_none}
 use Rattle.md_machine.specs.Trail.{is_store}
 use Rattle.md_rule.specs.Views.{FieldView, PassState}
 use Rattle.md_rule.proofs.Moves.{is_meant}
-use Rattle.md_help.specs.After.{Stands}
+use Rattle.md_help.specs.After.{StandsInField}
 use Rattle.md_history.specs.declared.stops.Stop.{Stop}
 use Rattle.md_nbtc_law.specs.declared.slots.Lot.{Lot}
 use Rattle.md_nbtc_law.specs.declared.slots.Slot.{Slot}
@@ -180,7 +180,7 @@ module _ (M : Meaning) (lawful : Lawful M) (t : TxnState) (prepared : IsPrepared
   plain = stepped_once t prepared operates it.base it.step it.goes
 
   pub plain_on : GoesOn M t plain
-  plain_on = once_on t prepared operates it.base it.step it.goes leaves M (subst (Stands M t.field.origin) it.view it.stands)
+  plain_on = once_on t prepared operates it.base it.step it.goes leaves M (subst (StandsInField M t.field.origin) it.view it.stands)
 
   pub plain_given : (other : ℕ) (seen : Seen) → other ≢ word → Gave t other seen → Gave plain other seen
   plain_given other seen differ = once_gave t prepared operates it.base it.step it.goes leaves other seen (λ e. absurd (differ (sym e ∙ it.there)))

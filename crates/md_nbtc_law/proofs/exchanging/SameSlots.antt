@@ -15,7 +15,7 @@ use Rattle.md_machine.specs.Own.{IsWordOf}
 use Rattle.md_machine.specs.Trail.{StoresFor}
 use Rattle.md_machine.specs.clauses.nodes.FreeNodes.{IsFreeBy}
 use Rattle.md_machine.specs.events.Start.{WonInstall}
-use Rattle.md_help.specs.After.{IsAfter, Stands}
+use Rattle.md_help.specs.After.{IsAfter, StandsInField}
 use Rattle.md_nbtc_law.specs.declared.seen.Seen.{Seen}
 use Rattle.md_nbtc_law.specs.declared.slots.Slot.{Slot}
 use Rattle.md_nbtc_law.specs.Calls.{GoesOn}
@@ -73,7 +73,7 @@ module _ (t : TxnState) (prepared : IsPrepared t) (operates : t.hand.operating �
           free = leaves.free;
         })
 
-    pub once_on : (M : Meaning) → Stands M t.field.origin stepped_once.pass.view → GoesOn M t stepped_once
+    pub once_on : (M : Meaning) → StandsInField M t.field.origin stepped_once.pass.view → GoesOn M t stepped_once
     once_on M stands = record {
       going = λ cs going. changed_going M t prepared base s after t.hand.changes t.pass.shares t.slots (record { rest = []; is = sym (append-nil _) }) (λ lane. refl) cs going stands once_prepared (record {
         first = λ word content is. inl is;

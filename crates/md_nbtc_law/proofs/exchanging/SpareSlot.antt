@@ -14,7 +14,7 @@ use Rattle.md_machine.specs.Trail.{LastStored, StoresFor}
 use Rattle.md_machine.specs.events.Store.{MayStoreAt, changes_by_store}
 use Rattle.md_rule.specs.Admitted.{Admitted}
 use Rattle.md_rule.specs.Steps.{May, Stepped}
-use Rattle.md_help.specs.After.{Stands}
+use Rattle.md_help.specs.After.{StandsInField}
 use Rattle.md_help.proofs.Steps.{stands_after}
 use Rattle.md_nbtc_law.specs.declared.seen.Seen.{Seen}
 use Rattle.md_nbtc_law.specs.Calls.{GoesOn}
@@ -151,7 +151,7 @@ module _ (M : Meaning) (t : TxnState) (prepared : IsPrepared t) where
           slot_exists i below = let few = prepared.has.few_writes in (desc_there, omega (arith, below, few))
 
       pub put_on : GoesOn M t put_state
-      put_on = once_on t prepared operates done.base done.step done.goes leaves M (subst (Stands M t.field.origin) done.view
+      put_on = once_on t prepared operates done.base done.step done.goes leaves M (subst (StandsInField M t.field.origin) done.view
           (stands_after M t.field.origin (λ pass. store pass (address (shape_in t) spare.place) value) t.pass.view q step (ap (λ (v : PassView). v.lanes) done.view ∙ ap (λ (v : PassView). v.lanes) done.goes.1)))
 
       pub put_gave : (word : ℕ) (seen : Seen) → Gave t word seen → Gave put_state word seen

@@ -31,7 +31,7 @@ use Rattle.md_machine.proofs.lists.Options.{some_same}
 use Rattle.md_machine.proofs.lists.Rising.{in_cons, in_none}
 use Rattle.md_rule_lanes.specs.Shares.{after_slot, share_at}
 use Rattle.md_rule_lanes.specs.declared.shares.Share.{Share}
-use Rattle.md_help.specs.After.{Stands}
+use Rattle.md_help.specs.After.{StandsInField}
 use Rattle.md_nbtc_law.specs.declared.seen.Seen.{Seen}
 use Rattle.md_nbtc_law.specs.declared.slots.Slot.{Slot}
 use Rattle.md_nbtc_law.specs.Beginning.{KeepsCounts}
@@ -264,7 +264,7 @@ module _ (M : Meaning) (lawful : Lawful M) (t : TxnState) (prepared : IsPrepared
   pub installed_on : IsFoundFirst M t word from.value → GoesOn M t installed
   installed_on first = record {
     going = λ cs going. changed_going M t prepared it.base it.step it.goes now_changes shares now_slots prefix (λ lane. (counts lane).1) cs going
-        (subst (Stands M t.field.origin) it.view it.stands) installed_prepared (record {
+        (subst (StandsInField M t.field.origin) it.view it.stands) installed_prepared (record {
           first = λ x content is. by_first x content (sym (ap (λ ws. first_content t.reads ws x) writes_are ∙ first_push t.reads (writes_in t) w x) ∙ is)
               (first_content t.reads (writes_in t) x) refl;
           found = λ x is. stays x (first_content t.reads (writes_in t) x) refl is;

@@ -22,7 +22,7 @@ use Rattle.md_machine.specs.events.Uninstall.{desc_in}
 use Rattle.md_machine.proofs.lists.Options.{some_same}
 use Rattle.md_rule.specs.InHand.{HoldsDesc}
 use Rattle.md_rule.specs.Views.{FieldView, PassState}
-use Rattle.md_help.specs.After.{IsAfter, Stands}
+use Rattle.md_help.specs.After.{IsAfter, StandsInField}
 use Rattle.md_help.specs.Clears.{Clears}
 use Rattle.md_help.specs.declared.clearing.Cleared.{Cleared}
 use Rattle.md_nbtc_law.specs.declared.seen.Seen.{Seen}
@@ -135,7 +135,7 @@ module _ (M : Meaning) (lawful : Lawful M) (t : TxnState) (way : IsUnderWay M t)
         let held = (looked_on.going way.0 way.1).prepared.has.held in
         desc_other (sym h.2 ∙ ap (λ (x : Hand). x.attempt.desc) (some_same h.0 t.hand (sym h.1 ∙ held)))
 
-    module _ (r : PassView) (c : Cleared) (clears : Clears (shape_in t) word found c q r) (stands : Stands M t.field.origin r) where
+    module _ (r : PassView) (c : Cleared) (clears : Clears (shape_in t) word found c q r) (stands : StandsInField M t.field.origin r) where
       -- the transaction after its clearing
       abbrev pub cleared : TxnState
       cleared = record t { pass = record t.pass { view = r } }

@@ -25,7 +25,7 @@ use Rattle.md_machine.specs.clauses.words.MetSpots.{MetSpotsExist}
 use Rattle.md_machine.specs.events.Uninstall.{desc_in, uninstalled_word}
 use Rattle.md_rule.specs.Steps.{SteppedFrom}
 use Rattle.md_rule.proofs.Moves.{is_kept}
-use Rattle.md_help.specs.After.{Stands}
+use Rattle.md_help.specs.After.{StandsInField}
 use Rattle.md_help.specs.Clears.{Clears}
 use Rattle.md_help.specs.declared.clearing.Cleared.{Cleared}
 use Rattle.md_help.proofs.Finishing.{found_fits}
@@ -126,7 +126,7 @@ module _ (M : Meaning) (lawful : Lawful M) (t : TxnState) (cs : List Certificate
   fits : count_of found ≤ LAST_COUNT + 1
   fits = found_fits M t.field.origin word found t.pass.view q counted odd step
 
-  module _ (r : PassView) (c : Cleared) (clears : Clears (shape_in t) word found c q r) (stands : Stands M t.field.origin r) where
+  module _ (r : PassView) (c : Cleared) (clears : Clears (shape_in t) word found c q r) (stands : StandsInField M t.field.origin r) where
     -- the transaction after the clearing
     abbrev pub cleared : TxnState
     cleared = record t { pass = record t.pass { view = r } }

@@ -21,7 +21,7 @@ use Rattle.md_machine.specs.events.Exchange.{FoundNext}
 use Rattle.md_rule.specs.Steps.{SteppedFrom}
 use Rattle.md_rule.specs.Views.{FieldView}
 use Rattle.md_rule.proofs.Moves.{is_kept, is_meant}
-use Rattle.md_help.specs.After.{Stands}
+use Rattle.md_help.specs.After.{StandsInField}
 use Rattle.md_help.specs.Clears.{Clears}
 use Rattle.md_help.specs.declared.clearing.Cleared.{Cleared}
 use Rattle.md_nbtc_law.specs.Going.{IsGoing}
@@ -51,7 +51,7 @@ next_or (slot_new d j) = inr (λ n e. grind (arith, e))
 module _ (M : Meaning) (lawful : Lawful M) (t : TxnState) (cs : List Certificate) (going : IsGoing M t cs) (q : PassView) (word found : ℕ)
     (step : SteppedFrom M t.field.origin (λ pass. load pass word) word found t.pass.view q) (counted : IsCounted (shape_in t) word)
     (none : is_written (writes_in t) word ≡ false) (odd : is_even (count_of found) ≡ false)
-    (r : PassView) (c : Cleared) (clears : Clears (shape_in t) word found c q r) (stands : Stands M t.field.origin r) where
+    (r : PassView) (c : Cleared) (clears : Clears (shape_in t) word found c q r) (stands : StandsInField M t.field.origin r) where
   abbrev the : Step
   the = (made M t going.prepared q word found step).step
 

@@ -10,7 +10,7 @@ use Rattle.md_machine.specs.Event.{load}
 use Rattle.md_machine.specs.Meaning.{Meaning}
 use Rattle.md_rule.specs.Steps.{SteppedFrom}
 use Rattle.md_rule.specs.Views.{Origin}
-use Rattle.md_help.specs.After.{Stands}
+use Rattle.md_help.specs.After.{StandsInField}
 use Rattle.md_help.proofs.Steps.{Made, both_after, made_load, none_after, stands_made}
 use Rattle.md_help.specs.declared.clearing.Cleared.{Cleared}
 use Rattle.md_help.specs.Clears.{Clears}
@@ -48,7 +48,7 @@ module _ (M : Meaning) (o : Origin) (word : ℕ) where
     }
 
     -- after it the pass stands in a machine of the field
-    pub stands_one : Stands M o q
+    pub stands_one : StandsInField M o q
     stands_one = stands_made M o (λ pass. load pass word) Load word found found p q step.0 m
 
     -- of an own word it is all
@@ -68,7 +68,7 @@ module _ (M : Meaning) (o : Origin) (word : ℕ) where
     }
 
   -- the last look ends them
-  pub looks_end : (most found : ℕ) (p q r : PassView) (a : OnlyLooks o.shape word p q) → length a.steps < most → Stands M o q → SteppedFrom M o (λ pass. load pass word) word found q r
+  pub looks_end : (most found : ℕ) (p q r : PassView) (a : OnlyLooks o.shape word p q) → length a.steps < most → StandsInField M o q → SteppedFrom M o (λ pass. load pass word) word found q r
       → LooksUntil M o word most found p r
   looks_end most found p q r a few stands step = record { last = q; earlier = a; few = few; stands = stands; step = step }
 

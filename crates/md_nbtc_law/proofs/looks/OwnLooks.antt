@@ -18,7 +18,7 @@ use Rattle.md_machine.specs.Meaning.{Meaning}
 use Rattle.md_machine.specs.Trail.{Meets, is_store}
 use Rattle.md_rule.specs.Steps.{SteppedFrom}
 use Rattle.md_rule.proofs.Moves.{is_kept}
-use Rattle.md_help.specs.After.{Stands}
+use Rattle.md_help.specs.After.{StandsInField}
 use Rattle.md_nbtc_law.specs.Prepared.{IsPrepared, IsWritten}
 use Rattle.md_nbtc_law.specs.Seeing.{Looks}
 use Rattle.md_nbtc_law.specs.State.{TxnState, attempt_in, installed_at, shape_in, writes_in}
@@ -59,7 +59,7 @@ module _ (M : Meaning) (t : TxnState) (prepared : IsPrepared t) (q : PassView) (
       }
 
 -- the new value of a slot fits a content
-pub new_fits : (M : Meaning) (t : TxnState) → IsPrepared t → Stands M t.field.origin t.pass.view → (w : Write) → Contains (writes_in t) w → w.new < 2 ^ 32
+pub new_fits : (M : Meaning) (t : TxnState) → IsPrepared t → StandsInField M t.field.origin t.pass.view → (w : Write) → Contains (writes_in t) w → w.new < 2 ^ 32
 new_fits M t prepared at w among =
     let m = at.machine in
     let k = is_kept M t.field.origin m at.admitted in

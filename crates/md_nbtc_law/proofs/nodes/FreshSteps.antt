@@ -23,7 +23,7 @@ use Rattle.md_rule.specs.Views.{FieldView, PassState}
 use Rattle.md_rule.proofs.LaneLists.{lane_fits}
 use Rattle.md_arena.specs.Taking.{IsLowestLeft, TakesNode}
 use Rattle.md_arena.proofs.TakenNodes.{lane_of}
-use Rattle.md_help.specs.After.{Stands}
+use Rattle.md_help.specs.After.{StandsInField}
 use Rattle.md_help.proofs.Steps.{Made}
 use Rattle.md_nbtc_law.specs.declared.seen.Seen.{Seen}
 use Rattle.md_nbtc_law.specs.declared.slots.Lot.{Lot}
@@ -92,7 +92,7 @@ module _ (M : Meaning) (lawful : Lawful M) (field : FieldView) (p began : PassSt
     three = freshening.three M lawful t prepared node s.took s.takes s.free s.looked s.same_looked s.at s.at_is s.found s.looks key value s.keyed s.stores_key s.valued s.stores_value
         s.stored s.count_is q.view s.stores_next
 
-    stands : Stands M t.field.origin q.view
+    stands : StandsInField M t.field.origin q.view
     stands = freshening.stands M lawful t prepared node s.took s.takes s.free s.looked s.same_looked s.at s.at_is s.found s.looks key value s.keyed s.stores_key s.valued s.stores_value
         s.stored s.count_is q.view s.stores_next
 

@@ -24,7 +24,7 @@ use Rattle.md_machine.proofs.lists.Rising.{here, there}
 use Rattle.md_rule.specs.Kept.{IsLeft}
 use Rattle.md_rule.specs.Views.{PassState}
 use Rattle.md_arena.specs.Taking.{TakesNode}
-use Rattle.md_help.specs.After.{Stands}
+use Rattle.md_help.specs.After.{StandsInField}
 use Rattle.md_nbtc_law.specs.declared.seen.Seen.{Seen}
 use Rattle.md_nbtc_law.specs.declared.slots.Lot.{Lot}
 use Rattle.md_nbtc_law.specs.Calls.{GoesOn}
@@ -62,7 +62,7 @@ pub record HasFresh (M : Meaning) (t : TxnState) (n : OwnNode) (look : Step) (q 
   pub key : last_stored q.view.trail (address (shape_in t) (node_key n.node)) 0 ≡ n.key
   pub value : last_stored q.view.trail (address (shape_in t) (node_value n.node)) 0 ≡ n.value
   pub next : value_of (last_stored q.view.trail (address (shape_in t) (node_next n.node)) 0) ≡ n.next
-  pub on : (lots : List Lot) → lots ≡ lots_since t.began q → Stands M t.field.origin q.view → GoesOn M t (with_fresh t n q lots)
+  pub on : (lots : List Lot) → lots ≡ lots_since t.began q → StandsInField M t.field.origin q.view → GoesOn M t (with_fresh t n q lots)
   pub given : (lots : List Lot) → lots ≡ lots_since t.began q → (word : ℕ) (seen : Seen) → word ≢ address (shape_in t) (node_next n.node) → Gave t word seen → Gave (with_fresh t n q lots) word seen
   pub found : (held : ℕ) → Finds (address (shape_in t) (node_next n.node)) held look → SomeStep (Finds (address (shape_in t) (node_next n.node)) held) (own_steps (record t { pass = q }))
 
@@ -299,7 +299,7 @@ module _ (M : Meaning) (lawful : Lawful M) (t : TxnState) (cs : List Certificate
           (front_after (shape_in t) t.pass steps all.base a.shares all.goes (took_no_try t.pass node a takes)));
     }
 
-    fresh_on : Stands M t.field.origin e → GoesOn M t fresh
+    fresh_on : StandsInField M t.field.origin e → GoesOn M t fresh
     fresh_on stands = record {
       going = λ ds g. grown_going M t fresh_pass lots n new fresh_later prepared.has.since (took_more t prepared node a takes e lanes_same) ds g stands fresh_prepared
           (own_unplaced M lawful fresh n (Contains-push t.nodes n) exists);

@@ -14,7 +14,7 @@ use Rattle.md_machine.specs.Meaning.{Lawful, Meaning}
 use Rattle.md_rule.specs.Steps.{May, Stepped, SteppedFrom}
 use Rattle.md_rule.specs.Views.{PassState}
 use Rattle.md_arena.specs.Taking.{TakesNode}
-use Rattle.md_help.specs.After.{Stands}
+use Rattle.md_help.specs.After.{StandsInField}
 use Rattle.md_help.proofs.Steps.{stands_after}
 use Rattle.md_nbtc_law.specs.Prepared.{IsPrepared, LeftLast}
 use Rattle.md_nbtc_law.specs.State.{TxnState, shape_in}
@@ -112,6 +112,6 @@ module _ (M : Meaning) (lawful : Lawful M) (t : TxnState) (prepared : IsPrepared
                 (after_one M lawful t.field.origin node d hand here_d (node_next node) (inr refl) stored e step_e)
 
             -- the pass stands somewhere then
-            pub stands : Stands M t.field.origin e
+            pub stands : StandsInField M t.field.origin e
             stands = stands_after M t.field.origin (λ pass. store pass (address (shape_in t) (node_next node)) stored) d e step_e
                 (after_one M lawful t.field.origin node d hand here_d (node_next node) (inr refl) stored e step_e).lanes

@@ -13,7 +13,7 @@ use Rattle.md_machine.specs.declared.node.Structure.{Structure}
 use Rattle.md_machine.specs.Meaning.{Meaning}
 use Rattle.md_rule_lanes.specs.Shares.{share_at}
 use Rattle.md_rule.specs.Views.{PassState}
-use Rattle.md_help.specs.After.{Stands}
+use Rattle.md_help.specs.After.{StandsInField}
 use Rattle.md_nbtc_law.specs.declared.seen.Cleanup.{Cleanup}
 use Rattle.md_nbtc_law.specs.declared.slots.Slot.{Slot}
 use Rattle.md_nbtc_law.specs.Cleaning.{IsFactLater, IsKeptCleanup, IsPlacedFor, IsPlacedIn, MayTidyLater, TidiesLater}
@@ -139,7 +139,7 @@ module _ (M : Meaning) (t : TxnState) (pass : PassState) (lots : List Lot) (n : 
       stand = known_later M _ t grown later c.stand;
     }
 
-    pub grown_going : TakesMore → (cs : List Certificate) → IsGoing M t cs → Stands M t.field.origin pass.view → IsPrepared grown → IsUnplaced M grown n → IsGoing M grown cs
+    pub grown_going : TakesMore → (cs : List Certificate) → IsGoing M t cs → StandsInField M t.field.origin pass.view → IsPrepared grown → IsUnplaced M grown n → IsGoing M grown cs
     grown_going more cs g stands prepared new = record {
       stands = stands;
       prepared = prepared;

@@ -22,7 +22,7 @@ use Rattle.md_rule.specs.Admitted.{Admitted}
 use Rattle.md_rule.specs.Steps.{Acted, IsOf as IsOfAct, MayAct}
 use Rattle.md_rule.proofs.Moves.{is_kept}
 use Rattle.md_rule.proofs.Told.{told_act}
-use Rattle.md_nbtc_law.specs.Calls.{Ends, MayAnswer, with_act}
+use Rattle.md_nbtc_law.specs.Calls.{EndsOperation, MayAnswer, with_act}
 use Rattle.md_nbtc_law.specs.Course.{MayEnd}
 use Rattle.md_nbtc_law.specs.Prepared.{IsPrepared}
 use Rattle.md_nbtc_law.specs.State.{TxnState}
@@ -89,7 +89,7 @@ module _ (M : Meaning) (t : TxnState) (prepared : IsPrepared t) (operates : t.ha
     ended_op = after_mark M t prepared ended_acts false (λ pass. mark_act pass step.0) q step.2 ended_view
 
     -- the transaction goes on by one more certificate
-    pub ended_on : Ends M t ended_op op reply
+    pub ended_on : EndsOperation M t ended_op op reply
     ended_on =
         let later = mark_later M t prepared ended_acts false (λ pass. mark_act pass step.0) q step.2 ended_view in
         record {

@@ -16,7 +16,7 @@ use Rattle.md_machine.specs.clauses.nodes.FreeNodes.{IsFreeBy}
 use Rattle.md_machine.proofs.clauses.nodes.FreeNodes.{still_free}
 use Rattle.md_rule.specs.Views.{Origin}
 use Rattle.md_rule.proofs.Moves.{is_kept}
-use Rattle.md_help.specs.After.{IsAfter, Stands}
+use Rattle.md_help.specs.After.{IsAfter, StandsInField}
 use Rattle.md_nbtc_law.specs.declared.seen.Seen.{Seen}
 use Rattle.md_nbtc_law.specs.Calls.{GoesOn}
 use Rattle.md_nbtc_law.specs.Going.{IsUnderWay}
@@ -39,7 +39,7 @@ pub record IsCalm (t : TxnState) (word : ℕ) (s : Step) : Type 0 where
   pub nodes : (n : OwnNode) → Contains t.nodes n → (place : Place) → IsWordOf n.node place → s.word ≡ address (shape_in t) place → s.before ≡ s.after
 
 -- a node that the pass knows to be free before steps, it knows so after them
-pub free_after : (M : Meaning) (o : Origin) (p q : PassView) (steps : List Step) → IsAfter o.shape steps p q → Stands M o p → Stands M o q → (node : ℕ)
+pub free_after : (M : Meaning) (o : Origin) (p q : PassView) (steps : List Step) → IsAfter o.shape steps p q → StandsInField M o p → StandsInField M o q → (node : ℕ)
     → IsFreeBy p.seen p.known node → IsFreeBy q.seen q.known node
 free_after M o p q steps after was now node free =
     let kept = is_kept M o was.machine was.admitted in
@@ -53,7 +53,7 @@ free_after M o p q steps after was now node free =
     none_in x c = omega (arith, c.1)
 
 module _ (M : Meaning) (t : TxnState) (way : IsUnderWay M t) (q : PassView) (steps : List Step) (after : IsAfter (shape_in t) steps t.pass.view q)
-    (stands : Stands M t.field.origin q) (word : ℕ) (none : (i : ℕ) (w : Write) → IsWritten t i w → w.word ≢ word) (calm : All (IsCalm t word) steps) where
+    (stands : StandsInField M t.field.origin q) (word : ℕ) (none : (i : ℕ) (w : Write) → IsWritten t i w → w.word ≢ word) (calm : All (IsCalm t word) steps) where
   abbrev pub over : TxnState
   over = record t { pass = record t.pass { view = q } }
 

@@ -24,7 +24,7 @@ use Rattle.md_rule_lanes.specs.declared.shares.Share.{Share}
 use Rattle.md_rule_lanes.specs.Shares.{share_at}
 use Rattle.md_words.specs.declared.shape.Shape.{Shape}
 use Rattle.md_rule.specs.Views.{PassState}
-use Rattle.md_help.specs.After.{Stands}
+use Rattle.md_help.specs.After.{StandsInField}
 use Rattle.md_nbtc_law.specs.declared.seen.Cleanup.{Cleanup}
 use Rattle.md_nbtc_law.specs.declared.slots.Slot.{Slot}
 use Rattle.md_nbtc_law.specs.Cleaning.{IsFactLater, IsKeptCleanup, IsPlacedFor, IsPlacedIn, MayTidyLater, TidiesLater}
@@ -116,7 +116,7 @@ pub record Rest (M : Meaning) (t : TxnState) (cs : List Certificate) : Type 0 wh
 pub rest_of : (M : Meaning) (t : TxnState) (cs : List Certificate) → IsGoing M t cs → Rest M t cs
 rest_of M t cs g = record { prepared = g.prepared; nodes = g.nodes; first = g.first; places = g.places; course = g.course; cleanups = g.cleanups; stop = g.stop }
 
-pub going_of : (M : Meaning) (t : TxnState) (cs : List Certificate) → Stands M t.field.origin t.pass.view → Rest M t cs → IsGoing M t cs
+pub going_of : (M : Meaning) (t : TxnState) (cs : List Certificate) → StandsInField M t.field.origin t.pass.view → Rest M t cs → IsGoing M t cs
 going_of M t cs stands g = record { stands = stands; prepared = g.prepared; nodes = g.nodes; first = g.first; places = g.places; course = g.course; cleanups = g.cleanups; stop = g.stop }
 
 -- steps after a first part of a trail are more where the trail is longer
@@ -219,5 +219,5 @@ module _ (M : Meaning) (t : TxnState) (pass : PassState) where
       stop = λ s is. cause_more (prepared.has.of.shape ∙ sym g.prepared.has.of.shape) shares s (g.stop s is);
     }
 
-    pub going_on : pass.shares ≡ t.pass.shares → (cs : List Certificate) → IsGoing M t cs → Stands M t.field.origin pass.view → IsPrepared stepped_on → IsGoing M stepped_on cs
+    pub going_on : pass.shares ≡ t.pass.shares → (cs : List Certificate) → IsGoing M t cs → StandsInField M t.field.origin pass.view → IsPrepared stepped_on → IsGoing M stepped_on cs
     going_on shares cs g stands prepared = going_of M stepped_on cs stands (rest_on shares cs (rest_of M t cs g) prepared)

@@ -25,7 +25,7 @@ use Rattle.md_machine.specs.clauses.nodes.FreeNodes.{IsFreeBy}
 use Rattle.md_machine.specs.events.Ready.{unready_word}
 use Rattle.md_rule.specs.Steps.{SteppedFrom}
 use Rattle.md_rule.specs.Views.{FieldView, PassState}
-use Rattle.md_help.specs.After.{Stands}
+use Rattle.md_help.specs.After.{StandsInField}
 use Rattle.md_help.proofs.Steps.{stands_made, trail_after}
 use Rattle.md_nbtc_law.specs.declared.slots.Lot.{Lot}
 use Rattle.md_nbtc_law.specs.declared.slots.Slot.{Slot}
@@ -140,7 +140,7 @@ module _ (M : Meaning) (t : TxnState) (prepared : IsPrepared t) (f : ℕ → Own
   lost_may a is = subst (λ x. MayWithdraw (shape_in t) t.began r x (writes_in t)) (sym is) (subst (λ x. MayWithdraw (shape_in t) t.began x (attempt_in t) (writes_in t)) (sym same)
       (met_may t prepared f node_is nodes r.view b (lost_made M t prepared r.view found apart step).goes quiet fate free))
 
-  pub lost_stands : Stands M t.field.origin r.view
+  pub lost_stands : StandsInField M t.field.origin r.view
   lost_stands = stands_made M t.field.origin (λ pass. ready pass (length t.reads)) Ready (address (shape_in t) (desc_status (attempt_in t).desc)) found found t.pass.view r.view step.0
       (lost_made M t prepared r.view found apart step)
 

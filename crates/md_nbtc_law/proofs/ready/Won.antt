@@ -42,7 +42,7 @@ use Rattle.md_rule.specs.Steps.{SteppedFrom}
 use Rattle.md_rule.specs.Views.{FieldView, PassState}
 use Rattle.md_rule.proofs.Moves.{goes_on, is_kept}
 use Rattle.md_rule.proofs.Told.{told_ready}
-use Rattle.md_help.specs.After.{Stands}
+use Rattle.md_help.specs.After.{StandsInField}
 use Rattle.md_help.proofs.Deciding.{won_exchange}
 use Rattle.md_help.proofs.Steps.{Made, stands_after, trail_after}
 use Rattle.md_nbtc_law.specs.declared.slots.Lot.{Lot}
@@ -177,7 +177,7 @@ module _ (M : Meaning) (lawful : Lawful M) (t : TxnState) (cs : List Certificate
   abbrev pub now_ready : TxnState
   now_ready = record t { pass = record t.pass { view = q } }
 
-  pub won_stands : Stands M t.field.origin q
+  pub won_stands : StandsInField M t.field.origin q
   won_stands = stands_after M t.field.origin (λ pass. ready pass (length t.reads)) t.pass.view q step.0 won_lanes
 
   -- its entry is the last that the pass has seen

@@ -22,7 +22,7 @@ use Rattle.md_machine.proofs.lists.Options.{some_same}
 use Rattle.md_rule.specs.Steps.{May, Stepped}
 use Rattle.md_rule.specs.Views.{Origin}
 use Rattle.md_rule.proofs.Told.{told_store}
-use Rattle.md_help.specs.After.{IsAfter, Stands}
+use Rattle.md_help.specs.After.{IsAfter, StandsInField}
 use Rattle.md_help.proofs.Steps.{IsFor, Made, both_after, known_stays, made, stands_made}
 use Rattle.md_nbtc_law.proofs.looks.Loaded.{free_over}
 use Rattle.md_nbtc_law.proofs.nodes.Stores.{unready_there}
@@ -72,7 +72,7 @@ module _ (M : Meaning) (o : Origin) (h : Hand) (i : ℕ) (within : IsInSet o.sha
     pub made : Made o.shape Store (address o.shape place) found value v q
     pub stores : StoresFor h.attempt (address o.shape place) made.step
     pub again : Prepares o q h
-    pub stands : Stands M o q
+    pub stands : StandsInField M o q
     pub free : (lane : ℕ) → Contains v.lanes lane → (node : ℕ) → IsFreeBy v.seen v.known node → IsFreeBy q.seen q.known node
 
   idle : (m : Machine) (old value : ℕ) (place : Place) → IsPart place
@@ -130,7 +130,7 @@ module _ (M : Meaning) (o : Origin) (h : Hand) (i : ℕ) (within : IsInSet o.sha
     pub word_left : first.after ≡ word
     pub stores_content : StoresFor h.attempt (address o.shape (read_content h.attempt.desc i)) second
     pub content_left : second.after ≡ held
-    pub stands : Stands M o r
+    pub stands : StandsInField M o r
     pub free : (lane : ℕ) → Contains v.lanes lane → (node : ℕ) → IsFreeBy v.seen v.known node → IsFreeBy r.seen r.known node
 
   pub stored_read : (v : PassView) → Prepares o v h → (word held : ℕ) (q r : PassView)

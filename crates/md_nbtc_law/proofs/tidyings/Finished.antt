@@ -25,14 +25,14 @@ use Rattle.md_rule.proofs.LaneLists.{desc_fits}
 use Rattle.md_rule.proofs.LaneSteps.{one_changed}
 use Rattle.md_rule.proofs.Moves.{is_kept}
 use Rattle.md_rule.proofs.Told.{told_end}
-use Rattle.md_help.specs.After.{IsAfter, Stands}
+use Rattle.md_help.specs.After.{IsAfter, StandsInField}
 use Rattle.md_help.proofs.Steps.{both_after, known_stays, stands_after, trail_after}
 use Rattle.md_arena.proofs.TakenNodes.{share_same}
 use Rattle.md_nbtc_law.specs.declared.slots.Slot.{Slot}
 use Rattle.md_nbtc_law.specs.declared.seen.Cleanup.{Cleanup}
 use Rattle.md_nbtc_law.specs.declared.seen.Cleanup.TheVariants.{MoveTail, Unlink}
-use Rattle.md_nbtc_law.specs.Deciding.{CleansSlots, Finishes, TakesSlots}
-use Rattle.md_nbtc_law.specs.Ending.{CleansAll, CleansKept, GoesBy, Tries}
+use Rattle.md_nbtc_law.specs.Deciding.{CleansSlots, FinishesAttempt, TakesSlots}
+use Rattle.md_nbtc_law.specs.Ending.{CleansAll, CleansKept, CleanupGoesBy, Tries}
 use Rattle.md_nbtc_law.specs.Withdrawing.{HasFate}
 use Rattle.md_nbtc_law.proofs.beginning.TakingOut.{higher_still}
 use Rattle.md_nbtc_law.proofs.preparing.Quiet.{IsQuiet, every_still}
@@ -48,7 +48,7 @@ module _ (M : Meaning) (o : Origin) (p q r s : PassState) (a : AttemptId) (slots
   pub fate_now : HasFate o.shape r.view a Committed
   fate_now = fate_still o.shape a (t.steps ++ c.steps) p.view r.view goes Committed fate
 
-  module _ (count : length p.shares ≡ 64) (stands : Stands M o r.view) (marks : s ≡ record r { view = s.view; shares = after_end r.shares a.desc }) (step : Stepped M o (λ pass. mark_end pass) r.view s.view) where
+  module _ (count : length p.shares ≡ 64) (stands : StandsInField M o r.view) (marks : s ≡ record r { view = s.view; shares = after_end r.shares a.desc }) (step : Stepped M o (λ pass. mark_end pass) r.view s.view) where
     told : s.view ≡ record (marked step.machine r.view) { hand = None; pending = without r.view.pending a; mine = r.view.mine ++ answered r.view.seen r.view.known a }
     told =
         let e = told_end M o r.view s.view step in
@@ -84,7 +84,7 @@ module _ (M : Meaning) (o : Origin) (p q r s : PassState) (a : AttemptId) (slots
         (λ lane e. (ap (λ l. (share_at r.shares l).nodes_taken) e, ap (λ l. (share_at r.shares l).tries_taken) e))
         (λ lane ne. (refl, refl))
 
-    pub finished : Finishes M o p a slots s
+    pub finished : FinishesAttempt M o p a slots s
     finished = record {
       stands = stands_after M o (λ pass. mark_end pass) r.view s.view step lanes_marked;
       same = record {
@@ -126,7 +126,7 @@ exchange_quiet s is = record { store = ap is_store is; install = λ e. no_instal
     no_install : Exchange ≡ Install → ⊥
     no_install e = cc
 
-looks_quiet : (shape : Shape) (c : Cleanup) (out : Step) (looks : List Step) (by : Step) → GoesBy shape c out looks by → All IsQuiet looks
+looks_quiet : (shape : Shape) (c : Cleanup) (out : Step) (looks : List Step) (by : Step) → CleanupGoesBy shape c out looks by → All IsQuiet looks
 looks_quiet shape (Unlink prev node) out looks by is = subst (All IsQuiet) (sym is.0) (All-cons IsQuiet by [] (look_quiet by is.1.kind) (All-nil IsQuiet))
 looks_quiet shape (MoveTail tail from to) out looks by is = subst (All IsQuiet) (sym is.0) (All-nil IsQuiet)
 

@@ -26,7 +26,7 @@ use Rattle.md_rule.specs.Steps.{EventOf, Exchanged, SteppedFrom}
 use Rattle.md_rule.specs.Views.{Origin}
 use Rattle.md_rule.proofs.Moves.{is_kept}
 use Rattle.md_rule.proofs.Told.{told_exchange, told_load}
-use Rattle.md_help.specs.After.{IsAfter, Stands}
+use Rattle.md_help.specs.After.{IsAfter, StandsInField}
 use Rattle.md_help.proofs.Deciding.{lost_exchange, won_exchange}
 use Rattle.md_help.proofs.Steps.{Made, both_after, known_stays, load_finds, made_load, none_after, stands_made, trail_after}
 use Rattle.md_nbtc_law.specs.declared.seen.Cleanup.{Cleanup}
@@ -103,7 +103,7 @@ cleaned_tried shape c out held p q r m named t = record {
 
 module _ (M : Meaning) (o : Origin) where
   -- a cleanup that might be made still may, after more steps of the pass
-  pub may_still : (steps : List Step) (p q : PassView) → IsAfter o.shape steps p q → Stands M o p → Stands M o q → (c : Cleanup) → MayClean M o p c → MayClean M o q c
+  pub may_still : (steps : List Step) (p q : PassView) → IsAfter o.shape steps p q → StandsInField M o p → StandsInField M o q → (c : Cleanup) → MayClean M o p c → MayClean M o q c
   may_still steps p q goes one two c may =
       let a = may.after in
       let before = (is_kept M o one.machine one.admitted).fronts one.pass p one.acts.at in
@@ -172,6 +172,6 @@ module _ (M : Meaning) (o : Origin) where
     exchange_tried p out (Ok u) f reason step = tried_exchange o.shape c out held next held to p q r f reason (won step) (λ _. refl)
     exchange_tried p out (Err found) f reason step = tried_exchange o.shape c out held next found found p q r f reason (lost found step.0 step.1) (λ is. absurd (step.0 is))
 
-    pub exchange_stands : (result : Result (Unit {0}) ℕ) → Exchanged M o changes (cleanup_word c) held result q r → Stands M o r
+    pub exchange_stands : (result : Result (Unit {0}) ℕ) → Exchanged M o changes (cleanup_word c) held result q r → StandsInField M o r
     exchange_stands (Ok u) step = stands_made M o changes Exchange (cleanup_word c) held to q r step.0 (won step)
     exchange_stands (Err found) step = stands_made M o changes Exchange (cleanup_word c) found found q r step.1.0 (lost found step.0 step.1)

@@ -16,7 +16,7 @@ use Rattle.md_machine.specs.declared.step.Step.{Step}
 use Rattle.md_machine.specs.Meaning.{Meaning}
 use Rattle.md_machine.specs.events.Start.{IsClean}
 use Rattle.md_rule.specs.Views.{Origin}
-use Rattle.md_help.specs.After.{IsAfter, Stands}
+use Rattle.md_help.specs.After.{IsAfter, StandsInField}
 use Rattle.md_help.proofs.Steps.{both_after, none_after, trail_after}
 use Rattle.md_nbtc_law.specs.declared.seen.Cleanup.{Cleanup}
 use Rattle.md_nbtc_law.specs.declared.slots.Slot.{Slot}
@@ -33,7 +33,7 @@ abbrev pub writes_of : List Slot → List Write
 writes_of slots = map (λ (s : Slot). s.write) slots
 
 -- what may be cleaned still may
-pub slots_still : (M : Meaning) (o : Origin) (steps : List Step) (p q : PassView) → IsAfter o.shape steps p q → Stands M o p → Stands M o q → (slots : List Slot)
+pub slots_still : (M : Meaning) (o : Origin) (steps : List Step) (p q : PassView) → IsAfter o.shape steps p q → StandsInField M o p → StandsInField M o q → (slots : List Slot)
     → All (MayCleanSlot M o p) slots → All (MayCleanSlot M o q) slots
 slots_still M o steps p q goes one two slots = All-weaker (MayCleanSlot M o p) (MayCleanSlot M o q)
     (λ s may. IfSome_then s.cleanup may (λ c m. (may_still M o steps p q goes one two c m.0, m.1))) slots
@@ -116,7 +116,7 @@ module _ (M : Meaning) (o : Origin) (a : AttemptId) (slots : List Slot) (lefts :
       (let all = length-map slots (λ (s : Slot). s.write) in omega (arith, below, all))
       (are_still o.shape a t.takes.steps p q t.takes.goes (all_quiet a Committed _ t.takes.steps t.takes.each) (writes_of slots) installed).each)
 
-  pub slots_more : Stands M o p → Stands M o q → All (MayCleanSlot M o p) slots → (left : ℕ) (r : PassView) → TakesWriteOut M o a Committed (get_or slots i NO_SLOT).write left q r
+  pub slots_more : StandsInField M o p → StandsInField M o q → All (MayCleanSlot M o p) slots → (left : ℕ) (r : PassView) → TakesWriteOut M o a Committed (get_or slots i NO_SLOT).write left q r
       → TakesTo o.shape a (take (i + 1) slots) (lefts ++ left ∷ []) p r
   slots_more one two may left r out =
       subst (λ ss. TakesTo o.shape a ss (lefts ++ left ∷ []) p r) (sym (take_more slots i NO_SLOT below))

@@ -35,7 +35,7 @@ use Rattle.md_rule.specs.Steps.{May, SteppedFrom}
 use Rattle.md_rule.specs.Views.{Origin}
 use Rattle.md_rule.proofs.Moves.{is_kept}
 use Rattle.md_rule.proofs.Told.{told_uninstall}
-use Rattle.md_help.specs.After.{Stands}
+use Rattle.md_help.specs.After.{StandsInField}
 use Rattle.md_help.proofs.Numbers.{formats_of}
 use Rattle.md_help.proofs.Steps.{Made, lanes_after, stands_after, trail_after}
 use Rattle.md_help.proofs.Taking.{uninstall_lost, uninstall_won}
@@ -200,5 +200,5 @@ module _ (M : Meaning) (o : Origin) (p : PassView) (a : AttemptId) (w : Write) (
     took_lost_as held q apart step = took_lost fate held q (λ e. apart (e ∙ sym made_is)) (as_it_is held q step)
 
     pub took_stands : (held left : ℕ) (q : PassView) → SteppedFrom M o (λ pass. uninstall pass w.word made value) w.word held p q
-        → TakesWriteOut M o a fate w left p q → Stands M o q
+        → TakesWriteOut M o a fate w left p q → StandsInField M o q
     took_stands held left q step out = stands_after M o (λ pass. uninstall pass w.word made value) p q step.0 (lanes_after M o o.shape (out.step ∷ []) p q out.goes)

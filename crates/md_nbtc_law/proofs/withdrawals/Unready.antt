@@ -29,7 +29,7 @@ use Rattle.md_rule.specs.Admitted.{Admitted}
 use Rattle.md_rule.specs.Steps.{EventOf, Exchanged, May, Stepped, SteppedFrom}
 use Rattle.md_rule.specs.Views.{Origin}
 use Rattle.md_rule.proofs.Moves.{is_kept}
-use Rattle.md_help.specs.After.{Stands}
+use Rattle.md_help.specs.After.{StandsInField}
 use Rattle.md_help.proofs.Deciding.{abort_lost, abort_won, may_abort}
 use Rattle.md_help.proofs.Numbers.{formats_of}
 use Rattle.md_help.proofs.Steps.{Made, lanes_after, stands_after, trail_after}
@@ -129,7 +129,7 @@ module _ (M : Meaning) (o : Origin) (p : PassView) (a : AttemptId) (u : IsUnread
 
   -- won or lost
   pub aborted : (from : ℕ) → from ≡ unready_word a → (result : Result (Unit {0}) ℕ) (q : PassView) → Exchanged M o (λ pass. abort pass a.desc from) word from result p q
-      → AbortsHand o.shape a p q × Stands M o q
+      → AbortsHand o.shape a p q × StandsInField M o q
   aborted from is (Ok x) q step =
       let h = won from is q step in (h, stands_after M o (λ pass. abort pass a.desc from) p q step.0 (lanes_after M o o.shape (h.step ∷ []) p q h.goes))
   aborted from is (Err found) q step =

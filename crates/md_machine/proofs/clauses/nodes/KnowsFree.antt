@@ -31,7 +31,7 @@ use Rattle.md_machine.proofs.lists.Rising.{range_in}
 use Rattle.md_machine.proofs.resolutions.Placing.{always_not_never}
 use Rattle.md_machine.specs.Event.{Does, Event, first_pass}
 use Rattle.md_machine.specs.FreeToReturn.{IsFreeToReturn, IsInPreparation, KnowsFree}
-use Rattle.md_machine.specs.GoesOn.{GoesOn}
+use Rattle.md_machine.specs.GoesOn.{MachineGoesOn}
 use Rattle.md_machine.specs.Machine.{Install, IsAt, Machine, content, shape_of}
 use Rattle.md_machine.specs.Meaning.{Meaning}
 use Rattle.md_machine.specs.Own.{HasNode, IsOwnNode}
@@ -89,7 +89,7 @@ opened_free shape lane node owns = let exists = owns.0 in record {
 
 -- by an event that neither installs in the node's next word nor enters an entry that places the node, whoever holds its lane
 -- knows it to be free where the holder before it did
-module _ (M : Meaning) (m n : Machine) (e : Event) (km : IsKept m) (kn : IsKept n) (on : GoesOn m n) (does : Does M m e n) (node : ℕ)
+module _ (M : Meaning) (m n : Machine) (e : Event) (km : IsKept m) (kn : IsKept n) (on : MachineGoesOn m n) (does : Does M m e n) (node : ℕ)
     (installs : (i : Install) → Contains n.installs i → i.word ≡ address (shape_of m) (node_next node) → Contains m.installs i)
     (entries : (x : HistoryEntry) → Contains n.history x → Contains m.history x ⊎ (structure_in x.placed node ≡ None)) where
   abbrev word : ℕ

@@ -19,7 +19,7 @@ use Rattle.md_machine.proofs.events.Tell.{joined_of}
 use Rattle.md_machine.proofs.fates.Decidedness.{MoreDecided, all_both}
 use Rattle.md_machine.proofs.lists.At.{at_append, at_one, at_set}
 use Rattle.md_machine.proofs.lists.Rising.{here, in_cons, in_drop, in_none, in_take}
-use Rattle.md_machine.specs.GoesOn.{FrontsGoOn, GoesOn}
+use Rattle.md_machine.specs.GoesOn.{FrontsGoOn, MachineGoesOn}
 use Rattle.md_machine.specs.Legal.{front_of}
 use Rattle.md_machine.specs.Machine.{IsAt, IsLive, Machine, shape_of}
 use Rattle.md_machine.specs.Resolution.{entries_of}
@@ -129,7 +129,7 @@ fronts_rest m apart i j lane p u at u_at c d =
     })
 
 -- so the front of a pass begins with that of another before on all lanes that both hold
-pub front_begins_on : (m n : Machine) → GoesOn m n → (i j : ℕ) (p u : PassView) → IsAt m i p → IsAt n j u → (lanes : List ℕ) → 0 < length lanes
+pub front_begins_on : (m n : Machine) → MachineGoesOn m n → (i j : ℕ) (p u : PassView) → IsAt m i p → IsAt n j u → (lanes : List ℕ) → 0 < length lanes
     → ((lane : ℕ) → Contains lanes lane → Contains p.lanes lane) → ((lane : ℕ) → Contains lanes lane → Contains u.lanes lane)
     → BeginsOn lanes (front_of (shape_of m) p) (front_of (shape_of m) u)
 front_begins_on m n on i j p u at u_at [] some mine theirs = absurd (omega (arith, some))
@@ -140,6 +140,6 @@ front_begins_on m n on i j p u at u_at (l ∷ lanes) some mine theirs =
     record { seen = first.seen; known = first.known; mine = λ lane c. (each lane c).mine lane (here lane []) }
 
 -- and on all of its lanes if the pass keeps them: so it is over each event of its own but a split, and over a join for both
-pub front_begins : (m n : Machine) → GoesOn m n → (i j : ℕ) (p u : PassView) → IsAt m i p → IsAt n j u → IsLive p
+pub front_begins : (m n : Machine) → MachineGoesOn m n → (i j : ℕ) (p u : PassView) → IsAt m i p → IsAt n j u → IsLive p
     → ((lane : ℕ) → Contains p.lanes lane → Contains u.lanes lane) → Begins (front_of (shape_of m) p) (front_of (shape_of m) u)
 front_begins m n on i j p u at u_at live keeps = front_begins_on m n on i j p u at u_at p.lanes live (λ lane c. c) keeps

@@ -17,7 +17,7 @@ use Rattle.md_nbtc_law.proofs.structures.NodesKnown.{shape_later}
 use Rattle.md_nbtc.specs.State.{state}
 use Rattle.md_queue_law.specs.QueueShape.{link}
 use Rattle.md_queue.specs.Nodes.{IsReadable}
-use Rattle.md_queue.specs.Operations.{GoesBy, Refused}
+use Rattle.md_queue.specs.Operations.{GoesBy, OperationRefused}
 use Rattle.md_queue.specs.Words.{next_at, tail_move}
 use Rattle.md_queue.proofs.Changing.{exchanged_nodes}
 use Rattle.md_queue.proofs.Among.{among_none, answered}
@@ -102,7 +102,7 @@ returns-in_err-node-clause-stop g c =
     let u = state c.take_node.new.tx in
     let p = some_found g (goal.at.returns-in_err-node-clause-stop g c).After-rank_of-rank in
     let stop = c.in_err-node.field-0.0 in
-    let refused : Refused M s u 0 2 1 stop = refused_after M s t u 0 1 0 0 0 0 0 2 1 stop (found_goes g (goal.at.returns-in_err-node-clause-stop g c).After-rank_of-rank)
+    let refused : OperationRefused M s u 0 2 1 stop = refused_after M s t u 0 1 0 0 0 0 0 2 1 stop (found_goes g (goal.at.returns-in_err-node-clause-stop g c).After-rank_of-rank)
     (λ operates. fresh_stops M t u c.in_err-node.ensures.on operates (c.rank_of-rank.result + 1) c.args.value 0 stop c.in_err-node.ensures.fresh)
     (omega arith) (omega arith) (omega arith) in
     if_err c.from_residual-in_err-node.result stop _ c.from_residual-in_err-node.ensures.1 refused
@@ -163,7 +163,7 @@ returns-in_err-link_next-clause-stop g c =
     let f = taken t u (c.rank_of-rank.result + 1) c.args.value c.in_ok-node.node c.in_ok-node.ensures.fresh in
     let goes = taken_goes M (state c.args.tx.now) t u (c.rank_of-rank.result + 1) c.args.value c.in_ok-node.node (found_goes g (goal.at.returns-in_err-link_next-clause-stop g c).After-rank_of-rank) on f in
     let stop = c.in_err-link_next.field-0.0 in
-    let refused : Refused M s v 0 2 1 stop = refused_after M s u v 0 1 1 0 0 0 0 2 1 stop goes
+    let refused : OperationRefused M s v 0 2 1 stop = refused_after M s u v 0 1 1 0 0 0 0 2 1 stop goes
     (λ operates. (exchange_stops M u v c.in_err-link_next.ensures.on (next_at u (c.in_ok-end.end.tail.value / 2)) c.in_ok-end.end.next (link c.in_ok-node.node) Critical stop
     c.in_err-link_next.ensures.exchanged operates).refused)
     (omega arith) (omega arith) (omega arith) in

@@ -1,7 +1,7 @@
 use Rattle.std.proofs.Common.{◌≡◌, length, refl, ap, ◌∙◌, slice_index, subst, arith}
 use Rattle.md_machine.specs.declared.pass.PassView.{PassView}
 use Rattle.md_rule.specs.Views.{PassState}
-use Rattle.md_store.specs.Settling.{Settles, SettlesFirst}
+use Rattle.md_store.specs.Settling.{SettlesDescriptor, SettlesFirst}
 use Rattle.md_store.proofs.SettledLanes.{settles_first, settles_next}
 use Rattle.md_store.proofs.settling.settle_lanes.Goals as goal
 
@@ -18,7 +18,7 @@ loop-place-preserved c =
     let lane = c.lane-lane.ensures.lane ∙ ap (λ (x : PassView). slice_index x.lanes c.loop-place.place) was.so_far.goes.1 in record {
       of = c.settle_lane.ensures.of;
       same = c.settle_lane.ensures.same ∙ ap (λ (x : PassState). record x { view = r }) was.same;
-      so_far = settles_next f c.loop-place.place p q r c.requires.idle was.so_far (subst (λ l. Settles f.origin.shape l q r) lane c.settle_lane.ensures.settles) c.settle_lane.ensures.of.stands;
+      so_far = settles_next f c.loop-place.place p q r c.requires.idle was.so_far (subst (λ l. SettlesDescriptor f.origin.shape l q r) lane c.settle_lane.ensures.settles) c.settle_lane.ensures.of.stands;
     }
 
 pub returns-clause-settles : goal.returns-clause-settles

@@ -9,9 +9,6 @@ use Rattle.md_history.proofs.PlainAttempts.{kept-broken, of-same, begun-broken, 
 use Rattle.md_history.proofs.Runs.{replay-numbers}
 use Rattle.md_history.proofs.plain_engine.PlainStoreEngine.attempt.Goals as goal
 
-pub returns-then-pass-clause-stopped : goal.returns-then-pass-clause-stopped
-returns-then-pass-clause-stopped g c = stops _ _ _ refl
-
 pub go-outcome-requires-clause-fits : goal.go-outcome-requires-clause-fits
 go-outcome-requires-clause-fits g c =
     let old = c.args.pass.now in
@@ -34,11 +31,6 @@ invariant_of-pass g c =
     (ap (λ (t : Running). refusal_of t.refused) c.tx.view_is ∙ c.in-Ok.ensures.ok.0)
     c.in-Ok-push.ensures.items refl (numbered g c) refl
 
-pub returns-in-Ok-push-clause-committed : goal.returns-in-Ok-push-clause-committed
-returns-in-Ok-push-clause-committed g c =
-    commits-same _ _ _ _ _ _ _ (ap (λ (p : Plain). p.entries) (c.pass-2.view_is ∙ c.begin-tx.ensures.pass)) c.in-Ok-push.ensures.items (invariant_of-pass g c).numbered c.pass-2.invariant.numbered refl refl
-    (subst (λ acts. g.B.Body.did c.args.body.now acts c.in-Ok.reply) (sym (ap (λ (t : Running). t.acts) c.tx.view_is)) c.in-Ok.ensures.ok.1)
-
 starts : (g : _) (c : goal.After-drop-tx-inside g) → c.pass-2.inside.start.value ≡ c.args.self.now
 starts g c = ap (λ (p : Plain). p.start) (c.pass-2.view_is ∙ c.begin-tx.ensures.pass) ∙ c.requires.of.starts
 
@@ -46,20 +38,19 @@ starts g c = ap (λ (p : Plain). p.start) (c.pass-2.view_is ∙ c.begin-tx.ensur
 front_after : (g : _) (c : goal.After-drop-tx-inside g) → IsFrontFrom c.args.self.now (0 ∷ []) (front_from c.push.new.self.items)
 front_after g c = let kept = invariant_of-pass g c in front_is _ _ kept.numbered (subst (λ s. IsRight s (acts_of c.push.new.self.items)) (starts g c) kept.right)
 
+pub returns-in-Ok-push-clause-atomic : goal.returns-in-Ok-push-clause-atomic
+returns-in-Ok-push-clause-atomic g c = record {
+  committed = commits-same _ _ _ _ _ _ _ (ap (λ (p : Plain). p.entries) (c.pass-2.view_is ∙ c.begin-tx.ensures.pass)) c.in-Ok-push.ensures.items (invariant_of-pass g c).numbered c.pass-2.invariant.numbered refl refl
+      (subst (λ acts. g.B.Body.did c.args.body.now acts c.in-Ok.reply) (sym (ap (λ (t : Running). t.acts) c.tx.view_is)) c.in-Ok.ensures.ok.1);
+  stopped = tt;
+  legal = (front_after g c).legal;
+}
+
 pub returns-in-Ok-push-clause-of : goal.returns-in-Ok-push-clause-of
 returns-in-Ok-push-clause-of g c = record { starts = starts g c; front = front_after g c }
 
-pub returns-in-Ok-push-clause-legal : goal.returns-in-Ok-push-clause-legal
-returns-in-Ok-push-clause-legal g c = (front_after g c).legal
-
-pub returns-in-Ok-clause-stopped : goal.returns-in-Ok-clause-stopped
-returns-in-Ok-clause-stopped g c = stops _ _ _ (c.in-Err-push.ensures.items ∙ ap (λ (p : Plain). p.entries) (c.pass-2.view_is ∙ c.begin-tx.ensures.pass))
-
-pub returns-clause-stopped : goal.returns-clause-stopped
-returns-clause-stopped g c = stops _ _ _ (ap (λ (p : Plain). p.entries) (c.pass-2.view_is ∙ c.begin-tx.ensures.pass))
-
-pub returns-then-pass-clause-legal : goal.returns-then-pass-clause-legal
-returns-then-pass-clause-legal g c = c.requires.of.front.legal
+pub returns-then-pass-clause-atomic : goal.returns-then-pass-clause-atomic
+returns-then-pass-clause-atomic g c = record { committed = tt; stopped = stops _ _ _ refl; legal = c.requires.of.front.legal }
 
 pub returns-then-pass-clause-of : goal.returns-then-pass-clause-of
 returns-then-pass-clause-of g c = c.requires.of
@@ -101,11 +92,14 @@ invariant_of-pass-in-Err-push g c =
     let same = c.pass-2.view_is ∙ c.begin-tx.ensures.pass in
     kept-broken _ _ _ _ _ _ _ c.pass-2.invariant (ap (λ (p : Plain). p.broken) same) c.in-Err-push.ensures.items
 
-pub returns-in-Ok-clause-legal : goal.returns-in-Ok-clause-legal
-returns-in-Ok-clause-legal g c =
+pub returns-in-Ok-clause-atomic : goal.returns-in-Ok-clause-atomic
+returns-in-Ok-clause-atomic g c =
     let same = c.pass-2.view_is ∙ c.begin-tx.ensures.pass in
-    let entries = c.in-Err-push.ensures.items ∙ ap (λ (p : Plain). p.entries) same in
-    subst (λ es. LegalFrom c.args.self.now (front_from es)) (sym entries) c.requires.of.front.legal
+    let entries = c.in-Err-push.ensures.items ∙ ap (λ (p : Plain). p.entries) same in record {
+      committed = tt;
+      stopped = stops _ _ _ entries;
+      legal = subst (λ es. LegalFrom c.args.self.now (front_from es)) (sym entries) c.requires.of.front.legal;
+    }
 
 pub returns-in-Ok-clause-of : goal.returns-in-Ok-clause-of
 returns-in-Ok-clause-of g c =
@@ -138,10 +132,13 @@ invariant_of-pass-in-Err g c =
     let same = c.pass-2.view_is ∙ c.begin-tx.ensures.pass in
     kept-broken _ _ _ _ _ _ _ c.pass-2.invariant (ap (λ (p : Plain). p.broken) same) refl
 
-pub returns-clause-legal : goal.returns-clause-legal
-returns-clause-legal g c =
-    let same = c.pass-2.view_is ∙ c.begin-tx.ensures.pass in
-    subst (λ es. LegalFrom c.args.self.now (front_from es)) (sym (ap (λ (p : Plain). p.entries) same)) c.requires.of.front.legal
+pub returns-clause-atomic : goal.returns-clause-atomic
+returns-clause-atomic g c =
+    let entries = ap (λ (p : Plain). p.entries) (c.pass-2.view_is ∙ c.begin-tx.ensures.pass) in record {
+      committed = tt;
+      stopped = stops _ _ _ entries;
+      legal = subst (λ es. LegalFrom c.args.self.now (front_from es)) (sym entries) c.requires.of.front.legal;
+    }
 
 pub returns-clause-of : goal.returns-clause-of
 returns-clause-of g c =
@@ -165,9 +162,6 @@ returns-clause-begun g c =
     let whole = sym (ap (λ (p : Plain). p.broken) c.pass.view_is) ∙ c.if-pass.false in
     let same = c.pass-2.view_is ∙ c.begin-tx.ensures.pass in
     counted-broken _ c.args.pass.now _ _ (returns-clause-no_memory g c) whole (ap (λ (p : Plain). p.entries) same) (ap (λ (p : Plain). p.broken) same)
-
-pub returns-in-Ok-clause-committed : goal.returns-in-Ok-clause-committed
-returns-in-Ok-clause-committed g c = tt
 
 pub returns-in-Ok-clause-whole : goal.returns-in-Ok-clause-whole
 returns-in-Ok-clause-whole g c = tt

@@ -17,11 +17,15 @@ stops-none tag f fated = record {
   mine = λ lane. refl;
 }
 
-pub returns-in-Some-clause-stopped : goal.returns-in-Some-clause-stopped
-returns-in-Some-clause-stopped g c = stops-none _ _ c.requires.of.1.legal.fated
+pub returns-in-Some-clause-atomic : goal.returns-in-Some-clause-atomic
+returns-in-Some-clause-atomic g c =
+    let legal = c.requires.of.1.legal in
+    record { committed = tt; stopped = stops-none _ _ legal.fated; legal = legal }
 
 pub returns-clause-of : goal.returns-clause-of
 returns-clause-of g c = (c.attempt.ensures.of, maybe_wider _ _ _ c.attempt.ensures.of.front)
 
-pub returns-then-number-clause-stopped : goal.returns-then-number-clause-stopped
-returns-then-number-clause-stopped g c = stops-none _ _ c.requires.of.1.legal.fated
+pub returns-then-number-clause-atomic : goal.returns-then-number-clause-atomic
+returns-then-number-clause-atomic g c =
+    let legal = c.requires.of.1.legal in
+    record { committed = tt; stopped = stops-none _ _ legal.fated; legal = legal }

@@ -9,11 +9,11 @@ use Rattle.md_words.proofs.Owners.{own_desc_exists}
 use Rattle.md_machine.specs.Own.{HasDesc}
 use Rattle.md_rule.specs.Views.{IsOf}
 use Rattle.md_rule.proofs.LaneLists.{desc_fits}
-use Rattle.md_nbtc_law.specs.Ending.{Begins, BeginsNot}
+use Rattle.md_nbtc_law.specs.Ending.{BeginsTransaction, BeginsNot}
 use Rattle.md_nbtc_law.specs.Going.{IsGoing}
 use Rattle.md_nbtc_law.specs.State.{TxnState, state_of}
 use Rattle.md_rule.proofs.Told.{told_leave}
-use Rattle.md_help.specs.After.{Stands}
+use Rattle.md_help.specs.After.{StandsInField}
 use Rattle.md_help.proofs.Steps.{stands_after}
 use Rattle.md_nbtc_law.proofs.beginning.Begun.{is_going}
 use Rattle.md_nbtc_law.proofs.beginning.Beginnings.{begins, lowest, ok_not_err}
@@ -29,7 +29,7 @@ put_in_hand-serial-requires-clause-stands g c =
     let q = c.mark_leave.new.self.view in
     let step = c.mark_leave.ensures.step in
     let told = told_leave M o p q step in
-    subst (λ (x : PassState). Stands M o x.view) (sym c.in-Ok.ensures.takes.1)
+    subst (λ (x : PassState). StandsInField M o x.view) (sym c.in-Ok.ensures.takes.1)
     (stands_after M o (λ pass. mark_leave pass) p q step (ap (λ (x : PassView). x.lanes) told))
 
 pub put_in_hand-serial-requires-clause-idle : goal.put_in_hand-serial-requires-clause-idle
@@ -101,7 +101,7 @@ returns g c =
         refused = tt;
         pass = c.over.ensures.pass;
         field = ap (λ (t : TxnState). t.field) is;
-        begun = subst (Begins p tag) (sym is) (begins M field p q r s desc tag serial leave step takes fits rest counts h of own idle free);
+        begun = subst (BeginsTransaction p tag) (sym is) (begins M field p q r s desc tag serial leave step takes fits rest counts h of own idle free);
         going = subst (λ t. IsGoing M t []) (sym is) (is_going M field r s desc tag serial of own (λ lane. (counts lane).0) h idle free);
         none = (
           (λ e. absurd (ok_not_err _ _ e)),

@@ -1,6 +1,6 @@
 use Rattle.std.proofs.Common.{sym, subst, false}
 use Rattle.md_machine.specs.Event.{mark_act}
-use Rattle.md_nbtc_law.specs.Calls.{Ends}
+use Rattle.md_nbtc_law.specs.Calls.{EndsOperation}
 use Rattle.md_nbtc_law.proofs.operations.EndedOps.{ended_acts, ended_on, ended_view, may_end_op}
 use Rattle.md_nbtc_law.proofs.operations.OnMark.{mark_is_so, mark_so}
 use Rattle.md_nbtc.specs.State.{state}
@@ -19,7 +19,7 @@ returns-clause-on g c =
     let q = c.mark_act.new.self in
     let step = c.mark_act.ensures.step in
     let view_is = ended_view M t prepared c.requires.operates c.args.op c.args.reply q.view step in
-    subst (λ u. Ends M t u c.args.op c.args.reply) (sym (mark_so M x.field.now x.pass.now x.began.value x.sets.now.reads x.sets.now.slots x.stop x.desc x.serial x.tag x.sets.now.lots prepared
+    subst (λ u. EndsOperation M t u c.args.op c.args.reply) (sym (mark_so M x.field.now x.pass.now x.began.value x.sets.now.reads x.sets.now.slots x.stop x.desc x.serial x.tag x.sets.now.lots prepared
     (ended_acts M t prepared c.requires.operates c.args.op c.args.reply) false (λ pass. mark_act pass step.0) q c.mark_act.ensures.same step.2 view_is))
     (ended_on M t prepared c.requires.operates c.args.op c.args.reply q.view step)
 

@@ -7,7 +7,7 @@ use Rattle.md_rule.specs.Steps.{Exchanged, May, MayTell, SteppedFrom}
 use Rattle.md_rule.proofs.Events.{exchange_tells, is_abort, traded}
 use Rattle.md_rule.proofs.LaneEvents.{quiet_abort}
 use Rattle.md_rule.proofs.LaneSteps.{kept_quiet, spares_reached, stepped_of}
-use Rattle.md_rule.specs.Private.{HasWords}
+use Rattle.md_rule.specs.Private.{HasPrivateWords}
 use Rattle.md_rule.proofs.pass.Pass.abort.Goals as goal
 
 pub exchange_word-requires-clause-may : goal.exchange_word-requires-clause-may
@@ -36,7 +36,7 @@ invariant_of-self g c =
       kept_quiet M o _ _ _ told same.0 c.self.inside.shape shape (quiet_abort M o _ _ c.args.desc c.args.from told) c.self.inside.shares
           (λ lane _ is. spares_reached (record { table = c.self.inside.seat.table_id; shape = c.self.inside.shape; view = c.self.inside.seat.me.0.view; shares = c.self.inside.shares })
           _ (shape ∙ sym told.admitted.shape) c.args.desc lane is (subst (λ p. IsReached p c.args.desc) (sym c.self.view_is) c.requires.reached)) c.self.invariant.3,
-      subst (λ s. HasWords s c.exchange_word.new.private c.exchange_word.new.seat.me.0) (sym shape) c.exchange_word.ensures.private,
+      subst (λ s. HasPrivateWords s c.exchange_word.new.private c.exchange_word.new.seat.me.0) (sym shape) c.exchange_word.ensures.private,
     )
 
 pub returns-clause-step : goal.returns-clause-step

@@ -5,7 +5,7 @@ use Rattle.md_rule.specs.Kept.{IsNoNextLeft, KeepsLanes}
 use Rattle.md_rule.specs.Steps.{Exchanged, SteppedFrom}
 use Rattle.md_rule.proofs.LaneLists.{desc_fits}
 use Rattle.md_rule.proofs.LaneSteps.{kept_install_lost, kept_install_won}
-use Rattle.md_rule.specs.Private.{HasWords}
+use Rattle.md_rule.specs.Private.{HasPrivateWords}
 use Rattle.md_rule.proofs.pass.Pass.install.Goals as goal
 
 pub put-requires-clause-may : goal.put-requires-clause-may
@@ -26,7 +26,7 @@ invariant_of-self g c =
       same.1 ∙ c.self.invariant.2,
       kept_install_lost M o _ _ c.args.word (word_of c.args.from) c.args.to told.1.0 same.0 c.self.inside.shape shape c.self.inside.shares
           (λ e. told.0 (sym told.1.1 ∙ e)) c.self.invariant.3,
-      subst (λ s. HasWords s c.put.new.private c.put.new.seat.me.0) (sym shape) c.put.ensures.private,
+      subst (λ s. HasPrivateWords s c.put.new.private c.put.new.seat.me.0) (sym shape) c.put.ensures.private,
     )
 
 pub returns-in_err-put-clause-step : goal.returns-in_err-put-clause-step
@@ -51,7 +51,7 @@ invariant_of-self-2 g c =
           (kept_install_won M o _ _ c.args.word (word_of c.args.from) c.args.to told.0 same.0 c.self.inside.shape shape c.self.inside.shares
           (subst (λ n. c.args.to.desc < n) (sym c.count_slot.ensures.size) (desc_fits o.shape c.args.to.desc c.requires.fits.1))
           (λ lane node held left. subst (λ p. IsNoNextLeft p c.args.word) (sym c.self.view_is) c.requires.taken node (lane, held, left.0, left.1)) c.self.invariant.3),
-      subst (λ s. HasWords s c.put.new.private c.put.new.seat.me.0) (sym shape) c.put.ensures.private,
+      subst (λ s. HasPrivateWords s c.put.new.private c.put.new.seat.me.0) (sym shape) c.put.ensures.private,
     )
 
 pub returns-clause-step : goal.returns-clause-step

@@ -9,7 +9,7 @@ use Rattle.md_rule.specs.Steps.{Exchanged, MayTell}
 use Rattle.md_rule.proofs.Entering.{Readies, Tells, readies_by, readies_step, ready_tells}
 use Rattle.md_rule.proofs.Events.{traded}
 use Rattle.md_rule.proofs.LaneSteps.{kept_ready, stepped_of}
-use Rattle.md_rule.specs.Private.{HasWords}
+use Rattle.md_rule.specs.Private.{HasPrivateWords}
 use Rattle.md_rule.proofs.pass.Pass.ready.Goals as goal
 
 pub exchange_word-requires-clause-may : goal.exchange_word-requires-clause-may
@@ -41,7 +41,7 @@ invariant_of-self g c =
       same.1 ∙ c.self.invariant.2,
       kept_ready M o _ _ c.args.reads told same.0 c.self.inside.shape shape c.self.inside.shares
           (λ lane node held left. subst StoredNoneLeft (sym c.self.view_is) c.requires.taken node (lane, held, left.0, left.1)) c.self.invariant.3,
-      subst (λ s. HasWords s c.exchange_word.new.private c.exchange_word.new.seat.me.0) (sym shape) c.exchange_word.ensures.private,
+      subst (λ s. HasPrivateWords s c.exchange_word.new.private c.exchange_word.new.seat.me.0) (sym shape) c.exchange_word.ensures.private,
     )
 
 pub returns-clause-step : goal.returns-clause-step

@@ -12,7 +12,7 @@ use Rattle.md_rule.specs.Steps.{May, MayTell, Stepped}
 use Rattle.md_rule.proofs.Events.{is_start, store_tells}
 use Rattle.md_rule.proofs.LaneLists.{desc_exists, lane_fits}
 use Rattle.md_rule.proofs.LaneSteps.{kept_start}
-use Rattle.md_rule.specs.Private.{HasWords}
+use Rattle.md_rule.specs.Private.{HasPrivateWords}
 use Rattle.md_rule.proofs.pass.Pass.start.Goals as goal
 
 pub status-word-requires : goal.status-word-requires
@@ -64,7 +64,7 @@ invariant_of-self g c =
           (subst (λ n. c.args.desc < n) (sym c.restart_lane.ensures.size) (lane_fits c.self.inside.shape c.self.inside.lanes c.args.desc c.self.invariant.1
           (subst (λ l. Contains l c.args.desc) (ap (λ p. p.view.lanes) (sym c.self.view_is) ∙ c.self.invariant.0) c.requires.own)))
           (subst (λ p. serial_of c.args.from + 1 < (share_at p.shares c.args.desc).tries_taken) (sym c.self.view_is) c.requires.taken) c.self.invariant.3),
-      subst (λ s. HasWords s c.store_word.new.private c.store_word.new.seat.me.0) (sym shape) c.store_word.ensures.private,
+      subst (λ s. HasPrivateWords s c.store_word.new.private c.store_word.new.seat.me.0) (sym shape) c.store_word.ensures.private,
     )
 
 pub returns-clause-step : goal.returns-clause-step

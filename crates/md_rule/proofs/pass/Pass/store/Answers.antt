@@ -4,7 +4,7 @@ use Rattle.md_rule.specs.Steps.{May, MayTell, Stepped}
 use Rattle.md_rule.proofs.Events.{is_store, store_tells}
 use Rattle.md_rule.proofs.LaneEvents.{quiet_store}
 use Rattle.md_rule.proofs.LaneSteps.{kept_quiet}
-use Rattle.md_rule.specs.Private.{HasWords}
+use Rattle.md_rule.specs.Private.{HasPrivateWords}
 use Rattle.md_rule.proofs.pass.Pass.store.Goals as goal
 
 pub store_word-requires-clause-may : goal.store_word-requires-clause-may
@@ -27,7 +27,7 @@ invariant_of-self g c =
       c.self.invariant.1,
       same.1 ∙ c.self.invariant.2,
       kept_quiet M o _ _ _ told same.0 c.self.inside.shape shape (quiet_store M o _ _ c.args.word c.args.value told) c.self.inside.shares (λ _ _. tt) c.self.invariant.3,
-      subst (λ s. HasWords s c.store_word.new.private c.store_word.new.seat.me.0) (sym shape) c.store_word.ensures.private,
+      subst (λ s. HasPrivateWords s c.store_word.new.private c.store_word.new.seat.me.0) (sym shape) c.store_word.ensures.private,
     )
 
 pub returns-clause-step : goal.returns-clause-step

@@ -6,7 +6,7 @@ use Rattle.md_rule_lanes.proofs.Counting.{counts_more}
 use Rattle.md_rule.proofs.Events.{exchange_tells, is_uninstall, traded}
 use Rattle.md_rule.proofs.LaneEvents.{quiet_uninstall}
 use Rattle.md_rule.proofs.LaneSteps.{kept_quiet, stepped_of}
-use Rattle.md_rule.specs.Private.{HasWords}
+use Rattle.md_rule.specs.Private.{HasPrivateWords}
 use Rattle.md_rule.proofs.pass.Pass.uninstall.Goals as goal
 
 pub exchange_word-requires-clause-may : goal.exchange_word-requires-clause-may
@@ -32,7 +32,7 @@ invariant_of-self g c =
       c.self.invariant.1,
       same.1 ∙ c.self.invariant.2,
       kept_quiet M o _ _ _ told same.0 c.self.inside.shape shape (quiet_uninstall M o _ _ c.args.word (word_of c.args.from) c.args.value told) c.self.inside.shares (λ _ _. tt) c.self.invariant.3,
-      subst (λ s. HasWords s c.exchange_word.new.private c.exchange_word.new.seat.me.0) (sym shape) c.exchange_word.ensures.private,
+      subst (λ s. HasPrivateWords s c.exchange_word.new.private c.exchange_word.new.seat.me.0) (sym shape) c.exchange_word.ensures.private,
     )
 
 pub returns-clause-step : goal.returns-clause-step

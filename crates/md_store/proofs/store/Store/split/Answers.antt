@@ -1,16 +1,11 @@
-use Rattle.std.proofs.Common.{◌≡◌, ◌+◌, Some, length, sym, ap, subst, ◌∙◌}
-use Rattle.std.specs.Prelude.{◌↔◌, IsNone}
-use Rattle.md_rule.specs.Views.{PassState}
-use Rattle.md_store_bodies.specs.Store.{begun_by, front_in}
+use Rattle.std.proofs.Common.{Some, None, sym, subst}
+use Rattle.md_history.specs.Engine.{IsSplit}
+use Rattle.md_rule.specs.Views.{FieldView, PassState}
+use Rattle.md_store_bodies.specs.Store.{IsPassOf, begun_by, front_in}
 use Rattle.md_store.proofs.store.Store.split.Goals as goal
 
-pub returns-clause-none : goal.returns-clause-none
-returns-clause-none c =
-    subst (λ (p : PassState). IsNone (Some c.in_ok-other.other) ↔ (length (front_in p).lanes ≡ 1)) c.pass.view_is c.in_ok-other.ensures.none
-
-pub returns-clause-same : goal.returns-clause-same
-returns-clause-same c = tt
-
-pub returns-clause-begun : goal.returns-clause-begun
-returns-clause-begun c =
-    sym (ap begun_by c.pass.view_is) ∙ c.in_ok-other.ensures.begun ∙ ap (λ (q : PassState). begun_by c.split.new.pass + begun_by q) (sym c.of.ensures)
+pub returns : goal.returns
+returns c =
+    subst (λ (q : PassState). IsSplit front_in begun_by (IsPassOf c.args.self.now) c.args.pass.now c.split.new.pass (Some q)) (sym c.of.ensures)
+    (subst (λ (p : PassState). IsSplit front_in begun_by (IsPassOf c.args.self.now) p c.split.new.pass (Some c.in_ok-other.other)) c.pass.view_is
+    (subst (λ (f : FieldView). IsSplit front_in begun_by (IsPassOf f) c.pass.inside.pass c.split.new.pass (Some c.in_ok-other.other)) c.self.view_is c.in_ok-other.ensures))
