@@ -14,7 +14,7 @@ use Rattle.md_history.specs.declared.stops.Stop.{Stop}
 use Rattle.md_history.specs.declared.stops.Stop.TheVariants.{Conflict, Limit, NoMemory}
 use Rattle.md_history.specs.declared.stops.Attempt.{Attempt}
 use Rattle.md_history.specs.declared.stops.Attempt.TheVariants.{Committed as Done, Stopped}
-use Rattle.md_history.specs.Attempt.{Commits, Stops, NoneOrAborted, IsCounted, IsStopCounted, IfCommitted, IfStopped}
+use Rattle.md_history.specs.Attempt.{Commits, Stops, NoneOrAborted, CountsAttempt, CountsStop, IfCommitted, IfStopped}
 use Rattle.md_history.specs.Counts.{IsSmall}
 use Rattle.md_history.specs.Engine.{IsNoConflict, bounds_in}
 use Rattle.md_many_attempts.specs.Joined.{entries_after}
@@ -30,15 +30,15 @@ pub no_limit : {limit : Which} → Limit limit ≡ NoMemory → ⊥
 no_limit same = cc
 
 -- whatever stopped an attempt, it began one at most
-pub stop_counted : (s : Stop) (begun begun' : ℕ) → IsStopCounted s begun begun' → (begun ≤ begun') × (begun' ≤ begun + 1)
+pub stop_counted : (s : Stop) (begun begun' : ℕ) → CountsStop s begun begun' → (begun ≤ begun') × (begun' ≤ begun + 1)
 stop_counted (Conflict shown) begun begun' is = (omega (arith, is), omega (arith, is))
 stop_counted (Limit limit) begun begun' is = is
 stop_counted NoMemory begun begun' is = is
 
 -- an attempt that met a conflict was begun
-pub conflict_counted : {shown : Shown} (s : Stop) (begun begun' : ℕ) → s ≡ Conflict shown → IsStopCounted s begun begun'
+pub conflict_counted : {shown : Shown} (s : Stop) (begun begun' : ℕ) → s ≡ Conflict shown → CountsStop s begun begun'
     → begun' ≡ begun + 1
-conflict_counted s begun begun' is counted = subst (λ t. IsStopCounted t begun begun') is counted
+conflict_counted s begun begun' is counted = subst (λ t. CountsStop t begun begun') is counted
 
 -- what ended an attempt that met a conflict, and what is said of its stop
 pub met-conflict : {R : Type 0} (a : Attempt R) → MeetsConflict a → (shown : Shown) × (a ≡ Stopped (Conflict shown))
@@ -50,7 +50,7 @@ met-conflict (Stopped NoMemory) met = absurd met
 pub of-stop : {R : Type 0} (P : Stop → Type 0) (a : Attempt R) (s : Stop) → a ≡ Stopped s → IfStopped a P → P s
 of-stop P a s is said = subst (λ b. IfStopped b P) is said
 
-pub conflict-began : {R : Type 0} (a : Attempt R) (begun begun' : ℕ) → MeetsConflict a → IsCounted a begun begun'
+pub conflict-began : {R : Type 0} (a : Attempt R) (begun begun' : ℕ) → MeetsConflict a → CountsAttempt a begun begun'
     → begun' ≡ begun + 1
 conflict-began (Done r) begun begun' met counted = absurd met
 conflict-began (Stopped (Conflict shown)) begun begun' met counted = counted
@@ -59,7 +59,7 @@ conflict-began (Stopped NoMemory) begun begun' met counted = absurd met
 
 -- an attempt after so many others that ends them, and that it began one at most
 pub ends-attempts : {R : Type 0} (a : Attempt R) (first tried most begun begun' : ℕ) → (MeetsConflict a → ⊥)
-    → begun ≡ first + tried → tried < most → IsCounted a begun begun' → IsEndOfAttempts a most first begun'
+    → begun ≡ first + tried → tried < most → CountsAttempt a begun begun' → IsEndOfAttempts a most first begun'
 ends-attempts (Done r) first tried most begun begun' not was few counted = (omega arith, omega arith)
 ends-attempts (Stopped (Conflict shown)) first tried most begun begun' not was few counted = absurd (not tt)
 ends-attempts (Stopped (Limit limit)) first tried most begun begun' not was few counted =
@@ -67,7 +67,7 @@ ends-attempts (Stopped (Limit limit)) first tried most begun begun' not was few 
 ends-attempts (Stopped NoMemory) first tried most begun begun' not was few counted =
     (omega (arith, counted.0), omega (arith, counted.1))
 
-pub began-one : {R : Type 0} (a : Attempt R) (begun begun' : ℕ) → IsCounted a begun begun' → begun' ≤ begun + 1
+pub began-one : {R : Type 0} (a : Attempt R) (begun begun' : ℕ) → CountsAttempt a begun begun' → begun' ≤ begun + 1
 began-one (Done r) begun begun' counted = omega (arith, counted)
 began-one (Stopped s) begun begun' counted = (stop_counted s begun begun' counted).1
 

@@ -5,7 +5,7 @@ use Rattle.md_history.specs.declared.stops.Shown.{Shown}
 use Rattle.md_history.specs.declared.stops.Stop.{Stop}
 use Rattle.md_history.specs.declared.stops.Stop.TheVariants as stop
 use Rattle.md_history.specs.State.{State}
-use Rattle.md_history.specs.Attempt.{Commits, Stops, IsStopCounted}
+use Rattle.md_history.specs.Attempt.{Commits, Stops, CountsStop}
 use Rattle.md_history.specs.Engine.{bounds_in}
 use Rattle.md_many_attempts.specs.Tags.{tag_of}
 use Rattle.md_many_attempts.specs.declared.attempts.End.{End}
@@ -36,7 +36,7 @@ pub record AddsLine {E P B R : Type 0} (e : EngineWords E P) (m : Meaning B R) (
 pub record StopsAt {E P B R : Type 0} (e : EngineWords E P) (engine : E) (m : Meaning B R) (place : Place) (old new : P)
     (s : Stop) : Type 0 where
   pub stops : Stops (tag_of place.caller place.line) (e.front old) (e.front new)
-  pub counted : IsStopCounted s (e.begun old) (e.begun new)
+  pub counted : CountsStop s (e.begun old) (e.begun new)
   pub may : e.may_stop engine s
   pub small : e.fresh engine old → 1 ≤ (e.limits engine).tries
       → IsSmallLine (bounds_in (e.limits engine)) m place.caller place.line (e.start engine) → s ≡ stop.NoMemory

@@ -2,7 +2,7 @@
 
 ghost use Rattle.std.specs.Prelude.{◌≡◌, ◌≤◌, length, vec_capacity, OnOk};
 ghost use Rattle.md_history.specs.Front.{LegalFrom};
-ghost use Rattle.md_history.specs.Attempt.{Commits, Stops, IsCounted, IfCommitted, IfStopped};
+ghost use Rattle.md_history.specs.Attempt.{Commits, Stops, CountsAttempt, IfCommitted, IfStopped};
 ghost use Rattle.md_many_attempts.specs.Tags.{tag_of};
 ghost use Rattle.md_many_attempts.specs.Meaning.{meaning_of};
 ghost use Rattle.md_many_attempts.specs.Turns.{CanPlayTurn, IsRoomFor, HoldsAsBefore, PlaysTurn};
@@ -64,7 +64,7 @@ pub fn attempt_line<E: Engine, B: Body, G: Gate>(
         Stops (tag_of caller line) (E.front pass.old) (E.front pass.new)) }
     ensures legal { LegalFrom (E.start engine.now) (E.front pass.new) }
     ensures of { E.of engine.now pass.new }
-    ensures begun { IsCounted result (E.begun pass.old) (E.begun pass.new) }
+    ensures begun { CountsAttempt result (E.begun pass.old) (E.begun pass.new) }
     ensures before { G.before_called gate.now caller line }
     ensures after { IfCommitted result (λ _. G.after_called gate.now caller line) }
     ensures stops { IfStopped result (MayStop E.Engine engine.now (B.makes body.now) pass.old) }
