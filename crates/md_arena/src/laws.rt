@@ -6,6 +6,6 @@ ghost use Rattle.md_arena.specs.Twice.{NoNodeTwice, NoNodeOfTwo};
 /// those of the field by splits and joins. No two passes of a field take the same node, since no
 /// lane is held by both.
 pub fn no_node_twice()
-    ensures pass { NoNodeTwice }
-    ensures passes { NoNodeOfTwo }
+    ensures course { NoNodeTwice }
+    ensures two { NoNodeOfTwo }
 {}

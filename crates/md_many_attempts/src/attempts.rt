@@ -1,8 +1,7 @@
 //! Attempts at lines, over any store.
 
 ghost use Rattle.std.specs.Prelude.{◌≡◌, ◌≤◌, length, vec_capacity, OnOk};
-ghost use Rattle.md_history.specs.Front.{LegalFrom};
-ghost use Rattle.md_history.specs.Attempt.{Commits, Stops, CountsAttempt, IfCommitted, IfStopped};
+ghost use Rattle.md_history.specs.Attempt.{CountsAttempt, IfCommitted, IfStopped, IsAtomic};
 ghost use Rattle.md_many_attempts.specs.Tags.{tag_of};
 ghost use Rattle.md_many_attempts.specs.Meaning.{meaning_of};
 ghost use Rattle.md_many_attempts.specs.Turns.{CanPlayTurn, IsRoomFor, HoldsAsBefore, PlaysTurn};
@@ -58,11 +57,8 @@ pub fn attempt_line<E: Engine, B: Body, G: Gate>(
     requires of { E.of engine.now pass.old }
     requires fits { B.fits body.now
         (length (E.start engine.now).maps) (length (E.start engine.now).queues) }
-    ensures committed { IfCommitted result (λ r.
-        Commits (B.did body.now) (tag_of caller line) r (E.front pass.old) (E.front pass.new)) }
-    ensures stopped { IfStopped result (λ _.
-        Stops (tag_of caller line) (E.front pass.old) (E.front pass.new)) }
-    ensures legal { LegalFrom (E.start engine.now) (E.front pass.new) }
+    ensures atomic { IsAtomic (B.did body.now) (tag_of caller line) (E.start engine.now) result
+        (E.front pass.old) (E.front pass.new) }
     ensures of { E.of engine.now pass.new }
     ensures begun { CountsAttempt result (E.begun pass.old) (E.begun pass.new) }
     ensures before { G.before_called gate.now caller line }

@@ -17,12 +17,12 @@ returns-clause-course g c =
     let empty : g.E.Engine.front c.in_ok-engine.pass ≡ empty_front (g.E.Engine.lanes c.in_ok-engine.engine) =
     assumption in
     record {
-      of = c.in_ok-engine.ensures.of;
+      of = c.in_ok-engine.ensures.first.of;
       laws = course.laws;
       runs = search rules;
       stands = rw (c.in_ok-push.ensures.items, map_push g.E.Engine.front c.args.course.fronts.items c.in_ok-engine.front)
           (stands-renewed course.stands course.laws c.pass_is_legal.ensures (g.E.Engine.front c.in_ok-engine.front) _ _ _
-          c.in_ok-engine.ensures.settled c.in_ok-engine.ensures.start c.in_ok-engine.ensures.lanes empty);
+          c.in_ok-engine.ensures.ended.settled c.in_ok-engine.ensures.ended.contents c.in_ok-engine.ensures.lanes empty);
     }
 
 pub returns-in_err-engine : goal.returns-in_err-engine

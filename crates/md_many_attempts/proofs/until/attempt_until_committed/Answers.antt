@@ -22,9 +22,9 @@ returns-then-not-is_conflict g c =
     let one = began-one c.attempt-end.result _ _ end.begun in
     record {
       atomic = record {
-        committed = commit-end _ _ _ _ _ was.stopped _ _ _ (omega arith) end.committed;
-        stopped = stop-end _ _ _ _ _ was.stopped _ _ (omega arith) end.stopped;
-        legal = end.legal;
+        committed = commit-end _ _ _ _ _ was.stopped _ _ _ (omega arith) end.atomic.committed;
+        stopped = stop-end _ _ _ _ _ was.stopped _ _ (omega arith) end.atomic.stopped;
+        legal = end.atomic.legal;
       };
       of = end.of;
       begun = record {
@@ -46,7 +46,7 @@ attempts-preserved g c =
     let met = met-conflict c.attempt-end.result meets in
     record {
       of = end.of;
-      stopped = stop-more _ _ _ _ _ was.stopped _ (omega arith) (of-stop _ _ _ met.1 end.stopped);
+      stopped = stop-more _ _ _ _ _ was.stopped _ (omega arith) (of-stop _ _ _ met.1 end.atomic.stopped);
       counted = omega (arith, was.counted, conflict-began c.attempt-end.result _ _ meets end.begun);
       again = λ one. (met.0, of-stop _ _ _ met.1 end.may_stop);
       alone = λ all. absurd (of-stop IsNoConflict _ _ met.1 (end.alone (was.stopped.lanes ∙ all)) met.0 refl);
@@ -62,9 +62,9 @@ returns g c =
     let one = began-one c.attempt.result _ _ end.begun in
     record {
       atomic = record {
-        committed = commit-end _ _ _ _ _ was.stopped _ _ _ (omega arith) end.committed;
-        stopped = stop-end _ _ _ _ _ was.stopped _ _ (omega arith) end.stopped;
-        legal = end.legal;
+        committed = commit-end _ _ _ _ _ was.stopped _ _ _ (omega arith) end.atomic.committed;
+        stopped = stop-end _ _ _ _ _ was.stopped _ _ (omega arith) end.atomic.stopped;
+        legal = end.atomic.legal;
       };
       of = end.of;
       begun = record {
