@@ -1,7 +1,7 @@
 use Rattle.std.proofs.Common.{◌≡◌}
 use Rattle.md_rule.specs.Views.{IsOf}
 use Rattle.md_nbtc_law.specs.Beginning.{TakesOut}
-use Rattle.md_nbtc_sets.proofs.begin.take_slots_out.Given as goal
+use Rattle.md_nbtc_sets.proofs.begin.take_left_slots_out.Given as goal
 
 abbrev pub invariant-loop-slot : goal.invariant-loop-slot
 invariant-loop-slot g l =
