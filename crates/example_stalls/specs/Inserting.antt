@@ -5,7 +5,7 @@ use Rattle.md_words.specs.declared.content.Content.{Content}
 use Rattle.md_words.specs.declared.shape.Shape.{Shape}
 use Rattle.md_words.specs.declared.status.Status.{Status}
 use Rattle.md_words.specs.declared.status.Status.TheVariants.{Committed, InPrep, InProg}
-use Rattle.md_words.specs.Content.{count_of, value_of}
+use Rattle.md_words.specs.Content.{count_of, is_even, value_of}
 use Rattle.md_words.specs.Layout.{address, desc_count}
 use Rattle.md_words.specs.Place.{desc_status, slot_new, slot_old, slot_word}
 use Rattle.md_words.specs.Status.{status_word}
@@ -51,6 +51,12 @@ HasInserted shape desc view = (from : ℕ) × (value : ℕ) × Inserts shape des
 -- an insert is tried if the content has no value, and one more than the new value fits in a slot
 abbrev pub IsTried : (found : Content) → (value : ℕ) → Type 0
 IsTried found value = (found.value ≡ 0) × (value + 1 < 2 ^ 32)
+
+-- a value may be inserted behind this content, which an install expects: its count is even, with room for those that follow
+pub record MayInsert (found : Content) (value : ℕ) : Type 0 where
+  pub even : is_even found.count ≡ true
+  pub room : found.count ≤ LAST_COUNT
+  pub tried : IsTried found value
 
 -- six steps, and others after them: the first attempt of a descriptor was put in hand and began an operation, its slot 0
 -- was stored, with one more than the value, and installed in the cell's word

@@ -1,6 +1,6 @@
 //! A transaction that inserts a value into the cell, and goes as far as it is told.
 
-ghost use Rattle.std.specs.Prelude.{◌≡◌, ◌+◌, ◌<◌, ◌≤◌, ◌^◌, ◌∷◌, ℕ, IfNone, IfSome, None, Some};
+ghost use Rattle.std.specs.Prelude.{◌≡◌, ◌<◌, ◌≤◌, ◌∷◌, ℕ, IfNone, IfSome, None, Some};
 ghost use Rattle.std.specs.Prelude.{[], false, true};
 ghost use Rattle.md_words.specs.declared.status.Status.TheVariants.{InProg};
 ghost use Rattle.md_words.specs.Content.{is_even, word_of};
@@ -11,7 +11,8 @@ ghost use Rattle.md_machine.specs.declared.step.TheConstants.{LAST_COUNT};
 ghost use Rattle.md_machine.specs.events.Decide.{SinceStatus};
 ghost use Rattle.md_rule.specs.Views.{IsOf};
 ghost use Rattle.example_stalls.specs.Inserting.{CarriesOut, HasInserted, HasNoInstall, Inserts, IsTried};
-ghost use Rattle.example_stalls.specs.Inserting.{Loses, MakesCommit, MakesReady, Puts, inserted};
+ghost use Rattle.example_stalls.specs.Inserting.{Loses, MakesCommit, MakesReady, MayInsert, Puts};
+ghost use Rattle.example_stalls.specs.Inserting.{inserted};
 
 use crate::stalling::{begin, put, store_slot};
 use example_cell::CellTheory;
@@ -32,10 +33,7 @@ fn operate(
 ) -> Option<u32>
     requires field { IsOf pass.old field.now }
     requires idle { pass.old.view.hand ≡ None }
-    requires even { is_even found.count ≡ true }
-    requires room { found.count ≤ LAST_COUNT }
-    requires none { found.value ≡ 0 }
-    requires fits { value + 1 < 2 ^ 32 }
+    requires may { MayInsert found value }
     ensures field { IsOf pass.new field.now }
     ensures some { IfSome result (λ desc. Inserts field.now.origin.shape desc (word_of found) value
         pass.new.view) }

@@ -1,10 +1,8 @@
 //! A transaction that installs one slot, and stalls there.
 
-ghost use Rattle.std.specs.Prelude.{◌≡◌, ◌≤◌, IfNone, IfSome, None, length, true};
+ghost use Rattle.std.specs.Prelude.{◌≡◌, ◌≤◌, IfNone, IfSome, None, true};
 ghost use Rattle.md_words.specs.Content.{is_even, word_of};
 ghost use Rattle.md_machine.specs.declared.step.TheConstants.{LAST_COUNT};
-ghost use Rattle.md_rule.specs.Kept.{KeepsLanes};
-ghost use Rattle.md_rule.specs.Lanes.{AreLanes};
 ghost use Rattle.md_rule.specs.Views.{IsOf};
 ghost use Rattle.example_stalls.specs.Stalled.{AddsChange, Begins, HasFirst, HasNoFirst};
 ghost use Rattle.example_stalls.specs.Stalled.{HoldsFirstSlot};
@@ -13,6 +11,7 @@ ghost use Rattle.example_stalls.specs.Stalled.{PutsIn, Stalls, StoresSlot, Takes
 use example_cell::CellTheory;
 use example_tickets::ticket_word;
 use md_arena::take_descriptor;
+use md_help::kept;
 use md_rule::{Field, Pass};
 use md_words::{Content, Spot};
 
@@ -79,15 +78,6 @@ fn first_attempt(pass: &mut Pass<CellTheory>) -> Option<u32>
         return None;
     }
     Some(desc)
-}
-
-// Lends what a pass keeps of its lanes.
-fn kept(pass: &Pass<CellTheory>)
-    ensures lanes { AreLanes pass.now.shape pass.now.view.lanes }
-    ensures kept { KeepsLanes pass.now.shape pass.now.view pass.now.shares }
-    ensures shares { length pass.now.shares ≡ 64 }
-{
-    let _ = pass.shape();
 }
 
 // Stores the cell's word, its content and the new value in the slot 0 of the descriptor in hand.

@@ -12,7 +12,7 @@ use Rattle.md_machine.specs.Machine.{Machine}
 use Rattle.md_machine.specs.Meaning.{Meaning}
 use Rattle.md_machine.specs.Stepping.{attempt_in_hand, known_after}
 use Rattle.md_rule.specs.Admitted.{Admitted}
-use Rattle.md_rule.specs.Views.{Origin}
+use Rattle.md_rule.specs.Views.{Origin, PassState}
 
 -- the fates that are known after steps
 abbrev pub known_over : Shape → List HistoryEntry → List Step → List Fate → List Fate
@@ -34,3 +34,8 @@ pub record StandsInField (M : Meaning) (o : Origin) (view : PassView) : Type 0 w
   pub admitted : Admitted M o machine
   pub pass : ℕ
   pub acts : Acts machine pass view
+
+-- a call only made steps: nothing of the pass changed but its view, and it stands so in some machine of the field
+pub record OnlySteps (M : Meaning) (o : Origin) (before after : PassState) : Type 0 where
+  pub same : after ≡ record before { view = after.view }
+  pub stands : Stands M o after.view

@@ -1,19 +1,22 @@
 -- How a descriptor is cleared out of a word.
-use Rattle.std.specs.Prelude.{◌≡◌, ◌≢◌, ℕ, true, List, [], ◌∷◌, ◌++◌, All, ◌⊎◌}
+use Rattle.std.specs.Prelude.{◌≡◌, ◌≢◌, ◌+◌, ◌<◌, ◌≤◌, ℕ, true, false, List, [], ◌∷◌, ◌++◌, All, ◌⊎◌}
+use Rattle.md_words.specs.declared.content.Content.{Content}
 use Rattle.md_words.specs.declared.shape.Shape.{Shape}
 use Rattle.md_words.specs.declared.status.Status.{Status}
 use Rattle.md_words.specs.declared.status.Status.TheVariants.{Committed as IsCommitted, Aborted as IsAborted}
-use Rattle.md_words.specs.Content.{spot_of, value_of}
-use Rattle.md_words.specs.Layout.{address}
+use Rattle.md_words.specs.Content.{count_of, is_even, spot_of, value_of, word_of}
+use Rattle.md_words.specs.Layout.{IsInSet, address, desc_count}
 use Rattle.md_words.specs.Place.{desc_status}
-use Rattle.md_words.specs.PlaceAt.{place_at}
+use Rattle.md_words.specs.PlaceAt.{IsCounted, place_at}
 use Rattle.md_words.specs.Status.{serial_of, status_of}
 use Rattle.md_machine.specs.declared.pass.PassView.{PassView}
 use Rattle.md_machine.specs.declared.step.Step.{Step}
 use Rattle.md_machine.specs.declared.step.Kind.TheVariants.{Load, Uninstall}
+use Rattle.md_machine.specs.declared.step.TheConstants.{LAST_COUNT}
 use Rattle.md_machine.specs.Trail.{Finds, Loads, Meets, SomeStep}
 use Rattle.md_machine.specs.clauses.nodes.Flags.{NotesWord}
 use Rattle.md_machine.specs.events.Uninstall.{FindsSerial, desc_in, slot_by_fate, status_of_desc, uninstalled_word, value_by_fate}
+use Rattle.md_rule.specs.InHand.{HoldsDesc}
 use Rattle.md_help.specs.declared.settling.End.{End}
 use Rattle.md_help.specs.declared.settling.End.TheVariants.{Committed, Gone}
 use Rattle.md_help.specs.declared.clearing.Cleared.{Cleared}
@@ -30,6 +33,22 @@ pub record SettlesOne (shape : Shape) (desc : ℕ) (end : End) (before after : P
   pub few : AreFewSteps shape desc status 2 steps
   pub changes : All (Decides shape desc) steps
   pub ends : Ends shape desc status steps end
+
+-- a descriptor is in the way of a pass: a step of its last segment found it in a counted word, it exists, and it isn't
+-- that of the transaction in hand
+pub record IsInTheWay (shape : Shape) (view : PassView) (word from : ℕ) : Type 0 where
+  pub counted : IsCounted shape word
+  pub odd : is_even (count_of from) ≡ false
+  pub exists : desc_in from < desc_count shape
+  pub met : SomeStep (Finds word from) view.trail
+  pub other : ¬ HoldsDesc view (desc_in from)
+
+-- the content of a counted word names a slot that exists, and its count isn't past the last one
+pub record NamesSlot (shape : Shape) (word : ℕ) (found : Content) : Type 0 where
+  pub counted : IsCounted shape word
+  pub odd : is_even (count_of (word_of found)) ≡ false
+  pub fits : found.count ≤ LAST_COUNT + 1
+  pub exists : IsInSet shape (desc_in (word_of found)) (spot_of (value_of (word_of found))).slot
 
 -- what a pass saw in this order: the content in the word, the status of the descriptor there, the content again
 pub record SawTwice (shape : Shape) (view : PassView) (word from status : ℕ) : Type 0 where

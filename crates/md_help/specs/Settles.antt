@@ -4,13 +4,15 @@ use Rattle.md_words.specs.declared.shape.Shape.{Shape}
 use Rattle.md_words.specs.declared.status.Status.{Status}
 use Rattle.md_words.specs.declared.status.Status.TheVariants.{InPrep, InProg}
 use Rattle.md_words.specs.declared.status.Status.TheVariants.{Committed as IsCommitted, Aborted as IsAborted}
-use Rattle.md_words.specs.Layout.{address}
+use Rattle.md_words.specs.Layout.{address, desc_count}
 use Rattle.md_words.specs.Place.{desc_status}
 use Rattle.md_words.specs.Status.{reads_of, serial_of, status_of}
 use Rattle.md_machine.specs.declared.pass.PassView.{PassView}
 use Rattle.md_machine.specs.declared.step.Step.{Step}
 use Rattle.md_machine.specs.declared.step.Kind.TheVariants.{Abort, Commit}
 use Rattle.md_machine.specs.Trail.{Finds, Meets, SomeStep}
+use Rattle.md_rule.specs.Kept.{IsReached}
+use Rattle.md_rule.specs.Views.{PassState}
 use Rattle.md_help.specs.declared.settling.End.{End}
 use Rattle.md_help.specs.declared.settling.End.TheVariants.{Committed, Aborted, Gone}
 use Rattle.md_help.specs.After.{IsAfter}
@@ -23,6 +25,13 @@ pub record MetStatus (shape : Shape) (view : PassView) (desc status : ℕ) : Typ
   pub later : List Step
   pub trail : view.trail ≡ earlier ++ step ∷ later
   pub meets : Meets (address shape (desc_status desc)) status step
+
+-- a pass has met an attempt by this status: the descriptor exists and is reached, and a step of the last segment found or
+-- left the status
+pub record HasMetAttempt (shape : Shape) (pass : PassState) (desc status : ℕ) : Type 0 where
+  pub exists : desc < desc_count shape
+  pub reached : IsReached pass desc
+  pub met : MetStatus shape pass.view desc status
 
 -- the status is the first one, or some step met it, or found it
 abbrev pub IsMet : Shape → (desc first held : ℕ) → List Step → Type 0

@@ -1,19 +1,15 @@
 //! Clearing: whoever meets a descriptor in a word settles its attempt and takes it out.
 
-ghost use Rattle.std.specs.Prelude.{◌≡◌, ◌≢◌, ◌+◌, ◌<◌, ◌≤◌, false};
+ghost use Rattle.std.specs.Prelude.{◌≡◌, ◌≤◌, false};
 ghost use Rattle.md_words.specs.declared.limits.TheConstants.{SET};
 ghost use Rattle.md_words.specs.Content.{count_of, is_even, spot_of, value_of, word_of};
-ghost use Rattle.md_words.specs.Layout.{IsInSet, desc_count, words_of};
-ghost use Rattle.md_words.specs.PlaceAt.{IsCounted};
+ghost use Rattle.md_words.specs.Layout.{IsInSet};
 ghost use Rattle.md_words.specs.Status.{reads_of};
-ghost use Rattle.md_machine.specs.declared.step.TheConstants.{LAST_COUNT};
-ghost use Rattle.md_machine.specs.Trail.{Finds, SomeStep};
-ghost use Rattle.md_machine.specs.events.Uninstall.{IsDecided, desc_in};
-ghost use Rattle.md_rule.specs.InHand.{HoldsDesc};
+ghost use Rattle.md_machine.specs.events.Uninstall.{desc_in};
 ghost use Rattle.md_rule.specs.Views.{IsOf};
-ghost use Rattle.md_help.specs.After.{StandsInField};
-ghost use Rattle.md_help.specs.Clears.{Clears, Finishes, SawDecided, SawTwice, SlotLoaded};
-ghost use Rattle.md_help.specs.Clears.{TakenOut, fate_of};
+ghost use Rattle.md_help.specs.After.{OnlySteps, Stands};
+ghost use Rattle.md_help.specs.Clears.{Clears, Finishes, IsInTheWay, NamesSlot, SawDecided};
+ghost use Rattle.md_help.specs.Clears.{SawTwice, SlotLoaded, TakenOut, fate_of};
 ghost use Rattle.md_help.specs.declared.settling.End.TheVariants.{Gone};
 
 use crate::settling::{End, settle};
@@ -42,13 +38,9 @@ pub struct Cleared {
 #[inline(never)]
 pub fn clear<T: Theory>(field: &Field<T>, pass: &mut Pass<T>, word: u32, found: Content) -> Cleared
     requires field { IsOf pass.old field.now }
-    requires counted { IsCounted field.now.origin.shape word }
-    requires odd { is_even (count_of (word_of found)) ≡ false }
-    requires exists { desc_in (word_of found) < desc_count field.now.origin.shape }
-    requires met { SomeStep (Finds word (word_of found)) pass.old.view.trail }
-    requires other { ¬ HoldsDesc pass.old.view (desc_in (word_of found)) }
+    requires way { IsInTheWay field.now.origin.shape pass.old.view word (word_of found) }
     ensures same { pass.new ≡ record pass.old { view = pass.new.view } }
-    ensures stands { StandsInField T.meaning field.now.origin pass.new.view }
+    ensures stands { Stands T.meaning field.now.origin pass.new.view }
     ensures clears { Clears field.now.origin.shape word (word_of found) result pass.old.view
         pass.new.view }
 {
@@ -75,16 +67,11 @@ fn finish<T: Theory>(
     status: u64,
 ) -> Cleared
     requires field { IsOf pass.old field.now }
-    requires stands { StandsInField T.meaning field.now.origin pass.old.view }
-    requires counted { IsCounted field.now.origin.shape word }
-    requires odd { is_even (count_of (word_of found)) ≡ false }
-    requires fits { found.count ≤ LAST_COUNT + 1 }
-    requires exists { IsInSet field.now.origin.shape (desc_in (word_of found))
-        (spot_of (value_of (word_of found))).slot }
+    requires stands { Stands T.meaning field.now.origin pass.old.view }
+    requires slot { NamesSlot field.now.origin.shape word found }
     requires few { reads_of status ≤ SET }
     requires saw { SawTwice field.now.origin.shape pass.old.view word (word_of found) status }
-    ensures same { pass.new ≡ record pass.old { view = pass.new.view } }
-    ensures stands { StandsInField T.meaning field.now.origin pass.new.view }
+    ensures steps { OnlySteps T.meaning field.now.origin pass.old pass.new }
     ensures finishes { Finishes field.now.origin.shape word (word_of found) status result
         pass.old.view pass.new.view }
 {
@@ -114,15 +101,10 @@ fn take_out<T: Theory>(
     end: End,
 ) -> u64
     requires field { IsOf pass.old field.now }
-    requires counted { IsCounted field.now.origin.shape word }
-    requires odd { is_even (count_of (word_of found)) ≡ false }
-    requires fits { found.count ≤ LAST_COUNT + 1 }
-    requires exists { IsInSet field.now.origin.shape (desc_in (word_of found))
-        (spot_of (value_of (word_of found))).slot }
+    requires slot { NamesSlot field.now.origin.shape word found }
     requires saw { SawDecided field.now.origin.shape pass.old.view word (word_of found)
         (fate_of end) }
-    ensures same { pass.new ≡ record pass.old { view = pass.new.view } }
-    ensures stands { StandsInField T.meaning field.now.origin pass.new.view }
+    ensures steps { OnlySteps T.meaning field.now.origin pass.old pass.new }
     ensures taken { TakenOut field.now.origin.shape word (word_of found) (fate_of end) result
         pass.old.view pass.new.view }
 {

@@ -3,9 +3,11 @@
 #![tactic(auto)]
 
 pub use clearing::{Cleared, clear, slot_value};
+pub use lending::kept;
 pub use reads::does_stand;
 pub use settling::{End, settle_one};
 
 mod clearing;
+mod lending;
 mod reads;
 mod settling;

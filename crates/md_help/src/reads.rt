@@ -5,7 +5,7 @@ ghost use Rattle.md_words.specs.declared.limits.TheConstants.{SET};
 ghost use Rattle.md_words.specs.Layout.{IsInSet, desc_count};
 ghost use Rattle.md_machine.specs.Trail.{read_stands};
 ghost use Rattle.md_rule.specs.Views.{IsOf};
-ghost use Rattle.md_help.specs.After.{StandsInField};
+ghost use Rattle.md_help.specs.After.{OnlySteps, Stands};
 ghost use Rattle.md_help.specs.Reads.{Checked, Validated};
 
 use md_machine::Theory;
@@ -20,11 +20,10 @@ pub(crate) fn validate<T: Theory>(
     reads: u8,
 ) -> bool
     requires field { IsOf pass.old field.now }
-    requires stands { StandsInField T.meaning field.now.origin pass.old.view }
+    requires stands { Stands T.meaning field.now.origin pass.old.view }
     requires desc { desc < desc_count field.now.origin.shape }
     requires reads { reads ≤ SET }
-    ensures same { pass.new ≡ record pass.old { view = pass.new.view } }
-    ensures stands { StandsInField T.meaning field.now.origin pass.new.view }
+    ensures steps { OnlySteps T.meaning field.now.origin pass.old pass.new }
     ensures validated { Validated field.now.origin.shape desc reads result pass.old.view
         pass.new.view }
 {
@@ -40,8 +39,7 @@ pub(crate) fn validate<T: Theory>(
 fn check<T: Theory>(field: &Field<T>, pass: &mut Pass<T>, desc: u32, i: u8) -> bool
     requires field { IsOf pass.old field.now }
     requires exists { IsInSet field.now.origin.shape desc i }
-    ensures same { pass.new ≡ record pass.old { view = pass.new.view } }
-    ensures stands { StandsInField T.meaning field.now.origin pass.new.view }
+    ensures steps { OnlySteps T.meaning field.now.origin pass.old pass.new }
     ensures checked { Checked field.now.origin.shape desc i result pass.old.view pass.new.view }
 {
     let word = pass.load(field, field.shape().read_word(desc, i)) as u32;

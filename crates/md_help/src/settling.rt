@@ -11,9 +11,9 @@ ghost use Rattle.md_rule.specs.InHand.{HoldsDesc};
 ghost use Rattle.md_rule.specs.Kept.{IsReached};
 ghost use Rattle.md_rule.specs.Views.{IsOf};
 ghost use Rattle.md_help.specs.Clears.{SettlesOne};
-ghost use Rattle.md_help.specs.After.{StandsInField};
+ghost use Rattle.md_help.specs.After.{OnlySteps, Stands};
 ghost use Rattle.md_help.specs.Owns.{EndsOwn, IsOwnLast, KnowsEnd};
-ghost use Rattle.md_help.specs.Settles.{EndIs, MetStatus, Settled, SettledNewer};
+ghost use Rattle.md_help.specs.Settles.{EndIs, HasMetAttempt, Settled, SettledNewer};
 
 use crate::reads::validate;
 use md_machine::Theory;
@@ -43,7 +43,7 @@ pub fn settle_one<T: Theory>(field: &Field<T>, pass: &mut Pass<T>, desc: u32) ->
     requires reached { IsReached pass.old desc }
     requires other { ¬ HoldsDesc pass.old.view desc }
     ensures same { pass.new ≡ record pass.old { view = pass.new.view } }
-    ensures stands { StandsInField T.meaning field.now.origin pass.new.view }
+    ensures stands { Stands T.meaning field.now.origin pass.new.view }
     ensures settles { SettlesOne field.now.origin.shape desc result pass.old.view
         pass.new.view }
     ensures own { HasDesc field.now.origin.shape pass.old.view desc
@@ -57,13 +57,10 @@ pub fn settle_one<T: Theory>(field: &Field<T>, pass: &mut Pass<T>, desc: u32) ->
 // reads.
 pub(crate) fn settle<T: Theory>(field: &Field<T>, pass: &mut Pass<T>, desc: u32, status: u64) -> End
     requires field { IsOf pass.old field.now }
-    requires stands { StandsInField T.meaning field.now.origin pass.old.view }
-    requires exists { desc < desc_count field.now.origin.shape }
-    requires reached { IsReached pass.old desc }
-    requires met { MetStatus field.now.origin.shape pass.old.view desc status }
+    requires stands { Stands T.meaning field.now.origin pass.old.view }
+    requires attempt { HasMetAttempt field.now.origin.shape pass.old desc status }
     requires few { reads_of status ≤ SET }
-    ensures same { pass.new ≡ record pass.old { view = pass.new.view } }
-    ensures stands { StandsInField T.meaning field.now.origin pass.new.view }
+    ensures steps { OnlySteps T.meaning field.now.origin pass.old pass.new }
     ensures settled { Settled field.now.origin.shape desc status 2 result pass.old.view
         pass.new.view }
     ensures own { IsOwnLast field.now.origin.shape pass.old.view desc status
@@ -78,12 +75,9 @@ pub(crate) fn settle<T: Theory>(field: &Field<T>, pass: &mut Pass<T>, desc: u32,
 // Aborts an attempt that isn't ready, and goes on from the newer status if that loses.
 fn abort_unready<T: Theory>(field: &Field<T>, pass: &mut Pass<T>, desc: u32, status: u64) -> End
     requires field { IsOf pass.old field.now }
-    requires exists { desc < desc_count field.now.origin.shape }
-    requires reached { IsReached pass.old desc }
-    requires met { MetStatus field.now.origin.shape pass.old.view desc status }
+    requires attempt { HasMetAttempt field.now.origin.shape pass.old desc status }
     requires unready { status_of status ≡ InPrep }
-    ensures same { pass.new ≡ record pass.old { view = pass.new.view } }
-    ensures stands { StandsInField T.meaning field.now.origin pass.new.view }
+    ensures steps { OnlySteps T.meaning field.now.origin pass.old pass.new }
     ensures settled { Settled field.now.origin.shape desc status 2 result pass.old.view
         pass.new.view }
     ensures own { IsOwnLast field.now.origin.shape pass.old.view desc status
@@ -104,14 +98,11 @@ fn settle_newer<T: Theory>(
     newer: u64,
 ) -> End
     requires field { IsOf pass.old field.now }
-    requires stands { StandsInField T.meaning field.now.origin pass.old.view }
-    requires exists { desc < desc_count field.now.origin.shape }
-    requires reached { IsReached pass.old desc }
-    requires met { MetStatus field.now.origin.shape pass.old.view desc newer }
+    requires stands { Stands T.meaning field.now.origin pass.old.view }
+    requires attempt { HasMetAttempt field.now.origin.shape pass.old desc newer }
     requires few { reads_of newer ≤ SET }
     requires ready { serial_of newer ≡ serial_of old → status_of newer ≢ InPrep }
-    ensures same { pass.new ≡ record pass.old { view = pass.new.view } }
-    ensures stands { StandsInField T.meaning field.now.origin pass.new.view }
+    ensures steps { OnlySteps T.meaning field.now.origin pass.old pass.new }
     ensures settled { SettledNewer field.now.origin.shape desc old newer result pass.old.view
         pass.new.view }
     ensures own { serial_of newer ≡ serial_of old
@@ -127,14 +118,11 @@ fn settle_newer<T: Theory>(
 // From a status that is ready: decides it by its reads, unless it is decided already.
 fn settle_ready<T: Theory>(field: &Field<T>, pass: &mut Pass<T>, desc: u32, status: u64) -> End
     requires field { IsOf pass.old field.now }
-    requires stands { StandsInField T.meaning field.now.origin pass.old.view }
-    requires exists { desc < desc_count field.now.origin.shape }
-    requires reached { IsReached pass.old desc }
-    requires met { MetStatus field.now.origin.shape pass.old.view desc status }
+    requires stands { Stands T.meaning field.now.origin pass.old.view }
+    requires attempt { HasMetAttempt field.now.origin.shape pass.old desc status }
     requires few { reads_of status ≤ SET }
     requires ready { status_of status ≢ InPrep }
-    ensures same { pass.new ≡ record pass.old { view = pass.new.view } }
-    ensures stands { StandsInField T.meaning field.now.origin pass.new.view }
+    ensures steps { OnlySteps T.meaning field.now.origin pass.old pass.new }
     ensures settled { Settled field.now.origin.shape desc status 1 result pass.old.view
         pass.new.view }
     ensures own { IsOwnLast field.now.origin.shape pass.old.view desc status
@@ -150,14 +138,11 @@ fn settle_ready<T: Theory>(field: &Field<T>, pass: &mut Pass<T>, desc: u32, stat
 // Validates the reads of an attempt that is in progress, and commits or aborts it.
 fn decide<T: Theory>(field: &Field<T>, pass: &mut Pass<T>, desc: u32, status: u64) -> End
     requires field { IsOf pass.old field.now }
-    requires stands { StandsInField T.meaning field.now.origin pass.old.view }
-    requires exists { desc < desc_count field.now.origin.shape }
-    requires reached { IsReached pass.old desc }
-    requires met { MetStatus field.now.origin.shape pass.old.view desc status }
+    requires stands { Stands T.meaning field.now.origin pass.old.view }
+    requires attempt { HasMetAttempt field.now.origin.shape pass.old desc status }
     requires few { reads_of status ≤ SET }
     requires in_progress { status_of status ≡ InProg }
-    ensures same { pass.new ≡ record pass.old { view = pass.new.view } }
-    ensures stands { StandsInField T.meaning field.now.origin pass.new.view }
+    ensures steps { OnlySteps T.meaning field.now.origin pass.old pass.new }
     ensures settled { Settled field.now.origin.shape desc status 1 result pass.old.view
         pass.new.view }
     ensures own { IsOwnLast field.now.origin.shape pass.old.view desc status

@@ -1,2 +1,4 @@
 pub mod State
 pub mod Ending
+pub mod Exchanging
+pub mod Noting

@@ -12,9 +12,10 @@ ghost use Rattle.md_nbtc.specs.State.{begun_state, state};
 
 use crate::txn::Txn;
 use md_arena::take_descriptor;
+use md_help::kept;
 use md_history::Limit;
 use md_machine::Theory;
-use md_nbtc_sets::{Sets, kept, put_in_hand};
+use md_nbtc_sets::{Sets, put_in_hand};
 use md_rule::{Field, Pass};
 use std::snapshot::Snapshot;
 
@@ -115,7 +116,7 @@ impl<'a, T: Theory> Txn<'a, T> {
             Err(limit) => return Err(limit),
         };
         let began = Snapshot::of(&*pass);
-        let serial = put_in_hand(pass, field, desc, tag);
+        let serial = put_in_hand(field, pass, desc, tag);
         Ok(Begun::over(pass, field, began, desc, serial, tag))
     }
 }

@@ -87,14 +87,8 @@ impl<'a, T: Theory> Txn<'a, T> {
                 sets,
             }),
             Err(found) => {
-                withdraw(
-                    pass,
-                    field,
-                    AttemptId { desc, serial },
-                    &sets.slots,
-                    &sets.lots,
-                    &began,
-                );
+                let attempt = AttemptId { desc, serial };
+                withdraw(field, pass, attempt, &sets.slots, &sets.lots, &began);
                 let shown = Shown {
                     word: field.shape().status(desc),
                     was: from,
@@ -130,21 +124,10 @@ impl<'a, T: Theory> Txn<'a, T> {
         } = self;
         let from = unready(serial);
         match pass.ready::<Brand, _>(field, desc, from, sets.reads.len(), about) {
-            Ok(()) => decided(
-                pass,
-                field,
-                &began,
-                desc,
-                serial,
-                tag,
-                &sets.reads,
-                &sets.slots,
-                &sets.lots,
-                &mut sets.lefts,
-            ),
+            Ok(()) => decided(field, pass, &began, AttemptId { desc, serial }, tag, sets),
             Err(found) => {
                 let attempt = AttemptId { desc, serial };
-                withdraw(pass, field, attempt, &sets.slots, &sets.lots, &began);
+                withdraw(field, pass, attempt, &sets.slots, &sets.lots, &began);
                 Err(Shown {
                     word: field.shape().status(desc),
                     was: from,
@@ -182,7 +165,7 @@ impl<'a, T: Theory> Txn<'a, T> {
             Ok(()) => Ok(()),
             Err(found) => {
                 let attempt = AttemptId { desc, serial };
-                withdraw(pass, field, attempt, &sets.slots, &sets.lots, &began);
+                withdraw(field, pass, attempt, &sets.slots, &sets.lots, &began);
                 Err(Shown {
                     word: field.shape().status(desc),
                     was: from,
@@ -238,18 +221,8 @@ impl<'a, T: Theory> Ready<'a, T> {
             tag,
             sets,
         } = self;
-        match decided(
-            pass,
-            field,
-            &began,
-            desc,
-            serial,
-            tag,
-            &sets.reads,
-            &sets.slots,
-            &sets.lots,
-            &mut sets.lefts,
-        ) {
+        let attempt = AttemptId { desc, serial };
+        match decided(field, pass, &began, attempt, tag, sets) {
             Ok(()) => Ok(Receipt::of(tag, &sets.reads, &sets.slots)),
             Err(shown) => Err(shown),
         }

@@ -1,23 +1,21 @@
 //! How a transaction changes a word.
 
-ghost use Rattle.std.specs.Prelude.{◌≡◌, ◌≢◌, ◌<◌, ◌^◌, ℕ, IfOk, false, true, length, map, Some};
+ghost use Rattle.std.specs.Prelude.{◌≡◌, ◌≢◌, ◌<◌, ◌^◌, ℕ, IfOk, true, length, map, Some};
 ghost use Rattle.std.specs.List.{Contains, list_any};
 ghost use Rattle.md_words.specs.declared.limits.TheConstants.{SET};
 ghost use Rattle.md_words.specs.PlaceAt.{IsCounted};
-ghost use Rattle.md_machine.specs.Certified.{content_read, is_written};
-ghost use Rattle.md_nbtc_law.specs.declared.seen.Kind.TheVariants.{Plain};
 ghost use Rattle.md_nbtc_law.specs.declared.seen.Seen.{Seen};
 ghost use Rattle.md_nbtc_law.specs.Calls.{AfterStop, Exchanges, GoesOn, MayBeOf, MayExchange};
-ghost use Rattle.md_nbtc_law.specs.declared.seen.TheConstants.{WORN};
 ghost use Rattle.md_nbtc_law.specs.Calls.{case_by_count, case_of_other, exchange_case, is_critical};
 ghost use Rattle.md_nbtc_law.specs.Calls.{is_next_word, makes_step, refusal_by, with_change};
 ghost use Rattle.md_nbtc_law.specs.Calls.ExchangeCase.{changes, installs};
-ghost use Rattle.md_nbtc_law.specs.Cleaning.{CleanupsStay};
 ghost use Rattle.md_nbtc_law.specs.Exchanging.{HoldsSlot, MayPutInSlot, Stored};
-ghost use Rattle.md_nbtc_law.specs.Going.{IsFoundFirst, IsUnderWay};
-ghost use Rattle.md_nbtc_law.specs.Seeing.{Gave, IsTidyNow, KeepsGiven, MayChange};
-ghost use Rattle.md_nbtc_law.specs.Sets.{place_of, with_new};
-ghost use Rattle.md_nbtc_law.specs.State.{seen_content, shape_in, taken_of_lane, writes_in};
+ghost use Rattle.md_nbtc_law.specs.Going.{IsUnderWay};
+ghost use Rattle.md_nbtc_law.specs.Seeing.{Gave, KeepsGiven};
+ghost use Rattle.md_nbtc_law.specs.Sets.{with_new};
+ghost use Rattle.md_nbtc_law.specs.State.{shape_in, taken_of_lane};
+ghost use Rattle.md_nbtc.specs.Exchanging.{ChangesPass, GivesWord, IsOtherWord, IsOwnWord};
+ghost use Rattle.md_nbtc.specs.Exchanging.{IsStoredNext, MayChangePlainly};
 ghost use Rattle.md_nbtc.specs.State.{state};
 
 use crate::txn::Txn;
@@ -74,10 +72,7 @@ impl<'a, T: Theory> Txn<'a, T> {
     #[inline(always)]
     fn exchange_other(&mut self, word: u32, from: Seen, to: u32, kind: Kind) -> Result<Seen, Stop>
         requires going { IsUnderWay T.meaning (state self.old) }
-        requires operates { (state self.old).hand.operating ≡ true }
-        requires counted { IsCounted (shape_in (state self.old)) word }
-        requires other { is_written (writes_in (state self.old)) word ≡ false }
-        requires gave { Gave (state self.old) word from }
+        requires other { IsOtherWord (state self.old) word from }
         requires may { MayBeOf (case_of_other (state self.old) word from
             (is_critical (state self.old) word kind)) T.meaning (state self.old) word from to }
         ensures pass { self.new.pass.ghost_name ≡ self.old.pass.ghost_name }
@@ -85,8 +80,7 @@ impl<'a, T: Theory> Txn<'a, T> {
         ensures exchanged { Exchanges (case_of_other (state self.old) word from
             (is_critical (state self.old) word kind)) T.meaning (state self.old) (state self.new)
             word from to result }
-        ensures given { KeepsGiven (state self.old) (state self.new) word }
-        ensures gave { IfOk result (λ seen. Gave (state self.new) word seen) }
+        ensures gives { GivesWord (state self.old) (state self.new) word result }
     {
         let critical = self.is_critical(word, kind);
         if let Some(stop) = self.refusal(word, from, critical) {
@@ -104,10 +98,7 @@ impl<'a, T: Theory> Txn<'a, T> {
     #[inline(always)]
     fn exchange_own(&mut self, place: u8, word: u32, from: Seen, to: u32) -> Seen
         requires going { IsUnderWay T.meaning (state self.old) }
-        requires operates { (state self.old).hand.operating ≡ true }
-        requires found { place_of (state self.old).slots word 0 ≡ Some place }
-        requires gave { Gave (state self.old) word from }
-        requires stay { CleanupsStay (state self.old) word to }
+        requires own { IsOwnWord (state self.old) place word from to }
         ensures pass { self.new.pass.ghost_name ≡ self.old.pass.ghost_name }
         ensures on { GoesOn T.meaning (state self.old) (state self.new) }
         ensures seen { result ≡ record { value = to; count = from.count; own = true } }
@@ -215,8 +206,7 @@ impl<'a, T: Theory> Txn<'a, T> {
         requires may { MayPutInSlot (state self.old) at value }
         ensures pass { self.new.pass.ghost_name ≡ self.old.pass.ghost_name }
         ensures on { GoesOn T.meaning (state self.old) (state self.new) }
-        ensures same { state self.new ≡ record (state self.old) { pass = (state self.new).pass } }
-        ensures given { (other : ℕ) → KeepsGiven (state self.old) (state self.new) other }
+        ensures only { ChangesPass (state self.old) (state self.new) }
         ensures stored { Stored (state self.new) at value }
         ensures keeps { (word held : ℕ) → word ≢ at → Stored (state self.old) word held
             → Stored (state self.new) word held }
@@ -232,8 +222,7 @@ impl<'a, T: Theory> Txn<'a, T> {
         requires room { length self.old.sets.now.slots < SET }
         ensures pass { self.new.pass.ghost_name ≡ self.old.pass.ghost_name }
         ensures on { GoesOn T.meaning (state self.old) (state self.new) }
-        ensures same { state self.new ≡ record (state self.old) { pass = (state self.new).pass } }
-        ensures given { (other : ℕ) → KeepsGiven (state self.old) (state self.new) other }
+        ensures only { ChangesPass (state self.old) (state self.new) }
         ensures holds { HoldsSlot (state self.new) word old new }
     {
         let slot = self.sets.slots.len();
@@ -249,19 +238,14 @@ impl<'a, T: Theory> Txn<'a, T> {
     #[inline(always)]
     fn install(&mut self, word: u32, from: Seen, to: u32) -> Result<Seen, Stop>
         requires going { IsUnderWay T.meaning (state self.old) }
-        requires operates { (state self.old).hand.operating ≡ true }
-        requires counted { IsCounted (shape_in (state self.old)) word }
-        requires other { is_written (writes_in (state self.old)) word ≡ false }
+        requires other { IsOtherWord (state self.old) word from }
         requires steps { makes_step (case_of_other (state self.old) word from true) ≡ true }
-        requires gave { Gave (state self.old) word from }
-        requires may { MayChange T.meaning (state self.old) word }
-        requires first { IsFoundFirst T.meaning (state self.old) word from.value }
+        requires may { MayBeOf installs T.meaning (state self.old) word from to }
         ensures pass { self.new.pass.ghost_name ≡ self.old.pass.ghost_name }
         ensures on { GoesOn T.meaning (state self.old) (state self.new) }
         ensures exchanged { Exchanges installs T.meaning (state self.old) (state self.new) word from
             to result }
-        ensures given { KeepsGiven (state self.old) (state self.new) word }
-        ensures gave { IfOk result (λ seen. Gave (state self.new) word seen) }
+        ensures gives { GivesWord (state self.old) (state self.new) word result }
     {
         let old = Content {
             value: from.value,
@@ -275,22 +259,14 @@ impl<'a, T: Theory> Txn<'a, T> {
     #[inline(always)]
     fn install_next(&mut self, word: u32, from: Seen, to: u32) -> Result<Seen, Stop>
         requires going { IsUnderWay T.meaning (state self.old) }
-        requires operates { (state self.old).hand.operating ≡ true }
-        requires counted { IsCounted (shape_in (state self.old)) word }
-        requires other { is_written (writes_in (state self.old)) word ≡ false }
-        requires fits { from.count < WORN }
-        requires agree { (held : ℕ) → content_read (state self.old).reads word ≡ Some held
-            → held ≡ seen_content from }
-        requires holds { HoldsSlot (state self.old) word (seen_content from) to }
-        requires gave { Gave (state self.old) word from }
-        requires may { MayChange T.meaning (state self.old) word }
-        requires first { IsFoundFirst T.meaning (state self.old) word from.value }
+        requires other { IsOtherWord (state self.old) word from }
+        requires stored { IsStoredNext (state self.old) word from to }
+        requires may { MayBeOf installs T.meaning (state self.old) word from to }
         ensures pass { self.new.pass.ghost_name ≡ self.old.pass.ghost_name }
         ensures on { GoesOn T.meaning (state self.old) (state self.new) }
         ensures exchanged { Exchanges installs T.meaning (state self.old) (state self.new) word from
             to result }
-        ensures given { KeepsGiven (state self.old) (state self.new) word }
-        ensures gave { IfOk result (λ seen. Gave (state self.new) word seen) }
+        ensures gives { GivesWord (state self.old) (state self.new) word result }
     {
         let old = Content {
             value: from.value,
@@ -318,20 +294,13 @@ impl<'a, T: Theory> Txn<'a, T> {
     // Changes a word by a plain exchange, which is tidy. One step.
     fn change_plainly(&mut self, word: u32, from: Seen, to: u32) -> Result<Seen, Stop>
         requires going { IsUnderWay T.meaning (state self.old) }
-        requires operates { (state self.old).hand.operating ≡ true }
-        requires counted { IsCounted (shape_in (state self.old)) word }
-        requires other { is_written (writes_in (state self.old)) word ≡ false }
-        requires fits { from.count < WORN }
-        requires plain { is_critical (state self.old) word Plain ≡ false }
-        requires gave { Gave (state self.old) word from }
-        requires may { MayChange T.meaning (state self.old) word }
-        requires tidy { IsTidyNow T.meaning (state self.old) word from.value to }
+        requires other { IsOtherWord (state self.old) word from }
+        requires may { MayChangePlainly T.meaning (state self.old) word from to }
         ensures pass { self.new.pass.ghost_name ≡ self.old.pass.ghost_name }
         ensures on { GoesOn T.meaning (state self.old) (state self.new) }
         ensures exchanged { Exchanges changes T.meaning (state self.old) (state self.new) word from
             to result }
-        ensures given { KeepsGiven (state self.old) (state self.new) word }
-        ensures gave { IfOk result (λ seen. Gave (state self.new) word seen) }
+        ensures gives { GivesWord (state self.old) (state self.new) word result }
     {
         let old = Content {
             value: from.value,

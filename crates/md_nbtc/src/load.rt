@@ -135,7 +135,7 @@ impl<'a, T: Theory> Txn<'a, T> {
         ensures given { KeepsGiven (state self.old) (state self.new) word }
     {
         let holding = self.holding();
-        let was = look_at(self.pass, self.field, word, holding);
+        let was = look_at(self.field, self.pass, word, holding);
         let found = Content::of(was);
         if found.stands().is_none() {
             return Ok(seen_of(found));

@@ -1,15 +1,13 @@
 //! How a transaction records what it found in a word.
 
-ghost use Rattle.std.specs.Prelude.{◌≡◌, ◌<◌, [], ◌∷◌, ◌++◌, ℕ, None, Some, Err};
-ghost use Rattle.std.specs.Prelude.{length, false, true};
-ghost use Rattle.md_words.specs.declared.limits.TheConstants.{SET};
+ghost use Rattle.std.specs.Prelude.{◌≡◌, [], ◌∷◌, ◌++◌, ℕ, Some, Err, true};
 ghost use Rattle.md_words.specs.Content.{count_of, value_of};
-ghost use Rattle.md_machine.specs.Certified.{content_read};
 ghost use Rattle.md_nbtc_law.specs.declared.seen.Seen.{Seen};
 ghost use Rattle.md_nbtc_law.specs.Calls.{AfterStop, GoesOn, Notes, note_case};
-ghost use Rattle.md_nbtc_law.specs.Going.{HasCause, IsFoundThere, IsUnderWay};
+ghost use Rattle.md_nbtc_law.specs.Going.{HasCause, IsUnderWay};
 ghost use Rattle.md_nbtc_law.specs.Seeing.{Gave, KeepsGiven};
 ghost use Rattle.md_nbtc_law.specs.State.{seen_content};
+ghost use Rattle.md_nbtc.specs.Noting.{MayNote, MayRecord};
 ghost use Rattle.md_nbtc.specs.State.{state};
 
 use crate::txn::Txn;
@@ -47,9 +45,7 @@ impl<'a, T: Theory> Txn<'a, T> {
     #[inline(always)]
     pub fn note(&mut self, word: u32, seen: Seen) -> Result<(), Stop>
         requires going { IsUnderWay T.meaning (state self.old) }
-        requires operates { (state self.old).hand.operating ≡ true }
-        requires gave { Gave (state self.old) word seen }
-        requires found { IsFoundThere T.meaning (state self.old) word seen }
+        requires may { MayNote T.meaning (state self.old) word seen }
         ensures pass { self.new.pass.ghost_name ≡ self.old.pass.ghost_name }
         ensures on { GoesOn T.meaning (state self.old) (state self.new) }
         ensures noted { AfterStop (state self.old).stop (state self.old) (state self.new) result
@@ -99,11 +95,7 @@ impl<'a, T: Theory> Txn<'a, T> {
     #[inline(always)]
     fn record(&mut self, word: u32, seen: Seen)
         requires going { IsUnderWay T.meaning (state self.old) }
-        requires gave { Gave (state self.old) word seen }
-        requires found { IsFoundThere T.meaning (state self.old) word seen }
-        requires other { seen.own ≡ false }
-        requires unread { content_read (state self.old).reads word ≡ None }
-        requires room { length (state self.old).reads < SET }
+        requires may { MayRecord T.meaning (state self.old) word seen }
         ensures pass { self.new.pass.ghost_name ≡ self.old.pass.ghost_name }
         ensures on { GoesOn T.meaning (state self.old) (state self.new) }
         ensures recorded { state self.new ≡ record (state self.old) {

@@ -30,8 +30,8 @@ impl<'a, T: Theory> Txn<'a, T> {
             stop: _,
         } = self;
         let attempt = AttemptId { desc, serial };
-        abort_unready(pass, field, attempt);
-        withdraw(pass, field, attempt, &sets.slots, &sets.lots, &began);
+        abort_unready(field, pass, attempt);
+        withdraw(field, pass, attempt, &sets.slots, &sets.lots, &began);
     }
 
     /// Leaves the transaction as it stands, and the pass as it is. A drop does the same, but no

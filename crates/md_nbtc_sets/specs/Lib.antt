@@ -1,2 +1,4 @@
 pub mod Sets
 pub mod Marks
+pub mod Beginning
+pub mod Deciding

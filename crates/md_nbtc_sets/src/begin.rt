@@ -1,36 +1,27 @@
 //! How a transaction begins: what the lane's last transaction left standing is taken out, and the
 //! lane's descriptor begins another attempt.
 
-ghost use Rattle.std.specs.Prelude.{◌≡◌, ◌+◌, ◌<◌, ◌≤◌, ◌↔◌, ℕ, IsTrue, None, false, length};
-ghost use Rattle.std.specs.List.{Contains};
+ghost use Rattle.std.specs.Prelude.{◌≡◌, ◌+◌, ◌<◌, ◌≤◌, ◌↔◌, ℕ, IsTrue, None, false};
 ghost use Rattle.md_words.specs.Content.{is_even, spot_of, word_of};
 ghost use Rattle.md_words.specs.Layout.{IsInSet, desc_count};
 ghost use Rattle.md_machine.specs.declared.step.TheConstants.{LAST_COUNT};
 ghost use Rattle.md_machine.specs.Own.{HasDesc};
 ghost use Rattle.md_help.specs.After.{StandsInField};
 ghost use Rattle.md_help.specs.Owns.{KnowsEnd};
-ghost use Rattle.md_rule.specs.Kept.{IsReached, KeepsLanes};
+ghost use Rattle.md_rule.specs.Kept.{IsReached};
 ghost use Rattle.md_rule_lanes.specs.Shares.{share_at};
 ghost use Rattle.md_rule.specs.Views.{IsOf};
-ghost use Rattle.md_nbtc_law.specs.Beginning.{Empties, FindsDecided, FindsNew, IsEmptied};
+ghost use Rattle.md_nbtc_law.specs.Beginning.{Empties, FindsDecided, FindsNew};
 ghost use Rattle.md_nbtc_law.specs.Beginning.{PassesCount, PutsInHand, StandsOwn};
 ghost use Rattle.md_nbtc_law.specs.Beginning.{HasAttempt, IsTakenLast, KeepsCounts, TakesSlot};
+ghost use Rattle.md_nbtc_sets.specs.Beginning.{MayRestart};
 
-use md_help::{End, settle_one, slot_value};
+use md_help::{End, kept, settle_one, slot_value};
 use md_machine::Theory;
 use md_rule::{Field, Pass};
 use md_words::{Content, Status, StatusWord};
 
-/// Lends to a proof what a pass keeps of its lanes. It needs nothing, and does nothing when it
-/// runs.
-pub fn kept<T: Theory>(pass: &Pass<T>)
-    ensures lanes { KeepsLanes pass.now.shape pass.now.view pass.now.shares }
-    ensures shares { length pass.now.shares ≡ 64 }
-{
-    let _ = pass.shape();
-}
-
-fn settled_status<T: Theory>(pass: &mut Pass<T>, field: &Field<T>, desc: u32) -> u64
+fn settled_status<T: Theory>(field: &Field<T>, pass: &mut Pass<T>, desc: u32) -> u64
     requires of { IsOf pass.old field.now }
     requires idle { pass.old.view.hand ≡ None }
     requires exists { desc < desc_count field.now.origin.shape }
@@ -52,7 +43,7 @@ fn settled_status<T: Theory>(pass: &mut Pass<T>, field: &Field<T>, desc: u32) ->
 /// It takes one step if the attempt is decided. Otherwise it takes at most `3r + 5`, if the attempt
 /// recorded r words.
 #[inline(always)]
-pub fn decided_status<T: Theory>(pass: &mut Pass<T>, field: &Field<T>, desc: u32) -> u64
+pub fn decided_status<T: Theory>(field: &Field<T>, pass: &mut Pass<T>, desc: u32) -> u64
     requires of { IsOf pass.old field.now }
     requires idle { pass.old.view.hand ≡ None }
     requires exists { desc < desc_count field.now.origin.shape }
@@ -66,31 +57,27 @@ pub fn decided_status<T: Theory>(pass: &mut Pass<T>, field: &Field<T>, desc: u32
     match StatusWord::of(found).status {
         Status::Committed => found,
         Status::Aborted => found,
-        _ => settled_status(pass, field, desc),
+        _ => settled_status(field, pass, desc),
     }
 }
 
 // Starts the descriptor again. The serial of the attempt that begins. Two steps, or five.
-fn restart<T: Theory>(pass: &mut Pass<T>, field: &Field<T>, desc: u32) -> u64
+fn restart<T: Theory>(field: &Field<T>, pass: &mut Pass<T>, desc: u32) -> u64
     requires of { IsOf pass.old field.now }
     requires idle { pass.old.view.hand ≡ None }
-    requires exists { desc < desc_count field.now.origin.shape }
-    requires lane { Contains pass.old.view.lanes desc }
-    requires own { HasDesc field.now.origin.shape pass.old.view desc }
-    requires empty { (before : ℕ) × ((share_at pass.old.shares desc).tries_taken ≡ before + 1)
-        × IsEmptied field.now.origin.shape pass.old.view desc before }
+    requires may { MayRestart field.now.origin.shape pass.old desc }
     ensures same { pass.new ≡ record pass.old { view = pass.new.view; shares = pass.new.shares } }
     ensures counts { KeepsCounts pass.old.shares pass.new.shares }
     ensures new { FindsNew T.meaning field.now.origin desc result pass.old.view pass.new.view }
 {
     kept(pass);
-    let found = decided_status(pass, field, desc);
+    let found = decided_status(field, pass, desc);
     pass.start(field, desc, found);
     StatusWord::of(found).serial + 1
 }
 
 // The serial of the lane's first attempt, for which its descriptor was prepared. One step.
-fn first_serial<T: Theory>(pass: &mut Pass<T>, field: &Field<T>, desc: u32) -> u64
+fn first_serial<T: Theory>(field: &Field<T>, pass: &mut Pass<T>, desc: u32) -> u64
     requires of { IsOf pass.old field.now }
     requires idle { pass.old.view.hand ≡ None }
     requires taken { IsTakenLast pass.old desc }
@@ -103,7 +90,7 @@ fn first_serial<T: Theory>(pass: &mut Pass<T>, field: &Field<T>, desc: u32) -> u
 }
 
 // Takes a descriptor out of a word, whose attempt ended so. Two steps.
-fn take_out<T: Theory>(pass: &mut Pass<T>, field: &Field<T>, word: u32, found: Content, end: End)
+fn take_out<T: Theory>(field: &Field<T>, pass: &mut Pass<T>, word: u32, found: Content, end: End)
     requires of { IsOf pass.old field.now }
     requires stands { StandsInField T.meaning field.now.origin pass.old.view }
     requires spot { StandsOwn field.now.origin.shape pass.old.view word (word_of found) end }
@@ -128,7 +115,7 @@ fn stands_at(found: Content, desc: u32, slot: u8) -> bool
 }
 
 // Takes the descriptor out of the word of a slot, if it stands there. Two steps, or four.
-fn take_slot_out<T: Theory>(pass: &mut Pass<T>, field: &Field<T>, desc: u32, slot: u8, end: End)
+fn take_slot_out<T: Theory>(field: &Field<T>, pass: &mut Pass<T>, desc: u32, slot: u8, end: End)
     requires of { IsOf pass.old field.now }
     requires idle { pass.old.view.hand ≡ None }
     requires exists { IsInSet field.now.origin.shape desc slot }
@@ -140,13 +127,13 @@ fn take_slot_out<T: Theory>(pass: &mut Pass<T>, field: &Field<T>, desc: u32, slo
     let word = pass.load(field, field.shape().slot_word(desc, slot)) as u32;
     let found = Content::of(pass.load(field, word));
     if stands_at(found, desc, slot) {
-        take_out(pass, field, word, found, end);
+        take_out(field, pass, word, found, end);
     }
 }
 
 // Settles the last transaction of the lane, which was dropped, and takes its descriptor out of the
 // words that it wrote.
-fn take_slots_out<T: Theory>(pass: &mut Pass<T>, field: &Field<T>, desc: u32)
+fn take_left_slots_out<T: Theory>(field: &Field<T>, pass: &mut Pass<T>, desc: u32)
     requires of { IsOf pass.old field.now }
     requires idle { pass.old.view.hand ≡ None }
     requires taken { HasAttempt pass.old desc }
@@ -156,7 +143,7 @@ fn take_slots_out<T: Theory>(pass: &mut Pass<T>, field: &Field<T>, desc: u32)
     let end = settle_one(field, pass, desc);
     let slots = pass.slots_written(desc) as u8;
     for slot in 0..slots {
-        take_slot_out(pass, field, desc, slot, end);
+        take_slot_out(field, pass, desc, slot, end);
     }
 }
 
@@ -167,7 +154,7 @@ fn take_slots_out<T: Theory>(pass: &mut Pass<T>, field: &Field<T>, desc: u32)
 /// It takes no step if the last transaction was ended. Otherwise it takes at most `3r + 3`, if the
 /// transaction recorded r words, and at most four for each word that it wrote.
 #[inline(always)]
-pub fn take_left_out<T: Theory>(pass: &mut Pass<T>, field: &Field<T>, desc: u32)
+pub fn take_left_out<T: Theory>(field: &Field<T>, pass: &mut Pass<T>, desc: u32)
     requires of { IsOf pass.old field.now }
     requires idle { pass.old.view.hand ≡ None }
     requires taken { HasAttempt pass.old desc }
@@ -175,12 +162,12 @@ pub fn take_left_out<T: Theory>(pass: &mut Pass<T>, field: &Field<T>, desc: u32)
     ensures empty { Empties field.now.origin.shape desc pass.old.view pass.new.view }
 {
     if pass.left_open(desc) {
-        take_slots_out(pass, field, desc);
+        take_left_slots_out(field, pass, desc);
     }
 }
 
 // Prepares the lane's descriptor for its next attempt, and returns the serial of the attempt.
-fn next_serial<T: Theory>(pass: &mut Pass<T>, field: &Field<T>, desc: u32) -> u64
+fn next_serial<T: Theory>(field: &Field<T>, pass: &mut Pass<T>, desc: u32) -> u64
     requires of { IsOf pass.old field.now }
     requires stands { StandsInField T.meaning field.now.origin pass.old.view }
     requires idle { pass.old.view.hand ≡ None }
@@ -190,10 +177,10 @@ fn next_serial<T: Theory>(pass: &mut Pass<T>, field: &Field<T>, desc: u32) -> u6
     ensures new { FindsNew T.meaning field.now.origin desc result pass.old.view pass.new.view }
 {
     if pass.tries_taken(desc) == 1 {
-        return first_serial(pass, field, desc);
+        return first_serial(field, pass, desc);
     }
-    take_left_out(pass, field, desc);
-    restart(pass, field, desc)
+    take_left_out(field, pass, desc);
+    restart(field, pass, desc)
 }
 
 /// Puts the next attempt of a lane in hand, with a tag, and returns its serial. The attempt was the
@@ -205,7 +192,7 @@ fn next_serial<T: Theory>(pass: &mut Pass<T>, field: &Field<T>, desc: u32) -> u6
 /// transaction that recorded r words, it takes at most `3r + 3` more, and at most four for each
 /// word that the transaction wrote. It takes three more if an attempt was taken and never put in
 /// hand.
-pub fn put_in_hand<T: Theory>(pass: &mut Pass<T>, field: &Field<T>, desc: u32, tag: u64) -> u64
+pub fn put_in_hand<T: Theory>(field: &Field<T>, pass: &mut Pass<T>, desc: u32, tag: u64) -> u64
     requires of { IsOf pass.old field.now }
     requires stands { StandsInField T.meaning field.now.origin pass.old.view }
     requires idle { pass.old.view.hand ≡ None }
@@ -215,7 +202,7 @@ pub fn put_in_hand<T: Theory>(pass: &mut Pass<T>, field: &Field<T>, desc: u32, t
     ensures hand { PutsInHand T.meaning field.now.origin desc tag result pass.old.view
         pass.new.view }
 {
-    let serial = next_serial(pass, field, desc);
+    let serial = next_serial(field, pass, desc);
     kept(pass);
     pass.mark_begin(field, desc, tag);
     serial

@@ -1,23 +1,20 @@
 //! How a transaction that is ready is decided: its reads are validated, and it is committed or
 //! aborted by that.
 
-ghost use Rattle.std.specs.Prelude.{◌≡◌, ◌<◌, ◌^◌, All, IfErr, IfOk, None, Some, length};
+ghost use Rattle.std.specs.Prelude.{◌≡◌, ◌<◌, ◌^◌, All, IfErr, IfOk, length};
 ghost use Rattle.md_words.specs.declared.status.Status.TheVariants.{InProg};
 ghost use Rattle.md_words.specs.Layout.{desc_count};
 ghost use Rattle.md_words.specs.PlaceAt.{IsCounted};
-ghost use Rattle.md_words.specs.Status.{serial_of, status_of, status_word};
-ghost use Rattle.md_machine.specs.Stepping.{attempt_in_hand};
+ghost use Rattle.md_words.specs.Status.{status_of, status_word};
 ghost use Rattle.md_machine.specs.events.Decide.{decided_word};
 ghost use Rattle.md_machine.specs.events.Uninstall.{IsDecided};
 ghost use Rattle.md_rule.specs.Views.{IsOf};
-ghost use Rattle.md_help.specs.After.{StandsInField};
-ghost use Rattle.md_help.specs.Settles.{MetStatus};
-ghost use Rattle.md_nbtc_law.specs.Deciding.{IsFateFound, MayDecide, DecidesDescriptor, Validates};
-ghost use Rattle.md_nbtc_law.specs.Ending.{Aborts, CommitsTransaction, HasEntry, IsReady};
-ghost use Rattle.md_nbtc_law.specs.Ending.{IsShown, TellsWhy};
-ghost use Rattle.md_nbtc_law.specs.State.{state_of};
+ghost use Rattle.md_help.specs.After.{Stands};
+ghost use Rattle.md_nbtc_law.specs.Deciding.{IsFateFound, MaySettle, Settles, Validates};
+ghost use Rattle.md_nbtc_law.specs.Ending.{Aborts, Commits, HasEntry, IsReady, IsShown, TellsWhy};
+ghost use Rattle.md_nbtc_sets.specs.Deciding.{IsInProgress, state_by};
 
-use crate::sets::{Lefts, Lots, Reads, Slots};
+use crate::sets::{Reads, Sets};
 use crate::tidying::finish;
 use crate::withdrawal::withdraw;
 use md_help::does_stand;
@@ -30,16 +27,16 @@ use std::snapshot::Snapshot;
 // Looks at the word of each read, in order. The first that doesn't stand ends it, and is shown.
 // At most one step for each read.
 fn validate<T: Theory>(
-    pass: &mut Pass<T>,
     field: &Field<T>,
+    pass: &mut Pass<T>,
     desc: u32,
     reads: &Reads,
 ) -> Option<Shown>
     requires of { IsOf pass.old field.now }
-    requires stands { StandsInField T.meaning field.now.origin pass.old.view }
+    requires stands { Stands T.meaning field.now.origin pass.old.view }
     requires counted { All (λ r. IsCounted field.now.origin.shape r.word) reads.now }
     ensures same { pass.new ≡ record pass.old { view = pass.new.view } }
-    ensures stands { StandsInField T.meaning field.now.origin pass.new.view }
+    ensures stands { Stands T.meaning field.now.origin pass.new.view }
     ensures validates { Validates field.now.origin.shape desc reads.now (length reads.now) result
         pass.old.view pass.new.view }
 {
@@ -76,22 +73,19 @@ fn fate_in<T: Theory>(field: &Field<T>, desc: u32, from: u64, found: u64) -> Res
 // Commits the attempt in hand if no recorded word has changed, and otherwise aborts it. The error
 // shows why it is aborted. If another pass decided it before, that decision stands. One step.
 fn settle<T: Theory>(
-    pass: &mut Pass<T>,
     field: &Field<T>,
+    pass: &mut Pass<T>,
     attempt: AttemptId,
     from: u64,
     moved: Option<Shown>,
 ) -> Result<(), Shown>
     requires of { IsOf pass.old field.now }
-    requires stands { StandsInField T.meaning field.now.origin pass.old.view }
-    requires exists { attempt.desc < desc_count field.now.origin.shape }
-    requires hand { attempt_in_hand pass.old.view.hand ≡ Some attempt }
-    requires met { MetStatus field.now.origin.shape pass.old.view attempt.desc from }
-    requires in_progress { (status_of from ≡ InProg) × (serial_of from ≡ attempt.serial) }
-    requires may { MayDecide field.now.origin.shape pass.old.view attempt.desc from moved }
+    requires stands { Stands T.meaning field.now.origin pass.old.view }
+    requires in_progress { IsInProgress field.now.origin.shape pass.old.view attempt from }
+    requires may { MaySettle field.now.origin.shape pass.old.view attempt.desc from moved }
     ensures same { pass.new ≡ record pass.old { view = pass.new.view } }
-    ensures stands { StandsInField T.meaning field.now.origin pass.new.view }
-    ensures settles { DecidesDescriptor T.meaning field.now.origin attempt.desc from moved result
+    ensures stands { Stands T.meaning field.now.origin pass.new.view }
+    ensures settles { Settles T.meaning field.now.origin attempt.desc from moved result
         pass.old.view pass.new.view }
 {
     let _ = pass.shape();
@@ -127,50 +121,41 @@ fn in_progress(reads: u8, serial: u64) -> u64
 /// After a commit the kept cleanups are made, in the order of their slots, and after an abort the
 /// nodes are given back. Nothing is in hand then. It takes no memory.
 ///
-/// The transaction is given by its parts: what it recorded and writes, where its nodes begin, and
-/// the pass as it stood when the attempt was put in hand (`began`). `lefts` is room that the call
-/// uses. The error shows why the transaction was aborted: the recorded word that has changed, with
+/// The transaction is given by its parts: its attempt and its tag, what it keeps of its words and
+/// nodes, and the pass as it stood when the attempt was put in hand (`began`). The call keeps the
+/// recorded words and the slots, and uses `sets.lefts` as room. The error shows why the transaction was aborted: the recorded word that has changed, with
 /// its recorded and its found content, or the status word before and after the abort by another
 /// pass.
 ///
 /// It takes one step for each recorded word, up to the first that has changed, one for the
 /// decision, one for each written word, at most three for each kept cleanup, and one more.
 pub fn decided<T: Theory>(
-    pass: &mut Pass<T>,
     field: &Field<T>,
+    pass: &mut Pass<T>,
     began: &Snapshot<Pass<T>>,
-    desc: u32,
-    serial: u64,
+    attempt: AttemptId,
     tag: u64,
-    reads: &Reads,
-    slots: &Slots,
-    lots: &Lots,
-    lefts: &mut Lefts,
+    sets: &mut Sets,
 ) -> Result<(), Shown>
-    requires { IsReady T.meaning (state_of field.now pass.old began.now.value reads.now slots.now None
-        desc serial tag lots.now) }
-    ensures committed { IfOk result (λ _. (e : HasEntry (state_of field.now pass.old began.now.value
-        reads.now slots.now None desc serial tag lots.now))
-        × CommitsTransaction T.meaning (state_of field.now pass.old began.now.value reads.now slots.now None
-        desc serial tag lots.now) e pass.new) }
-    ensures aborted { IfErr result (λ shown. Aborts T.meaning (state_of field.now pass.old
-        began.now.value reads.now slots.now None desc serial tag lots.now) pass.new
-        × IsShown (state_of field.now pass.old began.now.value reads.now slots.now None desc serial
-        tag lots.now) pass.new shown
-        × TellsWhy (state_of field.now pass.old began.now.value reads.now slots.now None desc serial
-        tag lots.now) pass.new shown) }
+    requires { IsReady T.meaning
+        (state_by field.now pass.old began.now.value sets.old attempt tag) }
+    ensures committed { let t = state_by field.now pass.old began.now.value sets.old attempt tag in
+        IfOk result (λ _. (e : HasEntry t) × Commits T.meaning t e pass.new) }
+    ensures aborted { let t = state_by field.now pass.old began.now.value sets.old attempt tag in
+        IfErr result (λ shown. Aborts T.meaning t pass.new × IsShown t pass.new shown
+        × TellsWhy t pass.new shown) }
+    ensures keeps { sets.new ≡ record sets.old { lefts = sets.new.lefts } }
 {
     let _ = tag;
-    let attempt = AttemptId { desc, serial };
-    let moved = validate(pass, field, desc, reads);
-    let from = in_progress(reads.len(), serial);
-    match settle(pass, field, attempt, from, moved) {
+    let moved = validate(field, pass, attempt.desc, &sets.reads);
+    let from = in_progress(sets.reads.len(), attempt.serial);
+    match settle(field, pass, attempt, from, moved) {
         Ok(()) => {
-            finish(pass, field, attempt, slots, lefts);
+            finish(field, pass, attempt, &sets.slots, &mut sets.lefts);
             Ok(())
         }
         Err(shown) => {
-            withdraw(pass, field, attempt, slots, lots, began);
+            withdraw(field, pass, attempt, &sets.slots, &sets.lots, began);
             Err(shown)
         }
     }

@@ -14,7 +14,7 @@
 //! The comments use the words of md_nbtc: **step**, **record**, **write**, **slot** and **live**.
 #![tactic(auto)]
 
-pub use begin::{decided_status, kept, put_in_hand, take_left_out};
+pub use begin::{decided_status, put_in_hand, take_left_out};
 pub use deciding::decided;
 pub use looking::look_at;
 pub use receipt::Receipt;
@@ -27,6 +27,6 @@ mod looking;
 mod marks;
 mod receipt;
 mod sets;
+mod taking_out;
 mod tidying;
 mod withdrawal;
-mod withdrawing;

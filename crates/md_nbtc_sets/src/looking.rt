@@ -42,8 +42,8 @@ fn patience(holding: Option<u32>, other: u32) -> u32
 #[cold]
 #[inline(never)]
 fn await_other<T: Theory>(
-    pass: &mut Pass<T>,
     field: &Field<T>,
+    pass: &mut Pass<T>,
     word: u32,
     found: u64,
     most: u32,
@@ -76,8 +76,8 @@ fn await_other<T: Theory>(
 /// stands there, at most 300 times, with short pauses between. It does so at most 60 times if the
 /// number of the own descriptor is lower.
 pub fn look_at<T: Theory>(
-    pass: &mut Pass<T>,
     field: &Field<T>,
+    pass: &mut Pass<T>,
     word: u32,
     holding: Option<u32>,
 ) -> u64
@@ -93,7 +93,7 @@ pub fn look_at<T: Theory>(
         None => found,
         Some(spot) => {
             let most = patience(holding, spot.desc);
-            await_other(pass, field, word, found, most)
+            await_other(field, pass, word, found, most)
         }
     }
 }

@@ -4,4 +4,5 @@ pub mod Nodes
 pub mod Words
 pub mod Working
 pub mod Along
+pub mod Parts
 pub mod Refusals

@@ -1,6 +1,6 @@
 //! The first value of a queue.
 
-ghost use Rattle.std.specs.Prelude.{◌≡◌, ◌≢◌, IfOk, IfErr, IfSome, List, Some};
+ghost use Rattle.std.specs.Prelude.{◌≡◌, ◌≢◌, IfOk, IfErr, IfSome, List};
 ghost use Rattle.md_history.specs.declared.acts.Op.TheVariants.{Dequeue, Front};
 ghost use Rattle.md_history.specs.declared.acts.Reply.TheVariants.{Value};
 ghost use Rattle.md_history.specs.declared.stops.Limit.{Limit};
@@ -8,11 +8,11 @@ ghost use Rattle.md_history.specs.declared.stops.Limit.TheVariants.{Reads, Write
 ghost use Rattle.md_machine.specs.declared.certificate.Certificate.{Certificate};
 ghost use Rattle.md_nbtc_law.specs.Going.{IsGoing};
 ghost use Rattle.md_nbtc.specs.State.{state};
-ghost use Rattle.md_queue.specs.Operations.{OperationAnswered, GoesBy, IsAnswered, IsBegun};
-ghost use Rattle.md_queue.specs.Operations.{IsNotBy};
+ghost use Rattle.md_queue.specs.Operations.{Answered, GoesBy, IsBegun, IsNotBy};
 ghost use Rattle.md_queue.specs.Operations.{RefusedOtherwise};
 ghost use Rattle.md_queue.specs.Operations.{LeavesDummy, RecordsAmong, StaysStopped, TailDiffers};
 ghost use Rattle.md_queue.specs.Operations.{dequeue_reads, dequeue_writes};
+ghost use Rattle.md_queue.specs.Parts.{FollowsTail, TakesFirst};
 ghost use Rattle.md_queue.specs.Refusals.{AsksFront, ChangeRefused, IfBy, MoveRefused};
 ghost use Rattle.md_queue.specs.Refusals.{ReadRefused, RefusesReads, RefusesWrites};
 ghost use Rattle.md_queue.specs.Working.{NotedFirst, SeesFirst, first_words};
@@ -95,7 +95,7 @@ fn note_first<'a, T: HasQueues>(tx: &mut Txn<'a, T>, queue: u32, first: First) -
 pub fn front<'a, T: HasQueues>(tx: &mut Txn<'a, T>, queue: u32) -> Result<Option<u64>, Stop>
     requires begun { IsBegun T.meaning (state tx.old) queue }
     ensures pass { tx.new.pass.ghost_name ≡ tx.old.pass.ghost_name }
-    ensures answer { IfOk result (λ value. OperationAnswered T.meaning (state tx.old) (state tx.new)
+    ensures answer { IfOk result (λ value. Answered T.meaning (state tx.old) (state tx.new)
         (Front queue) (Value value) 2 0 0) }
     ensures stop { IfErr result (RefusedOtherwise T.meaning (state tx.old) (state tx.new) 2 0) }
     ensures reads { IfErr result (RefusesReads T.meaning (state tx.old) (state tx.new)
@@ -117,11 +117,8 @@ fn follow_tail<'a, T: HasQueues>(tx: &mut Txn<'a, T>, queue: u32, first: First) 
         × SeesFirst T.meaning (state tx.old) queue cs first.head first.next }
     requires some { first.next.value ≢ 0 }
     ensures pass { tx.new.pass.ghost_name ≡ tx.old.pass.ghost_name }
-    ensures goes { IfOk result (λ done. GoesBy T.meaning (state tx.old) (state tx.new) 0 1 0) }
-    ensures sees { IfOk result (λ done. (cs : List Certificate)
-        → SeesFirst T.meaning (state tx.old) queue cs first.head first.next
-        → SeesFirst T.meaning (state tx.new) queue cs first.head first.next) }
-    ensures apart { IfOk result (λ done. TailDiffers (state tx.new) queue first.head.value) }
+    ensures follows { IfOk result (λ done. FollowsTail T.meaning (state tx.old) (state tx.new) queue
+        first.head first.next) }
     ensures stop { IfErr result (RefusedOtherwise T.meaning (state tx.old) (state tx.new) 0 1) }
     ensures writes { IfErr result (λ s. IfBy Writes (state tx.old) s ((cs : List Certificate)
         → SeesFirst T.meaning (state tx.old) queue cs first.head first.next
@@ -143,12 +140,8 @@ fn take_first<'a, T: HasQueues>(tx: &mut Txn<'a, T>, queue: u32, first: First) -
     requires some { first.next.value ≢ 0 }
     requires apart { TailDiffers (state tx.old) queue first.head.value }
     ensures pass { tx.new.pass.ghost_name ≡ tx.old.pass.ghost_name }
-    ensures goes { IfOk result (λ value. GoesBy T.meaning (state tx.old) (state tx.new) 1 1 0) }
-    ensures answer { IfOk result (λ value. (cs : List Certificate)
-        → SeesFirst T.meaning (state tx.old) queue cs first.head first.next
-        → IsAnswered T.meaning (state tx.old) (state tx.new) cs (Dequeue queue)
-        (Value (Some value))) }
-    ensures tail { IfOk result (λ value. LeavesDummy (state tx.new) queue) }
+    ensures takes { IfOk result (λ value. TakesFirst T.meaning (state tx.old) (state tx.new) queue
+        first.head first.next value) }
     ensures stop { IfErr result (RefusedOtherwise T.meaning (state tx.old) (state tx.new) 1 1) }
     ensures reads { IfErr result (λ s. IfBy Reads (state tx.old) s ((cs : List Certificate)
         → SeesFirst T.meaning (state tx.old) queue cs first.head first.next
@@ -201,7 +194,7 @@ fn take_first<'a, T: HasQueues>(tx: &mut Txn<'a, T>, queue: u32, first: First) -
 pub fn dequeue<'a, T: HasQueues>(tx: &mut Txn<'a, T>, queue: u32) -> Result<Option<u64>, Stop>
     requires begun { IsBegun T.meaning (state tx.old) queue }
     ensures pass { tx.new.pass.ghost_name ≡ tx.old.pass.ghost_name }
-    ensures answer { IfOk result (λ value. OperationAnswered T.meaning (state tx.old) (state tx.new)
+    ensures answer { IfOk result (λ value. Answered T.meaning (state tx.old) (state tx.new)
         (Dequeue queue) (Value value) (dequeue_reads value) (dequeue_writes value) 0) }
     ensures tail { IfOk result (λ value. IfSome value (λ v. LeavesDummy (state tx.new) queue)) }
     ensures stop { IfErr result (RefusedOtherwise T.meaning (state tx.old) (state tx.new) 2 2) }

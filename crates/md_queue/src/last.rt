@@ -1,6 +1,6 @@
 //! The last node of a queue, and a new one behind it.
 
-ghost use Rattle.std.specs.Prelude.{◌≡◌, ◌≢◌, ◌≤◌, ◌+◌, ℕ, IfOk, IfErr, List, Some, length};
+ghost use Rattle.std.specs.Prelude.{◌≡◌, ◌≢◌, ℕ, IfOk, IfErr, List};
 ghost use Rattle.md_history.specs.declared.acts.Op.TheVariants.{Enqueue};
 ghost use Rattle.md_history.specs.declared.acts.Reply.TheVariants.{Nothing};
 ghost use Rattle.md_history.specs.declared.stops.Limit.{Limit};
@@ -8,10 +8,11 @@ ghost use Rattle.md_history.specs.declared.stops.Limit.TheVariants.{Reads, Write
 ghost use Rattle.md_machine.specs.declared.certificate.Certificate.{Certificate};
 ghost use Rattle.md_nbtc_law.specs.Going.{IsGoing};
 ghost use Rattle.md_nbtc.specs.State.{state};
-ghost use Rattle.md_queue.specs.Operations.{OperationAnswered, GoesBy, IsBegun, IsNotBy, PutsLast};
-ghost use Rattle.md_queue.specs.Operations.{OperationRefused, RefusedOtherwise, StaysStopped};
+ghost use Rattle.md_queue.specs.Operations.{Answered, GoesBy, IsBegun, IsNotBy, PutsLast};
+ghost use Rattle.md_queue.specs.Operations.{Refused, RefusedOtherwise, StaysStopped};
+ghost use Rattle.md_queue.specs.Parts.{FindsLast, FollowsEnd};
 ghost use Rattle.md_queue.specs.Refusals.{IfBy, MoveRefused, RefusesWrites, TakesNone};
-ghost use Rattle.md_queue.specs.Working.{SeesEnd, other_count, own_count};
+ghost use Rattle.md_queue.specs.Working.{SeesEnd, other_count};
 
 use crate::words::{link_next, load_next, move_later, move_tail, rank_of, take_node};
 use md_history::Stop;
@@ -47,13 +48,8 @@ fn follow<'a, T: HasQueues>(tx: &mut Txn<'a, T>, queue: u32, end: End) -> Result
         × SeesEnd T.meaning (state tx.old) queue cs end.tail end.next least }
     requires some { end.next.value ≢ 0 }
     ensures pass { tx.new.pass.ghost_name ≡ tx.old.pass.ghost_name }
-    ensures goes { IfOk result (λ after. GoesBy T.meaning (state tx.old) (state tx.new) 0
-        (other_count end.tail) 0) }
-    ensures counts { IfOk result (λ after. length (state tx.new).slots + own_count end.tail
-        ≤ length (state tx.old).slots + own_count after.tail) }
-    ensures sees { IfOk result (λ after. (cs : List Certificate) (least : ℕ)
-        → SeesEnd T.meaning (state tx.old) queue cs end.tail end.next least
-        → SeesEnd T.meaning (state tx.new) queue cs after.tail after.next (least + 1)) }
+    ensures follows { IfOk result (λ after. FollowsEnd T.meaning (state tx.old) (state tx.new) queue
+        end.tail end.next after.tail after.next) }
     ensures stop { IfErr result (RefusedOtherwise T.meaning (state tx.old) (state tx.new) 0
         (other_count end.tail)) }
     ensures writes { IfErr result (λ s. IfBy Writes (state tx.old) s ((cs : List Certificate)
@@ -70,11 +66,8 @@ fn follow<'a, T: HasQueues>(tx: &mut Txn<'a, T>, queue: u32, end: End) -> Result
 fn find_last<'a, T: HasQueues>(tx: &mut Txn<'a, T>, queue: u32) -> Result<End, Stop>
     requires begun { IsBegun T.meaning (state tx.old) queue }
     ensures pass { tx.new.pass.ghost_name ≡ tx.old.pass.ghost_name }
-    ensures goes { IfOk result (λ end. GoesBy T.meaning (state tx.old) (state tx.new) 0 1 0) }
-    ensures sees { IfOk result (λ end. (least : ℕ) × ((cs : List Certificate)
-        → IsGoing T.meaning (state tx.old) cs
-        → SeesEnd T.meaning (state tx.new) queue cs end.tail end.next least)) }
-    ensures last { IfOk result (λ end. end.next.value ≡ 0) }
+    ensures finds { IfOk result (λ end. FindsLast T.meaning (state tx.old) (state tx.new) queue
+        end.tail end.next) }
     ensures stop { IfErr result (RefusedOtherwise T.meaning (state tx.old) (state tx.new) 0 1) }
     ensures writes { IfErr result (λ s. IfBy Writes (state tx.old) s ((cs : List Certificate)
         → IsGoing T.meaning (state tx.old) cs
@@ -134,10 +127,10 @@ fn find_last<'a, T: HasQueues>(tx: &mut Txn<'a, T>, queue: u32) -> Result<End, S
 pub fn enqueue<'a, T: HasQueues>(tx: &mut Txn<'a, T>, queue: u32, value: u64) -> Result<(), Stop>
     requires begun { IsBegun T.meaning (state tx.old) queue }
     ensures pass { tx.new.pass.ghost_name ≡ tx.old.pass.ghost_name }
-    ensures answer { IfOk result (λ done. OperationAnswered T.meaning (state tx.old) (state tx.new)
+    ensures answer { IfOk result (λ done. Answered T.meaning (state tx.old) (state tx.new)
         (Enqueue queue value) Nothing 0 2 1) }
     ensures puts { IfOk result (λ done. PutsLast (state tx.old) (state tx.new) queue value) }
-    ensures stop { IfErr result (OperationRefused T.meaning (state tx.old) (state tx.new) 0 2 1) }
+    ensures stop { IfErr result (Refused T.meaning (state tx.old) (state tx.new) 0 2 1) }
     ensures writes { IfErr result (RefusesWrites T.meaning (state tx.old) (state tx.new) queue
         (Enqueue queue value)) }
     ensures no_node { IfErr result (TakesNone (state tx.old) (state tx.new)) }

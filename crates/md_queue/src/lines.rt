@@ -12,8 +12,9 @@ ghost use Rattle.md_queue_law.specs.QueueCertificates.{Seen};
 ghost use Rattle.md_queue.specs.Along.{HasLooked, LooksFurther};
 ghost use Rattle.md_queue.specs.Operations.{OperationAnswered, GoesBy, IsBegun, IsNotBy};
 ghost use Rattle.md_queue.specs.Operations.{RecordsAmong, RefusedOtherwise, StaysStopped};
+ghost use Rattle.md_queue.specs.Parts.{PassesHead};
 ghost use Rattle.md_queue.specs.Refusals.{AsksLine, RefusesNext, RefusesReads};
-ghost use Rattle.md_queue.specs.Words.{head_at, next_at};
+ghost use Rattle.md_queue.specs.Words.{next_at};
 
 use crate::words::{load_next, note_next, value_of};
 use md_history::{Line, MAX_LINE, Stop};
@@ -31,12 +32,8 @@ struct Passed {
 fn pass_head<'a, T: HasQueues>(tx: &mut Txn<'a, T>, queue: u32) -> Result<u32, Stop>
     requires begun { IsBegun T.meaning (state tx.old) queue }
     ensures pass { tx.new.pass.ghost_name ≡ tx.old.pass.ghost_name }
-    ensures goes { IfOk result (λ node. GoesBy T.meaning (state tx.old) (state tx.new) 1 0 0) }
-    ensures among { IfOk result (λ node. RecordsAmong (state tx.old) (state tx.new)
-        (head_at (state tx.old) queue ∷ [])) }
-    ensures looked { IfOk result (λ node. (cs : List Certificate)
-        → IsGoing T.meaning (state tx.old) cs
-        → HasLooked T.meaning (state tx.new) queue cs node node []) }
+    ensures passes { IfOk result (λ node. PassesHead T.meaning (state tx.old) (state tx.new) queue
+        node) }
     ensures stop { IfErr result (RefusedOtherwise T.meaning (state tx.old) (state tx.new) 1 0) }
     ensures reads { IfErr result (RefusesReads T.meaning (state tx.old) (state tx.new)
         (AsksLine queue 1)) }

@@ -4,12 +4,11 @@ ghost use Rattle.std.specs.Prelude.{◌≡◌, None, length};
 ghost use Rattle.std.specs.List.{Contains};
 ghost use Rattle.md_history.specs.Engine.{SettlesFrom};
 ghost use Rattle.md_rule.specs.Closing.{MayClose};
-ghost use Rattle.md_rule.specs.Kept.{KeepsLanes};
-ghost use Rattle.md_rule.specs.Lanes.{AreLanes};
 ghost use Rattle.md_store_law.specs.Store.{store};
 ghost use Rattle.md_store.specs.Settling.{SettlesDescriptor, SettlesFirst};
 ghost use Rattle.md_store_bodies.specs.Store.{IsPassOf, all_lanes, front_in, start_of};
 
+use md_help::kept;
 use md_nbtc::{decided_status, take_left_out};
 use md_rule::{Field, Pass};
 use md_store_law::StoreTheory;
@@ -55,14 +54,6 @@ fn settle_lane(field: &Field<StoreTheory>, pass: &mut Pass<StoreTheory>, lane: u
     if pass.tries_taken(lane) == 0 {
         return;
     }
-    take_left_out(pass, field, lane);
-    let _ = decided_status(pass, field, lane);
-}
-
-// What a pass keeps of its lanes.
-fn kept(pass: &Pass<StoreTheory>)
-    ensures lanes { AreLanes pass.now.shape pass.now.view.lanes }
-    ensures kept { KeepsLanes pass.now.shape pass.now.view pass.now.shares }
-{
-    let _ = pass.shape();
+    take_left_out(field, pass, lane);
+    let _ = decided_status(field, pass, lane);
 }

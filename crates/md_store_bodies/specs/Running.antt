@@ -1,10 +1,11 @@
 -- A transaction of the store under way, as the calls of transactions see it.
-use Rattle.std.specs.Prelude.{◌≡◌, ℕ, false, List, [], ◌∷◌, ◌++◌, Option, None, Some, option_map}
+use Rattle.std.specs.Prelude.{◌≡◌, ℕ, false, List, [], ◌∷◌, ◌++◌, Option, None, Some, Result, IfOk, IfErr, option_map}
 use Rattle.md_history.specs.declared.stops.Stop.{Stop}
 use Rattle.md_history.specs.declared.acts.Act.{Act}
+use Rattle.md_history.specs.declared.acts.Op.{Op}
 use Rattle.md_history.specs.declared.acts.Reply.{Reply}
 use Rattle.md_history.specs.Act.{act_of}
-use Rattle.md_history.specs.Calls.{MayReply, Refusal}
+use Rattle.md_history.specs.Calls.{Answered, MayReply, Refusal, Refused}
 use Rattle.md_machine.specs.declared.certificate.Certificate.{Certificate}
 use Rattle.md_nbtc_law.specs.Ending.{BeginsTransaction}
 use Rattle.md_nbtc_law.specs.Going.{IsUnderWay}
@@ -39,6 +40,13 @@ pub record RunsOn (before : PassState) (t u : TxnState) (refused : Option Refusa
   pub running : IsRunning before u refused
   pub field : u.field ≡ t.field
   pub tag : u.hand.tag ≡ t.hand.tag
+
+-- a call made an operation, whose reply has what it returned, or was refused: the transaction runs on. An answer adds the
+-- act, and a refusal adds none
+pub record MakesCall {A : Type 0} (before : PassState) (op : Op) (reply : A → Reply) (t u : TxnState) (stood stands : Option Refusal) (result : Result A Stop) : Type 0 where
+  pub runs : RunsOn before t u stands
+  pub ok : IfOk result (λ v. Answered op (reply v) t.hand.acts u.hand.acts stood stands)
+  pub err : IfErr result (λ why. Refused op why t.hand.acts u.hand.acts stood stands)
 
 -- what no call of it changes: where its pass came from, the pass before it, its tag and its field
 pub record Kept : Type 0 where

@@ -4,7 +4,6 @@ ghost use Rattle.std.specs.Prelude.{◌≡◌, ◌<◌, ℕ, IfErr, IfOk};
 ghost use Rattle.md_history.specs.declared.acts.Op.TheVariants.{Get, Insert, Remove};
 ghost use Rattle.md_history.specs.declared.acts.Reply.TheVariants.{Flag, Value};
 ghost use Rattle.md_history.specs.declared.stops.Limit.TheVariants.{Reads, Writes};
-ghost use Rattle.md_history.specs.Calls.{Answered, Refused};
 ghost use Rattle.md_nbtc_law.specs.Calls.{AfterStop};
 ghost use Rattle.md_nbtc_law.specs.State.{shape_in};
 ghost use Rattle.md_nbtc.specs.State.{state};
@@ -12,7 +11,7 @@ ghost use Rattle.md_list.specs.Operations.{Answers, HasStopButNodes, IsBegun, Op
 ghost use Rattle.md_list.specs.Refusals.{NeedsRead, NeedsUnlink, RefusedBy};
 ghost use Rattle.md_list.specs.Walking.{IsHeadOf};
 ghost use Rattle.md_store_law.specs.Store.{store};
-ghost use Rattle.md_store_bodies.specs.Running.{IsRunning, RunsOn, refusal_of};
+ghost use Rattle.md_store_bodies.specs.Running.{IsRunning, MakesCall, refusal_of};
 
 use crate::broken::Broken;
 use md_history::{Op, Reply, Stop};
@@ -51,12 +50,8 @@ pub(crate) fn get_in<'a>(
     requires running { IsRunning before.now.value (state txn.old) (refusal_of broken.old) }
     requires map { map < (shape_in (state txn.old)).maps }
     ensures pass { txn.new.pass.ghost_name ≡ txn.old.pass.ghost_name }
-    ensures runs { RunsOn before.now.value (state txn.old) (state txn.new) (refusal_of broken.new) }
-    ensures ok { IfOk result (λ v. Answered (Get map key) (Value v)
-        (state txn.old).hand.acts (state txn.new).hand.acts (refusal_of broken.old)
-        (refusal_of broken.new)) }
-    ensures err { IfErr result (λ e. Refused (Get map key) e (state txn.old).hand.acts
-        (state txn.new).hand.acts (refusal_of broken.old) (refusal_of broken.new)) }
+    ensures makes { MakesCall before.now.value (Get map key) Value (state txn.old) (state txn.new)
+        (refusal_of broken.old) (refusal_of broken.new) result }
 {
     let _ = before;
     if let Some(b) = broken {
@@ -88,12 +83,8 @@ pub(crate) fn insert_in<'a>(
     requires running { IsRunning before.now.value (state txn.old) (refusal_of broken.old) }
     requires map { map < (shape_in (state txn.old)).maps }
     ensures pass { txn.new.pass.ghost_name ≡ txn.old.pass.ghost_name }
-    ensures runs { RunsOn before.now.value (state txn.old) (state txn.new) (refusal_of broken.new) }
-    ensures ok { IfOk result (λ v. Answered (Insert map key value) (Flag v)
-        (state txn.old).hand.acts (state txn.new).hand.acts (refusal_of broken.old)
-        (refusal_of broken.new)) }
-    ensures err { IfErr result (λ e. Refused (Insert map key value) e (state txn.old).hand.acts
-        (state txn.new).hand.acts (refusal_of broken.old) (refusal_of broken.new)) }
+    ensures makes { MakesCall before.now.value (Insert map key value) Flag (state txn.old) (state txn.new)
+        (refusal_of broken.old) (refusal_of broken.new) result }
 {
     let _ = before;
     if let Some(b) = broken {
@@ -124,12 +115,8 @@ pub(crate) fn remove_in<'a>(
     requires running { IsRunning before.now.value (state txn.old) (refusal_of broken.old) }
     requires map { map < (shape_in (state txn.old)).maps }
     ensures pass { txn.new.pass.ghost_name ≡ txn.old.pass.ghost_name }
-    ensures runs { RunsOn before.now.value (state txn.old) (state txn.new) (refusal_of broken.new) }
-    ensures ok { IfOk result (λ v. Answered (Remove map key) (Value v)
-        (state txn.old).hand.acts (state txn.new).hand.acts (refusal_of broken.old)
-        (refusal_of broken.new)) }
-    ensures err { IfErr result (λ e. Refused (Remove map key) e (state txn.old).hand.acts
-        (state txn.new).hand.acts (refusal_of broken.old) (refusal_of broken.new)) }
+    ensures makes { MakesCall before.now.value (Remove map key) Value (state txn.old) (state txn.new)
+        (refusal_of broken.old) (refusal_of broken.new) result }
 {
     let _ = before;
     if let Some(b) = broken {

@@ -4,14 +4,14 @@ ghost use Rattle.std.specs.Prelude.{◌≡◌, ◌<◌, IfErr, IfOk};
 ghost use Rattle.md_history.specs.declared.acts.Op.TheVariants.{Dequeue, Enqueue, Front, Line as TheLine};
 ghost use Rattle.md_history.specs.declared.acts.Reply.TheVariants.{Line as InLine, Nothing, Value};
 ghost use Rattle.md_history.specs.declared.stops.Limit.TheVariants.{Writes};
-ghost use Rattle.md_history.specs.Calls.{Answered, IsLineLength, Refused};
+ghost use Rattle.md_history.specs.Calls.{IsLineLength};
 ghost use Rattle.md_nbtc_law.specs.State.{shape_in};
 ghost use Rattle.md_nbtc.specs.State.{state};
 ghost use Rattle.md_queue.specs.Operations.{OperationAnswered, IsBegun, IsNotBy};
 ghost use Rattle.md_queue.specs.Operations.{RefusedOtherwise};
 ghost use Rattle.md_queue.specs.Refusals.{AsksFront, RefusesReads};
 ghost use Rattle.md_store_law.specs.Store.{store};
-ghost use Rattle.md_store_bodies.specs.Running.{IsRunning, RunsOn, refusal_of};
+ghost use Rattle.md_store_bodies.specs.Running.{IsRunning, MakesCall, refusal_of};
 
 use crate::broken::Broken;
 use md_history::{Line, Op, Reply, Stop};
@@ -31,12 +31,8 @@ pub(crate) fn enqueue_in<'a>(
     requires running { IsRunning before.now.value (state txn.old) (refusal_of broken.old) }
     requires queue { queue < (shape_in (state txn.old)).queues }
     ensures pass { txn.new.pass.ghost_name ≡ txn.old.pass.ghost_name }
-    ensures runs { RunsOn before.now.value (state txn.old) (state txn.new) (refusal_of broken.new) }
-    ensures ok { IfOk result (λ v. Answered (Enqueue queue value) Nothing
-        (state txn.old).hand.acts (state txn.new).hand.acts (refusal_of broken.old)
-        (refusal_of broken.new)) }
-    ensures err { IfErr result (λ e. Refused (Enqueue queue value) e (state txn.old).hand.acts
-        (state txn.new).hand.acts (refusal_of broken.old) (refusal_of broken.new)) }
+    ensures makes { MakesCall before.now.value (Enqueue queue value) (λ _. Nothing) (state txn.old) (state txn.new)
+        (refusal_of broken.old) (refusal_of broken.new) result }
 {
     let _ = before;
     if let Some(b) = broken {
@@ -65,12 +61,8 @@ pub(crate) fn dequeue_in<'a>(
     requires running { IsRunning before.now.value (state txn.old) (refusal_of broken.old) }
     requires queue { queue < (shape_in (state txn.old)).queues }
     ensures pass { txn.new.pass.ghost_name ≡ txn.old.pass.ghost_name }
-    ensures runs { RunsOn before.now.value (state txn.old) (state txn.new) (refusal_of broken.new) }
-    ensures ok { IfOk result (λ v. Answered (Dequeue queue) (Value v)
-        (state txn.old).hand.acts (state txn.new).hand.acts (refusal_of broken.old)
-        (refusal_of broken.new)) }
-    ensures err { IfErr result (λ e. Refused (Dequeue queue) e (state txn.old).hand.acts
-        (state txn.new).hand.acts (refusal_of broken.old) (refusal_of broken.new)) }
+    ensures makes { MakesCall before.now.value (Dequeue queue) Value (state txn.old) (state txn.new)
+        (refusal_of broken.old) (refusal_of broken.new) result }
 {
     let _ = before;
     if let Some(b) = broken {
@@ -114,12 +106,8 @@ pub(crate) fn front_in<'a>(
     requires running { IsRunning before.now.value (state txn.old) (refusal_of broken.old) }
     requires queue { queue < (shape_in (state txn.old)).queues }
     ensures pass { txn.new.pass.ghost_name ≡ txn.old.pass.ghost_name }
-    ensures runs { RunsOn before.now.value (state txn.old) (state txn.new) (refusal_of broken.new) }
-    ensures ok { IfOk result (λ v. Answered (Front queue) (Value v)
-        (state txn.old).hand.acts (state txn.new).hand.acts (refusal_of broken.old)
-        (refusal_of broken.new)) }
-    ensures err { IfErr result (λ e. Refused (Front queue) e (state txn.old).hand.acts
-        (state txn.new).hand.acts (refusal_of broken.old) (refusal_of broken.new)) }
+    ensures makes { MakesCall before.now.value (Front queue) Value (state txn.old) (state txn.new)
+        (refusal_of broken.old) (refusal_of broken.new) result }
 {
     let _ = before;
     if let Some(b) = broken {
@@ -150,12 +138,8 @@ pub(crate) fn line_in<'a>(
     requires queue { queue < (shape_in (state txn.old)).queues }
     requires n { IsLineLength n }
     ensures pass { txn.new.pass.ghost_name ≡ txn.old.pass.ghost_name }
-    ensures runs { RunsOn before.now.value (state txn.old) (state txn.new) (refusal_of broken.new) }
-    ensures ok { IfOk result (λ v. Answered (TheLine queue n) (InLine v)
-        (state txn.old).hand.acts (state txn.new).hand.acts (refusal_of broken.old)
-        (refusal_of broken.new)) }
-    ensures err { IfErr result (λ e. Refused (TheLine queue n) e (state txn.old).hand.acts
-        (state txn.new).hand.acts (refusal_of broken.old) (refusal_of broken.new)) }
+    ensures makes { MakesCall before.now.value (TheLine queue n) InLine (state txn.old) (state txn.new)
+        (refusal_of broken.old) (refusal_of broken.new) result }
 {
     let _ = before;
     if let Some(b) = broken {

@@ -53,8 +53,8 @@ fn settled_lane(pass: &mut Pass<StoreTheory>, store: &Store, lane: u32) -> bool
     if pass.tries_taken(lane) == 0 {
         return false;
     }
-    take_left_out(pass, store.field(), lane);
-    let found = decided_status(pass, store.field(), lane);
+    take_left_out(store.field(), pass, lane);
+    let found = decided_status(store.field(), pass, lane);
     StatusWord::of(found).status == Status::Committed
 }
 

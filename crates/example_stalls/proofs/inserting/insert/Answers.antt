@@ -1,4 +1,4 @@
-use Rattle.std.proofs.Common.{ℕ, Bool, List, true, false, sym, ap, subst, ◌∙◌, inl, inr}
+use Rattle.std.proofs.Common.{ℕ, Bool, List, true, false, sym, ap, subst, ◌∙◌, inl, inr, rules}
 use Rattle.std.proofs.lemmas.Bool.{false≢true, true≢false}
 use Rattle.md_words.specs.declared.shape.Shape.{Shape}
 use Rattle.md_words.specs.Content.{word_of}
@@ -18,6 +18,10 @@ use Rattle.example_stalls.proofs.inserting.insert.Goals.{then-won+then-decides, 
 one_lost : (shape : Shape) (desc value : ℕ) (decides : Bool) (steps : List Step) (view : PassView) → EndsAtReady shape desc value false steps view → EndsAsAsked shape desc value decides false steps view
 one_lost shape desc value true steps view ends = inl ends
 one_lost shape desc value false steps view ends = ends
+
+pub operate-requires-clause-may : goal.operate-requires-clause-may
+operate-requires-clause-may c =
+    record { even = c.requires.even; room = c.requires.room; tried = (search rules, search rules) }
 
 pub returns-clause-idle : goal.returns-clause-idle
 returns-clause-idle c = ap (λ (x : PassView). x.hand) (told_leave cell_meaning c.args.field.now.origin _ c.mark_leave.new.self.view c.mark_leave.ensures.step)

@@ -55,8 +55,8 @@ mark_act-requires-clause-may c =
     let from = word_of c.args.found in
     let s = c.store_slot.new.pass.view in
     let t = c.put.new.pass.view in
-    let none = value_in c.args.found c.requires.room c.requires.none in
-    let room = room_in c.args.found c.requires.room in
+    let none = value_in c.args.found c.requires.may.room c.requires.may.tried.0 in
+    let room = room_in c.args.found c.requires.may.room in
     may_act o desc t t from c.args.value none room
     (hand_is o desc from c.args.value c.args.pass.now.view c.begin.new.pass.view c.mark_start.new.self.view s c.in-Some.ensures.some c.mark_start.ensures.step
     c.store_slot.ensures.stores c.store_slot.ensures.hand t (subst (λ won. AddsChange o.shape desc from won s t) c.if-not-put.false c.put.ensures.hand) none room)
@@ -69,8 +69,8 @@ returns-clause-some c =
     let from = word_of c.args.found in
     let s = c.store_slot.new.pass.view in
     let t = c.put.new.pass.view in
-    let none = value_in c.args.found c.requires.room c.requires.none in
-    let room = room_in c.args.found c.requires.room in
+    let none = value_in c.args.found c.requires.may.room c.requires.may.tried.0 in
+    let room = room_in c.args.found c.requires.may.room in
     let hand = hand_is o desc from value c.args.pass.now.view c.begin.new.pass.view c.mark_start.new.self.view s c.in-Some.ensures.some c.mark_start.ensures.step
     c.store_slot.ensures.stores c.store_slot.ensures.hand t (subst (λ won. AddsChange o.shape desc from won s t) c.if-not-put.false c.put.ensures.hand) none room in
     let put = has_put o desc s t from (value + 1) c.store_slot.ensures.first room (subst (λ won. PutsIn o.shape desc from won s t) c.if-not-put.false c.put.ensures.puts)

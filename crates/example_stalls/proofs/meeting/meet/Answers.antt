@@ -39,34 +39,31 @@ returns-then-found-eq0-clause-met c =
       even_count c.of-found.result.count c.if-found-eq0.true,
     )
 
-pub clear-requires-clause-counted : goal.clear-requires-clause-counted
-clear-requires-clause-counted c = subst (IsCounted c.args.field.now.origin.shape) (sym c.ticket_word-word.ensures.place) (cell_counted c.args.field.now.origin.shape)
-
-pub clear-requires-clause-odd : goal.clear-requires-clause-odd
-clear-requires-clause-odd c = ap is_even (count_same c.of-found.result c.load.result c.of-found.ensures.parts c.of-found.ensures.inverse) ∙ odd_count c.of-found.result.count c.if-found-eq0.false
-
-pub clear-requires-clause-exists : goal.clear-requires-clause-exists
-clear-requires-clause-exists c =
-    let o = c.args.field.now.origin in
-    let found = c.of-found.result in
-    let odd : is_even (count_of (word_of found)) ≡ false = ap is_even (count_same found c.load.result c.of-found.ensures.parts c.of-found.ensures.inverse) ∙ odd_count found.count c.if-found-eq0.false in
-    let counted = subst (IsCounted o.shape) (sym c.ticket_word-word.ensures.place) (cell_counted o.shape) in
-    subst (λ x. desc_in x < desc_count o.shape) (sym c.of-found.ensures.inverse)
-    (names_slot cell_meaning o c.ticket_word-word.result c.load.result c.args.pass.now.view c.load.new.self.view c.load.ensures.step counted
-    (subst (λ x. is_even (count_of x) ≡ false) c.of-found.ensures.inverse odd)).0
-
-pub clear-requires-clause-met : goal.clear-requires-clause-met
-clear-requires-clause-met c =
-    let o = c.args.field.now.origin in
-    let q = c.load.new.self.view in
-    subst (λ x. SomeStep (Finds c.ticket_word-word.result x) q.trail) (sym c.of-found.ensures.inverse)
-    (found_it cell_meaning o c.ticket_word-word.result c.load.result c.args.pass.now.view q c.load.ensures.step)
-
-pub clear-requires-clause-other : goal.clear-requires-clause-other
-clear-requires-clause-other c holds =
-    none_some c.load.new.self.view.hand holds.0
-    (same_hand cell_meaning c.args.field.now.origin c.ticket_word-word.result c.load.result c.args.pass.now.view c.load.new.self.view c.load.ensures.step ∙ c.requires.idle)
-    holds.1
+pub clear-requires-clause-way : goal.clear-requires-clause-way
+clear-requires-clause-way c = record {
+  counted = subst (IsCounted c.args.field.now.origin.shape) (sym c.ticket_word-word.ensures.place) (cell_counted c.args.field.now.origin.shape);
+  odd = ap is_even (count_same c.of-found.result c.load.result c.of-found.ensures.parts c.of-found.ensures.inverse) ∙ odd_count c.of-found.result.count c.if-found-eq0.false;
+  exists = (
+      let o = c.args.field.now.origin in
+      let found = c.of-found.result in
+      let odd : is_even (count_of (word_of found)) ≡ false = ap is_even (count_same found c.load.result c.of-found.ensures.parts c.of-found.ensures.inverse) ∙ odd_count found.count c.if-found-eq0.false in
+      let counted = subst (IsCounted o.shape) (sym c.ticket_word-word.ensures.place) (cell_counted o.shape) in
+      subst (λ x. desc_in x < desc_count o.shape) (sym c.of-found.ensures.inverse)
+      (names_slot cell_meaning o c.ticket_word-word.result c.load.result c.args.pass.now.view c.load.new.self.view c.load.ensures.step counted
+      (subst (λ x. is_even (count_of x) ≡ false) c.of-found.ensures.inverse odd)).0
+      );
+  met = (
+      let o = c.args.field.now.origin in
+      let q = c.load.new.self.view in
+      subst (λ x. SomeStep (Finds c.ticket_word-word.result x) q.trail) (sym c.of-found.ensures.inverse)
+      (found_it cell_meaning o c.ticket_word-word.result c.load.result c.args.pass.now.view q c.load.ensures.step)
+      );
+  other = (
+      λ holds. none_some c.load.new.self.view.hand holds.0
+      (same_hand cell_meaning c.args.field.now.origin c.ticket_word-word.result c.load.result c.args.pass.now.view c.load.new.self.view c.load.ensures.step ∙ c.requires.idle)
+      holds.1
+      );
+}
 
 pub returns-clause-idle : goal.returns-clause-idle
 returns-clause-idle c =

@@ -46,21 +46,20 @@ finish-requires-clause-stands g c =
     let r = c.load-left.new.self.view in
     stands_made M o (λ pass. load pass c.args.word) Load c.args.word c.load-left.result c.load-left.result q r c.load-left.ensures.step.0 (made_load M o c.args.word c.load-left.result q r c.load-left.ensures.step)
 
-pub finish-requires-clause-fits : goal.finish-requires-clause-fits
-finish-requires-clause-fits g c =
+pub finish-requires-clause-slot : goal.finish-requires-clause-slot
+finish-requires-clause-slot g c =
     let M = g.T.Theory.meaning in
     let o = c.args.field.now.origin in
     let q = c.load-status.new.self.view in
     let r = c.load-left.new.self.view in
     let again = subst (λ x. SteppedFrom M o (λ pass. load pass c.args.word) c.args.word x q r) (c.if-moved.false ∙ c.word.ensures.whole) c.load-left.ensures.step in
     let count = ap (λ x. count_of x) (sym c.word.ensures.whole) ∙ ap (λ (x : Content). x.count) c.word.ensures.inverse in
-    subst (λ n. n ≤ LAST_COUNT + 1) count (found_fits M o c.args.word (word_of c.args.found) q r c.requires.counted c.requires.odd again)
-
-pub finish-requires-clause-exists : goal.finish-requires-clause-exists
-finish-requires-clause-exists g c =
-    let M = g.T.Theory.meaning in
-    let o = c.args.field.now.origin in
-    spot_exists M o c.status.result c.args.word (word_of c.args.found) c.load-status.result c.args.pass.now.view c.load-status.new.self.view c.requires.counted c.requires.odd c.requires.met c.load-status.ensures.step
+    record {
+      counted = c.requires.way.counted;
+      odd = c.requires.way.odd;
+      fits = subst (λ n. n ≤ LAST_COUNT + 1) count (found_fits M o c.args.word (word_of c.args.found) q r c.requires.way.counted c.requires.way.odd again);
+      exists = spot_exists M o c.status.result c.args.word (word_of c.args.found) c.load-status.result c.args.pass.now.view c.load-status.new.self.view c.requires.way.counted c.requires.way.odd c.requires.way.met c.load-status.ensures.step;
+    }
 
 pub finish-requires-clause-few : goal.finish-requires-clause-few
 finish-requires-clause-few g c =
@@ -71,7 +70,7 @@ finish-requires-clause-few g c =
     let q = c.load-status.new.self.view in
     let at = c.status.ensures.place ∙ ap (λ s. address s (desc_status c.spot_in-desc.result.desc)) c.shape.ensures ∙ ap (λ (s : Spot). address o.shape (desc_status s.desc)) c.spot_in-desc.ensures in
     let step = subst (λ w. SteppedFrom M o (λ pass. load pass w) w c.load-status.result p q) at c.load-status.ensures.step in
-    newer_few M o (λ pass. load pass (status_of_desc o.shape from)) p q (desc_in from) c.load-status.result c.requires.exists step
+    newer_few M o (λ pass. load pass (status_of_desc o.shape from)) p q (desc_in from) c.load-status.result c.requires.way.exists step
 
 pub finish-requires-clause-saw : goal.finish-requires-clause-saw
 finish-requires-clause-saw g c =
@@ -84,7 +83,7 @@ finish-requires-clause-saw g c =
     let at = c.status.ensures.place ∙ ap (λ s. address s (desc_status c.spot_in-desc.result.desc)) c.shape.ensures ∙ ap (λ (s : Spot). address o.shape (desc_status s.desc)) c.spot_in-desc.ensures in
     let step = subst (λ w. SteppedFrom M o (λ pass. load pass w) w c.load-status.result p q) at c.load-status.ensures.step in
     let again = subst (λ x. SteppedFrom M o (λ pass. load pass c.args.word) c.args.word x q r) (c.if-moved.false ∙ c.word.ensures.whole) c.load-left.ensures.step in
-    saw_twice o.shape c.args.word from c.load-status.result p q r c.requires.met (made_load M o (status_of_desc o.shape from) c.load-status.result p q step) (made_load M o c.args.word from q r again)
+    saw_twice o.shape c.args.word from c.load-status.result p q r c.requires.way.met (made_load M o (status_of_desc o.shape from) c.load-status.result p q step) (made_load M o c.args.word from q r again)
 
 pub returns-clause-clears : goal.returns-clause-clears
 returns-clause-clears g c =
@@ -112,8 +111,8 @@ returns-then-moved-clause-same g c = c.load-left.ensures.same ∙ ap (λ (x : Pa
 
 pub returns-clause-same : goal.returns-clause-same
 returns-clause-same g c =
-    c.finish.ensures.same ∙ ap (λ (x : PassState). record x { view = c.finish.new.pass.view })
+    c.finish.ensures.steps.same ∙ ap (λ (x : PassState). record x { view = c.finish.new.pass.view })
     (c.load-left.ensures.same ∙ ap (λ (x : PassState). record x { view = c.load-left.new.self.view }) c.load-status.ensures.same)
 
 pub returns-clause-stands : goal.returns-clause-stands
-returns-clause-stands g c = c.finish.ensures.stands
+returns-clause-stands g c = c.finish.ensures.steps.stands

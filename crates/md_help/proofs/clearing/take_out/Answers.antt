@@ -14,17 +14,20 @@ use Rattle.md_help.proofs.clearing.take_out.Goals as goal
 
 pub uninstall-requires-clause-may : goal.uninstall-requires-clause-may
 uninstall-requires-clause-may g c =
-    may_uninstall g.T.Theory.meaning c.args.field.now.origin c.args.pass.now.view c.slot_value-value.new.pass.view c.args.word (word_of c.args.found) c.slot_value-value.result (fate_of c.args.end) c.requires.counted c.requires.odd (fate_decided c.args.end) c.requires.saw c.slot_value-value.ensures.loaded
+    may_uninstall g.T.Theory.meaning c.args.field.now.origin c.args.pass.now.view c.slot_value-value.new.pass.view c.args.word (word_of c.args.found) c.slot_value-value.result (fate_of c.args.end) c.requires.slot.counted c.requires.slot.odd (fate_decided c.args.end) c.requires.saw c.slot_value-value.ensures.loaded
 
-pub returns-in-Ok-clause-stands : goal.returns-in-Ok-clause-stands
-returns-in-Ok-clause-stands g c =
+pub returns-in-Ok-clause-steps : goal.returns-in-Ok-clause-steps
+returns-in-Ok-clause-steps g c =
     let M = g.T.Theory.meaning in
     let o = c.args.field.now.origin in
     let from = word_of c.args.found in
     let value = c.slot_value-value.result in
     let q = c.slot_value-value.new.pass.view in
     let r = c.uninstall.new.self.view in
-    stands_made M o (λ pass. uninstall pass c.args.word from value) Uninstall c.args.word from (uninstalled_word from value) q r c.in-Ok.ensures.step.0 (uninstall_won M o c.args.word from value q r c.in-Ok.ensures.step)
+    record {
+      same = c.uninstall.ensures.same ∙ ap (λ (x : PassState). record x { view = c.uninstall.new.self.view }) c.slot_value-value.ensures.same;
+      stands = stands_made M o (λ pass. uninstall pass c.args.word from value) Uninstall c.args.word from (uninstalled_word from value) q r c.in-Ok.ensures.step.0 (uninstall_won M o c.args.word from value q r c.in-Ok.ensures.step);
+    }
 
 pub returns-in-Ok-clause-taken : goal.returns-in-Ok-clause-taken
 returns-in-Ok-clause-taken g c =
@@ -35,16 +38,16 @@ returns-in-Ok-clause-taken g c =
     let p = c.args.pass.now.view in
     let q = c.slot_value-value.new.pass.view in
     let r = c.uninstall.new.self.view in
-    let count = count_of_word c.args.found c.requires.fits in
+    let count = count_of_word c.args.found c.requires.slot.fits in
     let is : c.word.result ≡ uninstalled_word from value = c.word.ensures.whole ∙ ap (λ n. counted_word value (n + 1)) (sym count) in
     let take = uninstall_won M o c.args.word from value q r c.in-Ok.ensures.step in
     subst (λ left. TakenOut o.shape c.args.word from (fate_of c.args.end) left p r) (sym is)
     (taken_out o.shape c.args.word from value from (uninstalled_word from value) (fate_of c.args.end) p q r c.slot_value-value.ensures.loaded take
-    (inl (refl, refl)) (count_apart from value (subst (λ n. n ≤ LAST_COUNT + 1) (sym count) c.requires.fits))
+    (inl (refl, refl)) (count_apart from value (subst (λ n. n ≤ LAST_COUNT + 1) (sym count) c.requires.slot.fits))
     (flagged_uninstall M o c.args.word from value from (uninstalled_word from value) q r take c.in-Ok.ensures.step.0))
 
-pub returns-in-Err-clause-stands : goal.returns-in-Err-clause-stands
-returns-in-Err-clause-stands g c =
+pub returns-in-Err-clause-steps : goal.returns-in-Err-clause-steps
+returns-in-Err-clause-steps g c =
     let M = g.T.Theory.meaning in
     let o = c.args.field.now.origin in
     let from = word_of c.args.found in
@@ -52,7 +55,10 @@ returns-in-Err-clause-stands g c =
     let q = c.slot_value-value.new.pass.view in
     let r = c.uninstall.new.self.view in
     let step = c.in-Err.ensures.step in
-    stands_made M o (λ pass. uninstall pass c.args.word from value) Uninstall c.args.word c.in-Err.left c.in-Err.left q r step.1.0 (uninstall_lost M o c.args.word from value c.in-Err.left q r step.0 step.1)
+    record {
+      same = c.uninstall.ensures.same ∙ ap (λ (x : PassState). record x { view = c.uninstall.new.self.view }) c.slot_value-value.ensures.same;
+      stands = stands_made M o (λ pass. uninstall pass c.args.word from value) Uninstall c.args.word c.in-Err.left c.in-Err.left q r step.1.0 (uninstall_lost M o c.args.word from value c.in-Err.left q r step.0 step.1);
+    }
 
 pub returns-in-Err-clause-taken : goal.returns-in-Err-clause-taken
 returns-in-Err-clause-taken g c =
@@ -67,9 +73,3 @@ returns-in-Err-clause-taken g c =
     let take = uninstall_lost M o c.args.word from value c.in-Err.left q r step.0 step.1 in
     taken_out o.shape c.args.word from value c.in-Err.left c.in-Err.left (fate_of c.args.end) p q r c.slot_value-value.ensures.loaded take (inr (step.0, refl)) step.0
     (flagged_uninstall M o c.args.word from value c.in-Err.left c.in-Err.left q r take step.1.0)
-
-pub returns-in-Ok-clause-same : goal.returns-in-Ok-clause-same
-returns-in-Ok-clause-same g c = c.uninstall.ensures.same ∙ ap (λ (x : PassState). record x { view = c.uninstall.new.self.view }) c.slot_value-value.ensures.same
-
-pub returns-in-Err-clause-same : goal.returns-in-Err-clause-same
-returns-in-Err-clause-same g c = c.uninstall.ensures.same ∙ ap (λ (x : PassState). record x { view = c.uninstall.new.self.view }) c.slot_value-value.ensures.same

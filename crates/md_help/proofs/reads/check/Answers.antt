@@ -28,12 +28,19 @@ load-found-requires g c =
       read_word_below g.T.Theory.meaning o c.args.pass.now.view c.load-word.new.self.view c.read_word.result c.load-word.result c.args.desc c.args.i c.requires.exists at c.load-word.ensures.step,
     )
 
-pub returns-clause-stands : goal.returns-clause-stands
-returns-clause-stands g c =
-    let M = g.T.Theory.meaning in
-    let o = c.args.field.now.origin in
-    let m = made_load M o c.load-word.result c.load-found.result c.load-recorded.new.self.view c.load-found.new.self.view c.load-found.ensures.step in
-    stands_made M o (λ pass. load pass c.load-word.result) Load c.load-word.result c.load-found.result c.load-found.result c.load-recorded.new.self.view c.load-found.new.self.view c.load-found.ensures.step.0 m
+pub returns-clause-steps : goal.returns-clause-steps
+returns-clause-steps g c = record {
+  same = (
+      c.load-found.ensures.same ∙ ap (λ (x : PassState). record x { view = c.load-found.new.self.view })
+      (c.load-recorded.ensures.same ∙ ap (λ (x : PassState). record x { view = c.load-recorded.new.self.view }) c.load-word.ensures.same)
+      );
+  stands = (
+      let M = g.T.Theory.meaning in
+      let o = c.args.field.now.origin in
+      let m = made_load M o c.load-word.result c.load-found.result c.load-recorded.new.self.view c.load-found.new.self.view c.load-found.ensures.step in
+      stands_made M o (λ pass. load pass c.load-word.result) Load c.load-word.result c.load-found.result c.load-found.result c.load-recorded.new.self.view c.load-found.new.self.view c.load-found.ensures.step.0 m
+      );
+}
 
 pub returns-clause-checked : goal.returns-clause-checked
 returns-clause-checked g c =
@@ -50,8 +57,3 @@ returns-clause-checked g c =
     (made_load M o _ c.load-recorded.result b d (subst (λ w. SteppedFrom M o (λ pass. load pass w) w c.load-recorded.result b d) there c.load-recorded.ensures.step))
     (made_load M o c.load-word.result c.load-found.result d e c.load-found.ensures.step)
     c.requires.exists (read_word_apart M o a b c.read_word.result c.load-word.result c.args.desc c.args.i c.requires.exists at c.load-word.ensures.step) c.does_stand.ensures
-
-pub returns-clause-same : goal.returns-clause-same
-returns-clause-same g c =
-    c.load-found.ensures.same ∙ ap (λ (x : PassState). record x { view = c.load-found.new.self.view })
-    (c.load-recorded.ensures.same ∙ ap (λ (x : PassState). record x { view = c.load-recorded.new.self.view }) c.load-word.ensures.same)

@@ -1,4 +1,4 @@
-use Rattle.std.proofs.Common.{inr, [], ◌∷◌, true, refl, inl, arith, ap, subst, ◌∙◌}
+use Rattle.std.proofs.Common.{inr, [], ◌∷◌, true, refl, inl, arith, ap, subst, ◌∙◌, rules}
 use Rattle.md_help.specs.Owns.{KnowsEnd}
 use Rattle.md_words.specs.declared.status.Status.TheVariants.{Aborted as IsAborted}
 use Rattle.md_words.specs.Layout.{address}
@@ -20,8 +20,8 @@ use Rattle.md_help.proofs.settling.abort_unready.Goals as goal
 pub abort-requires-clause-may : goal.abort-requires-clause-may
 abort-requires-clause-may g c =
     may_abort g.T.Theory.meaning c.args.field.now.origin c.args.pass.now.view c.args.desc c.args.status (record {
-      exists = c.requires.exists;
-      reached = reaches c.args.pass.now c.args.field.now.origin.shape c.requires.field.shape c.args.desc c.requires.exists c.requires.reached;
+      exists = c.requires.attempt.exists;
+      reached = reaches c.args.pass.now c.args.field.now.origin.shape c.requires.field.shape c.args.desc c.requires.attempt.exists c.requires.attempt.reached;
       undecided = inl c.requires.unready;
     })
 
@@ -34,41 +34,40 @@ settle_newer-requires-clause-stands g c =
     let step = c.in-Err.ensures.step in
     stands_made M o (λ pass. abort pass c.args.desc c.args.status) Abort (address o.shape (desc_status c.args.desc)) c.in-Err.newer c.in-Err.newer p q step.1.0 (abort_lost M o c.args.desc c.args.status c.in-Err.newer p q step.0 step.1)
 
-pub settle_newer-requires-clause-reached : goal.settle_newer-requires-clause-reached
-settle_newer-requires-clause-reached g c =
+pub settle_newer-requires-clause-attempt : goal.settle_newer-requires-clause-attempt
+settle_newer-requires-clause-attempt g c =
     let o = c.args.field.now.origin in
     let p = c.args.pass.now.view in
     let q = c.abort.new.self.view in
     let step = c.in-Err.ensures.step in
     let m = abort_lost g.T.Theory.meaning o c.args.desc c.args.status c.in-Err.newer p q step.0 step.1 in
-    reached_after o.shape (m.step ∷ []) c.args.pass.now c.abort.new.self c.args.desc c.abort.ensures.same m.goes c.requires.reached
-
-pub settle_newer-requires-clause-met : goal.settle_newer-requires-clause-met
-settle_newer-requires-clause-met g c =
-    let o = c.args.field.now.origin in
-    let p = c.args.pass.now.view in
-    let q = c.abort.new.self.view in
-    let step = c.in-Err.ensures.step in
-    met_made o.shape c.args.desc c.in-Err.newer c.in-Err.newer Abort p q refl (abort_lost g.T.Theory.meaning o c.args.desc c.args.status c.in-Err.newer p q step.0 step.1)
+    record {
+      exists = c.requires.attempt.exists;
+      reached = reached_after o.shape (m.step ∷ []) c.args.pass.now c.abort.new.self c.args.desc c.abort.ensures.same m.goes c.requires.attempt.reached;
+      met = met_made o.shape c.args.desc c.in-Err.newer c.in-Err.newer Abort p q refl (abort_lost g.T.Theory.meaning o c.args.desc c.args.status c.in-Err.newer p q step.0 step.1);
+    }
 
 pub settle_newer-requires-clause-few : goal.settle_newer-requires-clause-few
 settle_newer-requires-clause-few g c =
-    newer_few g.T.Theory.meaning c.args.field.now.origin (λ pass. abort pass c.args.desc c.args.status) c.args.pass.now.view c.abort.new.self.view c.args.desc c.in-Err.newer c.requires.exists c.in-Err.ensures.step.1
+    newer_few g.T.Theory.meaning c.args.field.now.origin (λ pass. abort pass c.args.desc c.args.status) c.args.pass.now.view c.abort.new.self.view c.args.desc c.in-Err.newer c.requires.attempt.exists c.in-Err.ensures.step.1
 
 pub settle_newer-requires-clause-ready : goal.settle_newer-requires-clause-ready
 settle_newer-requires-clause-ready g c =
     let step = c.in-Err.ensures.step in
     lost_ready c.args.status c.in-Err.newer
-    (newer_came g.T.Theory.meaning c.args.field.now.origin (λ pass. abort pass c.args.desc c.args.status) c.args.pass.now.view c.abort.new.self.view c.args.desc c.args.status c.in-Err.newer c.requires.exists c.requires.met step.1)
+    (newer_came g.T.Theory.meaning c.args.field.now.origin (λ pass. abort pass c.args.desc c.args.status) c.args.pass.now.view c.abort.new.self.view c.args.desc c.args.status c.in-Err.newer c.requires.attempt.exists c.requires.attempt.met step.1)
     c.requires.unready step.0
 
-pub returns-in-Ok-clause-stands : goal.returns-in-Ok-clause-stands
-returns-in-Ok-clause-stands g c =
+pub returns-in-Ok-clause-steps : goal.returns-in-Ok-clause-steps
+returns-in-Ok-clause-steps g c =
     let M = g.T.Theory.meaning in
     let o = c.args.field.now.origin in
     let p = c.args.pass.now.view in
     let q = c.abort.new.self.view in
-    stands_made M o (λ pass. abort pass c.args.desc c.args.status) Abort (address o.shape (desc_status c.args.desc)) c.args.status (decided_word IsAborted c.args.status) p q c.in-Ok.ensures.step.0 (abort_won M o c.args.desc c.args.status p q c.in-Ok.ensures.step)
+    record {
+      same = search rules;
+      stands = stands_made M o (λ pass. abort pass c.args.desc c.args.status) Abort (address o.shape (desc_status c.args.desc)) c.args.status (decided_word IsAborted c.args.status) p q c.in-Ok.ensures.step.0 (abort_won M o c.args.desc c.args.status p q c.in-Ok.ensures.step);
+    }
 
 pub returns-in-Ok-clause-settled : goal.returns-in-Ok-clause-settled
 returns-in-Ok-clause-settled g c =
@@ -76,7 +75,7 @@ returns-in-Ok-clause-settled g c =
     let p = c.args.pass.now.view in
     let q = c.abort.new.self.view in
     let m = abort_won g.T.Theory.meaning o c.args.desc c.args.status p q c.in-Ok.ensures.step in
-    settled_aborted o.shape c.args.desc c.args.status 0 2 true Abort c.args.status (decided_word IsAborted c.args.status) p p q (validated_none o.shape c.args.desc p c.requires.exists) m (inr refl) (omega arith) (omega arith) refl refl (inl c.requires.unready)
+    settled_aborted o.shape c.args.desc c.args.status 0 2 true Abort c.args.status (decided_word IsAborted c.args.status) p p q (validated_none o.shape c.args.desc p c.requires.attempt.exists) m (inr refl) (omega arith) (omega arith) refl refl (inl c.requires.unready)
 
 pub returns-in-Err-clause-settled : goal.returns-in-Err-clause-settled
 returns-in-Err-clause-settled g c =
@@ -101,7 +100,7 @@ returns-in-Err-clause-own g c own =
     let p = c.args.pass.now.view in
     let q = c.abort.new.self.view in
     let step = c.in-Err.ensures.step in
-    let same = own_same M o (λ pass. abort pass c.args.desc c.args.status) p q c.args.desc c.args.status c.in-Err.newer c.requires.exists c.requires.met own step.1 in
+    let same = own_same M o (λ pass. abort pass c.args.desc c.args.status) p q c.args.desc c.args.status c.in-Err.newer c.requires.attempt.exists c.requires.attempt.met own step.1 in
     subst (λ n. KnowsEnd o.shape c.settle_newer.new.pass.view c.args.desc n c.settle_newer.result) same (c.settle_newer.ensures.own same (last_lost o.shape c.args.desc c.args.status c.in-Err.newer Abort p q (abort_lost M o c.args.desc c.args.status c.in-Err.newer p q step.0 step.1) same own))
 
 pub settle_newer-requires-clause-field : goal.settle_newer-requires-clause-field
@@ -109,5 +108,8 @@ settle_newer-requires-clause-field g c =
     let same = c.abort.ensures.same in
     record { table = ap (λ (x : PassState). x.table) same ∙ c.requires.field.table; shape = ap (λ (x : PassState). x.shape) same ∙ c.requires.field.shape }
 
-pub returns-in-Err-clause-same : goal.returns-in-Err-clause-same
-returns-in-Err-clause-same g c = c.settle_newer.ensures.same ∙ ap (λ (x : PassState). record x { view = c.settle_newer.new.pass.view }) c.abort.ensures.same
+pub returns-in-Err-clause-steps : goal.returns-in-Err-clause-steps
+returns-in-Err-clause-steps g c = record {
+  same = c.settle_newer.ensures.steps.same ∙ ap (λ (x : PassState). record x { view = c.settle_newer.new.pass.view }) c.abort.ensures.same;
+  stands = search rules;
+}

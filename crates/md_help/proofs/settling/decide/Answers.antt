@@ -23,7 +23,7 @@ commit-requires-clause-may g c =
     let p = c.args.pass.now.view in
     let q = c.validate.new.pass.view in
     let v = validated_at o.shape c.args.desc c.of.result c.args.status c.validate.result true p q c.of.ensures.parts c.if-validate.true c.validate.ensures.validated in
-    may_commit g.T.Theory.meaning o q c.args.desc c.args.status (may_commit_by o.shape p q c.args.desc c.args.status c.requires.exists c.requires.in_progress c.requires.met v)
+    may_commit g.T.Theory.meaning o q c.args.desc c.args.status (may_commit_by o.shape p q c.args.desc c.args.status c.requires.attempt.exists c.requires.in_progress c.requires.attempt.met v)
 
 pub end_of-requires : goal.end_of-requires
 end_of-requires g c =
@@ -33,17 +33,20 @@ end_of-requires g c =
     let v = c.validate.ensures.validated in
     let step = c.in-Err.ensures.step in
     lost_decided c.args.status c.in-Err.newer
-    (newer_came g.T.Theory.meaning o (λ pass. commit pass c.args.desc c.args.status) q c.commit.new.self.view c.args.desc c.args.status c.in-Err.newer c.requires.exists (met_after o.shape v.steps p q c.args.desc c.args.status v.goes c.requires.met) step.1)
+    (newer_came g.T.Theory.meaning o (λ pass. commit pass c.args.desc c.args.status) q c.commit.new.self.view c.args.desc c.args.status c.in-Err.newer c.requires.attempt.exists (met_after o.shape v.steps p q c.args.desc c.args.status v.goes c.requires.attempt.met) step.1)
     c.requires.in_progress step.0
 
-pub returns-in-Ok-clause-stands : goal.returns-in-Ok-clause-stands
-returns-in-Ok-clause-stands g c =
+pub returns-in-Ok-clause-steps : goal.returns-in-Ok-clause-steps
+returns-in-Ok-clause-steps g c =
     let M = g.T.Theory.meaning in
     let o = c.args.field.now.origin in
     let q = c.validate.new.pass.view in
     let r = c.commit.new.self.view in
     let m = commit_won M o c.args.desc c.args.status q r c.in-Ok.ensures.step in
-    stands_made M o (λ pass. commit pass c.args.desc c.args.status) Commit (address o.shape (desc_status c.args.desc)) c.args.status (decided_word IsCommitted c.args.status) q r c.in-Ok.ensures.step.0 m
+    record {
+      same = c.commit.ensures.same ∙ ap (λ (x : PassState). record x { view = c.commit.new.self.view }) c.validate.ensures.steps.same;
+      stands = stands_made M o (λ pass. commit pass c.args.desc c.args.status) Commit (address o.shape (desc_status c.args.desc)) c.args.status (decided_word IsCommitted c.args.status) q r c.in-Ok.ensures.step.0 m;
+    }
 
 pub returns-in-Ok-clause-settled : goal.returns-in-Ok-clause-settled
 returns-in-Ok-clause-settled g c =
@@ -54,15 +57,18 @@ returns-in-Ok-clause-settled g c =
     let v = validated_at o.shape c.args.desc c.of.result c.args.status c.validate.result true p q c.of.ensures.parts c.if-validate.true c.validate.ensures.validated in
     settled_committed o.shape c.args.desc c.args.status _ 1 true Commit c.args.status (decided_word IsCommitted c.args.status) p q r v (commit_won g.T.Theory.meaning o c.args.desc c.args.status q r c.in-Ok.ensures.step) (inl refl) (le_refl _) (le_refl 1) refl refl
 
-pub returns-in-Err-clause-stands : goal.returns-in-Err-clause-stands
-returns-in-Err-clause-stands g c =
+pub returns-in-Err-clause-steps : goal.returns-in-Err-clause-steps
+returns-in-Err-clause-steps g c =
     let M = g.T.Theory.meaning in
     let o = c.args.field.now.origin in
     let q = c.validate.new.pass.view in
     let r = c.commit.new.self.view in
     let step = c.in-Err.ensures.step in
     let m = commit_lost M o c.args.desc c.args.status c.in-Err.newer q r step.0 step.1 in
-    stands_made M o (λ pass. commit pass c.args.desc c.args.status) Commit (address o.shape (desc_status c.args.desc)) c.in-Err.newer c.in-Err.newer q r step.1.0 m
+    record {
+      same = c.commit.ensures.same ∙ ap (λ (x : PassState). record x { view = c.commit.new.self.view }) c.validate.ensures.steps.same;
+      stands = stands_made M o (λ pass. commit pass c.args.desc c.args.status) Commit (address o.shape (desc_status c.args.desc)) c.in-Err.newer c.in-Err.newer q r step.1.0 m;
+    }
 
 pub returns-in-Err-clause-settled : goal.returns-in-Err-clause-settled
 returns-in-Err-clause-settled g c =
@@ -81,17 +87,17 @@ abort-requires-clause-may g c =
     let q = c.validate.new.pass.view in
     let v = validated_at o.shape c.args.desc c.of.result c.args.status c.validate.result false p q c.of.ensures.parts c.if-validate.false c.validate.ensures.validated in
     may_abort g.T.Theory.meaning o q c.args.desc c.args.status (record {
-      exists = c.requires.exists;
-      reached = reaches c.validate.new.pass o.shape (ap (λ (x : PassState). x.shape) c.validate.ensures.same ∙ c.requires.field.shape) c.args.desc c.requires.exists
-          (reached_after o.shape v.steps c.args.pass.now c.validate.new.pass c.args.desc c.validate.ensures.same v.goes c.requires.reached);
-      undecided = inr (moved_by o.shape p q c.args.desc c.args.status c.requires.in_progress c.requires.met v);
+      exists = c.requires.attempt.exists;
+      reached = reaches c.validate.new.pass o.shape (ap (λ (x : PassState). x.shape) c.validate.ensures.steps.same ∙ c.requires.field.shape) c.args.desc c.requires.attempt.exists
+          (reached_after o.shape v.steps c.args.pass.now c.validate.new.pass c.args.desc c.validate.ensures.steps.same v.goes c.requires.attempt.reached);
+      undecided = inr (moved_by o.shape p q c.args.desc c.args.status c.requires.in_progress c.requires.attempt.met v);
     })
 
 pub abort-requires-clause-reached : goal.abort-requires-clause-reached
 abort-requires-clause-reached g c =
     let o = c.args.field.now.origin in
     let v = c.validate.ensures.validated in
-    reached_after o.shape v.steps c.args.pass.now c.validate.new.pass c.args.desc c.validate.ensures.same v.goes c.requires.reached
+    reached_after o.shape v.steps c.args.pass.now c.validate.new.pass c.args.desc c.validate.ensures.steps.same v.goes c.requires.attempt.reached
 
 pub end_of-requires-in-Err-abort : goal.end_of-requires-in-Err-abort
 end_of-requires-in-Err-abort g c =
@@ -101,17 +107,20 @@ end_of-requires-in-Err-abort g c =
     let v = c.validate.ensures.validated in
     let step = c.in-Err-abort.ensures.step in
     lost_decided c.args.status c.in-Err-abort.newer
-    (newer_came g.T.Theory.meaning o (λ pass. abort pass c.args.desc c.args.status) q c.abort.new.self.view c.args.desc c.args.status c.in-Err-abort.newer c.requires.exists (met_after o.shape v.steps p q c.args.desc c.args.status v.goes c.requires.met) step.1)
+    (newer_came g.T.Theory.meaning o (λ pass. abort pass c.args.desc c.args.status) q c.abort.new.self.view c.args.desc c.args.status c.in-Err-abort.newer c.requires.attempt.exists (met_after o.shape v.steps p q c.args.desc c.args.status v.goes c.requires.attempt.met) step.1)
     c.requires.in_progress step.0
 
-pub returns-in-Ok-abort-clause-stands : goal.returns-in-Ok-abort-clause-stands
-returns-in-Ok-abort-clause-stands g c =
+pub returns-in-Ok-abort-clause-steps : goal.returns-in-Ok-abort-clause-steps
+returns-in-Ok-abort-clause-steps g c =
     let M = g.T.Theory.meaning in
     let o = c.args.field.now.origin in
     let q = c.validate.new.pass.view in
     let r = c.abort.new.self.view in
     let m = abort_won M o c.args.desc c.args.status q r c.in-Ok-abort.ensures.step in
-    stands_made M o (λ pass. abort pass c.args.desc c.args.status) Abort (address o.shape (desc_status c.args.desc)) c.args.status (decided_word IsAborted c.args.status) q r c.in-Ok-abort.ensures.step.0 m
+    record {
+      same = c.abort.ensures.same ∙ ap (λ (x : PassState). record x { view = c.abort.new.self.view }) c.validate.ensures.steps.same;
+      stands = stands_made M o (λ pass. abort pass c.args.desc c.args.status) Abort (address o.shape (desc_status c.args.desc)) c.args.status (decided_word IsAborted c.args.status) q r c.in-Ok-abort.ensures.step.0 m;
+    }
 
 pub returns-in-Ok-abort-clause-settled : goal.returns-in-Ok-abort-clause-settled
 returns-in-Ok-abort-clause-settled g c =
@@ -124,15 +133,18 @@ returns-in-Ok-abort-clause-settled g c =
     settled_aborted o.shape c.args.desc c.args.status _ 1 false Abort c.args.status (decided_word IsAborted c.args.status) p q r v m (inr refl) (le_refl _) (le_refl 1) refl refl
     (inr (moved_read o.shape c.args.desc c.args.status p q v (m.step ∷ []) c.requires.in_progress))
 
-pub returns-in-Err-abort-clause-stands : goal.returns-in-Err-abort-clause-stands
-returns-in-Err-abort-clause-stands g c =
+pub returns-in-Err-abort-clause-steps : goal.returns-in-Err-abort-clause-steps
+returns-in-Err-abort-clause-steps g c =
     let M = g.T.Theory.meaning in
     let o = c.args.field.now.origin in
     let q = c.validate.new.pass.view in
     let r = c.abort.new.self.view in
     let step = c.in-Err-abort.ensures.step in
     let m = abort_lost M o c.args.desc c.args.status c.in-Err-abort.newer q r step.0 step.1 in
-    stands_made M o (λ pass. abort pass c.args.desc c.args.status) Abort (address o.shape (desc_status c.args.desc)) c.in-Err-abort.newer c.in-Err-abort.newer q r step.1.0 m
+    record {
+      same = c.abort.ensures.same ∙ ap (λ (x : PassState). record x { view = c.abort.new.self.view }) c.validate.ensures.steps.same;
+      stands = stands_made M o (λ pass. abort pass c.args.desc c.args.status) Abort (address o.shape (desc_status c.args.desc)) c.in-Err-abort.newer c.in-Err-abort.newer q r step.1.0 m;
+    }
 
 pub returns-in-Err-abort-clause-settled : goal.returns-in-Err-abort-clause-settled
 returns-in-Err-abort-clause-settled g c =
@@ -167,8 +179,8 @@ returns-in-Err-clause-own g c own =
     let after = last_validated o.shape c.args.desc c.args.status _ _ p q v own in
     let step = c.in-Err.ensures.step in
     let newer = c.in-Err.newer in
-    let same = own_same M o (λ pass. commit pass c.args.desc c.args.status) q r c.args.desc c.args.status newer c.requires.exists
-    (met_after o.shape v.steps p q c.args.desc c.args.status v.goes c.requires.met) after step.1 in
+    let same = own_same M o (λ pass. commit pass c.args.desc c.args.status) q r c.args.desc c.args.status newer c.requires.attempt.exists
+    (met_after o.shape v.steps p q c.args.desc c.args.status v.goes c.requires.attempt.met) after step.1 in
     end_lost o.shape c.args.desc c.args.status newer Commit _ q r (commit_lost M o c.args.desc c.args.status newer q r step.0 step.1) same c.end_of.ensures after
 
 pub returns-in-Ok-abort-clause-own : goal.returns-in-Ok-abort-clause-own
@@ -194,8 +206,8 @@ returns-in-Err-abort-clause-own g c own =
     let after = last_validated o.shape c.args.desc c.args.status _ _ p q v own in
     let step = c.in-Err-abort.ensures.step in
     let newer = c.in-Err-abort.newer in
-    let same = own_same M o (λ pass. abort pass c.args.desc c.args.status) q r c.args.desc c.args.status newer c.requires.exists
-    (met_after o.shape v.steps p q c.args.desc c.args.status v.goes c.requires.met) after step.1 in
+    let same = own_same M o (λ pass. abort pass c.args.desc c.args.status) q r c.args.desc c.args.status newer c.requires.attempt.exists
+    (met_after o.shape v.steps p q c.args.desc c.args.status v.goes c.requires.attempt.met) after step.1 in
     end_lost o.shape c.args.desc c.args.status newer Abort _ q r (abort_lost M o c.args.desc c.args.status newer q r step.0 step.1) same c.end_of-in-Err-abort.ensures after
 
 pub validate-requires-clause-reads : goal.validate-requires-clause-reads
@@ -203,22 +215,10 @@ validate-requires-clause-reads g c = subst (λ (w : StatusWord). w.reads ≤ SET
 
 pub commit-requires-clause-field : goal.commit-requires-clause-field
 commit-requires-clause-field g c =
-    let same = c.validate.ensures.same in
-    (record { table = ap (λ (x : PassState). x.table) same ∙ c.requires.field.table; shape = ap (λ (x : PassState). x.shape) same ∙ c.requires.field.shape }, c.requires.exists)
+    let same = c.validate.ensures.steps.same in
+    (record { table = ap (λ (x : PassState). x.table) same ∙ c.requires.field.table; shape = ap (λ (x : PassState). x.shape) same ∙ c.requires.field.shape }, c.requires.attempt.exists)
 
 pub abort-requires-clause-field : goal.abort-requires-clause-field
 abort-requires-clause-field g c =
-    let same = c.validate.ensures.same in
-    (record { table = ap (λ (x : PassState). x.table) same ∙ c.requires.field.table; shape = ap (λ (x : PassState). x.shape) same ∙ c.requires.field.shape }, c.requires.exists)
-
-pub returns-in-Ok-clause-same : goal.returns-in-Ok-clause-same
-returns-in-Ok-clause-same g c = c.commit.ensures.same ∙ ap (λ (x : PassState). record x { view = c.commit.new.self.view }) c.validate.ensures.same
-
-pub returns-in-Err-clause-same : goal.returns-in-Err-clause-same
-returns-in-Err-clause-same g c = c.commit.ensures.same ∙ ap (λ (x : PassState). record x { view = c.commit.new.self.view }) c.validate.ensures.same
-
-pub returns-in-Ok-abort-clause-same : goal.returns-in-Ok-abort-clause-same
-returns-in-Ok-abort-clause-same g c = c.abort.ensures.same ∙ ap (λ (x : PassState). record x { view = c.abort.new.self.view }) c.validate.ensures.same
-
-pub returns-in-Err-abort-clause-same : goal.returns-in-Err-abort-clause-same
-returns-in-Err-abort-clause-same g c = c.abort.ensures.same ∙ ap (λ (x : PassState). record x { view = c.abort.new.self.view }) c.validate.ensures.same
+    let same = c.validate.ensures.steps.same in
+    (record { table = ap (λ (x : PassState). x.table) same ∙ c.requires.field.table; shape = ap (λ (x : PassState). x.shape) same ∙ c.requires.field.shape }, c.requires.attempt.exists)

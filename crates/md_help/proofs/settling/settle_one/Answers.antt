@@ -20,23 +20,26 @@ settle-requires-clause-stands g c =
     let step = c.load-status.ensures.step in
     stands_made M o (λ pass. load pass c.status.result) Load c.status.result c.load-status.result c.load-status.result p q step.0 (made_load M o c.status.result c.load-status.result p q step)
 
-pub settle-requires-clause-reached : goal.settle-requires-clause-reached
-settle-requires-clause-reached g c =
-    let o = c.args.field.now.origin in
-    let p = c.args.pass.now.view in
-    let q = c.load-status.new.self.view in
-    let m = made_load g.T.Theory.meaning o c.status.result c.load-status.result p q c.load-status.ensures.step in
-    reached_after o.shape (m.step ∷ []) c.args.pass.now c.load-status.new.self c.args.desc c.load-status.ensures.same m.goes c.requires.reached
-
-pub settle-requires-clause-met : goal.settle-requires-clause-met
-settle-requires-clause-met g c =
-    let M = g.T.Theory.meaning in
-    let o = c.args.field.now.origin in
-    let p = c.args.pass.now.view in
-    let q = c.load-status.new.self.view in
-    let at = c.status.ensures.place ∙ ap (λ s. address s (desc_status c.args.desc)) c.shape.ensures in
-    let step = subst (λ w. SteppedFrom M o (λ pass. load pass w) w c.load-status.result p q) at c.load-status.ensures.step in
-    met_made o.shape c.args.desc c.load-status.result c.load-status.result Load p q refl (made_load M o _ c.load-status.result p q step)
+pub settle-requires-clause-attempt : goal.settle-requires-clause-attempt
+settle-requires-clause-attempt g c = record {
+  exists = c.requires.exists;
+  reached = (
+      let o = c.args.field.now.origin in
+      let p = c.args.pass.now.view in
+      let q = c.load-status.new.self.view in
+      let m = made_load g.T.Theory.meaning o c.status.result c.load-status.result p q c.load-status.ensures.step in
+      reached_after o.shape (m.step ∷ []) c.args.pass.now c.load-status.new.self c.args.desc c.load-status.ensures.same m.goes c.requires.reached
+      );
+  met = (
+      let M = g.T.Theory.meaning in
+      let o = c.args.field.now.origin in
+      let p = c.args.pass.now.view in
+      let q = c.load-status.new.self.view in
+      let at = c.status.ensures.place ∙ ap (λ s. address s (desc_status c.args.desc)) c.shape.ensures in
+      let step = subst (λ w. SteppedFrom M o (λ pass. load pass w) w c.load-status.result p q) at c.load-status.ensures.step in
+      met_made o.shape c.args.desc c.load-status.result c.load-status.result Load p q refl (made_load M o _ c.load-status.result p q step)
+      );
+}
 
 pub settle-requires-clause-few : goal.settle-requires-clause-few
 settle-requires-clause-few g c =
@@ -89,4 +92,4 @@ settle-requires-clause-field g c =
     record { table = ap (λ (x : PassState). x.table) same ∙ c.requires.field.table; shape = ap (λ (x : PassState). x.shape) same ∙ c.requires.field.shape }
 
 pub returns-clause-same : goal.returns-clause-same
-returns-clause-same g c = c.settle.ensures.same ∙ ap (λ (x : PassState). record x { view = c.settle.new.pass.view }) c.load-status.ensures.same
+returns-clause-same g c = c.settle.ensures.steps.same ∙ ap (λ (x : PassState). record x { view = c.settle.new.pass.view }) c.load-status.ensures.same

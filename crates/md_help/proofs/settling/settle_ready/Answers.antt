@@ -1,4 +1,4 @@
-use Rattle.std.proofs.Common.{refl, sym, ap, ◌∙◌, rules}
+use Rattle.std.proofs.Common.{refl, sym, ap, ◌∙◌}
 use Rattle.md_words.specs.declared.status.StatusWord.{StatusWord}
 use Rattle.md_help.specs.declared.settling.End.TheVariants.{Committed, Aborted}
 use Rattle.md_help.proofs.Ends.{is_aborted, settled_already}
@@ -19,13 +19,13 @@ returns-in_default-clause-settled g c =
 pub returns-in_default-clause-own : goal.returns-in_default-clause-own
 returns-in_default-clause-own g c own =
     let is = ap (λ (w : StatusWord). w.status) c.of.ensures.parts in
-    end_already c.args.field.now.origin.shape c.args.desc c.args.status Aborted c.args.pass.now.view c.requires.met
+    end_already c.args.field.now.origin.shape c.args.desc c.args.status Aborted c.args.pass.now.view c.requires.attempt.met
     (is_aborted _ c.requires.ready (λ e. c.in_default.not-InProg (is ∙ e)) (λ e. c.in_default.not-Committed (is ∙ e))) own
 
 pub returns-in-Committed-clause-own : goal.returns-in-Committed-clause-own
 returns-in-Committed-clause-own g c own =
     let is = ap (λ (w : StatusWord). w.status) c.of.ensures.parts in
-    end_already c.args.field.now.origin.shape c.args.desc c.args.status Committed c.args.pass.now.view c.requires.met
+    end_already c.args.field.now.origin.shape c.args.desc c.args.status Committed c.args.pass.now.view c.requires.attempt.met
     (sym is ∙ c.in-Committed.is) own
 
 pub returns-in-InProg-clause-settled : goal.returns-in-InProg-clause-settled

@@ -42,17 +42,15 @@ use Rattle.md_list.proofs.insertion.insert.Goals as goal
 pub find-requires : goal.find-requires
 find-requires g c = record { walking = begun_walks g.T.Theory.meaning (state c.args.tx.now) c.requires.head.0 c.args.key c.args.head c.requires.begun c.requires.head.1 c.requires.begun.going.0 c.requires.begun.going.1 }
 
-pub note-requires-clause-gave : goal.note-requires-clause-gave
-note-requires-clause-gave g c =
+pub note-requires-clause-may : goal.note-requires-clause-may
+note-requires-clause-may g c =
     let t = state c.find.new.tx in
     let n = here_node g.T.Theory.meaning g.T.Theory.lawful g.met.T.HasLists.has_lists t c.args.head c.args.key c.in_ok-found.found (found_of g.T.Theory.meaning (state c.args.tx.now) (state c.find.new.tx) c.args.head c.args.key c.in_ok-found.found c.in_ok-found.ensures.found c.requires.begun c.requires.head) c.if-found.true in
-    subst (λ x. Gave t x c.in_ok-found.found.next) (sym (c.node_next-next_word.ensures.place ∙ ap (λ x. address x (node_next c.in_ok-found.found.node)) c.shape.ensures)) n.next.gave
-
-pub note-requires-clause-found : goal.note-requires-clause-found
-note-requires-clause-found g c =
-    let t = state c.find.new.tx in
-    let n = here_node g.T.Theory.meaning g.T.Theory.lawful g.met.T.HasLists.has_lists t c.args.head c.args.key c.in_ok-found.found (found_of g.T.Theory.meaning (state c.args.tx.now) (state c.find.new.tx) c.args.head c.args.key c.in_ok-found.found c.in_ok-found.ensures.found c.requires.begun c.requires.head) c.if-found.true in
-    subst (λ x. IsFoundThere g.T.Theory.meaning t x c.in_ok-found.found.next) (sym (c.node_next-next_word.ensures.place ∙ ap (λ x. address x (node_next c.in_ok-found.found.node)) c.shape.ensures)) n.next.there
+    record {
+      operates = c.in_ok-found.ensures.leaves.operates;
+      gave = subst (λ x. Gave t x c.in_ok-found.found.next) (sym (c.node_next-next_word.ensures.place ∙ ap (λ x. address x (node_next c.in_ok-found.found.node)) c.shape.ensures)) n.next.gave;
+      found = subst (λ x. IsFoundThere g.T.Theory.meaning t x c.in_ok-found.found.next) (sym (c.node_next-next_word.ensures.place ∙ ap (λ x. address x (node_next c.in_ok-found.found.node)) c.shape.ensures)) n.next.there;
+    }
 
 pub returns-then-found-clause-answer : goal.returns-then-found-clause-answer
 returns-then-found-clause-answer g c map is cs going =
@@ -527,9 +525,6 @@ returns-clause-no_node g c none is = no_refusal Bool _ _ is
 
 pub note-requires-clause-going : goal.note-requires-clause-going
 note-requires-clause-going g c = (c.requires.begun.going.0, c.in_ok-found.ensures.leaves.on.going c.requires.begun.going.0 c.requires.begun.going.1)
-
-pub note-requires-clause-operates : goal.note-requires-clause-operates
-note-requires-clause-operates g c = c.in_ok-found.ensures.leaves.operates
 
 pub take_node-requires-clause-going : goal.take_node-requires-clause-going
 take_node-requires-clause-going g c = (c.requires.begun.going.0, c.in_ok-found.ensures.leaves.on.going c.requires.begun.going.0 c.requires.begun.going.1)

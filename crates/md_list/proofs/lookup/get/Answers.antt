@@ -38,11 +38,12 @@ use Rattle.md_list.proofs.lookup.get.Goals as goal
 pub find-requires : goal.find-requires
 find-requires g c = record { walking = begun_walks g.T.Theory.meaning (state c.args.tx.now) c.requires.head.0 c.args.key c.args.head c.requires.begun c.requires.head.1 c.requires.begun.going.0 c.requires.begun.going.1 }
 
-pub note-requires-clause-gave : goal.note-requires-clause-gave
-note-requires-clause-gave g c = (found_of g.T.Theory.meaning (state c.args.tx.now) (state c.find.new.tx) c.args.head c.args.key c.in_ok-found.found c.in_ok-found.ensures.found c.requires.begun c.requires.head).place.at.gave
-
-pub note-requires-clause-found : goal.note-requires-clause-found
-note-requires-clause-found g c = (found_of g.T.Theory.meaning (state c.args.tx.now) (state c.find.new.tx) c.args.head c.args.key c.in_ok-found.found c.in_ok-found.ensures.found c.requires.begun c.requires.head).place.at.there
+pub note-requires-clause-may : goal.note-requires-clause-may
+note-requires-clause-may g c = record {
+  operates = c.in_ok-found.ensures.leaves.operates;
+  gave = (found_of g.T.Theory.meaning (state c.args.tx.now) (state c.find.new.tx) c.args.head c.args.key c.in_ok-found.found c.in_ok-found.ensures.found c.requires.begun c.requires.head).place.at.gave;
+  found = (found_of g.T.Theory.meaning (state c.args.tx.now) (state c.find.new.tx) c.args.head c.args.key c.in_ok-found.found c.in_ok-found.ensures.found c.requires.begun c.requires.head).place.at.there;
+}
 
 pub node_value-value_word-requires : goal.node_value-value_word-requires
 node_value-value_word-requires g c = found_exists g.T.Theory.meaning g.T.Theory.lawful g.met.T.HasLists.has_lists (state c.args.tx.now) (state c.find.new.tx) c.args.head c.args.key c.in_ok-found.found c.in_ok-found.ensures.found c.requires.begun
@@ -67,25 +68,20 @@ note-requires-2-clause-going g c =
     let w = (found_of g.T.Theory.meaning (state c.args.tx.now) (state c.find.new.tx) c.args.head c.args.key c.in_ok-found.found c.in_ok-found.ensures.found c.requires.begun c.requires.head).walking in
     (w.certificates, c.field_of-value.ensures.on.going w.certificates w.going)
 
-pub note-requires-2-clause-gave : goal.note-requires-2-clause-gave
-note-requires-2-clause-gave g c =
+pub note-requires-2-clause-may : goal.note-requires-2-clause-may
+note-requires-2-clause-may g c =
     let M = g.T.Theory.meaning in
     let x = state c.field_of-value.new.self in
     let found = c.in_ok-found.found in
     let has = (found_on M g.T.Theory.lawful g.met.T.HasLists.has_lists (state c.find.new.tx) c.args.head c.args.key found (found_of g.T.Theory.meaning (state c.args.tx.now) (state c.find.new.tx) c.args.head c.args.key c.in_ok-found.found c.in_ok-found.ensures.found c.requires.begun c.requires.head) x
     c.field_of-value.ensures.on c.field_of-value.ensures.same c.field_of-value.ensures.given).0 in
     let n = here_node M g.T.Theory.lawful g.met.T.HasLists.has_lists x c.args.head c.args.key found has (is_there found.here c.if-not-found.false) in
-    subst (λ y. Gave x y found.next) (sym (c.node_next-next_word.ensures.place ∙ ap (λ y. address y (node_next found.node)) c.shape-2.ensures)) n.next.gave
-
-pub note-requires-2-clause-found : goal.note-requires-2-clause-found
-note-requires-2-clause-found g c =
-    let M = g.T.Theory.meaning in
-    let x = state c.field_of-value.new.self in
-    let found = c.in_ok-found.found in
-    let has = (found_on M g.T.Theory.lawful g.met.T.HasLists.has_lists (state c.find.new.tx) c.args.head c.args.key found (found_of g.T.Theory.meaning (state c.args.tx.now) (state c.find.new.tx) c.args.head c.args.key c.in_ok-found.found c.in_ok-found.ensures.found c.requires.begun c.requires.head) x
-    c.field_of-value.ensures.on c.field_of-value.ensures.same c.field_of-value.ensures.given).0 in
-    let n = here_node M g.T.Theory.lawful g.met.T.HasLists.has_lists x c.args.head c.args.key found has (is_there found.here c.if-not-found.false) in
-    subst (λ y. IsFoundThere M x y found.next) (sym (c.node_next-next_word.ensures.place ∙ ap (λ y. address y (node_next found.node)) c.shape-2.ensures)) n.next.there
+    let place = sym (c.node_next-next_word.ensures.place ∙ ap (λ y. address y (node_next found.node)) c.shape-2.ensures) in
+    record {
+      operates = ap (λ x. x.hand.operating) c.field_of-value.ensures.same ∙ c.in_ok-found.ensures.leaves.operates;
+      gave = subst (λ y. Gave x y found.next) place n.next.gave;
+      found = subst (λ y. IsFoundThere M x y found.next) place n.next.there;
+    }
 
 pub returns-then-not-found-clause-answer : goal.returns-then-not-found-clause-answer
 returns-then-not-found-clause-answer g c map is cs going =
@@ -356,11 +352,5 @@ returns-clause-no_slot g c none is = no_refusal (Option ℕ) _ _ is
 pub note-requires-clause-going : goal.note-requires-clause-going
 note-requires-clause-going g c = (c.requires.begun.going.0, c.in_ok-found.ensures.leaves.on.going c.requires.begun.going.0 c.requires.begun.going.1)
 
-pub note-requires-clause-operates : goal.note-requires-clause-operates
-note-requires-clause-operates g c = c.in_ok-found.ensures.leaves.operates
-
 pub field_of-value-requires-clause-going : goal.field_of-value-requires-clause-going
 field_of-value-requires-clause-going g c = (c.requires.begun.going.0, c.in_ok-found.ensures.leaves.on.going c.requires.begun.going.0 c.requires.begun.going.1)
-
-pub note-requires-2-clause-operates : goal.note-requires-2-clause-operates
-note-requires-2-clause-operates g c = ap (λ x. x.hand.operating) c.field_of-value.ensures.same ∙ c.in_ok-found.ensures.leaves.operates

@@ -273,11 +273,12 @@ returns-clause-stops g c =
     (exchanged_ok M v u (next_word (shape_in v) found.node) found.next (found.next.value + 1) Critical c.in_ok-mark.field-0 c.in_ok-mark.ensures.exchanged)
     ∙ ap (λ y. y.stop) c.field_of-value.ensures.same ∙ none.1)
 
-pub note-requires-clause-gave : goal.note-requires-clause-gave
-note-requires-clause-gave g c = (found_of g.T.Theory.meaning (state c.args.tx.now) (state c.find.new.tx) c.args.head c.args.key c.in_ok-found.found c.in_ok-found.ensures.found c.requires.begun c.requires.head).place.at.gave
-
-pub note-requires-clause-found : goal.note-requires-clause-found
-note-requires-clause-found g c = (found_of g.T.Theory.meaning (state c.args.tx.now) (state c.find.new.tx) c.args.head c.args.key c.in_ok-found.found c.in_ok-found.ensures.found c.requires.begun c.requires.head).place.at.there
+pub note-requires-clause-may : goal.note-requires-clause-may
+note-requires-clause-may g c = record {
+  operates = c.in_ok-found.ensures.leaves.operates;
+  gave = (found_of g.T.Theory.meaning (state c.args.tx.now) (state c.find.new.tx) c.args.head c.args.key c.in_ok-found.found c.in_ok-found.ensures.found c.requires.begun c.requires.head).place.at.gave;
+  found = (found_of g.T.Theory.meaning (state c.args.tx.now) (state c.find.new.tx) c.args.head c.args.key c.in_ok-found.found c.in_ok-found.ensures.found c.requires.begun c.requires.head).place.at.there;
+}
 
 pub node_value-value_word-requires : goal.node_value-value_word-requires
 node_value-value_word-requires g c = found_exists g.T.Theory.meaning g.T.Theory.lawful g.met.T.HasLists.has_lists (state c.args.tx.now) (state c.find.new.tx) c.args.head c.args.key c.in_ok-found.found c.in_ok-found.ensures.found c.requires.begun
@@ -444,9 +445,6 @@ returns-clause-no_slot g c none is = no_refusal (Option ℕ) _ _ is
 
 pub note-requires-clause-going : goal.note-requires-clause-going
 note-requires-clause-going g c = (c.requires.begun.going.0, c.in_ok-found.ensures.leaves.on.going c.requires.begun.going.0 c.requires.begun.going.1)
-
-pub note-requires-clause-operates : goal.note-requires-clause-operates
-note-requires-clause-operates g c = c.in_ok-found.ensures.leaves.operates
 
 pub field_of-value-requires-clause-going : goal.field_of-value-requires-clause-going
 field_of-value-requires-clause-going g c = (c.requires.begun.going.0, c.in_ok-found.ensures.leaves.on.going c.requires.begun.going.0 c.requires.begun.going.1)

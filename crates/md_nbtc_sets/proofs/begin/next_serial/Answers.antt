@@ -24,22 +24,8 @@ take_left_out-requires-clause-taken g c =
       kept = taken.kept;
     }
 
-pub restart-requires-clause-own : goal.restart-requires-clause-own
-restart-requires-clause-own g c =
-    let o = c.args.field.now.origin in
-    let p = c.args.pass.now.view in
-    let q = c.take_left_out.new.pass.view in
-    let shape = c.requires.of.shape in
-    let e = c.take_left_out.ensures.empty in
-    own_still g.T.Theory.meaning o c.args.desc (subst (λ (h : Shape). c.args.desc < desc_count h) shape c.requires.taken.exists) e.steps p q e.goes
-    (subst (λ (h : Shape). HasDesc h p c.args.desc) shape c.requires.taken.own)
-
-pub restart-requires-clause-lane : goal.restart-requires-clause-lane
-restart-requires-clause-lane g c =
-    subst (λ (l : List ℕ). Contains l c.args.desc) (sym (ap (λ (x : PassView). x.lanes) c.take_left_out.ensures.empty.goes.1)) c.requires.taken.lane
-
-pub restart-requires-clause-empty : goal.restart-requires-clause-empty
-restart-requires-clause-empty g c =
+pub restart-requires-clause-may : goal.restart-requires-clause-may
+restart-requires-clause-may g c =
     let M = g.T.Theory.meaning in
     let o = c.args.field.now.origin in
     let p = c.args.pass.now.view in
@@ -54,8 +40,15 @@ restart-requires-clause-empty g c =
     (λ none. absurd (c.if-tries_taken-eq1.false (c.tries_taken.ensures ∙ is ∙ omega (arith, none))))
     (cases_lt 0 taken.before) in
     let behind = behind_of M o desc (subst (λ (h : Shape). desc < desc_count h) shape taken.exists) p taken.before c.requires.stands
-    (subst (λ (h : Shape). HasDesc h p desc) shape taken.own) kept.serials some in
-    (taken.before, ap (λ (x : PassState). (share_at x.shares desc).tries_taken) c.take_left_out.ensures.same ∙ is, c.take_left_out.ensures.empty.empty taken.before behind)
+    (subst (λ (h : Shape). HasDesc h p desc) shape taken.own) kept.serials some in record {
+      exists = subst (λ (h : Shape). desc < desc_count h) shape taken.exists;
+      lane = subst (λ (l : List ℕ). Contains l c.args.desc) (sym (ap (λ (x : PassView). x.lanes) c.take_left_out.ensures.empty.goes.1)) c.requires.taken.lane;
+      own = own_still M o desc (subst (λ (h : Shape). desc < desc_count h) shape taken.exists) c.take_left_out.ensures.empty.steps p c.take_left_out.new.pass.view c.take_left_out.ensures.empty.goes
+          (subst (λ (h : Shape). HasDesc h p desc) shape taken.own);
+      before = taken.before;
+      taken = ap (λ (x : PassState). (share_at x.shares desc).tries_taken) c.take_left_out.ensures.same ∙ is;
+      empty = c.take_left_out.ensures.empty.empty taken.before behind;
+    }
 
 pub returns-clause-new : goal.returns-clause-new
 returns-clause-new g c =

@@ -1,10 +1,11 @@
-use Rattle.std.proofs.Common.{◌≡◌, ◌<◌, ◌^◌, ℕ, None, ap, length, refl, subst, sym, ◌∙◌}
+use Rattle.std.proofs.Common.{◌≡◌, ◌<◌, ◌^◌, ℕ, None, ap, length, refl, subst, sym, ◌∙◌, rules}
 use Rattle.md_words.specs.declared.status.Status.TheVariants.{InProg}
 use Rattle.md_words.specs.Status.{status_word}
 use Rattle.md_machine.proofs.events.Attempts.{attempt_same}
-use Rattle.md_nbtc_law.specs.State.{TxnState, attempt_in, own_node, state_of}
+use Rattle.md_nbtc_law.specs.State.{TxnState, attempt_in, own_node}
 use Rattle.md_nbtc_law.proofs.decisions.MaySettle.{reads_counted}
 use Rattle.md_nbtc_law.proofs.decisions.Outcome as outcome
+use Rattle.md_nbtc_sets.specs.Deciding.{state_by}
 use Rattle.md_nbtc_sets.proofs.deciding.decided.Goals as goal
 
 -- the code's numbers name the attempt
@@ -16,83 +17,56 @@ by_is : (t : TxnState) → t.serial ≡ (attempt_in t).serial → (by count : �
 by_is t serial by count is reads = is ∙ ap (λ n. status_word InProg n t.serial) reads ∙ ap (status_word InProg (length t.reads)) serial
 
 pub validate-moved-requires-clause-counted : goal.validate-moved-requires-clause-counted
-validate-moved-requires-clause-counted g c = reads_counted g.T.Theory.meaning (state_of c.args.field.now c.args.pass.now c.args.began.now.value c.args.reads.now c.args.slots.now None c.args.desc c.args.serial c.args.tag c.args.lots.now) c.requires
+validate-moved-requires-clause-counted g c = reads_counted g.T.Theory.meaning (state_by c.args.field.now c.args.pass.now c.args.began.now.value c.args.sets.now c.args.attempt c.args.tag) c.requires
 
 pub in_progress-from-requires : goal.in_progress-from-requires
-in_progress-from-requires g c = subst (λ n. n < 2 ^ 54) (sym c.requires.has.numbers.1) (outcome.small g.T.Theory.meaning (state_of c.args.field.now c.args.pass.now c.args.began.now.value c.args.reads.now c.args.slots.now None c.args.desc c.args.serial c.args.tag c.args.lots.now) c.requires)
-
-pub settle-requires-clause-exists : goal.settle-requires-clause-exists
-settle-requires-clause-exists g c =
-    let t = state_of c.args.field.now c.args.pass.now c.args.began.now.value c.args.reads.now c.args.slots.now None c.args.desc c.args.serial c.args.tag c.args.lots.now in
-    let n = c.requires.has.numbers in
-    let x = attempt_is t n.0 n.1 in
-    let b = by_is t n.1 c.in_progress-from.result c.len.result c.in_progress-from.ensures c.len.ensures in
-    let v = c.validate-moved in
-    outcome.exists g.T.Theory.meaning t c.requires _ x c.in_progress-from.result b v.new.pass v.new.pass v.result v.ensures.validates
-
-pub settle-requires-clause-met : goal.settle-requires-clause-met
-settle-requires-clause-met g c =
-    let t = state_of c.args.field.now c.args.pass.now c.args.began.now.value c.args.reads.now c.args.slots.now None c.args.desc c.args.serial c.args.tag c.args.lots.now in
-    let n = c.requires.has.numbers in
-    let x = attempt_is t n.0 n.1 in
-    let b = by_is t n.1 c.in_progress-from.result c.len.result c.in_progress-from.ensures c.len.ensures in
-    let v = c.validate-moved in
-    outcome.met g.T.Theory.meaning t c.requires _ x c.in_progress-from.result b v.new.pass v.new.pass v.result v.ensures.validates
+in_progress-from-requires g c = subst (λ n. n < 2 ^ 54) (sym c.requires.has.numbers.1) (outcome.small g.T.Theory.meaning (state_by c.args.field.now c.args.pass.now c.args.began.now.value c.args.sets.now c.args.attempt c.args.tag) c.requires)
 
 pub settle-requires-clause-in_progress : goal.settle-requires-clause-in_progress
 settle-requires-clause-in_progress g c =
-    let t = state_of c.args.field.now c.args.pass.now c.args.began.now.value c.args.reads.now c.args.slots.now None c.args.desc c.args.serial c.args.tag c.args.lots.now in
+    let t = state_by c.args.field.now c.args.pass.now c.args.began.now.value c.args.sets.now c.args.attempt c.args.tag in
     let n = c.requires.has.numbers in
     let x = attempt_is t n.0 n.1 in
     let b = by_is t n.1 c.in_progress-from.result c.len.result c.in_progress-from.ensures c.len.ensures in
     let v = c.validate-moved in
-    outcome.in_progress g.T.Theory.meaning t c.requires _ x c.in_progress-from.result b v.new.pass v.new.pass v.result v.ensures.validates
+    record {
+      exists = outcome.exists g.T.Theory.meaning t c.requires _ x c.in_progress-from.result b v.new.pass v.new.pass v.result v.ensures.validates;
+      hand = search rules;
+      met = outcome.met g.T.Theory.meaning t c.requires _ x c.in_progress-from.result b v.new.pass v.new.pass v.result v.ensures.validates;
+      ready = (outcome.in_progress g.T.Theory.meaning t c.requires _ x c.in_progress-from.result b v.new.pass v.new.pass v.result v.ensures.validates).0;
+      serial = (outcome.in_progress g.T.Theory.meaning t c.requires _ x c.in_progress-from.result b v.new.pass v.new.pass v.result v.ensures.validates).1;
+    }
 
 pub settle-requires-clause-may : goal.settle-requires-clause-may
 settle-requires-clause-may g c =
-    let t = state_of c.args.field.now c.args.pass.now c.args.began.now.value c.args.reads.now c.args.slots.now None c.args.desc c.args.serial c.args.tag c.args.lots.now in
+    let t = state_by c.args.field.now c.args.pass.now c.args.began.now.value c.args.sets.now c.args.attempt c.args.tag in
     let n = c.requires.has.numbers in
     let x = attempt_is t n.0 n.1 in
     let b = by_is t n.1 c.in_progress-from.result c.len.result c.in_progress-from.ensures c.len.ensures in
     let v = c.validate-moved in
     outcome.may g.T.Theory.meaning t c.requires _ x c.in_progress-from.result b v.new.pass v.new.pass v.result v.ensures.validates
 
-pub finish-requires-clause-fate : goal.finish-requires-clause-fate
-finish-requires-clause-fate g c =
-    let t = state_of c.args.field.now c.args.pass.now c.args.began.now.value c.args.reads.now c.args.slots.now None c.args.desc c.args.serial c.args.tag c.args.lots.now in
-    let n = c.requires.has.numbers in
-    let x = attempt_is t n.0 n.1 in
-    let b = by_is t n.1 c.in_progress-from.result c.len.result c.in_progress-from.ensures c.len.ensures in
-    let v = c.validate-moved in
-    let s = c.settle in
-    outcome.fate g.T.Theory.meaning t c.requires _ x c.in_progress-from.result b v.new.pass s.new.pass v.result v.ensures.validates v.ensures.same s.ensures.same v.ensures.stands s.ensures.stands
-    s.result s.ensures.settles c.in-Ok.is
-
-pub finish-requires-clause-installed : goal.finish-requires-clause-installed
-finish-requires-clause-installed g c =
-    let t = state_of c.args.field.now c.args.pass.now c.args.began.now.value c.args.reads.now c.args.slots.now None c.args.desc c.args.serial c.args.tag c.args.lots.now in
-    let n = c.requires.has.numbers in
-    let x = attempt_is t n.0 n.1 in
-    let b = by_is t n.1 c.in_progress-from.result c.len.result c.in_progress-from.ensures c.len.ensures in
-    let v = c.validate-moved in
-    let s = c.settle in
-    outcome.are_installed g.T.Theory.meaning t c.requires _ x c.in_progress-from.result b v.new.pass s.new.pass v.result v.ensures.validates v.ensures.same s.ensures.same v.ensures.stands s.ensures.stands
-    s.result s.ensures.settles c.in-Ok.is
-
 pub finish-requires-clause-may : goal.finish-requires-clause-may
 finish-requires-clause-may g c =
-    let t = state_of c.args.field.now c.args.pass.now c.args.began.now.value c.args.reads.now c.args.slots.now None c.args.desc c.args.serial c.args.tag c.args.lots.now in
+    let t = state_by c.args.field.now c.args.pass.now c.args.began.now.value c.args.sets.now c.args.attempt c.args.tag in
     let n = c.requires.has.numbers in
     let x = attempt_is t n.0 n.1 in
     let b = by_is t n.1 c.in_progress-from.result c.len.result c.in_progress-from.ensures c.len.ensures in
     let v = c.validate-moved in
     let s = c.settle in
-    outcome.may_tidy g.T.Theory.meaning t c.requires _ x c.in_progress-from.result b v.new.pass s.new.pass v.result v.ensures.validates v.ensures.same s.ensures.same v.ensures.stands s.ensures.stands
-    s.result s.ensures.settles c.in-Ok.is
+    record {
+      fate = outcome.fate g.T.Theory.meaning t c.requires _ x c.in_progress-from.result b v.new.pass s.new.pass v.result v.ensures.validates v.ensures.same s.ensures.same v.ensures.stands s.ensures.stands
+          s.result s.ensures.settles c.in-Ok.is;
+      installed = outcome.are_installed g.T.Theory.meaning t c.requires _ x c.in_progress-from.result b v.new.pass s.new.pass v.result v.ensures.validates v.ensures.same s.ensures.same v.ensures.stands s.ensures.stands
+          s.result s.ensures.settles c.in-Ok.is;
+      may = outcome.may_tidy g.T.Theory.meaning t c.requires _ x c.in_progress-from.result b v.new.pass s.new.pass v.result v.ensures.validates v.ensures.same s.ensures.same v.ensures.stands s.ensures.stands
+          s.result s.ensures.settles c.in-Ok.is;
+      few = search rules;
+    }
 
 pub returns-in-Ok-clause-committed : goal.returns-in-Ok-clause-committed
 returns-in-Ok-clause-committed g c =
-    let t = state_of c.args.field.now c.args.pass.now c.args.began.now.value c.args.reads.now c.args.slots.now None c.args.desc c.args.serial c.args.tag c.args.lots.now in
+    let t = state_by c.args.field.now c.args.pass.now c.args.began.now.value c.args.sets.now c.args.attempt c.args.tag in
     let n = c.requires.has.numbers in
     let x = attempt_is t n.0 n.1 in
     let b = by_is t n.1 c.in_progress-from.result c.len.result c.in_progress-from.ensures c.len.ensures in
@@ -105,7 +79,7 @@ returns-in-Ok-clause-committed g c =
 
 pub withdraw-requires-clause-may : goal.withdraw-requires-clause-may
 withdraw-requires-clause-may g c =
-    let t = state_of c.args.field.now c.args.pass.now c.args.began.now.value c.args.reads.now c.args.slots.now None c.args.desc c.args.serial c.args.tag c.args.lots.now in
+    let t = state_by c.args.field.now c.args.pass.now c.args.began.now.value c.args.sets.now c.args.attempt c.args.tag in
     let n = c.requires.has.numbers in
     let x = attempt_is t n.0 n.1 in
     let b = by_is t n.1 c.in_progress-from.result c.len.result c.in_progress-from.ensures c.len.ensures in
@@ -116,7 +90,7 @@ withdraw-requires-clause-may g c =
 
 pub returns-in-Err-clause-aborted : goal.returns-in-Err-clause-aborted
 returns-in-Err-clause-aborted g c =
-    let t = state_of c.args.field.now c.args.pass.now c.args.began.now.value c.args.reads.now c.args.slots.now None c.args.desc c.args.serial c.args.tag c.args.lots.now in
+    let t = state_by c.args.field.now c.args.pass.now c.args.began.now.value c.args.sets.now c.args.attempt c.args.tag in
     let n = c.requires.has.numbers in
     let x = attempt_is t n.0 n.1 in
     let b = by_is t n.1 c.in_progress-from.result c.len.result c.in_progress-from.ensures c.len.ensures in

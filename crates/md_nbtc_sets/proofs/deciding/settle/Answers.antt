@@ -24,8 +24,8 @@ commit-requires-clause-may g c =
 pub fate_in-requires-clause-decided : goal.fate_in-requires-clause-decided
 fate_in-requires-clause-decided g c =
     let step = c.in-Err.ensures.step in
-    found_decided g.T.Theory.meaning c.args.field.now.origin (λ pass. commit pass c.args.attempt.desc c.args.from) c.args.pass.now.view c.commit.new.self.view c.args.attempt c.requires.exists c.requires.hand
-    c.args.from c.requires.met c.requires.in_progress.0 c.requires.in_progress.1 c.in-Err.found step.1 step.0
+    found_decided g.T.Theory.meaning c.args.field.now.origin (λ pass. commit pass c.args.attempt.desc c.args.from) c.args.pass.now.view c.commit.new.self.view c.args.attempt c.requires.in_progress.exists c.requires.in_progress.hand
+    c.args.from c.requires.in_progress.met c.requires.in_progress.ready c.requires.in_progress.serial c.in-Err.found step.1 step.0
 
 pub abort-requires-clause-may : goal.abort-requires-clause-may
 abort-requires-clause-may g c =
@@ -36,8 +36,8 @@ abort-requires-clause-may g c =
 pub fate_in-requires-in-Err-abort-clause-decided : goal.fate_in-requires-in-Err-abort-clause-decided
 fate_in-requires-in-Err-abort-clause-decided g c =
     let step = c.in-Err-abort.ensures.step in
-    found_decided g.T.Theory.meaning c.args.field.now.origin (λ pass. abort pass c.args.attempt.desc c.args.from) c.args.pass.now.view c.abort.new.self.view c.args.attempt c.requires.exists c.requires.hand
-    c.args.from c.requires.met c.requires.in_progress.0 c.requires.in_progress.1 c.in-Err-abort.found step.1 step.0
+    found_decided g.T.Theory.meaning c.args.field.now.origin (λ pass. abort pass c.args.attempt.desc c.args.from) c.args.pass.now.view c.abort.new.self.view c.args.attempt c.requires.in_progress.exists c.requires.in_progress.hand
+    c.args.from c.requires.in_progress.met c.requires.in_progress.ready c.requires.in_progress.serial c.in-Err-abort.found step.1 step.0
 
 pub returns-in-Ok-clause-stands : goal.returns-in-Ok-clause-stands
 returns-in-Ok-clause-stands g c =
@@ -135,6 +135,6 @@ pub abort-requires-clause-reached : goal.abort-requires-clause-reached
 abort-requires-clause-reached g c =
     let p = c.args.pass.now in
     let s = c.requires.stands in
-    let hand = in_hand_some p.view.hand c.args.attempt c.requires.hand in
+    let hand = in_hand_some p.view.hand c.args.attempt c.requires.in_progress.hand in
     subst (λ (a : AttemptId). IsReached p a.desc) hand.2
     (hand_reached g.T.Theory.meaning c.args.field.now.origin p c.requires.of.shape c.shape.ensures.kept s.machine s.admitted s.pass s.acts hand.0 hand.1)

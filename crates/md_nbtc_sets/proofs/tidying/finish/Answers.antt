@@ -9,7 +9,7 @@ use Rattle.md_nbtc_sets.proofs.tidying.finish.Goals as goal
 pub clean_slots-requires-clause-may : goal.clean_slots-requires-clause-may
 clean_slots-requires-clause-may g c =
     let t = c.take_slots_out.ensures.takes in
-    slots_still g.T.Theory.meaning c.args.field.now.origin t.steps c.args.pass.now.view c.take_slots_out.new.pass.view t.goes c.requires.stands c.take_slots_out.ensures.stands c.args.slots.now c.requires.may
+    slots_still g.T.Theory.meaning c.args.field.now.origin t.steps c.args.pass.now.view c.take_slots_out.new.pass.view t.goes c.requires.stands c.take_slots_out.ensures.stands c.args.slots.now c.requires.may.may
 
 pub clean_slots-requires-clause-outs : goal.clean_slots-requires-clause-outs
 clean_slots-requires-clause-outs g c = let t = c.take_slots_out.ensures.takes in (t.steps, t.took, t.left)
@@ -23,7 +23,7 @@ mark_end-requires-clause-field g c =
     let r = c.clean_slots.new.pass in
     let one = c.take_slots_out.ensures.same in
     let two = c.clean_slots.ensures.same in
-    let f = fate_now M o c.args.pass.now q r r c.args.attempt c.args.slots.now _ c.requires.fate one two t (c.clean_slots.ensures.cleans t.steps t.took t.left) in (
+    let f = fate_now M o c.args.pass.now q r r c.args.attempt c.args.slots.now _ c.requires.may.fate one two t (c.clean_slots.ensures.cleans t.steps t.took t.left) in (
       record {
         table = ap (λ (x : PassState). x.table) two ∙ ap (λ (x : PassState). x.table) one ∙ c.requires.of.table;
         shape = ap (λ (x : PassState). x.shape) two ∙ ap (λ (x : PassState). x.shape) one ∙ c.requires.of.shape;
@@ -38,7 +38,7 @@ mark_end-requires-clause-hand g c =
     let t = c.take_slots_out.ensures.takes in
     let r = c.clean_slots.new.pass in
     holds_desc M o r.view c.args.attempt
-    (fate_now M o c.args.pass.now c.take_slots_out.new.pass r r c.args.attempt c.args.slots.now _ c.requires.fate c.take_slots_out.ensures.same c.clean_slots.ensures.same t
+    (fate_now M o c.args.pass.now c.take_slots_out.new.pass r r c.args.attempt c.args.slots.now _ c.requires.may.fate c.take_slots_out.ensures.same c.clean_slots.ensures.same t
     (c.clean_slots.ensures.cleans t.steps t.took t.left))
 
 pub mark_end-requires-clause-may : goal.mark_end-requires-clause-may
@@ -48,7 +48,7 @@ mark_end-requires-clause-may g c =
     let t = c.take_slots_out.ensures.takes in
     let r = c.clean_slots.new.pass in
     may_end M o r.view c.args.attempt
-    (fate_now M o c.args.pass.now c.take_slots_out.new.pass r r c.args.attempt c.args.slots.now _ c.requires.fate c.take_slots_out.ensures.same c.clean_slots.ensures.same t
+    (fate_now M o c.args.pass.now c.take_slots_out.new.pass r r c.args.attempt c.args.slots.now _ c.requires.may.fate c.take_slots_out.ensures.same c.clean_slots.ensures.same t
     (c.clean_slots.ensures.cleans t.steps t.took t.left))
 
 pub mark_end-requires-clause-clean : goal.mark_end-requires-clause-clean
@@ -59,7 +59,7 @@ mark_end-requires-clause-clean g c h is =
     let q = c.take_slots_out.new.pass in
     let r = c.clean_slots.new.pass in
     let cleans = c.clean_slots.ensures.cleans t.steps t.took t.left in
-    let f = fate_now M o c.args.pass.now q r r c.args.attempt c.args.slots.now _ c.requires.fate c.take_slots_out.ensures.same c.clean_slots.ensures.same t cleans in
+    let f = fate_now M o c.args.pass.now q r r c.args.attempt c.args.slots.now _ c.requires.may.fate c.take_slots_out.ensures.same c.clean_slots.ensures.same t cleans in
     subst (IsClean r.view) (sym (hand_is r.view c.args.attempt f.held h is)) (clean_still o.shape c.args.slots.now t.steps q.view r.view cleans c.args.attempt c.take_slots_out.ensures.clean)
 
 pub returns : goal.returns
@@ -68,5 +68,5 @@ returns g c =
     let o = c.args.field.now.origin in
     let t = c.take_slots_out.ensures.takes in
     let cleans = c.clean_slots.ensures.cleans t.steps t.took t.left in
-    finished M o c.args.pass.now c.take_slots_out.new.pass c.clean_slots.new.pass c.mark_end.new.self c.args.attempt c.args.slots.now _ c.requires.fate c.take_slots_out.ensures.same c.clean_slots.ensures.same t cleans
+    finished M o c.args.pass.now c.take_slots_out.new.pass c.clean_slots.new.pass c.mark_end.new.self c.args.attempt c.args.slots.now _ c.requires.may.fate c.take_slots_out.ensures.same c.clean_slots.ensures.same t cleans
     c.shape.ensures.shares c.clean_slots.ensures.stands c.mark_end.ensures.same c.mark_end.ensures.step

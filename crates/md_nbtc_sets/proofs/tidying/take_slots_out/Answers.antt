@@ -22,13 +22,13 @@ pub push-requires : goal.push-requires
 push-requires g c =
     let test = c.loop-i-test.true in
     let len = c.len-i-end.ensures in
-    let few = c.requires.few in
+    let few = c.requires.may.few in
     let many = c.loop-i.invariant.many in omega (arith, test, len, few, many)
 
 pub take_write_out-requires-clause-fate : goal.take_write_out-requires-clause-fate
 take_write_out-requires-clause-fate g c =
     let t = c.loop-i.invariant.so_far.takes in
-    fate_still c.args.field.now.origin.shape c.args.attempt t.steps c.args.pass.now.view c.loop-i.pass.view t.goes Committed c.requires.fate
+    fate_still c.args.field.now.origin.shape c.args.attempt t.steps c.args.pass.now.view c.loop-i.pass.view t.goes Committed c.requires.may.fate
 
 pub take_write_out-requires-clause-installed : goal.take_write_out-requires-clause-installed
 take_write_out-requires-clause-installed g c =
@@ -36,7 +36,7 @@ take_write_out-requires-clause-installed g c =
     let test = c.loop-i-test.true in
     let len = c.len-i-end.ensures in
     subst (λ (s : Slot). IsInstalled o.shape c.loop-i.pass.view c.args.attempt s.write) (sym c.get.ensures)
-    (slot_in g.T.Theory.meaning o c.args.attempt c.args.slots.now c.loop-i.lefts c.loop-i.i (omega (arith, test, len)) c.args.pass.now.view c.loop-i.pass.view c.loop-i.invariant.so_far c.requires.installed)
+    (slot_in g.T.Theory.meaning o c.args.attempt c.args.slots.now c.loop-i.lefts c.loop-i.i (omega (arith, test, len)) c.args.pass.now.view c.loop-i.pass.view c.loop-i.invariant.so_far c.requires.may.installed)
 
 pub loop-i-preserved : goal.loop-i-preserved
 loop-i-preserved g c =
@@ -53,7 +53,7 @@ loop-i-preserved g c =
       many = ap length c.push.ensures ∙ length-append c.loop-i.lefts (c.take_write_out.result ∷ []) ∙ ap (λ n. n + 1) was.many;
       so_far = subst (λ ls. TakesTo o.shape c.args.attempt (take (c.loop-i.i + 1) c.args.slots.now) ls c.args.pass.now.view r) (sym c.push.ensures)
           (slots_more M o c.args.attempt c.args.slots.now c.loop-i.lefts c.loop-i.i (omega (arith, test, len)) c.args.pass.now.view c.loop-i.pass.view was.so_far
-          c.requires.stands was.stands c.requires.may c.take_write_out.result r
+          c.requires.stands was.stands c.requires.may.may c.take_write_out.result r
           (subst (λ (s : Slot). TakesWriteOut M o c.args.attempt Committed s.write c.take_write_out.result c.loop-i.pass.view r) c.get.ensures c.take_write_out.ensures.out));
     }
 
@@ -69,5 +69,5 @@ returns-clause-clean g c =
     let test = c.loop-i-test.false in
     let len = c.len-i-end.ensures in
     let most = c.loop-i.auto.i-end in
-    taken_clean c.args.field.now.origin.shape c.args.attempt c.args.slots.now _ c.args.pass.now.view c.loop-i.pass.view c.requires.installed
+    taken_clean c.args.field.now.origin.shape c.args.attempt c.args.slots.now _ c.args.pass.now.view c.loop-i.pass.view c.requires.may.installed
     (slots_all c.args.field.now.origin.shape c.args.attempt c.args.slots.now c.loop-i.lefts c.loop-i.i c.args.pass.now.view c.loop-i.pass.view (omega (arith, test, len, most)) c.loop-i.invariant.so_far)

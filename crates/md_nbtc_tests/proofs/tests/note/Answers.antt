@@ -19,7 +19,7 @@ note-requires c =
     let same = ap (λ f. f.origin.shape) c.load.ensures.on.later.field in
     let looks = seen_by t u word seen apart same t.stop c.in_ok-seen.ensures.looked in
     let still = over_look c.args.field.now (state c.args.txn.now) (state c.load.new.self) c.load.ensures.on c.map_head-word.result c.load.result c.load.ensures.looked c.requires in
-    record { going = still.going; operates = still.operating; gave = looks.gave; found = found_there t u word seen apart same looks }
+    record { going = still.going; may = record { operates = still.operating; gave = looks.gave; found = found_there t u word seen apart same looks } }
 
 pub returns-in_err-note-clause-open : goal.returns-in_err-note-clause-open
 returns-in_err-note-clause-open c =

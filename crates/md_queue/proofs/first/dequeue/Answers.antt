@@ -26,7 +26,7 @@ follow_tail-requires-clause-sees g c =
 pub take_first-requires-clause-sees : goal.take_first-requires-clause-sees
 take_first-requires-clause-sees g c =
     let under = c.requires.begun.going in
-    (under.0, c.in_ok-follow_tail.ensures.sees under.0 (c.in_ok-first.ensures.sees under.0 under.1))
+    (under.0, c.in_ok-follow_tail.ensures.follows.sees under.0 (c.in_ok-first.ensures.sees under.0 under.1))
 
 pub returns-then-first-eq0-clause-answer : goal.returns-then-first-eq0-clause-answer
 returns-then-first-eq0-clause-answer g c =
@@ -60,7 +60,7 @@ returns-in_err-value-clause-stop g c =
     let v = state c.take_first.new.tx in
     let stop = c.in_err-value.field-0.0 in
     let refused : RefusedOtherwise M s v 2 2 stop = refused_then M s u v 0 1 1 1 2 2 stop
-    (goes_then M s t u 0 0 0 0 1 0 0 1 0 c.in_ok-first.ensures.goes (λ _. c.in_ok-follow_tail.ensures.goes) (omega arith) (omega arith) (omega arith)) (λ _. c.in_err-value.ensures.stop) (omega arith) (omega arith) in
+    (goes_then M s t u 0 0 0 0 1 0 0 1 0 c.in_ok-first.ensures.goes (λ _. c.in_ok-follow_tail.ensures.follows.goes) (omega arith) (omega arith) (omega arith)) (λ _. c.in_err-value.ensures.stop) (omega arith) (omega arith) in
     if_err c.from_residual-in_err-value.result stop _ c.from_residual-in_err-value.ensures.1 refused
 
 pub returns-clause-answer : goal.returns-clause-answer
@@ -70,11 +70,11 @@ returns-clause-answer g c =
     let t = state c.load_first.new.tx in
     let u = state c.follow_tail.new.tx in
     let v = state c.take_first.new.tx in
-    let followed = goes_then M s t u 0 0 0 0 1 0 0 1 0 c.in_ok-first.ensures.goes (λ _. c.in_ok-follow_tail.ensures.goes) (omega arith) (omega arith) (omega arith) in
+    let followed = goes_then M s t u 0 0 0 0 1 0 0 1 0 c.in_ok-first.ensures.goes (λ _. c.in_ok-follow_tail.ensures.follows.goes) (omega arith) (omega arith) (omega arith) in
     record {
-      goes = goes_then M s u v 0 1 0 1 1 0 1 2 0 followed (λ _. c.in_ok-value.ensures.goes) (omega arith) (omega arith) (omega arith);
+      goes = goes_then M s u v 0 1 0 1 1 0 1 2 0 followed (λ _. c.in_ok-value.ensures.takes.goes) (omega arith) (omega arith) (omega arith);
       by = λ cs going.
-          let taken = c.in_ok-value.ensures.answer cs (c.in_ok-follow_tail.ensures.sees cs (c.in_ok-first.ensures.sees cs going)) in
+          let taken = c.in_ok-value.ensures.takes.answer cs (c.in_ok-follow_tail.ensures.follows.sees cs (c.in_ok-first.ensures.sees cs going)) in
           record {
             certificate = taken.certificate;
             of = taken.of;
@@ -139,10 +139,10 @@ returns-in_err-value-clause-reads g c =
     let t = state c.load_first.new.tx in
     let u = state c.follow_tail.new.tx in
     let v = state c.take_first.new.tx in
-    let goes = goes_then M s t u 0 0 0 0 1 0 0 1 0 c.in_ok-first.ensures.goes (λ _. c.in_ok-follow_tail.ensures.goes) (omega arith) (omega arith) (omega arith) in
+    let goes = goes_then M s t u 0 0 0 0 1 0 0 1 0 c.in_ok-first.ensures.goes (λ _. c.in_ok-follow_tail.ensures.follows.goes) (omega arith) (omega arith) (omega arith) in
     let stop = c.in_err-value.field-0.0 in
     if_err c.from_residual-in_err-value.result stop _ c.from_residual-in_err-value.ensures.1 (λ limit began cs going. read_from M s u v 1 0 cs (AsksFront c.args.queue) goes
-    (c.in_err-value.ensures.reads limit (began_on M s u 0 1 0 goes began) cs (c.in_ok-follow_tail.ensures.sees cs (c.in_ok-first.ensures.sees cs going))))
+    (c.in_err-value.ensures.reads limit (began_on M s u 0 1 0 goes began) cs (c.in_ok-follow_tail.ensures.follows.sees cs (c.in_ok-first.ensures.sees cs going))))
 
 pub returns-in_err-value-clause-writes : goal.returns-in_err-value-clause-writes
 returns-in_err-value-clause-writes g c =
@@ -151,10 +151,10 @@ returns-in_err-value-clause-writes g c =
     let t = state c.load_first.new.tx in
     let u = state c.follow_tail.new.tx in
     let v = state c.take_first.new.tx in
-    let goes = goes_then M s t u 0 0 0 0 1 0 0 1 0 c.in_ok-first.ensures.goes (λ _. c.in_ok-follow_tail.ensures.goes) (omega arith) (omega arith) (omega arith) in
+    let goes = goes_then M s t u 0 0 0 0 1 0 0 1 0 c.in_ok-first.ensures.goes (λ _. c.in_ok-follow_tail.ensures.follows.goes) (omega arith) (omega arith) (omega arith) in
     let stop = c.in_err-value.field-0.0 in
     if_err c.from_residual-in_err-value.result stop _ c.from_residual-in_err-value.ensures.1 (λ limit began cs going. inr (change_from M s u v 1 0 cs (Dequeue c.args.queue) goes
-    (c.in_err-value.ensures.writes limit (began_on M s u 0 1 0 goes began) cs (c.in_ok-follow_tail.ensures.sees cs (c.in_ok-first.ensures.sees cs going)))))
+    (c.in_err-value.ensures.writes limit (began_on M s u 0 1 0 goes began) cs (c.in_ok-follow_tail.ensures.follows.sees cs (c.in_ok-first.ensures.sees cs going)))))
 
 pub returns-in_err-note_first-clause-writes : goal.returns-in_err-note_first-clause-writes
 returns-in_err-note_first-clause-writes g c =
@@ -248,7 +248,7 @@ pub take_first-requires-clause-some : goal.take_first-requires-clause-some
 take_first-requires-clause-some g c = c.if-first-eq0.false
 
 pub take_first-requires-clause-apart : goal.take_first-requires-clause-apart
-take_first-requires-clause-apart g c = c.in_ok-follow_tail.ensures.apart
+take_first-requires-clause-apart g c = c.in_ok-follow_tail.ensures.follows.apart
 
 pub returns-in_err-value-clause-answer : goal.returns-in_err-value-clause-answer
 returns-in_err-value-clause-answer g c = IfOk-from_err c.from_residual-in_err-value.result _ c.from_residual-in_err-value.ensures.0
@@ -257,7 +257,7 @@ pub returns-in_err-value-clause-tail : goal.returns-in_err-value-clause-tail
 returns-in_err-value-clause-tail g c = IfOk-from_err c.from_residual-in_err-value.result _ c.from_residual-in_err-value.ensures.0
 
 pub returns-clause-tail : goal.returns-clause-tail
-returns-clause-tail g c = c.in_ok-value.ensures.tail
+returns-clause-tail g c = c.in_ok-value.ensures.takes.tail
 
 pub returns-clause-stop : goal.returns-clause-stop
 returns-clause-stop g c = tt

@@ -74,97 +74,99 @@ returns-in_err-move_tail-clause-stop g c =
     c.in_err-move_tail.ensures.exchanged) (omega arith) (omega arith) in
     if_err c.from_residual-in_err-move_tail.result stop _ c.from_residual-in_err-move_tail.ensures.1 refused
 
-pub returns-in_ok-move_tail-clause-goes : goal.returns-in_ok-move_tail-clause-goes
-returns-in_ok-move_tail-clause-goes g c =
-    let M = g.T.Theory.meaning in
-    let t = state c.args.tx.now in
-    let u = state c.load.new.self in
-    let v = state c.move_tail.new.tx in
-    let s = c.requires.sees.1 in
-    let on = c.in_ok-tail.ensures.on in
-    let tail = c.in_ok-tail.tail in
-    let next = c.args.first.next in
-    let over = c.in_ok-move_tail.ensures.on in
-    let under : IsUnderWay M u = (c.requires.sees.0, on.going c.requires.sees.0 s.working.going) in
-    let seen = c.in_ok-move_tail.field-0 in
-    goes_then M t u v 0 0 0 0 1 0 0 1 0 (look_goes M t u on c.queue_tail-tail_word.result tail c.in_ok-tail.ensures.looked s.working.operates)
-    (exchange_goes M u v over (tail_at u c.args.queue) tail next.value (move_kind next) seen
-    (exchange_ok M u v over (tail_at u c.args.queue) tail next.value (move_kind next) seen c.in_ok-move_tail.ensures.exchanged))
-    (omega arith) (omega arith) (omega arith)
+pub returns-in_ok-move_tail-clause-follows : goal.returns-in_ok-move_tail-clause-follows
+returns-in_ok-move_tail-clause-follows g c = record {
+  goes = (
+      let M = g.T.Theory.meaning in
+      let t = state c.args.tx.now in
+      let u = state c.load.new.self in
+      let v = state c.move_tail.new.tx in
+      let s = c.requires.sees.1 in
+      let on = c.in_ok-tail.ensures.on in
+      let tail = c.in_ok-tail.tail in
+      let next = c.args.first.next in
+      let over = c.in_ok-move_tail.ensures.on in
+      let under : IsUnderWay M u = (c.requires.sees.0, on.going c.requires.sees.0 s.working.going) in
+      let seen = c.in_ok-move_tail.field-0 in
+      goes_then M t u v 0 0 0 0 1 0 0 1 0 (look_goes M t u on c.queue_tail-tail_word.result tail c.in_ok-tail.ensures.looked s.working.operates)
+      (exchange_goes M u v over (tail_at u c.args.queue) tail next.value (move_kind next) seen
+      (exchange_ok M u v over (tail_at u c.args.queue) tail next.value (move_kind next) seen c.in_ok-move_tail.ensures.exchanged))
+      (omega arith) (omega arith) (omega arith)
+      );
+  sees = (
+      λ cs s. let M = g.T.Theory.meaning in
+      let t = state c.args.tx.now in
+      let u = state c.load.new.self in
+      let v = state c.move_tail.new.tx in
+      let first = c.args.first in
+      let on = c.in_ok-tail.ensures.on in
+      let tail = c.in_ok-tail.tail in
+      let place = c.queue_tail-tail_word.ensures.place ∙ ap (λ x. address x (queue_tail c.args.queue)) c.shape.ensures in
+      let is = look_ok M t u on c.queue_tail-tail_word.result tail c.in_ok-tail.ensures.looked in
+      let stays = first_stays M g.T.Theory.lawful g.met.T.HasQueues.has_queues t c.args.queue cs first.head first.next s u on is.0 c.queue_tail-tail_word.result place c.in_ok-tail.ensures.given in
+      let sees = tail_seen M g.T.Theory.lawful g.met.T.HasQueues.has_queues t c.args.queue cs first.head first.next s u on is.0 c.queue_tail-tail_word.result place c.in_ok-tail.ensures.given tail is.1 in
+      let over = c.in_ok-move_tail.ensures.on in
+      let seen = c.in_ok-move_tail.field-0 in
+      first_moved M g.T.Theory.lawful g.met.T.HasQueues.has_queues u c.args.queue cs first.head first.next stays c.requires.some tail sees c.if-tail-first.true v over c.in_ok-move_tail.ensures.given (omega arith)
+      seen c.in_ok-move_tail.ensures.gave
+      (exchange_ok M u v over (tail_at u c.args.queue) tail first.next.value (move_kind first.next) seen c.in_ok-move_tail.ensures.exchanged)
+      );
+  apart = (
+      let M = g.T.Theory.meaning in
+      let t = state c.args.tx.now in
+      let u = state c.load.new.self in
+      let v = state c.move_tail.new.tx in
+      let s = c.requires.sees.1 in
+      let first = c.args.first in
+      let on = c.in_ok-tail.ensures.on in
+      let tail = c.in_ok-tail.tail in
+      let place = c.queue_tail-tail_word.ensures.place ∙ ap (λ x. address x (queue_tail c.args.queue)) c.shape.ensures in
+      let is = look_ok M t u on c.queue_tail-tail_word.result tail c.in_ok-tail.ensures.looked in
+      let stays = first_stays M g.T.Theory.lawful g.met.T.HasQueues.has_queues t c.args.queue c.requires.sees.0 first.head first.next s u on is.0 c.queue_tail-tail_word.result place c.in_ok-tail.ensures.given in
+      let sees = tail_seen M g.T.Theory.lawful g.met.T.HasQueues.has_queues t c.args.queue c.requires.sees.0 first.head first.next s u on is.0 c.queue_tail-tail_word.result place c.in_ok-tail.ensures.given tail is.1 in
+      let over = c.in_ok-move_tail.ensures.on in
+      let seen = c.in_ok-move_tail.field-0 in
+      moved_apart M g.T.Theory.lawful g.met.T.HasQueues.has_queues u c.args.queue c.requires.sees.0 first.head first.next stays c.requires.some tail sees c.if-tail-first.true v over (omega arith)
+      seen c.in_ok-move_tail.ensures.gave
+      (exchange_ok M u v over (tail_at u c.args.queue) tail first.next.value (move_kind first.next) seen c.in_ok-move_tail.ensures.exchanged)
+      );
+}
 
-pub returns-in_ok-move_tail-clause-sees : goal.returns-in_ok-move_tail-clause-sees
-returns-in_ok-move_tail-clause-sees g c cs s =
-    let M = g.T.Theory.meaning in
-    let t = state c.args.tx.now in
-    let u = state c.load.new.self in
-    let v = state c.move_tail.new.tx in
-    let first = c.args.first in
-    let on = c.in_ok-tail.ensures.on in
-    let tail = c.in_ok-tail.tail in
-    let place = c.queue_tail-tail_word.ensures.place ∙ ap (λ x. address x (queue_tail c.args.queue)) c.shape.ensures in
-    let is = look_ok M t u on c.queue_tail-tail_word.result tail c.in_ok-tail.ensures.looked in
-    let stays = first_stays M g.T.Theory.lawful g.met.T.HasQueues.has_queues t c.args.queue cs first.head first.next s u on is.0 c.queue_tail-tail_word.result place c.in_ok-tail.ensures.given in
-    let sees = tail_seen M g.T.Theory.lawful g.met.T.HasQueues.has_queues t c.args.queue cs first.head first.next s u on is.0 c.queue_tail-tail_word.result place c.in_ok-tail.ensures.given tail is.1 in
-    let over = c.in_ok-move_tail.ensures.on in
-    let seen = c.in_ok-move_tail.field-0 in
-    first_moved M g.T.Theory.lawful g.met.T.HasQueues.has_queues u c.args.queue cs first.head first.next stays c.requires.some tail sees c.if-tail-first.true v over c.in_ok-move_tail.ensures.given (omega arith)
-    seen c.in_ok-move_tail.ensures.gave
-    (exchange_ok M u v over (tail_at u c.args.queue) tail first.next.value (move_kind first.next) seen c.in_ok-move_tail.ensures.exchanged)
-
-pub returns-else-tail-first-clause-goes : goal.returns-else-tail-first-clause-goes
-returns-else-tail-first-clause-goes g c =
-    let M = g.T.Theory.meaning in
-    let t = state c.args.tx.now in
-    let u = state c.load.new.self in
-    let s = c.requires.sees.1 in
-    goes_up M t u 0 0 0 0 1 0 (look_goes M t u c.in_ok-tail.ensures.on c.queue_tail-tail_word.result c.in_ok-tail.tail c.in_ok-tail.ensures.looked s.working.operates)
-    (omega arith) (omega arith) (omega arith)
-
-pub returns-else-tail-first-clause-sees : goal.returns-else-tail-first-clause-sees
-returns-else-tail-first-clause-sees g c cs s =
-    let M = g.T.Theory.meaning in
-    let t = state c.args.tx.now in
-    let u = state c.load.new.self in
-    let first = c.args.first in
-    let on = c.in_ok-tail.ensures.on in
-    let tail = c.in_ok-tail.tail in
-    let place = c.queue_tail-tail_word.ensures.place ∙ ap (λ x. address x (queue_tail c.args.queue)) c.shape.ensures in
-    let is = look_ok M t u on c.queue_tail-tail_word.result tail c.in_ok-tail.ensures.looked in
-    first_stays M g.T.Theory.lawful g.met.T.HasQueues.has_queues t c.args.queue cs first.head first.next s u on is.0 c.queue_tail-tail_word.result place c.in_ok-tail.ensures.given
-
-pub returns-in_ok-move_tail-clause-apart : goal.returns-in_ok-move_tail-clause-apart
-returns-in_ok-move_tail-clause-apart g c =
-    let M = g.T.Theory.meaning in
-    let t = state c.args.tx.now in
-    let u = state c.load.new.self in
-    let v = state c.move_tail.new.tx in
-    let s = c.requires.sees.1 in
-    let first = c.args.first in
-    let on = c.in_ok-tail.ensures.on in
-    let tail = c.in_ok-tail.tail in
-    let place = c.queue_tail-tail_word.ensures.place ∙ ap (λ x. address x (queue_tail c.args.queue)) c.shape.ensures in
-    let is = look_ok M t u on c.queue_tail-tail_word.result tail c.in_ok-tail.ensures.looked in
-    let stays = first_stays M g.T.Theory.lawful g.met.T.HasQueues.has_queues t c.args.queue c.requires.sees.0 first.head first.next s u on is.0 c.queue_tail-tail_word.result place c.in_ok-tail.ensures.given in
-    let sees = tail_seen M g.T.Theory.lawful g.met.T.HasQueues.has_queues t c.args.queue c.requires.sees.0 first.head first.next s u on is.0 c.queue_tail-tail_word.result place c.in_ok-tail.ensures.given tail is.1 in
-    let over = c.in_ok-move_tail.ensures.on in
-    let seen = c.in_ok-move_tail.field-0 in
-    moved_apart M g.T.Theory.lawful g.met.T.HasQueues.has_queues u c.args.queue c.requires.sees.0 first.head first.next stays c.requires.some tail sees c.if-tail-first.true v over (omega arith)
-    seen c.in_ok-move_tail.ensures.gave
-    (exchange_ok M u v over (tail_at u c.args.queue) tail first.next.value (move_kind first.next) seen c.in_ok-move_tail.ensures.exchanged)
-
-pub returns-else-tail-first-clause-apart : goal.returns-else-tail-first-clause-apart
-returns-else-tail-first-clause-apart g c =
-    let M = g.T.Theory.meaning in
-    let t = state c.args.tx.now in
-    let u = state c.load.new.self in
-    let s = c.requires.sees.1 in
-    let first = c.args.first in
-    let on = c.in_ok-tail.ensures.on in
-    let tail = c.in_ok-tail.tail in
-    let place = c.queue_tail-tail_word.ensures.place ∙ ap (λ x. address x (queue_tail c.args.queue)) c.shape.ensures in
-    let is = look_ok M t u on c.queue_tail-tail_word.result tail c.in_ok-tail.ensures.looked in
-    let sees = tail_seen M g.T.Theory.lawful g.met.T.HasQueues.has_queues t c.args.queue c.requires.sees.0 first.head first.next s u on is.0 c.queue_tail-tail_word.result place c.in_ok-tail.ensures.given tail is.1 in
-    (tail, sees.gave, c.if-tail-first.false)
+pub returns-else-tail-first-clause-follows : goal.returns-else-tail-first-clause-follows
+returns-else-tail-first-clause-follows g c = record {
+  goes = (
+      let M = g.T.Theory.meaning in
+      let t = state c.args.tx.now in
+      let u = state c.load.new.self in
+      let s = c.requires.sees.1 in
+      goes_up M t u 0 0 0 0 1 0 (look_goes M t u c.in_ok-tail.ensures.on c.queue_tail-tail_word.result c.in_ok-tail.tail c.in_ok-tail.ensures.looked s.working.operates)
+      (omega arith) (omega arith) (omega arith)
+      );
+  sees = (
+      λ cs s. let M = g.T.Theory.meaning in
+      let t = state c.args.tx.now in
+      let u = state c.load.new.self in
+      let first = c.args.first in
+      let on = c.in_ok-tail.ensures.on in
+      let tail = c.in_ok-tail.tail in
+      let place = c.queue_tail-tail_word.ensures.place ∙ ap (λ x. address x (queue_tail c.args.queue)) c.shape.ensures in
+      let is = look_ok M t u on c.queue_tail-tail_word.result tail c.in_ok-tail.ensures.looked in
+      first_stays M g.T.Theory.lawful g.met.T.HasQueues.has_queues t c.args.queue cs first.head first.next s u on is.0 c.queue_tail-tail_word.result place c.in_ok-tail.ensures.given
+      );
+  apart = (
+      let M = g.T.Theory.meaning in
+      let t = state c.args.tx.now in
+      let u = state c.load.new.self in
+      let s = c.requires.sees.1 in
+      let first = c.args.first in
+      let on = c.in_ok-tail.ensures.on in
+      let tail = c.in_ok-tail.tail in
+      let place = c.queue_tail-tail_word.ensures.place ∙ ap (λ x. address x (queue_tail c.args.queue)) c.shape.ensures in
+      let is = look_ok M t u on c.queue_tail-tail_word.result tail c.in_ok-tail.ensures.looked in
+      let sees = tail_seen M g.T.Theory.lawful g.met.T.HasQueues.has_queues t c.args.queue c.requires.sees.0 first.head first.next s u on is.0 c.queue_tail-tail_word.result place c.in_ok-tail.ensures.given tail is.1 in
+      (tail, sees.gave, c.if-tail-first.false)
+      );
+}
 
 pub returns-in_err-move_tail-clause-writes : goal.returns-in_err-move_tail-clause-writes
 returns-in_err-move_tail-clause-writes g c =
@@ -208,14 +210,8 @@ load-requires-clause-going g c = (c.requires.sees.0, c.requires.sees.1.working.g
 pub returns-in_err-tail-clause-pass : goal.returns-in_err-tail-clause-pass
 returns-in_err-tail-clause-pass g c = c.in_err-tail.ensures.pass
 
-pub returns-in_err-tail-clause-goes : goal.returns-in_err-tail-clause-goes
-returns-in_err-tail-clause-goes g c = IfOk-from_err c.from_residual.result _ c.from_residual.ensures.0
-
-pub returns-in_err-tail-clause-sees : goal.returns-in_err-tail-clause-sees
-returns-in_err-tail-clause-sees g c = IfOk-from_err c.from_residual.result _ c.from_residual.ensures.0
-
-pub returns-in_err-tail-clause-apart : goal.returns-in_err-tail-clause-apart
-returns-in_err-tail-clause-apart g c = IfOk-from_err c.from_residual.result _ c.from_residual.ensures.0
+pub returns-in_err-tail-clause-follows : goal.returns-in_err-tail-clause-follows
+returns-in_err-tail-clause-follows g c = IfOk-from_err c.from_residual.result _ c.from_residual.ensures.0
 
 pub returns-in_err-tail-clause-no_reads : goal.returns-in_err-tail-clause-no_reads
 returns-in_err-tail-clause-no_reads g c = if_err c.from_residual.result c.in_err-tail.field-0.0 _ c.from_residual.ensures.1
@@ -224,14 +220,8 @@ returns-in_err-tail-clause-no_reads g c = if_err c.from_residual.result c.in_err
 pub returns-in_err-move_tail-clause-pass : goal.returns-in_err-move_tail-clause-pass
 returns-in_err-move_tail-clause-pass g c = c.in_err-move_tail.ensures.pass ∙ c.in_ok-tail.ensures.pass
 
-pub returns-in_err-move_tail-clause-goes : goal.returns-in_err-move_tail-clause-goes
-returns-in_err-move_tail-clause-goes g c = IfOk-from_err c.from_residual-in_err-move_tail.result _ c.from_residual-in_err-move_tail.ensures.0
-
-pub returns-in_err-move_tail-clause-sees : goal.returns-in_err-move_tail-clause-sees
-returns-in_err-move_tail-clause-sees g c = IfOk-from_err c.from_residual-in_err-move_tail.result _ c.from_residual-in_err-move_tail.ensures.0
-
-pub returns-in_err-move_tail-clause-apart : goal.returns-in_err-move_tail-clause-apart
-returns-in_err-move_tail-clause-apart g c = IfOk-from_err c.from_residual-in_err-move_tail.result _ c.from_residual-in_err-move_tail.ensures.0
+pub returns-in_err-move_tail-clause-follows : goal.returns-in_err-move_tail-clause-follows
+returns-in_err-move_tail-clause-follows g c = IfOk-from_err c.from_residual-in_err-move_tail.result _ c.from_residual-in_err-move_tail.ensures.0
 
 pub returns-in_err-move_tail-clause-no_reads : goal.returns-in_err-move_tail-clause-no_reads
 returns-in_err-move_tail-clause-no_reads g c = if_err c.from_residual-in_err-move_tail.result c.in_err-move_tail.field-0.0 _ c.from_residual-in_err-move_tail.ensures.1

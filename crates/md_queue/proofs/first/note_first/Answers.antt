@@ -23,17 +23,16 @@ use Rattle.md_queue.proofs.Refusing.{began_on, note_unread, note_unwritten, note
 use Rattle.std.proofs.lemmas.Result.{IfOk-from_err}
 use Rattle.md_queue.proofs.first.note_first.Goals as goal
 
-pub note-requires-clause-found : goal.note-requires-clause-found
-note-requires-clause-found g c =
+pub note-requires-clause-may : goal.note-requires-clause-may
+note-requires-clause-may g c =
     let t = state c.args.tx.now in
-    subst (λ w. IsFoundThere g.T.Theory.meaning t w c.args.first.head) (sym (c.queue_head-head_word.ensures.place ∙ ap (λ s. address s (queue_head c.args.queue)) c.shape.ensures))
-    c.requires.sees.1.head_sees.there
-
-pub note-requires-clause-gave : goal.note-requires-clause-gave
-note-requires-clause-gave g c =
-    let t = state c.args.tx.now in
-    subst (λ w. Gave t w c.args.first.head) (sym (c.queue_head-head_word.ensures.place ∙ ap (λ s. address s (queue_head c.args.queue)) c.shape.ensures))
-    c.requires.sees.1.head_sees.gave
+    record {
+      operates = c.requires.sees.1.working.operates;
+      gave = subst (λ w. Gave t w c.args.first.head) (sym (c.queue_head-head_word.ensures.place ∙ ap (λ s. address s (queue_head c.args.queue)) c.shape.ensures))
+          c.requires.sees.1.head_sees.gave;
+      found = subst (λ w. IsFoundThere g.T.Theory.meaning t w c.args.first.head) (sym (c.queue_head-head_word.ensures.place ∙ ap (λ s. address s (queue_head c.args.queue)) c.shape.ensures))
+          c.requires.sees.1.head_sees.there;
+    }
 
 pub returns-in_err-note-clause-stop : goal.returns-in_err-note-clause-stop
 returns-in_err-note-clause-stop g c =
@@ -177,9 +176,6 @@ returns-in_err-note_next-clause-reads g c =
 
 pub note-requires-clause-going : goal.note-requires-clause-going
 note-requires-clause-going g c = (c.requires.sees.0, c.requires.sees.1.working.going)
-
-pub note-requires-clause-operates : goal.note-requires-clause-operates
-note-requires-clause-operates g c = c.requires.sees.1.working.operates
 
 pub returns-in_err-note-clause-pass : goal.returns-in_err-note-clause-pass
 returns-in_err-note-clause-pass g c = c.in_err-note.ensures.pass

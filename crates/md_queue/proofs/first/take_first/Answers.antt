@@ -128,88 +128,89 @@ returns-in_err-exchange-clause-stop g c =
     c.in_err-exchange.ensures.exchanged) (omega arith) (omega arith) in
     if_err c.from_residual-in_err-exchange.result stop _ c.from_residual-in_err-exchange.ensures.1 refused
 
-pub returns-clause-goes : goal.returns-clause-goes
-returns-clause-goes g c =
-    let M = g.T.Theory.meaning in
-    let t = state c.args.tx.now in
-    let u = state c.note_next.new.tx in
-    let v = state c.value_of-value.new.tx in
-    let x = state c.exchange.new.self in
-    let first = c.args.first in
-    let seen = c.in_ok-exchange.field-0 in
-    goes_then M t v x 1 0 0 0 1 0 1 1 0
-    (goes_then M t u v 1 0 0 0 0 0 1 0 0
-    (note_goes M t u c.in_ok-note_next.ensures.on (next_at t (first.head.value / 2)) first.next c.in_ok-note_next.ensures.noted c.requires.sees.1.working.operates)
-    (pass_goes M u v c.value_of-value.ensures.on c.value_of-value.ensures.same) (omega arith) (omega arith) (omega arith))
-    (exchange_goes M v x c.in_ok-exchange.ensures.on c.queue_head-head_word.result first.head first.next.value Critical seen
-    (exchange_ok M v x c.in_ok-exchange.ensures.on c.queue_head-head_word.result first.head first.next.value Critical seen c.in_ok-exchange.ensures.exchanged))
-    (omega arith) (omega arith) (omega arith)
-
-pub returns-clause-answer : goal.returns-clause-answer
-returns-clause-answer g c cs s =
-    let M = g.T.Theory.meaning in
-    let t = state c.args.tx.now in
-    let u = state c.note_next.new.tx in
-    let v = state c.value_of-value.new.tx in
-    let x = state c.exchange.new.self in
-    let first = c.args.first in
-    let fits : first.head.count < 2 ^ 32 = omega arith in
-    let next_fits : first.next.count < 2 ^ 32 = omega arith in
-    let on = c.in_ok-note_next.ensures.on in
-    let going = on.going cs s.working.going in
-    let over = c.value_of-value.ensures.on in
-    let last = c.in_ok-exchange.ensures.on in
-    let seen = c.in_ok-exchange.field-0 in
-    let half = half_is first.head.value in
-    let noted = note_ok M t u on (next_at t (first.head.value / 2)) first.next c.in_ok-note_next.ensures.noted in
-    let k = taking_noted M g.T.Theory.lawful g.met.T.HasQueues.has_queues c.args.queue cs first.head first.next c.requires.some t u s on next_fits
-    (subst (λ x. HasNoted t u (next_at t x) first.next) half noted) (subst (λ x. KeepsGiven t u (next_at t x)) half c.in_ok-note_next.ensures.given) in
-    let l = taking_on M g.T.Theory.lawful g.met.T.HasQueues.has_queues c.args.queue cs first.head first.next c.requires.some u v k over c.value_of-value.ensures.same c.value_of-value.ensures.given in
-    let place = c.queue_head-head_word.ensures.place ∙ ap (λ x. address x (queue_head c.args.queue)) c.shape.ensures in
-    let ex = exchange_ok M v x last c.queue_head-head_word.result first.head first.next.value Critical seen c.in_ok-exchange.ensures.exchanged in
-    let kept = note_goes M t u on (next_at t (first.head.value / 2)) first.next c.in_ok-note_next.ensures.noted s.working.operates in
-    let read = pass_goes M u v over c.value_of-value.ensures.same kept.leaves.operates in
-    let changed = exchange_goes M v x last c.queue_head-head_word.result first.head first.next.value Critical seen ex read.leaves.operates in
-    let goes = goes_then M t v x 1 0 0 0 1 0 1 1 0 (goes_then M t u v 1 0 0 0 0 0 1 0 0 kept (λ _. read) (omega arith) (omega arith) (omega arith)) (λ _. changed) (omega arith) (omega arith) (omega arith) in
-    let words = next_at t (first.head.value / 2) ∷ [] in
-    let among = among_to M t v x 1 0 words
-    (among_to M t u v 0 0 words (note_among M t u on (next_at t (first.head.value / 2)) first.next c.in_ok-note_next.ensures.noted) read) changed in
-    is_answered (next_at x (linked_node first.head.value) ∷ [])
-    (may_answer_taken M g.T.Theory.lawful g.met.T.HasQueues.has_queues c.args.queue cs first.head first.next c.requires.some v l c.value_of-value.result
-    (subst (λ y. Known M v (λ w h. h.words.value_of_node y ≡ c.value_of-value.result)) (half_is first.next.value) c.value_of-value.ensures.known) x last fits seen
-    (subst (λ w. HasExchanged M v w first.head first.next.value Critical x seen) place ex))
-    (subst (λ w. RecordsAmong t x (w ∷ [])) (ap (λ n. next_at t n) half ∙ ap (λ y. address y (node_next (linked_node first.head.value))) (sym (shape_later t x goes.leaves.on.later))) among)
-
-pub returns-clause-tail : goal.returns-clause-tail
-returns-clause-tail g c =
-    let M = g.T.Theory.meaning in
-    let t = state c.args.tx.now in
-    let u = state c.note_next.new.tx in
-    let v = state c.value_of-value.new.tx in
-    let x = state c.exchange.new.self in
-    let s = c.requires.sees.1 in
-    let first = c.args.first in
-    let queue = c.args.queue in
-    let on = c.in_ok-note_next.ensures.on in
-    let going = on.going c.requires.sees.0 s.working.going in
-    let over = c.value_of-value.ensures.on in
-    let last = c.in_ok-exchange.ensures.on in
-    let seen = c.in_ok-exchange.field-0 in
-    let half = half_is first.head.value in
-    let noted = note_ok M t u on (next_at t (first.head.value / 2)) first.next c.in_ok-note_next.ensures.noted in
-    let given = subst (λ y. KeepsGiven t u (next_at t y)) half c.in_ok-note_next.ensures.given in
-    let k = taking_noted M g.T.Theory.lawful g.met.T.HasQueues.has_queues queue c.requires.sees.0 first.head first.next c.requires.some t u s on (omega arith)
-    (subst (λ y. HasNoted t u (next_at t y) first.next) half noted) given in
-    let l = taking_on M g.T.Theory.lawful g.met.T.HasQueues.has_queues queue c.requires.sees.0 first.head first.next c.requires.some u v k over c.value_of-value.ensures.same c.value_of-value.ensures.given in
-    let place = c.queue_head-head_word.ensures.place ∙ ap (λ y. address y (queue_head queue)) c.shape.ensures in
-    let ex = exchange_ok M v x last c.queue_head-head_word.result first.head first.next.value Critical seen c.in_ok-exchange.ensures.exchanged in
-    let noted_apart = differs_on M t u queue first.head.value on.later (next_at t (linked_node first.head.value)) given
-    (tail_not_next (shape_in t) queue (linked_node first.head.value) s.working.within s.next_sees.exists) c.requires.apart in
-    let read_apart = differs_on M u v queue first.head.value over.later (head_at u queue) (c.value_of-value.ensures.given (head_at u queue))
-    (λ e. head_not_tail (shape_in u) queue queue k.working.within k.working.within (sym e)) noted_apart in
-    leaves_dummy M g.T.Theory.lawful g.met.T.HasQueues.has_queues queue c.requires.sees.0 first.head first.next c.requires.some v l read_apart x last
-    (subst (KeepsGiven v x) place c.in_ok-exchange.ensures.given) seen
-    (subst (λ w. HasExchanged M v w first.head first.next.value Critical x seen) place ex)
+pub returns-clause-takes : goal.returns-clause-takes
+returns-clause-takes g c = record {
+  goes = (
+      let M = g.T.Theory.meaning in
+      let t = state c.args.tx.now in
+      let u = state c.note_next.new.tx in
+      let v = state c.value_of-value.new.tx in
+      let x = state c.exchange.new.self in
+      let first = c.args.first in
+      let seen = c.in_ok-exchange.field-0 in
+      goes_then M t v x 1 0 0 0 1 0 1 1 0
+      (goes_then M t u v 1 0 0 0 0 0 1 0 0
+      (note_goes M t u c.in_ok-note_next.ensures.on (next_at t (first.head.value / 2)) first.next c.in_ok-note_next.ensures.noted c.requires.sees.1.working.operates)
+      (pass_goes M u v c.value_of-value.ensures.on c.value_of-value.ensures.same) (omega arith) (omega arith) (omega arith))
+      (exchange_goes M v x c.in_ok-exchange.ensures.on c.queue_head-head_word.result first.head first.next.value Critical seen
+      (exchange_ok M v x c.in_ok-exchange.ensures.on c.queue_head-head_word.result first.head first.next.value Critical seen c.in_ok-exchange.ensures.exchanged))
+      (omega arith) (omega arith) (omega arith)
+      );
+  answer = (
+      λ cs s. let M = g.T.Theory.meaning in
+      let t = state c.args.tx.now in
+      let u = state c.note_next.new.tx in
+      let v = state c.value_of-value.new.tx in
+      let x = state c.exchange.new.self in
+      let first = c.args.first in
+      let fits : first.head.count < 2 ^ 32 = omega arith in
+      let next_fits : first.next.count < 2 ^ 32 = omega arith in
+      let on = c.in_ok-note_next.ensures.on in
+      let going = on.going cs s.working.going in
+      let over = c.value_of-value.ensures.on in
+      let last = c.in_ok-exchange.ensures.on in
+      let seen = c.in_ok-exchange.field-0 in
+      let half = half_is first.head.value in
+      let noted = note_ok M t u on (next_at t (first.head.value / 2)) first.next c.in_ok-note_next.ensures.noted in
+      let k = taking_noted M g.T.Theory.lawful g.met.T.HasQueues.has_queues c.args.queue cs first.head first.next c.requires.some t u s on next_fits
+      (subst (λ x. HasNoted t u (next_at t x) first.next) half noted) (subst (λ x. KeepsGiven t u (next_at t x)) half c.in_ok-note_next.ensures.given) in
+      let l = taking_on M g.T.Theory.lawful g.met.T.HasQueues.has_queues c.args.queue cs first.head first.next c.requires.some u v k over c.value_of-value.ensures.same c.value_of-value.ensures.given in
+      let place = c.queue_head-head_word.ensures.place ∙ ap (λ x. address x (queue_head c.args.queue)) c.shape.ensures in
+      let ex = exchange_ok M v x last c.queue_head-head_word.result first.head first.next.value Critical seen c.in_ok-exchange.ensures.exchanged in
+      let kept = note_goes M t u on (next_at t (first.head.value / 2)) first.next c.in_ok-note_next.ensures.noted s.working.operates in
+      let read = pass_goes M u v over c.value_of-value.ensures.same kept.leaves.operates in
+      let changed = exchange_goes M v x last c.queue_head-head_word.result first.head first.next.value Critical seen ex read.leaves.operates in
+      let goes = goes_then M t v x 1 0 0 0 1 0 1 1 0 (goes_then M t u v 1 0 0 0 0 0 1 0 0 kept (λ _. read) (omega arith) (omega arith) (omega arith)) (λ _. changed) (omega arith) (omega arith) (omega arith) in
+      let words = next_at t (first.head.value / 2) ∷ [] in
+      let among = among_to M t v x 1 0 words
+      (among_to M t u v 0 0 words (note_among M t u on (next_at t (first.head.value / 2)) first.next c.in_ok-note_next.ensures.noted) read) changed in
+      is_answered (next_at x (linked_node first.head.value) ∷ [])
+      (may_answer_taken M g.T.Theory.lawful g.met.T.HasQueues.has_queues c.args.queue cs first.head first.next c.requires.some v l c.value_of-value.result
+      (subst (λ y. Known M v (λ w h. h.words.value_of_node y ≡ c.value_of-value.result)) (half_is first.next.value) c.value_of-value.ensures.known) x last fits seen
+      (subst (λ w. HasExchanged M v w first.head first.next.value Critical x seen) place ex))
+      (subst (λ w. RecordsAmong t x (w ∷ [])) (ap (λ n. next_at t n) half ∙ ap (λ y. address y (node_next (linked_node first.head.value))) (sym (shape_later t x goes.leaves.on.later))) among)
+      );
+  tail = (
+      let M = g.T.Theory.meaning in
+      let t = state c.args.tx.now in
+      let u = state c.note_next.new.tx in
+      let v = state c.value_of-value.new.tx in
+      let x = state c.exchange.new.self in
+      let s = c.requires.sees.1 in
+      let first = c.args.first in
+      let queue = c.args.queue in
+      let on = c.in_ok-note_next.ensures.on in
+      let going = on.going c.requires.sees.0 s.working.going in
+      let over = c.value_of-value.ensures.on in
+      let last = c.in_ok-exchange.ensures.on in
+      let seen = c.in_ok-exchange.field-0 in
+      let half = half_is first.head.value in
+      let noted = note_ok M t u on (next_at t (first.head.value / 2)) first.next c.in_ok-note_next.ensures.noted in
+      let given = subst (λ y. KeepsGiven t u (next_at t y)) half c.in_ok-note_next.ensures.given in
+      let k = taking_noted M g.T.Theory.lawful g.met.T.HasQueues.has_queues queue c.requires.sees.0 first.head first.next c.requires.some t u s on (omega arith)
+      (subst (λ y. HasNoted t u (next_at t y) first.next) half noted) given in
+      let l = taking_on M g.T.Theory.lawful g.met.T.HasQueues.has_queues queue c.requires.sees.0 first.head first.next c.requires.some u v k over c.value_of-value.ensures.same c.value_of-value.ensures.given in
+      let place = c.queue_head-head_word.ensures.place ∙ ap (λ y. address y (queue_head queue)) c.shape.ensures in
+      let ex = exchange_ok M v x last c.queue_head-head_word.result first.head first.next.value Critical seen c.in_ok-exchange.ensures.exchanged in
+      let noted_apart = differs_on M t u queue first.head.value on.later (next_at t (linked_node first.head.value)) given
+      (tail_not_next (shape_in t) queue (linked_node first.head.value) s.working.within s.next_sees.exists) c.requires.apart in
+      let read_apart = differs_on M u v queue first.head.value over.later (head_at u queue) (c.value_of-value.ensures.given (head_at u queue))
+      (λ e. head_not_tail (shape_in u) queue queue k.working.within k.working.within (sym e)) noted_apart in
+      leaves_dummy M g.T.Theory.lawful g.met.T.HasQueues.has_queues queue c.requires.sees.0 first.head first.next c.requires.some v l read_apart x last
+      (subst (KeepsGiven v x) place c.in_ok-exchange.ensures.given) seen
+      (subst (λ w. HasExchanged M v w first.head first.next.value Critical x seen) place ex)
+      );
+}
 
 pub returns-in_err-note_next-clause-reads : goal.returns-in_err-note_next-clause-reads
 returns-in_err-note_next-clause-reads g c =
@@ -302,26 +303,14 @@ returns-in_err-exchange-clause-reads g c =
 pub returns-in_err-note_next-clause-pass : goal.returns-in_err-note_next-clause-pass
 returns-in_err-note_next-clause-pass g c = c.in_err-note_next.ensures.pass
 
-pub returns-in_err-note_next-clause-goes : goal.returns-in_err-note_next-clause-goes
-returns-in_err-note_next-clause-goes g c = IfOk-from_err c.from_residual.result _ c.from_residual.ensures.0
-
-pub returns-in_err-note_next-clause-answer : goal.returns-in_err-note_next-clause-answer
-returns-in_err-note_next-clause-answer g c = IfOk-from_err c.from_residual.result _ c.from_residual.ensures.0
-
-pub returns-in_err-note_next-clause-tail : goal.returns-in_err-note_next-clause-tail
-returns-in_err-note_next-clause-tail g c = IfOk-from_err c.from_residual.result _ c.from_residual.ensures.0
+pub returns-in_err-note_next-clause-takes : goal.returns-in_err-note_next-clause-takes
+returns-in_err-note_next-clause-takes g c = IfOk-from_err c.from_residual.result _ c.from_residual.ensures.0
 
 pub returns-in_err-exchange-clause-pass : goal.returns-in_err-exchange-clause-pass
 returns-in_err-exchange-clause-pass g c = c.in_err-exchange.ensures.pass ∙ c.value_of-value.ensures.pass ∙ c.in_ok-note_next.ensures.pass
 
-pub returns-in_err-exchange-clause-goes : goal.returns-in_err-exchange-clause-goes
-returns-in_err-exchange-clause-goes g c = IfOk-from_err c.from_residual-in_err-exchange.result _ c.from_residual-in_err-exchange.ensures.0
-
-pub returns-in_err-exchange-clause-answer : goal.returns-in_err-exchange-clause-answer
-returns-in_err-exchange-clause-answer g c = IfOk-from_err c.from_residual-in_err-exchange.result _ c.from_residual-in_err-exchange.ensures.0
-
-pub returns-in_err-exchange-clause-tail : goal.returns-in_err-exchange-clause-tail
-returns-in_err-exchange-clause-tail g c = IfOk-from_err c.from_residual-in_err-exchange.result _ c.from_residual-in_err-exchange.ensures.0
+pub returns-in_err-exchange-clause-takes : goal.returns-in_err-exchange-clause-takes
+returns-in_err-exchange-clause-takes g c = IfOk-from_err c.from_residual-in_err-exchange.result _ c.from_residual-in_err-exchange.ensures.0
 
 pub returns-clause-pass : goal.returns-clause-pass
 returns-clause-pass g c = c.in_ok-exchange.ensures.pass ∙ c.value_of-value.ensures.pass ∙ c.in_ok-note_next.ensures.pass

@@ -46,7 +46,7 @@ rank_of-rank-requires g c =
     let t = state c.find_last.new.tx in
     let tail = c.in_ok-end.end.tail in
     let under = c.requires.begun.going in
-    let s = c.in_ok-end.ensures.sees.1 under.0 under.1 in
+    let s = c.in_ok-end.ensures.finds.sees.1 under.0 under.1 in
     let st = s.sees_tail in
     record {
       may = record {
@@ -65,8 +65,8 @@ found g c cs going =
     let end = c.in_ok-end.end in
     let rank = c.rank_of-rank.result in
     let told = c.rank_of-rank.ensures in
-    putting M g.T.Theory.lawful g.met.T.HasQueues.has_queues c.args.queue cs end.next (state c.find_last.new.tx) u end.tail c.in_ok-end.ensures.sees.0 (c.in_ok-end.ensures.sees.1 cs going)
-    c.in_ok-end.ensures.last told.on told.same told.given rank (subst (λ n. Known M u (λ v h. h.words.key_of n ≡ rank)) (half_is end.tail.value) told.known)
+    putting M g.T.Theory.lawful g.met.T.HasQueues.has_queues c.args.queue cs end.next (state c.find_last.new.tx) u end.tail c.in_ok-end.ensures.finds.sees.0 (c.in_ok-end.ensures.finds.sees.1 cs going)
+    c.in_ok-end.ensures.finds.last told.on told.same told.given rank (subst (λ n. Known M u (λ v h. h.words.key_of n ≡ rank)) (half_is end.tail.value) told.known)
 
 some_found : (g : Over) (c : After-rank_of-rank g)
     → IsPutting g.T.Theory.meaning (state c.rank_of-rank.new.tx) c.args.queue c.requires.begun.going.0 (linked_node c.in_ok-end.end.tail.value) c.rank_of-rank.result c.in_ok-end.end.next
@@ -76,7 +76,7 @@ found_goes : (g : Over) (c : After-rank_of-rank g) → GoesBy g.T.Theory.meaning
 found_goes g c =
     let t = state c.find_last.new.tx in
     let u = state c.rank_of-rank.new.tx in
-    let goes = c.in_ok-end.ensures.goes in
+    let goes = c.in_ok-end.ensures.finds.goes in
     goes_then g.T.Theory.meaning (state c.args.tx.now) t u 0 1 0 0 0 0 0 1 0 goes
     (pass_goes g.T.Theory.meaning t u c.rank_of-rank.ensures.on c.rank_of-rank.ensures.same) (omega arith) (omega arith) (omega arith)
 
@@ -247,7 +247,7 @@ returns-clause-puts g c =
     let made = linked M u v over value end.next new seen c.in_ok-link_next.ensures.exchanged in
     let own : OwnNode = record { node = new; key = c.rank_of-rank.result + 1; value = c.args.value; next = 0 } in
     let kept = c.move_later.ensures.kept in
-    let leaves = c.in_ok-end.ensures.goes.leaves in
+    let leaves = c.in_ok-end.ensures.finds.goes.leaves in
     let same : t.nodes ≡ s.nodes = ap (λ (y : TxnState). y.nodes) c.rank_of-rank.ensures.same ∙ no_more_nodes s (state c.find_last.new.tx) leaves.on.later.nodes leaves.nodes_few in
     puts_last s v x c.args.queue node own
     (written_for M g.T.Theory.lawful g.met.T.HasQueues.has_queues c.args.queue c.requires.begun.going.0 end.next t node c.rank_of-rank.result p u c.in_ok-node.ensures.on c.args.value new f
@@ -357,7 +357,7 @@ returns-in_err-end-clause-stopped g c = stays_on (state c.args.tx.now) (state c.
     (c.in_err-end.ensures.stopped)
 
 pub take_node-requires-clause-operates : goal.take_node-requires-clause-operates
-take_node-requires-clause-operates g c = ap (λ x. x.hand.operating) c.rank_of-rank.ensures.same ∙ c.in_ok-end.ensures.goes.leaves.operates
+take_node-requires-clause-operates g c = ap (λ x. x.hand.operating) c.rank_of-rank.ensures.same ∙ c.in_ok-end.ensures.finds.goes.leaves.operates
 
 pub returns-in_err-node-clause-pass : goal.returns-in_err-node-clause-pass
 returns-in_err-node-clause-pass g c = c.in_err-node.ensures.pass ∙ c.rank_of-rank.ensures.pass ∙ c.in_ok-end.ensures.pass

@@ -44,33 +44,34 @@ loop-preserved g c =
     let e = c.in_ok-end-2.ensures in
     record {
       pass = e.pass ∙ i.pass;
-      goes = goes_moved M s t u (own_count c.loop.end.tail) (other_count c.loop.end.tail) (own_count c.in_ok-end-2.end.tail) i.goes e.goes e.counts;
-      sees = λ cs going. e.sees cs c.loop.counter (i.sees cs going);
+      goes = goes_moved M s t u (own_count c.loop.end.tail) (other_count c.loop.end.tail) (own_count c.in_ok-end-2.end.tail) i.goes e.follows.goes e.follows.counts;
+      sees = λ cs going. e.follows.sees cs c.loop.counter (i.sees cs going);
     }
 
-pub returns-then-end-eq0-clause-goes : goal.returns-then-end-eq0-clause-goes
-returns-then-end-eq0-clause-goes g c =
+pub returns-then-end-eq0-clause-finds : goal.returns-then-end-eq0-clause-finds
+returns-then-end-eq0-clause-finds g c =
     let one = counts_one c.loop.end.tail in
-    goes_up g.T.Theory.meaning (state c.args.tx.now) (state c.loop.tx) 0 (own_count c.loop.end.tail) 0 0 1 0 c.loop.invariant.goes (omega arith) (omega (arith, one)) (omega arith)
+    record {
+      goes = goes_up g.T.Theory.meaning (state c.args.tx.now) (state c.loop.tx) 0 (own_count c.loop.end.tail) 0 0 1 0 c.loop.invariant.goes (omega arith) (omega (arith, one)) (omega arith);
+      sees = (c.loop.counter, c.loop.invariant.sees);
+      last = c.if-end-eq0.true;
+    }
 
-pub returns-then-end-eq0-clause-sees : goal.returns-then-end-eq0-clause-sees
-returns-then-end-eq0-clause-sees g c = (c.loop.counter, c.loop.invariant.sees)
-
-pub returns-after-loop-clause-goes : goal.returns-after-loop-clause-goes
-returns-after-loop-clause-goes g c =
-    let one = counts_one c.loop.end.tail in
-    goes_up g.T.Theory.meaning (state c.args.tx.now) (state c.loop.tx) 0 (own_count c.loop.end.tail) 0 0 1 0 c.loop.invariant.goes (omega arith) (omega (arith, one)) (omega arith)
-
-pub returns-after-loop-clause-sees : goal.returns-after-loop-clause-sees
-returns-after-loop-clause-sees g c = (c.loop.counter, c.loop.invariant.sees)
-
-pub returns-after-loop-clause-last : goal.returns-after-loop-clause-last
-returns-after-loop-clause-last g c =
-    let under = c.requires.begun.going in
-    let few = end_fits g.T.Theory.meaning g.T.Theory.lawful g.met.T.HasQueues.has_queues (state c.loop.tx) c.args.queue under.0 c.loop.end.tail c.loop.end.next c.loop.counter
-    (c.loop.invariant.sees under.0 under.1) in
-    let limit = node_limit (shape_in (state c.loop.tx)) in
-    absurd (omega (arith, few, limit))
+pub returns-after-loop-clause-finds : goal.returns-after-loop-clause-finds
+returns-after-loop-clause-finds g c = record {
+  goes = (
+      let one = counts_one c.loop.end.tail in
+      goes_up g.T.Theory.meaning (state c.args.tx.now) (state c.loop.tx) 0 (own_count c.loop.end.tail) 0 0 1 0 c.loop.invariant.goes (omega arith) (omega (arith, one)) (omega arith)
+      );
+  sees = (c.loop.counter, c.loop.invariant.sees);
+  last = (
+      let under = c.requires.begun.going in
+      let few = end_fits g.T.Theory.meaning g.T.Theory.lawful g.met.T.HasQueues.has_queues (state c.loop.tx) c.args.queue under.0 c.loop.end.tail c.loop.end.next c.loop.counter
+      (c.loop.invariant.sees under.0 under.1) in
+      let limit = node_limit (shape_in (state c.loop.tx)) in
+      absurd (omega (arith, few, limit))
+      );
+}
 
 pub returns-then-end-eq0-clause-stopped : goal.returns-then-end-eq0-clause-stopped
 returns-then-end-eq0-clause-stopped g c s is =
@@ -100,14 +101,8 @@ load_end-requires g c = record { begun = c.requires.begun }
 pub returns-in_err-end-clause-pass : goal.returns-in_err-end-clause-pass
 returns-in_err-end-clause-pass g c = c.in_err-end.ensures.pass
 
-pub returns-in_err-end-clause-goes : goal.returns-in_err-end-clause-goes
-returns-in_err-end-clause-goes g c = IfOk-from_err c.from_residual.result _ c.from_residual.ensures.0
-
-pub returns-in_err-end-clause-sees : goal.returns-in_err-end-clause-sees
-returns-in_err-end-clause-sees g c = IfOk-from_err c.from_residual.result _ c.from_residual.ensures.0
-
-pub returns-in_err-end-clause-last : goal.returns-in_err-end-clause-last
-returns-in_err-end-clause-last g c = IfOk-from_err c.from_residual.result _ c.from_residual.ensures.0
+pub returns-in_err-end-clause-finds : goal.returns-in_err-end-clause-finds
+returns-in_err-end-clause-finds g c = IfOk-from_err c.from_residual.result _ c.from_residual.ensures.0
 
 pub returns-in_err-end-clause-stop : goal.returns-in_err-end-clause-stop
 returns-in_err-end-clause-stop g c = if_err c.from_residual.result c.in_err-end.field-0.0 _ c.from_residual.ensures.1
@@ -128,14 +123,8 @@ returns-in_err-end-clause-stopped g c = stays_on (state c.args.tx.now) (state c.
 pub returns-in_err-end-2-clause-pass : goal.returns-in_err-end-2-clause-pass
 returns-in_err-end-2-clause-pass g c = c.in_err-end-2.ensures.pass ∙ c.loop.invariant.pass
 
-pub returns-in_err-end-2-clause-goes : goal.returns-in_err-end-2-clause-goes
-returns-in_err-end-2-clause-goes g c = IfOk-from_err c.from_residual-in_err-end-2.result _ c.from_residual-in_err-end-2.ensures.0
-
-pub returns-in_err-end-2-clause-sees : goal.returns-in_err-end-2-clause-sees
-returns-in_err-end-2-clause-sees g c = IfOk-from_err c.from_residual-in_err-end-2.result _ c.from_residual-in_err-end-2.ensures.0
-
-pub returns-in_err-end-2-clause-last : goal.returns-in_err-end-2-clause-last
-returns-in_err-end-2-clause-last g c = IfOk-from_err c.from_residual-in_err-end-2.result _ c.from_residual-in_err-end-2.ensures.0
+pub returns-in_err-end-2-clause-finds : goal.returns-in_err-end-2-clause-finds
+returns-in_err-end-2-clause-finds g c = IfOk-from_err c.from_residual-in_err-end-2.result _ c.from_residual-in_err-end-2.ensures.0
 
 pub returns-in_err-end-2-clause-no_reads : goal.returns-in_err-end-2-clause-no_reads
 returns-in_err-end-2-clause-no_reads g c = if_err c.from_residual-in_err-end-2.result c.in_err-end-2.field-0.0 _ c.from_residual-in_err-end-2.ensures.1
@@ -146,9 +135,6 @@ returns-in_err-end-2-clause-stopped g c s is = unstopped (state c.args.tx.now) (
 
 pub returns-then-end-eq0-clause-pass : goal.returns-then-end-eq0-clause-pass
 returns-then-end-eq0-clause-pass g c = c.loop.invariant.pass
-
-pub returns-then-end-eq0-clause-last : goal.returns-then-end-eq0-clause-last
-returns-then-end-eq0-clause-last g c = c.if-end-eq0.true
 
 pub returns-then-end-eq0-clause-stop : goal.returns-then-end-eq0-clause-stop
 returns-then-end-eq0-clause-stop g c = tt

@@ -79,55 +79,56 @@ returns-in_err-next-clause-stop g c =
     (look_stops M u v c.in_err-next.ensures.on (next_at u (tail.value / 2)) stop c.in_err-next.ensures.looked) (omega arith) (omega arith) in
     if_err c.from_residual-in_err-next.result stop _ c.from_residual-in_err-next.ensures.1 refused
 
-pub returns-clause-goes : goal.returns-clause-goes
-returns-clause-goes g c =
-    let M = g.T.Theory.meaning in
-    let t = state c.args.tx.now in
-    let u = state c.move_tail.new.tx in
-    let v = state c.load_next.new.tx in
-    let s = c.requires.sees.2 in
-    let end = c.args.end in
-    let tail = c.in_ok-tail.tail in
-    let on = c.in_ok-tail.ensures.on in
-    let ex = exchange_ok M t u on (tail_at t c.args.queue) end.tail end.next.value (move_kind end.next) tail c.in_ok-tail.ensures.exchanged in
-    let goes = exchange_goes M t u on (tail_at t c.args.queue) end.tail end.next.value (move_kind end.next) tail ex s.sees_tail.working.operates in
-    let counts = moved_counts M t u (tail_at t c.args.queue) end.tail end.next.value (move_kind end.next) tail ex s.sees_tail.tail_sees.gave in
-    goes_then M t u v 0 (other_count end.tail) 0 0 0 0 0 (other_count end.tail) 0 (goes_within M t u 1 (other_count end.tail) goes counts.1)
-    (look_goes M u v c.in_ok-next.ensures.on (next_at u (tail.value / 2)) c.in_ok-next.next c.in_ok-next.ensures.looked) (omega arith) (omega arith) (omega arith)
-
-pub returns-clause-counts : goal.returns-clause-counts
-returns-clause-counts g c =
-    let M = g.T.Theory.meaning in
-    let t = state c.args.tx.now in
-    let u = state c.move_tail.new.tx in
-    let v = state c.load_next.new.tx in
-    let s = c.requires.sees.2 in
-    let end = c.args.end in
-    let tail = c.in_ok-tail.tail in
-    let on = c.in_ok-tail.ensures.on in
-    let ex = exchange_ok M t u on (tail_at t c.args.queue) end.tail end.next.value (move_kind end.next) tail c.in_ok-tail.ensures.exchanged in
-    let counts = moved_counts M t u (tail_at t c.args.queue) end.tail end.next.value (move_kind end.next) tail ex s.sees_tail.tail_sees.gave in
-    let is = look_ok M u v c.in_ok-next.ensures.on (next_at u (tail.value / 2)) c.in_ok-next.next c.in_ok-next.ensures.looked in
-    let l = ap (λ x. length x.slots) is.0 in
-    let few = counts.0 in
-    omega (arith, l, few)
-
-pub returns-clause-sees : goal.returns-clause-sees
-returns-clause-sees g c cs least s =
-    let M = g.T.Theory.meaning in
-    let t = state c.args.tx.now in
-    let u = state c.move_tail.new.tx in
-    let v = state c.load_next.new.tx in
-    let end = c.args.end in
-    let tail = c.in_ok-tail.tail in
-    let next = c.in_ok-next.next in
-    let on = c.in_ok-tail.ensures.on in
-    let ex = exchange_ok M t u on (tail_at t c.args.queue) end.tail end.next.value (move_kind end.next) tail c.in_ok-tail.ensures.exchanged in
-    let f = followed M g.T.Theory.lawful g.met.T.HasQueues.has_queues t c.args.queue cs end.tail end.next least s c.requires.some u on (omega arith) tail c.in_ok-tail.ensures.gave ex in
-    let is = look_ok M u v c.in_ok-next.ensures.on (next_at u (tail.value / 2)) next c.in_ok-next.ensures.looked in
-    end_seen M g.T.Theory.lawful g.met.T.HasQueues.has_queues u v c.args.queue cs c.in_ok-next.ensures.on is.0 tail next (least + 1) f
-    (subst (λ n. KeepsGiven u v (next_at u n)) (half_is tail.value) c.in_ok-next.ensures.given)
-    (subst (λ n. Looks M u v (next_at u n) next) (half_is tail.value) is.1)
+pub returns-clause-follows : goal.returns-clause-follows
+returns-clause-follows g c = record {
+  goes = (
+      let M = g.T.Theory.meaning in
+      let t = state c.args.tx.now in
+      let u = state c.move_tail.new.tx in
+      let v = state c.load_next.new.tx in
+      let s = c.requires.sees.2 in
+      let end = c.args.end in
+      let tail = c.in_ok-tail.tail in
+      let on = c.in_ok-tail.ensures.on in
+      let ex = exchange_ok M t u on (tail_at t c.args.queue) end.tail end.next.value (move_kind end.next) tail c.in_ok-tail.ensures.exchanged in
+      let goes = exchange_goes M t u on (tail_at t c.args.queue) end.tail end.next.value (move_kind end.next) tail ex s.sees_tail.working.operates in
+      let counts = moved_counts M t u (tail_at t c.args.queue) end.tail end.next.value (move_kind end.next) tail ex s.sees_tail.tail_sees.gave in
+      goes_then M t u v 0 (other_count end.tail) 0 0 0 0 0 (other_count end.tail) 0 (goes_within M t u 1 (other_count end.tail) goes counts.1)
+      (look_goes M u v c.in_ok-next.ensures.on (next_at u (tail.value / 2)) c.in_ok-next.next c.in_ok-next.ensures.looked) (omega arith) (omega arith) (omega arith)
+      );
+  counts = (
+      let M = g.T.Theory.meaning in
+      let t = state c.args.tx.now in
+      let u = state c.move_tail.new.tx in
+      let v = state c.load_next.new.tx in
+      let s = c.requires.sees.2 in
+      let end = c.args.end in
+      let tail = c.in_ok-tail.tail in
+      let on = c.in_ok-tail.ensures.on in
+      let ex = exchange_ok M t u on (tail_at t c.args.queue) end.tail end.next.value (move_kind end.next) tail c.in_ok-tail.ensures.exchanged in
+      let counts = moved_counts M t u (tail_at t c.args.queue) end.tail end.next.value (move_kind end.next) tail ex s.sees_tail.tail_sees.gave in
+      let is = look_ok M u v c.in_ok-next.ensures.on (next_at u (tail.value / 2)) c.in_ok-next.next c.in_ok-next.ensures.looked in
+      let l = ap (λ x. length x.slots) is.0 in
+      let few = counts.0 in
+      omega (arith, l, few)
+      );
+  sees = (
+      λ cs least s. let M = g.T.Theory.meaning in
+      let t = state c.args.tx.now in
+      let u = state c.move_tail.new.tx in
+      let v = state c.load_next.new.tx in
+      let end = c.args.end in
+      let tail = c.in_ok-tail.tail in
+      let next = c.in_ok-next.next in
+      let on = c.in_ok-tail.ensures.on in
+      let ex = exchange_ok M t u on (tail_at t c.args.queue) end.tail end.next.value (move_kind end.next) tail c.in_ok-tail.ensures.exchanged in
+      let f = followed M g.T.Theory.lawful g.met.T.HasQueues.has_queues t c.args.queue cs end.tail end.next least s c.requires.some u on (omega arith) tail c.in_ok-tail.ensures.gave ex in
+      let is = look_ok M u v c.in_ok-next.ensures.on (next_at u (tail.value / 2)) next c.in_ok-next.ensures.looked in
+      end_seen M g.T.Theory.lawful g.met.T.HasQueues.has_queues u v c.args.queue cs c.in_ok-next.ensures.on is.0 tail next (least + 1) f
+      (subst (λ n. KeepsGiven u v (next_at u n)) (half_is tail.value) c.in_ok-next.ensures.given)
+      (subst (λ n. Looks M u v (next_at u n) next) (half_is tail.value) is.1)
+      );
+}
 
 pub returns-in_err-tail-clause-writes : goal.returns-in_err-tail-clause-writes
 returns-in_err-tail-clause-writes g c =
@@ -151,14 +152,8 @@ returns-in_err-tail-clause-writes g c =
 pub returns-in_err-tail-clause-pass : goal.returns-in_err-tail-clause-pass
 returns-in_err-tail-clause-pass g c = c.in_err-tail.ensures.pass
 
-pub returns-in_err-tail-clause-goes : goal.returns-in_err-tail-clause-goes
-returns-in_err-tail-clause-goes g c = IfOk-from_err c.from_residual.result _ c.from_residual.ensures.0
-
-pub returns-in_err-tail-clause-counts : goal.returns-in_err-tail-clause-counts
-returns-in_err-tail-clause-counts g c = IfOk-from_err c.from_residual.result _ c.from_residual.ensures.0
-
-pub returns-in_err-tail-clause-sees : goal.returns-in_err-tail-clause-sees
-returns-in_err-tail-clause-sees g c = IfOk-from_err c.from_residual.result _ c.from_residual.ensures.0
+pub returns-in_err-tail-clause-follows : goal.returns-in_err-tail-clause-follows
+returns-in_err-tail-clause-follows g c = IfOk-from_err c.from_residual.result _ c.from_residual.ensures.0
 
 pub returns-in_err-tail-clause-no_reads : goal.returns-in_err-tail-clause-no_reads
 returns-in_err-tail-clause-no_reads g c = if_err c.from_residual.result c.in_err-tail.field-0.0 _ c.from_residual.ensures.1
@@ -167,14 +162,8 @@ returns-in_err-tail-clause-no_reads g c = if_err c.from_residual.result c.in_err
 pub returns-in_err-next-clause-pass : goal.returns-in_err-next-clause-pass
 returns-in_err-next-clause-pass g c = c.in_err-next.ensures.pass ∙ c.in_ok-tail.ensures.pass
 
-pub returns-in_err-next-clause-goes : goal.returns-in_err-next-clause-goes
-returns-in_err-next-clause-goes g c = IfOk-from_err c.from_residual-in_err-next.result _ c.from_residual-in_err-next.ensures.0
-
-pub returns-in_err-next-clause-counts : goal.returns-in_err-next-clause-counts
-returns-in_err-next-clause-counts g c = IfOk-from_err c.from_residual-in_err-next.result _ c.from_residual-in_err-next.ensures.0
-
-pub returns-in_err-next-clause-sees : goal.returns-in_err-next-clause-sees
-returns-in_err-next-clause-sees g c = IfOk-from_err c.from_residual-in_err-next.result _ c.from_residual-in_err-next.ensures.0
+pub returns-in_err-next-clause-follows : goal.returns-in_err-next-clause-follows
+returns-in_err-next-clause-follows g c = IfOk-from_err c.from_residual-in_err-next.result _ c.from_residual-in_err-next.ensures.0
 
 pub returns-in_err-next-clause-writes : goal.returns-in_err-next-clause-writes
 returns-in_err-next-clause-writes g c =

@@ -29,14 +29,14 @@ pub loop-i-init : goal.loop-i-init
 loop-i-init g c = record {
   pass = c.in_ok-node.ensures.pass;
   has = record {
-    goes = c.in_ok-node.ensures.goes;
+    goes = c.in_ok-node.ensures.passes.goes;
     dummy = c.in_ok-node.node;
     seen = [];
     counted = refl;
     is = refl;
-    looked = c.in_ok-node.ensures.looked;
+    looked = c.in_ok-node.ensures.passes.looked;
     among = subst (λ (x : Shape). RecordsAmong (state c.args.tx.now) (state c.pass_head.new.tx) (address x (queue_head c.args.queue) ∷ []))
-        (sym (shape_later (state c.args.tx.now) (state c.pass_head.new.tx) c.in_ok-node.ensures.goes.leaves.on.later)) c.in_ok-node.ensures.among;
+        (sym (shape_later (state c.args.tx.now) (state c.pass_head.new.tx) c.in_ok-node.ensures.passes.goes.leaves.on.later)) c.in_ok-node.ensures.passes.among;
   };
 }
 

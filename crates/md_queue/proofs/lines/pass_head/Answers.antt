@@ -31,22 +31,8 @@ load-requires-clause-counted g c =
     (head_counted g.T.Theory.meaning g.T.Theory.lawful g.met.T.HasQueues.has_queues t c.args.queue c.requires.begun.going.0 []
     (begun_working g.T.Theory.meaning t c.args.queue c.requires.begun c.requires.begun.going.0 c.requires.begun.going.1))
 
-pub note-requires-clause-operates : goal.note-requires-clause-operates
-note-requires-clause-operates g c =
-    let M = g.T.Theory.meaning in
-    let t = state c.args.tx.now in
-    let u = state c.load.new.self in
-    (look_goes M t u c.in_ok-head.ensures.on c.queue_head-head_word.result c.in_ok-head.head c.in_ok-head.ensures.looked c.requires.begun.operates).leaves.operates
-
-pub note-requires-clause-gave : goal.note-requires-clause-gave
-note-requires-clause-gave g c =
-    let M = g.T.Theory.meaning in
-    let t = state c.args.tx.now in
-    let u = state c.load.new.self in
-    (look_ok M t u c.in_ok-head.ensures.on c.queue_head-head_word.result c.in_ok-head.head c.in_ok-head.ensures.looked).1.gave
-
-pub note-requires-clause-found : goal.note-requires-clause-found
-note-requires-clause-found g c =
+pub note-requires-clause-may : goal.note-requires-clause-may
+note-requires-clause-may g c =
     let M = g.T.Theory.meaning in
     let t = state c.args.tx.now in
     let u = state c.load.new.self in
@@ -54,7 +40,11 @@ note-requires-clause-found g c =
     let place = c.queue_head-head_word.ensures.place ∙ ap (λ s. address s (queue_head c.args.queue)) c.shape.ensures in
     let is = look_ok M t u on c.queue_head-head_word.result c.in_ok-head.head c.in_ok-head.ensures.looked in
     let s = sees_head M g.T.Theory.lawful g.met.T.HasQueues.has_queues t u c.args.queue c.requires.begun.going.0 on is.0 c.requires.begun c.requires.begun.going.1 c.queue_head-head_word.result place c.in_ok-head.head is.1 in
-    subst (λ w. IsFoundThere M u w c.in_ok-head.head) (shape_head M t u on.later c.args.queue ∙ sym place) s.head_sees.there
+    record {
+      operates = (look_goes M t u c.in_ok-head.ensures.on c.queue_head-head_word.result c.in_ok-head.head c.in_ok-head.ensures.looked c.requires.begun.operates).leaves.operates;
+      gave = (look_ok M t u c.in_ok-head.ensures.on c.queue_head-head_word.result c.in_ok-head.head c.in_ok-head.ensures.looked).1.gave;
+      found = subst (λ w. IsFoundThere M u w c.in_ok-head.head) (shape_head M t u on.later c.args.queue ∙ sym place) s.head_sees.there;
+    }
 
 pub returns-in_err-head-clause-stop : goal.returns-in_err-head-clause-stop
 returns-in_err-head-clause-stop g c =
@@ -80,47 +70,48 @@ returns-in_err-note-clause-stop g c =
     (note_stops M u v c.in_err-note.ensures.on c.queue_head-head_word.result head stop c.in_err-note.ensures.noted) (omega arith) (omega arith) in
     if_err c.from_residual-in_err-note.result stop _ c.from_residual-in_err-note.ensures.1 refused
 
-pub returns-clause-goes : goal.returns-clause-goes
-returns-clause-goes g c =
-    let M = g.T.Theory.meaning in
-    let t = state c.args.tx.now in
-    let u = state c.load.new.self in
-    let v = state c.note.new.self in
-    let on = c.in_ok-head.ensures.on in
-    let head = c.in_ok-head.head in
-    goes_then M t u v 0 0 0 1 0 0 1 0 0
-    (look_goes M t u on c.queue_head-head_word.result head c.in_ok-head.ensures.looked c.requires.begun.operates)
-    (note_goes M u v c.in_ok-note.ensures.on c.queue_head-head_word.result head c.in_ok-note.ensures.noted) (omega arith) (omega arith) (omega arith)
-
-pub returns-clause-looked : goal.returns-clause-looked
-returns-clause-looked g c cs going =
-    let M = g.T.Theory.meaning in
-    let t = state c.args.tx.now in
-    let u = state c.load.new.self in
-    let v = state c.note.new.self in
-    let on = c.in_ok-head.ensures.on in
-    let over = c.in_ok-note.ensures.on in
-    let head = c.in_ok-head.head in
-    let place = c.queue_head-head_word.ensures.place ∙ ap (λ s. address s (queue_head c.args.queue)) c.shape.ensures in
-    let is = look_ok M t u on c.queue_head-head_word.result head c.in_ok-head.ensures.looked in
-    let s = sees_head M g.T.Theory.lawful g.met.T.HasQueues.has_queues t u c.args.queue cs on is.0 c.requires.begun going c.queue_head-head_word.result place head is.1 in
-    let noted = note_ok M u v over c.queue_head-head_word.result head c.in_ok-note.ensures.noted in
-    subst (λ n. HasLooked M v c.args.queue cs n n []) (sym (half_is head.value))
-    (head_passed M g.T.Theory.lawful g.met.T.HasQueues.has_queues u c.args.queue cs head s v over (omega arith)
-    (subst (λ w. HasNoted u v w head) (place ∙ sym (shape_head M t u on.later c.args.queue)) noted))
-
-pub returns-clause-among : goal.returns-clause-among
-returns-clause-among g c =
-    let M = g.T.Theory.meaning in
-    let t = state c.args.tx.now in
-    let u = state c.load.new.self in
-    let v = state c.note.new.self in
-    let on = c.in_ok-head.ensures.on in
-    let head = c.in_ok-head.head in
-    let place = c.queue_head-head_word.ensures.place ∙ ap (λ s. address s (queue_head c.args.queue)) c.shape.ensures in
-    among_from M t u v 0 0 (head_at t c.args.queue ∷ []) (look_goes M t u on c.queue_head-head_word.result head c.in_ok-head.ensures.looked c.requires.begun.operates)
-    (subst (λ w. RecordsAmong u v (w ∷ [])) place
-    (note_among M u v c.in_ok-note.ensures.on c.queue_head-head_word.result head c.in_ok-note.ensures.noted))
+pub returns-clause-passes : goal.returns-clause-passes
+returns-clause-passes g c = record {
+  goes = (
+      let M = g.T.Theory.meaning in
+      let t = state c.args.tx.now in
+      let u = state c.load.new.self in
+      let v = state c.note.new.self in
+      let on = c.in_ok-head.ensures.on in
+      let head = c.in_ok-head.head in
+      goes_then M t u v 0 0 0 1 0 0 1 0 0
+      (look_goes M t u on c.queue_head-head_word.result head c.in_ok-head.ensures.looked c.requires.begun.operates)
+      (note_goes M u v c.in_ok-note.ensures.on c.queue_head-head_word.result head c.in_ok-note.ensures.noted) (omega arith) (omega arith) (omega arith)
+      );
+  among = (
+      let M = g.T.Theory.meaning in
+      let t = state c.args.tx.now in
+      let u = state c.load.new.self in
+      let v = state c.note.new.self in
+      let on = c.in_ok-head.ensures.on in
+      let head = c.in_ok-head.head in
+      let place = c.queue_head-head_word.ensures.place ∙ ap (λ s. address s (queue_head c.args.queue)) c.shape.ensures in
+      among_from M t u v 0 0 (head_at t c.args.queue ∷ []) (look_goes M t u on c.queue_head-head_word.result head c.in_ok-head.ensures.looked c.requires.begun.operates)
+      (subst (λ w. RecordsAmong u v (w ∷ [])) place
+      (note_among M u v c.in_ok-note.ensures.on c.queue_head-head_word.result head c.in_ok-note.ensures.noted))
+      );
+  looked = (
+      λ cs going. let M = g.T.Theory.meaning in
+      let t = state c.args.tx.now in
+      let u = state c.load.new.self in
+      let v = state c.note.new.self in
+      let on = c.in_ok-head.ensures.on in
+      let over = c.in_ok-note.ensures.on in
+      let head = c.in_ok-head.head in
+      let place = c.queue_head-head_word.ensures.place ∙ ap (λ s. address s (queue_head c.args.queue)) c.shape.ensures in
+      let is = look_ok M t u on c.queue_head-head_word.result head c.in_ok-head.ensures.looked in
+      let s = sees_head M g.T.Theory.lawful g.met.T.HasQueues.has_queues t u c.args.queue cs on is.0 c.requires.begun going c.queue_head-head_word.result place head is.1 in
+      let noted = note_ok M u v over c.queue_head-head_word.result head c.in_ok-note.ensures.noted in
+      subst (λ n. HasLooked M v c.args.queue cs n n []) (sym (half_is head.value))
+      (head_passed M g.T.Theory.lawful g.met.T.HasQueues.has_queues u c.args.queue cs head s v over (omega arith)
+      (subst (λ w. HasNoted u v w head) (place ∙ sym (shape_head M t u on.later c.args.queue)) noted))
+      );
+}
 
 pub returns-in_err-note-clause-reads : goal.returns-in_err-note-clause-reads
 returns-in_err-note-clause-reads g c =
@@ -155,14 +146,8 @@ note-requires-clause-going g c = (c.requires.begun.going.0, c.in_ok-head.ensures
 pub returns-in_err-head-clause-pass : goal.returns-in_err-head-clause-pass
 returns-in_err-head-clause-pass g c = c.in_err-head.ensures.pass
 
-pub returns-in_err-head-clause-goes : goal.returns-in_err-head-clause-goes
-returns-in_err-head-clause-goes g c = IfOk-from_err c.from_residual.result _ c.from_residual.ensures.0
-
-pub returns-in_err-head-clause-among : goal.returns-in_err-head-clause-among
-returns-in_err-head-clause-among g c = IfOk-from_err c.from_residual.result _ c.from_residual.ensures.0
-
-pub returns-in_err-head-clause-looked : goal.returns-in_err-head-clause-looked
-returns-in_err-head-clause-looked g c = IfOk-from_err c.from_residual.result _ c.from_residual.ensures.0
+pub returns-in_err-head-clause-passes : goal.returns-in_err-head-clause-passes
+returns-in_err-head-clause-passes g c = IfOk-from_err c.from_residual.result _ c.from_residual.ensures.0
 
 pub returns-in_err-head-clause-reads : goal.returns-in_err-head-clause-reads
 returns-in_err-head-clause-reads g c = if_err c.from_residual.result c.in_err-head.field-0.0 _ c.from_residual.ensures.1
@@ -179,14 +164,8 @@ returns-in_err-head-clause-stopped g c = stays_on (state c.args.tx.now) (state c
 pub returns-in_err-note-clause-pass : goal.returns-in_err-note-clause-pass
 returns-in_err-note-clause-pass g c = c.in_err-note.ensures.pass ∙ c.in_ok-head.ensures.pass
 
-pub returns-in_err-note-clause-goes : goal.returns-in_err-note-clause-goes
-returns-in_err-note-clause-goes g c = IfOk-from_err c.from_residual-in_err-note.result _ c.from_residual-in_err-note.ensures.0
-
-pub returns-in_err-note-clause-among : goal.returns-in_err-note-clause-among
-returns-in_err-note-clause-among g c = IfOk-from_err c.from_residual-in_err-note.result _ c.from_residual-in_err-note.ensures.0
-
-pub returns-in_err-note-clause-looked : goal.returns-in_err-note-clause-looked
-returns-in_err-note-clause-looked g c = IfOk-from_err c.from_residual-in_err-note.result _ c.from_residual-in_err-note.ensures.0
+pub returns-in_err-note-clause-passes : goal.returns-in_err-note-clause-passes
+returns-in_err-note-clause-passes g c = IfOk-from_err c.from_residual-in_err-note.result _ c.from_residual-in_err-note.ensures.0
 
 pub returns-in_err-note-clause-no_writes : goal.returns-in_err-note-clause-no_writes
 returns-in_err-note-clause-no_writes g c = if_err c.from_residual-in_err-note.result c.in_err-note.field-0.0 _ c.from_residual-in_err-note.ensures.1

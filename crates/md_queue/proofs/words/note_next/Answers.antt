@@ -7,9 +7,15 @@ use Rattle.md_nbtc.specs.State.{state}
 use Rattle.md_nbtc_law.specs.Calls.{AfterStop, Notes, note_case}
 use Rattle.md_queue.proofs.words.note_next.Goals as goal
 
-pub note-requires-clause-found : goal.note-requires-clause-found
-note-requires-clause-found g c = subst (λ w. IsFoundThere g.T.Theory.meaning (state c.args.tx.now) w c.args.next)
-    (sym (c.node_next-next_word.ensures.place ∙ ap (λ s. address s (node_next c.args.node)) c.shape.ensures)) c.requires.may.there
+pub note-requires-clause-may : goal.note-requires-clause-may
+note-requires-clause-may g c = record {
+  operates = c.requires.may.operates;
+  gave = subst (λ w. Gave (state c.args.tx.now) w c.args.next) (sym (c.node_next-next_word.ensures.place ∙ ap (λ s. address s (node_next c.args.node)) c.shape.ensures)) c.requires.may.gave;
+  found = (
+      subst (λ w. IsFoundThere g.T.Theory.meaning (state c.args.tx.now) w c.args.next)
+      (sym (c.node_next-next_word.ensures.place ∙ ap (λ s. address s (node_next c.args.node)) c.shape.ensures)) c.requires.may.there
+      );
+}
 
 pub returns-clause-given : goal.returns-clause-given
 returns-clause-given g c = subst (KeepsGiven (state c.args.tx.now) (state c.note.new.self))
@@ -17,12 +23,6 @@ returns-clause-given g c = subst (KeepsGiven (state c.args.tx.now) (state c.note
 
 pub note-requires-clause-going : goal.note-requires-clause-going
 note-requires-clause-going g c = c.requires.may.going
-
-pub note-requires-clause-operates : goal.note-requires-clause-operates
-note-requires-clause-operates g c = c.requires.may.operates
-
-pub note-requires-clause-gave : goal.note-requires-clause-gave
-note-requires-clause-gave g c = subst (λ w. Gave (state c.args.tx.now) w c.args.next) (sym (c.node_next-next_word.ensures.place ∙ ap (λ s. address s (node_next c.args.node)) c.shape.ensures)) c.requires.may.gave
 
 pub returns-clause-pass : goal.returns-clause-pass
 returns-clause-pass g c = c.note.ensures.pass

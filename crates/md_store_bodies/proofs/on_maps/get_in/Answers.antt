@@ -41,51 +41,47 @@ end_op-requires-clause-may c =
     (unstopped s u (Ok c.in-Ok.value) (HasStopButNodes u (Ok c.in-Ok.value)) none c.in-Ok.ensures.stops) in
     may_end c.args.before.now.value t s c.args.broken.now c.in_default.is c.requires.running start u (Get c.args.map c.args.key) (Value c.in-Ok.value) ends
 
-pub returns-in-Ok-clause-runs : goal.returns-in-Ok-clause-runs
-returns-in-Ok-clause-runs c =
+pub returns-in-Ok-clause-makes : goal.returns-in-Ok-clause-makes
+returns-in-Ok-clause-makes c =
     let t = state c.args.txn.now in
     let s = state c.start_op.new.self in
     let u = state c.look_up.new.txn in
     let start : IsStarted t s = record { on = c.start_op.ensures.on; is = c.start_op.ensures.begun } in
     let none = none_stood c.args.before.now.value t s c.args.broken.now c.in_default.is c.requires.running start in
-    let is_head = is_head_of (shape_in t) (shape_in s) c.shape.result.now c.args.map c.args.key
-    c.map_head-head.result (ap shape_in c.start_op.ensures.begun) c.shape.ensures c.requires.map c.map_head-head.ensures.place in
-    let ends = list_ends c.args.before.now.value t s c.args.broken.now c.in_default.is c.requires.running start u 1 0 0 c.look_up.ensures.leaves
-    c.map_head-head.result c.args.key (λ map. Get map c.args.key) (Value c.in-Ok.value) c.in-Ok.ensures.answer c.args.map is_head
-    (unstopped s u (Ok c.in-Ok.value) (HasStopButNodes u (Ok c.in-Ok.value)) none c.in-Ok.ensures.stops) in
-    answered_runs c.args.before.now.value t s c.args.broken.now c.in_default.is c.requires.running start u (state c.end_op.new.self)
-    (Get c.args.map c.args.key) (Value c.in-Ok.value) ends (record { on = c.end_op.ensures.on; is = c.end_op.ensures.ended })
+    record {
+      runs = (
+          let is_head = is_head_of (shape_in t) (shape_in s) c.shape.result.now c.args.map c.args.key
+          c.map_head-head.result (ap shape_in c.start_op.ensures.begun) c.shape.ensures c.requires.map c.map_head-head.ensures.place in
+          let ends = list_ends c.args.before.now.value t s c.args.broken.now c.in_default.is c.requires.running start u 1 0 0 c.look_up.ensures.leaves
+          c.map_head-head.result c.args.key (λ map. Get map c.args.key) (Value c.in-Ok.value) c.in-Ok.ensures.answer c.args.map is_head
+          (unstopped s u (Ok c.in-Ok.value) (HasStopButNodes u (Ok c.in-Ok.value)) none c.in-Ok.ensures.stops) in
+          answered_runs c.args.before.now.value t s c.args.broken.now c.in_default.is c.requires.running start u (state c.end_op.new.self)
+          (Get c.args.map c.args.key) (Value c.in-Ok.value) ends (record { on = c.end_op.ensures.on; is = c.end_op.ensures.ended })
+          );
+      ok = answered_adds c.args.before.now.value t s c.args.broken.now c.in_default.is c.requires.running start u (state c.end_op.new.self) (Get c.args.map c.args.key) (Value c.in-Ok.value) c.look_up.ensures.leaves.acts
+          (record { on = c.end_op.ensures.on; is = c.end_op.ensures.ended });
+      err = tt;
+    }
 
-pub returns-in-Err-clause-runs : goal.returns-in-Err-clause-runs
-returns-in-Err-clause-runs c =
+pub returns-in-Err-clause-makes : goal.returns-in-Err-clause-makes
+returns-in-Err-clause-makes c =
     let t = state c.args.txn.now in
     let s = state c.start_op.new.self in
     let u = state c.look_up.new.txn in
     let start : IsStarted t s = record { on = c.start_op.ensures.on; is = c.start_op.ensures.begun } in
     let none = none_stood c.args.before.now.value t s c.args.broken.now c.in_default.is c.requires.running start in
-    let is_head = is_head_of (shape_in t) (shape_in s) c.shape.result.now c.args.map c.args.key
-    c.map_head-head.result (ap shape_in c.start_op.ensures.begun) c.shape.ensures c.requires.map c.map_head-head.ensures.place in
     let stops = (let r : Result (Option ℕ) Stop = Err c.in-Err.stop in unstopped s u r (HasStopButNodes u r) none c.in-Err.ensures.stops) in
-    list_runs c.args.before.now.value t s c.args.broken.now c.in_default.is c.requires.running start u 1 0 0 c.look_up.ensures.leaves refl
-    c.map_head-head.result c.args.key (λ map. Get map c.args.key) c.args.map is_head c.in-Err.stop stops.0 (record {
-      reads = λ is. c.in-Err.ensures.no_read none (ap Err is);
-      writes = λ is. needs_slot (c.in-Err.ensures.no_slot none (ap Err is));
-      nodes = λ is. absurd (stops.1 is);
-    })
-
-pub returns-in-Ok-clause-ok : goal.returns-in-Ok-clause-ok
-returns-in-Ok-clause-ok c =
-    let t = state c.args.txn.now in
-    let s = state c.start_op.new.self in
-    let u = state c.look_up.new.txn in
-    let start : IsStarted t s = record { on = c.start_op.ensures.on; is = c.start_op.ensures.begun } in
-    answered_adds c.args.before.now.value t s c.args.broken.now c.in_default.is c.requires.running start u (state c.end_op.new.self) (Get c.args.map c.args.key) (Value c.in-Ok.value) c.look_up.ensures.leaves.acts
-    (record { on = c.end_op.ensures.on; is = c.end_op.ensures.ended })
-
-pub returns-in-Err-clause-err : goal.returns-in-Err-clause-err
-returns-in-Err-clause-err c =
-    let t = state c.args.txn.now in
-    let s = state c.start_op.new.self in
-    let u = state c.look_up.new.txn in
-    let start : IsStarted t s = record { on = c.start_op.ensures.on; is = c.start_op.ensures.begun } in
-    refused_adds c.args.before.now.value t s c.args.broken.now c.in_default.is c.requires.running start u (Get c.args.map c.args.key) c.in-Err.stop c.look_up.ensures.leaves.acts
+    record {
+      runs = (
+          let is_head = is_head_of (shape_in t) (shape_in s) c.shape.result.now c.args.map c.args.key
+          c.map_head-head.result (ap shape_in c.start_op.ensures.begun) c.shape.ensures c.requires.map c.map_head-head.ensures.place in
+          list_runs c.args.before.now.value t s c.args.broken.now c.in_default.is c.requires.running start u 1 0 0 c.look_up.ensures.leaves refl
+          c.map_head-head.result c.args.key (λ map. Get map c.args.key) c.args.map is_head c.in-Err.stop stops.0 (record {
+            reads = λ is. c.in-Err.ensures.no_read none (ap Err is);
+            writes = λ is. needs_slot (c.in-Err.ensures.no_slot none (ap Err is));
+            nodes = λ is. absurd (stops.1 is);
+          })
+          );
+      ok = tt;
+      err = refused_adds c.args.before.now.value t s c.args.broken.now c.in_default.is c.requires.running start u (Get c.args.map c.args.key) c.in-Err.stop c.look_up.ensures.leaves.acts;
+    }

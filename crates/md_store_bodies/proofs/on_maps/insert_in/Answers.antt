@@ -40,51 +40,47 @@ end_op-requires-clause-may c =
     (unstopped s u (Ok c.in-Ok.absent) (HasStop u (Ok c.in-Ok.absent)) none c.in-Ok.ensures.stops) in
     may_end c.args.before.now.value t s c.args.broken.now c.in_default.is c.requires.running start u (Insert c.args.map c.args.key c.args.value) (Flag c.in-Ok.absent) ends
 
-pub returns-in-Ok-clause-runs : goal.returns-in-Ok-clause-runs
-returns-in-Ok-clause-runs c =
+pub returns-in-Ok-clause-makes : goal.returns-in-Ok-clause-makes
+returns-in-Ok-clause-makes c =
     let t = state c.args.txn.now in
     let s = state c.start_op.new.self in
     let u = state c.insert.new.tx in
     let start : IsStarted t s = record { on = c.start_op.ensures.on; is = c.start_op.ensures.begun } in
     let none = none_stood c.args.before.now.value t s c.args.broken.now c.in_default.is c.requires.running start in
-    let is_head = is_head_of (shape_in t) (shape_in s) c.shape.result.now c.args.map c.args.key
-    c.map_head-head.result (ap shape_in c.start_op.ensures.begun) c.shape.ensures c.requires.map c.map_head-head.ensures.place in
-    let ends = list_ends c.args.before.now.value t s c.args.broken.now c.in_default.is c.requires.running start u 1 1 1 c.insert.ensures.leaves
-    c.map_head-head.result c.args.key (λ map. Insert map c.args.key c.args.value) (Flag c.in-Ok.absent) c.in-Ok.ensures.answer c.args.map is_head
-    (unstopped s u (Ok c.in-Ok.absent) (HasStop u (Ok c.in-Ok.absent)) none c.in-Ok.ensures.stops) in
-    answered_runs c.args.before.now.value t s c.args.broken.now c.in_default.is c.requires.running start u (state c.end_op.new.self)
-    (Insert c.args.map c.args.key c.args.value) (Flag c.in-Ok.absent) ends (record { on = c.end_op.ensures.on; is = c.end_op.ensures.ended })
+    record {
+      runs = (
+          let is_head = is_head_of (shape_in t) (shape_in s) c.shape.result.now c.args.map c.args.key
+          c.map_head-head.result (ap shape_in c.start_op.ensures.begun) c.shape.ensures c.requires.map c.map_head-head.ensures.place in
+          let ends = list_ends c.args.before.now.value t s c.args.broken.now c.in_default.is c.requires.running start u 1 1 1 c.insert.ensures.leaves
+          c.map_head-head.result c.args.key (λ map. Insert map c.args.key c.args.value) (Flag c.in-Ok.absent) c.in-Ok.ensures.answer c.args.map is_head
+          (unstopped s u (Ok c.in-Ok.absent) (HasStop u (Ok c.in-Ok.absent)) none c.in-Ok.ensures.stops) in
+          answered_runs c.args.before.now.value t s c.args.broken.now c.in_default.is c.requires.running start u (state c.end_op.new.self)
+          (Insert c.args.map c.args.key c.args.value) (Flag c.in-Ok.absent) ends (record { on = c.end_op.ensures.on; is = c.end_op.ensures.ended })
+          );
+      ok = answered_adds c.args.before.now.value t s c.args.broken.now c.in_default.is c.requires.running start u (state c.end_op.new.self) (Insert c.args.map c.args.key c.args.value) (Flag c.in-Ok.absent) c.insert.ensures.leaves.acts
+          (record { on = c.end_op.ensures.on; is = c.end_op.ensures.ended });
+      err = tt;
+    }
 
-pub returns-in-Err-clause-runs : goal.returns-in-Err-clause-runs
-returns-in-Err-clause-runs c =
+pub returns-in-Err-clause-makes : goal.returns-in-Err-clause-makes
+returns-in-Err-clause-makes c =
     let t = state c.args.txn.now in
     let s = state c.start_op.new.self in
     let u = state c.insert.new.tx in
     let start : IsStarted t s = record { on = c.start_op.ensures.on; is = c.start_op.ensures.begun } in
     let none = none_stood c.args.before.now.value t s c.args.broken.now c.in_default.is c.requires.running start in
-    let is_head = is_head_of (shape_in t) (shape_in s) c.shape.result.now c.args.map c.args.key
-    c.map_head-head.result (ap shape_in c.start_op.ensures.begun) c.shape.ensures c.requires.map c.map_head-head.ensures.place in
     let stops = (let r : Result Bool Stop = Err c.in-Err.stop in unstopped s u r (HasStop u r) none c.in-Err.ensures.stops) in
-    list_runs c.args.before.now.value t s c.args.broken.now c.in_default.is c.requires.running start u 1 1 1 c.insert.ensures.leaves refl
-    c.map_head-head.result c.args.key (λ map. Insert map c.args.key c.args.value) c.args.map is_head c.in-Err.stop stops (record {
-      reads = λ is. c.in-Err.ensures.no_read none (ap Err is);
-      writes = λ is. c.in-Err.ensures.no_slot none (ap Err is);
-      nodes = λ is. (c.args.value, (λ map. refl), c.in-Err.ensures.no_node none (ap Err is));
-    })
-
-pub returns-in-Ok-clause-ok : goal.returns-in-Ok-clause-ok
-returns-in-Ok-clause-ok c =
-    let t = state c.args.txn.now in
-    let s = state c.start_op.new.self in
-    let u = state c.insert.new.tx in
-    let start : IsStarted t s = record { on = c.start_op.ensures.on; is = c.start_op.ensures.begun } in
-    answered_adds c.args.before.now.value t s c.args.broken.now c.in_default.is c.requires.running start u (state c.end_op.new.self) (Insert c.args.map c.args.key c.args.value) (Flag c.in-Ok.absent) c.insert.ensures.leaves.acts
-    (record { on = c.end_op.ensures.on; is = c.end_op.ensures.ended })
-
-pub returns-in-Err-clause-err : goal.returns-in-Err-clause-err
-returns-in-Err-clause-err c =
-    let t = state c.args.txn.now in
-    let s = state c.start_op.new.self in
-    let u = state c.insert.new.tx in
-    let start : IsStarted t s = record { on = c.start_op.ensures.on; is = c.start_op.ensures.begun } in
-    refused_adds c.args.before.now.value t s c.args.broken.now c.in_default.is c.requires.running start u (Insert c.args.map c.args.key c.args.value) c.in-Err.stop c.insert.ensures.leaves.acts
+    record {
+      runs = (
+          let is_head = is_head_of (shape_in t) (shape_in s) c.shape.result.now c.args.map c.args.key
+          c.map_head-head.result (ap shape_in c.start_op.ensures.begun) c.shape.ensures c.requires.map c.map_head-head.ensures.place in
+          list_runs c.args.before.now.value t s c.args.broken.now c.in_default.is c.requires.running start u 1 1 1 c.insert.ensures.leaves refl
+          c.map_head-head.result c.args.key (λ map. Insert map c.args.key c.args.value) c.args.map is_head c.in-Err.stop stops (record {
+            reads = λ is. c.in-Err.ensures.no_read none (ap Err is);
+            writes = λ is. c.in-Err.ensures.no_slot none (ap Err is);
+            nodes = λ is. (c.args.value, (λ map. refl), c.in-Err.ensures.no_node none (ap Err is));
+          })
+          );
+      ok = tt;
+      err = refused_adds c.args.before.now.value t s c.args.broken.now c.in_default.is c.requires.running start u (Insert c.args.map c.args.key c.args.value) c.in-Err.stop c.insert.ensures.leaves.acts;
+    }

@@ -23,30 +23,35 @@ end_op-requires-clause-may c =
     let ends = queue_ends c.args.before.now.value t s c.args.broken.now c.in_default.is c.requires.running start u (dequeue_reads c.in-Ok.value) (dequeue_writes c.in-Ok.value) 0 (Dequeue c.args.queue) (Value c.in-Ok.value) refl c.in-Ok.ensures.answer in
     may_end c.args.before.now.value t s c.args.broken.now c.in_default.is c.requires.running start u (Dequeue c.args.queue) (Value c.in-Ok.value) ends
 
-pub returns-in-Ok-clause-runs : goal.returns-in-Ok-clause-runs
-returns-in-Ok-clause-runs c =
+pub returns-in-Ok-clause-makes : goal.returns-in-Ok-clause-makes
+returns-in-Ok-clause-makes c =
     let t = state c.args.txn.now in
     let s = state c.start_op.new.self in
     let u = state c.dequeue.new.tx in
     let start : IsStarted t s = record { on = c.start_op.ensures.on; is = c.start_op.ensures.begun } in
     let ends = queue_ends c.args.before.now.value t s c.args.broken.now c.in_default.is c.requires.running start u (dequeue_reads c.in-Ok.value) (dequeue_writes c.in-Ok.value) 0 (Dequeue c.args.queue) (Value c.in-Ok.value) refl c.in-Ok.ensures.answer in
-    answered_runs c.args.before.now.value t s c.args.broken.now c.in_default.is c.requires.running start u (state c.end_op.new.self)
-    (Dequeue c.args.queue) (Value c.in-Ok.value) ends (record { on = c.end_op.ensures.on; is = c.end_op.ensures.ended })
+    record {
+      runs = answered_runs c.args.before.now.value t s c.args.broken.now c.in_default.is c.requires.running start u (state c.end_op.new.self)
+          (Dequeue c.args.queue) (Value c.in-Ok.value) ends (record { on = c.end_op.ensures.on; is = c.end_op.ensures.ended });
+      ok = search rules depth 1;
+      err = tt;
+    }
 
-pub returns-in-Err-clause-runs : goal.returns-in-Err-clause-runs
-returns-in-Err-clause-runs c =
+pub returns-in-Err-clause-makes : goal.returns-in-Err-clause-makes
+returns-in-Err-clause-makes c =
     let t = state c.args.txn.now in
     let s = state c.start_op.new.self in
     let u = state c.dequeue.new.tx in
     let start : IsStarted t s = record { on = c.start_op.ensures.on; is = c.start_op.ensures.begun } in
     let none = none_stood c.args.before.now.value t s c.args.broken.now c.in_default.is c.requires.running start in
-    queue_runs c.args.before.now.value t s c.args.broken.now c.in_default.is c.requires.running start u 2 2 0 refl
-    c.args.queue (Dequeue c.args.queue) (AsksFront c.args.queue) c.in-Err.stop c.in-Err.ensures.stop.refused (record {
-      other = refl;
-      reads = λ is alone. (front_by_dequeue c.args.queue, c.in-Err.ensures.reads is alone (cs c.args.before.now.value t s c.args.broken.now c.in_default.is c.requires.running start) (counted c.args.before.now.value t s c.args.broken.now c.in_default.is c.requires.running start).going);
-      writes = λ is alone. c.in-Err.ensures.writes is alone (cs c.args.before.now.value t s c.args.broken.now c.in_default.is c.requires.running start) (counted c.args.before.now.value t s c.args.broken.now c.in_default.is c.requires.running start).going;
-      nodes = λ is. absurd (stands_not none (c.in-Err.ensures.stop.no_nodes is));
-    })
-
-pub returns-in-Ok-clause-ok : goal.returns-in-Ok-clause-ok
-returns-in-Ok-clause-ok c = search rules depth 1
+    record {
+      runs = queue_runs c.args.before.now.value t s c.args.broken.now c.in_default.is c.requires.running start u 2 2 0 refl
+          c.args.queue (Dequeue c.args.queue) (AsksFront c.args.queue) c.in-Err.stop c.in-Err.ensures.stop.refused (record {
+            other = refl;
+            reads = λ is alone. (front_by_dequeue c.args.queue, c.in-Err.ensures.reads is alone (cs c.args.before.now.value t s c.args.broken.now c.in_default.is c.requires.running start) (counted c.args.before.now.value t s c.args.broken.now c.in_default.is c.requires.running start).going);
+            writes = λ is alone. c.in-Err.ensures.writes is alone (cs c.args.before.now.value t s c.args.broken.now c.in_default.is c.requires.running start) (counted c.args.before.now.value t s c.args.broken.now c.in_default.is c.requires.running start).going;
+            nodes = λ is. absurd (stands_not none (c.in-Err.ensures.stop.no_nodes is));
+          });
+      ok = tt;
+      err = search rules;
+    }

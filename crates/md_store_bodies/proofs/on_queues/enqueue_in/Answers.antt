@@ -21,30 +21,35 @@ end_op-requires-clause-may c =
     let ends = queue_ends c.args.before.now.value t s c.args.broken.now c.in_default.is c.requires.running start u 0 2 1 (Enqueue c.args.queue c.args.value) Nothing refl c.in-Ok.ensures.answer in
     may_end c.args.before.now.value t s c.args.broken.now c.in_default.is c.requires.running start u (Enqueue c.args.queue c.args.value) Nothing ends
 
-pub returns-in-Ok-clause-runs : goal.returns-in-Ok-clause-runs
-returns-in-Ok-clause-runs c =
+pub returns-in-Ok-clause-makes : goal.returns-in-Ok-clause-makes
+returns-in-Ok-clause-makes c =
     let t = state c.args.txn.now in
     let s = state c.start_op.new.self in
     let u = state c.enqueue.new.tx in
     let start : IsStarted t s = record { on = c.start_op.ensures.on; is = c.start_op.ensures.begun } in
     let ends = queue_ends c.args.before.now.value t s c.args.broken.now c.in_default.is c.requires.running start u 0 2 1 (Enqueue c.args.queue c.args.value) Nothing refl c.in-Ok.ensures.answer in
-    answered_runs c.args.before.now.value t s c.args.broken.now c.in_default.is c.requires.running start u (state c.end_op.new.self)
-    (Enqueue c.args.queue c.args.value) Nothing ends (record { on = c.end_op.ensures.on; is = c.end_op.ensures.ended })
+    record {
+      runs = answered_runs c.args.before.now.value t s c.args.broken.now c.in_default.is c.requires.running start u (state c.end_op.new.self)
+          (Enqueue c.args.queue c.args.value) Nothing ends (record { on = c.end_op.ensures.on; is = c.end_op.ensures.ended });
+      ok = search rules depth 1;
+      err = tt;
+    }
 
-pub returns-in-Err-clause-runs : goal.returns-in-Err-clause-runs
-returns-in-Err-clause-runs c =
+pub returns-in-Err-clause-makes : goal.returns-in-Err-clause-makes
+returns-in-Err-clause-makes c =
     let t = state c.args.txn.now in
     let s = state c.start_op.new.self in
     let u = state c.enqueue.new.tx in
     let start : IsStarted t s = record { on = c.start_op.ensures.on; is = c.start_op.ensures.begun } in
     let none = none_stood c.args.before.now.value t s c.args.broken.now c.in_default.is c.requires.running start in
-    queue_runs c.args.before.now.value t s c.args.broken.now c.in_default.is c.requires.running start u 0 2 1 refl
-    c.args.queue (Enqueue c.args.queue c.args.value) (AsksFront c.args.queue) c.in-Err.stop c.in-Err.ensures.stop (record {
-      other = refl;
-      reads = λ is alone. absurd (stands_not none (c.in-Err.ensures.no_reads is));
-      writes = λ is alone. c.in-Err.ensures.writes is alone (cs c.args.before.now.value t s c.args.broken.now c.in_default.is c.requires.running start) (counted c.args.before.now.value t s c.args.broken.now c.in_default.is c.requires.running start).going;
-      nodes = λ is. ((λ r. refl), c.in-Err.ensures.no_node is none);
-    })
-
-pub returns-in-Ok-clause-ok : goal.returns-in-Ok-clause-ok
-returns-in-Ok-clause-ok c = search rules depth 1
+    record {
+      runs = queue_runs c.args.before.now.value t s c.args.broken.now c.in_default.is c.requires.running start u 0 2 1 refl
+          c.args.queue (Enqueue c.args.queue c.args.value) (AsksFront c.args.queue) c.in-Err.stop c.in-Err.ensures.stop (record {
+            other = refl;
+            reads = λ is alone. absurd (stands_not none (c.in-Err.ensures.no_reads is));
+            writes = λ is alone. c.in-Err.ensures.writes is alone (cs c.args.before.now.value t s c.args.broken.now c.in_default.is c.requires.running start) (counted c.args.before.now.value t s c.args.broken.now c.in_default.is c.requires.running start).going;
+            nodes = λ is. ((λ r. refl), c.in-Err.ensures.no_node is none);
+          });
+      ok = tt;
+      err = search rules;
+    }

@@ -22,44 +22,36 @@ end_op-requires-clause-may c =
     let ends = queue_ends c.args.before.now.value t s c.args.broken.now c.in_default.is c.requires.running start u 2 0 0 (Front c.args.queue) (Value c.in-Ok.value) refl c.in-Ok.ensures.answer in
     may_end c.args.before.now.value t s c.args.broken.now c.in_default.is c.requires.running start u (Front c.args.queue) (Value c.in-Ok.value) ends
 
-pub returns-in-Ok-clause-runs : goal.returns-in-Ok-clause-runs
-returns-in-Ok-clause-runs c =
+pub returns-in-Ok-clause-makes : goal.returns-in-Ok-clause-makes
+returns-in-Ok-clause-makes c =
     let t = state c.args.txn.now in
     let s = state c.start_op.new.self in
     let u = state c.look.new.txn in
     let start : IsStarted t s = record { on = c.start_op.ensures.on; is = c.start_op.ensures.begun } in
     let ends = queue_ends c.args.before.now.value t s c.args.broken.now c.in_default.is c.requires.running start u 2 0 0 (Front c.args.queue) (Value c.in-Ok.value) refl c.in-Ok.ensures.answer in
-    answered_runs c.args.before.now.value t s c.args.broken.now c.in_default.is c.requires.running start u (state c.end_op.new.self)
-    (Front c.args.queue) (Value c.in-Ok.value) ends (record { on = c.end_op.ensures.on; is = c.end_op.ensures.ended })
+    record {
+      runs = answered_runs c.args.before.now.value t s c.args.broken.now c.in_default.is c.requires.running start u (state c.end_op.new.self)
+          (Front c.args.queue) (Value c.in-Ok.value) ends (record { on = c.end_op.ensures.on; is = c.end_op.ensures.ended });
+      ok = answered_adds c.args.before.now.value t s c.args.broken.now c.in_default.is c.requires.running start u (state c.end_op.new.self) (Front c.args.queue) (Value c.in-Ok.value) c.in-Ok.ensures.answer.goes.leaves.acts
+          (record { on = c.end_op.ensures.on; is = c.end_op.ensures.ended });
+      err = tt;
+    }
 
-pub returns-in-Err-clause-runs : goal.returns-in-Err-clause-runs
-returns-in-Err-clause-runs c =
+pub returns-in-Err-clause-makes : goal.returns-in-Err-clause-makes
+returns-in-Err-clause-makes c =
     let t = state c.args.txn.now in
     let s = state c.start_op.new.self in
     let u = state c.look.new.txn in
     let start : IsStarted t s = record { on = c.start_op.ensures.on; is = c.start_op.ensures.begun } in
     let none = none_stood c.args.before.now.value t s c.args.broken.now c.in_default.is c.requires.running start in
-    queue_runs c.args.before.now.value t s c.args.broken.now c.in_default.is c.requires.running start u 2 0 0 refl
-    c.args.queue (Front c.args.queue) (AsksFront c.args.queue) c.in-Err.stop c.in-Err.ensures.stop.refused (record {
-      other = refl;
-      reads = λ is alone. (front_by_front c.args.queue, c.in-Err.ensures.reads is alone (cs c.args.before.now.value t s c.args.broken.now c.in_default.is c.requires.running start) (counted c.args.before.now.value t s c.args.broken.now c.in_default.is c.requires.running start).going);
-      writes = λ is alone. absurd (stands_not none (c.in-Err.ensures.no_writes is));
-      nodes = λ is. absurd (stands_not none (c.in-Err.ensures.stop.no_nodes is));
-    })
-
-pub returns-in-Ok-clause-ok : goal.returns-in-Ok-clause-ok
-returns-in-Ok-clause-ok c =
-    let t = state c.args.txn.now in
-    let s = state c.start_op.new.self in
-    let u = state c.look.new.txn in
-    let start : IsStarted t s = record { on = c.start_op.ensures.on; is = c.start_op.ensures.begun } in
-    answered_adds c.args.before.now.value t s c.args.broken.now c.in_default.is c.requires.running start u (state c.end_op.new.self) (Front c.args.queue) (Value c.in-Ok.value) c.in-Ok.ensures.answer.goes.leaves.acts
-    (record { on = c.end_op.ensures.on; is = c.end_op.ensures.ended })
-
-pub returns-in-Err-clause-err : goal.returns-in-Err-clause-err
-returns-in-Err-clause-err c =
-    let t = state c.args.txn.now in
-    let s = state c.start_op.new.self in
-    let u = state c.look.new.txn in
-    let start : IsStarted t s = record { on = c.start_op.ensures.on; is = c.start_op.ensures.begun } in
-    refused_adds c.args.before.now.value t s c.args.broken.now c.in_default.is c.requires.running start u (Front c.args.queue) c.in-Err.stop c.in-Err.ensures.stop.refused.leaves.acts
+    record {
+      runs = queue_runs c.args.before.now.value t s c.args.broken.now c.in_default.is c.requires.running start u 2 0 0 refl
+          c.args.queue (Front c.args.queue) (AsksFront c.args.queue) c.in-Err.stop c.in-Err.ensures.stop.refused (record {
+            other = refl;
+            reads = λ is alone. (front_by_front c.args.queue, c.in-Err.ensures.reads is alone (cs c.args.before.now.value t s c.args.broken.now c.in_default.is c.requires.running start) (counted c.args.before.now.value t s c.args.broken.now c.in_default.is c.requires.running start).going);
+            writes = λ is alone. absurd (stands_not none (c.in-Err.ensures.no_writes is));
+            nodes = λ is. absurd (stands_not none (c.in-Err.ensures.stop.no_nodes is));
+          });
+      ok = tt;
+      err = refused_adds c.args.before.now.value t s c.args.broken.now c.in_default.is c.requires.running start u (Front c.args.queue) c.in-Err.stop c.in-Err.ensures.stop.refused.leaves.acts;
+    }

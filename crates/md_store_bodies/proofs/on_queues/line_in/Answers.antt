@@ -20,30 +20,35 @@ end_op-requires-clause-may c =
     let ends = queue_ends c.args.before.now.value t s c.args.broken.now c.in_default.is c.requires.running start u (c.args.n + 1) 0 0 (TheLine c.args.queue c.args.n) (InLine c.in-Ok.line) refl c.in-Ok.ensures.answer in
     may_end c.args.before.now.value t s c.args.broken.now c.in_default.is c.requires.running start u (TheLine c.args.queue c.args.n) (InLine c.in-Ok.line) ends
 
-pub returns-in-Ok-clause-runs : goal.returns-in-Ok-clause-runs
-returns-in-Ok-clause-runs c =
+pub returns-in-Ok-clause-makes : goal.returns-in-Ok-clause-makes
+returns-in-Ok-clause-makes c =
     let t = state c.args.txn.now in
     let s = state c.start_op.new.self in
     let u = state c.line.new.tx in
     let start : IsStarted t s = record { on = c.start_op.ensures.on; is = c.start_op.ensures.begun } in
     let ends = queue_ends c.args.before.now.value t s c.args.broken.now c.in_default.is c.requires.running start u (c.args.n + 1) 0 0 (TheLine c.args.queue c.args.n) (InLine c.in-Ok.line) refl c.in-Ok.ensures.answer in
-    answered_runs c.args.before.now.value t s c.args.broken.now c.in_default.is c.requires.running start u (state c.end_op.new.self)
-    (TheLine c.args.queue c.args.n) (InLine c.in-Ok.line) ends (record { on = c.end_op.ensures.on; is = c.end_op.ensures.ended })
+    record {
+      runs = answered_runs c.args.before.now.value t s c.args.broken.now c.in_default.is c.requires.running start u (state c.end_op.new.self)
+          (TheLine c.args.queue c.args.n) (InLine c.in-Ok.line) ends (record { on = c.end_op.ensures.on; is = c.end_op.ensures.ended });
+      ok = search rules depth 1;
+      err = tt;
+    }
 
-pub returns-in-Err-clause-runs : goal.returns-in-Err-clause-runs
-returns-in-Err-clause-runs c =
+pub returns-in-Err-clause-makes : goal.returns-in-Err-clause-makes
+returns-in-Err-clause-makes c =
     let t = state c.args.txn.now in
     let s = state c.start_op.new.self in
     let u = state c.line.new.tx in
     let start : IsStarted t s = record { on = c.start_op.ensures.on; is = c.start_op.ensures.begun } in
     let none = none_stood c.args.before.now.value t s c.args.broken.now c.in_default.is c.requires.running start in
-    queue_runs c.args.before.now.value t s c.args.broken.now c.in_default.is c.requires.running start u (c.args.n + 1) 0 0 refl
-    c.args.queue (TheLine c.args.queue c.args.n) (AsksLine c.args.queue c.args.n) c.in-Err.stop c.in-Err.ensures.stop.refused (record {
-      other = refl;
-      reads = λ is alone. ((λ op asks. line_by_line c.args.queue asks.0 c.args.n op asks.2 asks.3), c.in-Err.ensures.reads is alone (cs c.args.before.now.value t s c.args.broken.now c.in_default.is c.requires.running start) (counted c.args.before.now.value t s c.args.broken.now c.in_default.is c.requires.running start).going);
-      writes = λ is alone. absurd (stands_not none (c.in-Err.ensures.no_writes is));
-      nodes = λ is. absurd (stands_not none (c.in-Err.ensures.stop.no_nodes is));
-    })
-
-pub returns-in-Ok-clause-ok : goal.returns-in-Ok-clause-ok
-returns-in-Ok-clause-ok c = search rules depth 1
+    record {
+      runs = queue_runs c.args.before.now.value t s c.args.broken.now c.in_default.is c.requires.running start u (c.args.n + 1) 0 0 refl
+          c.args.queue (TheLine c.args.queue c.args.n) (AsksLine c.args.queue c.args.n) c.in-Err.stop c.in-Err.ensures.stop.refused (record {
+            other = refl;
+            reads = λ is alone. ((λ op asks. line_by_line c.args.queue asks.0 c.args.n op asks.2 asks.3), c.in-Err.ensures.reads is alone (cs c.args.before.now.value t s c.args.broken.now c.in_default.is c.requires.running start) (counted c.args.before.now.value t s c.args.broken.now c.in_default.is c.requires.running start).going);
+            writes = λ is alone. absurd (stands_not none (c.in-Err.ensures.no_writes is));
+            nodes = λ is. absurd (stands_not none (c.in-Err.ensures.stop.no_nodes is));
+          });
+      ok = tt;
+      err = search rules;
+    }

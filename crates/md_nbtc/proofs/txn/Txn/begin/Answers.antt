@@ -39,7 +39,7 @@ put_in_hand-serial-requires-clause-idle g c =
 
 pub put_in_hand-serial-requires-clause-taken : goal.put_in_hand-serial-requires-clause-taken
 put_in_hand-serial-requires-clause-taken g c =
-    taken_last c.mark_leave.new.self c.take_descriptor.new.pass c.in-Ok.desc c.in-Ok.ensures.own c.kept.ensures.lanes c.kept.ensures.shares c.in-Ok.ensures.takes
+    taken_last c.mark_leave.new.self c.take_descriptor.new.pass c.in-Ok.desc c.in-Ok.ensures.own c.kept.ensures.kept c.kept.ensures.shares c.in-Ok.ensures.takes
 
 pub returns-in-Err : goal.returns-in-Err
 returns-in-Err g c =
@@ -93,7 +93,7 @@ returns g c =
     let own : HasDesc field.origin.shape r.view desc = subst (λ (x : PassState). HasDesc field.origin.shape x.view desc) (sym takes.1)
     (subst (λ shape. HasDesc shape q.view desc) (ap (λ (x : PassState). x.shape) leave ∙ c.requires.of.shape) own_q) in
     let idle = ap (λ (x : PassState). x.view.hand) takes.1 ∙ ap (λ (x : PassView). x.hand) (told_leave M field.origin p.view q.view step) in
-    let free = free_left field.origin.shape q r desc (ap (λ (x : PassState). x.shape) leave ∙ c.requires.of.shape) c.kept.ensures.lanes takes
+    let free = free_left field.origin.shape q r desc (ap (λ (x : PassState). x.shape) leave ∙ c.requires.of.shape) c.kept.ensures.kept takes
     (subst (λ n. desc < n) (sym c.kept.ensures.shares) (desc_fits q.shape desc (own_desc_exists q.shape own_q.0 desc own_q.2))) in
     let is = c.over.ensures.state ∙ ap (λ b. state_of field s b [] [] None desc serial tag []) c.of-began.ensures in (
       (ap some (sym c.over.ensures.pass), (λ w. refl), tt),

@@ -31,7 +31,7 @@ returns-in-Some-clause-on g c =
     let M = g.T.Theory.meaning in
     let t = state c.args.self.now in
     let r = c.requires in
-    halted_on M t r.going.1.prepared c.in-Some.stop (refusal_cause t c.args.word c.args.from r.gave r.other (count_of-counted_word c.args.from.value c.args.from.count c.refusal.ensures.fits) c.in-Some.stop c.is_critical-critical.result (sym c.refusal.ensures.is ∙ c.in-Some.is))
+    halted_on M t r.going.1.prepared c.in-Some.stop (refusal_cause t c.args.word c.args.from r.other.gave r.other.other (count_of-counted_word c.args.from.value c.args.from.count c.refusal.ensures.fits) c.in-Some.stop c.is_critical-critical.result (sym c.refusal.ensures.is ∙ c.in-Some.is))
 
 pub returns-in-Some-clause-exchanged : goal.returns-in-Some-clause-exchanged
 returns-in-Some-clause-exchanged g c =
@@ -41,8 +41,11 @@ returns-in-Some-clause-exchanged g c =
     refused M t (record t { stop = Some c.in-Some.stop }) c.args.word c.args.from c.args.to (case_of_other t c.args.word c.args.from (is_critical t c.args.word c.args.kind)) c.in-Some.stop
     (ap (λ b. refusal_by (case_of_other t c.args.word c.args.from b) c.args.word c.args.from) (sym c.is_critical-critical.ensures) ∙ sym c.refusal.ensures.is ∙ c.in-Some.is) refl
 
-pub returns-in-Some-clause-given : goal.returns-in-Some-clause-given
-returns-in-Some-clause-given g c other seen differ gave = halted_gave (state c.args.self.now) c.in-Some.stop other seen gave
+pub returns-in-Some-clause-gives : goal.returns-in-Some-clause-gives
+returns-in-Some-clause-gives g c = record {
+  given = λ other seen differ gave. halted_gave (state c.args.self.now) c.in-Some.stop other seen gave;
+  gave = tt;
+}
 
 pub install-requires-clause-steps : goal.install-requires-clause-steps
 install-requires-clause-steps g c =
@@ -56,16 +59,8 @@ install-requires-clause-may g c =
     let M = g.T.Theory.meaning in
     let t = state c.args.self.now in
     let r = c.requires in
-    (subst (λ k. MayBeOf k M t c.args.word c.args.from c.args.to)
-    (whole_case t c.args.word c.args.from c.args.kind c.is_critical-critical.result true c.is_critical-critical.ensures c.if-critical.true (sym c.refusal.ensures.is ∙ c.in_default.is)) r.may).0
-
-pub install-requires-clause-first : goal.install-requires-clause-first
-install-requires-clause-first g c =
-    let M = g.T.Theory.meaning in
-    let t = state c.args.self.now in
-    let r = c.requires in
-    (subst (λ k. MayBeOf k M t c.args.word c.args.from c.args.to)
-    (whole_case t c.args.word c.args.from c.args.kind c.is_critical-critical.result true c.is_critical-critical.ensures c.if-critical.true (sym c.refusal.ensures.is ∙ c.in_default.is)) r.may).1
+    subst (λ k. MayBeOf k M t c.args.word c.args.from c.args.to)
+    (whole_case t c.args.word c.args.from c.args.kind c.is_critical-critical.result true c.is_critical-critical.ensures c.if-critical.true (sym c.refusal.ensures.is ∙ c.in_default.is)) r.may
 
 pub returns-then-critical-clause-exchanged : goal.returns-then-critical-clause-exchanged
 returns-then-critical-clause-exchanged g c =
@@ -75,32 +70,18 @@ returns-then-critical-clause-exchanged g c =
     subst (λ k. Exchanges k M t (state c.install.new.self) c.args.word c.args.from c.args.to c.install.result)
     (sym (whole_case t c.args.word c.args.from c.args.kind c.is_critical-critical.result true c.is_critical-critical.ensures c.if-critical.true (sym c.refusal.ensures.is ∙ c.in_default.is))) c.install.ensures.exchanged
 
-pub change_plainly-requires-clause-fits : goal.change_plainly-requires-clause-fits
-change_plainly-requires-clause-fits g c =
-    let M = g.T.Theory.meaning in
-    let t = state c.args.self.now in
-    let r = c.requires in
-    (step_made (content_read t.reads c.args.word) (seen_content c.args.from) c.args.from.count (length t.slots) false
-    (ap makes_step (case_is t c.args.word c.args.from c.args.kind c.is_critical-critical.result false c.is_critical-critical.ensures c.if-critical.false (sym c.refusal.ensures.is ∙ c.in_default.is)))).fits
-
-pub change_plainly-requires-clause-plain : goal.change_plainly-requires-clause-plain
-change_plainly-requires-clause-plain g c = plain_kind (state c.args.self.now) c.args.word c.args.kind (sym c.is_critical-critical.ensures ∙ c.if-critical.false)
-
 pub change_plainly-requires-clause-may : goal.change_plainly-requires-clause-may
 change_plainly-requires-clause-may g c =
     let M = g.T.Theory.meaning in
     let t = state c.args.self.now in
     let r = c.requires in
-    (subst (λ k. MayBeOf k M t c.args.word c.args.from c.args.to)
-    (whole_case t c.args.word c.args.from c.args.kind c.is_critical-critical.result false c.is_critical-critical.ensures c.if-critical.false (sym c.refusal.ensures.is ∙ c.in_default.is)) r.may).0
-
-pub change_plainly-requires-clause-tidy : goal.change_plainly-requires-clause-tidy
-change_plainly-requires-clause-tidy g c =
-    let M = g.T.Theory.meaning in
-    let t = state c.args.self.now in
-    let r = c.requires in
-    (subst (λ k. MayBeOf k M t c.args.word c.args.from c.args.to)
-    (whole_case t c.args.word c.args.from c.args.kind c.is_critical-critical.result false c.is_critical-critical.ensures c.if-critical.false (sym c.refusal.ensures.is ∙ c.in_default.is)) r.may).1
+    record {
+      fits = (step_made (content_read t.reads c.args.word) (seen_content c.args.from) c.args.from.count (length t.slots) false
+          (ap makes_step (case_is t c.args.word c.args.from c.args.kind c.is_critical-critical.result false c.is_critical-critical.ensures c.if-critical.false (sym c.refusal.ensures.is ∙ c.in_default.is)))).fits;
+      plain = plain_kind (state c.args.self.now) c.args.word c.args.kind (sym c.is_critical-critical.ensures ∙ c.if-critical.false);
+      may = subst (λ k. MayBeOf k M t c.args.word c.args.from c.args.to)
+          (whole_case t c.args.word c.args.from c.args.kind c.is_critical-critical.result false c.is_critical-critical.ensures c.if-critical.false (sym c.refusal.ensures.is ∙ c.in_default.is)) r.may;
+    }
 
 pub returns-else-critical-clause-exchanged : goal.returns-else-critical-clause-exchanged
 returns-else-critical-clause-exchanged g c =

@@ -37,14 +37,14 @@ install-requires-clause-fits g c =
     let t = state x in
     let r = c.requires in
     let prepared = r.going.1.prepared in (
-      even_room c.args.from.count (r.gave.content (r.gave.own ∙ r.other)).even r.fits,
+      even_room c.args.from.count (r.other.gave.content (r.other.gave.own ∙ r.other.other)).even r.stored.fits,
       subst (λ n. n < desc_count (shape_in t)) (sym prepared.has.numbers.0) (own_desc_exists (shape_in t) prepared.has.own.0 (attempt_in t).desc prepared.has.own.2),
-      subst (λ n. n < SET) (sym c.len-slot.ensures) r.holds.room,
+      subst (λ n. n < SET) (sym c.len-slot.ensures) r.stored.holds.room,
     )
 
 pub install-requires-clause-taken : goal.install-requires-clause-taken
 install-requires-clause-taken g c =
-    no_next_left g.T.Theory.meaning g.T.Theory.lawful (state c.args.self.now) c.requires.going.0 c.requires.going.1 c.shape.ensures.kept c.args.word c.args.from.value c.requires.first
+    no_next_left g.T.Theory.meaning g.T.Theory.lawful (state c.args.self.now) c.requires.going.0 c.requires.going.1 c.shape.ensures.kept c.args.word c.args.from.value c.requires.may.1
 
 pub install-requires-clause-may : goal.install-requires-clause-may
 install-requires-clause-may g c =
@@ -55,7 +55,7 @@ install-requires-clause-may g c =
     let r = c.requires in
     let prepared = r.going.1.prepared in
     subst (λ s. May M t.field.origin (λ pass. install pass c.args.word (seen_content c.args.from) s) t.pass.view) (sym (spot_is t prepared c.len-slot.result c.len-slot.ensures))
-    (may_install M lawful t prepared c.args.word c.args.from c.args.to r.counted r.other r.gave r.fits r.may r.holds)
+    (may_install M lawful t prepared c.args.word c.args.from c.args.to r.other.counted r.other.other r.other.gave r.stored.fits r.may.0 r.stored.holds)
 
 pub returns-in-Ok-clause-on : goal.returns-in-Ok-clause-on
 returns-in-Ok-clause-on g c =
@@ -67,11 +67,11 @@ returns-in-Ok-clause-on g c =
     let prepared = r.going.1.prepared in
     let spot = spot_is t prepared c.len-slot.result c.len-slot.ensures in
     let same = c.in-Ok.ensures.same in
-    let it = it_won M lawful x.field.now x.pass.now x.began.value x.sets.now.reads x.sets.now.slots x.stop x.desc x.serial x.tag x.sets.now.lots prepared r.operates c.args.word c.args.from c.args.to r.counted r.other r.gave r.fits r.may r.holds _ spot c.install.new.self same c.in-Ok.ensures.shares c.in-Ok.ensures.step in
-    let taken = taken_same M lawful x.field.now x.pass.now x.began.value x.sets.now.reads x.sets.now.slots x.stop x.desc x.serial x.tag x.sets.now.lots prepared r.operates c.args.word c.args.from c.args.to r.counted r.other r.gave r.fits r.may r.holds _ spot c.install.new.self same c.in-Ok.ensures.shares c.in-Ok.ensures.step in
-    let so = installed_so M lawful x.field.now x.pass.now x.began.value x.sets.now.reads x.sets.now.slots x.stop x.desc x.serial x.tag x.sets.now.lots prepared r.operates c.args.word c.args.from c.args.to r.counted r.other r.gave r.fits r.may r.holds _ spot c.install.new.self same c.in-Ok.ensures.shares c.in-Ok.ensures.step
-    r.agree c.push.new.self (slots_are t x.sets.now.slots c.len-slot.result c.of.result c.push.new.self c.args.word c.word.result c.args.from c.args.to c.word.ensures.whole c.len-slot.ensures c.of.ensures c.push.ensures) in
-    subst (GoesOn M t) (sym so) (installed_on M lawful t prepared r.operates c.args.word c.args.from c.args.to r.counted r.other r.gave r.fits r.may r.holds r.agree c.install.new.self.view it c.install.new.self.shares taken r.first)
+    let it = it_won M lawful x.field.now x.pass.now x.began.value x.sets.now.reads x.sets.now.slots x.stop x.desc x.serial x.tag x.sets.now.lots prepared r.other.operates c.args.word c.args.from c.args.to r.other.counted r.other.other r.other.gave r.stored.fits r.may.0 r.stored.holds _ spot c.install.new.self same c.in-Ok.ensures.shares c.in-Ok.ensures.step in
+    let taken = taken_same M lawful x.field.now x.pass.now x.began.value x.sets.now.reads x.sets.now.slots x.stop x.desc x.serial x.tag x.sets.now.lots prepared r.other.operates c.args.word c.args.from c.args.to r.other.counted r.other.other r.other.gave r.stored.fits r.may.0 r.stored.holds _ spot c.install.new.self same c.in-Ok.ensures.shares c.in-Ok.ensures.step in
+    let so = installed_so M lawful x.field.now x.pass.now x.began.value x.sets.now.reads x.sets.now.slots x.stop x.desc x.serial x.tag x.sets.now.lots prepared r.other.operates c.args.word c.args.from c.args.to r.other.counted r.other.other r.other.gave r.stored.fits r.may.0 r.stored.holds _ spot c.install.new.self same c.in-Ok.ensures.shares c.in-Ok.ensures.step
+    r.stored.agree c.push.new.self (slots_are t x.sets.now.slots c.len-slot.result c.of.result c.push.new.self c.args.word c.word.result c.args.from c.args.to c.word.ensures.whole c.len-slot.ensures c.of.ensures c.push.ensures) in
+    subst (GoesOn M t) (sym so) (installed_on M lawful t prepared r.other.operates c.args.word c.args.from c.args.to r.other.counted r.other.other r.other.gave r.stored.fits r.may.0 r.stored.holds r.stored.agree c.install.new.self.view it c.install.new.self.shares taken r.may.1)
 
 pub returns-in-Ok-clause-exchanged : goal.returns-in-Ok-clause-exchanged
 returns-in-Ok-clause-exchanged g c =
@@ -83,17 +83,17 @@ returns-in-Ok-clause-exchanged g c =
     let prepared = r.going.1.prepared in
     let spot = spot_is t prepared c.len-slot.result c.len-slot.ensures in
     let same = c.in-Ok.ensures.same in
-    let it = it_won M lawful x.field.now x.pass.now x.began.value x.sets.now.reads x.sets.now.slots x.stop x.desc x.serial x.tag x.sets.now.lots prepared r.operates c.args.word c.args.from c.args.to r.counted r.other r.gave r.fits r.may r.holds _ spot c.install.new.self same c.in-Ok.ensures.shares c.in-Ok.ensures.step in
-    let taken = taken_same M lawful x.field.now x.pass.now x.began.value x.sets.now.reads x.sets.now.slots x.stop x.desc x.serial x.tag x.sets.now.lots prepared r.operates c.args.word c.args.from c.args.to r.counted r.other r.gave r.fits r.may r.holds _ spot c.install.new.self same c.in-Ok.ensures.shares c.in-Ok.ensures.step in
-    let so = installed_so M lawful x.field.now x.pass.now x.began.value x.sets.now.reads x.sets.now.slots x.stop x.desc x.serial x.tag x.sets.now.lots prepared r.operates c.args.word c.args.from c.args.to r.counted r.other r.gave r.fits r.may r.holds _ spot c.install.new.self same c.in-Ok.ensures.shares c.in-Ok.ensures.step
-    r.agree c.push.new.self (slots_are t x.sets.now.slots c.len-slot.result c.of.result c.push.new.self c.args.word c.word.result c.args.from c.args.to c.word.ensures.whole c.len-slot.ensures c.of.ensures c.push.ensures) in (
+    let it = it_won M lawful x.field.now x.pass.now x.began.value x.sets.now.reads x.sets.now.slots x.stop x.desc x.serial x.tag x.sets.now.lots prepared r.other.operates c.args.word c.args.from c.args.to r.other.counted r.other.other r.other.gave r.stored.fits r.may.0 r.stored.holds _ spot c.install.new.self same c.in-Ok.ensures.shares c.in-Ok.ensures.step in
+    let taken = taken_same M lawful x.field.now x.pass.now x.began.value x.sets.now.reads x.sets.now.slots x.stop x.desc x.serial x.tag x.sets.now.lots prepared r.other.operates c.args.word c.args.from c.args.to r.other.counted r.other.other r.other.gave r.stored.fits r.may.0 r.stored.holds _ spot c.install.new.self same c.in-Ok.ensures.shares c.in-Ok.ensures.step in
+    let so = installed_so M lawful x.field.now x.pass.now x.began.value x.sets.now.reads x.sets.now.slots x.stop x.desc x.serial x.tag x.sets.now.lots prepared r.other.operates c.args.word c.args.from c.args.to r.other.counted r.other.other r.other.gave r.stored.fits r.may.0 r.stored.holds _ spot c.install.new.self same c.in-Ok.ensures.shares c.in-Ok.ensures.step
+    r.stored.agree c.push.new.self (slots_are t x.sets.now.slots c.len-slot.result c.of.result c.push.new.self c.args.word c.word.result c.args.from c.args.to c.word.ensures.whole c.len-slot.ensures c.of.ensures c.push.ensures) in (
       refl,
       so ∙ ap (λ (p : PassState). record t { pass = p; hand = with_change t.hand c.args.word c.args.from.value c.args.to; slots = t.slots ++ new_slot t c.args.word c.args.from c.args.to ∷ [] })
           (sym (ap (λ (u : TxnState). u.pass) so)),
     )
 
-pub returns-in-Ok-clause-given : goal.returns-in-Ok-clause-given
-returns-in-Ok-clause-given g c other seen differ gave =
+pub returns-in-Ok-clause-gives : goal.returns-in-Ok-clause-gives
+returns-in-Ok-clause-gives g c =
     let M = g.T.Theory.meaning in
     let lawful = g.T.Theory.lawful in
     let x = c.args.self.now in
@@ -102,27 +102,20 @@ returns-in-Ok-clause-given g c other seen differ gave =
     let prepared = r.going.1.prepared in
     let spot = spot_is t prepared c.len-slot.result c.len-slot.ensures in
     let same = c.in-Ok.ensures.same in
-    let it = it_won M lawful x.field.now x.pass.now x.began.value x.sets.now.reads x.sets.now.slots x.stop x.desc x.serial x.tag x.sets.now.lots prepared r.operates c.args.word c.args.from c.args.to r.counted r.other r.gave r.fits r.may r.holds _ spot c.install.new.self same c.in-Ok.ensures.shares c.in-Ok.ensures.step in
-    let taken = taken_same M lawful x.field.now x.pass.now x.began.value x.sets.now.reads x.sets.now.slots x.stop x.desc x.serial x.tag x.sets.now.lots prepared r.operates c.args.word c.args.from c.args.to r.counted r.other r.gave r.fits r.may r.holds _ spot c.install.new.self same c.in-Ok.ensures.shares c.in-Ok.ensures.step in
-    let so = installed_so M lawful x.field.now x.pass.now x.began.value x.sets.now.reads x.sets.now.slots x.stop x.desc x.serial x.tag x.sets.now.lots prepared r.operates c.args.word c.args.from c.args.to r.counted r.other r.gave r.fits r.may r.holds _ spot c.install.new.self same c.in-Ok.ensures.shares c.in-Ok.ensures.step
-    r.agree c.push.new.self (slots_are t x.sets.now.slots c.len-slot.result c.of.result c.push.new.self c.args.word c.word.result c.args.from c.args.to c.word.ensures.whole c.len-slot.ensures c.of.ensures c.push.ensures) in
-    subst (λ u. Gave u other seen) (sym so) (installed_given M lawful t prepared r.operates c.args.word c.args.from c.args.to r.counted r.other r.gave r.fits r.may r.holds r.agree c.install.new.self.view it c.install.new.self.shares taken other seen differ gave)
-
-pub returns-in-Ok-clause-gave : goal.returns-in-Ok-clause-gave
-returns-in-Ok-clause-gave g c =
-    let M = g.T.Theory.meaning in
-    let lawful = g.T.Theory.lawful in
-    let x = c.args.self.now in
-    let t = state x in
-    let r = c.requires in
-    let prepared = r.going.1.prepared in
-    let spot = spot_is t prepared c.len-slot.result c.len-slot.ensures in
-    let same = c.in-Ok.ensures.same in
-    let it = it_won M lawful x.field.now x.pass.now x.began.value x.sets.now.reads x.sets.now.slots x.stop x.desc x.serial x.tag x.sets.now.lots prepared r.operates c.args.word c.args.from c.args.to r.counted r.other r.gave r.fits r.may r.holds _ spot c.install.new.self same c.in-Ok.ensures.shares c.in-Ok.ensures.step in
-    let taken = taken_same M lawful x.field.now x.pass.now x.began.value x.sets.now.reads x.sets.now.slots x.stop x.desc x.serial x.tag x.sets.now.lots prepared r.operates c.args.word c.args.from c.args.to r.counted r.other r.gave r.fits r.may r.holds _ spot c.install.new.self same c.in-Ok.ensures.shares c.in-Ok.ensures.step in
-    let so = installed_so M lawful x.field.now x.pass.now x.began.value x.sets.now.reads x.sets.now.slots x.stop x.desc x.serial x.tag x.sets.now.lots prepared r.operates c.args.word c.args.from c.args.to r.counted r.other r.gave r.fits r.may r.holds _ spot c.install.new.self same c.in-Ok.ensures.shares c.in-Ok.ensures.step
-    r.agree c.push.new.self (slots_are t x.sets.now.slots c.len-slot.result c.of.result c.push.new.self c.args.word c.word.result c.args.from c.args.to c.word.ensures.whole c.len-slot.ensures c.of.ensures c.push.ensures) in
-    subst (λ u. Gave u c.args.word (record { value = c.args.to; count = c.args.from.count + 1; own = true })) (sym so) (installed_gave M lawful t prepared r.operates c.args.word c.args.from c.args.to r.counted r.other r.gave r.fits r.may r.holds r.agree c.install.new.self.view it c.install.new.self.shares taken)
+    let it = it_won M lawful x.field.now x.pass.now x.began.value x.sets.now.reads x.sets.now.slots x.stop x.desc x.serial x.tag x.sets.now.lots prepared r.other.operates c.args.word c.args.from c.args.to r.other.counted r.other.other r.other.gave r.stored.fits r.may.0 r.stored.holds _ spot c.install.new.self same c.in-Ok.ensures.shares c.in-Ok.ensures.step in
+    let taken = taken_same M lawful x.field.now x.pass.now x.began.value x.sets.now.reads x.sets.now.slots x.stop x.desc x.serial x.tag x.sets.now.lots prepared r.other.operates c.args.word c.args.from c.args.to r.other.counted r.other.other r.other.gave r.stored.fits r.may.0 r.stored.holds _ spot c.install.new.self same c.in-Ok.ensures.shares c.in-Ok.ensures.step in
+    record {
+      given = (
+          let so = installed_so M lawful x.field.now x.pass.now x.began.value x.sets.now.reads x.sets.now.slots x.stop x.desc x.serial x.tag x.sets.now.lots prepared r.other.operates c.args.word c.args.from c.args.to r.other.counted r.other.other r.other.gave r.stored.fits r.may.0 r.stored.holds _ spot c.install.new.self same c.in-Ok.ensures.shares c.in-Ok.ensures.step
+          r.stored.agree c.push.new.self (slots_are t x.sets.now.slots c.len-slot.result c.of.result c.push.new.self c.args.word c.word.result c.args.from c.args.to c.word.ensures.whole c.len-slot.ensures c.of.ensures c.push.ensures) in
+          λ other seen differ gave. subst (λ u. Gave u other seen) (sym so) (installed_given M lawful t prepared r.other.operates c.args.word c.args.from c.args.to r.other.counted r.other.other r.other.gave r.stored.fits r.may.0 r.stored.holds r.stored.agree c.install.new.self.view it c.install.new.self.shares taken other seen differ gave)
+          );
+      gave = (
+          let so = installed_so M lawful x.field.now x.pass.now x.began.value x.sets.now.reads x.sets.now.slots x.stop x.desc x.serial x.tag x.sets.now.lots prepared r.other.operates c.args.word c.args.from c.args.to r.other.counted r.other.other r.other.gave r.stored.fits r.may.0 r.stored.holds _ spot c.install.new.self same c.in-Ok.ensures.shares c.in-Ok.ensures.step
+          r.stored.agree c.push.new.self (slots_are t x.sets.now.slots c.len-slot.result c.of.result c.push.new.self c.args.word c.word.result c.args.from c.args.to c.word.ensures.whole c.len-slot.ensures c.of.ensures c.push.ensures) in
+          subst (λ u. Gave u c.args.word (record { value = c.args.to; count = c.args.from.count + 1; own = true })) (sym so) (installed_gave M lawful t prepared r.other.operates c.args.word c.args.from c.args.to r.other.counted r.other.other r.other.gave r.stored.fits r.may.0 r.stored.holds r.stored.agree c.install.new.self.view it c.install.new.self.shares taken)
+          );
+    }
 
 pub returns-in-Err-clause-on : goal.returns-in-Err-clause-on
 returns-in-Err-clause-on g c =
@@ -135,14 +128,14 @@ returns-in-Err-clause-on g c =
     let q = c.install.new.self in
     let found = c.in-Err.now in
     let e = c.in-Err.ensures in
-    let it = lost_step M lawful t prepared c.args.word c.args.from c.args.to r.counted r.other r.gave r.fits r.may r.holds q.view found e.step.0
+    let it = lost_step M lawful t prepared c.args.word c.args.from c.args.to r.other.counted r.other.other r.other.gave r.stored.fits r.may.0 r.stored.holds q.view found e.step.0
     (subst (λ s. SteppedFrom M t.field.origin (λ pass. install pass c.args.word (seen_content c.args.from) s) c.args.word found t.pass.view q.view) (spot_is t prepared c.len-slot.result c.len-slot.ensures) e.step.1) in
     let stop_is = c.lose.ensures.stop ∙ ap (λ n. Conflict (record { word = c.args.word; was = n; now = found })) c.word-in-Err.ensures.whole in
     let same = e.same ∙ ap (λ l. record x.pass.now { view = q.view; shares = l }) e.shares in
     let so = (ap state c.lose.ensures.kept ∙ ap (λ s. state_of x.field.now q x.began.value x.sets.now.reads x.sets.now.slots (Some s) x.desc x.serial x.tag x.sets.now.lots)
     (c.lose.ensures.stop ∙ ap (λ n. Conflict (record { word = c.args.word; was = n; now = found })) c.word-in-Err.ensures.whole))
-    ∙ lost_so M x.field.now x.pass.now x.began.value x.sets.now.reads x.sets.now.slots x.stop x.desc x.serial x.tag x.sets.now.lots prepared r.operates c.args.word r.counted c.args.from r.other r.gave Install (inl refl) found e.step.0 q same it in
-    subst (GoesOn M t) (sym so) (lost_on M t prepared r.operates c.args.word r.counted c.args.from r.other r.gave Install (inl refl) found e.step.0 q.view it)
+    ∙ lost_so M x.field.now x.pass.now x.began.value x.sets.now.reads x.sets.now.slots x.stop x.desc x.serial x.tag x.sets.now.lots prepared r.other.operates c.args.word r.other.counted c.args.from r.other.other r.other.gave Install (inl refl) found e.step.0 q same it in
+    subst (GoesOn M t) (sym so) (lost_on M t prepared r.other.operates c.args.word r.other.counted c.args.from r.other.other r.other.gave Install (inl refl) found e.step.0 q.view it)
 
 pub returns-in-Err-clause-exchanged : goal.returns-in-Err-clause-exchanged
 returns-in-Err-clause-exchanged g c =
@@ -155,13 +148,13 @@ returns-in-Err-clause-exchanged g c =
     let q = c.install.new.self in
     let found = c.in-Err.now in
     let e = c.in-Err.ensures in
-    let it = lost_step M lawful t prepared c.args.word c.args.from c.args.to r.counted r.other r.gave r.fits r.may r.holds q.view found e.step.0
+    let it = lost_step M lawful t prepared c.args.word c.args.from c.args.to r.other.counted r.other.other r.other.gave r.stored.fits r.may.0 r.stored.holds q.view found e.step.0
     (subst (λ s. SteppedFrom M t.field.origin (λ pass. install pass c.args.word (seen_content c.args.from) s) c.args.word found t.pass.view q.view) (spot_is t prepared c.len-slot.result c.len-slot.ensures) e.step.1) in
     let stop_is = c.lose.ensures.stop ∙ ap (λ n. Conflict (record { word = c.args.word; was = n; now = found })) c.word-in-Err.ensures.whole in
     let same = e.same ∙ ap (λ l. record x.pass.now { view = q.view; shares = l }) e.shares in
     let so = (ap state c.lose.ensures.kept ∙ ap (λ s. state_of x.field.now q x.began.value x.sets.now.reads x.sets.now.slots (Some s) x.desc x.serial x.tag x.sets.now.lots)
     (c.lose.ensures.stop ∙ ap (λ n. Conflict (record { word = c.args.word; was = n; now = found })) c.word-in-Err.ensures.whole))
-    ∙ lost_so M x.field.now x.pass.now x.began.value x.sets.now.reads x.sets.now.slots x.stop x.desc x.serial x.tag x.sets.now.lots prepared r.operates c.args.word r.counted c.args.from r.other r.gave Install (inl refl) found e.step.0 q same it in (
+    ∙ lost_so M x.field.now x.pass.now x.began.value x.sets.now.reads x.sets.now.slots x.stop x.desc x.serial x.tag x.sets.now.lots prepared r.other.operates c.args.word r.other.counted c.args.from r.other.other r.other.gave Install (inl refl) found e.step.0 q same it in (
       (
         refl,
         so ∙ ap (λ (p : PassState). record t { pass = p; stop = Some (Conflict (record { word = c.args.word; was = seen_content c.args.from; now = found })) }) (sym (ap (λ (u : TxnState). u.pass) so))
@@ -170,8 +163,8 @@ returns-in-Err-clause-exchanged g c =
       (found, stop_is),
     )
 
-pub returns-in-Err-clause-given : goal.returns-in-Err-clause-given
-returns-in-Err-clause-given g c other seen differ gave =
+pub returns-in-Err-clause-gives : goal.returns-in-Err-clause-gives
+returns-in-Err-clause-gives g c =
     let M = g.T.Theory.meaning in
     let lawful = g.T.Theory.lawful in
     let x = c.args.self.now in
@@ -181,11 +174,16 @@ returns-in-Err-clause-given g c other seen differ gave =
     let q = c.install.new.self in
     let found = c.in-Err.now in
     let e = c.in-Err.ensures in
-    let it = lost_step M lawful t prepared c.args.word c.args.from c.args.to r.counted r.other r.gave r.fits r.may r.holds q.view found e.step.0
-    (subst (λ s. SteppedFrom M t.field.origin (λ pass. install pass c.args.word (seen_content c.args.from) s) c.args.word found t.pass.view q.view) (spot_is t prepared c.len-slot.result c.len-slot.ensures) e.step.1) in
     let stop_is = c.lose.ensures.stop ∙ ap (λ n. Conflict (record { word = c.args.word; was = n; now = found })) c.word-in-Err.ensures.whole in
     let same = e.same ∙ ap (λ l. record x.pass.now { view = q.view; shares = l }) e.shares in
-    let so = (ap state c.lose.ensures.kept ∙ ap (λ s. state_of x.field.now q x.began.value x.sets.now.reads x.sets.now.slots (Some s) x.desc x.serial x.tag x.sets.now.lots)
-    (c.lose.ensures.stop ∙ ap (λ n. Conflict (record { word = c.args.word; was = n; now = found })) c.word-in-Err.ensures.whole))
-    ∙ lost_so M x.field.now x.pass.now x.began.value x.sets.now.reads x.sets.now.slots x.stop x.desc x.serial x.tag x.sets.now.lots prepared r.operates c.args.word r.counted c.args.from r.other r.gave Install (inl refl) found e.step.0 q same it in
-    subst (λ u. Gave u other seen) (sym so) (lost_given M t prepared r.operates c.args.word r.counted c.args.from r.other r.gave Install (inl refl) found e.step.0 q.view it other seen gave)
+    record {
+      given = (
+          let it = lost_step M lawful t prepared c.args.word c.args.from c.args.to r.other.counted r.other.other r.other.gave r.stored.fits r.may.0 r.stored.holds q.view found e.step.0
+          (subst (λ s. SteppedFrom M t.field.origin (λ pass. install pass c.args.word (seen_content c.args.from) s) c.args.word found t.pass.view q.view) (spot_is t prepared c.len-slot.result c.len-slot.ensures) e.step.1) in
+          let so = (ap state c.lose.ensures.kept ∙ ap (λ s. state_of x.field.now q x.began.value x.sets.now.reads x.sets.now.slots (Some s) x.desc x.serial x.tag x.sets.now.lots)
+          (c.lose.ensures.stop ∙ ap (λ n. Conflict (record { word = c.args.word; was = n; now = found })) c.word-in-Err.ensures.whole))
+          ∙ lost_so M x.field.now x.pass.now x.began.value x.sets.now.reads x.sets.now.slots x.stop x.desc x.serial x.tag x.sets.now.lots prepared r.other.operates c.args.word r.other.counted c.args.from r.other.other r.other.gave Install (inl refl) found e.step.0 q same it in
+          λ other seen differ gave. subst (λ u. Gave u other seen) (sym so) (lost_given M t prepared r.other.operates c.args.word r.other.counted c.args.from r.other.other r.other.gave Install (inl refl) found e.step.0 q.view it other seen gave)
+          );
+      gave = tt;
+    }

@@ -1,4 +1,4 @@
-use Rattle.std.proofs.Common.{◌≡◌, ◌<◌, ◌∷◌, Some, refl, sym, ap, subst, inr, ◌∙◌}
+use Rattle.std.proofs.Common.{◌≡◌, ◌<◌, ◌∷◌, Some, refl, sym, ap, subst, inr, ◌∙◌, rules}
 use Rattle.std.proofs.lemmas.Bool.{true≢false}
 use Rattle.md_words.specs.Layout.{desc_count}
 use Rattle.md_history.specs.declared.stops.Shown.{Shown}
@@ -76,37 +76,24 @@ returns-then-is_none-clause-given g c other seen differ gave =
     subst (λ u. Gave u other seen) (sym (is ∙ ap (λ p. record t { pass = p }) c.look_at-was.ensures.same))
     (looked_given M g.T.Theory.lawful t c.requires.going q.view c.args.word c.look_at-was.result l c.requires.counted none other seen differ gave)
 
-pub clear-now-requires-clause-exists : goal.clear-now-requires-clause-exists
-clear-now-requires-clause-exists g c =
+pub clear-now-requires-clause-way : goal.clear-now-requires-clause-way
+clear-now-requires-clause-way g c =
     let M = g.T.Theory.meaning in
     let t = state c.args.self.now in
     let was = c.look_at-was.result in
     let none = slot_none t.slots c.args.word c.requires.none in
     let odd = found_odd was c.of-found.result c.stands.result c.is_none.result c.of-found.ensures.parts c.stands.ensures.spot c.is_none.ensures c.if-is_none.false in
-    subst (λ w. desc_in w < desc_count (shape_in t)) (sym c.of-found.ensures.inverse)
-    (desc_there M g.T.Theory.lawful t c.requires.going c.look_at-was.new.pass.view c.args.word was c.look_at-was.ensures.looks c.requires.counted none odd).0
-
-pub clear-now-requires-clause-met : goal.clear-now-requires-clause-met
-clear-now-requires-clause-met g c =
-    let M = g.T.Theory.meaning in
-    let t = state c.args.self.now in
-    let was = c.look_at-was.result in
     let q = c.look_at-was.new.pass.view in
-    let none = slot_none t.slots c.args.word c.requires.none in
-    let odd = found_odd was c.of-found.result c.stands.result c.is_none.result c.of-found.ensures.parts c.stands.ensures.spot c.is_none.ensures c.if-is_none.false in
-    subst (λ w. SomeStep (Finds c.args.word w) q.trail) (sym c.of-found.ensures.inverse)
-    (desc_met M g.T.Theory.lawful t c.requires.going q c.args.word was c.look_at-was.ensures.looks c.requires.counted none odd)
-
-pub clear-now-requires-clause-other : goal.clear-now-requires-clause-other
-clear-now-requires-clause-other g c =
-    let M = g.T.Theory.meaning in
-    let t = state c.args.self.now in
-    let was = c.look_at-was.result in
-    let q = c.look_at-was.new.pass.view in
-    let none = slot_none t.slots c.args.word c.requires.none in
-    let odd = found_odd was c.of-found.result c.stands.result c.is_none.result c.of-found.ensures.parts c.stands.ensures.spot c.is_none.ensures c.if-is_none.false in
-    subst (λ w. ¬ HoldsDesc q (desc_in w)) (sym c.of-found.ensures.inverse)
-    (not_held M g.T.Theory.lawful t c.requires.going q c.args.word was c.look_at-was.ensures.looks c.requires.counted none odd)
+    record {
+      counted = search rules;
+      odd = search rules;
+      exists = subst (λ w. desc_in w < desc_count (shape_in t)) (sym c.of-found.ensures.inverse)
+          (desc_there M g.T.Theory.lawful t c.requires.going c.look_at-was.new.pass.view c.args.word was c.look_at-was.ensures.looks c.requires.counted none odd).0;
+      met = subst (λ w. SomeStep (Finds c.args.word w) q.trail) (sym c.of-found.ensures.inverse)
+          (desc_met M g.T.Theory.lawful t c.requires.going q c.args.word was c.look_at-was.ensures.looks c.requires.counted none odd);
+      other = subst (λ w. ¬ HoldsDesc q (desc_in w)) (sym c.of-found.ensures.inverse)
+          (not_held M g.T.Theory.lawful t c.requires.going q c.args.word was c.look_at-was.ensures.looks c.requires.counted none odd);
+    }
 
 pub returns-then-is_none-2-clause-on : goal.returns-then-is_none-2-clause-on
 returns-then-is_none-2-clause-on g c =

@@ -1,4 +1,4 @@
-use Rattle.std.proofs.Common.{◌≡◌, ◌==◌, ℕ, Option, None, Some, Ok, true, false, if◌then◌else◌, length, refl, sym, ap, subst, ◌∙◌, arith}
+use Rattle.std.proofs.Common.{◌≡◌, ◌==◌, ℕ, Option, None, Some, Ok, true, false, if◌then◌else◌, length, refl, sym, ap, subst, ◌∙◌, arith, rules}
 use Rattle.std.proofs.lemmas.Bool.{eq-eqb, ne_eqb}
 use Rattle.md_words.specs.declared.limits.TheConstants.{SET}
 use Rattle.md_machine.specs.Certified.{content_read}
@@ -24,17 +24,25 @@ returns-then-was-now-clause-on g c = goes_self g.T.Theory.meaning (state c.args.
 
 pub halt-requires-clause-cause : goal.halt-requires-clause-cause
 halt-requires-clause-cause g c =
-    moved_cause (state c.args.self.now) c.args.word c.args.seen c.requires.gave c.if-seen.false c.in-Some-content.was c.content_of-now.result
+    moved_cause (state c.args.self.now) c.args.word c.args.seen c.requires.may.gave c.if-seen.false c.in-Some-content.was c.content_of-now.result
     (sym c.content.ensures ∙ c.in-Some-content.is) c.content_of-now.ensures.whole c.if-was-now.false
 
 pub returns-in-Some-content-clause-gave : goal.returns-in-Some-content-clause-gave
-returns-in-Some-content-clause-gave g c = c.halt.ensures.gave c.args.word c.args.seen c.requires.gave
+returns-in-Some-content-clause-gave g c = c.halt.ensures.gave c.args.word c.args.seen c.requires.may.gave
 
 pub halt-requires-then-len-clause-cause : goal.halt-requires-then-len-clause-cause
 halt-requires-then-len-clause-cause g c = reads_cause (state c.args.self.now) (sym c.len.ensures ∙ c.if-len.true)
 
-pub record-requires-clause-room : goal.record-requires-clause-room
-record-requires-clause-room g c = let few = c.requires.going.1.prepared.has.few_reads in let is = c.len.ensures in omega (arith, few, is)
+pub record-requires-clause-may : goal.record-requires-clause-may
+record-requires-clause-may g c = record {
+  gave = search rules;
+  found = search rules;
+  other = search rules;
+  unread = search rules;
+  room = (
+      let few = c.requires.going.1.prepared.has.few_reads in let is = c.len.ensures in omega (arith, few, is)
+      );
+}
 
 -- which case a note of another's word is, by what is recorded of it
 case_is : (t : TxnState) (word : ℕ) (seen : Seen) → Gave t word seen → seen.own ≡ false → (held : Option ℕ) → content_read t.reads word ≡ held
@@ -50,7 +58,7 @@ returns-clause-noted g c =
     let word = c.args.word in
     let seen = c.args.seen in
     let few : (length t.reads == SET) ≡ false = ne_eqb (length t.reads) SET (λ e. c.if-len.false (c.len.ensures ∙ e)) in
-    let case : note_case t word seen ≡ unread = case_is t word seen c.requires.gave c.if-seen.false None (sym c.content.ensures ∙ c.in_default-content.is)
+    let case : note_case t word seen ≡ unread = case_is t word seen c.requires.may.gave c.if-seen.false None (sym c.content.ensures ∙ c.in_default-content.is)
     ∙ ap (λ b. if b then full else unread) few in
     subst (λ o. AfterStop o t u (Ok tt) (Notes (note_case t word seen) t u word seen (Ok tt))) (sym c.in_default.is)
     (subst (λ (k : NoteCase). Notes k t u word seen (Ok tt)) (sym case) (refl, c.record.ensures.recorded))
@@ -62,7 +70,7 @@ returns-then-was-now-clause-noted g c =
     let seen = c.args.seen in
     let was = c.in-Some-content.was in
     let same : (was == seen_content seen) ≡ true = eq-eqb was (seen_content seen) (c.if-was-now.true ∙ c.content_of-now.ensures.whole) in
-    let case : note_case t word seen ≡ noted = case_is t word seen c.requires.gave c.if-seen.false (Some was) (sym c.content.ensures ∙ c.in-Some-content.is)
+    let case : note_case t word seen ≡ noted = case_is t word seen c.requires.may.gave c.if-seen.false (Some was) (sym c.content.ensures ∙ c.in-Some-content.is)
     ∙ ap (λ b. if b then noted else recorded was) same in
     subst (λ o. AfterStop o t t (Ok tt) (Notes (note_case t word seen) t t word seen (Ok tt))) (sym c.in_default.is)
     (subst (λ (k : NoteCase). Notes k t t word seen (Ok tt)) (sym case) (refl, refl))

@@ -38,25 +38,18 @@ returns-clause-on g c =
     let so = put_so M x.field.now x.pass.now x.began.value x.sets.now.reads x.sets.now.slots x.stop x.desc x.serial x.tag x.sets.now.lots prepared c.requires.operates c.args.at c.args.value spare c.store.new.self c.store.ensures.same c.store.ensures.step in
     subst (GoesOn M t) (sym so) (put_on M t prepared c.requires.operates c.args.at c.args.value spare c.store.new.self.view c.store.ensures.step)
 
-pub returns-clause-same : goal.returns-clause-same
-returns-clause-same g c =
+pub returns-clause-only : goal.returns-clause-only
+returns-clause-only g c =
     let M = g.T.Theory.meaning in
     let x = c.args.self.now in
     let t = state x in
     let prepared = c.requires.going.1.prepared in
     let spare = is_spare M t prepared c.args.at c.args.value c.requires.may in
     let so = put_so M x.field.now x.pass.now x.began.value x.sets.now.reads x.sets.now.slots x.stop x.desc x.serial x.tag x.sets.now.lots prepared c.requires.operates c.args.at c.args.value spare c.store.new.self c.store.ensures.same c.store.ensures.step in
-    so ∙ ap (λ (p : PassState). record t { pass = p }) (sym (ap (λ (u : TxnState). u.pass) so))
-
-pub returns-clause-given : goal.returns-clause-given
-returns-clause-given g c word other seen differ gave =
-    let M = g.T.Theory.meaning in
-    let x = c.args.self.now in
-    let t = state x in
-    let prepared = c.requires.going.1.prepared in
-    let spare = is_spare M t prepared c.args.at c.args.value c.requires.may in
-    let so = put_so M x.field.now x.pass.now x.began.value x.sets.now.reads x.sets.now.slots x.stop x.desc x.serial x.tag x.sets.now.lots prepared c.requires.operates c.args.at c.args.value spare c.store.new.self c.store.ensures.same c.store.ensures.step in
-    subst (λ u. Gave u other seen) (sym so) (put_gave M t prepared c.requires.operates c.args.at c.args.value spare c.store.new.self.view c.store.ensures.step other seen gave)
+    record {
+      same = so ∙ ap (λ (p : PassState). record t { pass = p }) (sym (ap (λ (u : TxnState). u.pass) so));
+      given = λ word other seen differ gave. subst (λ u. Gave u other seen) (sym so) (put_gave M t prepared c.requires.operates c.args.at c.args.value spare c.store.new.self.view c.store.ensures.step other seen gave);
+    }
 
 pub returns-clause-stored : goal.returns-clause-stored
 returns-clause-stored g c =

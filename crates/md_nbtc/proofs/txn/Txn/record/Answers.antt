@@ -18,7 +18,7 @@ use Rattle.md_nbtc.proofs.txn.Txn.record.Goals as goal
 exists : (g : Over) (c : goal.After-len-i g) → (c.args.self.now.desc < desc_count c.shape-shape.result.now) × (c.len-i.result < SET)
 exists g c =
     let t = state c.args.self.now in
-    let next = next_read t c.requires.going.1.prepared c.requires.room in (
+    let next = next_read t c.requires.going.1.prepared c.requires.may.room in (
       subst (λ (s : Shape). c.args.self.now.desc < desc_count s) (sym c.shape-shape.ensures)
           (subst (λ d. d < desc_count t.field.origin.shape) (sym c.requires.going.1.prepared.has.numbers.0) next.0),
       subst (λ n. n < SET) (sym c.len-i.ensures) next.1,
@@ -33,14 +33,14 @@ read_content-content_at-requires g c = exists g c.before
 pub store-requires-clause-may : goal.store-requires-clause-may
 store-requires-clause-may g c =
     let x = c.args.self.now in
-    may_word g.T.Theory.meaning x.field.now x.pass.now x.began.value x.sets.now.reads x.sets.now.slots x.stop x.desc x.serial x.tag x.sets.now.lots c.requires.going.1.prepared c.requires.room c.args.word c.args.seen
+    may_word g.T.Theory.meaning x.field.now x.pass.now x.began.value x.sets.now.reads x.sets.now.slots x.stop x.desc x.serial x.tag x.sets.now.lots c.requires.going.1.prepared c.requires.may.room c.args.word c.args.seen
     c.read_word-word_at.result
-    (word_found g.T.Theory.meaning x.field.now x.pass.now x.began.value x.sets.now.reads x.sets.now.slots x.stop x.desc x.serial x.tag x.sets.now.lots _ _ _ _ c.shape-shape.ensures c.requires.going.1.prepared.has.numbers.0 c.len-i.ensures c.read_word-word_at.ensures.place) c.requires.gave.counted
+    (word_found g.T.Theory.meaning x.field.now x.pass.now x.began.value x.sets.now.reads x.sets.now.slots x.stop x.desc x.serial x.tag x.sets.now.lots _ _ _ _ c.shape-shape.ensures c.requires.going.1.prepared.has.numbers.0 c.len-i.ensures c.read_word-word_at.ensures.place) c.requires.may.gave.counted
 
 pub store-requires-2-clause-may : goal.store-requires-2-clause-may
 store-requires-2-clause-may g c =
     let x = c.args.self.now in
-    may_content g.T.Theory.meaning x.field.now x.pass.now x.began.value x.sets.now.reads x.sets.now.slots x.stop x.desc x.serial x.tag x.sets.now.lots c.requires.going.1.prepared c.requires.room c.args.word c.args.seen
+    may_content g.T.Theory.meaning x.field.now x.pass.now x.began.value x.sets.now.reads x.sets.now.slots x.stop x.desc x.serial x.tag x.sets.now.lots c.requires.going.1.prepared c.requires.may.room c.args.word c.args.seen
     c.read_word-word_at.result
     (word_found g.T.Theory.meaning x.field.now x.pass.now x.began.value x.sets.now.reads x.sets.now.slots x.stop x.desc x.serial x.tag x.sets.now.lots _ _ _ _ c.shape-shape.ensures c.requires.going.1.prepared.has.numbers.0 c.len-i.ensures c.read_word-word_at.ensures.place)
     c.store.new.self c.store.ensures.step c.read_content-content_at.result
@@ -48,10 +48,10 @@ store-requires-2-clause-may g c =
 
 -- what the two stores made of the transaction, and that contracts see so much of it
 stored : (g : Over) (c : goal.After-push g) → (let t = state c.args.self.now in let prepared = c.requires.going.1.prepared in
-    StoredRead g.T.Theory.meaning t.field.origin t.hand (length t.reads) (next_read t prepared c.requires.room) t.pass.view c.args.word (seen_content c.args.seen) c.store-2.new.self.view)
+    StoredRead g.T.Theory.meaning t.field.origin t.hand (length t.reads) (next_read t prepared c.requires.may.room) t.pass.view c.args.word (seen_content c.args.seen) c.store-2.new.self.view)
 stored g c =
     let x = c.args.self.now in
-    both g.T.Theory.meaning x.field.now x.pass.now x.began.value x.sets.now.reads x.sets.now.slots x.stop x.desc x.serial x.tag x.sets.now.lots c.requires.going.1.prepared c.requires.room c.args.word c.args.seen
+    both g.T.Theory.meaning x.field.now x.pass.now x.began.value x.sets.now.reads x.sets.now.slots x.stop x.desc x.serial x.tag x.sets.now.lots c.requires.going.1.prepared c.requires.may.room c.args.word c.args.seen
     c.read_word-word_at.result (word_found g.T.Theory.meaning x.field.now x.pass.now x.began.value x.sets.now.reads x.sets.now.slots x.stop x.desc x.serial x.tag x.sets.now.lots _ _ _ _ c.shape-shape.ensures c.requires.going.1.prepared.has.numbers.0 c.len-i.ensures c.read_word-word_at.ensures.place)
     c.store.new.self c.store.ensures.step c.read_content-content_at.result
     (content_found g.T.Theory.meaning x.field.now x.pass.now x.began.value x.sets.now.reads x.sets.now.slots x.stop x.desc x.serial x.tag x.sets.now.lots _ _ _ _ c.shape-shape.ensures c.requires.going.1.prepared.has.numbers.0 c.len-i.ensures c.read_content-content_at.ensures.place)
@@ -59,14 +59,14 @@ stored g c =
 
 after : (g : Over) (c : goal.After-push g) → TxnState
 after g c = let t = state c.args.self.now in
-    noted g.T.Theory.meaning t c.requires.going.1.prepared c.args.word c.args.seen c.requires.room c.store-2.new.self.view (stored g c)
+    noted g.T.Theory.meaning t c.requires.going.1.prepared c.args.word c.args.seen c.requires.may.room c.store-2.new.self.view (stored g c)
 
 seen_so : (g : Over) (c : goal.After-push g)
     → (let x = c.args.self.now in state_of x.field.now c.store-2.new.self x.began.value c.push.new.self x.sets.now.slots x.stop x.desc x.serial x.tag x.sets.now.lots ≡ after g c)
 unfolding after stored
 seen_so g c =
     let x = c.args.self.now in
-    recorded_is g.T.Theory.meaning x.field.now x.pass.now x.began.value x.sets.now.reads x.sets.now.slots x.stop x.desc x.serial x.tag x.sets.now.lots c.requires.going.1.prepared c.requires.room c.args.word c.args.seen
+    recorded_is g.T.Theory.meaning x.field.now x.pass.now x.began.value x.sets.now.reads x.sets.now.slots x.stop x.desc x.serial x.tag x.sets.now.lots c.requires.going.1.prepared c.requires.may.room c.args.word c.args.seen
     c.read_word-word_at.result (word_found g.T.Theory.meaning x.field.now x.pass.now x.began.value x.sets.now.reads x.sets.now.slots x.stop x.desc x.serial x.tag x.sets.now.lots _ _ _ _ c.shape-shape.ensures c.requires.going.1.prepared.has.numbers.0 c.len-i.ensures c.read_word-word_at.ensures.place)
     c.store.new.self c.store.ensures.step c.read_content-content_at.result
     (content_found g.T.Theory.meaning x.field.now x.pass.now x.began.value x.sets.now.reads x.sets.now.slots x.stop x.desc x.serial x.tag x.sets.now.lots _ _ _ _ c.shape-shape.ensures c.requires.going.1.prepared.has.numbers.0 c.len-i.ensures c.read_content-content_at.ensures.place)
@@ -81,7 +81,7 @@ returns-clause-on g c =
     let t = state c.args.self.now in
     let r = c.requires in
     subst (GoesOn g.T.Theory.meaning t) (sym (seen_so g c))
-    (noted_on g.T.Theory.meaning t r.going.1.prepared c.args.word c.args.seen r.room c.store-2.new.self.view (stored g c) (parts g c) r.gave r.other (r.found r.other) r.unread)
+    (noted_on g.T.Theory.meaning t r.going.1.prepared c.args.word c.args.seen r.may.room c.store-2.new.self.view (stored g c) (parts g c) r.may.gave r.may.other (r.may.found r.may.other) r.may.unread)
 
 pub returns-clause-recorded : goal.returns-clause-recorded
 unfolding after
@@ -97,7 +97,7 @@ returns-clause-given g c word seen differ gave =
     let t = state c.args.self.now in
     let r = c.requires in
     subst (λ u. Gave u word seen) (sym (seen_so g c))
-    (noted_given g.T.Theory.meaning t r.going.1.prepared c.args.word c.args.seen r.room c.store-2.new.self.view (stored g c) (parts g c) r.gave r.other (r.found r.other) r.unread
+    (noted_given g.T.Theory.meaning t r.going.1.prepared c.args.word c.args.seen r.may.room c.store-2.new.self.view (stored g c) (parts g c) r.may.gave r.may.other (r.may.found r.may.other) r.may.unread
     word seen differ gave)
 
 pub returns-clause-gave : goal.returns-clause-gave
@@ -106,4 +106,4 @@ returns-clause-gave g c =
     let t = state c.args.self.now in
     let r = c.requires in
     subst (λ u. Gave u c.args.word c.args.seen) (sym (seen_so g c))
-    (noted_gave g.T.Theory.meaning t r.going.1.prepared c.args.word c.args.seen r.room c.store-2.new.self.view (stored g c) (parts g c) r.gave r.other (r.found r.other) r.unread)
+    (noted_gave g.T.Theory.meaning t r.going.1.prepared c.args.word c.args.seen r.may.room c.store-2.new.self.view (stored g c) (parts g c) r.may.gave r.may.other (r.may.found r.may.other) r.may.unread)

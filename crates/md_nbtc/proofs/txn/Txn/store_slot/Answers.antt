@@ -1,4 +1,4 @@
-use Rattle.std.proofs.Common.{◌≡◌, ◌<◌, ◌∙◌, ℕ, length, sym, ap, subst}
+use Rattle.std.proofs.Common.{◌≡◌, ◌<◌, ◌∙◌, ℕ, length, sym, ap, subst, rules}
 use Rattle.md_words.specs.declared.limits.TheConstants.{SET}
 use Rattle.md_words.specs.declared.shape.Shape.{Shape}
 use Rattle.md_words.specs.Layout.{address, desc_count}
@@ -52,14 +52,18 @@ returns-clause-on g c =
     both_on M (state c.args.self.now) (state c.put_in_slot.new.self) (state c.put_in_slot-3.new.self) c.put_in_slot.ensures.on
     (both_on M (state c.put_in_slot.new.self) (state c.put_in_slot-2.new.self) (state c.put_in_slot-3.new.self) c.put_in_slot-2.ensures.on c.put_in_slot-3.ensures.on)
 
-pub returns-clause-given : goal.returns-clause-given
-returns-clause-given g c word =
+pub returns-clause-only : goal.returns-clause-only
+returns-clause-only g c =
     let t = state c.args.self.now in
     let t1 = state c.put_in_slot.new.self in
     let t2 = state c.put_in_slot-2.new.self in
     let t3 = state c.put_in_slot-3.new.self in
-    both_given t t1 t3 word (c.put_in_slot.ensures.given word)
-    (both_given t1 t2 t3 word (c.put_in_slot-2.ensures.given word) (c.put_in_slot-3.ensures.given word))
+    let a = c.put_in_slot.ensures.only in
+    let b = c.put_in_slot-2.ensures.only in
+    let d = c.put_in_slot-3.ensures.only in record {
+      same = d.same ∙ ap (λ (x : TxnState). record x { pass = t3.pass }) (b.same ∙ ap (λ (x : TxnState). record x { pass = t2.pass }) a.same);
+      given = λ word. both_given t t1 t3 word (a.given word) (both_given t1 t2 t3 word (b.given word) (d.given word));
+    }
 
 pub returns-clause-holds : goal.returns-clause-holds
 returns-clause-holds g c =
@@ -68,7 +72,7 @@ returns-clause-holds g c =
     let a = c.put_in_slot.ensures in
     let b = c.put_in_slot-2.ensures in
     let e = c.put_in_slot-3.ensures in
-    holds_slot t (state c.put_in_slot.new.self) (state c.put_in_slot-2.new.self) (state c.put_in_slot-3.new.self) prepared c.requires.room a.same b.same e.same
+    holds_slot t (state c.put_in_slot.new.self) (state c.put_in_slot-2.new.self) (state c.put_in_slot-3.new.self) prepared c.requires.room a.only.same b.only.same e.only.same
     c.slot_word-at_word.result c.slot_old-at_old.result c.slot_new-at_new.result
     (place_is t prepared slot_word c.shape.result.now c.shape.ensures c.len-slot.result c.slot_word-at_word.result c.len-slot.ensures c.slot_word-at_word.ensures.place)
     (place_is t prepared slot_old c.shape-2.result.now c.shape-2.ensures c.len-slot.result c.slot_old-at_old.result c.len-slot.ensures c.slot_old-at_old.ensures.place)

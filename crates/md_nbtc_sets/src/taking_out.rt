@@ -1,28 +1,18 @@
-//! What a transaction does once its fate is known: its descriptor is taken out of the words that it
-//! wrote, and if it was aborted, its nodes are given back.
+//! How a transaction whose fate is known takes its descriptor out of the words that it wrote.
 
-ghost use Rattle.std.specs.Prelude.{◌≡◌, ◌+◌, ◌<◌, ◌≤◌, ◌^◌, ℕ, map};
-ghost use Rattle.md_words.specs.declared.limits.TheConstants.{SET};
+ghost use Rattle.std.specs.Prelude.{◌≡◌, ◌+◌, ◌<◌, ◌≤◌, ◌^◌, map};
 ghost use Rattle.md_words.specs.Content.{count_of, word_of};
-ghost use Rattle.md_words.specs.Layout.{desc_count};
 ghost use Rattle.md_machine.specs.declared.step.TheConstants.{LAST_COUNT};
-ghost use Rattle.md_arena.specs.Taking.{with_nodes};
-ghost use Rattle.md_help.specs.After.{StandsInField};
+ghost use Rattle.md_help.specs.After.{Stands};
 ghost use Rattle.md_rule.specs.Views.{IsOf};
-ghost use Rattle.md_nbtc_law.specs.Prepared.{TakenInTurn};
-ghost use Rattle.md_nbtc_law.specs.State.{lots_since};
-ghost use Rattle.md_nbtc_law.specs.Withdrawing.{HasBack, MayGiveBack, MayGiveLotBack};
 ghost use Rattle.md_nbtc_law.specs.Withdrawing.{AreInstalled, HasFate, IsInstalled};
 ghost use Rattle.md_nbtc_law.specs.Withdrawing.{TakesWriteOut, TakesWritesOut};
 ghost use Rattle.md_nbtc_law.specs.Withdrawing.{installed_in, taken_value};
 
-use crate::sets::{Lots, Slots};
-use md_arena::give_back;
+use crate::sets::Slots;
 use md_machine::{AttemptId, Theory, Write};
-use md_nbtc_law::Lot;
 use md_rule::{Field, Pass};
 use md_words::{Content, Spot, Status};
-use std::snapshot::Snapshot;
 
 // What the fate makes of a written word.
 fn value_by(fate: Status, write: Write) -> u32
@@ -55,18 +45,18 @@ fn installed(attempt: AttemptId, write: Write) -> Content
 // Takes the descriptor in hand out of one word by the fate of its attempt: what is left there, or
 // was found if another did it. One step.
 pub(crate) fn take_write_out<T: Theory>(
-    pass: &mut Pass<T>,
     field: &Field<T>,
+    pass: &mut Pass<T>,
     attempt: AttemptId,
     write: Write,
     fate: Status,
 ) -> u64
     requires of { IsOf pass.old field.now }
-    requires stands { StandsInField T.meaning field.now.origin pass.old.view }
+    requires stands { Stands T.meaning field.now.origin pass.old.view }
     requires fate { HasFate field.now.origin.shape pass.old.view attempt fate }
     requires installed { IsInstalled field.now.origin.shape pass.old.view attempt write }
     ensures same { pass.new ≡ record pass.old { view = pass.new.view } }
-    ensures stands { StandsInField T.meaning field.now.origin pass.new.view }
+    ensures stands { Stands T.meaning field.now.origin pass.new.view }
     ensures out { TakesWriteOut T.meaning field.now.origin attempt fate write result pass.old.view
         pass.new.view }
 {
@@ -84,49 +74,23 @@ pub(crate) fn take_write_out<T: Theory>(
 
 // Takes it out of each word that it wrote, in order. One step each.
 pub(crate) fn take_writes_out<T: Theory>(
-    pass: &mut Pass<T>,
     field: &Field<T>,
+    pass: &mut Pass<T>,
     attempt: AttemptId,
     slots: &Slots,
     fate: Status,
 )
     requires of { IsOf pass.old field.now }
-    requires stands { StandsInField T.meaning field.now.origin pass.old.view }
+    requires stands { Stands T.meaning field.now.origin pass.old.view }
     requires fate { HasFate field.now.origin.shape pass.old.view attempt fate }
     requires installed { AreInstalled field.now.origin.shape pass.old.view attempt
         (map (λ s. s.write) slots.now) }
     ensures same { pass.new ≡ record pass.old { view = pass.new.view } }
-    ensures stands { StandsInField T.meaning field.now.origin pass.new.view }
+    ensures stands { Stands T.meaning field.now.origin pass.new.view }
     ensures out { TakesWritesOut field.now.origin.shape attempt fate
         (map (λ s. s.write) slots.now) pass.old.view pass.new.view }
 {
     for i in 0..slots.len() {
-        take_write_out(pass, field, attempt, slots.get(i).write, fate);
-    }
-}
-
-// Gives the nodes of a lot back, from the last that was taken to the first.
-fn give_lot_back<T: Theory>(pass: &mut Pass<T>, lot: Lot)
-    requires lot { MayGiveLotBack pass.old lot }
-    ensures { pass.new ≡ with_nodes pass.old lot.lane lot.first }
-{
-    for place in (lot.first..pass.nodes_taken(lot.lane)).rev() {
-        let node = pass.shape().node_of(lot.lane, place);
-        give_back(pass, node);
-    }
-}
-
-// Gives the nodes back that were taken since the transaction began, from the last to the first.
-pub(crate) fn give_nodes_back<T: Theory>(pass: &mut Pass<T>, lots: &Lots, began: &Snapshot<Pass<T>>)
-    requires lots { lots.now ≡ lots_since began.now.value pass.old }
-    requires taken { TakenInTurn began.now.value pass.old }
-    requires lanes { pass.old.view.lanes ≡ began.now.value.view.lanes }
-    requires free { MayGiveBack began.now.value pass.old }
-    ensures { HasBack began.now.value pass.old pass.new }
-{
-    let _ = began;
-    let _ = pass.shape();
-    for i in (0..lots.len()).rev() {
-        give_lot_back(pass, lots.get(i));
+        take_write_out(field, pass, attempt, slots.get(i).write, fate);
     }
 }

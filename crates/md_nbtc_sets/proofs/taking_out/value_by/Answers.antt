@@ -1,5 +1,5 @@
 use Rattle.std.proofs.Common.{rules}
-use Rattle.md_nbtc_sets.proofs.withdrawing.value_by.Goals as goal
+use Rattle.md_nbtc_sets.proofs.taking_out.value_by.Goals as goal
 
 pub returns-in_default : goal.returns-in_default
 returns-in_default c = search rules depth 1

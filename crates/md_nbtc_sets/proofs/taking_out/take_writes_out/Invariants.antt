@@ -2,7 +2,7 @@ use Rattle.std.proofs.Common.{◌≡◌}
 use Rattle.md_help.specs.After.{StandsInField}
 use Rattle.md_rule.specs.Views.{IsOf}
 use Rattle.md_nbtc_law.proofs.withdrawals.AllOut.{TakesFirst}
-use Rattle.md_nbtc_sets.proofs.withdrawing.take_writes_out.Given as goal
+use Rattle.md_nbtc_sets.proofs.taking_out.take_writes_out.Given as goal
 
 abbrev pub invariant-loop-i : goal.invariant-loop-i
 invariant-loop-i g l = record {

@@ -3,7 +3,7 @@ use Rattle.md_rule.specs.Views.{PassState}
 use Rattle.md_nbtc_law.specs.Withdrawing.{IsInstalled, TakesWriteOut}
 use Rattle.md_nbtc_law.specs.declared.slots.Slot.{Slot}
 use Rattle.md_nbtc_law.proofs.withdrawals.AllOut.{fate_still, first_all, first_more, slot_installed, takes_none}
-use Rattle.md_nbtc_sets.proofs.withdrawing.take_writes_out.Goals as goal
+use Rattle.md_nbtc_sets.proofs.taking_out.take_writes_out.Goals as goal
 
 pub loop-i-init : goal.loop-i-init
 loop-i-init g c = record {

@@ -2,7 +2,7 @@ use Rattle.std.proofs.Common.{◌-◌, ◌<◌, sym, ap, subst, ◌∙◌, arith
 use Rattle.md_words.specs.declared.shape.Shape.{Shape}
 use Rattle.md_arena.specs.Taking.{with_nodes}
 use Rattle.md_nbtc_law.proofs.withdrawals.LotBack.{is_free, is_highest, lane_there, number_there, one_back, same_nodes}
-use Rattle.md_nbtc_sets.proofs.withdrawing.give_lot_back.Goals as goal
+use Rattle.md_nbtc_sets.proofs.withdrawal.give_lot_back.Goals as goal
 
 pub loop-place-init : goal.loop-place-init
 loop-place-init g c = let all = c.nodes_taken-place.ensures in let first = c.requires.lot.first in record {

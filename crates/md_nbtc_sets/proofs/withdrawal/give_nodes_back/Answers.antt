@@ -5,7 +5,7 @@ use Rattle.md_nbtc_law.specs.declared.slots.Lot.{Lot}
 use Rattle.md_nbtc_law.specs.declared.slots.TheConstants.{NO_LOT}
 use Rattle.md_nbtc_law.specs.Withdrawing.{MayGiveLotBack}
 use Rattle.md_nbtc_law.proofs.withdrawals.NodesBack.{GivesSome, gives_all, gives_more, gives_none, lot_at, may_lot, more_from}
-use Rattle.md_nbtc_sets.proofs.withdrawing.give_nodes_back.Goals as goal
+use Rattle.md_nbtc_sets.proofs.withdrawal.give_nodes_back.Goals as goal
 
 pub loop-i-init : goal.loop-i-init
 loop-i-init g c =

@@ -2,7 +2,7 @@ use Rattle.std.proofs.Common.{◌+◌, sym, ap, ◌∙◌, arith}
 use Rattle.md_words.specs.Content.{counted_word, word_of}
 use Rattle.md_rule_lanes.proofs.Counting.{count_of_word}
 use Rattle.md_nbtc_law.proofs.withdrawals.OneOut.{desc_small, may_take_as, new_small, took_lost_as, took_stands, took_won_as}
-use Rattle.md_nbtc_sets.proofs.withdrawing.take_write_out.Goals as goal
+use Rattle.md_nbtc_sets.proofs.taking_out.take_write_out.Goals as goal
 
 pub installed-from-requires-clause-desc : goal.installed-from-requires-clause-desc
 installed-from-requires-clause-desc g c =

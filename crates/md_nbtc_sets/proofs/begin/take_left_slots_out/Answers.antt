@@ -7,7 +7,7 @@ use Rattle.md_rule_lanes.specs.Shares.{share_at}
 use Rattle.md_rule.specs.Views.{PassState}
 use Rattle.md_nbtc_law.proofs.beginning.SlotLooks.{won_small}
 use Rattle.md_nbtc_law.proofs.beginning.TakingOut.{takes_all, takes_none, takes_one}
-use Rattle.md_nbtc_sets.proofs.begin.take_slots_out.Goals as goal
+use Rattle.md_nbtc_sets.proofs.begin.take_left_slots_out.Goals as goal
 
 pub settle_one-end-requires-clause-reached : goal.settle_one-end-requires-clause-reached
 settle_one-end-requires-clause-reached g c = inl (c.requires.taken.lane, c.requires.taken.some)
