@@ -38,4 +38,4 @@ pub record StandsInField (M : Meaning) (o : Origin) (view : PassView) : Type 0 w
 -- a call only made steps: nothing of the pass changed but its view, and it stands so in some machine of the field
 pub record OnlySteps (M : Meaning) (o : Origin) (before after : PassState) : Type 0 where
   pub same : after ≡ record before { view = after.view }
-  pub stands : Stands M o after.view
+  pub stands : StandsInField M o after.view

@@ -7,7 +7,7 @@ ghost use Rattle.md_words.specs.Layout.{IsInSet};
 ghost use Rattle.md_words.specs.Status.{reads_of};
 ghost use Rattle.md_machine.specs.events.Uninstall.{desc_in};
 ghost use Rattle.md_rule.specs.Views.{IsOf};
-ghost use Rattle.md_help.specs.After.{OnlySteps, Stands};
+ghost use Rattle.md_help.specs.After.{OnlySteps, StandsInField};
 ghost use Rattle.md_help.specs.Clears.{Clears, Finishes, IsInTheWay, NamesSlot, SawDecided};
 ghost use Rattle.md_help.specs.Clears.{SawTwice, SlotLoaded, TakenOut, fate_of};
 ghost use Rattle.md_help.specs.declared.settling.End.TheVariants.{Gone};
@@ -40,7 +40,7 @@ pub fn clear<T: Theory>(field: &Field<T>, pass: &mut Pass<T>, word: u32, found: 
     requires field { IsOf pass.old field.now }
     requires way { IsInTheWay field.now.origin.shape pass.old.view word (word_of found) }
     ensures same { pass.new ≡ record pass.old { view = pass.new.view } }
-    ensures stands { Stands T.meaning field.now.origin pass.new.view }
+    ensures stands { StandsInField T.meaning field.now.origin pass.new.view }
     ensures clears { Clears field.now.origin.shape word (word_of found) result pass.old.view
         pass.new.view }
 {
@@ -67,7 +67,7 @@ fn finish<T: Theory>(
     status: u64,
 ) -> Cleared
     requires field { IsOf pass.old field.now }
-    requires stands { Stands T.meaning field.now.origin pass.old.view }
+    requires stands { StandsInField T.meaning field.now.origin pass.old.view }
     requires slot { NamesSlot field.now.origin.shape word found }
     requires few { reads_of status ≤ SET }
     requires saw { SawTwice field.now.origin.shape pass.old.view word (word_of found) status }

@@ -5,7 +5,7 @@ ghost use Rattle.md_words.specs.declared.limits.TheConstants.{SET};
 ghost use Rattle.md_words.specs.Layout.{IsInSet, desc_count};
 ghost use Rattle.md_machine.specs.Trail.{read_stands};
 ghost use Rattle.md_rule.specs.Views.{IsOf};
-ghost use Rattle.md_help.specs.After.{OnlySteps, Stands};
+ghost use Rattle.md_help.specs.After.{OnlySteps, StandsInField};
 ghost use Rattle.md_help.specs.Reads.{Checked, Validated};
 
 use md_machine::Theory;
@@ -20,7 +20,7 @@ pub(crate) fn validate<T: Theory>(
     reads: u8,
 ) -> bool
     requires field { IsOf pass.old field.now }
-    requires stands { Stands T.meaning field.now.origin pass.old.view }
+    requires stands { StandsInField T.meaning field.now.origin pass.old.view }
     requires desc { desc < desc_count field.now.origin.shape }
     requires reads { reads ≤ SET }
     ensures steps { OnlySteps T.meaning field.now.origin pass.old pass.new }

@@ -11,7 +11,7 @@ ghost use Rattle.md_rule.specs.InHand.{HoldsDesc};
 ghost use Rattle.md_rule.specs.Kept.{IsReached};
 ghost use Rattle.md_rule.specs.Views.{IsOf};
 ghost use Rattle.md_help.specs.Clears.{SettlesOne};
-ghost use Rattle.md_help.specs.After.{OnlySteps, Stands};
+ghost use Rattle.md_help.specs.After.{OnlySteps, StandsInField};
 ghost use Rattle.md_help.specs.Owns.{EndsOwn, IsOwnLast, KnowsEnd};
 ghost use Rattle.md_help.specs.Settles.{EndIs, HasMetAttempt, Settled, SettledNewer};
 
@@ -43,7 +43,7 @@ pub fn settle_one<T: Theory>(field: &Field<T>, pass: &mut Pass<T>, desc: u32) ->
     requires reached { IsReached pass.old desc }
     requires other { ¬ HoldsDesc pass.old.view desc }
     ensures same { pass.new ≡ record pass.old { view = pass.new.view } }
-    ensures stands { Stands T.meaning field.now.origin pass.new.view }
+    ensures stands { StandsInField T.meaning field.now.origin pass.new.view }
     ensures settles { SettlesOne field.now.origin.shape desc result pass.old.view
         pass.new.view }
     ensures own { HasDesc field.now.origin.shape pass.old.view desc
@@ -57,7 +57,7 @@ pub fn settle_one<T: Theory>(field: &Field<T>, pass: &mut Pass<T>, desc: u32) ->
 // reads.
 pub(crate) fn settle<T: Theory>(field: &Field<T>, pass: &mut Pass<T>, desc: u32, status: u64) -> End
     requires field { IsOf pass.old field.now }
-    requires stands { Stands T.meaning field.now.origin pass.old.view }
+    requires stands { StandsInField T.meaning field.now.origin pass.old.view }
     requires attempt { HasMetAttempt field.now.origin.shape pass.old desc status }
     requires few { reads_of status ≤ SET }
     ensures steps { OnlySteps T.meaning field.now.origin pass.old pass.new }
@@ -98,7 +98,7 @@ fn settle_newer<T: Theory>(
     newer: u64,
 ) -> End
     requires field { IsOf pass.old field.now }
-    requires stands { Stands T.meaning field.now.origin pass.old.view }
+    requires stands { StandsInField T.meaning field.now.origin pass.old.view }
     requires attempt { HasMetAttempt field.now.origin.shape pass.old desc newer }
     requires few { reads_of newer ≤ SET }
     requires ready { serial_of newer ≡ serial_of old → status_of newer ≢ InPrep }
@@ -118,7 +118,7 @@ fn settle_newer<T: Theory>(
 // From a status that is ready: decides it by its reads, unless it is decided already.
 fn settle_ready<T: Theory>(field: &Field<T>, pass: &mut Pass<T>, desc: u32, status: u64) -> End
     requires field { IsOf pass.old field.now }
-    requires stands { Stands T.meaning field.now.origin pass.old.view }
+    requires stands { StandsInField T.meaning field.now.origin pass.old.view }
     requires attempt { HasMetAttempt field.now.origin.shape pass.old desc status }
     requires few { reads_of status ≤ SET }
     requires ready { status_of status ≢ InPrep }
@@ -138,7 +138,7 @@ fn settle_ready<T: Theory>(field: &Field<T>, pass: &mut Pass<T>, desc: u32, stat
 // Validates the reads of an attempt that is in progress, and commits or aborts it.
 fn decide<T: Theory>(field: &Field<T>, pass: &mut Pass<T>, desc: u32, status: u64) -> End
     requires field { IsOf pass.old field.now }
-    requires stands { Stands T.meaning field.now.origin pass.old.view }
+    requires stands { StandsInField T.meaning field.now.origin pass.old.view }
     requires attempt { HasMetAttempt field.now.origin.shape pass.old desc status }
     requires few { reads_of status ≤ SET }
     requires in_progress { status_of status ≡ InProg }

@@ -9,9 +9,9 @@ ghost use Rattle.md_words.specs.Status.{status_of, status_word};
 ghost use Rattle.md_machine.specs.events.Decide.{decided_word};
 ghost use Rattle.md_machine.specs.events.Uninstall.{IsDecided};
 ghost use Rattle.md_rule.specs.Views.{IsOf};
-ghost use Rattle.md_help.specs.After.{Stands};
-ghost use Rattle.md_nbtc_law.specs.Deciding.{IsFateFound, MaySettle, Settles, Validates};
-ghost use Rattle.md_nbtc_law.specs.Ending.{Aborts, Commits, HasEntry, IsReady, IsShown, TellsWhy};
+ghost use Rattle.md_help.specs.After.{StandsInField};
+ghost use Rattle.md_nbtc_law.specs.Deciding.{IsFateFound, MayDecide, DecidesDescriptor, Validates};
+ghost use Rattle.md_nbtc_law.specs.Ending.{Aborts, CommitsTransaction, HasEntry, IsReady, IsShown, TellsWhy};
 ghost use Rattle.md_nbtc_sets.specs.Deciding.{IsInProgress, state_by};
 
 use crate::sets::{Reads, Sets};
@@ -33,10 +33,10 @@ fn validate<T: Theory>(
     reads: &Reads,
 ) -> Option<Shown>
     requires of { IsOf pass.old field.now }
-    requires stands { Stands T.meaning field.now.origin pass.old.view }
+    requires stands { StandsInField T.meaning field.now.origin pass.old.view }
     requires counted { All (λ r. IsCounted field.now.origin.shape r.word) reads.now }
     ensures same { pass.new ≡ record pass.old { view = pass.new.view } }
-    ensures stands { Stands T.meaning field.now.origin pass.new.view }
+    ensures stands { StandsInField T.meaning field.now.origin pass.new.view }
     ensures validates { Validates field.now.origin.shape desc reads.now (length reads.now) result
         pass.old.view pass.new.view }
 {
@@ -80,12 +80,12 @@ fn settle<T: Theory>(
     moved: Option<Shown>,
 ) -> Result<(), Shown>
     requires of { IsOf pass.old field.now }
-    requires stands { Stands T.meaning field.now.origin pass.old.view }
+    requires stands { StandsInField T.meaning field.now.origin pass.old.view }
     requires in_progress { IsInProgress field.now.origin.shape pass.old.view attempt from }
-    requires may { MaySettle field.now.origin.shape pass.old.view attempt.desc from moved }
+    requires may { MayDecide field.now.origin.shape pass.old.view attempt.desc from moved }
     ensures same { pass.new ≡ record pass.old { view = pass.new.view } }
-    ensures stands { Stands T.meaning field.now.origin pass.new.view }
-    ensures settles { Settles T.meaning field.now.origin attempt.desc from moved result
+    ensures stands { StandsInField T.meaning field.now.origin pass.new.view }
+    ensures settles { DecidesDescriptor T.meaning field.now.origin attempt.desc from moved result
         pass.old.view pass.new.view }
 {
     let _ = pass.shape();
@@ -140,7 +140,7 @@ pub fn decided<T: Theory>(
     requires { IsReady T.meaning
         (state_by field.now pass.old began.now.value sets.old attempt tag) }
     ensures committed { let t = state_by field.now pass.old began.now.value sets.old attempt tag in
-        IfOk result (λ _. (e : HasEntry t) × Commits T.meaning t e pass.new) }
+        IfOk result (λ _. (e : HasEntry t) × CommitsTransaction T.meaning t e pass.new) }
     ensures aborted { let t = state_by field.now pass.old began.now.value sets.old attempt tag in
         IfErr result (λ shown. Aborts T.meaning t pass.new × IsShown t pass.new shown
         × TellsWhy t pass.new shown) }

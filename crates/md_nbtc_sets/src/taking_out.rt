@@ -3,7 +3,7 @@
 ghost use Rattle.std.specs.Prelude.{◌≡◌, ◌+◌, ◌<◌, ◌≤◌, ◌^◌, map};
 ghost use Rattle.md_words.specs.Content.{count_of, word_of};
 ghost use Rattle.md_machine.specs.declared.step.TheConstants.{LAST_COUNT};
-ghost use Rattle.md_help.specs.After.{Stands};
+ghost use Rattle.md_help.specs.After.{StandsInField};
 ghost use Rattle.md_rule.specs.Views.{IsOf};
 ghost use Rattle.md_nbtc_law.specs.Withdrawing.{AreInstalled, HasFate, IsInstalled};
 ghost use Rattle.md_nbtc_law.specs.Withdrawing.{TakesWriteOut, TakesWritesOut};
@@ -52,11 +52,11 @@ pub(crate) fn take_write_out<T: Theory>(
     fate: Status,
 ) -> u64
     requires of { IsOf pass.old field.now }
-    requires stands { Stands T.meaning field.now.origin pass.old.view }
+    requires stands { StandsInField T.meaning field.now.origin pass.old.view }
     requires fate { HasFate field.now.origin.shape pass.old.view attempt fate }
     requires installed { IsInstalled field.now.origin.shape pass.old.view attempt write }
     ensures same { pass.new ≡ record pass.old { view = pass.new.view } }
-    ensures stands { Stands T.meaning field.now.origin pass.new.view }
+    ensures stands { StandsInField T.meaning field.now.origin pass.new.view }
     ensures out { TakesWriteOut T.meaning field.now.origin attempt fate write result pass.old.view
         pass.new.view }
 {
@@ -81,12 +81,12 @@ pub(crate) fn take_writes_out<T: Theory>(
     fate: Status,
 )
     requires of { IsOf pass.old field.now }
-    requires stands { Stands T.meaning field.now.origin pass.old.view }
+    requires stands { StandsInField T.meaning field.now.origin pass.old.view }
     requires fate { HasFate field.now.origin.shape pass.old.view attempt fate }
     requires installed { AreInstalled field.now.origin.shape pass.old.view attempt
         (map (λ s. s.write) slots.now) }
     ensures same { pass.new ≡ record pass.old { view = pass.new.view } }
-    ensures stands { Stands T.meaning field.now.origin pass.new.view }
+    ensures stands { StandsInField T.meaning field.now.origin pass.new.view }
     ensures out { TakesWritesOut field.now.origin.shape attempt fate
         (map (λ s. s.write) slots.now) pass.old.view pass.new.view }
 {

@@ -7,9 +7,9 @@ ghost use Rattle.md_words.specs.Layout.{IsNode};
 ghost use Rattle.md_machine.specs.declared.step.Step.{Step};
 ghost use Rattle.md_machine.specs.events.Start.{IsClean};
 ghost use Rattle.md_rule.specs.Views.{IsOf};
-ghost use Rattle.md_help.specs.After.{Stands};
+ghost use Rattle.md_help.specs.After.{StandsInField};
 ghost use Rattle.md_nbtc_law.specs.Cleaning.{cleanup_node, cleanup_value, cleanup_word};
-ghost use Rattle.md_nbtc_law.specs.Deciding.{Cleaned, CleansSlot, CleansSlots, FindsNext, Finishes};
+ghost use Rattle.md_nbtc_law.specs.Deciding.{Cleaned, CleansSlot, CleansSlots, FindsNext, FinishesAttempt};
 ghost use Rattle.md_nbtc_law.specs.Deciding.{MayClean, MayCleanSlot, TakesSlots, TookLeft, TookOut};
 ghost use Rattle.md_nbtc_law.specs.Deciding.{TookSlot, Tried};
 ghost use Rattle.md_nbtc_law.specs.Ending.{IsReason, names_node};
@@ -97,12 +97,12 @@ fn new_value(cleanup: Cleanup, next: u64) -> u32
 // left there when the descriptor was taken out of it.
 fn next_by<T: Theory>(field: &Field<T>, pass: &mut Pass<T>, cleanup: Cleanup, left: u64) -> u64
     requires of { IsOf pass.old field.now }
-    requires stands { Stands T.meaning field.now.origin pass.old.view }
+    requires stands { StandsInField T.meaning field.now.origin pass.old.view }
     requires exists { IsNode field.now.origin.shape (cleanup_node cleanup) }
     requires placed { IsAlwaysPlaced T.meaning field.now.origin pass.old.view
         (cleanup_node cleanup) }
     ensures same { pass.new ≡ record pass.old { view = pass.new.view } }
-    ensures stands { Stands T.meaning field.now.origin pass.new.view }
+    ensures stands { StandsInField T.meaning field.now.origin pass.new.view }
     ensures next { (out : Step) → TookOut field.now.origin.shape pass.old.view cleanup left out
         → FindsNext field.now.origin.shape cleanup out result pass.old.view pass.new.view }
 {
@@ -126,12 +126,12 @@ fn try_cleanup<T: Theory>(
     left: u64,
 )
     requires of { IsOf pass.old field.now }
-    requires stands { Stands T.meaning field.now.origin pass.old.view }
+    requires stands { StandsInField T.meaning field.now.origin pass.old.view }
     requires may { MayClean T.meaning field.now.origin pass.old.view cleanup }
     requires names { names_node cleanup held ≡ true }
     requires out { (out : Step) × TookOut field.now.origin.shape pass.old.view cleanup left out }
     ensures same { pass.new ≡ record pass.old { view = pass.new.view } }
-    ensures stands { Stands T.meaning field.now.origin pass.new.view }
+    ensures stands { StandsInField T.meaning field.now.origin pass.new.view }
     ensures tried { (out : Step) → TookOut field.now.origin.shape pass.old.view cleanup left out
         → Tried field.now.origin.shape cleanup out held pass.old.view pass.new.view }
 {
@@ -145,11 +145,11 @@ fn try_cleanup<T: Theory>(
 // Makes one cleanup, if its word still names its node. At most three steps.
 fn clean_up<T: Theory>(field: &Field<T>, pass: &mut Pass<T>, cleanup: Cleanup, left: u64)
     requires of { IsOf pass.old field.now }
-    requires stands { Stands T.meaning field.now.origin pass.old.view }
+    requires stands { StandsInField T.meaning field.now.origin pass.old.view }
     requires may { MayClean T.meaning field.now.origin pass.old.view cleanup }
     requires out { (out : Step) × TookOut field.now.origin.shape pass.old.view cleanup left out }
     ensures same { pass.new ≡ record pass.old { view = pass.new.view } }
-    ensures stands { Stands T.meaning field.now.origin pass.new.view }
+    ensures stands { StandsInField T.meaning field.now.origin pass.new.view }
     ensures cleaned { (out : Step) → TookOut field.now.origin.shape pass.old.view cleanup left out
         → Cleaned field.now.origin.shape cleanup out pass.old.view pass.new.view }
 {
@@ -169,10 +169,10 @@ pub(crate) fn take_slots_out<T: Theory>(
     lefts: &mut Lefts,
 )
     requires of { IsOf pass.old field.now }
-    requires stands { Stands T.meaning field.now.origin pass.old.view }
+    requires stands { StandsInField T.meaning field.now.origin pass.old.view }
     requires may { MayFinish T.meaning field.now.origin pass.old.view attempt slots.now }
     ensures same { pass.new ≡ record pass.old { view = pass.new.view } }
-    ensures stands { Stands T.meaning field.now.origin pass.new.view }
+    ensures stands { StandsInField T.meaning field.now.origin pass.new.view }
     ensures takes { TakesSlots field.now.origin.shape attempt slots.now lefts.new pass.old.view
         pass.new.view }
     ensures clean { IsClean pass.new.view attempt }
@@ -187,11 +187,11 @@ pub(crate) fn take_slots_out<T: Theory>(
 // Makes the cleanup that a slot keeps, if it keeps one.
 fn clean_slot<T: Theory>(field: &Field<T>, pass: &mut Pass<T>, slot: Slot, left: u64)
     requires of { IsOf pass.old field.now }
-    requires stands { Stands T.meaning field.now.origin pass.old.view }
+    requires stands { StandsInField T.meaning field.now.origin pass.old.view }
     requires may { MayCleanSlot T.meaning field.now.origin pass.old.view slot }
     requires out { (out : Step) × TookLeft field.now.origin.shape pass.old.view slot left out }
     ensures same { pass.new ≡ record pass.old { view = pass.new.view } }
-    ensures stands { Stands T.meaning field.now.origin pass.new.view }
+    ensures stands { StandsInField T.meaning field.now.origin pass.new.view }
     ensures cleans { (out : Step) → TookLeft field.now.origin.shape pass.old.view slot left out
         → CleansSlot field.now.origin.shape slot out pass.old.view pass.new.view }
 {
@@ -208,13 +208,13 @@ pub(crate) fn clean_slots<T: Theory>(
     lefts: &Lefts,
 )
     requires of { IsOf pass.old field.now }
-    requires stands { Stands T.meaning field.now.origin pass.old.view }
+    requires stands { StandsInField T.meaning field.now.origin pass.old.view }
     requires may { All (MayCleanSlot T.meaning field.now.origin pass.old.view) slots.now }
     requires outs { (outs : List Step)
         × AllZip (TookSlot field.now.origin.shape pass.old.view) slots.now outs
         × (lefts.now ≡ map (λ s. s.after) outs) }
     ensures same { pass.new ≡ record pass.old { view = pass.new.view } }
-    ensures stands { Stands T.meaning field.now.origin pass.new.view }
+    ensures stands { StandsInField T.meaning field.now.origin pass.new.view }
     ensures cleans { (outs : List Step)
         → AllZip (TookSlot field.now.origin.shape pass.old.view) slots.now outs
         → lefts.now ≡ map (λ s. s.after) outs
@@ -237,9 +237,9 @@ pub(crate) fn finish<T: Theory>(
     lefts: &mut Lefts,
 )
     requires of { IsOf pass.old field.now }
-    requires stands { Stands T.meaning field.now.origin pass.old.view }
+    requires stands { StandsInField T.meaning field.now.origin pass.old.view }
     requires may { MayFinish T.meaning field.now.origin pass.old.view attempt slots.now }
-    ensures { Finishes T.meaning field.now.origin pass.old attempt slots.now pass.new }
+    ensures { FinishesAttempt T.meaning field.now.origin pass.old attempt slots.now pass.new }
 {
     let _ = pass.shape();
     take_slots_out(field, pass, attempt, slots, lefts);

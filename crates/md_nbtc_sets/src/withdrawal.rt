@@ -2,7 +2,7 @@
 
 ghost use Rattle.std.specs.Prelude.{◌≡◌, map};
 ghost use Rattle.md_arena.specs.Taking.{with_nodes};
-ghost use Rattle.md_help.specs.After.{Stands};
+ghost use Rattle.md_help.specs.After.{StandsInField};
 ghost use Rattle.md_rule.specs.Views.{IsOf};
 ghost use Rattle.md_nbtc_law.specs.Prepared.{TakenInTurn};
 ghost use Rattle.md_nbtc_law.specs.State.{lots_since};
@@ -58,7 +58,7 @@ pub fn withdraw<T: Theory>(
     began: &Snapshot<Pass<T>>,
 )
     requires of { IsOf pass.old field.now }
-    requires stands { Stands T.meaning field.now.origin pass.old.view }
+    requires stands { StandsInField T.meaning field.now.origin pass.old.view }
     requires may { MayWithdraw field.now.origin.shape began.now.value pass.old attempt
         (map (λ s. s.write) slots.now) }
     requires lots { lots.now ≡ lots_since began.now.value pass.old }
@@ -75,10 +75,10 @@ pub fn withdraw<T: Theory>(
 /// succeeds, takes no memory, and takes one step.
 pub fn abort_unready<T: Theory>(field: &Field<T>, pass: &mut Pass<T>, attempt: AttemptId)
     requires of { IsOf pass.old field.now }
-    requires stands { Stands T.meaning field.now.origin pass.old.view }
+    requires stands { StandsInField T.meaning field.now.origin pass.old.view }
     requires unready { IsUnready field.now.origin.shape pass.old.view attempt }
     ensures same { pass.new ≡ record pass.old { view = pass.new.view } }
-    ensures stands { Stands T.meaning field.now.origin pass.new.view }
+    ensures stands { StandsInField T.meaning field.now.origin pass.new.view }
     ensures aborts { AbortsHand field.now.origin.shape attempt pass.old.view pass.new.view }
 {
     let _ = pass.shape();

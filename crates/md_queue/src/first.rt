@@ -8,7 +8,7 @@ ghost use Rattle.md_history.specs.declared.stops.Limit.TheVariants.{Reads, Write
 ghost use Rattle.md_machine.specs.declared.certificate.Certificate.{Certificate};
 ghost use Rattle.md_nbtc_law.specs.Going.{IsGoing};
 ghost use Rattle.md_nbtc.specs.State.{state};
-ghost use Rattle.md_queue.specs.Operations.{Answered, GoesBy, IsBegun, IsNotBy};
+ghost use Rattle.md_queue.specs.Operations.{OperationAnswered, GoesBy, IsBegun, IsNotBy};
 ghost use Rattle.md_queue.specs.Operations.{RefusedOtherwise};
 ghost use Rattle.md_queue.specs.Operations.{LeavesDummy, RecordsAmong, StaysStopped, TailDiffers};
 ghost use Rattle.md_queue.specs.Operations.{dequeue_reads, dequeue_writes};
@@ -95,7 +95,7 @@ fn note_first<'a, T: HasQueues>(tx: &mut Txn<'a, T>, queue: u32, first: First) -
 pub fn front<'a, T: HasQueues>(tx: &mut Txn<'a, T>, queue: u32) -> Result<Option<u64>, Stop>
     requires begun { IsBegun T.meaning (state tx.old) queue }
     ensures pass { tx.new.pass.ghost_name ≡ tx.old.pass.ghost_name }
-    ensures answer { IfOk result (λ value. Answered T.meaning (state tx.old) (state tx.new)
+    ensures answer { IfOk result (λ value. OperationAnswered T.meaning (state tx.old) (state tx.new)
         (Front queue) (Value value) 2 0 0) }
     ensures stop { IfErr result (RefusedOtherwise T.meaning (state tx.old) (state tx.new) 2 0) }
     ensures reads { IfErr result (RefusesReads T.meaning (state tx.old) (state tx.new)
@@ -194,7 +194,7 @@ fn take_first<'a, T: HasQueues>(tx: &mut Txn<'a, T>, queue: u32, first: First) -
 pub fn dequeue<'a, T: HasQueues>(tx: &mut Txn<'a, T>, queue: u32) -> Result<Option<u64>, Stop>
     requires begun { IsBegun T.meaning (state tx.old) queue }
     ensures pass { tx.new.pass.ghost_name ≡ tx.old.pass.ghost_name }
-    ensures answer { IfOk result (λ value. Answered T.meaning (state tx.old) (state tx.new)
+    ensures answer { IfOk result (λ value. OperationAnswered T.meaning (state tx.old) (state tx.new)
         (Dequeue queue) (Value value) (dequeue_reads value) (dequeue_writes value) 0) }
     ensures tail { IfOk result (λ value. IfSome value (λ v. LeavesDummy (state tx.new) queue)) }
     ensures stop { IfErr result (RefusedOtherwise T.meaning (state tx.old) (state tx.new) 2 2) }

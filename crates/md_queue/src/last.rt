@@ -8,8 +8,8 @@ ghost use Rattle.md_history.specs.declared.stops.Limit.TheVariants.{Reads, Write
 ghost use Rattle.md_machine.specs.declared.certificate.Certificate.{Certificate};
 ghost use Rattle.md_nbtc_law.specs.Going.{IsGoing};
 ghost use Rattle.md_nbtc.specs.State.{state};
-ghost use Rattle.md_queue.specs.Operations.{Answered, GoesBy, IsBegun, IsNotBy, PutsLast};
-ghost use Rattle.md_queue.specs.Operations.{Refused, RefusedOtherwise, StaysStopped};
+ghost use Rattle.md_queue.specs.Operations.{OperationAnswered, GoesBy, IsBegun, IsNotBy, PutsLast};
+ghost use Rattle.md_queue.specs.Operations.{OperationRefused, RefusedOtherwise, StaysStopped};
 ghost use Rattle.md_queue.specs.Parts.{FindsLast, FollowsEnd};
 ghost use Rattle.md_queue.specs.Refusals.{IfBy, MoveRefused, RefusesWrites, TakesNone};
 ghost use Rattle.md_queue.specs.Working.{SeesEnd, other_count};
@@ -127,10 +127,10 @@ fn find_last<'a, T: HasQueues>(tx: &mut Txn<'a, T>, queue: u32) -> Result<End, S
 pub fn enqueue<'a, T: HasQueues>(tx: &mut Txn<'a, T>, queue: u32, value: u64) -> Result<(), Stop>
     requires begun { IsBegun T.meaning (state tx.old) queue }
     ensures pass { tx.new.pass.ghost_name ≡ tx.old.pass.ghost_name }
-    ensures answer { IfOk result (λ done. Answered T.meaning (state tx.old) (state tx.new)
+    ensures answer { IfOk result (λ done. OperationAnswered T.meaning (state tx.old) (state tx.new)
         (Enqueue queue value) Nothing 0 2 1) }
     ensures puts { IfOk result (λ done. PutsLast (state tx.old) (state tx.new) queue value) }
-    ensures stop { IfErr result (Refused T.meaning (state tx.old) (state tx.new) 0 2 1) }
+    ensures stop { IfErr result (OperationRefused T.meaning (state tx.old) (state tx.new) 0 2 1) }
     ensures writes { IfErr result (RefusesWrites T.meaning (state tx.old) (state tx.new) queue
         (Enqueue queue value)) }
     ensures no_node { IfErr result (TakesNone (state tx.old) (state tx.new)) }
