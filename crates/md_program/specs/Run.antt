@@ -67,7 +67,7 @@ abbrev pub EndsWell : {I O : Type 0} → StreamCall I → (I → Option (List �
 EndsWell gives left read_faults input input' write_faults output output' options status =
     ¬ Rose (write_faults output) (write_faults output')
     → (options.make ≡ None → (¬ Rose (read_faults input) (read_faults input'))
-        × IsGoodInput gives left read_faults input input' options.callers)
+    × IsGoodInput gives left read_faults input input' options.callers)
     → (status ≡ Done) ⊎ (status ≡ NoMemory)
 
 -- A run's sink before and after, and its fronts.
