@@ -73,14 +73,7 @@ fn nodes_of_small_contents(rt: HostRuntime) {
 #[test]
 fn small_contents_are_laid_word_for_word(rt: HostRuntime) {
     let contents = contents_of(rt.alloc(), &[(5, 6)], &[]).expect(&rt, "memory");
-    let words = [
-        (6, 4 << 32),
-        (65, 2 << 32),
-        (66, 2 << 32),
-        (70, 5),
-        (71, 6),
-    ]
-    .as_slice();
+    let words = [(6, 4 << 32), (65, 2 << 32), (66, 2 << 32), (70, 5), (71, 6)].as_slice();
     let shape = Shape::new(2, 16, 2, 4, 1, 64, 1);
     assert_laid(&rt, &contents, shape, 1451, words);
 }
