@@ -1,6 +1,6 @@
 //! Attempts at lines, over any store.
 
-ghost use Rattle.std.specs.Prelude.{◌≡◌, ◌≤◌, length, vec_capacity, OnOk};
+ghost use Rattle.std.specs.Prelude.{◌≤◌, length, vec_capacity, OnOk};
 ghost use Rattle.md_history.specs.Attempt.{CountsAttempt, IfCommitted, IfStopped, IsAtomic};
 ghost use Rattle.md_many_attempts.specs.Tags.{tag_of};
 ghost use Rattle.md_many_attempts.specs.Meaning.{meaning_of};

@@ -1,6 +1,6 @@
 //! The program over any source and sink, from its arguments on.
 
-ghost use Rattle.std.specs.Prelude.{◌≡◌, Some, List, ℕ, map, drop, string_bytes, IfOk};
+ghost use Rattle.std.specs.Prelude.{◌≡◌, Some, map, drop, string_bytes, IfOk};
 ghost use Rattle.std.specs.Vec.Iter.{into_iter_items};
 ghost use Rattle.md_store.specs.Store.{front_in};
 ghost use Rattle.std.specs.Process.{exit_status};

@@ -1,6 +1,6 @@
 //! The top call: words and input in, report or summary out.
 
-ghost use Rattle.std.specs.Prelude.{◌≡◌, ◌≢◌, ◌≤◌, ◌↔◌, Some, List, ℕ, map};
+ghost use Rattle.std.specs.Prelude.{◌≡◌, ◌≢◌, ◌≤◌, ◌↔◌, Some, ℕ, map};
 ghost use Rattle.std.specs.Prelude.{IfOk, IfErr, IsErrOf};
 ghost use Rattle.std.specs.Thread.{IsSync};
 ghost use Rattle.md_orders.specs.Grammar.{first_bad};

@@ -6,7 +6,6 @@ ghost use Rattle.md_history.specs.declared.acts.Reply.TheVariants.{Line as TheLi
 ghost use Rattle.md_history.specs.declared.stops.Limit.TheVariants.{Writes};
 ghost use Rattle.md_history.specs.Calls.{IsLineLength};
 ghost use Rattle.md_machine.specs.declared.certificate.Certificate.{Certificate};
-ghost use Rattle.md_nbtc_law.specs.Going.{IsGoing};
 ghost use Rattle.md_nbtc.specs.State.{state};
 ghost use Rattle.md_queue_law.specs.QueueCertificates.{Seen};
 ghost use Rattle.md_queue.specs.Along.{HasLooked, LooksFurther};

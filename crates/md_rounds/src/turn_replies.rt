@@ -1,6 +1,6 @@
 //! The replies of a caller's turn.
 
-ghost use Rattle.std.specs.Prelude.{◌≡◌, ◌<◌, ◌^◌, ◌++◌, length, OnOk};
+ghost use Rattle.std.specs.Prelude.{◌≡◌, ◌<◌, ◌++◌, length, OnOk};
 ghost use Rattle.md_rounds.specs.Kept.{all_of};
 
 use md_book::BookReply;

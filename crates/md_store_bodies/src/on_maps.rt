@@ -1,6 +1,6 @@
 //! The operations of a transaction on its maps, each from its begin to its end.
 
-ghost use Rattle.std.specs.Prelude.{◌≡◌, ◌<◌, ℕ, IfErr, IfOk};
+ghost use Rattle.std.specs.Prelude.{◌≡◌, ◌<◌, ℕ, IfOk};
 ghost use Rattle.md_history.specs.declared.acts.Op.TheVariants.{Get, Insert, Remove};
 ghost use Rattle.md_history.specs.declared.acts.Reply.TheVariants.{Flag, Value};
 ghost use Rattle.md_history.specs.declared.stops.Limit.TheVariants.{Reads, Writes};

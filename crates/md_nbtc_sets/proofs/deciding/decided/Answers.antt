@@ -1,4 +1,4 @@
-use Rattle.std.proofs.Common.{◌≡◌, ◌<◌, ◌^◌, ℕ, None, ap, length, refl, subst, sym, ◌∙◌, rules}
+use Rattle.std.proofs.Common.{◌≡◌, ◌<◌, ◌^◌, ℕ, ap, length, refl, subst, sym, ◌∙◌, rules}
 use Rattle.md_words.specs.declared.status.Status.TheVariants.{InProg}
 use Rattle.md_words.specs.Status.{status_word}
 use Rattle.md_machine.proofs.events.Attempts.{attempt_same}
