@@ -1,4 +1,4 @@
-use Rattle.std.proofs.Common.{Some, None, sym, subst}
+use Rattle.std.proofs.Common.{Some, sym, subst}
 use Rattle.md_history.specs.Engine.{IsSplit}
 use Rattle.md_rule.specs.Views.{FieldView, PassState}
 use Rattle.md_store_bodies.specs.Store.{IsPassOf, begun_by, front_in}
