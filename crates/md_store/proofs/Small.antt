@@ -14,7 +14,6 @@ use Rattle.md_history.specs.Front.{Front}
 use Rattle.md_machine.proofs.lists.Rising.{here}
 use Rattle.md_arena.specs.Left.{HasTryLeft, NoLane}
 use Rattle.md_nbtc_law.specs.State.{TxnState}
-use Rattle.md_rule_lanes.specs.Shares.{share_at}
 use Rattle.md_rule.specs.Views.{FieldView, PassState}
 use Rattle.md_store_bodies.specs.Counted.{Exceeds, IsCountLimit}
 use Rattle.md_store_bodies.specs.Laws.{fresh_is, of_is}
