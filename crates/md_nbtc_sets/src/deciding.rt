@@ -123,9 +123,9 @@ fn in_progress(reads: u8, serial: u64) -> u64
 ///
 /// The transaction is given by its parts: its attempt and its tag, what it keeps of its words and
 /// nodes, and the pass as it stood when the attempt was put in hand (`began`). The call keeps the
-/// recorded words and the slots, and uses `sets.lefts` as room. The error shows why the transaction was aborted: the recorded word that has changed, with
-/// its recorded and its found content, or the status word before and after the abort by another
-/// pass.
+/// recorded words and the slots, and uses `sets.lefts` as room. The error shows why the transaction
+/// was aborted: the recorded word that has changed, with its recorded and its found content, or the
+/// status word before and after the abort by another pass.
 ///
 /// It takes one step for each recorded word, up to the first that has changed, one for the
 /// decision, one for each written word, at most three for each kept cleanup, and one more.
