@@ -59,7 +59,7 @@ impl Keeper<BookReply> for KeptReplies {
     ghost keeps = { λ k caller rs. HasReplies k.replies.scripts k.replies.replies caller rs };
 
     fn keep(&mut self, caller: u32, done: u32, replies: TurnReplies) -> Result<(), AllocError>
-        requires suit { many.SuitTheirLines (λ line r.
+        requires suit { many.AllSuit (λ line r.
             IsSomeAnd (at_line self.old.replies.scripts caller line) (λ c. Suits (c, r)))
             done (all_of replies) }
         requires few { done + length (all_of replies) < 2 ^ 32 }
