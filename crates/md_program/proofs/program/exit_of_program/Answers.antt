@@ -1,9 +1,9 @@
 use Rattle.md_program.proofs.program.exit_of_program.Goals as goal
 
-pub returns-clause-run : goal.returns-clause-run
-returns-clause-run g c = record {
+pub returns : goal.returns
+returns g c = record {
   fronts = _;
   status = c.run_program-run.result.status;
-  run = c.run_program-run.ensures.run;
+  run = c.run_program-run.ensures;
   is = c.from.ensures;
 }
