@@ -121,7 +121,7 @@ fn batches_of_lines(rt: HostRuntime) -> Result<(), Fail> {
     are_those_of(&rt, &played.replies, 10_000);
     summaries_add_up();
     let line = summary(alloc, &scripts, &played.replies, &played.contents)?;
-    let want = b"made 70000 placed 50000 cancelled 10000 fill_of 40000 open 0\n".as_slice();
+    let want = b"made 70000 placed 50000 cancelled 10000 filled 40000 open 0\n".as_slice();
     let ends = (played.fronts.len(), played.replies.get(1, 70_001));
     same(&rt, &(ends, line.as_slice()), &((1, None), want));
     Ok(())
